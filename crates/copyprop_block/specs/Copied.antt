@@ -1,4 +1,4 @@
--- What the pass makes of blocks and substitutions.
+-- Copy propagation along blocks, with the salvage of numbers.
 use Rattle.std.specs.Prelude.{ℕ, List, [], ◌∷◌, ◌++◌, Option, Some, None}
 use Rattle.rv64_instr.specs.Row.{row_of}
 use Rattle.mir_func.specs.declared.block.Block.{Block}
@@ -15,46 +15,47 @@ use Rattle.copyprop_block.specs.declared.copies.Fate.{Fate}
 use Rattle.copyprop_block.specs.declared.copies.Fate.TheVariants.{Stays, Goes, GoesWith}
 use Rattle.copyprop_block.specs.Roots.{renamed, known_source, roots_after}
 
--- what has become of a block's items so far, what is known there, and the substitutions and the fresh number
+-- the state along a block: the result for its items so far, the available copies, the substitutions and the next fresh
+-- number
 pub record SoFar : Type 0 where
   pub done : List Item
   pub roots : List Root
   pub subs : List Entry
   pub fresh : ℕ
 
--- (1) every explicit use of a register with a root becomes that root
+-- (1) every explicit use of a register with a root is replaced by the root
 abbrev pub renamed_kind : List Root → ItemKind → ItemKind
 renamed_kind e (Code i n) = Code (renamed e i) n
 renamed_kind e (Mark v m) = Mark v m
 renamed_kind e (Phi p n) = Phi p n
 
--- the item with roots for its code's explicit uses; its origin and debug location stay
+-- the item with the explicit uses of its code replaced by their roots; its origin and debug location are unchanged
 abbrev pub renamed_item : List Root → Item → Item
 renamed_item e x = record x { kind = renamed_kind e x.kind }
 
--- (2) then a copy that is known goes
+-- (2) then a redundant copy is removed
 abbrev pub goes_with : (number : Option ℕ) → (source : ℕ) → Fate
 goes_with (Some k) s = GoesWith k s
 goes_with None s = Goes
 
--- it goes where it is a copy of a known source
+-- it is removed if it is a copy of a known source
 abbrev pub goes_by : (number source : Option ℕ) → Fate
 goes_by n (Some s) = goes_with n s
 goes_by n None = Stays
 
--- what becomes of a renamed item: of code by its row, while marks and phis stay
+-- what happens to a renamed item: code is judged by its row, debug items are kept
 abbrev pub fate_of : List Root → ItemKind → Fate
 fate_of e (Code i n) = goes_by n (known_source e (row_of i))
 fate_of e (Mark v m) = Stays
 fate_of e (Phi p n) = Stays
 
--- (3) and code that stays teaches
+-- (3) and code that is kept updates the available copies
 abbrev pub roots_with : ItemKind → List Root → List Root
 roots_with (Code i n) e = roots_after (row_of i) e
 roots_with (Mark v m) e = e
 roots_with (Phi p n) e = e
 
--- a copy of s with number k that goes is salvaged
+-- the state after a removed copy of s with number k was salvaged
 abbrev pub salvaged : SoFar → (k s : ℕ) → Origin → Way → SoFar
 salvaged a k s o w = record {
   done = above_after w a.done ++ put_for w k s o;
@@ -63,45 +64,46 @@ salvaged a k s o w = record {
   fresh = fresh_after w a.fresh;
 }
 
--- what there is past a renamed item: it stays and teaches, it goes, or it goes and its number is salvaged
+-- the state after a renamed item: it is kept and updates the available copies, it is removed, or it is removed and its
+-- number is salvaged
 abbrev pub by_fate : SoFar → Item → Fate → SoFar
 by_fate a x Stays = record { done = a.done ++ x ∷ []; roots = roots_with x.kind a.roots; subs = a.subs; fresh = a.fresh }
 by_fate a x Goes = a
 by_fate a x (GoesWith k s) = salvaged a k s x.origin (way [] a.subs a.fresh k s a.done)
 
--- one more item, once it is renamed
+-- the state after one more item that is renamed already
 abbrev pub and_renamed : SoFar → Item → SoFar
 and_renamed a x = by_fate a x (fate_of a.roots x.kind)
 
--- one more item: it is renamed by what is known above it, and then judged
+-- the state after one more item: it is renamed by the available copies, and then kept or removed
 abbrev pub next_item : SoFar → Item → SoFar
 next_item a x = and_renamed a (renamed_item a.roots x)
 
--- the items of a block, one after the other
+-- the state after the items of a block, in order
 abbrev pub over_items : SoFar → List Item → SoFar
 over_items a [] = a
 over_items a (x ∷ xs) = over_items (next_item a x) xs
 
--- a block begins with nothing known
+-- the state at a block's start: no copies are available
 abbrev pub at_block : List Entry → (fresh : ℕ) → SoFar
 at_block subs fresh = record { done = []; roots = []; subs = subs; fresh = fresh }
 
--- what has become of the blocks so far
+-- the state between blocks: the result for the blocks so far, the substitutions and the next fresh number
 pub record BlocksSoFar : Type 0 where
   pub blocks : List Block
   pub subs : List Entry
   pub fresh : ℕ
 
--- one more block, of whose items this has become
+-- the state after one more block, from the state at its end
 abbrev pub and_block : BlocksSoFar → Block → SoFar → BlocksSoFar
 and_block a b s =
     record { blocks = a.blocks ++ record { id = b.id; items = s.done; silent = b.silent } ∷ []; subs = s.subs; fresh = s.fresh }
 
--- one more block, with the substitutions and the fresh number that the blocks before it left
+-- the state after one more block, with the substitutions and the fresh number from the blocks before it
 abbrev pub next_block : BlocksSoFar → Block → BlocksSoFar
 next_block a b = and_block a b (over_items (at_block a.subs a.fresh) b.items)
 
--- the blocks of a function, in the order of the text
+-- the state after the blocks of a function, in the order of the text
 abbrev pub over_blocks : BlocksSoFar → List Block → BlocksSoFar
 over_blocks a [] = a
 over_blocks a (b ∷ bs) = over_blocks (next_block a b) bs

@@ -1,4 +1,4 @@
--- Registers that hold the same as others, along a block.
+-- Copies that are available along a block: registers that have the same value as another one.
 use Rattle.std.specs.Prelude.{ℕ, zero, suc, List, [], ◌∷◌, ◌++◌, map, filter, Option, Some, None, Bool, cond, not, ◌&&◌, nat_eq}
 use Rattle.rv64_instr.specs.declared.operand.Operand.{Operand}
 use Rattle.rv64_instr.specs.declared.operand.Operand.TheVariants.{Def, Use, ImplicitDef, ImplicitUse, Imm, Slot, Object, Block, Symbol, Mask}
@@ -8,12 +8,12 @@ use Rattle.rv64_instr.specs.Row.{Row, Fixes, Moves, Sets, Addresses, Loads, Stor
 use Rattle.rv64_instr.specs.Parts.{defines_of}
 use Rattle.copyprop_block.specs.declared.roots.Root.{Root}
 
--- the register whose content it holds: its root, or itself
+-- the register whose value r has, by its first entry: its root, or itself
 abbrev pub root_of : List Root → ℕ → ℕ
 root_of [] r = r
 root_of (e ∷ es) r = cond (nat_eq e.copy r) e.root (root_of es r)
 
--- explicit uses become roots
+-- an operand in which an explicit use is replaced by its root
 abbrev pub renamed_operand : List Root → Operand → Operand
 renamed_operand e (Use r) = Use (root_of e r)
 renamed_operand e (Def r) = Def r
@@ -30,20 +30,20 @@ renamed_operand e Mask = Mask
 abbrev pub renamed : List Root → Instruction → Instruction
 renamed e i = record { op = i.op; operands = map (renamed_operand e) i.operands }
 
--- the register that a copy moves whose target is that register, or has it as root
+-- the source of a redundant copy: the target is the source itself, or has it as its root
 abbrev pub known_source : List Root → Row → Option ℕ
 known_source e (Moves (suc rd) s) = cond (nat_eq (root_of e (suc rd)) s) (Some s) None
 known_source e _ = None
 
--- the row defines neither register
+-- the row defines neither register of the entry
 abbrev pub outlives : Row → Root → Bool
 outlives row e = not (defines_of row (Register e.copy)) && not (defines_of row (Register e.root))
 
--- what is defined loses its entries, as copy and as root
+-- without the entries of what the row defines, as copy or as root
 abbrev pub forgotten : Row → List Root → List Root
 forgotten row e = filter (outlives row) e
 
--- a copy adds one
+-- with one entry more, if the row is a copy whose target isn't x0
 abbrev pub learned : Row → List Root → List Root
 learned (Moves (suc rd) s) e = e ++ record { copy = suc rd; root = s } ∷ []
 learned (Moves zero s) e = e
@@ -60,6 +60,6 @@ learned (Calls name args) e = e
 learned (Returns results) e = e
 learned Unfit e = e
 
--- what is known after code of a row that stays
+-- the available copies after code of a row that is kept
 abbrev pub roots_after : Row → List Root → List Root
 roots_after row e = learned row (forgotten row e)

@@ -1,4 +1,4 @@
-//! Copies that are known go, and their numbers are salvaged.
+//! Removal of redundant copies from a block, with the salvage of their numbers.
 
 ghost use Rattle.std.specs.Prelude.{◌≡◌, ◌+◌, ◌<◌, ◌≤◌, ◌^◌, [], List, length, take, slice_index_or, IfOk, OnOk};
 ghost use Rattle.mir_func.specs.declared.item.Item.{Item};
@@ -19,18 +19,18 @@ use pass_salvage::way::Way;
 use rv64_instr::reg::Reg;
 use std::alloc::{AllocError, Global};
 
-/// What becomes of an item.
+/// What happens to an item.
 #[derive(Clone, Copy, Debug, PartialEq, Eq)]
 pub enum Fate {
-    /// It stays.
+    /// It is kept.
     Stays,
-    /// It is a copy that is known, without a number, and goes.
+    /// It is a redundant copy without a number, and is removed.
     Goes,
-    /// It is one with this number, of this register.
+    /// It is a redundant copy of this register, with this number, and is removed.
     GoesWith(DebugNumber, Reg),
 }
 
-/// The explicit uses of code become their roots.
+/// Replaces the explicit uses of code by their roots.
 fn rename_item(x: &mut Item, roots: &[Root])
     ensures { x.new ≡ renamed_item roots.now x.old }
 {
@@ -39,7 +39,7 @@ fn rename_item(x: &mut Item, roots: &[Root])
     }
 }
 
-/// What becomes of an item whose uses are roots.
+/// What happens to an item whose uses are replaced already.
 fn fate_of(kind: &ItemKind, roots: &[Root]) -> Fate
     ensures { result ≡ fate_of roots.now kind.now }
 {
@@ -52,7 +52,7 @@ fn fate_of(kind: &ItemKind, roots: &[Root]) -> Fate
     }
 }
 
-/// How a copy with this number goes.
+/// How a redundant copy is removed: with a number or without.
 fn goes_by(number: &Option<DebugNumber>, source: Reg) -> Fate
     ensures { result ≡ goes_with number.now source }
 {
@@ -62,7 +62,7 @@ fn goes_by(number: &Option<DebugNumber>, source: Reg) -> Fate
     }
 }
 
-/// What is known after an item that stays.
+/// Updates the available copies after an item that is kept.
 fn learn_item(kind: &ItemKind, roots: &mut Vec<Root>) -> Result<(), AllocError>
     ensures { OnOk result (roots.new.items ≡ roots_with kind.now roots.old.items) }
 {
@@ -72,8 +72,8 @@ fn learn_item(kind: &ItemKind, roots: &mut Vec<Root>) -> Result<(), AllocError>
     }
 }
 
-/// One item more: the first `kept` items are what has become of those before it, and the answer is how many they are
-/// then.
+/// One more item: the first `kept` items of the list are the result for those before it. Returns how many there are
+/// after it.
 fn next_item(
     alloc: Global,
     items: &mut Vec<Item>,
@@ -113,7 +113,7 @@ fn next_item(
     }
 }
 
-/// A copy of `source` with a number goes: it is salvaged.
+/// Removes a redundant copy of `source` with a number, and salvages it.
 fn take_out(
     alloc: Global,
     items: &mut Vec<Item>,
@@ -161,7 +161,7 @@ fn take_out(
     }
 }
 
-/// Copies that are known go from a block's items, and the others' explicit uses become roots.
+/// Removes the redundant copies from a block's items, and replaces the explicit uses of the others by their roots.
 pub fn copy_items(
     alloc: Global,
     items: &mut Vec<Item>,

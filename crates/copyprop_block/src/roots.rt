@@ -1,4 +1,4 @@
-//! Registers that hold the same as others, along a block.
+//! Copies that are available along a block: registers that have the same value as another one.
 
 ghost use Rattle.std.specs.Prelude.{◌≡◌, OnOk, map, filter};
 ghost use Rattle.rv64_instr.specs.Row.{Row, row_of};
@@ -12,7 +12,7 @@ use rv64_instr::place::Place;
 use rv64_instr::reg::Reg;
 use std::alloc::AllocError;
 
-/// A register that holds the same as another (LLVM: an available copy of machine copy propagation).
+/// A register that has the same value as another (LLVM: an available copy of machine copy propagation).
 #[derive(Clone, Copy, Debug, PartialEq, Eq)]
 pub struct Root {
     /// The register that was set by a copy.
@@ -21,7 +21,7 @@ pub struct Root {
     pub root: Reg,
 }
 
-/// The register whose content it holds: its root, or itself.
+/// The register whose value it has: its root, or itself.
 pub fn root_of(roots: &[Root], r: Reg) -> Reg
     ensures { result ≡ root_of roots.now r }
 {
@@ -33,14 +33,14 @@ pub fn root_of(roots: &[Root], r: Reg) -> Reg
     r
 }
 
-/// The explicit uses of an instruction become their roots.
+/// Replaces the explicit uses of an instruction by their roots.
 pub fn rename(i: &mut Instr, roots: &[Root])
     ensures { i.new ≡ renamed roots.now i.old }
 {
     rename_all(&mut i.operands, roots);
 }
 
-/// The explicit uses among operands become their roots.
+/// Replaces the explicit uses among operands by their roots.
 fn rename_all(operands: &mut Operands, roots: &[Root])
     ensures { operands.new ≡ map (renamed_operand roots.now) operands.old }
 {
@@ -49,7 +49,7 @@ fn rename_all(operands: &mut Operands, roots: &[Root])
     }
 }
 
-/// An explicit use becomes its root.
+/// Replaces an explicit use by its root.
 fn rename_operand(o: &mut Operand, roots: &[Root])
     ensures { o.new ≡ renamed_operand roots.now o.old }
 {
@@ -58,7 +58,7 @@ fn rename_operand(o: &mut Operand, roots: &[Root])
     }
 }
 
-/// The register that a copy moves whose target is that register, or has it as root.
+/// The source of a redundant copy: the target is the source itself, or has it as its root.
 pub fn known_source(i: &Instr, roots: &[Root]) -> Option<Reg>
     ensures { result ≡ known_source roots.now (row_of i.now) }
 {
@@ -74,7 +74,7 @@ pub fn known_source(i: &Instr, roots: &[Root]) -> Option<Reg>
     }
 }
 
-/// What is known after code that stays: what it defines loses its entries, and a copy adds one.
+/// Updates the available copies after code that is kept: what it defines loses its entries, and a copy adds one.
 pub fn learn(i: &Instr, roots: &mut Vec<Root>) -> Result<(), AllocError>
     ensures { OnOk result (roots.new.items ≡ roots_after (row_of i.now) roots.old.items) }
 {
@@ -87,7 +87,7 @@ pub fn learn(i: &Instr, roots: &mut Vec<Root>) -> Result<(), AllocError>
     Ok(())
 }
 
-/// What the instruction defines loses its entries, as copy and as root.
+/// Removes the entries of what the instruction defines, as copy and as root.
 fn forget(i: &Instr, roots: &mut Vec<Root>)
     ensures { roots.new.items ≡ forgotten (row_of i.now) roots.old.items }
 {
@@ -102,7 +102,7 @@ fn forget(i: &Instr, roots: &mut Vec<Root>)
     roots.truncate(kept);
 }
 
-/// Whether the instruction defines neither register.
+/// Whether the instruction defines neither register of the entry.
 fn outlives(e: &Root, i: &Instr) -> bool
     ensures { result ≡ outlives (row_of i.now) e.now }
 {

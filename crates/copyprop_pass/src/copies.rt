@@ -1,4 +1,4 @@
-//! The pass that takes out copies of what is there already.
+//! The copy propagation pass.
 
 ghost use Rattle.std.specs.Prelude.{◌≡◌, ◌+◌, ◌<◌, ◌^◌, [], ◌∷◌, false, true, OnOk};
 ghost use Rattle.mir_func.specs.Sound.{IsSound};
@@ -15,8 +15,8 @@ use pass_trait::loss::Losses;
 use pass_trait::pass::Pass;
 use std::alloc::{AllocError, Global};
 
-/// Takes out copies of what is there already, and reads roots in place of copies (LLVM: machine copy propagation).
-/// Nothing is lost: a number goes to the code that gave the copied value, or to a phi.
+/// Removes redundant copies, and reads roots in place of copies (LLVM: machine copy propagation). Nothing is lost: a
+/// number is substituted by the code that defined the copied value, or is on a DBG_PHI.
 #[derive(Drop)]
 pub struct CopyPass;
 
@@ -50,8 +50,8 @@ impl Pass for CopyPass {
     ghost grows = { Prim.search rules };
 }
 
-/// Takes copies that are known out of a function, and salvages their numbers. After an error the function is as it was,
-/// and the substitutions are only to be dropped.
+/// Removes the redundant copies of a function, and salvages their numbers. After an error the function is unchanged,
+/// and the substitutions may only be dropped.
 fn take_copies_out(alloc: Global, f: &mut Func, subs: &mut Substitutions) -> Result<(), AllocError>
     requires { greatest_number f.old subs.old + item_count f.old + 1 < 2 ^ 31 }
     ensures function { OnOk result (f.new ≡ salvaged_function f.old subs.old) }

@@ -1,6 +1,6 @@
-//! Copy propagation, a whole pass. Along a block it is kept which register holds the same as a root. Explicit uses
-//! become roots, and copies of what is there already go. A number of such a copy goes to the code that gave the value,
-//! by a substitution, or to a phi in the copy's place, so that nothing is lost.
+//! The copy propagation pass. Along a block it is known which register has the same value as a root. Explicit uses are
+//! replaced by roots, and redundant copies are removed. The number of such a copy is substituted by the code that
+//! defined the value, or is on a DBG_PHI in the copy's position, so nothing is lost.
 #![tactic(auto)]
 
 pub mod copies;

@@ -1,4 +1,4 @@
--- What a function keeps of its debug items where its copies go.
+-- The debug law of copy propagation.
 use Rattle.std.specs.Prelude.{List, [], ◌∷◌}
 use Rattle.mir_func.specs.declared.entry.Entry.{Entry}
 use Rattle.mir_func.specs.Function.{Function}
@@ -8,7 +8,7 @@ use Rattle.pass_trait.specs.Steps.{KeepsSteps}
 use Rattle.copyprop_rule.specs.Rule.{salvaged_function, salvaged_entries}
 use Rattle.copyprop_proof.specs.Rule.{copy_step}
 
--- each mark, phi and number stays, or an entry or a phi stands for it, and nothing is lost
+-- each debug value, DBG_PHI and number is kept, or substituted or replaced by a DBG_PHI, and nothing is lost
 abbrev pub CopiesKeepItems : Type 0
 CopiesKeepItems = (f : Function) (subs : List Entry) → IsSound f →
     KeepsSteps (copy_step ∷ []) (change f subs (salvaged_function f subs) (salvaged_entries f subs)) []

@@ -1,4 +1,4 @@
--- Blocks from which copies go, in which phis are put before copies, and in which code gets another number or none.
+-- Edits of blocks: copies are removed, DBG_PHIs are added before copies, and code gets another number or none.
 use Rattle.std.specs.Prelude.{◌≡◌, ℕ, List, [], ◌∷◌, Option, Some}
 use Rattle.rv64_instr.specs.declared.place.Place.TheVariants.{Register}
 use Rattle.rv64_instr.specs.Instruction.{Instruction}
@@ -14,22 +14,22 @@ use Rattle.mir_func.specs.Function.{Function}
 use Rattle.mir_func.specs.Sound.{items_of, NumbersOnce, IsSound}
 use Rattle.sem_mir.specs.Align.{position_of}
 
--- the same but for the number of code
+-- the kinds are the same except for the number of code
 pub data SameButNumber : ItemKind → ItemKind → Type 0 where
   same_code : {i : Instruction} {n m : Option ℕ} → SameButNumber (Code i n) (Code i m)
   same_kind : {k : ItemKind} → SameButNumber k k
 
--- code that moves one register into another
+-- a register copy
 abbrev pub IsMove : ItemKind → Type 0
 IsMove (Code i n) = (rd : ℕ) × (s : ℕ) × (row_of i ≡ Moves rd s)
 IsMove (Mark v m) = ⊥
 IsMove (Phi p k) = ⊥
 
--- a phi of a register that stands before what stands there, with no debug location
+-- a DBG_PHI of a register right before the position of this origin, with no debug location
 abbrev pub phi_before : (k s : ℕ) → Origin → Item
 phi_before k s o = record { kind = Phi (Some (Register s)) k; origin = Before (position_of o); loc = Absent }
 
--- the items of a block
+-- the items of a block, item by item
 pub data AreEdited : List Item → List Item → Type 0 where
   no_items : AreEdited [] []
   stays : {x y : Item} {xs ys : List Item} → y.origin ≡ x.origin → SameButNumber x.kind y.kind → AreEdited xs ys → AreEdited (x ∷ xs) (y ∷ ys)
@@ -37,13 +37,14 @@ pub data AreEdited : List Item → List Item → Type 0 where
       AreEdited (x ∷ xs) (phi_before k s x.origin ∷ y ∷ ys)
   goes : {x : Item} {xs ys : List Item} → IsMove x.kind → AreEdited xs ys → AreEdited (x ∷ xs) ys
 
--- the blocks of a function
+-- the blocks of a function; their numbers and silent indices are unchanged
 pub data AreBlocksEdited : List Block → List Block → Type 0 where
   no_blocks : AreBlocksEdited [] []
   next_block : {a b : Block} {fs gs : List Block} → b.id ≡ a.id → b.silent ≡ a.silent → AreEdited a.items b.items → AreBlocksEdited fs gs →
       AreBlocksEdited (a ∷ fs) (b ∷ gs)
 
--- a function with such blocks is sound where no number stands on code twice
+-- a sound function stays sound under such edits, if its slots and stack objects are unchanged, and no number of code is
+-- on another item
 abbrev pub EditsKeepSound : Type 0
 EditsKeepSound = (old new : Function) → IsSound old → new.slots ≡ old.slots → new.objects ≡ old.objects → AreBlocksEdited old.blocks new.blocks →
     NumbersOnce (items_of new.blocks) → IsSound new

@@ -1,4 +1,4 @@
--- What copies that go do to debug items: nothing is lost.
+-- The debug rule of copy propagation: nothing is lost.
 use Rattle.std.specs.Prelude.{◌≡◌, ℕ, List, [], ◌++◌, Option, Some, slice_get}
 use Rattle.rv64_instr.specs.declared.place.Place.{Place}
 use Rattle.rv64_instr.specs.declared.place.Place.TheVariants.{Register}
@@ -9,12 +9,12 @@ use Rattle.pass_trait.specs.Steps.{Step}
 use Rattle.copyprop_rule.specs.Rule.{IsCopied, salvaged_entries}
 use Rattle.copyprop_proof.specs.Ledger.{Line, ledger}
 
--- the ledger's line of the item at a place
+-- the ledger's line of the item at a position
 pub record HasLine (c : Change) (at : Pos) (l : Line) : Type 0 where
   pub stands : slice_get (ledger c.old c.old_subs at.block) at.item ≡ Some l
 
--- code gets a number where the ledger says so, a phi of the copied register stands for a copy, and substitutions are those of the
--- copies whose number went to code, in the order of the text
+-- code gets a number if the ledger lists one, a DBG_PHI of the copied register replaces a copy if the ledger lists one, and the
+-- substitutions are those of the copies whose number refers to other code now, in the order of the text
 abbrev pub copy_debug_rule : Rule
 copy_debug_rule = record {
   loses = λ c at loss. ⊥;

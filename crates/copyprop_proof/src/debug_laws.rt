@@ -1,8 +1,9 @@
-//! The law of debug items: the contract of a function that does nothing.
+//! The debug law, as the contract of a function with an empty body.
 
 ghost use Rattle.copyprop_proof.specs.DebugLaws.{CopiesKeepItems};
 
-/// Where copies go from a function each mark, phi and number stays, or an entry or a phi stands for it.
+/// If redundant copies are removed from a function, each debug value, DBG_PHI and number is kept, or substituted or
+/// replaced by a DBG_PHI.
 pub fn copies_keep_items()
     ensures { CopiesKeepItems }
 {}

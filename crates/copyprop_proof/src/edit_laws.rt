@@ -1,8 +1,9 @@
-//! The law of edits: the contract of a function that does nothing.
+//! The law of edits, as the contract of a function with an empty body.
 
 ghost use Rattle.copyprop_proof.specs.Edits.{EditsKeepSound};
 
-/// Where copies go, phis are put before copies, and code gets other numbers, each once, a function stays one.
+/// If copies are removed, DBG_PHIs are added before copies, and code gets other numbers, without duplicates, a function
+/// stays sound.
 pub fn edited_function_is_sound()
     ensures { EditsKeepSound }
 {}

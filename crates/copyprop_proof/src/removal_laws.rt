@@ -1,8 +1,8 @@
-//! The law of functions without their copies: the contract of a function that does nothing.
+//! The law of functions without redundant copies, as the contract of a function with an empty body.
 
 ghost use Rattle.copyprop_proof.specs.RemovalLaws.{CopiesFollow};
 
-/// A function without its copies that are known is sound, and follows what the function with them followed.
+/// A function without its redundant copies is sound, and this preserves the simulation.
 pub fn copies_follow()
     ensures { CopiesFollow }
 {}

@@ -1,9 +1,9 @@
-//! Laws of runs without copies: each is the contract of a function that does nothing.
+//! The law of replaced uses, as the contract of a function with an empty body.
 
 ghost use Rattle.copyprop_proof.specs.Renamed.{RenamingFollows};
 
-/// Where explicit uses become roots, the function is a function still and follows what it followed, but for slot
-/// stores at blocks' ends.
+/// Replacing explicit uses by their roots keeps the function sound, and preserves the weak simulation (the one without
+/// the condition on slot stores at blocks' ends).
 pub fn renaming_follows()
     ensures { RenamingFollows }
 {}

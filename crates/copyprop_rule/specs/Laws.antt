@@ -1,5 +1,5 @@
--- Proofs of what the pass owes of its rule for code. They stand here, and not in proofs/, since an implementation of the trait of
--- passes cites them; nothing here is to be believed.
+-- Proofs that the pass needs for its own trait items. They are here and not in proofs/ since an implementation of the trait of
+-- passes names them. Nothing here must be believed.
 use Rattle.std.proofs.Common.{◌≡◌, List, [], ◌∷◌, map, Bool, true, false, cond, refl, ap}
 use Rattle.mir_func.specs.declared.item.Item.{Item}
 use Rattle.mir_func.specs.declared.block.Block.{Block}
@@ -10,7 +10,7 @@ use Rattle.copyprop_block.specs.declared.roots.Root.{Root}
 use Rattle.copyprop_block.specs.Copied.{renamed_kind, renamed_item, roots_with}
 use Rattle.copyprop_rule.specs.Rule.{goes, copied_items, copied_block, copied, IsCopied}
 
--- of one function it makes one
+-- the rule is functional
 pub one_copied : HasOneResult IsCopied
 one_copied = one_of copied
 
@@ -37,6 +37,6 @@ blocks_placeless (b ∷ bs) =
 copied_placeless : (f : Function) → placeless (copied f) ≡ copied (placeless f)
 copied_placeless f = let e = blocks_placeless f.blocks in λ i. record f { blocks = e i }
 
--- it sees no positions
+-- the rule doesn't depend on positions
 pub same_copied : SeesCodeAlone IsCopied
 same_copied = same_of copied copied_placeless

@@ -1,4 +1,4 @@
--- The rule for code: a function without its copies that are known.
+-- The code rule: a function without its redundant copies.
 use Rattle.std.specs.Prelude.{◌≡◌, ◌+◌, List, [], ◌∷◌, map, Bool, false, cond, is_some}
 use Rattle.rv64_instr.specs.Row.{row_of}
 use Rattle.mir_func.specs.declared.block.Block.{Block}
@@ -13,38 +13,38 @@ use Rattle.copyprop_block.specs.declared.roots.Root.{Root}
 use Rattle.copyprop_block.specs.Roots.{known_source}
 use Rattle.copyprop_block.specs.Copied.{renamed_kind, renamed_item, roots_with, BlocksSoFar, over_blocks}
 
--- code whose explicit uses are roots, and which is a copy that is known
+-- renamed code that is a redundant copy
 abbrev pub goes : List Root → ItemKind → Bool
 goes e (Code i n) = is_some (known_source e (row_of i))
 goes e (Mark v m) = false
 goes e (Phi p n) = false
 
--- items of a block, where this is known above them: each is renamed, and then goes or teaches
+-- the items of a block, with these available copies before them: each is renamed, and then removed or kept
 abbrev pub copied_items : List Root → List Item → List Item
 copied_items e [] = []
 copied_items e (x ∷ xs) =
     cond (goes e (renamed_kind e x.kind)) (copied_items e xs) (renamed_item e x ∷ copied_items (roots_with (renamed_kind e x.kind) e) xs)
 
--- a block without its copies that are known; nothing is known at its start
+-- a block without its redundant copies; no copies are available at its start
 abbrev pub copied_block : Block → Block
 copied_block b = record { id = b.id; items = copied_items [] b.items; silent = b.silent }
 
--- the function without its copies that are known. A block begins with nothing known
+-- the function without its redundant copies
 abbrev pub copied : Function → Function
 copied f = record f { blocks = map copied_block f.blocks }
 
--- copy propagation within blocks, as a rule for code (LLVM: MachineCopyPropagation)
+-- copy propagation within blocks, as a code rule (LLVM: MachineCopyPropagation)
 abbrev pub IsCopied : CodeRule
 IsCopied f g = g ≡ copied f
 
--- with the debug items: block by block, from one fresh number on
+-- the initial state over a function with debug items: no blocks yet, and the first fresh number
 abbrev pub begins : Function → List Entry → BlocksSoFar
 begins f subs = record { blocks = []; subs = subs; fresh = greatest_number f subs + 1 }
 
--- the function as the pass leaves it, with its debug items: copies are gone, and their numbers salvaged
+-- the function after the pass, with debug items: redundant copies are removed, and their numbers salvaged
 abbrev pub salvaged_function : Function → List Entry → Function
 salvaged_function f subs = record f { blocks = (over_blocks (begins f subs) f.blocks).blocks }
 
--- its substitutions then: those that were there, and behind them those of salvaged copies
+-- the substitutions after the pass: the old ones, followed by those of salvaged copies
 abbrev pub salvaged_entries : Function → List Entry → List Entry
 salvaged_entries f subs = (over_blocks (begins f subs) f.blocks).subs

@@ -1,4 +1,4 @@
-//! Copies that are known go from a function.
+//! Removal of redundant copies from a function.
 
 ghost use Rattle.std.specs.Prelude.{◌≡◌, ◌+◌, ◌≤◌, ◌<◌, ◌^◌, [], length, OnOk, IfOk};
 ghost use Rattle.mir_func.specs.Sound.{items_of};
@@ -13,7 +13,7 @@ use mir_substitution::substitutions::Substitutions;
 use pass_salvage::fresh::fresh_number;
 use std::alloc::{AllocError, Global};
 
-/// Copies that are known go from blocks, in the order of the text.
+/// Removes the redundant copies from blocks, in the order of the text.
 fn copy_in_blocks(
     alloc: Global,
     blocks: &mut Vec<Block>,
@@ -32,8 +32,8 @@ fn copy_in_blocks(
     Ok(())
 }
 
-/// The blocks of a function without its copies that are known, with their numbers salvaged by phis and substitutions.
-/// After an error the substitutions are only to be dropped. It is linear in the items but for the searches of
+/// The blocks of a function without its redundant copies, with their numbers salvaged by DBG_PHIs and substitutions.
+/// After an error the substitutions may only be dropped. The time is linear in the items, except for the searches of
 /// `choose_way`.
 pub fn blocks_without_copies(
     alloc: Global,

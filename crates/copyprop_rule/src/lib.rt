@@ -1,5 +1,5 @@
-//! Copies that are known go from a whole function, block by block in the order of the text, with one fresh number
-//! counted on. What it makes of code is a short rule, which sees no debug item.
+//! Copy propagation of a whole function, block by block in the order of the text, with fresh numbers counted up from
+//! block to block. The code rule is short, and doesn't depend on debug items.
 #![tactic(auto)]
 
 pub mod function;

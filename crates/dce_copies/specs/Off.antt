@@ -1,4 +1,4 @@
--- What becomes of items and substitutions where a copy loses its number and stays.
+-- A dead copy loses its number and stays: the items and substitutions after that.
 use Rattle.std.specs.Prelude.{ℕ, zero, suc, List, [], ◌∷◌, ◌++◌, take, drop, Option, Some, None, Bool, true, false, nat_eq, slice_get, slice_index_or}
 use Rattle.rv64_instr.specs.Row.{Row, Moves, row_of}
 use Rattle.mir_func.specs.declared.position.Origin.{Origin}
@@ -15,12 +15,12 @@ use Rattle.pass_salvage.specs.Salvage.{above_after, phi_for, entries_for, fresh_
 use Rattle.pass_salvage.specs.Way.{way}
 use Rattle.dce_copies.specs.declared.off.Copied.{Copied}
 
--- the copy that code with this number and row is; one into x0 is none
+-- the copy that code with this number and row is; a copy into x0 is none
 abbrev pub copied_by : Row → (number : ℕ) → Option Copied
 copied_by (Moves (suc rd) s) k = Some (record { number = k; source = s; own = nat_eq (suc rd) s })
 copied_by _ k = None
 
--- a copy with a number
+-- the numbered copy that an item is, if it is one
 abbrev pub numbered_copy : ItemKind → Option Copied
 numbered_copy (Code i (Some k)) = copied_by (row_of i) k
 numbered_copy (Code i None) = None
@@ -33,49 +33,49 @@ without_number (Code i k) = Code i None
 without_number (Mark v m) = Mark v m
 without_number (Phi p k) = Phi p k
 
--- the phi for a copy with this origin. It counts as behind the copy: where the copy sets its own source the phi gives nothing
+-- the DBG_PHI for a copy with this origin. It counts as right after the copy, so it is undef if the copy sets its own source
 abbrev pub phi_by : (own : Bool) → (number source : ℕ) → Origin → Item
 phi_by true k s o = item_before (Phi None k) o
 phi_by false k s o = phi_for k s o
 
--- the phi for this copy, with its number
+-- the DBG_PHI for this copy, with its number
 abbrev pub phi_off : Copied → Origin → Item
 phi_off c o = phi_by c.own c.number c.source o
 
--- what is put before the copy: a phi, where no substitution stands for its number
+-- what is added before the copy: a DBG_PHI, if its number isn't substituted
 abbrev pub put_off : Way → Copied → Origin → List Item
 put_off HasEntry c o = []
 put_off (GetsEntry d p n) c o = []
 put_off GetsPhi c o = phi_off c o ∷ []
 
--- the number is lost where the copy sets its own source
+-- the number is lost if the copy sets its own source
 abbrev pub lost_if_own : Bool → (number : ℕ) → List Loss
 lost_if_own true k = number_lost k WrongPlace ∷ []
 lost_if_own false k = []
 
--- what is lost then
+-- the losses of this salvage
 abbrev pub lost_off : Way → Copied → List Loss
 lost_off HasEntry c = []
 lost_off (GetsEntry d p n) c = []
 lost_off GetsPhi c = lost_if_own c.own c.number
 
--- what stands behind the items above the copy afterwards
+-- what replaces the items from the copy on
 abbrev pub behind_off : Way → Copied → List Item → List Item
 behind_off w c [] = []
 behind_off w c (x ∷ xs) = put_off w c x.origin ++ record x { kind = without_number x.kind } ∷ xs
 
--- the items of a block afterwards, of which the one at an index was the copy
+-- the items of a block after that; the one at an index was the copy
 abbrev pub items_off : Way → (at : ℕ) → Copied → List Item → List Item
 items_off w at c items = above_after w (take at items) ++ behind_off w c (drop at items)
 
--- the items of a block, the substitutions, the next fresh number and what is lost, so far
+-- the state along a block: its items, the substitutions, the next fresh number and the losses so far
 pub record SoFar : Type 0 where
   pub items : List Item
   pub subs : List Entry
   pub fresh : ℕ
   pub lost : List Loss
 
--- a copy at an index loses its number in this way
+-- a copy at an index loses its number by this salvage
 abbrev pub off_by : (at : ℕ) → Copied → SoFar → Way → SoFar
 off_by at c a w = record {
   items = items_off w at c a.items;
@@ -84,22 +84,22 @@ off_by at c a w = record {
   lost = a.lost ++ lost_off w c;
 }
 
--- a copy at an index loses its number, where the items at these indices go
+-- a copy at an index loses its number; the items at the indices in `removed` will be removed
 abbrev pub off_copy : (removed : List ℕ) → (at : ℕ) → SoFar → Option Copied → SoFar
 off_copy removed at a (Some c) = off_by at c a (way removed a.subs a.fresh c.number c.source (take at a.items))
 off_copy removed at a None = a
 
--- the copy with a number that stands there
+-- the numbered copy that the item is, if there is one
 abbrev pub copy_in : Option Item → Option Copied
 copy_in (Some x) = numbered_copy x.kind
 copy_in None = None
 
--- what stands at an index loses its number, if it goes and is a copy
+-- the item at an index loses its number, if it will be removed and is a numbered copy
 abbrev pub off_at : (removed : List ℕ) → (at : ℕ) → (goes : Bool) → SoFar → SoFar
 off_at removed at true a = off_copy removed at a (copy_in (slice_get a.items at))
 off_at removed at false a = a
 
--- the copies of a block that go before an index lose their numbers, from the last to the first
+-- the dead copies of a block before an index lose their numbers, from the last to the first
 abbrev pub off_down : (removed : List ℕ) → (dead : List Bool) → (index : ℕ) → SoFar → SoFar
 off_down removed dead zero a = a
 off_down removed dead (suc n) a = off_down removed dead n (off_at removed n (slice_index_or dead n false) a)

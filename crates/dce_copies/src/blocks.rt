@@ -1,4 +1,4 @@
-//! The copies of all blocks that go lose their numbers.
+//! The dead copies of all blocks lose their numbers.
 
 ghost use Rattle.std.specs.Prelude.{◌≡◌, ◌+◌, ◌<◌, ◌≤◌, ◌^◌, [], length, OnOk};
 ghost use Rattle.mir_func.specs.Sound.{items_of};
@@ -13,10 +13,10 @@ use mir_substitution::substitutions::Substitutions;
 use pass_trait::loss::Loss;
 use std::alloc::{AllocError, Global};
 
-/// Takes the numbers off the copies of blocks that go, from the last block to the first, and in each from the last item
-/// to the first. `dead` has for each block the verdict on each of its items, and `fresh` is a number that nothing has,
-/// which is counted on where it is taken. What is lost is appended to `lost`. After an error the blocks and the
-/// substitutions are only to be dropped.
+/// Removes the numbers from the dead copies of blocks, from the last block to the first, and in each from the last item
+/// to the first. `dead` has for each block and each of its items whether it is dead. `fresh` is a fresh number, and is
+/// incremented if it is used. Losses are appended to `lost`. After an error the blocks and the substitutions may only
+/// be dropped.
 pub fn blocks_off(
     alloc: Global,
     blocks: &mut Vec<Block>,

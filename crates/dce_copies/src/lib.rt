@@ -1,6 +1,6 @@
-//! Copies that go lose their numbers first, and stay where they are. A number goes to the code that gave the copied
-//! value, by a substitution, or to a phi in front of the copy. In a function the copies come from the last to the
-//! first, so that what goes above a copy still stands there when its number is asked for.
+//! Salvage of the numbers of dead copies, before the copies are removed. A number is substituted by the code that
+//! defined the copied value, or is put on a DBG_PHI before the copy. The copies of a function are visited from the last
+//! to the first, so that dead code above a copy is still there when the copy's number is salvaged.
 #![tactic(auto)]
 
 pub mod blocks;

@@ -1,4 +1,4 @@
-//! One copy loses its number.
+//! Salvage of one copy's number, which leaves the copy in place.
 
 ghost use Rattle.std.specs.Prelude.{◌≡◌, ◌++◌, ◌+◌, ◌<◌, ◌≤◌, ◌^◌, length, take, true, OnOk};
 ghost use Rattle.rv64_instr.specs.Row.{row_of};
@@ -28,13 +28,13 @@ use std::alloc::AllocError;
 pub struct Copied {
     /// Its number.
     pub number: DebugNumber,
-    /// The register whose content it copies.
+    /// The register that it copies.
     pub source: Reg,
-    /// Whether it sets that register itself.
+    /// Whether it sets the register that it copies.
     pub own: bool,
 }
 
-/// The copy that an item is, if it is one with a number.
+/// The numbered copy that an item is, if it is one.
 pub fn numbered_copy(kind: &ItemKind) -> Option<Copied>
     ensures { result ≡ numbered_copy kind.now }
 {
@@ -63,9 +63,10 @@ fn copied_by(i: &Instr, number: DebugNumber) -> Option<Copied>
     }
 }
 
-/// Takes the number off a copy, which stays. `removed` has the indices of the items that go, and `fresh` is a number
-/// that nothing has, which is counted on where it is taken. What is lost is appended to `lost`: the number of a copy of
-/// its own source that only a phi could take. After an error the items and the substitutions are only to be dropped.
+/// Removes the number from a copy, which stays in place. `removed` has the indices of the items that will be removed.
+/// `fresh` is a fresh number, and is incremented if it is used. Losses are appended to `lost`: the number of a copy of
+/// a register to itself, if only a DBG_PHI could get it. After an error the items and the substitutions may only be
+/// dropped.
 pub fn number_off(
     items: &mut Vec<Item>,
     subs: &mut Substitutions,
@@ -123,8 +124,8 @@ pub fn number_off(
     Ok(())
 }
 
-/// Takes the numbers off the copies of a block that go, from the last to the first. `dead` has the verdict on each
-/// item, and `removed` the indices of those that go. After an error the items and the substitutions are only to be
+/// Removes the numbers from the dead copies of a block, from the last to the first. `dead` has for each item whether it
+/// is dead, and `removed` the indices of the dead ones. After an error the items and the substitutions may only be
 /// dropped.
 pub fn numbers_off(
     items: &mut Vec<Item>,
@@ -154,7 +155,7 @@ pub fn numbers_off(
     Ok(())
 }
 
-/// Takes the number off the item of an index, if it is a copy with a number.
+/// Removes the number from the item of an index, if it is a numbered copy.
 fn copy_off(
     items: &mut Vec<Item>,
     removed: &[usize],
@@ -181,7 +182,7 @@ fn copy_off(
     }
 }
 
-/// Takes the number off code.
+/// Removes the number of code.
 fn drop_number(x: &mut Item)
     ensures { x.new ≡ record x.old { kind = without_number x.old.kind } }
 {
@@ -190,7 +191,7 @@ fn drop_number(x: &mut Item)
     }
 }
 
-/// The phi for a copy with this origin.
+/// The DBG_PHI for a copy with this origin.
 fn phi_off(copied: Copied, origin: &Origin) -> Item
     ensures { result ≡ phi_off copied origin.now }
 {

@@ -1,4 +1,4 @@
-//! Verdicts by their indices.
+//! Which items are dead, by their indices.
 
 ghost use Rattle.std.specs.Prelude.{◌≡◌, [], false, IfOk, slice_index_or};
 ghost use Rattle.dce_copies.specs.Blocks.{going_from};
@@ -6,7 +6,7 @@ ghost use Rattle.dce_copies.specs.Blocks.{going_from};
 use base_list::List;
 use std::alloc::{AllocError, Global};
 
-/// The verdicts on the block of an index; none where there are none.
+/// Whether each item of the block of an index is dead; empty if there is no such block.
 pub fn verdicts_at(dead: &[List<bool>], block: usize) -> &[bool]
     ensures { result.now ≡ slice_index_or dead.now block [] }
 {
@@ -16,7 +16,7 @@ pub fn verdicts_at(dead: &[List<bool>], block: usize) -> &[bool]
     }
 }
 
-/// The verdict of an index; not dead where there is none.
+/// Whether the item of an index is dead; false if there is none.
 pub fn verdict(dead: &[bool], index: usize) -> bool
     ensures { result ≡ slice_index_or dead.now index false }
 {
@@ -26,7 +26,7 @@ pub fn verdict(dead: &[bool], index: usize) -> bool
     }
 }
 
-/// The indices of what goes, in order.
+/// The indices of the dead items, in order.
 pub fn going(alloc: Global, dead: &[bool]) -> Result<Vec<usize>, AllocError>
     ensures { IfOk result (λ indices. indices.items ≡ going_from 0 dead.now) }
 {

@@ -1,16 +1,17 @@
--- The verdicts on a function's items.
+-- Which items of a function are dead.
 use Rattle.std.specs.Prelude.{◌≡◌, List, [], ◌∷◌, map, Bool}
 use Rattle.mir_func.specs.declared.item.Item.{Item}
 use Rattle.mir_func.specs.Function.{Function}
 use Rattle.dce_rule.specs.Dead.{Places, Ends, is_dead, needed_at}
 use Rattle.dce_rule.specs.CodeLaws.{AreLive}
 
--- for each item whether it is dead code, where these places are needed behind all of them
+-- for each item whether it is dead code, if these places are needed after all of them
 abbrev pub verdicts : List Item → (needed : Places) → List Bool
 verdicts [] needed = []
 verdicts (i ∷ is) needed = is_dead i.kind (needed_at is needed) ∷ verdicts is needed
 
--- for each block the verdicts on its items, where the places that are live at the blocks' ends are needed there
+-- for each block and each of its items whether it is dead code, if exactly the places that are live out of a block are
+-- needed at its end
 pub record AreJudged (f : Function) (dead : List (List Bool)) : Type 0 where
   pub ends : Ends
   pub live : AreLive ends f

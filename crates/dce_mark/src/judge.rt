@@ -1,4 +1,4 @@
-//! Each item of a function is judged: is it dead code?
+//! Which items of a function are dead.
 
 ghost use Rattle.std.specs.Prelude.{◌≡◌, ◌<◌, All, length, slice_index, IfOk};
 ghost use Rattle.rv64_instr.specs.Row.{row_of};
@@ -20,8 +20,8 @@ use rv64_instr::place::Place;
 use rv64_instr::reg::physical;
 use std::alloc::{AllocError, Global};
 
-/// For each block of a function whether each of its items is dead code, where the places that are live at the block's
-/// end are needed there.
+/// For each block of a function and each of its items whether it is dead code, if the places that are live out of the
+/// block are needed at its end.
 pub fn judge(alloc: Global, f: &Func, live: &Live) -> Result<List<List<bool>>, AllocError>
     requires { AreLiveSets f.now live.now }
     ensures { IfOk result (AreJudged f.now) }
@@ -39,8 +39,8 @@ pub fn judge(alloc: Global, f: &Func, live: &Live) -> Result<List<List<bool>>, A
     Ok(dead)
 }
 
-/// Whether each of some items is dead code, where these places are needed behind them. Then `needed` has those that are
-/// needed before them.
+/// Whether each of these items is dead code, if `needed` is needed after them. On return `needed` has the places that
+/// are needed before them.
 fn judge_items(
     alloc: Global,
     live: &Live,
@@ -64,7 +64,7 @@ fn judge_items(
     Ok(List::from(dead))
 }
 
-/// Whether an item is dead code where these places are needed behind it.
+/// Whether an item is dead code, if these places are needed after it.
 fn is_dead(live: &Live, needed: &PlaceSet, kind: &ItemKind) -> bool
     ensures { result ≡ is_dead kind.now (has live.now.slots needed.now) }
 {
@@ -74,7 +74,7 @@ fn is_dead(live: &Live, needed: &PlaceSet, kind: &ItemKind) -> bool
     }
 }
 
-/// Whether an instruction only sets a place that isn't needed, or x0.
+/// Whether an instruction has no effect except to set a place that isn't needed, or x0.
 fn is_dead_code(live: &Live, needed: &PlaceSet, i: &Instr) -> bool
     ensures { result ≡ is_dead_row (row_of i.now) (has live.now.slots needed.now) }
 {

@@ -1,6 +1,6 @@
-//! Which items of a function are dead code. What is live at a block's end is needed there; from there each block is
-//! walked up once, over sets of places as bits, and an item that only sets a place which nothing below it needs, or x0,
-//! is dead and needs nothing itself.
+//! The dead-code analysis of a function. What is live out of a block is needed at its end; from there one backward walk
+//! over each block, with bit vectors of places, finds the items that only set a place which nothing after them needs,
+//! or x0: these are dead, and need nothing themselves.
 #![tactic(auto)]
 
 pub mod judge;

@@ -6,7 +6,7 @@ use Rattle.pass_trait.specs.declared.loss.Loss.{Loss}
 use Rattle.dce_rule.specs.Dead.{IsRound}
 use Rattle.dce_proof.specs.Round.{IsDeadRound}
 
--- nothing is dead, or a round and then more; the losses are those of one round after those of the other
+-- either nothing is dead, or there is a round and then more rounds; the losses are concatenated
 pub data AreDeadRounds : Function → List Entry → Function → List Entry → List Loss → Type 0 where
   ended : {f : Function} {subs : List Entry} → IsRound f f → AreDeadRounds f subs f subs []
   and_round : {f h : Function} {subs last : List Entry} {later : List Loss} (g : Function) (more : List Entry) (here : List Loss) →

@@ -1,4 +1,4 @@
--- What rounds keep.
+-- The law of complete rounds.
 use Rattle.std.specs.Prelude.{List, true, false}
 use Rattle.mir_func.specs.declared.entry.Entry.{Entry}
 use Rattle.mir_func.specs.Function.{Function}
@@ -11,13 +11,14 @@ use Rattle.pass_trait.specs.Sizes.{KeepsSizes}
 use Rattle.dce_rule.specs.Dead.{IsThinnedOut}
 use Rattle.dce_pass.specs.Rounds.{AreDeadRounds}
 
--- what a function keeps over rounds
+-- complete rounds keep the function sound, preserve the simulation and keep the size bounds, and on stripped functions
+-- they are complete rounds too
 pub record KeepsRounds (f : Function) (subs : List Entry) (g : Function) (more : List Entry) : Type 0 where
   pub sound : IsSound g
   pub follows : KeepsFollowing false true (change f subs g more)
   pub sizes : KeepsSizes 1 1 (change f subs g more)
   pub code : IsThinnedOut (stripped f) (stripped g)
 
--- rounds that end
+-- complete rounds have these properties
 abbrev pub RoundsKeep : Type 0
 RoundsKeep = (f g : Function) (subs more : List Entry) (losses : List Loss) → IsSound f → AreDeadRounds f subs g more losses → KeepsRounds f subs g more

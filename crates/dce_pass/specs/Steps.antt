@@ -1,4 +1,4 @@
--- Rounds as steps of a pass.
+-- Rounds as the steps of a pass.
 use Rattle.std.specs.Prelude.{ℕ, zero, suc, ◌^◌, ◌<◌, List, [], ◌∷◌}
 use Rattle.mir_func.specs.declared.entry.Entry.{Entry}
 use Rattle.mir_func.specs.Function.{Function}
@@ -12,7 +12,7 @@ use Rattle.dce_rule.specs.Dead.{IsRound}
 use Rattle.dce_pass.specs.Rounds.{AreDeadRounds}
 use Rattle.dce_proof.specs.Rule.{dead_rule}
 
--- one step so many times
+-- the same step n times
 abbrev pub repeated : ℕ → Step → List Step
 repeated zero step = []
 repeated (suc n) step = step ∷ repeated n step
@@ -21,7 +21,7 @@ repeated (suc n) step = step ∷ repeated n step
 abbrev pub round_step : Rule → Step
 round_step rule = record { code = IsRound; debug = rule }
 
--- more rounds than there is code in any function that passes take
+-- more rounds than any function with less than 2^31 code items needs
 unfoldable pub most_rounds : ℕ
 most_rounds = 2 ^ 31
 
@@ -29,7 +29,7 @@ most_rounds = 2 ^ 31
 abbrev pub dead_steps : List Step
 dead_steps = repeated most_rounds (round_step dead_rule)
 
--- rounds that end are the steps
+-- complete rounds are a run of these steps
 abbrev pub RoundsKeepSteps : Type 0
 RoundsKeepSteps = (f g : Function) (subs more : List Entry) (losses : List Loss) → IsSound f → code_count f < 2 ^ 31 →
     AreDeadRounds f subs g more losses → KeepsSteps dead_steps (change f subs g more) losses

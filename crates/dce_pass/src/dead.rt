@@ -1,4 +1,4 @@
-//! The pass that takes out dead code.
+//! The dead code elimination pass.
 
 ghost use Rattle.std.specs.Prelude.{false, true};
 ghost use Rattle.dce_pass.specs.Steps.{dead_steps};
@@ -14,9 +14,9 @@ use pass_trait::loss::Losses;
 use pass_trait::pass::Pass;
 use std::alloc::{AllocError, Global};
 
-/// Takes out dead code in rounds, until nothing is dead (LLVM: dead machine instruction elimination). Lost are the
-/// numbers of what goes, but for those of copies, and marks and phis of places that it leaves wrong. The losses of each
-/// round are in order, and those of one round stand before those of the next.
+/// Removes dead code in rounds, until nothing is dead (LLVM: dead machine instruction elimination). The losses are the
+/// numbers of removed code, except those of copies that are salvaged, and debug values and DBG_PHIs of places that
+/// become wrong. The losses of each round are in order, and come before those of later rounds.
 #[derive(Drop)]
 pub struct DeadPass;
 

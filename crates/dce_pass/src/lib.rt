@@ -1,15 +1,15 @@
-//! Dead code elimination as a pass: rounds until nothing is dead.
+//! The dead code elimination pass: rounds until nothing is dead.
 //!
-//! - `rounds_laws`, `rounds`: Rounds of dead code, until one takes nothing out.
+//! - `rounds_laws`, `rounds`: Rounds of dead code elimination, until one removes nothing.
 //!
-//! - `steps_laws`: Rounds of dead code as the steps of a pass: each round is one step, with its rule for code and a
-//!   rule for debug items, of the function before the round and the one after it. A round where nothing is dead changes
-//!   nothing, so that one number of steps does for every function.
+//! - `steps_laws`: Rounds as the steps of a pass: each round is one step, with its code rule and a debug rule over the
+//!   function before the round and the one after it. A round in which nothing is dead changes nothing, so one number of
+//!   steps is enough for every function.
 //!
-//! - `dead`: Dead code goes, a whole pass. An instruction goes that only sets a place which no code behind it needs, or
-//!   x0. It goes in rounds, until nothing is dead: what one round takes out may have been the last use of a place.
-//!   Numbers of copies that go move to the code that gave the value, or to a phi; what else is lost is told round by
-//!   round.
+//! - `dead`: The pass. An instruction is removed if its only effect is to set a place that no code after it needs, or
+//!   x0. This is done in rounds, until nothing is dead: what one round removes may be the last use of a place. The
+//!   number of a removed copy is substituted by the code that defined its value, or is put on a DBG_PHI; other losses
+//!   are reported round by round.
 #![tactic(auto)]
 
 pub mod dead;

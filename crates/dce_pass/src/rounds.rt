@@ -1,4 +1,4 @@
-//! Rounds.
+//! Rounds of dead code elimination.
 
 ghost use Rattle.std.specs.Prelude.{◌≡◌, ◌+◌, ◌<◌, ◌^◌, IfOk};
 ghost use Rattle.mir_func.specs.Sound.{IsSound};
@@ -11,8 +11,8 @@ use mir_substitution::substitutions::Substitutions;
 use pass_trait::loss::Losses;
 use std::alloc::{AllocError, Global};
 
-/// Takes dead code out of a function in rounds, until nothing is dead, and gives what was lost, round by round. After
-/// an error the function and the substitutions are only to be dropped.
+/// Removes the dead code of a function in rounds, until nothing is dead, and returns the losses, round by round. After
+/// an error the function and the substitutions may only be dropped.
 pub fn dead_rounds(
     alloc: Global,
     f: &mut Func,

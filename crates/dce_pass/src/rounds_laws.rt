@@ -1,8 +1,8 @@
-//! The law of rounds: it is the contract of a function that does nothing.
+//! The law of rounds, as the contract of a function with an empty body.
 
 ghost use Rattle.dce_pass.specs.RoundsLaws.{RoundsKeep};
 
-/// After rounds the function is one still, it follows what it followed, and it is no larger than it may be.
+/// After complete rounds the function is sound and within the size bounds, and the rounds preserve the simulation.
 pub fn rounds_keep()
     ensures { RoundsKeep }
 {}

@@ -1,11 +1,11 @@
-//! The law of rounds as steps: it is the contract of a function that does nothing.
+//! The law of rounds as steps, as the contract of a function with an empty body.
 
 ghost use Rattle.pass_trait.specs.Code.{HasOneResult, SeesCodeAlone};
 ghost use Rattle.pass_trait.specs.Steps.{EachCode};
 ghost use Rattle.dce_pass.specs.Steps.{RoundsKeepSteps, dead_steps};
 
-/// Rounds that end keep their rules one after the other, and each makes of one function's code one, whatever debug
-/// items stand in it.
+/// Complete rounds are a run of the pass's steps, and the code rule of each step is functional and doesn't depend on
+/// debug items.
 pub fn rounds_keep_steps()
     ensures steps { RoundsKeepSteps }
     ensures one { EachCode HasOneResult dead_steps }

@@ -1,4 +1,4 @@
--- What a round keeps of debug items.
+-- The debug law of a round.
 use Rattle.std.specs.Prelude.{List, []}
 use Rattle.mir_func.specs.declared.entry.Entry.{Entry}
 use Rattle.mir_func.specs.Function.{Function}
@@ -10,11 +10,12 @@ use Rattle.dce_rule.specs.Dead.{IsRound}
 use Rattle.dce_round.specs.Round.{IsDeadRound}
 use Rattle.dce_proof.specs.Rule.{dead_rule}
 
--- each mark, phi and number stays, or an entry or a phi stands for it, or it is among the losses with its cause
+-- each debug value, DBG_PHI and number is kept, or substituted or replaced by a DBG_PHI, or is among the losses with
+-- its cause
 abbrev pub RoundKeepsItems : Type 0
 RoundKeepsItems = (f g : Function) (subs more : List Entry) (losses : List Loss) → IsSound f → IsDeadRound f subs g more losses →
     KeepsItems dead_rule (change f subs g more) losses
 
--- and so does a round where nothing is dead, with no losses
+-- and the same for a round in which nothing is dead, with no losses
 abbrev pub IdleKeepsItems : Type 0
 IdleKeepsItems = (f : Function) (subs : List Entry) → IsSound f → IsRound f f → KeepsItems dead_rule (change f subs f subs) []

@@ -1,4 +1,4 @@
--- What stands for each item of a function once its copies that go have lost their numbers: a line for each item, in the order of the text.
+-- What each item of a function is once its dead copies have lost their numbers: one line for each item, in the order of the text.
 use Rattle.std.specs.Prelude.{ℕ, zero, suc, List, [], ◌∷◌, ◌++◌, take, drop, length}
 use Rattle.std.specs.Prelude.{cond, nat_eq, Option, Some, None, Bool, true, false, slice_get, slice_index_or}
 use Rattle.mir_func.specs.declared.block.Block.{Block}
@@ -13,31 +13,31 @@ use Rattle.dce_copies.specs.Off.{without_number, numbered_copy, put_off, SoFar, 
 use Rattle.dce_copies.specs.Blocks.{going_from, BlocksSoFar, in_block, blocks_off}
 use Rattle.dce_salvage_proof.specs.SalvageLaws.{begins_off}
 
--- what stands for an item, and the register whose content the phi before it has, if one was put
+-- the items that an item becomes, and the register of the DBG_PHI before it, if one was added
 pub record Line : Type 0 where
   pub now : List Item
   pub phi : Option ℕ
 
--- the source of a copy whose number goes to a phi
+-- the source of a copy whose number goes to a DBG_PHI
 abbrev pub phi_source : Way → Copied → Option ℕ
 phi_source HasEntry c = None
 phi_source (GetsEntry d o n) c = None
 phi_source GetsPhi c = Some c.source
 
--- the line of a copy that loses its number in this way
+-- the line of a copy that loses its number by this salvage
 abbrev pub line_by : Way → Copied → Item → Line
 line_by w c x = record { now = put_off w c x.origin ++ record x { kind = without_number x.kind } ∷ []; phi = phi_source w c }
 
--- the line of an item that stays as it is
+-- the line of an item that is unchanged
 abbrev pub line_of : Item → Line
 line_of x = record { now = x ∷ []; phi = None }
 
--- the line of an item that goes, by the copy that it is
+-- the line of a dead item, which may be a numbered copy
 abbrev pub line_of_copy : (removed : List ℕ) → (at : ℕ) → SoFar → Item → Option Copied → Line
 line_of_copy removed at a x (Some c) = line_by (way removed a.subs a.fresh c.number c.source (take at a.items)) c x
 line_of_copy removed at a x None = line_of x
 
--- the line of what stands at an index, when those behind it are done: code of which a copy behind it took the number has it by then
+-- the line of the item at an index, once the later ones are done: code that gets a number for a later copy has it by then
 abbrev pub lines_of : (removed : List ℕ) → (at : ℕ) → (goes : Bool) → SoFar → Option Item → List Line
 lines_of removed at true a (Some x) = line_of_copy removed at a x (numbered_copy x.kind) ∷ []
 lines_of removed at false a (Some x) = line_of x ∷ []
@@ -49,7 +49,7 @@ lines_down removed dead zero a = []
 lines_down removed dead (suc n) a =
     lines_down removed dead n (off_at removed n (slice_index_or dead n false) a) ++ lines_of removed n (slice_index_or dead n false) a (slice_get a.items n)
 
--- the lines of the block with a number
+-- the lines of the block with this number, among these blocks
 abbrev pub lines_in : (dead : List (List Bool)) → List Block → BlocksSoFar → (block : ℕ) → List Line
 lines_in dead [] a n = []
 lines_in dead (b ∷ bs) a n =
@@ -57,6 +57,6 @@ lines_in dead (b ∷ bs) a n =
     (lines_down (going_from 0 (slice_index_or dead 0 [])) (slice_index_or dead 0 []) (length b.items) (in_block b (blocks_off (drop 1 dead) bs a)))
     (lines_in (drop 1 dead) bs a n)
 
--- the lines of a function's block, by the verdicts on its items
+-- the lines of a function's block, given which items are dead
 abbrev pub ledger : Function → List Entry → (dead : List (List Bool)) → (block : ℕ) → List Line
 ledger f subs dead n = lines_in dead f.blocks (begins_off f subs) n

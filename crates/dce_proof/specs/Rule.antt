@@ -1,4 +1,4 @@
--- What a round of dead code does to debug items, over the function before the round and the one after it.
+-- The debug rule of a round of dead code elimination, over the function before the round and the one after it.
 use Rattle.std.specs.Prelude.{◌≡◌, ℕ, List, [], ◌∷◌, ◌++◌, Option, Some, None, Bool, true, slice_get}
 use Rattle.rv64_instr.specs.declared.place.Place.{Place}
 use Rattle.rv64_instr.specs.declared.place.Place.TheVariants.{Register}
@@ -22,14 +22,14 @@ use Rattle.dce_mark.specs.Judged.{AreJudged}
 use Rattle.dce_salvage_proof.specs.SalvageLaws.{all_off}
 use Rattle.dce_proof.specs.Ledger.{Line, ledger}
 
--- the verdicts on the items of the function before, and the ledger's line of the item at a place
+-- which items of the old function are dead, and the ledger's line of the item at a position
 pub record HasLine (c : Change) (at : Pos) (l : Line) : Type 0 where
   pub dead : List (List Bool)
   pub judged : AreJudged c.old dead
   pub stands : slice_get (ledger c.old c.old_subs dead at.block) at.item ≡ Some l
 
--- what is lost of an item at a place: the number of dead code that is no copy, and a mark or a phi of a wrong place; and the number of
--- a copy whose phi asks for a place that is wrong behind the copy
+-- what is lost of an item at a position: the number of dead code that isn't a copy; a debug value or DBG_PHI of a wrong place; and the
+-- number of a copy that goes to a DBG_PHI, if the copied register is wrong right after the copy
 pub data Loses (c : Change) (at : Pos) : ItemKind → Origin → Loss → Type 0 where
   number : {i : Instruction} {k : ℕ} {o : Origin} (dead : List (List Bool)) (judged : AreJudged c.old dead) → is_dead_at judged.ends c.old at ≡ true →
       (IsCopy (row_of i) → ⊥) → Loses c at (Code i (Some k)) o (number_lost k Removed)
@@ -40,12 +40,12 @@ pub data Loses (c : Change) (at : Pos) : ItemKind → Origin → Loss → Type 0
   phi : {x : Place} {k : ℕ} {o : Origin} (dead : List (List Bool)) (judged : AreJudged c.old dead) →
       IsWrongAt judged.ends c.old x at → Loses c at (Phi (Some x) k) o (number_lost k WrongPlace)
 
--- code without a number stands there, and has this one when all copies have lost theirs
+-- the item at this position is code without a number, and has this number once all dead copies have lost theirs
 abbrev pub IsNumbered : Change → (at : Pos) → ℕ → Type 0
 IsNumbered c at k = (l : Line) × HasLine c at l × (i : Instruction) × (o : Origin) × (d : Loc) × StandsAt c.old at (item (Code i None) o d) ×
     (l.now ≡ item (Code i (Some k)) o d ∷ [])
 
--- the rule of a round
+-- the debug rule of a round
 abbrev pub dead_rule : Rule
 dead_rule = record {
   loses = λ c at loss. (x : Item) × StandsAt c.old at x × Loses c at x.kind x.origin loss;

@@ -1,4 +1,4 @@
--- How large a function is after a round.
+-- The size of a function after a round.
 use Rattle.std.specs.Prelude.{◌≡◌, ◌+◌, ◌≤◌, List}
 use Rattle.mir_func.specs.declared.entry.Entry.{Entry}
 use Rattle.mir_func.specs.Function.{Function}
@@ -7,7 +7,8 @@ use Rattle.pass_trait.specs.declared.loss.Loss.{Loss}
 use Rattle.pass_trait.specs.Sizes.{greatest_number, item_count, code_count, call_count, IsPhysical}
 use Rattle.dce_round.specs.Round.{IsDeadRound}
 
--- the second function, with its substitutions, is no larger: for each debug instruction number that was taken an item went
+-- the second function, with its substitutions, is no larger: the greatest number grows by at most the number of removed
+-- items
 pub record IsNoLarger (f : Function) (subs : List Entry) (g : Function) (more : List Entry) : Type 0 where
   pub items : item_count g ≤ item_count f
   pub code : code_count g ≤ code_count f
@@ -16,6 +17,6 @@ pub record IsNoLarger (f : Function) (subs : List Entry) (g : Function) (more : 
   pub numbers : greatest_number g more + item_count g ≤ greatest_number f subs + item_count f
   pub slots : g.slots ≡ f.slots
 
--- so it is after a round
+-- a round makes a function no larger
 abbrev pub RoundSizes : Type 0
 RoundSizes = (f g : Function) (subs more : List Entry) (losses : List Loss) → IsSound f → IsDeadRound f subs g more losses → IsNoLarger f subs g more

@@ -1,12 +1,12 @@
-//! One round of dead code elimination: what becomes of debug values, and the sizes of its result.
+//! One round of dead code elimination: its effect on debug values, and the size of its result.
 //!
-//! - `size_laws`: How large a function is after a round of dead code: no larger, and a number is taken only where an
-//!   item went.
+//! - `size_laws`: The size of a function after a round: it is no larger, and the greatest number grows by at most the
+//!   number of removed items.
 //!
-//! - `debug_laws`: What a round of dead code does to debug items. A ledger has a line for each item: what stands for it
-//!   once copies that go have lost their numbers. Marks and phis stay, or give nothing where dead code left their place
-//!   wrong; a copy's number goes to the code that gave its value, by a substitution, or to a phi; any other number of
-//!   dead code is lost.
+//! - `debug_laws`: The effect of a round on debug items. A ledger has a line for each item: the items that it becomes
+//!   once dead copies have lost their numbers. Debug values and DBG_PHIs are kept, or become undef if removed code
+//!   makes their place wrong; the number of a dead copy is substituted by the code that defined its value, or is on a
+//!   DBG_PHI; any other number of dead code is lost.
 #![tactic(auto)]
 
 pub mod debug_laws;

@@ -1,4 +1,4 @@
--- What a round keeps.
+-- The laws of a round.
 use Rattle.std.specs.Prelude.{◌<◌, List}
 use Rattle.mir_func.specs.declared.entry.Entry.{Entry}
 use Rattle.mir_func.specs.Function.{Function}
@@ -11,12 +11,12 @@ use Rattle.dce_rule.specs.Dead.{IsRound}
 use Rattle.dce_rule.specs.Loose.{KeepsLoosely}
 use Rattle.dce_round.specs.Round.{IsDeadRound}
 
--- it is sound, and follows loosely what it followed so
+-- the function after it is sound, and the round preserves the weak simulation
 abbrev pub RoundFollows : Type 0
 RoundFollows = (f g : Function) (subs more : List Entry) (losses : List Loss) → IsSound f → IsDeadRound f subs g more losses →
     IsSound g × KeepsLoosely (change f subs g more)
 
--- it is a round of the stripped functions, with less code after it
+-- it is a round of the stripped functions, and there is less code after it
 abbrev pub RoundCode : Type 0
 RoundCode = (f g : Function) (subs more : List Entry) (losses : List Loss) → IsSound f → IsDeadRound f subs g more losses →
     IsRound (stripped f) (stripped g) × (code_count g < code_count f)

@@ -1,4 +1,4 @@
--- One round with its debug items.
+-- One round of dead code elimination with its debug items.
 use Rattle.std.specs.Prelude.{◌≡◌, ◌↔◌, List, ◌++◌, Option, Some, None, Bool, true, Contains}
 use Rattle.mir_func.specs.declared.entry.Entry.{Entry}
 use Rattle.mir_func.specs.Function.{Function}
@@ -9,7 +9,7 @@ use Rattle.dce_mark.specs.Judged.{AreJudged}
 use Rattle.dce_sweep.specs.Round.{IsTakenOut}
 use Rattle.dce_salvage_proof.specs.SalvageLaws.{all_off, function_off}
 
--- the copies of a function that are dead lose their numbers, and then all that is dead goes; the losses are those of both, in order
+-- the dead copies of a function lose their numbers, and then all dead code is removed; the losses are those of both, in order
 pub record IsDeadRound (f : Function) (subs : List Entry) (g : Function) (more : List Entry) (losses : List Loss) : Type 0 where
   pub dead : List (List Bool)
   pub judged : AreJudged f dead
@@ -21,7 +21,7 @@ pub record IsDeadRound (f : Function) (subs : List Entry) (g : Function) (more :
   pub each : (l : Loss) → Contains losses l ↔ Contains ((all_off f subs dead).lost ++ here) l
   pub some : any ≡ true
 
--- or nothing is dead, and all stays
+-- or nothing is dead, and the function and its substitutions are unchanged
 abbrev pub IsRoundWith : Function → List Entry → Function → List Entry → Option (List Loss) → Type 0
 IsRoundWith f subs g more (Some losses) = IsDeadRound f subs g more losses
 IsRoundWith f subs g more None = (g ≡ f) × (more ≡ subs) × IsRound f f

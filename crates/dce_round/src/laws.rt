@@ -1,13 +1,13 @@
-//! Laws of rounds: each is the contract of a function that does nothing.
+//! Laws of rounds: each is the contract of a function with an empty body.
 
 ghost use Rattle.dce_round.specs.Laws.{RoundFollows, RoundCode};
 
-/// After a round the function is one still, and what followed loosely follows loosely.
+/// The function after a round is sound, and the round preserves the weak simulation.
 pub fn round_follows()
     ensures { RoundFollows }
 {}
 
-/// A round takes out just the dead code, whatever debug items stand in the function, and there is less code after it.
+/// A round removes exactly the dead code, whatever debug items the function has, and there is less code after it.
 pub fn round_code()
     ensures { RoundCode }
 {}

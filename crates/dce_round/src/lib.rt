@@ -1,5 +1,5 @@
-//! One round of dead code, with its debug items. What is dead is judged; copies among it lose their numbers, from the
-//! last to the first; then all of it goes, and what is lost is put in order.
+//! One round of dead code elimination, with its debug items: it computes which code is dead, salvages the numbers of
+//! dead copies from the last to the first, removes the dead code, and puts the losses in order.
 #![tactic(auto)]
 
 pub mod laws;

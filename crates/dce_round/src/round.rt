@@ -1,4 +1,4 @@
-//! A round.
+//! A round of dead code elimination with its debug items.
 
 ghost use Rattle.std.specs.Prelude.{◌≡◌, ◌+◌, ◌<◌, ◌^◌, [], OnOk, IfOk};
 ghost use Rattle.mir_func.specs.Sound.{IsSound};
@@ -19,9 +19,9 @@ use pass_salvage::fresh::fresh_number;
 use pass_trait::loss::{Loss, Losses};
 use std::alloc::{AllocError, Global};
 
-/// Takes the dead code out of a function, once, and salvages the numbers of its copies. It gives what is lost, in
-/// order, or None where nothing is dead: then all stays as it was. After an error the function and the substitutions
-/// are only to be dropped.
+/// Removes the dead code of a function, once, and salvages the numbers of its copies. Returns the losses, in order, or
+/// None if nothing is dead: then all is unchanged. After an error the function and the substitutions may only be
+/// dropped.
 pub fn dead_round(
     alloc: Global,
     f: &mut Func,
@@ -43,8 +43,8 @@ pub fn dead_round(
     Ok(Some(List::from(lost)))
 }
 
-/// Takes the numbers off the copies of a function that go, by the verdicts on its items, and gives what is lost. After
-/// an error the function is as it was, and the substitutions are only to be dropped.
+/// Removes the numbers from the dead copies of a function, and returns the losses. After an error the function is
+/// unchanged, and the substitutions may only be dropped.
 fn copies_off(
     alloc: Global,
     f: &mut Func,
@@ -63,7 +63,7 @@ fn copies_off(
     Ok(lost)
 }
 
-/// The blocks of a function whose copies that go have lost their numbers. What is lost is appended to `lost`.
+/// The blocks of a function whose dead copies have lost their numbers. Losses are appended to `lost`.
 fn blocks_without_numbers(
     alloc: Global,
     f: &Func,

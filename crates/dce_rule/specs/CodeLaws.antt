@@ -1,4 +1,4 @@
--- What holds of functions whose dead code is taken out.
+-- The laws of removing dead code.
 use Rattle.std.specs.Prelude.{◌≡◌, ◌↔◌, ℕ, List, true}
 use Rattle.rv64_instr.specs.declared.place.Place.{Place}
 use Rattle.mir_func.specs.declared.position.Pos.{Pos}
@@ -16,43 +16,43 @@ use Rattle.pass_trait.specs.Sizes.{KeepsSizes}
 use Rattle.dce_rule.specs.Loose.{FollowsLoosely, KeepsLoosely}
 use Rattle.dce_rule.specs.Out.{NoCopies, AreLosses, AreWrong, out_rule}
 
--- these are the places that are live at the ends of the function's blocks
+-- the test has exactly the places that are live out of each block of the function
 abbrev pub AreLive : Ends → Function → Type 0
 AreLive ends f = (b : ℕ) (x : Place) → (ends b x ≡ true) ↔ LiveAtEnd f b x
 
--- each place that is wrong somewhere is among those that are silenced there
+-- at every position the test has all places that are wrong there
 abbrev pub Covers : (wrong : Pos → Places) → Ends → Function → Type 0
 Covers wrong ends f = (p : Pos) (x : Place) → IsWrongAt ends f x p → wrong p x ≡ true
 
--- what is live at blocks' ends covers what is needed at the starts of their successors
+-- what is needed at the start of a block is live out of its predecessors, except x0
 abbrev pub LiveIsClosed : Type 0
 LiveIsClosed = (f : Function) (ends : Ends) → IsSound f → AreLive ends f → IsClosed ends f
 
--- taking out dead code is a round of the stripped functions, whichever places count as wrong
+-- for stripped functions removing dead code is a round, whichever places count as wrong
 abbrev pub RoundIsStripped : Type 0
 RoundIsStripped = (f : Function) (ends : Ends) (wrong : Pos → Places) → AreLive ends f → IsRound (stripped f) (stripped (taken_out wrong ends f))
 
--- what a function without its dead code keeps
+-- what is preserved by removing dead code: soundness, the form of code, and the weak simulation
 pub record KeepsWithoutDead (f : Function) (subs : List Entry) (g : Function) : Type 0 where
   pub sound : IsSound g
   pub forms : AllItems (λ i. HasForm i.kind) g.blocks
   pub follows : KeepsLoosely (change f subs g subs)
 
--- a function in form stays sound and in form without its dead code, and follows loosely what it followed loosely,
--- where each wrong place is silenced
+-- A sound function whose code has the required forms has both without its dead code, and this preserves the weak
+-- simulation, if every wrong place is made undef
 abbrev pub DeadCodeFollows : Type 0
 DeadCodeFollows = (f : Function) (subs : List Entry) (ends : Ends) (wrong : Pos → Places) → IsSound f → AllItems (λ i. HasForm i.kind) f.blocks →
     IsClosed ends f → Covers wrong ends f → KeepsWithoutDead f subs (taken_out wrong ends f)
 
--- once a round takes nothing out of a function, it follows what it followed loosely
+-- once a round removes nothing from a function, a source that weakly simulates it simulates it
 abbrev pub SettledFollows : Type 0
 SettledFollows = (f : Function) (subs : List Entry) → IsSound f → IsRound f f → (src : Source) → FollowsLoosely src f subs → FollowsSource src f subs
 
--- where the wrong places are known exactly, and no dead copy has a number: what becomes of debug items, with the losses
+-- The debug rule and these losses hold, if the wrong places are known exactly and no dead copy has a number
 abbrev pub DeadCodeKeepsItems : Type 0
 DeadCodeKeepsItems = (f : Function) (subs : List Entry) (ends : Ends) (wrong : Pos → Places) → IsSound f → AreWrong ends f wrong → NoCopies ends f →
     (losses : List Loss) → AreLosses ends f losses → KeepsItems (out_rule ends) (change f subs (taken_out wrong ends f) subs) losses
 
--- taking out dead code makes nothing grow: no items, calls, debug instruction numbers or slots
+-- removing dead code enlarges nothing: no items, calls, debug instruction numbers or slots
 abbrev pub DeadCodeKeepsSizes : Type 0
 DeadCodeKeepsSizes = (f : Function) (subs : List Entry) (ends : Ends) (wrong : Pos → Places) → KeepsSizes 1 0 (change f subs (taken_out wrong ends f) subs)

@@ -1,4 +1,4 @@
--- The numbers of dead code.
+-- The debug instruction numbers of dead code.
 use Rattle.std.specs.Prelude.{◌≡◌, ℕ, List, [], ◌∷◌, Some, Bool, true, slice_get}
 use Rattle.std.specs.List.{flat_map}
 use Rattle.mir_func.specs.declared.block.Block.{Block}
@@ -7,16 +7,16 @@ use Rattle.mir_func.specs.Function.{Function}
 use Rattle.mir_func.specs.Sound.{code_number}
 use Rattle.dce_rule.specs.Dead.{Places, Ends, is_dead, needed_at}
 
--- each item, and whether it is dead code
+-- each item, with whether it is dead code
 abbrev pub judged : List Item → (needed : Places) → List (Item × Bool)
 judged [] needed = []
 judged (i ∷ is) needed = (i, is_dead i.kind (needed_at is needed)) ∷ judged is needed
 
--- the items of all blocks in order, each with the verdict on it
+-- the items of all blocks in order, each with whether it is dead code
 abbrev pub judged_of : Ends → List Block → List (Item × Bool)
 judged_of ends blocks = flat_map (λ b. judged b.items (ends b.id)) blocks
 
--- the number of dead code
+-- some dead code has this number
 pub record IsGone (ends : Ends) (f : Function) (k : ℕ) : Type 0 where
   pub index : ℕ
   pub item : Item

@@ -1,5 +1,5 @@
--- Following a source, but for one thing: nothing is asked of slot stores that were added at blocks' ends. A round may take out the one
--- load of a slot, and the store only goes in a later round.
+-- The weak simulation: the simulation without the condition on slot stores that were added at blocks' ends. One round may remove the
+-- only load of a slot, and its store only becomes dead in a later round.
 use Rattle.std.specs.Prelude.{◌≡◌, List, All, true, false}
 use Rattle.mir_func.specs.declared.position.Pos.{Pos}
 use Rattle.mir_func.specs.declared.block.Block.{Block}
@@ -14,7 +14,7 @@ use Rattle.sem_mir.specs.Follow.{Among, InOrder, KindFits, MarkFits, OnRow, Goes
 use Rattle.pass_trait.specs.Change.{Change}
 use Rattle.pass_trait.specs.Following.{Source, EndsAsSource}
 
--- the shape of a function that follows a source, but for its stores
+-- the shape of a simulated function, without the condition on slot stores
 pub record LooseShape (src f : List Block) (srcp fp : Program) : Type 0 where
   pub among : Among f src
   pub first : first_of f ≡ first_of src
@@ -24,7 +24,7 @@ pub record LooseShape (src f : List Block) (srcp fp : Program) : Type 0 where
   pub items : All (λ b. All (λ i. KindFits srcp i.kind b.silent i.origin) b.items) f
   pub marks : All (λ b. All (λ i. MarkFits i.kind i.origin) b.items) f
 
--- the function with its substitutions follows the source, but for its stores
+-- the source weakly simulates the function with its substitutions
 pub record FollowsLoosely (src : Source) (f : Function) (subs : List Entry) : Type 0 where
   pub objects : f.objects ≡ src.function.objects
   pub shape : LooseShape src.function.blocks f.blocks (program_of true src.function.blocks (resolve src.subs)) (program_of false f.blocks (resolve subs))
@@ -32,7 +32,7 @@ pub record FollowsLoosely (src : Source) (f : Function) (subs : List Entry) : Ty
       RunsAlong (program_of true src.function.blocks (resolve src.subs)) (program_of false f.blocks (resolve subs))
       (station_at ByItems (program_of false f.blocks (resolve subs))) (AnyOrigin (station_at ByItems (program_of false f.blocks (resolve subs)))) s s
 
--- of whatever source the function followed loosely it follows that source loosely still, with whole ends where they were whole
+-- the pass preserves the weak simulation, and keeps matched block ends matched
 pub record KeepsLoosely (c : Change) : Type 0 where
   pub follows : (src : Source) → FollowsLoosely src c.old c.old_subs → FollowsLoosely src c.new c.new_subs
   pub ends : (src : Source) → FollowsLoosely src c.old c.old_subs → EndsAsSource src c.old c.old_subs → EndsAsSource src c.new c.new_subs

@@ -1,4 +1,4 @@
--- What holds where a copy loses its number between two rounds.
+-- A copy's number is salvaged between two rounds: this preserves the weak simulation.
 use Rattle.std.specs.Prelude.{◌≡◌, ℕ, List, [], ◌∷◌, ◌++◌, None, false}
 use Rattle.mir_func.specs.declared.entry.Entry.{Entry}
 use Rattle.mir_func.specs.Function.{Function}
@@ -14,7 +14,8 @@ use Rattle.pass_salvage.proofs.NumberOff.{off_edits}
 use Rattle.pass_salvage.proofs.NumberPhi.{phi_edits}
 use Rattle.dce_rule.specs.Loose.{KeepsLoosely}
 
--- number k of a copy of s goes to operand o of number n, which code above the copy has or gets; other numbers are free meanwhile
+-- number k of a copy of s is substituted by operand o of number n, of code above the copy. The values of numbers in `Free`
+-- may differ meanwhile
 abbrev pub NumberGoesToCode : (Free : ℕ → Type 0) → Type 0
 NumberGoesToCode Free = (old new : Function) (subs : List Entry) (k n o s : ℕ) → IsSound old → IsSound new → new.objects ≡ old.objects →
     entry_of subs (first_operand k) ≡ None → entry_of subs (record { number = n; operand = o }) ≡ None → (k ≡ n → ⊥) → (s ≡ 2 → ⊥) →
@@ -22,7 +23,7 @@ NumberGoesToCode Free = (old new : Function) (subs : List Entry) (k n o s : ℕ)
     (program_of false new.blocks (resolve (subs ++ entry_for k n o ∷ []))) refl refl k n o s Free)
     old.blocks new.blocks → KeepsLoosely (change old subs new (subs ++ entry_for k n o ∷ []))
 
--- number k of a copy of s goes to a phi of s in front of it
+-- a DBG_PHI of s right before the copy gets number k of a copy of s
 abbrev pub NumberGoesToPhi : Type 0
 NumberGoesToPhi = (old new : Function) (subs : List Entry) (k s : ℕ) (real : s ≡ 2 → ⊥) → IsSound old → IsSound new → new.objects ≡ old.objects →
     BlocksEdited (phi_edits (program_of false old.blocks (resolve subs)) (program_of false new.blocks (resolve subs)) refl refl (λ q. refl) k s real)

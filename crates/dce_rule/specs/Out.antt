@@ -1,4 +1,4 @@
--- What taking out dead code does to debug items, where its copies have no numbers any more.
+-- The debug rule of removing dead code whose copies have no numbers any more.
 use Rattle.std.specs.Prelude.{◌≡◌, ◌↔◌, List, [], Some, None, Contains, true}
 use Rattle.rv64_instr.specs.declared.place.Place.{Place}
 use Rattle.rv64_instr.specs.declared.place.Place.TheVariants.{Register}
@@ -25,7 +25,7 @@ IsNoNumberedCopy (Mark v m) = Unit {0}
 IsNoNumberedCopy (Phi p k) = Unit {0}
 
 module _ (ends : Ends) (f : Function) where
-  -- what is lost of such an item at a place: the number of dead code, and a mark or a phi of a wrong place
+  -- what is lost of an item at a position: the number of dead code, and a debug value or DBG_PHI of a wrong place
   abbrev pub LosesOf : (at : Pos) → ItemKind → Origin → Loss → Type 0
   LosesOf at (Code i (Some k)) o loss = (is_dead_at ends f at ≡ true) × (loss ≡ number_lost k Removed)
   LosesOf at (Code i None) o loss = ⊥
@@ -43,16 +43,16 @@ module _ (ends : Ends) (f : Function) where
   abbrev pub NoCopies : Type 0
   NoCopies = (at : Pos) (i : Item) → StandsAt f at i → is_dead_at ends f at ≡ true → IsNoNumberedCopy i.kind
 
-  -- these are the losses, each once and in order
+  -- the losses are exactly these, in order and without duplicates
   pub record AreLosses (losses : List Loss) : Type 0 where
     pub each : (l : Loss) → Contains losses l ↔ ((at : Pos) × LosesAt at l)
     pub ordered : IsInOrder losses
 
-  -- these are the places that are wrong at each position
+  -- the test has exactly the places that are wrong at each position
   abbrev pub AreWrong : (wrong : Pos → Places) → Type 0
   AreWrong wrong = (p : Pos) (x : Place) → (wrong p x ≡ true) ↔ IsWrongAt ends f x p
 
--- the rule of its debug items
+-- the debug rule of a round
 abbrev pub out_rule : Ends → Rule
 out_rule ends = record {
   loses = λ c at loss. LosesAt ends c.old at loss;

@@ -1,4 +1,4 @@
--- Rounds one after another, and what follows where they end.
+-- Sequences of rounds, and what is true once a round removes nothing.
 use Rattle.std.specs.Prelude.{List, true, false}
 use Rattle.mir_func.specs.declared.entry.Entry.{Entry}
 use Rattle.mir_func.specs.Function.{Function}
@@ -13,11 +13,12 @@ pub data AreRounds : Function → Function → Type 0 where
   no_round : {f : Function} → AreRounds f f
   one_more_round : {f h : Function} (g : Function) → AreRounds f g → IsRound g h → AreRounds f h
 
--- rounds end where one takes nothing out
+-- rounds after which a round removes nothing are complete
 abbrev pub RoundsEnd : Type 0
 RoundsEnd = (f g : Function) → AreRounds f g → IsRound g g → IsThinnedOut f g
 
--- what keeps following loosely does so one after another; and where then a round takes nothing out, all that followed follows
+-- preserving the weak simulation is reflexive and transitive; and if after that a round removes nothing, the full simulation
+-- is preserved
 pub record LooseLaws : Type 0 where
   pub itself : (f : Function) (subs : List Entry) → KeepsLoosely (change f subs f subs)
   pub then : (f g h : Function) (a b c : List Entry) → KeepsLoosely (change f a g b) → KeepsLoosely (change g b h c) → KeepsLoosely (change f a h c)

@@ -1,4 +1,4 @@
--- What holds where code loses its number and nothing gets it.
+-- The law of a number that is dropped.
 use Rattle.std.specs.Prelude.{◌≡◌, ℕ, List}
 use Rattle.mir_func.specs.declared.entry.Entry.{Entry}
 use Rattle.mir_func.specs.Function.{Function}
@@ -8,7 +8,7 @@ use Rattle.pass_salvage.proofs.Edits.{BlocksEdited}
 use Rattle.dce_rule.specs.Loose.{KeepsLoosely}
 use Rattle.dce_salvage_proof.specs.Dropped.{drop_edits}
 
--- number k goes from its code, and nothing else has it but a phi of nothing
+-- code loses number k, and no item has it any more, except undef DBG_PHIs: this preserves the weak simulation
 abbrev pub NumberGoesNowhere : Type 0
 NumberGoesNowhere = (old new : Function) (subs : List Entry) (k : ℕ) → IsSound old → IsSound new → new.objects ≡ old.objects →
     BlocksEdited (drop_edits k) old.blocks new.blocks → KeepsLoosely (change old subs new subs)

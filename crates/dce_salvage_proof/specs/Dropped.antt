@@ -1,4 +1,4 @@
--- Code loses its number, and nothing gives it any more.
+-- Code loses its number, and no item has it any more, except perhaps an undef DBG_PHI.
 use Rattle.std.specs.Prelude.{◌≡◌, ℕ, Option, Some, None}
 use Rattle.rv64_instr.specs.Instruction.{Instruction}
 use Rattle.mir_func.specs.declared.position.Origin.{Origin}
@@ -11,16 +11,16 @@ use Rattle.pass_trait.specs.Rule.{item}
 use Rattle.pass_salvage.proofs.Edits.{Edits}
 
 module _ (k : ℕ) where
-  -- it gives another number, or none
+  -- the item has another number than k, or none
   abbrev pub IsUnlike : ItemKind → Type 0
   IsUnlike kind = (m : ℕ) → number_of kind ≡ Some m → k ≡ m → ⊥
 
-  -- an item stays as it is, or loses number k
+  -- an item with another number or none is unchanged, and code with number k loses it
   pub data DropPair : Item → Item → Type 0 where
     elsewhere : {x : Item} → IsUnlike x.kind → DropPair x x
     drops : {i : Instruction} {p : Origin} {l : Loc} → DropPair (item (Code i (Some k)) p l) (item (Code i None) p l)
 
-  -- and a phi of nothing may be put
+  -- and undef DBG_PHIs with number k may be added
   pub data DropPut : Item → Type 0 where
     puts : {p : Origin} {l : Loc} → DropPut (item (Phi None k) p l)
 

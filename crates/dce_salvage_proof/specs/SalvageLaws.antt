@@ -1,4 +1,4 @@
--- What holds of a function whose copies that go have lost their numbers.
+-- The laws of a function whose dead copies have lost their numbers.
 use Rattle.std.specs.Prelude.{◌≡◌, ◌+◌, List, [], Bool}
 use Rattle.mir_func.specs.declared.entry.Entry.{Entry}
 use Rattle.mir_func.specs.Function.{Function}
@@ -10,25 +10,25 @@ use Rattle.dce_rule.specs.Loose.{KeepsLoosely}
 use Rattle.dce_rule.specs.Same.{SameBlocks}
 use Rattle.dce_copies.specs.Blocks.{BlocksSoFar, blocks_off}
 
--- where the first copy, which is the last of the text, loses its number: the next fresh number is above all
+-- the initial state: the first fresh number is above all numbers
 abbrev pub begins_off : Function → List Entry → BlocksSoFar
 begins_off f subs = record { blocks = []; subs = subs; fresh = greatest_number f subs + 1; lost = [] }
 
--- the blocks, the substitutions and the losses when all copies that go, by these verdicts, have lost their numbers
+-- the state once all dead copies have lost their numbers
 abbrev pub all_off : Function → List Entry → (dead : List (List Bool)) → BlocksSoFar
 all_off f subs dead = blocks_off dead f.blocks (begins_off f subs)
 
--- the function then
+-- the function in that state
 abbrev pub function_off : Function → List Entry → (dead : List (List Bool)) → Function
 function_off f subs dead = record f { blocks = (all_off f subs dead).blocks }
 
--- what it keeps
+-- this keeps the function sound and its code the same, and preserves the weak simulation
 pub record KeepsOff (f : Function) (subs : List Entry) (dead : List (List Bool)) : Type 0 where
   pub sound : IsSound (function_off f subs dead)
   pub same : SameBlocks f.blocks (all_off f subs dead).blocks
   pub stripped_is : stripped (function_off f subs dead) ≡ stripped f
   pub follows : KeepsLoosely (change f subs (function_off f subs dead) (all_off f subs dead).subs)
 
--- whatever the verdicts are
+-- whichever items count as dead
 abbrev pub NumbersGoOff : Type 0
 NumbersGoOff = (f : Function) (subs : List Entry) (dead : List (List Bool)) → IsSound f → KeepsOff f subs dead

@@ -1,8 +1,8 @@
-//! The law of a number that goes nowhere: it is the contract of a function that does nothing.
+//! The law of a dropped number, as the contract of a function with an empty body.
 
 ghost use Rattle.dce_salvage_proof.specs.DropLaws.{NumberGoesNowhere};
 
-/// Code loses its number, which nothing gives then: what followed loosely follows loosely.
+/// Code loses its number, which then has no value: this preserves the weak simulation.
 pub fn number_goes_nowhere()
     ensures { NumberGoesNowhere }
 {}

@@ -1,11 +1,11 @@
-//! Dropping and salvaging the debug instruction number of a dead copy preserves the simulation.
+//! Dropping and salvaging the debug instruction number of a dead copy preserves the weak simulation.
 //!
-//! - `drop_laws`: A number that goes nowhere: its code stays without it, and perhaps a phi of nothing stands in front,
-//!   so that nothing gives the number any more. Between two rounds of dead code a function follows its source loosely;
-//!   without the number it does so still, since it only tells less.
+//! - `drop_laws`: A dropped number: its code stays without it, perhaps with an undef DBG_PHI before it, so that the
+//!   number has no value any more. This preserves the weak simulation, which is true between two rounds of dead code
+//!   elimination, since debug values only have fewer values.
 //!
-//! - `salvage_laws`: A function whose copies that go have lost their numbers is a function still, with the same code,
-//!   and follows what it followed: whichever items go, and whether or not they are dead.
+//! - `salvage_laws`: A function whose copies have lost their numbers is sound and has the same code, and this preserves
+//!   the weak simulation, whichever items count as dead.
 #![tactic(auto)]
 
 pub mod drop_laws;

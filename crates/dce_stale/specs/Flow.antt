@@ -1,4 +1,5 @@
--- Which places are wrong along the items of a block, from its start down, where it is known which are wrong at the start.
+-- Which places are stale ("wrong") along the items of a block, from its start downwards, given those that are at the
+-- start.
 use Rattle.std.specs.Prelude.{◌≡◌, ℕ, zero, suc, ◌<◌, List, length, slice_get, slice_index_or, Option, Some, None, Bool, true, false, not, ◌&&◌, ◌||◌}
 use Rattle.rv64_instr.specs.declared.place.Place.{Place}
 use Rattle.rv64_instr.specs.Row.{row_of}
@@ -12,7 +13,7 @@ use Rattle.mir_func.specs.Exits.{exit_of}
 use Rattle.mir_func.proofs.Ways.{IsOut}
 use Rattle.dce_rule.specs.Dead.{Places}
 
--- the places that are wrong past an item: dead code makes wrong what it sets, other code sets it right
+-- the places that are wrong after an item: dead code makes wrong what it sets, and other code makes right what it sets
 abbrev pub wrong_past : ItemKind → (dead : Bool) → (before : Places) → Places
 wrong_past (Code i k) true before = λ x. defines_of (row_of i) x || before x
 wrong_past (Code i k) false before = λ x. before x && not (defines_of (row_of i) x)
@@ -30,7 +31,7 @@ goes_on Final = false
 abbrev pub wrong_next : ItemKind → (dead : Bool) → (before : Places) → Places
 wrong_next kind dead before = λ x. goes_on (exit_of kind) && wrong_past kind dead before x
 
--- the same past the item at some index, if there is one
+-- the same after the item at some index, if there is one
 abbrev pub wrong_over : Option Item → (dead : Bool) → (before : Places) → Places
 wrong_over (Some i) dead before = wrong_next i.kind dead before
 wrong_over None dead before = λ x. false
@@ -41,7 +42,7 @@ module _ (items : List Item) (dead : List Bool) where
   wrong_at zero start = start
   wrong_at (suc k) start = wrong_over (slice_get items k) (slice_index_or dead k false) (wrong_at k start)
 
-  -- a place that is wrong past one of the first items is so at the start of the block to which the item may go
+  -- a place that is wrong after one of the first items, which has block n as branch target, is so at the start of block n
   pub record IsHanded (start : Places) (count : ℕ) (n : ℕ) (x : Place) : Type 0 where
     pub index : ℕ
     pub within : index < count
@@ -50,6 +51,6 @@ module _ (items : List Item) (dead : List Bool) where
     pub out : IsOut (exit_of item.kind) n
     pub wrong : wrong_past item.kind (slice_index_or dead index false) (wrong_at index start) x ≡ true
 
-  -- or one that is wrong at the block's end, before a block of this number
+  -- a place that is wrong at the block's end is so at the start of the next block
   abbrev pub IsHandedDown : (start : Places) → (next : Option ℕ) → (n : ℕ) → Place → Type 0
   IsHandedDown start next n x = (next ≡ Some n) × (wrong_at (length items) start x ≡ true)

@@ -1,4 +1,4 @@
--- The wrong places at the starts of a function's blocks, as sets.
+-- The places that are wrong at the starts of a function's blocks, as sets.
 use Rattle.std.specs.Prelude.{◌≡◌, ◌↔◌, ◌⊎◌, ℕ, ◌+◌, ◌<◌, List, [], ◌∷◌, map, length, slice_get, slice_index_or, Contains, Bool, true, false}
 use Rattle.rv64_instr.specs.declared.place.Place.{Place}
 use Rattle.mir_func.specs.declared.block.Block.{Block}
@@ -14,11 +14,11 @@ use Rattle.dce_rule.specs.Wrong.{IsWrongAt}
 use Rattle.dce_mark.specs.Judged.{verdicts}
 use Rattle.dce_stale.specs.Flow.{wrong_at, IsHanded, IsHandedDown}
 
--- these are the verdicts on the function's items, where these places are needed at the ends of its blocks
+-- for each item of the function whether it is dead, if these places are needed at the ends of its blocks
 abbrev pub AreVerdicts : Ends → Function → List (List Bool) → Type 0
 AreVerdicts ends f dead = dead ≡ map (λ b. verdicts b.items (ends b.id)) f.blocks
 
--- to these sets it was handed on that places are wrong; and whether any grew
+-- an update of the sets with what is wrong at the starts of some blocks; `grown` is whether any set grew
 pub record Handed (slots ids : List ℕ) (old new : List (List ℕ)) (From : ℕ → Place → Type 0) (grown : Bool) : Type 0 where
   pub long : length new ≡ length old
   pub fuller : grown ≡ true → gap_of new < gap_of old
@@ -27,21 +27,21 @@ pub record Handed (slots ids : List ℕ) (old new : List (List ℕ)) (From : ℕ
   pub all : grown ≡ false → (n : ℕ) (x : Place) → Contains ids n → From n x → has_at_start slots ids old n x ≡ true
 
 module _ (slots ids : List ℕ) (f : Function) (dead : List (List Bool)) where
-  -- what the block of an index hands on, by what the sets say of its start
+  -- what the block of an index propagates to its successors, by what is wrong at its start according to the sets
   abbrev pub HandsOn : (sets : List (List ℕ)) → (block : ℕ) → (n : ℕ) → Place → Type 0
   HandsOn sets b n x =
       IsHanded (items_at f.blocks b) (slice_index_or dead b []) (has slots (slice_index_or sets b [])) (length (items_at f.blocks b)) n x ⊎
       IsHandedDown (items_at f.blocks b) (slice_index_or dead b []) (has slots (slice_index_or sets b [])) (slice_get (ids_of f.blocks) (b + 1)) n x
 
-  -- all that the block hands on is in the sets
+  -- the sets have all that the block propagates
   abbrev pub IsClosed : (sets : List (List ℕ)) → (block : ℕ) → Type 0
   IsClosed sets b = (n : ℕ) (x : Place) → Contains ids n → HandsOn sets b n x → has_at_start slots ids sets n x ≡ true
 
-  -- what is in the sets is wrong
+  -- all members of the sets are wrong (soundness)
   abbrev pub AreFound : (sets : List (List ℕ)) → Type 0
   AreFound sets = (ends : Ends) → AreVerdicts ends f dead → (n : ℕ) (x : Place) → has_at_start slots ids sets n x ≡ true → IsWrongAt ends f x (block_start n)
 
-  -- some blocks were visited
+  -- the result of visiting some blocks, in order; `grown` is whether any set grew
   pub record Swept (old new : List (List ℕ)) (order : List ℕ) (grown : Bool) : Type 0 where
     pub long : length new ≡ length old
     pub found : AreFound old → AreFound new
@@ -49,13 +49,13 @@ module _ (slots ids : List ℕ) (f : Function) (dead : List (List Bool)) where
     pub same : grown ≡ false → new ≡ old
     pub closed : grown ≡ false → (b : ℕ) → Contains order b → IsClosed new b
 
-  -- blocks were visited until nothing grew
+  -- the fixpoint: blocks were visited until no set grew
   pub record Settled (old new : List (List ℕ)) : Type 0 where
     pub long : length new ≡ length old
     pub found : AreFound old → AreFound new
     pub closed : (b : ℕ) → b < length f.blocks → IsClosed new b
 
--- the wrong places at each position, by those at the starts of blocks
+-- the wrong places at each index of a block, by those at the starts of blocks
 abbrev pub wrong_in : (ends : Ends) → List Block → (starts : ℕ → Places) → (index : ℕ) → Places
 wrong_in ends [] starts k = λ x. false
 wrong_in ends (b ∷ bs) starts k = wrong_at b.items (verdicts b.items (ends b.id)) k (starts b.id)
@@ -64,17 +64,17 @@ wrong_in ends (b ∷ bs) starts k = wrong_at b.items (verdicts b.items (ends b.i
 abbrev pub wrong_of : Ends → Function → (starts : ℕ → Places) → Pos → Places
 wrong_of ends f starts p = wrong_in ends (from_block f.blocks p.block) starts p.item
 
--- the wrong places of a function without the items of these verdicts
+-- the sets of the wrong places at the starts of a function's blocks, with its slots and block numbers
 pub record WrongSets : Type 0 where
   pub slots : List ℕ
   pub ids : List ℕ
   pub starts : List (List ℕ)
 
--- those at the start of the block of a number
+-- the wrong places at the start of the block with this number
 abbrev pub starts_of : WrongSets → ℕ → Places
 starts_of w n = has_at_start w.slots w.ids w.starts n
 
--- the sets are those of the wrong places, exactly
+-- the sets determine exactly the wrong places of the function, if these items are dead
 pub record AreWrongSets (f : Function) (dead : List (List Bool)) (w : WrongSets) : Type 0 where
   pub slots : w.slots ≡ f.slots
   pub ids : w.ids ≡ ids_of f.blocks

@@ -1,7 +1,7 @@
-//! Where dead code that goes leaves places wrong. Behind dead code that sets a place the place may hold something else
-//! than before, until code that stays sets it. For each block there is the set of the places that are wrong at its
-//! start: the sets grow in sweeps over the blocks, each after those that lead to it but for loops, until nothing
-//! changes. Within a block they are walked down item by item, by the same step that the sweeps take.
+//! The forward analysis of stale places: where a place may hold another value once dead code is removed. After dead
+//! code that sets a place the place is wrong until code that is kept sets it. The result is the set of the places that
+//! are wrong at the start of each block, computed as a fixpoint over the blocks, predecessors first except over back
+//! edges. Within a block it is computed item by item, with the same transfer step.
 #![tactic(auto)]
 
 pub mod places;

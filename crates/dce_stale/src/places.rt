@@ -1,4 +1,4 @@
-//! The wrong places of a function whose dead code goes.
+//! The wrong places of a function whose dead code is removed.
 
 ghost use Rattle.std.specs.Prelude.{◌≡◌, ◌<◌, ◌&&◌, length, slice_index_or, IfOk};
 ghost use Rattle.rv64_instr.specs.declared.place.Place.{Place};
@@ -36,8 +36,9 @@ impl Model for WrongPlaces {
 }
 
 impl WrongPlaces {
-    /// The wrong places of a function, of which these items go: for each block the verdict on each of its items. Each
-    /// block is looked at a number of times that doesn't grow with the function but for nested loops.
+    /// Computes the wrong places of a function, for these dead items: for each block and each of its items whether it
+    /// is dead. Each block is visited a number of times that doesn't grow with the function, except with the nesting of
+    /// loops.
     pub fn solve(alloc: Global, f: &Func, dead: &[List<bool>]) -> Result<WrongPlaces, AllocError>
         ensures { IfOk result (AreWrongSets f.now dead.now) }
     {
@@ -57,8 +58,8 @@ impl WrongPlaces {
         self.starts[block].copy()
     }
 
-    /// From the places that are wrong before an item of this verdict to those that are wrong past it. It takes no
-    /// memory.
+    /// From the places that are wrong before an item, which is dead or not, to those that are wrong after it. It takes
+    /// no memory.
     pub fn step_down(&self, set: &mut PlaceSet, kind: &ItemKind, dead: bool)
         ensures { SlotsIn self.now.slots kind.now → (x : Place) →
             has self.now.slots set.new x ≡ wrong_past kind.now dead (has self.now.slots set.old) x }
@@ -66,8 +67,8 @@ impl WrongPlaces {
         step_down(&self.names, set, kind, dead);
     }
 
-    /// From the places that are wrong past an item with this exit to those that are wrong before the next. It takes no
-    /// memory.
+    /// From the places that are wrong after an item with this exit to those that are wrong before the next item. It
+    /// takes no memory.
     pub fn go_on(&self, set: &mut PlaceSet, exit: Exit)
         ensures { (x : Place) → has self.now.slots set.new x ≡ (goes_on exit && has self.now.slots set.old x) }
     {

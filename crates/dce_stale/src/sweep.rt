@@ -1,4 +1,4 @@
-//! Sweeps over the blocks, until no set grows.
+//! The fixpoint solver for the wrong places.
 
 ghost use Rattle.std.specs.Prelude.{◌≡◌, ℕ, ◌<◌, length, All, Contains};
 ghost use Rattle.mir_func.specs.Sound.{SlotsIn, AllItems, AreApart, ids_of};
@@ -10,7 +10,7 @@ use mir_func::func::Func;
 use pass_liveness::names::Names;
 use pass_liveness::set::PlaceSet;
 
-/// Visits blocks in an order, and tells whether any set grew.
+/// Visits blocks in an order, and returns whether any set grew.
 fn sweep(
     names: &Names,
     f: &Func,
@@ -35,7 +35,7 @@ fn sweep(
     grown
 }
 
-/// Sweeps until no set grows.
+/// Repeats the visits until no set grows.
 pub fn settle(
     names: &Names,
     f: &Func,

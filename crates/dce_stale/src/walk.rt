@@ -1,4 +1,4 @@
-//! The walk down a block, and what it hands on to others.
+//! The forward walk over a block, and the propagation to its successors.
 
 ghost use Rattle.std.specs.Prelude.{◌≡◌, ℕ, ◌+◌, ◌<◌, ◌⊎◌, ◌&&◌, [], true, false, length, All, Some};
 ghost use Rattle.std.specs.Prelude.{slice_index_or};
@@ -22,7 +22,7 @@ use mir_func::successors::id_at;
 use pass_liveness::names::Names;
 use pass_liveness::set::PlaceSet;
 
-/// The verdict of an index; not dead where there is none.
+/// Whether the item of an index is dead; false if there is none.
 pub fn verdict(dead: &[bool], index: usize) -> bool
     ensures { result ≡ slice_index_or dead.now index false }
 {
@@ -32,7 +32,7 @@ pub fn verdict(dead: &[bool], index: usize) -> bool
     }
 }
 
-/// The verdicts on the block of an index; none where there are none.
+/// Whether each item of the block of an index is dead; empty if there is no such block.
 pub fn verdicts_at(dead: &[List<bool>], block: usize) -> &[bool]
     ensures { result.now ≡ slice_index_or dead.now block [] }
 {
@@ -42,7 +42,7 @@ pub fn verdicts_at(dead: &[List<bool>], block: usize) -> &[bool]
     }
 }
 
-/// From the places that are wrong before an item to those that are wrong past it.
+/// From the places that are wrong before an item to those that are wrong after it.
 pub fn step_down(names: &Names, set: &mut PlaceSet, kind: &ItemKind, dead: bool)
     ensures { SlotsIn names.now.slots kind.now → (x : Place) →
         has names.now.slots set.new x ≡ wrong_past kind.now dead (has names.now.slots set.old) x }
@@ -59,7 +59,7 @@ pub fn step_down(names: &Names, set: &mut PlaceSet, kind: &ItemKind, dead: bool)
     }
 }
 
-/// From the places that are wrong past an item to those that are wrong before the next.
+/// From the places that are wrong after an item to those that are wrong before the next item.
 pub fn go_on(names: &Names, set: &mut PlaceSet, exit: Exit)
     ensures { (x : Place) → has names.now.slots set.new x ≡ (goes_on exit && has names.now.slots set.old x) }
 {
@@ -70,7 +70,7 @@ pub fn go_on(names: &Names, set: &mut PlaceSet, exit: Exit)
     }
 }
 
-/// Hands on to the start of a block that these places are wrong, and tells whether its set grew.
+/// Adds these places to the set of a block, and returns whether it grew.
 fn hand_to(names: &Names, starts: &mut Vec<PlaceSet>, set: &PlaceSet, n: BlockId) -> bool
     requires { length starts.old.items ≡ length names.now.blocks }
     ensures { Handed names.now.slots names.now.blocks starts.old.items starts.new.items
@@ -86,7 +86,7 @@ fn hand_to(names: &Names, starts: &mut Vec<PlaceSet>, set: &PlaceSet, n: BlockId
     }
 }
 
-/// Hands on to where control leaves an item that these places are wrong, and tells whether a set grew.
+/// Adds these places to the sets of an item's branch targets, and returns whether any grew.
 fn hand_out(names: &Names, starts: &mut Vec<PlaceSet>, set: &PlaceSet, exit: Exit) -> bool
     requires { length starts.old.items ≡ length names.now.blocks }
     ensures { Handed names.now.slots names.now.blocks starts.old.items starts.new.items
@@ -99,7 +99,7 @@ fn hand_out(names: &Names, starts: &mut Vec<PlaceSet>, set: &PlaceSet, exit: Exi
     }
 }
 
-/// Hands on at a block's end to the next block that these places are wrong, and tells whether its set grew.
+/// Adds these places to the set of the block that comes next, and returns whether it grew.
 fn hand_down(
     names: &Names,
     starts: &mut Vec<PlaceSet>,
@@ -116,8 +116,8 @@ fn hand_down(
     }
 }
 
-/// Walks down items, and hands on what is wrong where control leaves them. Then `set` has the places that are wrong at
-/// their end.
+/// Goes over items, and adds what is wrong to the sets of their branch targets. On return `set` has the places that are
+/// wrong after them.
 fn walk_items(
     names: &Names,
     items: &[Item],
@@ -144,7 +144,7 @@ fn walk_items(
     grown
 }
 
-/// Walks down a block, and hands on what is wrong where control leaves it. Tells whether a set grew.
+/// Goes over a block, and adds what is wrong to the sets of its successors. Returns whether a set grew.
 pub fn visit(
     names: &Names,
     f: &Func,

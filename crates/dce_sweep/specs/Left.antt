@@ -1,4 +1,4 @@
--- What is left of items and what is lost, by the verdicts on them and the places that are wrong before each.
+-- What remains of items and what is lost, given which are dead and which places are wrong before each.
 use Rattle.std.specs.Prelude.{ℕ, suc, List, [], ◌∷◌, ◌++◌, Option, Some, None, Bool, true, false, cond, slice_index_or, option_to_list}
 use Rattle.std.specs.List.{flat_map}
 use Rattle.rv64_instr.specs.declared.place.Place.{Place}
@@ -17,17 +17,17 @@ use Rattle.dce_rule.specs.Dead.{Places, Ends}
 use Rattle.dce_rule.specs.Wrong.{silenced}
 use Rattle.dce_mark.specs.Judged.{verdicts}
 
--- a phi of this asks for a place that is wrong
+-- a DBG_PHI of this location reads a wrong place
 abbrev pub asks_wrong : (wrong : Places) → Option Place → Bool
 asks_wrong wrong (Some x) = wrong x
 asks_wrong wrong None = false
 
--- what is left of an item, where these places are wrong before it
+-- what remains of an item, if these places are wrong before it
 abbrev pub left_of : (wrong : Places) → (dead : Bool) → Item → List Item
 left_of wrong true i = []
 left_of wrong false i = record i { kind = silenced wrong i.kind } ∷ []
 
--- what is lost of it: the number of dead code, and a phi or a mark of a wrong place
+-- what is lost of an item: the number of dead code, and a debug value or DBG_PHI of a wrong place
 abbrev pub lost_of : (wrong : Places) → (dead : Bool) → ItemKind → Origin → Option Loss
 lost_of wrong dead (Code i (Some k)) o = cond dead (Some (number_lost k Removed)) None
 lost_of wrong dead (Code i None) o = None
@@ -39,7 +39,7 @@ lost_of wrong dead (Phi (Some x) k) o = cond (wrong x) (Some (number_lost k Wron
 lost_of wrong dead (Phi None k) o = None
 
 module _ (wrong : ℕ → Places) (dead : List Bool) where
-  -- what is left of the items from an index on
+  -- what remains of the items from an index on
   abbrev pub left_from : (index : ℕ) → List Item → List Item
   left_from n [] = []
   left_from n (i ∷ is) = left_of (wrong n) (slice_index_or dead n false) i ++ left_from (suc n) is
@@ -53,6 +53,6 @@ module _ (wrong : Pos → Places) (ends : Ends) where
   abbrev pub lost_in_block : Block → List Loss
   lost_in_block b = lost_from (λ n. wrong (record { block = b.id; item = n })) (verdicts b.items (ends b.id)) 0 b.items
 
-  -- what is lost of blocks
+  -- what is lost of these blocks, in the order of the text
   abbrev pub lost_in : List Block → List Loss
   lost_in blocks = flat_map lost_in_block blocks

@@ -1,4 +1,4 @@
--- One round in code.
+-- The code of one round.
 use Rattle.std.specs.Prelude.{◌≡◌, ◌↔◌, ◌<◌, List, map, Contains, Bool, true, false}
 use Rattle.std.specs.List.{list_any}
 use Rattle.mir_func.specs.declared.position.Pos.{Pos}
@@ -13,12 +13,12 @@ use Rattle.dce_rule.specs.Wrong.{taken_out}
 use Rattle.dce_rule.specs.Out.{LosesAt, AreWrong}
 use Rattle.dce_mark.specs.Judged.{verdicts}
 
--- some item of blocks is dead code
+-- some item of the blocks is dead code
 abbrev pub has_dead : Ends → List Block → Bool
 has_dead ends blocks = list_any (λ v. list_any (λ d. d) v) (map (λ b. verdicts b.items (ends b.id)) blocks)
 
--- the second function is the first without its dead code, where marks and phis of wrong places give nothing, at these losses;
--- and whether there was dead code
+-- The second function is the first without its dead code, and with debug values and DBG_PHIs of wrong places undef, with
+-- these losses; `any` is whether there was dead code
 pub record IsTakenOut (f g : Function) (lost : List Loss) (any : Bool) : Type 0 where
   pub ends : Ends
   pub forms : AllItems (λ i. HasForm i.kind) f.blocks

@@ -1,4 +1,4 @@
-//! What is left of blocks, and what is lost.
+//! What remains of blocks, and what is lost.
 
 ghost use Rattle.std.specs.Prelude.{◌≡◌, ◌++◌, map, cond, Some, None, All, IfOk, OnOk, option_to_list};
 ghost use Rattle.mir_func.specs.declared.item.ItemKind.TheVariants.{Mark, Phi};
@@ -25,8 +25,8 @@ use rv64_instr::place::Place;
 use sem_mir::align::position_of;
 use std::alloc::{AllocError, Global};
 
-/// What is left of a function's blocks without the items of these verdicts, where these places are wrong. What is lost
-/// is appended to `lost`, in the order of the text.
+/// What remains of a function's blocks without the dead items, if these places are wrong. Losses are appended to
+/// `lost`, in the order of the text.
 pub fn left_blocks(
     alloc: Global,
     f: &Func,
@@ -62,7 +62,7 @@ pub fn left_blocks(
     Ok(left)
 }
 
-/// What is left of a block's items, where `set` has the places that are wrong at the block's start.
+/// What remains of a block's items, if the places of `set` are wrong at the block's start.
 fn left_items(
     alloc: Global,
     wrong: &WrongPlaces,
@@ -88,7 +88,7 @@ fn left_items(
     Ok(left)
 }
 
-/// Appends what is left of an item, and what is lost of it, where these places are wrong before it.
+/// Appends what remains of an item, and what is lost of it, if these places are wrong before it.
 fn keep(
     wrong: &WrongPlaces,
     set: &PlaceSet,
@@ -106,7 +106,7 @@ fn keep(
     stay(wrong, set, item, goes, left)
 }
 
-/// Appends an item that stays.
+/// Appends the item, unless it is dead.
 fn stay(
     wrong: &WrongPlaces,
     set: &PlaceSet,
@@ -128,7 +128,7 @@ fn stay(
     Ok(())
 }
 
-/// An item, which gives nothing where it asks for a place that is wrong.
+/// The item, undef if it reads a wrong place.
 fn silenced(wrong: &WrongPlaces, set: &PlaceSet, kind: &ItemKind) -> Result<ItemKind, AllocError>
     ensures { IfOk result (λ now. now ≡ silenced (has wrong.now.slots set.now) kind.now) }
 {
@@ -170,7 +170,7 @@ fn silenced_phi(
     }
 }
 
-/// Whether a phi of this asks for a place that is wrong.
+/// Whether a DBG_PHI of this location reads a wrong place.
 fn asks_wrong(wrong: &WrongPlaces, set: &PlaceSet, place: &Option<Place>) -> bool
     ensures { result ≡ asks_wrong (has wrong.now.slots set.now) place.now }
 {
@@ -180,7 +180,7 @@ fn asks_wrong(wrong: &WrongPlaces, set: &PlaceSet, place: &Option<Place>) -> boo
     }
 }
 
-/// Appends what is lost of an item: the number of dead code, and a phi or a mark of a wrong place.
+/// Appends what is lost of an item: the number of dead code, and a debug value or DBG_PHI of a wrong place.
 fn tell(
     wrong: &WrongPlaces,
     set: &PlaceSet,
@@ -219,7 +219,7 @@ fn tell(
     }
 }
 
-/// Appends the loss, if it comes.
+/// Appends the loss, if there is one.
 fn tell_where(
     lost: &mut Vec<Loss>,
     comes: bool,

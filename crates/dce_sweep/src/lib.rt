@@ -1,6 +1,6 @@
-//! One round of dead code in code: what is dead goes, and marks and phis of places that it leaves wrong give nothing.
-//! The verdicts on the items come first, then the places that are wrong at the starts of blocks; from there each block
-//! is walked down once, and what is left of it is made anew. What is lost is told in the order of the text.
+//! One round of dead code elimination: dead code is removed, and debug values and DBG_PHIs of places that become wrong
+//! become undef. First it is computed which items are dead, then which places are wrong at the starts of blocks; from
+//! there one forward walk over each block builds what remains of it. Losses are reported in the order of the text.
 #![tactic(auto)]
 
 mod left;

@@ -1,4 +1,4 @@
-//! A round.
+//! A round of dead code elimination.
 
 ghost use Rattle.std.specs.Prelude.{◌≡◌, ◌++◌, List, IfOk};
 ghost use Rattle.std.specs.List.{list_any};
@@ -16,10 +16,11 @@ use pass_liveness::live::Live;
 use pass_trait::loss::Loss;
 use std::alloc::{AllocError, Global};
 
-/// Takes the dead code out of a function, once: what is live at blocks' ends is needed there. Marks and phis of places
-/// that are wrong without it give nothing. What is lost is appended to `lost`, in the order of the text, also the
-/// number of a copy: its caller gives it to other code first. Tells whether there was dead code; where there was none
-/// the function stays as it is, and nothing is lost. After an error the function is as it was.
+/// Removes the dead code of a function, once: the places that are live out of a block are needed at its end. Debug
+/// values and DBG_PHIs of places that become wrong become undef. Losses are appended to `lost`, in the order of the
+/// text. The number of a dead copy is reported as lost too: the caller salvages such numbers before, so that dead
+/// copies have none. Returns whether there was dead code; if there was none the function is unchanged, and nothing is
+/// lost. After an error the function is unchanged.
 pub fn take_out_dead(
     alloc: Global,
     f: &mut Func,

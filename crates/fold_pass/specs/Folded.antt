@@ -1,4 +1,4 @@
--- Folded blocks with their kills, and what was lost.
+-- Folded blocks with their kills, and the losses.
 use Rattle.std.specs.Prelude.{◌≡◌, ◌↔◌, ℕ, List, map, Bool, Contains, IsTrue}
 use Rattle.mir_func.specs.declared.block.Block.{Block}
 use Rattle.pass_trait.specs.declared.loss.Loss.{Loss}
@@ -9,7 +9,8 @@ use Rattle.fold_rule.specs.Rule.{AreFolded}
 use Rattle.fold_rule_proof.specs.Kills.{with_kills}
 use Rattle.fold_proof.specs.Lost.{all_lost}
 
--- the blocks are folded, kills stand where bypassed ways end, and the losses are in order all that is lost
+-- the blocks are folded, kills are added where the chains of bypassed blocks end, and the losses are all losses, in
+-- order
 pub record AreFoldedWithLosses (old new : List Block) (losses : List Loss) : Type 0 where
   pub blocks : List Block
   pub folded : AreFolded old blocks

@@ -1,4 +1,4 @@
-//! Branch folding.
+//! The branch folding pass.
 
 ghost use Rattle.std.specs.Prelude.{◌≡◌, [], ◌∷◌, IfOk, OnOk, true, false};
 ghost use Rattle.mir_func.specs.Sound.{AreApart, ids_of, AllItems, IsSound, HasForm};
@@ -22,8 +22,8 @@ use pass_trait::loss::Losses;
 use pass_trait::pass::Pass;
 use std::alloc::{AllocError, Global};
 
-/// Folds branches. The marks and phis of blocks that are bypassed, and all debug items of blocks that weren't reached,
-/// are lost. It is right for functions with the source's ends of blocks, and doesn't keep them.
+/// Folds branches (see `fold_rule`). The losses are the debug values and DBG_PHIs of bypassed blocks, and all debug
+/// values and numbers of unreachable blocks. It requires matched block ends, and doesn't keep them.
 #[derive(Drop)]
 pub struct FoldPass;
 
@@ -60,7 +60,7 @@ impl Pass for FoldPass {
     ghost grows = { Prim.search rules };
 }
 
-/// Folds a function, and gives what is lost. A refused run leaves it as it was.
+/// Folds a function, and returns the losses. After an error the function is unchanged.
 pub fn fold(alloc: Global, f: &mut Func) -> Result<Losses, AllocError>
     ensures folded { IfOk result (λ losses. AreFoldedWithLosses f.old.blocks f.new.blocks losses) }
     ensures same { OnOk result (f.new ≡ record f.old { blocks = f.new.blocks }) }
@@ -73,7 +73,7 @@ pub fn fold(alloc: Global, f: &mut Func) -> Result<Losses, AllocError>
     Ok(losses)
 }
 
-/// Folds a copy of blocks, puts their kills, and gives what is lost.
+/// Folds a copy of blocks, inserts their kills, and returns the losses.
 fn fold_copy(alloc: Global, before: &[Block], after: &mut Vec<Block>) -> Result<Losses, AllocError>
     requires apart { AreApart (ids_of before.now) }
     requires copied { after.old.items ≡ before.now }

@@ -1,11 +1,11 @@
-//! Branch folding as a pass, and what it reports as lost.
+//! The branch folding pass, and what it reports as lost.
 //!
-//! - `lost`: What branch folding loses: the marks and the numbers of phis of blocks that are bypassed, and the marks
-//!   and all numbers of blocks that weren't reached.
+//! - `lost`: The losses of branch folding: the debug values and the numbers of DBG_PHIs of bypassed blocks, and the
+//!   debug values and all numbers of unreachable blocks.
 //!
-//! - `fold`: The pass that folds branches. Every way through blocks that only jump goes to its end at once, blocks that
-//!   aren't reached any more go, and the ends of the others are written anew. What bypassed blocks would have assigned
-//!   is assigned nothing where their ways end, and the losses tell it.
+//! - `fold`: The pass. Every branch through jump-only blocks goes directly to the end of its chain, unreachable blocks
+//!   are deleted, and the terminators of the others are rewritten. What bypassed blocks would have assigned becomes
+//!   undef where their chains end, and is reported as lost.
 #![tactic(auto)]
 
 pub mod fold;

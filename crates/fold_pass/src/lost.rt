@@ -18,7 +18,7 @@ use pass_trait::loss::{Loss, Losses, Lost, Reason};
 use sem_mir::align::position_of;
 use std::alloc::{AllocError, Global};
 
-/// What is lost of blocks that are folded, each once and in order.
+/// The losses of blocks that are folded, without duplicates and in order.
 pub fn fold_losses(alloc: Global, blocks: &[Block], ways: &OldWays) -> Result<Losses, AllocError>
     requires { (n : ℕ) → told ways.now.leads n ≡ lead blocks.now n }
     ensures ordered { IfOk result IsInOrder }
@@ -30,7 +30,7 @@ pub fn fold_losses(alloc: Global, blocks: &[Block], ways: &OldWays) -> Result<Lo
     Ok(Losses::from(losses))
 }
 
-/// What is lost of blocks, as it stands.
+/// The losses of blocks, in the order of the text.
 fn all_lost(alloc: Global, blocks: &[Block], ways: &OldWays) -> Result<Vec<Loss>, AllocError>
     ensures { IfOk result (λ losses. losses.items
         ≡ all_lost (end_in ways.now.ends) (contains nat_eq ways.now.reached) (told ways.now.leads) blocks.now) }
@@ -44,7 +44,7 @@ fn all_lost(alloc: Global, blocks: &[Block], ways: &OldWays) -> Result<Vec<Loss>
     Ok(losses)
 }
 
-/// Why items of a block are lost, if they are.
+/// Why the items of a block are lost, if they are.
 fn reason_for(ways: &OldWays, block: BlockId) -> Option<Reason>
     ensures { result
         ≡ reason_for (end_in ways.now.ends) (contains nat_eq ways.now.reached) (told ways.now.leads) block }
@@ -58,7 +58,7 @@ fn reason_for(ways: &OldWays, block: BlockId) -> Option<Reason>
     }
 }
 
-/// Appends what is lost of items.
+/// Appends the losses of items.
 fn push_lost(reason: Reason, items: &[Item], losses: &mut Vec<Loss>) -> Result<(), AllocError>
     ensures { OnOk result (losses.new.items ≡ losses.old.items ++ lost_in reason items.now) }
 {
@@ -68,7 +68,7 @@ fn push_lost(reason: Reason, items: &[Item], losses: &mut Vec<Loss>) -> Result<(
     Ok(())
 }
 
-/// Appends what is lost with an item.
+/// Appends the loss of an item, if there is one.
 fn push_loss(reason: Reason, i: &Item, losses: &mut Vec<Loss>) -> Result<(), AllocError>
     ensures { OnOk result (losses.new.items
         ≡ losses.old.items ++ cons_option (loss_of reason i.now.kind i.now.origin) []) }
@@ -95,7 +95,7 @@ fn push_one(what: Lost, reason: Reason, losses: &mut Vec<Loss>) -> Result<(), Al
     Ok(())
 }
 
-/// Whether it is said of blocks that aren't reached.
+/// Whether it is the reason for unreachable blocks.
 fn is_unreachable(reason: Reason) -> bool
     ensures { result ≡ is_unreachable reason }
 {

@@ -1,4 +1,4 @@
--- What folding does with debug items.
+-- The debug rule of folding.
 use Rattle.std.specs.Prelude.{◌≡◌, ◌↔◌, ℕ, List, [], Bool, Option, Some, IsTrue}
 use Rattle.mir_func.specs.declared.block.Block.{Block}
 use Rattle.mir_func.specs.declared.item.Item.{Item}
@@ -16,20 +16,20 @@ use Rattle.fold_rule.specs.Rule.{IsFolded}
 use Rattle.fold_rule_proof.specs.Kills.{kills}
 use Rattle.fold_proof.specs.Lost.{loss_of}
 
--- the block is bypassed: it was reached, and its way ends elsewhere
+-- the block is bypassed: it was reachable, and its chain ends elsewhere
 pub record IsPassed (blocks : List Block) (n : ℕ) : Type 0 where
   pub reached : Reached blocks (λ m. m) n
   pub end : ℕ
   pub ends : EndsAt (lead blocks) n end
   pub elsewhere : n ≡ end → ⊥
 
--- why items of a block are lost: it is bypassed, or wasn't reached
+-- why items of a block are lost: it is bypassed, or was unreachable
 abbrev pub IsLostFor : List Block → (block : ℕ) → Reason → Type 0
 IsLostFor blocks n Bypassed = IsPassed blocks n
 IsLostFor blocks n Unreachable = Reached blocks (λ m. m) n → ⊥
 IsLostFor blocks n _ = ⊥
 
--- what is lost of the item at a place
+-- what is lost of the item at a position
 pub record IsLostAt (f : Function) (at : Pos) (loss : Loss) : Type 0 where
   pub found : Item
   pub stands : StandsAt f at found
@@ -41,8 +41,8 @@ abbrev pub AreKills : List Block → (block : ℕ) → List Item → Type 0
 AreKills blocks e ks = (end : ℕ → ℕ) × (was : ℕ → Bool) × ((n : ℕ) → EndsAt (lead blocks) n (end n)) ×
     ((n : ℕ) → IsTrue (was n) ↔ Reached blocks (λ m. m) n) × (ks ≡ kills end was blocks e)
 
--- the rule of its debug items: items of blocks that are bypassed or weren't reached are lost, and kills stand where bypassed ways
--- end
+-- the debug rule: debug items of bypassed and unreachable blocks are lost, and kills are added where the chains of bypassed
+-- blocks end
 abbrev pub fold_debug : Rule
 fold_debug = record {
   loses = λ c at loss. IsLostAt c.old at loss;
@@ -55,6 +55,6 @@ fold_debug = record {
   kills = λ c block ks. AreKills c.old.blocks block ks;
 }
 
--- its one step
+-- the pass's only step
 abbrev pub fold_step : Step
 fold_step = record { code = IsFolded; debug = fold_debug }

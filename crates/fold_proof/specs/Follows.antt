@@ -1,4 +1,4 @@
--- What folding with kills keeps.
+-- What folding with kills preserves.
 use Rattle.std.specs.Prelude.{List, true, false}
 use Rattle.mir_func.specs.declared.entry.Entry.{Entry}
 use Rattle.mir_func.specs.Function.{Function}
@@ -9,11 +9,12 @@ use Rattle.pass_trait.specs.Following.{KeepsFollowing}
 use Rattle.fold_rule.specs.Rule.{IsFolded}
 use Rattle.fold_rule_proof.specs.Kills.{IsFoldedWithKills}
 
--- a function that is folded, with its kills, follows what it followed with whole ends
+-- folding with kills preserves the simulation, if block ends are matched
 abbrev pub FoldedFollows : Type 0
 FoldedFollows = (f g : Function) (subs : List Entry) → IsSound f → AllItems (λ i. HasForm i.kind) f.blocks → IsFoldedWithKills f g →
     KeepsFollowing true false (change f subs g subs)
 
--- without debug items there are no kills either: what is left is the function without its debug items, folded
+-- without debug items there are no kills either: folding with kills and then stripping is the same as stripping and
+-- then folding
 abbrev pub KillsStrip : Type 0
 KillsStrip = (f g : Function) → IsSound f → IsFoldedWithKills f g → IsFolded (stripped f) (stripped g)

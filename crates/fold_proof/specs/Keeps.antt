@@ -1,4 +1,4 @@
--- What folding with kills keeps of debug items.
+-- The debug law of folding with kills.
 use Rattle.std.specs.Prelude.{◌↔◌, List, Contains}
 use Rattle.mir_func.specs.declared.entry.Entry.{Entry}
 use Rattle.mir_func.specs.Function.{Function}
@@ -12,7 +12,7 @@ use Rattle.fold_rule_proof.specs.Kills.{IsFoldedWithKills}
 use Rattle.fold_proof.specs.Lost.{all_lost}
 use Rattle.fold_proof.specs.Debug.{fold_debug}
 
--- with all that is lost, in order, a function that is folded, with its kills, keeps the debug rule of folding
+-- with all losses, in order, folding with kills satisfies the debug rule of folding
 abbrev pub FoldedKeepsItems : Type 0
 FoldedKeepsItems = (f g : Function) (subs : List Entry) (losses : List Loss) → IsSound f → (h : IsFoldedWithKills f g) → IsInOrder losses →
     ((l : Loss) → Contains losses l ↔ Contains (all_lost h.folded.end h.was (lead f.blocks) f.blocks) l) →

@@ -1,4 +1,4 @@
--- What folding loses of a function's blocks.
+-- The losses of folding.
 use Rattle.std.specs.Prelude.{ℕ, List, [], Option, Some, None, Bool, true, false, cond, not, ◌&&◌, nat_eq}
 use Rattle.std.specs.Option.{is_some}
 use Rattle.std.specs.List.{filter_map, flat_map}
@@ -12,33 +12,33 @@ use Rattle.pass_trait.specs.declared.loss.Reason.TheVariants.{Bypassed, Unreacha
 use Rattle.pass_trait.specs.declared.loss.Loss.{Loss}
 use Rattle.pass_trait.specs.Rule.{number_lost, mark_lost}
 
--- the one reason for which the numbers of code are lost too
+-- the only reason for which numbers of code are lost too
 abbrev pub is_unreachable : Reason → Bool
 is_unreachable Unreachable = true
 is_unreachable _ = false
 
--- what is lost with an item for a reason: a mark, the number of a phi, and the number of code of a block that isn't reached
+-- the loss of an item for a reason: a debug value, the number of a DBG_PHI, and the number of code of an unreachable block
 abbrev pub loss_of : Reason → ItemKind → Origin → Option Loss
 loss_of why (Mark v m) o = Some (mark_lost o why)
 loss_of why (Phi p k) o = Some (number_lost k why)
 loss_of why (Code i (Some k)) o = cond (is_unreachable why) (Some (number_lost k why)) None
 loss_of why (Code i None) o = None
 
--- what is lost of a block's items for a reason
+-- the losses of a block's items for a reason
 abbrev pub lost_in : Reason → List Item → List Loss
 lost_in why items = filter_map (λ i. loss_of why i.kind i.origin) items
 
--- what is lost of them if there is a reason; without one they stay
+-- the losses if there is a reason; without one the items are kept
 abbrev pub lost_for : Option Reason → List Item → List Loss
 lost_for (Some why) items = lost_in why items
 lost_for None items = []
 
--- end n is where the way of block n ends, was n tells whether it is reached, lead n is where it leads
+-- `end n` is the end of block n's chain, `was n` whether block n is reachable, and `lead n` where it forwards control
 module _ (end : ℕ → ℕ) (was : ℕ → Bool) (lead : ℕ → Option ℕ) where
-  -- why the items of a block are lost: it isn't reached; or it is bypassed, since it leads on and isn't its own end
+  -- why the items of a block are lost: it is unreachable, or it is bypassed, since it is jump-only and isn't its own end
   abbrev pub reason_for : ℕ → Option Reason
   reason_for n = cond (was n) (cond (is_some (lead n) && not (nat_eq n (end n))) (Some Bypassed) None) (Some Unreachable)
 
-  -- what is lost of blocks, as it stands
+  -- the losses of blocks, in the order of the text
   abbrev pub all_lost : List Block → List Loss
   all_lost blocks = flat_map (λ b. lost_for (reason_for b.id) b.items) blocks

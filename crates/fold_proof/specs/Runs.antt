@@ -12,12 +12,12 @@ use Rattle.sem_mir.specs.Align.{ByItems, ByEnds, station_at, AnyOrigin, RunsAlon
 use Rattle.sem_mir.specs.Follow.{InOrder, OnRow, IsEnd, first_of}
 use Rattle.fold_rule_proof.specs.Kills.{IsFoldedWithKills}
 
--- branches, jumps and returns are kept from the source
+-- branches, jumps and returns have `Kept` origins
 abbrev pub EndsAreKept : Program → Type 0
 EndsAreKept f = (q : Pos) (j : Item) → f.fetch q ≡ Here j → OnRow IsEnd j.kind → (p : Pos) × (j.origin ≡ Kept p)
 
--- where a function runs along with a source from the start of its first block, at blocks' ends too, so does the folded one at
--- its code
+-- if the source simulates the function from the start of its first block with observation points at code and at block ends,
+-- it simulates the folded one with observation points at code
 abbrev pub FoldedRunsAlong : Type 0
 FoldedRunsAlong = (f g : Function) (src : Program) (resolve : OperandPair → Option OperandPair) (s : State) → IsSound f →
     AllItems (λ i. HasForm i.kind) f.blocks → IsFoldedWithKills f g → EndsAreKept (program_of false f.blocks resolve) →

@@ -10,7 +10,8 @@ use Rattle.mir_func.specs.Graph.{Here, program_of}
 use Rattle.sem_mir.specs.Follow.{OnRow, IsEnd, Shape, EndIsKept, EndComesFrom}
 use Rattle.fold_rule_proof.specs.Kills.{IsFoldedWithKills}
 
--- where a function has the source's shape, its blocks and its branches and returns, the folded one has the source's shape
+-- if a function has the shape of a simulated function, as many blocks as the source, and the source's branches and
+-- returns, the folded one has the shape too
 abbrev pub FoldedHasShape : Type 0
 FoldedHasShape = (f g : Function) (src : List Block) (subs resolve : OperandPair → Option OperandPair) → IsSound f →
     AllItems (λ i. HasForm i.kind) f.blocks → IsFoldedWithKills f g →

@@ -1,4 +1,4 @@
--- How far folding may make a function grow.
+-- The size of a function after folding.
 use Rattle.std.specs.Prelude.{List}
 use Rattle.mir_func.specs.declared.entry.Entry.{Entry}
 use Rattle.mir_func.specs.Function.{Function}
@@ -7,6 +7,6 @@ use Rattle.pass_trait.specs.Change.{change}
 use Rattle.pass_trait.specs.Sizes.{KeepsSizes}
 use Rattle.fold_rule_proof.specs.Kills.{IsFoldedWithKills}
 
--- a function that is folded, with its kills, keeps the bounds of a pass with factor 1 and count 1
+-- folding with kills keeps the size bounds with factor 1 and count 1
 abbrev pub FoldedKeepsSizes : Type 0
 FoldedKeepsSizes = (f g : Function) (subs : List Entry) → IsSound f → IsFoldedWithKills f g → KeepsSizes 1 1 (change f subs g subs)

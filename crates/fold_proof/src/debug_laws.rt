@@ -1,8 +1,8 @@
-//! A law of folding with kills: the contract of a function that does nothing.
+//! The debug law of folding with kills, as the contract of a function with an empty body.
 
 ghost use Rattle.fold_proof.specs.Keeps.{FoldedKeepsItems};
 
-/// A folded function with its kills keeps each debug item, or its loss is told with its cause.
+/// Folding with kills keeps each debug item, or reports its loss with its cause.
 pub fn folded_keeps_items()
     ensures { FoldedKeepsItems }
 {}

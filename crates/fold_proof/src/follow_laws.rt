@@ -1,13 +1,13 @@
-//! Laws of folding with kills: each is the contract of a function that does nothing.
+//! Laws of folding with kills: each is the contract of a function with an empty body.
 
 ghost use Rattle.fold_proof.specs.Follows.{FoldedFollows, KillsStrip};
 
-/// A folded function with its kills follows whatever source the function before followed with its ends of blocks.
+/// Folding with kills preserves the simulation, if block ends are matched.
 pub fn folded_follows()
     ensures { FoldedFollows }
 {}
 
-/// Kills are debug items: without those, what is left is the function without its debug items, folded.
+/// Kills are debug items: folding with kills and then stripping debug items is the same as stripping and then folding.
 pub fn kills_strip()
     ensures { KillsStrip }
 {}

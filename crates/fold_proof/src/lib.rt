@@ -1,19 +1,19 @@
-//! Branch folding preserves the simulation and the debug values, and the sizes of its result.
+//! Branch folding preserves the simulation and the debug values; and the size of its result.
 //!
-//! - `run_laws`: The runs of a folded function: what followed a source with its ends of blocks follows it still, where
-//!   every way goes to its end at once and kills stand at the ends of bypassed ways.
+//! - `run_laws`: The runs of a folded function: a source that simulates a function with matched block ends simulates
+//!   the folded one, with kills at the ends of bypassed chains.
 //!
-//! - `shape_laws`: The shape of a folded function: where a function follows a source with its ends of blocks, the
-//!   folded one has the shape that following asks for.
+//! - `shape_laws`: The shape of a folded function: it is that of a simulated function, if the function before is
+//!   simulated with matched block ends.
 //!
-//! - `follow_laws`: What branch folding keeps of a function, kills and all: what followed a source with its ends of
-//!   blocks follows it still, and debug items change no code.
+//! - `follow_laws`: Branch folding with kills preserves the simulation, if block ends are matched, and debug items
+//!   don't affect code.
 //!
-//! - `debug_laws`: What branch folding does with debug items: which are lost with their blocks, and which kills stand
-//!   for them. All others stay.
+//! - `debug_laws`: The effect of branch folding on debug items: which are lost with their blocks, and which kills are
+//!   added for them. All others are kept.
 //!
-//! - `size_laws`: How far branch folding may make a function grow: by a jump for each block at most, since each kill
-//!   stands for an item that is gone.
+//! - `size_laws`: The size of the result: at most one more jump for each block, since for each kill a debug item is
+//!   deleted.
 #![tactic(auto)]
 
 pub mod debug_laws;

@@ -1,8 +1,9 @@
-//! Laws of following: each is the contract of a function that does nothing.
+//! The law of runs, as the contract of a function with an empty body.
 
 ghost use Rattle.fold_proof.specs.Runs.{FoldedRunsAlong};
 
-/// A folded function with its kills runs along wherever the function before ran along with blocks' ends as stations.
+/// A source that simulates a function with observation points at block ends simulates the runs of the function folded
+/// with kills.
 pub fn folded_runs_along()
     ensures { FoldedRunsAlong }
 {}

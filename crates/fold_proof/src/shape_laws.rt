@@ -1,9 +1,9 @@
-//! Laws of the shape of folded functions: each is the contract of a function that does nothing.
+//! The law of the shape of folded functions, as the contract of a function with an empty body.
 
 ghost use Rattle.fold_proof.specs.Shapes.{FoldedHasShape};
 
-/// A folded function with its kills has the shape of one that follows the source, where the function before followed it
-/// with its ends of blocks.
+/// A function folded with kills has the shape of a simulated function, if the function before is simulated with matched
+/// block ends.
 pub fn folded_has_shape()
     ensures { FoldedHasShape }
 {}

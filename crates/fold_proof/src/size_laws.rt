@@ -1,8 +1,8 @@
-//! A law of folding with kills: the contract of a function that does nothing.
+//! The law of sizes, as the contract of a function with an empty body.
 
 ghost use Rattle.fold_proof.specs.Sizes.{FoldedKeepsSizes};
 
-/// A folded function with its kills has at most an item more for each block, and no call, number or slot more.
+/// A function folded with kills has at most one more item for each block, and no more calls, numbers or slots.
 pub fn folded_keeps_sizes()
     ensures { FoldedKeepsSizes }
 {}

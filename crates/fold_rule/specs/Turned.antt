@@ -1,4 +1,4 @@
--- Branches and jumps that are sent elsewhere (RISC-V Unprivileged ISA, RV32I, "Conditional Branches").
+-- Branches and jumps with other targets (RISC-V Unprivileged ISA, RV32I, "Conditional Branches").
 use Rattle.std.specs.Prelude.{ℕ, List, [], ◌∷◌, None}
 use Rattle.std.specs.List.{slice_set}
 use Rattle.rv64_instr.specs.declared.op.Op.{Op}
@@ -14,7 +14,7 @@ use Rattle.mir_func.specs.declared.item.ItemKind.TheVariants.{Code, Mark, Phi}
 use Rattle.mir_func.specs.declared.location.Loc.{Loc}
 use Rattle.mir_func.specs.declared.position.Origin.{Origin}
 
--- the conditional branch that is taken exactly where another isn't
+-- the inverse condition: the branch is taken exactly when the other isn't
 abbrev pub inverse : BranchOp → BranchOp
 inverse Beq = Bne
 inverse Bne = Beq
@@ -23,7 +23,7 @@ inverse Bge = Blt
 inverse Bltu = Bgeu
 inverse Bgeu = Bltu
 
--- its opcode. Others stay
+-- the opcode with its condition inverted; opcodes other than conditional branches are unchanged
 abbrev pub inverse_op : Op → Op
 inverse_op (Branch op) = Branch (inverse op)
 inverse_op (Registers op) = Registers op
@@ -36,7 +36,8 @@ inverse_op PseudoBr = PseudoBr
 inverse_op PseudoCall = PseudoCall
 inverse_op PseudoRet = PseudoRet
 
--- the operands with the block as target: operand 2 of a conditional branch, operand 0 of a jump
+-- the operands with the block as target: operand 2 of a conditional branch, operand 0 of a jump; other opcodes' are
+-- unchanged
 abbrev pub aimed : Op → (block : ℕ) → List Operand → List Operand
 aimed (Branch op) n operands = slice_set operands 2 (OfBlock n)
 aimed PseudoBr n operands = slice_set operands 0 (OfBlock n)
@@ -49,28 +50,28 @@ aimed Copy n operands = operands
 aimed PseudoCall n operands = operands
 aimed PseudoRet n operands = operands
 
--- the instruction to the block
+-- the branch or jump with the block as target
 abbrev pub to_block : (block : ℕ) → Instruction → Instruction
 to_block n i = record { op = i.op; operands = aimed i.op n i.operands }
 
--- the inverted branch to the block
+-- the conditional branch with its condition inverted and the block as target
 abbrev pub inverse_to : (block : ℕ) → Instruction → Instruction
 inverse_to n i = record { op = inverse_op i.op; operands = aimed i.op n i.operands }
 
--- a kind with its instruction changed
+-- code with its instruction changed; debug items are unchanged
 abbrev pub with_code : (Instruction → Instruction) → ItemKind → ItemKind
 with_code f (Code i k) = Code (f i) k
 with_code f (Mark v m) = Mark v m
 with_code f (Phi p k) = Phi p k
 
--- the item sent to a block, and turned round to one
+-- the item with the block as branch target
 abbrev pub sent : (block : ℕ) → Item → Item
 sent n x = record x { kind = with_code (to_block n) x.kind }
 
--- the conditional branch with its condition inverted, sent to a block
+-- the item with the condition of its branch inverted, and with the block as target
 abbrev pub turned : (block : ℕ) → Item → Item
 turned n x = record x { kind = with_code (inverse_to n) x.kind }
 
--- `PseudoBR %bb.N`, made for an origin and a debug location
+-- a new `PseudoBR %bb.N` without number, with this origin and debug location
 abbrev pub made_jump : (block : ℕ) → Origin → Loc → Item
 made_jump n o l = record { kind = Code (record { op = PseudoBr; operands = OfBlock n ∷ [] }) None; origin = o; loc = l }

@@ -1,4 +1,4 @@
-//! Folding of a function's blocks.
+//! Branch folding of a function's blocks.
 
 ghost use Rattle.std.specs.Prelude.{◌≡◌, IfOk, OnOk, nat_eq};
 ghost use Rattle.std.specs.HashSet.{contains};
@@ -16,7 +16,7 @@ use mir_func::position::Pos;
 use std::alloc::{AllocError, Global};
 use std::collections::{HashMap, HashSet};
 
-/// Folds the blocks of a function, whose numbers differ.
+/// Folds the blocks of a function; their numbers must be distinct.
 pub fn fold_blocks(alloc: Global, blocks: &mut Vec<Block>) -> Result<(), AllocError>
     requires { AreApart (ids_of blocks.old.items) }
     ensures { OnOk result (AreFolded blocks.old.items blocks.new.items) }
@@ -27,7 +27,7 @@ pub fn fold_blocks(alloc: Global, blocks: &mut Vec<Block>) -> Result<(), AllocEr
     write_anew(alloc, blocks, &ends, &stays)
 }
 
-/// Writes the ends of the blocks that stay anew, and drops the others.
+/// Rewrites the terminators of the kept blocks, and deletes the others.
 fn write_anew(
     alloc: Global,
     blocks: &mut Vec<Block>,
@@ -53,7 +53,7 @@ fn write_anew(
     Ok(())
 }
 
-/// The block with its end written anew, before one among those that stay and one among all.
+/// The block with its terminators rewritten; `next` comes next among the kept blocks, and `fall` among all.
 fn folded_block(
     alloc: Global,
     b: Block,

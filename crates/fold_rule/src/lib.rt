@@ -1,6 +1,6 @@
-//! The rule of branch folding, for code, and the function that keeps it. Every way through jump-only blocks goes to its
-//! end at once; blocks that aren't reached any more are gone; a conditional branch whose ways end at one block is
-//! removed; and no jump leads to the block that comes next. Debug items stay where they stand, in the blocks that stay.
+//! The code rule of branch folding, and the function that implements it. Every branch through jump-only blocks goes
+//! directly to the end of its chain; unreachable blocks are deleted; a conditional branch whose two edges end at one
+//! block is removed; and no jump leads to the next block. Debug items stay at their positions in the kept blocks.
 #![tactic(auto)]
 
 pub mod fold;

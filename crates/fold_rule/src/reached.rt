@@ -1,4 +1,4 @@
-//! Which blocks stay.
+//! Which blocks are reachable.
 
 ghost use Rattle.std.specs.Prelude.{◌≡◌, ◌++◌, ◌||◌, ◌↔◌, ℕ, IfOk, OnOk, IsTrue, nat_eq};
 ghost use Rattle.std.specs.HashSet.{contains};
@@ -14,7 +14,7 @@ use mir_func::block::Block;
 use std::alloc::{AllocError, Global};
 use std::collections::{HashMap, HashSet};
 
-/// The numbers of the blocks that are reached from the first one, where each way goes to its end.
+/// The numbers of the blocks that are reachable from the first one, if each edge goes to the end of its chain.
 pub fn reached(
     alloc: Global,
     blocks: &[Block],
@@ -36,7 +36,7 @@ pub fn reached(
     Ok(seen)
 }
 
-/// The numbers of the blocks that are reached from the first one as they stand.
+/// The numbers of the blocks that are reachable from the first one, before folding.
 pub fn reached_before(alloc: Global, blocks: &[Block]) -> Result<HashSet<u32>, AllocError>
     ensures { IfOk result (λ was. (n : ℕ) → IsTrue (contains nat_eq was n) ↔ Reached blocks.now (λ m. m) n) }
 {
@@ -44,7 +44,7 @@ pub fn reached_before(alloc: Global, blocks: &[Block]) -> Result<HashSet<u32>, A
     reached(alloc, blocks, &own_ends)
 }
 
-/// Sees a block. Where it is seen for the first time, it waits.
+/// Marks a block as seen. If it is seen for the first time, it waits to be visited.
 fn visit(
     seen: &mut HashSet<u32>,
     waiting: &mut Vec<u32>,

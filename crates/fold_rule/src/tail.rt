@@ -1,4 +1,4 @@
-//! Ends of blocks, written anew.
+//! The terminators of blocks, rewritten.
 
 ghost use Rattle.std.specs.Prelude.{◌≡◌, ◌≤◌, ◌++◌, length, option_to_list, IfOk, OnOk};
 ghost use Rattle.fold_targets.specs.Ends.{end_in};
@@ -26,10 +26,10 @@ use mir_func::position::{Origin, Pos};
 use std::alloc::{AllocError, Global};
 use std::collections::HashMap;
 
-/// Where a block stands: which one comes next among those that stay, and among all, and its silent position.
+/// What a block's terminators depend on: the next block among the kept ones and among all, and its silent position.
 #[derive(Drop)]
 pub struct Place {
-    /// The next block among those that stay.
+    /// The next block among those that are kept.
     pub next: Option<BlockId>,
     /// The next block, to which control falls.
     pub fall: Option<BlockId>,
@@ -37,7 +37,7 @@ pub struct Place {
     pub silent: Pos,
 }
 
-/// Writes the end of a block's items anew.
+/// Rewrites the terminators of a block's items.
 pub fn rewrite(
     alloc: Global,
     items: &mut Vec<Item>,
@@ -59,7 +59,7 @@ pub fn rewrite(
     }
 }
 
-/// How many items stand before the first at which control may leave.
+/// How many items are before the first one at which control may leave.
 fn onward_count(items: &[Item]) -> usize
     ensures count { result ≡ onward_count items.now }
     ensures few { result ≤ length items.now }
@@ -78,7 +78,7 @@ fn onward_count(items: &[Item]) -> usize
     count
 }
 
-/// Appends the end of a block without a conditional branch.
+/// Appends the terminators of a block without a conditional branch.
 fn push_plain(
     alloc: Global,
     items: &mut Vec<Item>,
@@ -96,7 +96,7 @@ fn push_plain(
     }
 }
 
-/// Appends the jump to a block at the end of a block, unless it comes next.
+/// Appends the jump to a block at the end of a block, unless its target comes next.
 fn push_jump(
     alloc: Global,
     items: &mut Vec<Item>,
@@ -111,7 +111,7 @@ fn push_jump(
     push_if_needed(items, at, block, jump)
 }
 
-/// Appends a jump to a block, unless that comes next.
+/// Appends a jump to a block, unless that block comes next.
 fn push_if_needed(
     items: &mut Vec<Item>,
     at: &Place,
@@ -136,7 +136,7 @@ fn push_some(items: &mut Vec<Item>, item: Option<Item>) -> Result<(), AllocError
     Ok(())
 }
 
-/// Appends the end of a block with a conditional branch, from the branch on.
+/// Appends the terminators of a block with a conditional branch, from the branch on.
 fn push_branch(
     alloc: Global,
     items: &mut Vec<Item>,
@@ -163,7 +163,7 @@ fn push_branch(
     }
 }
 
-/// Appends the end of a block with a conditional branch whose ways end at two blocks, from the branch on.
+/// Appends the terminators of a block with a conditional branch whose edges end at two blocks, from the branch on.
 fn push_branch_to(
     alloc: Global,
     items: &mut Vec<Item>,
@@ -196,7 +196,7 @@ fn push_branch_to(
     Ok(())
 }
 
-/// The jump to a block at the end: the one of the text, sent there, or one that is made.
+/// The jump to a block at the end: the old jump with a new target, or a new one if there is none.
 fn jump_at_end(
     alloc: Global,
     at: &Place,
@@ -215,7 +215,7 @@ fn jump_at_end(
     }
 }
 
-/// The jump to a block in the place of a conditional branch that was removed.
+/// The jump to a block in the position of a removed conditional branch.
 fn jump_for_branch(
     alloc: Global,
     at: &Place,
@@ -231,7 +231,8 @@ fn jump_for_branch(
     Ok(jump)
 }
 
-/// Where control goes by the item after a branch, or falls where there is none.
+/// Where control goes when a branch isn't taken: where the next item jumps, or to the block below if there is no next
+/// item.
 fn else_way(rest: &Option<Item>, fall: Option<BlockId>) -> Option<BlockId>
     ensures { result ≡ else_way rest.now fall }
 {
@@ -241,7 +242,7 @@ fn else_way(rest: &Option<Item>, fall: Option<BlockId>) -> Option<BlockId>
     }
 }
 
-/// Whether it is that number.
+/// Whether the optional number is this one.
 fn is_number(next: Option<BlockId>, block: BlockId) -> bool
     ensures { result ≡ is_number next block }
 {

@@ -1,4 +1,4 @@
-//! Branches and jumps that are sent elsewhere.
+//! Branches and jumps with other targets.
 
 ghost use Rattle.std.specs.Prelude.{◌≡◌, IfOk};
 ghost use Rattle.std.specs.List.{slice_set};
@@ -14,7 +14,7 @@ use rv64_instr::op::{BranchOp, Op};
 use rv64_instr::operand::{Operand, Operands};
 use std::alloc::{AllocError, Global};
 
-/// Sends a branch or a jump to a block.
+/// Sets the target of a branch or a jump.
 pub fn send(x: &mut Item, block: BlockId)
     ensures { x.new ≡ sent block x.old }
 {
@@ -23,7 +23,7 @@ pub fn send(x: &mut Item, block: BlockId)
     }
 }
 
-/// Turns a conditional branch round, so that it goes to a block exactly where it didn't go elsewhere.
+/// Inverts a conditional branch and sets its target: it goes to the block exactly when it wasn't taken before.
 pub fn turn(x: &mut Item, block: BlockId)
     ensures { x.new ≡ turned block x.old }
 {
@@ -33,7 +33,7 @@ pub fn turn(x: &mut Item, block: BlockId)
     }
 }
 
-/// A jump to a block, without number.
+/// A new jump to a block, without a number.
 pub fn made_jump(
     alloc: Global,
     block: BlockId,
@@ -55,7 +55,7 @@ pub fn made_jump(
     })
 }
 
-/// Makes a block the target.
+/// Sets the target block of a branch or a jump.
 fn aim(i: &mut Instr, block: BlockId)
     ensures { i.new ≡ to_block block i.old }
 {
@@ -73,7 +73,7 @@ fn aim(i: &mut Instr, block: BlockId)
     }
 }
 
-/// Makes an operand a block, if there is such an operand.
+/// Sets an operand to a block, if there is such an operand.
 fn set_block(operands: &mut Operands, index: usize, block: BlockId)
     ensures { operands.new ≡ slice_set operands.old index (OfBlock block) }
 {
@@ -90,7 +90,7 @@ fn invert(i: &mut Instr)
     i.op = inverse_op(i.op);
 }
 
-/// The opcode of the inverted branch. Others stay.
+/// The opcode with its condition inverted; opcodes other than conditional branches are unchanged.
 fn inverse_op(op: Op) -> Op
     ensures { result ≡ inverse_op op }
 {
@@ -108,7 +108,7 @@ fn inverse_op(op: Op) -> Op
     }
 }
 
-/// The conditional branch that is taken exactly where another isn't.
+/// The inverse condition: the branch is taken exactly when the other isn't.
 fn inverse(op: BranchOp) -> BranchOp
     ensures { result ≡ inverse op }
 {

@@ -1,4 +1,4 @@
-//! Where control goes from a block.
+//! The outgoing edges of blocks.
 
 ghost use Rattle.std.specs.Prelude.{◌≡◌, ℕ, IfOk, nat_eq};
 ghost use Rattle.std.specs.Option.{option_map};
@@ -16,7 +16,7 @@ use mir_func::item::Item;
 use std::alloc::{AllocError, Global};
 use std::collections::HashMap;
 
-/// The ways from a block: by a conditional branch, and otherwise.
+/// The outgoing edges of a block: of its conditional branch, and otherwise.
 #[derive(Clone, Copy)]
 pub struct Ways {
     /// Where the conditional branch goes.
@@ -25,7 +25,7 @@ pub struct Ways {
     pub onward: Option<BlockId>,
 }
 
-/// The ways from each block, by its number, to their ends.
+/// The outgoing edges of each block, by its number, each to the end of its chain.
 pub fn ways_to_ends(
     alloc: Global,
     blocks: &[Block],
@@ -46,7 +46,7 @@ pub fn ways_to_ends(
     Ok(ways)
 }
 
-/// The ways to their ends.
+/// The edges, each to the end of its chain.
 fn ended(ends: &HashMap<u32, u32>, ways: &Ways) -> Ways
     ensures { result ≡ ended (end_in ends.now) ways.now }
 {
@@ -65,7 +65,7 @@ fn some_end(ends: &HashMap<u32, u32>, block: Option<BlockId>) -> Option<BlockId>
     }
 }
 
-/// The ways from items, before a block to which control falls.
+/// The outgoing edges of a block with these items; without a final terminator control falls to the block below.
 fn ways_of(items: &[Item], fall: Option<BlockId>) -> Ways
     ensures { result ≡ ways_of items.now fall }
 {
@@ -99,7 +99,7 @@ fn ways_of(items: &[Item], fall: Option<BlockId>) -> Ways
     }
 }
 
-/// Where control goes after a conditional branch, with these items below it.
+/// Where control goes when a conditional branch isn't taken, with these items below it.
 fn way_after(tail: &[Item], fall: Option<BlockId>) -> Option<BlockId>
     ensures { result ≡ else_way (first_of tail.now) fall }
 {
@@ -109,7 +109,7 @@ fn way_after(tail: &[Item], fall: Option<BlockId>) -> Option<BlockId>
     }
 }
 
-/// Where the way of a block ends.
+/// The end of a block's chain.
 pub fn end_of(ends: &HashMap<u32, u32>, block: BlockId) -> BlockId
     ensures { result ≡ end_in ends.now block }
 {

@@ -1,8 +1,8 @@
--- Kills leave a function sound.
+-- Kills keep a function sound.
 use Rattle.mir_func.specs.Function.{Function}
 use Rattle.mir_func.specs.Sound.{IsSound}
 use Rattle.fold_rule_proof.specs.Kills.{IsFoldedWithKills}
 
--- a sound function that is folded is sound with its kills
+-- a sound function is sound after folding with kills
 abbrev pub KilledIsSound : Type 0
 KilledIsSound = (f g : Function) → IsSound f → IsFoldedWithKills f g → IsSound g

@@ -1,4 +1,4 @@
--- Debug items and the rule of folding; which blocks stay.
+-- Folding and debug items; and which blocks are kept.
 use Rattle.std.specs.Prelude.{◌≡◌, ◌⊎◌, ℕ, List, Some, true}
 use Rattle.mir_func.specs.declared.block.Block.{Block}
 use Rattle.mir_func.specs.Function.{Function}
@@ -7,10 +7,10 @@ use Rattle.mir_func.specs.Strip.{stripped}
 use Rattle.fold_targets.specs.Leads.{first_id}
 use Rattle.fold_rule.specs.Rule.{AreFolded, IsFolded}
 
--- a sound function that is folded, without its debug items, is the function without its debug items, folded
+-- stripping debug items preserves folding: if a sound f folds to g, then f stripped folds to g stripped
 abbrev pub FoldsStripped : Type 0
 FoldsStripped = (f g : Function) → IsSound f → IsFolded f g → IsFolded (stripped f) (stripped g)
 
--- a block stays only if it is the first one or the end of its own way: what is bypassed is gone
+-- a kept block is the first one or its own end: bypassed blocks are deleted
 abbrev pub EndsStay : Type 0
 EndsStay = (old new : List Block) (folded : AreFolded old new) (n : ℕ) → folded.stays n ≡ true → (first_id old ≡ Some n) ⊎ (folded.end n ≡ n)

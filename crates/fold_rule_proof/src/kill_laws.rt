@@ -1,8 +1,8 @@
-//! A law of folding with kills: the contract of a function that does nothing.
+//! The law of folding with kills, as the contract of a function with an empty body.
 
 ghost use Rattle.fold_rule_proof.specs.KilledSound.{KilledIsSound};
 
-/// A sound function that is folded is sound with its kills.
+/// A sound function is sound after folding with kills.
 pub fn killed_is_sound()
     ensures { KilledIsSound }
 {}

@@ -1,14 +1,13 @@
-//! Laws of branch folding's rule: it is deterministic, commutes with stripping debug instructions, keeps functions
-//! sound, and undef debug values stand for bypassed blocks.
+//! Laws of branch folding's rule: it is functional, commutes with stripping debug instructions, and keeps functions
+//! sound; and undef debug values for bypassed blocks.
 //!
-//! - `rule_laws`: Laws of the rule of branch folding: of one function it makes one, it sees code alone, debug items
-//!   pass through it, and what is bypassed is gone.
+//! - `rule_laws`: The rule is functional, doesn't depend on debug items and commutes with stripping them, and bypassed
+//!   blocks are deleted.
 //!
-//! - `step_laws`: What folded branches and jumps do, step by step: what is sent elsewhere does what it did, and what is
-//!   turned round goes where it fell through.
+//! - `step_laws`: The effects of folded branches and jumps: a retargeted branch has the same effect with another
+//!   target, and an inverted one goes to its target if the old one fell through.
 //!
-//! - `kill_laws`: Kills: what blocks that branch folding bypasses would have assigned is assigned nothing where their
-//!   ways end.
+//! - `kill_laws`: Kills: what a bypassed block would have assigned becomes undef at the block where its chain ends.
 #![tactic(auto)]
 
 pub mod kill_laws;

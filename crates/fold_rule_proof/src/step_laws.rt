@@ -1,9 +1,9 @@
-//! Laws of the steps of folded items: each is the contract of a function that does nothing.
+//! Laws of the steps of folded items: each is the contract of a function with an empty body.
 
 ghost use Rattle.fold_rule_proof.specs.Alike.{FoldedItemsDoAlike};
 
-/// Branches and jumps that are sent elsewhere, branches that are turned round, and jumps that are made do what those of
-/// the function before did, with the same cores.
+/// Retargeted branches and jumps, inverted branches and new jumps have the effects of the old ones, with the same core
+/// states.
 pub fn folded_items_do_alike()
     ensures { FoldedItemsDoAlike }
 {}

@@ -1,4 +1,4 @@
-//! Where ways end.
+//! The ends of chains.
 
 ghost use Rattle.std.specs.Prelude.{◌≡◌, ◌⊎◌, ℕ, [], Option, Some, None, true, IfOk, OnOk, nat_eq, cond, ◌||◌};
 ghost use Rattle.std.specs.Option.{is_some, IsSome};
@@ -10,8 +10,8 @@ ghost use Rattle.fold_targets.specs.steps.Settled.{AreEnds, Chain, StayKnown, is
 use std::alloc::{AllocError, Global};
 use std::collections::{HashMap, HashSet};
 
-/// Where the way of each block ends, where `leads` tells to which block each jump-only one leads. A block that is its
-/// own end may be left out.
+/// The end of each block's chain, where `leads` maps each jump-only block to the block to which it forwards. A block
+/// that is its own end may be missing.
 pub fn ends(alloc: Global, leads: &HashMap<u32, u32>) -> Result<HashMap<u32, u32>, AllocError>
     ensures { IfOk result (λ m. (n : ℕ) → EndsAt (told leads.now) n (end_in m n)) }
 {
@@ -22,7 +22,7 @@ pub fn ends(alloc: Global, leads: &HashMap<u32, u32>) -> Result<HashMap<u32, u32
     Ok(ends)
 }
 
-/// Finds the end of a block's way, and of each block on it.
+/// Finds the end of a block's chain, and of each block on it.
 fn settle(
     alloc: Global,
     leads: &HashMap<u32, u32>,
@@ -40,8 +40,8 @@ fn settle(
     unwind(ends, &mut way, end)
 }
 
-/// Goes along a way until a block that doesn't lead on, whose end is known, or that the way has come to before. The
-/// blocks before it are put on `way`.
+/// Follows a chain to a block that isn't jump-only, whose end is known, or that is on the chain already. The blocks
+/// before it are appended to `way`.
 fn walk(
     alloc: Global,
     leads: &HashMap<u32, u32>,
@@ -64,7 +64,7 @@ fn walk(
     Ok(at)
 }
 
-/// Where a block leads, if its end isn't known and it isn't on the way.
+/// Where a block forwards control, if its end isn't known and it isn't on the chain yet.
 fn onward(
     leads: &HashMap<u32, u32>,
     ends: &HashMap<u32, u32>,
@@ -79,7 +79,7 @@ fn onward(
     leads.get(&at).copied()
 }
 
-/// Makes the end of the block known at which a walk stopped, and gives it. A circle is taken off the way.
+/// Makes the end of the block known at which a walk stopped, and returns it. A cycle is removed from the chain.
 fn stop(
     leads: &HashMap<u32, u32>,
     ends: &mut HashMap<u32, u32>,
@@ -107,7 +107,7 @@ fn stop(
     }
 }
 
-/// Takes a circle off the end of a way that comes round to `last`: each block on it is its own end.
+/// Removes a cycle from the end of a chain that returns to `last`: each block on it is its own end.
 fn close(ends: &mut HashMap<u32, u32>, way: &mut Vec<u32>, last: u32) -> Result<(), AllocError>
     requires { is_among way.old.items last ≡ true }
     ensures end { OnOk result (told ends.new last ≡ Some last) }
@@ -126,7 +126,7 @@ fn close(ends: &mut HashMap<u32, u32>, way: &mut Vec<u32>, last: u32) -> Result<
     Ok(())
 }
 
-/// Gives the blocks of a way that leads to a block with this end their ends, from the last one back.
+/// Records the ends of the blocks of a chain that leads to a block with this end, from the last one back.
 fn unwind(ends: &mut HashMap<u32, u32>, way: &mut Vec<u32>, end: u32) -> Result<(), AllocError>
     ensures right { OnOk result ((lead : ℕ → Option ℕ) → (from last : ℕ) → Chain lead from way.old.items last
         → told ends.old last ≡ Some end → AreEnds lead (told ends.old)

@@ -1,4 +1,4 @@
-//! Jump-only blocks, and where they lead.
+//! Jump-only blocks, and where they forward control.
 
 ghost use Rattle.std.specs.Prelude.{◌≡◌, ℕ, IfOk, nat_eq};
 ghost use Rattle.std.specs.HashMap.{get};
@@ -12,7 +12,7 @@ use mir_func::item::{Item, ItemKind};
 use std::alloc::{AllocError, Global};
 use std::collections::HashMap;
 
-/// Where each jump-only block leads, by the numbers of blocks.
+/// Where each jump-only block forwards control, by block number.
 pub fn leads(alloc: Global, blocks: &[Block]) -> Result<HashMap<u32, u32>, AllocError>
     requires { AreApart (ids_of blocks.now) }
     ensures { IfOk result (λ m. (n : ℕ) → get nat_eq m n ≡ lead blocks.now n) }
@@ -23,7 +23,7 @@ pub fn leads(alloc: Global, blocks: &[Block]) -> Result<HashMap<u32, u32>, Alloc
     }
 }
 
-/// Where each of these blocks leads.
+/// Where each of these blocks forwards control, if it is jump-only.
 fn leads_among(alloc: Global, blocks: &[Block]) -> Result<HashMap<u32, u32>, AllocError>
     requires { AreApart (ids_of blocks.now) }
     ensures { IfOk result (λ m. (n : ℕ) → get nat_eq m n ≡ lead_in blocks.now n) }
@@ -41,7 +41,7 @@ fn leads_among(alloc: Global, blocks: &[Block]) -> Result<HashMap<u32, u32>, All
     Ok(leads)
 }
 
-/// Where items lead before a block.
+/// Where these items forward control, with this block below.
 fn lead_of(items: &[Item], next: Option<BlockId>) -> Option<BlockId>
     ensures { result ≡ lead_of items.now next }
 {
@@ -55,7 +55,7 @@ fn lead_of(items: &[Item], next: Option<BlockId>) -> Option<BlockId>
     next
 }
 
-/// Where control always goes.
+/// Where control always goes after this exit, if it always goes to one block.
 pub fn always_to(exit: Exit) -> Option<BlockId>
     ensures { result ≡ always_to exit }
 {

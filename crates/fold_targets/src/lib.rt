@@ -1,7 +1,7 @@
-//! Ways through jump-only blocks. A block is jump-only if its code is nothing or one jump; the first block never is.
-//! Its way goes from block to block as long as they are jump-only. It ends at the first that isn't, or where it comes
-//! round, at the first that stands on the circle. `leads` tells where each jump-only block leads, and `ends` where ways
-//! end, in time linear in the blocks.
+//! Branch targets through chains of jump-only blocks. A block is jump-only if it has no code, or its first code is a
+//! jump; the first block never is. A chain continues while its blocks are jump-only. It ends at the first block that
+//! isn't, or that is on a cycle. `leads` maps each jump-only block to the block to which it forwards control, and
+//! `ends` maps blocks to the ends of their chains, in time linear in the number of blocks.
 #![tactic(auto)]
 
 pub mod ends;

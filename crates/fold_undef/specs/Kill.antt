@@ -1,4 +1,4 @@
--- Kills, apart from the block where they stand.
+-- Kills, without the block at whose start they are.
 use Rattle.std.specs.Prelude.{ℕ, List, Option, Some, None, Bool, false, nat_eq}
 use Rattle.std.specs.List.{filter_map}
 use Rattle.mir_func.specs.declared.item.Item.{Item}
@@ -12,7 +12,7 @@ use Rattle.mir_func.specs.Variables.{is_same}
 use Rattle.fold_undef.specs.declared.kill.Kill.{Kill}
 use Rattle.fold_undef.specs.declared.kill.Kill.TheVariants.{Part, Number}
 
--- the kill of what an item gives
+-- the kill for a debug item
 abbrev pub kill_of : ItemKind → Loc → Option Kill
 kill_of (Mark v m) l = Some (Part v l)
 kill_of (Phi p k) l = Some (Number k)
@@ -23,11 +23,11 @@ abbrev pub kill_item : (block : ℕ) → Kill → Item
 kill_item b (Part v l) = record { kind = Mark v Nothing; origin = Before (record { block = b; item = 0 }); loc = l }
 kill_item b (Number k) = record { kind = Phi None k; origin = Before (record { block = b; item = 0 }); loc = Absent }
 
--- the kills of items
+-- the kills for items
 abbrev pub kills_in : List Item → List Kill
 kills_in items = filter_map (λ i. kill_of i.kind i.loc) items
 
--- they take the same away
+-- kills of the same variable fragment, or of the same number
 abbrev pub is_same_kill : Kill → Kill → Bool
 is_same_kill (Part v l) (Part w m) = is_same v w
 is_same_kill (Number k) (Number l) = nat_eq k l

@@ -18,18 +18,18 @@ use mir_func::block::Block;
 use std::alloc::{AllocError, Global};
 use std::collections::{HashMap, HashSet};
 
-/// The ways of a function as it stands, by the numbers of its blocks.
+/// The chains and the reachable blocks of a function before folding, by block number.
 #[derive(Drop)]
 pub struct OldWays {
-    /// Where each jump-only block leads.
+    /// Where each jump-only block forwards control.
     pub leads: HashMap<u32, u32>,
-    /// Where the way of each block ends. A block that is its own end may be left out.
+    /// The end of each block's chain. A block that is its own end may be missing.
     pub ends: HashMap<u32, u32>,
-    /// The blocks that are reached.
+    /// The reachable blocks.
     pub reached: HashSet<u32>,
 }
 
-/// The ways of blocks whose numbers differ.
+/// Computes these for blocks with distinct numbers.
 pub fn old_ways(alloc: Global, blocks: &[Block]) -> Result<OldWays, AllocError>
     requires { AreApart (ids_of blocks.now) }
     ensures leads { IfOk result (λ w. (n : ℕ) → told w.leads n ≡ lead blocks.now n) }
@@ -47,7 +47,7 @@ pub fn old_ways(alloc: Global, blocks: &[Block]) -> Result<OldWays, AllocError>
     })
 }
 
-/// The block where the way of a block ends, if it is bypassed: it is reached, leads on, and isn't its own end.
+/// The end of a block's chain, if the block is bypassed: it is reachable, jump-only, and not its own end.
 pub fn end_past(ways: &OldWays, block: BlockId) -> Option<BlockId>
     ensures { result ≡ end_past (end_in ways.now.ends) (contains nat_eq ways.now.reached) (told ways.now.leads) block }
 {

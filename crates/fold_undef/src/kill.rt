@@ -1,4 +1,4 @@
-//! Kills.
+//! Kills of debug values.
 
 ghost use Rattle.std.specs.Prelude.{◌≡◌};
 ghost use Rattle.fold_undef.specs.Kill.{kill_of, kill_item};
@@ -9,16 +9,16 @@ use mir_func::location::Loc;
 use mir_func::position::{Origin, Pos};
 use mir_func::variable::{MarkValue, VarId};
 
-/// What is taken away.
+/// What becomes undef.
 #[derive(Clone, Copy, Debug)]
 pub enum Kill {
-    /// The value of a part of a variable. The debug location is that of the mark that isn't met.
+    /// The value of a variable fragment. The debug location is that of the debug value in the bypassed block.
     Part(VarId, Loc),
     /// The value of a debug instruction number.
     Number(DebugNumber),
 }
 
-/// The kill of what an item gives, if it is a debug item.
+/// The kill for a debug item.
 pub fn kill_of(i: &Item) -> Option<Kill>
     ensures { result ≡ kill_of i.now.kind i.now.loc }
 {
@@ -29,7 +29,7 @@ pub fn kill_of(i: &Item) -> Option<Kill>
     }
 }
 
-/// The kill as an item that stands before all of a block.
+/// The kill as an item at the start of a block.
 pub fn kill_item(block: BlockId, kill: Kill) -> Item
     ensures { result ≡ kill_item block kill }
 {

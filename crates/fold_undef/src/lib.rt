@@ -1,5 +1,5 @@
-//! Kills, made: where branch folding bypasses blocks, what these would have assigned is assigned nothing at the block
-//! where their ways end. Each block is looked at once, and each kill is found by what it takes away.
+//! Undef debug values for blocks that branch folding bypasses: what a bypassed block would have assigned becomes undef
+//! at the block where its chain ends. Each block is visited once, and duplicates are found by hashing.
 #![tactic(auto)]
 
 pub mod bypassed;

@@ -1,4 +1,4 @@
-//! Kills at the blocks where bypassed ways end.
+//! Insertion of kills at the ends of bypassed chains.
 
 ghost use Rattle.std.specs.Prelude.{◌≡◌, ◌++◌, ℕ, List, map, IfOk, OnOk, nat_eq};
 ghost use Rattle.std.specs.HashSet.{contains};
@@ -19,9 +19,8 @@ use mir_func::item::Item;
 use std::alloc::{AllocError, Global};
 use std::collections::HashMap;
 
-/// Puts the kills of blocks at the starts of those that they were folded to: before all of each block, what the blocks
-/// that are bypassed on the way to it would have assigned, each once, in the order of the text. After an error, some of
-/// them.
+/// Inserts kills at the starts of folded blocks: at the start of each block, for the debug items of the bypassed blocks
+/// whose chains end there, without duplicates and in the order of the text. After an error, some of them.
 pub fn put_kills(
     alloc: Global,
     before: &[Block],
@@ -36,7 +35,7 @@ pub fn put_kills(
     put_all(alloc, &kills, after)
 }
 
-/// The kills for each end, by its number, in the order of the text, some perhaps several times.
+/// The kills for each end, by its number, in the order of the text, with duplicates.
 fn kills_by_end(
     alloc: Global,
     blocks: &[Block],
@@ -54,7 +53,7 @@ fn kills_by_end(
     Ok(kills)
 }
 
-/// Adds the kills of a block's items to those for its end.
+/// Adds the kills for a block's items to those for its end.
 fn push_kills(
     alloc: Global,
     kills: &mut HashMap<u32, List<Kill>>,
@@ -73,7 +72,7 @@ fn push_kills(
     Ok(())
 }
 
-/// Appends the kills of items.
+/// Appends the kills for items.
 fn push_all(items: &[Item], kills: &mut List<Kill>) -> Result<(), AllocError>
     ensures { OnOk result (kills.new ≡ kills.old ++ kills_in items.now) }
 {
@@ -85,7 +84,7 @@ fn push_all(items: &[Item], kills: &mut List<Kill>) -> Result<(), AllocError>
     Ok(())
 }
 
-/// Puts kills before all of each block.
+/// Inserts kills at the start of each block.
 fn put_all(
     alloc: Global,
     kills: &HashMap<u32, List<Kill>>,
@@ -99,7 +98,7 @@ fn put_all(
     Ok(())
 }
 
-/// Puts the kills for a block before its items.
+/// Inserts the kills for a block before its items.
 fn put_at(
     alloc: Global,
     kills: &HashMap<u32, List<Kill>>,
@@ -117,7 +116,7 @@ fn put_at(
     Ok(())
 }
 
-/// Kills as items of a block, each once, as it stands first.
+/// Kills as items of a block, without duplicates; the first of each is kept.
 fn each_once(alloc: Global, block: BlockId, kills: &[Kill]) -> Result<Vec<Item>, AllocError>
     ensures { IfOk result (λ items. items.items ≡ once (map (kill_item block) kills.now)) }
 {

@@ -1,4 +1,4 @@
-//! Which kills there are already.
+//! Sets of kills.
 
 ghost use Rattle.std.specs.Prelude.{◌≡◌, ◌||◌, IfOk, OnOk, false, not};
 ghost use Rattle.fold_undef.specs.declared.kill.Kill.{Kill};
@@ -13,7 +13,7 @@ use std::collections::HashSet;
 /// A part of a variable: its node, the node that it is inlined at, and its first byte and how many bytes it has.
 type PartKey = ((u32, Option<u32>), Option<(u32, u32)>);
 
-/// What was taken away.
+/// A set of kills.
 #[derive(Drop)]
 pub struct Seen {
     pub parts: HashSet<PartKey>,
@@ -21,7 +21,7 @@ pub struct Seen {
 }
 
 impl Seen {
-    /// Nothing. It takes no memory.
+    /// The empty set. It takes no memory.
     pub fn new(alloc: Global) -> Seen
         ensures { (k : Kill) → is_seen result.parts result.numbers k ≡ false }
     {
@@ -31,7 +31,7 @@ impl Seen {
         }
     }
 
-    /// Adds a kill, and tells whether none took the same away.
+    /// Adds a kill, and returns whether none of the same variable fragment or number was there.
     pub fn add(&mut self, kill: &Kill) -> Result<bool, AllocError>
         ensures new { IfOk result (λ z. z ≡ not (is_seen self.old.parts self.old.numbers kill.now)) }
         ensures seen { OnOk result ((k : Kill) → is_seen self.new.parts self.new.numbers k

@@ -1,2 +1,2 @@
--- The steps of the code, which only proofs need.
+-- Auxiliary definitions for proofs about the code.
 pub mod Framing

@@ -1,4 +1,4 @@
-//! The code that makes a frame, and the code that gives it back.
+//! The code of prologues and epilogues.
 
 ghost use Rattle.std.specs.Prelude.{◌≡◌, ◌≤◌, ◌++◌, true, IfOk, OnOk, map};
 ghost use Rattle.rv64_instr.specs.Form.{has_12_bits};
@@ -22,7 +22,7 @@ use std::alloc::{AllocError, Global};
 /// The number of the stack pointer (RISC-V ELF psABI, "Integer Register Convention": sp).
 const STACK_POINTER: u32 = 2;
 
-/// The prologue before the block of a number.
+/// The prologue before the block with this number.
 pub fn prologue(alloc: Global, frame: &Frame, first: BlockId) -> Result<Items, AllocError>
     requires { frame.now.size ≤ MAX_FRAME }
     ensures { IfOk result (λ items. items ≡ prologue_in frame.now first) }
@@ -40,7 +40,7 @@ pub fn prologue(alloc: Global, frame: &Frame, first: BlockId) -> Result<Items, A
     Ok(items)
 }
 
-/// Appends the epilogue before a return of this origin.
+/// Appends the epilogue before a return with this origin.
 pub fn push_epilogue(
     alloc: Global,
     frame: &Frame,
@@ -95,7 +95,7 @@ fn push_restores(
     Ok(())
 }
 
-/// Code of this origin, without number and debug location.
+/// Code with this origin, without number and debug location.
 fn added(origin: Origin, code: Instr) -> Item
     ensures { result ≡ added origin code }
 {
@@ -122,7 +122,7 @@ fn adds_to_pointer(alloc: Global, n: i64) -> Result<Instr, AllocError>
     })
 }
 
-/// Stores a register into its place.
+/// Stores a register into its save slot.
 fn saves(alloc: Global, s: SavedRegister) -> Result<Instr, AllocError>
     ensures { IfOk result (λ i. i ≡ saves s) }
 {
@@ -136,7 +136,7 @@ fn saves(alloc: Global, s: SavedRegister) -> Result<Instr, AllocError>
     })
 }
 
-/// Loads a register from its place.
+/// Loads a register from its save slot.
 fn restores(alloc: Global, s: SavedRegister) -> Result<Instr, AllocError>
     ensures { IfOk result (λ i. i ≡ restores s) }
 {

@@ -19,7 +19,7 @@ use mir_func::exit::Exit;
 use mir_func::item::{Item, Items};
 use std::alloc::{AllocError, Global};
 
-/// The prologue, and the blocks with their epilogues.
+/// The prologue block, and the blocks with their epilogues.
 pub fn framed_blocks(alloc: Global, frame: &Frame, blocks: &[Block]) -> Result<Blocks, AllocError>
     requires { frame.now.size ≤ MAX_FRAME }
     ensures { IfOk result (λ made. made ≡ framed_blocks_in frame.now blocks.now) }
@@ -32,7 +32,7 @@ pub fn framed_blocks(alloc: Global, frame: &Frame, blocks: &[Block]) -> Result<B
     Ok(made)
 }
 
-/// The block of the prologue has the number and the silent index of the one after it.
+/// The prologue block has the number and the silent index of the block after it.
 fn prologue_block(alloc: Global, frame: &Frame, b: &Block) -> Result<Block, AllocError>
     requires { frame.now.size ≤ MAX_FRAME }
     ensures { IfOk result (λ made. made ≡ prologue_block_in frame.now b.now) }

@@ -19,14 +19,14 @@ use std::alloc::Global;
 pub struct Frame {
     /// Its size in bytes.
     pub size: u32,
-    /// Where slots lie.
+    /// The offsets of slots.
     pub slots: SlotOffsets,
-    /// Where registers are saved.
+    /// The save slots of registers.
     pub saved: Saved,
 }
 
 impl Frame {
-    /// The frame of this function. It is `FrameTooLarge` exactly above 2,032 bytes.
+    /// Computes the frame of this function. The error is `FrameTooLarge` exactly above 2,032 bytes.
     pub fn new(alloc: Global, f: &Func) -> Result<Frame, LowerError>
         ensures made { IfOk result (IsFrameOf f.now) }
         ensures too_large { IsErrOf result LowerError.FrameTooLarge → MAX_FRAME < size_of f.now }

@@ -1,6 +1,6 @@
-//! The lowering of a function's frame, by the rule of `frame_rule`. First it finds what the frame holds: where slots
-//! and saved registers lie, and how many bytes the frame has. Then it copies the function, names slots by their
-//! offsets from x2, and adds the prologue before the first block and the epilogue before each return.
+//! Prologue/epilogue insertion and frame layout, by the rule of `frame_rule`. First it computes the layout: the offsets
+//! of slots and saved registers, and the frame's size. Then it copies the function, replaces slots by their offsets
+//! from x2, and adds the prologue before the first block and the epilogue before each return.
 #![tactic(auto)]
 
 mod added;

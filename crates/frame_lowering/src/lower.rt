@@ -15,7 +15,7 @@ use mir_func::func::Func;
 use std::alloc::{AllocError, Global};
 use thiserror::Error;
 
-/// Why a function got no frame.
+/// Why the frame of a function couldn't be lowered.
 #[derive(Debug, Drop, Error)]
 pub enum LowerError {
     /// Its frame would have more than 2,032 bytes.
@@ -34,8 +34,8 @@ impl From<AllocError> for LowerError {
     }
 }
 
-/// The function with its frame (RISC-V ELF psABI, "Integer Calling Convention"). It is `FrameTooLarge` exactly where
-/// the frame would have more than 2,032 bytes.
+/// The function with its frame (RISC-V ELF psABI, "Integer Calling Convention"). The error is `FrameTooLarge` exactly
+/// if the frame would have more than 2,032 bytes.
 pub fn lower(alloc: Global, f: &Func) -> Result<Framed, LowerError>
     requires physical { AllItems (λ i. HasPhysical i.kind) f.now.blocks }
     ensures framed { IfOk result (λ g. g ≡ framed_of f.now) }

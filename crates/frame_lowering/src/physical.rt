@@ -1,4 +1,4 @@
-//! Whether a function has physical registers alone.
+//! Whether a function names only physical registers.
 
 ghost use Rattle.std.specs.Prelude.{◌≡◌, ◌↔◌, ◌<◌, All, IsTrue};
 ghost use Rattle.mir_func.specs.Sound.{AllItems};

@@ -1,4 +1,4 @@
-//! Where slots and saved registers lie.
+//! The offsets of slots and saved registers.
 
 ghost use Rattle.std.specs.Prelude.{◌≡◌, ◌≤◌, length, IfOk};
 ghost use Rattle.mir_func.specs.Limits.{MAX_SLOTS};
@@ -9,10 +9,10 @@ use mir_func::framed::{Offsets, Saved, SavedRegister, SlotPlace};
 use rv64_instr::reg::Reg;
 use std::alloc::{AllocError, Global};
 
-/// The bytes of a slot, and of the place of a saved register.
+/// The size in bytes of a spill slot or of a save slot.
 pub const DOUBLEWORD: u32 = 8;
 
-/// Where slots lie, one after the other from x2 on.
+/// The offsets of slots, one after the other from x2 on.
 pub fn slot_places(alloc: Global, slots: &[SlotId]) -> Result<Offsets, AllocError>
     requires { length slots.now ≤ MAX_SLOTS }
     ensures { IfOk result (λ places. places ≡ slot_places 0 slots.now) }
@@ -29,7 +29,7 @@ pub fn slot_places(alloc: Global, slots: &[SlotId]) -> Result<Offsets, AllocErro
     Ok(places)
 }
 
-/// Where registers are saved, one after the other from an offset on, in bytes from x2.
+/// The save slots of registers, one after the other from an offset on, in bytes from x2.
 pub fn saved_places(alloc: Global, from: u32, registers: &[Reg]) -> Result<Saved, AllocError>
     requires few { length registers.now ≤ 13 }
     requires below { from ≤ 4096 }

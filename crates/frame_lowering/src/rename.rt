@@ -1,4 +1,4 @@
-//! Items whose slots are named by their offsets.
+//! Items with slots replaced by their offsets.
 
 ghost use Rattle.std.specs.Prelude.{◌≡◌, map, IfOk};
 ghost use Rattle.frame_rule.specs.Rule.{renamed_operand, renamed_code, renamed_place, renamed_kind, renamed};
@@ -10,7 +10,7 @@ use rv64_instr::operand::{Operand, Operands};
 use rv64_instr::place::Place;
 use std::alloc::{AllocError, Global};
 
-/// The item with the offset in the place of a slot's number.
+/// The item with slots replaced by their offsets.
 pub fn renamed(alloc: Global, slots: &SlotOffsets, i: &Item) -> Result<Item, AllocError>
     ensures { IfOk result (λ made. made ≡ renamed slots.now i.now) }
 {

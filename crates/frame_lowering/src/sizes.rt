@@ -1,4 +1,4 @@
-//! How many bytes a frame has.
+//! The size of a frame.
 
 ghost use Rattle.std.specs.Prelude.{◌≡◌, ◌≤◌, ◌+◌, ◌*◌, length, All};
 ghost use Rattle.mir_func.specs.Limits.{MAX_SLOTS};
@@ -7,13 +7,13 @@ ghost use Rattle.mir_func.specs.Sound.{IsSoundObject};
 
 use mir_func::object::{Object, up_to};
 
-/// The greatest size of a frame, in bytes: what one `ADDI` lowers x2 by, and a multiple of 16.
+/// The greatest size of a frame, in bytes: the greatest multiple of 16 by which one `ADDI` can lower x2.
 pub const MAX_FRAME: u64 = 2_032;
 
-/// What the size of a frame is a multiple of, in bytes (RISC-V ELF psABI, "Integer Calling Convention").
+/// The alignment of a frame's size, in bytes (RISC-V ELF psABI, "Integer Calling Convention").
 const ALIGNMENT: u64 = 16;
 
-/// The size in bytes of a frame with so many slots and saved registers, and these stack objects.
+/// The size in bytes of a frame with this many slots and saved registers, and these stack objects.
 pub fn size(count: usize, objects: &[Object]) -> u64
     requires count { count ≤ 1024 }
     requires few { length objects.now ≤ MAX_SLOTS }
@@ -24,7 +24,7 @@ pub fn size(count: usize, objects: &[Object]) -> u64
     up_to(ALIGNMENT, 8 * count as u64) + area(objects)
 }
 
-/// How many bytes stack objects take together.
+/// The size in bytes of all stack objects together.
 fn area(objects: &[Object]) -> u64
     requires few { length objects.now ≤ MAX_SLOTS }
     requires each { All IsSoundObject objects.now }

@@ -1,4 +1,4 @@
-//! The offsets of slots, found by the slots' numbers.
+//! The offsets of slots, by slot number.
 
 ghost use Rattle.std.specs.Prelude.{◌≡◌, ◌≤◌, ℕ, length, IfOk};
 ghost use Rattle.std.specs.Ordering.{nat_cmp};
@@ -14,7 +14,7 @@ use std::alloc::{AllocError, Global};
 use std::collections::BTreeMap;
 use std::marker::Model;
 
-/// Slots in declared order, whose offsets from x2 are found fast. A contract sees their list.
+/// Slots in declared order, with their offsets from x2 in a map. Its model is the list of slots.
 #[derive(Drop)]
 pub struct SlotOffsets {
     list: SlotIds,
@@ -34,7 +34,7 @@ impl Model for SlotOffsets {
 }
 
 impl SlotOffsets {
-    /// The offsets of these slots.
+    /// Computes the offsets of these slots.
     pub fn new(alloc: Global, slots: &[SlotId]) -> Result<SlotOffsets, AllocError>
         requires { length slots.now ≤ MAX_SLOTS }
         ensures { IfOk result (λ s. s ≡ slots.now) }
@@ -46,7 +46,7 @@ impl SlotOffsets {
         })
     }
 
-    /// What names a slot in a function with its frame. A slot that isn't declared would lie after all others.
+    /// The offset that names a slot in a function with its frame. An undeclared slot would be after all others.
     pub fn of(&self, slot: SlotId) -> SlotId
         ensures { result ≡ slot_offset self.now slot }
     {
@@ -57,7 +57,8 @@ impl SlotOffsets {
     }
 }
 
-/// The offsets by number. Of slots with one number the first counts, so it comes last.
+/// The offsets by slot number. If a number is there twice, its first slot counts, so the map is filled from the last
+/// slot.
 fn offsets(alloc: Global, slots: &[SlotId]) -> Result<BTreeMap<u32, u32>, AllocError>
     requires { length slots.now ≤ MAX_SLOTS }
     ensures { IfOk result (λ offsets. (n : ℕ) → get nat_cmp offsets n ≡ offset_in 0 slots.now n) }

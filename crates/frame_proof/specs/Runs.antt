@@ -1,4 +1,4 @@
--- What a source's function with its frame does beside the source.
+-- The runs of a function with its frame.
 use Rattle.std.specs.Prelude.{List, Option, true}
 use Rattle.mir_func.specs.declared.block.Block.{Block}
 use Rattle.mir_func.specs.declared.entry.OperandPair.{OperandPair}
@@ -10,7 +10,8 @@ use Rattle.sem_mir.specs.Align.{ByItems, station_at, First, RunsAlong}
 use Rattle.sem_mir.specs.Follow.{Follows, IsStart, first_of}
 use Rattle.frame_rule.specs.Rule.{framed_of}
 
--- What follows a source runs along with it with its frame too: over code items, by the first arrival at each position.
+-- a source that simulates a function simulates it with its frame, over code items, where the source stops at its first
+-- arrival at each position
 abbrev pub FrameFollows : Type 0
 FrameFollows = (src : List Block) (f : Function) (subs fsubs : OperandPair → Option OperandPair) → IsSound f → AllItems (λ i. HasForm i.kind) f.blocks →
     Follows f.objects src f.blocks subs fsubs → (s : State) → IsStart f.objects (first_of src) s →

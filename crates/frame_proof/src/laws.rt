@@ -1,15 +1,15 @@
-//! Laws of frames: each is the contract of a function that does nothing.
+//! Laws of frames: each is the contract of a function with an empty body.
 
 ghost use Rattle.frame_proof.specs.Runs.{FrameFollows};
 ghost use Rattle.frame_proof.specs.Stands.{FrameAlwaysStands, FrameGivesBack};
 
-/// What follows a source runs along with it with its frame too, over code items.
+/// A source that simulates a function simulates it with its frame, over code items.
 pub fn frame_follows()
     ensures { FrameFollows }
 {}
 
-/// At each state of each run of a function with its frame, from whatever its slots hold at first: x2 is its content at
-/// entry less what the frame's state at the position says, and registers are in their places or as at entry.
+/// At each state of each run of a function with its frame, whatever its slots have at first: x2 is its value at entry
+/// less the lowering of the frame's state at the position, and registers are in their save slots or as at entry.
 pub fn frame_stands()
     ensures { FrameAlwaysStands }
 {}

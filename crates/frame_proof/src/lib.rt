@@ -1,6 +1,6 @@
-//! What runs of functions with their frame do. A function with its frame runs along with each source that the function
-//! follows: the prologue is code before the first position, the epilogue code before a return, and all other code does
-//! the same with its slots at their offsets.
+//! Frame lowering preserves the simulation. A source that simulates a function simulates the function with its frame:
+//! the prologue is added code before the first position, the epilogue is added code before a return, and all other code
+//! has the same effect with its slots at their offsets.
 #![tactic(auto)]
 
 pub mod laws;

@@ -1,9 +1,10 @@
--- The function with its frame, as one equation on plain functions (RISC-V ELF psABI, "Integer Calling Convention").
+-- The function after prologue/epilogue insertion, as one equation on plain functions (RISC-V ELF psABI, "Integer
+-- Calling Convention").
 --
--- The frame lies below the stack pointer at entry: from x2 up the slots in declared order, eight bytes each, then the saved
--- registers, up to a multiple of 16, and above them the stack objects. A prologue before the first block makes the frame and saves
--- registers, and an epilogue right before each return restores them and gives the frame back. Nothing else is added, and what is
--- there stays: only slots are named by their offsets from x2.
+-- The frame lies below the stack pointer at entry: from x2 upwards the slots in declared order, eight bytes each, then
+-- the saved registers, up to a multiple of 16, and above them the stack objects. A prologue before the first block
+-- allocates the frame and saves registers, and an epilogue right before each return restores them and deallocates the
+-- frame. Nothing else is added, and the rest is unchanged, except that slots are named by their offsets from x2.
 use Rattle.std.specs.Prelude.{ℕ, zero, suc, ◌+◌, ◌*◌, Bool, false, cond, nat_eq, List, [], ◌∷◌, ◌++◌, map, length, filter, Option, Some, None}
 use Rattle.std.specs.List.{flat_map, list_any}
 use Rattle.rv64_instr.specs.declared.operand.Operand.{Operand}
@@ -30,14 +31,14 @@ use Rattle.mir_func.specs.Graph.{block_start}
 use Rattle.mir_func.specs.Objects.{up_to, area_of}
 use Rattle.mir_func.specs.SoundFrame.{SAVED, prologue_code, epilogue_code}
 
--- ---- where slots and saved registers lie
+-- ---- where slots and saved registers are
 
--- how many doublewords a frame's part has before the slot of a number, in declared order
+-- the index of a slot in declared order: how many doublewords come before it
 abbrev pub slots_before : List ℕ → ℕ → ℕ
 slots_before [] n = 0
 slots_before (s ∷ slots) n = cond (nat_eq s n) 0 (suc (slots_before slots n))
 
--- the offset from x2 of the slot of a number, in bytes
+-- the offset of a slot from x2, in bytes
 abbrev pub slot_offset : List ℕ → ℕ → ℕ
 slot_offset slots n = 8 * slots_before slots n
 
@@ -46,64 +47,64 @@ abbrev pub slot_places : ℕ → List ℕ → List SlotPlace
 slot_places o [] = []
 slot_places o (s ∷ slots) = record { slot = s; offset = o } ∷ slot_places (o + 8) slots
 
--- registers from an offset on, one doubleword each
+-- saved registers from an offset on, one doubleword each
 abbrev pub saved_places : ℕ → List ℕ → List SavedRegister
 saved_places o [] = []
 saved_places o (r ∷ rs) = record { register = r; offset = o } ∷ saved_places (o + 8) rs
 
--- code sets the register: a call sets the caller-saved ones
+-- code sets the register; a call sets the caller-saved ones
 abbrev pub sets_register : ℕ → ItemKind → Bool
 sets_register r (Code i k) = list_any (nat_eq r) (sets (row_of i))
 sets_register r (Mark v m) = false
 sets_register r (Phi p k) = false
 
--- some code of the blocks sets the register, be it reached or not
+-- some code of the blocks sets the register, whether or not it is reachable
 abbrev pub is_set : List Block → ℕ → Bool
 is_set blocks r = list_any (λ b. list_any (λ i. sets_register r i.kind) b.items) blocks
 
--- the registers that are saved, ascending: those of the registers to be given back that some code sets
+-- the registers that are saved, in ascending order: ra and the callee-saved registers that some code sets
 abbrev pub saved_registers : List Block → List ℕ
 saved_registers blocks = filter (is_set blocks) SAVED
 
--- the callee-saved spill slots of a function: they lie right above its own slots
+-- the save slots of the saved registers of a function: they are right above its own slots
 abbrev pub saved_of : Function → List SavedRegister
 saved_of f = saved_places (8 * length f.slots) (saved_registers f.blocks)
 
--- the bytes of slots and saved registers
+-- the bytes of slots and saved registers, rounded up to a multiple of 16
 abbrev pub own_size_of : Function → ℕ
 own_size_of f = up_to 16 (8 * (length f.slots + length (saved_registers f.blocks)))
 
--- the bytes of the frame
+-- the size of the frame in bytes
 abbrev pub size_of : Function → ℕ
 size_of f = own_size_of f + area_of f.objects
 
 -- ---- what is added
 
--- code that is added with this origin: it has no number and no debug location
+-- added code with this origin, without number and debug location
 abbrev pub added : Origin → Instruction → Item
 added o i = record { kind = Code i None; origin = o; loc = Absent }
 
--- code that is added where there is a frame, and none where there is none
+-- added code, if the frame isn't empty
 abbrev pub added_all : (size : ℕ) → Origin → List Instruction → List Item
 added_all zero o code = []
 added_all (suc n) o code = map (added o) code
 
--- the position in the source that an origin names
+-- the source position of an origin
 abbrev pub position_in : Origin → Pos
 position_in (Kept p) = p
 position_in (Before p) = p
 
--- before the first block's first position
+-- the prologue, before the first position of the first block
 abbrev pub prologue : Function → (first : ℕ) → List Item
 prologue f first = added_all (size_of f) (Before (block_start first)) (prologue_code (size_of f) (saved_of f))
 
--- before the position of a return
+-- the epilogue before a return with this origin
 abbrev pub epilogue : Function → Origin → List Item
 epilogue f o = added_all (size_of f) (Before (position_in o)) (epilogue_code (size_of f) (saved_of f))
 
--- ---- what stays
+-- ---- what is kept
 
--- a slot operand is named by its offset from x2, and every other operand stays
+-- a slot operand becomes the slot's offset from x2, and every other operand is unchanged
 abbrev pub renamed_operand : List ℕ → Operand → Operand
 renamed_operand slots (Slot n) = Slot (slot_offset slots n)
 renamed_operand slots (Def r) = Def r
@@ -116,30 +117,30 @@ renamed_operand slots (OfBlock n) = OfBlock n
 renamed_operand slots (Symbol name) = Symbol name
 renamed_operand slots Mask = Mask
 
--- an instruction whose slot operands are named so
+-- an instruction with slot operands replaced by offsets
 abbrev pub renamed_code : List ℕ → Instruction → Instruction
 renamed_code slots i = record { op = i.op; operands = map (renamed_operand slots) i.operands }
 
--- the place of a DBG_PHI, where a slot is named so too
+-- the location of a DBG_PHI, with a slot replaced by its offset
 abbrev pub renamed_place : List ℕ → Option Place → Option Place
 renamed_place slots None = None
 renamed_place slots (Some (InSlot n)) = Some (InSlot (slot_offset slots n))
 renamed_place slots (Some (Register r)) = Some (Register r)
 renamed_place slots (Some (Const c)) = Some (Const c)
 
--- code and phis with their slots named so. A mark names no slot
+-- code and DBG_PHIs with slots replaced by offsets; a debug value names no slot
 abbrev pub renamed_kind : List ℕ → ItemKind → ItemKind
 renamed_kind slots (Code i k) = Code (renamed_code slots i) k
 renamed_kind slots (Mark v m) = Mark v m
 renamed_kind slots (Phi p k) = Phi (renamed_place slots p) k
 
--- an item with its slots named so. Its origin and its debug location stay
+-- an item with slots replaced by offsets; its origin and its debug location are unchanged
 abbrev pub renamed : List ℕ → Item → Item
 renamed slots i = record { kind = renamed_kind slots i.kind; origin = i.origin; loc = i.loc }
 
 -- ---- the function with its frame
 
--- an item: before a return stands the epilogue
+-- the items for an item: itself, and before a return the epilogue
 abbrev pub framed_item : Function → Item → List Item
 framed_item f i = cond (is_final (exit_of i.kind)) (epilogue f i.origin) [] ++ renamed f.slots i ∷ []
 
@@ -147,15 +148,15 @@ framed_item f i = cond (is_final (exit_of i.kind)) (epilogue f i.origin) [] ++ r
 abbrev pub framed_items : Function → List Item → List Item
 framed_items f items = flat_map (framed_item f) items
 
--- a block of the body: its number and its silent index stay
+-- a block of the body: its number and its silent index are unchanged
 abbrev pub framed_block : Function → Block → Block
 framed_block f b = record { id = b.id; items = framed_items f b.items; silent = b.silent }
 
--- the block of the prologue has the number and the silent index of the one after it
+-- the prologue block has the number and the silent index of the block after it
 abbrev pub prologue_block : Function → Block → Block
 prologue_block f b = record { id = b.id; items = prologue f b.id; silent = b.silent }
 
--- the body behind its prologue, which control enters once and falls through from
+-- the body after its prologue block, which control enters once and leaves by falling through
 abbrev pub framed_blocks : Function → List Block → List Block
 framed_blocks f [] = []
 framed_blocks f (b ∷ bs) = prologue_block f b ∷ framed_block f b ∷ map (framed_block f) bs

@@ -1,4 +1,4 @@
--- What lowering makes of a sound function.
+-- Frame lowering of a sound function.
 use Rattle.std.specs.Prelude.{◌≤◌}
 use Rattle.mir_func.specs.Function.{Function}
 use Rattle.mir_func.specs.Limits.{MAX_FRAME}
@@ -6,6 +6,6 @@ use Rattle.mir_func.specs.Sound.{AllItems, IsSound}
 use Rattle.mir_func.specs.SoundFrame.{HasPhysical, IsFramed}
 use Rattle.frame_rule.specs.Rule.{size_of, framed_of}
 
--- a sound function without virtual registers, and with a frame that isn't too large, is with its frame a function with its frame
+-- a sound function without virtual registers, whose frame isn't too large, satisfies `IsFramed` after frame lowering
 abbrev pub LoweredIsFramed : Type 0
 LoweredIsFramed = (f : Function) → IsSound f → AllItems (λ i. HasPhysical i.kind) f.blocks → size_of f ≤ MAX_FRAME → IsFramed (framed_of f)

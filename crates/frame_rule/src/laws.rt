@@ -1,9 +1,9 @@
-//! Laws of the rule: each is the contract of a function that does nothing.
+//! Laws of the rule: each is the contract of a function with an empty body.
 
 ghost use Rattle.frame_rule.specs.Sound.{LoweredIsFramed};
 
-/// What the rule makes of a sound function without virtual registers keeps what every function with its frame keeps,
-/// where the frame isn't too large.
+/// A sound function without virtual registers, whose frame isn't too large, satisfies after frame lowering what every
+/// function with a frame must.
 pub fn lowered_is_framed()
     ensures { LoweredIsFramed }
 {}

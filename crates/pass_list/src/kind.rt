@@ -37,7 +37,7 @@ pub fn named(name: &str) -> Option<PassKind>
     }
 }
 
-/// Whether two texts are the same.
+/// Whether two texts are equal.
 pub fn is_same(text: &str, wanted: &str) -> bool
     ensures { IsTrue result ↔ (text.now ≡ wanted.now) }
 {

@@ -1,4 +1,4 @@
-//! Lists of passes, each at most once.
+//! Lists of passes without duplicates.
 
 ghost use Rattle.std.specs.Prelude.{◌≡◌, ◌↔◌, ◌∷◌, ◌++◌, [], List, IsTrue, Some, Contains};
 ghost use Rattle.pass_list.specs.declared.kind.PassKind.{PassKind};
@@ -10,7 +10,7 @@ use std::marker::Model;
 /// The number of passes.
 const PASSES: usize = 5;
 
-/// Passes in the order in which they run, each at most once. A contract sees it as the list of them.
+/// Passes in the order in which they run, each at most once. Its model is the list of them.
 #[derive(Debug, Drop)]
 pub struct PassList {
     /// The passes, followed by unused elements.

@@ -1,4 +1,4 @@
--- What sets keep while blocks are visited, in any order.
+-- The invariants of the liveness solver, which visits blocks in any order.
 use Rattle.std.specs.Prelude.{◌≡◌, ℕ, ◌+◌, ◌<◌, List, [], length, slice_get, slice_index_or, Bool, true, false, Option, Some, Contains}
 use Rattle.std.specs.List.{sum_by}
 use Rattle.rv64_instr.specs.declared.place.Place.{Place}
@@ -11,26 +11,26 @@ use Rattle.pass_liveness.specs.Sets.{has, gap}
 use Rattle.pass_liveness.specs.Walk.{live_from}
 use Rattle.pass_liveness.specs.Liveness.{has_at_start}
 
--- a block of these, whose items name only these slots
+-- the index is that of one of the blocks, and the blocks' items name only these slots
 pub record IsKnownBlock (known : List ℕ) (blocks : List Block) (block : ℕ) : Type 0 where
   pub slots : AllItems (λ i. SlotsIn known i.kind) blocks
   pub inside : block < length blocks
 
--- what is in the sets is live
+-- every member of the sets is live at the start of its block (soundness)
 abbrev pub AreFound : (slots ids : List ℕ) → List Block → (starts : List (List ℕ)) → Type 0
 AreFound slots ids blocks starts = (sees_pointer : Bool) (resolve : OperandPair → Option OperandPair) (n : ℕ) (x : Place) →
     has_at_start slots ids starts n x ≡ true → Live (program_of sees_pointer blocks resolve) x (block_start n)
 
--- a block's set has what is live at its start by the sets of all
+-- a block's set has all that is live at its start according to the sets (the data-flow equation, in one direction)
 abbrev pub IsClosed : (slots ids : List ℕ) → List Block → (starts : List (List ℕ)) → (block : ℕ) → Type 0
 IsClosed slots ids blocks starts b = (block : Block) (x : Place) → slice_get blocks b ≡ Some block →
     live_from (has_at_start slots ids starts) block.items (slice_get (ids_of blocks) (b + 1)) x ≡ true → has slots (slice_index_or starts b []) x ≡ true
 
--- how far all sets are from being full
+-- the sum of the gaps of all sets: it falls as sets grow
 abbrev pub gap_of : List (List ℕ) → ℕ
 gap_of starts = sum_by gap starts
 
--- a block was visited
+-- the result of visiting one block; `grown` is whether its set grew
 pub record Visited (slots ids : List ℕ) (blocks : List Block) (old new : List (List ℕ)) (b : ℕ) (grown : Bool) : Type 0 where
   pub long : length new ≡ length old
   pub found : AreApart (ids_of blocks) → ids ≡ ids_of blocks → AreFound slots ids blocks old → AreFound slots ids blocks new
@@ -38,7 +38,7 @@ pub record Visited (slots ids : List ℕ) (blocks : List Block) (old new : List 
   pub same : grown ≡ false → new ≡ old
   pub closed : grown ≡ false → IsClosed slots ids blocks new b
 
--- some blocks were visited
+-- the result of visiting some blocks, in order; `grown` is whether any set grew
 pub record Swept (slots ids : List ℕ) (blocks : List Block) (old new : List (List ℕ)) (order : List ℕ) (grown : Bool) : Type 0 where
   pub long : length new ≡ length old
   pub found : AreApart (ids_of blocks) → ids ≡ ids_of blocks → AreFound slots ids blocks old → AreFound slots ids blocks new
@@ -46,7 +46,7 @@ pub record Swept (slots ids : List ℕ) (blocks : List Block) (old new : List (L
   pub same : grown ≡ false → new ≡ old
   pub closed : grown ≡ false → (b : ℕ) → Contains order b → IsClosed slots ids blocks new b
 
--- blocks were visited until nothing grew
+-- the fixpoint: blocks were visited until no set grew
 pub record Settled (slots ids : List ℕ) (blocks : List Block) (old new : List (List ℕ)) : Type 0 where
   pub long : length new ≡ length old
   pub found : AreApart (ids_of blocks) → ids ≡ ids_of blocks → AreFound slots ids blocks old → AreFound slots ids blocks new

@@ -1,4 +1,4 @@
--- The parts of a step up over code.
+-- The parts of the backward liveness step over code.
 use Rattle.std.specs.Prelude.{ℕ, List, Bool, false, nat_eq, Option, Some, None}
 use Rattle.std.specs.List.{list_any}
 use Rattle.rv64_instr.specs.declared.operand.Operand.{Operand}
@@ -7,7 +7,7 @@ use Rattle.rv64_instr.specs.declared.place.Place.TheVariants.{Register, Slot, Co
 use Rattle.rv64_instr.specs.Parts.{is_implicit_use}
 use Rattle.rv64_instr.specs.Row.{Row, Fixes, Moves, Sets, Addresses, Loads, Stores, LoadsSlot, StoresSlot, Branches, Jumps, Calls, Returns, Unfit}
 
--- the place that it sets by an operand, x0 too
+-- the place that the row sets, if it sets one by an explicit operand; x0 too. A call sets its registers otherwise
 abbrev pub place_defined : Row → Option Place
 place_defined (Fixes rd n) = Some (Register rd)
 place_defined (Moves rd rs) = Some (Register rd)
@@ -23,13 +23,13 @@ place_defined (Calls name args) = None
 place_defined (Returns results) = None
 place_defined Unfit = None
 
--- it is one of these registers
+-- the place is one of these registers
 abbrev pub is_among : Place → List ℕ → Bool
 is_among (Register r) numbers = list_any (nat_eq r) numbers
 is_among (Slot n) numbers = false
 is_among (Const c) numbers = false
 
--- it is a register that one of the operands reads implicitly
+-- the place is a register that some operand reads implicitly
 abbrev pub reads_implicitly : Place → List Operand → Bool
 reads_implicitly (Register r) operands = list_any (is_implicit_use r) operands
 reads_implicitly (Slot n) operands = false

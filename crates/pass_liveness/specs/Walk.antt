@@ -1,4 +1,4 @@
--- What is live along the items of a block, from the end up, where it is known what is live at the starts of blocks.
+-- Backward liveness within a block, given what is live at the starts of blocks.
 use Rattle.std.specs.Prelude.{ℕ, List, [], ◌∷◌, Option, Some, None, Bool, false, ◌||◌, ◌&&◌, not}
 use Rattle.rv64_instr.specs.declared.place.Place.{Place}
 use Rattle.rv64_instr.specs.Row.{row_of}
@@ -16,14 +16,15 @@ live_before (Code i k) after x = uses_of i x || (after && not (defines_of (row_o
 live_before (Mark v m) after x = after
 live_before (Phi p k) after x = after
 
--- a place is live after an item that control leaves so, where these places are live at the starts of blocks and before the next item
+-- a place is live after an item with this exit, if `starts` is live-in of blocks and `below` is whether the place is live before the
+-- next item
 abbrev pub live_across : (starts : ℕ → Place → Bool) → Exit → (below : Bool) → Place → Bool
 live_across starts Onward below x = below
 live_across starts (Perhaps n) below x = below || starts n x
 live_across starts (Always n) below x = starts n x
 live_across starts Final below x = false
 
--- a place is live at a block's end, before a block of this number
+-- a place is live at a block's end, if this block comes next
 abbrev pub live_past : (starts : ℕ → Place → Bool) → (next : Option ℕ) → Place → Bool
 live_past starts None x = false
 live_past starts (Some n) x = starts n x

@@ -1,4 +1,4 @@
-//! Numbers in an order, whose places in it are found fast.
+//! Lists of numbers in which the index of a number is found in constant time.
 
 ghost use Rattle.std.specs.Prelude.{◌≡◌, ◌<◌, ◌≤◌, ◌⊎◌, ℕ, length, nat_eq, take, IfOk, IfSome};
 ghost use Rattle.std.specs.HashMap.{get};
@@ -8,7 +8,7 @@ use std::alloc::{AllocError, Global};
 use std::collections::HashMap;
 use std::marker::Model;
 
-/// Numbers in an order. A contract sees their list.
+/// A list of numbers with a table of their indices. Its model is the list.
 #[derive(Drop)]
 pub struct Index {
     list: Vec<u32>,
@@ -28,7 +28,7 @@ impl Model for Index {
 }
 
 impl Index {
-    /// These numbers.
+    /// Builds the index of these numbers.
     pub fn new(alloc: Global, list: Vec<u32>) -> Result<Index, AllocError>
         requires { length list.items < 4294967296 }
         ensures { IfOk result (λ n. n ≡ list.items) }
@@ -37,7 +37,7 @@ impl Index {
         Ok(Index { list, found })
     }
 
-    /// The first place at which a number stands, if it is there. It takes no memory.
+    /// The first index of a number, if the list has it. It takes no memory.
     pub fn find(&self, n: u32) -> Option<usize>
         ensures { result ≡ index_in self.now n }
     {
@@ -48,7 +48,7 @@ impl Index {
     }
 }
 
-/// The first place of each number.
+/// The first index of each number.
 fn first_places(alloc: Global, list: &[u32]) -> Result<HashMap<u32, u32>, AllocError>
     requires { length list.now < 4294967296 }
     ensures { IfOk result (Finds list.now) }

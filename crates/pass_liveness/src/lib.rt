@@ -1,9 +1,8 @@
-//! Liveness: where a place may still be read. A place is live at a position of a function if some path from there
-//! reaches code that reads it before code that sets it; marks and phis read nothing, so that debug items never
-//! change what is live. For each block there is the set of the places that are live at its start, as bits in words:
-//! the function's slots first, then all registers. The sets grow in sweeps over the blocks, in post-order, so that a
-//! block comes after those that control goes to from it, until nothing changes. Within a block liveness is walked up
-//! from the block's end, item by item, by the same step that the sweeps take.
+//! Backward liveness analysis of places (registers and slots). A place is live at a position of a function if some path
+//! from there reaches code that reads it before code that sets it; debug items read nothing, so they don't affect
+//! liveness. The result is the live-in set of each block, as a bit vector: first the function's slots, then all
+//! registers. The solver visits the blocks in post-order, so that successors come first, and repeats this until no set
+//! grows. Within a block liveness is computed from the block's end upwards, item by item, with the same transfer step.
 #![tactic(auto)]
 
 pub mod index;

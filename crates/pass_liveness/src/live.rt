@@ -1,4 +1,4 @@
-//! The liveness of a function.
+//! The liveness analysis of a function.
 
 ghost use Rattle.std.specs.Prelude.{◌≡◌, ◌<◌, ◌≤◌, ℕ, List, [], false, length, slice_index, slice_index_or, IfOk};
 ghost use Rattle.rv64_instr.specs.declared.place.Place.{Place};
@@ -39,7 +39,7 @@ impl Model for Live {
 }
 
 impl Live {
-    /// What is live in a function.
+    /// Computes the live-in sets of a function.
     pub fn solve(alloc: Global, f: &Func) -> Result<Live, AllocError>
         ensures { IfOk result (AreLiveSets f.now) }
     {
@@ -67,8 +67,8 @@ impl Live {
         self.starts[block].copy()
     }
 
-    /// The places that are live past the block of this index: at the start of a block to which control may go from it.
-    /// It takes no memory.
+    /// The places that are live out of the block of this index: live at the start of some successor. It takes no
+    /// memory.
     pub fn past_block(&self, f: &Func, block: usize) -> PlaceSet
         requires sets { AreLiveSets f.now self.now }
         requires inside { block < length f.now.blocks }
@@ -87,7 +87,7 @@ impl Live {
         set
     }
 
-    /// From what is live after an item to what is live before it. It takes no memory.
+    /// The transfer step: from what is live after an item to what is live before it. It takes no memory.
     pub fn step_up(&self, set: &mut PlaceSet, kind: &ItemKind)
         ensures { SlotsIn self.now.slots kind.now → (x : Place) →
             has self.now.slots set.new x ≡ live_before kind.now (has self.now.slots set.old x) x }
@@ -109,8 +109,8 @@ impl Live {
         self.names.has(&set, p)
     }
 
-    /// Whether a place is live past the item of this index in the block of this index: where control may go from it.
-    /// It takes no memory.
+    /// Whether a place is live after the item of this index in the block of this index: live at some successor of its
+    /// position. It takes no memory.
     pub fn live_after(&self, f: &Func, block: usize, item: usize, p: Place) -> bool
         requires sets { AreLiveSets f.now self.now }
         requires inside { block < length f.now.blocks }
@@ -124,7 +124,7 @@ impl Live {
     }
 }
 
-/// The slots and the blocks of a function, by their numbers.
+/// The slots and the block numbers of a function, with their indices.
 pub fn names_of(alloc: Global, f: &Func) -> Result<Names, AllocError>
     ensures slots { IfOk result (λ n. n.slots ≡ f.now.slots) }
     ensures blocks { IfOk result (λ n. n.blocks ≡ ids_of f.now.blocks) }
@@ -157,7 +157,7 @@ fn block_numbers(alloc: Global, blocks: &[Block]) -> Result<Vec<u32>, AllocError
     Ok(numbers)
 }
 
-/// So many empty sets.
+/// As many empty sets as there are blocks.
 pub fn empty_sets(alloc: Global, blocks: usize) -> Result<Vec<PlaceSet>, AllocError>
     ensures long { IfOk result (λ sets. length sets.items ≡ blocks) }
     ensures none { IfOk result (λ sets. (slots : List ℕ) (b : ℕ) (x : Place) →

@@ -1,4 +1,4 @@
-//! Which bit of a set is whose, and which block is whose.
+//! The bit of each place, and the index of each block.
 
 ghost use Rattle.std.specs.Prelude.{◌≡◌, ◌≤◌, ◌<◌, ◌||◌, ◌&&◌, not, length, nat_eq, IfOk, IfSome, Contains};
 ghost use Rattle.std.specs.Prelude.{false, true};
@@ -18,7 +18,7 @@ use rv64_instr::place::Place;
 /// The bit of the first register.
 const REGISTERS: usize = 256;
 
-/// The slots and the blocks of a function, by their numbers.
+/// The slots and the block numbers of a function, with their indices.
 #[derive(Drop)]
 pub struct Names {
     /// Its slots.
@@ -29,7 +29,7 @@ pub struct Names {
 }
 
 impl Names {
-    /// The bit of a place.
+    /// The bit of a place; a constant has none.
     fn bit(&self, p: Place) -> Option<usize>
         ensures bit { result ≡ bit_of self.now.slots p }
         ensures within { IfSome result (λ b. b < 4416) }
@@ -51,7 +51,7 @@ impl Names {
         }
     }
 
-    /// Adds a place to a set. A slot that isn't there is left out.
+    /// Adds a place to a set. A slot that the function doesn't have is left out.
     pub fn insert(&self, set: &mut PlaceSet, p: Option<Place>)
         ensures { PlaceIn self.now.slots p → (x : Place) →
             has self.now.slots set.new x ≡ (is_place x p || has self.now.slots set.old x) }
@@ -63,7 +63,7 @@ impl Names {
         }
     }
 
-    /// Takes a place out of a set.
+    /// Removes a place from a set.
     pub fn remove(&self, set: &mut PlaceSet, p: Option<Place>)
         ensures { (x : Place) → has self.now.slots set.new x ≡ (has self.now.slots set.old x && not (is_place x p)) }
     {

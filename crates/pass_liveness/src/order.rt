@@ -1,4 +1,4 @@
-//! The order in which blocks are visited.
+//! The order in which the solver visits blocks.
 
 ghost use Rattle.std.specs.Prelude.{◌≡◌, ℕ, ◌<◌, length, IfOk, All, Contains};
 
@@ -10,8 +10,8 @@ use mir_func::successors::Successors;
 use std::alloc::{AllocError, Global};
 
 impl Names {
-    /// The indices of a function's blocks, those that are reached in post-order of a walk in depth from the first one:
-    /// a block comes after those that control goes to from it, but for loops.
+    /// The indices of a function's blocks, the reachable ones in post-order of a depth-first search from the first one:
+    /// a block comes after its successors, except over back edges.
     pub fn order(&self, alloc: Global, f: &Func) -> Result<Vec<u32>, AllocError>
         ensures within { IfOk result (λ order. All (λ b. b < length f.now.blocks) order.items) }
         ensures all { IfOk result (λ order. (b : ℕ) → b < length f.now.blocks → Contains order.items b) }
@@ -23,7 +23,7 @@ impl Names {
         Ok(order)
     }
 
-    /// The place of each block in post-order; the greatest number where it isn't reached.
+    /// The post-order rank of each block; the greatest number if it is unreachable.
     fn ranks(&self, alloc: Global, f: &Func) -> Result<Vec<u32>, AllocError> {
         let blocks = f.blocks.len();
         let mut ranks = Vec::with_capacity(alloc, blocks)?;
@@ -60,7 +60,7 @@ impl Names {
         Ok(ranks)
     }
 
-    /// The block to which a block's way of this number leads.
+    /// The block's successor with this number, if it has one.
     fn way(&self, f: &Func, block: usize, way: u32) -> Way {
         if block >= f.blocks.len() {
             return Way::None;
@@ -88,13 +88,13 @@ impl Names {
     }
 }
 
-/// Where a way leads.
+/// A successor of a block.
 enum Way {
     None,
     To(usize),
 }
 
-/// The blocks as they stand in the text.
+/// The blocks in the order of the text.
 fn in_text_order(alloc: Global, blocks: u32) -> Result<Vec<u32>, AllocError>
     ensures within { IfOk result (λ order. All (λ b. b < blocks) order.items) }
     ensures all { IfOk result (λ order. (b : ℕ) → b < blocks → Contains order.items b) }

@@ -1,4 +1,4 @@
-//! Sets of places.
+//! Sets of places, as bit vectors.
 
 ghost use Rattle.std.specs.Prelude.{◌≡◌, ℕ, ◌+◌, ◌*◌, ◌<◌, ◌||◌, ◌&&◌, not, nat_eq, false, true, length};
 ghost use Rattle.std.specs.Prelude.{slice_index_or, IsTrue};
@@ -7,10 +7,10 @@ ghost use Rattle.pass_liveness.specs.Sets.{has_bit, gap, AreWords};
 use crate::words::{clear_all, clear_bit, has_bit, set_bit, unite};
 use std::marker::Model;
 
-/// How many words a set has: bits for 256 slots and 4,128 registers.
+/// The number of words of a set: bits for 256 slots and 4,128 registers.
 const WORDS: usize = 69;
 
-/// A set of places of a function (LLVM: `LivePhysRegs`). Which bit is whose only the function's liveness knows.
+/// A set of places of a function (LLVM: `LivePhysRegs`). Only the function's liveness knows which place has which bit.
 #[derive(Drop)]
 pub struct PlaceSet {
     words: [u64; 69],
@@ -36,7 +36,7 @@ impl PlaceSet {
         PlaceSet { words: zeros() }
     }
 
-    /// An equal set. It takes no memory.
+    /// A copy of the set. It takes no memory.
     pub fn copy(&self) -> PlaceSet
         ensures { result ≡ self.now }
     {
@@ -73,7 +73,7 @@ impl PlaceSet {
         clear_all(&mut self.words);
     }
 
-    /// Adds what is in another set, and tells whether there was anything to add. It takes no memory.
+    /// Adds the members of another set, and returns whether the set grew. It takes no memory.
     pub fn unite(&mut self, other: &PlaceSet) -> bool
         ensures all { (i : ℕ) → has_bit self.new i ≡ (has_bit self.old i || has_bit other.now i) }
         ensures grown { IsTrue result → gap self.new < gap self.old }

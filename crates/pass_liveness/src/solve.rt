@@ -1,4 +1,4 @@
-//! The live sets of all blocks.
+//! The fixpoint solver for the live-in sets.
 
 ghost use Rattle.std.specs.Prelude.{◌≡◌, ℕ, ◌+◌, ◌<◌, ◌≤◌, length, drop, All, Contains, slice_get, Some};
 ghost use Rattle.rv64_instr.specs.declared.place.Place.{Place};
@@ -18,8 +18,8 @@ use mir_func::item::Item;
 use mir_func::successors::id_at;
 
 impl Names {
-    /// Adds to a block's set what is live at its start by the sets of the others, and tells whether there was anything
-    /// to add.
+    /// Adds to a block's set what is live at its start according to the sets of its successors, and returns whether it
+    /// grew.
     fn visit(&self, blocks: &[Block], starts: &mut Vec<PlaceSet>, block: usize) -> bool
         requires known { IsKnownBlock self.now.slots blocks.now block }
         requires long { length starts.old.items ≡ length blocks.now }
@@ -31,7 +31,7 @@ impl Names {
         start.unite(&live)
     }
 
-    /// Visits all blocks, and tells whether any set grew.
+    /// Visits all blocks in this order, and returns whether any set grew.
     fn sweep(&self, blocks: &[Block], starts: &mut Vec<PlaceSet>, order: &[u32]) -> bool
         requires slots { AllItems (λ i. SlotsIn self.now.slots i.kind) blocks.now }
         requires long { length starts.old.items ≡ length blocks.now }
@@ -47,7 +47,7 @@ impl Names {
         grown
     }
 
-    /// Sweeps until no set grows.
+    /// Repeats the visits until no set grows.
     pub fn settle(&self, blocks: &[Block], starts: &mut Vec<PlaceSet>, order: &[u32])
         requires slots { AllItems (λ i. SlotsIn self.now.slots i.kind) blocks.now }
         requires long { length starts.old.items ≡ length blocks.now }
@@ -76,7 +76,7 @@ impl Names {
         self.live_in(starts, blocks[block].items.as_slice(), item, next)
     }
 
-    /// What is live past the item of this index in the block of this index.
+    /// What is live after the item of this index in the block of this index.
     pub fn live_past_item(
         &self,
         blocks: &[Block],

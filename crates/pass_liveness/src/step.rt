@@ -1,4 +1,4 @@
-//! The step of a set up over one item.
+//! The transfer step of a set over one item.
 
 ghost use Rattle.std.specs.Prelude.{◌≡◌, ◌<◌, ◌||◌, ◌&&◌, not, All};
 ghost use Rattle.rv64_instr.specs.declared.place.Place.{Place};
@@ -20,7 +20,7 @@ use rv64_instr::parts::CALLER_SAVED;
 use rv64_instr::place::Place;
 use rv64_instr::reg::physical;
 
-/// The place that it sets by an operand, x0 too. None for a call.
+/// The place that it sets by an explicit operand, x0 too. None for a call.
 fn place_defined(decoded: &Decoded) -> Option<Place>
     ensures { (row : Row) → Shows decoded.now row → result ≡ place_defined row }
 {
@@ -41,7 +41,7 @@ fn place_defined(decoded: &Decoded) -> Option<Place>
 }
 
 impl Names {
-    /// From what is live after an item to what is live before it.
+    /// The transfer step: from what is live after an item to what is live before it.
     pub fn step_up(&self, set: &mut PlaceSet, kind: &ItemKind)
         ensures { SlotsIn self.now.slots kind.now → (x : Place) →
             has self.now.slots set.new x ≡ live_before kind.now (has self.now.slots set.old x) x }
@@ -83,7 +83,7 @@ impl Names {
         }
     }
 
-    /// Takes out what an instruction sets. It takes no memory.
+    /// Removes what an instruction sets. It takes no memory.
     pub fn remove_defined(&self, set: &mut PlaceSet, i: &Instr)
         ensures { (x : Place) →
             has self.now.slots set.new x ≡ (has self.now.slots set.old x && not (defines_of (row_of i.now) x)) }
@@ -140,7 +140,7 @@ impl Names {
         }
     }
 
-    /// Takes out registers.
+    /// Removes registers.
     fn remove_registers(&self, set: &mut PlaceSet, numbers: &[u32])
         requires { All (λ n. n < 32) numbers.now }
         ensures { (x : Place) →

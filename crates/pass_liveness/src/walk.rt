@@ -1,4 +1,4 @@
-//! What is live along the items of a block, from its end up.
+//! Backward liveness along the items of a block.
 
 ghost use Rattle.std.specs.Prelude.{◌≡◌, ◌||◌, All, false};
 ghost use Rattle.rv64_instr.specs.declared.place.Place.{Place};
@@ -14,7 +14,7 @@ use mir_func::exit::Exit;
 use mir_func::item::Item;
 
 impl Names {
-    /// Adds what is live at the start of the block of a number.
+    /// Adds what is live at the start of the block with this number.
     pub fn unite_start(&self, set: &mut PlaceSet, starts: &[PlaceSet], n: BlockId)
         ensures { (x : Place) → has self.now.slots set.new x
             ≡ (has self.now.slots set.old x || has_at_start self.now.slots self.now.blocks starts.now n x) }
@@ -26,7 +26,7 @@ impl Names {
         }
     }
 
-    /// From what is live before the next item to what is live after an item that control leaves so.
+    /// From what is live before the next item to what is live after an item with this exit.
     pub fn step_across(&self, set: &mut PlaceSet, starts: &[PlaceSet], exit: Exit)
         ensures { (x : Place) → has self.now.slots set.new x
             ≡ live_across (has_at_start self.now.slots self.now.blocks starts.now) exit (has self.now.slots set.old x)
@@ -43,7 +43,7 @@ impl Names {
         }
     }
 
-    /// What is live at the end of a block, before the block of this number.
+    /// What is live at the end of a block, if the block with this number comes next.
     fn live_past(&self, starts: &[PlaceSet], next: Option<BlockId>) -> PlaceSet
         ensures { (x : Place) → has self.now.slots result x
             ≡ live_past (has_at_start self.now.slots self.now.blocks starts.now) next x }
@@ -55,7 +55,7 @@ impl Names {
         set
     }
 
-    /// What is live before these items, the last ones of a block, before the block of this number.
+    /// What is live before these items, the last ones of a block, if the block with this number comes next.
     pub fn live_from(&self, starts: &[PlaceSet], items: &[Item], next: Option<BlockId>) -> PlaceSet
         requires { All (λ i. SlotsIn self.now.slots i.kind) items.now }
         ensures { (x : Place) → has self.now.slots result x

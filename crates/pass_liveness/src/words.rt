@@ -1,9 +1,9 @@
-//! Bits in words of 64.
+//! Bits in lists of 64-bit words.
 
 ghost use Rattle.std.specs.Prelude.{◌≡◌, ℕ, ◌+◌, ◌*◌, ◌<◌, ◌||◌, ◌&&◌, not, nat_eq, false, true, length, IsTrue};
 ghost use Rattle.pass_liveness.specs.Sets.{has_bit, gap};
 
-/// Whether a bit is set. None is past the words.
+/// Whether a bit is set; a bit past the words isn't.
 pub fn has_bit(words: &[u64], bit: usize) -> bool
     ensures { result ≡ has_bit words.now bit }
 {
@@ -38,7 +38,7 @@ pub fn clear_all(words: &mut [u64])
     }
 }
 
-/// Sets the bits that are set in others too, and tells whether that changed any.
+/// Sets the bits that are set in others too, and returns whether that changed any.
 pub fn unite(words: &mut [u64], others: &[u64]) -> bool
     requires { length others.now ≡ length words.old }
     ensures all { (i : ℕ) → has_bit words.new i ≡ (has_bit words.old i || has_bit others.now i) }

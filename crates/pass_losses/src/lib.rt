@@ -1,5 +1,5 @@
-//! What is told of losses, whatever pass had them: all of them and no others, each once, numbers first, then marks by
-//! their positions, then registers.
+//! A pass's loss report: its losses without duplicates, first instruction numbers, then debug values by position, then
+//! registers.
 #![tactic(auto)]
 
 pub mod told;

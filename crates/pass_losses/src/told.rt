@@ -1,4 +1,4 @@
-//! Losses as they are told.
+//! Loss reports.
 
 ghost use Rattle.std.specs.Prelude.{◌≡◌, ◌↔◌, Contains, true};
 ghost use Rattle.std.specs.List.{Any};
@@ -9,7 +9,7 @@ ghost use Rattle.pass_losses.specs.Told.{AreTold};
 use base_list::List;
 use pass_trait::loss::{Loss, Losses};
 
-/// Losses as they are told: in order, each once. It takes no memory.
+/// The loss report of these losses: sorted, without duplicates. It takes no memory.
 pub fn told(lost: Losses) -> Losses
     ensures { AreTold lost result }
 {
@@ -18,8 +18,8 @@ pub fn told(lost: Losses) -> Losses
     List::from(losses)
 }
 
-/// Puts losses in order, each once: numbers, then marks by their positions, then registers, and for one thing by
-/// reasons. It takes no memory.
+/// Sorts losses and removes duplicates: numbers, then debug values by position, then registers, and for the same one by
+/// reason. It takes no memory.
 pub fn put_in_order(losses: &mut Vec<Loss>)
     ensures ordered { IsInOrder losses.new.items }
     ensures same { (l : Loss) → Contains losses.new.items l ↔ Contains losses.old.items l }

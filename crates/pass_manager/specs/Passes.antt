@@ -1,4 +1,4 @@
--- The passes that the program knows, and what a list of them keeps.
+-- The passes of the compiler, and the guarantees of a list of them.
 use Rattle.std.specs.Prelude.{ℕ, ◌+◌, ◌*◌, ◌≤◌, List, [], ◌∷◌, ◌++◌, Bool, true, false, ◌&&◌, ◌||◌, IsTrue}
 use Rattle.mir_func.specs.Limits.{MAX_SLOTS}
 use Rattle.pass_trait.specs.Change.{Change}
@@ -13,9 +13,9 @@ use Rattle.remat_pass.specs.Pass.{remat_step}
 use Rattle.spill_pass.specs.Reserve.{reserve_of}
 use Rattle.spill_proof.specs.Step.{spill_step}
 
--- ---- one pass: a line for each
+-- ---- one pass: one line for each
 
--- its steps, where these are the registers that may be spilled
+-- its steps; the reserve has the registers that may be spilled
 abbrev pub steps_of_pass : (reserve : List ℕ) → PassKind → List Step
 steps_of_pass reserve Copy = copy_step ∷ []
 steps_of_pass reserve Remat = remat_step ∷ []
@@ -23,7 +23,7 @@ steps_of_pass reserve Spill = spill_step (reserve_of reserve) ∷ []
 steps_of_pass reserve Dead = dead_steps
 steps_of_pass reserve Fold = fold_step ∷ []
 
--- whether it is right only for functions with the source's ends of blocks
+-- whether it requires matched block ends
 abbrev pub asks : PassKind → Bool
 asks Copy = false
 asks Remat = false
@@ -31,7 +31,7 @@ asks Spill = false
 asks Dead = false
 asks Fold = true
 
--- whether it keeps them
+-- whether it keeps matched block ends
 abbrev pub keeps : PassKind → Bool
 keeps Copy = true
 keeps Remat = true
@@ -39,7 +39,7 @@ keeps Spill = true
 keeps Dead = true
 keeps Fold = false
 
--- how many times as many items there may be after it
+-- its factor in the size bounds
 abbrev pub factor : PassKind → ℕ
 factor Copy = 1
 factor Remat = 1
@@ -47,7 +47,7 @@ factor Spill = 4
 factor Dead = 1
 factor Fold = 1
 
--- how many items more there may be for each block, how many numbers for each item, and how many times as many slots as a function may have
+-- its count in the size bounds: items more for each block, numbers for each item, and multiples of `MAX_SLOTS` for slots
 abbrev pub count : PassKind → ℕ
 count Copy = 1
 count Remat = 1
@@ -55,49 +55,49 @@ count Spill = 1
 count Dead = 1
 count Fold = 1
 
--- ---- passes in a row
+-- ---- a list of passes
 
--- their steps
+-- the steps of all passes, in order
 abbrev pub steps_of : (reserve : List ℕ) → List PassKind → List Step
 steps_of reserve [] = []
 steps_of reserve (p ∷ ps) = steps_of_pass reserve p ++ steps_of reserve ps
 
--- those of each
+-- the steps of each pass
 abbrev pub passes_of : (reserve : List ℕ) → List PassKind → List (List Step)
 passes_of reserve [] = []
 passes_of reserve (p ∷ ps) = steps_of_pass reserve p ∷ passes_of reserve ps
 
--- whether one of them asks
+-- whether some pass requires matched block ends
 abbrev pub any_asks : List PassKind → Bool
 any_asks [] = false
 any_asks (p ∷ ps) = asks p || any_asks ps
 
--- whether all of them keep
+-- whether all passes keep matched block ends
 abbrev pub all_keep : List PassKind → Bool
 all_keep [] = true
 all_keep (p ∷ ps) = keeps p && all_keep ps
 
--- each keeps what a later one asks for
+-- the list fits: each pass keeps matched block ends if a later one requires them
 abbrev pub Fit : List PassKind → Type 0
 Fit [] = Unit {0}
 Fit (p ∷ ps) = (IsTrue (any_asks ps) → IsTrue (keeps p)) × Fit ps
 
--- how many items they may make of some
+-- the bound on items after the passes
 abbrev pub most_after : List PassKind → (items : ℕ) → ℕ
 most_after [] n = n
 most_after (p ∷ ps) n = most_after ps (most (factor p) (count p) n)
 
--- how many debug instruction numbers they may add to a function of so many items
+-- the bound on the debug instruction numbers that the passes may use above the greatest one, for a function with this many items
 abbrev pub numbers_after : List PassKind → (items : ℕ) → ℕ
 numbers_after [] n = 0
 numbers_after (p ∷ ps) n = count p * most (factor p) (count p) n + numbers_after ps (most (factor p) (count p) n)
 
--- how many times as many slots as a function may have they may add
+-- the bound on new slot numbers, in multiples of `MAX_SLOTS`
 abbrev pub slots_after : List PassKind → ℕ
 slots_after [] = 0
 slots_after (p ∷ ps) = count p + slots_after ps
 
--- how far they make a function grow
+-- the size bounds of a list of passes
 pub record KeepsGrowth (passes : List PassKind) (c : Change) : Type 0 where
   pub items : item_count c.new ≤ most_after passes (item_count c.old)
   pub code : code_count c.new ≤ most_after passes (code_count c.old)

@@ -1,4 +1,4 @@
--- What is told of passes in a row.
+-- The loss reports of a list of passes.
 use Rattle.std.specs.Prelude.{◌≡◌, List, [], ◌∷◌, ◌++◌}
 use Rattle.mir_func.specs.declared.entry.Entry.{Entry}
 use Rattle.mir_func.specs.Function.{Function}
@@ -7,14 +7,13 @@ use Rattle.pass_trait.specs.Change.{Change}
 use Rattle.pass_trait.specs.Steps.{Step, KeepsSteps}
 use Rattle.pass_losses.specs.Told.{AreTold}
 
--- a pass goes by its steps, and this is told of what it lost
+-- a run of a pass's steps, with this loss report
 pub record KeepsPass (steps : List Step) (c : Change) (told : List Loss) : Type 0 where
   pub lost : List Loss
   pub kept : KeepsSteps steps c lost
   pub are_told : AreTold lost told
 
--- passes, each by its steps, do so one after another: a function with its substitutions stands between them, and what is told of one
--- stands before what is told of the next
+-- runs of passes in order: between each two passes is a function with its substitutions, and the reports are concatenated
 abbrev pub KeepsPasses : List (List Step) → Change → (told : List Loss) → Type 0
 KeepsPasses [] c told = (c.new ≡ c.old) × (c.new_subs ≡ c.old_subs) × (told ≡ [])
 KeepsPasses (steps ∷ passes) c told = (f : Function) × (subs : List Entry) × (here later : List Loss) ×

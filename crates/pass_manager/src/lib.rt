@@ -1,7 +1,7 @@
-//! The passes that the program knows, as data: a list of them is run in its order, on a function and its
-//! substitutions. What each pass keeps, the list keeps: what followed a source follows it still, the code is what the
-//! rules make of it, and each debug item stays or its loss is told. What a pass lost is told in order, each once. A new
-//! pass is one variant of `PassKind`, one line in each definition of `specs/Passes.antt`, and one arm of `run_pass`.
+//! The pass manager: it runs a list of passes in order, on a function and its substitutions. It has the guarantees of
+//! its passes: the simulation is preserved, the code is determined by the code rules, and each debug item is kept or
+//! its loss is reported. Each pass's losses are reported in order and without duplicates. A new pass is one variant of
+//! `PassKind`, one line in each definition of `specs/Passes.antt`, and one arm of `run_pass`.
 #![tactic(auto)]
 
 pub mod run;

@@ -1,4 +1,4 @@
-//! Passes in the order of a list.
+//! Running a list of passes.
 
 ghost use Rattle.std.specs.Prelude.{◌≡◌, ◌+◌, ◌*◌, ◌<◌, ◌^◌, IfOk, OnOk};
 ghost use Rattle.mir_func.specs.Limits.{MAX_SLOTS};
@@ -27,9 +27,9 @@ use rv64_instr::reg::{Reg, Registers};
 use spill_pass::spill::SpillPass;
 use std::alloc::{AllocError, Global};
 
-/// Runs passes one after the other, and tells what they lost, one after the other: what a pass lost stands in order,
-/// each once. The reserve has the registers that may be spilled. After an error the function and its substitutions are
-/// only to be dropped.
+/// Runs passes in order, and returns their loss reports, one after the other; each is in order and without duplicates.
+/// The reserve has the registers that may be spilled. After an error the function and its substitutions may only be
+/// dropped.
 pub fn run_passes(
     alloc: Global,
     passes: &[PassKind],
@@ -56,8 +56,8 @@ pub fn run_passes(
     }
 }
 
-/// Runs one pass, and gives what it lost, as it came. After an error the function and its substitutions are only to be
-/// dropped.
+/// Runs one pass, and returns its losses in the order in which its steps have them. After an error the function and its
+/// substitutions may only be dropped.
 fn run_pass(
     alloc: Global,
     pass: PassKind,

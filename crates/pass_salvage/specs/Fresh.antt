@@ -7,14 +7,14 @@ use Rattle.mir_func.specs.declared.item.Item.{Item}
 use Rattle.mir_func.specs.Sound.{items_of}
 use Rattle.pass_trait.specs.Sizes.{numbers_of}
 
--- the numbers that items give or ask for
+-- the numbers that items define or refer to, in order
 abbrev pub item_numbers : List Item → List ℕ
 item_numbers items = flat_map (λ i. numbers_of i.kind) items
 
--- those of all items of blocks
+-- those of all items of the blocks
 abbrev pub block_numbers : List Block → List ℕ
 block_numbers blocks = item_numbers (items_of blocks)
 
--- those on both sides of substitutions
+-- those on both sides of the substitutions
 abbrev pub entry_numbers : List Entry → List ℕ
 entry_numbers entries = flat_map (λ e. e.src.number ∷ e.dst.number ∷ []) entries

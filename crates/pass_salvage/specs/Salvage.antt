@@ -1,4 +1,4 @@
--- What becomes of a function and its substitutions where a copy is removed and salvaged.
+-- What a function's items and its substitutions are after a copy was removed and its number salvaged.
 use Rattle.std.specs.Prelude.{ℕ, zero, suc, ◌+◌, List, [], ◌∷◌, ◌++◌, take, drop, cond, nat_eq, Some}
 use Rattle.rv64_instr.specs.declared.place.Place.TheVariants.{Register}
 use Rattle.mir_func.specs.declared.position.Origin.{Origin}
@@ -10,35 +10,35 @@ use Rattle.pass_trait.specs.Rule.{first_operand, item_before}
 use Rattle.pass_salvage.specs.declared.way.Way.{Way}
 use Rattle.pass_salvage.specs.declared.way.Way.TheVariants.{HasEntry, GetsEntry, GetsPhi}
 
--- code with this number
+-- the code with this number; debug items are unchanged
 abbrev pub with_number : (n : ℕ) → ItemKind → ItemKind
 with_number n (Code i k) = Code i (Some n)
 with_number n (Mark v m) = Mark v m
 with_number n (Phi p k) = Phi p k
 
--- the items with this number on the code at an index
+-- the items, with this number on the code at an index
 abbrev pub numbered_at : (index n : ℕ) → List Item → List Item
 numbered_at d n [] = []
 numbered_at zero n (x ∷ xs) = record x { kind = with_number n x.kind } ∷ xs
 numbered_at (suc d) n (x ∷ xs) = x ∷ numbered_at d n xs
 
--- the items above the copy afterwards
+-- the items above the copy after the salvage
 abbrev pub above_after : Way → List Item → List Item
 above_after HasEntry above = above
 above_after (GetsEntry d o n) above = numbered_at d n above
 above_after GetsPhi above = above
 
--- the phi of a copy of s with number k and this origin
+-- the DBG_PHI of register s that replaces a copy of s with number k and this origin
 abbrev pub phi_for : (k s : ℕ) → Origin → Item
 phi_for k s o = item_before (Phi (Some (Register s)) k) o
 
--- what stands in the place of a copy of s with number k and this origin
+-- what replaces a copy of s with number k and this origin: a DBG_PHI, or nothing
 abbrev pub put_for : Way → (k s : ℕ) → Origin → List Item
 put_for HasEntry k s o = []
 put_for (GetsEntry d p n) k s o = []
 put_for GetsPhi k s o = phi_for k s o ∷ []
 
--- the pair of number k is substituted by that of operand o of number n
+-- the substitution of operand 0 of number k by operand o of number n
 abbrev pub entry_for : (k n o : ℕ) → Entry
 entry_for k n o = record { src = first_operand k; dst = record { number = n; operand = o }; subreg = 0 }
 
@@ -48,17 +48,17 @@ entries_for HasEntry k = []
 entries_for (GetsEntry d o n) k = entry_for k n o ∷ []
 entries_for GetsPhi k = []
 
--- the next fresh number afterwards
+-- the next fresh number after the salvage
 abbrev pub fresh_after : Way → (fresh : ℕ) → ℕ
 fresh_after HasEntry fresh = fresh
 fresh_after (GetsEntry d o n) fresh = cond (nat_eq n fresh) (fresh + 1) fresh
 fresh_after GetsPhi fresh = fresh
 
--- what stands behind the items above the copy afterwards
+-- what replaces the items from the copy on: the first of them is the copy
 abbrev pub behind_after : Way → (k s : ℕ) → List Item → List Item
 behind_after w k s [] = []
 behind_after w k s (x ∷ xs) = put_for w k s x.origin ++ xs
 
--- the items of a block afterwards, of which the one at an index was a copy of s with number k
+-- the items of a block after the salvage; the one at an index was a copy of s with number k
 abbrev pub items_after : Way → (at k s : ℕ) → List Item → List Item
 items_after w at k s items = above_after w (take at items) ++ behind_after w k s (drop at items)

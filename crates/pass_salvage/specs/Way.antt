@@ -1,4 +1,4 @@
--- Which code stands for a copy that is removed.
+-- How the debug instruction number of a removed copy is salvaged: from which earlier code it gets its value.
 use Rattle.std.specs.Prelude.{ℕ, suc, ◌^◌, List, [], ◌∷◌, drop, Option, Some, None, Bool, true, false, cond, not, ◌&&◌, nat_eq, nat_lt, is_some, slice_get}
 use Rattle.std.specs.List.{list_any}
 use Rattle.rv64_instr.specs.declared.operand.Operand.{Operand}
@@ -18,7 +18,7 @@ use Rattle.pass_trait.specs.Rule.{first_operand}
 use Rattle.pass_salvage.specs.declared.way.Way.{Way}
 use Rattle.pass_salvage.specs.declared.way.Way.TheVariants.{HasEntry, GetsEntry, GetsPhi}
 
--- one place further, or here where there is none further
+-- the index one further on if there is one, or 0 if this item counts
 abbrev pub further : Option ℕ → (here : Bool) → Option ℕ
 further (Some n) here = Some (suc n)
 further None true = Some 0
@@ -29,28 +29,28 @@ abbrev pub last_definition : (s : ℕ) → List Item → Option ℕ
 last_definition s [] = None
 last_definition s (x ∷ xs) = further (last_definition s xs) (defines (Register s) x.kind)
 
--- what an operand defines, if anything, is the register
+-- the optional register is this one
 abbrev pub is_register : (s : ℕ) → Option ℕ → Bool
 is_register s (Some r) = nat_eq r s
 is_register s None = false
 
--- the index of the operand here, or of a later one, counted from here
+-- the index, counted from this operand, of the first operand that counts, of this one and those after it
 abbrev pub here_or : (here : Bool) → Option ℕ → Option ℕ
 here_or true later = Some 0
 here_or false (Some n) = Some (suc n)
 here_or false None = None
 
--- the first operand that defines it; an implicit one defines on calls alone
+-- the index of the first operand that defines the register; an implicit definition counts only on calls
 abbrev pub first_definition : (call : Bool) → (s : ℕ) → List Operand → Option ℕ
 first_definition call s [] = None
 first_definition call s (o ∷ os) = here_or (is_register s (defined call (Some o))) (first_definition call s os)
 
--- it is this pair
+-- the optional pair is this one
 abbrev pub is_just : OperandPair → Option OperandPair → Bool
 is_just p (Some q) = is_pair p q
 is_just p None = false
 
--- a mark of a pair that resolves to operand 0 of the number
+-- a debug value of a pair that resolves to operand 0 of this number
 abbrev pub asks_for : List Entry → (k : ℕ) → ItemKind → Bool
 asks_for subs k (Mark v (Pair q)) = is_just (first_operand k) (resolve subs q)
 asks_for subs k (Mark v Nothing) = false
@@ -59,45 +59,46 @@ asks_for subs k (Mark v (At r)) = false
 asks_for subs k (Phi p n) = false
 asks_for subs k (Code i n) = false
 
--- a pair of the number has an entry
+-- the pair of this number and operand has a substitution
 abbrev pub has_entry : List Entry → Option ℕ → (operand : ℕ) → Bool
 has_entry subs (Some n) o = is_some (entry_of subs (record { number = n; operand = o }))
 has_entry subs None o = false
 
--- the number that code has, or the fresh one for code without
+-- the number of the code, or the fresh number if it has none
 abbrev pub or_fresh : (fresh : ℕ) → Option ℕ → ℕ
 or_fresh fresh (Some n) = n
 or_fresh fresh None = fresh
 
--- code at index d stands for the copy by an operand, whose index has 32 bits, where it isn't being removed, the pair of its number
--- has no entry, and no mark behind it asks for the copy's number
+-- Code at index d can replace the copy of number k in debug information, by this operand, if the operand's index fits in 32 bits,
+-- the code isn't removed itself, the pair of its number and the operand has no substitution, and no debug value between it and the
+-- copy refers to the copy's number
 abbrev pub may_stand : (removed : List ℕ) → List Entry → (k d : ℕ) → (number : Option ℕ) → (operand : ℕ) → (behind : List Item) → Bool
 may_stand removed subs k d n o behind =
     nat_lt o (2 ^ 32) && not (list_any (nat_eq d) removed) && not (has_entry subs n o) && not (list_any (λ x. asks_for subs k x.kind) behind)
 
--- by the first operand that defines s, if any does
+-- the choice by the operand of the code at index d that defines s, if one does
 abbrev pub way_by : (removed : List ℕ) → List Entry → (fresh k d : ℕ) → (number operand : Option ℕ) → (behind : List Item) → Way
 way_by removed subs fresh k d n None behind = GetsPhi
 way_by removed subs fresh k d n (Some o) behind = cond (may_stand removed subs k d n o behind) (GetsEntry d o (or_fresh fresh n)) GetsPhi
 
--- by the item at index d, which defines s: its code may stand for the copy, and else a phi is put
+-- the choice by the item at index d, which defines s: its code may replace the copy, and otherwise the copy becomes a DBG_PHI
 abbrev pub way_of_kind : (removed : List ℕ) → List Entry → (fresh k s d : ℕ) → (above : List Item) → ItemKind → Way
 way_of_kind removed subs fresh k s d above (Code i n) =
     way_by removed subs fresh k d n (first_definition (is_call (row_of i)) s i.operands) (drop (suc d) above)
 way_of_kind removed subs fresh k s d above (Mark v m) = GetsPhi
 way_of_kind removed subs fresh k s d above (Phi p n) = GetsPhi
 
--- by what stands at index d of what is above the copy
+-- the choice by the item at index d of the items above the copy
 abbrev pub way_at : (removed : List ℕ) → List Entry → (fresh k s d : ℕ) → (above : List Item) → Option Item → Way
 way_at removed subs fresh k s d above (Some x) = way_of_kind removed subs fresh k s d above x.kind
 way_at removed subs fresh k s d above None = GetsPhi
 
--- by the last definition of s above it, if there is one
+-- the choice by the last definition of s above the copy, if there is one
 abbrev pub way_from : (removed : List ℕ) → List Entry → (fresh k s : ℕ) → (above : List Item) → Option ℕ → Way
 way_from removed subs fresh k s above (Some d) = way_at removed subs fresh k s d above (slice_get above d)
 way_from removed subs fresh k s above None = GetsPhi
 
--- what becomes of the number k of a removed copy of s below these items of its block, of which those at some indices are
+-- How the number k of a removed copy of s is salvaged, below these items of its block; those at the indices in `removed` are
 -- removed too
 abbrev pub way : (removed : List ℕ) → List Entry → (fresh k s : ℕ) → (above : List Item) → Way
 way removed subs fresh k s above = cond (has_entry subs (Some k) 0) HasEntry (way_from removed subs fresh k s above (last_definition s above))

@@ -1,4 +1,4 @@
-//! An index of the items above a place of a block, by which a copy's way is found in constant time.
+//! An index of the items above a position of a block, by which the salvage of a copy is chosen in constant time.
 
 ghost use Rattle.std.specs.Prelude.{◌≡◌, ◌++◌, ◌<◌, ◌||◌, [], ◌∷◌, List, ℕ, cond, nat_eq, Some, None, length};
 ghost use Rattle.std.specs.Prelude.{drop, suc, false};
@@ -31,12 +31,12 @@ use rv64_instr::reg::Reg;
 use std::alloc::{AllocError, Global};
 use std::collections::HashMap;
 
-/// Where the items above a place define registers and ask for numbers.
+/// An index of items: where registers are defined and numbers are referred to.
 #[derive(Drop)]
 pub struct Above {
     /// The index of the last code that defines each register.
     pub definitions: HashMap<u32, usize>,
-    /// The index of the last mark of a pair that resolves to operand 0 of each number.
+    /// The index of the last debug value of a pair that resolves to operand 0 of each number.
     pub questions: HashMap<u32, usize>,
 }
 
@@ -51,7 +51,7 @@ impl Above {
         }
     }
 
-    /// The index of these items.
+    /// Builds the index of these items.
     pub fn of(alloc: Global, above: &[Item], subs: &Substitutions) -> Result<Above, AllocError>
         ensures { IfOk result (λ index. IsIndexOf index subs.now above.now) }
     {
@@ -62,7 +62,7 @@ impl Above {
         Ok(index)
     }
 
-    /// One item more, at this index.
+    /// Adds the next item, which has this index.
     pub fn push(
         &mut self,
         kind: &ItemKind,
@@ -77,7 +77,7 @@ impl Above {
         Ok(())
     }
 
-    /// Whether a mark behind the item at an index asks for the number.
+    /// Whether a debug value after the item at an index refers to the number.
     fn asks_behind(&self, number: DebugNumber, d: usize) -> bool
         ensures { (subs : List Entry) (above : List Item) → IsIndexOf self.now subs above →
             result ≡ list_any (λ x. asks_for subs number x.kind) (drop (suc d) above) }
@@ -86,7 +86,7 @@ impl Above {
     }
 }
 
-/// The index of the last code that defines the register, among the items that the table is of.
+/// The index of the last code that defines the register, in the table of these items.
 fn find_definition(table: &HashMap<u32, usize>, above: &[Item], s: Reg) -> Option<usize>
     requires { (q : ℕ) → get nat_eq table.now q ≡ last_definition q above.now }
     ensures found { result ≡ last_definition s above.now }
@@ -95,14 +95,14 @@ fn find_definition(table: &HashMap<u32, usize>, above: &[Item], s: Reg) -> Optio
     find_register(table, s)
 }
 
-/// Where a register leads.
+/// The index in the table for a register.
 fn find_register(table: &HashMap<u32, usize>, s: Reg) -> Option<usize>
     ensures { result ≡ get nat_eq table.now s }
 {
     table.get(&s.number()).copied()
 }
 
-/// Whether there is a later index.
+/// Whether the optional index is greater than `d`.
 fn is_past(d: usize, last: Option<usize>) -> bool
     ensures { result ≡ is_past d last }
 {
@@ -112,14 +112,14 @@ fn is_past(d: usize, last: Option<usize>) -> bool
     }
 }
 
-/// Where a number leads.
+/// The index in the table for a number.
 fn find(table: &HashMap<u32, usize>, number: DebugNumber) -> Option<usize>
     ensures { result ≡ get nat_eq table.now number }
 {
     table.get(&number.number()).copied()
 }
 
-/// Where a number leads, which then leads nowhere.
+/// Removes a number from the table and returns its index.
 fn take(table: &mut HashMap<u32, usize>, number: DebugNumber) -> Option<usize>
     ensures value { result ≡ get nat_eq table.old number }
     ensures others { (q : ℕ) → get nat_eq table.new q ≡ cond (nat_eq q number) None (get nat_eq table.old q) }
@@ -127,7 +127,7 @@ fn take(table: &mut HashMap<u32, usize>, number: DebugNumber) -> Option<usize>
     table.remove(&number.number())
 }
 
-/// A key leads to an index.
+/// Maps a key to an index.
 fn put(table: &mut HashMap<u32, usize>, key: u32, at: usize) -> Result<(), AllocError>
     ensures { OnOk result ((q : ℕ) → get nat_eq table.new q ≡ cond (nat_eq q key) (Some at) (get nat_eq table.old q)) }
 {
@@ -135,7 +135,7 @@ fn put(table: &mut HashMap<u32, usize>, key: u32, at: usize) -> Result<(), Alloc
     Ok(())
 }
 
-/// An item at an index is the last that defines what it defines.
+/// Records the item at an index as the last definition of the registers that it defines.
 fn push_definition(
     table: &mut HashMap<u32, usize>,
     kind: &ItemKind,
@@ -151,7 +151,7 @@ fn push_definition(
     }
 }
 
-/// Code at an index is the last that defines what it defines.
+/// Records the code at an index as the last definition of the registers that it defines.
 fn push_code(
     table: &mut HashMap<u32, usize>,
     decoded: &Decoded,
@@ -176,7 +176,7 @@ fn push_code(
     }
 }
 
-/// Each of the keys leads to the index.
+/// Maps each of the keys to the index.
 fn put_all(table: &mut HashMap<u32, usize>, keys: &[u32], at: usize) -> Result<(), AllocError>
     ensures { OnOk result ((s : ℕ) →
         get nat_eq table.new s ≡ cond (list_any (nat_eq s) keys.now) (Some at) (get nat_eq table.old s)) }
@@ -187,7 +187,7 @@ fn put_all(table: &mut HashMap<u32, usize>, keys: &[u32], at: usize) -> Result<(
     Ok(())
 }
 
-/// An item at an index is the last that asks for what it asks for.
+/// Records the item at an index as the last reference to the number that it refers to.
 fn push_question(
     table: &mut HashMap<u32, usize>,
     kind: &ItemKind,
@@ -207,7 +207,8 @@ fn push_question(
     }
 }
 
-/// A mark at an index, of a pair that resolves to this, is the last that asks for its number.
+/// Records the debug value at an index, whose pair resolves to `end`, as the last reference to that number, if the
+/// operand is 0.
 fn push_end(
     table: &mut HashMap<u32, usize>,
     end: Option<OperandPair>,
@@ -227,7 +228,7 @@ fn push_end(
     }
 }
 
-/// What asks for a number asks for another from now on, or for none where the operand isn't 0.
+/// Moves the references to a number to another number, or drops them if the operand isn't 0.
 fn move_questions(
     table: &mut HashMap<u32, usize>,
     number: DebugNumber,
@@ -254,7 +255,7 @@ fn is_zero(operand: OperandIndex) -> bool
     operand.number() == 0
 }
 
-/// A number leads to an index, but where it leads to a later one.
+/// Maps a number to an index, or keeps a greater one that it has.
 fn put_later(
     table: &mut HashMap<u32, usize>,
     number: DebugNumber,
@@ -268,7 +269,7 @@ fn put_later(
     Ok(())
 }
 
-/// The greater of two indices, where there are two.
+/// The greater of an index and an optional one.
 fn later(at: usize, other: Option<usize>) -> usize
     ensures { Some result ≡ later (Some at) other }
 {
@@ -278,9 +279,9 @@ fn later(at: usize, other: Option<usize>) -> usize
     }
 }
 
-/// Substitutes operand 0 of a number, which has no substitution, by an operand of another, and keeps the index of the
-/// items. It takes constant time where that has no substitution and is another pair, as in every sound function; else
-/// the index is made anew.
+/// Adds the substitution of operand 0 of a number, which has none, by an operand of another number, and updates the
+/// index of the items. It takes constant time if the other pair has no substitution and isn't the number's own, which
+/// is so in every sound function; otherwise the index is rebuilt.
 pub fn substitute(
     alloc: Global,
     subs: &mut Substitutions,
@@ -304,7 +305,7 @@ pub fn substitute(
     Ok(())
 }
 
-/// Whether the operand of the other number has a substitution, or is operand 0 of the number.
+/// Whether the operand of the other number has a substitution, or is operand 0 of the same number.
 fn meets(
     subs: &Substitutions,
     number: DebugNumber,
@@ -317,16 +318,16 @@ fn meets(
     has_entry(subs, &Some(standing), operand) || is_first(number, standing, operand)
 }
 
-/// Whether the operand of the other number is operand 0 of the number.
+/// Whether the operand of the other number is operand 0 of the same number.
 fn is_first(number: DebugNumber, standing: DebugNumber, operand: OperandIndex) -> bool
     ensures { result ≡ is_just (first_operand number) (Some (record { number = standing; operand = operand })) }
 {
     number == standing && operand.number() == 0
 }
 
-/// What becomes of the number of a removed copy of `source` that stood below these items of its block, all of which
-/// stay, as `choose_way` says. It takes no memory, and constant time but for the chains of substitutions of its number
-/// and of the one that stands for it.
+/// How the number of a removed copy of `source` is salvaged, below these items of its block, none of which is removed:
+/// the same as `choose_way`. It takes no memory, and constant time except for the chains of substitutions of its number
+/// and of the one that replaces it.
 pub fn choose_way_by(
     index: &Above,
     above: &[Item],

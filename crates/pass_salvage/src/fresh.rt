@@ -1,4 +1,4 @@
-//! Numbers that nothing has yet.
+//! Fresh debug instruction numbers.
 
 ghost use Rattle.std.specs.Prelude.{◌≡◌, ◌+◌, ◌^◌, ◌<◌, max};
 ghost use Rattle.std.specs.List.{flat_map};
@@ -13,8 +13,8 @@ use mir_func::item::{Item, ItemKind};
 use mir_func::variable::MarkValue;
 use mir_substitution::substitutions::Substitutions;
 
-/// A debug instruction number that nothing has: one above the greatest on items, in marks and on both sides of
-/// substitutions, and 1 where there is none. It takes no memory.
+/// A fresh debug instruction number: one above the greatest of items, of debug values' operands and of both sides of
+/// substitutions, and 1 if there is none. It takes no memory.
 pub fn fresh_number(f: &Func, subs: &Substitutions) -> u32
     requires { greatest_number f.now subs.now < 2 ^ 31 }
     ensures { result ≡ greatest_number f.now subs.now + 1 }
@@ -24,7 +24,7 @@ pub fn fresh_number(f: &Func, subs: &Substitutions) -> u32
     greater(on_items, in_entries) + 1
 }
 
-/// The greatest number on items of blocks and in marks, or 0.
+/// The greatest number of items and of debug values' operands in blocks, or 0.
 pub fn greatest_in_blocks(blocks: &[Block]) -> u32
     ensures { result ≡ greatest (block_numbers blocks.now) }
 {
@@ -35,7 +35,7 @@ pub fn greatest_in_blocks(blocks: &[Block]) -> u32
     most
 }
 
-/// The greatest number on items and in marks, or 0.
+/// The greatest number of items and of debug values' operands, or 0.
 fn greatest_in_items(items: &[Item]) -> u32
     ensures { result ≡ greatest (item_numbers items.now) }
 {
@@ -46,7 +46,7 @@ fn greatest_in_items(items: &[Item]) -> u32
     most
 }
 
-/// The number on an item or in a mark, or 0.
+/// The number of an item, or of a debug value's operand, or 0.
 fn number_in(kind: &ItemKind) -> u32
     ensures { result ≡ greatest (numbers_of kind.now) }
 {

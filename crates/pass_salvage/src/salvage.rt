@@ -1,4 +1,4 @@
-//! One copy is taken out, and its number salvaged.
+//! Removes one copy and salvages its number.
 
 ghost use Rattle.std.specs.Prelude.{◌≡◌, ◌++◌, ◌<◌, ◌^◌, [], ◌∷◌, length, take, OnOk};
 ghost use Rattle.pass_salvage.specs.Way.{way};
@@ -15,10 +15,9 @@ use rv64_instr::place::Place;
 use rv64_instr::reg::Reg;
 use std::alloc::AllocError;
 
-/// Takes a copy of `source` with a number out of a block's items, or puts the phi in its place, and adds the
-/// substitution. `removed` has the ascending indices of the other items that the caller removes too, which stay for
-/// it to remove. `fresh` is a number that nothing has, and is counted on where it is taken. After an error the items
-/// and the substitutions are only to be dropped.
+/// Removes a numbered copy of `source` from a block's items, or replaces it by a DBG_PHI, and adds the substitution if
+/// one is needed. `removed` has the ascending indices of the other items that the caller removes later. `fresh` is a
+/// fresh number, and is incremented if it is used. After an error the items and the substitutions may only be dropped.
 pub fn salvage(
     items: &mut Vec<Item>,
     subs: &mut Substitutions,
@@ -73,7 +72,7 @@ pub fn entry_for(number: DebugNumber, standing: DebugNumber, operand: OperandInd
     }
 }
 
-/// Gives code this number.
+/// Sets the number of code; debug items are unchanged.
 pub fn give_number(x: &mut Item, number: DebugNumber)
     ensures { x.new ≡ record x.old { kind = with_number number x.old.kind } }
 {
@@ -82,7 +81,7 @@ pub fn give_number(x: &mut Item, number: DebugNumber)
     }
 }
 
-/// Puts the phi of a copy in its place.
+/// Replaces a copy by the DBG_PHI of its source.
 pub fn put_phi(x: &mut Item, number: DebugNumber, source: Reg)
     ensures { x.new ≡ phi_for number source x.old.origin }
 {

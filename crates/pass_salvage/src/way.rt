@@ -1,4 +1,4 @@
-//! Which code stands for a copy that is removed.
+//! How the debug instruction number of a removed copy is salvaged.
 
 ghost use Rattle.std.specs.Prelude.{◌≡◌, ◌<◌, ◌||◌, ◌&&◌, ℕ, Some, nat_eq, not, length, IfSome};
 ghost use Rattle.std.specs.List.{list_any};
@@ -22,19 +22,19 @@ use rv64_instr::operand::Operand;
 use rv64_instr::place::Place;
 use rv64_instr::reg::Reg;
 
-/// What becomes of the number of a copy that is removed (LLVM: salvaging of debug information).
+/// How the debug instruction number of a removed copy is salvaged (LLVM: salvaging of debug information).
 #[derive(Clone, Copy, Debug, PartialEq, Eq)]
 pub enum Way {
-    /// Nothing is needed: its pair has a substitution.
+    /// Nothing is needed: its pair has a substitution already.
     HasEntry,
-    /// Its pair is substituted by that of an operand of the code at this index, which has this number or gets it.
+    /// Its pair is substituted by an operand of the code at this index, which has this number or gets it.
     GetsEntry(usize, OperandIndex, DebugNumber),
-    /// A phi takes its place.
+    /// A DBG_PHI replaces the copy.
     GetsPhi,
 }
 
-/// What becomes of the number of a removed copy of `source` that stood below these items of its block, of which those
-/// at the indices in `removed` are removed too. It takes no memory.
+/// How the number of a removed copy of `source` is salvaged, below these items of its block; those at the indices in
+/// `removed` are removed too. `fresh` is the number that code without one would get. It takes no memory.
 pub fn choose_way(
     above: &[Item],
     subs: &Substitutions,
@@ -63,8 +63,8 @@ pub fn choose_way(
     }
 }
 
-/// What becomes of it by the code at index `d`, which has this number and defines the source by this operand, where
-/// these items stand between the two.
+/// The choice by the code at index `d`, with its own number and the operand that defines the source; `behind` are the
+/// items between it and the copy.
 fn way_by(
     behind: &[Item],
     subs: &Substitutions,
@@ -81,7 +81,7 @@ fn way_by(
     way_unless(barred, subs, fresh, d, own, operand)
 }
 
-/// Whether code at index `d` goes too, or some of the items behind it ask for the number.
+/// Whether the code at index `d` is removed too, or some of the items after it refer to the number.
 fn is_barred(
     behind: &[Item],
     subs: &Substitutions,
@@ -95,8 +95,8 @@ fn is_barred(
     is_among(removed, d) || ask_for(behind, subs, number)
 }
 
-/// What becomes of it by the code at index `d`, which has this number and defines the source by this operand, unless
-/// that is barred.
+/// The choice by the code at index `d`, with its own number and the operand that defines the source, unless that is
+/// barred.
 pub fn way_unless(
     barred: bool,
     subs: &Substitutions,
@@ -120,7 +120,7 @@ pub fn way_unless(
     }
 }
 
-/// Whether code stands for the copy by the operand, unless it is barred.
+/// Whether the code can replace the copy by the operand: it isn't barred, and the pair has no substitution.
 fn may_stand(
     barred: bool,
     subs: &Substitutions,
@@ -132,14 +132,14 @@ fn may_stand(
     !has_entry(subs, own, operand) && !barred
 }
 
-/// Whether the index is among some.
+/// Whether the index is one of these.
 fn is_among(indices: &[usize], d: usize) -> bool
     ensures { result ≡ list_any (nat_eq d) indices.now }
 {
     indices.iter().any(|i| d == *i)
 }
 
-/// The number that it has, or the fresh one.
+/// The code's own number, or the fresh one if it has none.
 fn or_fresh(own: &Option<DebugNumber>, fresh: DebugNumber) -> DebugNumber
     ensures { result ≡ or_fresh fresh own.now }
 {
@@ -182,7 +182,7 @@ pub fn first_definition(i: &Instr, s: Reg) -> Option<usize>
     first_in(call, s, i.operands.as_slice())
 }
 
-/// The index of the first of these operands that does.
+/// The index of the first of these operands that defines the register; an implicit definition counts only if `call`.
 fn first_in(call: bool, s: Reg, operands: &[Operand]) -> Option<usize>
     ensures { result ≡ first_definition call s operands.now }
 {
@@ -194,7 +194,7 @@ fn first_in(call: bool, s: Reg, operands: &[Operand]) -> Option<usize>
     None
 }
 
-/// Whether the operand defines the register: an implicit one on calls alone.
+/// Whether the operand defines the register; an implicit definition counts only if `call`.
 fn is_definition(call: bool, s: Reg, operand: &Operand) -> bool
     ensures { result ≡ is_register s (defined call (Some operand.now)) }
 {
@@ -231,14 +231,14 @@ pub fn has_entry(subs: &Substitutions, number: &Option<DebugNumber>, operand: Op
     }
 }
 
-/// Whether some of the items are marks of a pair that resolves to operand 0 of the number.
+/// Whether some of the items are debug values of a pair that resolves to operand 0 of the number.
 fn ask_for(items: &[Item], subs: &Substitutions, number: DebugNumber) -> bool
     ensures { result ≡ list_any (λ x. asks_for subs.now number x.kind) items.now }
 {
     items.iter().any(|x| asks_for(&x.kind, subs, number))
 }
 
-/// Whether it is a mark of a pair that resolves to operand 0 of the number.
+/// Whether it is a debug value of a pair that resolves to operand 0 of the number.
 fn asks_for(kind: &ItemKind, subs: &Substitutions, number: DebugNumber) -> bool
     ensures { result ≡ asks_for subs.now number kind.now }
 {

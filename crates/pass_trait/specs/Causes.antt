@@ -1,4 +1,4 @@
--- The causes of losses: for each reason, when a pass may give it. They are said over the function before the pass and
+-- The causes of losses: for each reason, the condition under which a pass may state it, over the function before the pass and
 -- the one after it.
 use Rattle.std.specs.Prelude.{◌≡◌, ◌⊎◌, ℕ, ◌+◌, ◌<◌, ◌≤◌, List, [], ◌∷◌, length, take, filter, count_by, All, Contains, Option, Some, None, Bool, true, false}
 use Rattle.std.specs.Prelude.{not, ◌&&◌, nat_eq}
@@ -37,7 +37,7 @@ use Rattle.pass_trait.specs.Change.{Change}
 use Rattle.pass_trait.specs.Order.{reason_rank}
 use Rattle.pass_trait.specs.Rule.{Rule, IsCopy, IsJump, number_lost, item, StandsAt, Has, IsNow}
 
--- the operand is the register; an implicit one where such operands count
+-- the operand is this register; an implicit operand only if `counts`
 abbrev pub is_of_register : (counts : Bool) → ℕ → Operand → Bool
 is_of_register counts r (Def s) = nat_eq s r
 is_of_register counts r (Use s) = nat_eq s r
@@ -50,13 +50,13 @@ is_of_register counts r (OfBlock n) = false
 is_of_register counts r (Symbol name) = false
 is_of_register counts r Mask = false
 
--- code that names the register: by an explicit operand, or by an implicit one of a call or a return
+-- code that names the register: in an explicit operand, or in an implicit one of a row with implicit uses (a call or a return)
 abbrev pub names : ℕ → ItemKind → Bool
 names r (Code i k) = list_any (is_of_register (has_implicit_uses (row_of i)) r) i.operands
 names r (Mark v m) = false
 names r (Phi p k) = false
 
--- some code of the function names it
+-- some code of the function names the register
 abbrev pub is_named : Function → ℕ → Bool
 is_named f r = list_any (λ i. names r i.kind) (items_of f.blocks)
 
@@ -64,11 +64,11 @@ is_named f r = list_any (λ i. names r i.kind) (items_of f.blocks)
 abbrev pub scratch_of : Function → List ℕ
 scratch_of f = take 2 (filter (λ r. not (is_named f r)) (5 ∷ 6 ∷ 7 ∷ 28 ∷ 29 ∷ 30 ∷ 31 ∷ []))
 
--- the positions are one
+-- the two positions are equal
 abbrev pub is_position : Pos → Pos → Bool
 is_position p q = nat_eq p.block q.block && nat_eq p.item q.item
 
--- the origins are one
+-- the two origins are equal
 abbrev pub is_origin : Origin → Origin → Bool
 is_origin (Kept p) (Kept q) = is_position p q
 is_origin (Before p) (Before q) = is_position p q
@@ -81,7 +81,7 @@ defines x (Code i k) = defines_of (row_of i) x
 defines x (Mark v m) = false
 defines x (Phi p k) = false
 
--- what a mark or a phi asks for
+-- the location that a debug value or DBG_PHI reads is this one
 abbrev pub AsksFor : Place → ItemKind → Type 0
 AsksFor x (Mark v (At r)) = x ≡ Register r
 AsksFor x (Phi (Some p) k) = x ≡ p
@@ -91,7 +91,7 @@ AsksFor x (Mark v (Pair q)) = ⊥
 AsksFor x (Phi None k) = ⊥
 AsksFor x (Code i k) = ⊥
 
--- what is lost with a mark or a phi
+-- what is lost if this debug value or DBG_PHI is: the debug value, or the DBG_PHI's number
 abbrev pub IsLostWith : ItemKind → Origin → Lost → Type 0
 IsLostWith (Mark v m) o what = what ≡ lost.Mark (position_of o)
 IsLostWith (Phi p k) o what = what ≡ lost.Number k
@@ -103,30 +103,32 @@ IsJumpOrDebug (Code i k) = IsJump (row_of i)
 IsJumpOrDebug (Mark v m) = Unit {0}
 IsJumpOrDebug (Phi p k) = Unit {0}
 
--- some path leads to the position from one where such paths begin, over none that stops them
+-- some path of zero or more edges goes from a position with `Begins` to this one, and no position on it before this one has
+-- `Stops`
 pub data Comes (f : Program) (Begins Stops : Pos → Type 0) : Pos → Type 0 where
   begins : {q : Pos} → Begins q → Comes f Begins Stops q
   goes_on : {p q : Pos} → Comes f Begins Stops p → (Stops p → ⊥) → Edge f p q → Comes f Begins Stops q
 
 module _ (c : Change) where
-  -- the function before the pass, as it runs
+  -- the old function as a program, with its substitutions
   abbrev pub old_program : Program
   old_program = program_of false c.old.blocks (resolve c.old_subs)
 
-  -- where it starts
+  -- its entry: the start of its first block
   abbrev pub old_start : Pos
   old_start = block_start (first_of c.old.blocks)
 
-  -- after the pass less code has this origin, of the code that passes a test
+  -- among the code that passes a test, fewer items have this origin after the pass than before
   abbrev pub IsFewer : (ItemKind → Bool) → Origin → Type 0
   IsFewer test o = count_by (λ i. test i.kind && is_origin i.origin o) (items_of c.new.blocks) <
       count_by (λ i. test i.kind && is_origin i.origin o) (items_of c.old.blocks)
 
-  -- code with this origin was removed, and its block stays. What is kept stands alone at its origin, so no code has it any more
+  -- Fewer code items have this origin after the pass than before, and the new function still has the block of its position. In
+  -- a function that a source simulates, at most one item has a given `Kept` origin, so then none has it any more
   abbrev pub IsRemoved : Origin → Type 0
   IsRemoved o = IsFewer is_code o × Contains (ids_of c.new.blocks) (position_of o).block
 
-  -- a definition of the place with this origin was removed
+  -- a code item with this origin was removed, and fewer items that define the place have it
   abbrev pub LosesDefinition : Place → Origin → Type 0
   LosesDefinition x o = IsRemoved o × IsFewer (defines x) o
 
@@ -142,72 +144,75 @@ module _ (c : Change) where
   abbrev pub IsKeptDefinition : Place → Pos → Type 0
   IsKeptDefinition x p = (i : Item) × StandsAt c.old p i × (defines x i.kind ≡ true) × (LosesDefinition x i.origin → ⊥)
 
-  -- right after a position that has the property
+  -- some edge leads to this position from one that has the property
   abbrev pub IsAfter : (Pos → Type 0) → Pos → Type 0
   IsAfter P q = (p : Pos) × P p × Edge old_program p q
 
-  -- before the pass a path leads to the block
+  -- before the pass some path leads from the entry to the block
   abbrev pub IsReached : (block : ℕ) → Type 0
   IsReached b = Leads old_program old_start (block_start b)
 
-  -- after the pass there is no such block
+  -- no block of the new function has this number
   abbrev pub IsGoneBlock : (block : ℕ) → Type 0
   IsGoneBlock b = Contains (ids_of c.new.blocks) b → ⊥
 
-  -- the block is without code but a jump, and now every way goes past it
+  -- a reachable block of the old function that has only unconditional branches and debug items, and isn't in the new function
   pub record IsBypassed (b : Block) : Type 0 where
     pub stood : Contains c.old.blocks b
     pub jumps : All (λ i. IsJumpOrDebug i.kind) b.items
     pub reached : IsReached b.id
     pub gone : IsGoneBlock b.id
 
-  -- some register went to a slot
+  -- the new function has a spill slot that the old one hasn't
   abbrev pub HasNewSlot : Type 0
   HasNewSlot = (slot : ℕ) × Contains c.new.slots slot × (Contains c.old.slots slot → ⊥)
 
 module _ (rule : Rule) (c : Change) where
-  -- code at a position defines another register than r, which has the same register after the pass
+  -- a definition of another register than r, which after the pass is the same register as r, at a position that doesn't define
+  -- r
   abbrev pub IsOtherDefinition : (r now : ℕ) → Pos → Type 0
   IsOtherDefinition r now p = (s : ℕ) × IsNow rule c s now × IsDefinition c (Register s) p × (IsDefinition c (Register r) p → ⊥)
 
-  -- a mark or a phi at the position may find something else in the place than before the pass
+  -- at this position the place may contain another value after the pass than before
   pub data IsWrong : Place → Pos → Type 0 where
-    -- a path leads there from a removed definition without a kept one
+    -- some path leads here from right after a removed definition of the place, and passes no kept definition of it
     removed : {x : Place} {at : Pos} → Comes (old_program c) (IsAfter c (IsRemovedDefinition c x)) (IsKeptDefinition c x) at → IsWrong x at
-    -- no code names the virtual register
+    -- a virtual register that no code names
     unnamed : {r : ℕ} {at : Pos} → 32 ≤ r → is_named c.old r ≡ false → IsWrong (Register r) at
-    -- the register got another one, and a path leads there from the start without a definition of it
+    -- the register was renamed, and some path leads here from the entry that passes no definition of it
     unset : {r now : ℕ} {at : Pos} → rule.renames c r now → Comes (old_program c) (λ q. q ≡ old_start c) (IsDefinition c (Register r)) at →
         IsWrong (Register r) at
-    -- a path leads there, without a definition of the register, from a definition of another that now is the same
+    -- some path leads here, without a definition of the register, from right after a definition of another register that after
+    -- the pass is the same one
     overwritten : {r now : ℕ} {at : Pos} → IsNow rule c r now →
         Comes (old_program c) (IsAfter c (IsOtherDefinition r now)) (IsDefinition c (Register r)) at → IsWrong (Register r) at
 
-  -- the cause of what is lost of the item at a place
+  -- the possible causes of a loss of the item at a position
   pub data HasCause (at : Pos) : Loss → Type 0 where
-    -- a number: its code was removed, and is no copy
+    -- a number: its code was removed, and isn't a copy
     code_removed : {i : Instruction} {n : Option ℕ} {o : Origin} {l : Loc} {k : ℕ} → StandsAt c.old at (item (Code i n) o l) → Has rule c at n k →
         (IsCopy (row_of i) → ⊥) → IsRemoved c o → HasCause at (number_lost k Removed)
-    -- a mark or a phi of a wrong place; and the phi that is put for a copy, which stands behind it
+    -- a debug value or DBG_PHI whose place may be wrong at its position; and the DBG_PHI for a removed copy, if its place may
+    -- be wrong right after the copy
     place_wrong : {i : Item} {x : Place} {what : Lost} → StandsAt c.old at i → IsLostWith i.kind i.origin what → AsksFor x i.kind →
         IsWrong x at → HasCause at (record { what = what; reason = WrongPlace })
     salvage_wrong : {i : Instruction} {n : Option ℕ} {o : Origin} {l : Loc} {k : ℕ} {x : Place} → StandsAt c.old at (item (Code i n) o l) →
         Has rule c at n k → IsCopy (row_of i) → rule.salvages c at x → IsWrong x (below at) → HasCause at (number_lost k WrongPlace)
-    -- a mark or a phi of a scratch register, where some register went to a slot
+    -- a debug value or DBG_PHI of a scratch register, if some register was spilled
     taken_as_scratch : {i : Item} {r : ℕ} {what : Lost} → StandsAt c.old at i → IsLostWith i.kind i.origin what → AsksFor (Register r) i.kind →
         Contains (scratch_of c.old) r → HasNewSlot c → HasCause at (record { what = what; reason = Scratch })
-    -- a mark or a phi of a block that is bypassed
+    -- a debug value or DBG_PHI of a bypassed block
     block_bypassed : {i : Item} {b : Block} {what : Lost} → StandsAt c.old at i → IsLostWith i.kind i.origin what → b.id ≡ at.block →
         IsBypassed c b → HasCause at (record { what = what; reason = Bypassed })
-    -- a mark, or any number, of a block that couldn't be reached
+    -- a debug value, a DBG_PHI or numbered code of an unreachable block
     block_unreachable : {i : Item} {what : Lost} → StandsAt c.old at i → IsLostWith i.kind i.origin what →
         (IsReached c at.block → ⊥) → IsGoneBlock c at.block → HasCause at (record { what = what; reason = Unreachable })
     code_unreachable : {i : Instruction} {o : Origin} {l : Loc} {k : ℕ} → StandsAt c.old at (item (Code i (Some k)) o l) →
         (IsReached c at.block → ⊥) → IsGoneBlock c at.block → HasCause at (number_lost k Unreachable)
 
-  -- why a register can't be spilled: fewer than two scratch registers are free; a call names it, or code that was added;
-  -- it is live into the first block, to which a branch leads; there are as many slots and objects
-  -- as a function may have, the slots of lower registers among them
+  -- The condition under which a register isn't spilled for a reason: fewer than two scratch registers are free; a call or added
+  -- code names the register; it is live into the first block, which is the target of some branch; the new function has
+  -- `MAX_SLOTS` slots and stack objects, and only lower registers are spilled
   abbrev pub Prevents : Reason → ℕ → Type 0
   Prevents NoScratch r = length (scratch_of c.old) < 2
   Prevents CallNamed r = (i : Item) × Contains (items_of c.old.blocks) i × (names r i.kind ≡ true) ×
@@ -221,7 +226,7 @@ module _ (rule : Rule) (c : Change) where
   Prevents Bypassed r = ⊥
   Prevents Unreachable r = ⊥
 
-  -- a register that code names isn't spilled for the first reason that applies
+  -- the register is named by code, and this is the first reason, by rank, whose condition is true
   pub record IsFirstCause (r : ℕ) (why : Reason) : Type 0 where
     pub named : is_named c.old r ≡ true
     pub prevents : Prevents why r

@@ -1,4 +1,4 @@
--- What a pass is given and what it leaves.
+-- The input and the output of a pass.
 use Rattle.std.specs.Prelude.{List}
 use Rattle.mir_func.specs.declared.entry.Entry.{Entry}
 use Rattle.mir_func.specs.Function.{Function}

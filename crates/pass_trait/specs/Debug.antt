@@ -1,4 +1,4 @@
--- The third law of passes, the debug rule: marks, phis, numbers and substitutions stay, or their loss is told.
+-- The third law of passes, the debug rule: each debug value, DBG_PHI, number and substitution is kept, or its loss is reported.
 use Rattle.std.specs.Prelude.{◌≡◌, ◌⊎◌, ℕ, ◌<◌, ◌≤◌, suc, List, [], ◌∷◌, ◌++◌, Option, Some, None, Bool, not, ◌&&◌, All, Contains}
 use Rattle.rv64_instr.specs.declared.place.Place.{Place}
 use Rattle.rv64_instr.specs.declared.place.Place.TheVariants.{Register, Slot, Const}
@@ -29,13 +29,13 @@ use Rattle.pass_trait.specs.Rule.{Has}
 use Rattle.sem_mir.specs.Align.{is_code, is_jump}
 use Rattle.pass_trait.specs.Causes.{HasCause, IsFirstCause, IsFewer, IsRemoved}
 
--- what becomes of what is lost: it is gone, or it stays and gives nothing, or it is a register that stays unspilled
+-- what a loss means for what is lost: it is deleted; or it stays and is undef; or it is a register that stays unspilled
 pub data Fate : Type 0 where
   Gone : Fate
   Silenced : Fate
   Unspilled : Fate
 
--- what becomes of the thing that is lost for each reason
+-- the kind of loss for each reason
 abbrev pub fate : Reason → Fate
 fate Removed = Gone
 fate WrongPlace = Silenced
@@ -47,72 +47,72 @@ fate CallNamed = Unspilled
 fate EntryLoop = Unspilled
 fate NoSlot = Unspilled
 
--- code that is no jump
+-- code that isn't an unconditional branch
 abbrev pub is_other_code : ItemKind → Bool
 is_other_code kind = is_code kind && not (is_jump kind)
 
 module _ (rule : Rule) (c : Change) where
-  -- the item at a place has no such loss
+  -- the pass declares no loss of this kind, for any reason, of the item at this position
   abbrev pub IsUnlost : (at : Pos) → (Reason → Loss) → Type 0
   IsUnlost at loss = (why : Reason) → rule.loses c at (loss why) → ⊥
 
-  -- the register isn't spilled and gets no other register
+  -- the register is neither spilled nor renamed
   abbrev pub RegisterStays : ℕ → Type 0
   RegisterStays r = ((slot : ℕ) → rule.spills c r slot → ⊥) × ((now : ℕ) → rule.renames c r now → ⊥)
 
-  -- a mark of this value asks for no register that goes elsewhere
+  -- the debug value names no register that is spilled or renamed
   abbrev pub ValueStays : MarkValue → Type 0
   ValueStays Nothing = Unit {0}
   ValueStays (Constant n) = Unit {0}
   ValueStays (At r) = RegisterStays r
   ValueStays (Pair q) = Unit {0}
 
-  -- nor does a phi of this place
+  -- the same for the location of a DBG_PHI
   abbrev pub PlaceStays : Option Place → Type 0
   PlaceStays None = Unit {0}
   PlaceStays (Some (Register r)) = RegisterStays r
   PlaceStays (Some (Slot n)) = Unit {0}
   PlaceStays (Some (Const n)) = Unit {0}
 
-  -- a kill at the start of a block: its part of a variable is assigned nothing, and a mark of the same part is lost with a block that is
-  -- bypassed; or its number gives nothing, and is lost so
+  -- a kill for the start of a block: an undef debug value of a variable fragment of which some debug value is lost as bypassed; or an
+  -- undef DBG_PHI whose number is lost as bypassed
   abbrev pub IsKillOf : ItemKind → Type 0
   IsKillOf (Mark v Nothing) = (at : Pos) × (m : MarkValue) × (o : Origin) × (l : Loc) × StandsAt c.old at (item (Mark v m) o l) ×
       rule.loses c at (mark_lost o Bypassed)
   IsKillOf (Phi None k) = (at : Pos) × rule.loses c at (number_lost k Bypassed)
   IsKillOf _ = ⊥
 
-  -- it stands before all of the block
+  -- a kill whose origin is before the first position of the block
   abbrev pub IsKillAt : (block : ℕ) → Item → Type 0
   IsKillAt b i = IsKillOf i.kind × (i.origin ≡ Before (record { block = b; item = 0 }))
 
-  -- what the item at a place becomes
+  -- which items the item at a position becomes
   pub data Becomes (at : Pos) : Item → List Item → Type 0 where
-    -- a mark or a phi stays
+    -- a debug value or DBG_PHI is kept as it is, if no loss of it is declared and its register is neither spilled nor renamed
     mark_stays : {v : VarId} {m : MarkValue} {o : Origin} {l : Loc} → IsUnlost at (mark_lost o) → ValueStays m →
         Becomes at (item (Mark v m) o l) (item (Mark v m) o l ∷ [])
     phi_stays : {p : Option Place} {k : ℕ} {o : Origin} {l : Loc} → IsUnlost at (number_lost k) → PlaceStays p →
         Becomes at (item (Phi p k) o l) (item (Phi p k) o l ∷ [])
-    -- code stays, rewritten perhaps, with its number; code without one gets one where what is salvaged needs it
+    -- code is kept, perhaps rewritten, with its number; code without a number gets one exactly if the pass declares one at this position
     code_stays : {i j : Instruction} {k : ℕ} {o : Origin} {l : Loc} → IsUnlost at (number_lost k) →
         Becomes at (item (Code i (Some k)) o l) (item (Code j (Some k)) o l ∷ [])
     code_numbered : {i j : Instruction} {k : ℕ} {o : Origin} {l : Loc} → rule.numbers c at k →
         Becomes at (item (Code i None) o l) (item (Code j (Some k)) o l ∷ [])
     code_unnumbered : {i j : Instruction} {o : Origin} {l : Loc} → ((k : ℕ) → rule.numbers c at k → ⊥) →
         Becomes at (item (Code i None) o l) (item (Code j None) o l ∷ [])
-    -- a jump stays with its number, perhaps where another branch stood
+    -- an unconditional branch is kept as one, with its number, perhaps with the origin of another branch
     jump_stays : {i j : Instruction} {k : Option ℕ} {o o' : Origin} {l l' : Loc} → IsJump (row_of i) → IsJump (row_of j) →
         ((n : ℕ) → k ≡ Some n → IsUnlost at (number_lost n)) → Becomes at (item (Code i k) o l) (item (Code j k) o' l' ∷ [])
-    -- code is gone that has no number and gets none; or that has one and defines nothing, with an entry if the pass says so, and less
-    -- code has its origin, or less that is no jump: a jump may have taken it
+    -- code without a number is deleted, if the pass assigns it none; or numbered code that defines nothing, if fewer code items have its
+    -- origin after the pass than before, or fewer that are no unconditional branches: such a branch may have got that origin
     code_goes : {i : Instruction} {o : Origin} {l : Loc} → ((k : ℕ) → rule.numbers c at k → ⊥) → Becomes at (item (Code i None) o l) []
     idle_goes : {i : Instruction} {k : ℕ} {o : Origin} {l : Loc} → sets (row_of i) ≡ [] → IsFewer c is_code o ⊎ IsFewer c is_other_code o →
         Becomes at (item (Code i (Some k)) o l) []
-    -- code is gone with the number that it has or got
+    -- code is deleted, and its number, or the one that the pass assigns it, is lost
     number_goes : {i : Instruction} {n : Option ℕ} {o : Origin} {l : Loc} (k : ℕ) (why : Reason) → fate why ≡ Gone → Has rule c at n k →
         rule.loses c at (number_lost k why) → Becomes at (item (Code i n) o l) []
-    -- a copy was removed, and another pair stands for its number; or a phi of its number is there for it, which gives
-    -- nothing where its place is wrong
+    -- a copy is removed. Either its number is substituted, or a DBG_PHI with its number replaces it, which is undef if the number is
+    -- lost as `WrongPlace`
     substituted : {i : Instruction} {n : Option ℕ} {o : Origin} {l : Loc} (k : ℕ) (e : Entry) → IsCopy (row_of i) → IsRemoved c o →
         Has rule c at n k → entry_of c.new_subs (first_operand k) ≡ Some e → IsUnlost at (number_lost k) → Becomes at (item (Code i n) o l) []
     salvaged : {i : Instruction} {n : Option ℕ} {k : ℕ} {o : Origin} {l : Loc} {p : Place} → IsCopy (row_of i) → IsRemoved c o →
@@ -120,28 +120,28 @@ module _ (rule : Rule) (c : Change) where
     salvaged_wrong : {i : Instruction} {n : Option ℕ} {k : ℕ} {o : Origin} {l : Loc} {p : Place} → IsCopy (row_of i) → IsRemoved c o →
         Has rule c at n k → rule.salvages c at p → rule.loses c at (number_lost k WrongPlace) →
         Becomes at (item (Code i n) o l) (item_before (Phi None k) o ∷ [])
-    -- a mark of a register, or a phi of a place, gives nothing any more
+    -- a debug value of a register, or a DBG_PHI of a location, becomes undef
     mark_silenced : {v : VarId} {r : ℕ} {o : Origin} {l : Loc} (why : Reason) → fate why ≡ Silenced → rule.loses c at (mark_lost o why) →
         Becomes at (item (Mark v (At r)) o l) (item (Mark v Nothing) o l ∷ [])
     phi_silenced : {p : Place} {k : ℕ} {o : Origin} {l : Loc} (why : Reason) → fate why ≡ Silenced → rule.loses c at (number_lost k why) →
         Becomes at (item (Phi (Some p) k) o l) (item (Phi None k) o l ∷ [])
-    -- a mark or a phi is gone with its block
+    -- a debug value or a DBG_PHI is deleted, and is lost
     mark_goes : {v : VarId} {m : MarkValue} {o : Origin} {l : Loc} (why : Reason) → fate why ≡ Gone → rule.loses c at (mark_lost o why) →
         Becomes at (item (Mark v m) o l) []
     phi_goes : {p : Option Place} {k : ℕ} {o : Origin} {l : Loc} (why : Reason) → fate why ≡ Gone → rule.loses c at (number_lost k why) →
         Becomes at (item (Phi p k) o l) []
-    -- what asks for a spilled register asks for its slot: a mark by a phi before it, with a number for both
+    -- what names a spilled register names its slot: a debug value becomes a DBG_INSTR_REF to a new DBG_PHI of the slot right before it
     mark_spilled : {v : VarId} {r slot k : ℕ} {o : Origin} {l : Loc} → IsUnlost at (mark_lost o) → rule.spills c r slot → rule.numbers c at k →
         Becomes at (item (Mark v (At r)) o l) (item_before (Phi (Some (Slot slot)) k) o ∷ item (Mark v (Pair (first_operand k))) o l ∷ [])
     phi_spilled : {r slot k : ℕ} {o : Origin} {l : Loc} → IsUnlost at (number_lost k) → rule.spills c r slot →
         Becomes at (item (Phi (Some (Register r)) k) o l) (item (Phi (Some (Slot slot)) k) o l ∷ [])
-    -- what asks for a register that got another one asks for that
+    -- what names a renamed register names the new one
     mark_renamed : {v : VarId} {r now : ℕ} {o : Origin} {l : Loc} → IsUnlost at (mark_lost o) → rule.renames c r now →
         Becomes at (item (Mark v (At r)) o l) (item (Mark v (At now)) o l ∷ [])
     phi_renamed : {r now k : ℕ} {o : Origin} {l : Loc} → IsUnlost at (number_lost k) → rule.renames c r now →
         Becomes at (item (Phi (Some (Register r)) k) o l) (item (Phi (Some (Register now)) k) o l ∷ [])
 
-  -- what the items of a block become, from the one with index n on. Code without a number may come in between
+  -- what the items of a block become, from the one with index n on. Code without a number may be added in between
   pub data BecomeAll (block : ℕ) : (n : ℕ) → List Item → List Item → Type 0 where
     over : {n : ℕ} → BecomeAll block n [] []
     next : {n : ℕ} {x : Item} {xs ys zs : List Item} → Becomes (record { block = block; item = n }) x ys → BecomeAll block (suc n) xs zs →
@@ -149,31 +149,31 @@ module _ (rule : Rule) (c : Change) where
     added : {n : ℕ} {i : Instruction} {o : Origin} {l : Loc} {xs ys : List Item} → BecomeAll block n xs ys →
         BecomeAll block n xs (item (Code i None) o l ∷ ys)
 
-  -- what the blocks become: one stays, with kills at its start where the pass puts them, or it is gone
+  -- what the blocks become: a block is kept, with the declared kills at its start, or it is deleted with all its items
   pub data BlocksBecome : List Block → List Block → Type 0 where
     none : BlocksBecome [] []
     stays : {x y : Block} {xs ys : List Block} (kills items : List Item) → y.id ≡ x.id → y.silent ≡ x.silent → y.items ≡ kills ++ items →
         rule.kills c x.id kills → All (IsKillAt x.id) kills → BecomeAll x.id 0 x.items items → BlocksBecome xs ys → BlocksBecome (x ∷ xs) (y ∷ ys)
     goes : {x : Block} {xs ys : List Block} → BecomeAll x.id 0 x.items [] → BlocksBecome xs ys → BlocksBecome (x ∷ xs) ys
 
--- a loss of some item, or a register that isn't spilled
+-- a declared loss: one of an item at some position, or a register that isn't spilled
 abbrev pub IsLoss : Rule → Change → Loss → Type 0
 IsLoss rule c loss = ((place : Pos) × rule.loses c place loss) ⊎ ((r : ℕ) × (why : Reason) × (loss ≡ register_lost r why) × rule.leaves c r why)
 
--- an item gives the number after the pass, or it is lost
+-- some item after the pass has this number, or the number is lost
 abbrev pub IsGivenOrLost : Change → List Loss → ℕ → Type 0
 IsGivenOrLost c losses k = Contains (numbers_on c.new) k ⊎ ((why : Reason) × Contains losses (number_lost k why))
 
--- what an added entry is for: a number that no item gives any more. The chain of entries from its pair ends at one whose
--- number an item gives, or is lost
+-- an added substitution is for operand 0 of a number that no item has any more, without a subregister. The chain of substitutions from
+-- its destination ends at a pair whose number an item has, or is lost
 pub record IsFor (c : Change) (losses : List Loss) (e : Entry) : Type 0 where
   pub whole : (e.src.operand ≡ 0) × (e.subreg ≡ 0)
   pub gone : Contains (numbers_on c.new) e.src.number → ⊥
   pub stands : (q : OperandPair) × Ends c.new_subs e.dst q × IsGivenOrLost c losses q.number
 
--- the debug rule: what the blocks become; substitutions are added behind those that were there, each for a number that is
--- gone; the losses are those that the pass says, each once and in order; and it says none without its cause. Registers are
--- spilled into new slots, whose numbers no slot and no stack object had, and only virtual ones get another register, which is real
+-- The debug rule: every block becomes what `BlocksBecome` allows; the declared substitutions are appended, each for a number that no
+-- item has any more; the losses are exactly those that the pass declares, in order and without duplicates; and each loss has its cause.
+-- Registers are spilled into slots that are new to the function, and only virtual registers are renamed, to real ones
 pub record KeepsItems (rule : Rule) (c : Change) (losses : List Loss) : Type 0 where
   pub blocks : BlocksBecome rule c c.old.blocks c.new.blocks
   pub subs : (more : List Entry) × (c.new_subs ≡ c.old_subs ++ more) × rule.substitutes c more × All (IsFor c losses) more

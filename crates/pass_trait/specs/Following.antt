@@ -1,4 +1,4 @@
--- The first law of passes: what followed a source follows it still.
+-- The first law of passes: a pass preserves the simulation of a source.
 use Rattle.std.specs.Prelude.{◌≡◌, List, Bool, IsTrue}
 use Rattle.mir_func.specs.declared.entry.Entry.{Entry}
 use Rattle.mir_func.specs.Function.{Function}
@@ -7,7 +7,7 @@ use Rattle.mir_func.specs.Resolve.{resolve}
 use Rattle.sem_mir.specs.Follow.{Follows, HasWholeEnds, IsRead}
 use Rattle.pass_trait.specs.Change.{Change}
 
--- a source: a function as it was read, with its substitutions
+-- a source: a function as it was parsed, with its substitutions; it is sound, and its code has the required forms
 pub record Source : Type 0 where
   pub function : Function
   pub subs : List Entry
@@ -15,17 +15,17 @@ pub record Source : Type 0 where
   pub read : IsRead function.blocks
   pub form : AllItems (λ i. HasForm i.kind) function.blocks
 
--- the function with its substitutions follows the source, over the source's stack objects
+-- the function with its substitutions is simulated by the source, with the source's stack objects
 pub record FollowsSource (src : Source) (f : Function) (subs : List Entry) : Type 0 where
   pub objects : f.objects ≡ src.function.objects
   pub follows : Follows src.function.objects src.function.blocks f.blocks (resolve src.subs) (resolve subs)
 
--- it has the source's ends of blocks
+-- its block ends match those of the source
 abbrev pub EndsAsSource : Source → Function → List Entry → Type 0
 EndsAsSource src f subs = HasWholeEnds src.function.objects src.function.blocks f.blocks (resolve src.subs) (resolve subs)
 
--- of whatever source the function followed, with whole ends if the pass asks for them, it follows that source still; and if
--- the pass keeps whole ends, they are whole still
+-- The pass preserves the simulation: if a source simulates the old function, with matched block ends if the pass requires
+-- them (`asks`), it simulates the new one. And if `keeps`, matched block ends stay matched
 pub record KeepsFollowing (asks keeps : Bool) (c : Change) : Type 0 where
   pub follows : (src : Source) → FollowsSource src c.old c.old_subs → (IsTrue asks → EndsAsSource src c.old c.old_subs) →
       FollowsSource src c.new c.new_subs

@@ -1,5 +1,5 @@
--- Proofs of what a pass owes of itself. They stand here, and not in proofs/, since an implementation of a trait cites them;
--- nothing here is to be believed.
+-- Proofs that a pass needs for its own trait items. They are here and not in proofs/ since an implementation of a trait
+-- names them. Nothing here must be believed.
 use Rattle.std.proofs.Common.{◌≡◌, ℕ, ◌*◌, ◌≤◌, List, [], ◌∷◌, ◌++◌, map, filter, Bool, true, false, cond, ◌||◌, refl, sym, ap, ◌∙◌}
 use Rattle.std.specs.List.{list_any}
 use Rattle.std.proofs.Math.Nat.{one-le-mul}
@@ -14,36 +14,36 @@ use Rattle.pass_trait.specs.Code.{CodeRule, HasOneResult, SeesCodeAlone, placele
 use Rattle.pass_trait.specs.Steps.{Step, EachCode}
 use Rattle.pass_trait.specs.Nops.{is_added_save, has_added_saves, stays, thinned_blocks, thinned, IsThinned}
 
--- what holds of the rules for code of both
+-- if every code rule of both lists has the property, so has every one of the concatenated list
 each_then : (P : CodeRule → Type 0) (steps more : List Step) → EachCode P steps → EachCode P more → EachCode P (steps ++ more)
 each_then P [] more h k = k
 each_then P (s ∷ steps) more h k = (h.0, each_then P steps more h.1 k)
 
--- where the rules for code of both lists of steps have one result each, so do those of one list after the other
+-- if the code rules of both lists are functional, so are those of the concatenated list
 pub one_then : (steps more : List Step) → EachCode HasOneResult steps → EachCode HasOneResult more → EachCode HasOneResult (steps ++ more)
 one_then = each_then HasOneResult
 
--- where those of both lists see code alone, so do those of one list after the other
+-- if the code rules of both lists ignore debug items, so do those of the concatenated list
 pub same_then : (steps more : List Step) → EachCode SeesCodeAlone steps → EachCode SeesCodeAlone more → EachCode SeesCodeAlone (steps ++ more)
 same_then = each_then SeesCodeAlone
 
--- factors are at least 1 with each other
+-- the product of two factors of at least 1 is at least 1
 pub grows_then : (a b : ℕ) → 1 ≤ a → 1 ≤ b → 1 ≤ a * b
 grows_then a b = one-le-mul
 
--- a rule that is a function has one result; and where it does the same to functions without positions, it sees code alone
+-- a code rule that is the graph of a function is functional
 pub one_of : (make : Function → Function) → HasOneResult (λ f g. g ≡ make f)
 one_of make f g h a b = a ∙ sym b
 
--- a rule that is a function sees code alone where it commutes with forgetting positions
+-- a code rule that is the graph of a function ignores debug items if the function commutes with erasing positions
 pub same_of : (make : Function → Function) → ((f : Function) → placeless (make f) ≡ make (placeless f)) → SeesCodeAlone (λ f g. g ≡ make f)
 same_of make commutes f f' g g' alike a b = ap placeless a ∙ commutes f ∙ ap make alike ∙ sym (commutes f') ∙ ap placeless (sym b)
 
--- of one function taking out no-operations makes one
+-- removing no-operations is functional
 pub one_thinned : HasOneResult IsThinned
 one_thinned = one_of thinned
 
--- whether something is a slot store that was added doesn't hang on its position
+-- whether an item is an added slot store doesn't depend on its position
 save_placeless : (k : ItemKind) (o : Origin) → is_added_save k (placeless_origin o) ≡ is_added_save k o
 save_placeless (Code i n) (Kept p) = refl
 save_placeless (Code i n) (Before p) = refl
@@ -81,6 +81,6 @@ thinned_placeless f =
     ap (λ (z : Bool). thinned_blocks z (map placeless_block f.blocks)) (sym (saves_placeless f.blocks)) in
     λ i. record f { blocks = e i }
 
--- taking out no-operations sees no positions
+-- removing no-operations doesn't depend on positions
 pub same_thinned : SeesCodeAlone IsThinned
 same_thinned = same_of thinned thinned_placeless

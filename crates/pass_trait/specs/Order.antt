@@ -1,4 +1,4 @@
--- The order of losses.
+-- The order of a pass's losses.
 use Rattle.std.specs.Prelude.{◌≡◌, ◌⊎◌, ℕ, ◌<◌, List, AllPairs}
 use Rattle.mir_func.specs.declared.position.Pos.{Pos}
 use Rattle.pass_trait.specs.declared.loss.Reason.{Reason}
@@ -7,7 +7,7 @@ use Rattle.pass_trait.specs.declared.loss.Lost.{Lost}
 use Rattle.pass_trait.specs.declared.loss.Lost.TheVariants.{Number, Mark, Register}
 use Rattle.pass_trait.specs.declared.loss.Loss.{Loss}
 
--- the order of reasons
+-- the rank of a reason: reports list losses of one item by it
 abbrev pub reason_rank : Reason → ℕ
 reason_rank Removed = 0
 reason_rank WrongPlace = 1
@@ -19,11 +19,11 @@ reason_rank CallNamed = 6
 reason_rank EntryLoop = 7
 reason_rank NoSlot = 8
 
--- by block numbers, and in a block by indices
+-- order of positions: by block number, then by index in the block
 abbrev pub IsEarlier : Pos → Pos → Type 0
 IsEarlier p q = (p.block < q.block) ⊎ ((p.block ≡ q.block) × (p.item < q.item))
 
--- numbers come before marks, and marks before registers
+-- numbers come before debug values, and debug values before registers
 abbrev pub ComesBefore : Lost → Lost → Type 0
 ComesBefore (Number k) (Number l) = k < l
 ComesBefore (Number k) (Mark q) = Unit {0}
@@ -35,10 +35,10 @@ ComesBefore (Register r) (Number l) = ⊥
 ComesBefore (Register r) (Mark q) = ⊥
 ComesBefore (Register r) (Register s) = r < s
 
--- by what is lost; and losses of one thing by their reasons
+-- losses are ordered by what is lost, and then by the rank of their reasons
 abbrev pub LossComesBefore : Loss → Loss → Type 0
 LossComesBefore a b = ComesBefore a.what b.what ⊎ ((a.what ≡ b.what) × (reason_rank a.reason < reason_rank b.reason))
 
--- each comes before all that follow it
+-- each loss comes before all later ones, so there are no duplicates
 abbrev pub IsInOrder : List Loss → Type 0
 IsInOrder losses = AllPairs LossComesBefore losses

@@ -1,4 +1,4 @@
--- How far a pass may make a function grow.
+-- Bounds on how much a pass may enlarge a function.
 use Rattle.std.specs.Prelude.{ℕ, ◌+◌, ◌*◌, ◌≤◌, max, List, [], ◌∷◌, ◌++◌, length, count_by, flat_map, Some, None, Bool, false}
 use Rattle.rv64_instr.specs.Row.{row_of}
 use Rattle.rv64_instr.specs.Parts.{is_call}
@@ -14,12 +14,12 @@ use Rattle.mir_func.specs.Limits.{MAX_BLOCKS, MAX_SLOTS}
 use Rattle.sem_mir.specs.Align.{is_code}
 use Rattle.pass_trait.specs.Change.{Change}
 
--- the greatest of some numbers, or 0 where there is none
+-- the greatest of some numbers, or 0 if there are none
 abbrev pub greatest : List ℕ → ℕ
 greatest [] = 0
 greatest (n ∷ ns) = max n (greatest ns)
 
--- the debug instruction numbers that an item gives or asks for
+-- the debug instruction number that an item defines or refers to, if any
 abbrev pub numbers_of : ItemKind → List ℕ
 numbers_of (Code i (Some k)) = k ∷ []
 numbers_of (Code i None) = []
@@ -29,15 +29,16 @@ numbers_of (Mark v Nothing) = []
 numbers_of (Mark v (Constant n)) = []
 numbers_of (Mark v (At r)) = []
 
--- the debug instruction numbers of a function with its substitutions: on items, in marks, and on both sides of entries
+-- the debug instruction numbers of a function with its substitutions: of items, of debug values' operands, and on both sides of
+-- substitutions
 abbrev pub numbers_in : List Block → List Entry → List ℕ
 numbers_in blocks subs = flat_map (λ i. numbers_of i.kind) (items_of blocks) ++ flat_map (λ e. e.src.number ∷ e.dst.number ∷ []) subs
 
--- the greatest debug instruction number that the function or its substitutions have: above it all are fresh
+-- the greatest debug instruction number of the function and its substitutions: all greater ones are fresh
 abbrev pub greatest_number : Function → List Entry → ℕ
 greatest_number f subs = greatest (numbers_in f.blocks subs)
 
--- how many items a function has, marks and phis among them
+-- how many items a function has, debug items included
 abbrev pub item_count : Function → ℕ
 item_count f = length (items_of f.blocks)
 
@@ -55,20 +56,20 @@ calls (Phi p k) = false
 abbrev pub call_count : Function → ℕ
 call_count f = count_by (λ i. calls i.kind) (items_of f.blocks)
 
--- no virtual register stands in the function
+-- the function names no virtual register
 abbrev pub IsPhysical : Function → Type 0
 IsPhysical f = AllItems (λ i. HasPhysical i.kind) f.blocks
 
--- how many items a pass may make of some: its factor times as many, counted with as many more as its count for each block that a
--- function may have
+-- the bound on items after a pass: `factor` times the items before it, plus `factor * count` for each of the `MAX_BLOCKS` blocks
+-- that a function may have
 abbrev pub most : (factor count items : ℕ) → ℕ
 most factor count n = factor * (n + MAX_BLOCKS * count)
 
--- the most debug instruction numbers that it may add
+-- the bound on the debug instruction numbers that a pass may use above the greatest one
 abbrev pub most_numbers : (factor count : ℕ) → Function → ℕ
 most_numbers factor count f = count * most factor count (item_count f)
 
--- the bounds of a pass with a factor and a count
+-- the size bounds of a pass with this factor and count
 pub record KeepsSizes (factor count : ℕ) (c : Change) : Type 0 where
   pub items : item_count c.new ≤ most factor count (item_count c.old)
   pub code : code_count c.new ≤ most factor count (code_count c.old)

@@ -1,4 +1,4 @@
--- Passes in a row: each step keeps its rule for code and its rule for debug items, of the same two functions.
+-- A pass as a sequence of steps. Each step has a code rule and a debug rule, both about the same two functions.
 use Rattle.std.specs.Prelude.{◌≡◌, List, [], ◌∷◌, ◌++◌}
 use Rattle.mir_func.specs.declared.entry.Entry.{Entry}
 use Rattle.mir_func.specs.Function.{Function}
@@ -15,32 +15,33 @@ pub record Step : Type 1 where
   pub code : CodeRule
   pub debug : Rule
 
--- the rules for code of all steps
+-- every step's code rule has the property
 abbrev pub EachCode : (CodeRule → Type 0) → List Step → Type 0
 EachCode P [] = Unit {0}
 EachCode P (s ∷ steps) = P s.code × EachCode P steps
 
--- what the rules for code make, one after another
+-- the code rules composed, in order
 abbrev pub MakesInTurn : List Step → CodeRule
 MakesInTurn [] f g = g ≡ f
 MakesInTurn (step ∷ steps) f h = (g : Function) × step.code f g × MakesInTurn steps g h
 
--- what one step keeps
+-- what a run of one step guarantees: a sound function, the code rule on both functions stripped of debug items, and the debug
+-- rule
 pub record KeepsStep (step : Step) (c : Change) (losses : List Loss) : Type 0 where
   pub sound : IsSound c.new
   pub code : step.code (stripped c.old) (stripped c.new)
   pub items : KeepsItems step.debug c losses
 
--- what steps keep one after another: a function with its substitutions stands between them, sound, and the losses are those
--- of one after those of the other
+-- What a run of several steps guarantees: each step's guarantees in order, through intermediate functions with their
+-- substitutions; the losses are concatenated
 abbrev pub KeepsSteps : List Step → Change → List Loss → Type 0
 KeepsSteps [] c losses = (c.new ≡ c.old) × (c.new_subs ≡ c.old_subs) × (losses ≡ [])
 KeepsSteps (step ∷ steps) c losses = (f : Function) × (subs : List Entry) × (here later : List Loss) ×
     KeepsStep step (record c { new = f; new_subs = subs }) here × KeepsSteps steps (record c { old = f; old_subs = subs }) later × (losses ≡ here ++ later)
 
--- the code that is there after the steps is what their rules for code make of the code before them. So debug items change no
--- code: of functions whose code is alike, whatever debug items stand in them, the steps make functions whose code is alike; and
--- of those with the same code, with its origins, they make such
+-- The code after the steps is determined by their code rules from the code before them. So debug items don't affect code: from
+-- two functions whose code is equal up to positions, whatever their debug items are, the steps make functions whose code is
+-- equal up to positions; and from two with exactly the same code and origins they make two with the same code and origins
 pub record MakeCodeAlone (steps : List Step) : Type 0 where
   pub made : (c : Change) (lost : List Loss) → KeepsSteps steps c lost → MakesInTurn steps (stripped c.old) (stripped c.new)
   pub alike : (c d : Change) (lost lost' : List Loss) → KeepsSteps steps c lost → KeepsSteps steps d lost' →

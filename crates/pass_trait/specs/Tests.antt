@@ -1,4 +1,4 @@
--- What tests ask of the definitions.
+-- Statements that tests check about the definitions.
 use Rattle.std.specs.Prelude.{◌≡◌, ℕ, ◌<◌, List, map, length, cond, nat_eq, false}
 use Rattle.rv64_instr.specs.declared.place.Place.TheVariants.{Register}
 use Rattle.mir_func.specs.declared.position.Pos.{Pos}
@@ -9,11 +9,11 @@ use Rattle.pass_trait.specs.Code.{CodeRule}
 use Rattle.pass_trait.specs.Causes.{IsWrong}
 use Rattle.pass_trait.specs.Nops.{thinned_block, nop_rule}
 
--- a wrong rule for code. It sees where marks stood: no-operations go only from blocks whose silent index is their number of
--- items
+-- a wrong code rule: it depends on debug items. No-operations are removed only from blocks whose silent index equals their
+-- number of items
 abbrev pub IsWatching : CodeRule
 IsWatching f g = g ≡ record f { blocks = map (λ b. cond (nat_eq b.silent (length b.items)) (thinned_block false b) b) f.blocks }
 
--- where nothing changes, no real register is wrong
+-- under a change that changes nothing, no real register is wrong at any position
 abbrev pub NothingIsWrong : Type 0
 NothingIsWrong = (f : Function) (subs : List Entry) (r : ℕ) (at : Pos) → r < 32 → IsWrong nop_rule (change f subs f subs) (Register r) at → ⊥

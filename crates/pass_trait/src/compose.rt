@@ -1,4 +1,4 @@
-//! Passes in a row: none, and one after another.
+//! Composition of passes: the empty pass, and one pass after another.
 ghost use Rattle.std.specs.Prelude.{◌≡◌, ◌++◌, ◌+◌, ◌*◌, true, false, not, ◌&&◌, ◌||◌, []};
 ghost use Rattle.pass_trait.specs.Laws.{one_then, same_then, grows_then};
 ghost use Rattle.std.proofs.Common.{rules};
@@ -42,12 +42,12 @@ impl Pass for Nothing {
     ghost grows = { Prim.search rules };
 }
 
-/// One pass, and then another.
+/// Runs one pass, and then another.
 #[derive(Drop)]
 pub struct Then<A: Pass, B: Pass> {
-    /// The one.
+    /// The pass that runs first.
     pub first: A,
-    /// The other.
+    /// The pass that runs second.
     pub second: B,
 }
 

@@ -1,27 +1,27 @@
-//! What passes lose, and why.
+//! What passes lose of debug information, and for which reasons.
 use base_ids::code::DebugNumber;
 use base_list::List;
 use mir_func::position::Pos;
 use rv64_instr::reg::Reg;
 
-/// Why something is lost, in the order in which reports have them.
+/// Why something is lost. The order is that of reports.
 #[derive(Clone, Copy, Debug, PartialEq, Eq, PartialOrd, Ord)]
 pub enum Reason {
     /// Its instruction was removed, and isn't a copy.
     Removed,
-    /// It asks for a place that a removed instruction would have set.
+    /// The location that it reads may hold another value than before the pass.
     WrongPlace,
-    /// It asks for a register that spilling took as scratch.
+    /// It reads a register that spilling uses as scratch.
     Scratch,
-    /// Its block was bypassed.
+    /// Its block was bypassed: all branches to it go on to where it leads.
     Bypassed,
-    /// Its block can't be reached.
+    /// Its block is unreachable.
     Unreachable,
     /// Fewer than two scratch registers are free.
     NoScratch,
     /// A call or added code names the register.
     CallNamed,
-    /// The register is live into the first block, to which a branch leads.
+    /// The register is live into the first block, which is the target of a branch.
     EntryLoop,
     /// There are as many slots and stack objects as a function may have.
     NoSlot,
@@ -30,23 +30,23 @@ pub enum Reason {
 /// What is lost.
 #[derive(Clone, Copy, Debug, PartialEq, Eq, PartialOrd, Ord)]
 pub enum Lost {
-    /// A debug instruction number: it gives no value any more.
+    /// A debug instruction number: no operand or DBG_PHI has its value any more.
     Number(DebugNumber),
-    /// The mark from this position of the source: it assigns nothing any more, or is gone.
+    /// The debug value at this position of the source: it is undef now, or deleted.
     Mark(Pos),
     /// A register that was to be spilled and wasn't.
     Register(Reg),
 }
 
-/// Something that a pass lost, and why (LLVM: a dropped debug value).
+/// One loss of a pass, with its reason (LLVM: a dropped debug value).
 #[derive(Clone, Copy, Debug, PartialEq, Eq, PartialOrd, Ord)]
 pub struct Loss {
-    /// What.
+    /// What is lost.
     pub what: Lost,
-    /// Why.
+    /// Why it is lost.
     pub reason: Reason,
 }
 
-/// What passes lost. Those of one pass are in order: numbers, marks by their positions, registers, and for one thing
-/// by reasons; each stands once.
+/// The losses of a pass or of several. Those of one step are ordered: numbers, debug values by position, registers, and
+/// for the same one by reason. They have no duplicates.
 pub type Losses = List<Loss>;

@@ -1,4 +1,4 @@
-//! A small pass: no-operations are taken out. It is a model for the next pass.
+//! A small example pass that removes no-operations, as a pattern for new passes.
 ghost use Rattle.std.specs.Prelude.{◌≡◌, ◌++◌, [], ◌∷◌, true, false, filter, IfOk, OnOk, IsTrue};
 ghost use Rattle.std.specs.List.{list_any};
 ghost use Rattle.rv64_instr.specs.Row.{row_of};
@@ -22,8 +22,8 @@ use rv64_instr::decoded::Decoded;
 use rv64_instr::instr::Instr;
 use std::alloc::{AllocError, Global};
 
-/// Takes out no-operations: constant definitions of x0. Their numbers are lost. A function to which slot stores were
-/// added stays as it is.
+/// Removes no-operations: constant definitions of x0. Their numbers are lost. A function to which slot stores were
+/// added stays unchanged.
 #[derive(Drop)]
 pub struct NopPass;
 
@@ -57,7 +57,8 @@ impl Pass for NopPass {
     ghost grows = { Prim.search rules };
 }
 
-/// Takes out the no-operations, and gives their numbers.
+/// Removes the no-operations and returns their numbers, in order. A function to which slot stores were added stays
+/// unchanged, and no numbers are returned.
 fn take_out_nops(alloc: Global, f: &mut Func) -> Result<Vec<DebugNumber>, AllocError>
     ensures code { OnOk result (f.new ≡ thinned f.old) }
     ensures numbers { IfOk result (λ ns. ns.items ≡ lost_in f.old) }
@@ -81,21 +82,21 @@ fn is_nop(i: &Instr) -> bool
     }
 }
 
-/// Whether slot stores were added to blocks.
+/// Whether the blocks have slot stores that a pass added.
 fn has_added_saves(blocks: &[Block]) -> bool
     ensures { result ≡ has_added_saves blocks.now }
 {
     blocks.iter().any(|b| saves_in(b.items.as_slice()))
 }
 
-/// Whether slot stores were added to items.
+/// Whether the items have slot stores that a pass added.
 fn saves_in(items: &[Item]) -> bool
     ensures { result ≡ list_any (λ i. is_added_save i.kind i.origin) items.now }
 {
     items.iter().any(is_added_save)
 }
 
-/// Whether the item is a slot store that was added.
+/// Whether the item is a slot store that a pass added.
 fn is_added_save(i: &Item) -> bool
     ensures { result ≡ is_added_save i.now.kind i.now.origin }
 {
@@ -131,7 +132,7 @@ fn push_numbers(items: &[Item], numbers: &mut Vec<DebugNumber>) -> Result<(), Al
     Ok(())
 }
 
-/// The number of a no-operation, where it has one.
+/// The number of a no-operation, if it has one.
 fn nop_number(k: &ItemKind) -> Option<DebugNumber>
     ensures { result ≡ nop_number k.now }
 {
@@ -141,7 +142,7 @@ fn nop_number(k: &ItemKind) -> Option<DebugNumber>
     }
 }
 
-/// Takes the no-operations out of blocks.
+/// Removes the no-operations from blocks.
 fn take_out(blocks: &mut Vec<Block>)
     ensures { blocks.new.items ≡ thinned_blocks false blocks.old.items }
 {
@@ -150,7 +151,7 @@ fn take_out(blocks: &mut Vec<Block>)
     }
 }
 
-/// Takes the no-operations out of items.
+/// Removes the no-operations from items.
 fn take_out_of(items: &mut Vec<Item>)
     ensures { items.new.items ≡ filter (stays false) items.old.items }
 {
@@ -167,7 +168,7 @@ fn is_nop_item(i: &Item) -> bool
     }
 }
 
-/// The losses of numbers for one reason, each once and in order.
+/// The losses of these numbers for one reason, without duplicates and in order.
 pub fn lost_numbers(
     alloc: Global,
     numbers: Vec<DebugNumber>,

@@ -1,4 +1,4 @@
-//! What a pass is, and the laws that each keeps.
+//! The trait of passes, and the laws that each pass keeps.
 ghost use Rattle.std.specs.Prelude.{◌≡◌, ℕ, ◌+◌, ◌*◌, ◌<◌, ◌≤◌, ◌^◌, List, Bool, IsTrue, IfOk, OnOk};
 ghost use Rattle.mir_func.specs.Limits.{MAX_SLOTS};
 ghost use Rattle.pass_trait.specs.Change.{change};
@@ -12,36 +12,37 @@ use mir_func::func::Func;
 use mir_substitution::substitutions::Substitutions;
 use std::alloc::{AllocError, Global};
 
-/// A change of a function and its substitutions, with what it keeps. A pass states of itself the facts below, and its
-/// laws are the clauses of `run` over them:
-/// - `follows`: where its parts fit (`fits`), whatever source the function followed before, with the source's ends of
-///   blocks if the pass asks for them, it follows after, so that debug locations that are true of the function after
-///   the pass are true of the source; and the source's ends of blocks stay if the pass keeps them.
-/// - `steps`: it goes by its steps, one after the other, through sound functions. Of each step the code after it is
-///   what its rule for code makes of the code before it, without marks, phis and numbers. And each mark, phi, number
-///   and substitution stays or the losses name it with its cause, but for numbers that a substitution replaces or whose
-///   code defines nothing. The losses name nothing else, and nothing is added but what the step says of itself: a
-///   substitution only for a number that is gone, a kill only for what is lost with a block that is bypassed.
-/// - `sizes`: how many items, calls, numbers and slots there may be after it, so that none runs out.
-/// - `same`: the pass itself stays as it was, and may run again.
+/// A transformation of a function and its substitutions, with its guarantees. A pass states the facts below of itself,
+/// and its laws are the clauses of `run` over them:
+/// - `follows`: the pass preserves the simulation, if its parts fit (`fits`): a source that simulates the function before
+///   the pass, with matched block ends if the pass requires them (`asks`), simulates the function after it. So debug
+///   locations that are true of the new function are true of the source. Matched block ends are kept if it says (`keeps`).
+/// - `steps`: it runs its steps in order, and the function is sound after each. The code after a step, stripped of
+///   debug values, DBG_PHIs and numbers, is related to the code before it by the step's code rule. And each debug value,
+///   DBG_PHI, number and substitution is kept, or the losses name it with its cause, except for numbers that are
+///   substituted or whose code defines nothing. The losses name nothing else, and nothing is added but what the step
+///   declares: a substitution only for a number that no item has any more, a kill only for what is lost with a bypassed
+///   block.
+/// - `sizes`: bounds on items, calls, numbers and slots after it, by which a caller sees that none runs out.
+/// - `same`: the pass value is unchanged, and may be run again.
 ///
-/// No step sees where debug items stood (`same_code`), so that they never change code: `debug_items_change_no_code`.
+/// No step's code rule depends on debug items (`same_code`), so they never affect code: `debug_items_change_no_code`.
 pub trait Pass {
-    /// Whether it is right only for functions with the source's ends of blocks.
+    /// Whether the laws need that the function has the source's block ends (`EndsAsSource`).
     ghost asks: { Bool };
-    /// Whether it keeps the source's ends of blocks.
+    /// Whether it keeps the source's block ends.
     ghost keeps: { Bool };
-    /// Whether its parts fit, where it has parts: each keeps what a later one asks for.
+    /// Whether its parts fit: each keeps the block ends that a later one needs. A pass without parts fits.
     ghost fits: { Bool };
-    /// How many times as many items there may be after it, at least 1.
+    /// The factor in the bound on items and on code after it, at least 1.
     ghost factor: { ℕ };
-    /// How many items more there may be for each block, how many numbers for each item, and how many times as many
-    /// slots as a function may have.
+    /// The count in the bounds: how many items more for each block that a function may have, how many numbers for each
+    /// item, and how many times `MAX_SLOTS` slot numbers.
     ghost count: { ℕ };
-    /// Its rule for code and its rule for debug items, or those of its parts, one after the other.
+    /// Its steps, each with a code rule and a debug rule; for a composed pass those of its parts, in order.
     ghost steps: { Self → List Step };
 
-    /// Runs the pass, and gives what it lost. After an error the function and its substitutions are only to be dropped.
+    /// Runs the pass and returns what it lost. After an error the function and its substitutions may only be dropped.
     fn run(
         &mut self,
         alloc: Global,
@@ -55,17 +56,17 @@ pub trait Pass {
         ensures sizes { OnOk result (KeepsSizes factor count (change f.old subs.old f.new subs.new)) }
         ensures same { self.new ≡ self.old };
 
-    /// Of one function's code each step makes one.
+    /// Each step's code rule is functional: it determines the code after the step.
     ghost one_code: { (s : Self) → EachCode HasOneResult (steps s) };
-    /// No step sees in code where debug items stood.
+    /// No step's code rule depends on debug items.
     ghost same_code: { (s : Self) → EachCode SeesCodeAlone (steps s) };
     /// Its factor is at least 1.
     ghost grows: { 1 ≤ factor };
 }
 
-/// The code after a pass is what the rules for code of its steps make of the code before it. So debug items never
-/// change code: of two functions whose code is alike, whatever debug items stand in them, it makes two whose code is
-/// alike.
+/// The code after a pass is what the code rules of its steps make of the code before it. So debug items never affect
+/// code: from two functions whose code is equal up to positions, whatever their debug items are, it makes two functions
+/// whose code is equal up to positions.
 pub fn debug_items_change_no_code<P: Pass>(pass: &P)
     ensures { MakeCodeAlone (P.steps pass.now) }
 {}

@@ -1,4 +1,4 @@
--- Which places hold which numbers along a block.
+-- Which places have which known constant values along a block.
 use Rattle.std.specs.Prelude.{ℕ, zero, suc, cond, nat_eq, Option, Some, None}
 use Rattle.rv64_instr.specs.declared.place.Place.{Place}
 use Rattle.rv64_instr.specs.declared.place.Place.TheVariants.{Register, Slot, Const}
@@ -7,37 +7,37 @@ use Rattle.rv64_instr.specs.Row.{Row, Fixes, Moves, Sets, Addresses, Loads, Stor
 use Rattle.mir_func.specs.declared.item.ItemKind.{ItemKind}
 use Rattle.mir_func.specs.declared.item.ItemKind.TheVariants.{Code, Mark, Phi}
 
--- the numbers, modulo 2^64, of places that are known to hold one
+-- the known values of places, as numbers modulo 2^64
 abbrev pub Known : Type 0
 Known = Place → Option ℕ
 
--- no place is known to hold a number, as at a block's start
+-- no value is known, as at a block's start
 abbrev pub nothing_known : Known
 nothing_known x = None
 
--- what is known without what a row sets: sixteen registers at a call, and no slot
+-- the known values without those of the places that the row sets; a call sets sixteen registers and no slot
 abbrev pub forgotten : Row → Known → Known
 forgotten row known x = cond (defines_of row x) None (known x)
 
--- what a register holds: x0 holds 0
+-- the known value of a register; x0 is 0
 abbrev pub number_in : Known → ℕ → Option ℕ
 number_in known zero = Some 0
 number_in known (suc r) = known (Register (suc r))
 
--- the place holds the number, if there is one
+-- the register's known value is replaced, or is unknown now if there is none
 abbrev pub with_register : ℕ → Option ℕ → Known → Known
 with_register r n known (Register q) = cond (nat_eq r q) n (known (Register q))
 with_register r n known (Slot s) = known (Slot s)
 with_register r n known (Const c) = known (Const c)
 
--- the slot holds the number, if there is one
+-- the slot's known value is replaced, or is unknown now if there is none
 abbrev pub with_slot : ℕ → Option ℕ → Known → Known
 with_slot s n known (Register q) = known (Register q)
 with_slot s n known (Slot t) = cond (nat_eq s t) n (known (Slot t))
 with_slot s n known (Const c) = known (Const c)
 
--- what is known after a row, of which what it sets is forgotten: the number that a constant definition sets, but not of
--- x0, and the number that is stored into a slot
+-- the known values after a row, once those of what it sets are removed: a constant definition adds the value of its
+-- register, except x0, and a store into a slot adds that of the slot, if the stored value is known
 abbrev pub learned : Row → Known → Known
 learned (Fixes zero n) known = known
 learned (Fixes (suc rd) n) known = with_register (suc rd) (Some n) known
@@ -54,7 +54,7 @@ learned (Calls name args) known = known
 learned (Returns results) known = known
 learned Unfit known = known
 
--- what is known past code, by its row; debug items change nothing
+-- the known values after an item; debug items change nothing
 abbrev pub known_past : ItemKind → Known → Known
 known_past (Code i k) known = learned (row_of i) (forgotten (row_of i) known)
 known_past (Mark v m) known = known

@@ -1,5 +1,5 @@
--- Proofs of what the pass owes of its rule for code. They stand here, and not in proofs/, since an implementation of the
--- trait of passes cites them; nothing here is to be believed.
+-- Proofs that the pass needs for its own trait items. They are here and not in proofs/ since an implementation of the
+-- trait of passes names them. Nothing here must be believed.
 use Rattle.std.proofs.Common.{◌≡◌, List, [], ◌∷◌, map, refl, ap}
 use Rattle.mir_func.specs.declared.item.Item.{Item}
 use Rattle.mir_func.specs.declared.block.Block.{Block}
@@ -9,7 +9,7 @@ use Rattle.pass_trait.specs.Laws.{one_of, same_of}
 use Rattle.remat_pass.specs.Known.{Known, nothing_known, known_past}
 use Rattle.remat_pass.specs.Remat.{set_in, set_items, set_blocks, rematerialized, IsRematerialized}
 
--- of one function it makes one
+-- the rule is functional
 pub one_rematerialized : HasOneResult IsRematerialized
 one_rematerialized = one_of rematerialized
 
@@ -28,6 +28,6 @@ blocks_placeless (b ∷ bs) =
 rematerialized_placeless : (f : Function) → placeless (rematerialized f) ≡ rematerialized (placeless f)
 rematerialized_placeless f = let e = blocks_placeless f.blocks in λ i. record f { blocks = e i }
 
--- it sees no positions
+-- the rule doesn't depend on positions
 pub same_rematerialized : SeesCodeAlone IsRematerialized
 same_rematerialized = same_of rematerialized rematerialized_placeless

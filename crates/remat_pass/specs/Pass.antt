@@ -1,10 +1,10 @@
--- The step of the pass.
+-- The pass's step.
 use Rattle.std.specs.Prelude.{◌≡◌, []}
 use Rattle.pass_trait.specs.Rule.{Rule}
 use Rattle.pass_trait.specs.Steps.{Step}
 use Rattle.remat_pass.specs.Remat.{IsRematerialized}
 
--- the rule of its debug items: nothing happens to them
+-- the debug rule: debug items are unchanged
 abbrev pub remat_rule : Rule
 remat_rule = record {
   loses = λ c at loss. ⊥;
@@ -17,6 +17,6 @@ remat_rule = record {
   kills = λ c block kills. kills ≡ [];
 }
 
--- its one step
+-- the pass's only step
 abbrev pub remat_step : Step
 remat_step = record { code = IsRematerialized; debug = remat_rule }

@@ -1,4 +1,4 @@
--- The pass that sets constants where they are read, instead of copying or loading them.
+-- Rematerialization of constants: a copy or slot load of a known constant becomes its definition.
 use Rattle.std.specs.Prelude.{◌≡◌, ℕ, zero, suc, ◌/◌, ◌%◌, pos, List, [], ◌∷◌, map, filter, Option, Some, None, cond}
 use Rattle.rv64_instr.specs.declared.op.Op.TheVariants.{Immediate, Lui}
 use Rattle.rv64_instr.specs.declared.op.ImmediateOp.TheVariants.{Addi}
@@ -22,18 +22,19 @@ use Rattle.remat_pass.specs.Known.{Known, nothing_known, number_in, known_past}
 abbrev pub upper_part : ℕ → ℕ
 upper_part n = n / 4096 % 1048576
 
--- the constant definition of a number: `ADDI rd, x0, n` where n has 12 bits, and `LUI` otherwise
+-- the constant definition of n: `ADDI rd, x0, n` if n fits in 12 signed bits, and `LUI` otherwise, with these operands
+-- appended
 abbrev pub constant_code : (rd n : ℕ) → List Operand → Instruction
 constant_code rd n rest = cond (has_12_bits (signed n))
     (record { op = Immediate Addi; operands = Def rd ∷ Use 0 ∷ Imm (signed n) ∷ rest })
     (record { op = Lui; operands = Def rd ∷ Imm (pos (upper_part n)) ∷ rest })
 
--- a register that is set to a number
+-- the constant for a register, if the number is known
 abbrev pub set_to : (rd : ℕ) → Option ℕ → Option Constant
 set_to rd None = None
 set_to rd (Some n) = Some (record { register = rd; number = n })
 
--- what code sets to a number that is known: copies but those into x0, and slot loads
+-- the known constant that code sets by a copy, except into x0, or by a slot load
 abbrev pub constant_set : Known → Row → Option Constant
 constant_set known (Moves zero rs) = None
 constant_set known (Moves (suc rd) rs) = set_to (suc rd) (number_in known rs)
@@ -50,24 +51,24 @@ constant_set known (Calls name args) = None
 constant_set known (Returns results) = None
 constant_set known Unfit = None
 
--- the code with the constant definition in its place, and with its implicit operands
+-- the instruction replaced by a constant definition, which keeps its implicit operands
 abbrev pub set_or_same : Option Constant → Instruction → Instruction
 set_or_same None i = i
 set_or_same (Some c) i = constant_code c.register c.number (filter is_implicit i.operands)
 
--- the item with a constant definition in place of a copy or a slot load whose number is known
+-- the item with a constant definition in place of a copy or slot load of a known constant
 abbrev pub set_in : Known → ItemKind → ItemKind
 set_in known (Code i k) = Code (set_or_same (constant_set known (row_of i)) i) k
 set_in known (Mark v m) = Mark v m
 set_in known (Phi p k) = Phi p k
 
--- the items of a block, from the top down
+-- the items of a block, in order
 abbrev pub set_items : Known → List Item → List Item
 set_items known [] = []
 set_items known (i ∷ is) =
     record i { kind = set_in known i.kind } ∷ set_items (known_past (set_in known i.kind) known) is
 
--- a block in which constants are set again; nothing is known at its start
+-- a block with its constants rematerialized; nothing is known at its start
 abbrev pub set_block : Block → Block
 set_block b = record b { items = set_items nothing_known b.items }
 
@@ -75,10 +76,10 @@ set_block b = record b { items = set_items nothing_known b.items }
 abbrev pub set_blocks : List Block → List Block
 set_blocks blocks = map set_block blocks
 
--- the function in which constants are set again
+-- the function with its constants rematerialized
 abbrev pub rematerialized : Function → Function
 rematerialized f = record f { blocks = set_blocks f.blocks }
 
--- constants are rematerialized within blocks, as a rule for code
+-- rematerialization of constants within blocks, as a code rule
 abbrev pub IsRematerialized : CodeRule
 IsRematerialized f g = g ≡ rematerialized f

@@ -12,7 +12,7 @@ use rv64_instr::operand::{Operand, Operands};
 use rv64_instr::reg::{Reg, physical};
 use std::alloc::{AllocError, Global};
 
-/// A register that is set to a number, which counts modulo 2^64.
+/// A register and the constant to which it is set, as a number modulo 2^64.
 #[derive(Clone, Copy, Debug, PartialEq, Eq)]
 pub struct Constant {
     /// The register.
@@ -31,7 +31,7 @@ fn zero() -> Reg
     }
 }
 
-/// The constant definition, with the implicit ones of these operands.
+/// The constant definition, which keeps the implicit operands among these.
 pub fn constant_code(alloc: Global, c: Constant, operands: &[Operand]) -> Result<Instr, AllocError>
     ensures { IfOk result (λ i. i ≡ constant_code c.register c.number (filter is_implicit operands.now)) }
 {
@@ -48,7 +48,7 @@ pub fn constant_code(alloc: Global, c: Constant, operands: &[Operand]) -> Result
     }
 }
 
-/// `ADDI rd, x0, n`, with the implicit ones of these operands.
+/// `ADDI rd, x0, n`, with the implicit operands among these.
 fn add_number(alloc: Global, rd: Reg, n: i64, operands: &[Operand]) -> Result<Instr, AllocError>
     requires { IsTrue (has_12_bits n) }
     ensures { IfOk result (λ i. i ≡ record {
@@ -67,7 +67,7 @@ fn add_number(alloc: Global, rd: Reg, n: i64, operands: &[Operand]) -> Result<In
     }
 }
 
-/// `LUI rd, n`, with the implicit ones of these operands.
+/// `LUI rd, n`, with the implicit operands among these.
 fn load_upper(alloc: Global, rd: Reg, n: i64, operands: &[Operand]) -> Result<Instr, AllocError>
     requires { IsTrue (is_within (pos 0) (pos 1048575) n) }
     ensures { IfOk result (λ i. i ≡ record {
@@ -85,7 +85,7 @@ fn load_upper(alloc: Global, rd: Reg, n: i64, operands: &[Operand]) -> Result<In
     }
 }
 
-/// Appends the implicit ones of operands.
+/// Appends the implicit operands among these.
 fn push_implicit(list: &mut Operands, operands: &[Operand]) -> Result<(), AllocError>
     ensures { OnOk result (list.new ≡ list.old ++ filter is_implicit operands.now) }
 {

@@ -1,4 +1,4 @@
-//! Which places hold which numbers along a block.
+//! Which places have which known constant values along a block.
 
 ghost use Rattle.std.specs.Prelude.{◌≡◌, cond, None, Some, [], ◌∷◌, OnOk};
 ghost use Rattle.rv64_instr.specs.declared.place.Place.{Place};
@@ -17,7 +17,7 @@ use rv64_instr::reg::Reg;
 use std::alloc::{AllocError, Global};
 use std::collections::HashMap;
 
-/// The numbers, modulo 2^64, of places that are known to hold one.
+/// The known values of places, as numbers modulo 2^64.
 #[derive(Drop)]
 pub struct Known {
     pub registers: HashMap<u32, u64>,
@@ -35,7 +35,7 @@ impl Known {
         }
     }
 
-    /// The number in a register: 0 in x0.
+    /// The known value of a register: 0 for x0.
     fn number_in(&self, r: Reg) -> Option<u64>
         ensures { result ≡ number_in (known_by self.now.registers self.now.slots) r }
     {
@@ -45,7 +45,7 @@ impl Known {
         self.registers.get(&r.number()).copied()
     }
 
-    /// What code sets to a number that is known: copies but those into x0, and slot loads.
+    /// The known constant that code sets by a copy, except into x0, or by a slot load.
     pub fn constant_set(&self, decoded: &Decoded) -> Option<Constant>
         ensures { (row : Row) → Shows decoded.now row →
             result ≡ constant_set (known_by self.now.registers self.now.slots) row }
@@ -72,7 +72,7 @@ impl Known {
         }
     }
 
-    /// Goes past an item: forgets what it sets, and learns what it sets to a number.
+    /// Goes over an item: removes the values of what it sets, and adds the constants that it sets.
     pub fn pass(&mut self, kind: &ItemKind) -> Result<(), AllocError>
         ensures { OnOk result ((x : Place) → known_by self.new.registers self.new.slots x
             ≡ known_past kind.now (known_by self.old.registers self.old.slots) x) }
@@ -88,7 +88,7 @@ impl Known {
         }
     }
 
-    /// Forgets what code sets.
+    /// Removes the values of what code sets.
     fn forget(&mut self, decoded: &Decoded)
         ensures { (row : Row) → Shows decoded.now row → (x : Place) →
             known_by self.new.registers self.new.slots x
@@ -110,7 +110,7 @@ impl Known {
         }
     }
 
-    /// Learns what code sets to a number.
+    /// Adds the constants that code sets.
     fn learn(&mut self, decoded: &Decoded) -> Result<(), AllocError>
         ensures { OnOk result ((row : Row) → Shows decoded.now row → (x : Place) →
             known_by self.new.registers self.new.slots x
@@ -183,7 +183,7 @@ impl Known {
     }
 }
 
-/// A register that is set to a number.
+/// The constant for a register, if the number is known.
 fn set_to(register: Reg, number: Option<u64>) -> Option<Constant>
     ensures { result ≡ set_to register number }
 {

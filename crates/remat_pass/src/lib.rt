@@ -1,7 +1,7 @@
-//! The pass that sets constants again where they are read. Along a block it keeps which registers and frame slots hold
-//! the number of a constant definition. A copy from such a register and a load of such a slot become the constant
-//! definition of that number, so that the copy's source may be dead. What is known is forgotten where it is set, at
-//! calls, and at the block's end: a number over a join isn't kept. Marks, phis, numbers and origins stay as they are.
+//! The rematerialization pass for constants. Along a block it knows which registers and spill slots have the value of a
+//! constant definition. A copy of such a register and a load of such a slot become a definition of the constant, so
+//! that the copy's source may become dead. A value is known until its place is set, until a call for caller-saved
+//! registers, and until the block's end: no value is kept over a join. Debug items, numbers and origins are unchanged.
 #![tactic(auto)]
 
 pub mod constant;

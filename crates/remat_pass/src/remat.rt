@@ -1,4 +1,4 @@
-//! Constants that are set again where they are read.
+//! The pass that rematerializes constants.
 
 ghost use Rattle.std.specs.Prelude.{◌≡◌, [], ◌∷◌, All, IsTrue, OnOk, OnErr, true, false};
 ghost use Rattle.rv64_instr.specs.Row.{row_of};
@@ -23,8 +23,8 @@ use pass_trait::pass::Pass;
 use rv64_instr::instr::Instr;
 use std::alloc::{AllocError, Global};
 
-/// Sets constants again where they are copied or loaded from a slot, so that what held them may be dead. Nothing is
-/// lost.
+/// Rematerializes constants where they are copied or loaded from a slot, so that their sources may become dead. Nothing
+/// is lost.
 #[derive(Drop)]
 pub struct RematPass;
 
@@ -58,7 +58,7 @@ impl Pass for RematPass {
     ghost grows = { Prim.search rules };
 }
 
-/// Sets constants again in a function. After an error, some of them.
+/// Rematerializes the constants of a function. After an error, some of them.
 fn set_constants(alloc: Global, f: &mut Func) -> Result<(), AllocError>
     ensures code { OnOk result (f.new ≡ rematerialized f.old) }
     ensures forms { OnOk result (AllItems (λ i. HasForm i.kind) f.old.blocks) }
@@ -67,7 +67,7 @@ fn set_constants(alloc: Global, f: &mut Func) -> Result<(), AllocError>
     set_blocks(alloc, &mut f.blocks.items)
 }
 
-/// Sets constants again in all blocks. After an error, in some items, and the others stay.
+/// Rematerializes the constants of all blocks. After an error, some of them, and the other items are unchanged.
 pub fn set_blocks(alloc: Global, blocks: &mut Vec<Block>) -> Result<(), AllocError>
     ensures code { OnOk result (blocks.new.items ≡ set_blocks blocks.old.items) }
     ensures forms { OnOk result (AllItems (λ i. HasForm i.kind) blocks.old.items) }
@@ -79,7 +79,7 @@ pub fn set_blocks(alloc: Global, blocks: &mut Vec<Block>) -> Result<(), AllocErr
     Ok(())
 }
 
-/// Sets constants again in the items of a block. After an error, in some, and the others stay.
+/// Rematerializes the constants of a block's items. After an error, some of them, and the other items are unchanged.
 fn set_items(alloc: Global, items: &mut Vec<Item>) -> Result<(), AllocError>
     ensures code { OnOk result (items.new.items ≡ set_items nothing_known items.old.items) }
     ensures forms { OnOk result (All (λ i. HasForm i.kind) items.old.items) }
@@ -93,7 +93,7 @@ fn set_items(alloc: Global, items: &mut Vec<Item>) -> Result<(), AllocError>
     Ok(())
 }
 
-/// Sets a constant in the place of a copy or a load, if its number is known. After an error it is as it was.
+/// Replaces a copy or a load by a constant definition, if its value is known. After an error the item is unchanged.
 fn set_in(alloc: Global, known: &Known, kind: &mut ItemKind) -> Result<(), AllocError>
     ensures code { OnOk result (kind.new ≡ set_in (known_by known.now.registers known.now.slots) kind.old) }
     ensures err { OnErr result (kind.new ≡ kind.old) }

@@ -1,4 +1,4 @@
-//! Loads and stores that are added.
+//! Reloads and spills that are added.
 
 ghost use Rattle.std.specs.Prelude.{◌≡◌, ◌++◌, Some, IfOk, OnOk};
 ghost use Rattle.spill_code.specs.Rewrite.{load, store, added, loads, stores, two_loads, loads_before, entry_stores};
@@ -15,7 +15,7 @@ use rv64_instr::operand::{Operand, Operands};
 use rv64_instr::reg::Reg;
 use std::alloc::{AllocError, Global};
 
-/// `LD r, slot`.
+/// `LD r, slot` (LLVM: `loadRegFromStackSlot`).
 fn load(alloc: Global, r: Reg, slot: SlotId) -> Result<Instr, AllocError>
     ensures { IfOk result (λ i. i ≡ load r slot) }
 {
@@ -29,7 +29,7 @@ fn load(alloc: Global, r: Reg, slot: SlotId) -> Result<Instr, AllocError>
     })
 }
 
-/// `SD r, slot`.
+/// `SD r, slot` (LLVM: `storeRegToStackSlot`).
 fn store(alloc: Global, r: Reg, slot: SlotId) -> Result<Instr, AllocError>
     ensures { IfOk result (λ i. i ≡ store r slot) }
 {
@@ -43,7 +43,7 @@ fn store(alloc: Global, r: Reg, slot: SlotId) -> Result<Instr, AllocError>
     })
 }
 
-/// Code that is added before a position, without number and debug location.
+/// Added code before a position, without number and debug location.
 fn added(p: Pos, i: Instr) -> Item
     ensures { result ≡ added p i }
 {
@@ -83,7 +83,7 @@ pub fn push_store(
     items.push(added(p, store(alloc, r, slot)?))
 }
 
-/// Appends the loads before code at a position.
+/// Appends the reloads before code at a position.
 pub fn push_loads(
     alloc: Global,
     s: &Spilling,
@@ -99,7 +99,7 @@ pub fn push_loads(
     }
 }
 
-/// Appends the load of the first slot, and that of another, if there is one.
+/// Appends the reload of the first slot, and that of another, if there is one.
 fn push_both(
     alloc: Global,
     s: &Spilling,

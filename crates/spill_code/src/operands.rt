@@ -1,4 +1,4 @@
-//! The operands of code whose registers live in slots.
+//! The operands of code in which registers are spilled.
 
 ghost use Rattle.std.specs.Prelude.{◌≡◌, ℕ, IfOk, map};
 ghost use Rattle.spill_code.specs.Rewrite.{slot_used, slot_defined, unless_is, first_used, other_used, first_defined};
@@ -11,7 +11,7 @@ use rv64_instr::operand::{Operand, Operands};
 use rv64_instr::reg::Reg;
 use std::alloc::{AllocError, Global};
 
-/// The first slot that operands read in place of a register.
+/// The slot of the first spilled register that operands read.
 pub fn first_used(homes: &[Home], operands: &[Operand]) -> Option<SlotId>
     ensures { result ≡ first_used homes.now operands.now }
 {
@@ -23,7 +23,7 @@ pub fn first_used(homes: &[Home], operands: &[Operand]) -> Option<SlotId>
     None
 }
 
-/// The first slot but this one that operands read in place of a register.
+/// The first such slot other than this one.
 pub fn other_used(homes: &[Home], slot: SlotId, operands: &[Operand]) -> Option<SlotId>
     ensures { result ≡ other_used homes.now slot operands.now }
 {
@@ -35,7 +35,7 @@ pub fn other_used(homes: &[Home], slot: SlotId, operands: &[Operand]) -> Option<
     None
 }
 
-/// The first slot that operands set in place of a register.
+/// The slot of the first spilled register that operands set.
 pub fn first_defined(homes: &[Home], operands: &[Operand]) -> Option<SlotId>
     ensures { result ≡ first_defined homes.now operands.now }
 {
@@ -81,7 +81,7 @@ fn slot_defined(homes: &[Home], operand: &Operand) -> Option<SlotId>
     }
 }
 
-/// None where it is the slot.
+/// The optional slot, unless it is this one.
 fn unless_is(slot: SlotId, other: Option<SlotId>) -> Option<SlotId>
     ensures { result ≡ unless_is slot other }
 {
@@ -97,7 +97,7 @@ fn unless_is(slot: SlotId, other: Option<SlotId>) -> Option<SlotId>
     }
 }
 
-/// The register that stands for one that is read, where this is the first slot that is read.
+/// The register that replaces one that is read, if this is the first slot that is read.
 fn use_now(s: &Spilling, slot: Option<SlotId>, r: Reg) -> Reg
     ensures { result ≡ use_now s.now slot r }
 {
@@ -114,7 +114,7 @@ fn use_now(s: &Spilling, slot: Option<SlotId>, r: Reg) -> Reg
     }
 }
 
-/// The register that stands for one that is set.
+/// The register that replaces one that is set.
 fn def_now(s: &Spilling, r: Reg) -> Reg
     ensures { result ≡ def_now s.now r }
 {
@@ -124,7 +124,7 @@ fn def_now(s: &Spilling, r: Reg) -> Reg
     }
 }
 
-/// The operand, with scratch registers for spilled ones.
+/// The operand, with scratch registers in place of spilled ones.
 fn renamed_operand(
     s: &Spilling,
     slot: Option<SlotId>,
@@ -161,7 +161,7 @@ fn renamed_operands(
     Ok(renamed)
 }
 
-/// The instruction, with scratch registers for spilled ones.
+/// The instruction, with scratch registers in place of spilled ones.
 pub fn spilled_code(alloc: Global, s: &Spilling, i: &Instr) -> Result<Instr, AllocError>
     ensures { IfOk result (λ made. made ≡ spilled_code s.now i.now) }
 {

@@ -1,4 +1,4 @@
-//! Blocks whose registers live in slots.
+//! Blocks with spill code.
 
 ghost use Rattle.std.specs.Prelude.{◌≡◌, ◌++◌, ◌<◌, ◌^◌, ◌+◌, IfOk, OnOk, All, Some, map, ℕ};
 ghost use Rattle.mir_func.specs.Graph.{below};
@@ -22,8 +22,8 @@ use rv64_instr::reg::Reg;
 use sem_mir::align::position_of;
 use std::alloc::{AllocError, Global};
 
-/// The blocks, with loads, stores and scratch registers for spilled registers, and at the first one's start the stores
-/// of registers that come in with a value.
+/// The blocks, with reloads, spills and scratch registers for spilled registers, and at the start of the first one the
+/// stores of spilled registers that are live into it.
 pub fn spilled_blocks(
     alloc: Global,
     s: &Spilling,
@@ -117,7 +117,7 @@ fn push_item(alloc: Global, s: &Spilling, i: &Item, made: &mut Items) -> Result<
     }
 }
 
-/// Appends code with its loads and its store.
+/// Appends code with its reloads and its spill.
 fn push_code(
     alloc: Global,
     s: &Spilling,
@@ -143,7 +143,7 @@ fn push_code(
     }
 }
 
-/// The position below.
+/// The position after it.
 fn below(p: Pos) -> Pos
     requires { p.item + 1 < 2 ^ 32 }
     ensures { result ≡ below p }
@@ -154,7 +154,7 @@ fn below(p: Pos) -> Pos
     }
 }
 
-/// The place, or the slot in which its register lives.
+/// The location, or the slot of its register if that is spilled.
 fn spilled_place(homes: &[Home], place: Option<Place>) -> Option<Place>
     ensures { result ≡ spilled_place homes.now place }
 {

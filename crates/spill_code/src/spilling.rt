@@ -1,4 +1,4 @@
-//! Which registers live in slots, and which registers stand for them in code.
+//! Which registers are spilled to which slots, and which scratch registers replace them in code.
 
 ghost use Rattle.std.specs.Prelude.{◌≡◌};
 ghost use Rattle.spill_code.specs.Rewrite.{slot_of};
@@ -16,21 +16,21 @@ pub struct Home {
     pub slot: SlotId,
 }
 
-/// The homes of registers, by ascending registers.
+/// The spilled registers with their slots, by ascending registers.
 pub type Homes = List<Home>;
 
-/// The scratch registers and the homes.
+/// The scratch registers, and the slots of spilled registers.
 #[derive(Debug, Drop)]
 pub struct Spilling {
-    /// Stands for the first slot that code reads, and for what it defines.
+    /// The scratch register for the first slot that code reads, and for what it defines.
     pub first: Reg,
-    /// Stands for another slot that it reads.
+    /// The scratch register for another slot that it reads.
     pub second: Reg,
-    /// Where registers live.
+    /// The slots of spilled registers.
     pub homes: Homes,
 }
 
-/// The slot in which a register lives, if it is spilled.
+/// The slot of a register, if it is spilled.
 pub fn slot_of(homes: &[Home], register: Reg) -> Option<SlotId>
     ensures { result ≡ slot_of homes.now register }
 {

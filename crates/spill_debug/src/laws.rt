@@ -1,9 +1,9 @@
-//! Laws of marks that ask by phis, each as the contract of a function that does nothing.
+//! The law of rewritten debug values, as the contract of a function with an empty body.
 
 ghost use Rattle.spill_debug.specs.Laws.{AskedIsSound};
 
-/// A sound function is sound where marks of spilled registers ask by phis with fresh numbers, and scratch registers
-/// tell nothing.
+/// A sound function stays sound if debug values of spilled registers refer to new DBG_PHIs with fresh numbers, and
+/// those of scratch registers become undef.
 pub fn asked_is_sound()
     ensures { AskedIsSound }
 {}

@@ -1,6 +1,6 @@
-//! Marks and phis where registers live in slots. What asks for a scratch register gives nothing from now on, and its
-//! loss is told. A mark of a register that is spilled asks for a new number, which a phi before it takes from the
-//! register; where phis of registers become phis of slots, that phi is one of the slot. No code changes here.
+//! Debug values and DBG_PHIs under spilling. Those of a scratch register become undef, and are reported as lost. A
+//! debug value of a spilled register becomes a DBG_INSTR_REF to a fresh number, whose DBG_PHI of the register is right
+//! before it; `spill_code` then replaces the register by its slot. Code is unchanged here.
 #![tactic(auto)]
 
 pub mod laws;

@@ -1,4 +1,4 @@
-//! What is lost where scratch registers tell nothing any more.
+//! The losses of debug values and DBG_PHIs of scratch registers.
 
 ghost use Rattle.std.specs.Prelude.{◌≡◌, ◌++◌, IfOk, OnOk};
 ghost use Rattle.pass_trait.specs.Order.{IsInOrder};
@@ -19,8 +19,8 @@ use rv64_instr::reg::Reg;
 use spill_code::spilling::{Spilling, slot_of};
 use std::alloc::{AllocError, Global};
 
-/// The losses of a function's blocks where scratch registers tell nothing any more: the numbers of their phis, and
-/// their marks, each once and in order.
+/// The losses of a function's blocks to scratch registers: the numbers of their DBG_PHIs, and their debug values,
+/// without duplicates and in order.
 pub fn scratch_losses(alloc: Global, s: &Spilling, blocks: &[Block]) -> Result<Losses, AllocError>
     ensures ordered { IfOk result IsInOrder }
     ensures each { IfOk result (AreScratchLosses s.now blocks.now) }
@@ -83,7 +83,7 @@ fn push_marks(s: &Spilling, items: &[Item], marks: &mut Vec<Pos>) -> Result<(), 
     Ok(())
 }
 
-/// The number of a phi of a scratch register.
+/// The number of a DBG_PHI of a scratch register.
 fn number_silenced(s: &Spilling, kind: &ItemKind) -> Option<DebugNumber>
     ensures { result ≡ number_silenced s.now kind.now }
 {
@@ -93,7 +93,7 @@ fn number_silenced(s: &Spilling, kind: &ItemKind) -> Option<DebugNumber>
     }
 }
 
-/// The position of a mark of a scratch register.
+/// The position of a debug value of a scratch register.
 fn mark_silenced(s: &Spilling, kind: &ItemKind, origin: Origin) -> Option<Pos>
     ensures { result ≡ mark_silenced s.now kind.now origin }
 {
@@ -105,7 +105,7 @@ fn mark_silenced(s: &Spilling, kind: &ItemKind, origin: Origin) -> Option<Pos>
     }
 }
 
-/// Whether it is a scratch register, which has no slot.
+/// Whether it is a scratch register that isn't spilled.
 fn is_silent(s: &Spilling, r: Reg) -> bool
     ensures { result ≡ is_silent s.now r (slot_of s.now.homes r) }
 {
@@ -115,7 +115,7 @@ fn is_silent(s: &Spilling, r: Reg) -> bool
     }
 }
 
-/// The losses of the marks from these positions for one reason, each once and in order.
+/// The losses of the debug values from these positions for one reason, without duplicates and in order.
 pub fn lost_marks(alloc: Global, marks: Vec<Pos>, why: Reason) -> Result<Losses, AllocError>
     ensures ordered { IfOk result IsInOrder }
     ensures each { IfOk result (AreMarksLost marks.items why) }

@@ -1,4 +1,4 @@
-//! Marks and phis of blocks whose registers live in slots.
+//! Debug values and DBG_PHIs of blocks in which registers are spilled.
 
 ghost use Rattle.std.specs.Prelude.{◌≡◌, ◌++◌, ◌+◌, ◌<◌, ◌^◌, Some, IfOk, OnOk};
 ghost use Rattle.pass_trait.specs.Rule.{item, item_before, first_operand};
@@ -20,8 +20,8 @@ use sem_mir::align::position_of;
 use spill_code::spilling::{Spilling, slot_of};
 use std::alloc::{AllocError, Global};
 
-/// The blocks, where marks of spilled registers ask by phis with fresh numbers from `fresh` on, in the order of the
-/// text, and marks and phis of scratch registers give nothing.
+/// The blocks, in which debug values of spilled registers refer to new DBG_PHIs with fresh numbers from `fresh` on, in
+/// the order of the text, and debug values and DBG_PHIs of scratch registers are undef.
 pub fn blocks_asked(
     alloc: Global,
     s: &Spilling,
@@ -92,7 +92,7 @@ fn push_item(s: &Spilling, fresh: &mut u32, i: &Item, made: &mut Items) -> Resul
     }
 }
 
-/// Appends a mark of a register, behind a phi if the register is spilled.
+/// Appends a debug value of a register, after a new DBG_PHI if the register is spilled.
 fn push_mark(
     s: &Spilling,
     fresh: &mut u32,
@@ -117,7 +117,7 @@ fn push_mark(
     }
 }
 
-/// Appends a phi of a register with the fresh number, and a mark of that number.
+/// Appends a DBG_PHI of a register with the fresh number, and a DBG_INSTR_REF to that number.
 fn push_phi(
     fresh: &mut u32,
     v: &VarId,
@@ -136,7 +136,7 @@ fn push_phi(
     made.push(mark_of(number, v, origin, loc))
 }
 
-/// A phi of a register with a number, before what stands at the origin.
+/// A DBG_PHI of a register with a number, right before the position of the origin.
 fn phi_of(number: u32, r: Reg, origin: &Origin) -> Item
     ensures { result ≡ item_before (ItemKind.Phi (Some (Place.Register r)) number) origin.now }
 {
@@ -147,7 +147,7 @@ fn phi_of(number: u32, r: Reg, origin: &Origin) -> Item
     }
 }
 
-/// A mark of operand 0 of a number.
+/// A DBG_INSTR_REF to operand 0 of a number.
 fn mark_of(number: u32, v: &VarId, origin: Origin, loc: Loc) -> Item
     ensures { result ≡ item (ItemKind.Mark v.now (MarkValue.Pair (first_operand number))) origin loc }
 {
@@ -162,7 +162,7 @@ fn mark_of(number: u32, v: &VarId, origin: Origin, loc: Loc) -> Item
     }
 }
 
-/// What a mark of a register that isn't spilled gives.
+/// The value of a debug value of a register that isn't spilled: undef for a scratch register.
 fn value_left(s: &Spilling, r: Reg) -> MarkValue
     ensures { result ≡ value_left s.now r }
 {
@@ -173,7 +173,7 @@ fn value_left(s: &Spilling, r: Reg) -> MarkValue
     }
 }
 
-/// What a phi of a place gives.
+/// The location of a DBG_PHI: none for a scratch register.
 fn place_left(s: &Spilling, place: Option<Place>) -> Option<Place>
     ensures { result ≡ place_left s.now place }
 {

@@ -1,4 +1,4 @@
--- What is spilled of a function.
+-- The plan of spilling a function.
 use Rattle.std.specs.Prelude.{◌≡◌, ℕ, List, ◌++◌}
 use Rattle.mir_func.specs.declared.block.Block.{Block}
 use Rattle.mir_func.specs.Function.{Function}
@@ -12,13 +12,13 @@ use Rattle.spill_rule.specs.Choice.{spilling_of}
 use Rattle.spill_rule.specs.Rule.{Decides}
 use Rattle.spill_pass.specs.declared.plan.Plan.{Plan}
 
--- it says which registers come in with a value, and the rest is what the rule chooses
+-- it has the registers that are live into the function, and the rest is what the rule chooses
 pub record IsPlan (reserve : List ℕ) (f : Function) (p : Plan) : Type 0 where
   pub decides : Decides reserve f (is_among p.incoming)
   pub spilling : p.spilling ≡ spilling_of reserve (is_among p.incoming) f
   pub left : p.left ≡ registers_left reserve (is_among p.incoming) f
 
--- what is lost to scratch registers, in order, and then the registers that are left
+-- the losses to scratch registers, in order, and then the registers that aren't spilled
 pub record AreAllLosses (s : Spilling) (blocks : List Block) (left losses : List Loss) : Type 0 where
   pub scratch : List Loss
   pub ordered : IsInOrder scratch

@@ -1,8 +1,8 @@
--- Which registers may be spilled at all.
+-- Which registers may be spilled.
 use Rattle.std.specs.Prelude.{ℕ, List, filter}
 use Rattle.cli_numbers.specs.Reserve.{RESERVABLE}
 use Rattle.spill_select.specs.Incoming.{is_among}
 
--- those of some registers that may be in a reserve, each once, in ascending order
+-- those of the given registers that may be spilled, without duplicates, in ascending order
 abbrev pub reserve_of : List ℕ → List ℕ
 reserve_of registers = filter (is_among registers) RESERVABLE

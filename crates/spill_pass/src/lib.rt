@@ -1,5 +1,6 @@
-//! Spilling: registers of a reserve move to slots. All that may be spilled are spilled at once, by a rule that looks at
-//! code alone; marks and phis of a spilled register ask for its slot from then on.
+//! The spilling pass. All registers of a reserve that may be spilled are spilled at once, by a rule that depends only
+//! on code; a debug value of a spilled register refers to a DBG_PHI of its slot afterwards, and a DBG_PHI of it names
+//! the slot.
 #![tactic(auto)]
 
 pub mod plan;

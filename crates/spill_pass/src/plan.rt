@@ -1,4 +1,4 @@
-//! What is spilled, and what becomes of the parts of a function.
+//! The plan of spilling, and the parts of a function after it.
 
 ghost use Rattle.std.specs.Prelude.{◌≡◌, ◌++◌, ◌+◌, ◌<◌, ◌^◌, map, IfOk};
 ghost use Rattle.mir_func.specs.Limits.{MAX_SLOTS};
@@ -24,18 +24,18 @@ use spill_select::incoming::incoming;
 use spill_select::left::registers_left;
 use std::alloc::{AllocError, Global};
 
-/// What is spilled of a function.
+/// The plan of spilling a function.
 #[derive(Drop)]
 pub struct Plan {
-    /// The registers of the reserve that come in with a value.
+    /// The registers of the reserve that are live into the function.
     pub incoming: Registers,
-    /// The scratch registers, and where registers live.
+    /// The scratch registers, and the slots of spilled registers.
     pub spilling: Spilling,
     /// The registers of the reserve that code names and that aren't spilled, each with the reason.
     pub left: Losses,
 }
 
-/// What is spilled of a function from a reserve.
+/// Plans the spilling of a function from a reserve.
 pub fn plan_for(alloc: Global, reserve: &[Reg], f: &Func) -> Result<Plan, AllocError>
     requires { greatest f.now.slots + MAX_SLOTS < 2 ^ 31 }
     ensures { IfOk result (IsPlan reserve.now f.now) }
@@ -51,7 +51,7 @@ pub fn plan_for(alloc: Global, reserve: &[Reg], f: &Func) -> Result<Plan, AllocE
     })
 }
 
-/// All that is lost of blocks: first to scratch registers, in order.
+/// The losses of the blocks and the registers that aren't spilled: first the losses to scratch registers, in order.
 pub fn losses_of(alloc: Global, plan: &Plan, blocks: &[Block]) -> Result<Losses, AllocError>
     ensures { IfOk result (AreAllLosses plan.now.spilling blocks.now plan.now.left) }
 {
@@ -60,7 +60,7 @@ pub fn losses_of(alloc: Global, plan: &Plan, blocks: &[Block]) -> Result<Losses,
     Ok(losses)
 }
 
-/// The blocks with registers in slots, where marks ask by phis with fresh numbers.
+/// The blocks with registers spilled, in which debug values of spilled registers refer to DBG_PHIs with fresh numbers.
 pub fn blocks_in_slots(
     alloc: Global,
     plan: &Plan,
@@ -82,7 +82,7 @@ pub fn blocks_in_slots(
     spilled_blocks(alloc, &plan.spilling, entry.as_slice(), asked.as_slice())
 }
 
-/// The slots, and then those of the homes.
+/// The slots, and then those of the spilled registers.
 pub fn slots_with(alloc: Global, slots: &[SlotId], homes: &[Home]) -> Result<SlotIds, AllocError>
     ensures { IfOk result (λ made. made ≡ slots.now ++ map (λ h. h.slot) homes.now) }
 {

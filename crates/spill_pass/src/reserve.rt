@@ -1,4 +1,4 @@
-//! Which registers may be spilled at all.
+//! Which registers may be spilled.
 
 ghost use Rattle.std.specs.Prelude.{◌≡◌, filter, IfOk};
 ghost use Rattle.cli_numbers.specs.Reserve.{RESERVABLE};
@@ -10,8 +10,8 @@ use spill_select::among::is_among;
 use spill_select::scratch::register;
 use std::alloc::{AllocError, Global};
 
-/// The registers that may be in a reserve, in ascending order: x8, x9 and x18 to x27, which a function gives back as it
-/// found them (RISC-V ELF psABI: s0 to s11).
+/// The registers that may be spilled, in ascending order: the callee-saved registers x8, x9 and x18 to x27 (RISC-V ELF
+/// psABI: s0 to s11).
 pub fn reservable(alloc: Global) -> Result<Registers, AllocError>
     ensures { IfOk result (λ registers. registers ≡ RESERVABLE) }
 {
@@ -34,7 +34,7 @@ pub fn reservable(alloc: Global) -> Result<Registers, AllocError>
     )
 }
 
-/// Those of these registers that may be in a reserve, each once, in ascending order.
+/// Those of these registers that may be spilled, without duplicates, in ascending order.
 pub fn reserve_of(alloc: Global, registers: &[Reg]) -> Result<Registers, AllocError>
     ensures { IfOk result (λ reserve. reserve ≡ reserve_of registers.now) }
 {

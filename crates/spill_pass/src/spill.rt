@@ -1,4 +1,4 @@
-//! The pass that spills.
+//! The spilling pass.
 
 ghost use Rattle.std.specs.Prelude.{◌+◌, ◌<◌, ◌^◌, [], ◌∷◌, false, true, IfOk, OnOk};
 ghost use Rattle.mir_func.specs.Limits.{MAX_SLOTS};
@@ -22,9 +22,9 @@ use rv64_instr::reg::{Reg, Registers};
 use spill_proof::kept_laws::{spilled_keeps_following, spilled_keeps_sizes, spilled_keeps_steps};
 use std::alloc::{AllocError, Global};
 
-/// Moves registers of a reserve to slots (LLVM: spilling), as many as there is room for. Of the registers given here
-/// those are in the reserve that may be: x8, x9 and x18 to x27. Lost are the marks and phis of the two scratch
-/// registers; and each register of the reserve that code names and that isn't spilled is told, with the reason.
+/// Spills registers of a reserve (LLVM: spilling), as many as there are slots for. The reserve has those of the given
+/// registers that may be spilled: x8, x9 and x18 to x27. The losses are the debug values and DBG_PHIs of the two
+/// scratch registers, and each register of the reserve that code names and that isn't spilled, with the reason.
 #[derive(Drop)]
 pub struct SpillPass {
     /// The registers to be spilled, in any order.
@@ -64,7 +64,7 @@ impl Pass for SpillPass {
     ghost grows = { Prim.search rules };
 }
 
-/// Spills registers of a reserve, and gives what is lost. A refused run leaves the function as it was.
+/// Spills registers of a reserve, and returns the losses. After an error the function is unchanged.
 pub fn spill(
     alloc: Global,
     reserve: &[Reg],

@@ -1,4 +1,4 @@
--- What becomes of each item.
+-- The effect of spilling on each item.
 use Rattle.std.specs.Prelude.{ℕ, ◌+◌, List, Bool}
 use Rattle.mir_func.specs.declared.entry.Entry.{Entry}
 use Rattle.mir_func.specs.Function.{Function}
@@ -10,7 +10,7 @@ use Rattle.spill_rule.specs.Rule.{Decides}
 use Rattle.spill_proof.specs.Whole.{whole}
 use Rattle.spill_proof.specs.Step.{spill_debug}
 
--- where the registers that come in with a value are known, the result's items are what the rule for debug items makes of the function's
+-- if the test says which registers are live into the function, each item becomes what the debug rule of spilling allows
 abbrev pub ItemsBecome : Type 0
 ItemsBecome = (reserve : List ℕ) (live : ℕ → Bool) (f : Function) (subs : List Entry) → IsSound f → Decides reserve f live →
     BlocksBecome (spill_debug reserve) (change f subs (whole reserve live (greatest_number f subs + 1) f) subs) f.blocks

@@ -12,8 +12,8 @@ use Rattle.spill_rule.specs.Chosen.{IsReservable, AreDistinct}
 use Rattle.spill_rule.specs.Rule.{Decides}
 use Rattle.spill_proof.specs.Whole.{whole}
 
--- a function of code in form, a reserve of registers that may be in it, and what says of each whether it is live at the start, where marks
--- ask by phis with fresh numbers from k on
+-- The hypotheses of spilling: a sound function whose code has the required forms, a reserve of distinct registers that may be spilled, a
+-- test of which of them are live into the function with its debug values rewritten, and fresh numbers from k on
 pub record MayBeSpilled (reserve : List ℕ) (live : ℕ → Bool) (k : ℕ) (f : Function) (subs : List Entry) : Type 0 where
   pub sound : IsSound f
   pub forms : AllItems (λ i. HasForm i.kind) f.blocks
@@ -22,12 +22,12 @@ pub record MayBeSpilled (reserve : List ℕ) (live : ℕ → Bool) (k : ℕ) (f 
   pub decides : Decides reserve (asked (spilling_of reserve live f) k f) live
   pub fresh : greatest_number f subs < k
 
--- it follows what it followed
+-- spilling preserves the simulation, and keeps matched block ends matched
 abbrev pub JoinedFollows : Type 0
 JoinedFollows = (reserve : List ℕ) (live : ℕ → Bool) (k : ℕ) (f : Function) (subs : List Entry) → MayBeSpilled reserve live k f subs →
     KeepsFollowing false true (change f subs (whole reserve live k f) subs)
 
--- and stays sound
+-- and keeps the function sound
 abbrev pub JoinedIsSound : Type 0
 JoinedIsSound = (reserve : List ℕ) (live : ℕ → Bool) (k : ℕ) (f : Function) (subs : List Entry) → MayBeSpilled reserve live k f subs →
     IsSound (whole reserve live k f)

@@ -1,4 +1,4 @@
--- What spilling keeps.
+-- What spilling guarantees.
 use Rattle.std.specs.Prelude.{◌≡◌, ℕ, ◌+◌, List, [], ◌∷◌, ◌++◌, Contains, Bool, true, false}
 use Rattle.mir_func.specs.declared.block.Block.{Block}
 use Rattle.mir_func.specs.declared.entry.Entry.{Entry}
@@ -21,18 +21,18 @@ use Rattle.spill_proof.specs.Whole.{whole}
 use Rattle.spill_proof.specs.Step.{spill_step}
 use Rattle.spill_proof.specs.Causes.{IsAscending}
 
--- these are lost to scratch registers, in order: nothing where no register is spilled
+-- the losses to scratch registers, in order; there are none if no register is spilled
 abbrev pub AreTaken : List Home → Spilling → List Block → List Loss → Type 0
 AreTaken [] s blocks losses = losses ≡ []
 AreTaken (h ∷ hs) s blocks losses = IsInOrder losses × AreScratchLosses s blocks losses
 
--- registers in ascending order that may be in a reserve
+-- registers in ascending order that may be spilled
 pub record IsReserve (reserve : List ℕ) : Type 0 where
   pub ascending : IsAscending reserve
   pub real : (r : ℕ) → Contains reserve r → IsReservable r
 
--- the function is spilled from the reserve, with fresh numbers from the one above the greatest on, and these are all losses: those to scratch
--- registers, then the registers that aren't spilled
+-- the function is spilled from the reserve, with fresh numbers from the one above the greatest on, and these are the losses: those to
+-- scratch registers, then the registers that aren't spilled
 pub record IsSpilledWithLosses (reserve : List ℕ) (f : Function) (subs : List Entry) (new : Function) (losses : List Loss) : Type 0 where
   pub live : ℕ → Bool
   pub decides : Decides reserve f live
@@ -41,18 +41,18 @@ pub record IsSpilledWithLosses (reserve : List ℕ) (f : Function) (subs : List 
   pub taken : AreTaken (homes_of reserve live f) (spilling_of reserve live f) f.blocks scratch
   pub are : losses ≡ scratch ++ registers_left reserve live f
 
--- a sound function of code in form follows what it followed
+-- for a sound function whose code has the required forms, spilling preserves the simulation, and keeps matched block ends matched
 abbrev pub SpilledKeepsFollowing : Type 0
 SpilledKeepsFollowing = (reserve : List ℕ) (f : Function) (subs : List Entry) (new : Function) (losses : List Loss) → IsReserve reserve → IsSound f →
     AllItems (λ i. HasForm i.kind) f.blocks → IsSpilledWithLosses reserve f subs new losses → KeepsFollowing false true (change f subs new subs)
 
--- the one step of spilling is kept, with these losses
+-- spilling is a run of its one step, with these losses
 abbrev pub SpilledKeepsSteps : Type 0
 SpilledKeepsSteps = (reserve : List ℕ) (f : Function) (subs : List Entry) (new : Function) (losses : List Loss) → IsReserve reserve → IsSound f →
     AllItems (λ i. HasForm i.kind) f.blocks → IsSpilledWithLosses reserve f subs new losses →
     KeepsSteps (spill_step reserve ∷ []) (change f subs new subs) losses
 
--- there are four times as many items at most, with one for each block
+-- spilling keeps the size bounds with factor 4 and count 1
 abbrev pub SpilledKeepsSizes : Type 0
 SpilledKeepsSizes = (reserve : List ℕ) (f : Function) (subs : List Entry) (new : Function) (losses : List Loss) → IsReserve reserve →
     IsSpilledWithLosses reserve f subs new losses → KeepsSizes 4 1 (change f subs new subs)

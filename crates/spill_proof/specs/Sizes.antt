@@ -1,4 +1,4 @@
--- How far spilling makes a function grow.
+-- The size of a function after spilling.
 use Rattle.std.specs.Prelude.{ℕ, ◌+◌, List, Contains, Bool}
 use Rattle.mir_func.specs.declared.entry.Entry.{Entry}
 use Rattle.mir_func.specs.Function.{Function}
@@ -7,7 +7,7 @@ use Rattle.pass_trait.specs.Sizes.{greatest_number, KeepsSizes}
 use Rattle.spill_rule.specs.Chosen.{IsReservable}
 use Rattle.spill_proof.specs.Whole.{whole}
 
--- with fresh numbers from the one above the greatest on
+-- spilling keeps the size bounds with factor 4 and count 1, if fresh numbers begin above the greatest one
 abbrev pub WholeKeepsSizes : Type 0
 WholeKeepsSizes = (reserve : List ℕ) (live : ℕ → Bool) (f : Function) (subs : List Entry) → ((r : ℕ) → Contains reserve r → IsReservable r) →
     KeepsSizes 4 1 (change f subs (whole reserve live (greatest_number f subs + 1) f) subs)

@@ -1,4 +1,4 @@
--- A sound function is sound with registers in slots.
+-- Spilling keeps functions sound.
 use Rattle.std.specs.Prelude.{◌≡◌, ℕ, ◌+◌, ◌≤◌, List, ◌++◌, length, map, Option}
 use Rattle.mir_func.specs.declared.entry.OperandPair.{OperandPair}
 use Rattle.mir_func.specs.Function.{Function}
@@ -9,11 +9,11 @@ use Rattle.spill_code.specs.declared.spilling.Spilling.{Spilling}
 use Rattle.spill_code.specs.Rewrite.{spilled_blocks}
 use Rattle.spill_simulation.specs.Follows.{MaySpill}
 
--- the function's slots with the new ones
+-- the function's slots, and then the new ones
 abbrev pub slots_now : Spilling → Function → List ℕ
 slots_now s f = f.slots ++ map (λ h. h.slot) s.homes
 
--- where the choice fits it, and the slots are apart and few enough
+-- if the choice satisfies the conditions of spilling, and slots are distinct and not too many
 abbrev pub SpilledIsSound : Type 0
 SpilledIsSound = (s : Spilling) (entry : List Home) (f : Function) (resolve : OperandPair → Option OperandPair) → IsSound f → MaySpill s entry f resolve →
     AreApart (slots_now s f) → length (slots_now s f) + length f.objects ≤ MAX_SLOTS →

@@ -1,4 +1,4 @@
--- The step of spilling: its rule for code, and its rule for debug items.
+-- The step of spilling: its code rule and its debug rule.
 use Rattle.std.specs.Prelude.{◌≡◌, ℕ, ◌+◌, List, [], ◌∷◌, take, Contains, Some, Bool, cond, nat_eq}
 use Rattle.mir_func.specs.declared.block.Block.{Block}
 use Rattle.mir_func.specs.declared.item.Item.{Item}
@@ -20,7 +20,7 @@ use Rattle.spill_rule.specs.Choice.{homes_of, spilling_of}
 use Rattle.spill_rule.specs.Rule.{Decides, IsSpilled}
 use Rattle.spill_select.specs.Left.{why_left}
 
--- a mark of a register that lives in a slot
+-- a debug value of a spilled register
 abbrev pub AsksForHome : List Home → ItemKind → Type 0
 AsksForHome homes (Mark v (At r)) = (slot : ℕ) × (slot_of homes r ≡ Some slot)
 AsksForHome homes (Mark v Nothing) = ⊥
@@ -29,13 +29,13 @@ AsksForHome homes (Mark v (Pair q)) = ⊥
 AsksForHome homes (Code i k) = ⊥
 AsksForHome homes (Phi p k) = ⊥
 
--- the next fresh number at a place, where the first one is k
+-- the next fresh number at a position, if the first one is k
 abbrev pub number_at : List Home → (k : ℕ) → List Block → (at : Pos) → ℕ
 number_at homes k [] at = k
 number_at homes k (b ∷ bs) at =
     cond (nat_eq b.id at.block) (number_behind homes k (take at.item b.items)) (number_at homes (number_behind homes k b.items) bs at)
 
--- of the item at a place this is lost, where some register is spilled
+-- this is lost of the item at a position, and some register is spilled
 pub record IsSilenced (reserve : List ℕ) (live : ℕ → Bool) (f : Function) (at : Pos) (loss : Loss) : Type 0 where
   pub decides : Decides reserve f live
   pub some : homes_of reserve live f ≡ [] → ⊥
@@ -49,7 +49,7 @@ pub record IsLeft (reserve : List ℕ) (live : ℕ → Bool) (f : Function) (r :
   pub reserved : Contains reserve r
   pub reason : why_left f live (homes_of reserve live f) r ≡ Some why
 
--- the mark at a place gets this number for its phi
+-- the debug value at a position gets this number for its DBG_PHI
 pub record IsNumbered (reserve : List ℕ) (live : ℕ → Bool) (f : Function) (first : ℕ) (at : Pos) (number : ℕ) : Type 0 where
   pub decides : Decides reserve f live
   pub item : Item
@@ -57,9 +57,9 @@ pub record IsNumbered (reserve : List ℕ) (live : ℕ → Bool) (f : Function) 
   pub asks : AsksForHome (homes_of reserve live f) item.kind
   pub is : number ≡ number_at (homes_of reserve live f) first f.blocks at
 
--- the rule of its debug items: marks and phis of scratch registers give nothing, where some register is spilled; those of the reserve that
--- code names and that aren't spilled are left for the first reason that applies; marks of those that are spilled get fresh numbers, in the
--- order of the text
+-- the debug rule: if some register is spilled, debug values and DBG_PHIs of scratch registers become undef; registers of the reserve that
+-- code names and that aren't spilled are reported with the first reason that applies; debug values of spilled registers get fresh numbers,
+-- in the order of the text
 abbrev pub spill_debug : (reserve : List ℕ) → Rule
 spill_debug reserve = record {
   loses = λ c at loss. (live : ℕ → Bool) × IsSilenced reserve live c.old at loss;
@@ -72,6 +72,6 @@ spill_debug reserve = record {
   kills = λ c block kills. kills ≡ [];
 }
 
--- its one step
+-- the pass's only step
 abbrev pub spill_step : (reserve : List ℕ) → Step
 spill_step reserve = record { code = IsSpilled reserve; debug = spill_debug reserve }

@@ -1,4 +1,4 @@
--- Debug items don't show in code whose registers live in slots.
+-- Spilling and debug items: spill code doesn't depend on them.
 use Rattle.std.specs.Prelude.{◌≡◌, ℕ, List}
 use Rattle.mir_func.specs.declared.block.Block.{Block}
 use Rattle.mir_func.specs.Function.{Function}
@@ -8,11 +8,11 @@ use Rattle.spill_code.specs.declared.spilling.Spilling.{Spilling}
 use Rattle.spill_code.specs.Rewrite.{spilled_blocks}
 use Rattle.spill_debug.specs.Asked.{asked}
 
--- marks that ask by phis change no code
+-- rewriting debug values changes no code
 abbrev pub AskedIsStripped : Type 0
 AskedIsStripped = (s : Spilling) (k : ℕ) (f : Function) → stripped (asked s k f) ≡ stripped f
 
--- registers come into slots alike with and without debug items
+-- stripping debug items commutes with spilling
 abbrev pub SpilledIsStripped : Type 0
 SpilledIsStripped = (s : Spilling) (entry : List Home) (blocks : List Block) →
     stripped_blocks (spilled_blocks s entry blocks) ≡ spilled_blocks s entry (stripped_blocks blocks)

@@ -8,16 +8,16 @@ use Rattle.spill_debug.specs.Asked.{blocks_asked}
 use Rattle.spill_proof.specs.Sound.{slots_now}
 use Rattle.spill_rule.specs.Choice.{homes_of, spilling_of, entry_of}
 
--- with these registers in slots, where marks ask by phis with fresh numbers from k on
+-- the function with these registers spilled, and with debug values of them rewritten, with fresh numbers from k on
 abbrev pub spilled_by : Spilling → (entry : List Home) → (k : ℕ) → Function → Function
 spilled_by s entry k f = record f { slots = slots_now s f; blocks = spilled_blocks s entry (blocks_asked s k f.blocks) }
 
--- where nothing is spilled, scratch registers are none, and the function stays
+-- the function is unchanged if nothing is spilled; then there are no scratch registers
 abbrev pub where_spilled : List Home → (stays now : Function) → Function
 where_spilled [] f g = f
 where_spilled (h ∷ hs) f g = g
 
--- by the rule's choice
+-- the function after spilling what the rule chooses
 abbrev pub whole : (reserve : List ℕ) (live : ℕ → Bool) (k : ℕ) → Function → Function
 whole reserve live k f =
     where_spilled (homes_of reserve live f) f (spilled_by (spilling_of reserve live f) (entry_of live (homes_of reserve live f)) k f)

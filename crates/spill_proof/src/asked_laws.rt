@@ -1,9 +1,9 @@
-//! The law of marks that ask by phis, as the contract of a function that does nothing.
+//! The law of rewritten debug values, as the contract of a function with an empty body.
 
 ghost use Rattle.spill_proof.specs.Follows.{AskedFollows};
 
-/// What follows a source follows it where marks of spilled registers ask by phis with fresh numbers, and scratch
-/// registers tell nothing; and it keeps the source's ends of blocks.
+/// The simulation is preserved, and matched block ends stay matched, if debug values of spilled registers refer to new
+/// DBG_PHIs with fresh numbers, and those of scratch registers become undef.
 pub fn asked_follows()
     ensures { AskedFollows }
 {}

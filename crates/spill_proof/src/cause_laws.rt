@@ -1,19 +1,18 @@
-//! Laws of causes, each as the contract of a function that does nothing.
+//! Laws of causes: each is the contract of a function with an empty body.
 
 ghost use Rattle.spill_proof.specs.Causes.{LossesHaveCauses, NewSlotsAreNew, LeftHaveFirstCauses};
 
-/// Each mark and each phi that is lost asked for a scratch register, where some register is spilled.
+/// Each loss of an item is of a debug value or DBG_PHI of a scratch register, and some register is spilled.
 pub fn losses_have_causes()
     ensures { LossesHaveCauses }
 {}
 
-/// A register is spilled into a slot that the function has now, and hadn't before.
+/// Each spilled register has a slot that the function has now, and hadn't before.
 pub fn new_slots_are_new()
     ensures { NewSlotsAreNew }
 {}
 
-/// A register of a reserve in ascending order that code names and that isn't spilled is left for the first reason that
-/// applies.
+/// Each register of an ascending reserve that code names and that isn't spilled has the first reason that applies.
 pub fn left_have_first_causes()
     ensures { LeftHaveFirstCauses }
 {}

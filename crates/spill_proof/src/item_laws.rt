@@ -1,8 +1,8 @@
-//! The law of items, as the contract of a function that does nothing.
+//! The law of items, as the contract of a function with an empty body.
 
 ghost use Rattle.spill_proof.specs.Become.{ItemsBecome};
 
-/// Each item becomes what the step's rule for debug items says.
+/// Each item becomes what the step's debug rule allows.
 pub fn items_become()
     ensures { ItemsBecome }
 {}

@@ -1,8 +1,8 @@
-//! The laws of spilling as a whole, each as the contract of a function that does nothing.
+//! The laws of spilling as a whole: each is the contract of a function with an empty body.
 
 ghost use Rattle.spill_proof.specs.JoinedLaws.{JoinedFollows, JoinedIsSound};
 
-/// What follows a source follows it after spilling, and keeps the source's ends of blocks.
+/// Spilling preserves the simulation, and keeps matched block ends matched.
 pub fn joined_follows()
     ensures { JoinedFollows }
 {}

@@ -1,18 +1,18 @@
-//! The laws of spilling as a step, each as the contract of a function that does nothing.
+//! The laws of spilling as a step: each is the contract of a function with an empty body.
 
 ghost use Rattle.spill_proof.specs.Kept.{SpilledKeepsFollowing, SpilledKeepsSteps, SpilledKeepsSizes};
 
-/// What followed a source follows it after spilling, and keeps the source's ends of blocks.
+/// Spilling preserves the simulation, and keeps matched block ends matched.
 pub fn spilled_keeps_following()
     ensures { SpilledKeepsFollowing }
 {}
 
-/// Spilling is its one step, with all that is lost.
+/// Spilling is a run of its one step, with all its losses.
 pub fn spilled_keeps_steps()
     ensures { SpilledKeepsSteps }
 {}
 
-/// And it makes a function grow by its factor and count at most.
+/// Spilling keeps the size bounds of its factor and count.
 pub fn spilled_keeps_sizes()
     ensures { SpilledKeepsSizes }
 {}

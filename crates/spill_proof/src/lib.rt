@@ -1,38 +1,35 @@
-//! Spilling preserves soundness and the simulation, what becomes of its debug values, what it reports as lost, and how
-//! large its result is.
+//! Proofs about spilling: it preserves soundness and the simulation; and what happens to debug values, what is reported
+//! as lost, and how large the result is.
 //!
-//! - `strip_laws`: Debug items and code whose registers live in slots. Marks that ask by phis change no code, and
-//!   registers come into slots alike with and without debug items: so no debug item can change what spilling makes of
-//!   code.
+//! - `strip_laws`: Spill code doesn't depend on debug items. Rewriting debug values changes no code, and spilling is
+//!   the same with and without debug items.
 //!
-//! - `sound_laws`: A function whose registers live in slots is a function still: where the choice of registers fits a
-//!   sound function, and its new slots are apart and not too many, it is sound with them.
+//! - `sound_laws`: A function with spilled registers is sound, if the choice of registers satisfies the conditions of
+//!   spilling, and its new slots are distinct and not too many.
 //!
-//! - `asked_laws`: Marks that ask by phis, and what follows a source. Where marks of spilled registers ask for fresh
-//!   numbers, which phis before them take from the registers, and scratch registers tell nothing, a function follows
-//!   what it followed.
+//! - `asked_laws`: Each debug value of a spilled register becomes a DBG_INSTR_REF to a fresh DBG_PHI right before it,
+//!   and each one of a scratch register becomes undef. This preserves the simulation.
 //!
-//! - `whole_laws`: The rule's choice as a whole: the function that it makes with its marks and slots, and what holds of
-//!   the choice alone.
+//! - `whole_laws`: The rule's choice: the function after spilling what the rule chooses, with its debug values and
+//!   slots, and the laws of the choice alone.
 //!
-//! - `joined_laws`: Spilling as a whole: marks ask by phis, scratch registers tell nothing, and the registers that the
-//!   rule chooses live in slots. What is proved of each of these is put together here.
+//! - `joined_laws`: Spilling as a whole: debug values are rewritten, and the registers that the rule chooses are
+//!   spilled. This joins the laws about each of these.
 //!
-//! - `size_laws`: How far spilling makes a function grow: code becomes four items at most, and marks two.
+//! - `size_laws`: The size of the result: an instruction becomes at most four items, and a debug value at most two.
 //!
-//! - `live_in_laws`: Which registers come in with a value doesn't hang on debug items.
+//! - `live_in_laws`: The registers live into the function are the same with and without debug items.
 //!
-//! - `step_laws`: Spilling as a step: its rule for code and its rule for debug items, and that the code after it is
-//!   what the rule for code makes of the code before.
+//! - `step_laws`: Spilling as a step: its code rule and its debug rule, and that the code after it is related to the
+//!   code before it by the code rule.
 //!
-//! - `item_laws`: What becomes of each item where registers are spilled, by the step's rule for debug items.
+//! - `item_laws`: The effect of spilling on each item, by the step's debug rule.
 //!
-//! - `cause_laws`: The causes of what spilling loses: scratch registers are taken where some register is spilled,
-//!   spilled registers get slots that weren't there, and one that isn't spilled is left for the first reason that
-//!   applies.
+//! - `cause_laws`: The causes of losses: scratch registers are used if some register is spilled, spilled registers get
+//!   new slots, and a register that isn't spilled has the first reason that applies.
 //!
-//! - `kept_laws`: Spilling keeps what a step keeps: the function stays sound, its code is what the rule for code makes,
-//!   and each debug item stays, asks for a slot, or is lost with its cause.
+//! - `kept_laws`: Spilling guarantees what a step must: the function stays sound, its code is determined by the code
+//!   rule, and each debug item is kept, refers to a slot, or is lost with its cause.
 #![tactic(auto)]
 
 pub mod asked_laws;

@@ -1,13 +1,13 @@
-//! Laws of what comes in with a value, each as the contract of a function that does nothing.
+//! Laws of the registers live into the function: each is the contract of a function with an empty body.
 
 ghost use Rattle.spill_proof.specs.Alive.{AliveAlike, AliveBare};
 
-/// What decides for a function which registers are live at its start decides it for the function without debug items.
+/// A test of which registers are live into a function is right for the function without debug items.
 pub fn alive_bare()
     ensures { AliveBare }
 {}
 
-/// And for every function of the same code.
+/// And for every function with the same code.
 pub fn alive_alike()
     ensures { AliveAlike }
 {}

@@ -1,8 +1,8 @@
-//! The law of soundness, as the contract of a function that does nothing.
+//! The law of soundness, as the contract of a function with an empty body.
 
 ghost use Rattle.spill_proof.specs.Sound.{SpilledIsSound};
 
-/// A sound function is sound with registers in slots.
+/// A sound function is sound with registers spilled.
 pub fn spilled_is_sound()
     ensures { SpilledIsSound }
 {}

@@ -1,8 +1,9 @@
-//! The law of code, as the contract of a function that does nothing.
+//! The law of code, as the contract of a function with an empty body.
 
 ghost use Rattle.spill_proof.specs.StepLaws.{SpilledCodeIsMade};
 
-/// The code after spilling is what the rule for code makes of the code before, without marks, phis and numbers.
+/// The code after spilling is related to the code before it by the code rule, without debug values, DBG_PHIs and
+/// numbers.
 pub fn spilled_code_is_made()
     ensures { SpilledCodeIsMade }
 {}

@@ -1,13 +1,13 @@
-//! Laws of code without its debug items, each as the contract of a function that does nothing.
+//! Laws of code without its debug items: each is the contract of a function with an empty body.
 
 ghost use Rattle.spill_proof.specs.Stripped.{AskedIsStripped, SpilledIsStripped};
 
-/// Where marks ask by phis, the code is the same.
+/// Rewriting debug values changes no code.
 pub fn asked_is_stripped()
     ensures { AskedIsStripped }
 {}
 
-/// Registers in slots and then without debug items is the same as without debug items and then in slots.
+/// Spilling and then stripping debug items is the same as stripping and then spilling.
 pub fn spilled_is_stripped()
     ensures { SpilledIsStripped }
 {}

@@ -21,22 +21,22 @@ use Rattle.spill_code.specs.declared.spilling.Home.{Home}
 use Rattle.spill_code.specs.declared.spilling.Spilling.{Spilling}
 use Rattle.spill_code.specs.Rewrite.{spilled_blocks}
 
--- ---- what prevents it
+-- ---- what prevents a register from being spilled
 
--- the item is no item of the source, but was added before one
+-- the item was added by a pass, and isn't one of the source
 abbrev pub is_added : Origin → Bool
 is_added (Before p) = true
 is_added (Kept p) = false
 
--- a call names the register, or code that was added
+-- the item is a call or added code, and names the register
 abbrev pub binds : ℕ → Item → Bool
 binds r i = names r i.kind && (calls i.kind || is_added i.origin)
 
--- some call or added code names the register, so that it can't be spilled
+-- some call or added code names the register, so it can't be spilled
 abbrev pub is_bound : Function → ℕ → Bool
 is_bound f r = list_any (binds r) (items_of f.blocks)
 
--- a branch goes to the block
+-- the row is a branch or a jump to the block
 abbrev pub row_goes : ℕ → Row → Bool
 row_goes n (Branches op a b target) = nat_eq target n
 row_goes n (Jumps target) = nat_eq target n
@@ -52,13 +52,13 @@ row_goes n (Calls name args) = false
 row_goes n (Returns results) = false
 row_goes n Unfit = false
 
--- code that is a branch or a jump to the block
+-- the item is a branch or a jump to the block
 abbrev pub goes : ℕ → ItemKind → Bool
 goes n (Code i k) = row_goes n (row_of i)
 goes n (Mark v m) = false
 goes n (Phi p k) = false
 
--- some branch goes to the first block
+-- some branch or jump goes to the first block
 abbrev pub is_looped : Function → Bool
 is_looped f = list_any (λ i. goes (first_of f.blocks) i.kind) (items_of f.blocks)
 
@@ -66,8 +66,8 @@ is_looped f = list_any (λ i. goes (first_of f.blocks) i.kind) (items_of f.block
 abbrev pub lacks_scratch : Function → Bool
 lacks_scratch f = nat_lt (length (scratch_of f)) 2
 
--- why a register isn't spilled, whatever the slots: the first reason that applies. `live` says which registers are live into the
--- first block
+-- why a register isn't spilled, apart from a lack of slots: the first reason that applies. `live` lists which registers are live
+-- into the first block
 abbrev pub reason_of : Function → (live : ℕ → Bool) → ℕ → Option Reason
 reason_of f live r = cond (lacks_scratch f) (Some NoScratch) (cond (is_bound f r) (Some CallNamed) (cond (live r && is_looped f) (Some EntryLoop) None))
 
@@ -78,43 +78,43 @@ is_free (Some why) = false
 
 -- ---- what is spilled
 
--- of the registers in reserve those that code names and that nothing prevents
+-- the registers of the reserve that code names and for which no such reason applies
 abbrev pub candidates : (reserve : List ℕ) (live : ℕ → Bool) → Function → List ℕ
 candidates reserve live f = filter (λ r. is_named f r && is_free (reason_of f live r)) reserve
 
--- how many slots there may still be
+-- how many more slots the function may have
 abbrev pub room : Function → ℕ
 room f = MAX_SLOTS - (length f.slots + length f.objects)
 
--- as many as there is room for, the lowest first
+-- the first candidates, as many as there are slots for
 abbrev pub chosen : (reserve : List ℕ) (live : ℕ → Bool) → Function → List ℕ
 chosen reserve live f = take (room f) (candidates reserve live f)
 
--- a number above all slots, or 0 where there is none
+-- the number above the greatest slot, or 0 if there are no slots
 abbrev pub next_slot : List ℕ → ℕ
 next_slot [] = 0
 next_slot (n ∷ ns) = greatest (n ∷ ns) + 1
 
--- each in a slot of its own, from a number on
+-- the registers, each with a slot of its own, numbered upwards from `slot`
 abbrev pub homes_from : (slot : ℕ) → List ℕ → List Home
 homes_from n [] = []
 homes_from n (r ∷ rs) = record { register = r; slot = n } ∷ homes_from (n + 1) rs
 
--- the registers that are spilled, each with a new slot above all that the function has
+-- the spilled registers, each with a new slot above all slots of the function
 abbrev pub homes_of : (reserve : List ℕ) (live : ℕ → Bool) → Function → List Home
 homes_of reserve live f = homes_from (next_slot f.slots) (chosen reserve live f)
 
--- the scratch registers; where they lack nothing is spilled
+-- the first scratch register, or 0 if there is none; nothing is spilled without two
 abbrev pub first_scratch : List ℕ → ℕ
 first_scratch [] = 0
 first_scratch (a ∷ rest) = a
 
--- the second scratch register, or 0 where there is none
+-- the second scratch register, or 0 if there is none
 abbrev pub second_scratch : List ℕ → ℕ
 second_scratch [] = 0
 second_scratch (a ∷ rest) = first_scratch rest
 
--- the scratch registers and the homes that the rule chooses for a function
+-- the scratch registers and the slots of spilled registers that the rule chooses for a function
 abbrev pub spilling_of : (reserve : List ℕ) (live : ℕ → Bool) → Function → Spilling
 spilling_of reserve live f = record {
   first = first_scratch (scratch_of f);
@@ -122,11 +122,11 @@ spilling_of reserve live f = record {
   homes = homes_of reserve live f;
 }
 
--- those that are stored at the start
+-- the spilled registers that are stored at the function's start: those that are live into it
 abbrev pub entry_of : (live : ℕ → Bool) → List Home → List Home
 entry_of live homes = filter (λ h. live h.register) homes
 
--- the function with registers of the reserve in slots
+-- the function with the chosen registers spilled
 abbrev pub spilled : (reserve : List ℕ) (live : ℕ → Bool) → Function → Function
 spilled reserve live f = record f {
   slots = f.slots ++ map (λ h. h.slot) (homes_of reserve live f);

@@ -1,4 +1,4 @@
--- What the rule chooses may be spilled.
+-- The registers that the rule chooses satisfy the conditions of spilling.
 use Rattle.std.specs.Prelude.{◌≡◌, ◌⊎◌, ℕ, ◌≤◌, List, [], ◌∷◌, Contains, Option, Some, None, Bool}
 use Rattle.rv64_instr.specs.declared.place.Place.TheVariants.{Register, Slot, Const}
 use Rattle.mir_func.specs.declared.entry.OperandPair.{OperandPair}
@@ -13,16 +13,16 @@ use Rattle.spill_simulation.specs.Follows.{MaySpill}
 use Rattle.spill_rule.specs.Choice.{homes_of, spilling_of, entry_of}
 use Rattle.spill_rule.specs.Rule.{Decides}
 
--- a register of which a function gives back what it found, but for the return address (RISC-V ELF psABI, s0 to s11)
+-- a callee-saved register other than the stack pointer (RISC-V ELF psABI, s0 to s11)
 abbrev pub IsReservable : ℕ → Type 0
 IsReservable r = ((8 ≤ r) × (r ≤ 9)) ⊎ ((18 ≤ r) × (r ≤ 27))
 
--- no register stands twice
+-- the list has no duplicates
 abbrev pub AreDistinct : List ℕ → Type 0
 AreDistinct [] = Unit {0}
 AreDistinct (r ∷ rs) = (Contains rs r → ⊥) × AreDistinct rs
 
--- no mark asks for a register that goes elsewhere, and no phi for a scratch register
+-- no debug value names a spilled or scratch register, and no DBG_PHI a scratch register
 abbrev pub AsksElsewhere : Spilling → ItemKind → Type 0
 AsksElsewhere s (Code i k) = Unit {0}
 AsksElsewhere s (Mark v Nothing) = Unit {0}
@@ -34,8 +34,8 @@ AsksElsewhere s (Phi (Some (Register r)) k) = IsNoScratch s r
 AsksElsewhere s (Phi (Some (Slot n)) k) = Unit {0}
 AsksElsewhere s (Phi (Some (Const c)) k) = Unit {0}
 
--- of a sound function of code in form, whose marks and phis ask elsewhere, the rule's choice from such a reserve may be spilled, where it
--- spills anything
+-- The rule's choice from a reserve of distinct callee-saved registers satisfies `MaySpill`, if it isn't empty, the function is sound, its
+-- code has the required forms, and its debug items name no affected register
 abbrev pub ChosenMaySpill : Type 0
 ChosenMaySpill = (reserve : List ℕ) (live : ℕ → Bool) (f : Function) (resolve : OperandPair → Option OperandPair) → IsSound f →
     AllItems (λ i. HasForm i.kind) f.blocks → ((r : ℕ) → Contains reserve r → IsReservable r) → AreDistinct reserve → Decides reserve f live →

@@ -1,4 +1,4 @@
--- What follows a source follows it with the registers that the rule chooses in slots.
+-- Spilling the registers that the rule chooses preserves the simulation.
 use Rattle.std.specs.Prelude.{ℕ, List, Contains, Option, Bool}
 use Rattle.mir_func.specs.declared.entry.OperandPair.{OperandPair}
 use Rattle.mir_func.specs.declared.object.Object.{Object}
@@ -10,7 +10,8 @@ use Rattle.spill_rule.specs.Choice.{spilling_of, spilled}
 use Rattle.spill_rule.specs.Chosen.{IsReservable, AreDistinct, AsksElsewhere}
 use Rattle.spill_rule.specs.Rule.{Decides}
 
--- a sound function of code in form, whose marks and phis ask elsewhere
+-- for a sound function whose code has the required forms and whose debug items name no affected register; matched block
+-- ends stay matched
 abbrev pub RuleFollows : Type 0
 RuleFollows = (objects : List Object) (src : List Block) (subs fsubs : OperandPair → Option OperandPair) (reserve : List ℕ) (live : ℕ → Bool) (f : Function) →
     IsSound f → AllItems (λ i. HasForm i.kind) f.blocks → ((r : ℕ) → Contains reserve r → IsReservable r) → AreDistinct reserve → Decides reserve f live →

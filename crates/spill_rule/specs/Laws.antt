@@ -1,5 +1,5 @@
--- Proofs of what a step owes of its rule for code. They stand here, and not in proofs/, since an implementation of a trait cites them;
--- nothing here is to be believed.
+-- Proofs that a spill step needs for its own trait items. They are here and not in proofs/ since an implementation of a trait names
+-- them. Nothing here must be believed.
 use Rattle.std.proofs.Common.{◌≡◌, ◌↔◌, ℕ, zero, suc, ◌+◌, List, [], ◌∷◌, ◌++◌}
 use Rattle.std.proofs.Common.{map, filter, take, drop, length, Contains, Option, Some, None, Bool, true, false}
 use Rattle.std.proofs.Common.{cond, not, ◌&&◌, ◌||◌, nat_eq, nat_lt, refl, sym, ap, ◌∙◌, subst, arith}
@@ -42,7 +42,7 @@ use Rattle.spill_rule.specs.Rule.{IsLiveIn, IsSpilled}
 
 -- ---- one result
 
--- a test that is the same at each of a list's numbers keeps the same of them
+-- two tests that agree on a list's members filter it to the same list
 filter_same : (p q : ℕ → Bool) (xs : List ℕ) → ((x : ℕ) → Contains xs x → p x ≡ q x) → filter p xs ≡ filter q xs
 filter_same p q [] h = refl
 filter_same p q (x ∷ xs) h =
@@ -109,19 +109,19 @@ module _ (reserve : List ℕ) (f : Function) (live live' : ℕ → Bool) (agree 
         blocks = spilled_blocks (record { first = first_scratch (scratch_of f); second = second_scratch (scratch_of f); homes = hs i }) (es i) f.blocks;
       }
 
--- two that decide the same agree
+-- two tests of one property agree
 agreeing : (P : Type 0) (a b : Bool) → (a ≡ true) ↔ P → (b ≡ true) ↔ P → a ≡ b
 agreeing P true true h k = refl
 agreeing P true false h k = sym (k.1 (h.0 refl))
 agreeing P false true h k = h.1 (k.0 refl)
 agreeing P false false h k = refl
 
--- of one function spilling makes one: two that decide liveness of the reserve choose the same homes
+-- spilling is functional: two tests of liveness agree on the reserve, so the same registers are chosen
 pub one_spilled : (reserve : List ℕ) → HasOneResult (IsSpilled reserve)
 one_spilled reserve f g h (live, decides, e) (live', decides', e') =
     e ∙ spilled_same reserve f live live' (λ r k. agreeing (IsLiveIn f r) (live r) (live' r) (decides r k) (decides' r k)) ∙ sym e'
 
--- ---- positions don't show in what is live
+-- ---- liveness doesn't depend on positions
 
 abbrev placeless_fetch : Fetch → Fetch
 placeless_fetch (Here i) = Here (placeless_item i)
@@ -217,7 +217,7 @@ live_in_from f r h =
     live_from f.blocks (λ q. None) (Register r)
     (subst (λ (n : ℕ). Live (program_of false (placeless f).blocks (λ q. None)) (Register r) (block_start n)) (first_placeless f.blocks) h)
 
--- ---- nor in what is chosen
+-- ---- nor does the choice
 
 any_placeless_in : (test : Item → Bool) → ((i : Item) → test (placeless_item i) ≡ test i) → (xs : List Item) →
     list_any test (map placeless_item xs) ≡ list_any test xs
@@ -269,7 +269,7 @@ module _ (f : Function) where
       homes = homes_placeless i;
     }
 
--- ---- nor in the code that is made
+-- ---- nor does the spilled code
 
 module _ (s : Spilling) where
   loads_placeless : (p q : Pos) (r : ℕ) (z : Option ℕ) → map placeless_item (loads p r z) ≡ map placeless_item (loads q r z)
@@ -350,7 +350,7 @@ spilled_placeless reserve live f =
       blocks = blocks_placeless (spilling_of reserve live f) (entry_of live (homes_of reserve live f)) f.blocks i;
     })
 
--- it sees no positions
+-- the rule doesn't depend on positions
 pub same_spilled : (reserve : List ℕ) → SeesCodeAlone (IsSpilled reserve)
 same_spilled reserve f f' g g' alike (live, decides, e) (live', decides', e') =
     ap placeless e ∙ sym (spilled_placeless reserve live f) ∙ ap placeless (spilled_same reserve (placeless f) live live' agree) ∙

@@ -1,15 +1,14 @@
-//! Laws of the rule's choice: each is the contract of a function that does nothing.
+//! Laws of the rule's choice: each is the contract of a function with an empty body.
 
 ghost use Rattle.spill_rule.specs.Chosen.{ChosenMaySpill};
 ghost use Rattle.spill_rule.specs.Follows.{RuleFollows};
 
-/// What the rule chooses may be spilled.
+/// The registers that the rule chooses satisfy the conditions of spilling.
 pub fn chosen_may_spill()
     ensures { ChosenMaySpill }
 {}
 
-/// What follows a source follows it with the registers that the rule chooses in slots, and keeps the source's ends of
-/// blocks.
+/// Spilling the registers that the rule chooses preserves the simulation, and keeps matched block ends matched.
 pub fn rule_follows()
     ensures { RuleFollows }
 {}

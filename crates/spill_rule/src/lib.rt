@@ -1,8 +1,8 @@
-//! Which registers are spilled, by a rule that looks at code alone. The registers of a reserve are taken in ascending
-//! order. One that no code names stays. Another stays for the first of these reasons that applies: fewer than two
-//! scratch registers are free; a call names it, or code that was added; it is live into the first block, to which a
-//! branch goes; there are as many slots and stack objects as a function may have. Every other one gets a new slot, and
-//! those that are live into the first block are stored there.
+//! The choice of registers to spill, which depends only on code. The registers of a reserve are considered in ascending
+//! order. A register that no code names isn't spilled. Another isn't spilled for the first of these reasons that
+//! applies: fewer than two scratch registers are free; a call or added code names it; it is live into the first block,
+//! which is the target of some branch; the function has as many slots and stack objects as it may. Every other one gets
+//! a new slot, and is stored there at the function's start if it is live into the first block.
 #![tactic(auto)]
 
 pub mod laws;

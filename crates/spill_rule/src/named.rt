@@ -1,4 +1,4 @@
-//! Which registers code names.
+//! Which registers code names, and which blocks are branch targets.
 
 ghost use Rattle.std.specs.Prelude.{◌≡◌, ◌&&◌};
 ghost use Rattle.std.specs.List.{list_any};
@@ -21,7 +21,8 @@ use rv64_instr::operand::Operand;
 use rv64_instr::parts::is_call;
 use rv64_instr::reg::Reg;
 
-/// Whether some code names the register: by an explicit operand, or by an implicit one of a call or a return.
+/// Whether some code names the register: in an explicit operand, or in an implicit one of a row with implicit uses (a
+/// call or a return).
 pub fn is_named(f: &Func, r: Reg) -> bool
     ensures { result ≡ is_named f.now r }
 {
@@ -34,7 +35,7 @@ fn names_any(blocks: &[Block], r: Reg) -> bool
     blocks.iter().any(|b| is_named_in(b.items.as_slice(), r))
 }
 
-/// Whether a call names the register, or code that was added.
+/// Whether some call or added code names the register.
 pub fn is_bound(f: &Func, r: Reg) -> bool
     ensures { result ≡ is_bound f.now r }
 {
@@ -47,7 +48,7 @@ fn binds_any(blocks: &[Block], r: Reg) -> bool
     blocks.iter().any(|b| is_bound_in(b.items.as_slice(), r))
 }
 
-/// Whether some branch goes to the first block.
+/// Whether some branch or jump goes to the first block.
 pub fn is_looped(f: &Func) -> bool
     ensures { result ≡ is_looped f.now }
 {
@@ -136,7 +137,7 @@ fn code_names(r: Reg, i: &Instr) -> bool
         .any(|operand| is_of_register(counts, r, operand))
 }
 
-/// Whether the operand is the register; an implicit one where such operands count.
+/// Whether the operand is the register; an implicit operand only if `counts`.
 fn is_of_register(counts: bool, r: Reg, operand: &Operand) -> bool
     ensures { result ≡ is_of_register counts r operand.now }
 {

@@ -11,17 +11,17 @@ use Rattle.spill_code.specs.declared.spilling.Home.{Home}
 use Rattle.spill_code.specs.Rewrite.{slot_of}
 use Rattle.spill_rule.specs.Choice.{is_bound, reason_of, homes_of}
 
--- the first reason that applies whatever the slots, by what holds of the function and the register
+-- the first reason that applies, apart from a lack of slots, given the conditions on the function and the register
 abbrev pub first_reason : (lacks bound loops : Bool) → Option Reason
 first_reason lacks bound loops = cond lacks (Some NoScratch) (cond bound (Some CallNamed) (cond loops (Some EntryLoop) None))
 
--- a register that nothing else prevents has a home, or there was no slot for it
+-- a register without such a reason either has a slot, or isn't spilled since there was no slot for it
 abbrev pub or_no_slot : Option Reason → (home : Option ℕ) → Option Reason
 or_no_slot (Some why) home = Some why
 or_no_slot None None = Some NoSlot
 or_no_slot None (Some n) = None
 
--- why a register isn't spilled, where code names it
+-- why a register isn't spilled, if code names it
 abbrev pub why_left : Function → (live : ℕ → Bool) → List Home → ℕ → Option Reason
 why_left f live homes r = cond (is_named f r) (or_no_slot (reason_of f live r) (slot_of homes r)) None
 

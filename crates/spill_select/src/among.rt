@@ -1,11 +1,11 @@
-//! Registers that come in with a value, as a list of them.
+//! Registers that are live into a function, as a list.
 
 ghost use Rattle.std.specs.Prelude.{◌≡◌};
 ghost use Rattle.spill_select.specs.Incoming.{is_among};
 
 use rv64_instr::reg::Reg;
 
-/// Whether a register is among some.
+/// Whether a register is one of these.
 pub fn is_among(registers: &[Reg], r: Reg) -> bool
     ensures { result ≡ is_among registers.now r }
 {

@@ -21,8 +21,8 @@ use spill_code::spilling::{Home, Homes, Spilling};
 use spill_rule::named::{is_bound, is_looped, is_named};
 use std::alloc::{AllocError, Global};
 
-/// The scratch registers of a function and the homes of the registers of a reserve that are spilled, by the rule.
-/// `incoming` are those that are live into the first block.
+/// The scratch registers of a function, and the slots of the registers of a reserve that are spilled, by the rule.
+/// `incoming` are the registers that are live into the first block.
 pub fn choose(
     alloc: Global,
     reserve: &[Reg],
@@ -61,12 +61,12 @@ fn chosen(
     Ok(registers)
 }
 
-/// What prevents all registers, or those that come in with a value.
+/// The conditions on a function that prevent all registers from being spilled, or those that are live into it.
 #[derive(Clone, Copy, Debug)]
 pub struct Facts {
     /// Fewer than two scratch registers are free.
     pub lacks_scratch: bool,
-    /// Some branch goes to the first block.
+    /// Whether some branch goes to the first block.
     pub is_looped: bool,
 }
 
@@ -78,7 +78,7 @@ pub fn lacks_scratch(alloc: Global, f: &Func) -> Result<bool, AllocError>
     Ok(scratch.len() < 2)
 }
 
-/// Keeps the candidates, where the facts are those of the function.
+/// Keeps only the candidates; the facts must be those of the function.
 fn keep_candidates(f: &Func, facts: &Facts, incoming: &[Reg], registers: &mut Vec<Reg>)
     ensures { facts.now.lacks_scratch ≡ lacks_scratch f.now → facts.now.is_looped ≡ is_looped f.now →
         registers.new.items ≡ candidates registers.old.items (is_among incoming.now) f.now }
@@ -86,7 +86,7 @@ fn keep_candidates(f: &Func, facts: &Facts, incoming: &[Reg], registers: &mut Ve
     registers.retain(|r| is_candidate(f, facts, incoming, *r));
 }
 
-/// Whether code names the register, and nothing prevents that it is spilled.
+/// Whether code names the register, and nothing prevents it from being spilled.
 fn is_candidate(f: &Func, facts: &Facts, incoming: &[Reg], r: Reg) -> bool
     ensures { result ≡ (is_named f.now r &&
         is_free (first_reason facts.now.lacks_scratch (is_bound f.now r)
@@ -95,7 +95,7 @@ fn is_candidate(f: &Func, facts: &Facts, incoming: &[Reg], r: Reg) -> bool
     is_named(f, r) && reason_of(f, facts, incoming, r).is_none()
 }
 
-/// Why a register can't be spilled, whatever the slots: the first reason that applies.
+/// Why a register can't be spilled, apart from a lack of slots: the first reason that applies.
 pub fn reason_of(f: &Func, facts: &Facts, incoming: &[Reg], r: Reg) -> Option<Reason>
     ensures { result
         ≡ first_reason facts.now.lacks_scratch (is_bound f.now r) (is_among incoming.now r && facts.now.is_looped) }
@@ -112,7 +112,7 @@ pub fn reason_of(f: &Func, facts: &Facts, incoming: &[Reg], r: Reg) -> Option<Re
     None
 }
 
-/// How many slots there may still be.
+/// How many more slots the function may have.
 fn room(f: &Func) -> usize
     ensures { result ≡ room f.now }
 {
@@ -121,7 +121,7 @@ fn room(f: &Func) -> usize
         .saturating_sub(f.objects.len())
 }
 
-/// A number above all slots, or 0 where there is none.
+/// The number above the greatest slot, or 0 if there are no slots.
 fn next_slot(slots: &[SlotId]) -> u32
     requires { greatest slots.now + 1 < 2 ^ 32 }
     ensures { result ≡ next_slot slots.now }
@@ -151,7 +151,7 @@ fn greater(a: u32, b: u32) -> u32
     if a < b { b } else { a }
 }
 
-/// Homes for registers, each in a slot of its own, from a number on.
+/// The registers, each with a slot of its own, numbered upwards from `slot`.
 fn homes_from(alloc: Global, slot: u32, registers: &[Reg]) -> Result<Homes, AllocError>
     requires { slot + length registers.now < 2 ^ 32 }
     ensures { IfOk result (λ homes. homes ≡ homes_from slot registers.now) }
@@ -168,7 +168,7 @@ fn homes_from(alloc: Global, slot: u32, registers: &[Reg]) -> Result<Homes, Allo
     Ok(homes)
 }
 
-/// The homes of the registers that come in with a value.
+/// The spilled registers that are live into the function.
 pub fn entry_of(alloc: Global, incoming: &[Reg], homes: &[Home]) -> Result<Homes, AllocError>
     ensures { IfOk result (λ entry. entry ≡ entry_of (is_among incoming.now) homes.now) }
 {

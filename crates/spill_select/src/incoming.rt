@@ -1,4 +1,4 @@
-//! Registers that come in with a value.
+//! Registers that are live into a function.
 
 ghost use Rattle.std.specs.Prelude.{◌≡◌, filter, IfOk};
 ghost use Rattle.rv64_instr.specs.declared.place.Place.TheVariants.{Register};

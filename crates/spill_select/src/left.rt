@@ -16,7 +16,7 @@ use spill_rule::named::{is_looped, is_named};
 use std::alloc::{AllocError, Global};
 
 /// The losses of the registers of a reserve that code names and that aren't spilled, each with the first reason that
-/// applies, in the order of the reserve. `homes` are those that the rule chooses.
+/// applies, in the order of the reserve. `homes` are the spilled registers and their slots.
 pub fn registers_left(
     alloc: Global,
     reserve: &[Reg],
@@ -43,7 +43,7 @@ pub fn registers_left(
     Ok(losses)
 }
 
-/// Why a register isn't spilled, where code names it.
+/// Why a register isn't spilled, if code names it.
 fn why_left(f: &Func, facts: &Facts, incoming: &[Reg], homes: &[Home], r: Reg) -> Option<Reason>
     ensures { result ≡ cond (is_named f.now r)
         (or_no_slot (first_reason facts.now.lacks_scratch (is_bound f.now r)
@@ -59,7 +59,7 @@ fn why_left(f: &Func, facts: &Facts, incoming: &[Reg], homes: &[Home], r: Reg) -
     }
 }
 
-/// That there was no slot for a register, where it has no home.
+/// That there was no slot for a register, if it has none.
 fn no_slot(homes: &[Home], r: Reg) -> Option<Reason>
     ensures { result ≡ or_no_slot None (slot_of homes.now r) }
 {

@@ -1,11 +1,10 @@
-//! Which registers are spilled, and which of them are live into the function.
+//! The selection of registers to spill, and of those that are live into the function.
 //!
-//! - `among`, `choice`, `left`, `scratch`: The choice of registers that are spilled, by the rule: which registers are
-//!   scratch, which of a reserve are spilled and into which slots, and why the others aren't spilled. Which come in
-//!   with a value is given.
+//! - `among`, `choice`, `left`, `scratch`: The selection by the rule: which registers are scratch, which registers of a
+//!   reserve are spilled and into which slots, and why the others aren't. The registers that are live into the function
+//!   are a parameter.
 //!
-//! - `incoming`: Which registers come in with a value: those that are live into a function's first block, by the paths
-//!   through it.
+//! - `incoming`: The registers that are live into a function's first block, by liveness analysis.
 #![tactic(auto)]
 
 pub mod among;

@@ -9,7 +9,7 @@ use rv64_instr::reg::{Reg, Registers, physical};
 use spill_rule::named::is_named;
 use std::alloc::{AllocError, Global};
 
-/// The lowest two of x5, x6, x7 and x28 to x31 that no code of a function names, or as many as there are.
+/// The lowest two of x5, x6, x7 and x28 to x31 that no code of a function names, or fewer if there are fewer.
 pub fn scratch_of(alloc: Global, f: &Func) -> Result<Registers, AllocError>
     ensures { IfOk result (λ registers. registers ≡ scratch_of f.now) }
 {
@@ -19,7 +19,7 @@ pub fn scratch_of(alloc: Global, f: &Func) -> Result<Registers, AllocError>
     Ok(registers)
 }
 
-/// The registers that may be scratch.
+/// The candidates for scratch registers.
 fn temporaries(alloc: Global) -> Result<Registers, AllocError>
     ensures { IfOk result (λ registers. registers ≡ 5 ∷ 6 ∷ 7 ∷ 28 ∷ 29 ∷ 30 ∷ 31 ∷ []) }
 {
@@ -43,7 +43,7 @@ fn keep_free(f: &Func, registers: &mut Vec<Reg>)
     registers.retain(|r| !is_named(f, *r));
 }
 
-/// The first of the scratch registers, or x0 where there is none.
+/// The first of the scratch registers, or x0 if there is none.
 pub fn first_scratch(scratch: &[Reg]) -> Reg
     ensures { result ≡ first_scratch scratch.now }
 {
@@ -53,7 +53,7 @@ pub fn first_scratch(scratch: &[Reg]) -> Reg
     }
 }
 
-/// The second of the scratch registers, or x0 where there is none.
+/// The second of the scratch registers, or x0 if there is none.
 pub fn second_scratch(scratch: &[Reg]) -> Reg
     ensures { result ≡ second_scratch scratch.now }
 {

@@ -1,4 +1,4 @@
--- Registers may be spilled so, and what follows a source follows it with them in slots.
+-- Spilling registers that satisfy the conditions preserves the simulation.
 use Rattle.std.specs.Prelude.{◌≡◌, ◌⊎◌, ℕ, List, [], Contains, Option, Some, false}
 use Rattle.rv64_instr.specs.declared.place.Place.TheVariants.{Register}
 use Rattle.mir_func.specs.declared.entry.OperandPair.{OperandPair}
@@ -16,19 +16,19 @@ use Rattle.spill_code.specs.declared.spilling.Spilling.{Spilling}
 use Rattle.spill_code.specs.Rewrite.{slot_of, spilled_blocks}
 use Rattle.spill_simulation.specs.MaySpill.{Fits, AreHomes}
 
--- the choice of registers fits the function
+-- the conditions under which these registers may be spilled in this function
 pub record MaySpill (s : Spilling) (entry : List Home) (f : Function) (resolve : OperandPair → Option OperandPair) : Type 0 where
   pub homes : AreHomes s f.slots
   pub fits : AllItems (λ i. Fits s i.kind i.origin) f.blocks
-  -- at the start those are stored that are live there
+  -- at the function's start exactly the spilled registers are stored that are live there
   pub stored : (h : Home) → Contains entry h → slot_of s.homes h.register ≡ Some h.slot
   pub lives : (h : Home) → Contains entry h → Live (program_of false f.blocks resolve) (Register h.register) (block_start (first_of f.blocks))
   pub all : (r n : ℕ) → slot_of s.homes r ≡ Some n → Live (program_of false f.blocks resolve) (Register r) (block_start (first_of f.blocks)) →
       (h : Home) × Contains entry h × (h.register ≡ r)
-  -- and if any is, no branch goes there
+  -- and if there are any, no branch goes to the first block
   pub once : (entry ≡ []) ⊎ ((p : Pos) (i : Item) → (program_of false f.blocks resolve).fetch p ≡ Here i → OnRow (GoesTo (first_of f.blocks)) i.kind → ⊥)
 
--- a function that follows a source follows it with registers in slots; and it keeps the source's ends of blocks
+-- spilling preserves the simulation; and matched block ends stay matched
 abbrev pub SpilledFollows : Type 0
 SpilledFollows = (objects : List Object) (src : List Block) (f : Function) (subs fsubs : OperandPair → Option OperandPair) (s : Spilling) (entry : List Home) →
     IsSound f → MaySpill s entry f fsubs → Follows objects src f.blocks subs fsubs →

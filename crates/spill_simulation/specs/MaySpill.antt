@@ -1,4 +1,4 @@
--- When registers may live in slots: what the chosen registers must satisfy.
+-- The conditions under which registers may be spilled.
 use Rattle.std.specs.Prelude.{◌≡◌, ◌⊎◌, ℕ, ◌<◌, List, [], ◌∷◌, Contains, Some, None, IsTrue, true}
 use Rattle.rv64_instr.specs.declared.operand.Operand.{Operand}
 use Rattle.rv64_instr.specs.declared.operand.Operand.TheVariants.{Def, Use, ImplicitDef, ImplicitUse}
@@ -17,7 +17,7 @@ use Rattle.mir_func.specs.declared.item.ItemKind.TheVariants.{Code, Mark, Phi}
 use Rattle.spill_code.specs.declared.spilling.Spilling.{Spilling}
 use Rattle.spill_code.specs.Rewrite.{slot_of}
 
--- the registers that explicit operands read, and those that they set
+-- the registers that explicit uses read
 abbrev pub uses_in : List Operand → List ℕ
 uses_in [] = []
 uses_in (Use r ∷ os) = r ∷ uses_in os
@@ -36,16 +36,16 @@ implicits_in (ImplicitDef r ∷ os) = r ∷ implicits_in os
 implicits_in (ImplicitUse r ∷ os) = r ∷ implicits_in os
 implicits_in (_ ∷ os) = implicits_in os
 
--- neither scratch register
+-- the register is neither scratch register
 abbrev pub IsNoScratch : Spilling → ℕ → Type 0
 IsNoScratch s r = (r ≡ s.first → ⊥) × (r ≡ s.second → ⊥)
 
--- neither spilled nor a scratch register
+-- the register is neither spilled nor a scratch register
 abbrev pub IsUntouched : Spilling → ℕ → Type 0
 IsUntouched s r = (slot_of s.homes r ≡ None) × IsNoScratch s r
 
--- what code must keep: its operands have the form of its opcode, no scratch register is named, and a spilled one by an explicit
--- operand of kept code alone
+-- The conditions on code: its operands have the form of its opcode; it names no scratch register, and a spilled one only in an
+-- explicit operand, and only if the code isn't added
 pub record FitsCode (s : Spilling) (i : Instruction) (o : Origin) : Type 0 where
   pub form : IsTrue (has_form i.op i.operands)
   pub uses : (r : ℕ) → Contains (uses_in i.operands) r → IsNoScratch s r
@@ -53,7 +53,7 @@ pub record FitsCode (s : Spilling) (i : Instruction) (o : Origin) : Type 0 where
   pub implicits : has_implicit_uses (row_of i) ≡ true → (r : ℕ) → Contains (implicits_in i.operands) r → IsUntouched s r
   pub kept : (p : Pos) → o ≡ Before p → (r : ℕ) → Contains (uses_in i.operands) r ⊎ Contains (defs_in i.operands) r → slot_of s.homes r ≡ None
 
--- marks ask for no register that goes elsewhere, and phis for no scratch register
+-- debug values name no spilled or scratch register, and DBG_PHIs no scratch register
 abbrev pub Fits : Spilling → ItemKind → Origin → Type 0
 Fits s (Code i k) o = FitsCode s i o
 Fits s (Mark v Nothing) o = Unit {0}
@@ -65,8 +65,8 @@ Fits s (Phi (Some (Register r)) k) o = IsNoScratch s r
 Fits s (Phi (Some (Slot n)) k) o = Unit {0}
 Fits s (Phi (Some (Const c)) k) o = Unit {0}
 
--- the registers themselves: calls set the scratch registers and no spilled one, and each home is a slot of its own that the
--- function didn't have
+-- The conditions on the registers: the scratch registers are distinct and caller-saved, spilled registers are real and not
+-- caller-saved, neither x0 nor x2 is spilled, and each spilled register has a slot of its own that is new to the function
 pub record AreHomes (s : Spilling) (slots : List ℕ) : Type 0 where
   pub first : Contains caller_saved s.first
   pub second : Contains caller_saved s.second

@@ -1,8 +1,8 @@
-//! The law of spilled registers, as the contract of a function that does nothing.
+//! The law of spilling, as the contract of a function with an empty body.
 
 ghost use Rattle.spill_simulation.specs.Follows.{SpilledFollows};
 
-/// What follows a source follows it with registers in slots, and keeps the source's ends of blocks.
+/// Spilling preserves the simulation, and keeps matched block ends matched.
 pub fn spilled_follows()
     ensures { SpilledFollows }
 {}

@@ -1,7 +1,8 @@
-//! Registers in slots, and what follows a source. A function whose registers are spilled, so that loads come before
-//! the code that reads them and a store behind the code that sets one, follows what the function followed, with the
-//! ends of blocks that it had. The two runs stand level between items: each new slot holds what its register holds,
-//! where the register is live. All here are laws over plain functions, generic in which registers are chosen.
+//! Spilling preserves the simulation. A function with spilled registers, whose values are reloaded before the code that
+//! reads them and stored after the code that sets them, is simulated by every source that simulates the function
+//! without spill code, and matched block ends stay matched. The two runs match between items: each new slot has the
+//! value of its register, if the register is live. All here are laws over plain functions, generic in the choice of
+//! registers.
 #![tactic(auto)]
 
 pub mod laws;

@@ -1,4 +1,4 @@
--- How many items stand before the first at which control may leave.
+-- How many items are before the first one at which control may leave.
 use Rattle.std.specs.Prelude.{ℕ, suc, List, [], ◌∷◌}
 use Rattle.mir_func.specs.declared.exit.Exit.{Exit}
 use Rattle.mir_func.specs.declared.exit.Exit.TheVariants.{Onward, Perhaps, Always, Final}

@@ -1,4 +1,4 @@
--- What was killed, as sets of keys.
+-- Sets of kills, as sets of keys.
 use Rattle.std.specs.Prelude.{ℕ, Option, Some, None, Bool, ◌&&◌, nat_eq}
 use Rattle.std.specs.Option.{option_eq}
 use Rattle.std.specs.HashSet.{HashSet, contains}
@@ -20,7 +20,7 @@ fragment_key None = None
 abbrev pub key_of : VarId → Key
 key_of v = ((v.node, v.inlined_at), fragment_key v.fragment)
 
--- a kill that takes the same away is there
+-- the sets have a kill of the same variable fragment or number
 abbrev pub is_seen : {S T : Type 0} → HashSet Key S → HashSet ℕ T → Kill → Bool
 is_seen parts numbers (Part v l) = contains is_key parts (key_of v)
 is_seen parts numbers (Number k) = contains nat_eq numbers k

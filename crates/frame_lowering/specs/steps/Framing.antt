@@ -1,4 +1,4 @@
--- The steps of lowering, which only proofs need: what is made of each part, by the frame.
+-- Frame lowering with a given frame: auxiliary definitions for proofs about the code.
 use Rattle.std.specs.Prelude.{◌≡◌, ℕ, ◌+◌, ◌*◌, ◌≤◌, List, [], ◌∷◌, ◌++◌, map, length, cond, nat_eq, Option, Some, None}
 use Rattle.std.specs.List.{flat_map}
 use Rattle.std.specs.Ordering.{nat_cmp}
@@ -17,7 +17,7 @@ use Rattle.frame_lowering.specs.declared.frame.Frame.{Frame}
 
 -- ---- slots
 
--- the offset of the slot of a number, where so many slots stand before these
+-- the offset of a slot, if `k` slots come before these
 abbrev pub offset_in : ℕ → List ℕ → ℕ → Option ℕ
 offset_in k [] n = None
 offset_in k (s ∷ slots) n = cond (nat_eq s n) (Some (8 * k)) (offset_in (k + 1) slots n)
@@ -36,7 +36,7 @@ pub record IsFrameOf (f : Function) (frame : Frame) : Type 0 where
   pub size : frame.size ≡ size_of f
   pub small : frame.size ≤ MAX_FRAME
 
--- ---- what is made with a frame
+-- ---- the parts of the function, by the frame
 
 abbrev pub prologue_in : Frame → (first : ℕ) → List Item
 prologue_in frame first = added_all frame.size (Before (block_start first)) (prologue_code frame.size frame.saved)

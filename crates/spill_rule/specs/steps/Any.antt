@@ -1,4 +1,4 @@
--- What some item of some block passes, block by block.
+-- A test for some item of some block, block by block.
 use Rattle.std.specs.Prelude.{List, Bool}
 use Rattle.std.specs.List.{list_any}
 use Rattle.mir_func.specs.declared.block.Block.{Block}
