@@ -1,7 +1,8 @@
 -- The limits of numbers.
 use Rattle.std.specs.Prelude.{ℕ}
 
--- the greatest number that a text may give to something, and the greatest size of a stack object in bytes: 2^30 - 1
+-- the greatest number that may name an entity in a text, and the greatest size of a stack object, in bytes: 2^30 -
+-- 1
 abbrev pub MAX_NUMBER : ℕ
 MAX_NUMBER = 1073741823
 

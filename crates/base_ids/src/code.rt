@@ -27,8 +27,8 @@ impl BlockId {
     }
 }
 
-/// What names a frame slot of eight bytes: the N of `%stack.N`, or in a function with its frame the slot's offset from
-/// x2 in bytes.
+/// The number of a frame slot of eight bytes: the N of `%stack.N`, or in a function with its frame the slot's offset
+/// from x2 in bytes.
 #[derive(Clone, Copy, Debug, PartialEq, Eq, PartialOrd, Ord)]
 pub struct SlotId(pub u32);
 
@@ -120,7 +120,7 @@ impl OperandIndex {
     }
 }
 
-/// The place of a block in the order of its function, from 0; in a function with its frame 0 is the prologue.
+/// The index of a block in its function, from 0; in a function with its frame 0 is the prologue.
 #[derive(Clone, Copy, Debug, PartialEq, Eq, PartialOrd, Ord)]
 pub struct BlockIndex(pub u32);
 

@@ -1,5 +1,5 @@
-//! Numbers that name or count different things have different types: a block's number is no slot's, and neither is a
-//! node's. A contract sees each as the plain number.
+//! Number types, one for each kind of entity that a number names or counts: a block's number is no slot's, and
+//! neither is a node's. A contract sees each as the plain number.
 #![tactic(auto)]
 
 pub mod code;

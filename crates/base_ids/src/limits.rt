@@ -1,4 +1,5 @@
 //! The limits of numbers.
 
-/// The greatest number that a text may give to something, and the greatest size of a stack object in bytes.
+/// The greatest number that may name an entity in a text, and the greatest size of a stack object, in
+/// bytes.
 pub const MAX_NUMBER: u32 = 1_073_741_823;

@@ -1,4 +1,4 @@
-//! Numbers in its metadata.
+//! Numbers of metadata nodes.
 
 ghost use Rattle.std.specs.Prelude.{◌≡◌};
 

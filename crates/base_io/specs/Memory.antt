@@ -13,6 +13,6 @@ pub record MemoryOutput : Type 0 where
   pub room : ℕ
   pub calls : Calls
 
--- a piece that isn't empty meets a sink whose room is full
+-- the piece isn't empty, and the sink's room is full
 abbrev pub MeetsFullRoom : MemoryOutput → List ℕ → Type 0
 MeetsFullRoom sink bytes = (0 < length bytes) × (length sink.written ≡ sink.room)

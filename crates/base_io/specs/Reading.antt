@@ -1,9 +1,9 @@
--- What reading a source to its end answers.
+-- The result of reading a source to its end.
 use Rattle.std.specs.Prelude.{◌≡◌, ℕ, ◌<◌, ◌≤◌, List, length, Result, Ok, Err}
 use Rattle.base_io.specs.declared.reading.ReadError.{ReadError}
 use Rattle.base_io.specs.declared.reading.ReadError.TheVariants.{Failed, TooLong, Memory}
 
--- the answer for these bytes: all of them up to the limit, and above it that they are too many, unless a read failed
+-- the result for these bytes: all of them if they are within the limit, `TooLong` if they aren't; or a read failed,
 -- or memory ran out
 abbrev pub AnswersFor : List ℕ → ℕ → Result (List ℕ) ReadError → Type 0
 AnswersFor left limit (Ok bytes) = (bytes ≡ left) × (length left ≤ limit)

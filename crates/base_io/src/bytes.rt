@@ -1,4 +1,4 @@
-//! The lists of bytes and of numbers that cross the edge.
+//! Lists of bytes, and of numbers of calls.
 
 use base_list::List;
 

@@ -1,4 +1,4 @@
-//! The calls that an adapter over memory has met.
+//! The log of calls of a source or a sink over memory.
 
 ghost use Rattle.std.specs.Prelude.{◌≡◌, ◌≤◌, ◌↔◌, IsTrue};
 ghost use Rattle.base_io.specs.Calls.{Calls, no_calls, IsToFail, after_call};
@@ -7,8 +7,8 @@ ghost use Rattle.base_io.specs.Faults.{risen};
 use crate::bytes::CallNumbers;
 use std::marker::Model;
 
-/// The calls so far, the numbers of those that are to fail, and how many were faults. Both counts stay at their
-/// greatest value: no number of a call is beyond it, so no call fails by its number from there on.
+/// The number of calls so far, the numbers of those that fail, and the number of faults. Both counts saturate:
+/// no number of a call is beyond the greatest value, so no call fails by its number from there on.
 #[derive(Debug, Drop)]
 pub(crate) struct CallLog {
     fails: CallNumbers,
@@ -25,7 +25,7 @@ impl Model for CallLog {
 }
 
 impl CallLog {
-    /// Before the first call.
+    /// The log before the first call.
     pub(crate) fn new(fails: CallNumbers) -> CallLog
         ensures { result ≡ no_calls fails }
     {
@@ -36,7 +36,7 @@ impl CallLog {
         }
     }
 
-    /// Counts the call that begins, and says whether it is to fail.
+    /// Counts the call that begins, and returns whether it must fail.
     pub(crate) fn begin(&mut self) -> bool
         ensures fails { IsTrue result ↔ IsToFail self.old }
         ensures made { self.new ≡ after_call self.old }

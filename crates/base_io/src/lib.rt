@@ -1,12 +1,13 @@
-//! The edge between the compiler and the world: where its bytes come from and where they go.
+//! Byte sources and sinks: the compiler's input and output.
 //!
-//! A `Source` gives bytes piece by piece, and a `Sink` takes them piece by piece. Contracts see two things of each:
-//! the bytes (those left of a source, those written to a sink), where the type tells them, and a count of faults,
-//! which never falls. An answer `Failed` comes only where the count rose, so that generic code can't invent a fault.
+//! A `Source` yields bytes piece by piece, and a `Sink` accepts them piece by piece. Contracts see two properties of
+//! each: the bytes (those left in a source, those written to a sink), if the type makes them known, and a count of
+//! faults, which never falls. `Failed` is returned only if the count rose, so that generic code can't report a fault
+//! that didn't happen.
 //!
-//! `read_all` reads a source to its end, within a limit, and `write_all` writes a piece whole. Over memory there are
-//! `MemorySource` and `MemorySink`, which tell their bytes and whose faults are planned, and over the readers and
-//! writers of the standard library `StdSource` and `StdSink`, which tell nothing: they are the trusted edge.
+//! `read_all` reads a source to its end, within a limit, and `write_all` writes a piece whole. `MemorySource` and
+//! `MemorySink` are over memory: their bytes are known and their faults are planned. `StdSource` and `StdSink` are
+//! over readers and writers of the standard library: their bytes aren't known, and they are the trusted edge.
 #![tactic(auto)]
 
 pub mod bytes;

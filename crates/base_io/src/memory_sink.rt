@@ -14,7 +14,7 @@ use crate::sink::Sink;
 use std::alloc::{AllocError, Global};
 use std::marker::Model;
 
-/// A sink over memory, with room for so many bytes, whose faults are planned. It tells the bytes written.
+/// A sink over memory, with room for so many bytes, whose faults are planned. The bytes written are known.
 #[derive(Debug, Drop)]
 pub struct MemorySink {
     bytes: Vec<u8>,
@@ -34,8 +34,9 @@ impl Model for MemorySink {
 }
 
 impl MemorySink {
-    /// An empty sink with room for `room` bytes, whose memory it takes here. The calls with the numbers of `fails`
-    /// fail, the first having the number 1, and so does each write of a piece that isn't empty once the room is full.
+    /// An empty sink with room for `room` bytes, which it allocates here. The calls whose numbers are in `fails`
+    /// fail, the first call having the number 1, and so does each write of a piece that isn't empty once the room is
+    /// full.
     pub fn new(alloc: Global, room: usize, fails: CallNumbers) -> Result<MemorySink, AllocError>
         ensures { IfOk result (λ sink. sink ≡ record { written = []; room = room; calls = no_calls fails }) }
     {
@@ -59,7 +60,7 @@ impl Sink for MemorySink {
 
     ghost faults = { λ s. s.calls.faults };
 
-    /// Writes as many bytes of the piece as there is room for. A call that fails moves no byte.
+    /// Writes as many bytes of the piece as there is room for. A call that fails writes no byte.
     fn write(&mut self, bytes: &[u8]) -> Result<usize, Failed>
         // When it fails.
         ensures fails { IsErr result ↔ (IsToFail self.old.calls ⊎ MeetsFullRoom self.old bytes.now) }

@@ -12,7 +12,7 @@ use crate::fault::Failed;
 use crate::source::Source;
 use std::marker::Model;
 
-/// A source over bytes in memory, whose faults are planned. It tells the bytes left.
+/// A source over bytes in memory, whose faults are planned. The bytes left are known.
 #[derive(Debug, Drop)]
 pub struct MemorySource {
     bytes: Bytes,
@@ -32,7 +32,8 @@ impl Model for MemorySource {
 }
 
 impl MemorySource {
-    /// A source of these bytes. The calls with the numbers of `fails` fail, and no others; the first has the number 1.
+    /// A source of these bytes. The calls whose numbers are in `fails` fail, and no others; the first call has the
+    /// number 1.
     pub fn new(bytes: Bytes, fails: CallNumbers) -> MemorySource
         ensures { result ≡ record { left = bytes; calls = no_calls fails } }
     {
@@ -49,7 +50,7 @@ impl Source for MemorySource {
 
     ghost faults = { λ s. s.calls.faults };
 
-    /// Reads as many bytes as fit the buffer and are left. A call that is to fail moves no byte.
+    /// Reads as many bytes as fit the buffer and are left. A call that fails takes no byte.
     fn read(&mut self, buf: &mut [u8]) -> Result<usize, Failed>
         // When it fails.
         ensures fails { IsErr result ↔ IsToFail self.old.calls }

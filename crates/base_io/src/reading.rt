@@ -43,11 +43,11 @@ impl From<AllocError> for ReadError {
     }
 }
 
-/// How many bytes the first room has.
+/// The size of the first buffer, in bytes.
 const FIRST_ROOM: usize = 64 * 1024;
 
-/// Reads a source to its end, and gives all its bytes. Each turn takes a byte or ends, and no more than one byte
-/// beyond the limit is read.
+/// Reads a source to its end, and returns all its bytes. Each iteration takes a byte or ends, and no more than one
+/// byte beyond the limit is read.
 ///
 /// `Failed`: the first read that failed ended the reading. `TooLong`: the source had more than `limit` bytes, and
 /// `limit + 1` of them were read.
@@ -83,8 +83,8 @@ pub fn read_all<S: Source>(alloc: Global, input: &mut S, limit: usize) -> Result
     Err(ReadError::TooLong)
 }
 
-/// Reads a piece behind the first `filled` bytes, into no more than `most` bytes in all, and answers how many bytes
-/// it has.
+/// Reads a piece into the buffer after the first `filled` bytes, up to `most` bytes in all, and returns its length in
+/// bytes.
 fn read_more<S: Source>(
     input: &mut S,
     bytes: &mut Vec<u8>,
@@ -112,7 +112,8 @@ fn read_more<S: Source>(
     Ok(count)
 }
 
-/// Makes room behind the first `filled` bytes, up to `most` bytes in all: at least as much again where there is none.
+/// Ensures room after the first `filled` bytes: a full buffer grows to twice its size, at least to the first size,
+/// and to `most` bytes at most.
 fn make_room(bytes: &mut Vec<u8>, filled: usize, most: usize) -> Result<(), AllocError>
     requires filled { filled ≤ length bytes.old.items }
     requires below { filled < most }
@@ -129,7 +130,7 @@ fn make_room(bytes: &mut Vec<u8>, filled: usize, most: usize) -> Result<(), Allo
     bytes.resize(len, 0)
 }
 
-/// Reads a piece behind the first `filled` bytes, and answers how many bytes it has.
+/// Reads a piece into the buffer after the first `filled` bytes, and returns its length in bytes.
 fn read_behind<S: Source>(input: &mut S, bytes: &mut [u8], filled: usize) -> Result<usize, Failed>
     requires { filled < length bytes.old }
     ensures kept { take filled bytes.new ≡ take filled bytes.old }

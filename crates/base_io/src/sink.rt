@@ -1,4 +1,4 @@
-//! What takes bytes.
+//! Sinks of bytes.
 
 ghost use Rattle.std.specs.Prelude.{◌≡◌, ◌<◌, ◌≤◌, ℕ, List, Option, length, take, IfOk, OnOk, OnErr};
 ghost use Rattle.base_io.specs.Faults.{CountRose};
@@ -6,7 +6,7 @@ ghost use Rattle.base_io.specs.Told.{Appends};
 
 use crate::fault::Failed;
 
-/// What takes bytes, piece by piece.
+/// A sink of bytes, piece by piece.
 pub trait Sink {
     // The bytes written, where they are told.
     ghost written: { Self → Option (List ℕ) };
@@ -14,7 +14,7 @@ pub trait Sink {
     // The count of faults.
     ghost faults: { Self → ℕ };
 
-    /// Writes the front of a piece, and answers how many bytes of it were written: 0 only for an empty piece.
+    /// Writes the front of a piece, and returns how many bytes of it were written: 0 only for an empty piece.
     /// `Failed` writes no byte.
     fn write(&mut self, bytes: &[u8]) -> Result<usize, Failed>
         ensures within { IfOk result (λ n. n ≤ length bytes.now) }

@@ -1,4 +1,4 @@
-//! What gives bytes.
+//! Sources of bytes.
 
 ghost use Rattle.std.specs.Prelude.{◌≡◌, ◌<◌, ◌≤◌, ℕ, List, Option, length, take, IfOk, OnOk, OnErr};
 ghost use Rattle.base_io.specs.Faults.{CountRose};
@@ -6,7 +6,7 @@ ghost use Rattle.base_io.specs.Told.{Takes, IsAtEnd};
 
 use crate::fault::Failed;
 
-/// What gives bytes, piece by piece.
+/// A source of bytes, piece by piece.
 pub trait Source {
     // The bytes left, where they are told.
     ghost left: { Self → Option (List ℕ) };
@@ -14,9 +14,9 @@ pub trait Source {
     // The count of faults.
     ghost faults: { Self → ℕ };
 
-    /// Reads a piece into the front of the buffer, and answers how many bytes it has. 0 for a buffer that isn't
-    /// empty is the end of the input. What stands in the buffer behind the piece is not said. `Failed` takes no byte,
-    /// and what stands in the buffer then is not said either.
+    /// Reads a piece into the front of the buffer, and returns its length in bytes. 0 for a buffer that isn't empty
+    /// is the end of the input. The buffer after the piece is unspecified. `Failed` takes no byte of the source, and
+    /// leaves the whole buffer unspecified.
     fn read(&mut self, buf: &mut [u8]) -> Result<usize, Failed>
         ensures within { IfOk result (λ n. n ≤ length buf.new) }
         ensures takes { IfOk result (λ n. Takes (left self.old) (left self.new) (take n buf.new)) }

@@ -10,9 +10,9 @@ use crate::sink::Sink;
 use std::io::Write;
 use std::marker::Model;
 
-/// A sink over a writer of the standard library. It tells no bytes. Each `Err` of the writer is a fault, and so is
-/// each `Ok(0)` for a piece that isn't empty. It never flushes: a writer that keeps bytes back is flushed by whoever
-/// made it.
+/// A sink over a writer of the standard library. As a sink its bytes aren't known. Each `Err` of the writer is a
+/// fault, and so is each `Ok(0)` for a piece that isn't empty. It never flushes: a writer with a buffer is flushed
+/// by its owner.
 #[derive(Drop)]
 pub struct StdSink<W: Write> {
     inner: W,

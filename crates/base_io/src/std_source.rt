@@ -10,8 +10,8 @@ use crate::source::Source;
 use std::io::Read;
 use std::marker::Model;
 
-/// A source over a reader of the standard library. It tells no bytes. Each `Err` of the reader is a fault, an
-/// interrupted read among them.
+/// A source over a reader of the standard library. As a source its bytes aren't known. Each `Err` of the
+/// reader is a fault, also that of an interrupted read.
 #[derive(Drop)]
 pub struct StdSource<R: Read> {
     inner: R,

@@ -7,7 +7,7 @@ ghost use Rattle.base_io.specs.Told.{Appends, AppendsPrefix};
 use crate::fault::Failed;
 use crate::sink::Sink;
 
-/// Writes all the bytes. It takes no memory. Each turn writes a byte.
+/// Writes all the bytes. It takes no memory. Each iteration writes at least one byte.
 ///
 /// `Failed`: the first write that failed ended the writing, and a prefix of the bytes was written.
 pub fn write_all<K: Sink>(output: &mut K, bytes: &[u8]) -> Result<(), Failed>

@@ -1,5 +1,5 @@
-//! The list of this compiler's public types: a vector whose contracts speak of the list of its items and of
-//! nothing else, so that no clause sees a capacity or a pointer.
+//! A growable list for the compiler's public types: a vector whose contracts speak of its items alone,
+//! never of a capacity or a pointer.
 #![tactic(auto)]
 
 ghost use Rattle.std.specs.Prelude.{◌≡◌, [], ◌∷◌, ◌++◌, length, IfOk, OnOk, OnErr, IsTrue, ◌↔◌};

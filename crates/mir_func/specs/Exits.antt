@@ -6,7 +6,7 @@ use Rattle.mir_func.specs.declared.exit.Exit.TheVariants.{Onward, Perhaps, Alway
 use Rattle.mir_func.specs.declared.item.ItemKind.{ItemKind}
 use Rattle.mir_func.specs.declared.item.ItemKind.TheVariants.{Code, Mark, Phi}
 
--- how control leaves code of a row. From what is no instruction it goes nowhere
+-- how control leaves code of a row. An invalid row counts as leaving the function
 abbrev pub row_exit : Row → Exit
 row_exit (Fixes rd n) = Onward
 row_exit (Moves rd rs) = Onward
@@ -22,7 +22,7 @@ row_exit (Calls name args) = Onward
 row_exit (Returns results) = Final
 row_exit Unfit = Final
 
--- how control leaves an item: debug items only let it on
+-- how control leaves an item: from a debug item to the next one
 abbrev pub exit_of : ItemKind → Exit
 exit_of (Code i k) = row_exit (row_of i)
 exit_of (Mark v m) = Onward
@@ -35,12 +35,12 @@ is_final (Perhaps n) = false
 is_final (Always n) = false
 is_final Final = true
 
--- it always goes to a block
+-- control always goes to a block
 abbrev pub IsAlways : Exit → Type 0
 IsAlways (Always n) = Unit {0}
 IsAlways _ = ⊥
 
--- it doesn't go on to the next item
+-- control doesn't go on to the next item
 abbrev pub Leaves : Exit → Type 0
 Leaves (Always n) = Unit {0}
 Leaves Final = Unit {0}

@@ -1,4 +1,4 @@
--- Functions as programs, and the paths through them.
+-- Functions as programs (control-flow graphs of positions), and the paths through them.
 use Rattle.std.specs.Prelude.{◌≡◌, ◌⊎◌, ◌+◌, ℕ, suc, List, [], ◌∷◌, drop, Option, Bool, false, cond, nat_eq}
 use Rattle.rv64_instr.specs.Row.{Row, Fixes, Moves, Sets, Addresses, Loads, Stores, LoadsSlot, StoresSlot, Branches, Jumps, Calls, Returns, Unfit, row_of}
 use Rattle.mir_func.specs.declared.position.Pos.{Pos}
@@ -9,24 +9,24 @@ use Rattle.mir_func.specs.declared.item.ItemKind.{ItemKind}
 use Rattle.mir_func.specs.declared.item.ItemKind.TheVariants.{Code, Mark, Phi}
 use Rattle.mir_func.specs.SoundFrame.{body_of}
 
--- what stands at a position
+-- what is at a position
 pub data Fetch : Type 0 where
   Here : Item → Fetch
   -- a block's end: its silent index in the source, and the block that comes next
   Silent : (index next : ℕ) → Fetch
   Outside : Fetch
 
--- a function as it runs
+-- a function as a program
 pub record Program : Type 0 where
   pub fetch : Pos → Fetch
-  -- the position's block of a branch's target
+  -- the block of the positions at a branch's target
   pub enter : ℕ → ℕ
   -- what pairs resolve to
   pub resolve : OperandPair → Option OperandPair
-  -- marks and numbers see the content of x2: in the source alone
+  -- whether marks and numbers see the content of x2: they do in the source alone
   pub sees_pointer : Bool
 
--- the position below, and the first one of a block
+-- the position below
 abbrev pub below : Pos → Pos
 below p = record { block = p.block; item = p.item + 1 }
 
@@ -34,17 +34,17 @@ below p = record { block = p.block; item = p.item + 1 }
 abbrev pub block_start : ℕ → Pos
 block_start n = record { block = n; item = 0 }
 
--- a block's end, with the blocks after it
+-- the end of a block with this silent index, before these blocks; the last block's end is outside
 abbrev pub end_of : (silent : ℕ) → List Block → Fetch
 end_of k [] = Outside
 end_of k (b ∷ bs) = Silent k b.id
 
--- the first of the items, or the block's end where no item is left
+-- the first of the items, or the block's end if no item is left
 abbrev pub front : List Item → (silent : ℕ) → List Block → Fetch
 front [] k bs = end_of k bs
 front (i ∷ is) k bs = Here i
 
--- the item of this index in the first of the blocks, or its end
+-- the item of this index in the first of the blocks, or that block's end
 abbrev pub fetch_in : List Block → ℕ → Fetch
 fetch_in [] n = Outside
 fetch_in (b ∷ bs) n = front (drop n b.items) b.silent bs
@@ -54,21 +54,22 @@ abbrev pub from_block : List Block → ℕ → List Block
 from_block [] n = []
 from_block (b ∷ bs) n = cond (nat_eq b.id n) (b ∷ bs) (from_block bs n)
 
--- a function: a position's block is a block's number
+-- a function as a program, in whose positions a block is a block's number
 abbrev pub program_of : (sees_pointer : Bool) → List Block → (OperandPair → Option OperandPair) → Program
 program_of sp blocks resolve = record { fetch = λ p. fetch_in (from_block blocks p.block) p.item; enter = λ n. n; resolve = resolve; sees_pointer = sp }
 
--- the index of the first block with this number, and how many blocks there are where none has it
+-- the index of the first block with this number, or the number of blocks if none has it
 abbrev pub index_of : List Block → ℕ → ℕ
 index_of [] n = 0
 index_of (b ∷ bs) n = cond (nat_eq b.id n) 0 (suc (index_of bs n))
 
--- a function with its frame: a position's block is a block's index, and a branch goes past the prologue
+-- a function with its frame as a program, in whose positions a block is a block's index; a branch
+-- enters a block after the prologue
 abbrev pub framed_program : List Block → (OperandPair → Option OperandPair) → Program
 framed_program blocks resolve =
     record { fetch = λ p. fetch_in (drop p.block blocks) p.item; enter = λ n. suc (index_of (body_of blocks) n); resolve = resolve; sees_pointer = false }
 
--- where control may go from code of a row
+-- the control-flow edges from code of a row
 abbrev pub RowEdge : (ℕ → ℕ) → Row → Pos → Pos → Type 0
 RowEdge enter (Branches op a b target) p q = (q ≡ block_start (enter target)) ⊎ (q ≡ below p)
 RowEdge enter (Jumps target) p q = q ≡ block_start (enter target)
@@ -84,19 +85,19 @@ RowEdge enter (LoadsSlot rd n) p q = q ≡ below p
 RowEdge enter (StoresSlot rs n) p q = q ≡ below p
 RowEdge enter (Calls name args) p q = q ≡ below p
 
--- where control may go from an item: from a debug item only below
+-- the control-flow edges from an item: from a debug item only to the position below
 abbrev pub KindEdge : (ℕ → ℕ) → ItemKind → Pos → Pos → Type 0
 KindEdge enter (Code i k) p q = RowEdge enter (row_of i) p q
 KindEdge enter (Mark v m) p q = q ≡ below p
 KindEdge enter (Phi r k) p q = q ≡ below p
 
--- where control may go from what stands at a position: from a block's end to the block that comes next
+-- the control-flow edges from what is at a position: from a block's end to the next block
 abbrev pub FetchEdge : (ℕ → ℕ) → Fetch → Pos → Pos → Type 0
 FetchEdge enter (Here i) p q = KindEdge enter i.kind p q
 FetchEdge enter (Silent k n) p q = q ≡ block_start (enter n)
 FetchEdge enter Outside p q = ⊥
 
--- control may go from one position to the other
+-- there is a control-flow edge from one position to the other
 abbrev pub Edge : Program → Pos → Pos → Type 0
 Edge g p q = FetchEdge g.enter (g.fetch p) p q
 

@@ -9,7 +9,7 @@ MAX_BLOCKS = 1024
 abbrev pub MAX_SLOTS : ℕ
 MAX_SLOTS = 224
 
--- the greatest frame, in bytes: what one `ADDI` lowers x2 by, and a multiple of 16
+-- the greatest frame, in bytes: a multiple of 16 that one `ADDI` can subtract from x2 and add to it
 abbrev pub MAX_FRAME : ℕ
 MAX_FRAME = 2032
 
@@ -17,7 +17,7 @@ MAX_FRAME = 2032
 abbrev pub FRAME_ROOM : ℕ
 FRAME_ROOM = 2048
 
--- the longest part of a variable, and the greatest end of one, in bytes
+-- the longest part of a variable, in bytes
 abbrev pub MAX_PART : ℕ
 MAX_PART = 8
 

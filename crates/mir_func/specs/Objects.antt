@@ -1,4 +1,4 @@
--- Where stack objects lie (LLVM, Machine IR (MIR) Format Reference Manual, "Stack Objects").
+-- The layout of stack objects (LLVM, Machine IR (MIR) Format Reference Manual, "Stack Objects").
 use Rattle.std.specs.Prelude.{◌≡◌, ℕ, ◌+◌, ◌-◌, ◌*◌, ◌/◌, List, [], ◌∷◌, Option, Some, None, nat_eq, cond}
 use Rattle.mir_func.specs.declared.object.Object.{Object}
 
@@ -6,7 +6,7 @@ use Rattle.mir_func.specs.declared.object.Object.{Object}
 abbrev pub ALIGNMENTS : List ℕ
 ALIGNMENTS = 1 ∷ 2 ∷ 4 ∷ 8 ∷ 16 ∷ []
 
--- the first object of a number
+-- the first object with a number
 abbrev pub object_of : List Object → ℕ → Option Object
 object_of [] n = None
 object_of (o ∷ os) n = cond (nat_eq o.id n) (Some o) (object_of os n)
@@ -29,11 +29,11 @@ end_from n (o ∷ os) = end_from (o.offset + o.size) os
 abbrev pub area_of : List Object → ℕ
 area_of objects = up_to 16 (end_from 0 objects)
 
--- an object's offset, and 0 where there is none
+-- an object's offset, or 0 without one
 abbrev pub offset_or_zero : Option Object → ℕ
 offset_or_zero None = 0
 offset_or_zero (Some o) = o.offset
 
--- how far the object of a number lies above the first one's first byte
+-- the offset of the object with a number from the first object's first byte
 abbrev pub offset_of : List Object → ℕ → ℕ
 offset_of objects n = offset_or_zero (object_of objects n)

@@ -1,4 +1,5 @@
--- What a pair of a debug instruction number and an operand is substituted by (LLVM, "Instruction referencing for debug info").
+-- Resolution of a pair of a debug instruction number and an operand by substitutions (LLVM, "Instruction referencing for debug
+-- info").
 use Rattle.std.specs.Prelude.{◌≡◌, ℕ, zero, suc, List, [], ◌∷◌, length, Option, Some, None, Bool, cond, nat_eq, ◌&&◌}
 use Rattle.mir_func.specs.declared.entry.OperandPair.{OperandPair}
 use Rattle.mir_func.specs.declared.entry.Entry.{Entry}
@@ -12,18 +13,18 @@ abbrev pub entry_of : List Entry → OperandPair → Option Entry
 entry_of [] q = None
 entry_of (e ∷ es) q = cond (is_pair e.src q) (Some e) (entry_of es q)
 
--- the chain of entries from a pair ends at a pair that has none. A chain that comes round, or meets an entry for a
--- part of a register, doesn't end
+-- the chain of entries from a pair ends at a pair that has none. A cyclic chain, or one with an entry for a part of a
+-- register, doesn't end
 pub data Ends (subs : List Entry) : OperandPair → OperandPair → Type 0 where
   at : {q : OperandPair} → entry_of subs q ≡ None → Ends subs q q
   by : {q r : OperandPair} (e : Entry) → entry_of subs q ≡ Some e → e.subreg ≡ 0 → Ends subs e.dst r → Ends subs q r
 
--- the end of a chain of at most so many entries
+-- the end of a chain of at most so many entries, if it has one
 abbrev pub chain_end : List Entry → ℕ → OperandPair → Option OperandPair
 chain_end subs zero q = elim (entry_of subs q) as (λ _. Option OperandPair) [ None ↦ Some q | Some e ↦ None ]
 chain_end subs (suc n) q =
     elim (entry_of subs q) as (λ _. Option OperandPair) [ None ↦ Some q | Some e ↦ cond (nat_eq e.subreg 0) (chain_end subs n e.dst) None ]
 
--- what a pair resolves to. A chain with more steps than there are entries comes round
+-- the pair that a pair resolves to. A chain with more steps than there are entries is cyclic
 abbrev pub resolve : List Entry → OperandPair → Option OperandPair
 resolve subs q = chain_end subs (length subs) q

@@ -1,4 +1,4 @@
--- What every function keeps (LLVM, Machine IR (MIR) Format Reference Manual, "Machine Basic Blocks").
+-- Invariants of every function (LLVM, Machine IR (MIR) Format Reference Manual, "Machine Basic Blocks").
 use Rattle.std.specs.Prelude.{◌≡◌, ℕ, ◌+◌, ◌<◌, ◌≤◌, List, [], ◌∷◌, map, length, Option, Some, None, slice_get, All, Contains, IsTrue}
 use Rattle.std.specs.List.{flat_map}
 use Rattle.rv64_instr.specs.declared.operand.Operand.{Operand}
@@ -26,7 +26,7 @@ use Rattle.mir_func.specs.Objects.{ALIGNMENTS, object_of, AreLaidFrom}
 use Rattle.mir_func.specs.Function.{Function}
 use Rattle.base_ids.specs.Limits.{MAX_NUMBER}
 
--- no number stands twice
+-- no number occurs twice
 abbrev pub AreApart : List ℕ → Type 0
 AreApart ns = (i j n : ℕ) → slice_get ns i ≡ Some n → slice_get ns j ≡ Some n → i ≡ j
 
@@ -42,13 +42,13 @@ items_of blocks = flat_map (λ b. b.items) blocks
 abbrev pub AllItems : (Item → Type 0) → List Block → Type 0
 AllItems P blocks = All (λ b. All P b.items) blocks
 
--- code has the form of its opcode
+-- the operands of code have the form of its opcode
 abbrev pub HasForm : ItemKind → Type 0
 HasForm (Code i k) = IsTrue (has_form i.op i.operands)
 HasForm (Mark v m) = Unit {0}
 HasForm (Phi p k) = Unit {0}
 
--- a branch of this row goes to one of these blocks
+-- the target of a branch of this row is one of these blocks
 abbrev pub TargetIn : List ℕ → Row → Type 0
 TargetIn ids (Branches op a b target) = Contains ids target
 TargetIn ids (Jumps target) = Contains ids target
@@ -64,7 +64,7 @@ TargetIn ids (Calls name args) = Unit {0}
 TargetIn ids (Returns results) = Unit {0}
 TargetIn ids Unfit = Unit {0}
 
--- a branch goes to one of these blocks. Debug items go nowhere
+-- the target of a branch is one of these blocks
 abbrev pub TargetsIn : List ℕ → ItemKind → Type 0
 TargetsIn ids (Code i n) = TargetIn ids (row_of i)
 TargetsIn ids (Mark v m) = Unit {0}
@@ -99,16 +99,16 @@ SlotsIn slots (Code i k) = SlotIn slots (row_of i)
 SlotsIn slots (Mark v m) = Unit {0}
 SlotsIn slots (Phi p k) = PlaceIn slots p
 
--- an object of this number is there, and has so many bytes at least
+-- there is an object with this number, and it has so many bytes at least
 abbrev pub HasBytes : List Object → (n bytes : ℕ) → Type 0
 HasBytes objects n bytes = (o : Object) × (object_of objects n ≡ Some o) × (bytes ≤ o.size)
 
--- a base that is a stack object is there, and has so many bytes at least
+-- if the base is a stack object, there is one with its number, and it has so many bytes at least
 abbrev pub BaseHasBytes : List Object → Base → (bytes : ℕ) → Type 0
 BaseHasBytes objects (PointedBy r) bytes = Unit {0}
 BaseHasBytes objects (ObjectAt n) bytes = HasBytes objects n bytes
 
--- an access by an object stays in it, and what is added to its address leads past its end at most
+-- an access by a stack object stays within it, and an address that is computed from one is at most that of its end
 abbrev pub ObjectIn : List Object → Row → Type 0
 ObjectIn objects (Addresses rd n offset) = HasBytes objects n offset
 ObjectIn objects (Loads rd op base offset) = BaseHasBytes objects base (offset + load_width op)
@@ -149,7 +149,7 @@ LeavesPointer (Code i k) = All IsNotPointer i.operands
 LeavesPointer (Mark v m) = Unit {0}
 LeavesPointer (Phi p k) = Unit {0}
 
--- the debug instruction number that an item gives
+-- an item's debug instruction number
 abbrev pub number_of : ItemKind → Option ℕ
 number_of (Code i k) = k
 number_of (Mark v m) = None
@@ -161,23 +161,23 @@ code_number (Code i k) = k
 code_number (Mark v m) = None
 code_number (Phi p k) = None
 
--- the number of code stands on no other item; several phis may share one
+-- the debug instruction number of code is on no other item; several DBG_PHIs may share one
 abbrev pub NumbersOnce : List Item → Type 0
 NumbersOnce items = (i j : ℕ) (x y : Item) (k : ℕ) → slice_get items i ≡ Some x → code_number x.kind ≡ Some k →
     slice_get items j ≡ Some y → number_of y.kind ≡ Some k → i ≡ j
 
--- the origin lies in the block: an item that is kept at an index below the silent one, an item before a position at most at it
+-- the origin is in the block: an item is kept at an index below the silent one, or was added before an index up to it
 abbrev pub OriginIn : Block → Origin → Type 0
 OriginIn b (Kept p) = (p.block ≡ b.id) × (p.item < b.silent)
 OriginIn b (Before p) = (p.block ≡ b.id) × (p.item ≤ b.silent)
 
--- after a conditional branch a jump may stand, and nothing after it
+-- at most one item, and that is a jump
 abbrev pub IsJumpAtMost : List Item → Type 0
 IsJumpAtMost [] = Unit {0}
 IsJumpAtMost (j ∷ []) = IsAlways (exit_of j.kind)
 IsJumpAtMost _ = ⊥
 
--- what may stand after an item that control leaves so
+-- the items that may come after one with this exit
 abbrev pub MayFollow : Exit → List Item → Type 0
 MayFollow Onward rest = Unit {0}
 MayFollow (Perhaps n) rest = IsJumpAtMost rest
@@ -189,24 +189,24 @@ abbrev pub EndsWell : List Item → Type 0
 EndsWell [] = Unit {0}
 EndsWell (i ∷ rest) = MayFollow (exit_of i.kind) rest × EndsWell rest
 
--- control doesn't fall out of the items
+-- there are items, and control doesn't fall through the last one
 abbrev pub Closes : List Item → Type 0
 Closes [] = ⊥
 Closes (i ∷ []) = Leaves (exit_of i.kind)
 Closes (i ∷ j ∷ rest) = Closes (j ∷ rest)
 
--- there is a block, and control doesn't fall out of the last one
+-- there is a block, and control doesn't fall through the last one
 abbrev pub LastCloses : List Block → Type 0
 LastCloses [] = ⊥
 LastCloses (b ∷ []) = Closes b.items
 LastCloses (b ∷ c ∷ rest) = LastCloses (c ∷ rest)
 
--- what an object keeps
+-- the invariant of a stack object
 pub record IsSoundObject (o : Object) : Type 0 where
   pub size : o.size ≤ MAX_NUMBER
   pub aligned : Contains ALIGNMENTS o.align
 
--- what every function keeps
+-- the invariant of every function before frame lowering
 pub record IsSound (f : Function) : Type 0 where
   pub blocks_apart : AreApart (ids_of f.blocks)
   pub slots_apart : AreApart f.slots

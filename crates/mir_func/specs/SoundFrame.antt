@@ -1,4 +1,4 @@
--- What every function with its frame keeps (RISC-V ELF psABI, "Integer Calling Convention").
+-- Invariants of every function with its frame (RISC-V ELF psABI, "Integer Calling Convention").
 use Rattle.std.specs.Prelude.{◌+◌, Contains, length, ◌≡◌, ℕ, zero, suc, ℤ, pos, ◌-ℤ◌, ◌-◌, ◌%◌, ◌<◌, ◌≤◌, List, [], ◌∷◌, ◌++◌, map, Option, Some, None, All}
 use Rattle.std.specs.List.Sorted.{IsStrictlyIncreasing}
 use Rattle.rv64_instr.specs.declared.op.Op.TheVariants.{Immediate, Load, Store}
@@ -25,8 +25,8 @@ use Rattle.mir_func.specs.Limits.{MAX_FRAME, MAX_SLOTS}
 use Rattle.mir_func.specs.Objects.{AreLaidFrom, area_of}
 use Rattle.mir_func.specs.Sound.{AreApart, ids_of, AllItems, TargetsIn, SlotsIn, ObjectsIn, IsSoundObject, LeavesPointer, EndsWell, LastCloses}
 
--- the registers that a frame may save: the return address, and those that a function gives back as it found them (RISC-V ELF
--- psABI, "Integer Register Convention": ra, s0 to s11)
+-- the registers that a frame may save: the return address and the callee-saved registers (RISC-V ELF psABI, "Integer
+-- Register Convention": ra, s0 to s11)
 abbrev pub SAVED : List ℕ
 SAVED = 1 ∷ 8 ∷ 9 ∷ 18 ∷ 19 ∷ 20 ∷ 21 ∷ 22 ∷ 23 ∷ 24 ∷ 25 ∷ 26 ∷ 27 ∷ []
 
@@ -75,38 +75,38 @@ HasPhysical (Phi p k) = PlaceIsPhysical p
 abbrev pub adds_to_pointer : ℤ → Instruction
 adds_to_pointer n = record { op = Immediate Addi; operands = Def 2 ∷ Use 2 ∷ Imm n ∷ [] }
 
--- a register is stored into its place in the frame, and loaded from it
+-- `SD` of a saved register to its slot in the frame
 abbrev pub saves : SavedRegister → Instruction
 saves s = record { op = Store Sd; operands = Use s.register ∷ Slot s.offset ∷ Imm (pos 0) ∷ [] }
 
--- `LD` of a callee-saved register, or of ra, from its place in the frame
+-- `LD` of a saved register from its slot in the frame
 abbrev pub restores : SavedRegister → Instruction
 restores s = record { op = Load Ld; operands = Def s.register ∷ Slot s.offset ∷ Imm (pos 0) ∷ [] }
 
--- the prologue lowers x2 by the frame's size, and then saves registers; the epilogue loads them, and then raises x2
+-- the prologue: it lowers x2 by the frame's size, and then saves registers
 abbrev pub prologue_code : (size : ℕ) → List SavedRegister → List Instruction
 prologue_code size saved = adds_to_pointer (pos 0 -ℤ pos size) ∷ map saves saved
 
--- the epilogue: it undoes the prologue
+-- the epilogue: it restores the saved registers, and then raises x2
 abbrev pub epilogue_code : (size : ℕ) → List SavedRegister → List Instruction
 epilogue_code size saved = map restores saved ++ adds_to_pointer (pos size) ∷ []
 
--- the items are this code, without numbers
+-- the items are this code, without debug instruction numbers
 abbrev pub AreCode : List Item → List Instruction → Type 0
 AreCode items code = map (λ i. i.kind) items ≡ map (λ i. Code i None) code
 
--- code of the body: it leaves x2 alone, and doesn't return
+-- an item of the body: no explicit operand of its code is x2, and it doesn't return
 pub record IsBody (i : Item) : Type 0 where
   pub pointer : LeavesPointer i.kind
   pub stays : exit_of i.kind ≡ Final → ⊥
 
--- the items of a block give the frame back right before a return, which is their last, and name x2 nowhere else
+-- the items of a block are of the body; or the epilogue and a return come after items of the body
 pub data GivesBack (epilogue : List Instruction) : List Item → Type 0 where
   goes_on : {items : List Item} → All IsBody items → GivesBack epilogue items
   returns : (body given_back : List Item) (last : Item) → All IsBody body → AreCode given_back epilogue → exit_of last.kind ≡ Final →
       LeavesPointer last.kind → GivesBack epilogue (body ++ given_back ++ last ∷ [])
 
--- with a frame, a prologue, and an epilogue before each return; without one, none
+-- with a frame, a prologue, and an epilogue before each return; without a frame, neither
 abbrev pub HasFrame : (size : ℕ) → List SavedRegister → List Block → Type 0
 HasFrame size saved [] = ⊥
 HasFrame zero saved (p ∷ blocks) = (p.items ≡ []) × (saved ≡ []) × AllItems (λ i. LeavesPointer i.kind) blocks
@@ -117,7 +117,7 @@ abbrev pub body_of : List Block → List Block
 body_of [] = []
 body_of (p ∷ blocks) = blocks
 
--- the prologue has the number of the block after it
+-- the prologue has the number of the next block
 abbrev pub NumberedAlike : List Block → Type 0
 NumberedAlike (p ∷ b ∷ rest) = p.id ≡ b.id
 NumberedAlike _ = ⊥
@@ -126,7 +126,7 @@ NumberedAlike _ = ⊥
 abbrev pub IsSlotOffset : FramedFunction → ℕ → Type 0
 IsSlotOffset f o = (o % 8 ≡ 0) × (o < own_size f)
 
--- what every function with its frame keeps
+-- the invariant of every function with its frame
 pub record IsFramed (f : FramedFunction) : Type 0 where
   pub aligned : f.size % 16 ≡ 0
   pub small : f.size ≤ MAX_FRAME

@@ -1,4 +1,4 @@
--- A function without its debug items: what the machine runs is all that is left.
+-- A function without its debug items: only what the machine runs is left.
 use Rattle.std.specs.Prelude.{List, map, Option, Some, None, filter_map}
 use Rattle.mir_func.specs.declared.block.Block.{Block}
 use Rattle.mir_func.specs.declared.item.Item.{Item}
@@ -8,13 +8,13 @@ use Rattle.mir_func.specs.declared.position.Origin.{Origin}
 use Rattle.mir_func.specs.declared.location.Loc.{Loc}
 use Rattle.mir_func.specs.Function.{Function}
 
--- an item of this kind, origin and debug location: code loses its number, and a mark or a phi is left out
+-- code without its number, or nothing for a debug value or a DBG_PHI, with this origin and debug location
 abbrev pub bare : ItemKind → Origin → Loc → Option Item
 bare (Code i k) origin loc = Some (record { kind = Code i None; origin = origin; loc = loc })
 bare (Mark v m) origin loc = None
 bare (Phi p k) origin loc = None
 
--- code without its debug instruction number, and nothing of a debug item
+-- an item without its debug instruction number, or nothing for a debug item
 abbrev pub stripped_item : Item → Option Item
 stripped_item i = bare i.kind i.origin i.loc
 
@@ -30,6 +30,6 @@ stripped_block b = record { id = b.id; items = stripped_items b.items; silent = 
 abbrev pub stripped_blocks : List Block → List Block
 stripped_blocks blocks = map stripped_block blocks
 
--- the function without its marks, phis and numbers
+-- the function without its debug values, DBG_PHIs and debug instruction numbers
 abbrev pub stripped : Function → Function
 stripped f = record { name = f.name; slots = f.slots; objects = f.objects; blocks = stripped_blocks f.blocks }

@@ -25,21 +25,21 @@ are_same_bytes (Some a) None = false
 abbrev pub is_same : VarId → VarId → Bool
 is_same v w = is_same_variable v w && are_same_bytes v.fragment w.fragment
 
--- some byte is in both. The whole has all bytes
+-- some byte is in both parts. `None` is the whole variable
 abbrev pub do_meet : Option Bytes → Option Bytes → Bool
 do_meet None b = true
 do_meet (Some a) None = true
 do_meet (Some a) (Some b) = nat_lt a.offset (b.offset + b.length) && nat_lt b.offset (a.offset + a.length)
 
--- parts of one variable of which some byte is in both
+-- parts of one variable that have some byte in common
 abbrev pub overlaps : VarId → VarId → Bool
 overlaps v w = is_same_variable v w && do_meet v.fragment w.fragment
 
--- what a part of so many bytes holds of a value: its low bytes
+-- the value of a part of so many bytes: the low bytes of a value
 abbrev pub low_part : Option Bytes → ℕ → ℕ
 low_part None x = x
 low_part (Some b) x = x % 2 ^ (8 * b.length)
 
--- what this part of a variable gets of a value
+-- the value that this part of a variable gets from a value
 abbrev pub part_value : VarId → ℕ → ℕ
 part_value v x = low_part v.fragment x

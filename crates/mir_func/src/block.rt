@@ -14,8 +14,8 @@ pub struct Block {
     pub id: BlockId,
     /// Its items, in order.
     pub items: Items,
-    /// The index of the block's silent position in the source, which is the number of items that were read. No
-    /// pass changes it.
+    /// The index of the block's end in the source (its silent position): the number of items that were read.
+    /// No pass changes it.
     pub silent: u32,
 }
 

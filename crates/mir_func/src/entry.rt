@@ -1,4 +1,4 @@
-//! Operands of instructions by their debug instruction numbers, and which stand for which.
+//! Operands of instructions by their debug instruction numbers, and their substitutions.
 
 use base_ids::code::{DebugNumber, OperandIndex};
 
@@ -12,13 +12,13 @@ pub struct OperandPair {
     pub operand: OperandIndex,
 }
 
-/// A substitution of debug instruction numbers: whoever asks for the value of `src` gets that of `dst` (LLVM:
+/// A substitution of debug instruction numbers: a reference to `src` has the value of `dst` (LLVM:
 /// `debugValueSubstitutions`).
 #[derive(Clone, Copy, Debug, PartialEq, Eq)]
 pub struct Entry {
-    /// What is asked for.
+    /// The pair that is substituted.
     pub src: OperandPair,
-    /// What has the value.
+    /// The pair that has the value.
     pub dst: OperandPair,
     /// The part of the register that is meant, or 0 for all of it.
     pub subreg: u32,

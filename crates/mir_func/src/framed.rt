@@ -8,7 +8,7 @@ use rv64_instr::name::Name;
 use rv64_instr::reg::Reg;
 use std::marker::Model;
 
-/// Where a frame slot is (LLVM: the offset of a frame index).
+/// The location of a frame slot (LLVM: the offset of a frame index).
 #[derive(Clone, Copy, Debug, PartialEq, Eq)]
 pub struct SlotPlace {
     /// The slot, by its number in the function without its frame.
@@ -17,12 +17,12 @@ pub struct SlotPlace {
     pub offset: u32,
 }
 
-/// Where a register is saved (LLVM: `CalleeSavedInfo`).
+/// The location in which a register is saved (LLVM: `CalleeSavedInfo`).
 #[derive(Clone, Copy, Debug, PartialEq, Eq)]
 pub struct SavedRegister {
     /// The register.
     pub register: Reg,
-    /// The offset from x2 of the place that keeps it, in bytes.
+    /// The offset of its slot from x2, in bytes.
     pub offset: u32,
 }
 
@@ -32,18 +32,18 @@ pub type Offsets = List<SlotPlace>;
 /// Saved registers, ascending.
 pub type Saved = List<SavedRegister>;
 
-/// A function with its frame (LLVM: a `MachineFunction` behind prologue and epilogue insertion). In its items
-/// `Slot(o)` names the eight bytes at x2 plus o. The block with index 0 is the prologue, without items where there is
-/// no frame; its number is that of the next block, and a branch to this number goes to the next block.
+/// A function with its frame (LLVM: a `MachineFunction` after prologue and epilogue insertion). In its items
+/// `Slot(o)` names the eight bytes at x2 plus o. The block with index 0 is the prologue, without items if there is no
+/// frame; its number is that of the next block, and a branch to this number goes to the next block.
 #[derive(Debug, Drop)]
 pub struct Framed {
     /// Its name.
     pub name: Name,
     /// The frame's size in bytes, its objects included: a multiple of 16.
     pub size: u32,
-    /// Where its slots are.
+    /// The offsets of its slots.
     pub offsets: Offsets,
-    /// Where it keeps the registers that it saves.
+    /// The offsets of the registers that it saves.
     pub saved: Saved,
     /// Its stack objects, which lie above its slots and saved registers.
     pub objects: Objects,

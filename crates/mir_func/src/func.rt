@@ -1,4 +1,4 @@
-//! Functions between reading and their frame.
+//! Functions before frame lowering.
 
 ghost use Rattle.std.specs.Prelude.{◌≡◌, IfOk, IsErrOf};
 ghost use Rattle.mir_func.specs.Sound.{IsSound};
@@ -17,8 +17,8 @@ use thiserror::Error;
 /// The numbers of a function's frame slots of eight bytes, in declared order.
 pub type SlotIds = List<SlotId>;
 
-/// A function that is sound: its blocks end as blocks must, and its branch targets and slots are there (LLVM:
-/// `MachineFunction`).
+/// A sound function: its blocks end with terminators as they must, and its branch targets and slots are
+/// declared (LLVM: `MachineFunction`).
 #[derive(Debug, Drop)]
 pub struct Func {
     /// Its name.
@@ -27,7 +27,7 @@ pub struct Func {
     pub slots: SlotIds,
     /// Its stack objects.
     pub objects: Objects,
-    /// Its blocks. The first is where it starts.
+    /// Its blocks. The first is the entry block.
     pub blocks: Blocks,
 }
 
@@ -53,10 +53,10 @@ impl Model for Func {
     }) };
 }
 
-/// Why no function was made.
+/// Why there is no function.
 #[derive(Debug, Drop, Error)]
 pub enum FuncError {
-    /// There is no sound function of these parts.
+    /// These parts aren't those of a sound function.
     #[error("no sound function")]
     Unsound,
     /// Memory ran out.
@@ -73,7 +73,7 @@ impl From<AllocError> for FuncError {
 }
 
 impl Func {
-    /// The function of these parts. It is `Unsound` exactly where they make no sound function.
+    /// The function of these parts, or `Unsound` if they aren't those of a sound function.
     pub fn new(
         alloc: Global,
         name: Name,

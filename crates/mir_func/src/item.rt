@@ -11,23 +11,25 @@ use rv64_instr::instr::Instr;
 use rv64_instr::place::Place;
 use std::alloc::{AllocError, Global};
 
-/// What an item is (LLVM: code and debug instructions, `MachineInstr`).
+/// The kind of an item (LLVM: code and debug instructions, `MachineInstr`).
 #[derive(Debug, Drop)]
 pub enum ItemKind {
-    /// An instruction, with its debug instruction number where it has one.
+    /// An instruction, with its debug instruction number if it has one.
     Code(Instr, Option<DebugNumber>),
-    /// A mark: the part of a variable is assigned the value.
+    /// A mark, that is, a debug value (`DBG_VALUE`, `DBG_INSTR_REF`): the part of a variable is assigned
+    /// the value.
     Mark(VarId, MarkValue),
-    /// A phi: operand 0 of the number gets the content of the place, or nothing where there is no place.
+    /// A phi (`DBG_PHI`): operand 0 of the number gets the content of the location, or nothing if there
+    /// is no location.
     Phi(Option<Place>, DebugNumber),
 }
 
 /// An item of a block (LLVM: `MachineInstr`).
 #[derive(Debug, Drop)]
 pub struct Item {
-    /// What it is.
+    /// Its kind.
     pub kind: ItemKind,
-    /// Where it comes from.
+    /// Its origin in the source.
     pub origin: Origin,
     /// The debug location that it carries.
     pub loc: Loc,

@@ -1,7 +1,8 @@
-//! Functions of machine code with debug items, as every pass reads and writes them: blocks of items, each with
-//! the position in the source that it comes from. An item is an instruction, with its debug instruction number;
-//! a mark, which assigns to a variable of the program that is debugged; or a phi, which gives the content of a
-//! place to a number. With their frame, functions have slots at offsets from the stack pointer.
+//! Machine functions with debug items (LLVM: `MachineFunction`), as every pass reads and writes them: blocks of
+//! items, each with its origin, a position in the source. An item is an instruction, with its debug instruction
+//! number if it has one; a mark, that is, a debug value, which assigns to a variable of the program that is
+//! debugged; or a phi (`DBG_PHI`), which assigns the content of a location to a number. With their frame,
+//! functions have slots at offsets from the stack pointer.
 #![tactic(auto)]
 
 pub mod block;

@@ -22,6 +22,6 @@ pub struct InlineLoc {
     pub column: u32,
     /// The scope's node.
     pub scope: NodeId,
-    /// The node that it is inlined at, where there is one.
+    /// The node that it is inlined at, if it is inlined.
     pub inlined_at: Option<NodeId>,
 }

@@ -9,7 +9,7 @@ use std::alloc::{AllocError, Global};
 use std::collections::BTreeSet;
 use std::marker::Model;
 
-/// Numbers in an order, that are found fast. A contract sees their list.
+/// Numbers in an order, with a set for fast look-up. A contract sees their list.
 #[derive(Drop)]
 pub struct Numbers {
     list: Vec<u32>,
@@ -44,7 +44,7 @@ impl Numbers {
         self.set.contains(&n)
     }
 
-    /// Whether none stands twice.
+    /// Whether none occurs twice.
     pub fn are_apart(&self) -> bool
         ensures { IsTrue result ↔ AreApart self.now }
     {

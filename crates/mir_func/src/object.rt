@@ -15,7 +15,7 @@ pub struct Object {
     pub size: u32,
     /// Its alignment in bytes: 1, 2, 4, 8 or 16.
     pub align: u32,
-    /// How far it lies above the first object's first byte, in bytes.
+    /// Its offset from the first object's first byte, in bytes.
     pub offset: u64,
 }
 

@@ -1,4 +1,4 @@
-//! Sizes of stack objects, found by the objects' numbers.
+//! Sizes of stack objects by the objects' numbers.
 
 ghost use Rattle.std.specs.Prelude.{◌≡◌, ◌↔◌, ◌+◌, ◌≤◌, IfOk, IsTrue};
 ghost use Rattle.mir_func.specs.Sound.{HasBytes};
@@ -10,7 +10,7 @@ use std::alloc::{AllocError, Global};
 use std::collections::BTreeMap;
 use std::marker::Model;
 
-/// Stack objects, whose sizes are found fast. A contract sees their list.
+/// Stack objects, with a map of their sizes for fast look-up. A contract sees their list.
 #[derive(Drop)]
 pub struct ObjectSizes {
     list: Objects,
@@ -42,7 +42,7 @@ impl ObjectSizes {
         })
     }
 
-    /// Whether the object of a number is there, and has so many bytes from an offset on.
+    /// Whether there is an object with a number, and it has `width` bytes from an offset on.
     pub fn has_bytes(&self, n: ObjectId, offset: u64, width: u64) -> bool
         ensures { IsTrue result ↔ HasBytes self.now n (offset + width) }
     {
@@ -53,14 +53,14 @@ impl ObjectSizes {
     }
 }
 
-/// Whether so many bytes have so many from an offset on.
+/// Whether `size` bytes have `width` bytes from an offset on.
 fn holds(size: u64, offset: u64, width: u64) -> bool
     ensures { IsTrue result ↔ (offset + width ≤ size) }
 {
     offset <= size && width <= size - offset
 }
 
-/// The sizes by number. Of objects with one number the first counts, so it comes last.
+/// The sizes by number. Of objects with one number the first counts, so it is inserted last.
 fn sizes_of(alloc: Global, objects: &[Object]) -> Result<BTreeMap<u32, u32>, AllocError>
     ensures { IfOk result (AreSizes objects.now) }
 {

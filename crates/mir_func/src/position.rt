@@ -1,4 +1,4 @@
-//! Where items stand, and where they come from.
+//! Positions of items, and their origins.
 
 use base_ids::code::{BlockId, BlockIndex};
 
@@ -13,17 +13,17 @@ pub struct Pos {
     pub item: u32,
 }
 
-/// Where an item of a function comes from in the source.
+/// The origin of an item of a function in the source.
 #[derive(Clone, Copy, Debug, PartialEq, Eq)]
 pub enum Origin {
     /// It is the source's item at this position, perhaps rewritten.
     Kept(Pos),
-    /// It was added, and stands before this position.
+    /// It was added before this position.
     Before(Pos),
 }
 
-/// A place before an item of a function with its frame: the index of a block, where 0 is the prologue, and the
-/// index of an item in it.
+/// A position in a function with its frame: the index of a block, where 0 is the prologue, and the index of an
+/// item in it.
 #[derive(Clone, Copy, Debug, PartialEq, Eq, PartialOrd, Ord)]
 pub struct Point {
     /// The block's index in the function.

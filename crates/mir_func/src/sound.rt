@@ -1,5 +1,5 @@
-//! Whether slots, stack objects and blocks are those of a sound function: a check for each thing that every function
-//! keeps.
+//! Checks whether slots, stack objects and blocks are those of a sound function: one for each invariant of
+//! functions.
 
 ghost use Rattle.std.specs.Prelude.{◌≡◌, ◌↔◌, ◌++◌, ℕ, List, filter_map, All, IfOk, OnOk, IsTrue};
 ghost use Rattle.rv64_instr.specs.Row.{Row};
@@ -43,7 +43,7 @@ use rv64_instr::operand::Operand;
 use rv64_instr::place::Place;
 use std::alloc::{AllocError, Global};
 
-/// What the items of a function may name, found fast.
+/// What the items of a function may name, with fast look-up.
 #[derive(Drop)]
 pub struct Declared {
     /// The numbers of its blocks.
@@ -85,7 +85,7 @@ pub fn are_sound(
     Ok(are_parts_sound(&declared, blocks))
 }
 
-/// The same, beside the counts and the objects, where the function declares this.
+/// The same apart from the counts and the objects, if the function declares this.
 fn are_parts_sound(declared: &Declared, blocks: &[Block]) -> bool
     ensures { IsTrue result ↔ AreSoundParts declared.now blocks.now }
 {
@@ -143,7 +143,7 @@ fn slot_numbers(alloc: Global, slots: &[SlotId]) -> Result<Vec<u32>, AllocError>
     slots.iter().map(|s| s.number()).collect(alloc)
 }
 
-/// Whether a branch goes to one of these blocks.
+/// Whether the target of a branch is one of these blocks.
 fn is_target_there(ids: &Numbers, kind: &ItemKind) -> bool
     ensures { IsTrue result ↔ TargetsIn ids.now kind.now }
 {
@@ -184,7 +184,7 @@ fn is_row_slot_there(slots: &Numbers, decoded: &Decoded) -> bool
     }
 }
 
-/// Whether the object that code names is there, and has the bytes that it accesses or counts past.
+/// Whether there is a stack object that code names, with the bytes that it accesses or counts past.
 fn is_object_there(objects: &ObjectSizes, kind: &ItemKind) -> bool
     ensures { IsTrue result ↔ ObjectsIn objects.now kind.now }
 {
@@ -209,7 +209,7 @@ fn is_row_object_there(objects: &ObjectSizes, decoded: &Decoded) -> bool
     }
 }
 
-/// Whether code has no x2 as an explicit operand.
+/// Whether no explicit operand of code is x2.
 fn leaves_pointer(kind: &ItemKind) -> bool
     ensures { IsTrue result ↔ LeavesPointer kind.now }
 {
@@ -270,7 +270,7 @@ fn is_phi_apart(numbers: &Numbers, kind: &ItemKind) -> bool
     }
 }
 
-/// Whether an origin lies in its block.
+/// Whether an origin is in its block.
 fn is_origin_inside(b: &Block, origin: Origin) -> bool
     ensures { IsTrue result ↔ OriginIn b.now origin }
 {
@@ -295,7 +295,7 @@ fn ends_well(items: &[Item]) -> bool
     true
 }
 
-/// Whether these items may come after one that control leaves so.
+/// Whether these items may come after one with this exit.
 fn may_follow(exit: Exit, rest: &[Item]) -> bool
     ensures { IsTrue result ↔ MayFollow (exit) rest.now }
 {
@@ -316,7 +316,7 @@ fn is_jump_at_most(items: &[Item]) -> bool
     }
 }
 
-/// Whether there is a block, and control doesn't fall out of the last one.
+/// Whether there is a block, and control doesn't fall through the last one.
 fn closes_last(blocks: &[Block]) -> bool
     ensures { IsTrue result ↔ LastCloses blocks.now }
 {

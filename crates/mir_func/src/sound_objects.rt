@@ -12,7 +12,7 @@ use crate::object::{Object, up_to};
 use base_ids::limits::MAX_NUMBER;
 use std::alloc::{AllocError, Global};
 
-/// Whether objects have numbers of their own, sizes and alignments that objects may have, and lie where objects must.
+/// Whether each object has a number of its own, and the size, alignment and offset that an object must have.
 pub fn are_objects_sound(alloc: Global, objects: &[Object]) -> Result<bool, AllocError>
     requires { length objects.now ≤ MAX_SLOTS }
     ensures { IfOk result (λ sound. IsTrue sound ↔ AreSoundObjects objects.now) }
@@ -40,7 +40,7 @@ fn are_each_sound(objects: &[Object]) -> bool
     objects.iter().all(|o| is_object_sound(o))
 }
 
-/// Whether an object has a size and an alignment that objects may have.
+/// Whether an object has a valid size and alignment.
 fn is_object_sound(o: &Object) -> bool
     ensures { IsTrue result ↔ IsSoundObject o.now }
 {
@@ -53,7 +53,7 @@ fn is_alignment(align: u32) -> bool
     ALIGNMENTS.contains(&align)
 }
 
-/// Whether each object lies right after the one before it, but for its alignment.
+/// Whether each object comes right after the one before it, up to its alignment.
 fn are_laid(objects: &[Object]) -> bool
     requires few { length objects.now ≤ MAX_SLOTS }
     requires each { All IsSoundObject objects.now }

@@ -8,7 +8,8 @@ use crate::func::Func;
 use crate::item::{Item, ItemKind, Items};
 use std::alloc::{AllocError, Global};
 
-/// The function without its marks, phis and numbers: what the machine runs of it.
+/// The function without its debug values, DBG_PHIs and debug instruction numbers: what the machine
+/// runs of it.
 pub fn strip(alloc: Global, f: &Func) -> Result<Func, AllocError>
     ensures { IfOk result (λ s. s ≡ stripped f.now) }
 {
@@ -52,7 +53,7 @@ fn strip_items(alloc: Global, items: &[Item]) -> Result<Items, AllocError>
     Ok(stripped)
 }
 
-/// The item without its number, or none where it is no code.
+/// An item without its debug instruction number, or none for a debug item.
 fn strip_item(i: &Item) -> Result<Option<Item>, AllocError>
     ensures { IfOk result (λ s. s ≡ stripped_item i.now) }
 {

@@ -1,4 +1,4 @@
-//! Where control may go from a block.
+//! The successors of a block.
 
 ghost use Rattle.std.specs.Prelude.{◌≡◌, ◌↔◌, ℕ, ◌<◌, ◌∷◌, Bool, Option, length, slice_index, slice_get, Contains};
 ghost use Rattle.mir_func.specs.Sound.{ids_of, IsJumpAtMost, EndsWell};
@@ -12,20 +12,19 @@ use crate::func::Func;
 use crate::item::Item;
 use base_ids::code::BlockId;
 
-/// The numbers of the blocks to which control may go from a block. Two may be the same.
+/// The numbers of a block's successors. Two may be the same.
 #[derive(Clone, Copy, Debug, PartialEq, Eq)]
 pub enum Successors {
-    /// To none: the block returns.
+    /// None: control leaves the function.
     Nowhere,
-    /// To one.
+    /// One.
     One(BlockId),
-    /// By a conditional branch to the first, or else to the second.
+    /// The target of a conditional branch, and the block to which control goes if it isn't taken.
     Two(BlockId, BlockId),
 }
 
 impl Func {
-    /// The numbers of the blocks to which control may go from the block of this index, whatever the data. It takes no
-    /// memory.
+    /// The numbers of the successors of the block of this index, whatever the data. It takes no memory.
     pub fn successors(&self, block: usize) -> Successors
         requires { block < length self.now.blocks }
         ensures { (sees_pointer : Bool) (resolve : OperandPair → Option OperandPair) (n : ℕ) →
@@ -48,7 +47,7 @@ pub fn id_at(blocks: &[Block], index: usize) -> Option<BlockId>
     }
 }
 
-/// Where control may go from a block of these items, before a block of this number.
+/// The successors of a block of these items, if the block after it has this number.
 fn successors_of(items: &[Item], next: Option<BlockId>) -> Successors
     requires { EndsWell items.now }
     ensures { numbers_of result ≡ ways items.now next }
@@ -68,7 +67,7 @@ fn successors_of(items: &[Item], next: Option<BlockId>) -> Successors
     }
 }
 
-/// Where control may go from a conditional branch to a block, with these items below it.
+/// The successors from a conditional branch to a block on, with these items below it.
 fn after_branch(target: BlockId, tail: &[Item], next: Option<BlockId>) -> Successors
     requires { IsJumpAtMost tail.now }
     ensures { numbers_of result ≡ target ∷ ways tail.now next }

@@ -1,4 +1,4 @@
-//! Variables of the program that is debugged, their parts, and what marks assign to them.
+//! Variables of the program that is debugged, their parts, and the values of marks.
 
 ghost use Rattle.std.specs.Prelude.{◌≡◌, ◌+◌, ◌<◌, IfSome, IsNone, ◌↔◌};
 ghost use Rattle.mir_func.specs.Variables.{are_same_bytes, do_meet, overlaps};
@@ -9,7 +9,7 @@ use base_ids::metadata::NodeId;
 use rv64_instr::reg::Reg;
 use std::marker::Model;
 
-/// Some bytes of a variable: from an offset on, 1 to 8 of them, and none from byte 8,192 on (LLVM Language Reference,
+/// A part of a variable: 1 to 8 bytes from an offset on, all of them below byte 8,192 (LLVM Language Reference,
 /// `DW_OP_LLVM_fragment`).
 #[derive(Clone, Copy, Debug, PartialEq, Eq)]
 pub struct Fragment {
@@ -32,7 +32,7 @@ impl Model for Fragment {
 impl Fragment {
     ghost use Rattle.mir_func.specs.Parts.{IsPart};
 
-    /// So many bytes from an offset on. `None` exactly where a variable has no such part.
+    /// So many bytes from an offset on. `None` exactly if a variable has no such part.
     pub fn new(offset: u32, length: u32) -> Option<Fragment>
         ensures none { IsNone result ↔ (IsPart (record { offset = offset; length = length }) → ⊥) }
         ensures value { IfSome result (λ f. f ≡ record { offset = offset; length = length }) }
@@ -61,7 +61,7 @@ impl Fragment {
         self.length
     }
 
-    /// The byte behind the last one.
+    /// The byte after the last one.
     pub fn end(self) -> u32
         ensures value { result ≡ self.offset + self.length }
         ensures behind { self.offset < result }
@@ -70,7 +70,7 @@ impl Fragment {
     }
 }
 
-/// Whether two parts are the same bytes. The whole is the same as the whole alone.
+/// Whether two parts are the same bytes. `None` is the whole variable, and the same as itself alone.
 pub fn are_same_bytes(part: &Option<Fragment>, other: &Option<Fragment>) -> bool
     ensures { result ≡ are_same_bytes part.now other.now }
 {
@@ -83,7 +83,7 @@ pub fn are_same_bytes(part: &Option<Fragment>, other: &Option<Fragment>) -> bool
     }
 }
 
-/// Whether some byte is in both parts. The whole has all bytes.
+/// Whether some byte is in both parts. `None` is the whole variable.
 pub fn do_meet(part: &Option<Fragment>, other: &Option<Fragment>) -> bool
     ensures { result ≡ do_meet part.now other.now }
 {
@@ -102,9 +102,9 @@ pub fn do_meet(part: &Option<Fragment>, other: &Option<Fragment>) -> bool
 pub struct VarId {
     /// Its `DILocalVariable` node.
     pub node: NodeId,
-    /// The node that its location is inlined at, where there is one.
+    /// The node that its location is inlined at, if it is inlined.
     pub inlined_at: Option<NodeId>,
-    /// The bytes that are meant, and `None` for the whole.
+    /// The bytes of the part, or `None` for the whole variable.
     pub fragment: Option<Fragment>,
 }
 
@@ -119,10 +119,11 @@ impl VarId {
     }
 }
 
-/// What a mark assigns to its part of a variable (LLVM: the debug operand of `DBG_VALUE` or `DBG_INSTR_REF`).
+/// The value that a mark assigns to its part of a variable (LLVM: the debug operand of `DBG_VALUE` or
+/// `DBG_INSTR_REF`).
 #[derive(Clone, Copy, Debug, PartialEq, Eq)]
 pub enum MarkValue {
-    /// No value.
+    /// No value: the mark is undef (LLVM: `$noreg`).
     Nothing,
     /// A number.
     Constant(i64),

@@ -1,5 +1,5 @@
--- The text of a function. (LLVM, Machine IR (MIR) Format Reference Manual, "High Level Structure"; the stack and the
--- substitutions stand as YAML lists of maps.)
+-- The text of a function (LLVM, Machine IR (MIR) Format Reference Manual, "High Level Structure"). The stack and the
+-- substitutions are YAML lists of maps.
 use Rattle.std.specs.Prelude.{ℕ, Bool, true, false, cond, ◌&&◌, ◌||◌, nat_eq, nat_le, List, [], ◌∷◌, ◌++◌, codes}
 use Rattle.std.specs.List.{flat_map, list_all}
 use Rattle.std.specs.Fmt.{decimal}
@@ -40,7 +40,7 @@ slot_line n = codes "  - { id: " ++ decimal n ++ (codes ", size: 8 }" ++ 10 ∷ 
 abbrev pub object_line : Object → List ℕ
 object_line o = codes "  - { id: " ++ decimal o.id ++ codes ", size: " ++ decimal o.size ++ codes ", alignment: " ++ decimal o.align ++ (codes " }" ++ 10 ∷ [])
 
--- a list without members
+-- the list is empty
 abbrev pub is_nothing : {A : Type 0} → List A → Bool
 is_nothing [] = true
 is_nothing (x ∷ xs) = false
@@ -50,7 +50,7 @@ abbrev pub stack_text : List ℕ → List Object → List ℕ
 stack_text slots objects =
     cond (is_nothing slots && is_nothing objects) [] (codes "stack:" ++ 10 ∷ [] ++ flat_map slot_line slots ++ flat_map object_line objects)
 
--- a pair behind the words for its number and its operand
+-- a pair, with words before its number and before its operand
 abbrev pub pair_text : List ℕ → List ℕ → OperandPair → List ℕ
 pair_text number operand p = number ++ decimal p.number ++ operand ++ decimal p.operand
 
@@ -59,7 +59,7 @@ unfoldable pub entry_line : Entry → List ℕ
 entry_line e = pair_text (codes "  - { srcinst: ") (codes ", srcop: ") e.src ++ pair_text (codes ", dstinst: ") (codes ", dstop: ") e.dst
     ++ codes ", subreg: " ++ decimal e.subreg ++ (codes " }" ++ 10 ∷ [])
 
--- substitutions, below the line of their key
+-- substitutions, after the line of their key
 unfoldable pub some_substitutions : List Entry → List ℕ
 some_substitutions entries = codes "debugValueSubstitutions:" ++ 10 ∷ [] ++ flat_map entry_line entries
 

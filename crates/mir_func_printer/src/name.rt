@@ -16,7 +16,7 @@ fn is_name_start(b: u8) -> bool
     matches!(b, b'A'..=b'Z' | b'a'..=b'z' | b'_')
 }
 
-/// Whether a byte may stand in a name without quotes: a letter, a digit, `_` or `.`.
+/// Whether a byte may be in a name without quotes: a letter, a digit, `_` or `.`.
 fn is_name_byte(b: u8) -> bool
     ensures { result ≡ is_name_byte b }
 {
@@ -68,7 +68,7 @@ fn push_quoted_bytes(text: &mut Text, name: &[u8]) -> Result<(), AllocError>
     Ok(())
 }
 
-/// Appends a byte in double quotes: itself where it is printable ASCII other than `"` and `\`, else in hexadecimal.
+/// Appends a byte in double quotes: itself if it is printable ASCII other than `"` and `\`, else in hexadecimal.
 fn push_quoted_byte(text: &mut Text, b: u8) -> Result<(), AllocError>
     ensures { OnOk result (text.new ≡ text.old ++ quoted_byte b) }
 {

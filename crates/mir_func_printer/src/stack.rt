@@ -66,7 +66,7 @@ pub fn push_stack(text: &mut Text, slots: &[SlotId], objects: &[Object]) -> Resu
     push_objects(text, objects)
 }
 
-/// Appends a pair behind the words for its number and its operand.
+/// Appends a pair, with words before its number and before its operand.
 fn push_pair(
     text: &mut Text,
     number: &str,

@@ -1,4 +1,4 @@
--- The one spelling of an item (LLVM, Machine IR (MIR) Format Reference Manual, "Machine Instructions").
+-- The one text of an item (LLVM, Machine IR (MIR) Format Reference Manual, "Machine Instructions").
 use Rattle.std.specs.Prelude.{ℕ, ◌+◌, ◌-◌, ◌*◌, ◌/◌, ◌%◌, Bool, true, false, cond, ◌&&◌, ◌||◌, not, nat_eq, nat_le, nat_lt, List, [], ◌∷◌, ◌++◌, Option, Some}
 use Rattle.std.specs.Prelude.{None, codes, filter, map}
 use Rattle.std.specs.List.{flat_map, list_all}
@@ -35,12 +35,12 @@ is_bare b = (nat_le 65 b && nat_le b 90) || (nat_le 97 b && nat_le b 122) ||
 abbrev pub upper_hex_digit : ℕ → ℕ
 upper_hex_digit n = cond (nat_lt n 10) (48 + n) (55 + n)
 
--- a byte in double quotes: itself where it is printable ASCII other than `"` and `\`, else `\` and two hexadecimal digits
+-- a byte in double quotes: itself if it is printable ASCII other than `"` and `\`, else `\` and two hexadecimal digits
 abbrev pub quoted_byte : ℕ → List ℕ
 quoted_byte b = cond (nat_le 32 b && nat_le b 126 && not (nat_eq b 34 || nat_eq b 92)) (b ∷ [])
     (92 ∷ upper_hex_digit (b / 16) ∷ upper_hex_digit (b % 16) ∷ [])
 
--- a name without bytes
+-- an empty name
 abbrev pub is_empty : List ℕ → Bool
 is_empty [] = true
 is_empty (b ∷ bs) = false
@@ -66,7 +66,7 @@ operand_text (Block n) = codes "%bb." ++ decimal n
 operand_text (Symbol name) = symbol_text name
 operand_text Mask = codes "mask"
 
--- an operand that stands before the `=`: a register that is set and isn't implicit
+-- an operand before the `=`: a register that is set and isn't implicit
 abbrev pub is_definition : Operand → Bool
 is_definition (Def r) = true
 is_definition (Use r) = false
@@ -98,7 +98,7 @@ abbrev pub number_text : Option ℕ → List ℕ
 number_text None = []
 number_text (Some k) = codes ", debug-instr-number " ++ decimal k
 
--- the place of a phi: `$x0` for a constant, of which a phi has 0 alone
+-- a phi's location: `$x0` for a constant, since the only constant of a phi is 0
 abbrev pub phi_place_text : Option Place → List ℕ
 phi_place_text None = codes "$noreg"
 phi_place_text (Some (Register r)) = register_text r
@@ -119,11 +119,11 @@ abbrev pub pair_expression_text : Option Bytes → List ℕ
 pair_expression_text None = codes "!DIExpression(DW_OP_LLVM_arg, 0)"
 pair_expression_text (Some b) = codes "!DIExpression(DW_OP_LLVM_arg, 0, " ++ fragment_text b ++ codes ")"
 
--- what follows the value of a `DBG_VALUE`
+-- the operands of a `DBG_VALUE` after its value
 abbrev pub variable_text : VarId → List ℕ
 variable_text v = codes ", $noreg, !" ++ decimal v.node ++ codes ", " ++ expression_text v.fragment
 
--- a `DBG_VALUE` of a value that is printed already
+-- a `DBG_VALUE`, with the text of its value
 abbrev pub value_mark_text : List ℕ → VarId → List ℕ
 value_mark_text value v = codes "DBG_VALUE " ++ value ++ variable_text v
 
@@ -132,14 +132,14 @@ abbrev pub pair_mark_text : VarId → OperandPair → List ℕ
 pair_mark_text v q = codes "DBG_INSTR_REF !" ++ decimal v.node ++ codes ", " ++ pair_expression_text v.fragment ++
     codes ", dbg-instr-ref(" ++ decimal q.number ++ codes ", " ++ decimal q.operand ++ codes ")"
 
--- a mark: a `DBG_INSTR_REF` of a pair, else a `DBG_VALUE`, of `$noreg` where it assigns nothing
+-- a mark: a `DBG_INSTR_REF` of a pair, else a `DBG_VALUE`, which has `$noreg` if it assigns nothing
 abbrev pub mark_text : VarId → MarkValue → List ℕ
 mark_text v Nothing = value_mark_text (codes "$noreg") v
 mark_text v (Constant c) = value_mark_text (signed_decimal c) v
 mark_text v (At r) = value_mark_text (register_text r) v
 mark_text v (Pair q) = pair_mark_text v q
 
--- a `DBG_PHI` of a place and its debug instruction number
+-- a `DBG_PHI` of a location and its debug instruction number
 abbrev pub phi_text : Option Place → ℕ → List ℕ
 phi_text p k = codes "DBG_PHI " ++ phi_place_text p ++ codes ", " ++ decimal k
 

@@ -43,7 +43,7 @@ fn push_uses(text: &mut Text, operands: &[Operand]) -> Result<(), AllocError>
 }
 
 /// Appends the explicit definitions, or the other operands, with commas between them and the lead before them, and
-/// says whether there is one. Nothing is appended where there is none.
+/// returns whether there is one. If there is none it appends nothing.
 fn push_operands(
     text: &mut Text,
     lead: &'static str,
@@ -91,7 +91,7 @@ fn is_definition(operand: &Operand) -> bool
     }
 }
 
-/// Appends the debug instruction number, where there is one.
+/// Appends the debug instruction number, if there is one.
 pub(crate) fn push_number(text: &mut Text, number: &Option<DebugNumber>) -> Result<(), AllocError>
     ensures ok { OnOk result (text.new ≡ text.old ++ number_text number.now) }
     ensures err { OnErr result (GrownFrom text.old text.new) }

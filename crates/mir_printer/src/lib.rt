@@ -1,7 +1,8 @@
-//! The one spelling of items, in the syntax of LLVM's MIR: what the listing shows and what a printed function has.
+//! Printer of items: the one text of each item, in the syntax of LLVM's MIR, for the listing and for printed
+//! functions.
 //!
-//! Each call appends to a text. An item is its instruction, mark or phi, and the debug location behind it. Where
-//! memory runs out the text keeps what it had, with some of the item behind it.
+//! Each call appends to a text. An item is its instruction, mark or phi, and the debug location after it. If
+//! memory runs out the text keeps what it had, with some of the item after it.
 #![tactic(auto)]
 
 mod instruction;

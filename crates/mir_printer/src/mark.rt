@@ -68,7 +68,7 @@ fn push_content(text: &mut Text, r: Reg, variable: &VarId) -> Result<(), AllocEr
     push_variable(text, variable)
 }
 
-/// Appends what follows the value of a `DBG_VALUE`.
+/// Appends the operands of a `DBG_VALUE` after its value.
 fn push_variable(text: &mut Text, variable: &VarId) -> Result<(), AllocError>
     ensures ok { OnOk result (text.new ≡ text.old ++ variable_text variable.now) }
     ensures err { OnErr result (GrownFrom text.old text.new) }
@@ -98,7 +98,7 @@ fn push_pair_expression(text: &mut Text, fragment: &Option<Fragment>) -> Result<
     }
 }
 
-/// Appends a fragment behind a label, and a bracket.
+/// Appends a label, a fragment and a bracket.
 fn push_closed(text: &mut Text, label: &str, fragment: &Fragment) -> Result<(), AllocError>
     ensures ok { OnOk result (text.new ≡ text.old ++ (label.now ++ fragment_text fragment.now ++ codes ")")) }
     ensures err { OnErr result (GrownFrom text.old text.new) }
@@ -116,7 +116,7 @@ fn push_fragment(text: &mut Text, fragment: &Fragment) -> Result<(), AllocError>
     push_bits(text, ", ", fragment.length())
 }
 
-/// Appends a label and how many bits so many bytes have.
+/// Appends a label, and the number of bits of so many bytes.
 fn push_bits(text: &mut Text, label: &str, bytes: u32) -> Result<(), AllocError>
     ensures ok { OnOk result (text.new ≡ text.old ++ (label.now ++ decimal (8 * bytes))) }
     ensures err { OnErr result (GrownFrom text.old text.new) }
@@ -151,7 +151,7 @@ pub(crate) fn push_phi(
     push_numbered(text, ", ", number.number())
 }
 
-/// Appends a phi's place. The constant of a phi is 0, which `$x0` holds.
+/// Appends a phi's location. The only constant of a phi is 0, the content of `$x0`.
 fn push_phi_place(text: &mut Text, place: &Option<Place>) -> Result<(), AllocError>
     ensures ok { OnOk result (text.new ≡ text.old ++ phi_place_text place.now) }
     ensures err { OnErr result (GrownFrom text.old text.new) }

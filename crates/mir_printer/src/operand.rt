@@ -28,7 +28,7 @@ pub(crate) fn push_operand(text: &mut Text, operand: &Operand) -> Result<(), All
     }
 }
 
-/// Appends a register behind the word that makes it implicit.
+/// Appends the word for an implicit operand and the register.
 fn push_implicit(text: &mut Text, word: &str, r: Reg) -> Result<(), AllocError>
     ensures ok { OnOk result (text.new ≡ text.old ++ (word.now ++ register_text r)) }
     ensures err { OnErr result (GrownFrom text.old text.new) }

@@ -8,7 +8,7 @@ ghost use Rattle.mir_printer.specs.Spelling.{is_bare, is_empty, quoted_byte, sym
 use crate::text::{Text, push_str};
 use std::alloc::AllocError;
 
-/// Appends a symbol: `@` and its name, in double quotes where it isn't bare.
+/// Appends a symbol: `@` and its name, in double quotes if it needs them.
 pub(crate) fn push_symbol(text: &mut Text, name: &[u8]) -> Result<(), AllocError>
     ensures ok { OnOk result (text.new ≡ text.old ++ symbol_text name.now) }
     ensures err { OnErr result (GrownFrom text.old text.new) }
@@ -34,7 +34,7 @@ fn are_bare(name: &[u8]) -> bool
     name.iter().all(|b| is_bare(*b))
 }
 
-/// Whether the byte may stand in a name without quotes: a letter, a digit, `_`, `.`, `-` or `$`.
+/// Whether the byte may be in a name without quotes: a letter, a digit, `_`, `.`, `-` or `$`.
 fn is_bare(b: u8) -> bool
     ensures { result ≡ is_bare b }
 {

@@ -36,7 +36,7 @@ pub fn push_str(text: &mut Text, string: &str) -> Result<(), AllocError>
     text.extend_from_slice(string.as_bytes())
 }
 
-/// Appends a label and a number behind it.
+/// Appends a label and a number.
 pub fn push_numbered(text: &mut Text, label: &str, n: u32) -> Result<(), AllocError>
     ensures ok { OnOk result (text.new ≡ text.old ++ (label.now ++ decimal n)) }
     ensures err { OnErr result (GrownFrom text.old text.new) }

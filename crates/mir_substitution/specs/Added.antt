@@ -1,4 +1,4 @@
--- What adding a substitution does.
+-- Adding a substitution.
 use Rattle.std.specs.Prelude.{List, [], ◌∷◌, ◌++◌, cond, is_some}
 use Rattle.mir_func.specs.declared.entry.Entry.{Entry}
 use Rattle.mir_func.specs.Resolve.{entry_of}

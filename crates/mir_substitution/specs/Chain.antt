@@ -4,6 +4,6 @@ use Rattle.mir_func.specs.declared.entry.OperandPair.{OperandPair}
 use Rattle.mir_func.specs.declared.entry.Entry.{Entry}
 use Rattle.mir_func.specs.Resolve.{resolve, Ends}
 
--- a pair resolves to another exactly where its chain ends there
+-- a pair resolves to another exactly if its chain ends there
 abbrev pub ResolveIsEnd : Type 0
 ResolveIsEnd = (subs : List Entry) (q r : OperandPair) → (resolve subs q ≡ Some r) ↔ Ends subs q r

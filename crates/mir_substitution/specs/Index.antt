@@ -7,7 +7,7 @@ use Rattle.mir_func.specs.declared.entry.OperandPair.{OperandPair}
 use Rattle.mir_func.specs.declared.entry.Entry.{Entry}
 use Rattle.mir_func.specs.Resolve.{entry_of}
 
--- what the index finds a pair's entry by
+-- the key of a pair in the index
 abbrev pub key_of : OperandPair → ℕ × ℕ
 key_of q = (q.number, q.operand)
 

@@ -50,8 +50,8 @@ impl Substitutions {
         self.entries.as_slice()
     }
 
-    /// Adds an entry at the end. One whose source has an entry already changes nothing, and neither does one that
-    /// is refused for want of memory.
+    /// Adds an entry at the end. An entry whose source has one already changes nothing, and neither does a call
+    /// for which memory runs out.
     pub fn add(&mut self, e: Entry) -> Result<(), AllocError>
         ensures ok { OnOk result (self.new ≡ added self.old e) }
         ensures err { OnErr result (self.new ≡ self.old) }
@@ -83,8 +83,8 @@ impl Substitutions {
         })
     }
 
-    /// The pair whose value a pair stands for: the end of its chain. There is none exactly where the chain comes
-    /// round, or meets an entry for a part of a register.
+    /// The pair that a pair resolves to: the end of its chain. There is none exactly if the chain is cyclic, or
+    /// has an entry for a part of a register.
     pub fn resolve(&self, pair: OperandPair) -> Option<OperandPair>
         ensures { result ≡ resolve self.now pair }
     {
@@ -105,7 +105,7 @@ impl Substitutions {
     }
 }
 
-/// What the index finds a pair's entry by.
+/// The key of a pair in the index.
 fn key(pair: &OperandPair) -> (u32, u32)
     ensures { result ≡ key_of pair.now }
 {

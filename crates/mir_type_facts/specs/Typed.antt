@@ -1,4 +1,4 @@
--- Items whose code has its form, and substitutions: their numbers have the sizes of their types, 32 bits, or 64 for signed ones.
+-- Items whose code has its form, and substitutions: their numbers fit their types, of 32 bits, or of 64 for signed ones.
 use Rattle.std.specs.Prelude.{All, IfSome, IsTrue}
 use Rattle.rv64_instr.specs.declared.place.Place.{Place}
 use Rattle.rv64_instr.specs.declared.place.Place.TheVariants.{Register, Slot, Const}
@@ -24,7 +24,7 @@ pub record IsTypedVariable (v : VarId) : Type 0 where
   pub node : IsNumber v.node
   pub part : IfSome v.fragment IsPart
 
--- a place whose register or slot fits its type
+-- a location whose register or slot fits its type
 abbrev pub IsTypedPlace : Place → Type 0
 IsTypedPlace (Register r) = IsNumber r
 IsTypedPlace (Slot n) = IsNumber n
@@ -36,7 +36,7 @@ IsTypedKind (Code i k) = IsTypedCode i × IfSome k IsNumber
 IsTypedKind (Mark v m) = IsTypedVariable v × IsPrintableValue m
 IsTypedKind (Phi p k) = IfSome p IsTypedPlace × IsNumber k
 
--- an item so, whose debug location's numbers fit theirs
+-- such an item, whose debug location's numbers fit their types
 pub record IsTypedItem (i : Item) : Type 0 where
   pub kind : IsTypedKind i.kind
   pub loc : IsPrintableLoc i.loc

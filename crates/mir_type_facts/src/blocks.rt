@@ -1,4 +1,4 @@
-//! Facts about blocks that their types keep.
+//! Facts about blocks that follow from the invariants of types.
 
 ghost use Rattle.std.specs.Prelude.{ℕ, ◌<◌, ◌^◌, All};
 ghost use Rattle.mir_func.specs.Sound.{AllItems, HasForm};
@@ -6,7 +6,7 @@ ghost use Rattle.mir_func.specs.Sound.{AllItems, HasForm};
 use mir_func::block::Block;
 use mir_func::item::{Item, ItemKind};
 
-/// The code of blocks has the form of its opcodes, which the type of instructions keeps.
+/// The code of blocks has the form of its opcodes, an invariant of the type of instructions.
 pub fn know_forms(blocks: &[Block])
     ensures { AllItems (λ i. HasForm i.kind) blocks.now }
 {

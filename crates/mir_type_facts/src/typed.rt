@@ -18,7 +18,7 @@ use rv64_instr::operand::Operand;
 use rv64_instr::place::Place;
 use rv64_instr::reg::Reg;
 
-/// Blocks, their items and all numbers in them have their types.
+/// Code in blocks has the form of its opcode, and all numbers of blocks and in them fit their types.
 pub fn blocks_are_typed(blocks: &[Block])
     ensures { All IsTypedBlock blocks.now }
 {
@@ -27,7 +27,7 @@ pub fn blocks_are_typed(blocks: &[Block])
     }
 }
 
-/// Substitutions and all numbers in them have their types.
+/// All numbers in substitutions fit their types.
 pub fn entries_are_typed(entries: &[Entry])
     ensures { All IsTypedEntry entries.now }
 {

@@ -10,12 +10,12 @@ use Rattle.rv64_instr.specs.Row.{Row, Fixes, Moves, Sets, Addresses, Loads, Stor
 abbrev pub caller_saved : List ℕ
 caller_saved = 1 ∷ 5 ∷ 6 ∷ 7 ∷ 10 ∷ 11 ∷ 12 ∷ 13 ∷ 14 ∷ 15 ∷ 16 ∷ 17 ∷ 28 ∷ 29 ∷ 30 ∷ 31 ∷ []
 
--- the registers that an operation's second input reads: none where it is an immediate
+-- the registers that an operation's second input reads: none if it is an immediate
 abbrev pub input_reads : Input → List ℕ
 input_reads (Content r) = r ∷ []
 input_reads (Number n) = []
 
--- the registers that an address is taken from: none where its base is a stack object
+-- the registers that an address's base reads: none if it is a stack object
 abbrev pub base_reads : Base → List ℕ
 base_reads (PointedBy r) = r ∷ []
 base_reads (ObjectAt n) = []

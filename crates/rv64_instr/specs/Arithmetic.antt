@@ -19,7 +19,7 @@ word (negsuc n) = 2 ^ 64 - 1 - n % 2 ^ 64
 abbrev pub unsigned : ℤ → ℕ
 unsigned z = cast_unsigned w64 z
 
--- the number that 64 bits stand for in two's complement
+-- the two's complement number of 64 bits
 abbrev pub signed : ℕ → ℤ
 signed n = cast_signed w64 n
 
@@ -27,7 +27,8 @@ signed n = cast_signed w64 n
 abbrev pub extend32 : ℕ → ℕ
 extend32 n = unsigned (cast_signed w32 (n % 2 ^ 32))
 
--- what an operation on two registers gives. Shifts take the low 6 bits of the second, those of words the low 5
+-- the result of an operation on two registers. Shifts use the low 6 bits of the second, those of words the low
+-- 5
 unfoldable pub computed : RegisterOp → ℕ → ℕ → ℕ
 computed Add a b = (a + b) % 2 ^ 64
 computed Sub a b = (a + (2 ^ 64 - b)) % 2 ^ 64
@@ -71,7 +72,7 @@ store_width Sh = 2
 store_width Sw = 4
 store_width Sd = 8
 
--- what a load makes of the number that its bytes spell: sign-extended, but for the unsigned loads
+-- the result of a load from the number of its bytes: sign-extended, except for the unsigned loads
 unfoldable pub extended : LoadOp → ℕ → ℕ
 extended Lb n = unsigned (cast_signed w8 n)
 extended Lh n = unsigned (cast_signed w16 n)

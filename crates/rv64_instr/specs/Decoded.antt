@@ -1,4 +1,4 @@
--- The row of an instruction as code sees it.
+-- The row of a decoded instruction.
 use Rattle.std.specs.Prelude.{◌≡◌, ℕ, List}
 use Rattle.rv64_instr.specs.Row as row
 use Rattle.rv64_instr.specs.Row.{Row}
@@ -6,7 +6,8 @@ use Rattle.rv64_instr.specs.declared.decoded.Decoded.{Decoded}
 use Rattle.rv64_instr.specs.declared.decoded.Decoded.TheVariants.{Fixes, Moves, Sets, Addresses, Loads, Stores, LoadsSlot, StoresSlot, Branches, Jumps, Calls}
 use Rattle.rv64_instr.specs.declared.decoded.Decoded.TheVariants.{Returns}
 
--- the row is the one that code sees so
+-- r is the row of the decoded instruction, which leaves out a call's name and arguments and a
+-- return's results
 abbrev pub Shows : Decoded → Row → Type 0
 Shows (Fixes rd n) r = r ≡ row.Fixes rd n
 Shows (Moves rd rs) r = r ≡ row.Moves rd rs

@@ -11,7 +11,7 @@ use Rattle.rv64_instr.specs.declared.operand.Operand.{Operand}
 use Rattle.rv64_instr.specs.declared.operand.Operand.TheVariants.{Def, Use, ImplicitDef, ImplicitUse, Imm, Slot, Object, Block, Symbol, Mask}
 use Rattle.rv64_instr.specs.Arithmetic.{load_width, store_width}
 
--- the number lies between the two, both included
+-- the number is between the two, both included
 abbrev pub is_within : ℤ → ℤ → ℤ → Bool
 is_within low high i = int_le low i && int_le i high
 
@@ -35,12 +35,13 @@ is_immediate Slliw i = is_within (pos 0) (pos 31) i
 is_immediate Srliw i = is_within (pos 0) (pos 31) i
 is_immediate Sraiw i = is_within (pos 0) (pos 31) i
 
--- `ADDI`, which alone adds a number to the address of a stack object
+-- `ADDI`, the only operation that adds a number to a stack object's address
 abbrev pub is_addi : ImmediateOp → Bool
 is_addi Addi = true
 is_addi _ = false
 
--- a frame slot has eight bytes, and may stand in the address's place of what moves as many
+-- an access of so many bytes may be of a frame slot, with this immediate: a slot has eight bytes, and the immediate
+-- is 0
 abbrev pub moves_slot : (width : ℕ) → ℤ → Bool
 moves_slot width i = nat_eq width 8 && is_within (pos 0) (pos 0) i
 

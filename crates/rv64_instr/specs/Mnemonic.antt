@@ -86,18 +86,19 @@ mnemonic_of PseudoBr = codes "PseudoBR"
 mnemonic_of PseudoCall = codes "PseudoCALL"
 mnemonic_of PseudoRet = codes "PseudoRET"
 
--- the text is the opcode's name, or no opcode's
+-- the text is the opcode's name; without an opcode it is no opcode's name
 abbrev pub Names : List ℕ → Option Op → Type 0
 Names text (Some op) = text ≡ mnemonic_of op
 Names text None = (op : Op) → text ≡ mnemonic_of op → ⊥
 
--- the text is the opcode's name, or no name of a branch, a load or a store
+-- the text is the opcode's name; without an opcode it is no name of a branch, a load or a store
 abbrev pub NamesByPlace : List ℕ → Option Op → Type 0
 NamesByPlace text (Some op) = text ≡ mnemonic_of op
 NamesByPlace text None =
     ((op : BranchOp) → text ≡ branch_name op → ⊥) × ((op : LoadOp) → text ≡ load_name op → ⊥) × ((op : StoreOp) → text ≡ store_name op → ⊥)
 
--- the text is the opcode's name, or no name of another one
+-- the text is the opcode's name; without an opcode it is no name of any other than a branch, a load
+-- or a store
 abbrev pub NamesByValue : List ℕ → Option Op → Type 0
 NamesByValue text (Some op) = text ≡ mnemonic_of op
 NamesByValue text None =

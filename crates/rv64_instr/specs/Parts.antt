@@ -1,4 +1,4 @@
--- What an instruction sets, reads and moves, by its row. A constant and a stack object are no places.
+-- The locations that an instruction sets, reads and moves, by its row. An immediate and a stack object are none.
 use Rattle.std.specs.Prelude.{ℕ, zero, suc, ℤ, Bool, true, false, ◌||◌, ◌&&◌, [], ◌∷◌, Option, Some, None, nat_eq}
 use Rattle.std.specs.List.{list_any}
 use Rattle.rv64_instr.specs.declared.operand.Operand.{Operand}
@@ -15,12 +15,12 @@ use Rattle.rv64_instr.specs.declared.decoded.Base.TheVariants.{PointedBy, Object
 use Rattle.rv64_instr.specs.Row.{Row, Fixes, Moves, Sets, Addresses, Loads, Stores, LoadsSlot, StoresSlot, Branches, Jumps, Calls, Returns, Unfit, row_of}
 use Rattle.rv64_instr.specs.Access.{sets}
 
--- the place that a definition of a register sets: a write to x0 is dropped
+-- the location that a definition of a register sets: none for x0, whose writes are dropped
 abbrev pub place_set : ℕ → Option Place
 place_set zero = None
 place_set (suc r) = Some (Register (suc r))
 
--- the one place that it sets. A call sets the caller-saved registers beside
+-- the one location that it sets. A call has none here, but sets the caller-saved registers
 abbrev pub set_by : Row → Option Place
 set_by (Fixes rd n) = place_set rd
 set_by (Moves rd rs) = place_set rd
@@ -36,17 +36,17 @@ set_by (Calls name args) = None
 set_by (Returns results) = None
 set_by Unfit = None
 
--- the place that an input is read from
+-- the location that an input is read from
 abbrev pub input_place : Input → Option Place
 input_place (Content r) = Some (Register r)
 input_place (Number n) = None
 
--- the place that the base of an address is read from. A stack object is none
+-- the location that an address's base is read from: none for a stack object
 abbrev pub base_place : Base → Option Place
 base_place (PointedBy r) = Some (Register r)
 base_place (ObjectAt n) = None
 
--- the places that it reads by explicit operands, in text order. A constant definition reads none
+-- the first location that it reads by explicit operands, in text order. A constant definition reads none
 abbrev pub first_use : Row → Option Place
 first_use (Fixes rd n) = None
 first_use (Moves rd rs) = Some (Register rs)
@@ -62,7 +62,7 @@ first_use (Calls name args) = None
 first_use (Returns results) = None
 first_use Unfit = None
 
--- the second of them
+-- the second such location
 abbrev pub second_use : Row → Option Place
 second_use (Fixes rd n) = None
 second_use (Moves rd rs) = None
@@ -78,12 +78,12 @@ second_use (Calls name args) = None
 second_use (Returns results) = None
 second_use Unfit = None
 
--- a copy into x0 moves nothing
+-- the location that a copy moves: none if it copies into x0
 abbrev pub moved_into : (rd rs : ℕ) → Option Place
 moved_into zero rs = None
 moved_into (suc rd) rs = Some (Register rs)
 
--- the place whose content it moves unchanged: of slot loads, slot stores, and copies but those into x0
+-- the location whose content it moves unchanged: of slot loads, slot stores, and copies except those into x0
 abbrev pub moved_by : Row → Option Place
 moved_by (Fixes rd n) = None
 moved_by (Moves rd rs) = moved_into rd rs
@@ -99,7 +99,7 @@ moved_by (Calls name args) = None
 moved_by (Returns results) = None
 moved_by Unfit = None
 
--- the number that a constant definition sets, also one of x0
+-- the number that a constant definition sets, also if it sets x0
 abbrev pub constant_of : Row → Option ℤ
 constant_of (Fixes rd n) = Some (signed n)
 constant_of (Moves rd rs) = None
@@ -115,7 +115,8 @@ constant_of (Calls name args) = None
 constant_of (Returns results) = None
 constant_of Unfit = None
 
--- no store to memory, no branch, call or return: where it goes on, at most its one place is set. A load may stop on a frame fault instead
+-- no store to memory, no branch, call or return: if it goes on, it sets at most its one location. A load may stop on a frame fault
+-- instead
 abbrev pub is_pure : Row → Bool
 is_pure (Fixes rd n) = true
 is_pure (Moves rd rs) = true
@@ -136,7 +137,7 @@ abbrev pub is_call : Row → Bool
 is_call (Calls name args) = true
 is_call _ = false
 
--- an instruction's effect as passes ask for it, all of it by its row
+-- an instruction's dataflow facts, as passes need them, all by its row
 abbrev pub effect_of : Row → Effect
 effect_of row = record {
   def = set_by row;
@@ -184,7 +185,7 @@ abbrev pub IsSlotStore : Row → Type 0
 IsSlotStore (StoresSlot rs n) = Unit {0}
 IsSlotStore _ = ⊥
 
--- the frame slot that is named, if one is, has this number
+-- there is a frame slot, and it has this number
 abbrev pub names_slot : Option ℕ → ℕ → Bool
 names_slot (Some m) n = nat_eq m n
 names_slot None n = false
@@ -194,25 +195,25 @@ abbrev pub is_implicit_use : ℕ → Operand → Bool
 is_implicit_use r (ImplicitUse s) = nat_eq s r
 is_implicit_use r _ = false
 
--- the place is the register
+-- there is a location, and it is the register
 abbrev pub is_register : ℕ → Option Place → Bool
 is_register r (Some (Register s)) = nat_eq r s
 is_register r _ = false
 
--- its implicit uses count: a call's and a return's
+-- its implicit uses are reads: only those of a call and a return are
 abbrev pub has_implicit_uses : Row → Bool
 has_implicit_uses (Calls name args) = true
 has_implicit_uses (Returns results) = true
 has_implicit_uses _ = false
 
--- it reads the place: a register by an explicit operand, or by an implicit one of a call or a return; or a slot
+-- it reads the location: a register by an explicit operand, or by an implicit one of a call or a return; or a slot
 abbrev pub uses_of : Instruction → Place → Bool
 uses_of i (Register r) = is_register r (first_use (row_of i)) || is_register r (second_use (row_of i))
     || (has_implicit_uses (row_of i) && list_any (is_implicit_use r) i.operands)
 uses_of i (Slot n) = names_slot (slot_read (row_of i)) n
 uses_of i (Const c) = false
 
--- it sets the place; a definition of x0 counts, though its write is dropped. A call sets the caller-saved registers
+-- it sets the location; a definition of x0 counts, though its write is dropped. A call sets the caller-saved registers
 abbrev pub defines_of : Row → Place → Bool
 defines_of row (Register r) = list_any (nat_eq r) (sets row)
 defines_of row (Slot n) = names_slot (slot_set row) n

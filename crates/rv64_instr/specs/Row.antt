@@ -1,4 +1,4 @@
--- What an instruction does, decoded once: nothing above looks at opcodes or operand lists again.
+-- Rows: what instructions do, decoded from their opcodes and operands.
 use Rattle.std.specs.Prelude.{ℕ, zero, suc, ◌*ℤ◌, pos, List, [], ◌∷◌, nat_eq, cond}
 use Rattle.rv64_instr.specs.declared.op.Op.{Op}
 use Rattle.rv64_instr.specs.declared.op.RegisterOp.{RegisterOp}
@@ -18,13 +18,13 @@ use Rattle.rv64_instr.specs.declared.decoded.Base.TheVariants.{PointedBy, Object
 use Rattle.rv64_instr.specs.Instruction.{Instruction}
 use Rattle.rv64_instr.specs.Arithmetic.{word, extend32}
 
--- what an instruction does. Addresses are a base plus an offset, modulo 2^64. A target is a block's number
+-- what an instruction does. An address is a base plus an offset, modulo 2^64. A target is a block's number
 pub data Row : Type 0 where
   -- a constant definition: sets rd to a number
   Fixes : (rd n : ℕ) → Row
   -- a copy: sets rd to the content of rs
   Moves : (rd rs : ℕ) → Row
-  -- sets rd to what an operation on registers gives
+  -- sets rd to the result of an operation
   Sets : (rd : ℕ) (op : RegisterOp) (a : ℕ) (b : Input) → Row
   -- sets rd to the address of a stack object plus an offset
   Addresses : (rd n offset : ℕ) → Row
@@ -35,13 +35,13 @@ pub data Row : Type 0 where
   -- sets rd from a frame slot, or a frame slot from rs
   LoadsSlot : (rd n : ℕ) → Row
   StoresSlot : (rs n : ℕ) → Row
-  -- goes to a block if the branch is taken, or always
+  -- control goes to a block if the branch is taken, or always
   Branches : (op : BranchOp) (a b target : ℕ) → Row
   Jumps : (target : ℕ) → Row
   -- calls with the contents of registers, or returns them
   Calls : (name args : List ℕ) → Row
   Returns : (results : List ℕ) → Row
-  -- no instruction: operands that have no form
+  -- an invalid instruction: its operands don't have the opcode's form
   Unfit : Row
 
 -- the implicit uses in text order, x2 left out: the stack pointer is no argument and no result
@@ -61,7 +61,7 @@ add_row rd zero n = Fixes rd n
 add_row rd (suc r) zero = Moves rd (suc r)
 add_row rd (suc r) (suc n) = Sets rd Add (suc r) (Number (suc n))
 
--- an operation with a number is the one on registers
+-- the row of an operation with an immediate: the operation on registers, with the number as second input
 abbrev pub immediate_row : ImmediateOp → (rd a n : ℕ) → Row
 immediate_row Addi rd a n = add_row rd a n
 immediate_row Slti rd a n = Sets rd Slt a (Number n)
@@ -77,7 +77,7 @@ immediate_row Slliw rd a n = Sets rd Sllw a (Number n)
 immediate_row Srliw rd a n = Sets rd Srlw a (Number n)
 immediate_row Sraiw rd a n = Sets rd Sraw a (Number n)
 
--- a number is added to the address of a stack object, and nothing else is done with it
+-- only `ADDI` may have a stack object: it sets rd to the object's address plus an offset
 abbrev pub object_row : ImmediateOp → (rd n offset : ℕ) → Row
 object_row Addi rd n offset = Addresses rd n offset
 object_row Slti rd n offset = Unfit
@@ -121,7 +121,7 @@ load_row op (Def rd ∷ Slot n ∷ rest) = LoadsSlot rd n
 load_row op (Def rd ∷ Object n ∷ Imm i ∷ rest) = Loads rd op (ObjectAt n) (word i)
 load_row op _ = Unfit
 
--- a store, addressed in the same three ways
+-- a store, with the same three kinds of address
 abbrev pub store_row : StoreOp → List Operand → Row
 store_row op (Use rs ∷ Use base ∷ Imm i ∷ rest) = Stores op rs (PointedBy base) (word i)
 store_row op (Use rs ∷ Slot n ∷ rest) = StoresSlot rs n
@@ -143,7 +143,7 @@ abbrev pub call_row : List Operand → Row
 call_row (Symbol name ∷ rest) = Calls name (implicit_uses rest)
 call_row _ = Unfit
 
--- the row of an opcode's operands
+-- the row of an opcode with these operands
 abbrev pub row_by : Op → List Operand → Row
 row_by (Registers op) operands = registers_row op operands
 row_by (Immediate op) operands = number_row op operands

@@ -1,12 +1,12 @@
-//! The arithmetic of RV64I: what operations give, which branches are taken, and what loads make of their bytes.
+//! The arithmetic of RV64I: results of operations, conditions of branches, and extension of loaded bytes.
 
 ghost use Rattle.std.specs.Prelude.{◌≡◌, ◌<◌, ◌*◌, ◌^◌, ◌%◌};
 ghost use Rattle.rv64_instr.specs.Arithmetic.{computed, taken, extended, load_width, store_width, extend32};
 
 use crate::op::{BranchOp, LoadOp, RegisterOp, StoreOp};
 
-/// What an operation on two registers gives, at the contents of the two (RISC-V Unprivileged ISA, RV32I and RV64I,
-/// "Integer Register-Register Operations").
+/// The result of an operation on the contents of two registers (RISC-V Unprivileged ISA, RV32I and RV64I, "Integer
+/// Register-Register Operations").
 #[tactic(auto, unfolding(crate::specs::Arithmetic::computed))]
 pub fn compute(op: RegisterOp, a: u64, b: u64) -> u64
     ensures { result ≡ computed op a b }
@@ -73,7 +73,7 @@ pub fn store_width(op: StoreOp) -> usize
     }
 }
 
-/// What a load makes of the number that its bytes spell, the first byte lowest: sign-extended, but for the unsigned
+/// The result of a load from the number of its bytes, the first byte lowest: sign-extended, except for the unsigned
 /// loads.
 #[tactic(auto, unfolding(crate::specs::Arithmetic::extended))]
 pub fn extend(op: LoadOp, n: u64) -> u64

@@ -1,4 +1,4 @@
-//! What an instruction does, decoded from its opcode and operands.
+//! Instructions decoded from their opcode and operands into what they do.
 
 ghost use Rattle.std.specs.Prelude.{◌≡◌, IsTrue};
 ghost use Rattle.rv64_instr.specs.Arithmetic.{word};
@@ -37,7 +37,7 @@ pub enum Input {
     Number(u64),
 }
 
-/// What an access counts its offset from.
+/// The base of an access's address, to which its offset is added.
 #[derive(Clone, Copy, Debug, PartialEq, Eq)]
 pub enum Base {
     /// The content of a register.
@@ -46,15 +46,15 @@ pub enum Base {
     ObjectAt(ObjectId),
 }
 
-/// What an instruction does, without the lists of a call and a return. Offsets of addresses are in bytes, and count
-/// modulo 2^64.
+/// What an instruction does, without the arguments of a call and the results of a return. Offsets of addresses are
+/// in bytes, modulo 2^64.
 #[derive(Clone, Copy, Debug, PartialEq, Eq)]
 pub enum Decoded {
     /// A constant definition: sets the register to a number.
     Fixes(Reg, u64),
     /// A copy: sets the first register to the content of the second, which isn't x0.
     Moves(Reg, Reg),
-    /// Sets the first register to what an operation on registers gives at the second and the input.
+    /// Sets the first register to the result of an operation on the second and the input.
     Sets(Reg, RegisterOp, Reg, Input),
     /// Sets the register to the address of a stack object plus an offset.
     Addresses(Reg, ObjectId, u64),
@@ -66,9 +66,9 @@ pub enum Decoded {
     LoadsSlot(Reg, SlotId),
     /// Writes the content of the register to a frame slot.
     StoresSlot(Reg, SlotId),
-    /// Goes to a block if a conditional branch is taken at the contents of the two registers.
+    /// Control goes to a block if a conditional branch is taken at the contents of the two registers.
     Branches(BranchOp, Reg, Reg, BlockId),
-    /// Goes to a block.
+    /// Control goes to a block.
     Jumps(BlockId),
     /// Calls a function.
     Calls,
@@ -130,7 +130,7 @@ fn of_immediate(op: ImmediateOp, operands: &[Operand]) -> Decoded
     }
 }
 
-/// An operation with a number is the one on registers.
+/// The operation on registers, with the number as second input; `ADDI` may be a constant definition or a copy.
 fn with_number(op: ImmediateOp, rd: Reg, a: Reg, n: u64) -> Decoded
     ensures { Shows result (immediate_row op rd a n) }
 {

@@ -1,4 +1,4 @@
-//! The form of an opcode's operands: which stand where, and the range of its immediate.
+//! The form of an opcode's operands: their kinds in order, and the range of its immediate.
 
 ghost use Rattle.std.specs.Prelude.{◌≡◌};
 ghost use Rattle.std.specs.List.{list_all};
@@ -164,7 +164,7 @@ fn fits_store(op: StoreOp, operands: &[Operand]) -> bool
     }
 }
 
-/// Whether what moves so many bytes moves a slot, with this number behind the slot.
+/// Whether an access of so many bytes may be of a frame slot, with this immediate.
 fn moves_slot(width: usize, i: i64) -> bool
     ensures { result ≡ moves_slot width i }
 {

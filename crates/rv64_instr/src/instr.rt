@@ -33,7 +33,7 @@ impl Model for Instr {
 impl Instr {
     ghost use Rattle.rv64_instr.specs.Form.{has_form};
 
-    /// The instruction of an opcode and its operands, and `None` exactly where they don't have its form.
+    /// The instruction of an opcode and its operands, and `None` exactly if they don't have its form.
     pub fn new(op: Op, operands: Operands) -> Option<Instr>
         ensures none { IsNone result ↔ (has_form op operands ≡ false) }
         ensures value { IfSome result (λ i. i ≡ record { op = op; operands = operands }) }

@@ -1,6 +1,6 @@
-//! The instructions of RV64I machine code after register allocation, as LLVM's MIR writes them: registers,
-//! opcodes, operands, and the form that the operands of an opcode have. An instruction can only be made in a
-//! form of its opcode, with its immediate in range, so nothing above asks again what it looks like.
+//! RV64I machine instructions, as LLVM's MIR writes them: registers, opcodes, operands, and the form of each
+//! opcode's operands. An instruction always has the form of its opcode, with its immediate in range, so no
+//! user of it checks this again.
 #![tactic(auto)]
 
 pub mod arithmetic;

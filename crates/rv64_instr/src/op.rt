@@ -1,4 +1,4 @@
-//! Opcodes, each in the class of those whose operands stand alike, and their names.
+//! Opcodes, in classes that have the same form of operands, and their names.
 
 ghost use Rattle.std.specs.Prelude.{◌≡◌, Some, IfSome};
 ghost use Rattle.rv64_instr.specs.Mnemonic.{mnemonic_of, register_name, immediate_name, branch_name, load_name};
@@ -204,7 +204,7 @@ impl Op {
         }
     }
 
-    /// The opcode of a name in MIR, and `None` exactly where no opcode has that name.
+    /// The opcode of a name in MIR, and `None` exactly if no opcode has that name.
     pub fn from_mnemonic(text: &[u8]) -> Option<Op>
         ensures found { IfSome result (λ op. text.now ≡ mnemonic_of op) }
         ensures only { (op : Op) → text.now ≡ mnemonic_of op → result ≡ Some op }

@@ -16,9 +16,10 @@ pub enum Operand {
     Def(Reg),
     /// A register that it reads.
     Use(Reg),
-    /// A register that it sets by convention. It counts on calls alone.
+    /// A register that it sets implicitly (LLVM: `implicit-def`). That of a call alone counts.
     ImplicitDef(Reg),
-    /// A register that it reads by convention. It counts on calls and returns alone.
+    /// A register that it reads implicitly (LLVM: `implicit`). Only those of calls and returns
+    /// count.
     ImplicitUse(Reg),
     /// An immediate.
     Imm(i64),

@@ -1,4 +1,4 @@
-//! What an instruction sets, reads and moves.
+//! Dataflow facts of instructions: the locations that they set, read and move.
 
 ghost use Rattle.std.specs.Prelude.{◌≡◌, nat_eq};
 ghost use Rattle.std.specs.List.{list_any};
@@ -19,18 +19,18 @@ use base_ids::code::SlotId;
 /// The numbers of the registers that a call sets, ascending (RISC-V ELF psABI, "Integer Register Convention").
 pub const CALLER_SAVED: [u32; 16] = [1, 5, 6, 7, 10, 11, 12, 13, 14, 15, 16, 17, 28, 29, 30, 31];
 
-/// What an instruction sets, reads and moves.
+/// The locations that an instruction sets, reads and moves.
 #[derive(Clone, Copy, Debug, PartialEq, Eq)]
 pub struct Effect {
-    /// The one place that it sets. None for a definition of x0, whose write is dropped, and for a call.
+    /// The one location that it sets. None for a definition of x0, whose write is dropped, and for a call.
     pub def: Option<Place>,
-    /// The places that it reads by explicit operands, in text order. A constant definition reads none.
+    /// The locations that it reads by explicit operands, in text order. A constant definition reads none.
     pub uses: [Option<Place>; 2],
-    /// The place whose content it moves unchanged: set for slot loads, slot stores, and copies but those into x0.
+    /// The location whose content it moves unchanged: for slot loads, slot stores, and copies except those into x0.
     pub moved_from: Option<Place>,
-    /// The number that a constant definition sets, also one of x0.
+    /// The number that a constant definition sets, also if it sets x0.
     pub constant: Option<i64>,
-    /// It is no store to memory, branch, call or return. Where it goes on, at most `def` is set; a load may stop on a
+    /// It is no store to memory, branch, call or return. If it goes on, at most `def` is set; a load may stop on a
     /// frame fault instead.
     pub pure: bool,
     /// It is a call, which sets the caller-saved registers.
@@ -38,14 +38,14 @@ pub struct Effect {
 }
 
 impl Instr {
-    /// What the instruction sets, reads and moves. It takes no memory.
+    /// The locations that the instruction sets, reads and moves. It takes no memory.
     pub fn effect(&self) -> Effect
         ensures { result ≡ effect_of (row_of self.now) }
     {
         self.decoded().effect()
     }
 
-    /// Whether it reads the place: by an explicit operand, or by an implicit one of a call or a return. It takes no
+    /// Whether it reads the location: by an explicit operand, or by an implicit one of a call or a return. It takes no
     /// memory.
     pub fn uses(&self, p: Place) -> bool
         ensures { result ≡ uses_of self.now p }
@@ -57,8 +57,8 @@ impl Instr {
         }
     }
 
-    /// Whether it sets the place; a definition of x0 counts, though its write is dropped. A call sets the caller-saved
-    /// registers. It takes no memory.
+    /// Whether it sets the location; a definition of x0 counts, though its write is dropped. A call sets the
+    /// caller-saved registers. It takes no memory.
     pub fn defines(&self, p: Place) -> bool
         ensures { result ≡ defines_of (row_of self.now) p }
     {
@@ -115,7 +115,7 @@ pub fn is_call(i: &Instr) -> bool
 }
 
 impl Decoded {
-    /// What it sets, reads and moves.
+    /// The locations that it sets, reads and moves.
     pub fn effect(&self) -> Effect
         ensures { (row : Row) → Shows self.now row → result ≡ effect_of row }
     {
@@ -129,7 +129,7 @@ impl Decoded {
         }
     }
 
-    /// The one place that it sets. None for a definition of x0, whose write is dropped, and for a call.
+    /// The one location that it sets. None for a definition of x0, whose write is dropped, and for a call.
     fn def(&self) -> Option<Place>
         ensures { (row : Row) → Shows self.now row → result ≡ set_by row }
     {
@@ -149,7 +149,7 @@ impl Decoded {
         }
     }
 
-    /// The first place that it reads by explicit operands, in text order. A constant definition reads none.
+    /// The first location that it reads by explicit operands, in text order. A constant definition reads none.
     fn first_use(&self) -> Option<Place>
         ensures { (row : Row) → Shows self.now row → result ≡ first_use row }
     {
@@ -169,7 +169,7 @@ impl Decoded {
         }
     }
 
-    /// The second such place.
+    /// The second such location.
     fn second_use(&self) -> Option<Place>
         ensures { (row : Row) → Shows self.now row → result ≡ second_use row }
     {
@@ -189,7 +189,7 @@ impl Decoded {
         }
     }
 
-    /// The place whose content it moves unchanged: set for slot loads, slot stores, and copies but those into x0.
+    /// The location whose content it moves unchanged: for slot loads, slot stores, and copies except those into x0.
     fn moved_from(&self) -> Option<Place>
         ensures { (row : Row) → Shows self.now row → result ≡ moved_by row }
     {
@@ -209,7 +209,7 @@ impl Decoded {
         }
     }
 
-    /// The number that a constant definition sets, also one of x0.
+    /// The number that a constant definition sets, also if it sets x0.
     fn constant(&self) -> Option<i64>
         ensures { (row : Row) → Shows self.now row → result ≡ constant_of row }
     {
@@ -297,7 +297,7 @@ impl Decoded {
     }
 }
 
-/// The place that a definition of a register sets.
+/// The location that a definition of a register sets.
 fn place_set(rd: Reg) -> Option<Place>
     ensures { result ≡ place_set rd }
 {
@@ -308,7 +308,7 @@ fn place_set(rd: Reg) -> Option<Place>
     }
 }
 
-/// The place whose content a copy moves: none into x0.
+/// The location that a copy moves: none if it copies into x0.
 fn moved_into(rd: Reg, rs: Reg) -> Option<Place>
     ensures { result ≡ moved_into rd rs }
 {
@@ -320,7 +320,7 @@ fn moved_into(rd: Reg, rs: Reg) -> Option<Place>
 }
 
 impl Input {
-    /// The place that the input is read from.
+    /// The location that the input is read from.
     fn place(self) -> Option<Place>
         ensures { result ≡ input_place self }
     {
@@ -332,7 +332,7 @@ impl Input {
 }
 
 impl Base {
-    /// The place that the base is read from.
+    /// The location that the base is read from.
     fn place(self) -> Option<Place>
         ensures { result ≡ base_place self }
     {

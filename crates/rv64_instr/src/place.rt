@@ -1,15 +1,15 @@
-//! Places where a value may be found.
+//! Locations of values.
 
 use crate::reg::Reg;
 use base_ids::code::SlotId;
 
-/// A place where a value may be found (LLVM: a machine location, `LocIdx`).
+/// A location of a value (LLVM: a machine location, `LocIdx`), or a constant.
 #[derive(Clone, Copy, Debug, PartialEq, Eq)]
 pub enum Place {
     /// A register.
     Register(Reg),
     /// A frame slot.
     Slot(SlotId),
-    /// A constant, which holds itself everywhere.
+    /// A constant, whose content is itself everywhere.
     Const(i64),
 }

@@ -26,7 +26,7 @@ impl Model for Reg {
 /// Registers, in a stated order.
 pub type Registers = List<Reg>;
 
-/// The register xN, and `None` exactly where N is above 31.
+/// The register xN, and `None` exactly if N is above 31.
 pub fn physical(n: u32) -> Option<Reg>
     ensures none { IsNone result ↔ (32 ≤ n) }
     ensures value { IfSome result (λ r. r ≡ n) }
@@ -39,7 +39,7 @@ pub fn physical(n: u32) -> Option<Reg>
 }
 
 impl Reg {
-    /// The register of a number, physical or virtual, and `None` exactly where the number is above 4,127.
+    /// The register of a number, physical or virtual, and `None` exactly if the number is above 4,127.
     pub fn new(number: u32) -> Option<Reg>
         ensures none { IsNone result ↔ (4128 ≤ number) }
         ensures value { IfSome result (λ r. r ≡ number) }

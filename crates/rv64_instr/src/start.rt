@@ -1,4 +1,4 @@
-//! With what a run starts, the calls that it makes, and their answers.
+//! The start of a run, the calls that it makes, and the replies to them.
 
 use crate::name::Name;
 use base_list::List;
@@ -30,7 +30,7 @@ pub struct CallEvent {
     pub number: u64,
 }
 
-/// What a call gives back.
+/// The reply to a call.
 #[derive(Clone, Copy, Debug)]
 pub struct Answer {
     /// The new contents of the caller-saved registers x1, x5 to x7, x10 to x17 and x28 to x31, in this order

@@ -46,7 +46,7 @@ store_of funct3 =
     if funct3 == 3 then Some Sd else (
     None))))
 
--- operations with an immediate; a shift has six bits of it, and the upper six of funct7
+-- 64-bit operations with an immediate; a shift has an immediate of six bits, and the upper six bits of funct7
 abbrev pub immediate_of : (funct3 funct7 : ℕ) → Option ImmediateOp
 immediate_of funct3 funct7 =
     if funct3 == 0 then Some Addi else (
@@ -59,7 +59,7 @@ immediate_of funct3 funct7 =
     if funct3 == 7 then Some Andi else (
     None))))))))
 
--- operations on registers
+-- 64-bit operations on registers
 abbrev pub register_of : (funct3 funct7 : ℕ) → Option RegisterOp
 register_of funct3 funct7 =
     if funct3 == 0 then (if funct7 == 0 then Some Add else (if funct7 == 32 then Some Sub else None)) else (
@@ -72,7 +72,7 @@ register_of funct3 funct7 =
     if funct3 == 7 then (if funct7 == 0 then Some And else None) else (
     None))))))))
 
--- operations of words with an immediate
+-- 32-bit operations with an immediate
 abbrev pub word_immediate_of : (funct3 funct7 : ℕ) → Option ImmediateOp
 word_immediate_of funct3 funct7 =
     if funct3 == 0 then Some Addiw else (
@@ -80,7 +80,7 @@ word_immediate_of funct3 funct7 =
     if funct3 == 5 then (if funct7 == 0 then Some Srliw else (if funct7 == 32 then Some Sraiw else None)) else (
     None)))
 
--- operations of words on registers
+-- 32-bit operations on registers
 abbrev pub word_register_of : (funct3 funct7 : ℕ) → Option RegisterOp
 word_register_of funct3 funct7 =
     if funct3 == 0 then (if funct7 == 0 then Some Addw else (if funct7 == 32 then Some Subw else None)) else (
@@ -88,7 +88,8 @@ word_register_of funct3 funct7 =
     if funct3 == 5 then (if funct7 == 0 then Some Srlw else (if funct7 == 32 then Some Sraw else None)) else (
     None)))
 
--- the operation of an opcode, a funct3 and a funct7, as far as the opcode has them
+-- the operation of an opcode, a funct3 and a funct7, if the listings have one. A format without funct3 or
+-- funct7 disregards it
 unfoldable pub operation_of : (opcode funct3 funct7 : ℕ) → Option WordOp
 operation_of opcode funct3 funct7 =
     if opcode == 0x37 then Some op.Lui else (

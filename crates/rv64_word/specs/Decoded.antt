@@ -1,4 +1,4 @@
--- The machine operation that a word spells.
+-- Decoding of a word to its machine operation.
 use Rattle.std.specs.Prelude.{ℕ, Option}
 use Rattle.std.specs.Option.{option_map}
 use Rattle.rv64_word.specs.declared.format.Field.{Field}
@@ -9,10 +9,11 @@ use Rattle.rv64_word.specs.Format.{slices_of, shown}
 use Rattle.rv64_word.specs.Codes.{operation_of}
 use Rattle.rv64_word.specs.MachineOp.{read_as}
 
--- a code of a word: the R format has all three, and the others have theirs in the same place
+-- the opcode, funct3 or funct7 of a word: the R format has all three, and other formats have them at the same bits
 abbrev pub code : Field → (word : ℕ) → ℕ
 code field word = shown (slices_of Register) field word
 
--- the operation that a word's codes name in the listings, with the fields that its format shows. The word is below 2^32
+-- the operation that the word's opcode, funct3 and funct7 have in the listings, with the fields of its format. The word
+-- is below 2^32
 unfoldable pub decoded : (word : ℕ) → Option MachineOp
 decoded word = option_map (λ op. read_as op word) (operation_of (code Opcode word) (code Funct3 word) (code Funct7 word))

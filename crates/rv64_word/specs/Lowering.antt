@@ -1,4 +1,4 @@
--- The machine operation of an instruction that has one word.
+-- Lowering of an instruction that has one word to its machine operation.
 use Rattle.std.specs.Prelude.{ℕ, ℤ, pos, ◌+ℤ◌, List, ◌∷◌, Option, Some, None, if◌then◌else◌, option_and_then}
 use Rattle.rv64_instr.specs.declared.op.Op.{Op}
 use Rattle.rv64_instr.specs.declared.op.Op.TheVariants as source
@@ -27,7 +27,7 @@ abbrev pub register_fields : RegisterOp → List Operand → Option MachineOp
 register_fields op (Def rd ∷ Use a ∷ Use b ∷ rest) = Some (machine_op (Registers op) rd a b (pos 0))
 register_fields op _ = None
 
--- `ADDI rd, x2, i` stands for the address of a stack object
+-- `ADDI rd, x2, i`, for the address of a stack object
 abbrev pub object_fields : ImmediateOp → (rd : ℕ) → (i : ℤ) → Option MachineOp
 object_fields Addi rd i = Some (machine_op (Immediate Addi) rd 2 0 i)
 object_fields Slti rd i = None
@@ -43,7 +43,8 @@ object_fields Slliw rd i = None
 object_fields Srliw rd i = None
 object_fields Sraiw rd i = None
 
--- `rd = OP rs1, imm`. The address of a stack object plus a number is x2's content plus the object's offset from it and the number
+-- `rd = OP rs1, imm`. The address of a stack object plus a number is x2's content plus the object's offset from it plus the
+-- number
 abbrev pub immediate_fields : ImmediateOp → List Operand → (object : ℕ) → Option MachineOp
 immediate_fields op (Def rd ∷ Use a ∷ Imm i ∷ rest) object = Some (machine_op (Immediate op) rd a 0 i)
 immediate_fields op (Def rd ∷ Object n ∷ Imm i ∷ rest) object = object_fields op rd (pos object +ℤ i)
@@ -54,12 +55,12 @@ abbrev pub upper_fields : List Operand → Option MachineOp
 upper_fields (Def rd ∷ Imm i ∷ rest) = Some (machine_op Lui rd 0 0 i)
 upper_fields _ = None
 
--- `OP rs1, rs2, %bb.N`, where the block has an offset from the instruction
+-- `OP rs1, rs2, %bb.N`, with the block's offset from the instruction
 abbrev pub branch_fields : BranchOp → List Operand → (offset : ℤ) → Option MachineOp
 branch_fields op (Use a ∷ Use b ∷ Block n ∷ rest) offset = Some (machine_op (Branch op) 0 a b offset)
 branch_fields op _ offset = None
 
--- a load. A frame slot's number is its offset from x2, and a stack object has one
+-- a load. A frame slot's number is its offset from x2, and `object` is that of a stack object
 abbrev pub load_fields : LoadOp → List Operand → (object : ℕ) → Option MachineOp
 load_fields op (Def rd ∷ Use base ∷ Imm i ∷ rest) object = Some (machine_op (Load op) rd base 0 i)
 load_fields op (Def rd ∷ Slot n ∷ rest) object = Some (machine_op (Load Ld) rd 2 0 (pos n))
@@ -87,7 +88,7 @@ jump_fields _ offset = None
 abbrev pub return_op : MachineOp
 return_op = machine_op Jalr 0 1 0 (pos 0)
 
--- the machine operation of an opcode's operands, its fields in range or not. A call has two words, and so none
+-- the machine operation of an opcode's operands, whether or not its fields are in range. A call has two words, and so none
 abbrev pub fields_of : Op → List Operand → (offset : ℤ) (object : ℕ) → Option MachineOp
 fields_of (source.Registers op) operands offset object = register_fields op operands
 fields_of (source.Immediate op) operands offset object = immediate_fields op operands object
@@ -104,7 +105,7 @@ fields_of source.PseudoRet operands offset object = Some return_op
 abbrev pub in_range : MachineOp → Option MachineOp
 in_range m = if is_encodable m then Some m else None
 
--- the machine operation of an instruction whose target has an offset from its own address, and whose stack object one from
--- x2: none for a call, and where a register or a number is out of the range of the word's format
+-- the machine operation of an instruction, by the offset of its target from its own address and that of its stack object from x2:
+-- none for a call, and none if a register or a number is out of the range of the word's format
 abbrev pub lowered : (offset : ℤ) (object : ℕ) → Instruction → Option MachineOp
 lowered offset object i = option_and_then in_range (fields_of i.op i.operands offset object)

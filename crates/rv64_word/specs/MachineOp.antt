@@ -25,18 +25,18 @@ value_of m Imm = word m.imm
 unfoldable pub word_of : MachineOp → ℕ
 word_of m = spelled (slices_of (encoding_of m.op).format) (value_of m)
 
--- the operation with its fields as a word shows them
+-- the operation with the fields that a word has in the operation's format
 abbrev pub read_as : WordOp → ℕ → MachineOp
 read_as op word =
     let format = (encoding_of op).format in
     let slices = slices_of format in
     record { op = op; rd = shown slices Rd word; rs1 = shown slices Rs1 word; rs2 = shown slices Rs2 word; imm = number_of format (shown slices Imm word) }
 
--- a number of a register
+-- the number of a physical register
 abbrev pub is_register : ℕ → Bool
 is_register r = nat_lt r 32
 
--- a number without bit 0, as the offsets of branches are
+-- an even number, as the offsets of branches are
 abbrev pub is_even : ℤ → Bool
 is_even i = nat_eq (word i % 2) 0
 

@@ -14,26 +14,27 @@ use Rattle.rv64_word.specs.declared.machine_op.MachineOp.{MachineOp}
 use Rattle.rv64_word.specs.declared.word_op.WordOp.{WordOp}
 use Rattle.rv64_word.specs.declared.word_op.WordOp.TheVariants.{Registers, Immediate, Lui, Branch, Load, Store, Jal, Jalr}
 
--- what a word does. The targets are addresses
+-- what a word does. Targets are addresses
 pub data MachineRow : Type 0 where
-  -- what the row of an instruction does, which names no slot and no stack object, and is neither a call nor a return
+  -- what the row of an instruction does. The row of a word names no slot and no stack object, and is neither a call nor a
+  -- return
   Does : Row → MachineRow
-  -- sets rd to the address of the next word, and goes to the target
+  -- sets rd to the address of the next word, and jumps to the target
   Links : (rd target : ℕ) → MachineRow
-  -- reads the base, sets rd to the address of the next word, and goes to the base's content plus the offset, modulo 2^64,
-  -- with bit 0 cleared
+  -- reads the base, sets rd to the address of the next word, and jumps to the base's content plus the offset, modulo
+  -- 2^64, with bit 0 cleared
   LinksTo : (rd base offset : ℕ) → MachineRow
 
 -- the address at an offset from another
 abbrev pub at_offset : (address : ℕ) → ℤ → ℕ
 at_offset address offset = (address + word offset) % 2 ^ 64
 
--- a jump that sets x0 only goes to the target
+-- a jump that links to x0 is a plain jump
 abbrev pub link_row : (rd target : ℕ) → MachineRow
 link_row zero target = Does (Jumps target)
 link_row (suc rd) target = Links (suc rd) target
 
--- the row of a word of an operation
+-- the row of a word of an operation, at an address
 abbrev pub row_as : WordOp → (address : ℕ) → MachineOp → MachineRow
 row_as (Registers op) address m = Does (Sets m.rd op m.rs1 (Content m.rs2))
 row_as (Immediate op) address m = Does (row.immediate_row op m.rd m.rs1 (word m.imm))
@@ -48,7 +49,7 @@ row_as Jalr address m = LinksTo m.rd m.rs1 (word m.imm)
 abbrev pub machine_row : (address : ℕ) → MachineOp → MachineRow
 machine_row address m = row_as m.op address m
 
--- the stack object that an access counts its offset from
+-- the stack object that is an access's base
 abbrev pub base_object : Base → Option ℕ
 base_object (PointedBy r) = None
 base_object (ObjectAt n) = Some n
@@ -69,23 +70,22 @@ object_named (Calls name args) = None
 object_named (Returns results) = None
 object_named Unfit = None
 
--- an offset from a stack object as one from x2, where the object has an offset from x2, modulo 2^64
+-- an offset from a stack object as one from x2, modulo 2^64; `object` is the object's own offset from x2
 abbrev pub from_object : (object offset : ℕ) → ℕ
 from_object object offset = (object + offset) % 2 ^ 64
 
--- a load in memory, whose stack object has an offset from x2
+-- a load, with a stack object as base replaced by x2 and the object's offset from it
 abbrev pub placed_load : (object rd : ℕ) → LoadOp → Base → (offset : ℕ) → Row
 placed_load object rd op (PointedBy r) offset = Loads rd op (PointedBy r) offset
 placed_load object rd op (ObjectAt n) offset = Loads rd op (PointedBy 2) (from_object object offset)
 
--- a store in memory, likewise
+-- a store, likewise
 abbrev pub placed_store : (object : ℕ) → StoreOp → (rs : ℕ) → Base → (offset : ℕ) → Row
 placed_store object op rs (PointedBy r) offset = Stores op rs (PointedBy r) offset
 placed_store object op rs (ObjectAt n) offset = Stores op rs (PointedBy 2) (from_object object offset)
 
--- the row of an instruction in memory: its target has an address, its stack object an offset from x2, and a frame slot's
--- number is its offset from x2. A return goes to x1's content. A call has two words,
--- neither of which has its row
+-- the row of an instruction's word: a branch's target is an address, a stack object is at an offset from x2, and a frame
+-- slot's number is its offset from x2. A return jumps to x1's content. A call has two words, neither of which has its row
 abbrev pub placed : (target object : ℕ) → Row → MachineRow
 placed target object (Fixes rd n) = Does (Fixes rd n)
 placed target object (Moves rd rs) = Does (Moves rd rs)

@@ -1,4 +1,4 @@
--- What tells an operation's words apart from others (RISC-V Unprivileged ISA, "RV32/64G Instruction Set Listings").
+-- The encodings of operations (RISC-V Unprivileged ISA, "RV32/64G Instruction Set Listings").
 use Rattle.std.specs.Prelude.{ℕ}
 use Rattle.rv64_instr.specs.declared.op.RegisterOp.{RegisterOp}
 use Rattle.rv64_instr.specs.declared.op.RegisterOp.TheVariants.{Add, Sub, Sll, Slt, Sltu, Xor, Srl, Sra, Or, And, Addw, Subw, Sllw, Srlw, Sraw}
@@ -16,7 +16,7 @@ use Rattle.rv64_word.specs.declared.word_op.Encoding.{Encoding}
 use Rattle.rv64_word.specs.declared.word_op.WordOp.{WordOp}
 use Rattle.rv64_word.specs.declared.word_op.WordOp.TheVariants as op
 
--- a row of the listing: a format, opcode, funct3 and funct7. The last two are 0 where the format lacks them
+-- a row of the listing: a format, opcode, funct3 and funct7. The last two are 0 if the format lacks them
 abbrev pub listed : Format → (opcode funct3 funct7 : ℕ) → Encoding
 listed format opcode funct3 funct7 = record { format = format; opcode = opcode; funct3 = funct3; funct7 = funct7 }
 

@@ -1,35 +1,35 @@
-//! The formats of words: which bits of a word stand for which bits of a field.
+//! The formats of words: which bits of a word are which bits of a field.
 
 ghost use Rattle.std.specs.Prelude.{◌≡◌, ◌+◌, ◌<◌, ◌≤◌, ◌^◌, ◌*◌, ◌%◌};
 ghost use Rattle.rv64_word.specs.Format.{slices_of, bits_of, same_field, shown, number_of, sign_extended};
 
-/// A field of a machine operation that a word spells.
+/// A field of a machine operation in its word.
 #[derive(Clone, Copy, Debug, PartialEq, Eq)]
 pub enum Field {
     /// The opcode, seven bits.
     Opcode,
     /// The register that is set.
     Rd,
-    /// Three bits that tell operations of an opcode apart.
+    /// Three bits that distinguish operations of an opcode.
     Funct3,
     /// The first register that is read.
     Rs1,
     /// The second register that is read.
     Rs2,
-    /// Seven more bits that tell operations apart.
+    /// Seven more bits that distinguish operations.
     Funct7,
     /// The immediate, in two's complement.
     Imm,
 }
 
-/// Adjacent bits of a field, which stand side by side in a word too.
+/// Adjacent bits of a field that are adjacent in a word too.
 #[derive(Clone, Copy, Debug, PartialEq, Eq)]
 pub struct Slice {
     /// The field.
     pub field: Field,
-    /// The number of the field's lowest bit that stands here.
+    /// The number of the field's lowest bit in the slice.
     pub low: u32,
-    /// How many bits stand here.
+    /// How many bits the slice has.
     pub width: u32,
 }
 
@@ -55,7 +55,7 @@ pub enum Format {
     Jump,
 }
 
-/// The bits of a field from `high` down to `low`, as the tables of the standard write them.
+/// The bits of a field from `high` down to `low`, in the notation of the standard's tables.
 macro_rules! bits {
     ($field:ident, $high:literal, $low:literal) => {
         Slice {
@@ -66,7 +66,7 @@ macro_rules! bits {
     };
 }
 
-/// The formats' words, from bit 31 down to bit 0. Encoder and decoder go by these tables alone.
+/// The formats' words, from bit 31 down to bit 0. Encoder and decoder use these tables alone.
 const REGISTER: [Slice; 6] = [
     bits!(Funct7, 6, 0),
     bits!(Rs2, 4, 0),
@@ -150,7 +150,7 @@ impl Format {
         }
     }
 
-    /// The number that a word of the format shows of a field, and 0 where the format lacks the field.
+    /// The value of a field in a word of the format, or 0 if the format lacks the field.
     pub fn read(self, field: Field, word: u32) -> u32
         ensures { result ≡ shown (slices_of self) field word }
     {
@@ -165,7 +165,7 @@ impl Format {
         value
     }
 
-    /// The immediate that its bits in a word stand for.
+    /// The immediate of its bits in a word.
     pub fn number(self, bits: u32) -> i64
         ensures { result ≡ number_of self bits }
     {
@@ -189,7 +189,7 @@ impl Slice {
         (value >> self.low & mask) as u32
     }
 
-    /// The part of a field's value that the lowest bits of a number are.
+    /// The lowest bits of a number, as the slice's part of a field's value.
     fn back(self, bits: u32) -> u32
         requires { self.low + self.width ≤ 21 }
         ensures value { result ≡ bits % 2 ^ self.width * 2 ^ self.low }
@@ -206,7 +206,7 @@ fn is_same(a: Field, b: Field) -> bool
     a == b
 }
 
-/// The number that so many bits stand for in two's complement.
+/// The two's complement number of so many bits.
 fn sign_extend(width: u32, bits: u32) -> i64
     requires low { 0 < width }
     requires high { width < 32 }

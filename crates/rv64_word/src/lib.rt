@@ -1,5 +1,5 @@
-//! The words of RV64I's machine code, both ways: a machine operation is spelled in a word by the table of its
-//! format, and read back by the same table.
+//! Encoder and decoder of RV64I machine words: a machine operation is encoded by the table of its format, and
+//! decoded by the same table.
 #![tactic(auto)]
 
 pub mod format;

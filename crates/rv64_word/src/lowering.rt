@@ -1,4 +1,4 @@
-//! The machine operations of instructions.
+//! Lowering of instructions to machine operations.
 
 ghost use Rattle.std.specs.Prelude.{◌≡◌, ℕ, Some, IsTrue, IfSome};
 ghost use Rattle.rv64_instr.specs.Form.{
@@ -44,7 +44,7 @@ use rv64_instr::operand::Operand;
 /// The machine operation of an instruction that has one word. `offset` is that of a branch's target from the
 /// instruction's own address in bytes, and `object` that from x2 in bytes of the stack object that it names, by
 /// `object_named`; each is unused elsewhere. A frame slot's number is its offset from x2 in bytes. `None` for a call,
-/// which has two words, and where a register is virtual, or an offset doesn't fit its format. It takes no memory.
+/// which has two words, and if a register is virtual, or an offset doesn't fit its format. It takes no memory.
 pub fn lower(i: &Instr, offset: i64, object: u32) -> Option<MachineOp>
     ensures value { result ≡ lowered offset object i.now }
     ensures encodable { IfSome result (λ m. IsTrue (is_encodable m)) }
@@ -55,7 +55,7 @@ pub fn lower(i: &Instr, offset: i64, object: u32) -> Option<MachineOp>
     in_fields(i, offset, object)
 }
 
-/// The stack object that an instruction names, and `None` exactly where it names none. It takes no memory.
+/// The stack object that an instruction names, and `None` exactly if it names none. It takes no memory.
 pub fn object_named(i: &Instr) -> Option<ObjectId>
     ensures { result ≡ object_named (row_of i.now) }
 {

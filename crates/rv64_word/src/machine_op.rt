@@ -1,4 +1,4 @@
-//! Machine operations, and their words both ways.
+//! Machine operations, their encoding and decoding.
 
 ghost use Rattle.std.specs.Prelude.{◌≡◌, Some, IsTrue, IfSome, ◌&&◌, nat_eq};
 ghost use Rattle.rv64_instr.specs.Form.{is_within};
@@ -9,19 +9,19 @@ use crate::format::{Field, Format};
 use crate::opcodes::operation;
 use crate::word_op::WordOp;
 
-/// A machine operation: what a word spells.
+/// A machine operation: the operation and the fields of a word.
 #[derive(Clone, Copy, Debug, PartialEq, Eq)]
 pub struct MachineOp {
     /// The operation.
     pub op: WordOp,
-    /// The number of the register that it sets, and 0 where its format has none.
+    /// The number of the register that it sets, or 0 if its format has none.
     pub rd: u32,
-    /// The number of the first register that it reads, and 0 where its format has none.
+    /// The number of the first register that it reads, or 0 if its format has none.
     pub rs1: u32,
-    /// The number of the second register that it reads, and 0 where its format has none.
+    /// The number of the second register that it reads, or 0 if its format has none.
     pub rs2: u32,
-    /// The immediate, and 0 where its format has none. In branches and JAL it is the target's offset from the
-    /// word's own address in bytes. In LUI it is the 20 bits of the operand, without a sign.
+    /// The immediate, or 0 if its format has none. In branches and JAL it is the target's offset from the word's
+    /// own address in bytes. In LUI it is the 20 bits of the operand, without a sign.
     pub imm: i64,
 }
 
@@ -34,8 +34,8 @@ pub fn encode(m: &MachineOp) -> u32
     m.spell()
 }
 
-/// The machine operation that a word spells, and `None` exactly for a word that no machine operation has. It takes
-/// no memory.
+/// The machine operation of a word, and `None` exactly for a word that encodes no machine operation. It takes no
+/// memory.
 pub fn decode(word: u32) -> Option<MachineOp>
     ensures value { result ≡ decoded word }
     // What is decoded has its fields in range, and encodes to the word.
@@ -46,7 +46,7 @@ pub fn decode(word: u32) -> Option<MachineOp>
     by_listing(word)
 }
 
-/// The operation that the word's codes name, with the fields that its format shows.
+/// The operation that the word's opcode, funct3 and funct7 have, with the fields of its format.
 #[tactic(auto, unfolding(crate::specs::Decoded::decoded))]
 fn by_listing(word: u32) -> Option<MachineOp>
     ensures { result ≡ decoded word }
@@ -56,7 +56,7 @@ fn by_listing(word: u32) -> Option<MachineOp>
 }
 
 impl MachineOp {
-    /// The operation's fields as a word shows them.
+    /// The operation with the fields of a word.
     fn read(op: WordOp, word: u32) -> MachineOp
         ensures { result ≡ read_as op word }
     {
@@ -70,7 +70,7 @@ impl MachineOp {
         }
     }
 
-    /// The bits of the fields, in the slices of the format.
+    /// The word of the fields, by the slices of the format.
     #[tactic(auto, unfolding(crate::specs::MachineOp::word_of))]
     fn spell(&self) -> u32
         ensures { result ≡ word_of self.now }
@@ -144,14 +144,14 @@ impl MachineOp {
     }
 }
 
-/// Whether it is a number of a register.
+/// Whether it is the number of a physical register.
 fn is_register(n: u32) -> bool
     ensures { result ≡ is_register n }
 {
     n < 32
 }
 
-/// Whether the number lies between the two, both included.
+/// Whether the number is between the two, both included.
 fn is_within(low: i64, high: i64, i: i64) -> bool
     ensures { result ≡ is_within low high i }
 {

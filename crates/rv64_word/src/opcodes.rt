@@ -1,4 +1,4 @@
-//! The operations by the codes of their words.
+//! Operations by the opcode, funct3 and funct7 of their words.
 
 ghost use Rattle.std.specs.Prelude.{◌≡◌};
 ghost use Rattle.rv64_word.specs.Codes.{
@@ -79,7 +79,7 @@ fn store(funct3: u32) -> Option<StoreOp>
     }
 }
 
-/// The operation of double words with a number.
+/// The 64-bit operation with an immediate.
 fn immediate(funct3: u32, funct7: u32) -> Option<ImmediateOp>
     ensures { result ≡ immediate_of funct3 funct7 }
 {
@@ -100,7 +100,7 @@ fn immediate(funct3: u32, funct7: u32) -> Option<ImmediateOp>
     }
 }
 
-/// The operation of double words on registers.
+/// The 64-bit operation on registers.
 fn register(funct3: u32, funct7: u32) -> Option<RegisterOp>
     ensures { result ≡ register_of funct3 funct7 }
 {
@@ -125,7 +125,7 @@ fn register(funct3: u32, funct7: u32) -> Option<RegisterOp>
     }
 }
 
-/// The operation of words with a number.
+/// The 32-bit operation with an immediate.
 fn word_immediate(funct3: u32, funct7: u32) -> Option<ImmediateOp>
     ensures { result ≡ word_immediate_of funct3 funct7 }
 {
@@ -141,7 +141,7 @@ fn word_immediate(funct3: u32, funct7: u32) -> Option<ImmediateOp>
     }
 }
 
-/// The operation of words on registers.
+/// The 32-bit operation on registers.
 fn word_register(funct3: u32, funct7: u32) -> Option<RegisterOp>
     ensures { result ≡ word_register_of funct3 funct7 }
 {

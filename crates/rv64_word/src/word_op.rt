@@ -1,4 +1,4 @@
-//! The operations that words have, and the codes that tell their words apart.
+//! The operations of machine words, and their encodings.
 
 ghost use Rattle.std.specs.Prelude.{◌≡◌};
 ghost use Rattle.rv64_word.specs.Operation.{
@@ -14,7 +14,7 @@ ghost use Rattle.rv64_word.specs.Operation.{
 use crate::format::Format;
 use rv64_instr::op::{BranchOp, ImmediateOp, LoadOp, RegisterOp, StoreOp};
 
-/// An operation that a word has: one of the source's, JAL or JALR.
+/// An operation that a word has: one that MIR has too, JAL or JALR.
 #[derive(Clone, Copy, Debug, PartialEq, Eq)]
 pub enum WordOp {
     Registers(RegisterOp),
@@ -27,8 +27,8 @@ pub enum WordOp {
     Jalr,
 }
 
-/// How the words of an operation are told apart from other words (RISC-V Unprivileged ISA, "RV32/64G
-/// Instruction Set Listings").
+/// The encoding of an operation, which distinguishes its words from others (RISC-V Unprivileged ISA,
+/// "RV32/64G Instruction Set Listings").
 #[derive(Clone, Copy, Debug, PartialEq, Eq)]
 pub struct Encoding {
     /// The format of its words.
@@ -42,7 +42,7 @@ pub struct Encoding {
 }
 
 impl WordOp {
-    /// How the words of the operation are told apart.
+    /// The encoding of the operation.
     pub fn encoding(self) -> Encoding
         ensures { result ≡ encoding_of self }
     {

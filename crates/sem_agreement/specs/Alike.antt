@@ -1,4 +1,4 @@
--- Two runs beside each other that hold the same at some places, and of which the second tells no more.
+-- Agreement of two states on a set of locations, of which the second may have fewer debug values.
 use Rattle.std.specs.Prelude.{◌≡◌, ◌⊎◌, ℕ, Option, Some, None, true, false, slice_get}
 use Rattle.rv64_instr.specs.declared.place.Place.{Place}
 use Rattle.rv64_instr.specs.declared.place.Place.TheVariants.{Register}
@@ -15,53 +15,54 @@ use Rattle.sem_mir.specs.State.{Core, assigned}
 use Rattle.sem_mir.specs.Step.{defined, pair_value}
 use Rattle.sem_mir.specs.Effects.{held_in, SameWorld}
 
--- both show the same of the world, and each of these places holds the same in both, or is unwritten in both
+-- the cores agree on memory, script and events, and each of these locations has the same content in both,
+-- or is unwritten in both
 pub record HeldAlike (Held : Place → Type 0) (c d : Core) : Type 0 where
   pub world : SameWorld c d
   pub places : (x : Place) → Held x → held_in x c ≡ held_in x d
 
--- what d tells, c tells too: of the numbers that aren't free, and of variables
+-- the values that d has, c has too: those of the pairs whose number isn't free, and of the variables
 pub record TellsNoMore (Free : ℕ → Type 0) (c d : Core) : Type 0 where
   pub pairs : (k o : ℕ) → (Free k → ⊥) → (v : ℕ) → d.pairs k o ≡ Some v → c.pairs k o ≡ Some v
   pub marks : (w : VarId) (v : ℕ) → assigned w d.marks ≡ Some v → assigned w c.marks ≡ Some v
 
--- both at once
+-- both together
 pub record Alike (Held : Place → Type 0) (Free : ℕ → Type 0) (c d : Core) : Type 0 where
   pub held : HeldAlike Held c d
   pub told : TellsNoMore Free c d
 
--- the places after code that ran in both: what it defines is held alike too
+-- the locations that agree after code that ran in both: those that it defines agree too
 abbrev pub OrDefined : (Place → Type 0) → Instruction → Place → Type 0
 OrDefined Held i x = (defines_of (row_of i) x ≡ true) ⊎ Held x
 
--- the places after code that ran in one alone: what it defines isn't held alike any more
+-- the locations that agree after code that ran in one alone: those that it defines agree no longer
 abbrev pub ButDefined : (Place → Type 0) → Instruction → Place → Type 0
 ButDefined Held i x = (defines_of (row_of i) x ≡ false) × Held x
 
--- the places after an item that ran in both
+-- the locations that agree after an item that ran in both
 abbrev pub HeldAfter : (Place → Type 0) → ItemKind → Place → Type 0
 HeldAfter Held (Code i n) = OrDefined Held i
 HeldAfter Held (Mark v m) = Held
 HeldAfter Held (Phi p k) = Held
 
--- the registers that operands give to a number are held alike
+-- the registers that code's operands define under its debug instruction number agree after the code
 abbrev pub NumbersHeld : (Place → Type 0) → Instruction → Option ℕ → Type 0
 NumbersHeld Held i None = Unit {0}
 NumbersHeld Held i (Some k) = (o r : ℕ) → defined (is_call (row_of i)) (slice_get i.operands o) ≡ Some r → OrDefined Held i (Register r)
 
--- what a mark of this value asks for is held alike, or g's pair tells no more than f's
+-- the register that a mark of this value reads agrees, or g's pair has no value but f's
 abbrev pub ValueHeld : Program → Program → (Place → Type 0) → MarkValue → Core → Core → Type 0
 ValueHeld f g Held Nothing c d = Unit {0}
 ValueHeld f g Held (Constant z) c d = Unit {0}
 ValueHeld f g Held (At r) c d = Held (Register r)
 ValueHeld f g Held (Pair q) c d = (v : ℕ) → pair_value (g.resolve q) d ≡ Some v → pair_value (f.resolve q) c ≡ Some v
 
--- what a phi of this place asks for is held alike
+-- the location that a phi reads agrees
 abbrev pub PlaceHeld : (Place → Type 0) → Option Place → Type 0
 PlaceHeld Held None = Unit {0}
 PlaceHeld Held (Some x) = Held x
 
--- all that an item depends on is held alike
+-- all that an item depends on agrees
 abbrev pub Depends : Program → Program → (Place → Type 0) → ItemKind → Core → Core → Type 0
 Depends f g Held (Code i n) c d = ((x : Place) → uses_of i x ≡ true → Held x) × NumbersHeld Held i n
 Depends f g Held (Mark v m) c d = ValueHeld f g Held m c d

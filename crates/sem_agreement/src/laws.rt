@@ -1,18 +1,18 @@
-//! Laws of runs that are alike: each is the contract of a function that does nothing.
+//! Laws of agreement of two states: each is the contract of a function with an empty body.
 
 ghost use Rattle.std.specs.Prelude.{ℕ};
 ghost use Rattle.rv64_instr.specs.declared.place.Place.{Place};
 ghost use Rattle.sem_agreement.specs.Laws.{ItemsAreAlike};
 
-/// How two runs are alike.
+/// An agreement of two states.
 pub trait Likeness {
-    /// The places that both hold alike.
+    /// The locations that agree.
     ghost held: { Place → Type 0 };
-    /// The numbers of which the second may tell anything.
+    /// The debug instruction numbers under which the second may have any values.
     ghost free: { ℕ → Type 0 };
 }
 
-/// What items do to two runs that are alike.
+/// The effect of items on two states that agree.
 pub fn items_are_alike<L: Likeness>()
     ensures { ItemsAreAlike L.held L.free }
 {}

@@ -1,7 +1,7 @@
-//! Laws of two runs beside each other that hold the same at some places, and of which the second tells no more than the
-//! first, but of numbers that are free. What an item does then depends on what it uses and asks for alone, so a pass
-//! has to show only that this is held alike. Code that renames, code that is taken out and code that is added all go
-//! by these laws: `proofs/` has them one by one, with more general forms.
+//! Agreement of two states on a set of locations. The second may have fewer debug values than the first, except under
+//! the given free instruction numbers. The outcome of an item then depends only on what it reads, so a pass has to show
+//! only that this agrees. Renamed, deleted and added code are all proved by these laws: `proofs/` has them one by one,
+//! with more general forms.
 #![tactic(auto)]
 
 pub mod laws;

@@ -1,4 +1,4 @@
--- What an instruction does to the places as they are kept.
+-- The effect of an instruction on the interpreter's machine.
 use Rattle.std.specs.Prelude.{◌≡◌, ℕ, List, [], ◌∷◌, Option, Some, None, true, false, slice_index}
 use Rattle.rv64_instr.specs.Access.{input_reads, base_reads}
 use Rattle.rv64_instr.specs.Row.{Row, Calls}
@@ -19,7 +19,7 @@ use Rattle.sem_interpreter.specs.declared.machine.Outcome.TheVariants.{Falls, Go
 use Rattle.sem_interpreter.specs.Held.{MemoryHolds, some_writes}
 use Rattle.sem_interpreter.specs.Places.{ObjectsHold, RegistersHold, SlotsHold, starting_registers}
 
--- the core's stack objects, registers, slots and memory are those that are kept
+-- the core has the stack objects, registers, slots and memory of the interpreter's machine
 pub record MachineHolds (m : Machine) (s : Core) : Type 0 where
   pub entry : s.entry ≡ m.entry
   pub area : s.area ≡ m.area
@@ -28,7 +28,7 @@ pub record MachineHolds (m : Machine) (s : Core) : Type 0 where
   pub slots : SlotsHold m.slots s.slots
   pub memory : MemoryHolds m.memory s.memory
 
--- at the start of a run of a function with these stack objects
+-- the interpreter's machine at the start of a run of a function with these stack objects
 pub record StartsMachine (stack : List Object) (start : Start) (m : Machine) : Type 0 where
   pub entry : m.entry ≡ slice_index start.regs 2
   pub area : m.area ≡ area_of stack
@@ -37,27 +37,27 @@ pub record StartsMachine (stack : List Object) (start : Start) (m : Machine) : T
   pub slots : m.slots ≡ []
   pub memory : MemoryHolds m.memory (written (λ _. 0) start.memory)
 
--- an answer as the definitions have it
+-- the reply of the definitions for an answer
 abbrev pub reply_of : Answer → Reply
 reply_of a = record { regs = a.regs; writes = some_writes a.writes }
 
--- the script's next answer is this one, or there is none
+-- the script's next reply is that of this answer, or there is none
 abbrev pub IsNext : Option Answer → List Reply → Type 0
 IsNext None script = script ≡ []
 IsNext (Some a) script = (rest : List Reply) × (script ≡ reply_of a ∷ rest)
 
--- the script agrees with the answer that is given at a call. At other code it is any
+-- at a call the script agrees with the answer that is passed in. At other code it is arbitrary
 abbrev pub IsAnswered : Row → Option Answer → List Reply → Type 0
 IsAnswered (Calls name args) answer script = IsNext answer script
 IsAnswered _ answer script = Unit {0}
 
--- the core c has the places as they are kept now, and from the core s all else
+-- the core c has the machine `now`, and the pairs and assignments of the core s
 pub record Moved (now : Machine) (s c : Core) : Type 0 where
   pub machine : MachineHolds now c
   pub pairs : c.pairs ≡ s.pairs
   pub marks : c.marks ≡ s.marks
 
--- the outcome is the definition's, and the places as they are kept now are those of its core
+-- the outcome is the definition's, and its core has the machine `now`
 abbrev pub EndsSo : Outcome → Machine → Core → step.Outcome → Type 0
 EndsSo Falls now s x = (c : Core) × (x ≡ step.Falls c) × Moved now s c
 EndsSo (Goes n) now s x = (c : Core) × (x ≡ step.Goes n c) × Moved now s c
@@ -65,7 +65,7 @@ EndsSo Ended now s x = (results : List ℕ) × (x ≡ step.Gives results)
 EndsSo Faults now s x = x ≡ step.Traps
 EndsSo Waits now s x = x ≡ step.Asks
 
--- code that ends the run, faults or waits changes nothing
+-- an outcome that ends the run, faults or waits changes nothing
 abbrev pub Stays : Outcome → Machine → Machine → Type 0
 Stays Falls old new = Unit {0}
 Stays (Goes n) old new = Unit {0}
@@ -73,7 +73,7 @@ Stays Ended old new = new ≡ old
 Stays Faults old new = new ≡ old
 Stays Waits old new = new ≡ old
 
--- code of this row that goes on does so along one of the row's edges, wherever it stands
+-- if code of this row goes on, it does so along one of the row's edges, from every position
 abbrev pub Leads : Row → Outcome → Type 0
 Leads r Falls = (p : Pos) → RowEdge (λ n. n) r p (below p)
 Leads r (Goes n) = (p : Pos) → RowEdge (λ n. n) r p (block_start n)
@@ -81,12 +81,12 @@ Leads r Ended = Unit {0}
 Leads r Faults = Unit {0}
 Leads r Waits = Unit {0}
 
--- code that goes to no block
+-- the outcome goes to no block
 abbrev pub GoesNowhere : Outcome → Type 0
 GoesNowhere (Goes n) = ⊥
 GoesNowhere _ = Unit {0}
 
--- from the places old, code of this row leads to the places new and ends so
+-- code of this row takes the machine from old to new, with this outcome, as the definition does
 pub record Acts (r : Row) (answer : Option Answer) (o : Outcome) (old new : Machine) : Type 0 where
   pub ends : (s : Core) → MachineHolds old s → IsAnswered r answer s.script → EndsSo o new s (act r s)
   pub stays : Stays o old new
@@ -98,18 +98,18 @@ pub record Does (f : Core → step.Outcome) (o : Outcome) (old new : Machine) : 
   pub stays : Stays o old new
   pub leads : GoesNowhere o
 
--- a call's answer is taken
+-- the same for a call with this answer
 pub record Takes (a : Answer) (o : Outcome) (old new : Machine) : Type 0 where
   pub ends : (name args : List ℕ) (rest : List Reply) (s : Core) → MachineHolds old s → EndsSo o new s (answered name args s (reply_of a ∷ rest))
   pub stays : Stays o old new
   pub leads : GoesNowhere o
 
--- an input has this value, or reads an unwritten register
+-- the value of an input, or none if it reads an unwritten register
 abbrev pub InputHolds : Core → Input → Option ℕ → Type 0
 InputHolds s b (Some v) = (are_written s (input_reads b) ≡ true) × (input_value s b ≡ v)
 InputHolds s b None = are_written s (input_reads b) ≡ false
 
--- an access's address is this one, or it reads an unwritten register
+-- the address of an access, or none if it reads an unwritten register
 abbrev pub AddressHolds : Core → Base → (offset : ℕ) → Option ℕ → Type 0
 AddressHolds s base offset (Some a) = (are_written s (base_reads base) ≡ true) × (address_at s base offset ≡ a)
 AddressHolds s base offset None = are_written s (base_reads base) ≡ false

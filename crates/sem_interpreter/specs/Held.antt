@@ -1,12 +1,12 @@
--- Memory as it is kept, and the function of the definitions that it stands for.
+-- The interpreter's memory, and the function of the definitions that it represents.
 use Rattle.std.specs.Prelude.{◌≡◌, ℕ, List, [], ◌∷◌, Option, Some, None, nat_eq, unwrap_or}
 use Rattle.std.specs.Map.{lookup}
 
--- the number of a key, and 0 where it has none
+-- the number of a key, or 0 if it has none
 abbrev pub number_in : List (ℕ × ℕ) → ℕ → ℕ
 number_in es k = unwrap_or (lookup (nat_eq k) es) 0
 
--- each byte of memory is what the entries say
+-- each byte of memory is that of the entries
 abbrev pub MemoryHolds : List (ℕ × ℕ) → (ℕ → ℕ) → Type 0
 MemoryHolds es held = (a : ℕ) → held a ≡ number_in es a
 

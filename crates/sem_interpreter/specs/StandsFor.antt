@@ -1,4 +1,4 @@
--- The state of a run as it is kept, and the states of the definition that it stands for.
+-- The interpreter's state, and the states of the definition that it represents.
 use Rattle.std.specs.Prelude.{◌≡◌, ◌<◌, ◌^◌, ℕ, List, [], length, All, Option, Some, None, Bool, true, ◌&&◌, nat_eq, slice_index}
 use Rattle.std.specs.Map.{lookup}
 use Rattle.rv64_instr.specs.Row.{row_of}
@@ -25,15 +25,15 @@ use Rattle.sem_interpreter.specs.Places.{starting_registers}
 use Rattle.sem_interpreter.specs.Acts.{MachineHolds, IsAnswered}
 use Rattle.sem_interpreter.specs.Assigned.{MarksHold}
 
--- what is kept: the position, the places that code reads and writes, what each pair got last, and for each variable, by its
--- node and the node that it is inlined at, what its parts were assigned last
+-- the interpreter's state: the position, the machine that code reads and writes, the last value of each pair, and for each variable, by
+-- its node and the node that it is inlined at, the assignments to its parts
 pub record Concrete : Type 0 where
   pub pos : Pos
   pub machine : Machine
   pub pairs : List ((ℕ × ℕ) × Option ℕ)
   pub assigned : List ((ℕ × Option ℕ) × List (Option Bytes × Option ℕ))
 
--- the value of an entry, where there is one
+-- the value of an entry, if there is one
 abbrev pub flat : Option (Option ℕ) → Option ℕ
 flat None = None
 flat (Some o) = o
@@ -42,22 +42,22 @@ flat (Some o) = o
 abbrev pub pair_eq : ℕ × ℕ → ℕ × ℕ → Bool
 pair_eq p q = nat_eq p.0 q.0 && nat_eq p.1 q.1
 
--- each pair's last value is what the entries say
+-- each pair's last value is that of the entries
 abbrev pub PairsHold : List ((ℕ × ℕ) × Option ℕ) → (ℕ → ℕ → Option ℕ) → Type 0
 PairsHold es held = (k o : ℕ) → held k o ≡ flat (lookup (pair_eq (k, o)) es)
 
--- the core is what is kept, but for the script and the events, which are any
+-- the core is the one represented, with any script and any events
 pub record Holds (c : Concrete) (s : Core) : Type 0 where
   pub machine : MachineHolds c.machine s
   pub pairs : PairsHold c.pairs s.pairs
   pub marks : MarksHold c.assigned s.marks
 
--- the state is what is kept
+-- the state is the one represented
 pub record StandsFor (c : Concrete) (s : State) : Type 0 where
   pub pos : s.pos ≡ c.pos
   pub core : Holds c s.core
 
--- a state at the start of a run of the function, with these registers and this memory. The script and the events are any
+-- a start state of the function, with these registers and this memory. The script and the events are arbitrary
 pub record Starts (stack : List Object) (blocks : List Block) (start : Start) (s : State) : Type 0 where
   pub pos : s.pos ≡ block_start (first_of blocks)
   pub entry : s.core.entry ≡ slice_index start.regs 2
@@ -69,19 +69,19 @@ pub record Starts (stack : List Object) (blocks : List Block) (start : Start) (s
   pub pairs : (k o : ℕ) → s.core.pairs k o ≡ None
   pub marks : s.core.marks ≡ []
 
--- the script agrees with the answer that is given at a call. At any other item it is any
+-- at a call the script agrees with the answer that is passed in. At any other item it is arbitrary
 abbrev pub IsItemAnswered : ItemKind → Option Answer → List Reply → Type 0
 IsItemAnswered (Code i k) answer script = IsAnswered (row_of i) answer script
 IsItemAnswered (Mark v m) answer script = Unit {0}
 IsItemAnswered (Phi p k) answer script = Unit {0}
 
--- the same for what stands at a position: at a block's end the script is any
+-- the same for what is at a position: at a block's end the script is arbitrary
 abbrev pub IsStepAnswered : Fetch → Option Answer → List Reply → Type 0
 IsStepAnswered (Here i) answer script = IsItemAnswered i.kind answer script
 IsStepAnswered (Silent k n) answer script = Unit {0}
 IsStepAnswered Outside answer script = Unit {0}
 
--- the outcome is the definition's, and what is kept now is its core
+-- the outcome is the definition's, and the new state represents its core
 abbrev pub EndsItem : Outcome → Concrete → step.Outcome → Type 0
 EndsItem Falls now x = (c : Core) × (x ≡ step.Falls c) × Holds now c
 EndsItem (Goes n) now x = (c : Core) × (x ≡ step.Goes n c) × Holds now c
@@ -89,7 +89,7 @@ EndsItem Ended now x = (results : List ℕ) × (x ≡ step.Gives results)
 EndsItem Faults now x = x ≡ step.Traps
 EndsItem Waits now x = x ≡ step.Asks
 
--- what ends the run, faults or waits changes nothing
+-- an outcome that ends the run, faults or waits changes nothing
 abbrev pub StaysAll : Outcome → Concrete → Concrete → Type 0
 StaysAll Falls old new = Unit {0}
 StaysAll (Goes n) old new = Unit {0}
@@ -97,7 +97,7 @@ StaysAll Ended old new = new ≡ old
 StaysAll Faults old new = new ≡ old
 StaysAll Waits old new = new ≡ old
 
--- an item that goes on does so along an edge, wherever it stands
+-- if the item goes on, it does so along an edge, from every position
 abbrev pub ItemLeads : ItemKind → Outcome → Type 0
 ItemLeads kind Falls = (p : Pos) → KindEdge (λ n. n) kind p (below p)
 ItemLeads kind (Goes n) = (p : Pos) → KindEdge (λ n. n) kind p (block_start n)
@@ -105,7 +105,7 @@ ItemLeads kind Ended = Unit {0}
 ItemLeads kind Faults = Unit {0}
 ItemLeads kind Waits = Unit {0}
 
--- an item leads from what was kept to what is kept now, and ends so
+-- the item takes the interpreter from the old state to the new one, with this outcome, as the definition does
 pub record DoesItem (subs : List Entry) (kind : ItemKind) (answer : Option Answer) (o : Outcome) (old new : Concrete) : Type 0 where
   pub ends : (s : Core) → Holds old s → IsItemAnswered kind answer s.script → EndsItem o new (do_item (program_of true [] (resolve subs)) kind s)
   pub stays : StaysAll o old new
@@ -116,6 +116,6 @@ pub record DoesItem (subs : List Entry) (kind : ItemKind) (answer : Option Answe
 abbrev pub IsPosition : List Block → Pos → Type 0
 IsPosition blocks p = fetch_in (from_block blocks p.block) p.item ≡ Outside → ⊥
 
--- each block has fewer items than a position can count, as those of a function that was read have: `silent`, of 32 bits, is their number
+-- each block has fewer items than a position can count. In a function that was read this is so: `silent`, of 32 bits, is their number
 abbrev pub AreCounted : List Block → Type 0
 AreCounted blocks = All (λ b. length b.items < 2 ^ 32) blocks

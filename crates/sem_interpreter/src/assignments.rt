@@ -1,4 +1,4 @@
-//! What the parts of variables were assigned last.
+//! The last assignments to parts of variables.
 
 ghost use Rattle.std.specs.Prelude.{◌≡◌, ◌≤◌, ◌<◌, ◌+◌, ◌*◌, ◌%◌, ◌^◌};
 ghost use Rattle.std.specs.Prelude.{ℕ, [], ◌∷◌, List, Option, OnOk, OnErr, IfOk, IsTrue};
@@ -14,7 +14,7 @@ use mir_func::variable::{Fragment, VarId, are_same_bytes, do_meet};
 use std::alloc::{AllocError, Global};
 use std::marker::Model;
 
-/// What the parts of one variable were assigned, the newest first. A part that lies within a later one isn't kept.
+/// The assignments to the parts of one variable, the newest first. A part that is within a later one isn't kept.
 type Parts = List<(Option<Fragment>, Option<u64>)>;
 
 /// The parts of each variable, by its node and the node that it is inlined at.
@@ -33,7 +33,7 @@ impl Model for Assignments {
 }
 
 impl Assignments {
-    /// Nothing was assigned. It takes no memory.
+    /// No assignments. It takes no memory.
     pub fn new(alloc: Global) -> Assignments
         ensures { result ≡ [] }
     {
@@ -42,8 +42,8 @@ impl Assignments {
         }
     }
 
-    /// What a part was assigned last. None where nothing was assigned to it yet, where its last assignment gave no
-    /// value, and where a part that overlaps it was assigned later.
+    /// The value of a part by its last assignment. `None` if it wasn't assigned yet, if its last assignment was
+    /// undef, or if a part that overlaps it was assigned later.
     pub fn last(&self, v: &VarId) -> Option<u64>
         ensures { result ≡ assigned_in v.now self.now }
     {
@@ -53,7 +53,8 @@ impl Assignments {
         }
     }
 
-    /// Assigns to a part. Other parts that overlap it have no value from then on. Want of memory changes nothing.
+    /// Assigns to a part. Other parts that overlap it have no value from then on. If memory runs out nothing
+    /// changes.
     pub fn assign(&mut self, v: &VarId, value: Option<u64>) -> Result<(), AllocError>
         ensures ok { OnOk result ((marks : List (VarId × Option ℕ)) → MarksHold self.old marks
             → MarksHold self.new ((v.now, value) ∷ marks)) }
@@ -64,7 +65,7 @@ impl Assignments {
         Ok(())
     }
 
-    /// The parts of a variable once one of them is assigned to.
+    /// The parts of a variable after an assignment to one of them.
     fn next_parts(&self, v: &VarId, value: Option<u64>) -> Result<Parts, AllocError>
         ensures { IfOk result (λ made. (b : Option Bytes)
             → part_in b made ≡ part_in b ((v.now.fragment, value) ∷ parts_of v.now self.now)) }
@@ -77,7 +78,7 @@ impl Assignments {
     }
 }
 
-/// What a part gets of a value: its low bytes.
+/// The value of a part: the low bytes of a value.
 pub fn part_of(v: &VarId, value: Option<u64>) -> Option<u64>
     ensures { result ≡ part_of v.now value }
 {
@@ -108,7 +109,7 @@ fn low_bytes(number: u64, count: u32) -> u64
     }
 }
 
-/// What a variable's parts are found by.
+/// The key of a variable's parts.
 fn key(v: &VarId) -> (u32, Option<u32>)
     ensures { result ≡ key_of v.now }
 {
@@ -119,7 +120,7 @@ fn key(v: &VarId) -> (u32, Option<u32>)
     (v.node.number(), inlined_at)
 }
 
-/// What a part was assigned last.
+/// The value of a part by its last assignment.
 fn last_in(parts: &[(Option<Fragment>, Option<u64>)], part: &Option<Fragment>) -> Option<u64>
     ensures { result ≡ part_in part.now parts.now }
 {
@@ -134,7 +135,7 @@ fn last_in(parts: &[(Option<Fragment>, Option<u64>)], part: &Option<Fragment>) -
     None
 }
 
-/// The parts once one of them is assigned to.
+/// The parts after an assignment to one of them.
 fn after(
     alloc: Global,
     parts: &[(Option<Fragment>, Option<u64>)],

@@ -1,4 +1,4 @@
-//! Where blocks stand, by their numbers.
+//! Indices of blocks, by their numbers.
 
 ghost use Rattle.std.specs.Prelude.{◌≡◌, ◌<◌, [], MatchOption, length, drop};
 ghost use Rattle.mir_func.specs.Sound.{AreApart, ids_of};
@@ -9,10 +9,10 @@ use mir_func::block::Block;
 use std::alloc::{AllocError, Global};
 use std::collections::HashMap;
 
-/// Where blocks probably stand, by their numbers.
+/// Probable indices of blocks, by their numbers.
 pub type Places = HashMap<u32, usize>;
 
-/// The index of the block with this number. The block is looked for only where it isn't at its probable place.
+/// The index of the block with this number. The block is searched for only if it isn't at its probable index.
 pub fn find(probable: &Places, blocks: &[Block], id: BlockId) -> Option<usize>
     requires { AreApart (ids_of blocks.now) }
     ensures { MatchOption result (from_block blocks.now id ≡ [])
@@ -31,7 +31,7 @@ pub fn find(probable: &Places, blocks: &[Block], id: BlockId) -> Option<usize>
     None
 }
 
-/// Where the blocks stand.
+/// The indices of the blocks.
 pub fn places(alloc: Global, blocks: &[Block]) -> Result<Places, AllocError> {
     let mut places = HashMap::new(alloc);
     for (i, b) in blocks.iter().enumerate() {

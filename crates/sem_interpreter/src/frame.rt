@@ -1,4 +1,4 @@
-//! Which addresses are the frame's.
+//! The addresses of the frame.
 
 ghost use Rattle.std.specs.Prelude.{◌≡◌};
 ghost use Rattle.sem_mir.specs.State.{in_frame, touches_frame, writes_frame};
@@ -15,7 +15,7 @@ pub fn in_frame(entry: u64, area: u64, address: u64) -> bool
     address < entry && entry - address <= FRAME_ROOM && area < entry - address
 }
 
-/// Whether one of the `count` addresses from one on is. Addresses wrap at 64 bits.
+/// Whether one of the `count` addresses from one on is in the frame. Addresses wrap at 64 bits.
 pub fn touches_frame(entry: u64, area: u64, address: u64, count: usize) -> bool
     ensures { result ≡ touches_frame entry area address count }
 {

@@ -1,4 +1,4 @@
-//! What code does to registers, frame slots and memory.
+//! The effect of code on registers, frame slots and memory.
 
 ghost use Rattle.std.specs.Prelude.{◌≡◌, ◌≤◌, ℕ, List, ◌∷◌, All, IfOk, OnErr, Option, length};
 ghost use Rattle.std.specs.Option.{option_copied};
@@ -28,32 +28,32 @@ use rv64_instr::reg::Reg;
 use rv64_instr::start::{Answer, Start};
 use std::alloc::{AllocError, Global};
 
-/// What code reads and writes: registers, frame slots and memory, and where stack objects lie.
+/// What code reads and writes: registers, frame slots and memory, and the offsets of stack objects.
 #[derive(Drop)]
 pub struct Machine {
     /// The stack pointer at entry.
     pub entry: u64,
-    /// How many bytes right below it stack objects take.
+    /// How many bytes right below it the stack objects take.
     pub area: u64,
-    /// How far each object lies above the lowest of these bytes.
+    /// The offset of each object from the lowest of these bytes.
     pub objects: Offsets,
     pub registers: Registers,
     pub slots: Slots,
     pub memory: Memory,
 }
 
-/// How an item ends.
+/// The outcome of an item.
 #[derive(Clone, Copy, Debug, PartialEq, Eq)]
 pub enum Outcome {
-    /// It goes on below.
+    /// Control goes on to the item below.
     Falls,
-    /// It goes to the block of this number.
+    /// Control goes to the block of this number.
     Goes(BlockId),
     /// It ends the run.
     Returns,
-    /// It stops on a frame fault.
+    /// The run stops on a frame fault.
     Faults,
-    /// It waits for the answer to its call.
+    /// The run waits for the answer to its call.
     Waits,
 }
 
@@ -75,8 +75,8 @@ impl Machine {
         })
     }
 
-    /// Does what an instruction does. What would fail, as a call without an answer, leaves all as it was, and so does
-    /// want of memory.
+    /// Executes an instruction. If it doesn't go on, as a call without an answer, or if memory runs out, nothing
+    /// changes.
     pub fn act(&mut self, i: &Instr, answer: Option<&Answer>) -> Result<Outcome, AllocError>
         ensures ok { IfOk result (λ o. Acts (row_of i.now) (option_copied answer.entry) o self.old self.new) }
         ensures err { OnErr result (self.new ≡ self.old) }
@@ -130,7 +130,7 @@ impl Machine {
         Outcome::Falls
     }
 
-    /// The second input of an operation, where what it reads is written.
+    /// The value of an operation's second input, if what it reads is written.
     fn input(&self, input: Input) -> Option<u64>
         ensures { (s : Core) → MachineHolds self.now s → InputHolds s input result }
     {
@@ -157,7 +157,7 @@ impl Machine {
             .wrapping_add(self.objects.of(n))
     }
 
-    /// An access's address, where what it reads is written.
+    /// The address of an access, if what it reads is written.
     fn address(&self, base: &Base, offset: u64) -> Option<u64>
         ensures { (s : Core) → MachineHolds self.now s → AddressHolds s base.now offset result }
     {
@@ -170,7 +170,7 @@ impl Machine {
         }
     }
 
-    /// Whether an access touches the frame. By a stack object it is no frame fault.
+    /// Whether an access touches the frame. An access by a stack object is no frame fault.
     fn is_fault(&self, base: &Base, address: u64, count: usize) -> bool
         ensures { (s : Core) → MachineHolds self.now s → result ≡ is_fault base.now s address count }
     {
@@ -296,7 +296,7 @@ impl Machine {
         }
     }
 
-    /// Does what the answer to a call does.
+    /// The effect of a call's answer.
     fn take(&mut self, answer: &Answer) -> Result<Outcome, AllocError>
         ensures ok { IfOk result (λ o. Takes answer.now o self.old self.new) }
         ensures err { OnErr result (self.new ≡ self.old) }
@@ -320,7 +320,7 @@ impl Machine {
         }
     }
 
-    /// Whether the registers of the implicit uses but x2 are written.
+    /// Whether the registers of the implicit uses, without x2, are written.
     fn are_written(&self, operands: &[Operand]) -> bool
         ensures { (s : Core) → MachineHolds self.now s
             → result ≡ are_written s (implicit_uses operands.now) }

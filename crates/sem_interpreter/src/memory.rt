@@ -1,4 +1,4 @@
-//! Memory.
+//! Memory of bytes.
 
 ghost use Rattle.std.specs.Prelude.{◌≡◌, ◌<◌, ◌≤◌, ◌*◌, ◌^◌, ℕ, IfOk, OnOk, OnErr};
 ghost use Rattle.sem_mir.specs.State.{spelled, stored, low_bytes, written};
@@ -41,7 +41,7 @@ impl Memory {
         self.bytes.get(&address).copied().unwrap_or(0)
     }
 
-    /// The number that `count` bytes spell from an address on, little-endian. Addresses wrap at 64 bits.
+    /// The number of the `count` bytes from an address on, little-endian. Addresses wrap at 64 bits.
     pub fn spelled(&self, address: u64, count: usize) -> u64
         requires { count ≤ 8 }
         ensures value { result ≡ spelled (number_in self.now) address count }
@@ -55,8 +55,7 @@ impl Memory {
         number
     }
 
-    /// Writes the low `count` bytes of a number from an address on, little-endian. A refused write leaves all as it
-    /// was.
+    /// Writes the low `count` bytes of a number from an address on, little-endian. A refused write changes nothing.
     pub fn store(&mut self, address: u64, count: usize, number: u64) -> Result<(), AllocError>
         ensures ok { OnOk result ((held : ℕ → ℕ) → MemoryHolds self.old held
             → MemoryHolds self.new (stored held address (low_bytes count number))) }
@@ -72,7 +71,7 @@ impl Memory {
         Ok(())
     }
 
-    /// Writes the bytes of an answer, each at its address, in order. A refused write leaves all as it was.
+    /// Writes the bytes of an answer, each at its address, in order. A refused write changes nothing.
     pub fn write(&mut self, writes: &[Option<(u64, u8)>]) -> Result<(), AllocError>
         ensures ok { OnOk result ((held : ℕ → ℕ) → MemoryHolds self.old held
             → MemoryHolds self.new (written held (some_writes writes.now))) }

@@ -1,4 +1,4 @@
-//! Where the stack objects of a function lie.
+//! The offsets of a function's stack objects.
 
 ghost use Rattle.std.specs.Prelude.{◌≡◌, ◌≤◌, All, IfOk, length};
 ghost use Rattle.mir_func.specs.Limits.{MAX_SLOTS};
@@ -13,7 +13,7 @@ use mir_func::object::Object;
 use std::alloc::{AllocError, Global};
 use std::marker::Model;
 
-/// How far each object lies above the lowest byte that objects take, by the object's number.
+/// The offset of each object from the lowest byte that objects take, by the object's number.
 #[derive(Drop)]
 pub struct Offsets {
     offsets: IndexMap<u32, u64>,
@@ -37,7 +37,7 @@ impl Offsets {
         })
     }
 
-    /// The offset of an object, and 0 where there is no object of this number.
+    /// The offset of an object, or 0 if there is no object of this number.
     pub fn of(&self, n: ObjectId) -> u64
         ensures { result ≡ number_in self.now n }
     {
@@ -45,7 +45,7 @@ impl Offsets {
     }
 }
 
-/// The offsets by number. Of objects with one number the first counts, so it comes last.
+/// The offsets by number. Of objects with one number the first counts, so it is inserted last.
 fn offsets_of(alloc: Global, objects: &[Object]) -> Result<IndexMap<u32, u64>, AllocError>
     ensures { IfOk result (λ made. ObjectsHold made.entries (offset_of objects.now)) }
 {

@@ -1,4 +1,4 @@
-//! What operands of code with debug instruction numbers had last.
+//! The last values of operands under debug instruction numbers.
 
 ghost use Rattle.std.specs.Prelude.{◌≤◌, true, Some, IsOk, length};
 ghost use Rattle.indexmap.specs.IndexMap.{spare};
@@ -14,10 +14,10 @@ use rv64_instr::operand::Operand;
 use sem_mir::operand::defined;
 use std::alloc::AllocError;
 
-/// What each pair of a debug instruction number and an operand's index got last.
+/// The last value of each pair of a debug instruction number and an operand's index.
 pub type Pairs = IndexMap<(u32, usize), Option<u64>>;
 
-/// Gives the pair of each defining operand of code with a number its register's content. It takes no memory where
+/// Sets the pair of each defining operand of code with a number to its register's content. It takes no memory if
 /// there is room for a pair of each operand.
 pub fn number(
     pairs: &mut Pairs,

@@ -44,7 +44,7 @@ impl Registers {
         Ok(Registers { contents })
     }
 
-    /// The content of a register, where it is written.
+    /// The content of a register, if it is written.
     pub fn read(&self, r: Reg) -> Option<u64>
         ensures { result ≡ slice_index_or self.now r None }
     {

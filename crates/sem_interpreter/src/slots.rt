@@ -10,7 +10,7 @@ use indexmap::IndexMap;
 use std::alloc::{AllocError, Global};
 use std::marker::Model;
 
-/// The contents of frame slots, by the slots' numbers, where they are written.
+/// The contents of the frame slots that are written, by the slots' numbers.
 #[derive(Drop)]
 pub struct Slots {
     contents: IndexMap<u32, u64>,
@@ -34,14 +34,14 @@ impl Slots {
         }
     }
 
-    /// The content of a slot, where it is written.
+    /// The content of a slot, if it is written.
     pub fn read(&self, slot: SlotId) -> Option<u64>
         ensures { result ≡ lookup (nat_eq slot) self.now }
     {
         self.contents.get(&slot.number()).copied()
     }
 
-    /// Writes a slot. A refused write leaves all as it was.
+    /// Writes a slot. A refused write changes nothing.
     pub fn write(&mut self, slot: SlotId, value: u64) -> Result<(), AllocError>
         ensures ok { OnOk result ((held : ℕ → Option ℕ) → SlotsHold self.old held
             → SlotsHold self.new (updated slot (Some value) held)) }

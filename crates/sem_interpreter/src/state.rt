@@ -1,4 +1,4 @@
-//! A run of a function as it was read, a step at a time.
+//! A run of a function as it was read, step by step.
 
 ghost use Rattle.std.specs.Prelude.{◌≡◌, ◌<◌, ◌+◌, ◌^◌, ◌↔◌, true, [], length};
 ghost use Rattle.std.specs.Prelude.{List, Option, Some, None, IfOk, OnErr, IsTrue};
@@ -35,14 +35,14 @@ use rv64_instr::start::{Answer, Start};
 use std::alloc::{AllocError, Global};
 use std::marker::Model;
 
-/// How a step of a run ends.
+/// The result of a step of a run.
 #[derive(Clone, Copy, Debug, PartialEq, Eq)]
 pub enum SourceStep {
     /// The run went on.
     Went,
-    /// The run has returned.
+    /// The run returned.
     Returned,
-    /// The run stops on a frame fault: it would touch the frame's bytes, or read what isn't written.
+    /// The run stops on a frame fault: it would touch the frame's bytes, or read an unwritten register or slot.
     Faulted,
     /// The run waits for the answer to a call.
     Waits,
@@ -53,11 +53,11 @@ pub enum SourceStep {
 pub struct SourceState {
     pos: Pos,
     machine: Machine,
-    /// What each pair of a debug instruction number and an operand's index got last.
+    /// The last value of each pair of a debug instruction number and an operand's index.
     pairs: Pairs,
-    /// What each part of a variable was assigned last.
+    /// The last assignment to each part of a variable.
     assigned: Assignments,
-    /// Where blocks probably stand, by their numbers.
+    /// Probable indices of blocks, by their numbers.
     probable: blocks::Places,
 }
 
@@ -102,23 +102,23 @@ impl SourceState {
         self.pos
     }
 
-    /// What is kept stands for a state of the run, whatever answers are to come and whatever was shown.
+    /// The interpreter's state represents a state of the run, whatever the replies to come and the events so far.
     pub fn stands_for_a_state(&self)
         ensures { (script : List Reply) (events : List Event) → IsState self.now script events }
     {
         self.machine.registers.hold_zero();
     }
 
-    /// What a part of a variable was assigned last. None where nothing was assigned to it yet, where its last
-    /// assignment gave no value, and where a part that overlaps it was assigned later.
+    /// The value of a part of a variable by its last assignment. `None` if it wasn't assigned yet, if its last
+    /// assignment was undef, or if a part that overlaps it was assigned later.
     pub fn value_of(&self, v: &VarId) -> Option<u64>
         ensures { (s : State) → StandsFor self.now s → result ≡ assigned v.now s.core.marks }
     {
         self.assigned.last(v)
     }
 
-    /// Makes one step: does the item at the position, or goes on from a block's end. An answer at another item than a
-    /// call is passed over. What doesn't go on changes nothing.
+    /// Takes one step: executes the item at the position, or goes on from a block's end. An answer is ignored at any
+    /// item but a call. If the run doesn't go on, nothing changes.
     pub fn step(
         &mut self,
         f: &Func,
@@ -140,7 +140,7 @@ impl SourceState {
         }
     }
 
-    /// Makes a step in the first of the blocks.
+    /// Takes a step in the first of the blocks.
     fn step_in(
         &mut self,
         blocks: &[Block],
@@ -171,7 +171,7 @@ impl SourceState {
         }
     }
 
-    /// Moves the position as an item's outcome says.
+    /// Moves the position by an item's outcome.
     fn go(&mut self, outcome: Outcome) -> SourceStep
         requires { self.old.pos.item + 1 < 2 ^ 32 }
         ensures step { result ≡ step_after outcome }
@@ -224,7 +224,7 @@ impl SourceState {
         }
     }
 
-    /// Does code without a number.
+    /// Executes code without a number.
     fn do_plain(&mut self, i: &Instr, answer: Option<&Answer>) -> Result<Outcome, AllocError>
         ensures ok { IfOk result (λ o. (subs : List Entry)
             → DoesItem subs (ItemKind.Code i.now None) (option_copied answer.entry) o self.old self.new) }
@@ -234,7 +234,7 @@ impl SourceState {
         Ok(outcome)
     }
 
-    /// Does code with a number. The room for its pairs comes first, so that want of memory changes nothing.
+    /// Executes code with a number. The room for its pairs comes first, so that nothing changes if memory runs out.
     fn do_numbered(
         &mut self,
         i: &Instr,
@@ -263,7 +263,7 @@ impl SourceState {
         }
     }
 
-    /// Does a mark.
+    /// Executes a mark.
     fn mark(&mut self, v: &VarId, m: MarkValue, subs: &Substitutions) -> Result<Outcome, AllocError>
         ensures ok { IfOk result (λ o. (answer : Option Answer)
             → DoesItem subs.now (ItemKind.Mark v.now m) answer o self.old self.new) }
@@ -274,7 +274,7 @@ impl SourceState {
         Ok(Outcome::Falls)
     }
 
-    /// What a mark assigns.
+    /// The value that a mark assigns.
     fn mark_value(&self, m: MarkValue, subs: &Substitutions) -> Option<u64>
         ensures { (s : Core) → Holds self.now s
             → result ≡ step.mark_value (program_of true [] (resolve subs.now)) m s }
@@ -303,7 +303,7 @@ impl SourceState {
         }
     }
 
-    /// Does a phi.
+    /// Executes a phi.
     fn phi(&mut self, place: Option<Place>, k: DebugNumber) -> Result<Outcome, AllocError>
         ensures ok { IfOk result (λ o. (subs : List Entry) (answer : Option Answer)
             → DoesItem subs (ItemKind.Phi place k) answer o self.old self.new) }
@@ -314,7 +314,7 @@ impl SourceState {
         Ok(Outcome::Falls)
     }
 
-    /// What a phi of a place gives: the content of x2 is nothing.
+    /// The value that a phi of a location reads: none for x2.
     fn place_value(&self, place: Option<Place>) -> Option<u64>
         ensures { (s : Core) → Holds self.now s → result ≡ step.place_value place s }
     {
@@ -353,7 +353,7 @@ fn are_counted(blocks: &[Block]) -> bool
     true
 }
 
-/// A step that returned changes nothing, and each later step returns too.
+/// After a step that returned, which changes nothing, each later step returns too.
 pub fn returns_again()
     ensures { ReturnsAgain }
 {}

@@ -1,4 +1,4 @@
--- What location lists promise of a machine's run: the sentence that the compiler's top call states.
+-- What location lists guarantee of a run of the machine: the theorem that the compiler's top call states.
 use Rattle.std.specs.Prelude.{◌≡◌, ◌⊎◌, ℕ, List, ◌∷◌, Option, Some, false, true, All}
 use Rattle.rv64_instr.specs.declared.place.Place.{Place}
 use Rattle.mir_func.specs.declared.entry.OperandPair.{OperandPair}
@@ -16,51 +16,50 @@ use Rattle.sem_machine.specs.Image.{CodeLine, Image, line_at}
 use Rattle.sem_machine.specs.Machine.{Machine, register, place_content, machine_start}
 use Rattle.sem_machine.specs.MachineStep.{Continues, Ends, machine_step, Comes, IsWell}
 
--- the source goes on from s to its next state aligned with a line: its first state at the position of the line's origin
+-- the source's run leads from s to t, its next state that matches a line: its first state at the position of the line's origin
 abbrev pub AlignsWith : Program → CodeLine → Since → State → State → Type 0
 AlignsWith src l since s t = Aligns src (First (position_of l.origin)) (position_of l.origin) since s t
 
--- the source stops on a frame fault before it comes there
+-- the source stops on a frame fault before it reaches that state
 abbrev pub FailsBeforeLine : Program → CodeLine → Since → State → Type 0
 FailsBeforeLine src l since s = FailsBefore src (First (position_of l.origin)) (position_of l.origin) since s
 
--- the machine's run from m0 beside the source's from s0 is at m; the source was aligned last at s, and the next alignment
--- counts so: where code was added before a position, the source may still stand there at the next line
+-- a run of the machine from m0 to m, matched with the source's run from s0: s is the source's last matched state, and Since says
+-- where the search for the next one begins; if code was added before a position, the source may still be there at the next line
 pub data MachineAlong (src : Program) (image : Image) (m0 : Machine) (s0 : State) : Machine → State → Since → Type 0 where
   at_start : MachineAlong src image m0 s0 m0 s0 Start
   after_step : {m m' : Machine} {s s' : State} {since : Since} (l : CodeLine) → MachineAlong src image m0 s0 m s since →
       line_at image.lines m.counter ≡ Some l → AlignsWith src l since s s' → machine_step image m ≡ Continues m' →
       MachineAlong src image m0 s0 m' s' (since_of (waits_at false l.origin))
 
--- a start of a run of the function
+-- a start state of the function
 abbrev pub StartsAt : Function → State → Type 0
 StartsAt f s = IsStart f.objects (first_of f.blocks) s
 
--- the registers that a function gives back as it found them: the return address, the stack pointer and the callee-saved ones
--- (RISC-V ELF psABI, "Integer Register Convention")
+-- the registers that have their content at entry when a function returns: the stack pointer, the return address and the
+-- callee-saved registers (RISC-V ELF psABI, "Integer Register Convention")
 abbrev pub KEPT : List ℕ
 KEPT = 2 ∷ SAVED
 
--- what is owed where the machine at m, begun at m0, is aligned with the source at s: the stores and calls so far are the same, a
--- return of the machine is one of the source with the same result, and gives back what is to be kept; and each place that a list
--- gives for a part of a variable holds the value of its newest assignment
+-- what agrees in matching states, m of the machine, whose run began at m0, and s of the source: the stores and calls so far are
+-- the same; if the machine returns next, so does the source, with the same results, and the registers of KEPT are as at m0; and
+-- each location that a list names for a part of a variable has the value of its newest assignment
 pub record MachineAgrees (src : Program) (image : Image) (lists : VarId → ℕ → Place → Type 0) (m0 m : Machine) (s : State) : Type 0 where
   pub events : m.events ≡ s.core.events
   pub returns : (results : List ℕ) → machine_step image m ≡ Ends results → step src s ≡ Returned results
   pub kept : (results : List ℕ) → machine_step image m ≡ Ends results → All (λ r. register m r ≡ register m0 r) KEPT
   pub places : (v : VarId) (place : Place) → lists v m.counter place → Tells s v (part_value v (place_content place m))
 
--- the headline, of a source with its stack objects, its image and its lists: from every start, for every script and number of
--- machine steps
+-- the theorem, of a source, its image and its location lists: for every start state, script and number of machine steps
 pub record Headline (source : Function) (resolve : OperandPair → Option OperandPair) (image : Image) (lists : VarId → ℕ → Place → Type 0) : Type 0 where
-  -- the stack objects that are listed take as many bytes as the source's
+  -- the image's stack objects take as many bytes as the source's
   pub area : image.area ≡ area_of source.objects
-  -- at each line that the machine comes to, the source comes to the line's origin and both agree, unless the source stops on a
+  -- at each line that the machine reaches, the source reaches the line's origin and both agree, unless the source stops on a
   -- frame fault before it
   pub agrees : (s0 : State) → StartsAt source s0 → (m : Machine) (s : State) (since : Since) (l : CodeLine) →
       MachineAlong (program_of true source.blocks resolve) image (machine_start image s0) s0 m s since → line_at image.lines m.counter ≡ Some l →
       ((s' : State) × AlignsWith (program_of true source.blocks resolve) l since s s' ×
       MachineAgrees (program_of true source.blocks resolve) image lists (machine_start image s0) m s')
       ⊎ FailsBeforeLine (program_of true source.blocks resolve) l since s
-  -- and the machine stops nowhere but at a return, whatever the source does
+  -- each step of the machine goes on, returns or waits for a reply, whatever the source does
   pub stops : (s0 : State) → StartsAt source s0 → (m : Machine) → Comes image (machine_start image s0) m → IsWell (machine_step image m)

@@ -1,4 +1,4 @@
--- The machine that runs an image: its state, and what it finds in registers, memory and places.
+-- The state of the machine that runs an image, and the contents of its registers, memory and locations.
 use Rattle.std.specs.Prelude.{ℕ, zero, suc, ◌+◌, ◌%◌, ◌^◌, List, [], ◌∷◌}
 use Rattle.rv64_instr.specs.declared.place.Place.{Place}
 use Rattle.rv64_instr.specs.declared.place.Place.TheVariants.{Register, Slot, Const}
@@ -9,8 +9,8 @@ use Rattle.sem_mir.specs.State.{Event, Reply, State, updated, spelled}
 use Rattle.sem_mir.specs.Step.{read}
 use Rattle.sem_machine.specs.Image.{Image}
 
--- the content of x2 at entry, the bytes right below it that stack objects take together, the counter, 32 registers, the bytes of
--- memory, the answers to calls that are left, and the events so far, the newest first
+-- the content of x2 at entry, the bytes right below it that stack objects take together, the program counter, 32 registers, the
+-- bytes of memory, the replies to calls that are left, and the events so far, the newest first
 pub record Machine : Type 0 where
   pub entry : ℕ
   pub area : ℕ
@@ -25,7 +25,7 @@ abbrev pub register_in : (ℕ → ℕ) → ℕ → ℕ
 register_in regs zero = 0
 register_in regs (suc r) = regs (suc r)
 
--- a register of the machine as it stands
+-- the content of a register of the machine
 abbrev pub register : Machine → ℕ → ℕ
 register s r = register_in s.regs r
 
@@ -39,7 +39,7 @@ abbrev pub set_in : (r v : ℕ) → (ℕ → ℕ) → ℕ → ℕ
 set_in zero v regs = regs
 set_in (suc r) v regs = updated (suc r) v regs
 
--- several registers set, in order, to 0 where there is no content
+-- several registers set, in order, to 0 if no content is left
 abbrev pub set_all_in : (rs vs : List ℕ) → (ℕ → ℕ) → ℕ → ℕ
 set_all_in [] vs regs = regs
 set_all_in (r ∷ rs) [] regs = set_all_in rs [] (set_in r 0 regs)
@@ -49,14 +49,14 @@ set_all_in (r ∷ rs) (v ∷ vs) regs = set_all_in rs vs (set_in r v regs)
 abbrev pub address_of : Machine → (base offset : ℕ) → ℕ
 address_of s base offset = (register s base + offset) % 2 ^ 64
 
--- the value of a place: the content of a register, the eight bytes at an offset from x2, or a number modulo 2^64
--- (DWARF 5, section 2.6)
+-- the value of a location: the content of a register, the eight bytes at an offset from x2, or a number modulo 2^64 (DWARF 5,
+-- section 2.6)
 abbrev pub place_content : Place → Machine → ℕ
 place_content (Register r) s = register s r
 place_content (Slot n) s = spelled s.memory (address_of s 2 n) 8
 place_content (Const c) s = word c
 
--- the machine at its start beside a start of the source: the same registers, memory and script
+-- the machine's start state for a start state of the source: the same registers, memory and script
 abbrev pub machine_start : Image → State → Machine
 machine_start image s =
     record { entry = s.core.entry; area = image.area; counter = image.low; regs = read s.core; memory = s.core.memory; script = s.core.script; events = [] }

@@ -1,4 +1,4 @@
--- One step of the machine, from the words of the image and the table of rows.
+-- The step function of the machine, by the words of the image and the table of rows.
 use Rattle.std.specs.Prelude.{◌≡◌, ℕ, ◌+◌, ◌*◌, ◌/◌, ◌%◌, ◌^◌, List, [], ◌∷◌, length, map, Option, Some, None, cond, nat_eq}
 use Rattle.rv64_instr.specs.Arithmetic.{computed, taken, load_width, store_width, extended}
 use Rattle.rv64_instr.specs.declared.decoded.Base.TheVariants.{PointedBy, ObjectAt}
@@ -12,36 +12,36 @@ use Rattle.sem_machine.specs.Image.{CodeLine, Image, line_at, word_at}
 use Rattle.rv64_word.specs.Decoded.{decoded}
 use Rattle.sem_machine.specs.Machine.{Machine, register, input, set_in, set_all_in, address_of}
 
--- how a step ends
+-- the result of a step
 pub data Stepped : Type 0 where
-  -- it goes on
+  -- the run goes on
   Continues : Machine → Stepped
-  -- it returns
+  -- the function returns
   Ends : (results : List ℕ) → Stepped
-  -- it waits for the answer to its call
+  -- the machine waits, since no reply is left for its call
   Awaits : Stepped
-  -- it stops: no line with code is at the counter
+  -- the machine stops: no line with code is at the counter
   Leaves : Stepped
-  -- it stops: the word at the counter is none of an operation
+  -- the machine stops: no word of a valid operation is at the counter
   BadWord : Stepped
 
 -- `JALR x0, 0(x1)`, which returns (RISC-V Unprivileged ISA, "Unconditional Jumps")
 abbrev pub return_word : ℕ
 return_word = 0x00008067
 
--- the counter rises by so many bytes
+-- the counter advanced by so many bytes
 abbrev pub past : (bytes : ℕ) → Machine → Machine
 past n s = record s { counter = s.counter + n }
 
--- the counter at a target: control goes there
+-- the counter set to a target
 abbrev pub at : (target : ℕ) → Machine → Machine
 at target s = record s { counter = target }
 
--- an integer register written, where x0 drops the write
+-- an integer register written. x0 drops writes
 abbrev pub set_register : (rd v : ℕ) → Machine → Machine
 set_register rd v s = record s { regs = set_in rd v s.regs }
 
--- a store's event: none is shown of the frame's bytes
+-- the events after a store. A store that touches the frame shows none
 abbrev pub shown_store : (address : ℕ) → List ℕ → Machine → List Event
 shown_store a bytes s = cond (touches_frame s.entry s.area a (length bytes)) s.events (Wrote a bytes ∷ s.events)
 
@@ -49,7 +49,7 @@ shown_store a bytes s = cond (touches_frame s.entry s.area a (length bytes)) s.e
 abbrev pub store : (address : ℕ) → List ℕ → Machine → Machine
 store a bytes s = record s { memory = stored s.memory a bytes; events = shown_store a bytes s }
 
--- what a word does that has the row of an instruction. Words have no slots, stack objects, calls and returns
+-- the step of a word whose operation has this row. No word has the row of a slot, a stack object, a call or a return
 unfoldable pub does_row : Row → Machine → Stepped
 does_row (Fixes rd n) s = Continues (past 4 (set_register rd n s))
 does_row (Moves rd rs) s = Continues (past 4 (set_register rd (register s rs) s))
@@ -69,31 +69,32 @@ does_row (Calls name args) s = BadWord
 does_row (Returns results) s = BadWord
 does_row Unfit s = BadWord
 
--- what a word does. A jump by a register clears bit 0 of its target
+-- the step of a word. A jump to a register's content clears bit 0 of its target
 abbrev pub does : MachineRow → Machine → Stepped
 does (Does row) s = does_row row s
 does (Links rd target) s = Continues (at target (set_register rd ((s.counter + 4) % 2 ^ 64) s))
 does (LinksTo rd base offset) s = Continues (at (address_of s base offset / 2 * 2) (set_register rd ((s.counter + 4) % 2 ^ 64) s))
 
--- what a decoded word does at the counter. One that decodes to no operation stops the machine
+-- the step of a decoded word at the counter. A word that decodes to no operation stops the machine
 abbrev pub does_operation : Option MachineOp → Machine → Stepped
 does_operation None s = BadWord
 does_operation (Some m) s = does (machine_row s.counter m) s
 
--- the word that returns ends the run, and the result is what its line's implicit uses hold, x2 left out
+-- the step of the word at a line: `return_word` ends the run, with the contents of the registers of the line's implicit uses,
+-- without x2, as results
 abbrev pub does_word : CodeLine → Option ℕ → Machine → Stepped
 does_word l None s = BadWord
 does_word l (Some w) s = cond (nat_eq w return_word) (Ends (map (register s) (implicit_uses l.instruction.operands))) (does_operation (decoded w) s)
 
--- a call shows its event. The next answer sets the caller-saved registers and writes its bytes, and the counter goes past the
--- call's two words
+-- the step of a call: it adds its event, the next reply sets the caller-saved registers and writes its bytes, and the counter
+-- advances past the call's two words
 abbrev pub answered : (name args : List ℕ) → Machine → List Reply → Stepped
 answered name args s [] = Awaits
 answered name args s (r ∷ rest) =
     let regs = set_all_in caller_saved r.regs s.regs in
     Continues (past 8 (record s { regs = regs; memory = written s.memory r.writes; script = rest; events = Called name args ∷ s.events }))
 
--- the call of a call site
+-- the name and the argument registers of a call
 abbrev pub call_of : Row → Option (List ℕ × List ℕ)
 call_of (Fixes rd n) = None
 call_of (Moves rd rs) = None
@@ -109,12 +110,12 @@ call_of (Calls name args) = Some (name, args)
 call_of (Returns results) = None
 call_of Unfit = None
 
--- at a call site the machine calls, and elsewhere it does the word at the counter
+-- the step at a line: a call site calls, and any other line runs the word at the counter
 abbrev pub does_line : Image → CodeLine → (call : Option (List ℕ × List ℕ)) → Machine → Stepped
 does_line image l (Some (name, args)) s = answered name (map (register s) args) s s.script
 does_line image l None s = does_word l (word_at image.text s.counter) s
 
--- what happens at the line at the counter. Where the listing has no code the machine has left the function
+-- the step at the line at the counter. Without one the machine has left the function
 abbrev pub does_at : Image → Option CodeLine → Machine → Stepped
 does_at image None s = Leaves
 does_at image (Some l) s = does_line image l (call_of (row_of l.instruction)) s
@@ -123,12 +124,12 @@ does_at image (Some l) s = does_line image l (call_of (row_of l.instruction)) s
 abbrev pub machine_step : Image → Machine → Stepped
 machine_step image s = does_at image (line_at image.lines s.counter) s
 
--- the machine comes from one state to the other in some number of steps
+-- the machine reaches the second state from the first in some number of steps
 pub data Comes (image : Image) : Machine → Machine → Type 0 where
   there : {s : Machine} → Comes image s s
   steps : {s t u : Machine} → Comes image s t → machine_step image t ≡ Continues u → Comes image s u
 
--- a step that goes on, returns or waits
+-- the result is no error: the machine goes on, returns, or waits for a reply
 abbrev pub IsWell : Stepped → Type 0
 IsWell (Continues s) = Unit {0}
 IsWell (Ends results) = Unit {0}

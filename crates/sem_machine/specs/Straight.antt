@@ -28,26 +28,26 @@ abbrev pub IsPlainInput : Input → Type 0
 IsPlainInput (Content r) = r < 32
 IsPlainInput (Number n) = Unit {0}
 
--- the register is none that a function gives back as it found it
+-- the register isn't in KEPT, so that a function may return with any content in it
 abbrev pub IsSpare : ℕ → Type 0
 IsSpare r = list_any (nat_eq r) KEPT ≡ false
 
--- a constant, a copy, or arithmetic, which reads physical registers and sets a spare one
+-- a constant, a copy or arithmetic that reads physical registers and sets one that isn't in KEPT
 abbrev pub IsPlainRow : Row → Type 0
 IsPlainRow (Fixes rd n) = IsSpare rd
 IsPlainRow (Moves rd rs) = IsSpare rd × (rs < 32)
 IsPlainRow (Sets rd op a b) = IsSpare rd × (a < 32) × IsPlainInput b
 IsPlainRow _ = ⊥
 
--- a word that does what a row does, wherever it stands
+-- the word of an encodable operation that has this row at every address
 pub record IsWordOf (row : Row) (w : ℕ) : Type 0 where
   pub operation : MachineOp
   pub fits : IsTrue (is_encodable operation)
   pub spelled : word_of operation ≡ w
   pub does : (address : ℕ) → machine_row address operation ≡ Does row
 
--- items of a block from an index on, with the words of those that are code: each of these comes from its own position, a
--- return is the last item, and all other code is plain
+-- items of a block from an index on, with the words of its instructions: the origin of each instruction is its own
+-- position, the last item is a return, every other instruction is plain, and debug items are debug values, not DBG_PHIs
 pub data IsStraight (block : ℕ) : (index : ℕ) → List Item → (words : List ℕ) → Type 0 where
   returns : {n : ℕ} {i : Item} {c : Instruction} {k : Option ℕ} → i.kind ≡ Code c k → i.origin ≡ Kept (record { block = block; item = n })
       → row_of c ≡ Returns (implicit_uses c.operands) → All (λ r. r < 32) (implicit_uses c.operands)
@@ -58,12 +58,12 @@ pub data IsStraight (block : ℕ) : (index : ℕ) → List Item → (words : Lis
   marks : {n : ℕ} {i : Item} {items : List Item} {words : List ℕ} {v : VarId} {m : MarkValue} → i.kind ≡ Mark v m
       → IsStraight block (suc n) items words → IsStraight block n (i ∷ items) words
 
--- the lines of items from an address on, where each code item has one word
+-- the listing's lines of items from an address on, if each instruction has one word
 abbrev pub lines_of : (address : ℕ) → List Item → List CodeLine
 lines_of a [] = []
 lines_of a (i ∷ items) = line_of (Some a) i.origin i.kind ++ lines_of (cond (is_code i.kind) (a + 4) a) items
 
--- the image of a block of straight-line code, which begins at address 0: its words one after the other, and its lines
+-- the image of a block of straight-line code, which begins at address 0: its words in order, and its lines
 pub record IsStraightImage (block : Block) (image : Image) : Type 0 where
   pub words : List ℕ
   pub straight : IsStraight block.id 0 block.items words
@@ -72,19 +72,18 @@ pub record IsStraightImage (block : Block) (image : Image) : Type 0 where
   pub text : image.text ≡ flat_map (to_le_bytes w32) words
   pub lines : image.lines ≡ lines_of 0 block.items
 
--- the place holds the value of the part of a variable: both have a token, the same one
+-- the location has the value of the part of a variable: both have a token, the same one
 pub record Holds (v : VarId) (t : Tokens) (place : Place) : Type 0 where
   pub token : Token
   pub variable : variable_token v t ≡ Some token
   pub held : place_token (Some place) t ≡ Some token
 
--- what the lists give at an address holds the variable's value at these tokens
+-- each location that the lists name at an address of code has the part's value by these tokens
 abbrev pub GiveHeldAt : (lists : VarId → (address : ℕ) → Place → Type 0) → (code : Bool) → (address : ℕ) → Tokens → Type 0
 GiveHeldAt lists true a t = (v : VarId) (place : Place) → lists v a place → Holds v t place
 GiveHeldAt lists false a t = Unit {0}
 
--- at the address of each code item the lists give no place but such as hold the variable's value there. The items' first
--- index, address and tokens are these
+-- the same at the address of each instruction of a list of items, whose first index, address and tokens are these
 abbrev pub GiveHeld : (lists : VarId → (address : ℕ) → Place → Type 0) → (OperandPair → Option OperandPair) → (index address : ℕ) → Tokens → List Item →
     Type 0
 GiveHeld lists resolve n a t [] = Unit {0}

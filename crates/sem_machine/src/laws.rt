@@ -1,4 +1,4 @@
-//! Laws of images and of the machine: each is the contract of a function that does nothing.
+//! Laws of images and of the machine: each is the contract of a function with an empty body.
 
 ghost use Rattle.std.specs.Prelude.{ℕ};
 ghost use Rattle.rv64_instr.specs.declared.place.Place.{Place};
@@ -9,29 +9,30 @@ ghost use Rattle.sem_machine.specs.StraightLaws.{StraightCodeRunsAlong, Straight
 
 /// The location lists of a function.
 pub trait LocationLists {
-    /// Which place a variable's list gives at an address.
+    /// The location that a variable's list names at an address.
     ghost gives: { VarId → ℕ → Place → Type 0 };
 }
 
-/// Where the headline holds, the source comes along with every step of the machine, or stops on a frame fault.
+/// If the headline holds, each run of the machine is matched with a run of the source, unless the source stops on a
+/// frame fault.
 pub fn headline_reaches_every_step<L: LocationLists>()
     ensures { HeadlineReachesEveryStep L.gives }
 {}
 
-/// The machine runs straight-line code along with the source, with the same registers, memory and events.
+/// The machine's run of straight-line code is matched with the source's, with the same registers, memory and events.
 pub fn straight_code_runs_along()
     ensures { StraightCodeRunsAlong }
 {}
 
-/// The headline holds of a source of straight-line code without stack objects, whose lists give only places that hold
-/// the variable's value by tokens.
+/// The headline holds of a source of straight-line code without stack objects, if its lists name only locations that
+/// have the variable's value by tokens.
 pub fn straight_code_meets_the_headline<L: LocationLists>()
     ensures { StraightCodeMeetsTheHeadline L.gives }
 {}
 
-/// Lists of straight-line code that give the first places by tokens are exact: at each byte of code they give the
-/// wanted place, and none exactly where none is wanted, by the paths of the function behind an empty prologue; and
-/// nothing outside the code.
+/// Lists of straight-line code that name the first locations by tokens are exact: at each byte of code they name the
+/// wanted location, and none exactly if none is wanted, over all paths of the function after an empty prologue; and
+/// they name nothing outside the code.
 pub fn straight_lists_are_exact<L: LocationLists>()
     ensures { StraightListsAreExact L.gives }
 {}

@@ -1,4 +1,4 @@
--- When a function follows a source: its shape, and its runs from every start.
+-- When a function follows a source, that is, refines it: its shape, and its runs from every start state.
 use Rattle.std.specs.Prelude.{◌≡◌, ◌⊎◌, ℕ, ◌+◌, ◌*◌, ◌%◌, ◌^◌, ◌<◌, ◌≤◌, List, [], ◌∷◌, length, All, Contains, Option, Some, None, true, false, slice_get}
 use Rattle.rv64_instr.specs.Row.{Row, Fixes, Moves, Sets, Addresses, Loads, Stores, LoadsSlot, StoresSlot, Branches, Jumps, Calls, Returns, Unfit, row_of}
 use Rattle.rv64_instr.specs.Parts.{IsSlotStore}
@@ -19,7 +19,7 @@ use Rattle.sem_mir.specs.State.{IsReply, State, content}
 use Rattle.mir_func.specs.Graph.{Fetch, Here, Silent, Program, below, block_start, program_of, Edge, Leads}
 use Rattle.sem_mir.specs.Align.{position_of, ByItems, ByEnds, station_at, AnyOrigin, RunsAlong}
 
--- kinds of code, which stay where code is kept
+-- classes of instructions. A kept instruction keeps its class
 pub data Class : Type 0 where
   Branch : Class
   Call : Class
@@ -28,7 +28,7 @@ pub data Class : Type 0 where
   Plain : Class
   Odd : Class
 
--- the kind of code of a row. A slot store is plain code, no store to memory
+-- the class of a row. A store to a spill slot is plain, not a store to memory
 abbrev pub class_of : Row → Class
 class_of (Branches op a b target) = Branch
 class_of (Jumps target) = Branch
@@ -44,8 +44,8 @@ class_of (LoadsSlot rd n) = Plain
 class_of (StoresSlot rs n) = Plain
 class_of Unfit = Odd
 
--- code that may be added before a position of a block with this silent index: slot loads and constant definitions not at
--- the silent position, slot stores, and jumps at the silent position
+-- code that may be added before position `item` of a block that ends at index `silent`: slot loads and constant definitions before
+-- its end, slot stores anywhere, and unconditional branches at its end
 abbrev pub MayAdd : Row → (item silent : ℕ) → Type 0
 MayAdd (LoadsSlot rd n) k silent = k < silent
 MayAdd (Fixes rd n) k silent = k < silent
@@ -66,7 +66,7 @@ abbrev pub ItemHasClass : Row → ItemKind → Type 0
 ItemHasClass r (Code c k) = class_of (row_of c) ≡ class_of r
 ItemHasClass r _ = ⊥
 
--- the source has code of the row's class there
+-- what the source has at a position is code of the row's class
 abbrev pub HasClass : Row → Fetch → Type 0
 HasClass r (Here i) = ItemHasClass r i.kind
 HasClass r _ = ⊥
@@ -82,45 +82,45 @@ KindFits src (Code c k) silent o = RowFits src (row_of c) silent o
 KindFits src (Mark v m) silent o = Unit {0}
 KindFits src (Phi p k) silent o = Unit {0}
 
--- a mark that is added assigns nothing
+-- an added debug value is undef
 abbrev pub MarkFits : ItemKind → Origin → Type 0
 MarkFits (Mark v Nothing) o = Unit {0}
 MarkFits (Mark v m) (Before p) = ⊥
 MarkFits _ o = Unit {0}
 
--- where an origin stands in its block's order, and where the next may stand: what is added before a position comes
--- before what is kept of it
+-- the order of origins in a block: what is added before a position comes before what is kept of it
 abbrev pub rank : Origin → ℕ
 rank (Kept p) = 2 * p.item + 1
 rank (Before p) = 2 * p.item
 
--- much may be added before one position, but each of the source's items is kept once at most
+-- the least rank of the next item: any number of items may be added before a position, but each item of the source is kept at most
+-- once
 abbrev pub next_rank : Origin → ℕ
 next_rank (Kept p) = 2 * p.item + 2
 next_rank (Before p) = 2 * p.item
 
--- the items come from block b, in its order, and nothing is kept twice
+-- the origins are in block b, in its order from rank `least` on, and no item of the source is kept twice
 abbrev pub InOrder : (b least : ℕ) → List Item → Type 0
 InOrder b n [] = Unit {0}
 InOrder b n (x ∷ xs) = ((position_of x.origin).block ≡ b) × (n ≤ rank x.origin) × InOrder b (next_rank x.origin) xs
 
--- f's blocks are some of the source's, in its order, with their silent indices
+-- f's blocks are some of the source's, in the source's order, with the same numbers and silent indices
 pub data Among : List Block → List Block → Type 0 where
   none : {bs : List Block} → Among [] bs
   same : {a b : Block} {rest bs : List Block} → a.id ≡ b.id → a.silent ≡ b.silent → Among rest bs → Among (a ∷ rest) (b ∷ bs)
   left : {b : Block} {rest bs : List Block} → Among rest bs → Among rest (b ∷ bs)
 
--- the number of the entry block, and 0 where there are no blocks
+-- the number of the entry block, or 0 if there are no blocks
 abbrev pub first_of : List Block → ℕ
 first_of [] = 0
 first_of (b ∷ bs) = b.id
 
--- the code's row has the property
+-- the item is code whose row satisfies P
 abbrev pub OnRow : (Row → Type 0) → ItemKind → Type 0
 OnRow P (Code c k) = P (row_of c)
 OnRow P _ = ⊥
 
--- a branch or a jump whose target is block n
+-- a conditional or unconditional branch to block n
 abbrev pub GoesTo : ℕ → Row → Type 0
 GoesTo n (Branches op a b target) = target ≡ n
 GoesTo n (Jumps target) = target ≡ n
@@ -136,7 +136,7 @@ GoesTo block (Calls name args) = ⊥
 GoesTo block (Returns results) = ⊥
 GoesTo block Unfit = ⊥
 
--- neither a branch nor a copy of a register to itself
+-- code other than a branch or a copy of a register to itself
 abbrev pub Counts : Row → Type 0
 Counts (Branches op a b target) = ⊥
 Counts (Jumps target) = ⊥
@@ -152,27 +152,30 @@ Counts (Calls name args) = Unit {0}
 Counts (Returns results) = Unit {0}
 Counts Unfit = Unit {0}
 
--- what stands at q comes from another position than the end of the block of p, and is met before that end or after p
+-- the item at q is code other than a branch or a copy of a register to itself, its origin isn't the end of p's block, and it is
+-- earlier in p's block or reachable from p
 abbrev pub IsMetApart : Program → (p : Pos) → (silent : ℕ) → (q : Pos) → Item → Type 0
 IsMetApart f p k q j = (f.fetch q ≡ Here j) × OnRow Counts j.kind × (position_of j.origin ≡ record { block = p.block; item = k } → ⊥) ×
     (((q.block ≡ p.block) × (q.item < p.item)) ⊎ Leads f p q)
 
--- the shape of a function that follows a source
+-- the shape of a function that follows a source, that is, refines it
 pub record Shape (src f : List Block) (srcp fp : Program) : Type 0 where
   pub among : Among f src
   pub first : first_of f ≡ first_of src
-  -- where some path of the source leads back to its first block, a branch of f goes there
+  -- if some path of the source leads back to its first block, some branch of f has that block as its target
   pub back : (q : Pos) → Leads srcp (block_start (first_of src)) q → Edge srcp q (block_start (first_of src)) →
       (p : Pos) × (i : Item) × (fp.fetch p ≡ Here i) × OnRow (GoesTo (first_of src)) i.kind
   pub order : All (λ b. InOrder b.id 0 b.items) f
   pub items : All (λ b. All (λ i. KindFits srcp i.kind b.silent i.origin) b.items) f
-  -- with a slot store at a block's end goes other code: so a cycle of jumps alone stores in no slot
+  -- a slot store that is added before a block's end has other code earlier in the block or reachable from it: so a cycle of jumps
+  -- alone stores to no slot
   pub stores : (b : Block) → Contains f b → (p : Pos) (i : Item) → p.block ≡ b.id → fp.fetch p ≡ Here i → OnRow IsSlotStore i.kind →
       i.origin ≡ Before (record { block = b.id; item = b.silent }) → (q : Pos) × (j : Item) × IsMetApart fp p b.silent q j
   -- between code that is added before a position and what is kept there no variable gets a value
   pub marks : All (λ b. All (λ i. MarkFits i.kind i.origin) b.items) f
 
--- a start of a run of a function with these stack objects: x2 is a multiple of 16 with room for a frame, and all else is free
+-- a start state of a function with these stack objects: x2 is a multiple of 16 with room for a frame below it, the other physical
+-- registers and memory are arbitrary, and no virtual register, slot, pair or variable has a value
 pub record IsStart (stack : List Object) (first : ℕ) (s : State) : Type 0 where
   pub pos : s.pos ≡ block_start first
   pub regs : (r : ℕ) → r < 32 → (v : ℕ) × (content s.core.regs r ≡ Some v) × (v < 2 ^ 64)
@@ -189,13 +192,14 @@ pub record IsStart (stack : List Object) (first : ℕ) (s : State) : Type 0 wher
   pub pairs : (k o : ℕ) → s.core.pairs k o ≡ None
   pub marks : s.core.marks ≡ []
 
--- f follows the source: it has its shape, and from every start it runs along
+-- f follows the source: it has the shape, and from every start state its run refines the source's, with instructions as observation
+-- points
 pub record Follows (objects : List Object) (src f : List Block) (subs fsubs : OperandPair → Option OperandPair) : Type 0 where
   pub shape : Shape src f (program_of true src subs) (program_of false f fsubs)
   pub runs : (s : State) → IsStart objects (first_of src) s → RunsAlong (program_of true src subs) (program_of false f fsubs)
       (station_at ByItems (program_of false f fsubs)) (AnyOrigin (station_at ByItems (program_of false f fsubs))) s s
 
--- the same end of a block, register names aside
+-- the same terminator up to its registers
 abbrev pub SameEnd : Row → Row → Type 0
 SameEnd (Branches op a b t) (Branches op' a' b' t') = (op ≡ op') × (t ≡ t')
 SameEnd (Jumps t) (Jumps t') = t ≡ t'
@@ -218,20 +222,21 @@ IsEnd (StoresSlot rs n) = ⊥
 IsEnd (Calls name args) = ⊥
 IsEnd Unfit = ⊥
 
--- both items are code, and the same end of a block
+-- both items are code, and the same terminator up to its registers
 abbrev pub KindsEndAlike : ItemKind → ItemKind → Type 0
 KindsEndAlike (Code c k) (Code d l) = SameEnd (row_of c) (row_of d)
 KindsEndAlike _ _ = ⊥
 
--- f keeps what stands at position p
+-- some item of f is kept from position p and is the same terminator as i
 abbrev pub EndIsKept : Program → Pos → Item → Type 0
 EndIsKept f p i = (q : Pos) × (j : Item) × (f.fetch q ≡ Here j) × (j.origin ≡ Kept p) × KindsEndAlike i.kind j.kind
 
--- it is kept from the source
+-- item j is kept from an item of the source that is the same terminator
 abbrev pub EndComesFrom : Program → Item → Type 0
 EndComesFrom src j = (p : Pos) × (i : Item) × (src.fetch p ≡ Here i) × (j.origin ≡ Kept p) × KindsEndAlike i.kind j.kind
 
--- f has whole ends: it has every block of the source with its branches and returns, and runs along at the blocks' ends too
+-- f's block ends match the source's: f has as many blocks, keeps each terminator and adds none, and its runs refine the source's with
+-- block ends as observation points too
 pub record HasWholeEnds (objects : List Object) (src f : List Block) (subs fsubs : OperandPair → Option OperandPair) : Type 0 where
   pub blocks : length f ≡ length src
   pub kept : (p : Pos) (i : Item) → (program_of true src subs).fetch p ≡ Here i → OnRow IsEnd i.kind → EndIsKept (program_of false f fsubs) p i
@@ -243,7 +248,8 @@ pub record HasWholeEnds (objects : List Object) (src f : List Block) (subs fsubs
 abbrev pub IsWithin : Program → Pos → Type 0
 IsWithin src p = (k n : ℕ) → src.fetch p ≡ Silent k n → p.item ≡ k
 
--- a program in which each item is its own origin, and each block's end its silent position
+-- a source program: the origin of each item is its own position, a block's end is at its silent index, and no position that a branch
+-- or a fall-through reaches is past its block's end
 pub record IsSource (src : Program) : Type 0 where
   pub items : (p : Pos) (i : Item) → src.fetch p ≡ Here i → i.origin ≡ Kept p
   pub ends : (p : Pos) (k n : ℕ) → src.fetch p ≡ Silent k n → src.fetch (record { block = p.block; item = k }) ≡ Silent k n

@@ -1,4 +1,4 @@
--- The state of a run: registers, frame slots and memory, and the history that debug items read.
+-- The state of a run: registers, spill slots, memory, and the debug history: values of pairs and of variables.
 use Rattle.std.specs.Prelude.{◌≡◌, ◌<◌, length, All, ℕ, zero, suc, ◌+◌, ◌*◌, ◌/◌, ◌%◌, ◌^◌, List, [], ◌∷◌, Option, Some, None, Bool, false, cond, ◌&&◌, ◌||◌}
 use Rattle.std.specs.Prelude.{nat_eq, nat_lt, nat_le}
 use Rattle.mir_func.specs.declared.position.Pos.{Pos}
@@ -6,37 +6,38 @@ use Rattle.mir_func.specs.declared.variable.VarId.{VarId}
 use Rattle.mir_func.specs.Limits.{FRAME_ROOM}
 use Rattle.mir_func.specs.Variables.{is_same, overlaps}
 
--- what a run shows to the outside
+-- an observable event of a run
 pub data Event : Type 0 where
-  -- it calls a function with these contents
+  -- a call of a function, with the contents of its argument registers
   Called : (name args : List ℕ) → Event
-  -- it writes these bytes to memory, from the address on
+  -- a store of bytes to memory, from the address on
   Wrote : (address : ℕ) (bytes : List ℕ) → Event
 
--- the answer to a call: the contents of the caller-saved registers, ascending, and bytes written in order
+-- the effect of a call, given in advance: the contents of the caller-saved registers, ascending, and the bytes that the
+-- callee writes, in order
 pub record Reply : Type 0 where
   pub regs : List ℕ
   pub writes : List (ℕ × ℕ)
 
--- all that a run has but its position
+-- the state of a run without its position
 pub record Core : Type 0 where
   -- the content of x2 at entry
   pub entry : ℕ
-  -- the bytes right below it that the stack objects take together, and how far each object lies above the lowest of them
+  -- the size in bytes of the stack objects' area right below entry, and each object's offset from the area's lowest byte
   pub area : ℕ
   pub objects : ℕ → ℕ
   -- each register's content. A virtual register is unwritten until it is set
   pub regs : ℕ → Option ℕ
-  -- each frame slot's content, where it is written
+  -- each spill slot's content, if it is written
   pub slots : ℕ → Option ℕ
   pub memory : ℕ → ℕ
-  -- the answers to calls that are left
+  -- the replies to calls that are left
   pub script : List Reply
-  -- what it has shown so far, the newest first
+  -- the events so far, the newest first
   pub events : List Event
-  -- the last value of each operand of each debug instruction number
+  -- the last value of each pair of a debug instruction number and an operand index
   pub pairs : ℕ → ℕ → Option ℕ
-  -- the assignments so far, the newest first
+  -- the assignments of debug values so far, the newest first
   pub marks : List (VarId × Option ℕ)
 
 -- a state of a run: the position that runs next, and all else
@@ -44,7 +45,7 @@ pub record State : Type 0 where
   pub pos : Pos
   pub core : Core
 
--- a function with one of its values changed
+-- a mapping with one of its values changed
 abbrev pub updated : {A : Type 0} → ℕ → A → (ℕ → A) → ℕ → A
 updated k v f q = cond (nat_eq q k) v (f q)
 
@@ -58,7 +59,7 @@ abbrev pub put : ℕ → ℕ → (ℕ → Option ℕ) → ℕ → Option ℕ
 put zero v regs = regs
 put (suc r) v regs = updated (suc r) (Some v) regs
 
--- several registers set, in order: to 0 where no content is left
+-- several registers set, in order: to 0 if no content is left
 abbrev pub put_all : List ℕ → List ℕ → (ℕ → Option ℕ) → ℕ → Option ℕ
 put_all [] vs regs = regs
 put_all (r ∷ rs) [] regs = put_all rs [] (put r 0 regs)
@@ -84,27 +85,27 @@ abbrev pub written : (ℕ → ℕ) → List (ℕ × ℕ) → ℕ → ℕ
 written m [] = m
 written m (w ∷ ws) = written (updated w.0 w.1 m) ws
 
--- one of the frame's bytes: the 2,048 bytes below the stack pointer at entry, but for those of stack objects right below it
+-- one of the frame's bytes: the 2,048 bytes below the stack pointer at entry, except those of stack objects right below it
 abbrev pub in_frame : (entry area address : ℕ) → Bool
 in_frame entry area a = nat_le entry (a + FRAME_ROOM) && nat_lt (a + area) entry
 
--- one of n bytes from an address on is
+-- one of n bytes from an address on is a byte of the frame
 abbrev pub touches_frame : (entry area address n : ℕ) → Bool
 touches_frame entry area a zero = false
 touches_frame entry area a (suc n) = in_frame entry area (a % 2 ^ 64) || touches_frame entry area (a + 1) n
 
--- one of these writes, each an address and a byte, goes to a byte of the frame
+-- one of these writes, each an address and a byte, is to a byte of the frame
 abbrev pub writes_frame : (entry area : ℕ) → List (ℕ × ℕ) → Bool
 writes_frame entry area [] = false
 writes_frame entry area (w ∷ ws) = in_frame entry area w.0 || writes_frame entry area ws
 
--- what the newest assignment of a part of a variable gave: nothing too where it never had one, or where a part that overlaps
--- it was assigned later
+-- the value of a part of a variable by its newest assignment; none if it has no assignment, or if a part that overlaps it
+-- was assigned later
 abbrev pub assigned : {A : Type 0} → VarId → List (VarId × Option A) → Option A
 assigned v [] = None
 assigned v (m ∷ ms) = cond (is_same v m.0) m.1 (cond (overlaps v m.0) None (assigned v ms))
 
--- an answer of a script: sixteen registers' contents, and bytes at addresses
+-- a valid reply to a call: sixteen registers' contents of 64 bits, and bytes at 64-bit addresses
 pub record IsReply (r : Reply) : Type 0 where
   pub count : length r.regs ≡ 16
   pub regs : All (λ v. v < 2 ^ 64) r.regs

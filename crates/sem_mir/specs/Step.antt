@@ -1,4 +1,4 @@
--- One step of a run.
+-- The step function of functions: one item, or a block's end, at a time.
 use Rattle.std.specs.Prelude.{ℕ, ◌+◌, ◌-◌, ◌%◌, ◌^◌, zero, suc, List, [], ◌∷◌, map, Option, Some, None, Bool, true, false, cond, nat_eq, is_some, slice_get}
 use Rattle.std.specs.List.{list_all}
 use Rattle.rv64_instr.specs.declared.op.LoadOp.{LoadOp}
@@ -27,31 +27,31 @@ use Rattle.mir_func.specs.Graph.{Fetch, Here, Silent, Outside, Program, below, b
 use Rattle.sem_mir.specs.State.{Called, Wrote, Reply, Core, State, updated, content, put, put_all, spelled, low_bytes, stored, written, touches_frame}
 use Rattle.sem_mir.specs.State.{writes_frame}
 
--- what an item does to the core
+-- the outcome of an item
 pub data Outcome : Type 0 where
-  -- goes on below
+  -- control goes on to the item below
   Falls : Core → Outcome
-  -- goes to a block
+  -- control goes to a block
   Goes : (target : ℕ) → Core → Outcome
-  -- returns
+  -- the function returns
   Gives : (results : List ℕ) → Outcome
-  -- stops on a frame fault
+  -- the run stops on a frame fault
   Traps : Outcome
-  -- waits for the answer to its call
+  -- the run waits, since no reply is left for its call
   Asks : Outcome
-  -- there is no such instruction
+  -- the instruction is invalid
   Breaks : Outcome
 
--- a register's number, and 0 where it isn't written
+-- a register's content, or 0 if it isn't written
 abbrev pub or_zero : Option ℕ → ℕ
 or_zero None = 0
 or_zero (Some n) = n
 
--- a register's content, and 0 where it isn't written
+-- a register's content, or 0 if it isn't written
 abbrev pub read : Core → ℕ → ℕ
 read s r = or_zero (content s.regs r)
 
--- what an operation's second input gives: a register's content or the immediate
+-- the value of an operation's second input: a register's content or the immediate
 abbrev pub input_value : Core → Input → ℕ
 input_value s (Content r) = read s r
 input_value s (Number n) = n
@@ -60,7 +60,7 @@ input_value s (Number n) = n
 abbrev pub object_address : Core → ℕ → ℕ
 object_address s n = (s.entry + (2 ^ 64 - s.area) + s.objects n) % 2 ^ 64
 
--- where an address starts: at a register's content, or at a stack object's first byte
+-- the value of an address's base: a register's content, or the address of a stack object's first byte
 abbrev pub base_value : Core → Base → ℕ
 base_value s (PointedBy r) = read s r
 base_value s (ObjectAt n) = object_address s n
@@ -69,22 +69,23 @@ base_value s (ObjectAt n) = object_address s n
 abbrev pub address_at : Core → Base → (offset : ℕ) → ℕ
 address_at s base offset = (base_value s base + offset) % 2 ^ 64
 
--- an access of n bytes at an address touches the frame. By a stack object it is none
+-- an access of n bytes at an address touches the frame. An access by a stack object never counts
 abbrev pub is_fault : Base → Core → (address n : ℕ) → Bool
 is_fault (PointedBy r) s a n = touches_frame s.entry s.area a n
 is_fault (ObjectAt m) s a n = false
 
--- a register set, and all else left: x0 drops the write
+-- a register set, all else unchanged: x0 drops the write
 abbrev pub set_register : (rd v : ℕ) → Core → Core
 set_register rd v s = record s { regs = put rd v s.regs }
 
--- a call with the next answer. An answer that writes in the frame is a frame fault
+-- a call with the next reply. A reply that writes to the frame is a frame fault, and without a reply the run
+-- waits
 abbrev pub answered : (name args : List ℕ) → Core → List Reply → Outcome
 answered name args s [] = Asks
 answered name args s (r ∷ rest) = cond (writes_frame s.entry s.area r.writes) Traps
     (Falls (record s { regs = put_all caller_saved r.regs s.regs; memory = written s.memory r.writes; script = rest; events = Called name args ∷ s.events }))
 
--- a slot that isn't written can't be loaded
+-- a load from a spill slot. A slot that isn't written is a frame fault
 abbrev pub slot_loaded : ℕ → Core → Option ℕ → Outcome
 slot_loaded rd s None = Traps
 slot_loaded rd s (Some v) = Falls (set_register rd v s)
@@ -94,15 +95,15 @@ abbrev pub loaded : (rd : ℕ) → LoadOp → Base → (address : ℕ) → Core 
 loaded rd op base a s =
     cond (is_fault base s a (load_width op)) Traps (Falls (set_register rd (extended op (spelled s.memory a (load_width op))) s))
 
--- bytes written to memory from an address on, which shows to the outside
+-- bytes written to memory from an address on, with the event of the store
 abbrev pub saved : (address : ℕ) → List ℕ → Core → Core
 saved a bytes s = record s { memory = stored s.memory a bytes; events = Wrote a bytes ∷ s.events }
 
--- a store: a frame fault, or the low bytes of v go to memory, as many as the opcode says
+-- a store: a frame fault, or the low bytes of v are written to memory, as many as the opcode has
 abbrev pub put_in_memory : StoreOp → Base → (address v : ℕ) → Core → Outcome
 put_in_memory op base a v s = cond (is_fault base s a (store_width op)) Traps (Falls (saved a (low_bytes (store_width op) v) s))
 
--- what an instruction of this row does, where all that it reads is written
+-- the outcome of an instruction of this row, if all registers that it reads are written
 unfoldable pub does : Row → Core → Outcome
 does (Fixes rd n) s = Falls (set_register rd n s)
 does (Moves rd rs) s = Falls (set_register rd (read s rs) s)
@@ -122,11 +123,11 @@ does Unfit s = Breaks
 abbrev pub are_written : Core → List ℕ → Bool
 are_written s rs = list_all (λ r. is_some (content s.regs r)) rs
 
--- code that reads an unwritten register stops as on a frame fault
+-- the outcome of an instruction: one that reads an unwritten register stops as on a frame fault
 unfoldable pub act : Row → Core → Outcome
 act r s = cond (are_written s (reads r)) (does r s) Traps
 
--- a register's content as marks and numbers see it
+-- a register's content as debug items see it: that of x2 only if the flag is set
 abbrev pub seen : Bool → ℕ → Core → Option ℕ
 seen true r s = content s.regs r
 seen false r s = cond (nat_eq r 2) None (content s.regs r)
@@ -137,17 +138,19 @@ defined call (Some (Def r)) = Some r
 defined true (Some (ImplicitDef r)) = Some r
 defined call _ = None
 
--- a pair's value past code with its number: the content of the register that its operand defines, or the old one
+-- a pair's value after code with its number: the content of the register that its operand defines, or the old
+-- one
 abbrev pub given : Bool → Option ℕ → Option ℕ → Core → Option ℕ
 given sp None old s = old
 given sp (Some r) old s = seen sp r s
 
--- each defining operand of code with a number gives its pair the register's new content; the other pairs stay
+-- code with a debug instruction number sets the pair of each operand that defines a register to the register's
+-- new content; the other pairs stay
 abbrev pub numbered : Bool → Bool → Option ℕ → List Operand → Core → Core
 numbered sp call None operands s = s
 numbered sp call (Some k) operands s = record s { pairs = updated k (λ o. given sp (defined call (slice_get operands o)) (s.pairs k o) s) s.pairs }
 
--- the outcome with its core changed, where it goes on
+-- the outcome with its core changed, if the run goes on
 abbrev pub with_core : (Core → Core) → Outcome → Outcome
 with_core f (Falls c) = Falls (f c)
 with_core f (Goes n c) = Goes n (f c)
@@ -156,43 +159,45 @@ with_core f Traps = Traps
 with_core f Asks = Asks
 with_core f Breaks = Breaks
 
--- what a phi of a place gives: the content of x2 is nothing, in the source too
+-- the value that a DBG_PHI of a location reads: none for x2, in the source too
 abbrev pub place_value : Option Place → Core → Option ℕ
 place_value None s = None
 place_value (Some (Register r)) s = seen false r s
 place_value (Some (Slot n)) s = s.slots n
 place_value (Some (Const c)) s = Some (word c)
 
--- the last value of what a pair resolved to, and none where it resolves to nothing
+-- the last value of the pair that a pair resolves to, or none if it doesn't resolve
 abbrev pub pair_value : Option OperandPair → Core → Option ℕ
 pair_value None s = None
 pair_value (Some q) s = s.pairs q.number q.operand
 
--- what a mark's debug operand reads (LLVM: `DBG_VALUE` of a number or a register, `DBG_INSTR_REF` of a pair)
+-- the value of a debug value's operand (LLVM: `DBG_VALUE` of an immediate or a register, `DBG_INSTR_REF` of a
+-- pair)
 abbrev pub mark_value : Program → MarkValue → Core → Option ℕ
 mark_value g Nothing s = None
 mark_value g (Constant c) s = Some (word c)
 mark_value g (At r) s = seen g.sees_pointer r s
 mark_value g (Pair q) s = pair_value (g.resolve q) s
 
--- what a part of a variable gets of it: its low bytes
+-- the value of a part of a variable: the low bytes of its operand's value
 abbrev pub part_of : VarId → Option ℕ → Option ℕ
 part_of v None = None
 part_of v (Some x) = Some (part_value v x)
 
--- what an item does
+-- the outcome of an item
 abbrev pub do_item : Program → ItemKind → Core → Outcome
 do_item g (Code i k) s = with_core (numbered g.sees_pointer (is_call (row_of i)) k i.operands) (act (row_of i) s)
 do_item g (Mark v m) s = Falls (record s { marks = (v, part_of v (mark_value g m s)) ∷ s.marks })
 do_item g (Phi p k) s = Falls (record s { pairs = updated k (updated 0 (place_value p s) (s.pairs k)) s.pairs })
 
--- what stands at a position does. A block's end falls through to the next block
+-- the outcome of what is at a position. From a block's end control goes to the next block
 abbrev pub do_fetch : Program → Fetch → Core → Outcome
 do_fetch g (Here i) s = do_item g i.kind s
 do_fetch g (Silent k n) s = Goes n s
 do_fetch g Outside s = Breaks
 
--- how a step ends
+-- the result of a step: the next state, a return, a frame fault, a call without a reply, or an invalid
+-- instruction
 pub data Next : Type 0 where
   Went : State → Next
   Returned : (results : List ℕ) → Next
@@ -200,7 +205,7 @@ pub data Next : Type 0 where
   Waits : Next
   Lost : Next
 
--- how a step from this position ends, by its outcome
+-- the result of a step from this position, by its outcome
 abbrev pub moved : (ℕ → ℕ) → Pos → Outcome → Next
 moved enter p (Falls c) = Went (record { pos = below p; core = c })
 moved enter p (Goes n c) = Went (record { pos = block_start (enter n); core = c })
@@ -213,7 +218,7 @@ moved enter p Breaks = Lost
 abbrev pub step : Program → State → Next
 step g s = moved g.enter s.pos (do_fetch g (g.fetch s.pos) s.core)
 
--- what comes next from the state that a run went to, or how it ended already
+-- k applied to the next state, or how the run ended already
 abbrev pub after : Next → (State → Next) → Next
 after (Went s) k = k s
 after (Returned v) k = Returned v
@@ -221,7 +226,7 @@ after Faulted k = Faulted
 after Waits k = Waits
 after Lost k = Lost
 
--- n steps, or how the run ended before
+-- n steps, or how the run ended before them
 abbrev pub run : Program → ℕ → State → Next
 run g zero s = Went s
 run g (suc n) s = after (step g s) (run g n)

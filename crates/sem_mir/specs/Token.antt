@@ -1,4 +1,4 @@
--- What sits where: names for values along a path, and what is true of them on every path.
+-- Which values are in which locations: value numbers along a path, and what is true of them on every path.
 use Rattle.std.specs.Prelude.{◌≡◌, ℕ, pos, negsuc, zero, suc, ◌<◌, List, [], ◌∷◌, Option, Some, None, Bool, cond, not, ◌&&◌, nat_eq, nat_lt, slice_get}
 use Rattle.std.specs.List.{list_any}
 use Rattle.rv64_instr.specs.declared.operand.Operand.{Operand}
@@ -19,14 +19,14 @@ use Rattle.sem_mir.specs.State.{updated, assigned}
 use Rattle.sem_mir.specs.Step.{defined}
 use Rattle.mir_func.specs.Graph.{Fetch, Here, Silent, Outside, Program, Edge}
 
--- the name of a value along one path: a register's content at entry, what the item at an index of the path gave a
--- register, or a number modulo 2^64
+-- a value number along one path (LLVM: `ValueIDNum`): a register's content at entry, what the item at an index of the
+-- path wrote to a register, or a constant modulo 2^64
 pub data Token : Type 0 where
   Entry : (r : ℕ) → Token
   Made : (index r : ℕ) → Token
   Fixed : (n : ℕ) → Token
 
--- what has which token at a place of a path
+-- the tokens of registers, slots, pairs and debug values at a point of a path
 pub record Tokens : Type 0 where
   pub regs : ℕ → Option Token
   pub slots : ℕ → Option Token
@@ -34,23 +34,23 @@ pub record Tokens : Type 0 where
   -- the newest first
   pub marks : List (VarId × Option Token)
 
--- x0 holds 0
+-- the token of a register's content. x0 holds 0
 abbrev pub register_token : (ℕ → Option Token) → ℕ → Option Token
 register_token regs zero = Some (Fixed 0)
 register_token regs (suc r) = regs (suc r)
 
--- a register gets a token, or none. x0 drops writes, and x2 has no token
+-- a register's token set. x0 drops writes, and x2 has no token
 abbrev pub put_token : ℕ → Option Token → (ℕ → Option Token) → ℕ → Option Token
 put_token zero t regs = regs
 put_token (suc r) t regs = updated (suc r) (cond (nat_eq r 1) None t) regs
 
--- each of the registers gets a token of its own
+-- each of the registers gets a new token, by this index
 abbrev pub make_all : (index : ℕ) → List ℕ → (ℕ → Option Token) → ℕ → Option Token
 make_all n [] regs = regs
 make_all n (r ∷ rs) regs = make_all n rs (put_token r (Some (Made n r)) regs)
 
--- what code of this row, at an index of the path, does to registers and slots: constant definitions have the token of
--- their number, copies and slots pass tokens on, every other definition makes one
+-- the transfer function of an instruction at an index of the path, on registers and slots: a constant definition sets
+-- the token of its number, copies, slot loads and slot stores pass tokens on, and every other definition creates one
 unfoldable pub moved_tokens : (index : ℕ) → Row → Tokens → Tokens
 moved_tokens n (Fixes rd c) t = record t { regs = put_token rd (Some (Fixed c)) t.regs }
 moved_tokens n (Moves rd rs) t = record t { regs = put_token rd (register_token t.regs rs) t.regs }
@@ -66,37 +66,37 @@ moved_tokens n (Jumps target) t = t
 moved_tokens n (Returns results) t = t
 moved_tokens n Unfit t = t
 
--- a write of x2 takes every slot's token away, since slots are found by x2
+-- whether the row sets x2: then each slot loses its token, since slots are addressed from x2
 abbrev pub sets_pointer : Row → Bool
 sets_pointer r = list_any (λ rd. nat_eq rd 2) (sets r)
 
--- the tokens past code of this row, at an index of the path, before its pairs get theirs
+-- the tokens after an instruction at an index of the path, before its pairs are set
 abbrev pub code_tokens : (index : ℕ) → Row → Tokens → Tokens
 code_tokens n r t = cond (sets_pointer r) (record (moved_tokens n r t) { slots = λ k. None }) (moved_tokens n r t)
 
--- each defining operand of code with a number gives its pair the register's token; the other pairs keep theirs
+-- a pair's token after code with its number: that of the register that its operand defines, or the old one
 abbrev pub given_token : Option ℕ → Option Token → Tokens → Option Token
 given_token None old t = old
 given_token (Some r) old t = register_token t.regs r
 
--- the tokens with the pairs given of code's debug instruction number, where it has one
+-- the tokens with the pairs set of an instruction's debug instruction number, if it has one
 abbrev pub numbered_tokens : (call : Bool) → Option ℕ → List Operand → Tokens → Tokens
 numbered_tokens call None operands t = t
 numbered_tokens call (Some k) operands t = record t { pairs = updated k (λ o. given_token (defined call (slice_get operands o)) (t.pairs k o) t) t.pairs }
 
--- the token of what a place holds: a constant's is that of its number, and no place has none
+-- the token of a location's content: a constant's is that of its number, and no location has none
 abbrev pub place_token : Option Place → Tokens → Option Token
 place_token None t = None
 place_token (Some (Register r)) t = register_token t.regs r
 place_token (Some (Slot n)) t = t.slots n
 place_token (Some (Const c)) t = Some (Fixed (word c))
 
--- the token of what a pair resolved to, and none where it resolves to nothing
+-- the token of the pair that a pair resolves to, or none if it doesn't resolve
 abbrev pub pair_token : Option OperandPair → Tokens → Option Token
 pair_token None t = None
 pair_token (Some q) t = t.pairs q.number q.operand
 
--- the token of what a mark's debug operand reads
+-- the token of a debug value's operand
 abbrev pub mark_token : (OperandPair → Option OperandPair) → MarkValue → Tokens → Option Token
 mark_token resolve Nothing t = None
 mark_token resolve (Constant c) t = Some (Fixed (word c))
@@ -109,7 +109,7 @@ after_item resolve n (Code i k) t = numbered_tokens (is_call (row_of i)) k i.ope
 after_item resolve n (Mark v m) t = record t { marks = (v, mark_token resolve m t) ∷ t.marks }
 after_item resolve n (Phi p k) t = record t { pairs = updated k (updated 0 (place_token p t) (t.pairs k)) t.pairs }
 
--- the tokens after what stands at an index of the path. A block's end leaves them as they are
+-- the tokens after what is at an index of the path. A block's end leaves them as they are
 abbrev pub after_fetch : (OperandPair → Option OperandPair) → (index : ℕ) → Fetch → Tokens → Tokens
 after_fetch resolve n (Here i) t = after_item resolve n i.kind t
 after_fetch resolve n (Silent k m) t = t
@@ -119,28 +119,28 @@ after_fetch resolve n Outside t = t
 abbrev pub entry_tokens : Tokens
 entry_tokens = record { regs = λ r. cond (nat_lt r 32 && not (nat_eq r 2)) (Some (Entry r)) None; slots = λ k. None; pairs = λ k o. None; marks = [] }
 
--- a path from the start has so many edges, ends at a position, and has these tokens before what stands there
+-- a path from the start of so many edges to a position, with these tokens before what is there
 pub data Path (g : Program) (start : Pos) : ℕ → Pos → Tokens → Type 0 where
   begin : Path g start 0 start entry_tokens
   onward : {n : ℕ} {p q : Pos} {t : Tokens} → Path g start n p t → Edge g p q → Path g start (suc n) q (after_fetch g.resolve n (g.fetch p) t)
 
--- some path leads to the position, and on every path there both have a token, and the same one
+-- the position is reachable, and on every path to it both have a token, the same one
 pub record Sits (g : Program) (start : Pos) (x y : Tokens → Option Token) (p : Pos) : Type 0 where
   pub reached : (n : ℕ) × (t : Tokens) × Path g start n p t
   pub same : (n : ℕ) (t : Tokens) → Path g start n p t → (k : Token) × (x t ≡ Some k) × (y t ≡ Some k)
 
--- the token of a part of a variable is that of its newest mark, and none where a part that overlaps it was marked later
+-- the token of a part of a variable by its newest debug value; none if a part that overlaps it was assigned later
 abbrev pub variable_token : VarId → Tokens → Option Token
 variable_token v t = assigned v t.marks
 
--- the places that a list may name: registers but x0 and x2, frame slots, and 64-bit constants
+-- the locations that a location list may name: registers but x0 and x2, frame slots, and 64-bit constants
 abbrev pub IsPlace : Place → Type 0
 IsPlace (Register r) = (r < 32) × (r ≡ 0 → ⊥) × (r ≡ 2 → ⊥)
 IsPlace (Slot n) = Unit {0}
 IsPlace (Const (pos n)) = n < 9223372036854775808
 IsPlace (Const (negsuc n)) = n < 9223372036854775808
 
--- the order of preference: constants, the lowest register, the lowest slot
+-- the order of preference: a constant, then the lowest register, then the lowest slot
 abbrev pub Precedes : Place → Place → Type 0
 Precedes (Const a) (Register r) = Unit {0}
 Precedes (Const a) (Slot n) = Unit {0}
@@ -149,16 +149,16 @@ Precedes (Register q) (Slot n) = Unit {0}
 Precedes (Slot m) (Slot n) = m < n
 Precedes _ _ = ⊥
 
--- the place in which the value of a part of a variable sits
+-- the location has the value of a part of a variable at a position, on every path to it
 abbrev pub SitsIn : Program → Pos → VarId → Place → Pos → Type 0
 SitsIn g start v place p = Sits g start (variable_token v) (place_token (Some place)) p
 
--- the place that is wanted for a part of a variable at a position: the first one in which its value sits
+-- the location that a location list must name for a part of a variable at a position: the first one that has its value
 pub record IsWanted (g : Program) (start : Pos) (v : VarId) (p : Pos) (place : Place) : Type 0 where
   pub named : IsPlace place
   pub sits : SitsIn g start v place p
   pub first : (other : Place) → IsPlace other → Precedes other place → SitsIn g start v other p → ⊥
 
--- none is wanted where it sits in none
+-- no location that a list may name has the part's value at the position
 abbrev pub NoneIsWanted : Program → Pos → VarId → Pos → Type 0
 NoneIsWanted g start v p = (place : Place) → IsPlace place → SitsIn g start v place p → ⊥

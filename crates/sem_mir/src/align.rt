@@ -1,4 +1,4 @@
-//! Where items come from.
+//! The origins of items.
 
 ghost use Rattle.std.specs.Prelude.{◌≡◌};
 ghost use Rattle.sem_mir.specs.Align.{position_of as position_by};

@@ -1,7 +1,8 @@
-//! What functions mean: the state of a run and its step, one item at a time, debug items included; when a function
-//! follows the source, whose origins its items carry, at which of the source's steps it is aligned, and what then is
-//! owed; names for values along paths, and where each value sits on every path; and liveness. All that is proved of
-//! functions is proved of these definitions. They never look at opcodes or operand lists, only at rows.
+//! The operational semantics of functions: the state of a run and its step, one item at a time, debug items
+//! included; the refinement of a source by a function, whose states are matched by the origins of items; value
+//! numbers along paths, and which values are in which locations on every path; and liveness. All that is proved of
+//! functions is proved of these definitions. An instruction runs by its row, never by its opcode; a step looks up
+//! operands only to see which of them define a register under the instruction's debug instruction number.
 #![tactic(auto)]
 
 pub mod align;

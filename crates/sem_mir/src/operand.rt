@@ -1,4 +1,4 @@
-//! Operands as a run sees them.
+//! The registers that operands define.
 
 ghost use Rattle.std.specs.Prelude.{◌≡◌, Some};
 ghost use Rattle.sem_mir.specs.Step.{defined as defined_by};

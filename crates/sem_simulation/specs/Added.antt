@@ -1,4 +1,4 @@
--- Added code: at the function's start, before code and after it. Nothing is taken out.
+-- Added code: at the function's start, before code and after it. No code is deleted.
 use Rattle.std.specs.Prelude.{◌≡◌, ◌⊎◌, ℕ, ◌+◌, List, [], ◌∷◌, Option, true, false}
 use Rattle.mir_func.specs.declared.position.Pos.{Pos}
 use Rattle.mir_func.specs.declared.item.Item.{Item}
@@ -8,34 +8,34 @@ use Rattle.mir_func.specs.Graph.{Silent, Program, Edge, below, block_start}
 use Rattle.sem_mir.specs.Align.{position_of, is_code, Station, Count, ByEnds, station_at, IsOrigin, Since, Same, After, AnyOrigin, RunsAlong}
 use Rattle.sem_simulation.specs.Sides.{Sides, Relation, Laid, since_item, ShowsSame, Does, DoBoth, OutcomesAlike}
 
--- how g stands beside f: before added code at the start; level with it; ahead at the position of f's next code; or
--- behind a store that is owed to what f has at a position
+-- where g is relative to f: in code added at the start; level with f; ahead of f, in code added before f's next code at a
+-- position; or after f's code at a position, with a store still to come that was added for it
 pub data Standing : Type 0 where
   Opening : Standing
   Level : Standing
   Ahead : Pos → Standing
   Owing : Pos → Standing
 
--- f's next code may come from there
+-- f's next code may have this position
 abbrev pub MayCome : Standing → Pos → Type 0
 MayCome Opening q = ⊥
 MayCome Level q = Unit {0}
 MayCome (Ahead p) q = q ≡ p
 MayCome (Owing p) q = ⊥
 
--- debug items may come
+-- debug items may come next
 abbrev pub IsQuiet : Standing → Type 0
 IsQuiet Level = Unit {0}
 IsQuiet (Ahead p) = Unit {0}
 IsQuiet Opening = ⊥
 IsQuiet (Owing p) = ⊥
 
--- the source never comes back to a position from where it may be
+-- no step of the source from a position in Reach leads to `home`
 abbrev pub IsNeverBack : Program → (Reach : Pos → Type 0) → Pos → Type 0
 IsNeverBack src Reach home = (s u : State) → Reach s.pos → step src s ≡ Went u → u.pos ≡ home → ⊥
 
--- what stops the source on its way for g: what stops it for f; the positions Extra right below those; and its start, where
--- it never comes back
+-- the positions that the source may not pass before it matches g: those with stations of f; the positions Extra right below
+-- those; and its start, to which it never comes back. Reach is closed under the source's steps
 pub record StopsMore (src : Program) (fs gs : Pos → Option Station) (Stops : Pos → Pos → Type 0) (Extra Reach : Pos → Type 0)
     (home : Pos) : Type 0 where
   pub stops : (p q : Pos) → IsOrigin fs p → Stops p q → IsOrigin fs q ⊎ Extra q ⊎ ((q ≡ home) × IsNeverBack src Reach home)
@@ -43,14 +43,14 @@ pub record StopsMore (src : Program) (fs gs : Pos → Option Station) (Stops : P
   pub below : (p : Pos) → Extra p → (n : ℕ) × (p.item ≡ n + 1) × IsOrigin fs (record { block = p.block; item = n })
   pub on : (s u : State) → Reach s.pos → step src s ≡ Went u → Reach u.pos
 
--- from position p the source does one quiet step down, or stops on a frame fault
+-- at position p the source steps to the position below without an event or an assignment, or stops on a frame fault
 abbrev pub IsPlain : Program → Pos → Type 0
 IsPlain src p = (s : State) → s.pos ≡ p →
     ((u : State) × (step src s ≡ Went u) × (u.pos ≡ below p) × (u.core.events ≡ s.core.events) × (u.core.marks ≡ s.core.marks)) ⊎
     (step src s ≡ Faulted)
 
--- how the runs are related where code is added: each stage has a standing; Stops p has the positions that stop the source on
--- its way to p; code may be added from positions Extra that is nothing else's; and Reach is where the source may be
+-- the matching relation: each stage has a standing; Stops p has the positions that the source may not pass before it matches
+-- at p; Extra has positions of added code alone; and Reach has the positions that the source may reach
 pub record AddedRelation : Type 1 where
   pub relation : Relation
   pub standing : relation.Stage → Standing
@@ -62,11 +62,11 @@ module _ (count : Count) (src : Program) (sides : Sides) (relation : AddedRelati
   open sides use {old.{program as f, rest as rest_f, start as s0}, new.{program as g, rest as rest_g, start as g0}}
   open relation use {relation.{Stage, entry, Rests, Cores}, standing, Stops, Extra, Reach}
 
-  -- a block's first position in g
+  -- the first position of block n in g
   abbrev pub start_in_g : ℕ → Pos
   start_in_g n = block_start (g.enter n)
 
-  -- after code of both, g may stand so
+  -- the standings that g may have after code of both
   abbrev pub MayStand : Standing → Item → Type 0
   MayStand Opening x = ⊥
   MayStand Level x = (s u : State) → s.pos ≡ position_of x.origin → step src s ≡ Went u → Extra u.pos → IsOrigin (station_at count f) u.pos
@@ -75,29 +75,31 @@ module _ (count : Count) (src : Program) (sides : Sides) (relation : AddedRelati
       (position_of x.origin ≡ p) × (since_item count x ≡ After) × IsPlain src p ×
       ((c e : Core) → do_item f x.kind c ≡ Falls e → (e.events ≡ c.events) × (e.marks ≡ c.marks))
 
-  -- what f's code does and what g's code of one origin does
+  -- the outcomes of f's and g's code of one origin are the same, with related cores; if they go to a block, g is level with
+  -- f, and the source must leave the position
   abbrev pub DoAlike : (b : ℕ) → List Item → List Item → Since → Stage → Outcome → Outcome → Type 0
   DoAlike b xs ys m k x y =
       OutcomesAlike (Cores k b xs ys)
       (λ i c d. (m ≡ After) × (standing k ≡ Level) × Cores (entry i) i (rest_f (block_start i)) (rest_g (start_in_g i)) c d) x y
 
-  -- after added code at the start, more of it comes, or what f has there
+  -- the standings that g may have after code added at the start: the same, or level with f
   abbrev pub MayOpen : Standing → Type 0
   MayOpen Opening = Unit {0}
   MayOpen Level = g0.pos.block ≡ g.enter s0.pos.block
   MayOpen (Ahead p) = ⊥
   MayOpen (Owing p) = ⊥
 
-  -- the block at which g starts, of added code alone, falls into f's first block
+  -- the block at which g starts falls through to f's first block
   abbrev pub LeadsIn : Type 0
   LeadsIn = (q : Pos) (j n : ℕ) → q.block ≡ g0.pos.block → rest_g q ≡ [] → g.fetch q ≡ Silent j n → n ≡ s0.pos.block
 
-  -- nothing but what stops the source for f stops it at its start
+  -- if the source may not pass its start before it matches some station of f, f has a station with that position
   abbrev pub IsFree : Type 0
   IsFree = (p : Pos) → IsOrigin (station_at count f) p → Stops p s0.pos → IsOrigin (station_at count f) s0.pos
 
-  -- how the rests of a block begin: with code of both; with code of g before f's, which may trap where f's does; with code
-  -- of g at the start, and the end of a block of such code; with code of g after what f had; with debug items
+  -- how the rests of a block begin: both are empty; with code of both; with code of g before f's, which may trap if f's
+  -- does; with code of g at the start, or the end of a block of such code; with code of g after f's; or with a debug item of
+  -- f, of g, or of each
   pub data View (b : ℕ) : Stage → List Item → List Item → Type 0 where
     ended : {k : Stage} → standing k ≡ Level → View b k [] []
     both : {k k' : Stage} {x y : Item} {xs ys : List Item} → MayCome (standing k) (position_of x.origin) →
@@ -134,28 +136,28 @@ module _ (count : Count) (src : Program) (sides : Sides) (relation : AddedRelati
     pub laid_g : Laid g rest_g
     pub enter_f : (n : ℕ) → f.enter n ≡ n
     pub view : (k : Stage) (b : ℕ) (xs ys : List Item) → Rests k b xs ys → View b k xs ys
-    -- at the start of a block to which f goes
+    -- at the start of a block that f enters
     pub entry_level : (n : ℕ) → standing (entry n) ≡ Level
     pub starts : (p : Pos) (n : ℕ) → Edge f p (block_start n) → Rests (entry n) n (rest_f (block_start n)) (rest_g (start_in_g n))
     pub onward : (p q : Pos) (k n : ℕ) → q.block ≡ g.enter p.block → rest_f p ≡ [] → rest_g q ≡ [] →
         g.fetch q ≡ Silent k n → f.fetch p ≡ Silent k n
-    -- where ends are stations, g has f's blocks
+    -- if block ends are stations, g has f's blocks
     pub same_blocks : count ≡ ByEnds → (n : ℕ) → g.enter n ≡ n
     pub end_stands : (p : Pos) (k n : ℕ) → count ≡ ByEnds → f.fetch p ≡ Silent k n → (s u : State) →
         s.pos ≡ record { block = p.block; item = k } → step src s ≡ Went u → Extra u.pos → IsOrigin (station_at count f) u.pos
-    -- over the end of a block of f that falls into block n
+    -- at the end of a block of f that falls through to block n
     pub ends : (k : Stage) (p : Pos) (j n : ℕ) (c d : Core) → standing k ≡ Level → rest_f p ≡ [] → f.fetch p ≡ Silent j n →
         Rests k p.block [] [] → Cores k p.block [] [] c d → Cores (entry n) n (rest_f (block_start n)) (rest_g (start_in_g n)) c d
     pub shows : (k : Stage) (b : ℕ) (xs ys : List Item) (c d : Core) → Cores k b xs ys c d → ShowsSame c d
 
-  -- where the runs begin: g before its added code, or level with f at the start of a block
+  -- the start of the runs: g is in its added code, or level with f at the start of a block
   pub data Begins : Type 0 where
     opens : (k : Stage) → standing k ≡ Opening → Rests k s0.pos.block (rest_f s0.pos) (rest_g g0.pos) →
         Cores k s0.pos.block (rest_f s0.pos) (rest_g g0.pos) s0.core g0.core → Begins
     level : (k : Stage) → standing k ≡ Level → g0.pos.block ≡ g.enter s0.pos.block → Rests k s0.pos.block (rest_f s0.pos) (rest_g g0.pos) →
         Cores k s0.pos.block (rest_f s0.pos) (rest_g g0.pos) s0.core g0.core → IsFree → Begins
 
--- what code is added to follows what it followed
+-- If f's run refines the source's, and g is f with code added, g's run refines the source's, with the positions Stops.
 abbrev pub AddedFollows : AddedRelation → Type 0
 AddedFollows relation = (count : Count) (src : Program) (sides : Sides) →
     let f = sides.old in let g = sides.new in

@@ -1,4 +1,5 @@
--- Changes in place: each block keeps its code, rewritten perhaps, but for code that is taken out; debug items come and go.
+-- Changes in place: each block keeps its code, perhaps rewritten, except for code that is deleted; debug items may be
+-- added and deleted.
 use Rattle.std.specs.Prelude.{◌≡◌, ◌⊎◌, ℕ, ◌*◌, ◌<◌, ◌≤◌, List, [], ◌∷◌, All, true, false}
 use Rattle.mir_func.specs.declared.position.Pos.{Pos}
 use Rattle.mir_func.specs.declared.position.Origin.TheVariants.{Kept}
@@ -11,26 +12,28 @@ use Rattle.sem_mir.specs.Follow.{next_rank, InOrder}
 use Rattle.sem_simulation.specs.Refinement.{FaultsAt}
 use Rattle.sem_simulation.specs.Sides.{Sides, Relation, Laid, since_item, ShowsSame, Does, DoBoth, OutcomesAlike}
 
--- the code falls through with such a core, or traps where it may
+-- the outcome is a fall-through with a core that satisfies P, or a trap if that is allowed
 abbrev pub FallsOrTraps : (may : Type 0) → (Core → Type 0) → Outcome → Type 0
 FallsOrTraps may P (Falls c) = P c
 FallsOrTraps may P Traps = may
 FallsOrTraps may P _ = ⊥
 
--- it goes on with as much shown and no more told, or the source moves on after it
+-- the outcome adds no event and no value of a variable if it falls through; if it goes to a block, the source must leave
+-- the position; and it isn't a return
 abbrev pub ShowsNoMore : Since → Core → Outcome → Type 0
 ShowsNoMore m d (Falls e) = ShowsSame d e
 ShowsNoMore m d (Goes n e) = m ≡ After
 ShowsNoMore m d (Gives v) = ⊥
 ShowsNoMore m d _ = Unit {0}
 
--- it is kept of p, which isn't its block's end, and doesn't return
+-- the item is kept from p, which is before its block's end, and never returns
 pub record IsNoReturn (g : Program) (p : Pos) (y : Item) : Type 0 where
   pub kept : y.origin ≡ Kept p
   pub stays : (d : Core) (v : List ℕ) → do_item g y.kind d ≡ Gives v → ⊥
   pub inner : (e : Pos) (k n : ℕ) → e.block ≡ p.block → g.fetch e ≡ Silent k n → p.item < k
 
--- g may have it ahead where the source stops at p: it comes from later positions, shows no more, or is kept of p
+-- g may still run the item if the source stops at p: its position is after p, it adds no event and no value, or it is kept
+-- from p and never returns
 abbrev pub IsIdleAt : Count → Program → Pos → Item → Type 0
 IsIdleAt count g p y = (position_of y.origin).item ≤ p.item →
     ((d : Core) → ShowsNoMore (since_item count y) d (do_item g y.kind d)) ⊎ IsNoReturn g p y
@@ -39,18 +42,20 @@ module _ (count : Count) (src : Program) (sides : Sides) (relation : Relation) w
   open sides use {old.{program as f, rest as rest_f, start as s0}, new.{program as g, rest as rest_g}}
   open relation use {Stage, entry, Rests, Cores}
 
-  -- what f's code does and what g's code of one origin does
+  -- the outcomes of f's and g's code of one origin are the same, with related cores; if they go to a block, the source
+  -- must leave the position
   abbrev pub DoAlike : (b : ℕ) → List Item → List Item → Since → Stage → Outcome → Outcome → Type 0
   DoAlike b xs ys m k x y =
       OutcomesAlike (Cores k b xs ys) (λ i c d. (m ≡ After) × Cores (entry i) i (rest_f (block_start i)) (rest_g (block_start i)) c d) x y
 
-  -- code of f alone may trap where the source moves on after it, and where g idles ahead, if the source stops there
+  -- code of f alone may trap if the source must leave its position, or if g may still run its rest when the source stops
+  -- there
   abbrev pub MayTrap : Item → List Item → Type 0
   MayTrap x ys = (since_item count x ≡ After) ⊎
       (FaultsAt src s0 (position_of x.origin) → All (IsIdleAt count g (position_of x.origin)) ys)
 
-  -- how the rests of a block begin: with code of both; with code of f alone; with a debug item of f alone, of g alone, or
-  -- of each
+  -- how the rests of a block begin: both are empty; with code of both; with code of f alone; or with a debug item of f
+  -- alone, of g alone, or of each
   pub data View (b : ℕ) : Stage → List Item → List Item → Type 0 where
     ended : {k : Stage} → View b k [] []
     both : {k k' : Stage} {x y : Item} {xs ys : List Item} → is_code x.kind ≡ true → is_code y.kind ≡ true → x.origin ≡ y.origin →
@@ -67,7 +72,7 @@ module _ (count : Count) (src : Program) (sides : Sides) (relation : Relation) w
     paired : {k k' : Stage} {x y : Item} {xs ys : List Item} → is_code x.kind ≡ false → is_code y.kind ≡ false → Rests k' b xs ys →
         ((c d : Core) → Cores k b (x ∷ xs) (y ∷ ys) c d → DoBoth f g x y c d (λ e e'. Cores k' b xs ys e e')) → View b k (x ∷ xs) (y ∷ ys)
 
-  -- place is a block's place in the text
+  -- place n is the place of block n in the text
   pub record InPlace (place : ℕ → ℕ) : Type 0 where
     pub laid_f : Laid f rest_f
     pub laid_g : Laid g rest_g
@@ -77,7 +82,7 @@ module _ (count : Count) (src : Program) (sides : Sides) (relation : Relation) w
     pub starts : (n : ℕ) → Rests (entry n) n (rest_f (block_start n)) (rest_g (block_start n))
     pub order_f : (n : ℕ) → InOrder n 0 (rest_f (block_start n))
     pub order_g : (n : ℕ) → InOrder n 0 (rest_g (block_start n))
-    -- items of g come from their own block, and no later than its end; nor do f's
+    -- the positions of g's items are in their own block, and not after its end; nor are those of f's
     pub home : (q : Pos) (i : Item) → g.fetch q ≡ Here i → (position_of i.origin).block ≡ q.block
     pub within : (q e : Pos) (i : Item) (k n : ℕ) → g.fetch q ≡ Here i → g.fetch e ≡ Silent k n → q.block ≡ e.block →
         (position_of i.origin).item ≤ k
@@ -85,15 +90,15 @@ module _ (count : Count) (src : Program) (sides : Sides) (relation : Relation) w
         next_rank x.origin ≤ 2 * k
     pub one_end : (q e : Pos) (k n k' n' : ℕ) → g.fetch q ≡ Silent k n → g.fetch e ≡ Silent k' n' → q.block ≡ e.block → k ≡ k'
     pub origins : (p : Pos) → IsOrigin (station_at count g) p → IsOrigin (station_at count f) p
-    -- where both blocks end, f's end is g's, and the next block is further down
+    -- if both blocks end, f's end is g's, and the next block is further down
     pub onward : (p q : Pos) (k n : ℕ) → p.block ≡ q.block → rest_f p ≡ [] → rest_g q ≡ [] → g.fetch q ≡ Silent k n →
         (f.fetch p ≡ Silent k n) × (place p.block < place n)
-    -- over the end of a block of f that falls into block n
+    -- at the end of a block of f that falls through to block n
     pub ends : (k : Stage) (p : Pos) (j n : ℕ) (c d : Core) → rest_f p ≡ [] → f.fetch p ≡ Silent j n → Rests k p.block [] [] →
         Cores k p.block [] [] c d → Cores (entry n) n (rest_f (block_start n)) (rest_g (block_start n)) c d
     pub shows : (k : Stage) (b : ℕ) (xs ys : List Item) (c d : Core) → Cores k b xs ys c d → ShowsSame c d
 
--- what is changed in place follows what it followed
+-- If f's run refines the source's, and g is f changed in place, g's run refines the source's at the same kind of stations.
 abbrev pub InPlaceFollows : Relation → Type 0
 InPlaceFollows relation = (count : Count) (src : Program) (sides : Sides) (place : ℕ → ℕ) →
     let f = sides.old in let g = sides.new in let b = f.start.pos.block in

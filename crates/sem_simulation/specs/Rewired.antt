@@ -1,5 +1,5 @@
--- Blocks that are bypassed, and ends of blocks written anew: jumps made at a block's end, conditional branches taken out or
--- turned round, debug items put at a block's start.
+-- Bypassed blocks and rewritten block ends: jumps added at a block's end, conditional branches deleted or inverted, debug
+-- items added at a block's start.
 use Rattle.std.specs.Prelude.{◌≡◌, ◌⊎◌, ℕ, ◌*◌, ◌<◌, ◌≤◌, List, [], ◌∷◌, true, false}
 use Rattle.mir_func.specs.declared.position.Pos.{Pos}
 use Rattle.mir_func.specs.declared.item.Item.{Item}
@@ -10,27 +10,26 @@ use Rattle.sem_mir.specs.Align.{position_of, is_code, is_jump, ByItems, ByEnds, 
 use Rattle.sem_mir.specs.Follow.{next_rank, InOrder}
 use Rattle.sem_simulation.specs.Sides.{Sides, Relation, Laid, since_item, ShowsSame, Does, DoBoth}
 
--- the item goes to block n, with such a core
+-- the item goes to block n, with a core that satisfies P
 abbrev pub Jumps : Program → Item → Core → ℕ → (Core → Type 0) → Type 0
 Jumps h x c n P = (e : Core) × (do_item h x.kind c ≡ Goes n e) × P e
 
--- how the runs are related where blocks are bypassed: Has holds of the blocks that g has, and Ways e relates the cores while
--- f is on the way to block e
+-- the matching relation: Has n if g has block n, and Ways e relates the cores while f is on its path to block e
 pub record RewiredRelation : Type 1 where
   pub relation : Relation
   pub Has : ℕ → Type 0
   pub Ways : ℕ → Core → Core → Type 0
 
--- place is a block's place in the text
+-- place n is the place of block n in the text
 module _ (sides : Sides) (place : ℕ → ℕ) (relation : RewiredRelation) where
   open sides use {old.{program as f, rest as rest_f}, new.{program as g, rest as rest_g}}
   open relation use {relation.{Stage, entry, Rests, Cores}, Has, Ways}
 
-  -- nothing of g comes from the position
+  -- no station of g has the position as its origin
   abbrev pub IsAbsent : Pos → Type 0
   IsAbsent q = IsOrigin (station_at ByItems g) q → ⊥
 
-  -- f goes from a position to the start of block e, past debug items, jumps and ends from which g has nothing
+  -- f's run leads from a position to the start of block e, past debug items, jumps and block ends of which g has no station
   pub data Reaches (e : ℕ) : Pos → Type 0 where
     arrived : {p : Pos} → p ≡ block_start e → Reaches e p
     debug : {p : Pos} (x : Item) → f.fetch p ≡ Here x → is_code x.kind ≡ false →
@@ -40,7 +39,8 @@ module _ (sides : Sides) (place : ℕ → ℕ) (relation : RewiredRelation) wher
     finish : {p : Pos} (k n : ℕ) → f.fetch p ≡ Silent k n → IsAbsent (record { block = p.block; item = k }) →
         Reaches e (block_start n) → Reaches e p
 
-  -- f goes to block e from the rest of its block b, where g's is over: past a branch both ways lead there, or it traps
+  -- f goes to block e from the rest of its block b, after the end of g's: both edges of a conditional branch lead there, or
+  -- it traps
   pub data Leaves (e b : ℕ) : List Item → Type 0 where
     by_end : (k n : ℕ) → ((p : Pos) → p.block ≡ b → rest_f p ≡ [] → f.fetch p ≡ Silent k n) → Reaches e (block_start n) → Leaves e b []
     by_jump : {xs : List Item} (x : Item) (n : ℕ) → is_code x.kind ≡ true → since_item ByEnds x ≡ After →
@@ -50,12 +50,13 @@ module _ (sides : Sides) (place : ℕ → ℕ) (relation : RewiredRelation) wher
         Jumps f x c n (λ c'. Ways e c' d) ⊎ Does f x c (λ c'. Ways e c' d) ⊎ (do_item f x.kind c ≡ Traps)) →
         Reaches e (block_start n) → Leaves e b xs → Leaves e b (x ∷ xs)
 
-  -- g falls from block b into block e
+  -- g falls through from block b to block e
   abbrev pub FallsTo : (b e : ℕ) → Type 0
   FallsTo b e = (q : Pos) → q.block ≡ b → rest_g q ≡ [] → (k : ℕ) × (g.fetch q ≡ Silent k e)
 
-  -- what f's code does and what g's code of one origin does: both fall, both go on to one block, or one falls where the
-  -- other goes, and then g's block is over. After a trap of f, where the source moves on, nothing is owed
+  -- the outcomes of f's and g's code of one origin: both fall through; both go to a block, f at last to that of g; one
+  -- falls through and the other goes to a block, and then g's block is over; or both end the run in the same way. If f
+  -- traps and the source must leave the position, g may do anything but return
   abbrev pub DoAlike : (b : ℕ) → List Item → List Item → Since → Outcome → Outcome → Type 0
   DoAlike b xs ys m (Falls c) (Falls d) = (k : Stage) × Rests k b xs ys × Cores k b xs ys c d
   DoAlike b xs ys m (Goes n c) (Goes e d) = (m ≡ After) × Has e × Reaches e (block_start n) × Ways e c d
@@ -70,12 +71,13 @@ module _ (sides : Sides) (place : ℕ → ℕ) (relation : RewiredRelation) wher
   DoAlike b xs ys m Breaks Breaks = Unit {0}
   DoAlike b xs ys m _ _ = ⊥
 
-  -- what g shows is asked for at code alone: before it debug items may be still to come
+  -- the cores show the same events, and g's no values but f's. This is required at code alone: before it debug items may
+  -- still come
   abbrev pub Shows : Stage → ℕ → List Item → List Item → Type 0
   Shows k b xs ys = (c d : Core) → Cores k b xs ys c d → ShowsSame c d
 
-  -- how the rests of a block begin: with code of both; with a debug item of g, or of each; with a new jump of g where f's
-  -- block ends; or g's block is over
+  -- how the rests of a block begin: with code of both; with a debug item of g, or of each; with a new jump of g at the end
+  -- of f's block; or g's block is over
   pub data View (b : ℕ) : Stage → List Item → List Item → Type 0 where
     both : {k : Stage} {x y : Item} {xs ys : List Item} → is_code x.kind ≡ true → is_code y.kind ≡ true → x.origin ≡ y.origin →
         since_item ByEnds x ≡ since_item ByItems y → Shows k b (x ∷ xs) (y ∷ ys) →
@@ -101,12 +103,13 @@ module _ (sides : Sides) (place : ℕ → ℕ) (relation : RewiredRelation) wher
     pub order_f : (n : ℕ) → InOrder n 0 (rest_f (block_start n))
     pub home : (q : Pos) (i : Item) → g.fetch q ≡ Here i → (position_of i.origin).block ≡ q.block
     pub within_f : (q e : Pos) (x : Item) (k n : ℕ) → f.fetch q ≡ Here x → f.fetch e ≡ Silent k n → q.block ≡ e.block → next_rank x.origin ≤ 2 * k
-    -- g falls to blocks further down
+    -- g falls through to blocks further down
     pub onward : (q : Pos) (k n : ℕ) → g.fetch q ≡ Silent k n → place q.block < place n
     pub origins : (p : Pos) → IsOrigin (station_at ByItems g) p → IsOrigin (station_at ByEnds f) p
     pub arrives : (e : ℕ) (c d : Core) → Has e → Ways e c d → Cores (entry e) e (rest_f (block_start e)) (rest_g (block_start e)) c d
 
--- what is rewired follows what its function followed with blocks' ends as stations
+-- If f's run refines the source's with block ends as stations, and g is f rewired, g's run refines the source's with
+-- instructions as stations.
 abbrev pub RewiredFollows : RewiredRelation → Type 0
 RewiredFollows relation = (src : Program) (sides : Sides) (place : ℕ → ℕ) (b : ℕ) →
     let f = sides.old in let g = sides.new in let lists = relation.relation in

@@ -1,5 +1,5 @@
-//! Laws of following: each is the contract of a function that does nothing. A law about any relation of states is about
-//! that of a type parameter.
+//! Simulation laws: each is the contract of a function with an empty body. A law about every relation of states is
+//! about that of a type parameter.
 
 ghost use Rattle.std.specs.Prelude.{Option};
 ghost use Rattle.mir_func.specs.declared.position.Pos.{Pos};
@@ -13,56 +13,59 @@ ghost use Rattle.sem_simulation.specs.Rewired.{RewiredRelation, RewiredFollows};
 
 /// A relation of two runs' states.
 pub trait Refinement {
-    /// How one program's state is related to the other's, right after a station that both met; the source may still
-    /// stand at the position.
+    /// How one program's state is related to the other's, right after the last station that both matched; the source
+    /// may still be at the position.
     ghost related: { Option Pos → State → State → Type 0 };
 }
 
-/// What refines a program that follows a source, follows it too.
+/// If a program's run refines the source's, so does that of a program that refines it.
 pub fn refinement_follows<R: Refinement>()
     ensures { RefinementFollows R.related }
 {}
 
-/// The positions of a function that are past its prologue.
+/// The positions of a function after its prologue.
 pub trait Inside {
-    /// Whether a position is.
+    /// Whether a position is one.
     ghost inner: { Pos → Type 0 };
 }
 
-/// What runs along over code items, by the first arrival at a position, runs along over words: the machine's alignment.
+/// A run that refines the source's at instructions, by the first arrival at a position, refines it at machine words.
 pub fn words_follow<I: Inside>()
     ensures { WordsFollow I.inner }
 {}
 
-/// Code that is added: before code and after it, and at the start of the function.
+/// Added code: before code and after it, and at the start of the function.
 pub trait CodeAddition {
-    /// How the runs of the function without the code and with it are related.
+    /// The matching relation of the runs without the code and with it.
     ghost relation: { AddedRelation };
 }
 
-/// What code is added to follows what it followed, over code items and over blocks' ends.
+/// If a program's run refines the source's, so does that of the program with added code, with instructions or block
+/// ends too as stations.
 pub fn added_follows<A: CodeAddition>()
     ensures { AddedFollows A.relation }
 {}
 
-/// A change of blocks in place, as a pass that keeps, rewrites and takes out code says it.
+/// A change of blocks in place, by a pass that keeps, rewrites and deletes code.
 pub trait BlockChange {
-    /// How the runs before and after are related.
+    /// The matching relation of the runs before and after the change.
     ghost relation: { Relation };
 }
 
-/// What is changed in place follows what it followed, over code items and over blocks' ends.
+/// If a program's run refines the source's, so does that of the program changed in place, with instructions or block
+/// ends too as stations.
 pub fn in_place_follows<C: BlockChange>()
     ensures { InPlaceFollows C.relation }
 {}
 
-/// Blocks that are bypassed, and ends of blocks written anew.
+/// Bypassed blocks and rewritten block ends.
 pub trait Rewiring {
-    /// How the runs before and after are related.
+    /// The matching relation of the runs before and after the change.
     ghost relation: { RewiredRelation };
 }
 
-/// What is rewired follows, over code items, what its function followed over blocks' ends too.
+/// If a program's run refines the source's with block ends as stations, that of the rewired program does with
+/// instructions as stations.
 pub fn rewired_follows<W: Rewiring>()
     ensures { RewiredFollows W.relation }
 {}

@@ -1,4 +1,4 @@
--- What has as token what stood before some items, and what they made.
+-- Pull-back of tokens over items: where each token after them comes from.
 use Rattle.std.specs.Prelude.{◌≡◌, ◌↔◌, ℕ, zero, suc, ◌+◌, List, [], ◌∷◌, Option, Some, None, cond, nat_eq, slice_get}
 use Rattle.std.specs.List.{list_any}
 use Rattle.rv64_instr.specs.declared.place.Place.{Place}
@@ -21,7 +21,7 @@ use Rattle.mir_func.specs.Graph.{Program}
 use Rattle.sem_mir.specs.Step.{defined}
 use Rattle.sem_mir.specs.Token.{Token, Made, Fixed, Tokens, register_token, variable_token, sets_pointer, after_item, Path}
 
--- what has tokens: a register, a slot, a pair, a part of a variable, and a number, which always has its own
+-- what has tokens: a register, a slot, a pair, a part of a variable, and a constant, which always has its own
 pub data Tracked : Type 0 where
   InRegister : (r : ℕ) → Tracked
   InSlot : (n : ℕ) → Tracked
@@ -29,7 +29,7 @@ pub data Tracked : Type 0 where
   OfVariable : (v : VarId) → Tracked
   OfNumber : (c : ℕ) → Tracked
 
--- the token that a thing has, among these
+-- the token of a tracked entity
 abbrev pub token_of : Tracked → Tokens → Option Token
 token_of (InRegister r) t = register_token t.regs r
 token_of (InSlot n) t = t.slots n
@@ -37,26 +37,26 @@ token_of (OfPair k o) t = t.pairs k o
 token_of (OfVariable v) t = variable_token v t
 token_of (OfNumber c) t = Some (Fixed c)
 
--- where a token after some items comes from: something had it before them, the item at an index among them made it for a
--- register, or there is none
+-- where the token of an entity after some items comes from: some entity had it before them, the item at an index among them
+-- created it for a register, or there is none
 pub data Back : Type 0 where
   Was : Tracked → Back
   New : (index r : ℕ) → Back
   Nameless : Back
 
--- the token, where the first of the items stands at this index of the path, with these tokens before it
+-- the token of a pull-back, if the first of the items is at this index of the path, with these tokens before it
 abbrev pub token_back : (first : ℕ) → Tokens → Back → Option Token
 token_back n t (Was x) = token_of x t
 token_back n t (New i r) = Some (Made (n + i) r)
 token_back n t Nameless = None
 
--- a register where rd was put: x0 drops writes, and x2 has no token
+-- a register pulled back over a write of rd: x0 drops writes, and x2 has no token
 abbrev pub put_back : (rd : ℕ) → Back → (r : ℕ) → Back
 put_back rd b zero = Was (InRegister zero)
 put_back zero b (suc r) = Was (InRegister (suc r))
 put_back (suc rd) b (suc r) = cond (nat_eq (suc r) (suc rd)) (cond (nat_eq rd 1) Nameless b) (Was (InRegister (suc r)))
 
--- a register after code of a row
+-- a register pulled back over code of a row
 abbrev pub back_register : (index : ℕ) → Row → (r : ℕ) → Back
 back_register i (Fixes rd c) r = put_back rd (Was (OfNumber c)) r
 back_register i (Moves rd rs) r = put_back rd (Was (InRegister rs)) r
@@ -72,7 +72,7 @@ back_register i (Calls name args) r = cond (list_any (λ q. nat_eq r q) caller_s
 back_register i (Returns results) r = Was (InRegister r)
 back_register i Unfit r = Was (InRegister r)
 
--- a slot where it is still found
+-- a slot pulled back over code of a row that doesn't write x2
 abbrev pub slot_stored : Row → (k : ℕ) → Back
 slot_stored (StoresSlot rs n) k = cond (nat_eq k n) (Was (InRegister rs)) (Was (InSlot k))
 slot_stored (Fixes rd c) k = Was (InSlot k)
@@ -88,11 +88,11 @@ slot_stored (Calls name args) k = Was (InSlot k)
 slot_stored (Returns results) k = Was (InSlot k)
 slot_stored Unfit k = Was (InSlot k)
 
--- a slot after code of a row: a write of x2 takes every slot's token away
+-- a slot pulled back over code of a row: a write of x2 takes each slot's token
 abbrev pub back_slot : Row → (k : ℕ) → Back
 back_slot row k = cond (sets_pointer row) Nameless (slot_stored row k)
 
--- any thing after code of a row, before pairs get theirs: pairs, parts and numbers keep their tokens
+-- any entity pulled back over code of a row, before its pairs are set: pairs, parts of variables and constants keep their tokens
 abbrev pub back_row : (index : ℕ) → Row → Tracked → Back
 back_row i row (InRegister r) = back_register i row r
 back_row i row (InSlot k) = back_slot row k
@@ -100,31 +100,32 @@ back_row i row (OfPair k o) = Was (OfPair k o)
 back_row i row (OfVariable v) = Was (OfVariable v)
 back_row i row (OfNumber c) = Was (OfNumber c)
 
--- the pair of code's number has what its defining operand's register has after the code
+-- a pair of code's number pulled back over the code: to the register that its operand defines, or to itself
 abbrev pub given_back : (index : ℕ) → Row → Option ℕ → Tracked → Back
 given_back i row None x = Was x
 given_back i row (Some rd) x = back_register i row rd
 
--- what a phi's place holds has its token from there, and nothing has none
+-- the pull-back of a phi's location; no location has no token
 abbrev pub back_place : Option Place → Back
 back_place None = Nameless
 back_place (Some (Register r)) = Was (InRegister r)
 back_place (Some (Slot n)) = Was (InSlot n)
 back_place (Some (Const c)) = Was (OfNumber (word c))
 
--- the token of what a pair resolved to comes from that pair
+-- the pull-back of what a pair resolved to
 abbrev pub back_pair : Option OperandPair → Back
 back_pair None = Nameless
 back_pair (Some q) = Was (OfPair q.number q.operand)
 
--- where the token of what a mark's debug operand reads comes from
+-- the pull-back of a debug value's operand
 abbrev pub back_value : (OperandPair → Option OperandPair) → MarkValue → Back
 back_value resolve Nothing = Nameless
 back_value resolve (Constant c) = Was (OfNumber (word c))
 back_value resolve (At r) = Was (InRegister r)
 back_value resolve (Pair q) = back_pair (resolve q)
 
--- code with a number gives its pairs what its defining operands hold, and does to all else what its row does
+-- any entity pulled back over code with a number: the pairs of the number have the tokens of the registers that the operands
+-- define, and all else is as by its row
 abbrev pub back_numbered : (index : ℕ) → Instruction → (number : ℕ) → Tracked → Back
 back_numbered i c j (OfPair k o) =
     cond (nat_eq k j) (given_back i (row_of c) (defined (is_call (row_of c)) (slice_get c.operands o)) (OfPair k o)) (Was (OfPair k o))
@@ -133,12 +134,12 @@ back_numbered i c j (InSlot k) = back_row i (row_of c) (InSlot k)
 back_numbered i c j (OfVariable v) = back_row i (row_of c) (OfVariable v)
 back_numbered i c j (OfNumber m) = back_row i (row_of c) (OfNumber m)
 
--- a thing after code, with a debug instruction number or without one
+-- any entity pulled back over code, with a debug instruction number or without one
 abbrev pub back_code : (index : ℕ) → Instruction → Option ℕ → Tracked → Back
 back_code i c None x = back_row i (row_of c) x
 back_code i c (Some j) x = back_numbered i c j x
 
--- a mark gives its part what it asks for, and takes the token of every other part away that overlaps it
+-- any entity pulled back over a mark: its part has its operand's token, and other parts that overlap it have none
 abbrev pub back_mark : (OperandPair → Option OperandPair) → VarId → MarkValue → Tracked → Back
 back_mark resolve v m (OfVariable w) = cond (is_same w v) (back_value resolve m) (cond (overlaps w v) Nameless (Was (OfVariable w)))
 back_mark resolve v m (InRegister r) = Was (InRegister r)
@@ -146,7 +147,7 @@ back_mark resolve v m (InSlot k) = Was (InSlot k)
 back_mark resolve v m (OfPair k o) = Was (OfPair k o)
 back_mark resolve v m (OfNumber c) = Was (OfNumber c)
 
--- a phi gives the first pair of its number what its place holds
+-- any entity pulled back over a phi: operand 0 of its number has its location's token
 abbrev pub back_phi : Option Place → (number : ℕ) → Tracked → Back
 back_phi p j (OfPair k o) = cond (nat_eq k j) (cond (nat_eq o 0) (back_place p) (Was (OfPair k o))) (Was (OfPair k o))
 back_phi p j (InRegister r) = Was (InRegister r)
@@ -154,34 +155,34 @@ back_phi p j (InSlot k) = Was (InSlot k)
 back_phi p j (OfVariable v) = Was (OfVariable v)
 back_phi p j (OfNumber c) = Was (OfNumber c)
 
--- what a thing's token is after the item at an index among some, by what stood before it
+-- any entity pulled back over the item at an index among some
 abbrev pub back : (OperandPair → Option OperandPair) → (index : ℕ) → ItemKind → Tracked → Back
 back resolve i (Code c k) x = back_code i c k x
 back resolve i (Mark v m) x = back_mark resolve v m x
 back resolve i (Phi p k) x = back_phi p k x
 
--- what comes from something that comes from somewhere
+-- the pull-back of a pull-back
 abbrev pub through : (Tracked → Back) → Back → Back
 through f (Was x) = f x
 through f (New i r) = New i r
 through f Nameless = Nameless
 
--- the same over a list of items, of which the first has this index: from the last one upward
+-- any entity pulled back over a list of items, of which the first has this index: from the last one upward
 abbrev pub back_over : (OperandPair → Option OperandPair) → (index : ℕ) → List Item → Tracked → Back
 back_over resolve i [] x = Was x
 back_over resolve i (item ∷ items) x = through (back resolve i item.kind) (back_over resolve (suc i) items x)
 
--- the tokens after items, of which the first stands at this index of the path
+-- the tokens after items, of which the first is at this index of the path
 abbrev pub after_items : (OperandPair → Option OperandPair) → (index : ℕ) → List Item → Tokens → Tokens
 after_items resolve n [] t = t
 after_items resolve n (item ∷ items) t = after_items resolve (suc n) items (after_item resolve n item.kind t)
 
--- After items each tracked thing has the token that its pull-back tells.
+-- After items each tracked entity has the token of its pull-back.
 abbrev pub TokensPullBack : Type 0
 TokensPullBack = (resolve : OperandPair → Option OperandPair) (first : ℕ) (items : List Item) (t : Tokens) (x : Tracked) →
     token_of x (after_items resolve first items t) ≡ token_back first t (back_over resolve 0 items x)
 
--- two pull-backs tell one token, or both none: the same new one, or what stood before is so
+-- two pull-backs have one token, or both none: both are the same new one, or the entities before agree so
 abbrev pub BacksAgree : Tokens → Back → Back → Type 0
 BacksAgree t (Was x) (Was y) = token_of x t ≡ token_of y t
 BacksAgree t (New i q) (New j r) = (i ≡ j) × (q ≡ r)
@@ -193,8 +194,8 @@ BacksAgree t (New i q) (Was y) = ⊥
 BacksAgree t (New i q) Nameless = ⊥
 BacksAgree t Nameless (New j r) = ⊥
 
--- On a path, two things have one token after items, or both have none, exactly where their pull-backs agree before them: a token
--- that an item made is none that was there.
+-- On a path, two entities have one token after items, or both have none, exactly if their pull-backs agree before them: a token
+-- that an item creates isn't one that was there.
 abbrev pub AgreementPullsBack : Type 0
 AgreementPullsBack = (g : Program) (start : Pos) (n : ℕ) (p : Pos) (t : Tokens) → Path g start n p t → (items : List Item) (x y : Tracked) →
     (token_of x (after_items g.resolve n items t) ≡ token_of y (after_items g.resolve n items t))
@@ -204,7 +205,7 @@ AgreementPullsBack = (g : Program) (start : Pos) (n : ℕ) (p : Pos) (t : Tokens
 abbrev pub Share : Option Token → Option Token → Type 0
 Share a b = (k : Token) × (a ≡ Some k) × (b ≡ Some k)
 
--- two pull-backs tell one token: the same new one, or one that both had before
+-- two pull-backs have a token, the same one: the same new one, or one that both entities had before
 abbrev pub BacksShare : Tokens → Back → Back → Type 0
 BacksShare t (Was x) (Was y) = Share (token_of x t) (token_of y t)
 BacksShare t (New i q) (New j r) = (i ≡ j) × (q ≡ r)
@@ -214,7 +215,7 @@ BacksShare t Nameless c = ⊥
 BacksShare t (Was x) Nameless = ⊥
 BacksShare t (New i q) Nameless = ⊥
 
--- On a path, two things share a token after items exactly where their pull-backs do before them.
+-- On a path, two entities share a token after items exactly if their pull-backs do before them.
 abbrev pub SharingPullsBack : Type 0
 SharingPullsBack = (g : Program) (start : Pos) (n : ℕ) (p : Pos) (t : Tokens) → Path g start n p t → (items : List Item) (x y : Tracked) →
     Share (token_of x (after_items g.resolve n items t)) (token_of y (after_items g.resolve n items t))

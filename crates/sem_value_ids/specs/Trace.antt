@@ -1,4 +1,4 @@
--- Tokens along the path that a run takes, and the values that they name.
+-- Tokens along the path of a run, and the values of these tokens.
 use Rattle.std.specs.Prelude.{◌≡◌, ℕ, suc, ◌<◌, Some, IsSome}
 use Rattle.mir_func.specs.declared.variable.VarId.{VarId}
 use Rattle.sem_mir.specs.State.{Core, State, content, assigned}
@@ -7,13 +7,13 @@ use Rattle.mir_func.specs.Variables.{part_value}
 use Rattle.mir_func.specs.Graph.{Program}
 use Rattle.sem_mir.specs.Token.{Token, Fixed, Tokens, register_token, after_fetch, entry_tokens, Path}
 
--- the run is at a state after so many steps, with these tokens there
+-- the run from start is at a state after so many steps, with these tokens
 pub data Trace (g : Program) (start : State) : ℕ → State → Tokens → Type 0 where
   begin : Trace g start 0 start entry_tokens
   onward : {n : ℕ} {s u : State} {t : Tokens} → Trace g start n s t → step g s ≡ Went u → Trace g start (suc n) u (after_fetch g.resolve n (g.fetch s.pos) t)
 
--- what has a token holds the value that the token names, a part of a variable its low bytes, and a number's token names the
--- number
+-- whatever has a token holds the token's value, a part of a variable its low bytes; the value of a constant's token is the
+-- constant
 pub record Names (value : Token → ℕ) (t : Tokens) (s : Core) : Type 0 where
   pub numbers : (n : ℕ) → value (Fixed n) ≡ n
   pub regs : (r : ℕ) (k : Token) → register_token t.regs r ≡ Some k → content s.regs r ≡ Some (value k)
@@ -21,7 +21,7 @@ pub record Names (value : Token → ℕ) (t : Tokens) (s : Core) : Type 0 where
   pub pairs : (n o : ℕ) (k : Token) → t.pairs n o ≡ Some k → s.pairs n o ≡ Some (value k)
   pub variables : (v : VarId) (k : Token) → assigned v t.marks ≡ Some k → assigned v s.marks ≡ Some (part_value v (value k))
 
--- it does so at each state of the run so far
+-- this is so at each state of the run so far
 abbrev pub NamesAlong : {g : Program} {start : State} {n : ℕ} {s : State} {t : Tokens} → (Token → ℕ) → Trace g start n s t → Type 0
 NamesAlong {start = start} value begin = Names value entry_tokens start.core
 NamesAlong {g = g} value (onward {n} {s} {u} {t} trace went) = NamesAlong value trace × Names value (after_fetch g.resolve n (g.fetch s.pos) t) u.core
@@ -30,8 +30,8 @@ NamesAlong {g = g} value (onward {n} {s} {u} {t} trace went) = NamesAlong value 
 abbrev pub HasRegisters : State → Type 0
 HasRegisters s = (r : ℕ) → r < 32 → IsSome (content s.core.regs r)
 
--- One token names one value all along a run: wherever two places, pairs or variables have the same token, now or at different
--- steps, they hold the same value.
+-- Each token has one value all along a run: if two locations, pairs or variables have the same token, at the same or at
+-- different steps, they hold the same value, parts of variables its low bytes.
 abbrev pub TokensNameValues : Type 0
 TokensNameValues = (g : Program) (start : State) → HasRegisters start → (n : ℕ) (s : State) (t : Tokens) → (trace : Trace g start n s t) →
     (value : Token → ℕ) × NamesAlong value trace

@@ -1,11 +1,10 @@
-//! The laws of tokens, each the contract of a function that does nothing.
+//! Laws of tokens: each is the contract of a function with an empty body.
 
 ghost use Rattle.sem_value_ids.specs.Parts.{PartsHaveOneToken};
 ghost use Rattle.sem_value_ids.specs.Pullback.{AgreementPullsBack, SharingPullsBack, TokensPullBack};
 ghost use Rattle.sem_value_ids.specs.Trace.{RunsTakePaths, TokensNameValues};
 
-/// Along a run there is one value for each token, and whatever has the token holds it, a part of a variable its low
-/// bytes.
+/// Along a run each token has one value, and whatever has the token holds it, a part of a variable its low bytes.
 pub fn tokens_name_values()
     ensures { TokensNameValues }
 {}
@@ -15,17 +14,17 @@ pub fn runs_take_paths()
     ensures { RunsTakePaths }
 {}
 
-/// What has which token after items is told by what stood before them.
+/// The tokens after items are those of the pull-backs before them.
 pub fn tokens_pull_back()
     ensures { TokensPullBack }
 {}
 
-/// Two things have one token after items, or both none, exactly where what they pull back to agrees before them.
+/// Two entities have one token after items, or both none, exactly if their pull-backs agree before them.
 pub fn agreement_pulls_back()
     ensures { AgreementPullsBack }
 {}
 
-/// Two things share a token after items exactly where what they pull back to shares one before them.
+/// Two entities share a token after items exactly if their pull-backs share one before them.
 pub fn sharing_pulls_back()
     ensures { SharingPullsBack }
 {}

@@ -1,7 +1,7 @@
-//! The laws of tokens. A token is a name for a value along one path through a function. On the path that a run takes,
-//! registers, frame slots, pairs and parts of variables with one token hold one value, and what has which token after
-//! some items is told by what stood before them. The analysis of where values are looks at paths and tokens alone;
-//! these laws are why its answers are true of runs.
+//! Laws of value numbers, called tokens (LLVM: `ValueIDNum`). A token names a value along one path through a
+//! function. On the path of a run, registers, frame slots, pairs and parts of variables with one token hold one
+//! value, and the tokens after some items are determined by those before them. The analysis of value locations
+//! considers paths and tokens alone; these laws are why its results are true of runs.
 #![tactic(auto)]
 
 pub mod laws;

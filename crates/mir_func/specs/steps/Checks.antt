@@ -1,4 +1,4 @@
--- What the checks of a function's parts say.
+-- What the checks of a function's parts decide.
 use Rattle.std.specs.Prelude.{◌≡◌, ℕ, List, Contains, All, map, option_map}
 use Rattle.std.specs.Ordering.{nat_cmp}
 use Rattle.std.specs.BTreeMap.{BTreeMap, get}
@@ -11,7 +11,7 @@ use Rattle.mir_func.specs.declared.sound.Declared.{Declared}
 use Rattle.mir_func.specs.Objects.{object_of, AreLaidFrom}
 use Rattle.mir_func.specs.Sound.{AreApart, TargetsIn, SlotsIn, ObjectsIn, LeavesPointer, OriginIn, EndsWell, LastCloses, IsSoundObject}
 
--- the map has the size of the object of each number
+-- the map has the size of the object with each number
 abbrev pub AreSizes : List Object → BTreeMap ℕ ℕ → Type 0
 AreSizes objects sizes = (n : ℕ) → get nat_cmp sizes n ≡ option_map (λ o. o.size) (object_of objects n)
 
@@ -21,7 +21,7 @@ PhiIsApart numbers (Phi p k) = Contains numbers k → ⊥
 PhiIsApart numbers (Code i k) = Unit {0}
 PhiIsApart numbers (Mark v m) = Unit {0}
 
--- what an item of a block of a sound function keeps, by what the function declares
+-- the invariant of an item of a block, by what the function declares
 pub record IsSoundItem (d : Declared) (b : Block) (i : Item) : Type 0 where
   pub target : TargetsIn d.blocks i.kind
   pub slot : SlotsIn d.slots i.kind
@@ -30,12 +30,12 @@ pub record IsSoundItem (d : Declared) (b : Block) (i : Item) : Type 0 where
   pub phi : PhiIsApart d.codes i.kind
   pub origin : OriginIn b i.origin
 
--- what a block of a sound function keeps
+-- the invariant of a block
 pub record IsSoundBlock (d : Declared) (b : Block) : Type 0 where
   pub each : All (IsSoundItem d b) b.items
   pub ends : EndsWell b.items
 
--- what a sound function keeps beside its counts and its objects
+-- the invariant of a function apart from its counts and its objects
 pub record AreSoundParts (d : Declared) (blocks : List Block) : Type 0 where
   pub ids_apart : AreApart d.blocks
   pub slots_apart : AreApart d.slots
@@ -43,7 +43,7 @@ pub record AreSoundParts (d : Declared) (blocks : List Block) : Type 0 where
   pub each : All (IsSoundBlock d) blocks
   pub last : LastCloses blocks
 
--- what the objects of a sound function keep
+-- the invariant of a function's stack objects
 pub record AreSoundObjects (objects : List Object) : Type 0 where
   pub apart : AreApart (map (λ o. o.id) objects)
   pub each : All IsSoundObject objects

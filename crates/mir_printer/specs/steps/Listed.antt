@@ -1,4 +1,4 @@
--- Texts with commas between them, behind a lead where there is one of them.
+-- Texts with commas between them, after a lead if there are any.
 use Rattle.std.specs.Prelude.{ℕ, Bool, true, false, not, List, [], ◌∷◌, ◌++◌, filter, map}
 use Rattle.rv64_instr.specs.declared.operand.Operand.{Operand}
 use Rattle.mir_printer.specs.Spelling.{comma_separated, is_definition, operand_text}
