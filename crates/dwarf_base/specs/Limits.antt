@@ -1,6 +1,6 @@
--- The limit of a section.
+-- The size limit of a section.
 use Rattle.std.specs.Prelude.{ℕ, ◌^◌}
 
--- how many bytes a section is below: what a length of the 32-bit format of DWARF counts, and half of it
+-- the limit on a section's bytes, exclusive: half the range of a length in the 32-bit format of DWARF
 abbrev pub SECTION_LIMIT : ℕ
 SECTION_LIMIT = 2 ^ 31

@@ -1,4 +1,4 @@
--- The numbers of DWARF 5 that more than one section has, under the standard's names where it gives them one.
+-- The numbers of DWARF 5 that several sections share, under their names in the standard if they have one.
 use Rattle.std.specs.Prelude.{ℕ}
 
 -- the version of a section (sections 7.5.1.1, 7.24, 7.28 and 7.29)
@@ -9,15 +9,15 @@ VERSION = 5
 abbrev pub ADDRESS_SIZE : ℕ
 ADDRESS_SIZE = 8
 
--- the bytes of a segment selector: there are none
+-- the bytes of a segment selector: 0, since there are no segments
 abbrev pub SEGMENT_SELECTOR_SIZE : ℕ
 SEGMENT_SELECTOR_SIZE = 0
 
--- a section's length in the 32-bit format is below this (section 7.4)
+-- the limit on a section's length in the 32-bit format, exclusive (section 7.4)
 abbrev pub LENGTH_LIMIT : ℕ
 LENGTH_LIMIT = 4294967280
 
--- the form of a text that ends with a zero byte (section 7.5.6)
+-- the form of a string that ends with a zero byte (section 7.5.6)
 abbrev pub DW_FORM_string : ℕ
 DW_FORM_string = 8
 

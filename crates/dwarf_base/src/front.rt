@@ -1,5 +1,5 @@
-//! The numbers at the front of bytes, and what follows them. The shortest spelling of a number in range is one,
-//! and nothing else is.
+//! Readers of a number at the front of bytes, with the bytes after it. They accept only the shortest encoding of a
+//! number in range.
 
 ghost use Rattle.std.specs.Prelude.{◌≡◌, ◌≢◌, ℕ, ℤ, List, ◌≤◌, ◌<◌, ◌^◌, ◌++◌, length, Some, IfSome, IfNone};
 ghost use Rattle.std.specs.Prelude.{FitsSigned};
@@ -8,15 +8,15 @@ ghost use Rattle.dwarf_base.specs.Leb.{uleb_of, sleb_of, IsLeb, unsigned_value, 
 
 use crate::leb::{sleb, uleb};
 
-/// A number of 64 bits in LEB128 has at most so many bytes.
+/// The most bytes of a 64-bit number in LEB128.
 const LONGEST: usize = 10;
-/// Above its lowest seven bits a number of 64 bits with a sign is no less than this,
+/// The bits of a signed 64-bit number above its lowest seven are a number no less than this,
 const LEAST: i64 = -0x100_0000_0000_0000;
 /// and below this.
 const LIMIT: i64 = 0x100_0000_0000_0000;
 
-/// The unsigned LEB128 number below 2^64 at the front, in its shortest spelling, and what follows it.
-/// `None` exactly where there is none (DWARF 5 section 7.6).
+/// The unsigned LEB128 number below 2^64 at the front, in its shortest encoding, and the bytes after it. `None` if and
+/// only if there is none (DWARF 5 section 7.6).
 pub fn split_uleb(bytes: &[u8]) -> Option<(u64, &[u8])>
     ensures some { IfSome result (λ r. bytes.now ≡ uleb_of r.0 ++ r.1.now) }
     ensures fits { IfSome result (λ r. r.0 < 2 ^ 64) }
@@ -28,8 +28,8 @@ pub fn split_uleb(bytes: &[u8]) -> Option<(u64, &[u8])>
     Some((value, rest))
 }
 
-/// The signed LEB128 number of 64 bits at the front, in its shortest spelling, and what follows it.
-/// `None` exactly where there is none (DWARF 5 section 7.6).
+/// The signed 64-bit LEB128 number at the front, in its shortest encoding, and the bytes after it. `None` if and only
+/// if there is none (DWARF 5 section 7.6).
 pub fn split_sleb(bytes: &[u8]) -> Option<(i64, &[u8])>
     ensures some { IfSome result (λ r. bytes.now ≡ sleb_of r.0 ++ r.1.now) }
     ensures fits { IfSome result (λ r. FitsSigned w64 r.0) }
@@ -41,7 +41,8 @@ pub fn split_sleb(bytes: &[u8]) -> Option<(i64, &[u8])>
     Some((value, rest))
 }
 
-/// The little-endian number of four bytes at the front, and what follows it. `None` exactly below four bytes.
+/// The little-endian number of four bytes at the front, and the bytes after it. `None` if and only if there are fewer
+/// than four bytes.
 pub fn split_u32(bytes: &[u8]) -> Option<(u32, &[u8])>
     ensures some { IfSome result (λ r. bytes.now ≡ to_le_bytes w32 r.0 ++ r.1.now) }
     ensures fits { IfSome result (λ r. r.0 < 2 ^ 32) }
@@ -53,7 +54,7 @@ pub fn split_u32(bytes: &[u8]) -> Option<(u32, &[u8])>
     }
 }
 
-/// The number that a LEB128 number at the front stands for, if it is below 2^64. Its spelling may be any.
+/// The value of the unsigned LEB128 number at the front, if it is below 2^64. Its encoding needn't be the shortest.
 fn unsigned_front(bytes: &[u8]) -> Option<u64>
     ensures { (front rest : List ℕ) → IsLeb front → bytes.now ≡ front ++ rest → unsigned_value front < 2 ^ 64
         → result ≡ Some (unsigned_value front) }
@@ -70,7 +71,7 @@ fn unsigned_front(bytes: &[u8]) -> Option<u64>
     }
 }
 
-/// The same with a sign, if it has 64 bits.
+/// The value of the signed LEB128 number at the front, if it has 64 bits. Its encoding needn't be the shortest.
 fn signed_front(bytes: &[u8]) -> Option<i64>
     ensures { (front rest : List ℕ) → IsLeb front → bytes.now ≡ front ++ rest → FitsSigned w64 (signed_value front)
         → result ≡ Some (signed_value front) }

@@ -1,19 +1,19 @@
-//! Numbers in LEB128 (DWARF 5 section 7.6): the one shortest spelling of a number.
+//! Numbers in LEB128 (DWARF 5 section 7.6): the unique shortest encoding of a number.
 
 ghost use Rattle.std.specs.Prelude.{◌≡◌, ℕ, List, ◌≤◌, ◌<◌, ◌^◌, ◌*◌, ◌++◌, ℤ, length};
 ghost use Rattle.dwarf_base.specs.Leb.{uleb_of, sleb_of, groups, group, IsLeb, unsigned_value, signed_value};
 
 use std::marker::Model;
 
-/// The most bytes that a number of 64 bits takes.
+/// The most bytes of a 64-bit number in LEB128.
 const LONGEST: usize = 10;
 
-/// A LEB128 number: at most ten bytes. A contract sees it as the list of its bytes.
+/// A LEB128 number of at most ten bytes. A contract sees it as the list of its bytes.
 #[derive(Debug, Drop)]
 pub struct Leb {
-    /// The bytes, and zeros after them.
+    /// Its bytes, and then zeros.
     bytes: [u8; 10],
-    /// How many bytes there are.
+    /// The number of its bytes.
     len: u8,
 }
 
@@ -28,14 +28,14 @@ impl Model for Leb {
 }
 
 impl Leb {
-    /// The bytes.
+    /// Its bytes.
     pub fn as_slice(&self) -> &[u8]
         ensures { result.now ≡ self.now }
     {
         &self.bytes[..self.len as usize]
     }
 
-    /// How many bytes there are: at most ten.
+    /// The number of its bytes: at most ten.
     pub fn len(&self) -> usize
         ensures exact { result ≡ length self.now }
         ensures within { result ≤ 10 }
@@ -44,7 +44,7 @@ impl Leb {
     }
 }
 
-/// The shortest unsigned LEB128 spelling of a number (DWARF 5 section 7.6).
+/// The shortest unsigned LEB128 encoding of a number (DWARF 5 section 7.6).
 pub fn uleb(v: u64) -> Leb
     ensures bytes { result ≡ uleb_of v }
     ensures spells { IsLeb result × (unsigned_value result ≡ v) }
@@ -54,7 +54,7 @@ pub fn uleb(v: u64) -> Leb
     spelled(v, 0x80, false)
 }
 
-/// The shortest signed LEB128 spelling of a number (DWARF 5 section 7.6).
+/// The shortest signed LEB128 encoding of a number (DWARF 5 section 7.6).
 pub fn sleb(v: i64) -> Leb
     ensures bytes { result ≡ sleb_of v }
     ensures spells { IsLeb result × (signed_value result ≡ v) }
@@ -68,7 +68,7 @@ pub fn sleb(v: i64) -> Leb
     }
 }
 
-/// A number is told from what follows it by its bytes alone, and no two numbers have one spelling.
+/// LEB128 encodings are prefix-free, and distinct numbers have distinct shortest encodings.
 pub fn one_spelling()
     ensures whole { (a b x y : List ℕ) → IsLeb a → IsLeb b → a ++ x ≡ b ++ y → (a ≡ b) × (x ≡ y) }
     ensures unsigned { (m n : ℕ) → uleb_of m ≡ uleb_of n → m ≡ n }
@@ -97,7 +97,7 @@ fn spelled(v: u64, limit: u64, complement: bool) -> Leb
     }
 }
 
-/// Seven bits, inverted where they are a complement's.
+/// Seven bits, inverted if they are a complement's.
 fn septet(bits: u8, complement: bool) -> u8
     requires { bits < 128 }
     ensures value { result ≡ group complement bits }

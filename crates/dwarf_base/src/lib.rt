@@ -1,6 +1,5 @@
-//! What the sections of DWARF 5 have in common: the constants, the numbers in LEB128, and the readers of numbers at
-//! the front of bytes. A reader takes exactly what the writers of the sections write: the shortest spelling of a
-//! number in range. It takes no memory.
+//! What the DWARF 5 sections share: constants, LEB128 numbers, and readers of numbers at the front of bytes. A reader
+//! accepts exactly what the writers write: the shortest encoding of a number in range. It takes no memory.
 #![tactic(auto)]
 
 pub mod constants;

@@ -1,4 +1,4 @@
-//! The limit of a section.
+//! The size limit of a section.
 
-/// A section has fewer bytes than this.
+/// The limit on a section's bytes, exclusive.
 pub const SECTION_LIMIT: usize = 1 << 31;

@@ -1,4 +1,4 @@
--- The tree of entries of a unit, and its one spelling: the section .debug_info (DWARF 5 sections 7.5.1 to 7.5.5).
+-- The tree of a unit's entries, and its unique encoding: the section .debug_info (DWARF 5 sections 7.5.1 to 7.5.5).
 use Rattle.std.specs.Prelude.{ℕ, ◌+◌, ◌<◌, Bool, true, false, Option, Some, None, List, [], ◌∷◌, ◌++◌, length, take, map, ◌==◌, All, IfSome}
 use Rattle.std.specs.List.{flat_map, before_first}
 use Rattle.std.specs.Int.{w16, w32, w64, to_le_bytes}
@@ -16,11 +16,11 @@ use Rattle.dwarf_info.specs.declared.unit.Unit.{Unit as CompilationUnit}
 use Rattle.dwarf_info.specs.Standard.{DW_UT_compile, DW_LANG_C99, LOCLISTS_BASE, HEADER_LENGTH}
 use Rattle.dwarf_info.specs.Kinds.{code, attributes}
 
--- a name counts up to its first zero byte
+-- a name up to its first zero byte
 abbrev pub named : List ℕ → List ℕ
 named name = before_first (λ byte. byte == 0) name
 
--- what a value of a form is: the bytes of a text, or a number
+-- the values of a form: the bytes of a string, or a number
 abbrev pub ValueOf : Form → Type 0
 ValueOf Address = ℕ
 ValueOf Data1 = ℕ
@@ -31,7 +31,7 @@ ValueOf Reference = ℕ
 ValueOf SectionOffset = ℕ
 ValueOf LocationList = ℕ
 
--- how a value is written (section 7.5.5)
+-- the encoding of a value (section 7.5.5)
 abbrev pub value : (form : Form) → ValueOf form → List ℕ
 value Address address = to_le_bytes w64 address
 value Data1 n = n ∷ []
@@ -47,7 +47,7 @@ abbrev pub Values : List Attribute → Type 0
 Values [] = Unit {0}
 Values (a ∷ others) = ValueOf a.form × (Values others)
 
--- the values of attributes, in the order of the abbreviation (section 7.5.2)
+-- the encoding of attributes' values, in the order of the abbreviation (section 7.5.2)
 abbrev pub values : (attributes_of : List Attribute) → Values attributes_of → List ℕ
 values [] given = []
 values (a ∷ others) given = value a.form given.0 ++ values others given.1
@@ -57,7 +57,7 @@ pub record Entry : Type 0 where
   pub kind : Kind
   pub given : Values (attributes kind)
 
--- its spelling (section 7.5.2): the code of its abbreviation, and the values in order
+-- the encoding of an entry (section 7.5.2): the code of its abbreviation, and the values in order
 unfoldable pub entry : Entry → List ℕ
 entry e = uleb_of (code e.kind) ++ values (attributes e.kind) e.given
 
@@ -65,14 +65,15 @@ entry e = uleb_of (code e.kind) ++ values (attributes e.kind) e.given
 abbrev pub base_type : BaseEntry → Entry
 base_type b = record { kind = BaseType; given = (b.name, (b.size, (b.encoding, tt))) }
 
--- a parameter or a variable, where the entry of each type is at an offset from the unit's first byte. Its location is the list of its number
+-- a parameter or a variable. `offset` is the offset of each type's entry from the unit's first byte. Its location is the list
+-- with this index
 abbrev pub variable_by : (offset : ℕ → ℕ) → List ℕ → (argument : Bool) → Option ℕ → ℕ → Entry
 variable_by offset name true (Some base) list = record { kind = TypedParameter; given = (name, (offset base, (list, tt))) }
 variable_by offset name true None list = record { kind = Parameter; given = (name, (list, tt)) }
 variable_by offset name false (Some base) list = record { kind = TypedVariable; given = (name, (offset base, (list, tt))) }
 variable_by offset name false None list = record { kind = Variable; given = (name, (list, tt)) }
 
--- the entry of a variable or of a formal parameter, with DW_AT_type where its type is known
+-- the entry of a variable or of a formal parameter, with DW_AT_type if its type is known
 abbrev pub variable : (offset : ℕ → ℕ) → VariableEntry → Entry
 variable offset v = variable_by offset v.name v.argument v.base v.list
 
@@ -80,20 +81,20 @@ variable offset v = variable_by offset v.name v.argument v.base v.list
 abbrev pub subprogram : FunctionEntry → Entry
 subprogram f = record { kind = Subprogram; given = (f.name, (f.lo, (f.len, tt))) }
 
--- a unit, whose line number table is the first, and whose code begins at address 0
+-- a compilation unit. Its line number table is the first one, and its code begins at address 0
 abbrev pub compile_unit : CompilationUnit → Entry
 compile_unit u = record { kind = CompileUnit; given = (DW_LANG_C99, (u.name, (u.dir, (0, (0, (u.text_len, (LOCLISTS_BASE, tt))))))) }
 
--- where the entry of type k is, counted from the unit's first byte: behind the header, the unit's entry and the types before it
+-- the offset of type k's entry from the unit's first byte: after the header, the unit's entry and the types before it
 abbrev pub type_offset : CompilationUnit → ℕ → ℕ
 type_offset u k = HEADER_LENGTH + length (entry (compile_unit u)) + length (flat_map entry (map base_type (take k u.types)))
 
--- an entry with children, and the entries that are its children
+-- an entry and its children
 pub record Function : Type 0 where
   pub self : Entry
   pub variables : List Entry
 
--- the unit's entry, and those that are its children: the types and the functions
+-- the unit's entry and its children: the types and the functions
 pub record Tree : Type 0 where
   pub self : Entry
   pub types : List Entry
@@ -107,16 +108,16 @@ function_of offset f = record { self = subprogram f; variables = map (variable o
 abbrev pub tree_of : CompilationUnit → Tree
 tree_of u = record { self = compile_unit u; types = map base_type u.types; functions = map (function_of (type_offset u)) u.functions }
 
--- a zero byte ends the children of an entry (section 7.5.3)
+-- the encoding of a function with its children, which a zero byte ends (section 7.5.3)
 abbrev pub function : Function → List ℕ
 function f = entry f.self ++ flat_map entry f.variables ++ 0 ∷ []
 
--- the entries in prefix order (section 2.3), where a zero byte ends the children of the unit too
+-- the encoding of a tree: its entries in prefix order (section 2.3). A zero byte ends the children of the unit too
 unfoldable pub tree : Tree → List ℕ
 tree t = entry t.self ++ flat_map entry t.types ++ flat_map function t.functions ++ 0 ∷ []
 
--- the unit's header (section 7.5.1.1): the length of what follows it, the version, the kind of unit, the size of addresses, and where its
--- abbreviations begin
+-- the unit's header (section 7.5.1.1): the length of what follows it, the version, the unit type, the size of addresses, and the
+-- offset of its abbreviations
 abbrev pub header : (length_after : ℕ) → List ℕ
 header length_after = to_le_bytes w32 length_after ++ to_le_bytes w16 VERSION ++ (DW_UT_compile ∷ ADDRESS_SIZE ∷ []) ++ to_le_bytes w32 0
 
@@ -124,10 +125,10 @@ header length_after = to_le_bytes w32 length_after ++ to_le_bytes w16 VERSION ++
 unfoldable pub spelling : CompilationUnit → List ℕ
 spelling u = header (8 + length (tree (tree_of u))) ++ tree (tree_of u)
 
--- a variable's type is one of so many
+-- a variable's type, if it has one, is among this number of types
 abbrev pub HasType : ℕ → VariableEntry → Type 0
 HasType count v = IfSome v.base (λ base. base < count)
 
--- the types of a function's variables are there
+-- the types of a function's variables are among this number of types
 abbrev pub HasTypes : ℕ → FunctionEntry → Type 0
 HasTypes count f = All (HasType count) f.variables

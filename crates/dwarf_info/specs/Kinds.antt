@@ -1,4 +1,4 @@
--- The kinds of entries: the one description that abbreviations and entries are written from (DWARF 5 sections 7.5.2 and 7.5.3).
+-- The kinds of entries: one description for the encodings of both abbreviations and entries (DWARF 5 sections 7.5.2 and 7.5.3).
 use Rattle.std.specs.Prelude.{ℕ, List, [], ◌∷◌, ◌++◌}
 use Rattle.std.specs.List.{flat_map}
 use Rattle.dwarf_base.specs.Leb.{uleb_of}
@@ -24,7 +24,7 @@ form_number Reference = DW_FORM_ref4
 form_number SectionOffset = DW_FORM_sec_offset
 form_number LocationList = DW_FORM_loclistx
 
--- the code of a kind's abbreviation: its place among the abbreviations, from 1
+-- the code of a kind's abbreviation: its position among the abbreviations, counted from 1
 abbrev pub code : Kind → ℕ
 code CompileUnit = 1
 code Subprogram = 2
@@ -34,7 +34,7 @@ code TypedVariable = 5
 code Variable = 6
 code BaseType = 7
 
--- the tag of a kind (section 7.5.3): with a type and without, an entry has the same
+-- the tag of a kind (section 7.5.3). It is the same with and without a type
 abbrev pub tag : Kind → ℕ
 tag CompileUnit = DW_TAG_compile_unit
 tag Subprogram = DW_TAG_subprogram
@@ -44,7 +44,7 @@ tag TypedVariable = DW_TAG_variable
 tag Variable = DW_TAG_variable
 tag BaseType = DW_TAG_base_type
 
--- whether entries of a kind own children (section 7.5.3): the unit and functions do
+-- whether entries of a kind have children (section 7.5.3): the unit and functions have
 abbrev pub children : Kind → ℕ
 children CompileUnit = DW_CHILDREN_yes
 children Subprogram = DW_CHILDREN_yes
@@ -73,11 +73,11 @@ attributes BaseType = at DW_AT_name Text ∷ at DW_AT_byte_size Data1 ∷ at DW_
 abbrev pub kinds : List Kind
 kinds = CompileUnit ∷ Subprogram ∷ TypedParameter ∷ Parameter ∷ TypedVariable ∷ Variable ∷ BaseType ∷ []
 
--- an attribute in an abbreviation: its name and its form
+-- an attribute in an abbreviation: the number of its name, and that of its form
 abbrev pub attribute : Attribute → List ℕ
 attribute a = uleb_of a.name ++ uleb_of (form_number a.form)
 
--- an abbreviation (section 7.5.3): the code, the tag, whether there are children, the attributes, and two zero bytes
+-- an abbreviation (section 7.5.3): the code, the tag, the children flag, the attributes, and two zero bytes
 unfoldable pub abbreviation : Kind → List ℕ
 abbreviation kind = uleb_of (code kind) ++ uleb_of (tag kind) ++ children kind ∷ [] ++ flat_map attribute (attributes kind) ++ 0 ∷ 0 ∷ []
 

@@ -1,4 +1,4 @@
--- The numbers of DWARF 5 that entries and their abbreviations have, under the standard's names.
+-- DWARF 5's numbers for entries and their abbreviations, under the standard's names.
 use Rattle.std.specs.Prelude.{ℕ}
 
 -- tags (section 7.5.3)
@@ -37,11 +37,11 @@ DW_AT_location = 0x02
 abbrev pub DW_AT_name : ℕ
 DW_AT_name = 0x03
 
--- how many bytes a base type has
+-- the size of a base type in bytes
 abbrev pub DW_AT_byte_size : ℕ
 DW_AT_byte_size = 0x0b
 
--- where the unit's line number table begins in .debug_line
+-- the offset of the unit's line number table in .debug_line
 abbrev pub DW_AT_stmt_list : ℕ
 DW_AT_stmt_list = 0x10
 
@@ -49,7 +49,7 @@ DW_AT_stmt_list = 0x10
 abbrev pub DW_AT_low_pc : ℕ
 DW_AT_low_pc = 0x11
 
--- the end of the code, here as a length from DW_AT_low_pc on
+-- the end of the code, here as a length from DW_AT_low_pc
 abbrev pub DW_AT_high_pc : ℕ
 DW_AT_high_pc = 0x12
 
@@ -61,7 +61,7 @@ DW_AT_language = 0x13
 abbrev pub DW_AT_comp_dir : ℕ
 DW_AT_comp_dir = 0x1b
 
--- how the bytes of a base type are read, as signed or unsigned
+-- the encoding of a base type, such as signed or unsigned
 abbrev pub DW_AT_encoding : ℕ
 DW_AT_encoding = 0x3e
 
@@ -69,7 +69,7 @@ DW_AT_encoding = 0x3e
 abbrev pub DW_AT_type : ℕ
 DW_AT_type = 0x49
 
--- where in .debug_loclists the unit's offsets of location lists begin
+-- the offset in .debug_loclists of the unit's offsets of location lists
 abbrev pub DW_AT_loclists_base : ℕ
 DW_AT_loclists_base = 0x8c
 
@@ -101,7 +101,7 @@ DW_FORM_sec_offset = 0x17
 abbrev pub DW_FORM_loclistx : ℕ
 DW_FORM_loclistx = 0x22
 
--- a unit that is compiled (section 7.5.1)
+-- a compilation unit (section 7.5.1)
 abbrev pub DW_UT_compile : ℕ
 DW_UT_compile = 0x01
 
@@ -109,7 +109,7 @@ DW_UT_compile = 0x01
 abbrev pub DW_LANG_C99 : ℕ
 DW_LANG_C99 = 0x000c
 
--- where the location lists of the unit are counted from: behind the header of .debug_loclists, at its first offset (section 7.29)
+-- the offset that the unit's location lists count from: after the header of .debug_loclists, at its first offset (section 7.29)
 abbrev pub LOCLISTS_BASE : ℕ
 LOCLISTS_BASE = 12
 

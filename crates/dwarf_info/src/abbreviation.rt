@@ -1,4 +1,4 @@
-//! The section of abbreviations.
+//! The section of abbreviations, written.
 
 ghost use Rattle.std.specs.Prelude.{◌≡◌, ◌++◌, OnOk, IfOk};
 ghost use Rattle.std.specs.List.{flat_map};
@@ -102,7 +102,7 @@ static BASE_TYPE: [Attribute; 3] = [
     },
 ];
 
-/// The section `.debug_abbrev`.
+/// The section `.debug_abbrev`. The error is out of memory.
 #[tactic(auto, unfolding(crate::specs::Kinds::abbreviations))]
 pub fn write_abbrev(alloc: Global) -> Result<Bytes, AllocError>
     ensures { IfOk result (λ bytes. bytes ≡ abbreviations) }

@@ -54,7 +54,7 @@ pub fn push_subprogram(out: &mut Vec<u8>, f: &FunctionEntry) -> Result<(), Alloc
     push_u32(out, f.len)
 }
 
-/// Appends the entry of a parameter or variable, where the entries of the types are at these offsets.
+/// Appends the entry of a parameter or variable. The table has the offsets of the types' entries.
 pub fn push_variable(
     out: &mut Vec<u8>,
     offsets: &[u32],
@@ -72,7 +72,7 @@ pub fn push_variable(
     }
 }
 
-/// Appends the entry of a parameter of a type.
+/// Appends the entry of a parameter with a type.
 #[tactic(auto, unfolding(crate::specs::Entries::entry))]
 fn push_typed_parameter(
     out: &mut Vec<u8>,
@@ -89,7 +89,7 @@ fn push_typed_parameter(
     push_leb(out, &uleb(list as u64))
 }
 
-/// Appends the entry of a variable of a type.
+/// Appends the entry of a variable with a type.
 #[tactic(auto, unfolding(crate::specs::Entries::entry))]
 fn push_typed_variable(
     out: &mut Vec<u8>,
@@ -135,7 +135,7 @@ fn push_code(out: &mut Vec<u8>, kind: Kind) -> Result<(), AllocError>
     push_leb(out, &uleb(code(kind) as u64))
 }
 
-/// Appends a text: a name up to its first zero byte, and a zero byte.
+/// Appends a string: a name up to its first zero byte, and a zero byte.
 fn push_text(out: &mut Vec<u8>, name: &[u8]) -> Result<(), AllocError>
     ensures { OnOk result (out.new.items ≡ out.old.items ++ (named name.now ++ 0 ∷ [])) }
 {

@@ -1,5 +1,5 @@
-//! The kinds of entries, each by its tag, its attributes and their forms: the one description from which both the
-//! abbreviations and the entries are written.
+//! The kinds of entries, each with its tag, its attributes and their forms: one description for the encodings of both
+//! abbreviations and entries.
 
 /// A kind of entry.
 #[derive(Clone, Copy, Debug, PartialEq, Eq)]
@@ -8,19 +8,19 @@ pub enum Kind {
     CompileUnit,
     /// A function.
     Subprogram,
-    /// A parameter of a type.
+    /// A parameter with a type.
     TypedParameter,
     /// A parameter without a type.
     Parameter,
-    /// A variable of a type.
+    /// A variable with a type.
     TypedVariable,
     /// A variable without a type.
     Variable,
-    /// A type.
+    /// A base type.
     BaseType,
 }
 
-/// How the value of an attribute is written (DWARF 5 section 7.5.5).
+/// The form of an attribute's value (DWARF 5 section 7.5.5).
 #[derive(Clone, Copy, Debug, PartialEq, Eq)]
 pub enum Form {
     /// `DW_FORM_addr`: an address of eight bytes.
@@ -31,21 +31,21 @@ pub enum Form {
     Data2,
     /// `DW_FORM_data4`: a number of four bytes.
     Data4,
-    /// `DW_FORM_string`: a text that ends with a zero byte.
+    /// `DW_FORM_string`: a string that ends with a zero byte.
     Text,
     /// `DW_FORM_ref4`: an entry's offset from the unit's first byte, in four bytes.
     Reference,
     /// `DW_FORM_sec_offset`: an offset in another section, in four bytes.
     SectionOffset,
-    /// `DW_FORM_loclistx`: a location list's number, in ULEB128.
+    /// `DW_FORM_loclistx`: a location list's index, in ULEB128.
     LocationList,
 }
 
 /// An attribute of a kind of entry.
 #[derive(Clone, Copy, Debug, PartialEq, Eq)]
 pub struct Attribute {
-    /// Its name's number.
+    /// The number of its name.
     pub name: u8,
-    /// How its value is written.
+    /// The form of its value.
     pub form: Form,
 }

@@ -1,9 +1,9 @@
-//! Debugging information entries as a debugger reads them: the sections `.debug_abbrev` and `.debug_info` of DWARF 5,
-//! in the 32-bit format for 64-bit addresses. The entries of a unit are a tree: the unit, below it its types and its
-//! functions, and below each function its parameters and variables. An entry is the code of an abbreviation and the
-//! values of its attributes; the abbreviation says which attributes these are and in which forms. There are seven
-//! kinds of entries, and each is described once, for both sections. A variable names its type by the offset of the
-//! type's entry, and its location list by the list's number. Each unit has one spelling.
+//! Writer of debugging information entries: the sections `.debug_abbrev` and `.debug_info` of DWARF 5, in the 32-bit
+//! format for 64-bit addresses. The entries are a tree: the compilation unit, its types and functions, and the
+//! parameters and variables of each function. An entry is the code of an abbreviation and the values of its attributes;
+//! the abbreviation lists these attributes and their forms. There are seven kinds of entries, each described once for
+//! both sections. A variable refers to its type by the offset of the type's entry, and to its location list by the
+//! list's index. Each unit has one encoding.
 #![tactic(auto)]
 
 pub mod abbreviation;

@@ -1,4 +1,4 @@
-//! How many bytes a section has.
+//! The size of a section in bytes.
 
 ghost use Rattle.std.specs.Prelude.{◌≡◌, ◌+◌, ◌^◌, ◌≤◌, ◌↔◌, ℕ, length, IsNone, IfSome};
 ghost use Rattle.std.specs.List.{flat_map};
@@ -18,7 +18,8 @@ use dwarf_base::limits::SECTION_LIMIT;
 /// The bytes of the unit's header.
 const HEADER: usize = 12;
 
-/// The bytes of the section `.debug_info` of a unit, and `None` exactly from 2^31 bytes on. It takes no memory.
+/// The size of a unit's section `.debug_info` in bytes, and `None` if and only if it is 2^31 or more. It takes no
+/// memory.
 pub fn info_size(u: &Unit) -> Option<u32>
     ensures none { IsNone result ↔ (2 ^ 31 ≤ length (spelling u.now)) }
     ensures size { IfSome result (λ size. size ≡ length (spelling u.now)) }
@@ -132,7 +133,7 @@ fn code_len(kind: Kind) -> usize
     uleb(code(kind) as u64).len()
 }
 
-/// The bytes of a text: a name up to its first zero byte, and a zero byte.
+/// The bytes of a string: a name up to its first zero byte, and a zero byte.
 fn text_len(name: &[u8]) -> usize
     ensures { result ≡ length (named name.now) + 1 }
 {

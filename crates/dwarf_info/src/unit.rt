@@ -1,4 +1,4 @@
-//! What a unit has: types, functions and variables.
+//! The content of a unit: types, functions and variables.
 
 use base_list::List;
 
@@ -18,7 +18,7 @@ pub struct BaseEntry {
     pub name: Name,
     /// Its size in bytes.
     pub size: u8,
-    /// Its encoding, by the number that DWARF gives it (section 7.8).
+    /// Its encoding, by DWARF's number (section 7.8).
     pub encoding: u8,
 }
 
@@ -31,7 +31,7 @@ pub struct VariableEntry {
     pub argument: bool,
     /// Its type, by its index in the unit's types.
     pub base: Option<u32>,
-    /// Its location list, by its number.
+    /// Its location list, by the list's index.
     pub list: u32,
 }
 
@@ -42,7 +42,7 @@ pub struct FunctionEntry {
     pub name: Name,
     /// Its first address, in bytes.
     pub lo: u64,
-    /// How many bytes of code it has.
+    /// The length of its code in bytes.
     pub len: u32,
     /// Its parameters and variables.
     pub variables: VariableEntries,
@@ -55,7 +55,7 @@ pub struct Unit {
     pub name: Name,
     /// The directory of its compilation.
     pub dir: Name,
-    /// How many bytes of code it has.
+    /// The length of its code in bytes.
     pub text_len: u32,
     /// Its types.
     pub types: BaseEntries,

@@ -1,4 +1,4 @@
-//! The section of a unit, written.
+//! The writer of a unit's section.
 
 ghost use Rattle.std.specs.Prelude.{◌≡◌, ◌+◌, ◌^◌, ◌<◌, ◌++◌, ◌∷◌, [], ℕ, length, vec_len, All, OnOk, IfOk};
 ghost use Rattle.std.specs.List.{flat_map};
@@ -16,10 +16,10 @@ use base_list::List;
 use dwarf_base::constants::{ADDRESS_SIZE, VERSION};
 use std::alloc::{AllocError, Global};
 
-/// The bytes of the section's length, which doesn't count them.
+/// The bytes of the length field, which it doesn't count.
 const LENGTH: usize = 4;
 
-/// The section `.debug_info` of a unit.
+/// The section `.debug_info` of a unit. The error is out of memory.
 pub fn write_info(alloc: Global, u: &Unit) -> Result<Bytes, AllocError>
     // The type of each variable is there.
     requires types { All (HasTypes (length u.now.types)) u.now.functions }
@@ -48,7 +48,7 @@ fn push_header(out: &mut Vec<u8>, length_after: u32) -> Result<(), AllocError>
     push_u32(out, 0)
 }
 
-/// Appends the entries of types, and to a table where each begins.
+/// Appends the entries of types, and notes the offset of each in a table.
 fn push_types(
     out: &mut Vec<u8>,
     offsets: &mut Vec<u32>,

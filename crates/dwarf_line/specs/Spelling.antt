@@ -1,4 +1,4 @@
--- The one spelling of a line number table: the section .debug_line (DWARF 5 sections 6.2.4 and 6.2.5).
+-- The unique encoding of a line number table: the section .debug_line (DWARF 5 sections 6.2.4 and 6.2.5).
 use Rattle.std.specs.Prelude.{ℕ, pos, ◌+◌, ◌-◌, ◌-ℤ◌, List, [], ◌∷◌, ◌++◌, length, ◌==◌, if◌then◌else◌}
 use Rattle.std.specs.List.{flat_map}
 use Rattle.std.specs.Int.{w16, w32, w64, to_le_bytes}
@@ -12,22 +12,22 @@ use Rattle.dwarf_line.specs.Standard.{DW_LNS_copy, DW_LNS_advance_pc, DW_LNS_adv
 use Rattle.dwarf_line.specs.Standard.{DW_LNE_end_sequence, DW_LNE_set_address}
 use Rattle.dwarf_line.specs.Standard.{instruction_fields, directory_format, file_format}
 
--- a text: its bytes, and a zero byte (section 7.5.5)
+-- a string: its bytes, and a zero byte (section 7.5.5)
 abbrev pub text : List ℕ → List ℕ
 text name = name ++ 0 ∷ []
 
--- a file (section 6.2.4): its name and its directory's number
+-- a file (section 6.2.4): its name and its directory's index
 abbrev pub file : FileEntry → List ℕ
 file f = text f.name ++ uleb_of f.dir
 
--- what the header's length counts (section 6.2.4): from the least instruction's length to the last file
+-- the part of the header that its length counts (section 6.2.4): from minimum_instruction_length to the last file
 unfoldable pub tables : LineTable → List ℕ
 tables t =
     instruction_fields
     ++ directory_format ++ uleb_of (length t.dirs) ++ flat_map text t.dirs
     ++ file_format ++ uleb_of (length t.files) ++ flat_map file t.files
 
--- the state machine's registers as a sequence begins (section 6.2.2), at its first address
+-- the state machine's registers at a sequence's start (section 6.2.2), with its first address
 abbrev pub registers_at : ℕ → Row
 registers_at address = record { address = address; file = 1; line = 1; column = 0 }
 
@@ -39,7 +39,7 @@ set_address address = EXTENDED_OPCODE ∷ 9 ∷ DW_LNE_set_address ∷ to_le_byt
 abbrev pub end_sequence : List ℕ
 end_sequence = EXTENDED_OPCODE ∷ 1 ∷ DW_LNE_end_sequence ∷ []
 
--- the opcodes with one operand (section 6.2.5.2)
+-- DW_LNS_set_file: the file's number in ULEB128 (section 6.2.5.2)
 abbrev pub set_file : ℕ → List ℕ
 set_file n = DW_LNS_set_file ∷ uleb_of n
 
@@ -47,19 +47,19 @@ set_file n = DW_LNS_set_file ∷ uleb_of n
 abbrev pub set_column : ℕ → List ℕ
 set_column n = DW_LNS_set_column ∷ uleb_of n
 
--- DW_LNS_advance_pc: how far the address rises, in ULEB128. The unit is one byte, the least instruction's length
+-- DW_LNS_advance_pc: the advance of the address in ULEB128. Its unit is minimum_instruction_length, one byte
 abbrev pub advance_pc : (from to : ℕ) → List ℕ
 advance_pc from to = DW_LNS_advance_pc ∷ uleb_of (to - from)
 
--- DW_LNS_advance_line: how far the line goes up or down, in SLEB128
+-- DW_LNS_advance_line: the change of the line in SLEB128
 abbrev pub advance_line : (from to : ℕ) → List ℕ
 advance_line from to = DW_LNS_advance_line ∷ sleb_of (pos to -ℤ pos from)
 
--- an opcode stands only where its register changes
+-- the opcode for a register, only if the register changes
 abbrev pub changing : (old new : ℕ) → List ℕ → List ℕ
 changing old new bytes = if new == old then [] else bytes
 
--- a row, where the registers have the values of the one before: the opcodes of the registers that change, and DW_LNS_copy
+-- a row, with the registers set to the row before: the opcodes for registers that change, and DW_LNS_copy
 unfoldable pub row : (before r : Row) → List ℕ
 row before r =
     changing before.file r.file (set_file r.file)
@@ -68,17 +68,17 @@ row before r =
     ++ changing before.line r.line (advance_line before.line r.line)
     ++ DW_LNS_copy ∷ []
 
--- rows, and the advance to the end
+-- rows after the row `before`, the advance to the end, and DW_LNE_end_sequence
 abbrev pub rows_to : Row → List Row → ℕ → List ℕ
 rows_to before [] end = advance_pc before.address end ++ end_sequence
 rows_to before (r ∷ rows) end = row before r ++ rows_to r rows end
 
--- a sequence begins at its first row's address
+-- the first address of a sequence: that of its first row
 abbrev pub first_address : List Row → ℕ
 first_address [] = 0
 first_address (r ∷ rows) = r.address
 
--- the opcodes of a sequence: its first address is set, then come its rows, and DW_LNE_end_sequence
+-- the opcodes of a sequence: DW_LNE_set_address, its rows, the advance to its end, and DW_LNE_end_sequence
 abbrev pub sequence : Sequence → List ℕ
 sequence s = set_address (first_address s.rows) ++ rows_to (registers_at (first_address s.rows)) s.rows s.end
 
@@ -86,7 +86,7 @@ sequence s = set_address (first_address s.rows) ++ rows_to (registers_at (first_
 abbrev pub program : List Sequence → List ℕ
 program sequences = flat_map sequence sequences
 
--- the fields before those that the header's length counts (section 6.2.4): the length of what follows it, the version, the sizes of
+-- the part of the header that its length doesn't count (section 6.2.4): the length of what follows it, the version, the sizes of
 -- addresses and of segment selectors, and the header's length
 abbrev pub header : (length_after header_length : ℕ) → List ℕ
 header length_after header_length =

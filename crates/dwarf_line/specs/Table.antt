@@ -1,21 +1,21 @@
--- What a line number table is, apart from its bytes.
+-- The content of a line number table, without its encoding.
 use Rattle.std.specs.Prelude.{ℕ, ◌<◌, ◌≤◌, ◌^◌, List, [], ◌∷◌, length, All}
 use Rattle.dwarf_line.specs.declared.table.FileEntry.{FileEntry}
 use Rattle.dwarf_line.specs.declared.table.Row.{Row}
 use Rattle.dwarf_line.specs.declared.table.Sequence.{Sequence}
 use Rattle.dwarf_line.specs.declared.table.LineTable.{LineTable}
 
--- from an address on, the rows' addresses don't fall, up to the end
+-- the rows' addresses are nondecreasing, from an address up to the end
 abbrev pub Ascend : ℕ → List Row → ℕ → Type 0
 Ascend from [] end = from ≤ end
 Ascend from (r ∷ rows) end = (from ≤ r.address) × Ascend r.address rows end
 
--- there is a row, the addresses don't fall, and the end isn't below the last
+-- there is a row, and the addresses are nondecreasing up to the end
 abbrev pub HasRows : List Row → ℕ → Type 0
 HasRows [] end = ⊥
 HasRows (r ∷ rows) end = Ascend r.address rows end
 
--- the rows of a sequence go on as the code does, and its end is the first address behind it (section 6.2.5)
+-- a sequence (section 6.2.5): at least one row, with nondecreasing addresses up to the end, the first address after the code
 abbrev pub IsSequence : Sequence → Type 0
 IsSequence s = HasRows s.rows s.end
 
@@ -43,11 +43,11 @@ pub record IsRow (r : Row) : Type 0 where
 abbrev pub HasRange : Sequence → Type 0
 HasRange s = All IsRow s.rows × (s.end < 2 ^ 64)
 
--- a file's directory has a number of 64 bits
+-- a file's directory index fits in 64 bits
 abbrev pub IsNumbered : FileEntry → Type 0
 IsNumbered f = f.dir < 2 ^ 64
 
--- what a table can have: counts and numbers of directories have 64 bits, and so have the ends
+-- all numbers of a table are in range: counts, directory indices and ends fit in 64 bits, rows as `IsRow` has it
 pub record Fits (t : LineTable) : Type 0 where
   pub dirs : length t.dirs < 2 ^ 64
   pub files : length t.files < 2 ^ 64

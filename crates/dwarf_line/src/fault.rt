@@ -1,14 +1,14 @@
-//! Why a section can't be read.
+//! The error of the reader.
 
 use std::fmt::Debug;
 use thiserror::Error;
 
-/// Why a section can't be read.
+/// The error of the reader.
 #[derive(Debug, Drop, Error)]
 pub enum LineError {
-    /// The bytes are no section that is written. The first wrong field begins at this byte, from 0. The section's
-    /// length is judged first, against the bytes given, and the header's length where its tables end; all other
-    /// fields are judged in order.
+    /// The bytes are no section that the writer writes. The first wrong field begins at this byte, counted from 0. The
+    /// section's length is checked first, against the given bytes, and the header's length at the end of its tables;
+    /// all other fields are checked in order.
     #[error("the line number table is wrong at byte {0}")]
     LineFault(usize),
     /// Memory ran out.

@@ -1,4 +1,4 @@
-//! What is read of a section, from the left.
+//! The reader of a section, from the left.
 
 ghost use Rattle.std.specs.Prelude.{◌≡◌, ◌+◌, ◌^◌, ◌≤◌, ◌<◌, ◌++◌, ◌∷◌, [], ◌-◌, length, IfOk, IsErrOf, MatchResult, ℕ};
 ghost use Rattle.std.specs.Prelude.{List, true};
@@ -24,8 +24,8 @@ use dwarf_base::front::{split_sleb, split_u32, split_uleb};
 use std::alloc::{AllocError, AllocFailed, Global};
 
 /// The sequences of a section `.debug_line`, as `write_line` writes it (DWARF 5 sections 6.2.4 and 6.2.5). Special
-/// opcodes aren't read, and files and directories are passed over. It takes memory for the rows alone, and looks at
-/// each byte a bounded number of times.
+/// opcodes aren't accepted, and files and directories are skipped. It takes memory for the rows alone, and reads each
+/// byte a bounded number of times. The error is the first wrong field, or out of memory.
 pub fn rows(alloc: Global, bytes: &[u8]) -> Result<Sequences, LineError>
     // What is read is the section of a table with these sequences.
     ensures found { IfOk result (λ sequences. (t : LineTable) × IsSection bytes.now t × (t.sequences ≡ sequences)) }
@@ -47,10 +47,10 @@ pub fn one_reading()
     ensures { (bytes : List ℕ) (a b : LineTable) → IsSection bytes a → IsSection bytes b → a.sequences ≡ b.sequences }
 {}
 
-/// Why bytes couldn't be read on.
+/// A reader's error within a section.
 #[derive(Debug, Drop)]
 enum ReadError {
-    /// A field is wrong: so many bytes are left from its first one on.
+    /// A field is wrong: this number of bytes is left from its first one on.
     Left(usize),
     /// Memory ran out.
     Memory,
@@ -66,25 +66,25 @@ impl From<AllocError> for ReadError {
     }
 }
 
-/// Where the opcodes of a row leave the address.
+/// The address after the opcodes of a row.
 #[derive(Clone, Copy, Debug, PartialEq, Eq)]
 struct Advance {
     /// The address.
     address: u64,
-    /// How many bytes are left from the operand on, if the address was advanced.
+    /// The number of bytes left from the operand on, if the address was advanced.
     operand: Option<usize>,
 }
 
-/// What opcodes up to a copy or an end give.
+/// The result of the opcodes up to a copy or an end.
 #[derive(Clone, Copy, Debug, PartialEq, Eq)]
 enum Group {
     /// A row.
     Copied(Row),
-    /// The end of a sequence, behind its last instruction.
+    /// The end of a sequence: the address after its last instruction.
     Ended(u64),
 }
 
-/// The bytes behind fields of one byte that have one value each.
+/// The bytes after fields of one byte with a fixed value each.
 fn constants<'a>(bytes: &'a [u8], fields: &[u8]) -> Result<&'a [u8], ReadError>
     ensures { Gives (λ x. x.now) result (constants_at fields.now bytes.now) }
 {
@@ -103,7 +103,7 @@ fn constants<'a>(bytes: &'a [u8], fields: &[u8]) -> Result<&'a [u8], ReadError>
     Ok(rest)
 }
 
-/// A number of two bytes, and what is behind it.
+/// A number of two bytes, and the bytes after it.
 fn u16_at(bytes: &[u8]) -> Result<(u16, &[u8]), ReadError>
     ensures { Gives (λ x. (x.0, x.1.now)) result (number_at w16 bytes.now) }
 {
@@ -114,7 +114,7 @@ fn u16_at(bytes: &[u8]) -> Result<(u16, &[u8]), ReadError>
     Ok((u16::from_le_bytes([front[0], front[1]]), rest))
 }
 
-/// A number of four bytes, and what is behind it.
+/// A number of four bytes, and the bytes after it.
 fn u32_at(bytes: &[u8]) -> Result<(u32, &[u8]), ReadError>
     ensures { Gives (λ x. (x.0, x.1.now)) result (number_at w32 bytes.now) }
 {
@@ -124,7 +124,7 @@ fn u32_at(bytes: &[u8]) -> Result<(u32, &[u8]), ReadError>
     }
 }
 
-/// A number of eight bytes, and what is behind it.
+/// A number of eight bytes, and the bytes after it.
 fn u64_at(bytes: &[u8]) -> Result<(u64, &[u8]), ReadError>
     ensures { Gives (λ x. (x.0, x.1.now)) result (number_at w64 bytes.now) }
 {
@@ -138,7 +138,7 @@ fn u64_at(bytes: &[u8]) -> Result<(u64, &[u8]), ReadError>
     Ok((number, rest))
 }
 
-/// An unsigned LEB128 number of 64 bits, and what is behind it.
+/// An unsigned LEB128 number of 64 bits, and the bytes after it.
 fn count_at(bytes: &[u8]) -> Result<(u64, &[u8]), ReadError>
     ensures { Gives (λ x. (x.0, x.1.now)) result (uleb_at (2 ^ 64) bytes.now) }
 {
@@ -148,7 +148,7 @@ fn count_at(bytes: &[u8]) -> Result<(u64, &[u8]), ReadError>
     }
 }
 
-/// An unsigned LEB128 number of 32 bits, and what is behind it.
+/// An unsigned LEB128 number of 32 bits, and the bytes after it.
 fn small_at(bytes: &[u8]) -> Result<(u32, &[u8]), ReadError>
     ensures { Gives (λ x. (x.0, x.1.now)) result (uleb_at (2 ^ 32) bytes.now) }
 {
@@ -164,7 +164,7 @@ fn small_at(bytes: &[u8]) -> Result<(u32, &[u8]), ReadError>
     }
 }
 
-/// Where an advance leads from an address, and what is behind it.
+/// The address after an advance, and the bytes after the operand.
 fn advanced(from: u64, bytes: &[u8]) -> Result<(u64, &[u8]), ReadError>
     ensures { Gives (λ x. (x.0, x.1.now)) result (advanced_at from bytes.now) }
 {
@@ -180,7 +180,7 @@ fn advanced(from: u64, bytes: &[u8]) -> Result<(u64, &[u8]), ReadError>
     }
 }
 
-/// Where an advance leads from a line, and what is behind it.
+/// The line after an advance, and the bytes after the operand.
 fn line(from: u32, bytes: &[u8]) -> Result<(u32, &[u8]), ReadError>
     ensures { Gives (λ x. (x.0, x.1.now)) result (line_at from bytes.now) }
 {
@@ -196,7 +196,7 @@ fn line(from: u32, bytes: &[u8]) -> Result<(u32, &[u8]), ReadError>
     }
 }
 
-/// What is behind a text.
+/// The bytes after a string.
 fn after_text(bytes: &[u8]) -> Result<&[u8], ReadError>
     ensures { Gives (λ x. x.now) result (behind_text bytes.now) }
 {
@@ -210,7 +210,7 @@ fn after_text(bytes: &[u8]) -> Result<&[u8], ReadError>
     Err(ReadError::Left(bytes.len()))
 }
 
-/// What is behind so many directories.
+/// The bytes after this number of directories.
 fn after_dirs(count: u64, bytes: &[u8]) -> Result<&[u8], ReadError>
     ensures { Gives (λ x. x.now) result (behind_dirs count bytes.now) }
 {
@@ -221,7 +221,7 @@ fn after_dirs(count: u64, bytes: &[u8]) -> Result<&[u8], ReadError>
     Ok(rest)
 }
 
-/// What is behind so many files.
+/// The bytes after this number of files.
 fn after_files(count: u64, bytes: &[u8]) -> Result<&[u8], ReadError>
     ensures { Gives (λ x. x.now) result (behind_files count bytes.now) }
 {
@@ -234,7 +234,7 @@ fn after_files(count: u64, bytes: &[u8]) -> Result<&[u8], ReadError>
     Ok(rest)
 }
 
-/// What is behind the tables.
+/// The bytes after the tables.
 #[tactic(auto, unfolding(crate::specs::FirstFault::behind_tables))]
 fn after_tables(bytes: &[u8]) -> Result<&[u8], ReadError>
     ensures { Gives (λ x. x.now) result (behind_tables bytes.now) }
@@ -248,7 +248,7 @@ fn after_tables(bytes: &[u8]) -> Result<&[u8], ReadError>
     after_files(file_count, entries)
 }
 
-/// What is behind the header: the line number program.
+/// The bytes after the header: the line number program.
 #[tactic(auto, unfolding(crate::specs::FirstFault::behind_header))]
 fn after_header(bytes: &[u8]) -> Result<&[u8], ReadError>
     ensures { Gives (λ x. x.now) result (behind_header bytes.now) }
@@ -270,7 +270,7 @@ fn after_header(bytes: &[u8]) -> Result<&[u8], ReadError>
     Ok(program)
 }
 
-/// The file behind an opcode that may change it.
+/// The file after an opcode that may set it, and the bytes after that.
 #[tactic(auto, unfolding(crate::specs::FirstFault::register_at))]
 fn file_at(before: u32, bytes: &[u8]) -> Result<(u32, &[u8]), ReadError>
     ensures { Gives (λ x. (x.0, x.1.now)) result
@@ -288,7 +288,7 @@ fn file_at(before: u32, bytes: &[u8]) -> Result<(u32, &[u8]), ReadError>
     }
 }
 
-/// The column behind an opcode that may change it.
+/// The column after an opcode that may set it, and the bytes after that.
 #[tactic(auto, unfolding(crate::specs::FirstFault::register_at))]
 fn column_at(before: u32, bytes: &[u8]) -> Result<(u32, &[u8]), ReadError>
     ensures { Gives (λ x. (x.0, x.1.now)) result
@@ -306,7 +306,7 @@ fn column_at(before: u32, bytes: &[u8]) -> Result<(u32, &[u8]), ReadError>
     }
 }
 
-/// The line behind an opcode that may advance it.
+/// The line after an opcode that may advance it, and the bytes after that.
 #[tactic(auto, unfolding(crate::specs::FirstFault::register_at))]
 fn new_line_at(before: u32, bytes: &[u8]) -> Result<(u32, &[u8]), ReadError>
     ensures { Gives (λ x. (x.0, x.1.now)) result
@@ -324,7 +324,8 @@ fn new_line_at(before: u32, bytes: &[u8]) -> Result<(u32, &[u8]), ReadError>
     }
 }
 
-/// The address behind an opcode that may advance it, but before a sequence's first row.
+/// The address after an opcode that may advance it, and the bytes after that. It doesn't advance before a sequence's
+/// first row.
 #[tactic(auto, unfolding(crate::specs::FirstFault::advance_at))]
 fn address_at(first: bool, from: u64, bytes: &[u8]) -> Result<(Advance, &[u8]), ReadError>
     ensures { Gives (λ x. (x.0, x.1.now)) result (advance_at first from bytes.now) }
@@ -349,7 +350,7 @@ fn address_at(first: bool, from: u64, bytes: &[u8]) -> Result<(Advance, &[u8]), 
     }
 }
 
-/// A row that is copied, if the address wasn't advanced by 0.
+/// A copied row, if the address wasn't advanced by 0.
 #[tactic(auto, unfolding(crate::specs::FirstFault::copied_at))]
 fn copied<'a>(
     before: &Row,
@@ -365,7 +366,7 @@ fn copied<'a>(
     }
 }
 
-/// The end of a sequence, if its address alone was advanced.
+/// The end of a sequence, if the address and no other register was set.
 #[tactic(auto, unfolding(crate::specs::FirstFault::ended_at))]
 fn ended<'a>(
     before: &Row,
@@ -384,7 +385,7 @@ fn ended<'a>(
     Ok((Group::Ended(row.address), after))
 }
 
-/// What the opcode gives that closes those which set the registers.
+/// The result of the opcode after those that set the registers: a copy or an end.
 #[tactic(auto, unfolding(crate::specs::FirstFault::closed_at))]
 fn closed<'a>(
     before: &Row,
@@ -423,7 +424,7 @@ fn next_group<'a>(
     closed(before, row, advance.operand, bytes)
 }
 
-/// The address at which a sequence begins.
+/// The first address of a sequence.
 #[tactic(auto, unfolding(crate::specs::FirstFault::start_at))]
 fn start(bytes: &[u8]) -> Result<(u64, &[u8]), ReadError>
     ensures { Gives (λ x. (x.0, x.1.now)) result (start_at bytes.now) }
@@ -432,7 +433,7 @@ fn start(bytes: &[u8]) -> Result<(u64, &[u8]), ReadError>
     u64_at(address)
 }
 
-/// The rows of a sequence that begins at an address, its end, and what is behind it.
+/// The rows and the end of a sequence that begins at an address, and the bytes after it.
 fn sequence_from(alloc: Global, start: u64, bytes: &[u8]) -> Result<(Sequence, &[u8]), ReadError>
     ensures { MatchResult result
         (λ x. Rows true (registers_at start) bytes.now x.0.rows x.0.end x.1.now)

@@ -1,4 +1,4 @@
-//! What the rows of a section say of an address.
+//! The row for an address by a section.
 
 ghost use Rattle.std.specs.Prelude.{◌≡◌, ◌≤◌, ℕ, List, Some};
 ghost use Rattle.dwarf_line.specs.declared.table.Row.{Row};
@@ -6,7 +6,7 @@ ghost use Rattle.dwarf_line.specs.Table.{HasRows};
 ghost use Rattle.dwarf_line.specs.Spelling.{first_address};
 ghost use Rattle.dwarf_line.specs.Rows.{row_in, IsLastRow, RowAt};
 
-/// Each address of a sequence has a row, and it is the last one at or before the address (DWARF 5 section 6.2).
+/// Each address of a sequence has a row: the last one at or before the address (DWARF 5 section 6.2).
 pub fn one_row()
     ensures found { (rows : List Row) (end address : ℕ) → HasRows rows end → first_address rows ≤ address
         → (r : Row) × (row_in rows address ≡ Some r) }

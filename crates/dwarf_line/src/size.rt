@@ -1,4 +1,4 @@
-//! How many bytes a section has.
+//! The size of a section in bytes.
 
 ghost use Rattle.std.specs.Prelude.{◌≡◌, ◌+◌, ◌^◌, ◌≤◌, ◌<◌, ◌↔◌, length, All, IsNone, IfSome};
 ghost use Rattle.std.specs.List.{flat_map};
@@ -13,14 +13,14 @@ use crate::table::{FileEntry, LineTable, Name, Row, Sequence};
 use dwarf_base::leb::{sleb, uleb};
 use dwarf_base::limits::SECTION_LIMIT;
 
-/// The bytes of the header before those that its length counts.
+/// The bytes of the header that its length doesn't count.
 const HEADER: usize = 12;
 /// The bytes of the opcode that sets the address.
 const SET_ADDRESS: usize = 11;
 /// The bytes of the opcode that ends a sequence.
 const END_SEQUENCE: usize = 3;
 
-/// The bytes of the section of a table, and `None` exactly from 2^31 bytes on. It takes no memory.
+/// The size of a table's section in bytes, and `None` if and only if it is 2^31 or more. It takes no memory.
 pub fn line_size(t: &LineTable) -> Option<u32>
     requires { All IsSequence t.now.sequences }
     ensures none { IsNone result ↔ (2 ^ 31 ≤ length (spelling t.now)) }
@@ -106,7 +106,7 @@ fn sequence_len(rows: &[Row], end: u64) -> usize
     len.saturating_add(1 + uleb(end - before.address).len() + END_SEQUENCE)
 }
 
-/// The state machine's registers as a sequence begins (DWARF 5 section 6.2.2).
+/// The state machine's registers at a sequence's start (DWARF 5 section 6.2.2).
 pub fn registers(address: u64) -> Row
     ensures { result ≡ registers_at address }
 {
@@ -118,7 +118,7 @@ pub fn registers(address: u64) -> Row
     }
 }
 
-/// The bytes of a row behind another.
+/// The bytes of a row after another.
 #[tactic(auto, unfolding(crate::specs::Spelling::row))]
 fn row_len(before: &Row, row: &Row) -> usize
     requires { before.now.address ≤ row.now.address }

@@ -18,29 +18,29 @@ pub type Sequences = List<Sequence>;
 pub struct FileEntry {
     /// Its name, without a zero byte.
     pub name: Name,
-    /// The number of its directory, from 0.
+    /// The index of its directory, from 0.
     pub dir: u32,
 }
 
-/// From an address on, the instructions come from a place in the sources (DWARF 5 section 6.2.2).
+/// A row: the source position of the instructions from an address on (DWARF 5 section 6.2.2).
 #[derive(Clone, Copy, Debug, PartialEq, Eq)]
 pub struct Row {
     /// The address in bytes.
     pub address: u64,
     /// The number of the file, from 0.
     pub file: u32,
-    /// The line, from 1; 0 where the instruction comes from no line.
+    /// The line, from 1; 0 for an instruction without a line.
     pub line: u32,
     /// The column, from 1; 0 for the line's beginning.
     pub column: u32,
 }
 
-/// Rows of instructions one after the other (DWARF 5 section 6.2.2).
+/// Rows for contiguous instructions (DWARF 5 section 6.2.2).
 #[derive(Debug, Drop)]
 pub struct Sequence {
-    /// The rows: at least one, whose addresses don't fall.
+    /// The rows: at least one, with nondecreasing addresses.
     pub rows: RowList,
-    /// The address behind the last instruction, in bytes.
+    /// The address after the last instruction, in bytes.
     pub end: u64,
 }
 

@@ -1,4 +1,4 @@
-//! The section of a table, written.
+//! The writer of a table's section.
 
 ghost use Rattle.std.specs.Prelude.{◌≡◌, ◌+◌, ◌^◌, ◌≤◌, ◌<◌, ◌++◌, ◌∷◌, length, All, OnOk, IfOk};
 ghost use Rattle.std.specs.List.{flat_map};
@@ -20,10 +20,10 @@ use std::alloc::{AllocError, Global};
 /// Bytes, in order.
 pub type Bytes = List<u8>;
 
-/// The bytes of the section's length, which doesn't count them.
+/// The bytes of the length field, which it doesn't count.
 const LENGTH: usize = 4;
 
-/// The section `.debug_line` of a table.
+/// The section `.debug_line` of a table. The error is out of memory.
 pub fn write_line(alloc: Global, t: &LineTable) -> Result<Bytes, AllocError>
     // The names have no zero byte.
     requires names { HasNames t.now }
@@ -42,7 +42,7 @@ pub fn write_line(alloc: Global, t: &LineTable) -> Result<Bytes, AllocError>
     Ok(List::from(out))
 }
 
-/// Appends the fields before those that the header's length counts.
+/// Appends the header fields that its length doesn't count.
 fn push_header(out: &mut Vec<u8>, length_after: u32, header_length: u32) -> Result<(), AllocError>
     ensures { OnOk result (out.new.items ≡ out.old.items ++ header length_after header_length) }
 {
@@ -53,7 +53,7 @@ fn push_header(out: &mut Vec<u8>, length_after: u32, header_length: u32) -> Resu
     out.extend_from_slice(&header_length.to_le_bytes())
 }
 
-/// Appends what the header's length counts.
+/// Appends the header fields that its length counts.
 #[tactic(auto, unfolding(crate::specs::Spelling::tables))]
 fn push_tables(out: &mut Vec<u8>, t: &LineTable) -> Result<(), AllocError>
     ensures bytes { OnOk result (out.new.items ≡ out.old.items ++ tables t.now) }
@@ -91,7 +91,7 @@ fn push_files(out: &mut Vec<u8>, files: &[FileEntry]) -> Result<(), AllocError>
     Ok(())
 }
 
-/// Appends a file: its name, and the number of its directory.
+/// Appends a file: its name, and the index of its directory.
 fn push_source(out: &mut Vec<u8>, file: &FileEntry) -> Result<(), AllocError>
     ensures bytes { OnOk result (out.new.items ≡ out.old.items ++ Spelling.file file.now) }
     ensures number { OnOk result (IsNumbered file.now) }
@@ -149,7 +149,7 @@ fn push_end(out: &mut Vec<u8>, last: u64, end: u64) -> Result<(), AllocError>
     Ok(())
 }
 
-/// Appends a row behind another: what sets the registers that change, and the copy.
+/// Appends a row after another: the opcodes for registers that change, and the copy.
 #[tactic(auto, unfolding(crate::specs::Spelling::row))]
 fn push_row(out: &mut Vec<u8>, before: &Row, row: &Row) -> Result<(), AllocError>
     requires { before.now.address ≤ row.now.address }
@@ -224,7 +224,7 @@ fn push_leb(out: &mut Vec<u8>, number: &Leb) -> Result<(), AllocError>
     out.extend_from_slice(number.as_slice())
 }
 
-/// Appends a text: its bytes, and a zero byte.
+/// Appends a string: its bytes, and a zero byte.
 fn push_text(out: &mut Vec<u8>, name: &[u8]) -> Result<(), AllocError>
     ensures { OnOk result (out.new.items ≡ out.old.items ++ text name.now) }
 {

@@ -1,4 +1,4 @@
--- From which file, line and column of the source the code at a position comes.
+-- The source position of code: file, line and column, by the code's origin.
 use Rattle.std.specs.Prelude.{ℕ, List, [], ◌∷◌, drop, Option, Some, None, cond, nat_eq}
 use Rattle.std.specs.Option.{option_and_then}
 use Rattle.read_metadata.specs.Maps.{Maps}
@@ -17,40 +17,40 @@ use Rattle.dwarf_line_table.specs.declared.file.SourceFile.{SourceFile}
 use Rattle.dwarf_line_table.specs.declared.scope_line.ScopeLine.{ScopeLine}
 use Rattle.dwarf_line_table.specs.Files.{file_or}
 
--- a place in the source
+-- a source position
 pub record SourceLine : Type 0 where
   pub file : SourceFile
   pub line : ℕ
   pub column : ℕ
 
--- code that comes from no line
+-- the line of code without a source line
 abbrev pub no_line : ScopeLine
 no_line = record { line = 0; column = 0; scope = None }
 
--- what a DILocation node says: its line, its column and its scope
+-- the line, column and scope of a DILocation node, and `no_line` if there is none
 abbrev pub node_line : Option LocationNode → ScopeLine
 node_line None = no_line
 node_line (Some l) = record { line = l.line; column = l.column; scope = l.scope }
 
--- what a debug location says. One that isn't readable says no line
+-- the line of a debug location, and `no_line` if it is absent or not readable
 abbrev pub scope_line : Maps → Loc → ScopeLine
 scope_line meta Absent = no_line
 scope_line meta (Node n) = node_line (location_at meta n)
 scope_line meta (Inline l) = record { line = l.line; column = l.column; scope = Some l.scope }
 
--- the file of a scope, which is the unit's where none is readable
+-- the file of a scope, and the unit's if none is readable
 abbrev pub scope_file : Maps → (unit : SourceFile) → Option ℕ → SourceFile
 scope_file meta unit scope = file_or (option_and_then (file_of_scope_at meta) scope) unit
 
--- a line as a place in the source, in the file of its scope
+-- the source position of a line, in the file of its scope
 abbrev pub in_file : Maps → (unit : SourceFile) → ScopeLine → SourceLine
 in_file meta unit l = record { file = scope_file meta unit l.scope; line = l.line; column = l.column }
 
--- the place that a debug location says
+-- the source position of a debug location
 abbrev pub line_at : Maps → (unit : SourceFile) → Loc → SourceLine
 line_at meta unit loc = in_file meta unit (scope_line meta loc)
 
--- the debug location of code. A mark or a phi has no address, and what follows it counts
+-- the debug location of code, and otherwise that of what follows: a debug value or DBG_PHI has no address
 abbrev pub loc_if_code : ItemKind → (own others : Loc) → Loc
 loc_if_code (Code i k) own others = own
 loc_if_code (Mark v m) own others = others
@@ -71,6 +71,6 @@ abbrev pub position_of : Origin → Pos
 position_of (Kept p) = p
 position_of (Before p) = p
 
--- the place in the source of code with an origin, by the blocks of the function as it was read
+-- the source position of code with this origin, in the blocks of the function as it was read
 abbrev pub line_of : Maps → SourceFile → List Block → Origin → SourceLine
 line_of meta unit blocks origin = line_at meta unit (loc_of blocks (position_of origin))

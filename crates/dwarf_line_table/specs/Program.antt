@@ -10,27 +10,28 @@ use Rattle.dwarf_line_table.specs.declared.file.SourceFile.{SourceFile}
 use Rattle.dwarf_line_table.specs.Files.{unit_file, files_of, dirs_of, entries_of}
 use Rattle.dwarf_line_table.specs.Table.{changes, uses_in, rows_in}
 
--- how many functions a table is made of
+-- the most functions of a program's table
 abbrev pub MAX_FUNCTIONS : ℕ
 MAX_FUNCTIONS = 4096
 
--- the unit's file of a program
+-- the file of a program's unit
 abbrev pub program_file : Maps → List Compiled → SourceFile
 program_file meta functions = unit_file meta (map (λ f. f.source.now.name) functions)
 
--- the files that a function's words use, in their order
+-- the files of a function's entries, in the entries' order
 abbrev pub function_uses : Maps → (unit : SourceFile) → Compiled → List SourceFile
 function_uses meta unit f = uses_in meta unit f.source.now.blocks f.code.now.entries
 
--- the rows of a function: one at its first word, and one at each word whose file, line or column differs from the word before
+-- the rows of a function: one at its first entry, and one at each entry whose file, line or column differs from that of the entry
+-- before
 abbrev pub rows_of : List SourceFile → Maps → (unit : SourceFile) → Compiled → List Row
 rows_of files meta unit f = changes None (rows_in files meta unit f.source.now.blocks f.code.now.entries)
 
--- the address behind a function's words
+-- the address after a function's words
 abbrev pub function_end : Compiled → ℕ
 function_end f = f.code.now.base + 4 * length f.code.now.words
 
--- a sequence, if there is a row
+-- the sequence of these rows, if there is one
 abbrev pub sequence_if : List Row → (end : ℕ) → List Sequence
 sequence_if [] end = []
 sequence_if (r ∷ rows) end = record { rows = r ∷ rows; end = end } ∷ []
@@ -39,7 +40,7 @@ sequence_if (r ∷ rows) end = record { rows = r ∷ rows; end = end } ∷ []
 abbrev pub sequences_of : List SourceFile → Maps → (unit : SourceFile) → Compiled → List Sequence
 sequences_of files meta unit f = sequence_if (rows_of files meta unit f) (function_end f)
 
--- the files of a program from number 1 on
+-- the files of a program's table, from number 1 on
 abbrev pub program_files : Maps → List Compiled → List SourceFile
 program_files meta functions = files_of (program_file meta functions) (flat_map (function_uses meta (program_file meta functions)) functions)
 

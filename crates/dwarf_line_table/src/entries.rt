@@ -1,4 +1,4 @@
-//! The directories and files of a line table.
+//! The directory and file entries of a line number table.
 
 ghost use Rattle.std.specs.Prelude.{◌≡◌, ◌+◌, ◌-◌, ◌<◌, ◌^◌, map, length, IfOk};
 ghost use Rattle.dwarf_line_table.specs.Files.{dirs_of, entries_of, entry_zero};
@@ -9,7 +9,7 @@ use base_list::List;
 use dwarf_line::table::{FileEntries, FileEntry, NameList};
 use std::alloc::{AllocError, Global};
 
-/// Directories, and files that have them.
+/// Directories, and files that refer to them.
 #[derive(Drop)]
 pub struct Entries {
     /// The directories.
@@ -18,7 +18,7 @@ pub struct Entries {
     pub files: FileEntries,
 }
 
-/// The directories and files of names and directories.
+/// The directories and files of names and directories. The error is out of memory.
 pub fn make_entries(alloc: Global, keys: &[(Vec<u8>, Vec<u8>)]) -> Result<Entries, AllocError>
     requires { length keys.now < 2 ^ 32 - 2 }
     ensures dirs { IfOk result (λ e. e.dirs ≡ dirs_of (map seen keys.now)) }

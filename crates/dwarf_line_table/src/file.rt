@@ -19,7 +19,8 @@ pub struct SourceFile {
     pub dir: Name,
 }
 
-/// Files, each once, in the order of their first use. Two are one where name and directory are equal.
+/// A list of files without duplicates, in the order of their first use. Two are the same if their names and directories
+/// are.
 #[derive(Drop)]
 pub struct Files {
     known: IndexSet<(Vec<u8>, Vec<u8>)>,
@@ -44,7 +45,7 @@ impl Files {
         }
     }
 
-    /// The number of a file, from 1. A new file joins.
+    /// The number of a file, from 1. A new file is appended. The error is out of memory.
     pub fn number(&mut self, alloc: Global, name: &[u8], dir: &[u8]) -> Result<u32, AllocError>
         requires few { length self.old < 2 ^ 32 - 2 }
         ensures known { OnOk result
@@ -59,7 +60,7 @@ impl Files {
         Ok(index as u32 + 1)
     }
 
-    /// The directories and the files of a line table with these files.
+    /// The directories and file entries of a line number table with these files. The error is out of memory.
     pub fn entries(&self, alloc: Global) -> Result<Entries, AllocError>
         requires { length self.now < 2 ^ 32 - 2 }
         ensures dirs { IfOk result (λ e. e.dirs ≡ dirs_of self.now) }

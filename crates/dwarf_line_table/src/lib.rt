@@ -1,13 +1,12 @@
-//! The line table of a program, and the law of what it tells.
+//! The line number table of a program, and laws about it.
 //!
-//! - `compiled`, `entries`, `file`, `line_table`, `names`, `places`, `rows`, `scope_line`, `unit_file`: From which line
-//!   of the source each word of a program comes: its line number table. The place of a word is that of the debug
-//!   location of the first code at or after the position that the word comes from, in the function as it was read. The
-//!   files of these places are numbered in the order of their first use, the unit's file first, and a row of the table
-//!   stands where the place changes.
+//! - `compiled`, `entries`, `file`, `line_table`, `names`, `places`, `rows`, `scope_line`, `unit_file`: The table. The
+//!   source position of an instruction is that of the debug location of the first code at or after its origin, in the
+//!   function as it was read. The files are numbered in the order of their first use, the unit's first. A row is
+//!   written at each address where the source position changes.
 //!
-//! - `laws`: What a program's line number table says at each address: the line of the source that the code there comes
-//!   from. Laws, each the contract of a function that does nothing.
+//! - `laws`: The table has the source position of the code at each address, and no row for any other address. Laws,
+//!   each the contract of a function that does nothing.
 #![tactic(auto)]
 
 pub mod compiled;

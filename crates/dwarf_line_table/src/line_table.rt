@@ -18,9 +18,9 @@ use dwarf_line::table::{LineTable, Sequence, Sequences};
 use read_metadata::metadata::Metadata;
 use std::alloc::{AllocError, Global};
 
-/// The line number table of functions in the order of the text (DWARF 5, section 6.2), with a sequence for each that
-/// has code. A row stands at a function's first address, and where the file, the line or the column of a word differs
-/// from those of the word before.
+/// The line number table of functions in text order (DWARF 5, section 6.2), with a sequence for each that has code.
+/// There is a row at a function's first address, and at each entry whose file, line or column differs from that of the
+/// entry before. The error is out of memory.
 pub fn line_table(
     alloc: Global,
     functions: &[Compiled],

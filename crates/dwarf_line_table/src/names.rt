@@ -1,4 +1,4 @@
-//! Names, and their numbers.
+//! Names, and their indices.
 
 ghost use Rattle.std.specs.Prelude.{◌≡◌, ◌+◌, ◌-◌, ◌<◌, ◌≤◌, ◌^◌, [], ◌++◌, length, map, List, ℕ, OnOk, IfOk};
 ghost use Rattle.std.specs.List.{position_or_len};
@@ -9,7 +9,7 @@ use indexmap::IndexSet;
 use std::alloc::{AllocError, Global};
 use std::marker::Model;
 
-/// Names, each once, in the order of their first use.
+/// A list of names without duplicates, in the order of their first use.
 #[derive(Drop)]
 pub struct Names {
     known: IndexSet<Vec<u8>>,
@@ -33,7 +33,7 @@ impl Names {
         }
     }
 
-    /// The number of a name, from 0. A new name joins.
+    /// The index of a name, from 0. A new name is appended. The error is out of memory.
     pub fn number(&mut self, alloc: Global, name: &[u8]) -> Result<u32, AllocError>
         requires few { length self.old < 2 ^ 32 - 2 }
         ensures known { OnOk result (self.new ≡ with_new is_name self.old name.now) }
@@ -46,7 +46,7 @@ impl Names {
         Ok(index as u32)
     }
 
-    /// The names in order.
+    /// The names in order. The error is out of memory.
     pub fn list(&self, alloc: Global) -> Result<NameList, AllocError>
         ensures { IfOk result (λ names. names ≡ self.now) }
     {

@@ -12,7 +12,7 @@ use mir_func::position::{Origin, Pos};
 use std::alloc::{AllocError, Global};
 use std::collections::BTreeMap;
 
-/// The debug locations of the positions of a function, each that of the first code at or after the position in its
+/// The debug locations of the positions of a function: for each position that of the first code at or after it in its
 /// block.
 #[derive(Drop)]
 pub struct Places {
@@ -21,7 +21,7 @@ pub struct Places {
 }
 
 impl Places {
-    /// The debug locations of the positions of blocks.
+    /// The debug locations of the positions of blocks. The error is out of memory.
     pub fn new(alloc: Global, blocks: &[Block]) -> Result<Places, AllocError>
         ensures { IfOk result (ArePlaces blocks.now) }
     {
@@ -65,7 +65,7 @@ fn loc_at(locs: &[Loc], index: usize) -> Loc
     }
 }
 
-/// At each index the debug location of the first code of items at or after it.
+/// The debug location of the first code at or after each index.
 fn locs(alloc: Global, items: &[Item]) -> Result<Vec<Loc>, AllocError>
     ensures { IfOk result (λ locs. AreLocs items.now locs.items) }
 {
@@ -78,7 +78,7 @@ fn locs(alloc: Global, items: &[Item]) -> Result<Vec<Loc>, AllocError>
     Ok(locs)
 }
 
-/// The debug location of an item that is code, and otherwise another.
+/// The debug location of an item that is code, or else the given one.
 fn loc_if_code(item: &Item, others: Loc) -> Loc
     ensures { result ≡ loc_if_code item.now.kind item.now.loc others }
 {

@@ -29,7 +29,7 @@ fn readable_file(meta: &Metadata, scope: Option<NodeId>) -> Option<&FileNode>
     meta.file_of_scope(scope?)
 }
 
-/// The number of the file of a scope, and of the unit's where that isn't readable.
+/// The number of the file of a scope, or of the unit's file if that isn't readable.
 fn file_number(
     alloc: Global,
     files: &mut Files,
@@ -81,14 +81,14 @@ fn row(
     })
 }
 
-/// Whether two rows are of one place.
+/// Whether two rows have the same source position.
 fn is_place(a: &Row, b: &Row) -> bool
     ensures { result ≡ is_place a.now b.now }
 {
     a.file == b.file && (a.line == b.line && a.column == b.column)
 }
 
-/// Whether a row is of the place of the row before.
+/// Whether a row has the source position of the row before it.
 fn is_place_before(before: &Option<Row>, row: &Row) -> bool
     ensures { result ≡ is_place_before before.now row.now }
 {
@@ -98,7 +98,7 @@ fn is_place_before(before: &Option<Row>, row: &Row) -> bool
     }
 }
 
-/// The rows of entries: one at the first, and one where the place changes.
+/// The rows of entries: one at the first entry, and one at each change of the source position.
 pub fn rows(
     alloc: Global,
     files: &mut Files,

@@ -1,4 +1,4 @@
-//! What debug locations say.
+//! The source line of a debug location.
 
 ghost use Rattle.std.specs.Prelude.{◌≡◌, Some};
 ghost use Rattle.dwarf_line_table.specs.Lines.{no_line, node_line, scope_line};
@@ -8,10 +8,10 @@ use mir_func::location::Loc;
 use read_metadata::metadata::Metadata;
 use read_metadata::node::LocationNode;
 
-/// What a debug location says.
+/// The line, column and scope of a debug location.
 #[derive(Clone, Copy, Debug, PartialEq, Eq)]
 pub struct ScopeLine {
-    /// The line, from 1; 0 where the code comes from no line.
+    /// The line, from 1; 0 for code without a line.
     pub line: u32,
     /// The column, from 1; 0 for none.
     pub column: u32,
@@ -19,7 +19,7 @@ pub struct ScopeLine {
     pub scope: Option<NodeId>,
 }
 
-/// What a debug location says, by the metadata. One that isn't readable says no line.
+/// The line of a debug location, by the metadata: 0 if it is absent or not readable.
 pub fn scope_line(meta: &Metadata, loc: &Loc) -> ScopeLine
     ensures { result ≡ scope_line meta.now loc.now }
 {

@@ -15,8 +15,8 @@ use read_metadata::node::FileNode;
 use rv64_instr::name::Name;
 use std::alloc::{AllocError, Global};
 
-/// The unit's file: that of the first function whose subprogram has a readable one, and the empty name in the empty
-/// directory where none has.
+/// The unit's file: that of the first function whose subprogram has a readable one, or an empty name and directory if
+/// none has.
 pub fn unit_file(
     alloc: Global,
     functions: &[Compiled],

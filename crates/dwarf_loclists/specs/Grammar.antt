@@ -1,4 +1,4 @@
--- What a section says: the grammar of a section is that some lists have it as their spelling.
+-- The grammar of a section: the bytes are the encoding of some lists.
 use Rattle.std.specs.Prelude.{◌≡◌, ℕ, ◌+◌, ◌<◌, List, length, All, Option, Some, slice_get}
 use Rattle.rv64_instr.specs.declared.place.Place.{Place}
 use Rattle.dwarf_base.specs.Standard.{LENGTH_LIMIT}
@@ -8,7 +8,7 @@ use Rattle.dwarf_loclists.specs.declared.range.Range.{Range}
 use Rattle.dwarf_loclists.specs.Ranges.{ArePlaces, Are64Bit, Ascend, location_in, whole_place, nth_piece}
 use Rattle.dwarf_loclists.specs.Spelling.{spelling}
 
--- the bytes are the section of these lists. Its length is one of the 32-bit format
+-- the bytes are the section of these lists. Its length fits in the 32-bit format
 pub record IsSection (bytes : List ℕ) (lists : List (List Range)) : Type 0 where
   pub spelled : bytes ≡ spelling lists
   pub size : length bytes < 4 + LENGTH_LIMIT
@@ -16,7 +16,7 @@ pub record IsSection (bytes : List ℕ) (lists : List (List Range)) : Type 0 whe
   pub places : All ArePlaces lists
   pub wide : All Are64Bit lists
 
--- the location that list k of a section gives at an address: none where no entry's range has it
+-- the location at an address by list k of a section, and None if no entry's range contains the address
 pub record LocationAt (bytes : List ℕ) (k address : ℕ) (location : Option Location) : Type 0 where
   pub lists : List (List Range)
   pub ranges : List Range
@@ -24,13 +24,13 @@ pub record LocationAt (bytes : List ℕ) (k address : ℕ) (location : Option Lo
   pub list : slice_get lists k ≡ Some ranges
   pub found : location ≡ location_in ranges address
 
--- the place that list k gives for the whole variable at an address
+-- the place of the whole variable at an address by list k
 pub record PlaceAt (bytes : List ℕ) (k address : ℕ) (place : Option Place) : Type 0 where
   pub location : Option Location
   pub located : LocationAt bytes k address location
   pub whole : place ≡ whole_place location
 
--- the n-th piece that list k gives at an address, from 0
+-- the n-th piece at an address by list k, counted from 0
 pub record PieceAt (bytes : List ℕ) (k address n : ℕ) (piece : Option Part) : Type 0 where
   pub location : Option Location
   pub located : LocationAt bytes k address location

@@ -1,4 +1,4 @@
--- The one spelling of location lists: the section .debug_loclists (DWARF 5 section 7.29).
+-- The unique encoding of location lists: the section .debug_loclists (DWARF 5 section 7.29).
 use Rattle.std.specs.Prelude.{◌≡◌, ℕ, pos, ◌+◌, ◌-◌, ◌*◌, List, [], ◌∷◌, ◌++◌, length, nat_lt, if◌then◌else◌}
 use Rattle.std.specs.List.{flat_map}
 use Rattle.std.specs.Int.{w16, w32, to_le_bytes}
@@ -13,14 +13,14 @@ use Rattle.dwarf_loclists.specs.declared.range.Range.{Range}
 use Rattle.dwarf_loclists.specs.Ranges.{IsLocated, HasWords}
 use Rattle.dwarf_loclists.specs.Standard.{DW_LLE_end_of_list, DW_LLE_offset_pair, DW_OP_reg0, DW_OP_breg2, DW_OP_consts, DW_OP_piece, DW_OP_stack_value}
 
--- a simple location description (section 2.6.1.1): a register, memory at an offset from x2, or a value. xN has the number N (RISC-V ELF
--- psABI, "DWARF Register Numbers")
+-- a simple location description (section 2.6.1.1): a register, memory at an offset from x2, or an implicit value. The DWARF
+-- number of xN is N (RISC-V ELF psABI, "DWARF Register Numbers")
 abbrev pub simple_location : Place → List ℕ
 simple_location (Register r) = (DW_OP_reg0 + r) ∷ []
 simple_location (Slot offset) = DW_OP_breg2 ∷ sleb_of (pos offset)
 simple_location (Const c) = DW_OP_consts ∷ sleb_of c ++ DW_OP_stack_value ∷ []
 
--- the bytes that are nowhere before a piece: an empty piece, if there are any (section 2.6.1.2)
+-- the bytes without a location before a piece: an empty piece, if there are any (section 2.6.1.2)
 abbrev pub gap : (from offset : ℕ) → List ℕ
 gap from offset = if nat_lt from offset then DW_OP_piece ∷ uleb_of (offset - from) else []
 
@@ -33,7 +33,7 @@ abbrev pub composite_location : (from : ℕ) → List Part → List ℕ
 composite_location from [] = []
 composite_location from (p ∷ rest) = piece from p ++ composite_location (p.offset + p.length) rest
 
--- the expression of a location
+-- the DWARF expression of a location
 abbrev pub expression : Location → List ℕ
 expression (Whole p) = simple_location p
 expression (Parts parts) = composite_location 0 parts
@@ -44,7 +44,7 @@ pub record Spells (bytes : List ℕ) (location : Location) : Type 0 where
   pub wide : HasWords location
   pub spelled : bytes ≡ expression location
 
--- an entry (section 2.6.2): the two ends of the range, the second exclusive, and a counted expression
+-- an entry (section 2.6.2): the start of the range, its end (exclusive), and a counted location description
 abbrev pub entry : Range → List ℕ
 entry r =
     let location = expression r.location in
@@ -58,7 +58,7 @@ list_spelling ranges = flat_map entry ranges ++ DW_LLE_end_of_list ∷ []
 abbrev pub bodies : List (List Range) → List ℕ
 bodies lists = flat_map list_spelling lists
 
--- the offset of each list, where the first one has this offset
+-- the offsets of the lists, with this offset for the first one
 abbrev pub offsets_from : ℕ → List (List Range) → List ℕ
 offsets_from first [] = []
 offsets_from first (ranges ∷ rest) = to_le_bytes w32 first ++ offsets_from (first + length (list_spelling ranges)) rest

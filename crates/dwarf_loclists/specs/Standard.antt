@@ -1,4 +1,4 @@
--- The numbers of DWARF 5 that a section of location lists has, under the standard's names.
+-- DWARF 5's numbers for location lists, under the standard's names.
 use Rattle.std.specs.Prelude.{ℕ}
 
 -- the entry that ends a list (section 7.7.3)
@@ -13,7 +13,7 @@ DW_LLE_offset_pair = 4
 abbrev pub DW_OP_consts : ℕ
 DW_OP_consts = 0x11
 
--- the value is in register 0; the operation of register n is n above (section 7.7.1)
+-- the value is in register 0; the operation for register n is this plus n (section 7.7.1)
 abbrev pub DW_OP_reg0 : ℕ
 DW_OP_reg0 = 0x50
 
@@ -21,10 +21,10 @@ DW_OP_reg0 = 0x50
 abbrev pub DW_OP_breg2 : ℕ
 DW_OP_breg2 = 0x72
 
--- so many bytes are where the operations before it say (section 7.7.1)
+-- the operations before it locate this number of the variable's bytes (section 7.7.1)
 abbrev pub DW_OP_piece : ℕ
 DW_OP_piece = 0x93
 
--- the value is what is on the stack (section 7.7.1)
+-- the value is the one on the stack (section 7.7.1)
 abbrev pub DW_OP_stack_value : ℕ
 DW_OP_stack_value = 0x9f

@@ -1,4 +1,4 @@
-//! The constants of DWARF 5 that a section of location lists has beside those of all sections.
+//! DWARF 5's numbers for location lists, besides those that all sections share.
 
 ghost use Rattle.std.specs.Prelude.{◌≡◌};
 ghost use Rattle.dwarf_loclists.specs.Standard;
@@ -10,16 +10,15 @@ pub const DW_LLE_offset_pair: u8 = 0x04;
 
 /// Pushes a signed LEB128 number (sections 2.5.1.1 and 7.7.1).
 pub const DW_OP_consts: u8 = 0x11;
-/// The value is in register 0; the operation of register n is n above (sections 2.6.1.1.3 and 7.7.1). xN has the number
-/// N
-/// (RISC-V ELF psABI, "DWARF Register Numbers").
+/// The value is in register 0; the operation for register n is this plus n (sections 2.6.1.1.3 and 7.7.1). The DWARF
+/// number of xN is N (RISC-V ELF psABI, "DWARF Register Numbers").
 pub const DW_OP_reg0: u8 = 0x50;
 /// The address is that in register 2, RISC-V's stack pointer, plus a signed LEB128 number (sections 2.5.1.2 and 7.7.1).
 pub const DW_OP_breg2: u8 = 0x72;
-/// So many bytes of the variable are where the operations before it say, or nowhere if there are none (sections 2.6.1.2
-/// and 7.7.1).
+/// The operations before it locate this number of the variable's bytes; without operations these bytes have no location
+/// (sections 2.6.1.2 and 7.7.1).
 pub const DW_OP_piece: u8 = 0x93;
-/// The value is what is on the stack, and has no address (sections 2.6.1.1.4 and 7.7.1).
+/// The value is the one on the stack, and has no address (sections 2.6.1.1.4 and 7.7.1).
 pub const DW_OP_stack_value: u8 = 0x9f;
 
 /// The constants are the standard's numbers.

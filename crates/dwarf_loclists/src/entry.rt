@@ -1,4 +1,4 @@
-//! An entry of a location list: how many bytes it has, and the bytes.
+//! The encoding of a location list's entry, and its length in bytes.
 
 ghost use Rattle.std.specs.Prelude.{◌≡◌, ◌+◌, ◌*◌, ◌^◌, ◌<◌, ◌≤◌, ◌++◌, length, OnOk};
 ghost use Rattle.dwarf_loclists.specs.Ranges.{IsLocated, HasWords, places_of};
@@ -10,7 +10,7 @@ use crate::range::Range;
 use dwarf_base::leb::uleb;
 use std::alloc::AllocError;
 
-/// How many bytes an entry has.
+/// The bytes of an entry.
 pub fn entry_len(range: &Range) -> usize
     requires { IsLocated range.now.location }
     ensures exact { result ≡ length (entry range.now) }

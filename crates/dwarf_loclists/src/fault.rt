@@ -1,8 +1,8 @@
-//! Where bytes leave the grammar of a section.
+//! The first fault in the bytes of a section.
 
 ghost use Rattle.std.specs.Prelude.{◌≡◌, ◌+◌, ◌≤◌, length};
 
-/// The bytes aren't a section of location lists: the first field that isn't right begins at a byte.
+/// The error of a reader: the bytes aren't a section of location lists, and the first wrong field begins at this byte.
 #[derive(Clone, Copy, Debug, PartialEq, Eq)]
 pub struct ListFault {
     /// The index of the byte.
@@ -10,7 +10,7 @@ pub struct ListFault {
 }
 
 impl ListFault {
-    /// A fault where so many bytes are left.
+    /// The fault at the first of the bytes that are left.
     pub fn at(bytes: &[u8], rest: &[u8]) -> ListFault
         requires { length rest.now ≤ length bytes.now }
         ensures { result.at + length rest.now ≡ length bytes.now }

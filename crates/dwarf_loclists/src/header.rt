@@ -1,4 +1,4 @@
-//! The header of a section, as it is read.
+//! The reader of a section's header.
 
 ghost use Rattle.std.specs.Prelude.{◌≡◌, ◌+◌, ◌*◌, ◌<◌, ◌≤◌, ◌++◌, ℕ, List, [], length, IfOk, IfErr};
 ghost use Rattle.std.specs.Prelude.{drop};
@@ -17,7 +17,7 @@ const OFFSET: usize = 4;
 /// A section's length in the 32-bit format is below this (DWARF 5 section 7.4).
 const LENGTH_LIMIT: usize = 0xffff_fff0;
 
-/// How many lists there are, by the header (DWARF 5 section 7.29).
+/// The number of lists, by the header (DWARF 5 section 7.29).
 pub fn read_header(bytes: &[u8]) -> Result<u32, ListFault>
     ensures ok { IfOk result (λ n. AtLists bytes.now n [] (drop 12 bytes.now) (drop (12 + 4 * n) bytes.now)) }
     ensures size { IfOk result (λ n. length bytes.now < 4 + Standard.LENGTH_LIMIT) }
@@ -36,7 +36,7 @@ pub fn read_header(bytes: &[u8]) -> Result<u32, ListFault>
     read_count(bytes, rest)
 }
 
-/// How many offsets there are: they fit into the section.
+/// The number of list offsets, which must fit into the section.
 fn read_count(bytes: &[u8], rest: &[u8]) -> Result<u32, ListFault>
     requires { StandsAt bytes.now OffsetEntryCount rest.now }
     ensures ok { IfOk result (λ n. AtLists bytes.now n [] (drop 12 bytes.now) (drop (12 + 4 * n) bytes.now)) }
@@ -54,7 +54,7 @@ fn read_count(bytes: &[u8], rest: &[u8]) -> Result<u32, ListFault>
     }
 }
 
-/// What follows a field that may only be these bytes.
+/// The bytes after a field with only one allowed encoding.
 pub fn expect<'a>(bytes: &[u8], rest: &'a [u8], field: &[u8]) -> Result<&'a [u8], ListFault>
     requires { length rest.now ≤ length bytes.now }
     ensures ok { IfOk result (λ after. (f next : Field) → StandsAt bytes.now f rest.now

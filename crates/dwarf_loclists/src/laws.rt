@@ -1,4 +1,4 @@
-//! What the bytes of a section say.
+//! Laws about the content of a section's bytes, each the contract of a function that does nothing.
 
 ghost use Rattle.std.specs.Prelude.{◌≡◌, ◌<◌, ◌≤◌, ℕ, List, Option, Contains};
 ghost use Rattle.rv64_instr.specs.declared.place.Place.{Place};
@@ -9,7 +9,7 @@ ghost use Rattle.dwarf_loclists.specs.Ranges.{Ascend, location_in};
 ghost use Rattle.dwarf_loclists.specs.Fault.{FaultAt};
 ghost use Rattle.dwarf_loclists.specs.Grammar.{IsSection, LocationAt, PlaceAt, PieceAt};
 
-/// A section is that of one list of lists, and so a list of it gives one location at an address, or none.
+/// The content of a section is unique, and so is the location of a list at an address.
 pub fn one_reading()
     ensures lists { (bytes : List ℕ) (a b : List (List Range)) → IsSection bytes a → IsSection bytes b → a ≡ b }
     ensures location { (bytes : List ℕ) (k address : ℕ) (p q : Option Location) → LocationAt bytes k address p
@@ -20,7 +20,7 @@ pub fn one_reading()
         → PieceAt bytes k address n q → p ≡ q }
 {}
 
-/// The location at an address is that of the range that has it, and there is none exactly where no range has it.
+/// The location at an address is that of the range that contains it, and None if and only if no range does.
 pub fn one_location()
     ensures found { (ranges : List Range) (r : Range) (address : ℕ) → Ascend ranges → Contains ranges r
         → r.lo ≤ address → address < r.hi → location_in ranges address ≡ Some r.location }
@@ -28,7 +28,7 @@ pub fn one_location()
         → (r : Range) × Contains ranges r × (r.lo ≤ address) × (address < r.hi) × (p ≡ r.location) }
 {}
 
-/// Bytes that aren't a section have one first fault, and a section has none.
+/// Bytes have at most one first fault, and a section has none.
 pub fn one_fault()
     ensures only { (bytes : List ℕ) (a b : ℕ) → FaultAt bytes a → FaultAt bytes b → a ≡ b }
     ensures outside { (bytes : List ℕ) (at : ℕ) (lists : List (List Range)) → FaultAt bytes at → IsSection bytes lists

@@ -1,9 +1,8 @@
-//! Location lists as a debugger reads them: the section `.debug_loclists` of DWARF 5, in the 32-bit format for
-//! 64-bit addresses. A variable's list says in which ranges of addresses it is found at which place. The section
-//! is a header, the offset of each list, and the lists one after the other; a list is entries and an end, and an
-//! entry is a range and an expression, which is the location: a place, or pieces of the variable at places. Each
-//! number, entry and list has one spelling, so the bytes are a function of the lists, and a section that some lists
-//! spell is spelled by no other ones.
+//! Writer and reader of location lists: the section `.debug_loclists` of DWARF 5, in the 32-bit format for 64-bit
+//! addresses. A variable's list has its location for ranges of addresses. The section is a header, the offset of each
+//! list, and the lists one after the other. A list is entries and an end-of-list entry. An entry is a range and a DWARF
+//! expression for the location: a place, or pieces of the variable at places. Each number, entry and list has one
+//! encoding, so lists determine the bytes, and the bytes determine the lists.
 #![tactic(auto)]
 
 pub mod constants;

@@ -1,4 +1,4 @@
-//! The lists of a section, as they are read.
+//! The reader of a section's lists.
 
 ghost use Rattle.std.specs.Prelude.{◌≡◌, ◌≢◌, ◌+◌, ◌*◌, ◌^◌, ◌<◌, ◌≤◌, ◌⊎◌, ℕ, List, [], ◌∷◌, ◌++◌, length, IfOk};
 ghost use Rattle.std.specs.Prelude.{IfErr, IsTrue, ◌↔◌};
@@ -21,27 +21,27 @@ const OFFSET: usize = 4;
 /// The bytes of the header, from which offsets count.
 const HEADER: usize = 12;
 
-/// An entry as it stands in the bytes.
+/// An entry as read.
 #[derive(Clone, Copy)]
 pub struct Entry<'a> {
-    /// The first address.
+    /// The first address of its range.
     pub lo: u64,
-    /// The address after the last.
+    /// The address after the range.
     pub hi: u64,
-    /// The expression of the location.
+    /// The expression of its location.
     pub expression: &'a [u8],
 }
 
-/// What is found in a list.
+/// The result of reading a list.
 #[derive(Clone, Copy)]
 pub struct ReadList<'a> {
-    /// The expression of the entry that has the address.
+    /// The expression of the entry whose range contains the address.
     pub found: Option<&'a [u8]>,
-    /// What follows the list.
+    /// The bytes after the list.
     pub rest: &'a [u8],
 }
 
-/// The expression of the entry of list k that has an address, of so many lists.
+/// The expression at an address by list k, of this number of lists.
 pub fn read_lists(
     bytes: &[u8],
     count: u32,
@@ -72,7 +72,7 @@ pub fn read_lists(
     }
 }
 
-/// Reads a list to its end.
+/// Reads a list up to its end.
 fn read_list<'a>(bytes: &[u8], start: &'a [u8], address: u64) -> Result<ReadList<'a>, ListFault>
     requires { length start.now ≤ length bytes.now }
     ensures ok { IfOk result (λ r. (n : ℕ) (done : List (List Range))
@@ -103,7 +103,7 @@ fn read_list<'a>(bytes: &[u8], start: &'a [u8], address: u64) -> Result<ReadList
     }
 }
 
-/// The kind of an entry.
+/// The kind of an entry, and the bytes after it.
 fn read_kind<'a>(bytes: &[u8], rest: &'a [u8]) -> Result<(u8, &'a [u8]), ListFault>
     requires { length rest.now ≤ length bytes.now }
     ensures front { IfOk result (λ r. rest.now ≡ r.0 ∷ r.1.now) }
@@ -119,7 +119,7 @@ fn read_kind<'a>(bytes: &[u8], rest: &'a [u8]) -> Result<(u8, &'a [u8]), ListFau
     }
 }
 
-/// The entry behind its kind, after the last one.
+/// The entry after its kind, and the bytes after it. `last` is the entry before.
 fn read_entry<'a>(
     bytes: &[u8],
     rest: &'a [u8],
@@ -164,7 +164,7 @@ fn repeats(lo: u64, expression: &[u8], last: Entry) -> bool
     lo == last.hi && expression == last.expression
 }
 
-/// An unsigned LEB128 number.
+/// An unsigned LEB128 number in its shortest encoding, and the bytes after it.
 fn read_number<'a>(bytes: &[u8], rest: &'a [u8]) -> Result<(u64, &'a [u8]), ListFault>
     requires { length rest.now ≤ length bytes.now }
     ensures front { IfOk result (λ r. rest.now ≡ uleb_of r.0 ++ r.1.now) }

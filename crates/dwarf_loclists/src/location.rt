@@ -1,4 +1,4 @@
-//! The expression of a location: how many bytes it has, and the bytes.
+//! The encoding of a location's DWARF expression, and its length in bytes.
 
 ghost use Rattle.std.specs.Prelude.{◌≡◌, ◌+◌, ◌*◌, ◌^◌, ◌<◌, ◌≤◌, ◌++◌, length, OnOk, All};
 ghost use Rattle.dwarf_loclists.specs.Ranges.{IsListed, IsPiece, ArePieces, IsLocated, HasWord, HasWords, places_of};
@@ -10,7 +10,7 @@ use dwarf_base::leb::{Leb, sleb, uleb};
 use rv64_instr::place::Place;
 use std::alloc::AllocError;
 
-/// How many bytes the expression of a location has.
+/// The bytes of a location's expression.
 pub fn location_len(location: &Location) -> usize
     requires { IsLocated location.now }
     ensures exact { result ≡ length (expression location.now) }
@@ -42,7 +42,7 @@ pub fn push_leb(out: &mut Vec<u8>, number: &Leb) -> Result<(), AllocError>
     out.extend_from_slice(number.as_slice())
 }
 
-/// How many bytes the simple location of a place has.
+/// The bytes of the simple location description of a place.
 fn place_len(place: Place) -> usize
     requires { IsListed place }
     ensures exact { result ≡ length (simple_location place) }
@@ -55,7 +55,7 @@ fn place_len(place: Place) -> usize
     }
 }
 
-/// Appends the simple location of a place.
+/// Appends the simple location description of a place.
 fn push_place(out: &mut Vec<u8>, place: Place) -> Result<(), AllocError>
     requires { IsListed place }
     ensures bytes { OnOk result (out.new.items ≡ out.old.items ++ simple_location place) }
@@ -76,7 +76,7 @@ fn push_place(out: &mut Vec<u8>, place: Place) -> Result<(), AllocError>
     Ok(())
 }
 
-/// How many bytes the composite location of all parts of a variable has.
+/// The bytes of the composite location description of a variable's pieces.
 fn pieces_len(parts: &[Part]) -> usize
     requires { ArePieces 0 parts.now }
     ensures exact { result ≡ length (composite_location 0 parts.now) }
@@ -92,7 +92,7 @@ fn pieces_len(parts: &[Part]) -> usize
     len
 }
 
-/// Appends the composite location of all parts of a variable.
+/// Appends the composite location description of a variable's pieces.
 fn push_pieces(out: &mut Vec<u8>, parts: &[Part]) -> Result<(), AllocError>
     requires { ArePieces 0 parts.now }
     ensures bytes { OnOk result (out.new.items ≡ out.old.items ++ composite_location 0 parts.now) }
@@ -106,7 +106,7 @@ fn push_pieces(out: &mut Vec<u8>, parts: &[Part]) -> Result<(), AllocError>
     Ok(())
 }
 
-/// How many bytes a piece has, with the gap before it.
+/// The bytes of a piece, including the gap before it.
 fn piece_len(from: u32, part: Part) -> usize
     requires { IsPiece from part }
     ensures exact { result ≡ length (piece from part) }
@@ -115,7 +115,7 @@ fn piece_len(from: u32, part: Part) -> usize
     gap_len(from, part.offset) + place_len(part.place) + 1 + uleb(part.length as u64).len()
 }
 
-/// Appends a piece, with the gap before it.
+/// Appends a piece, including the gap before it.
 fn push_piece(out: &mut Vec<u8>, from: u32, part: Part) -> Result<(), AllocError>
     requires { IsPiece from part }
     ensures bytes { OnOk result (out.new.items ≡ out.old.items ++ piece from part) }
@@ -127,7 +127,7 @@ fn push_piece(out: &mut Vec<u8>, from: u32, part: Part) -> Result<(), AllocError
     push_leb(out, &uleb(part.length as u64))
 }
 
-/// How many bytes the gap up to an offset has.
+/// The bytes of the gap up to an offset.
 fn gap_len(from: u32, offset: u32) -> usize
     ensures exact { result ≡ length (gap from offset) }
     ensures within { result ≤ 11 }

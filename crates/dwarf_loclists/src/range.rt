@@ -1,4 +1,4 @@
-//! What location lists say: in which ranges of addresses a variable is found where.
+//! The content of location lists: the ranges of addresses of a variable, each with its location.
 
 ghost use Rattle.std.specs.Prelude.{◌≡◌, ◌↔◌, IsTrue, IfOk};
 
@@ -6,31 +6,31 @@ use base_list::List;
 use rv64_instr::place::Place;
 use std::alloc::AllocError;
 
-/// A part of a variable, and the place that has it. The low-order bytes of a register or a constant are taken.
+/// A piece of a variable, with its place. Of a register or a constant the low-order bytes are taken.
 #[derive(Clone, Copy, Debug, PartialEq, Eq)]
 pub struct Part {
-    /// The first byte of the variable that the part has.
+    /// The offset of its first byte in the variable.
     pub offset: u32,
-    /// How many bytes it has: 1 to 8.
+    /// Its length in bytes: 1 to 8.
     pub length: u32,
-    /// Where they are.
+    /// Its place.
     pub place: Place,
 }
 
-/// The parts of a variable, in ascending order. They don't overlap.
+/// Pieces of a variable, in ascending order. They don't overlap.
 pub type Parts = List<Part>;
 
-/// Where a variable is.
+/// The location of a variable.
 #[derive(Debug, Drop)]
 pub enum Location {
     /// The whole variable: a register, a frame slot by its offset from x2 in bytes, or a constant.
     Whole(Place),
-    /// Some parts of it, at least one. The other bytes are nowhere.
+    /// Pieces of it, at least one. The other bytes have no location.
     Parts(Parts),
 }
 
 impl Location {
-    /// Whether both are one location. It takes no memory.
+    /// Whether both are the same location. It takes no memory.
     pub fn equals(&self, other: &Location) -> bool
         ensures { IsTrue result ↔ (self.now ≡ other.now) }
     {
@@ -42,7 +42,7 @@ impl Location {
         }
     }
 
-    /// The same location once more.
+    /// A copy of the location.
     pub fn copy(&self) -> Result<Location, AllocError>
         ensures { IfOk result (λ copied. copied ≡ self.now) }
     {
@@ -53,14 +53,14 @@ impl Location {
     }
 }
 
-/// From one address to another, in bytes from the base address, a variable is at a location.
+/// A range of addresses, in bytes from the base address, with the variable's location.
 #[derive(Debug, Drop)]
 pub struct Range {
     /// The first address.
     pub lo: u64,
     /// The address after the last.
     pub hi: u64,
-    /// Where the variable is.
+    /// The variable's location.
     pub location: Location,
 }
 

@@ -1,4 +1,4 @@
-//! Reading a section: how many lists there are, and what a list gives at an address.
+//! Queries on a section: the number of its lists, and the location at an address by a list.
 
 ghost use Rattle.std.specs.Prelude.{◌≡◌, ◌<◌, ℕ, List, length, IfOk, IfErr};
 ghost use Rattle.dwarf_loclists.specs.declared.range.Range.{Range};
@@ -12,7 +12,7 @@ use crate::range::Part;
 use crate::split::{nth, whole};
 use rv64_instr::place::Place;
 
-/// How many lists a section has. It takes no memory.
+/// The number of lists of a section. It takes no memory.
 pub fn list_count(bytes: &[u8]) -> Result<u32, ListFault>
     ensures ok { IfOk result (λ n. (lists : List (List Range)) × IsSection bytes.now lists × (n ≡ length lists)) }
     // So a list number below the count is one that `place_at` and `piece_at` take.
@@ -24,8 +24,8 @@ pub fn list_count(bytes: &[u8]) -> Result<u32, ListFault>
     Ok(count)
 }
 
-/// The place that list k, from 0, gives for the whole variable at an address: `None` where no entry's range has it, or
-/// where its location is pieces. It takes no memory.
+/// The place of the whole variable at an address by list k, counted from 0. `None` if no entry's range contains the
+/// address or the location is pieces. It takes no memory.
 pub fn place_at(bytes: &[u8], k: u32, address: u64) -> Result<Option<Place>, ListFault>
     requires { (lists : List (List Range)) → IsSection bytes.now lists → k < length lists }
     ensures ok { IfOk result (PlaceAt bytes.now k address) }
@@ -38,7 +38,7 @@ pub fn place_at(bytes: &[u8], k: u32, address: u64) -> Result<Option<Place>, Lis
     }
 }
 
-/// The n-th piece, from 0, that list k gives for a variable at an address; gaps aren't counted. `None` where it has
+/// The n-th piece of a variable at an address by list k, both counted from 0; gaps aren't counted. `None` if it has
 /// fewer. It takes no memory.
 pub fn piece_at(bytes: &[u8], k: u32, address: u64, n: u32) -> Result<Option<Part>, ListFault>
     requires { (lists : List (List Range)) → IsSection bytes.now lists → k < length lists }

@@ -1,4 +1,4 @@
-//! The section of all lists.
+//! The encoding of the section of all lists, and its size.
 
 ghost use Rattle.std.specs.Prelude.{◌≡◌, ◌+◌, ◌*◌, ◌^◌, ◌<◌, ◌≤◌, ◌++◌, ◌↔◌, length, sum_by, All, OnOk, IfOk, IsNone};
 ghost use Rattle.std.specs.Prelude.{IfSome, ℕ, IsSome};
@@ -17,9 +17,9 @@ use std::alloc::{AllocError, Global};
 /// Bytes, in order.
 pub type Bytes = List<u8>;
 
-/// The bytes of the header, up to the offsets.
+/// The bytes of the header before the list offsets.
 const HEADER: usize = 12;
-/// Those of them that the section's length doesn't count.
+/// The bytes of the length field, which it doesn't count.
 const LENGTH: u32 = 4;
 /// The bytes of an offset.
 const OFFSET: usize = 4;
@@ -43,7 +43,7 @@ pub fn write_lists(alloc: Global, lists: &RangeLists) -> Result<Bytes, AllocErro
     Ok(List::from(section))
 }
 
-/// The bytes of the section of the lists, and `None` exactly from 2^31 bytes on. It takes no memory.
+/// The size of the lists' section in bytes, and `None` if and only if it is 2^31 or more. It takes no memory.
 pub fn lists_size(lists: &RangeLists) -> Option<u32>
     // The places are x1 to x31 but x2, doublewords of the frame up to 2,024, and constants. Pieces ascend.
     requires { All ArePlaces lists.now }
@@ -60,7 +60,7 @@ pub fn lists_size(lists: &RangeLists) -> Option<u32>
     Some(size as u32)
 }
 
-/// How many bytes there are with a list after so many, and `None` exactly where those are too many for a section.
+/// The size with one more list, its offset included, and `None` if and only if it is 2^31 or more.
 fn with_list(before: usize, ranges: &[Range]) -> Option<usize>
     requires places { ArePlaces ranges.now }
     requires before { before < 2 ^ 31 }
@@ -83,7 +83,7 @@ fn with_list(before: usize, ranges: &[Range]) -> Option<usize>
     }
 }
 
-/// How many bytes a list has.
+/// The bytes of a list.
 fn list_len(ranges: &[Range]) -> usize
     requires places { ArePlaces ranges.now }
     requires size { length (list_spelling ranges.now) < 2 ^ 31 }
@@ -96,7 +96,7 @@ fn list_len(ranges: &[Range]) -> usize
     size
 }
 
-/// Appends the header, up to the offsets: the length of what follows it, and how many lists there are.
+/// Appends the header: the length of what follows the length field, and the number of lists, among others.
 fn push_header(out: &mut Vec<u8>, length: u32, count: u32) -> Result<(), AllocError>
     ensures { OnOk result (out.new.items ≡ out.old.items ++ header length count) }
 {
@@ -107,7 +107,7 @@ fn push_header(out: &mut Vec<u8>, length: u32, count: u32) -> Result<(), AllocEr
     out.extend_from_slice(&count.to_le_bytes())
 }
 
-/// Appends the offset of each list. They count from the first offset.
+/// Appends the offset of each list, counted from the first offset.
 fn push_offsets(out: &mut Vec<u8>, lists: &[Ranges]) -> Result<(), AllocError>
     requires places { All ArePlaces lists.now }
     requires size { 4 * length lists.now + length (bodies lists.now) < 2 ^ 31 }

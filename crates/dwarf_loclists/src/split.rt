@@ -1,4 +1,4 @@
-//! The location at the front of an expression's bytes: a place, or a piece after a piece.
+//! The reader of DWARF expressions: a place, or the next piece, at the front of the bytes.
 
 ghost use Rattle.std.specs.Prelude.{◌≡◌, ◌≢◌, ◌+◌, ◌^◌, ◌<◌, ◌≤◌, [], ◌∷◌, ◌++◌, ℕ, List, Some, IfSome, IfNone, IsTrue};
 ghost use Rattle.std.specs.Prelude.{◌↔◌};
@@ -23,10 +23,10 @@ const LAST_SLOT: i64 = 2024;
 /// The bytes of a frame slot.
 const DOUBLEWORD: u32 = 8;
 
-/// A piece has at most so many bytes.
+/// The most bytes of a piece.
 const LONGEST_PIECE: u64 = 8;
 
-/// Whether bytes are the expression of some location.
+/// Whether the bytes are the expression of some location.
 pub fn is_expression(bytes: &[u8]) -> bool
     ensures yes { OnTrue result ((l : Location) × Spells bytes.now l) }
     ensures no { (l : Location) → Spells bytes.now l → IsTrue result }
@@ -34,7 +34,7 @@ pub fn is_expression(bytes: &[u8]) -> bool
     whole(bytes).is_some() || (!bytes.is_empty() && are_pieces(bytes))
 }
 
-/// The place of a whole variable whose location's expression this is. `None` where it is pieces.
+/// The place of a whole variable, from its location's expression. `None` for pieces.
 pub fn whole(bytes: &[u8]) -> Option<Place>
     ensures place { (l : Location) → Spells bytes.now l → result ≡ whole_place (Some l) }
     ensures only { IfSome result (λ p. Spells bytes.now (Whole p)) }
@@ -45,7 +45,7 @@ pub fn whole(bytes: &[u8]) -> Option<Place>
     }
 }
 
-/// The n-th piece of a variable whose location's expression this is, from 0. `None` where it has fewer.
+/// The n-th piece of a variable, counted from 0, from its location's expression. `None` if it has fewer.
 pub fn nth(bytes: &[u8], n: u32) -> Option<Part>
     ensures { (l : Location) → Spells bytes.now l → result ≡ nth_piece (Some l) n }
 {
@@ -66,7 +66,7 @@ pub fn nth(bytes: &[u8], n: u32) -> Option<Part>
     }
 }
 
-/// Whether bytes are pieces and nothing else.
+/// Whether the bytes are pieces and nothing else.
 fn are_pieces(bytes: &[u8]) -> bool
     ensures { IsTrue result ↔ SpellsPieces 0 bytes.now }
 {
@@ -84,7 +84,8 @@ fn are_pieces(bytes: &[u8]) -> bool
     true
 }
 
-/// The place whose simple location is at the front, and what follows it. `None` exactly where there is none.
+/// The place whose simple location description is at the front, and the bytes after it. `None` if and only if there is
+/// none.
 fn split_place(bytes: &[u8]) -> Option<(Place, &[u8])>
     ensures some { IfSome result (λ r. bytes.now ≡ simple_location r.0 ++ r.1.now) }
     ensures listed { IfSome result (λ r. IsListed r.0) }
@@ -102,7 +103,7 @@ fn split_place(bytes: &[u8]) -> Option<(Place, &[u8])>
     }
 }
 
-/// The constant behind its operation, and what follows it.
+/// The constant after its operation, and the bytes after it.
 fn split_constant(bytes: &[u8]) -> Option<(Place, &[u8])>
     ensures some { IfSome result (λ r. DW_OP_consts ∷ bytes.now ≡ simple_location r.0 ++ r.1.now) }
     ensures listed { IfSome result (λ r. IsListed r.0) }
@@ -119,7 +120,7 @@ fn split_constant(bytes: &[u8]) -> Option<(Place, &[u8])>
     }
 }
 
-/// The slot behind its operation, and what follows it.
+/// The slot after its operation, and the bytes after it.
 fn split_slot(bytes: &[u8]) -> Option<(Place, &[u8])>
     ensures some { IfSome result (λ r. DW_OP_breg2 ∷ bytes.now ≡ simple_location r.0 ++ r.1.now) }
     ensures listed { IfSome result (λ r. IsListed r.0) }
@@ -139,7 +140,7 @@ fn split_slot(bytes: &[u8]) -> Option<(Place, &[u8])>
     }
 }
 
-/// The register that an operation names: x1 to x31 but x2.
+/// The register of an operation: x1 to x31 but x2.
 fn register(operation: u8) -> Option<Place>
     ensures some { IfSome result (λ p. operation ∷ [] ≡ simple_location p) }
     ensures listed { IfSome result IsListed }
@@ -152,8 +153,8 @@ fn register(operation: u8) -> Option<Place>
     Some(Place::Register(physical((operation - DW_OP_reg0) as u32)?))
 }
 
-/// The piece at the front, where the pieces before it end at a byte of the variable, and what follows it. `None`
-/// exactly where there is none.
+/// The piece at the front, after pieces up to a byte of the variable, and the bytes after it. `None` if and only if
+/// there is none.
 fn split_piece(from: u32, bytes: &[u8]) -> Option<(Part, &[u8])>
     ensures some { IfSome result (λ r. bytes.now ≡ piece from r.0 ++ r.1.now) }
     ensures is { IfSome result (λ r. IsPiece from r.0) }
@@ -181,8 +182,8 @@ fn split_piece(from: u32, bytes: &[u8]) -> Option<(Part, &[u8])>
     Some((part, rest))
 }
 
-/// The byte of the variable up to which the gap at the front goes, and what follows it. Without a gap it is where the
-/// pieces before it end. `None` exactly where there is a gap that no piece can follow.
+/// The offset in the variable after the gap at the front, and the bytes after it. Without a gap it is the end of the
+/// pieces before. `None` if and only if there is a gap that no piece can follow.
 fn split_gap(from: u32, bytes: &[u8]) -> Option<(u32, &[u8])>
     ensures some { IfSome result (λ r. bytes.now ≡ gap from r.0 ++ r.1.now) }
     ensures onward { IfSome result (λ r. from ≤ r.0) }

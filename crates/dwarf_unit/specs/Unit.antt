@@ -1,4 +1,4 @@
--- The entries of a program.
+-- The entries of a program's unit.
 use Rattle.std.specs.Prelude.{ℕ, suc, ◌+◌, ◌*◌, min, false, List, [], ◌∷◌, map, length, Option, Some, None, nat_eq, nat_le}
 use Rattle.std.specs.List.{flat_map, position_or_len}
 use Rattle.std.specs.Option.{option_and_then}
@@ -16,7 +16,7 @@ use Rattle.dwarf_line_table.specs.Files.{first_uses}
 use Rattle.dwarf_line_table.specs.Program.{program_file}
 use Rattle.dwarf_unit.specs.Variables.{variables_of_function}
 
--- a node, where what stands there is read as a DIBasicType
+-- the node, if it is readable as a DIBasicType
 abbrev pub if_type : Option BaseTypeNode → (node : ℕ) → Option ℕ
 if_type None node = None
 if_type (Some t) node = Some node
@@ -25,49 +25,49 @@ if_type (Some t) node = Some node
 abbrev pub readable_type : Maps → Option ℕ → Option ℕ
 readable_type meta base = option_and_then (λ node. if_type (base_type_at meta node) node) base
 
--- the node in a list, where there is one
+-- a list of the node, if there is one
 abbrev pub listed : Option ℕ → List ℕ
 listed None = []
 listed (Some node) = node ∷ []
 
--- the base type that a DILocalVariable node names, in a list; none where either of them isn't readable
+-- the base type of a DILocalVariable node, as a list: empty unless both nodes are readable
 abbrev pub node_uses : Maps → Option VariableNode → List ℕ
 node_uses meta None = []
 node_uses meta (Some d) = listed (readable_type meta d.base)
 
--- the node of a variable's base type, where that is readable
+-- the node of a variable's base type, as a list: empty unless it is readable
 abbrev pub type_uses : Maps → VarId → List ℕ
 type_uses meta v = node_uses meta (variable_at meta v.node)
 
--- the index of a type among types that are told apart by their nodes
+-- the index of a type among types, which are identified by their nodes
 abbrev pub type_in : (types : List ℕ) → Option ℕ → Option ℕ
 type_in types None = None
 type_in types (Some node) = Some (position_or_len (nat_eq node) types)
 
--- the entry of a variable that its node describes; of one whose node isn't readable it has the empty name and no type
+-- the entry of a variable by its node. If the node isn't readable it has an empty name and no type
 abbrev pub node_entry : Maps → (types : List ℕ) → Option VariableNode → (list : ℕ) → VariableEntry
 node_entry meta types None k = record { name = []; argument = false; base = None; list = k }
 node_entry meta types (Some d) k =
     record { name = d.name; argument = nat_le 1 d.arg; base = type_in types (readable_type meta d.base); list = k }
 
--- the entry of a variable, whose location list has this number
+-- the entry of a variable with this index of its location list
 abbrev pub variable_entry : Maps → (types : List ℕ) → (list : ℕ) → VarId → VariableEntry
 variable_entry meta types k v = node_entry meta types (variable_at meta v.node) k
 
--- the entries of variables, whose lists are numbered from a number on
+-- the entries of variables, whose location lists are numbered from this index on
 abbrev pub variables_from : Maps → (types : List ℕ) → (list : ℕ) → List VarId → List VariableEntry
 variables_from meta types k [] = []
 variables_from meta types k (v ∷ vs) = variable_entry meta types k v ∷ variables_from meta types (suc k) vs
 
--- the variables of a function
+-- the variables of a function, as it was read
 abbrev pub function_variables : Compiled → List VarId
 function_variables f = variables_of_function f.source.now.blocks
 
--- how many bytes of code it has
+-- the length of its code in bytes
 abbrev pub code_length : Compiled → ℕ
 code_length f = 4 * length f.code.now.words
 
--- what the function's DW_TAG_subprogram says, with its variables' lists numbered from a number on
+-- the content of a function's DW_TAG_subprogram, with its variables' location lists numbered from this index on
 abbrev pub function_entry : Maps → (types : List ℕ) → (list : ℕ) → Compiled → FunctionEntry
 function_entry meta types k f = record {
   name = f.source.now.name;
@@ -76,12 +76,12 @@ function_entry meta types k f = record {
   variables = variables_from meta types k (function_variables f);
 }
 
--- the entries of functions, whose variables' lists are numbered from a number on
+-- the entries of functions, with their variables' location lists numbered from this index on
 abbrev pub functions_from : Maps → (types : List ℕ) → (list : ℕ) → List Compiled → List FunctionEntry
 functions_from meta types k [] = []
 functions_from meta types k (f ∷ fs) = function_entry meta types k f ∷ functions_from meta types (k + length (function_variables f)) fs
 
--- all variables of a program, in the order of their lists
+-- all variables of a program, in the order of their location lists
 abbrev pub program_variables : List Compiled → List VarId
 program_variables functions = flat_map function_variables functions
 
@@ -89,16 +89,16 @@ program_variables functions = flat_map function_variables functions
 abbrev pub program_types : Maps → List Compiled → List ℕ
 program_types meta functions = first_uses nat_eq [] (flat_map (λ f. flat_map (type_uses meta) (function_variables f)) functions)
 
--- a base type's entry. Its size is at most 255, as it was read
+-- a base type's entry, with the size capped at 255
 abbrev pub base_entry : Option BaseTypeNode → BaseEntry
 base_entry None = record { name = []; size = 0; encoding = 0 }
 base_entry (Some t) = record { name = t.name; size = min t.size 255; encoding = t.encoding }
 
--- the base types that the unit has entries of, one for each node
+-- the entries of the unit's base types, one for each node
 abbrev pub base_entries : Maps → (types : List ℕ) → List BaseEntry
 base_entries meta types = map (λ node. base_entry (base_type_at meta node)) types
 
--- the unit of a program with so many bytes of code
+-- the unit of a program, with the length of its code in bytes
 unfoldable pub unit_of : Maps → (text_len : ℕ) → List Compiled → CompilationUnit
 unit_of meta text_len functions = record {
   name = (program_file meta functions).name;

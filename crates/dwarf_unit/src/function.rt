@@ -13,7 +13,7 @@ use dwarf_line_table::compiled::Compiled;
 use read_metadata::metadata::Metadata;
 use std::alloc::{AllocError, Global};
 
-/// The entry of a function, whose variables' lists are numbered from a number on.
+/// The entry of a function, with its variables' location lists numbered from this index on. The error is out of memory.
 pub fn function_entry(
     alloc: Global,
     types: &mut Types,

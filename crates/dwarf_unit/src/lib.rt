@@ -1,6 +1,6 @@
-//! The debugging information entries of a program: the unit with its base types, its functions, and their parameters
-//! and variables. A variable comes by the first mark of any of its parts, its location list has its place in the order
-//! of all functions, and a base type comes by the first variable of that type.
+//! The debugging information entries of a program: the compilation unit with its base types, its functions, and their
+//! parameters and variables. A function's variables are ordered by the first debug value for any of their parts,
+//! location lists are numbered in this order over all functions, and base types are ordered by their first variable.
 #![tactic(auto)]
 
 pub mod function;

@@ -1,4 +1,4 @@
-//! Base types, and their numbers.
+//! Base types, and their indices.
 
 ghost use Rattle.std.specs.Prelude.{◌≡◌, ◌+◌, ◌-◌, ◌<◌, ◌≤◌, ◌^◌, [], ◌++◌, length, map, ℕ, List, Some, None};
 ghost use Rattle.std.specs.Prelude.{nat_eq, OnOk, IfOk};
@@ -15,7 +15,7 @@ use read_metadata::node::BaseTypeNode;
 use std::alloc::{AllocError, Global};
 use std::marker::Model;
 
-/// The nodes of base types, each once, in the order of their first use.
+/// A list of base types' nodes without duplicates, in the order of their first use.
 #[derive(Drop)]
 pub struct Types {
     known: IndexSet<u32>,
@@ -39,7 +39,7 @@ impl Types {
         }
     }
 
-    /// The index of the type of a node. A new one joins.
+    /// The index of a node's type. A new one is appended. The error is out of memory.
     pub fn number(&mut self, node: NodeId) -> Result<u32, AllocError>
         requires few { length self.old < 2 ^ 32 - 2 }
         ensures known { OnOk result (self.new ≡ with_new nat_eq self.old node) }

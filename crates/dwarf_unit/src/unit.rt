@@ -12,7 +12,8 @@ use dwarf_line_table::unit_file::unit_file;
 use read_metadata::metadata::Metadata;
 use std::alloc::{AllocError, Global};
 
-/// The unit of functions in the order of the text, which have so many bytes of code together (DWARF 5, section 3.1.1).
+/// The unit of functions in text order, with the length of all their code in bytes (DWARF 5, section 3.1.1). The error
+/// is out of memory.
 pub fn make_unit(
     alloc: Global,
     functions: &[Compiled],

@@ -83,7 +83,7 @@ fn variable_entry(
     }
 }
 
-/// The entries of variables, whose lists are numbered from a number on.
+/// The entries of variables, with location lists numbered from this index on.
 pub fn variables_from(
     alloc: Global,
     types: &mut Types,

@@ -16,10 +16,11 @@ use mir_func::variable::VarId;
 use std::alloc::{AllocError, Global};
 use std::marker::Model;
 
-/// Variables, each as a whole, in the order of their lists.
+/// Variables, each as a whole, in the order of their location lists.
 pub type VarIds = List<VarId>;
 
-/// Variables, each once, in the order of their first marks: by their nodes and the nodes that they are inlined at.
+/// A list of variables without duplicates, in the order of their first debug values. A variable is identified by its
+/// node and the node that it is inlined at.
 #[derive(Drop)]
 struct Known {
     keys: IndexSet<(u32, Option<u32>)>,
@@ -45,7 +46,7 @@ impl Known {
         }
     }
 
-    /// Adds the variable of a part, unless it is there.
+    /// Adds the variable of a part, unless it is in the list.
     fn add(&mut self, v: &VarId) -> Result<(), AllocError>
         ensures { OnOk result (self.new ≡ with_new is_same_variable self.old (whole v.now)) }
     {
@@ -54,7 +55,7 @@ impl Known {
         Ok(())
     }
 
-    /// Adds the variables of marks.
+    /// Adds the variables of the items' debug values.
     fn add_all(&mut self, items: &[Item]) -> Result<(), AllocError>
         ensures { OnOk result (self.new ≡ first_uses is_same_variable self.old (marks_of items.now)) }
     {
@@ -64,7 +65,7 @@ impl Known {
         Ok(())
     }
 
-    /// Adds the variable of an item that is a mark.
+    /// Adds the variable of an item that is a debug value.
     fn add_mark(&mut self, kind: &ItemKind) -> Result<(), AllocError>
         ensures { OnOk result (self.new ≡ first_uses is_same_variable self.old (marked kind.now)) }
     {
@@ -105,8 +106,8 @@ fn variable(key: &(u32, Option<u32>)) -> VarId
     }
 }
 
-/// The variables of a function's blocks, each as a whole, in the order of the first marks of any of their parts. It
-/// takes time in the number of items, but for a factor of its logarithm.
+/// The variables of a function's blocks, each as a whole, in the order of the first debug value for any of its parts.
+/// It takes O(n log n) time in the number of items. The error is out of memory.
 pub fn variables(alloc: Global, blocks: &[Block]) -> Result<VarIds, AllocError>
     ensures { IfOk result (λ variables. variables ≡ variables_of_function blocks.now) }
 {

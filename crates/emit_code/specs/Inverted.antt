@@ -1,4 +1,4 @@
--- The conditional branch that is taken exactly where another isn't (RISC-V Unprivileged ISA, "Conditional Branches").
+-- The inverted conditional branch, taken if and only if the original isn't (RISC-V Unprivileged ISA, "Conditional Branches").
 use Rattle.std.specs.Prelude.{ℕ, pos, List, [], ◌∷◌}
 use Rattle.rv64_instr.specs.declared.op.Op.{Op}
 use Rattle.rv64_instr.specs.declared.op.Op.TheVariants.{Registers, Immediate, Lui, Branch, Load, Store, Copy, PseudoBr, PseudoCall, PseudoRet}
@@ -34,12 +34,12 @@ inverted_op PseudoRet = PseudoRet
 abbrev pub inverted_branch : Instruction → Instruction
 inverted_branch i = record i { op = inverted_op i.op }
 
--- a number of bytes in the place of the target
+-- the operands with an offset in bytes for the branch target
 abbrev pub over_bytes : ℕ → List Operand → List Operand
 over_bytes n (a ∷ b ∷ target ∷ rest) = a ∷ b ∷ Imm (pos n) ∷ rest
 over_bytes n operands = operands
 
--- the inverted branch over the next word, as a listing has it: `+8` stands in the place of its target, and its implicit operands stay
+-- a listing's first instruction of a long branch: the inverted branch with the target `+8` and with the same implicit operands
 abbrev pub skip_of : Instruction → Instruction
 skip_of i = record { op = inverted_op i.op; operands = over_bytes 8 i.operands }
 

@@ -1,4 +1,4 @@
--- The machine code of a function as contracts see it, and what it keeps.
+-- The machine code of a function as contracts see it, and its invariant.
 use Rattle.std.specs.Prelude.{◌≡◌, ℕ, ◌+◌, ◌*◌, ◌%◌, ◌^◌, ◌<◌, Bool, false, cond, List, [], ◌∷◌, drop, length, Option, IsSome, All}
 use Rattle.rv64_instr.specs.Instruction.{Instruction}
 use Rattle.rv64_instr.specs.Row.{Unfit, row_of}
@@ -15,14 +15,14 @@ use Rattle.emit_code.specs.Rule.{Layout, Form, Nothing, OneWord, CallSite, LongB
 use Rattle.emit_code.specs.Rule.{entries_of, words_of}
 use Rattle.emit_code.specs.Long.{IsSettled}
 
--- the machine code of a function: its first address, its words, what stands where, and the function with its frame
+-- machine code: first address, words, entries, and the function with its frame
 pub record LaidCode : Type 0 where
   pub base : ℕ
   pub words : List ℕ
   pub entries : List Entry
   pub framed : FramedFunction
 
--- entries stand one after the other between two addresses, a call in eight bytes and all else in four
+-- the entries are contiguous from an address to an end. A call has 8 bytes, any other entry 4
 abbrev pub StandFrom : (address : ℕ) → List Entry → (end : ℕ) → Type 0
 StandFrom a [] end = a ≡ end
 StandFrom a (e ∷ es) end = (e.address ≡ a) × (e.size ≡ cond e.call 8 4) × StandFrom (a + e.size) es end
@@ -33,13 +33,13 @@ is_call_kind (Code i k) = is_call (row_of i)
 is_call_kind (Mark v m) = false
 is_call_kind (Phi p k) = false
 
--- at the point of an entry the function has an item, which is a call exactly where the entry is one
+-- the function has an item at the entry's point, and the entry is a call if and only if the item is one
 pub record IsOfItem (f : FramedFunction) (e : Entry) : Type 0 where
   pub item : Item
   pub stands : fetch_in (drop e.point.block f.blocks) e.point.item ≡ Here item
   pub call : e.call ≡ is_call_kind item.kind
 
--- what every machine code keeps
+-- the invariant of all machine code
 pub record IsCode (c : LaidCode) : Type 0 where
   pub aligned : c.base % 4 ≡ 0
   pub low : c.base < MAX_BASE
@@ -47,24 +47,24 @@ pub record IsCode (c : LaidCode) : Type 0 where
   pub stand : StandFrom c.base c.entries (c.base + 4 * length c.words)
   pub items : All (IsOfItem c.framed) c.entries
 
--- code of a form has its words: each is that of an operation
+-- each word of a form is that of an encodable operation (a call's words always are)
 abbrev pub FormWorded : Layout → (address : ℕ) → Instruction → Form → Type 0
 FormWorded l a i Nothing = Unit {0}
 FormWorded l a i OneWord = IsSome (operation_at l a i)
 FormWorded l a i CallSite = Unit {0}
 FormWorded l a i (LongBranch n) = IsSome (skip_operation i) × IsSome (jump_operation l a n)
 
--- so does all code of the layout: registers and numbers are in the range of the words' formats, and each branch and each jump reaches
+-- all instructions of the layout are encodable: registers and numbers are in range, and each branch and jump reaches its target
 abbrev pub IsWorded : Layout → Type 0
 IsWorded l = (p : Pos) (i : Item) (c : Instruction) (k : Option ℕ) → fetch_in (drop p.block l.framed.blocks) p.item ≡ Here i → i.kind ≡ Code c k →
     FormWorded l (address_in l p) c (row_form (l.long p) (row_of c))
 
--- all code of the layout has the form of an instruction
+-- each instruction of the layout has the operands of its opcode
 abbrev pub IsFit : Layout → Type 0
 IsFit l = (p : Pos) (i : Item) (c : Instruction) (k : Option ℕ) → fetch_in (drop p.block l.framed.blocks) p.item ≡ Here i → i.kind ≡ Code c k →
     row_of c ≡ Unfit → ⊥
 
--- the machine code is that of the function from its first address on, by the rule: with the least set of long branches
+-- the machine code of a function at a first address: the layout with the least set of long branches
 pub record IsCodeOf (f : FramedFunction) (base : ℕ) (c : LaidCode) : Type 0 where
   pub layout : Layout
   pub of : layout.framed ≡ f

@@ -1,4 +1,4 @@
--- Which conditional branches are long: the least set in which every branch that doesn't reach is.
+-- Branch relaxation: the least set of long conditional branches in which every branch out of reach is long.
 use Rattle.std.specs.Prelude.{◌≡◌, ℕ, pos, negsuc, ◌-ℤ◌, Bool, true, false, cond, ◌&&◌, nat_eq}
 use Rattle.rv64_instr.specs.Form.{is_within}
 use Rattle.mir_func.specs.declared.exit.Exit.TheVariants.{Perhaps}
@@ -10,30 +10,30 @@ use Rattle.mir_func.specs.Graph.{Here, fetch_in}
 use Rattle.std.specs.Prelude.{drop}
 use Rattle.emit_code.specs.Rule.{Layout, address_in, start_of}
 
--- at a point stands a conditional branch to a block
+-- the item at a point is a conditional branch to a block
 pub record IsBranchTo (f : FramedFunction) (p : Pos) (block : ℕ) : Type 0 where
   pub item : Item
   pub stands : fetch_in (drop p.block f.blocks) p.item ≡ Here item
   pub goes : exit_of item.kind ≡ Perhaps block
 
--- two points are one: the same block and the same item of it
+-- whether two points are the same: the same block and the same item of it
 abbrev pub is_same : Pos → Pos → Bool
 is_same p q = nat_eq p.block q.block && nat_eq p.item q.item
 
--- the layout with a branch short
+-- the layout with the branch at a point short
 abbrev pub with_short : Pos → Layout → Layout
 with_short p l = record l { long = λ q. cond (is_same p q) false (l.long q) }
 
--- the branch reaches its target as a short one: the offset is a multiple of 2 of 13 bits (RISC-V Unprivileged ISA, "Conditional
+-- a short branch at this point reaches the block: the offset is a multiple of 2 of 13 bits (RISC-V Unprivileged ISA, "Conditional
 -- Branches")
 abbrev pub reaches_in : Layout → Pos → (block : ℕ) → Bool
 reaches_in l p n = is_within (negsuc 4095) (pos 4094) (pos (start_of l n) -ℤ pos (address_in l p))
 
--- each branch that doesn't reach its target, were it short itself, is long
+-- each conditional branch that, if short itself, doesn't reach its target is long
 abbrev pub IsClosed : Layout → Type 0
 IsClosed l = (p : Pos) (n : ℕ) → IsBranchTo l.framed p n → reaches_in (with_short p l) p n ≡ false → l.long p ≡ true
 
--- no more than these are long in any such layout of the function
+-- the least closed set of long branches: each one is long in every closed layout of the function
 pub record IsSettled (l : Layout) : Type 0 where
   pub closed : IsClosed l
   pub least : (other : Pos → Bool) → IsClosed (record l { long = other }) → (p : Pos) → l.long p ≡ true → other p ≡ true

@@ -1,8 +1,8 @@
--- Where each item of a function with its frame stands, and which words and entries it has.
+-- The layout of a function with its frame: the address of each item, and its machine words and entries.
 --
--- A layout is the function, its first address, and which of its conditional branches are long. Each item stands at the address of
--- its point: the first address plus the bytes of the items before it. `sites_of` are the items in text order, each with its point;
--- `entries_of` and `words_of` put together what each of them has at its address, by its form.
+-- A layout is the function, its first address, and which of its conditional branches are long. The address of an item's point is
+-- the first address plus the bytes of the items before it. `sites_of` are the items in text order, each with its point;
+-- `entries_of` and `words_of` concatenate the entries and the words of all items, each at its address and by its form.
 use Rattle.std.specs.Prelude.{ℕ, zero, suc, ◌+◌, ℤ, pos, ◌-ℤ◌, Bool, true, false, cond, List, [], ◌∷◌, ◌++◌, take, Option, Some, None}
 use Rattle.std.specs.List.{flat_map}
 use Rattle.rv64_instr.specs.Instruction.{Instruction}
@@ -29,7 +29,7 @@ use Rattle.mir_func.specs.Successors.{pos_in}
 use Rattle.emit_code.specs.declared.code.Entry.{Entry}
 use Rattle.emit_code.specs.Inverted.{inverted_branch, jump_to}
 
--- a function with its frame, which of its conditional branches are long, by their points, and its first address
+-- a layout: a function with its frame, the points of its long conditional branches, and its first address
 pub record Layout : Type 0 where
   pub framed : FramedFunction
   pub long : Pos → Bool
@@ -37,15 +37,15 @@ pub record Layout : Type 0 where
 
 -- ---- sizes and addresses
 
--- what stands for an item: nothing for a mark or a phi, and for code one word, the two words of a call, or those of a long branch to
--- a block
+-- how an item is encoded: no word (a debug value or DBG_PHI), one word, a call's two words, or the two words of a long
+-- conditional branch to a block
 pub data Form : Type 0 where
   Nothing : Form
   OneWord : Form
   CallSite : Form
   LongBranch : (block : ℕ) → Form
 
--- the form of code of a row: only a conditional branch can be long
+-- the form of an instruction by its row: only a conditional branch can be long
 abbrev pub row_form : (long : Bool) → Row → Form
 row_form long (Fixes rd n) = OneWord
 row_form long (Moves rd rs) = OneWord
@@ -61,40 +61,40 @@ row_form long (Calls name args) = CallSite
 row_form long (Returns results) = OneWord
 row_form long Unfit = OneWord
 
--- the form of an item: a mark or a phi emits nothing
+-- the form of an item: a debug value or DBG_PHI emits no word
 abbrev pub form_of : (long : Bool) → ItemKind → Form
 form_of long (Code i k) = row_form long (row_of i)
 form_of long (Mark v m) = Nothing
 form_of long (Phi p k) = Nothing
 
--- its bytes
+-- the bytes of a form
 abbrev pub form_size : Form → ℕ
 form_size Nothing = 0
 form_size OneWord = 4
 form_size CallSite = 8
 form_size (LongBranch n) = 8
 
--- the bytes of an item, which may be a long branch
+-- the bytes of an item. The flag counts only for a conditional branch: whether it is long
 abbrev pub size_of : (long : Bool) → Item → ℕ
 size_of long i = form_size (form_of long i.kind)
 
--- the bytes of items of a block, of which the first has this index
+-- the bytes of these items of the block with this index. The first of them has index n in its block
 abbrev pub items_size : (long : Pos → Bool) → (block index : ℕ) → List Item → ℕ
 items_size long b n [] = 0
 items_size long b n (i ∷ items) = size_of (long (pos_in b n)) i + items_size long b (suc n) items
 
--- the bytes of blocks, of which the first has this index
+-- the bytes of blocks. The first of them has this index
 abbrev pub blocks_size : (long : Pos → Bool) → (index : ℕ) → List Block → ℕ
 blocks_size long b [] = 0
 blocks_size long b (block ∷ blocks) = items_size long b 0 block.items + blocks_size long (suc b) blocks
 
--- the items of the block at an index
+-- the items of the block at an index, or none if there is no such block
 abbrev pub items_at : List Block → (index : ℕ) → List Item
 items_at [] b = []
 items_at (block ∷ blocks) zero = block.items
 items_at (block ∷ blocks) (suc b) = items_at blocks b
 
--- the bytes of all that stands before a point
+-- the bytes of all items before a point in text order
 abbrev pub bytes_before : (long : Pos → Bool) → List Block → Pos → ℕ
 bytes_before long blocks p = blocks_size long 0 (take p.block blocks) + items_size long p.block 0 (take p.item (items_at blocks p.block))
 
@@ -102,33 +102,33 @@ bytes_before long blocks p = blocks_size long 0 (take p.block blocks) + items_si
 abbrev pub address_in : Layout → Pos → ℕ
 address_in l p = l.base + bytes_before l.long l.framed.blocks p
 
--- where the block of a number begins: a branch goes past the prologue
+-- the target address of a branch to the block with this number: the block's first item. The prologue (index 0) is no target
 abbrev pub start_of : Layout → (block : ℕ) → ℕ
 start_of l n = address_in l (block_start (suc (index_of (body_of l.framed.blocks) n)))
 
 -- ---- words
 
--- how far it is from an address to where control goes otherwise than onward, and 0 where it goes nowhere else
+-- the offset from an address to the target of an instruction's jump or branch, and 0 if it has none
 abbrev pub offset_to : Layout → (address : ℕ) → Exit → ℤ
 offset_to l a Onward = pos 0
 offset_to l a (Perhaps n) = pos (start_of l n) -ℤ pos a
 offset_to l a (Always n) = pos (start_of l n) -ℤ pos a
 offset_to l a Final = pos 0
 
--- how far above x2 the stack object of a number begins, and 0 where there is none
+-- the offset of a stack object from x2, and 0 for None
 abbrev pub object_offset : FramedFunction → (object : Option ℕ) → ℕ
 object_offset f None = 0
 object_offset f (Some n) = own_size f + offset_of f.objects n
 
--- the machine operation of an instruction that has one word, at an address
+-- the machine operation of an instruction at an address, or None if it isn't encodable as one word
 abbrev pub operation_at : Layout → (address : ℕ) → Instruction → Option MachineOp
 operation_at l a i = lowered (offset_to l a (row_exit (row_of i))) (object_offset l.framed (object_named (row_of i))) i
 
--- the words of a long branch at an address: the inverted branch over the next word, and there a jump to the block
+-- the first word of a long branch: the inverted branch over the next word
 abbrev pub skip_operation : Instruction → Option MachineOp
 skip_operation i = lowered (pos 8) 0 (inverted_branch i)
 
--- the second word of a long branch that begins at the address
+-- the second word of a long branch at this address: a jump to the block
 abbrev pub jump_operation : Layout → (address block : ℕ) → Option MachineOp
 jump_operation l a n = operation_at l (a + 4) (jump_to n)
 
@@ -137,19 +137,19 @@ jump_operation l a n = operation_at l (a + 4) (jump_to n)
 abbrev pub call_words : List ℕ
 call_words = 0x00000097 ∷ 0x000080e7 ∷ []
 
--- the word of an operation, and no word where an instruction has none
+-- the word of an operation, and no word for None
 abbrev pub word_if : Option MachineOp → List ℕ
 word_if None = []
 word_if (Some m) = word_of m ∷ []
 
--- the words that an instruction of a form is encoded as at an address
+-- the words of an instruction of a form at an address
 abbrev pub form_words : Layout → (address : ℕ) → Instruction → Form → List ℕ
 form_words l a i Nothing = []
 form_words l a i OneWord = word_if (operation_at l a i)
 form_words l a i CallSite = call_words
 form_words l a i (LongBranch n) = word_if (skip_operation i) ++ word_if (jump_operation l a n)
 
--- the words of an item of a kind at its point: a mark or a phi has none
+-- the words of an item of this kind at its point: a debug value or DBG_PHI has none
 abbrev pub kind_words : Layout → Pos → ItemKind → List ℕ
 kind_words l p (Code i k) = form_words l (address_in l p) i (form_of (l.long p) (Code i k))
 kind_words l p (Mark v m) = []
@@ -157,16 +157,17 @@ kind_words l p (Phi r k) = []
 
 -- ---- entries
 
--- a word that was added stands before the position
+-- the origin of an added word: before the position of the item that it was added for
 abbrev pub added_before : Origin → Origin
 added_before (Kept p) = Before p
 added_before (Before p) = Before p
 
--- an entry at an address
+-- an entry at an address, for the item at this point
 abbrev pub entry : (address size : ℕ) → Origin → Pos → (call : Bool) → Entry
 entry a n o p call = record { address = a; size = n; origin = o; point = record { block = p.block; item = p.item }; call = call }
 
--- the two entries of a long branch are of one point: what skips stands before its position, and the jump comes from where it does
+-- the entries of an item. Those of a long branch have one point: the inverted branch's origin is `Before` the item's position,
+-- the jump's is the item's
 abbrev pub form_entries : (address : ℕ) → Origin → Pos → Form → List Entry
 form_entries a o p Nothing = []
 form_entries a o p OneWord = entry a 4 o p false ∷ []
@@ -180,12 +181,12 @@ pub record Site : Type 0 where
   pub point : Pos
   pub item : Item
 
--- the items of a block from an index on
+-- the items of a block, each with its point. The first of them has index n
 abbrev pub sites_in : (block index : ℕ) → List Item → List Site
 sites_in b n [] = []
 sites_in b n (i ∷ items) = record { point = pos_in b n; item = i } ∷ sites_in b (suc n) items
 
--- the items of blocks, of which the first has this index
+-- the items of blocks, each with its point. The first block has this index
 abbrev pub sites_from : (index : ℕ) → List Block → List Site
 sites_from b [] = []
 sites_from b (block ∷ blocks) = sites_in b 0 block.items ++ sites_from (suc b) blocks
@@ -194,7 +195,7 @@ sites_from b (block ∷ blocks) = sites_in b 0 block.items ++ sites_from (suc b)
 abbrev pub sites_of : FramedFunction → List Site
 sites_of f = sites_from 0 f.blocks
 
--- the entries and the words of an item, and those of a function
+-- the entries of an item at the address of its point
 abbrev pub entries_at : Layout → Site → List Entry
 entries_at l s = form_entries (address_in l s.point) s.item.origin s.point (form_of (l.long s.point) s.item.kind)
 

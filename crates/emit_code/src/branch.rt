@@ -1,4 +1,4 @@
-//! The conditional branch that is taken exactly where another isn't.
+//! The inverted conditional branch, taken if and only if the original isn't.
 
 ghost use Rattle.std.specs.Prelude.{◌≡◌, ℕ, not};
 ghost use Rattle.rv64_instr.specs.Arithmetic.{taken};
@@ -6,7 +6,7 @@ ghost use Rattle.emit_code.specs.Inverted.{inverted};
 
 use rv64_instr::op::BranchOp;
 
-/// The operation of the inverted branch (RISC-V Unprivileged ISA, "Conditional Branches").
+/// The opcode of the inverted branch (RISC-V Unprivileged ISA, "Conditional Branches").
 pub fn inverted(op: BranchOp) -> BranchOp
     ensures value { result ≡ inverted op }
     // The inverted branch is taken exactly where the branch isn't, and inverted again it is the branch.

@@ -1,41 +1,41 @@
-//! The words of a function, and where they stand.
+//! The machine code of a function: its words and entries.
 
 use base_list::List;
 use mir_func::framed::Framed;
 use mir_func::position::{Origin, Point};
 use std::marker::Model;
 
-/// What stands at an address (LLVM: an encoded instruction).
+/// An encoded instruction at its address. A call's two words are one entry, the two words of a long branch are two.
 #[derive(Clone, Copy, Debug, PartialEq, Eq)]
 pub struct Entry {
     /// The address of its first byte.
     pub address: u64,
-    /// How many bytes it has: eight where it is a call, and four otherwise.
+    /// Its size in bytes: 8 for a call, 4 otherwise.
     pub size: u32,
-    /// Where it comes from.
+    /// The source position that it stands for, or that it was added before.
     pub origin: Origin,
-    /// The item of the function with its frame that it is of.
+    /// The point of its item in the function with its frame.
     pub point: Point,
     /// Whether it is a call.
     pub call: bool,
 }
 
-/// Entries, one after the other.
+/// Entries, contiguous in the order of their addresses.
 pub type Entries = List<Entry>;
 
 /// Words, in the order of their addresses.
 pub type Words = List<u32>;
 
-/// The machine code of a function (LLVM: a function in the text section). Its entries stand one after the other from
-/// its first address, a multiple of 4 below 2^32, to the end of its words, which are fewer than 262,144, and at the
-/// point of each the function has an item, which is a call exactly where the entry is one.
+/// The machine code of a function (LLVM: a function in the text section). The entries are contiguous from its first
+/// address, a multiple of 4 below 2^32, to the end of its words, of which there are fewer than 262,144. The function
+/// has an item at each entry's point, which is a call if and only if the entry is one.
 #[derive(Debug, Drop)]
 pub struct Code {
-    /// The address where it begins.
+    /// Its first address.
     pub base: u64,
     /// Its words.
     pub words: Words,
-    /// What stands where, in the order of addresses.
+    /// Its entries, in the order of their addresses.
     pub entries: Entries,
     /// The function with its frame.
     pub framed: Framed,

@@ -1,4 +1,4 @@
-//! The entries of a function.
+//! The entries of a function's machine code.
 
 ghost use Rattle.std.specs.Prelude.{◌≡◌, ℕ, ◌<◌, ◌+◌, ◌++◌, ◌^◌, ◌∷◌, [], slice_index, true, false, IfOk, OnOk, length};
 ghost use Rattle.std.specs.List.{flat_map};
@@ -17,7 +17,7 @@ use mir_func::item::Item;
 use mir_func::position::{Origin, Point};
 use std::alloc::{AllocError, Global};
 
-/// The entries of blocks, by their plan.
+/// The entries of blocks by their plan, in the order of their addresses. The error is out of memory.
 pub fn entries(alloc: Global, plan: &Plan, blocks: &[Block]) -> Result<Entries, AllocError>
     requires blocks { length blocks.now < 2 ^ 32 }
     requires items { items_count blocks.now < 2 ^ 32 }
@@ -73,7 +73,7 @@ fn push_item(
     }
 }
 
-/// Appends the entries of a long branch.
+/// Appends the two entries of a long branch.
 fn push_long(
     entries: &mut Entries,
     address: u64,
@@ -113,7 +113,7 @@ fn call_entry(address: u64, origin: &Origin, point: &Point) -> Entry
     }
 }
 
-/// The origin of a word that was added before a position.
+/// The origin of a word added before the position of an item.
 fn added_before(origin: &Origin) -> Origin
     ensures { result ≡ added_before origin.now }
 {

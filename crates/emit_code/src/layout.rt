@@ -1,4 +1,4 @@
-//! The layout of a function.
+//! The machine code of a function with its frame.
 
 ghost use Rattle.std.specs.Prelude.{◌≡◌, ◌<◌, ◌≤◌, ◌+◌, ◌%◌, length, IfOk};
 ghost use Rattle.mir_func.specs.Limits.{MAX_BLOCKS};
@@ -12,7 +12,7 @@ use crate::words::words;
 use mir_func::framed::Framed;
 use std::alloc::{AllocError, Global};
 
-/// The machine code of a function from an address on.
+/// The machine code of a function at a first address. The error is out of memory.
 pub fn lay_out(alloc: Global, framed: Framed, base: u64) -> Result<Code, AllocError>
     requires aligned { base % 4 ≡ 0 }
     requires low { base < MAX_BASE }

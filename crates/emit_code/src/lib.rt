@@ -1,7 +1,8 @@
-//! The machine code of a function with its frame. Each instruction has one word, or two: a call, and a conditional
-//! branch whose target is out of its reach, which is long. A long branch is the inverted branch, which skips the next
-//! word, and a jump to the target. Which branches are long is found in rounds: all are short at first, and in each
-//! round those that don't reach become long, which puts others further apart, until all short ones reach.
+//! Machine code emission with branch relaxation, for a function with its frame. An instruction is encoded as one word;
+//! a call and a long conditional branch as two. A conditional branch is long if its target is out of its reach: it is
+//! then the inverted branch over the next word, and a jump to the target. Relaxation works in rounds: all branches
+//! start short, and each round makes those long that don't reach, which increases other distances, until every short
+//! branch reaches.
 #![tactic(auto)]
 
 pub mod branch;

@@ -1,4 +1,4 @@
-//! Where stack objects are, found by their numbers.
+//! The offsets of stack objects from x2, looked up by object number.
 
 ghost use Rattle.std.specs.Prelude.{◌≡◌, ℕ, ◌+◌, ◌≤◌, All, Option, option_map, IfOk};
 ghost use Rattle.std.specs.Ordering.{nat_cmp};
@@ -15,17 +15,17 @@ use mir_func::object::{Object, up_to};
 use std::alloc::{AllocError, Global};
 use std::collections::BTreeMap;
 
-/// How far above x2 the stack objects of a function begin.
+/// The offsets of the stack objects of a function from x2, in bytes.
 #[derive(Drop)]
 pub struct ObjectOffsets {
-    /// By their numbers.
+    /// An object's offset by its number.
     pub offsets: BTreeMap<u32, u32>,
-    /// How far above x2 the first one begins.
+    /// The offset of the first object: the bytes of the frame below the objects.
     pub own: u32,
 }
 
 impl ObjectOffsets {
-    /// Those of a function.
+    /// The offsets of the objects of a function. The error is out of memory.
     pub fn new(alloc: Global, framed: &Framed) -> Result<ObjectOffsets, AllocError>
         ensures { IfOk result (AreOffsetsOf framed.now) }
     {
@@ -37,7 +37,7 @@ impl ObjectOffsets {
         })
     }
 
-    /// That of an object, and 0 where none is asked for.
+    /// The offset of an object, and 0 for None.
     pub fn of(&self, object: Option<ObjectId>) -> u32
         ensures { (f : FramedFunction) → AreOffsetsOf f self.now → result ≡ object_offset f object }
     {
@@ -51,7 +51,7 @@ impl ObjectOffsets {
     }
 }
 
-/// How many bytes the objects take together.
+/// The bytes of all objects together, rounded up to 16.
 fn area(objects: &[Object]) -> u64
     requires { area_of objects.now ≤ MAX_FRAME }
     ensures { result ≡ area_of objects.now }
@@ -64,7 +64,7 @@ fn area(objects: &[Object]) -> u64
     up_to(16, last.offset + u64::from(last.size))
 }
 
-/// Of objects with one number the first counts, so it comes last.
+/// Of objects with the same number the first is found: it is inserted last.
 fn offsets(alloc: Global, objects: &[Object], own: u32) -> Result<BTreeMap<u32, u32>, AllocError>
     requires own { own ≤ MAX_FRAME }
     requires objects { All (λ o. o.offset ≤ MAX_FRAME) objects.now }

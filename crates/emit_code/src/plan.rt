@@ -1,4 +1,4 @@
-//! Where everything of a function stands.
+//! The computed layout of a function, as lookup tables.
 
 ghost use Rattle.std.specs.Prelude.{◌≡◌, ◌+◌, ◌<◌, ◌^◌, length, slice_index, slice_get, Option, Some, option_map};
 ghost use Rattle.std.specs.Prelude.{get_or, IfOk};
@@ -17,23 +17,23 @@ use mir_func::exit::Exit;
 use mir_func::framed::Framed;
 use std::alloc::{AllocError, Global};
 
-/// Where the items of a function stand.
+/// The plan of a function: how and at which address each item is encoded.
 #[derive(Drop)]
 pub struct Plan {
-    /// The address where the function begins.
+    /// The function's first address.
     pub base: u32,
-    /// Where blocks begin.
+    /// The number of items before each block.
     pub table: Table,
-    /// What stands for each item.
+    /// How each item is encoded, in text order.
     pub spans: Spans,
-    /// How many bytes stand before each item.
+    /// The bytes before each item, and last the bytes of all.
     pub sums: Sums,
-    /// How far above x2 stack objects begin, by their numbers.
+    /// The offsets of stack objects from x2, by number.
     pub objects: ObjectOffsets,
 }
 
 impl Plan {
-    /// The plan of a function.
+    /// The plan of a function at a first address. The error is out of memory.
     pub fn new(alloc: Global, framed: &Framed, base: u32) -> Result<Plan, AllocError>
         requires blocks { length framed.now.blocks < 2 ^ 32 }
         requires items { count_of framed.now.blocks < MAX_WORDS }
@@ -51,7 +51,7 @@ impl Plan {
         })
     }
 
-    /// What stands for an item.
+    /// The span of the item at this index, in text order.
     pub fn span(&self, index: usize) -> Span
         ensures { result ≡ get_or self.now.spans index Nothing }
     {
@@ -61,7 +61,7 @@ impl Plan {
         }
     }
 
-    /// The address of an item, by how many items stand before it.
+    /// The address of the item at this index, in text order.
     pub fn address(&self, index: usize) -> u64
         ensures value { result ≡ self.now.base + slice_index self.now.sums index }
         ensures low { result < 2 ^ 33 }
@@ -69,7 +69,7 @@ impl Plan {
         u64::from(self.base) + u64::from(at(self.sums.as_slice(), index))
     }
 
-    /// Where a block begins.
+    /// The address of a block's first item, by the block's number.
     fn start(&self, block: BlockId) -> u64
         ensures value { (l : Layout) → IsPlan l self.now → result ≡ start_of l block }
         ensures low { result < 2 ^ 33 }
@@ -77,7 +77,7 @@ impl Plan {
         self.address(self.table.first_of(block) as usize)
     }
 
-    /// How far it is from an address to where control goes otherwise than onward, or 0.
+    /// The offset from an address to the target of a jump or branch, and 0 if there is none.
     pub fn offset(&self, address: u64, exit: Exit) -> i64
         requires { address < 2 ^ 34 }
         ensures { (l : Layout) → IsPlan l self.now → result ≡ offset_to l address exit }

@@ -1,4 +1,4 @@
-//! The rounds in which branches become long.
+//! The rounds of branch relaxation.
 
 ghost use Rattle.std.specs.Prelude.{◌≡◌, ◌<◌, ◌^◌, true, false, length, MatchOption, IfOk, OnOk};
 ghost use Rattle.emit_code.specs.steps.Spans.{sums_from, Settles, grown_from, grown, reaches, shorts};
@@ -9,10 +9,10 @@ use crate::table::at;
 use base_list::List;
 use std::alloc::{AllocError, Global};
 
-/// How many bytes stand before each item, and at last before the end.
+/// The bytes before each item, and last the bytes of all.
 pub type Sums = List<u32>;
 
-/// The sums of spans.
+/// The sums of spans: the bytes before each, and last the bytes of all.
 pub fn sums(alloc: Global, spans: &[Span]) -> Result<Sums, AllocError>
     requires { length spans.now < 2 ^ 18 }
     ensures { IfOk result (λ sums. sums ≡ sums_from 0 spans.now) }
@@ -27,7 +27,7 @@ pub fn sums(alloc: Global, spans: &[Span]) -> Result<Sums, AllocError>
     Ok(sums)
 }
 
-/// Makes branches long in rounds, until each short one reaches, and gives the sums.
+/// Makes branches long in rounds until each short one reaches. The result is the bytes before each item.
 pub fn settle(alloc: Global, spans: &mut Spans) -> Result<Sums, AllocError>
     requires { length spans.old < 2 ^ 18 }
     ensures settles { OnOk result (Settles spans.old spans.new) }
@@ -40,7 +40,7 @@ pub fn settle(alloc: Global, spans: &mut Spans) -> Result<Sums, AllocError>
     Ok(sums)
 }
 
-/// One round: each short branch that doesn't reach becomes long. Whether there was one.
+/// One round: each short branch out of reach becomes long. Whether any did.
 fn grow(spans: &mut Vec<Span>, sums: &[u32]) -> bool
     ensures round { spans.new.items ≡ grown_from sums.now 0 spans.old.items }
     ensures steady { result ≡ false → spans.new.items ≡ spans.old.items }
@@ -56,7 +56,7 @@ fn grow(spans: &mut Vec<Span>, sums: &[u32]) -> bool
     found
 }
 
-/// The target of a short branch that doesn't reach.
+/// The target of a short branch if it is out of reach.
 fn far(span: Span, index: usize, sums: &[u32]) -> Option<u32>
     ensures grows { MatchOption result (grown sums.now index span ≡ span) (λ t. (span ≡ Short t) ×
         (grown sums.now index span ≡ Long t)) }
@@ -75,7 +75,7 @@ fn far(span: Span, index: usize, sums: &[u32]) -> Option<u32>
     }
 }
 
-/// Whether a branch reaches from one address to the other.
+/// Whether a short branch at one address reaches the other: from -4096 to 4094 bytes.
 fn reaches(from: u64, to: u64) -> bool
     requires from { from < 2 ^ 32 }
     requires to { to < 2 ^ 32 }

@@ -1,4 +1,4 @@
-//! What stands for each item of a function.
+//! How each item of a function is encoded.
 
 ghost use Rattle.std.specs.Prelude.{◌≡◌, ◌++◌, List, false, map, OnOk, IfOk};
 ghost use Rattle.std.specs.List.{flat_map};
@@ -15,26 +15,26 @@ use mir_func::item::{Item, ItemKind};
 use rv64_instr::decoded::Decoded;
 use std::alloc::{AllocError, Global};
 
-/// What stands for an item.
+/// How an item is encoded.
 #[derive(Clone, Copy, Debug, PartialEq, Eq)]
 pub enum Span {
-    /// Nothing, for a mark or a phi.
+    /// No word: a debug value or DBG_PHI.
     Nothing,
-    /// One word, for code that is no conditional branch.
+    /// One word: an instruction that is no call and no conditional branch.
     OneWord,
-    /// The two words of a call.
+    /// A call's two words.
     CallSite,
-    /// The word of a conditional branch, before whose target so many items stand.
+    /// A short conditional branch: one word. The number is that of items before its target.
     Short(u32),
-    /// The two words of one that is long.
+    /// A long conditional branch: two words. The number is that of items before its target.
     Long(u32),
 }
 
-/// What stands for the items of a function, in text order.
+/// The spans of the items of a function, in text order.
 pub type Spans = List<Span>;
 
 impl Span {
-    /// Its bytes.
+    /// The bytes of the span.
     pub fn size(self) -> u32
         ensures { result ≡ span_size self }
     {
@@ -45,7 +45,7 @@ impl Span {
         }
     }
 
-    /// What stands for an item, a conditional branch being short.
+    /// The span of an item, with a conditional branch short.
     fn new(kind: &ItemKind, table: &Table) -> Span
         ensures { (blocks : List Block) → IsTableOf blocks table.now → result ≡ span_of blocks false kind.now }
     {
@@ -76,7 +76,7 @@ impl Span {
     }
 }
 
-/// What stands for the items of blocks, with all branches short.
+/// The spans of the items of blocks, with all conditional branches short.
 pub fn short_spans(alloc: Global, blocks: &[Block], table: &Table) -> Result<Spans, AllocError>
     requires { IsTableOf blocks.now table.now }
     ensures { IfOk result (λ spans. spans ≡ spans_of blocks.now (λ p. false)) }

@@ -1,4 +1,4 @@
-//! Where blocks begin among the items of a function, found by the numbers of the blocks.
+//! The number of items before each block of a function, looked up by block number.
 
 ghost use Rattle.std.specs.Prelude.{◌≡◌, ℕ, ◌<◌, ◌+◌, ◌^◌, List, length, slice_index, Option, IfOk};
 ghost use Rattle.std.specs.Ordering.{nat_cmp};
@@ -13,19 +13,19 @@ use mir_func::block::Block;
 use std::alloc::{AllocError, Global};
 use std::collections::BTreeMap;
 
-/// Where blocks begin: how many items of the function stand before each.
+/// A table of blocks: the number of items of the function before each.
 #[derive(Drop)]
 pub struct Table {
-    /// By the block's index.
+    /// The number of items before a block, by the block's index, and last that of all items.
     pub firsts: List<u32>,
-    /// How many items there are.
+    /// The number of items of the function.
     pub count: u32,
-    /// The index of a block, by its number, among the blocks after the prologue.
+    /// The index of a block by its number, the prologue (index 0) left out.
     pub indices: BTreeMap<u32, u32>,
 }
 
 impl Table {
-    /// The table of a function's blocks, the prologue among them.
+    /// The table of a function's blocks, the prologue included. The error is out of memory.
     pub fn new(alloc: Global, blocks: &[Block]) -> Result<Table, AllocError>
         requires blocks { length blocks.now < 2 ^ 32 }
         requires items { items_count blocks.now < 2 ^ 32 }
@@ -40,7 +40,7 @@ impl Table {
         })
     }
 
-    /// How many items stand before the block of a number.
+    /// The number of items before the block with this number, or of all items if there is no such block.
     pub fn first_of(&self, block: BlockId) -> u32
         ensures { (blocks : List Block) → IsTableOf blocks self.now → result ≡ first_of blocks block }
     {
@@ -50,7 +50,7 @@ impl Table {
         }
     }
 
-    /// How many items stand before the block of an index.
+    /// The number of items before the block with this index, or 0 if there is no such index.
     pub fn first(&self, index: usize) -> u32
         ensures { result ≡ slice_index self.now.firsts index }
     {
@@ -82,7 +82,7 @@ fn firsts(alloc: Global, blocks: &[Block]) -> Result<List<u32>, AllocError>
     Ok(firsts)
 }
 
-/// Of blocks with one number the first counts, so it comes last.
+/// Of blocks with the same number the first is found: it is inserted last.
 fn indices(alloc: Global, blocks: &[Block]) -> Result<BTreeMap<u32, u32>, AllocError>
     requires { length blocks.now < 2 ^ 32 }
     ensures { IfOk result (λ indices. (n : ℕ) → get nat_cmp indices n ≡ index_in 1 (body_of blocks.now) n) }

@@ -1,4 +1,4 @@
-//! The words of a function.
+//! The machine words of a function.
 
 ghost use Rattle.std.specs.Prelude.{◌≡◌, ℕ, Option, All, ◌<◌, ◌+◌, ◌++◌, ◌^◌, IsTrue, IfSome, IfOk, OnOk, get_or};
 ghost use Rattle.std.specs.Prelude.{slice_index, List, length, pos, ◌-ℤ◌};
@@ -28,7 +28,7 @@ use rv64_word::machine_op::{MachineOp, encode};
 use rv64_word::word_op::WordOp;
 use std::alloc::{AllocError, Global};
 
-/// The words of blocks, by their plan.
+/// The words of blocks by their plan, in the order of their addresses. The error is out of memory.
 pub fn words(alloc: Global, plan: &Plan, blocks: &[Block]) -> Result<Words, AllocError>
     ensures value { (l : Layout) → IsPlan l plan.now → l.framed.blocks ≡ blocks.now →
         IfOk result (λ words. words ≡ words_of l) }
@@ -46,7 +46,7 @@ pub fn words(alloc: Global, plan: &Plan, blocks: &[Block]) -> Result<Words, Allo
     Ok(words)
 }
 
-/// Appends the words of items, before the first of which so many stand.
+/// Appends the words of items. The first of them has this index in the function's items.
 fn push_block(words: &mut Words, plan: &Plan, first: u32, items: &[Item]) -> Result<(), AllocError>
     ensures forms { OnOk result (All IsFormed items.now) }
     ensures value { (l : Layout) (b : ℕ) → IsPlan l plan.now → AllStandAt l plan.now first b items.now →
@@ -124,7 +124,7 @@ fn push_call(words: &mut Words) -> Result<(), AllocError>
     words.extend_from_slice(&[0x0000_0097, 0x0000_80e7])
 }
 
-/// Appends the inverted branch over the next word, and there a jump to the target.
+/// Appends a long branch: the inverted branch over the next word, and a jump to the target.
 fn push_long(words: &mut Words, address: u64, target: u64, i: &Instr) -> Result<(), AllocError>
     requires low { address < 2 ^ 33 }
     requires target { target < 2 ^ 33 }
@@ -135,7 +135,7 @@ fn push_long(words: &mut Words, address: u64, target: u64, i: &Instr) -> Result<
     push_word(words, jump(distance(address + 4, target)))
 }
 
-/// How far it is from one address to another.
+/// The offset from one address to another, in bytes.
 fn distance(from: u64, to: u64) -> i64
     requires from { from < 2 ^ 34 }
     requires to { to < 2 ^ 34 }
@@ -144,7 +144,7 @@ fn distance(from: u64, to: u64) -> i64
     to as i64 - from as i64
 }
 
-/// The inverted branch over the next word.
+/// The inverted branch over the next word, if it is encodable.
 fn skip(i: &Instr) -> Option<MachineOp>
     ensures value { result ≡ skip_operation i.now }
     ensures encodable { IfSome result (λ m. IsTrue (is_encodable m)) }
@@ -170,7 +170,7 @@ fn inverted_op(op: WordOp) -> WordOp
     }
 }
 
-/// A jump to an offset.
+/// A jump (`JAL x0`) by an offset in bytes, if it is in range.
 fn jump(offset: i64) -> Option<MachineOp>
     ensures value { result ≡ jump_by offset }
     ensures encodable { IfSome result (λ m. IsTrue (is_encodable m)) }

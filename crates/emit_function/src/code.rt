@@ -18,16 +18,16 @@ use mir_func::func::Func;
 use std::alloc::{AllocError, Global};
 use thiserror::Error;
 
-/// Why a function has no machine code.
+/// The error of a function without machine code.
 #[derive(Debug, Drop, Error)]
 pub enum CodeError {
-    /// It names virtual registers.
+    /// It uses virtual registers.
     #[error("virtual registers")]
     Virtual,
     /// Its frame would have more than 2,032 bytes.
     #[error("the frame is too large")]
     FrameTooLarge,
-    /// It may have 262,144 words or more.
+    /// It may have 262,144 words or more: conditional branches and calls count twice, all other items once.
     #[error("too many words")]
     TooLong,
     /// Memory ran out.
@@ -43,7 +43,7 @@ impl From<AllocError> for CodeError {
     }
 }
 
-/// The machine code of a function with its frame, from an address on.
+/// The machine code of a function with its frame, at a first address.
 pub fn code_of(alloc: Global, f: &Func, base: u64) -> Result<Code, CodeError>
     requires aligned { base % 4 ≡ 0 }
     requires low { base < MAX_BASE }

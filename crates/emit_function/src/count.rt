@@ -1,4 +1,4 @@
-//! How large a function may be that is laid out.
+//! The size limit of a function.
 
 ghost use Rattle.std.specs.Prelude.{◌≡◌, ◌+◌, ◌<◌, ◌↔◌, IfSome, IsNone, IsTrue, sum_by};
 ghost use Rattle.rv64_instr.specs.Row.{Row};
@@ -9,10 +9,10 @@ use mir_func::block::Block;
 use mir_func::item::{Item, ItemKind};
 use rv64_instr::decoded::Decoded;
 
-/// The count at which a function is too long.
+/// The limit on a function's words, exclusive.
 const MAX_WORDS: u32 = 262_144;
 
-/// Whether the items of these blocks, with conditional branches and calls counted twice, are few enough.
+/// Whether the items of these blocks are below the limit. Conditional branches and calls count twice.
 pub fn are_few(blocks: &[Block]) -> bool
     ensures { IsTrue result ↔ (count_of blocks.now < MAX_WORDS) }
 {
@@ -26,7 +26,7 @@ pub fn are_few(blocks: &[Block]) -> bool
     true
 }
 
-/// What is left of the room after these items, and none where it isn't enough.
+/// What is left of the limit after these items, and None if it isn't enough.
 fn room_after(items: &[Item], room: u32) -> Option<u32>
     ensures some { IfSome result (λ left. left + sum_by item_count items.now ≡ room) }
     ensures none { IsNone result → room < sum_by item_count items.now }

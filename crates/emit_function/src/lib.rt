@@ -1,4 +1,4 @@
-//! The machine code of a function, from the function to its words: it gets its frame, and then it is laid out.
+//! Machine code emission for a function: frame lowering, and then the layout of its words.
 #![tactic(auto)]
 
 pub mod code;

@@ -1,4 +1,4 @@
--- What the location of a variable gives its parts.
+-- The places of a variable's parts by its location.
 use Rattle.std.specs.Prelude.{◌≡◌, ◌↔◌, ℕ, Option, Some, None}
 use Rattle.rv64_instr.specs.declared.place.Place.{Place}
 use Rattle.mir_func.specs.declared.position.Pos.{Pos}
@@ -11,17 +11,17 @@ use Rattle.dwarf_loclists.specs.Ranges.{whole_place, nth_piece}
 use Rattle.location_of_variable.specs.Groups.{part_of}
 use Rattle.location_of_variable.specs.Wanted.{IsWantedLocation}
 
--- a location gives a part a place: the whole variable by its place, and some bytes of it by a piece of just these bytes
+-- the place of a part by a location: that of the whole variable, or that of the piece with exactly the fragment's bytes
 abbrev pub GivesPart : Option Location → Option Bytes → Place → Type 0
 GivesPart o None place = whole_place o ≡ Some place
 GivesPart o (Some b) place = (n : ℕ) × (nth_piece o n ≡ Some (record { offset = b.offset; length = b.length; place = place }))
 
--- it gives each part of a variable the place that is wanted for the part, and none exactly where none is wanted
+-- the place of a part by the location is the one required for it, and there is none if and only if none is required
 pub record GivesWanted (g : Program) (start : Pos) (v : VarId) (p : Pos) (o : Option Location) (b : Option Bytes) : Type 0 where
   pub gives : (place : Place) → GivesPart o b place ↔ IsWanted g start (part_of v b) p place
   pub gives_none : ((place : Place) → GivesPart o b place → ⊥) ↔ NoneIsWanted g start (part_of v b) p
 
--- The location that is wanted for a variable gives each of its parts what is wanted for the part.
+-- The location required for a variable has for each of its parts the place required for the part.
 abbrev pub WantedLocationsGiveParts : Type 0
 WantedLocationsGiveParts = (g : Program) (start : Pos) (v : VarId) (p : Pos) (o : Option Location) → IsWantedLocation g start v p o →
     (b : Option Bytes) → GivesWanted g start v p o b

@@ -1,4 +1,4 @@
--- Where a variable is wanted: at one place, or in pieces.
+-- The location required for a variable: one place, or pieces.
 use Rattle.std.specs.Prelude.{◌≡◌, ℕ, List, [], ◌∷◌, map, All, Contains, Option, Some, None, slice_get, slice_index_or}
 use Rattle.rv64_instr.specs.declared.place.Place.{Place}
 use Rattle.mir_func.specs.declared.position.Pos.{Pos}
@@ -13,42 +13,43 @@ use Rattle.dwarf_loclists.specs.Ranges.{ArePieces, IsListed, IsLocated}
 use Rattle.location_of_variable.specs.Groups.{part_of, IsGroupOf}
 use Rattle.location_of_variable.specs.declared.group.Group.{Group}
 
--- the place that is wanted for a part of a variable at a position, or none where none is
+-- the place required for a part of a variable at a position, or None if none is
 abbrev pub IsWantedPlace : (g : Program) (start : Pos) → VarId → Pos → Option Place → Type 0
 IsWantedPlace g start v p None = NoneIsWanted g start v p
 IsWantedPlace g start v p (Some place) = IsWanted g start v p place
 
--- the bytes of a variable that a piece tells
+-- the bytes of a variable that a piece describes
 abbrev pub bytes_of : Part → Bytes
 bytes_of x = record { offset = x.offset; length = x.length }
 
--- the pieces of a variable at a position: each is at the place that is wanted for its bytes, for other bytes none is wanted, and each
--- begins where the one before it ends, or later
+-- the pieces required for a variable at a position: each is at the place required for its bytes and begins at or after the end of
+-- the one before. For other bytes no place is required
 pub record AreWantedPieces (g : Program) (start : Pos) (v : VarId) (p : Pos) (pieces : List Part) : Type 0 where
   pub each : All (λ x. IsWanted g start (part_of v (Some (bytes_of x))) p x.place) pieces
   pub others : (b : Bytes) → (Contains (map bytes_of pieces) b → ⊥) → NoneIsWanted g start (part_of v (Some b)) p
   pub ascend : ArePieces 0 pieces
 
--- the location that is wanted for a variable: the place of the whole, if one is wanted for it; else the pieces of it for which places
--- are wanted, if there is one; else none
+-- the location required for a variable: the place of the whole, if one is required for it; else the pieces for which places are
+-- required, if there are any; else None
 abbrev pub IsWantedLocation : (g : Program) (start : Pos) → VarId → Pos → Option Location → Type 0
 IsWantedLocation g start v p None = (b : Option Bytes) → NoneIsWanted g start (part_of v b) p
 IsWantedLocation g start v p (Some (Whole place)) = IsWanted g start (part_of v None) p place
 IsWantedLocation g start v p (Some (Parts [])) = ⊥
 IsWantedLocation g start v p (Some (Parts (x ∷ pieces))) = NoneIsWanted g start (part_of v None) p × AreWantedPieces g start v p (x ∷ pieces)
 
--- a location that can be listed, or none
+-- the location can be written in a location list, or is None
 abbrev pub MayBeListed : Option Location → Type 0
 MayBeListed None = Unit {0}
 MayBeListed (Some l) = IsLocated l
 
--- some parts, and the places that are wanted for them at a position, in the same order. For no other part one is wanted
+-- the places required for these parts at a position, in the same order. Each can be written in a list, and no place is required
+-- for any other part
 pub record AreWantedPlaces (g : Program) (start p : Pos) (parts : List VarId) (places : List (Option Place)) : Type 0 where
   pub each : (j : ℕ) (w : VarId) → slice_get parts j ≡ Some w → IsWantedPlace g start w p (slice_index_or places j None)
   pub listed : (j : ℕ) (place : Place) → slice_index_or places j None ≡ Some place → IsListed place
   pub others : (w : VarId) → (Contains parts w → ⊥) → NoneIsWanted g start w p
 
--- the location that a variable has wherever these are the places of parts, its own parts among them
+-- the location required for the variable of a group wherever these places are those required for the parts
 pub record IsLocationBy (group : Group) (places : List (Option Place)) (o : Option Location) : Type 0 where
   pub wanted : (g : Program) (start p : Pos) (parts : List VarId) (v : VarId) → AreWantedPlaces g start p parts places → IsGroupOf parts v group →
       IsWantedLocation g start v p o

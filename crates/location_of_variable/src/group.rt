@@ -1,4 +1,4 @@
-//! The parts of each variable.
+//! The parts of each variable: fragments, or the whole.
 
 ghost use Rattle.std.specs.Prelude.{◌≡◌, ◌<◌, ◌≤◌, ◌+◌, ◌++◌, ◌∷◌, [], ℕ};
 ghost use Rattle.std.specs.Prelude.{List, Option, Some, None, IfOk, OnOk, IsSome, length, slice_get};
@@ -23,7 +23,7 @@ use mir_func::variable::{Fragment, VarId};
 use std::alloc::{AllocError, Global};
 use std::collections::HashMap;
 
-/// Some bytes of a variable, and which of the marked parts they are.
+/// A fragment of a variable, and its index among the parts with debug values.
 #[derive(Clone, Copy, Debug)]
 pub struct Piece {
     /// The bytes.
@@ -32,22 +32,22 @@ pub struct Piece {
     pub index: usize,
 }
 
-/// The parts of a variable that are marked.
+/// The parts of a variable with debug values.
 #[derive(Debug, Drop)]
 pub struct Group {
-    /// The index of the whole variable, if it is marked.
+    /// The index of the whole variable, if it has debug values.
     pub whole: Option<usize>,
-    /// The parts of some bytes, in ascending order of their first byte.
+    /// Its fragments, in ascending order of their first byte.
     pub pieces: Vec<Piece>,
 }
 
-/// Which variable is meant: its node, and the node that its location is inlined at.
+/// The identity of a variable: its node, and the node that its location is inlined at.
 type Key = (u32, Option<u32>);
 
-/// The number of each variable of a list.
+/// The number of each variable: its index in the list of variables.
 type NumberOf = HashMap<Key, usize>;
 
-/// Of the parts that are marked, those of each variable of a list, in the list's order.
+/// Of the parts with debug values, those of each variable of a list, in the list's order. The error is out of memory.
 pub fn groups(alloc: Global, parts: &[VarId], variables: &[VarId]) -> Result<Vec<Group>, AllocError>
     ensures { IfOk result (λ groups. AreGroupsOf parts.now variables.now groups.items) }
 {
@@ -70,7 +70,7 @@ fn key_of(variable: &VarId) -> Key
     (variable.node.number(), inlined_at)
 }
 
-/// The number of each variable: where it stands in the list.
+/// The number of each variable: its index in the list.
 fn numbers_of(alloc: Global, variables: &[VarId]) -> Result<NumberOf, AllocError>
     ensures { IfOk result (NumbersBelow (length variables.now) variables.now) }
 {
@@ -105,7 +105,7 @@ fn gather(
     Ok(groups)
 }
 
-/// So many groups without a part.
+/// Empty groups, of this count.
 fn no_parts(alloc: Global, count: usize) -> Result<Vec<Group>, AllocError>
     ensures { IfOk result (λ groups. (parts : List VarId) (numbers : Numbers)
         → AreGathered parts numbers 0 count groups.items) }
@@ -163,7 +163,7 @@ impl Group {
     }
 }
 
-/// The parts of a variable that has a number, in order.
+/// The parts of the variable with this number, fragments in ascending order.
 fn group_of(
     alloc: Global,
     numbers: &NumberOf,
@@ -183,7 +183,7 @@ fn group_of(
 }
 
 impl Group {
-    /// The same parts in ascending order.
+    /// The same parts, with the fragments in ascending order.
     fn sorted(&self, alloc: Global) -> Result<Group, AllocError>
         ensures whole { IfOk result (λ group. group.whole ≡ self.now.whole) }
         ensures pieces { IfOk result (λ group. IsPermutation self.now.pieces.items group.pieces.items) }

@@ -1,6 +1,6 @@
-//! Where a variable is found: at one place, or in pieces. Marks assign to parts of variables: to a whole one, or to
-//! some bytes of it. The parts that are marked are grouped by their variable, and a variable's location is put together
-//! from the places that are wanted for its parts: the place of the whole, or else those of some bytes, in ascending
+//! A variable's location from those of its parts: one place, or pieces. Debug values assign whole variables or
+//! fragments (LLVM: DW_OP_LLVM_fragment). The parts that have debug values are grouped by variable. A variable's
+//! location is the place required for the whole, or else pieces at the places required for fragments, in ascending
 //! order.
 #![tactic(auto)]
 

@@ -1,4 +1,4 @@
-//! The location of a variable, from the places of its parts.
+//! A variable's location, from the places of its parts.
 
 ghost use Rattle.std.specs.Prelude.{◌≡◌, ◌++◌, ◌≤◌, ◌+◌, ℕ, List, Option, IfOk, OnOk, IfSome, All, option_to_list};
 ghost use Rattle.mir_func.specs.Parts.{IsPart};
@@ -18,8 +18,8 @@ use mir_func::variable::Fragment;
 use rv64_instr::place::Place;
 use std::alloc::{AllocError, Global};
 
-/// The location of a variable at a position, given its parts, and the place that is wanted there for each part that is
-/// marked, by the part's index: the place of the whole variable, or else pieces of those parts that have a place.
+/// The location of a variable at a position, from its parts and the place required there for each part, by the part's
+/// index: the place of the whole variable, or else pieces for the parts that have a place. The error is out of memory.
 pub fn location(
     alloc: Global,
     group: &Group,
@@ -50,7 +50,7 @@ fn whole_place(whole: Option<usize>, places: &[Option<Place>]) -> Option<Place>
     place_at(places, whole?)
 }
 
-/// Pieces, if there is one.
+/// The pieces as a location, or None without pieces.
 fn in_pieces(pieces: Parts) -> Option<Location>
     ensures { result ≡ in_pieces pieces }
 {
@@ -61,7 +61,7 @@ fn in_pieces(pieces: Parts) -> Option<Location>
     }
 }
 
-/// The pieces of those parts that have a place. Of two that overlap the later one is left out.
+/// The pieces for the parts that have a place. Of two that overlap the later one is left out.
 fn pieces(alloc: Global, parts: &[Piece], places: &[Option<Place>]) -> Result<Parts, AllocError>
     ensures pieces { IfOk result (λ told. told ≡ pieces_from (place_at places.now) 0 parts.now) }
     ensures parts { OnOk result (All (λ x. IsPart x.bytes) parts.now) }
@@ -74,8 +74,8 @@ fn pieces(alloc: Global, parts: &[Piece], places: &[Option<Place>]) -> Result<Pa
     Ok(told)
 }
 
-/// Appends the piece of a part that has a place, unless it begins before the end of the one before. The end of the
-/// last piece is answered.
+/// Appends the piece for a part, if it has a place and begins at or after the end of the last piece. The result is the
+/// end of the last piece.
 fn tell(told: &mut Parts, piece: &Piece, place: Option<Place>, end: u32) -> Result<u32, AllocError>
     ensures told { OnOk result (told.new ≡ told.old ++ option_to_list (piece_told place end piece.now.bytes)) }
     ensures end { IfOk result (λ e. e ≡ end_past (piece_told place end piece.now.bytes) end) }
@@ -110,7 +110,7 @@ fn piece_told(place: Option<Place>, from: u32, bytes: Fragment) -> Option<Part>
     }
 }
 
-/// The byte behind the last one.
+/// The byte after the last one.
 fn end_of(bytes: Fragment) -> u32
     ensures end { result ≡ bytes.offset + bytes.length }
     ensures part { IsPart bytes }

@@ -1,4 +1,4 @@
--- Location lists of a function: what the ranges of its variables say at the addresses of its code.
+-- Location lists of a function: the locations of its variables at the addresses of its code.
 use Rattle.std.specs.Prelude.{◌≡◌, ℕ, ◌+◌, ◌<◌, ◌≤◌, List, length, Contains, Some, None, slice_get}
 use Rattle.mir_func.specs.declared.position.Pos.{Pos}
 use Rattle.mir_func.specs.declared.variable.VarId.{VarId}
@@ -9,7 +9,7 @@ use Rattle.dwarf_loclists.specs.declared.range.Range.{Range}
 use Rattle.dwarf_loclists.specs.Ranges.{Ascend, ArePlaces, location_in}
 use Rattle.location_of_variable.specs.Wanted.{IsWantedLocation}
 
--- the item that an entry is of
+-- the point of an entry's item
 abbrev pub point_of : Entry → Pos
 point_of e = pos_in e.point.block e.point.item
 
@@ -17,8 +17,8 @@ point_of e = pos_in e.point.block e.point.item
 abbrev pub HasByte : Entry → (address : ℕ) → Type 0
 HasByte e a = (e.address ≤ a) × (a < e.address + e.size)
 
--- the ranges of a variable: at the address of each byte of each entry they say the location that is wanted for it at the entry's item, and
--- at all other addresses none. They can be written as a list
+-- the ranges of a variable are exact: at each byte of each entry they have the location required for it at the entry's item, and
+-- no location at any other address. They can be written as a list
 pub record AreRangesOf (g : Program) (start : Pos) (entries : List Entry) (v : VarId) (ranges : List Range) : Type 0 where
   pub inside : (e : Entry) → Contains entries e → (a : ℕ) → HasByte e a → IsWantedLocation g start v (point_of e) (location_in ranges a)
   pub outside : (a : ℕ) → ((e : Entry) → Contains entries e → HasByte e a → ⊥) → location_in ranges a ≡ None

@@ -1,4 +1,4 @@
--- What the walk knows before an item.
+-- The walk's state before an item.
 use Rattle.std.specs.Prelude.{◌≡◌, ℕ, List, length, map, Some, true, false, slice_get}
 use Rattle.mir_func.specs.declared.block.Block.{Block}
 use Rattle.mir_func.specs.declared.entry.Entry.{Entry}
@@ -19,42 +19,42 @@ use Rattle.value_tracker.specs.Start.{ConstantsNow}
 use Rattle.location_ranges.specs.declared.values.Values.{Values}
 use Rattle.location_ranges.specs.declared.stand.Stand.{Stand}
 
--- the function with its frame, as it runs
+-- the semantics of the function with its frame
 abbrev pub program : List Block → List Entry → Program
 program blocks subs = framed_program blocks (resolve subs)
 
--- what is known of a function's values: the parts of its variables that are marked, what is tracked, and what each block's entry
--- says of all paths to it
+-- the result of the value analysis of a function: the tracked entities, parts of variables first, and the exact live-in values of
+-- each block
 pub record AreValuesOf (blocks : List Block) (v : Values) : Type 0 where
   pub things : AreThings v.variables.now v.things.now
   pub of : AreThingsOf (program blocks v.subs.now) (map thing v.things.now)
   pub entries : (b : ℕ) (e : BlockEntry) → slice_get v.entries.now b ≡ Some e → IsEntry (program blocks v.subs.now) v.things.now b e
   pub for_all : length v.entries.now ≡ length blocks
 
--- before an item that some path leads to: the classes of all things
+-- before a reached item the state holds the classes of the tracked entities there, and the constants of classes
 pub record Reaches (g : Program) (v : Values) (index : Index) (s : Stand) : Type 0 where
   pub class : Classes
   pub held : Holds v.variables.now v.things.now index s.settled.items s.held class
   pub classes : AreClasses g (block_start 0) (pos_in s.block s.item) (map thing v.things.now) class
   pub constants : ConstantsNow v.things.now class s.constants.items
 
--- the walk stands before an item
+-- the state is that before an item: `Reaches` if some path leads to it, and otherwise it is marked as unreached
 pub record Stands (blocks : List Block) (v : Values) (index : Index) (s : Stand) : Type 0 where
   pub reached : s.reached ≡ true → Reaches (program blocks v.subs.now) v index s
   pub unreached : s.reached ≡ false → IsReached (program blocks v.subs.now) (block_start 0) (pos_in s.block s.item) → ⊥
 
--- there are as many classes as places, and as parts
+-- the state has a class for each machine location and for each part of a variable
 pub record Fits (s : Stand) (v : Values) : Type 0 where
   pub places : length s.held.places.items ≡ PLACES
   pub parts : length s.held.parts.items ≡ length v.variables.now
 
--- control may go on to the item below
+-- control may continue to the item below
 abbrev pub Falls : Exit → Type 0
 Falls Onward = Unit {0}
 Falls (Perhaps n) = Unit {0}
 Falls (Always n) = ⊥
 Falls Final = ⊥
 
--- these are the items of the block at an index
+-- the block at this index has these items
 abbrev pub IsBlockAt : List Block → ℕ → List Item → Type 0
 IsBlockAt blocks b items = (block : Block) × (slice_get blocks b ≡ Some block) × (block.items ≡ items)

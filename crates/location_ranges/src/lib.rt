@@ -1,8 +1,8 @@
-//! The location lists of a function. A walk carries the classes of places and of parts of variables
-//! from item to item of a block, from what is known at the block's start; before each item a variable's place is looked
-//! up by its class. The ranges of a variable grow with the walk: where its location differs from what was found before,
-//! the open range ends and another begins. Ranges go on across blocks. One walk over the entries of a function's
-//! machine code makes the lists of all its variables.
+//! Location lists of a function's variables, by one walk over its machine code. The walk carries the tracker's state
+//! from item to item of a block, beginning with the block's live-in values, and before each item looks up the location
+//! of each part of a variable by its class. If a variable's location differs from that of its open range, the range is
+//! closed there and another one opened. Ranges extend across blocks. One walk over the entries of the machine code
+//! computes the lists of all variables.
 #![tactic(auto)]
 
 pub mod places;

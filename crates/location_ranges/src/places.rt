@@ -1,4 +1,4 @@
-//! The places of parts of variables where the walk stands.
+//! The places of parts of variables before an item.
 
 ghost use Rattle.std.specs.Prelude.{◌≡◌, ◌<◌, ◌≤◌, ℕ, Some, None, OnOk, length, cond, slice_index, slice_index_or};
 ghost use Rattle.value_tracker.specs.Held.{PLACES};
@@ -11,8 +11,8 @@ use std::alloc::AllocError;
 use value_tracker::firsts::{empty, fill};
 use value_tracker::look::place_of;
 
-/// Looks up the place of each part of a variable where the walk stands: the first that has its class, and none where no
-/// path leads. A table of first places is filled for it, and emptied again.
+/// Looks up the place of each part of a variable before an item: the first location of its class, and None at an
+/// unreached item. A table of first locations is filled for it, and emptied again. The error is out of memory.
 pub fn look_up(
     stand: &Stand,
     firsts: &mut Vec<Option<usize>>,
@@ -31,7 +31,7 @@ pub fn look_up(
     Ok(())
 }
 
-/// The place of each part, given the first place of each class.
+/// The place of each part, by the first location of each class.
 fn place_parts(places: &mut [Option<Place>], stand: &Stand, firsts: &[Option<usize>])
     requires parts { length stand.now.held.parts.items ≡ length places.old }
     requires within { (k i : ℕ) → slice_index_or firsts.now k None ≡ Some i → i < PLACES }
@@ -44,7 +44,7 @@ fn place_parts(places: &mut [Option<Place>], stand: &Stand, firsts: &[Option<usi
     }
 }
 
-/// The place of a part that has a class.
+/// The place of a part with a class.
 fn place_part(stand: &Stand, firsts: &[Option<usize>], class: usize) -> Option<Place>
     requires { (k i : ℕ) → slice_index_or firsts.now k None ≡ Some i → i < PLACES }
     ensures { result ≡ cond stand.now.reached (place_of firsts.now stand.now.constants.items class) None }
@@ -56,7 +56,7 @@ fn place_part(stand: &Stand, firsts: &[Option<usize>], class: usize) -> Option<P
     }
 }
 
-/// Makes a table reach the class of each place.
+/// Extends a table to the class of each location.
 fn make_room(firsts: &mut Vec<Option<usize>>, places: &[usize]) -> Result<(), AllocError>
     requires { IsEmpty firsts.old.items }
     ensures empty { OnOk result (IsEmpty firsts.new.items) }
@@ -68,7 +68,7 @@ fn make_room(firsts: &mut Vec<Option<usize>>, places: &[usize]) -> Result<(), Al
     Ok(())
 }
 
-/// Makes a table reach a class.
+/// Extends a table to a class.
 fn extend(firsts: &mut Vec<Option<usize>>, class: usize) -> Result<(), AllocError>
     requires { IsEmpty firsts.old.items }
     ensures empty { OnOk result (IsEmpty firsts.new.items) }

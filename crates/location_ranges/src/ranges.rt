@@ -29,21 +29,22 @@ use std::alloc::{AllocError, Global};
 use std::mem;
 use value_tracker::index::{Index, index_of};
 
-/// The walk between two entries.
+/// The state of the walk between two entries.
 #[derive(Drop)]
 pub struct Walk {
-    /// Where it stands.
+    /// The state of the walk over a block's items.
     pub stand: Stand,
-    /// A table for first places, which is empty.
+    /// A table for first locations, which is empty.
     pub firsts: Vec<Option<usize>>,
-    /// The places of the parts of variables, as they were looked up last.
+    /// The places of the parts of variables at the last lookup.
     pub places: Vec<Option<Place>>,
-    /// The ranges of each variable so far.
+    /// The track of each variable.
     pub tracks: Vec<Track>,
 }
 
-/// The ranges of each variable of a list over the machine code of a function, in the list's order: at each address the
-/// location that is wanted for the variable there, and none where none is wanted or no path leads.
+/// The ranges of each variable of a list over the machine code of a function, in the list's order: at each byte of code
+/// the location required for the variable there, and none if none is required or no path leads there. The error is out
+/// of memory.
 pub fn all_ranges(
     alloc: Global,
     values: &Values,
@@ -78,7 +79,7 @@ fn blocks_of(code: &Code) -> &[Block]
     code.framed.blocks.as_slice()
 }
 
-/// Its entries, each of an item, which stand one after the other.
+/// Its entries, contiguous, each with an item.
 fn entries_of(code: &Code) -> &[Entry]
     ensures entries { result.now ≡ code.now.entries }
     ensures stand { StandFrom code.now.base code.now.entries (code.now.base + 4 * length code.now.words) }
@@ -87,14 +88,14 @@ fn entries_of(code: &Code) -> &[Entry]
     code.entries.as_slice()
 }
 
-/// The address behind its last word.
+/// The address after its last word.
 fn end_of(code: &Code) -> u64
     ensures { result ≡ code.now.base + 4 * length code.now.words }
 {
     code.base + 4 * code.words.len() as u64
 }
 
-/// So many tracks without ranges.
+/// Tracks without ranges, of this count.
 fn new_tracks(alloc: Global, count: usize) -> Result<Vec<Track>, AllocError>
     ensures count { IfOk result (λ tracks. length tracks.items ≡ count) }
     ensures new { IfOk result (λ tracks. All IsNew tracks.items) }
@@ -157,7 +158,7 @@ fn block_of(entry: &Entry) -> usize
 }
 
 impl Walk {
-    /// Passes an entry.
+    /// Steps over an entry.
     fn pass(
         self,
         alloc: Global,
@@ -203,7 +204,7 @@ impl Walk {
     }
 }
 
-/// The ranges of each track, the open ones up to an address.
+/// The ranges of each track, with the open ones closed at an address.
 fn close_all(alloc: Global, tracks: Vec<Track>, end: u64) -> Result<RangeLists, AllocError>
     ensures { IfOk result (Closes tracks.items end) }
 {
@@ -215,7 +216,7 @@ fn close_all(alloc: Global, tracks: Vec<Track>, end: u64) -> Result<RangeLists, 
     Ok(lists)
 }
 
-/// Takes a track's ranges.
+/// Takes a track's ranges, with the open one closed at an address.
 fn close(alloc: Global, track: &mut Track, end: u64) -> Result<Ranges, AllocError>
     ensures { IfOk result (λ ranges. ranges ≡ covered track.old end) }
 {

@@ -20,24 +20,24 @@ use value_tracker::look::constants;
 use value_tracker::pass::Block as Fixed;
 use value_tracker::start::{settle, start};
 
-/// Where the walk stands, and what it knows there (LLVM: `TransferTracker`).
+/// The state before an item (LLVM: `TransferTracker`).
 #[derive(Drop)]
 pub struct Stand {
     /// The index of the block.
     pub block: usize,
-    /// The index of the item that comes next.
+    /// The index of the next item.
     pub item: usize,
     /// Whether some path leads there.
     pub reached: bool,
-    /// The class of each tracked thing at the start of the block, or 0.
+    /// The class of each tracked entity at the start of the block, or 0.
     pub settled: Vec<usize>,
-    /// The number of each class that a number has.
+    /// The constant of each class that has one.
     pub constants: Vec<Option<i64>>,
-    /// The classes before the item.
+    /// The tracker's state before the item.
     pub held: Held,
 }
 
-/// The walk before the first item of a block.
+/// The state before the first item of a block. The error is out of memory.
 pub fn enter(
     alloc: Global,
     values: &Values,
@@ -74,7 +74,7 @@ pub fn enter(
     })
 }
 
-/// Whether control may go on to the item below.
+/// Whether control may continue to the item below.
 fn falls(kind: &ItemKind) -> bool
     ensures { IsTrue result ↔ Falls (exit_of kind.now) }
 {
@@ -87,7 +87,7 @@ fn falls(kind: &ItemKind) -> bool
 }
 
 impl Stand {
-    /// Passes an item.
+    /// Steps over an item.
     fn pass(&mut self, values: &Values, index: &Index, item: &Item) -> Result<(), AllocError>
         requires few { self.old.item < 2 ^ 63 }
         requires fits { Fits self.old values.now }
@@ -118,7 +118,7 @@ impl Stand {
         Ok(())
     }
 
-    /// Passes the items of its block up to an index.
+    /// Steps over the items of its block up to an index.
     fn advance(
         &mut self,
         values: &Values,
@@ -143,7 +143,7 @@ impl Stand {
     }
 }
 
-/// Passes an item that control goes below from.
+/// Steps over an item below which control may continue.
 fn pass_held(
     held: &mut Held,
     values: &Values,
@@ -167,7 +167,8 @@ fn pass_held(
     held.pass(&fixed, kind)
 }
 
-/// The walk before an item: it goes on where it can, and else begins at the start of the item's block.
+/// The state before an item: it advances from a state above it in the same block, and otherwise from the block's start.
+/// The error is out of memory.
 pub fn move_to(
     alloc: Global,
     values: &Values,
@@ -195,7 +196,7 @@ pub fn move_to(
     Ok(stand)
 }
 
-/// The walk in a block, at an item or above it.
+/// A state in the block at the item or above it.
 fn stand_in(
     alloc: Global,
     values: &Values,

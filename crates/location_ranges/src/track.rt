@@ -9,26 +9,26 @@ use dwarf_loclists::range::{Location, Range, Ranges};
 use std::alloc::{AllocError, Global};
 use std::mem;
 
-/// Where a variable is from an address on.
+/// A range without its end.
 #[derive(Debug, Drop)]
 pub struct Open {
-    /// The address.
+    /// Its first address.
     pub lo: u64,
-    /// Where it is.
+    /// Its location.
     pub location: Location,
 }
 
-/// The ranges of a variable up to an address.
+/// The ranges of a variable up to an address: finished ones, and an open one.
 #[derive(Debug, Drop)]
 pub struct Track {
-    /// The ranges that have ended, in ascending order.
+    /// The finished ranges, in ascending order.
     pub ranges: Ranges,
-    /// The one that goes on.
+    /// The open range, if there is one.
     pub present: Option<Open>,
 }
 
 impl Track {
-    /// No ranges. It takes no memory.
+    /// A track without ranges. It takes no memory.
     pub fn new(alloc: Global) -> Track
         ensures ranges { result.ranges ≡ [] }
         ensures present { result.present ≡ None }
@@ -39,7 +39,8 @@ impl Track {
         }
     }
 
-    /// From an address on the variable is at a location, or nowhere. What is open goes on where that is its location.
+    /// Changes the location at an address. The open range stays open if it has this location. The error is out of
+    /// memory.
     pub fn turn(self, address: u64, location: Option<Location>) -> Result<Track, AllocError>
         ensures { IfOk result (Turns self address location) }
     {
@@ -67,7 +68,7 @@ impl Track {
         Ok(())
     }
 
-    /// The ranges, the open one up to an address.
+    /// The ranges, with the open one closed at an address. The error is out of memory.
     pub fn close(self, address: u64) -> Result<Ranges, AllocError>
         ensures { IfOk result (λ ranges. ranges ≡ covered self address) }
     {
@@ -76,7 +77,7 @@ impl Track {
     }
 }
 
-/// Ends an open range at an address.
+/// Appends the open range, closed at an address.
 fn end(ranges: Ranges, present: Option<Open>, address: u64) -> Result<Ranges, AllocError>
     ensures { IfOk result (λ all. all ≡ ranges ++ closed present address) }
 {
@@ -106,7 +107,7 @@ fn open_at(address: u64, location: Option<Location>) -> Option<Open>
     }
 }
 
-/// Whether what is open is at a location, or none is and none is open.
+/// Whether the open range has this location, or neither exists.
 fn is_at(present: &Option<Open>, location: &Option<Location>) -> bool
     ensures { IsTrue result ↔ (located present.now ≡ location.now) }
 {
@@ -119,12 +120,13 @@ fn is_at(present: &Option<Open>, location: &Option<Location>) -> bool
     }
 }
 
-/// At a turn nothing is lost, and the variable's location is said up to the next address.
+/// A change of location preserves the locations below its address, and sets the location from it up to any later
+/// address.
 pub fn turns_say_on()
     ensures { TurnsSayOn }
 {}
 
-/// Up to an address the ranges ascend, and from it on they say nothing.
+/// The ranges of a track, closed at an address, ascend and have no location from it on.
 pub fn tracks_are_ranges()
     ensures { TracksAreRanges }
 {}

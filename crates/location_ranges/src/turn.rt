@@ -1,4 +1,4 @@
-//! The tracks of all variables at an address.
+//! A change of all tracks at an address.
 
 ghost use Rattle.std.specs.Prelude.{◌≡◌, OnOk, length};
 ghost use Rattle.location_ranges.specs.steps.Saying.{TurnsBy, TurnedBelow};
@@ -9,7 +9,7 @@ use location_of_variable::location::location;
 use rv64_instr::place::Place;
 use std::alloc::{AllocError, Global};
 
-/// From an address on each variable is where the places of its parts tell, or nowhere.
+/// Changes each variable's track at an address to its location by the places of its parts. The error is out of memory.
 pub fn turn_all(
     alloc: Global,
     groups: &[Group],

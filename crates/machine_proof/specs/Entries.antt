@@ -1,4 +1,4 @@
--- The entries of a layout, by their points and beside its lines.
+-- The entries of a layout, by their addresses and points, and its lines.
 use Rattle.std.specs.Prelude.{◌≡◌, ◌↔◌, ℕ, map, Contains, Some}
 use Rattle.mir_func.specs.declared.position.Origin.{Origin}
 use Rattle.mir_func.specs.declared.position.Pos.{Pos}
@@ -9,30 +9,30 @@ use Rattle.emit_code.specs.Rule.{Layout, address_in, entries_of}
 use Rattle.machine_steps_proof.specs.Images.{IsImageOf}
 use Rattle.machine_proof.specs.Lists.{IsPointAt}
 
--- an entry of a layout begins at the address, and stands at the point
+-- an entry of the layout begins at the address and is of the item at the point
 pub record IsEntryAt (l : Layout) (address : ℕ) (p : Pos) : Type 0 where
   pub entry : Entry
   pub among : Contains (entries_of l) entry
   pub begins : entry.address ≡ address
   pub point : record { block = entry.point.block; item = entry.point.item } ≡ p
 
--- An entry that stands at a point begins exactly where the machine stands at the point's code.
+-- An entry of a point begins at an address if and only if the address is that of the point's instruction (`IsPointAt`).
 abbrev pub EntriesArePoints : Type 0
 EntriesArePoints = (l : Layout) (a : ℕ) (p : Pos) → IsEntryAt l a p ↔ IsPointAt l.framed (address_in l) a p
 
--- where a line with code begins, and what it comes from
+-- the address and the origin of a code line
 abbrev pub place_of_line : Line → ℕ × Origin
 place_of_line x = (x.address, x.origin)
 
--- where an entry begins, and what it comes from
+-- the address and the origin of an entry
 abbrev pub place_of_entry : Entry → ℕ × Origin
 place_of_entry e = (e.address, e.origin)
 
--- The lines of a layout and its entries go side by side, with the same addresses and origins.
+-- The lines and the entries of a layout have the same addresses and origins, in the same order.
 abbrev pub LinesAreEntries : Type 0
 LinesAreEntries = (l : Layout) → map place_of_line (lines_of l) ≡ map place_of_entry (entries_of l)
 
--- So a line of an image stands where an entry of its layout begins, with the same origin.
+-- So for each line of an image an entry of its layout begins at the line's address, with the same origin.
 abbrev pub ImageLinesAreEntries : Type 0
 ImageLinesAreEntries = (l : Layout) (image : Image) → IsImageOf l image → (a : ℕ) (x : CodeLine) → line_at image.lines a ≡ Some x →
     (p : Pos) × (at : IsEntryAt l a p) × (at.entry.origin ≡ x.origin)

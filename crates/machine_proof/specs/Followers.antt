@@ -1,4 +1,4 @@
--- From a function that follows a source to the machine: with its frame, and laid out.
+-- From a function that simulates a source to the machine's run, with its frame and its layout.
 use Rattle.std.specs.Prelude.{◌≡◌, ℕ, Option}
 use Rattle.rv64_instr.specs.declared.place.Place.{Place}
 use Rattle.mir_func.specs.declared.entry.OperandPair.{OperandPair}
@@ -16,7 +16,8 @@ use Rattle.machine_steps_proof.specs.Laid.{IsLaidAt}
 use Rattle.machine_proof.specs.Lists.{GiveWanted, IsPointAt}
 use Rattle.machine_proof.specs.Runs.{GivesBackKept, start_beside}
 
--- f follows the source, which is as it was read. Both are made of instructions that have their form
+-- f simulates the source, which is as it was read, and has its stack objects. f is sound, and all instructions of both have the
+-- form of their opcode
 pub record IsFollower (source f : Function) (resolve fresolve : OperandPair → Option OperandPair) : Type 0 where
   pub read : IsRead source.blocks
   pub source_form : AllItems (λ i. HasForm i.kind) source.blocks
@@ -25,8 +26,8 @@ pub record IsFollower (source f : Function) (resolve fresolve : OperandPair → 
   pub objects : f.objects ≡ source.objects
   pub follows : Follows source.objects source.blocks f.blocks resolve fresolve
 
--- The image in which a function that follows the source lies, with its frame, meets the headline, for lists that give only wanted places.
--- What is to be kept is given back.
+-- If lists name only required places, and the function with its frame preserves the registers `KEPT`, the image that a simulating
+-- function is laid in with its frame satisfies the source's `Headline`.
 abbrev pub FollowersMeetTheHeadline : (lists : VarId → (address : ℕ) → Place → Type 0) → Type 0
 FollowersMeetTheHeadline lists = (source f : Function) (resolve fresolve : OperandPair → Option OperandPair) (image : Image) →
     IsFollower source f resolve fresolve → IsFramed (framed_of f) →

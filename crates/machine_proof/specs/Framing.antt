@@ -1,4 +1,4 @@
--- What stands where in a function with its frame, of a function that follows a source.
+-- The origins in a function with its frame, for a function that simulates a source.
 use Rattle.std.specs.Prelude.{◌<◌, ◌≤◌, All, Option, true, false}
 use Rattle.rv64_instr.specs.Row.{Row, Fixes, Moves, Sets, Addresses, Loads, Stores, LoadsSlot, StoresSlot, Branches, Jumps, Calls, Returns, Unfit, row_of}
 use Rattle.mir_func.specs.declared.entry.OperandPair.{OperandPair}
@@ -14,7 +14,7 @@ use Rattle.sem_simulation.specs.Words.{HasPlainTurns}
 use Rattle.frame_rule.specs.Rule.{framed_of}
 use Rattle.machine_proof.specs.Runs.{ComesFrom}
 
--- what is returned is in physical registers
+-- the results of a return are in physical registers
 abbrev pub ResultsArePhysical : Row → Type 0
 ResultsArePhysical (Returns results) = All (λ r. r < 32) results
 ResultsArePhysical (Fixes rd n) = Unit {0}
@@ -30,29 +30,29 @@ ResultsArePhysical (Jumps target) = Unit {0}
 ResultsArePhysical (Calls name args) = Unit {0}
 ResultsArePhysical Unfit = Unit {0}
 
--- the item, where it is a return, returns what is in physical registers
+-- the item, if it is a return, returns physical registers
 abbrev pub KindReturnsPhysical : ItemKind → Type 0
 KindReturnsPhysical (Code c k) = ResultsArePhysical (row_of c)
 KindReturnsPhysical (Mark v m) = Unit {0}
 KindReturnsPhysical (Phi p k) = Unit {0}
 
--- a function that was made from a source that was read: it is sound and has its shape, and the source returns physical registers
+-- f is derived from a source as read: f is sound and has the source's shape, and the source returns physical registers
 pub record IsMadeFrom (source f : Function) (resolve fresolve : OperandPair → Option OperandPair) : Type 0 where
   pub read : IsRead source.blocks
   pub returns : AllItems (λ i. KindReturnsPhysical i.kind) source.blocks
   pub sound : IsSound f
   pub shape : Shape source.blocks f.blocks (program_of true source.blocks resolve) (program_of false f.blocks fresolve)
 
--- With its frame it comes from the source.
+-- With its frame such a function satisfies `ComesFrom`.
 abbrev pub FramedComesFrom : Type 0
 FramedComesFrom = (source f : Function) (resolve fresolve : OperandPair → Option OperandPair) → IsMadeFrom source f resolve fresolve →
     IsFramed (framed_of f) → ComesFrom (program_of true source.blocks resolve) (framed_of f)
 
--- past the prologue
+-- a position after the prologue
 abbrev pub IsInner : Pos → Type 0
 IsInner p = 1 ≤ p.block
 
--- With its frame it has plain turns.
+-- With its frame such a function satisfies `HasPlainTurns`, with the positions after the prologue as the inner ones.
 abbrev pub FramedHasPlainTurns : Type 0
 FramedHasPlainTurns = (source f : Function) (resolve fresolve : OperandPair → Option OperandPair) → IsMadeFrom source f resolve fresolve →
     IsFramed (framed_of f) → HasPlainTurns (framed_program (framed_of f).blocks fresolve) IsInner

@@ -1,4 +1,4 @@
--- The headline of a function that follows a source, lowered to its frame and laid out, with its location lists.
+-- The statement `Headline` for a function that simulates a source, with its frame, its layout and its location lists.
 use Rattle.std.specs.Prelude.{◌≡◌, ℕ, ◌<◌, ◌≤◌, Option}
 use Rattle.rv64_instr.specs.declared.place.Place.{Place}
 use Rattle.mir_func.specs.declared.entry.OperandPair.{OperandPair}
@@ -20,7 +20,7 @@ use Rattle.machine_steps_proof.specs.Images.{IsImageOf}
 use Rattle.machine_proof.specs.Lists.{GiveWanted}
 use Rattle.machine_proof.specs.Entries.{IsEntryAt}
 
--- an image of the function with its frame, as it is laid out
+-- an image of the function's layout with its frame
 pub record IsImageOfFunction (f : Function) (image : Image) : Type 0 where
   pub layout : Layout
   pub framed : layout.framed ≡ framed_of f
@@ -29,16 +29,16 @@ pub record IsImageOfFunction (f : Function) (image : Image) : Type 0 where
   pub worded : IsWorded layout
   pub laid : IsImageOf layout image
 
--- The image of each function that follows a source meets the headline of this source, for lists that give a place only where it is wanted
--- at the entry's point: wherever the machine comes, the source comes along, with the same events and results, what a list gives holds the
--- newest assignment, and what a function gives back is as at entry; and the machine stops nowhere but at a return, or at a call that has no
--- answer.
+-- If lists name a place only where it is required at the entry's point, the image of each function that simulates a source
+-- satisfies the source's `Headline`: at each line that the machine reaches, the source reaches the line's origin with the same
+-- events and results, unless it stops on a frame fault before; listed places hold the newest assignment, and a return preserves
+-- the registers `KEPT`; and the machine stops only at a return, or at a call without an answer.
 abbrev pub ImagesMeetTheHeadline : (lists : VarId → (address : ℕ) → Place → Type 0) → Type 0
 ImagesMeetTheHeadline lists = (source f : Function) (resolve fresolve : OperandPair → Option OperandPair) (image : Image) →
     IsFollower source f resolve fresolve → AllItems (λ i. HasPhysical i.kind) f.blocks → size_of f ≤ MAX_FRAME → (is : IsImageOfFunction f image) →
     GiveWanted (framed_program (framed_of f).blocks fresolve) (IsEntryAt is.layout) lists → Headline source resolve image lists
 
--- So does the image of a source that was read and is laid out as it is, with its frame.
+-- So does the image of a source as it was read, with its frame and its layout.
 abbrev pub SourcesMeetTheHeadline : (lists : VarId → (address : ℕ) → Place → Type 0) → Type 0
 SourcesMeetTheHeadline lists = (source : Function) (resolve : OperandPair → Option OperandPair) (image : Image) → IsRead source.blocks →
     AllItems (λ i. HasForm i.kind) source.blocks → AllItems (λ i. HasPhysical i.kind) source.blocks → IsSound source → size_of source ≤ MAX_FRAME →

@@ -1,4 +1,4 @@
--- Location lists of machine code that give only what holds, and the addresses of which they speak.
+-- Location lists that name only required places, and the positions of addresses.
 use Rattle.std.specs.Prelude.{◌≡◌, ℕ, ◌+◌, true}
 use Rattle.rv64_instr.specs.declared.place.Place.{Place}
 use Rattle.mir_func.specs.declared.exit.Exit.TheVariants.{Perhaps}
@@ -12,12 +12,12 @@ use Rattle.sem_mir.specs.Align.{is_code}
 use Rattle.sem_mir.specs.Token.{IsWanted}
 use Rattle.machine_steps_proof.specs.Laid.{fetched}
 
--- the lists give a part of a variable a place only where that place is wanted at the code's position, by the tokens of all paths of the
--- function with its frame; `points` relates addresses to positions
+-- each place that the lists name for a part of a variable at an address is the one required at each position of the address, over
+-- all paths of the function with its frame. `points` relates addresses to positions
 abbrev pub GiveWanted : Program → (points : (address : ℕ) → Pos → Type 0) → (lists : VarId → (address : ℕ) → Place → Type 0) → Type 0
 GiveWanted g points lists = (v : VarId) (a : ℕ) (place : Place) → lists v a place → (p : Pos) → points a p → IsWanted g (block_start 0) v p place
 
--- the machine stands at code of a point at this address: at its first word, or at the second word of a conditional branch of eight bytes
+-- the address is that of the instruction at the position: of its first word, or of the second word of a long branch
 pub data IsPointAt (f : FramedFunction) (address : Pos → ℕ) (a : ℕ) (p : Pos) : Type 0 where
   at_code : (i : Item) → fetched f p ≡ Here i → is_code i.kind ≡ true → a ≡ address p → IsPointAt f address a p
   at_jump : (i : Item) (target : ℕ) → fetched f p ≡ Here i → exit_of i.kind ≡ Perhaps target → address (below p) ≡ address p + 8 → a ≡ address p + 4 →

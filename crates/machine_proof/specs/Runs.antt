@@ -1,4 +1,4 @@
--- From a function with its frame to the machine's run: the headline of the image in which it is laid out.
+-- From a function with its frame to the machine's run: the statement `Headline` for the image of its layout.
 use Rattle.std.specs.Prelude.{◌≡◌, ◌⊎◌, ℕ, suc, ◌<◌, List, All, Option, true, false, IsSome}
 use Rattle.rv64_instr.specs.Instruction.{Instruction}
 use Rattle.rv64_instr.specs.declared.place.Place.{Place}
@@ -25,11 +25,11 @@ use Rattle.sem_machine.specs.Headline.{StartsAt, KEPT, Headline}
 use Rattle.machine_steps_proof.specs.Laid.{fetched, IsLaidAt}
 use Rattle.machine_proof.specs.Lists.{GiveWanted, IsPointAt}
 
--- where physical registers are written, the source doesn't stop on a frame fault at the position
+-- at this position the source never stops on a frame fault, if all physical registers are written
 abbrev pub NeverFaults : Program → Pos → Type 0
 NeverFaults src q = (s : State) → s.pos ≡ q → ((r : ℕ) → r < 32 → IsSome (content s.core.regs r)) → step src s ≡ Faulted → ⊥
 
--- code that shows nothing, and stops at a slot that isn't written at most
+-- an instruction without observable effect, which can stop only at a slot that isn't written
 abbrev pub IsHarmless : Row → Type 0
 IsHarmless (Fixes rd n) = Unit {0}
 IsHarmless (Moves rd rs) = Unit {0}
@@ -45,50 +45,52 @@ IsHarmless (Calls name args) = ⊥
 IsHarmless (Returns results) = ⊥
 IsHarmless Unfit = ⊥
 
--- debug items and the ends of blocks lead down the text from one position to another
+-- debug items and block ends lead down the text from one position to the other
 pub data FallsTo (f : FramedFunction) : Pos → Pos → Type 0 where
   here : {p : Pos} → FallsTo f p p
   past_item : {p q : Pos} (i : Item) → fetched f p ≡ Here i → is_code i.kind ≡ false → FallsTo f (below p) q → FallsTo f p q
   past_end : {p q : Pos} (k n : ℕ) → fetched f p ≡ Silent k n → FallsTo f (block_start (suc p.block)) q → FallsTo f p q
 
--- an item that gives no variable a value
+-- an item that assigns no value to a variable: any but a debug value with an operand other than $noreg
 abbrev pub AssignsNothing : ItemKind → Type 0
 AssignsNothing (Code c k) = Unit {0}
 AssignsNothing (Mark v m) = m ≡ Nothing
 AssignsNothing (Phi p k) = Unit {0}
 
--- what the places of a function with its frame have to do with its source
+-- what `Headline` requires of the origins in a function with its frame
 pub record ComesFrom (src : Program) (f : FramedFunction) : Type 0 where
-  -- code that was added before a position is such, or the source never stops on a frame fault there
+  -- added code before a position is harmless, or the source never stops on a frame fault there
   pub added : (p : Pos) (i : Item) (c : Instruction) (k : Option ℕ) (q : Pos) → fetched f p ≡ Here i → i.kind ≡ Code c k → i.origin ≡ Before q →
       IsHarmless (row_of c) ⊎ NeverFaults src q
-  -- nor does it at a return
+  -- the source never stops on a frame fault at a return's position
   pub returns : (p : Pos) (i : Item) → fetched f p ≡ Here i → exit_of i.kind ≡ Final → NeverFaults src (position_of i.origin)
-  -- the next code below a conditional branch comes from another position
+  -- the next code below a conditional branch has another position as its origin
   pub apart : (p q : Pos) (i j : Item) (n : ℕ) → fetched f p ≡ Here i → exit_of i.kind ≡ Perhaps n → FallsTo f (below p) q → fetched f q ≡ Here j →
       is_code j.kind ≡ true → position_of j.origin ≡ position_of i.origin → ⊥
   -- no conditional branch was added
   pub kept : (p q : Pos) (i : Item) (n : ℕ) → fetched f p ≡ Here i → exit_of i.kind ≡ Perhaps n → i.origin ≡ Before q → ⊥
-  -- from what was added before a position down to the next code that comes from it no variable gets a value
+  -- between added code before a position and the next code, if its origin has the same position, no item assigns a value to a
+  -- variable
   pub quiet : (p q r o : Pos) (i d j : Item) → fetched f p ≡ Here i → i.origin ≡ Before o → FallsTo f (below p) q → fetched f q ≡ Here d →
       FallsTo f q r → fetched f r ≡ Here j → is_code j.kind ≡ true → position_of j.origin ≡ o → AssignsNothing d.kind
 
--- a run of the function with its frame gives back what is to be kept
+-- each return of a run from this start leaves the registers `KEPT` (return address, stack pointer, callee-saved) with their
+-- values at the start
 abbrev pub GivesBackKept : Program → State → Type 0
 GivesBackKept g g0 = (n : ℕ) (t : State) (results : List ℕ) → run g n g0 ≡ Went t → step g t ≡ Returned results →
     All (λ r. read t.core r ≡ read g0.core r) KEPT
 
--- the start of the function with its frame beside the source's
+-- the start of the function with its frame, for a start of the source
 abbrev pub start_beside : State → State
 start_beside s = record { pos = block_start 0; core = s.core }
 
--- the runs of the function with its frame follow the source's by words, and give back what is to be kept
+-- the runs of the function with its frame simulate the source's word by word, and preserve the registers `KEPT`
 pub record RunsBeside (source : Function) (f : FramedFunction) (resolve fresolve : OperandPair → Option OperandPair) : Type 0 where
   pub follows : (s : State) → StartsAt source s →
       RunsByWords (program_of true source.blocks resolve) (framed_program f.blocks fresolve) s (start_beside s)
   pub keeps : (s : State) → StartsAt source s → GivesBackKept (framed_program f.blocks fresolve) (start_beside s)
 
--- The image in which such a function lies meets the headline, for lists that give only wanted places.
+-- If lists name only required places, the image that such a function is laid in satisfies `Headline`.
 abbrev pub LaidCodeMeetsTheHeadline : (lists : VarId → (address : ℕ) → Place → Type 0) → Type 0
 LaidCodeMeetsTheHeadline lists = (source : Function) (f : FramedFunction) (resolve fresolve : OperandPair → Option OperandPair) (image : Image) →
     IsFramed f → f.objects ≡ source.objects → ComesFrom (program_of true source.blocks resolve) f → RunsBeside source f resolve fresolve →

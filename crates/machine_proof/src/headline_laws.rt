@@ -1,33 +1,33 @@
-//! The laws of images: each is the contract of a function that does nothing.
+//! Laws about images, each the contract of a function that does nothing.
 
 ghost use Rattle.machine_proof.specs.Entries.{EntriesArePoints, ImageLinesAreEntries, LinesAreEntries};
 ghost use Rattle.machine_proof.specs.LaidOut.{ImagesMeetTheHeadline, SourcesMeetTheHeadline};
 
 use sem_machine::laws::LocationLists;
 
-/// The image of each function that follows a source meets the headline of this source, for lists that give only wanted
+/// The image of each function that simulates a source satisfies the source's `Headline`, if lists name only required
 /// places.
 pub fn images_meet_the_headline<L: LocationLists>()
     ensures { ImagesMeetTheHeadline L.gives }
 {}
 
-/// The image of each source that was read, laid out as it is, meets its headline, for lists that give only wanted
-/// places.
+/// The image of each source as read, with its frame and its layout, satisfies its `Headline`, if lists name only
+/// required places.
 pub fn sources_meet_the_headline<L: LocationLists>()
     ensures { SourcesMeetTheHeadline L.gives }
 {}
 
-/// An entry of a layout that stands at a point begins exactly where the machine stands at the point's code.
+/// An entry of a point begins at an address if and only if the address is that of the point's instruction.
 pub fn entries_are_points()
     ensures { EntriesArePoints }
 {}
 
-/// The lines of a layout and its entries go side by side, with the same addresses and origins.
+/// The lines and the entries of a layout have the same addresses and origins, in the same order.
 pub fn lines_are_entries()
     ensures { LinesAreEntries }
 {}
 
-/// A line of an image stands where an entry of its layout begins, with the same origin.
+/// For each line of an image an entry of its layout begins at the line's address, with the same origin.
 pub fn image_lines_are_entries()
     ensures { ImageLinesAreEntries }
 {}

@@ -1,12 +1,12 @@
-//! Runs of the machine on an image simulate the function that it was laid out from.
+//! Simulation of a source by the machine's run on the image of a function's layout.
 //!
-//! - `run_laws`: The machine's run over the code of a function with its frame, beside the source's.
+//! - `run_laws`: The machine's run on the code of a function with its frame, against the source's run.
 //!
-//! - `frame_laws`: What stands where in a function with its frame, as the machine's run needs it.
+//! - `frame_laws`: What the machine's run requires of the origins of items in a function with its frame.
 //!
-//! - `headline_laws`: The headline with lists: for every function that follows a source, lowered to its frame and laid
-//!   out, the machine does what the source does, and lists that give only wanted places give values of newest
-//!   assignments.
+//! - `headline_laws`: The statement `Headline` with location lists, for every function that simulates a source, with
+//!   its frame and its layout: the machine simulates the source, and lists that name only required places name values
+//!   of the newest assignments.
 #![tactic(auto)]
 
 pub mod frame_laws;

@@ -1,4 +1,5 @@
--- The machine beside a function with its frame: the same registers, the same memory but for the frame's bytes, and the frame's slots in them.
+-- The matching relation of the machine and a function with its frame: the same registers, and the same memory except the frame's
+-- bytes, which have the written slots.
 use Rattle.std.specs.Prelude.{◌≡◌, ℕ, ◌+◌, ◌-◌, ◌^◌, ◌<◌, ◌≤◌, Option, Some, None, false, IsSome}
 use Rattle.mir_func.specs.Function.{FramedFunction}
 use Rattle.mir_func.specs.Limits.{FRAME_ROOM}
@@ -12,12 +13,12 @@ use Rattle.sem_machine.specs.Machine.{Machine, register}
 abbrev pub frame_low : FramedFunction → Core → ℕ
 frame_low f c = c.entry - f.size
 
--- how far above x2 a stack object begins, and 0 where there is none
+-- the offset of a stack object from x2, and 0 for None
 abbrev pub object_place : FramedFunction → (object : Option ℕ) → ℕ
 object_place f None = 0
 object_place f (Some n) = own_size f + offset_of f.objects n
 
--- the machine beside a core of the function with its frame. A slot that is written has its content in the frame's bytes
+-- the machine matches a core of the function with its frame. Each written slot has its content in the frame's bytes
 pub record Beside (f : FramedFunction) (c : Core) (m : Machine) : Type 0 where
   pub room : FRAME_ROOM ≤ c.entry
   pub top : c.entry < 2 ^ 64

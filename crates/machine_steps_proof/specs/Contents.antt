@@ -1,4 +1,4 @@
--- Which places are wanted is told by the numbers and the items of blocks.
+-- The required locations depend only on the numbers and the items of blocks.
 use Rattle.std.specs.Prelude.{◌≡◌, ℕ, List, map, Option}
 use Rattle.rv64_instr.specs.declared.place.Place.{Place}
 use Rattle.mir_func.specs.declared.block.Block.{Block}
@@ -9,11 +9,11 @@ use Rattle.mir_func.specs.declared.variable.VarId.{VarId}
 use Rattle.mir_func.specs.Graph.{block_start, framed_program}
 use Rattle.sem_mir.specs.Token.{IsWanted}
 
--- the number and the items of a block: its silent index aside
+-- the number and the items of a block, without the index of its end
 abbrev pub contents_of : Block → ℕ × List Item
 contents_of b = (b.id, b.items)
 
--- In two functions with their frames whose blocks have the same numbers and items the same places are wanted.
+-- In two functions with their frames whose blocks have the same numbers and items, the same locations are required.
 abbrev pub ContentsTellWanted : Type 0
 ContentsTellWanted = (blocks others : List Block) (resolve : OperandPair → Option OperandPair) → map contents_of blocks ≡ map contents_of others →
     (v : VarId) (p : Pos) (place : Place) → IsWanted (framed_program blocks resolve) (block_start 0) v p place →

@@ -1,4 +1,4 @@
--- The image of a function that is laid out.
+-- The image of a laid-out function.
 use Rattle.std.specs.Prelude.{◌≡◌, ℕ, ◌+◌, ◌^◌, ◌<◌, List, ◌++◌, drop, map, Option, Some, IsSome}
 use Rattle.std.specs.List.{flat_map}
 use Rattle.std.specs.Int.{w32, to_le_bytes}
@@ -15,25 +15,25 @@ use Rattle.emit_code.specs.Rule.{Layout, Form, Nothing, OneWord, CallSite, LongB
 use Rattle.emit_code.specs.Rule.{words_of}
 use Rattle.machine_steps_proof.specs.Laid.{fetched, IsLaidAt}
 
--- a line of the listing as the image has it
+-- a code line of the layout, as the image has it
 abbrev pub code_line : Line → CodeLine
 code_line l = record { address = l.address; origin = l.origin; instruction = l.instruction }
 
--- the code has its operations
+-- each word of the form is that of an encodable operation (a call's words always are)
 abbrev pub FormHasWords : Layout → (address : ℕ) → Instruction → Form → Type 0
 FormHasWords l a c Nothing = Unit {0}
 FormHasWords l a c OneWord = IsSome (operation_at l a c)
 FormHasWords l a c CallSite = Unit {0}
 FormHasWords l a c (LongBranch n) = IsSome (skip_operation c) × IsSome (jump_operation l a n)
 
--- each code item of the layout has its words, at addresses of 64 bits
+-- each instruction of the layout is encodable, and its addresses fit in 64 bits
 pub record HasAllWords (l : Layout) : Type 0 where
   pub words : (p : Pos) (i : Item) (c : Instruction) (k : Option ℕ) → fetched l.framed p ≡ Here i → i.kind ≡ Code c k →
       FormHasWords l (address_in l p) c (form_of (l.long p) (Code c k))
   pub fits : (p : Pos) (i : Item) (c : Instruction) (k : Option ℕ) → fetched l.framed p ≡ Here i → i.kind ≡ Code c k → row_of c ≡ Unfit → ⊥
   pub small : (p : Pos) → address_in l p + 8 < 2 ^ 64
 
--- the image has the layout's words from its first address on, and its lines
+-- the image has the layout's first address, its words from there on, its lines, and the size of its stack objects
 pub record IsImageOf (l : Layout) (image : Image) : Type 0 where
   pub low : image.low ≡ l.base
   pub area : image.area ≡ area_of l.framed.objects
@@ -41,6 +41,6 @@ pub record IsImageOf (l : Layout) (image : Image) : Type 0 where
   pub text : drop l.base image.text ≡ flat_map (to_le_bytes w32) (words_of l) ++ more
   pub lines : image.lines ≡ map code_line (lines_of l)
 
--- In the image of a layout the function lies point by point.
+-- The image of an encodable layout has the function's code at the layout's addresses (`IsLaidAt`).
 abbrev pub ImagesAreLaid : Type 0
 ImagesAreLaid = (l : Layout) (image : Image) → HasAllWords l → IsImageOf l image → IsLaidAt l.framed image

@@ -1,4 +1,4 @@
--- Where the code of a function with its frame lies in an image, and what the machine does there: what a layout has to keep.
+-- The code of a function with its frame in an image: each instruction's address, and the machine's step there.
 use Rattle.std.specs.Prelude.{◌≡◌, ◌⊎◌, ℕ, suc, ◌+◌, List, drop, map, Option, Some, false, cond}
 use Rattle.rv64_instr.specs.Instruction.{Instruction}
 use Rattle.rv64_instr.specs.declared.op.BranchOp.{BranchOp}
@@ -20,11 +20,11 @@ use Rattle.sem_machine.specs.MachineStep.{Continues, Ends, past, at, answered, m
 use Rattle.sem_machine.specs.MachineStep as machine
 use Rattle.machine_steps_proof.specs.Beside.{object_place}
 
--- what stands at a position of a function with its frame: the position's block is a block's index
+-- the item, block end or nothing at a position of a function with its frame. The position's block is a block index
 abbrev pub fetched : FramedFunction → Pos → Fetch
 fetched f p = fetch_in (drop p.block f.blocks) p.item
 
--- the block's number to which code of a row goes otherwise than onward, and 0 where it goes nowhere else
+-- the number of the block that an instruction of this row jumps or branches to, and 0 if it has no target
 abbrev pub target_of : Row → ℕ
 target_of (Branches op a b target) = target
 target_of (Jumps target) = target
@@ -41,11 +41,11 @@ target_of (Returns results) = 0
 target_of Unfit = 0
 
 module _ (f : FramedFunction) (image : Image) (address : Pos → ℕ) where
-  -- where the block of a number begins: a branch goes past the prologue
+  -- the target address of a branch to the block with this number. The prologue is no target
   abbrev pub start_of : (block : ℕ) → ℕ
   start_of n = address (block_start (suc (index_of (body_of f.blocks) n)))
 
-  -- one line with one word, which does what the row does with its target and its stack object in place
+  -- one line with one word: the machine's step is that of the row, with the target's address and the stack object's offset
   pub record HasWord (p : Pos) (i : Item) (r : Row) : Type 0 where
     pub line : CodeLine
     pub stands : line_at image.lines (address p) ≡ Some line
@@ -54,8 +54,8 @@ module _ (f : FramedFunction) (image : Image) (address : Pos → ℕ) where
     pub step : (m : Machine) → m.counter ≡ address p →
         machine_step image m ≡ machine.does (placed (start_of (target_of r)) (object_place f (object_named r)) r) m
 
-  -- a long branch has two lines: the first, before the position, goes over the second where the branch isn't taken, and the second
-  -- goes to the target
+  -- a long branch has two lines. At the first, whose origin is before the position, the machine steps over the second if the
+  -- branch isn't taken, and to the second otherwise. At the second it jumps to the target
   pub record HasTwoWords (p : Pos) (i : Item) (op : BranchOp) (a b target : ℕ) : Type 0 where
     pub line : CodeLine
     pub jump_line : CodeLine
@@ -68,7 +68,7 @@ module _ (f : FramedFunction) (image : Image) (address : Pos → ℕ) where
         machine_step image m ≡ Continues (cond (taken op (register m a) (register m b)) (past 4 m) (past 8 m))
     pub jump_step : (m : Machine) → m.counter ≡ address p + 4 → machine_step image m ≡ Continues (at (start_of target) m)
 
-  -- a call site calls, over two words
+  -- a call has one line, and two words: the machine's step is that of the call
   pub record HasCall (p : Pos) (i : Item) (name args : List ℕ) : Type 0 where
     pub line : CodeLine
     pub stands : line_at image.lines (address p) ≡ Some line
@@ -76,14 +76,14 @@ module _ (f : FramedFunction) (image : Image) (address : Pos → ℕ) where
     pub next : address (below p) ≡ address p + 8
     pub step : (m : Machine) → m.counter ≡ address p → machine_step image m ≡ answered name (map (register m) args) m m.script
 
-  -- the word that returns ends the run
+  -- a return has one line: the machine's step ends the run with the results
   pub record HasReturn (p : Pos) (i : Item) (results : List ℕ) : Type 0 where
     pub line : CodeLine
     pub stands : line_at image.lines (address p) ≡ Some line
     pub origin : line.origin ≡ i.origin
     pub step : (m : Machine) → m.counter ≡ address p → machine_step image m ≡ Ends (map (register m) results)
 
-  -- what lies at the address of code of a row
+  -- the lines and the machine's steps at the address of an instruction of this row
   abbrev pub HasRow : Pos → Item → Row → Type 0
   HasRow p i (Fixes rd n) = HasWord p i (Fixes rd n)
   HasRow p i (Moves rd rs) = HasWord p i (Moves rd rs)
@@ -99,8 +99,8 @@ module _ (f : FramedFunction) (image : Image) (address : Pos → ℕ) where
   HasRow p i (Returns results) = HasReturn p i results
   HasRow p i Unfit = ⊥
 
--- the image has the code of the function, point by point: each point has an address, and the machine does at the address of code what
--- the code does
+-- the image has the function's code: each position has an address, and the machine's steps at the address of an instruction are
+-- the instruction's
 pub record IsLaidAt (f : FramedFunction) (image : Image) : Type 0 where
   pub address : Pos → ℕ
   pub low : address (block_start 0) ≡ image.low

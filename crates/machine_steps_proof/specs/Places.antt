@@ -1,4 +1,4 @@
--- What a place that has a token holds at the machine.
+-- The value that the machine has in a place with a token.
 use Rattle.std.specs.Prelude.{◌≡◌, ℕ, Option, Some}
 use Rattle.rv64_instr.specs.declared.place.Place.{Place}
 use Rattle.mir_func.specs.declared.entry.OperandPair.{OperandPair}
@@ -14,8 +14,9 @@ use Rattle.sem_machine.specs.Machine.{Machine, place_content}
 use Rattle.machine_steps_proof.specs.Beside.{Beside}
 use Rattle.machine_steps_proof.specs.Pointer.{IsPointerAt}
 
--- On each path of a function with its frame a place that has a token holds at the machine the value that the token names: c is a core
--- at the path's end that holds what its tokens name, and the machine stands beside d, which has the same registers, slots and memory.
+-- On each path of a function with its frame, a place with a token holds at the machine the value that the token names. c is a
+-- core at the path's end that agrees with its tokens (`Names`), d has the same registers, slots and memory as c, and the machine
+-- matches d.
 abbrev pub PlacesHold : Type 0
 PlacesHold = (f : FramedFunction) → IsFramed f → (resolve : OperandPair → Option OperandPair) (n : ℕ) (p : Pos) (t : Tokens) →
     Path (framed_program f.blocks resolve) (block_start 0) n p t → (value : Token → ℕ) (c d : Core) → Names value t c → SameCode d c →

@@ -1,4 +1,4 @@
--- How far x2 lies below its content at entry, by the position alone.
+-- The value of x2, by the position alone.
 use Rattle.std.specs.Prelude.{◌≡◌, ℕ, ◌-◌, Bool, false, cond, ◌&&◌, ◌||◌, nat_eq}
 use Rattle.mir_func.specs.declared.position.Pos.{Pos}
 use Rattle.mir_func.specs.Exits.{exit_of, is_final}
@@ -8,20 +8,20 @@ use Rattle.sem_mir.specs.State.{Core}
 use Rattle.sem_mir.specs.Step.{read}
 use Rattle.machine_steps_proof.specs.Laid.{fetched}
 
--- a return stands there
+-- the item is a return
 abbrev pub fetch_returns : Fetch → Bool
 fetch_returns (Here i) = is_final (exit_of i.kind)
 fetch_returns (Silent k n) = false
 fetch_returns Outside = false
 
--- x2 is as at entry: before the prologue, and at a return
+-- x2 has its value at entry: at the start of the prologue, and at a return
 abbrev pub is_as_at_entry : FramedFunction → Pos → Bool
 is_as_at_entry f p = (nat_eq p.block 0 && nat_eq p.item 0) || fetch_returns (fetched f p)
 
--- how many bytes x2 lies below its content at entry
+-- the bytes by which x2 is below its value at entry
 abbrev pub lowered_by : FramedFunction → Pos → ℕ
 lowered_by f p = cond (is_as_at_entry f p) 0 f.size
 
--- and x2 is there
+-- x2 has this value
 abbrev pub IsPointerAt : FramedFunction → Pos → Core → Type 0
 IsPointerAt f p c = read c 2 ≡ c.entry - lowered_by f p

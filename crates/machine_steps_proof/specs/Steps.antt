@@ -1,4 +1,4 @@
--- One step of the machine beside one of a function with its frame.
+-- One step of a function with its frame against the machine's.
 use Rattle.std.specs.Prelude.{◌≡◌, ℕ, suc, ◌+◌, List, Option, Some, false, true}
 use Rattle.mir_func.specs.declared.entry.OperandPair.{OperandPair}
 use Rattle.mir_func.specs.declared.item.Item.{Item}
@@ -25,34 +25,35 @@ module _ (f : FramedFunction) (resolve : OperandPair → Option OperandPair) (im
   abbrev pub framed_run : Program
   framed_run = framed_program f.blocks resolve
 
-  -- the machine stands beside a state of the function with its frame: at the address of its position
+  -- the machine matches a state of the function with its frame, and its program counter is the address of the state's position
   pub record Level (t : State) (m : Machine) : Type 0 where
     pub beside : Beside f t.core m
     pub range : IsInRange t.core
     pub pointer : IsPointerAt f t.pos t.core
     pub counter : m.counter ≡ laid.address t.pos
 
-  -- the step of code with one line, and the machine's
+  -- the step of an instruction with one line, and the machine's step
   pub data OneStep (t : State) (m : Machine) : Type 0 where
     goes : (u : State) (n : Machine) → step framed_run t ≡ Went u → machine_step image m ≡ Continues n → Level u n → OneStep t m
     gives : (results : List ℕ) → step framed_run t ≡ Returned results → machine_step image m ≡ Ends results → OneStep t m
     waits : step framed_run t ≡ Waits → machine_step image m ≡ Awaits → OneStep t m
     faults : step framed_run t ≡ Faulted → ((results : List ℕ) → machine_step image m ≡ Ends results → ⊥) → OneStep t m
 
-  -- the step of a long branch, and the machine's: over the second line where it isn't taken, and else one step to it, and one by it
+  -- the step of a long branch, and the machine's: if the branch isn't taken, one step over the second word; otherwise one to the
+  -- second word, and one from it to the target
   pub data TwoSteps (t : State) (m : Machine) : Type 0 where
     over : (u : State) (n : Machine) → step framed_run t ≡ Went u → machine_step image m ≡ Continues n → u.pos ≡ below t.pos →
         SameCode u.core t.core → Level u n → TwoSteps t m
     through : (u : State) (k n : Machine) → step framed_run t ≡ Went u → machine_step image m ≡ Continues k → k.counter ≡ m.counter + 4 →
         Beside f t.core k → machine_step image k ≡ Continues n → SameCode u.core t.core → Level u n → TwoSteps t m
 
-  -- the machine at the address of code: its lines there, and its steps
+  -- the machine at the address of an instruction: the instruction's lines there, and the machine's steps
   pub data AtCode (t : State) (m : Machine) (i : Item) : Type 0 where
     single : (l : CodeLine) → line_at image.lines m.counter ≡ Some l → l.origin ≡ i.origin → OneStep t m → AtCode t m i
     double : (l j : CodeLine) → line_at image.lines m.counter ≡ Some l → line_at image.lines (m.counter + 4) ≡ Some j →
         l.origin ≡ Before (position_of i.origin) → j.origin ≡ i.origin → (b : ℕ) → exit_of i.kind ≡ Perhaps b → TwoSteps t m → AtCode t m i
 
-  -- it goes on with equal places, and the machine, which stays, is level with it again
+  -- the function steps to position p with the same registers, slots and memory while the machine stays, and both match again
   pub record StaysLevel (t : State) (m : Machine) (p : Pos) : Type 0 where
     pub next : State
     pub went : step framed_run t ≡ Went next
@@ -60,20 +61,20 @@ module _ (f : FramedFunction) (resolve : OperandPair → Option OperandPair) (im
     pub code : SameCode next.core t.core
     pub level : Level next m
 
--- At the address of code the machine does what the code does.
+-- At the address of an instruction the machine's steps simulate the instruction's.
 abbrev pub StepsBeside : Type 0
 StepsBeside = (f : FramedFunction) → IsFramed f → (resolve : OperandPair → Option OperandPair) (image : Image) (laid : IsLaidAt f image)
     (t : State) (m : Machine) → Level f resolve image laid t m → (i : Item) → fetched f t.pos ≡ Here i → is_code i.kind ≡ true →
     AtCode f resolve image laid t m i
 
--- Debug items and the ends of blocks leave it level.
+-- A step over a debug item or a block's end is no step of the machine, and preserves the match.
 abbrev pub StaysBeside : Type 0
 StaysBeside = (f : FramedFunction) → IsFramed f → (resolve : OperandPair → Option OperandPair) (image : Image) (laid : IsLaidAt f image)
     (t : State) (m : Machine) → Level f resolve image laid t m →
     ((i : Item) → fetched f t.pos ≡ Here i → is_code i.kind ≡ false → StaysLevel f resolve image laid t m (below t.pos)) ×
     ((k n : ℕ) → fetched f t.pos ≡ Silent k n → StaysLevel f resolve image laid t m (block_start (suc t.pos.block)))
 
--- Both start level.
+-- The start states match.
 abbrev pub StartsBeside : Type 0
 StartsBeside = (f : FramedFunction) → IsFramed f → (resolve : OperandPair → Option OperandPair) (image : Image) (laid : IsLaidAt f image)
     (first : ℕ) (s : State) → IsStart f.objects first s →

@@ -1,9 +1,9 @@
-//! Laws of images: each is the contract of a function that does nothing.
+//! Laws about images, each the contract of a function that does nothing.
 
 ghost use Rattle.machine_steps_proof.specs.Images.{ImagesAreLaid};
 
-/// In the image of a layout the function lies point by point, and the machine does at the address of code what the code
-/// does.
+/// The image of a layout has the function's code at the layout's addresses: the machine's steps at the address of an
+/// instruction are the instruction's.
 pub fn images_are_laid()
     ensures { ImagesAreLaid }
 {}

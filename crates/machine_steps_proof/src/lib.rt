@@ -1,15 +1,13 @@
-//! One step of the machine against one item of a function, and the image of a layout.
+//! Simulation of a function with its frame by the machine, step by step, on the image of its layout.
 //!
-//! - `step_laws`: The machine beside a function with its frame. Where the code of such a function lies in an image
-//!   point by point, each of the machine's steps is one of the function's: the machine holds the same registers, and
-//!   the same memory but for the frame's bytes, in which the function's slots have their contents. A long branch that
-//!   is taken is two steps of the machine, and debug items and the ends of blocks are none.
+//! - `step_laws`: The matching relation and its steps. If an image has the function's code, each of the machine's steps
+//!   is one of the function's: the machine has the same registers, and the same memory except the frame's bytes, in
+//!   which the function's slots have their contents. A taken long branch is two steps of the machine; debug items and
+//!   block ends are none.
 //!
-//! - `place_laws`: What has a token holds its value at the machine: places of a function with its frame, beside the
-//!   machine that runs it.
+//! - `place_laws`: The values of places. A place with a token holds at the machine the value that the token names.
 //!
-//! - `layout_laws`: The image of a function that is laid out: its words and lines lie point by point where the
-//!   machine's steps need them.
+//! - `layout_laws`: The image of a laid-out function has the function's code as the machine's steps need it.
 #![tactic(auto)]
 
 pub mod layout_laws;

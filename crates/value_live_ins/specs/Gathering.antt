@@ -1,4 +1,4 @@
--- The tracked things of a function as they are gathered.
+-- The list of a function's tracked entities while it is collected.
 use Rattle.std.specs.Prelude.{◌≡◌, ◌↔◌, ℕ, ◌<◌, List, [], ◌∷◌, ◌++◌, map, Contains, Option, None, Some, Bool, true, false, slice_get}
 use Rattle.std.specs.HashSet.{contains}
 use Rattle.rv64_instr.specs.declared.place.Place.{Place}
@@ -16,11 +16,12 @@ use Rattle.value_tracker.specs.Things.{IsOffset}
 use Rattle.value_live_ins.specs.declared.gather.Gathered.{Gathered}
 use Rattle.value_live_ins.specs.Keys.{key_of, is_key}
 
--- a register that is tracked
+-- a register that is tracked: a physical one but x0 and x2
 abbrev pub IsTrackedRegister : ℕ → Type 0
 IsTrackedRegister r = (r < 32) × (r ≡ 0 → ⊥) × (r ≡ 2 → ⊥)
 
--- it may be tracked: a register but x0 and x2, a doubleword of the frame, or any other thing
+-- an entity that may be tracked: a register but x0 and x2, a doubleword of the frame, or any other entity that is no register or
+-- slot
 abbrev pub MayTrack : Tracked → Type 0
 MayTrack (Register r) = IsTrackedRegister r
 MayTrack (Slot n) = IsOffset n
@@ -28,22 +29,22 @@ MayTrack (Pair q) = Unit {0}
 MayTrack (Part v) = Unit {0}
 MayTrack (Number c) = Unit {0}
 
--- no thing stands twice
+-- no entity is listed twice
 abbrev pub AreOnce : List Tracked → Type 0
 AreOnce things = (i j : ℕ) (x : Tracked) → slice_get things i ≡ Some x → slice_get things j ≡ Some x → i ≡ j
 
--- each thing once, and the keys of all of them
+-- the list has each entity once, all that may be tracked, and `seen` has exactly their keys
 pub record IsGathered (g : Gathered) : Type 0 where
   pub once : AreOnce g.things
   pub may : (i : ℕ) (x : Tracked) → slice_get g.things i ≡ Some x → MayTrack x
   pub seen : (x : Tracked) → (contains is_key g.seen (key_of x) ≡ true) ↔ Contains g.things x
 
--- a thing is added at the end, or is there
+-- the result of adding an entity: true if it is appended, and false if it was in the list already
 abbrev pub Added : (old new : List Tracked) → Tracked → Bool → Type 0
 Added old new x true = new ≡ old ++ x ∷ []
 Added old new x false = (new ≡ old) × Contains old x
 
--- any thing but a part of a variable
+-- any entity but a part of a variable
 abbrev pub IsNoPart : Tracked → Type 0
 IsNoPart (Register r) = Unit {0}
 IsNoPart (Slot n) = Unit {0}
@@ -51,13 +52,13 @@ IsNoPart (Pair q) = Unit {0}
 IsNoPart (Part v) = ⊥
 IsNoPart (Number c) = Unit {0}
 
--- things are added at the end, no parts of variables
+-- entities were appended, none of them a part of a variable
 pub record Grows (old new : List Tracked) : Type 0 where
   pub more : List Tracked
   pub is : new ≡ old ++ more
   pub others : (i : ℕ) (x : Tracked) → slice_get more i ≡ Some x → IsNoPart x
 
--- what code of a row names in the frame is a doubleword of it
+-- a slot that an instruction of this row accesses is a doubleword of the frame
 abbrev pub RowHasOffset : Row → Type 0
 RowHasOffset (LoadsSlot rd n) = IsOffset n
 RowHasOffset (StoresSlot rs n) = IsOffset n
@@ -73,35 +74,35 @@ RowHasOffset (Calls name args) = Unit {0}
 RowHasOffset (Returns results) = Unit {0}
 RowHasOffset Unfit = Unit {0}
 
--- a slot that a phi's place names is a doubleword of the frame
+-- a slot that a DBG_PHI reads is a doubleword of the frame
 abbrev pub PlaceHasOffset : Option Place → Type 0
 PlaceHasOffset None = Unit {0}
 PlaceHasOffset (Some (InRegister r)) = Unit {0}
 PlaceHasOffset (Some (InSlot n)) = IsOffset n
 PlaceHasOffset (Some (Const c)) = Unit {0}
 
--- what an item names in the frame is a doubleword of it
+-- a slot that an item accesses is a doubleword of the frame
 abbrev pub HasOffsets : ItemKind → Type 0
 HasOffsets (Code i k) = RowHasOffset (row_of i)
 HasOffsets (Mark v m) = Unit {0}
 HasOffsets (Phi p k) = PlaceHasOffset p
 
--- what an item passes on is tracked, and not yet the part of a variable that it marks
+-- the entities that an item copies are listed. The part of a variable that a debug value assigns needn't be
 abbrev pub KnowsPassed : List Tracked → (OperandPair → Option OperandPair) → ItemKind → Type 0
 KnowsPassed things resolve (Code i k) = KnowsItem (map thing things) resolve (Code i k)
 KnowsPassed things resolve (Mark v m) = KnowsValue (map thing things) resolve m
 KnowsPassed things resolve (Phi p k) = KnowsPlace (map thing things) p
 
--- the part of a variable that an item marks is one of these
+-- the part of a variable that the item assigns, if it is a debug value, is one of these
 abbrev pub HasPart : List VarId → ItemKind → Type 0
 HasPart variables (Code i k) = Unit {0}
 HasPart variables (Mark v m) = Contains variables v
 HasPart variables (Phi p k) = Unit {0}
 
--- a register is there, if it is tracked
+-- the register is listed, if it is tracked
 abbrev pub HasRegister : ℕ → List Tracked → Type 0
 HasRegister n things = IsTrackedRegister n → Contains things (Register n)
 
--- of the registers below m all are there that are tracked
+-- all tracked registers below m are listed
 abbrev pub HasRegistersBelow : ℕ → List Tracked → Type 0
 HasRegistersBelow m things = (n : ℕ) → n < m → HasRegister n things

@@ -1,10 +1,10 @@
--- What tracked things are told apart by: a thing's kind and its numbers.
+-- The keys of tracked entities: a kind and four numbers.
 use Rattle.std.specs.Prelude.{ℕ, suc, Option, None, Some, Bool, ◌&&◌, nat_eq}
 use Rattle.mir_func.specs.Parts.{Bytes}
 use Rattle.value_solver.specs.declared.tracked.Tracked.{Tracked}
 use Rattle.value_solver.specs.declared.tracked.Tracked.TheVariants.{Register, Slot, Pair, Part, Number}
 
--- a thing's kind, and four numbers that tell it from the others of its kind
+-- a kind, and four numbers that distinguish an entity from the others of its kind
 abbrev pub Key : Type 0
 Key = ℕ × ℕ × ℕ × ℕ × ℕ
 
@@ -23,7 +23,7 @@ abbrev pub length_code : Option Bytes → ℕ
 length_code None = 0
 length_code (Some b) = b.length
 
--- the key of a thing
+-- the key of an entity
 abbrev pub key_of : Tracked → Key
 key_of (Register r) = (0, r, 0, 0, 0)
 key_of (Slot n) = (1, n, 0, 0, 0)

@@ -1,4 +1,4 @@
--- What is known of the values of a function with its frame.
+-- The result of the value analysis of a function with its frame.
 use Rattle.std.specs.Prelude.{◌≡◌, ◌≤◌, ℕ, ◌+◌, ◌*◌, List, Option, Some, length, map, slice_get}
 use Rattle.mir_func.specs.declared.block.Block.{Block}
 use Rattle.mir_func.specs.declared.entry.OperandPair.{OperandPair}
@@ -9,13 +9,13 @@ use Rattle.value_solver.specs.Entry.{thing, IsEntry}
 use Rattle.value_tracker.specs.Things.{AreThings}
 use Rattle.value_live_ins.specs.declared.values.MachineValues.{MachineValues}
 
--- the values of blocks, whose marks see through what pairs resolve to
+-- the values of these blocks, with this resolution of debug operand pairs
 pub record AreMachineValues (blocks : List Block) (resolve : OperandPair → Option OperandPair) (v : MachineValues) : Type 0 where
-  -- the parts of variables are tracked first, and then all else that the items pass on
+  -- the list has the parts of variables first, and then all other entities that the items copy
   pub things : AreThings v.variables v.things
   pub fewer : length v.variables ≤ length v.things
   pub all : AreThingsOf (framed_program blocks resolve) (map thing v.things)
-  -- at each block's start it is told of all paths
+  -- each block's entry is exact for all paths to its start
   pub entries : (b : ℕ) (e : BlockEntry) → slice_get v.entries b ≡ Some e → IsEntry (framed_program blocks resolve) v.things b e
   pub for_all : length v.entries ≡ length blocks
   pub sweeps : v.sweeps ≤ 2 * length v.things * length blocks + 1

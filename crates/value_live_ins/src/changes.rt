@@ -1,4 +1,4 @@
-//! What the items of a block do to the tokens of tracked things.
+//! A block's effect on the tokens of tracked entities.
 
 ghost use Rattle.std.specs.Prelude.{◌≡◌, ◌<◌, ◌≤◌, Some, All, IfOk, OnOk, [], length, map, slice_get, slice_index};
 ghost use Rattle.mir_func.specs.Resolve.{resolve};
@@ -25,27 +25,27 @@ use value_tracker::index::{Index, key, number_class, pair_class};
 use value_tracker::pass::Block as Fixed;
 use value_tracker::start::start;
 
-/// How many registers an item may make a token for.
+/// The registers that an item may define new tokens for.
 const REGISTERS: usize = 32;
-/// From so many items on, memory would have run out.
+/// The limit on a block's items, exclusive: memory runs out before it.
 const MOST_ITEMS: usize = 1 << 32;
 
-/// What stays as it is over the blocks of a function.
+/// What is constant over the blocks of a function.
 #[derive(Drop)]
 pub struct Tracking<'a> {
-    /// The parts of variables.
+    /// The tracked parts of variables.
     pub variables: &'a [VarId],
-    /// All that is tracked.
+    /// All tracked entities.
     pub things: &'a [Tracked],
-    /// Where numbers and pairs stand among them.
+    /// The positions of constants and pairs in their list.
     pub index: &'a Index,
-    /// The class that each has at the start of a block: each has its own.
+    /// The class of each entity at the start of a block: each has its own.
     pub settled: &'a [usize],
-    /// What pairs resolve to.
+    /// The debug value substitutions, which pairs resolve by.
     pub subs: &'a Substitutions,
 }
 
-/// A class of its own for each of so many things: a thing's index, and 1.
+/// A class of its own for each of this many entities: its index plus 1.
 pub fn own_classes(alloc: Global, count: usize) -> Result<Vec<usize>, AllocError>
     requires { count < 4294967296 }
     ensures { IfOk result (λ v. AreOwn count v.items) }
@@ -57,7 +57,7 @@ pub fn own_classes(alloc: Global, count: usize) -> Result<Vec<usize>, AllocError
     Ok(classes)
 }
 
-/// The changes of a block of these items.
+/// The changes of a block with these items. The error is out of memory.
 pub fn changes_of(alloc: Global, tracking: &Tracking, items: &[Item]) -> Result<Changes, AllocError>
     requires tracking { IsTracking tracking.now }
     requires knows { All (λ i. KnowsItem (map name_of tracking.now.things.now) (resolve tracking.now.subs.now) i.kind)
@@ -78,7 +78,7 @@ pub fn changes_of(alloc: Global, tracking: &Tracking, items: &[Item]) -> Result<
     changes(alloc, &held, tracking)
 }
 
-/// Passes the items of a block.
+/// Steps over the items of a block.
 fn pass_items(held: &mut Held, tracking: &Tracking, items: &[Item]) -> Result<(), AllocError>
     requires few { length tracking.now.things.now < 4294967295 }
     requires things { AreTracked tracking.now.things.now }
@@ -102,7 +102,7 @@ fn pass_items(held: &mut Held, tracking: &Tracking, items: &[Item]) -> Result<()
     Ok(())
 }
 
-/// Passes an item.
+/// Steps over an item.
 fn pass(held: &mut Held, tracking: &Tracking, kind: &ItemKind) -> Result<(), AllocError>
     requires places { length held.old.places.items ≡ PLACES }
     requires parts { length held.old.parts.items ≡ length tracking.now.variables.now }
@@ -122,7 +122,7 @@ fn pass(held: &mut Held, tracking: &Tracking, kind: &ItemKind) -> Result<(), All
     held.pass(&fixed, kind)
 }
 
-/// An instruction has the form of its opcode.
+/// Each instruction has the form of its opcode.
 fn read_form(kind: &ItemKind)
     ensures { HasForm kind.now }
 {
@@ -135,7 +135,7 @@ fn read_form(kind: &ItemKind)
     }
 }
 
-/// The changes that classes tell: a thing that hasn't its own class any more has changed.
+/// The changes that the classes encode: an entity has changed if it doesn't have its own class any more.
 fn changes(alloc: Global, held: &Held, tracking: &Tracking) -> Result<Changes, AllocError>
     requires few { length tracking.now.things.now < 4294967295 }
     requires tracked { AreTracked tracking.now.things.now }
@@ -160,7 +160,7 @@ fn changes(alloc: Global, held: &Held, tracking: &Tracking) -> Result<Changes, A
     Ok(changes)
 }
 
-/// The class of the thing at an index.
+/// The class of the entity at index j.
 fn class_of(held: &Held, tracking: &Tracking, j: usize, thing: &Tracked) -> usize
     requires at { slice_get tracking.now.things.now j ≡ Some thing.now }
     requires tracked { AreTracked tracking.now.things.now }
@@ -195,7 +195,7 @@ fn class_of_pair(held: &Held, tracking: &Tracking, q: OperandPair) -> usize
     }
 }
 
-/// The source that a class stands for, where so many things are tracked.
+/// The source that a class encodes, for this many tracked entities.
 fn source_of(things: usize, class: usize) -> Result<Source, AllocError>
     requires { things < 4294967295 }
     ensures { IfOk result (λ s. s ≡ decoded things class) }

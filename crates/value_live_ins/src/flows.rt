@@ -18,7 +18,7 @@ use mir_func::successors::id_at;
 use std::alloc::{AllocError, Global};
 use value_solver::flow::Flow;
 
-/// The number of the block behind one.
+/// The number of the next block, if there is one.
 fn next_of(blocks: &[Block], b: usize) -> Option<BlockId>
     requires { b < length blocks.now }
     ensures { result ≡ next_id blocks.now b }

@@ -1,4 +1,4 @@
-//! The tracked things of a function, each once.
+//! The tracked entities of a function, each listed once.
 
 ghost use Rattle.std.specs.Prelude.{◌≡◌, ◌++◌, ◌∷◌, IfOk, OnOk, []};
 ghost use Rattle.value_live_ins.specs.Gathering.{MayTrack, IsGathered, Added};
@@ -8,17 +8,17 @@ use std::alloc::{AllocError, Global};
 use std::collections::HashSet;
 use value_solver::tracked::{Tracked, TrackedItems};
 
-/// Tracked things, each once.
+/// A list of tracked entities without duplicates.
 #[derive(Drop)]
 pub struct Gathered {
-    /// The things, in order of first appearance.
+    /// The entities, in order of first appearance.
     pub things: TrackedItems,
     /// Their keys.
     seen: HashSet<Key>,
 }
 
 impl Gathered {
-    /// Nothing.
+    /// The empty list.
     pub fn new(alloc: Global) -> Gathered
         ensures gathered { IsGathered result }
         ensures empty { result.things ≡ [] }
@@ -29,7 +29,7 @@ impl Gathered {
         }
     }
 
-    /// Adds a thing, if it isn't there.
+    /// Appends an entity, unless it is in the list. Whether it was appended. The error is out of memory.
     pub fn add(&mut self, thing: Tracked) -> Result<bool, AllocError>
         requires gathered { IsGathered self.old }
         requires may { MayTrack thing }
@@ -43,7 +43,7 @@ impl Gathered {
         Ok(true)
     }
 
-    /// The things.
+    /// The list of entities.
     pub fn into_things(self) -> TrackedItems
         ensures { result ≡ self.things }
     {
@@ -53,7 +53,7 @@ impl Gathered {
     }
 }
 
-/// Appends a thing.
+/// Appends an entity.
 fn push(things: &mut TrackedItems, thing: &Tracked) -> Result<(), AllocError>
     ensures { OnOk result (things.new ≡ things.old ++ thing.now ∷ []) }
 {

@@ -1,4 +1,4 @@
-//! What tracked things are told apart by.
+//! Keys of tracked entities.
 
 ghost use Rattle.std.specs.Prelude.{◌≡◌, ℕ};
 ghost use Rattle.value_live_ins.specs.Keys.{key_of, node_code, start_code, length_code};
@@ -7,10 +7,10 @@ use base_ids::metadata::NodeId;
 use mir_func::variable::Fragment;
 use value_solver::tracked::Tracked;
 
-/// A tracked thing's kind and its numbers.
+/// A tracked entity's kind and its numbers.
 pub type Key = (u32, u64, u64, u64, u64);
 
-/// The key of a thing. Two things have one only if they are one.
+/// The key of an entity. Different entities have different keys.
 pub fn key_of(thing: &Tracked) -> Key
     ensures { result ≡ key_of thing.now }
 {
@@ -35,7 +35,7 @@ pub fn key_of(thing: &Tracked) -> Key
     }
 }
 
-/// 0 for no node.
+/// The node's number plus 1, and 0 for no node.
 fn node_code(node: Option<NodeId>) -> u64
     ensures { result ≡ node_code node }
 {
@@ -45,7 +45,7 @@ fn node_code(node: Option<NodeId>) -> u64
     }
 }
 
-/// 0 for the whole variable.
+/// The fragment's offset plus 1, and 0 for the whole variable.
 fn start_code(fragment: Option<Fragment>) -> u64
     ensures { result ≡ start_code fragment }
 {

@@ -1,7 +1,7 @@
-//! What holds what at the start of each block of a function with its frame. What may hold a value or name one is
-//! tracked: registers, frame slots, pairs of a debug instruction number and an operand, parts of variables, numbers.
-//! A block is a flow: each tracked thing's token past it is one that some thing had before it, a new one, or none. A
-//! walk over the block's items finds where from; the solver's entries are then those of all paths.
+//! Live-in value analysis of machine code with its frame (LLVM: InstrRefBasedLDV). Tracked are registers, frame slots,
+//! pairs of a debug instruction number and an operand, parts of variables, and constants. A walk over a block's items
+//! computes its flow: for each tracked entity the source of its token at the block's end, which is some entity's token
+//! at the start, a new token, or none. The solver then computes the entries of all blocks, exact over all paths.
 #![tactic(auto)]
 
 mod changes;

@@ -1,4 +1,4 @@
-//! What items pass on.
+//! The entities that items copy.
 
 ghost use Rattle.std.specs.Prelude.{◌≡◌, ℕ, List, Option, Some, OnOk, All, map, Contains};
 ghost use Rattle.rv64_instr.specs.Row.{row_of};
@@ -30,7 +30,7 @@ use std::alloc::AllocError;
 use value_solver::tracked::Tracked;
 
 impl Gathered {
-    /// Adds a thing that is no part of a variable.
+    /// Adds an entity that is no part of a variable. The error is out of memory.
     pub fn note_thing(&mut self, thing: Tracked) -> Result<(), AllocError>
         requires gathered { IsGathered self.old }
         requires may { MayTrack thing }
@@ -43,7 +43,7 @@ impl Gathered {
         Ok(())
     }
 
-    /// Adds what code passes on.
+    /// Adds the entities that an instruction copies.
     fn note_code(&mut self, instr: &Instr) -> Result<(), AllocError>
         requires gathered { IsGathered self.old }
         requires offset { RowHasOffset (row_of instr.now) }
@@ -68,7 +68,7 @@ impl Gathered {
         }
     }
 
-    /// Adds what a mark assigns.
+    /// Adds the entity that a debug value reads.
     fn note_value(&mut self, subs: &Substitutions, value: &MarkValue) -> Result<(), AllocError>
         requires gathered { IsGathered self.old }
         requires physical { ValueIsPhysical value.now }
@@ -87,7 +87,7 @@ impl Gathered {
         }
     }
 
-    /// Adds what a phi reads.
+    /// Adds the entity that a DBG_PHI reads.
     fn note_place(&mut self, place: &Option<Place>) -> Result<(), AllocError>
         requires gathered { IsGathered self.old }
         requires offset { PlaceHasOffset place.now }
@@ -104,7 +104,7 @@ impl Gathered {
         }
     }
 
-    /// Adds what an item passes on.
+    /// Adds the entities that an item copies. The error is out of memory.
     pub fn note(&mut self, subs: &Substitutions, kind: &ItemKind) -> Result<(), AllocError>
         requires gathered { IsGathered self.old }
         requires offset { HasOffsets kind.now }

@@ -1,4 +1,4 @@
-//! What is known at the start of a function.
+//! The entry at the function's start.
 
 ghost use Rattle.std.specs.Prelude.{◌≡◌, ◌<◌, IfOk, length};
 ghost use Rattle.value_solver.specs.Flows.{IsStart};
@@ -9,8 +9,8 @@ use std::alloc::{AllocError, Global};
 use value_solver::entry::{Bits, BlockEntry, Numbers};
 use value_solver::tracked::Tracked;
 
-/// The entry that the function starts with: registers and numbers have tokens of their own there, and nothing else has
-/// one.
+/// The function's start entry: each register and each constant has a token of its own there, and nothing else has one.
+/// The error is out of memory.
 pub fn start_entry(alloc: Global, things: &[Tracked]) -> Result<BlockEntry, AllocError>
     requires few { length things.now < 4294967295 }
     requires tracked { AreTracked things.now }
@@ -30,7 +30,7 @@ pub fn start_entry(alloc: Global, things: &[Tracked]) -> Result<BlockEntry, Allo
     })
 }
 
-/// A class for the thing at an index, or 0.
+/// The class of the entity at an index: its own, or 0.
 fn own_class(some: bool, i: usize) -> u32
     requires { i < 4294967295 }
     ensures { result ≡ own_class some i }
@@ -38,7 +38,7 @@ fn own_class(some: bool, i: usize) -> u32
     if some { i as u32 + 1 } else { 0 }
 }
 
-/// Whether the function starts with a token for the thing.
+/// Whether the function starts with a token for the entity.
 fn starts_with(thing: &Tracked) -> bool
     ensures { result ≡ starts_with thing.now }
 {

@@ -1,4 +1,4 @@
-//! What is tracked in a function.
+//! The tracked entities of a function.
 
 ghost use Rattle.std.specs.Prelude.{◌≡◌, ℕ, ◌≤◌, List, IfOk, OnOk, All, [], map, Contains, length};
 ghost use Rattle.mir_func.specs.declared.variable.VarId.{VarId};
@@ -27,16 +27,16 @@ use value_solver::tracked::{Tracked, TrackedItems};
 /// Parts of variables.
 pub type Variables = List<VarId>;
 
-/// What is tracked.
+/// The tracked entities.
 #[derive(Drop)]
 pub struct Things {
-    /// The parts of variables that marks assign to.
+    /// The parts of variables that debug values assign.
     pub variables: Variables,
-    /// These, and all else.
+    /// All tracked entities: these parts first.
     pub things: TrackedItems,
 }
 
-/// Adds the part that an item marks.
+/// Adds the part of a variable that an item assigns, if it is a debug value.
 fn add_part(
     gathered: &mut Gathered,
     variables: &mut Variables,
@@ -61,7 +61,7 @@ fn add_part(
     }
 }
 
-/// Adds the parts that items mark.
+/// Adds the parts of variables that the items' debug values assign.
 fn add_parts(
     gathered: &mut Gathered,
     variables: &mut Variables,
@@ -80,7 +80,7 @@ fn add_parts(
     Ok(())
 }
 
-/// Adds the registers that are tracked.
+/// Adds all tracked registers.
 fn add_registers(gathered: &mut Gathered) -> Result<(), AllocError>
     requires gathered { IsGathered gathered.old }
     ensures gathered { OnOk result (IsGathered gathered.new) }
@@ -109,7 +109,7 @@ fn add_register(gathered: &mut Gathered, n: u32) -> Result<(), AllocError>
     }
 }
 
-/// Adds what items pass on.
+/// Adds the entities that items copy.
 fn note_items(
     gathered: &mut Gathered,
     subs: &Substitutions,
@@ -128,7 +128,7 @@ fn note_items(
     Ok(())
 }
 
-/// The parts that blocks mark.
+/// The parts of variables that the blocks' debug values assign.
 fn parts_of(
     alloc: Global,
     gathered: &mut Gathered,
@@ -147,7 +147,7 @@ fn parts_of(
     Ok(variables)
 }
 
-/// Adds what blocks pass on.
+/// Adds the entities that the items of blocks copy.
 fn note_blocks(
     gathered: &mut Gathered,
     subs: &Substitutions,
@@ -167,7 +167,7 @@ fn note_blocks(
     Ok(())
 }
 
-/// Adds pairs that a caller asks for.
+/// Adds the pairs of a caller's queries.
 fn note_pairs(gathered: &mut Gathered, pairs: &[OperandPair]) -> Result<(), AllocError>
     requires gathered { IsGathered gathered.old }
     ensures gathered { OnOk result (IsGathered gathered.new) }
@@ -180,8 +180,9 @@ fn note_pairs(gathered: &mut Gathered, pairs: &[OperandPair]) -> Result<(), Allo
     Ok(())
 }
 
-/// What is tracked in a function of these blocks: first the parts of variables that its marks assign to, then registers
-/// but x0 and x2, the pairs that are asked for, and then slots, pairs and numbers that its items pass on, each once.
+/// The tracked entities of a function with these blocks, each once: first the parts of variables that its debug values
+/// assign, then registers but x0 and x2, the pairs of the caller's queries, and the slots, pairs and constants that its
+/// items copy. The error is out of memory.
 pub fn things_of(
     alloc: Global,
     blocks: &[Block],

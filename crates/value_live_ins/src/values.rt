@@ -1,4 +1,4 @@
-//! The entries of all blocks of a function with its frame.
+//! The live-in values of all blocks of a function with its frame.
 
 ghost use Rattle.std.specs.Prelude.{◌≡◌, ◌≤◌, ◌<◌, ◌+◌, ◌*◌, ℕ, IfOk, length, map, slice_get, All, Contains, Some};
 ghost use Rattle.mir_func.specs.Graph.{framed_program};
@@ -29,25 +29,25 @@ use value_solver::solve::{Solved, solve as solve_flows};
 use value_solver::tracked::{Tracked, TrackedItems};
 use value_tracker::index::index_of;
 
-/// From so many things or blocks on, memory would have run out.
+/// The limit on entities and on blocks, exclusive: memory runs out before it.
 const MOST: usize = (1 << 32) - 1;
 
-/// What is known at the start of each block of a function with its frame (LLVM: the live-in values of
-/// InstrRefBasedLDV).
+/// The value analysis of a function with its frame (LLVM: the live-in values of InstrRefBasedLDV).
 #[derive(Debug, Drop)]
 pub struct MachineValues {
-    /// The parts of variables that its marks assign to, in order of first appearance.
+    /// The parts of variables that its debug values assign, in order of first appearance.
     pub variables: Variables,
-    /// All that is tracked: these parts, registers but x0 and x2, and slots, pairs and numbers that its items pass on.
+    /// All tracked entities: these parts, registers but x0 and x2, and the slots, pairs and constants that its items
+    /// copy.
     pub things: TrackedItems,
-    /// What is known at the start of each block. There two things have one class exactly where on every path to it they
-    /// have one token or both have none.
+    /// The live-in values of each block. Two entities have the same class there if and only if on every path to the
+    /// block's start they have the same token or both have none.
     pub entries: BlockEntries,
-    /// How many sweeps over the blocks it took, the last one among them, in which nothing changed.
+    /// The number of sweeps over the blocks, including the last one, in which nothing changed.
     pub sweeps: u64,
 }
 
-/// The entries of all blocks, over these things.
+/// The entries of all blocks, over these tracked entities.
 fn solve_over(
     alloc: Global,
     blocks: &[Block],
@@ -82,8 +82,8 @@ fn solve_over(
     solve_flows(alloc, &start, flows.as_slice())
 }
 
-/// What is known at the start of each block of a function with its frame, over all paths. Marks see through the
-/// substitutions. Of pairs those are tracked that marks ask for. Memory is all that it may run out of.
+/// The live-in values of each block of a function with its frame, over all paths. Debug values refer to pairs through
+/// the substitutions. Only those pairs are tracked that debug values refer to. The error is out of memory.
 pub fn solve(
     alloc: Global,
     framed: &Framed,
@@ -94,7 +94,7 @@ pub fn solve(
     solve_asking(alloc, framed, subs, &[])
 }
 
-/// The same, and these pairs are tracked too.
+/// The same, with these pairs tracked too.
 pub fn solve_asking(
     alloc: Global,
     framed: &Framed,

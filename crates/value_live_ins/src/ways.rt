@@ -1,4 +1,4 @@
-//! Where control may go from a block.
+//! The successors of a block.
 
 ghost use Rattle.std.specs.Prelude.{◌≡◌, ℕ, ◌<◌, ◌+◌, suc, List, map, IfOk, length, slice_get, Some};
 ghost use Rattle.std.specs.HashMap.{get};
@@ -14,10 +14,10 @@ use std::alloc::{AllocError, Global};
 use std::collections::HashMap;
 use value_solver::flow::Ways;
 
-/// The indices of blocks by their numbers. The prologue's number leads to the block behind it.
+/// The indices of blocks by their numbers. The prologue's number leads to the block after it.
 pub type Indices = HashMap<u32, u32>;
 
-/// The indices of all blocks but the prologue.
+/// The indices of all blocks but the prologue. The error is out of memory.
 pub fn indices_of(alloc: Global, blocks: &[Block]) -> Result<Indices, AllocError>
     requires { length blocks.now < 4294967296 }
     ensures { IfOk result (λ t. FindsIds (length blocks.now) blocks.now t) }
@@ -29,7 +29,7 @@ pub fn indices_of(alloc: Global, blocks: &[Block]) -> Result<Indices, AllocError
     Ok(indices)
 }
 
-/// The index of the block of a number, or 0 where there is none.
+/// The index of the block with this number, or 0 if there is none.
 fn enter(indices: &Indices, n: BlockId) -> u32
     ensures { result ≡ enter_by indices.now n }
 {
@@ -39,7 +39,7 @@ fn enter(indices: &Indices, n: BlockId) -> u32
     }
 }
 
-/// The indices of the blocks to which control may go from items, before a block of this number.
+/// The indices of the successors of a block with these items. The block after it has the number `next`.
 pub fn ways_of(
     alloc: Global,
     indices: &Indices,

@@ -1,4 +1,4 @@
--- Class numbers of what is tracked, at a position: one number exactly where on every path the token is one.
+-- Class numbers of tracked entities at a position: the same number if and only if the same token on every path.
 use Rattle.std.specs.Prelude.{◌≡◌, ◌≢◌, ◌↔◌, ℕ, ◌<◌, List, Contains, Option, Some, None, Bool, slice_get}
 use Rattle.rv64_instr.specs.declared.place.Place.{Place}
 use Rattle.rv64_instr.specs.declared.place.Place.TheVariants.{Register, Slot, Const}
@@ -18,11 +18,11 @@ use Rattle.sem_mir.specs.Step.{defined}
 use Rattle.sem_mir.specs.Token.{Tokens, Path}
 use Rattle.sem_value_ids.specs.Pullback.{Tracked, InRegister, InSlot, OfPair, OfVariable, OfNumber, token_of, Back, Was, New, Nameless, back, Share}
 
--- a class for each thing, and 0 for what has no class
+-- a class for each tracked entity, and 0 for no class
 abbrev pub Classes : Type 0
 Classes = Tracked → ℕ
 
--- physical registers have classes, and of all else the things of a list
+-- an entity is known if it is a physical register or in the list
 abbrev pub IsKnown : (things : List Tracked) → Tracked → Type 0
 IsKnown things (InRegister r) = r < 32
 IsKnown things (InSlot n) = Contains things (InSlot n)
@@ -30,7 +30,7 @@ IsKnown things (OfPair k o) = Contains things (OfPair k o)
 IsKnown things (OfVariable v) = Contains things (OfVariable v)
 IsKnown things (OfNumber c) = Contains things (OfNumber c)
 
--- both have one class, and have one
+-- both entities have the same class, and it isn't 0
 abbrev pub HaveOneClass : Classes → (x y : Tracked) → Type 0
 HaveOneClass class x y = (class x ≡ class y) × (class x ≢ 0)
 
@@ -42,24 +42,25 @@ IsReached g start p = (n : ℕ) × (t : Tokens) × Path g start n p t
 abbrev pub ShareOnPaths : (g : Program) (start p : Pos) → (x y : Tracked) → Type 0
 ShareOnPaths g start p x y = (n : ℕ) (t : Tokens) → Path g start n p t → Share (token_of x t) (token_of y t)
 
--- two things have one class exactly where on every path to the position they have one token
+-- the position is reached, and two known entities have the same class other than 0 if and only if they have the same token on
+-- every path to it
 pub record AreClasses (g : Program) (start p : Pos) (things : List Tracked) (class : Classes) : Type 0 where
   pub reached : IsReached g start p
   pub one : (x y : Tracked) → IsKnown things x → IsKnown things y → HaveOneClass class x y ↔ ShareOnPaths g start p x y
 
--- the class after an item, by what stood before it: a token that it makes for a register has the class that is fresh for the register
+-- an entity's class after an item, by the classes before it. A token that the item defines in register r has the class `fresh r`
 abbrev pub class_back : Classes → (fresh : ℕ → ℕ) → Back → ℕ
 class_back class fresh (Was x) = class x
 class_back class fresh (New i r) = fresh r
 class_back class fresh Nameless = 0
 
--- classes for new tokens: each register has one of its own, and no thing has one of them
+-- classes for new tokens: distinct for distinct registers, used by no known entity, and not 0
 pub record AreFresh (things : List Tracked) (class : Classes) (fresh : ℕ → ℕ) : Type 0 where
   pub apart : (q r : ℕ) → fresh q ≡ fresh r → q ≡ r
   pub new : (x : Tracked) (r : ℕ) → IsKnown things x → class x ≢ fresh r
   pub some : (r : ℕ) → fresh r ≢ 0
 
--- what code of a row passes on has a class
+-- the registers, slots and constants that an instruction of this row copies are known
 abbrev pub KnowsRow : (things : List Tracked) → Row → Type 0
 KnowsRow things (Fixes rd c) = Contains things (OfNumber c)
 KnowsRow things (Moves rd rs) = rs < 32
@@ -75,19 +76,19 @@ KnowsRow things (Calls name args) = Unit {0}
 KnowsRow things (Returns results) = Unit {0}
 KnowsRow things Unfit = Unit {0}
 
--- what a pair resolved to is among the things, where it resolves to something
+-- the pair that a debug operand resolves to, if any, is in the list
 abbrev pub KnowsPair : (things : List Tracked) → Option OperandPair → Type 0
 KnowsPair things None = Unit {0}
 KnowsPair things (Some q) = Contains things (OfPair q.number q.operand)
 
--- what a mark's debug operand reads has a class
+-- the entity that a debug value's operand reads, if any, is known
 abbrev pub KnowsValue : (things : List Tracked) → (OperandPair → Option OperandPair) → MarkValue → Type 0
 KnowsValue things resolve Nothing = Unit {0}
 KnowsValue things resolve (Constant c) = Contains things (OfNumber (word c))
 KnowsValue things resolve (At r) = r < 32
 KnowsValue things resolve (Pair q) = KnowsPair things (resolve q)
 
--- what a phi's place holds has a class
+-- the entity of a DBG_PHI's location, if any, is known
 abbrev pub KnowsPlace : (things : List Tracked) → Option Place → Type 0
 KnowsPlace things (Some (Register r)) = r < 32
 KnowsPlace things (Some (Slot n)) = Contains things (InSlot n)
@@ -98,19 +99,19 @@ KnowsPlace things None = Unit {0}
 abbrev pub DefinePhysical : (call : Bool) → List Operand → Type 0
 DefinePhysical call operands = (o r : ℕ) → defined call (slice_get operands o) ≡ Some r → r < 32
 
--- what an item passes on has a class, and so has the part of a variable that it marks
+-- the entities that an item copies are known, and so is the part of a variable that a debug value assigns
 abbrev pub KnowsItem : (things : List Tracked) → (OperandPair → Option OperandPair) → ItemKind → Type 0
 KnowsItem things resolve (Code i k) = KnowsRow things (row_of i) × DefinePhysical (is_call (row_of i)) i.operands
 KnowsItem things resolve (Mark v m) = KnowsValue things resolve m × Contains things (OfVariable v)
 KnowsItem things resolve (Phi p k) = KnowsPlace things p
 
--- Past an item that control goes below from, the classes by what stood before it are classes again.
+-- If control continues below an item, the classes computed past it from those before it are classes there.
 abbrev pub ClassesPassItems : Type 0
 ClassesPassItems = (g : Program) (start p : Pos) (things : List Tracked) (class : Classes) (fresh : ℕ → ℕ) (item : Item) →
     (start ≡ below p → ⊥) → AreClasses g start p things class → g.fetch p ≡ Here item → Edge g p (below p) → KnowsItem things g.resolve item.kind →
     AreFresh things class fresh →
     AreClasses g start (below p) things (λ x. class_back class fresh (back g.resolve 0 item.kind x))
 
--- No path leads below what no path leads to, and none below an item that control doesn't go below from.
+-- A path to the position below p comes through p and its edge down, unless the paths start there.
 abbrev pub PathsComeFromAbove : Type 0
 PathsComeFromAbove = (g : Program) (start p : Pos) → (start ≡ below p → ⊥) → IsReached g start (below p) → IsReached g start p × Edge g p (below p)

@@ -1,4 +1,4 @@
--- Values that a mark told of a place, and that the place keeps.
+-- Values of debug values whose location keeps them.
 use Rattle.std.specs.Prelude.{◌≡◌, ℕ, false, Some}
 use Rattle.rv64_instr.specs.declared.place.Place.{Place}
 use Rattle.rv64_instr.specs.declared.place.Place.TheVariants.{Register, Slot, Const}
@@ -14,25 +14,26 @@ use Rattle.mir_func.specs.Graph.{Program, Here, Edge, below, block_start}
 use Rattle.mir_func.specs.Variables.{is_same, overlaps}
 use Rattle.sem_mir.specs.Token.{IsPlace, Sits, SitsIn, NoneIsWanted, mark_token, place_token, sets_pointer}
 
--- code leaves a place alone: it doesn't set it, nor the stack pointer over a frame slot. A constant is always left alone
+-- an instruction preserves a place: it doesn't set it, nor x2 if it is a frame slot. A constant is always preserved
 abbrev pub LeavesPlace : Row → Place → Type 0
 LeavesPlace row (Register r) = defines_of row (Register r) ≡ false
 LeavesPlace row (Slot n) = (defines_of row (Slot n) ≡ false) × (sets_pointer row ≡ false)
 LeavesPlace row (Const c) = Unit {0}
 
--- an item leaves a part of a variable and a place alone: it marks no part that overlaps, nor the part itself
+-- an item preserves a part of a variable and a place: it isn't a debug value of the part or of an overlapping part, and preserves
+-- the place
 abbrev pub LeavesAlone : VarId → Place → ItemKind → Type 0
 LeavesAlone v place (Code i k) = LeavesPlace (row_of i) place
 LeavesAlone v place (Mark w m) = (is_same v w ≡ false) × (overlaps v w ≡ false)
 LeavesAlone v place (Phi p k) = Unit {0}
 
--- from one position down to another control goes item by item, and each leaves the part and the place alone
+-- straight-line control from p down to q, in which each item preserves the part and the place
 pub data IsKept (g : Program) (v : VarId) (place : Place) (q : Pos) : Pos → Type 0 where
   here : IsKept g v place q q
   down : {p : Pos} (item : Item) → g.fetch p ≡ Here item → Edge g p (below p) → LeavesAlone v place item.kind → IsKept g v place q (below p) →
       IsKept g v place q p
 
--- a mark at a position tells a part of a variable a value that sits in a place, and from below it to another position the place keeps it
+-- at p a debug value assigns the part a value that is in the place on every path, and the items from below p to q preserve both
 pub record IsToldAndKept (g : Program) (start : ℕ) (v : VarId) (place : Place) (p q : Pos) : Type 0 where
   pub value : MarkValue
   pub mark : Item
@@ -42,11 +43,11 @@ pub record IsToldAndKept (g : Program) (start : ℕ) (v : VarId) (place : Place)
   pub edge : Edge g p (below p)
   pub kept : IsKept g v place q (below p)
 
--- While a place keeps what a mark told of it, the value of the marked part sits there.
+-- While a place keeps the value assigned by a debug value, it holds the value of the part on every path.
 abbrev pub KeptValuesSit : Type 0
 KeptValuesSit = (g : Program) (start : ℕ) (v : VarId) (place : Place) (p q : Pos) → IsToldAndKept g start v place p q → SitsIn g (block_start start) v place q
 
--- So it can't be that no place is wanted for the part there: exact lists name one at each address of the position.
+-- So some location is required for the part there: it can't be that none is.
 abbrev pub KeptValuesAreWanted : Type 0
 KeptValuesAreWanted = (g : Program) (start : ℕ) (v : VarId) (place : Place) (p q : Pos) → IsPlace place → IsToldAndKept g start v place p q →
     NoneIsWanted g (block_start start) v q → ⊥

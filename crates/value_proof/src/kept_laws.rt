@@ -1,13 +1,13 @@
-//! The laws of kept values, each the contract of a function that does nothing.
+//! Laws about values that stay in their location, each the contract of a function that does nothing.
 
 ghost use Rattle.value_proof.specs.Kept.{KeptValuesSit, KeptValuesAreWanted};
 
-/// While a place keeps the value that a mark told of it, the variable's value sits in it.
+/// While a place keeps the value that a debug value assigned, it holds the variable's value.
 pub fn kept_values_sit()
     ensures { KeptValuesSit }
 {}
 
-/// So some place is wanted for it: it can't be that none is, and exact lists name one.
+/// So some location is required for the part there: it can't be that none is.
 pub fn kept_values_are_wanted()
     ensures { KeptValuesAreWanted }
 {}

@@ -1,12 +1,13 @@
-//! The first location of a value, and values that stay where they are.
+//! Correctness of class numbers, and of the first location of a value.
 //!
-//! - `path_laws`: Class numbers along the paths of a function: at a position two things have one class exactly where on
-//!   every path to it they have one token. What holds of them past an item, at a block's start, and of the places that
-//!   are wanted.
+//! - `path_laws`: Class numbers at a position: two tracked entities have the same class if and only if they have the
+//!   same token on every path to it. Laws on their step over an item, on paths into a position, and on the locations
+//!   that are required.
 //!
-//! - `kept_laws`: Values that stay where they are. Where a mark tells a value that sits in a place, the variable's
-//!   value sits there at each later point of the block, as long as the place is left alone and no part of the variable
-//!   that overlaps is marked. So exact lists name a place there: nothing is lost while it is still to be had.
+//! - `kept_laws`: Values that stay in their location. After a debug value whose value is in a place, that place holds
+//!   the variable's value at each later point of the block as long as no item sets the place and no other debug value
+//!   assigns the part or an overlapping one. So exact location lists name a location there: an available value isn't
+//!   lost.
 #![tactic(auto)]
 
 pub mod kept_laws;

@@ -1,24 +1,24 @@
-//! The laws of class numbers, each the contract of a function that does nothing.
+//! Laws about class numbers, each the contract of a function that does nothing.
 
 ghost use Rattle.value_proof.specs.Classes.{ClassesPassItems, PathsComeFromAbove};
 ghost use Rattle.value_proof.specs.Wanted.{FirstByClassIsWanted, UnmarkedIsNowhere};
 
-/// Past an item the classes by what stood before it are classes again.
+/// The classes computed past an item from those before it are classes there.
 pub fn classes_pass_items()
     ensures { ClassesPassItems }
 {}
 
-/// A path to a position inside a block comes by the item above it.
+/// A path to a position inside a block comes through the item above it.
 pub fn paths_come_from_above()
     ensures { PathsComeFromAbove }
 {}
 
-/// The first place that has a variable's class is the wanted one.
+/// The first location that has the class of a part of a variable is the required one.
 pub fn first_by_class_is_wanted()
     ensures { FirstByClassIsWanted }
 {}
 
-/// A part of a variable that no item marks is nowhere.
+/// No location is required for a part of a variable that no debug value assigns.
 pub fn unmarked_is_nowhere()
     ensures { UnmarkedIsNowhere }
 {}

@@ -1,4 +1,4 @@
--- Points of a function, and what sits in a place there.
+-- Points of a function, and whether a place holds a value there.
 use Rattle.std.specs.Prelude.{◌≡◌, ◌≢◌, ℕ, ◌%◌, List, Option, Some, None, true, cond, nat_eq, nat_lt, slice_index}
 use Rattle.rv64_instr.specs.declared.place.Place.{Place}
 use Rattle.rv64_instr.specs.declared.place.Place.TheVariants.{Register, Slot, Const}
@@ -21,35 +21,35 @@ use Rattle.value_queries.specs.declared.point.Point.{Point}
 abbrev pub position : Point → Pos
 position p = pos_in p.stand.block p.stand.item
 
--- what is known at a point of a function whose values are known
+-- a valid point: its index is that of the tracked entities, and its state is the walk's before its item
 pub record IsPointOf (blocks : List Block) (v : Values) (p : Point) : Type 0 where
   pub index : Indexes v.things.now p.index
   pub stands : Stands blocks v p.index p.stand
 
--- what has a token sits in a place at a position: the place is one that a list may name, some path leads to the position, and on every
--- path to it both have a token, and the same one
+-- a place holds a value at a position: a list may name the place, some path leads to the position, and on every path to it both
+-- have a token, and the same one
 abbrev pub SitsAt : Program → (Tokens → Option Token) → Place → Pos → Type 0
 SitsAt g x place p = IsPlace place × Sits g (block_start 0) x (place_token (Some place)) p
 
--- the class of a place that a list may name, or 0: slots are doublewords of the frame
+-- the class of a place: a register of x1 to x31, a slot at a multiple of 8, or a constant, and 0 for any other
 abbrev pub named_class : Index → List ℕ → Held → Place → ℕ
 named_class index settled h (Register r) = cond (nat_eq r 0) 0 (cond (nat_lt r 32) (slice_index h.places.items r) 0)
 named_class index settled h (Slot n) = cond (nat_eq (n % 8) 0) (slice_index h.places.items (slot_place n)) 0
 named_class index settled h (Const c) = number_class index settled (word c)
 
--- by its class, a thing sits in a place where the walk stands
+-- the place holds the value of this class: some path leads to the item, and the class isn't 0 and is that of the place
 pub record SitsByClass (s : Stand) (index : Index) (class : ℕ) (place : Place) : Type 0 where
   pub reached : s.reached ≡ true
   pub some : class ≢ 0
   pub one : class ≡ named_class index s.settled.items s.held place
 
--- the number that a place is, modulo 2^64
+-- the number of a constant, modulo 2^64, and None for any other place
 abbrev pub place_number : Place → Option ℕ
 place_number (Register r) = None
 place_number (Slot n) = None
 place_number (Const c) = Some (word c)
 
--- a constant has 64 bits
+-- a constant fits in 64 bits
 abbrev pub IsFit : Place → Type 0
 IsFit (Register r) = Unit {0}
 IsFit (Slot n) = Unit {0}

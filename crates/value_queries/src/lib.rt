@@ -1,6 +1,6 @@
-//! Questions about the values of a function with its frame: where a part of a variable is before an item, and whether
-//! its value, that of an operand, or that of a place sits in a place there, over all paths. Each answer is what a walk
-//! from the start of the block finds, where the analysis of values tells the classes.
+//! Queries of the value analysis of a function with its frame: the location of a part of a variable before an item, and
+//! whether a place holds the value of a part, of an operand or of another place there, on every path. Each answer is by
+//! the classes that the walk from the start of the block computes.
 #![tactic(auto)]
 
 pub mod machine;

@@ -1,4 +1,4 @@
-//! Whether the value of an operand, or that of a place, sits in a place.
+//! Whether a place holds the value of an operand, or that of another place.
 
 ghost use Rattle.std.specs.Prelude.{◌≡◌, ◌↔◌, ◌≤◌, ◌*◌, ◌^◌, ◌-◌, ℕ, IfNone, IfSome, IsSome, IsTrue, List};
 ghost use Rattle.std.specs.Prelude.{Some, is_some, true, Contains, length, min, slice_get, sum_by};
@@ -24,9 +24,9 @@ use rv64_instr::place::Place;
 use value_solver::entry::BlockEntry;
 use value_tracker::index::{key, pair_class};
 
-/// Whether the value of an operand of the instruction with a debug instruction number sits in a place at a point: some
-/// path leads there, and on every path to it both have one token. None exactly where the pair isn't tracked: of all
-/// pairs those are that marks ask for, and those that `value_live_ins::values::solve_asking` was given.
+/// Whether a place holds, at a point, the value of an operand of the instruction with a debug instruction number: some
+/// path leads there, and on every path to it both have the same token. None if and only if the pair isn't tracked.
+/// Tracked are the pairs that debug values refer to, and those passed to `value_live_ins::values::solve_asking`.
 pub fn holds(values: &Values, point: &Point, pair: &OperandPair, place: &Place) -> Option<bool>
     ensures tracked { (blocks : List Block) → IsPointOf blocks values.now point.now →
         IsSome result ↔ Contains values.now.things.now (Pair pair.now) }
@@ -66,7 +66,8 @@ fn class_of(point: &Point, pair: &OperandPair) -> usize
     }
 }
 
-/// Whether two places hold one value at a point: some path leads there, and on every path to it both have one token.
+/// Whether two places hold the same value at a point: some path leads there, and on every path to it both have the same
+/// token.
 pub fn same(values: &Values, point: &Point, a: &Place, b: &Place) -> bool
     ensures { (blocks : List Block) → AreValuesOf blocks values.now → IsPointOf blocks values.now point.now →
         IsTrue result ↔ (IsPlace a.now × SitsAt (program blocks values.now.subs.now) (place_token (Some a.now)) b.now
@@ -78,7 +79,7 @@ pub fn same(values: &Values, point: &Point, a: &Place, b: &Place) -> bool
     }
 }
 
-/// Whether the number that a place is sits in another.
+/// Whether the constant place a, with number m, and the place b hold the same value at a reached point.
 fn number_sits(point: &Point, m: u64, a: &Place, b: &Place) -> bool
     ensures fit { IsFit b.now }
     ensures number { IfSome (place_number b.now) (λ n. IsTrue result ↔ ((point.now.stand.reached ≡ true) × (m ≡ n))) }
@@ -91,7 +92,7 @@ fn number_sits(point: &Point, m: u64, a: &Place, b: &Place) -> bool
     }
 }
 
-/// The number that a place is, modulo 2^64.
+/// The number of a constant, modulo 2^64.
 fn number_in(place: &Place) -> Option<u64>
     ensures fit { IsFit place.now }
     ensures value { result ≡ place_number place.now }
@@ -103,8 +104,7 @@ fn number_in(place: &Place) -> Option<u64>
     }
 }
 
-/// How many class numbers are kept: the sum of the lengths of the entries' lists, or the greatest number where the sum
-/// is above it.
+/// How many class numbers are stored: the sum of the lengths of the entries' lists, or 2^64 - 1 if the sum is above it.
 pub fn kept(entries: &[BlockEntry]) -> u64
     ensures sum { result ≡ min (sum_by (λ e. length e.classes) entries.now) (2 ^ 64 - 1) }
     ensures most { (g : Program) (things : List Tracked) →

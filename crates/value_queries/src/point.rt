@@ -14,17 +14,17 @@ use mir_func::block::Block;
 use std::alloc::{AllocError, Global};
 use value_tracker::index::{Index, index_of};
 
-/// What is known before an item of a block, or behind its last one. Questions about values there take no memory.
+/// The analysis before an item of a block, or after its last one. Queries on it take no memory.
 #[derive(Drop)]
 pub struct Point {
-    /// Where numbers and pairs stand among what is tracked.
+    /// The positions of constants and pairs in the list of tracked entities.
     pub index: Index,
-    /// The classes there.
+    /// The walk's state there.
     pub stand: Stand,
 }
 
-/// The point before an item of a block, or behind its last one. It walks from the start of the block. Memory is all
-/// that it may run out of.
+/// The point before an item of a block, or after its last one, by a walk from the start of the block. The error is out
+/// of memory.
 pub fn point_at(
     alloc: Global,
     values: &Values,

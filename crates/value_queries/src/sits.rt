@@ -1,4 +1,4 @@
-//! Whether what has a class sits in a place.
+//! Whether a place holds the value of a class.
 
 ghost use Rattle.std.specs.Prelude.{◌≡◌, ◌≢◌, ◌↔◌, ◌%◌, true, IsTrue, cond, nat_eq, nat_lt, slice_index};
 ghost use Rattle.rv64_instr.specs.declared.place.Place.TheVariants.{Const};
@@ -14,7 +14,7 @@ use rv64_instr::reg::Reg;
 use value_tracker::held::{Held, SLOTS_FROM, slot_place};
 use value_tracker::index::number_class;
 
-/// The number that a constant is, modulo 2^64.
+/// A constant's number, modulo 2^64.
 pub fn number_of(c: i64) -> u64
     ensures value { result ≡ word c }
     ensures fit { IsPlace (Const c) }
@@ -22,7 +22,7 @@ pub fn number_of(c: i64) -> u64
     c.cast_unsigned()
 }
 
-/// The class of a place that a list may name, or 0.
+/// The class of a place: a register of x1 to x31, a slot at a multiple of 8, or a constant, and 0 for any other.
 pub fn named_class(point: &Point, place: &Place) -> usize
     ensures fit { IsFit place.now }
     ensures class { result ≡ named_class point.now.index point.now.stand.settled.items point.now.stand.held place.now }
@@ -58,7 +58,7 @@ fn slot_class(held: &Held, n: SlotId) -> usize
     }
 }
 
-/// Whether what has a class sits in a place at a point.
+/// Whether a place holds the value of this class at a point.
 pub fn class_sits(point: &Point, class: usize, place: &Place) -> bool
     ensures fit { IsFit place.now }
     ensures sits { IsTrue result ↔ SitsByClass point.now.stand point.now.index class place.now }
@@ -66,7 +66,7 @@ pub fn class_sits(point: &Point, class: usize, place: &Place) -> bool
     are_one(point.stand.reached, class, named_class(point, place))
 }
 
-/// Whether two classes are one, and not 0, where some path leads.
+/// Whether some path leads there and both classes are the same and not 0.
 fn are_one(reached: bool, a: usize, b: usize) -> bool
     ensures { IsTrue result ↔ ((reached ≡ true) × (a ≢ 0) × (a ≡ b)) }
 {

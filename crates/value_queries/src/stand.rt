@@ -1,4 +1,4 @@
-//! The walk before an item, and a part among the parts that are marked.
+//! The walk's state before an item, and the index of a part.
 
 ghost use Rattle.std.specs.Prelude.{◌≡◌, ◌<◌, ◌≤◌, Contains, IfOk, IfSome, IsNone, List, Some, length, slice_get};
 ghost use Rattle.mir_func.specs.declared.block.Block.{Block};
@@ -12,7 +12,7 @@ use mir_func::variable::VarId;
 use std::alloc::{AllocError, Global};
 use value_tracker::index::Index;
 
-/// The walk before an item of a block, or behind its last one.
+/// The walk's state before an item of a block, or after its last one. The error is out of memory.
 pub fn stand_before(
     alloc: Global,
     values: &Values,
@@ -37,7 +37,7 @@ pub fn stand_before(
     Ok(move_to(alloc, values, index, stand, block, items, item)?)
 }
 
-/// Where a part stands among parts, and none where it is none of them.
+/// The index of a part in a list, or None if it isn't in it.
 pub fn index_in(parts: &[VarId], part: &VarId) -> Option<usize>
     ensures some { IfSome result (λ j. slice_get parts.now j ≡ Some part.now) }
     ensures none { IsNone result → Contains parts.now part.now → ⊥ }

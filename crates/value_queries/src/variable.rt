@@ -1,4 +1,4 @@
-//! Where a part of a variable is.
+//! The location of a part of a variable.
 
 ghost use Rattle.std.specs.Prelude.{◌≡◌, ◌≢◌, ◌↔◌, ◌<◌, ◌≤◌, ℕ, IfOk, IsTrue, List, Some};
 ghost use Rattle.std.specs.Prelude.{Contains, length, slice_get, slice_index};
@@ -26,9 +26,9 @@ use std::alloc::{AllocError, Global};
 use value_tracker::held::Held;
 use value_tracker::index::index_of;
 
-/// The first place in which the value of a part of a variable sits on every path to an item of a block, or behind its
-/// last one: a number, else the lowest register, else the lowest slot. None exactly where it sits in none. It walks
-/// from the start of the block. Memory is all that it may run out of.
+/// The first place that holds the value of a part of a variable on every path to an item of a block, or after its last
+/// one: a constant, else the lowest register, else the lowest slot. None if and only if no place holds it. By a walk
+/// from the start of the block. The error is out of memory.
 pub fn first_place(
     alloc: Global,
     values: &Values,
@@ -51,7 +51,7 @@ pub fn first_place(
     Ok(place_of(values.variables, places.as_slice(), part))
 }
 
-/// The places of all parts where the walk stands.
+/// The places of all parts before the item.
 fn places_at(
     alloc: Global,
     values: &Values,
@@ -67,7 +67,7 @@ fn places_at(
     Ok(places)
 }
 
-/// The place of a part among those of all parts. A part that isn't marked has none.
+/// The place of a part among those of all parts, and None for a part without debug values.
 fn place_of(parts: &[VarId], places: &[Option<Place>], part: &VarId) -> Option<Place>
     requires { length parts.now ≡ length places.now }
     ensures { (g : Program) (start : Pos) (p : Pos) → AreWantedPlaces g start p parts.now places.now →
@@ -79,8 +79,8 @@ fn place_of(parts: &[VarId], places: &[Option<Place>], part: &VarId) -> Option<P
     }
 }
 
-/// Whether the value of a part of a variable sits in a place at a point: some path leads there, and on every path to it
-/// both have one token.
+/// Whether a place holds the value of a part of a variable at a point: some path leads there, and on every path to it
+/// both have the same token.
 pub fn holds(values: &Values, point: &Point, part: &VarId, place: &Place) -> bool
     ensures { (blocks : List Block) → AreValuesOf blocks values.now → IsPointOf blocks values.now point.now →
         IsTrue result ↔ SitsAt (program blocks values.now.subs.now) (variable_token part.now) place.now
@@ -93,7 +93,7 @@ pub fn holds(values: &Values, point: &Point, part: &VarId, place: &Place) -> boo
     )
 }
 
-/// The class of a part of a variable among those that are held. One that isn't marked has 0.
+/// The class of a part of a variable, and 0 for a part without debug values.
 fn part_class(held: &Held, parts: &[VarId], part: &VarId) -> usize
     ensures held { Contains parts.now part.now → (j : ℕ) × (slice_get parts.now j ≡ Some part.now)
         × (result ≡ slice_index held.now.parts.items j) }

@@ -1,21 +1,21 @@
-//! What is known at the start of a block.
+//! The live-in values of a block.
 
 use base_list::List;
 
-/// Class numbers, one for each tracked thing (LLVM: value numbers, `ValueIDNum`).
+/// Class numbers, one for each tracked entity (LLVM: value numbers, `ValueIDNum`).
 pub type Numbers = List<u32>;
 
-/// Whether there is a token on every path, for each tracked thing.
+/// The `given` bits: for each tracked entity, whether it has a token on every path.
 pub type Bits = List<bool>;
 
-/// What is known at the start of a block (LLVM: the live-in values of InstrRefBasedLDV).
+/// The live-in values of a block (LLVM: the live-in values of InstrRefBasedLDV, MInLocs).
 #[derive(Debug, Drop)]
 pub struct BlockEntry {
-    /// Some path leads there.
+    /// Whether some path leads to the block's start.
     pub reached: bool,
-    /// The class of each tracked thing, in their order. Where no path leads there, there are none.
+    /// The class of each tracked entity, in the order of their list; empty if the block is unreached.
     pub classes: Numbers,
-    /// Whether it has a token on every path, in the same order. Where no path leads there, there are none.
+    /// Whether each tracked entity has a token on every path, in the same order; empty if the block is unreached.
     pub given: Bits,
 }
 

@@ -1,39 +1,39 @@
-//! What a block does to the tokens of tracked things, and where control goes from it.
+//! A block's effect on the tokens of tracked entities, and its successors.
 
 use base_list::List;
 use rv64_instr::reg::Reg;
 
-/// Where a thing's token past a block comes from. Things are named by their indices.
+/// The source of an entity's token at a block's end. Entities are named by their indices.
 #[derive(Clone, Copy, Debug, PartialEq, Eq)]
 pub enum Source {
-    /// The thing with this index had it before the block.
+    /// The token that the entity with this index had at the block's start.
     Was(u32),
-    /// The item with this index in the block made it for the register.
+    /// A new token, defined in the register by the item with this index in the block.
     New(u32, Reg),
-    /// There is none.
+    /// No token.
     Nameless,
 }
 
-/// A thing whose token a block changes.
+/// A change of an entity's token in a block.
 #[derive(Clone, Copy, Debug, PartialEq, Eq)]
 pub struct Change {
-    /// The thing's index.
+    /// The entity's index.
     pub thing: u32,
-    /// Where its token past the block comes from.
+    /// The source of its token at the block's end.
     pub source: Source,
 }
 
-/// The changes of a block, of which the last of a thing counts. All other things keep their tokens.
+/// The changes of a block, the last of which counts for each entity. All other entities keep their tokens.
 pub type Changes = List<Change>;
 
-/// The indices of blocks.
+/// Indices of blocks.
 pub type Ways = List<u32>;
 
-/// A block, as far as tokens and paths go.
+/// A block's transfer function for tokens, and its successors.
 #[derive(Debug, Drop)]
 pub struct Flow {
-    /// What it changes.
+    /// The changes of tokens in the block.
     pub changes: Changes,
-    /// The blocks to which control may go from its end.
+    /// The block's successors.
     pub ways: Ways,
 }

@@ -1,4 +1,4 @@
-//! What a block hands on to those after it.
+//! What a block propagates to its successors.
 
 ghost use Rattle.std.specs.Prelude.{◌≡◌, ℕ, ◌<◌, length, IfOk};
 ghost use Rattle.value_solver.specs.Joining.{IsKnown, AreWithin, SourceWithin, IsPast, class_past, bit_past};
@@ -7,17 +7,17 @@ use crate::entry::BlockEntry;
 use crate::flow::{Change, Source};
 use std::alloc::{AllocError, Global};
 
-/// One more than the greatest number of a register.
+/// An upper bound of register numbers, exclusive.
 const REGISTERS: u64 = 4128;
 
-/// The classes and bits past a block. A new token has a class above all those of the block's entry.
+/// The classes and bits at a block's end. A new token has a class above all classes of the block's entry.
 #[derive(Drop)]
 pub struct Exit {
     pub classes: Vec<u64>,
     pub given: Vec<bool>,
 }
 
-/// What a block with this entry and these changes hands on.
+/// The classes and bits at the end of a block with this entry and these changes. The error is out of memory.
 pub fn hand_on(alloc: Global, entry: &BlockEntry, changes: &[Change]) -> Result<Exit, AllocError>
     requires few { length entry.now.classes < 4294967295 }
     requires known { IsKnown (length entry.now.classes) entry.now }

@@ -1,4 +1,4 @@
-//! The join of what the predecessors of a block hand on.
+//! The join of what the predecessors of a block propagate.
 
 ghost use Rattle.std.specs.Prelude.{◌≡◌, ℕ, ◌<◌, List, [], ◌∷◌, ◌++◌, length, slice_index_or, false, min, ◌&&◌, IfOk};
 ghost use Rattle.value_solver.specs.Joining.{Hand, IsJoin, IsPast};
@@ -9,7 +9,7 @@ use crate::meet::{Pairs, meet};
 use base_list::List;
 use std::alloc::{AllocError, Global};
 
-/// The join of nothing: all things have one class, and each is given.
+/// The join of nothing, unreached: all entities have class 0 and a set bit.
 pub fn empty_join(alloc: Global, things: usize) -> Result<BlockEntry, AllocError>
     ensures { IfOk result (λ e. IsJoin things [] e) }
 {
@@ -26,7 +26,7 @@ pub fn empty_join(alloc: Global, things: usize) -> Result<BlockEntry, AllocError
     })
 }
 
-/// Joins what one more predecessor hands on.
+/// The join with the exit of one more predecessor.
 pub fn join(
     alloc: Global,
     pairs: &mut Pairs,
@@ -53,7 +53,7 @@ pub fn join(
     })
 }
 
-/// Which bits are set in both.
+/// The bits set in both.
 fn both(alloc: Global, a: &[bool], b: &[bool]) -> Result<Vec<bool>, AllocError>
     ensures long { IfOk result (λ c. length c.items ≡ min (length a.now) (length b.now)) }
     ensures set { IfOk result (λ c. (i : ℕ) →

@@ -1,16 +1,15 @@
-//! Value numbers at the start of each block (LLVM: MInLocs), by dataflow over all paths.
+//! Value numbers live into each block (LLVM: MInLocs), by dataflow over all paths.
 //!
-//! - `entry`, `tracked`: What the analysis of values knows at the start of each block, as class numbers. What may hold
-//!   a value or name one, a register, a frame slot, a pair of a debug instruction number and an operand, a part of a
-//!   variable, a number, is tracked. At a block's start two tracked things have one class exactly where on every path
-//!   to it they have one token or both have none; class 0 is that of what has none on any path, and a bit beside it
-//!   says whether there is one on every path.
+//! - `tracked`, `entry`: The tracked entities and the live-in values of a block. A tracked entity holds or names a
+//!   value: a register, a frame slot, an operand of a debug instruction number, a part of a variable, or a constant. At
+//!   a block's start two entities have the same class if and only if on every path to it they have the same token or
+//!   both have none. Class 0 means no token on any path, and a `given` bit for each entity means a token on every path.
 //!
-//! - `flow`, `hand`, `join`, `meet`, `order`, `solve`, `turn`, `visit`: Class numbers of tracked things at the start of
-//!   each block, over all paths. A block is seen as what it does to tokens: each thing's token past the block is one
-//!   that some thing had before it, a new one, or none. The entry of a block is the join of what its predecessors hand
-//!   on: two things have one class there where they have one in each of them. Blocks are visited in sweeps until no
-//!   entry changes.
+//! - `flow`, `hand`, `join`, `meet`, `order`, `solve`, `turn`, `visit`: The dataflow solver. A block's transfer
+//!   function maps each tracked entity to the token at the block's end: one that some entity had at its start, a new
+//!   one, or none. A block's entry is the join of what its predecessors propagate: two entities have the same class
+//!   there if and only if they have in each of them. Sweeps visit the blocks in reverse post-order until no entry
+//!   changes.
 #![tactic(auto)]
 
 pub mod entry;

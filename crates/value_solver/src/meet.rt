@@ -1,4 +1,4 @@
-//! The join of two numberings.
+//! The join of two lists of class numbers.
 
 ghost use Rattle.std.specs.Prelude.{◌≡◌, ℕ, ◌↔◌, ◌<◌, ◌≤◌, length, IfOk};
 ghost use Rattle.value_solver.specs.Numbering.{IsMeet};
@@ -6,11 +6,10 @@ ghost use Rattle.value_solver.specs.Numbering.{IsMeet};
 use indexmap::IndexSet;
 use std::alloc::{AllocError, Global};
 
-/// The pairs of classes that a join numbers, by their place. One set serves all joins of a sweep.
+/// The pairs of classes that a join numbers, by their index. One set serves all joins of a sweep.
 pub type Pairs = IndexSet<(u32, u64)>;
 
-/// Numbers pairs of classes by first appearance. The pair of twice 0 comes first. What the set of pairs held before is
-/// forgotten.
+/// Numbers pairs of classes by first appearance, the pair of 0 and 0 first. The set is emptied before.
 pub fn meet(alloc: Global, pairs: &mut Pairs, a: &[u32], b: &[u64]) -> Result<Vec<u32>, AllocError>
     requires few { length a.now < 4294967295 }
     requires long { length b.now ≡ length a.now }

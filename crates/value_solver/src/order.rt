@@ -8,7 +8,7 @@ use crate::flow::{Flow, Ways};
 use base_list::List;
 use std::alloc::{AllocError, Global};
 
-/// Notes a block as predecessor of those to which it goes.
+/// Adds a block to the predecessors of its successors.
 fn note(preds: &mut Vec<Ways>, block: u32, ways: &[u32]) -> Result<(), AllocError>
     requires { All (λ c. c < length preds.old.items) ways.now }
     ensures long { OnOk result (length preds.new.items ≡ length preds.old.items) }
@@ -22,7 +22,7 @@ fn note(preds: &mut Vec<Ways>, block: u32, ways: &[u32]) -> Result<(), AllocErro
     Ok(())
 }
 
-/// So many blocks without predecessors.
+/// Empty lists of predecessors for this many blocks.
 fn none(alloc: Global, blocks: usize) -> Result<Vec<Ways>, AllocError>
     ensures long { IfOk result (λ p. length p.items ≡ blocks) }
     ensures none { IfOk result (λ p. (c q : ℕ) → Contains (preds_at p.items c) q → ⊥) }
@@ -34,7 +34,7 @@ fn none(alloc: Global, blocks: usize) -> Result<Vec<Ways>, AllocError>
     Ok(preds)
 }
 
-/// The predecessors of each block.
+/// The predecessors of each block. The error is out of memory.
 pub fn predecessors(alloc: Global, flows: &[Flow]) -> Result<Vec<Ways>, AllocError>
     requires few { length flows.now < 4294967296 }
     requires within { (b : ℕ) (f : Flow) → slice_get flows.now b ≡ Some f → (c : ℕ) → Contains f.ways c →
@@ -48,8 +48,8 @@ pub fn predecessors(alloc: Global, flows: &[Flow]) -> Result<Vec<Ways>, AllocErr
     Ok(preds)
 }
 
-/// The blocks, those that are reached in reverse post-order of a walk in depth from the first one: a block comes
-/// after its predecessors, but for loops.
+/// The order of visits: the reached blocks in reverse post-order of a depth-first walk from the first one, so that a
+/// block comes after its predecessors except in loops, and then the unreached ones. The error is out of memory.
 pub fn order(alloc: Global, flows: &[Flow]) -> Result<Vec<u32>, AllocError>
     requires few { length flows.now < 4294967296 }
     ensures within { IfOk result (λ order. All (λ b. b < length flows.now) order.items) }
@@ -62,7 +62,7 @@ pub fn order(alloc: Global, flows: &[Flow]) -> Result<Vec<u32>, AllocError>
     Ok(order)
 }
 
-/// The blocks as they stand in the text.
+/// The blocks in text order.
 fn in_text_order(alloc: Global, blocks: u32) -> Result<Vec<u32>, AllocError>
     ensures within { IfOk result (λ order. All (λ b. b < blocks) order.items) }
     ensures all { IfOk result (λ order. (b : ℕ) → b < blocks → Contains order.items b) }
@@ -74,7 +74,7 @@ fn in_text_order(alloc: Global, blocks: u32) -> Result<Vec<u32>, AllocError>
     Ok(order)
 }
 
-/// How many blocks are left before a block in post-order; the greatest number where it isn't reached.
+/// The sort key of each block: descending in post-order, and the greatest number for an unreached block.
 fn ranks(alloc: Global, flows: &[Flow]) -> Result<Vec<u32>, AllocError> {
     let mut ranks = Vec::with_capacity(alloc, flows.len())?;
     let mut seen = Vec::with_capacity(alloc, flows.len())?;

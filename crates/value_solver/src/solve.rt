@@ -1,4 +1,4 @@
-//! The entries of all blocks.
+//! The entries of all blocks, as a fixpoint of sweeps.
 
 ghost use Rattle.std.specs.Prelude.{◌≡◌, ℕ, ◌+◌, ◌*◌, ◌<◌, ◌≤◌, length, slice_get, slice_index_or, IfOk, All};
 ghost use Rattle.std.specs.Prelude.{Contains, List, Some, true, false, []};
@@ -18,16 +18,16 @@ use crate::turn::sweep;
 use base_list::List;
 use std::alloc::{AllocError, Global};
 
-/// The entries of all blocks, and how many sweeps there were.
+/// The entries of all blocks, and the number of sweeps.
 #[derive(Debug, Drop)]
 pub struct Solved {
     /// An entry for each block.
     pub entries: BlockEntries,
-    /// The sweeps that were made, the last one among them, in which nothing changed.
+    /// The number of sweeps, including the last one, in which nothing changed.
     pub sweeps: u64,
 }
 
-/// Sweeps until nothing changes. It gives the number of sweeps.
+/// Sweeps until nothing changes. The result is the number of sweeps.
 fn settle(
     alloc: Global,
     start: &BlockEntry,
@@ -52,7 +52,7 @@ fn settle(
     Ok(sweeps)
 }
 
-/// No path is known to lead to any block.
+/// The entries at first: all blocks are unreached.
 fn unreached(alloc: Global, blocks: usize) -> Result<Vec<BlockEntry>, AllocError>
     ensures long { IfOk result (λ entries. length entries.items ≡ blocks) }
     ensures each { IfOk result (λ entries. (b : ℕ) (e : BlockEntry) → slice_get entries.items b ≡ Some e →
@@ -69,7 +69,7 @@ fn unreached(alloc: Global, blocks: usize) -> Result<Vec<BlockEntry>, AllocError
     Ok(entries)
 }
 
-/// All blocks are to be visited.
+/// The worklist at first: all blocks.
 fn all_marked(alloc: Global, blocks: usize) -> Result<Vec<bool>, AllocError>
     ensures long { IfOk result (λ dirty. length dirty.items ≡ blocks) }
     ensures each { IfOk result (λ dirty. (b : ℕ) → slice_index_or dirty.items b true ≡ true) }
@@ -81,8 +81,9 @@ fn all_marked(alloc: Global, blocks: usize) -> Result<Vec<bool>, AllocError>
     Ok(dirty)
 }
 
-/// The entries of all blocks of a program with these flows, over as many tracked things as the start has. At the
-/// start of each block two things have one class exactly where on every path to it they have one token or both none.
+/// The entries of all blocks of a program with these flows, over as many tracked entities as the start entry has. At
+/// each block's start two entities have the same class if and only if on every path to it they have the same token or
+/// both have none. The error is out of memory.
 pub fn solve(alloc: Global, start: &BlockEntry, flows: &[Flow]) -> Result<Solved, AllocError>
     requires few { length start.now.classes < 4294967295 }
     requires few_blocks { length flows.now < 4294967296 }

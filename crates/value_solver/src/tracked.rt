@@ -1,4 +1,4 @@
-//! What is tracked along paths.
+//! The entities that are tracked along paths.
 
 use base_ids::code::SlotId;
 use base_list::List;
@@ -6,10 +6,10 @@ use mir_func::entry::OperandPair;
 use mir_func::variable::VarId;
 use rv64_instr::reg::Reg;
 
-/// Something that has a token along a path, or none (LLVM: what InstrRefBasedLDV gives value numbers).
+/// An entity that has a token along a path, or none (LLVM: what InstrRefBasedLDV assigns value numbers to).
 #[derive(Clone, Copy, Debug, PartialEq, Eq)]
 pub enum Tracked {
-    /// A register. x0 and x2 aren't tracked: x0 is the number 0, and x2 never has a token.
+    /// A register. x0 and x2 aren't tracked: x0 has the token of the constant 0, and x2 never has a token.
     Register(Reg),
     /// A frame slot, by its offset from x2 in bytes.
     Slot(SlotId),
@@ -17,9 +17,9 @@ pub enum Tracked {
     Pair(OperandPair),
     /// A part of a variable.
     Part(VarId),
-    /// A number modulo 2^64, which has a token of its own everywhere.
+    /// A constant modulo 2^64, which has the same token at every position.
     Number(u64),
 }
 
-/// Tracked things, each once.
+/// Tracked entities, each listed once.
 pub type TrackedItems = List<Tracked>;

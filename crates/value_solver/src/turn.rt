@@ -1,5 +1,4 @@
-//! Turns and sweeps. In its turn a block is visited if it is marked; where its entry changes, those after it are
-//! marked.
+//! Sweeps with a worklist: a marked block is visited, and if its entry changes its successors are marked.
 
 ghost use Rattle.std.specs.Prelude.{◌≡◌, ◌⊎◌, ℕ, ◌<◌, ◌≤◌, length, slice_get, slice_index_or, IfOk, All, cond};
 ghost use Rattle.std.specs.Prelude.{true, false, IsTrue, Contains};
@@ -13,7 +12,7 @@ use crate::meet::Pairs;
 use crate::visit::visit;
 use std::alloc::{AllocError, Global};
 
-/// Marks blocks.
+/// Marks blocks: they enter the worklist.
 fn mark(dirty: &mut Vec<bool>, ways: &[u32])
     requires { All (λ c. c < length dirty.old.items) ways.now }
     ensures long { length dirty.new.items ≡ length dirty.old.items }
@@ -25,7 +24,7 @@ fn mark(dirty: &mut Vec<bool>, ways: &[u32])
     }
 }
 
-/// The turn of a block. It tells whether its entry changed.
+/// Visits a block if it is marked. Whether its entry changed.
 fn turn(
     alloc: Global,
     pairs: &mut Pairs,
@@ -62,7 +61,7 @@ fn either(turned: bool, changed: bool) -> bool
     turned || changed
 }
 
-/// A turn of each block, in this order. It tells whether an entry changed.
+/// A sweep over the blocks in this order. Whether an entry changed. The error is out of memory.
 pub fn sweep(
     alloc: Global,
     start: &BlockEntry,

@@ -1,4 +1,4 @@
-//! A visit of a block: its entry becomes the join of what its predecessors hand on now.
+//! A visit of a block: its entry becomes the join of what its predecessors propagate now.
 
 ghost use Rattle.std.specs.Prelude.{◌≡◌, ◌↔◌, ℕ, ◌<◌, List, ◌++◌, Some, length, slice_set, slice_index_or, IfOk};
 ghost use Rattle.std.specs.Prelude.{IfErr, OnErr, All, IsTrue, true, false, [], ◌≤◌};
@@ -13,7 +13,7 @@ use crate::join::{empty_join, join};
 use crate::meet::Pairs;
 use std::alloc::{AllocError, Global};
 
-/// The join of what the start hands on to a block.
+/// The join of what the start entry propagates into a block.
 fn first_join(
     alloc: Global,
     pairs: &mut Pairs,
@@ -34,7 +34,7 @@ fn first_join(
     }
 }
 
-/// Joins what a block hands on, if some path is known to lead to it.
+/// The join with what one more predecessor propagates: nothing while it is unreached.
 fn join_more(
     alloc: Global,
     pairs: &mut Pairs,
@@ -55,7 +55,7 @@ fn join_more(
     join(alloc, pairs, joined, &exit)
 }
 
-/// The join of what the predecessors of a block hand on.
+/// The join of all that is propagated into a block.
 fn joined(
     alloc: Global,
     pairs: &mut Pairs,
@@ -87,7 +87,7 @@ fn joined(
     Ok(joined)
 }
 
-/// Whether two entries say the same.
+/// Whether two entries are equal.
 fn are_equal(a: &BlockEntry, b: &BlockEntry) -> bool
     ensures { IsTrue result ↔ (a.now ≡ b.now) }
 {
@@ -100,7 +100,7 @@ fn are_equal(a: &BlockEntry, b: &BlockEntry) -> bool
     a.given.as_slice() == b.given.as_slice()
 }
 
-/// Visits a block. It tells whether its entry changed.
+/// Visits a block. Whether its entry changed. The error is out of memory.
 pub fn visit(
     alloc: Global,
     pairs: &mut Pairs,

@@ -1,4 +1,4 @@
--- Classes at the start of a block, from what is known there.
+-- Classes at the start of a block, from its live-in values.
 use Rattle.std.specs.Prelude.{◌≡◌, ℕ, ◌<◌, true, List, length, map, slice_index}
 use Rattle.mir_func.specs.declared.variable.VarId.{VarId}
 use Rattle.mir_func.specs.Graph.{Program, block_start}
@@ -9,7 +9,7 @@ use Rattle.value_proof.specs.Classes.{Classes, AreClasses}
 use Rattle.value_proof.specs.Wanted.{AreThingsOf}
 use Rattle.value_tracker.specs.Things.{AreThings, Settle, settled_at}
 
--- What is known at the start of a block that some path leads to gives each thing a class.
+-- The live-in values of a reached block define classes of the tracked entities at its start.
 abbrev pub EntriesGiveClasses : Type 0
 EntriesGiveClasses = (g : Program) (variables : List VarId) (things : List Tracked) (b : ℕ) (e : BlockEntry) (settled : List ℕ) →
     AreThings variables things → AreThingsOf g (map thing things) → IsEntry g things b e → e.reached ≡ true → length settled ≡ length e.classes →

@@ -1,4 +1,4 @@
--- Classes between two items of a block, and what an item does to them.
+-- The tracker's state between two items of a block, and the effect of an item on it.
 use Rattle.std.specs.Prelude.{
   ◌≡◌,
   ◌≢◌,
@@ -44,28 +44,29 @@ use Rattle.value_tracker.specs.declared.index.Index.{Index}
 use Rattle.value_tracker.specs.declared.held.Held.{Held}
 use Rattle.value_tracker.specs.Things.{is_key, IsOffset}
 
--- registers have the first places, and each doubleword of the frame up to offset 2,024 one after them
+-- the location index of the doubleword at x2. Registers have the indices below it, and the doublewords at offsets up to 2,024
+-- those from it on
 abbrev pub SLOTS_FROM : ℕ
 SLOTS_FROM = 32
 
--- how many places there are: 32 registers, and the 254 doublewords at offsets 0 to 2,024
+-- the number of machine locations: 32 registers, and the 254 doublewords at offsets 0 to 2,024
 abbrev pub PLACES : ℕ
 PLACES = 286
 
--- the place of the doubleword at an offset from x2, in bytes
+-- the location index of the doubleword at an offset from x2, in bytes
 abbrev pub slot_place : ℕ → ℕ
 slot_place n = SLOTS_FROM + n / 8
 
--- the class at a place in a list, or 0
+-- the class at an index in a list, or 0 for None
 abbrev pub class_at : List ℕ → Option ℕ → ℕ
 class_at settled None = 0
 class_at settled (Some i) = slice_index settled i
 
--- a number's class, by what stands at the start of the block
+-- a constant's class, which is the one at the block's start
 abbrev pub number_class : Index → List ℕ → ℕ → ℕ
 number_class index settled c = class_at settled (get nat_eq index.numbers c)
 
--- a pair's class: what an item of the block gave it, or what stands at the start of the block
+-- a pair's class: the one that an item of the block defined, or else the one at the block's start
 abbrev pub given_or : Option ℕ → ℕ → ℕ
 given_or None c = c
 given_or (Some d) c = d
@@ -74,7 +75,7 @@ given_or (Some d) c = d
 abbrev pub pair_class : Index → List ℕ → Held → ℕ → ℕ → ℕ
 pair_class index settled h k o = given_or (get is_key h.pairs (k, o)) (class_at settled (get is_key index.pairs (k, o)))
 
--- the classes of things are held
+-- the state holds these classes of the tracked entities
 pub record Holds (variables : List VarId) (things : List Tracked) (index : Index) (settled : List ℕ) (h : Held) (class : Classes) : Type 0 where
   pub count : length h.places.items ≡ PLACES
   pub registers : (r : ℕ) → r < 32 → slice_index h.places.items r ≡ class (InRegister r)
@@ -88,22 +89,24 @@ pub record Holds (variables : List VarId) (things : List Tracked) (index : Index
   pub zero : class (InRegister 0) ≡ class (OfNumber 0)
   pub pointer : class (InRegister 2) ≡ 0
 
--- past an item the classes by what stood before it are held: new ones count from the one that came next
+-- the step over an item: if the state before it holds the classes there, the state after it holds those past it. The class of a
+-- new token is `before.next` plus its register
 abbrev pub Passes : (variables : List VarId) (things : List Tracked) (index : Index) (settled : List ℕ) → (OperandPair → Option OperandPair) →
     (before after : Held) → ItemKind → Type 0
 Passes variables things index settled resolve before after kind = (class : Classes) → Holds variables things index settled before class →
     KnowsItem (map thing things) resolve kind →
     Holds variables things index settled after (λ x. class_back class (λ r. before.next + r) (back resolve 0 kind x))
 
--- ---- the places past code of a row
+-- ---- locations past an instruction
 
--- a register gets a class: x0 drops writes, and a write of x2 takes every slot's class away
+-- the class at location i past a write of class c to register rd: a write to x0 is dropped, and a write to x2 clears the classes
+-- of all slots
 abbrev pub put : (rd c : ℕ) → (places : ℕ → ℕ) → ℕ → ℕ
 put rd c places i = cond (nat_eq rd 2) (cond (nat_lt i SLOTS_FROM) (places i) 0)
     (cond (nat_eq rd 0) (places i) (cond (nat_lt rd SLOTS_FROM) (cond (nat_eq i rd) c (places i)) (places i)))
 
--- the class at each place past code of a row: constants have their number's class, copies and slots pass classes on,
--- and every other definition makes a new class, counted by its register from the one that comes next
+-- the class at location i past an instruction of this row: a constant's class is that of the constant, copies, slot loads and
+-- slot stores copy classes, and each other definition has the class `next` plus its register
 abbrev pub places_past : (number : ℕ → ℕ) → (next : ℕ) → Row → (places : ℕ → ℕ) → ℕ → ℕ
 places_past number next (Fixes rd c) places i = put rd (number c) places i
 places_past number next (Moves rd rs) places i = put rd (places rs) places i
@@ -119,36 +122,37 @@ places_past number next (Jumps target) places i = places i
 places_past number next (Returns results) places i = places i
 places_past number next Unfit places i = places i
 
--- a part past a mark of a part
+-- the class of a part of a variable past a debug value for the part `marked`: c for that part, and 0 for an overlapping one
 abbrev pub part_past : (marked : VarId) → (c : ℕ) → VarId → ℕ → ℕ
 part_past v c w d = cond (is_same w v) c (cond (overlaps w v) 0 d)
 
--- ---- what marks, phis and numbers give
+-- ---- what debug values and DBG_PHIs read, and what operands define
 
--- the class of a pair that a mark's pair resolves to
+-- the class of the pair that a debug operand resolves to, or 0 if it resolves to none
 abbrev pub resolved_class : Index → List ℕ → Held → Option OperandPair → ℕ
 resolved_class index settled h None = 0
 resolved_class index settled h (Some q) = pair_class index settled h q.number q.operand
 
--- the class of what a mark's debug operand reads, and 0 for nothing
+-- the class of the value of a debug value's operand, or 0 for $noreg
 abbrev pub value_class : Index → List ℕ → (OperandPair → Option OperandPair) → Held → MarkValue → ℕ
 value_class index settled resolve h Nothing = 0
 value_class index settled resolve h (Constant c) = number_class index settled (word c)
 value_class index settled resolve h (At r) = slice_index h.places.items r
 value_class index settled resolve h (Pair q) = resolved_class index settled h (resolve q)
 
--- the class of what a place holds
+-- the class of the value in a location
 abbrev pub at_class : Index → List ℕ → Held → Place → ℕ
 at_class index settled h (Register r) = slice_index h.places.items r
 at_class index settled h (Slot n) = slice_index h.places.items (slot_place n)
 at_class index settled h (Const c) = number_class index settled (word c)
 
--- the class of what a phi's place holds, and 0 where it has none
+-- the class of the value in a DBG_PHI's location, or 0 if it has none
 abbrev pub place_class : Index → List ℕ → Held → Option Place → ℕ
 place_class index settled h None = 0
 place_class index settled h (Some p) = at_class index settled h p
 
--- a pair of a defining operand has the register's class
+-- the class of an operand's pair past an instruction: that of the register that the operand defines, or the old one if it defines
+-- none
 abbrev pub operand_class : (places : List ℕ) → Option ℕ → Option ℕ → Option ℕ
 operand_class places None old = old
 operand_class places (Some r) old = Some (slice_index places r)

@@ -1,9 +1,9 @@
-//! The first place of each class. A table by class is filled for a look at all variables, and emptied after it.
+//! The first location of each class. A table by class is filled for a lookup of all variables, and emptied after it.
 
 ghost use Rattle.std.specs.Prelude.{◌≡◌, ◌≢◌, ◌<◌, ◌≤◌, ℕ, None, All, length, slice_index, slice_index_or};
 ghost use Rattle.value_tracker.specs.Firsts.{IsFirstBelow, AreFirsts};
 
-/// Fills an empty table with the first place of each class.
+/// Fills an empty table with the first location index of each class.
 pub fn fill(firsts: &mut [Option<usize>], places: &[usize])
     requires some { 0 < length places.now }
     requires empty { (c : ℕ) → slice_index_or firsts.old c None ≡ None }
@@ -15,7 +15,7 @@ pub fn fill(firsts: &mut [Option<usize>], places: &[usize])
     }
 }
 
-/// A place is its class's first, if the class has none yet.
+/// Enters a location index for its class, unless the class has one.
 fn add(firsts: &mut [Option<usize>], class: usize, i: usize)
     requires { class < length firsts.old }
     ensures kept { (c : ℕ) → c ≢ class → slice_index_or firsts.new c None ≡ slice_index_or firsts.old c None }
@@ -28,7 +28,7 @@ fn add(firsts: &mut [Option<usize>], class: usize, i: usize)
     }
 }
 
-/// Empties a table that was filled.
+/// Empties a table that was filled from these locations.
 pub fn empty(firsts: &mut [Option<usize>], places: &[usize])
     requires filled { AreFirsts places.now firsts.old }
     requires room { (i : ℕ) → i < length places.now → slice_index places.now i < length firsts.old }

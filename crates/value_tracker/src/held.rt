@@ -1,4 +1,4 @@
-//! The classes between two items of a block.
+//! The tracker's state between two items of a block.
 
 ghost use Rattle.std.specs.Prelude.{◌≡◌, ◌<◌, ◌≤◌, ◌+◌, ◌^◌, ℕ, length, slice_index, cond, nat_eq, nat_lt};
 ghost use Rattle.rv64_instr.specs.declared.place.Place.{Place};
@@ -10,26 +10,26 @@ use base_ids::code::SlotId;
 use rv64_instr::reg::Reg;
 use std::collections::HashMap;
 
-/// The place of the first doubleword of the frame: registers have the places before it.
+/// The location index of the frame's first doubleword: registers have the indices below it.
 pub const SLOTS_FROM: usize = 32;
-/// How many places there are: registers, and doublewords of the frame.
+/// The number of machine locations: registers, and doublewords of the frame.
 pub const PLACES: usize = 286;
 
-/// The classes between two items of a block (LLVM: `MLocTracker`). 0 is that of what has no class.
+/// The tracker's state between two items of a block (LLVM: `MLocTracker`). Class 0 means no class.
 #[derive(Drop)]
 pub struct Held {
-    /// The class of each place: registers by their numbers, and after them the doublewords of the frame by their
-    /// offsets from x2. x0 has the class of the number 0, and x2 has none.
+    /// The class of each machine location: registers by their numbers, then the doublewords of the frame by their
+    /// offsets from x2. x0 has the class of the constant 0, and x2 has none.
     pub places: Vec<usize>,
-    /// The class of each pair that an item of the block gave one.
+    /// The class of each pair that an item of the block defined.
     pub pairs: HashMap<(u32, usize), usize>,
-    /// The class of each part of a variable, in their order.
+    /// The class of each part of a variable, in the order of their list.
     pub parts: Vec<usize>,
-    /// The class that comes next. All others are below it.
+    /// The next new class. All classes in use are below it.
     pub next: usize,
 }
 
-/// The place of the doubleword at an offset from x2, in bytes.
+/// The location index of the doubleword at an offset from x2, in bytes.
 pub fn slot_place(n: SlotId) -> usize
     ensures { result ≡ slot_place n }
 {
@@ -37,7 +37,7 @@ pub fn slot_place(n: SlotId) -> usize
 }
 
 impl Held {
-    /// The class of a place.
+    /// The class at a location index, or 0.
     pub fn place(&self, i: usize) -> usize
         ensures { result ≡ slice_index self.now.places.items i }
     {
@@ -55,7 +55,7 @@ impl Held {
         self.place(r.number() as usize)
     }
 
-    /// Gives a register a class. A write of x2 takes every slot's class away.
+    /// Sets a register's class. A write to x0 is dropped, and a write to x2 only clears the classes of all slots.
     pub fn put(&mut self, rd: Reg, class: usize)
         requires { PLACES ≤ length self.old.places.items }
         ensures places { (i : ℕ) → slice_index self.new.places.items i ≡ put rd class
@@ -73,7 +73,7 @@ impl Held {
         }
     }
 
-    /// Gives the doubleword at an offset a class, where it is one of the frame.
+    /// Sets the class of the doubleword at an offset, if it is one of the frame.
     pub fn put_slot(&mut self, n: SlotId, class: usize)
         requires { length self.old.places.items ≡ PLACES }
         ensures places { (i : ℕ) → slice_index self.new.places.items i
@@ -89,7 +89,7 @@ impl Held {
         }
     }
 
-    /// Gives a register a class of its own.
+    /// Sets a register's class to a new one.
     pub fn put_new(&mut self, rd: Reg)
         requires count { PLACES ≤ length self.old.places.items }
         requires few { self.old.next < 2 ^ 62 }
@@ -104,7 +104,7 @@ impl Held {
         self.put(rd, class);
     }
 
-    /// Gives each register that a call sets a class of its own.
+    /// Sets each caller-saved register's class to a new one.
     pub fn call(&mut self)
         requires count { PLACES ≤ length self.old.places.items }
         requires few { self.old.next < 2 ^ 62 }
@@ -119,7 +119,7 @@ impl Held {
     }
 }
 
-/// Gives each register that a call sets a class of its own, from one on.
+/// Sets each caller-saved register's class to a new one: `next` plus the register.
 fn renew(places: &mut [usize], next: usize)
     requires count { PLACES ≤ length places.old }
     requires few { next < 2 ^ 62 }
@@ -133,7 +133,7 @@ fn renew(places: &mut [usize], next: usize)
     }
 }
 
-/// Whether a call sets the register (RISC-V ELF psABI, "Integer Register Convention": ra, t0 to t6, a0 to a7).
+/// Whether the register is caller-saved (RISC-V ELF psABI, "Integer Register Convention": ra, t0 to t6, a0 to a7).
 fn is_caller_saved(r: usize) -> bool
     ensures { result ≡ list_any (λ q. nat_eq r q) caller_saved }
 {
@@ -155,7 +155,7 @@ fn is_caller_saved(r: usize) -> bool
         || r == 31
 }
 
-/// Takes the class of every slot away.
+/// Clears the classes of all slots.
 fn clear_slots(places: &mut [usize])
     ensures { (i : ℕ) → slice_index places.new i ≡ cond (nat_lt i SLOTS_FROM) (slice_index places.old i) 0 }
 {

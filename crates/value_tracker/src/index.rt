@@ -1,4 +1,4 @@
-//! Where tracked things stand in their list.
+//! The positions of tracked entities in their list.
 
 ghost use Rattle.std.specs.Prelude.{
   ◌≡◌,
@@ -26,16 +26,16 @@ use std::alloc::{AllocError, Global};
 use std::collections::HashMap;
 use value_solver::tracked::Tracked;
 
-/// Where numbers and pairs stand in a list of tracked things.
+/// The positions of constants and pairs in a list of tracked entities.
 #[derive(Drop)]
 pub struct Index {
-    /// The numbers, modulo 2^64.
+    /// The positions of constants, by their number modulo 2^64.
     pub numbers: HashMap<u64, usize>,
-    /// The pairs of a debug instruction number and an operand's index.
+    /// The positions of pairs, by debug instruction number and operand index.
     pub pairs: HashMap<(u32, usize), usize>,
 }
 
-/// The index of a list.
+/// The index of a list. The error is out of memory.
 pub fn index_of(alloc: Global, things: &[Tracked]) -> Result<Index, AllocError>
     ensures { IfOk result (Indexes things.now) }
 {
@@ -50,7 +50,7 @@ pub fn index_of(alloc: Global, things: &[Tracked]) -> Result<Index, AllocError>
 }
 
 impl Index {
-    /// Adds a thing that stands at an index.
+    /// Adds the entity at position i.
     fn add(&mut self, i: usize, thing: Tracked) -> Result<(), AllocError>
         ensures { OnOk result ((things : List Tracked) → slice_get things i ≡ Some thing →
             IndexesBelow i things self.old → IndexesBelow (i + 1) things self.new) }
@@ -70,7 +70,7 @@ impl Index {
     }
 }
 
-/// The class at a place in a list, or 0.
+/// The class at an index in a list, or 0 for None.
 fn class_at(settled: &[usize], place: Option<usize>) -> usize
     ensures { result ≡ class_at settled.now place }
 {
@@ -86,21 +86,21 @@ fn class_of(settled: &[usize], i: usize) -> usize
     if i < settled.len() { settled[i] } else { 0 }
 }
 
-/// The class of a number at the start of a block, given the classes of all things there.
+/// The class of a constant at the start of a block, by the classes of all entities there.
 pub fn number_class(index: &Index, settled: &[usize], n: u64) -> usize
     ensures { result ≡ number_class index.now settled.now n }
 {
     class_at(settled, index.numbers.get(&n).copied())
 }
 
-/// The class of a pair at the start of a block, given the classes of all things there.
+/// The class of a pair at the start of a block, by the classes of all entities there.
 pub fn pair_class(index: &Index, settled: &[usize], number: u32, operand: usize) -> usize
     ensures { result ≡ class_at settled.now (get is_key index.now.pairs (number, operand)) }
 {
     class_at(settled, index.pairs.get(&(number, operand)).copied())
 }
 
-/// What a pair is looked up by.
+/// The lookup key of a pair.
 pub fn key(q: OperandPair) -> (u32, usize)
     ensures { result ≡ (q.number, q.operand) }
 {

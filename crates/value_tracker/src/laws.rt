@@ -1,8 +1,8 @@
-//! The law of entries, the contract of a function that does nothing.
+//! The law about block entries, the contract of a function that does nothing.
 
 ghost use Rattle.value_tracker.specs.Entering.{EntriesGiveClasses};
 
-/// What is known at the start of a block that some path leads to gives each tracked thing a class.
+/// The live-in values of a reached block define classes of the tracked entities at its start.
 pub fn entries_give_classes()
     ensures { EntriesGiveClasses }
 {}

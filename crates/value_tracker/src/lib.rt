@@ -1,7 +1,8 @@
-//! The classes of places, pairs and parts of variables between two items of a block, and the first place of each class.
-//! What is known at the start of a block is carried over its items: code gives a class to the place that it sets, a
-//! call to sixteen registers, a mark to a part of a variable. A class is a number; what was tracked together and stayed
-//! together has one, so a variable's place is looked up by its class.
+//! The value tracker of a block (LLVM: MLocTracker): the class of each machine location, debug operand pair and part of
+//! a variable between two items, and the first location of each class. It starts from the block's live-in values and
+//! steps over the items: an instruction sets the class of the register or slot that it writes, a call those of sixteen
+//! registers, a debug value that of a part of a variable. Entities with the same class, other than 0, have the same
+//! value on every path, so a variable's location is looked up by its class.
 #![tactic(auto)]
 
 pub mod firsts;

@@ -1,4 +1,4 @@
-//! The first place of a part of a variable, by its class.
+//! The first location of a class, by tables of locations and constants.
 
 ghost use Rattle.std.specs.Prelude.{
   ◌≡◌,
@@ -34,7 +34,8 @@ use rv64_instr::reg::physical;
 use std::alloc::{AllocError, Global};
 use value_solver::tracked::Tracked;
 
-/// The number of each class that a number has, given the classes of all things and the one after them.
+/// The constant of each class that a tracked number has, by the classes of all entities and the next new class. The
+/// error is out of memory.
 pub fn constants(
     alloc: Global,
     things: &[Tracked],
@@ -54,7 +55,7 @@ pub fn constants(
     Ok(constants)
 }
 
-/// Gives a class a constant, if there is one.
+/// Enters a constant for a class, if there is one.
 fn set_constant(constants: &mut Vec<Option<i64>>, class: usize, c: Option<i64>)
     requires { class < length constants.old.items }
     ensures constants { (k : ℕ) → slice_index_or constants.new.items k None ≡ constant_past c class k
@@ -67,7 +68,7 @@ fn set_constant(constants: &mut Vec<Option<i64>>, class: usize, c: Option<i64>)
     }
 }
 
-/// A number as a constant.
+/// The constant of an entity, signed, or None if it is no number.
 fn constant_of(thing: &Tracked) -> Option<i64>
     ensures { IsConstantOf thing.now result }
 {
@@ -80,7 +81,7 @@ fn constant_of(thing: &Tracked) -> Option<i64>
     }
 }
 
-/// The first place that has a class: its number, or else the place that a table has for it.
+/// The first location of a class: its constant, or else the location that the table has for it. None for class 0.
 pub fn place_of(firsts: &[Option<usize>], constants: &[Option<i64>], class: usize) -> Option<Place>
     requires { (k i : ℕ) → slice_index_or firsts.now k None ≡ Some i → i < PLACES }
     ensures { result ≡ place_of firsts.now constants.now class }
@@ -124,7 +125,7 @@ fn place_by(first: Option<usize>) -> Option<Place>
     }
 }
 
-/// A register or a doubleword of the frame.
+/// The register or the doubleword of the frame with this location index.
 fn place_at(i: usize) -> Place
     requires { i < PLACES }
     ensures { result ≡ place_at i }

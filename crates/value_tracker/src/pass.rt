@@ -1,4 +1,4 @@
-//! Classes past an item.
+//! The tracker's step over an item.
 
 ghost use Rattle.std.specs.Prelude.{
   ◌≡◌,
@@ -49,19 +49,19 @@ use rv64_instr::reg::Reg;
 use sem_mir::operand::defined;
 use std::alloc::AllocError;
 
-/// From so many classes on, memory would have run out.
+/// The limit on classes, exclusive: memory runs out before it.
 const MOST_CLASSES: usize = 1 << 62;
 
-/// What stays as it is over the items of a block.
+/// What is constant over the items of a block.
 #[derive(Drop)]
 pub struct Block<'a> {
-    /// Where numbers and pairs stand among the tracked things.
+    /// The positions of constants and pairs in the list of tracked entities.
     pub index: &'a Index,
-    /// The class that each tracked thing had at the start of the block, or 0.
+    /// The class of each tracked entity at the start of the block, or 0.
     pub settled: &'a [usize],
-    /// The parts of variables.
+    /// The tracked parts of variables.
     pub variables: &'a [VarId],
-    /// What pairs resolve to.
+    /// The debug value substitutions, which pairs resolve by.
     pub subs: &'a Substitutions,
 }
 
@@ -85,7 +85,7 @@ impl Held {
         }
     }
 
-    /// The class of what a mark assigns.
+    /// The class of the value that a debug value assigns.
     fn value(&self, block: &Block, value: &MarkValue) -> usize
         ensures { result ≡ value_class block.now.index.now block.now.settled.now
             (resolve block.now.subs.now) self.now value.now }
@@ -98,7 +98,7 @@ impl Held {
         }
     }
 
-    /// The class of a phi's place, or 0.
+    /// The class of the value in a DBG_PHI's location, or 0 if it has none.
     fn at(&self, block: &Block, place: Option<Place>) -> usize
         ensures { result ≡ place_class block.now.index.now block.now.settled.now self.now place }
     {
@@ -118,7 +118,7 @@ impl Held {
         }
     }
 
-    /// Gives the pair of an operand a class, where it defines a register.
+    /// Sets the class of an operand's pair, if the operand defines a register.
     fn give_operand(
         &mut self,
         call: bool,
@@ -143,7 +143,7 @@ impl Held {
         }
     }
 
-    /// Gives the pair of each defining operand of code with a number its register's class.
+    /// Sets the class of each pair that an instruction with a number defines to its register's class.
     fn give(&mut self, call: bool, k: DebugNumber, operands: &[Operand]) -> Result<(), AllocError>
         ensures pairs { OnOk result ((m o : ℕ) → get is_key self.new.pairs (m, o)
             ≡ cond (nat_eq k m) (operand_class self.old.places.items (defined_by call (slice_get operands.now o))
@@ -211,7 +211,8 @@ impl Held {
         Ok(())
     }
 
-    /// Past an item the classes are those of what stood before it, and new ones for what it makes.
+    /// Steps over an item: copies of values keep their classes, and new tokens have new classes. The error is out of
+    /// memory.
     pub fn pass(&mut self, block: &Block, kind: &ItemKind) -> Result<(), AllocError>
         requires places { length self.old.places.items ≡ PLACES }
         requires parts { length self.old.parts.items ≡ length block.now.variables.now }
@@ -232,7 +233,7 @@ impl Held {
     }
 }
 
-/// Gives a part of a variable a class, and takes it away from the others that overlap.
+/// Sets the class of a part of a variable, and clears those of the parts that overlap.
 fn mark(parts: &mut Vec<usize>, variables: &[VarId], variable: &VarId, class: usize)
     requires { length parts.old.items ≡ length variables.now }
     ensures past { (j : ℕ) (w : VarId) → slice_get variables.now j ≡ Some w
@@ -244,7 +245,7 @@ fn mark(parts: &mut Vec<usize>, variables: &[VarId], variable: &VarId, class: us
     }
 }
 
-/// The class of a part past a mark of a part.
+/// The class of a part past a debug value of a part.
 fn part_past(marked: &VarId, class: usize, part: &VarId, old: usize) -> usize
     ensures { result ≡ part_past marked.now class part.now old }
 {

@@ -1,4 +1,4 @@
-//! Places past code.
+//! The locations past an instruction.
 
 ghost use Rattle.std.specs.Prelude.{◌≡◌, ◌<◌, ◌≤◌, ◌^◌, ℕ, length, slice_index};
 ghost use Rattle.rv64_instr.specs.Row.{row_of};
@@ -10,8 +10,8 @@ use rv64_instr::decoded::Decoded;
 use rv64_instr::instr::Instr;
 
 impl Held {
-    /// Gives places the classes that they have past code, and counts the classes of new tokens: each register has
-    /// one of its own.
+    /// Sets the classes of the locations that an instruction writes. Each register has a new class of its own for a new
+    /// token.
     pub fn pass_row(&mut self, index: &Index, settled: &[usize], instr: &Instr)
         requires count { length self.old.places.items ≡ PLACES }
         requires few { self.old.next < 2 ^ 62 }

@@ -1,4 +1,4 @@
-//! Classes at the start of a block.
+//! The tracker's state at the start of a block.
 
 ghost use Rattle.std.specs.Prelude.{
   ◌≡◌,
@@ -35,10 +35,11 @@ use std::collections::HashMap;
 use value_solver::entry::BlockEntry;
 use value_solver::tracked::Tracked;
 
-/// From so many classes on, memory would have run out.
+/// The limit on classes, exclusive: memory runs out before it.
 const MOST_CLASSES: usize = 1 << 62;
 
-/// The classes of so many things: where a thing has a token on every path to the start of a block, and 0 elsewhere.
+/// The classes of this many entities at a block's start, and 0 for one without a token on every path. The error is out
+/// of memory.
 pub fn settle(alloc: Global, entry: &BlockEntry, count: usize) -> Result<Vec<usize>, AllocError>
     ensures count { IfOk result (λ s. length s.items ≡ count) }
     ensures each { IfOk result (λ s. (i : ℕ) → i < count →
@@ -63,7 +64,7 @@ fn settled_at(classes: &[u32], given: &[bool], i: usize) -> usize
     }
 }
 
-/// The classes at the start of a block, given those of all things there.
+/// The tracker's state at the start of a block, by the classes of all entities there. The error is out of memory.
 pub fn start(
     alloc: Global,
     things: &[Tracked],
@@ -92,7 +93,7 @@ pub fn start(
     })
 }
 
-/// Places without a class.
+/// Locations without a class.
 fn no_classes(alloc: Global) -> Result<Vec<usize>, AllocError>
     ensures count { IfOk result (λ places. length places.items ≡ PLACES) }
     ensures empty { IfOk result (λ places. (p : ℕ) → slice_index places.items p ≡ 0) }
@@ -104,7 +105,7 @@ fn no_classes(alloc: Global) -> Result<Vec<usize>, AllocError>
     Ok(places)
 }
 
-/// x0 has the class of the number 0, and x2 has none.
+/// Sets x0 to the class of the constant 0, and clears that of x2.
 fn set_fixed(places: &mut Vec<usize>, zero: usize)
     requires { length places.old.items ≡ PLACES }
     ensures places { (p : ℕ) → slice_index places.new.items p ≡ cond (nat_eq p 2) 0 (cond (nat_eq p 0) zero
@@ -115,7 +116,7 @@ fn set_fixed(places: &mut Vec<usize>, zero: usize)
     places[2] = 0;
 }
 
-/// The class after all others.
+/// The next new class: one above all others. The error is out of memory.
 fn next_after(settled: &[usize]) -> Result<usize, AllocError>
     ensures { IfOk result (λ next. (i : ℕ) → slice_index settled.now i < next) }
 {
@@ -131,7 +132,7 @@ fn next_after(settled: &[usize]) -> Result<usize, AllocError>
     Ok(next)
 }
 
-/// Gives each place that is tracked its class.
+/// Sets the class of each location that is tracked.
 fn place(places: &mut Vec<usize>, things: &[Tracked], settled: &[usize])
     requires count { length places.old.items ≡ PLACES }
     requires settled { length settled.now ≡ length things.now }
@@ -145,7 +146,7 @@ fn place(places: &mut Vec<usize>, things: &[Tracked], settled: &[usize])
     }
 }
 
-/// Gives a thing's place a class, if it has one.
+/// Sets the class of an entity's location, if it has one.
 fn set_place(places: &mut Vec<usize>, thing: &Tracked, class: usize)
     requires { length places.old.items ≡ PLACES }
     ensures places { (p : ℕ) → slice_index places.new.items p ≡ cond (stands_at thing.now p) class
@@ -161,7 +162,7 @@ fn set_place(places: &mut Vec<usize>, thing: &Tracked, class: usize)
     }
 }
 
-/// Sets what stands at an index, if it is below an end.
+/// Sets the class at an index if it is below the end.
 fn set_within(places: &mut Vec<usize>, i: usize, end: usize, class: usize)
     requires { end ≤ length places.old.items }
     ensures places { (p : ℕ) → slice_index places.new.items p ≡ cond (nat_eq p i && nat_lt p end) class

@@ -1,4 +1,4 @@
--- How sizes are counted on the way: up to the greatest number of 64 bits, where a count stands still.
+-- Sizes are counted with saturation: a size above 2^64 - 1 counts as 2^64 - 1.
 use Rattle.std.specs.Prelude.{ℕ, min}
 
 abbrev pub capped : ℕ → ℕ

@@ -1,4 +1,4 @@
--- What a key of a name and a directory is seen as.
+-- The source file that a key of a name and a directory represents.
 use Rattle.std.specs.Prelude.{ℕ, Vec}
 use Rattle.dwarf_line_table.specs.declared.file.SourceFile.{SourceFile}
 

@@ -1,4 +1,4 @@
--- What a key of two nodes is seen as.
+-- The variable that a key of two nodes represents.
 use Rattle.std.specs.Prelude.{ℕ, Option, None}
 use Rattle.mir_func.specs.declared.variable.VarId.{VarId}
 

@@ -1,4 +1,4 @@
--- What of a plan an item's words and entries are made of.
+-- What the words and entries of an item are computed from, in a plan.
 use Rattle.std.specs.Prelude.{◌≡◌, ℕ, ◌+◌, ◌<◌, ℤ, List, length, get_or, slice_index, Option}
 use Rattle.mir_func.specs.declared.item.Item.{Item}
 use Rattle.mir_func.specs.declared.position.Pos.{Pos}
@@ -15,12 +15,12 @@ use Rattle.emit_code.specs.declared.span.Span.TheVariants.{Nothing}
 use Rattle.emit_code.specs.Rule.{Layout, Site, address_in}
 use Rattle.emit_code.specs.steps.Spans.{site_span}
 
--- the plan has an item of a layout at an index
+-- at this index the plan has the span and the address of an item of a layout
 pub record StandsAt (l : Layout) (p : Plan) (index : ℕ) (s : Site) : Type 0 where
   pub span : get_or p.spans index Nothing ≡ site_span l.framed.blocks l.long s
   pub address : p.base + slice_index p.sums index ≡ address_in l s.point
 
--- it has the items of a block from an index on
+-- the plan has the spans and addresses of all items of a block, from this index on
 abbrev pub AllStandAt : Layout → Plan → (first block : ℕ) → List Item → Type 0
 AllStandAt l p first b items = (n : ℕ) (i : Item) → n < length items → i ≡ get_or items n i →
     StandsAt l p (first + n) (record { point = pos_in b n; item = i })

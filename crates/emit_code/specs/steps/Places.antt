@@ -1,4 +1,4 @@
--- How many items stand before a block.
+-- The number of items before a block.
 use Rattle.std.specs.Prelude.{◌≡◌, ℕ, suc, ◌+◌, List, [], ◌∷◌, length, take, sum_by, cond, nat_eq, Option, Some, None}
 use Rattle.std.specs.Ordering.{nat_cmp}
 use Rattle.std.specs.BTreeMap.{get}
@@ -10,17 +10,17 @@ use Rattle.emit_code.specs.declared.table.Table.{Table}
 abbrev pub items_count : List Block → ℕ
 items_count blocks = sum_by (λ b. length b.items) blocks
 
--- how many items stand before each block, where so many stand before the first, and at last how many there are
+-- the number of items before each block, counted from n, and last the total
 abbrev pub firsts_from : ℕ → List Block → List ℕ
 firsts_from n [] = n ∷ []
 firsts_from n (b ∷ blocks) = n ∷ firsts_from (n + length b.items) blocks
 
--- the index of the block of a number, where the first of these has an index
+-- the index of the block with this number in a list. The first block of the list has index k
 abbrev pub index_in : (index : ℕ) → List Block → (id : ℕ) → Option ℕ
 index_in k [] n = None
 index_in k (b ∷ blocks) n = cond (nat_eq b.id n) (Some k) (index_in (suc k) blocks n)
 
--- how many items stand before the block of a number
+-- the number of items before the block with this number, the prologue's included
 abbrev pub first_of : List Block → (id : ℕ) → ℕ
 first_of blocks n = items_count (take (suc (index_of (body_of blocks) n)) blocks)
 

@@ -1,4 +1,4 @@
--- A plan: where everything of a layout stands.
+-- A plan: the computed layout of a function, as lookup tables.
 use Rattle.std.specs.Prelude.{◌≡◌, ℕ, ◌+◌, Bool, option_map}
 use Rattle.std.specs.Ordering.{nat_cmp}
 use Rattle.std.specs.BTreeMap.{get}
@@ -13,12 +13,12 @@ use Rattle.emit_code.specs.Long.{IsSettled}
 use Rattle.emit_code.specs.steps.Places.{IsTableOf}
 use Rattle.emit_code.specs.steps.Spans.{spans_of, sums_from}
 
--- how far above x2 each object begins
+-- the offset of each object from x2
 pub record AreOffsetsOf (f : FramedFunction) (o : ObjectOffsets) : Type 0 where
   pub own : o.own ≡ own_size f
   pub offsets : (n : ℕ) → get nat_cmp o.offsets n ≡ option_map (λ x. own_size f + x.offset) (object_of f.objects n)
 
--- the plan is that of the layout
+-- the plan computes this layout
 pub record IsPlan (l : Layout) (p : Plan) : Type 0 where
   pub base : p.base ≡ l.base
   pub table : IsTableOf l.framed.blocks p.table
@@ -26,7 +26,7 @@ pub record IsPlan (l : Layout) (p : Plan) : Type 0 where
   pub sums : p.sums ≡ sums_from 0 p.spans
   pub objects : AreOffsetsOf l.framed p.objects
 
--- it is that of the settled layout of a function
+-- the plan computes the least closed layout of a function
 pub record IsPlanOf (f : FramedFunction) (base : ℕ) (p : Plan) : Type 0 where
   pub long : Pos → Bool
   pub settled : IsSettled (record { framed = f; base = base; long = long })

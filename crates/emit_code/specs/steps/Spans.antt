@@ -1,4 +1,4 @@
--- What stands for each item, and the rounds in which branches become long.
+-- How each item is encoded (its span), and the rounds of branch relaxation.
 use Rattle.std.specs.Prelude.{◌≡◌, ℕ, suc, ◌+◌, ◌&&◌, Bool, cond, nat_le, List, [], ◌∷◌, map, slice_index, sum_by}
 use Rattle.rv64_instr.specs.Row.{Row, Fixes, Moves, Sets, Addresses, Loads, Stores, LoadsSlot, StoresSlot, Branches, Jumps, Calls, Returns, Unfit, row_of}
 use Rattle.mir_func.specs.declared.block.Block.{Block}
@@ -24,11 +24,11 @@ short_count CallSite = 0
 short_count (Short t) = 1
 short_count (Long t) = 0
 
--- how many branches are short
+-- the number of short branches
 abbrev pub shorts : List Span → ℕ
 shorts spans = sum_by short_count spans
 
--- what stands for code of a row, where a branch may be long
+-- the span of an instruction by its row. The flag is whether a conditional branch is long
 abbrev pub row_span : List Block → (long : Bool) → Row → Span
 row_span blocks long (Fixes rd n) = OneWord
 row_span blocks long (Moves rd rs) = OneWord
@@ -49,24 +49,24 @@ span_of blocks long (Code i k) = row_span blocks long (row_of i)
 span_of blocks long (Mark v m) = Nothing
 span_of blocks long (Phi p k) = Nothing
 
--- what stands for an item at its point
+-- the span of an item at its point
 abbrev pub site_span : List Block → (long : Pos → Bool) → Site → Span
 site_span blocks long s = span_of blocks (long s.point) s.item.kind
 
--- what stands for the items of a function
+-- the spans of all items of a function, in text order
 abbrev pub spans_of : List Block → (long : Pos → Bool) → List Span
 spans_of blocks long = map (site_span blocks long) (sites_from 0 blocks)
 
--- how many bytes stand before each, where so many stand before the first, and at last before the end
+-- the bytes before each item and before the end, counted from n
 abbrev pub sums_from : ℕ → List Span → List ℕ
 sums_from n [] = n ∷ []
 sums_from n (s ∷ spans) = n ∷ sums_from (n + span_size s) spans
 
--- a branch reaches from one address to another as a short one
+-- a conditional branch at one address reaches the other: the offset is from -4096 to 4094 bytes
 abbrev pub reaches : (from to : ℕ) → Bool
 reaches from to = nat_le to (from + 4094) && nat_le from (to + 4096)
 
--- a short branch at an index that doesn't reach becomes long
+-- one step of relaxation: the short branch at this index becomes long if its target is out of reach
 abbrev pub grown : (sums : List ℕ) → (index : ℕ) → Span → Span
 grown sums k Nothing = Nothing
 grown sums k OneWord = OneWord
@@ -78,16 +78,16 @@ abbrev pub grown_from : (sums : List ℕ) → (index : ℕ) → List Span → Li
 grown_from sums k [] = []
 grown_from sums k (s ∷ spans) = grown sums k s ∷ grown_from sums (suc k) spans
 
--- a round
+-- a round of relaxation: over all spans, by the byte offsets before the round
 abbrev pub round : List Span → List Span
 round spans = grown_from (sums_from 0 spans) 0 spans
 
--- some rounds lead from one to the other
+-- zero or more rounds from one list of spans to the other
 pub data Rounds (spans : List Span) : List Span → Type 0 where
   begun : Rounds spans spans
   further : {others : List Span} → Rounds spans others → Rounds spans (round others)
 
--- they do, and one more round changes nothing
+-- the result of rounds is a fixpoint: one more round changes nothing
 pub record Settles (spans others : List Span) : Type 0 where
   pub rounds : Rounds spans others
   pub steady : round others ≡ others

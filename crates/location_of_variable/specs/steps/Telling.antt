@@ -1,4 +1,4 @@
--- The location of a variable by the places of its parts.
+-- The location of a variable, from the places of its parts.
 use Rattle.std.specs.Prelude.{ℕ, ◌+◌, List, [], ◌∷◌, ◌++◌, Option, Some, None, option_to_list, cond, nat_le, slice_index_or}
 use Rattle.rv64_instr.specs.declared.place.Place.{Place}
 use Rattle.mir_func.specs.Parts.{Bytes}
@@ -11,17 +11,17 @@ use Rattle.location_of_variable.specs.declared.group.Piece.{Piece}
 abbrev pub place_at : List (Option Place) → ℕ → Option Place
 place_at places j = slice_index_or places j None
 
--- the piece of some bytes at their place, unless they begin before an offset
+-- the piece for some bytes at their place, or None if they have no place or begin before the offset `from`
 abbrev pub piece_told : Option Place → (from : ℕ) → Bytes → Option Part
 piece_told None from b = None
 piece_told (Some place) from b = cond (nat_le from b.offset) (Some (record { offset = b.offset; length = b.length; place = place })) None
 
--- where it ends, or what it should have begun at
+-- the end of a piece, or `from` for None
 abbrev pub end_past : Option Part → ℕ → ℕ
 end_past None from = from
 end_past (Some x) from = x.offset + x.length
 
--- the pieces of parts, from an offset on
+-- the pieces for parts, in order. A part without a place, or that begins before the end of the last piece, is left out
 abbrev pub pieces_from : (place : ℕ → Option Place) → (from : ℕ) → List Piece → List Part
 pieces_from place from [] = []
 pieces_from place from (x ∷ xs) =

@@ -1,15 +1,15 @@
--- The places of parts where the walk stands.
+-- The places of parts of variables before an item.
 use Rattle.std.specs.Prelude.{◌≡◌, ℕ, ◌<◌, List, length, Option, None, cond, slice_index, slice_index_or}
 use Rattle.rv64_instr.specs.declared.place.Place.{Place}
 use Rattle.value_tracker.specs.Firsts.{AreFirsts}
 use Rattle.value_tracker.specs.Look.{place_of}
 use Rattle.location_ranges.specs.declared.stand.Stand.{Stand}
 
--- a table of first places is empty
+-- the table of first locations is empty
 abbrev pub IsEmpty : List (Option ℕ) → Type 0
 IsEmpty firsts = (c : ℕ) → slice_index_or firsts c None ≡ None
 
--- the place of each part where the walk stands, by the first place of its class, and none where no path leads there
+-- the place of each part: the first location of its class, and None at an unreached item
 pub record ArePlacesAt (s : Stand) (places : List (Option Place)) : Type 0 where
   pub firsts : List (Option ℕ)
   pub are : AreFirsts s.held.places.items firsts

@@ -1,4 +1,4 @@
--- What the walk has between two entries.
+-- The tracks of variables between two entries.
 use Rattle.std.specs.Prelude.{◌≡◌, ℕ, zero, suc, ◌+◌, ◌<◌, ◌≤◌, List, [], ◌∷◌, length, Contains, Option, Some, None, slice_get}
 use Rattle.rv64_instr.specs.declared.place.Place.{Place}
 use Rattle.mir_func.specs.declared.position.Pos.{Pos}
@@ -14,33 +14,34 @@ use Rattle.location_ranges.specs.declared.track.Track.{Track}
 use Rattle.location_ranges.specs.Covered.{covered, Turns, IsTrackTo}
 use Rattle.location_ranges.specs.Lists.{HasByte, point_of}
 
--- a track turns to the location that its variable has by the places of parts
+-- a track changes at an address to the location of its variable, by the places of its parts
 pub record TurnsBy (group : Group) (places : List (Option Place)) (a : ℕ) (t u : Track) : Type 0 where
   pub to : Option Location
   pub by : IsLocationBy group places to
   pub turns : Turns t a to u
 
--- the first so many tracks have turned, and the others have not
+-- the first n tracks have changed at the address, and the others are as before
 pub record TurnedBelow (groups : List Group) (places : List (Option Place)) (a : ℕ) (old : List Track) (n : ℕ) (new : List Track) : Type 0 where
   pub for_all : length new ≡ length old
   pub done : (k : ℕ) (group : Group) (t u : Track) → k < n → slice_get groups k ≡ Some group → slice_get old k ≡ Some t → slice_get new k ≡ Some u →
       TurnsBy group places a t u
   pub rest : (k : ℕ) (u : Track) → n ≤ k → slice_get new k ≡ Some u → slice_get old k ≡ Some u
 
--- where the entry of an index begins, or where the last one ends, if the first begins at an address
+-- the address of the entry at this index, or the end of the last one. The first is at address a, and entries are contiguous
 abbrev pub begin_at : (address : ℕ) → List Entry → (index : ℕ) → ℕ
 begin_at a [] i = a
 begin_at a (e ∷ es) zero = a
 begin_at a (e ∷ es) (suc i) = begin_at (a + e.size) es i
 
--- a track says what it has to of the first so many entries, and nothing elsewhere
+-- the track is exact for the first i entries: at each of their bytes it has the location required for the variable, and it has
+-- none outside of all entries
 pub record Says (g : Program) (start : Pos) (entries : List Entry) (v : VarId) (i a : ℕ) (t : Track) : Type 0 where
   pub inside : (n : ℕ) (e : Entry) → n < i → slice_get entries n ≡ Some e → (x : ℕ) → HasByte e x →
       IsWantedLocation g start v (point_of e) (location_in (covered t a) x)
   pub outside : (x : ℕ) → ((e : Entry) → Contains entries e → HasByte e x → ⊥) → location_in (covered t a) x ≡ None
   pub places : (b : ℕ) → ArePlaces (covered t b)
 
--- tracks, one for each variable, in order
+-- each track is in order up to an address
 abbrev pub AreTracksTo : (tracks : List Track) → (address : ℕ) → Type 0
 AreTracksTo tracks a = (k : ℕ) (t : Track) → slice_get tracks k ≡ Some t → IsTrackTo t a
 
@@ -53,7 +54,7 @@ pub record IsNew (t : Track) : Type 0 where
   pub ranges : t.ranges ≡ []
   pub present : t.present ≡ None
 
--- the ranges of tracks, the open ones up to an address
+-- the ranges of each track, with the open range closed at an address
 pub record Closes (tracks : List Track) (a : ℕ) (lists : List (List Range)) : Type 0 where
   pub for_all : length lists ≡ length tracks
   pub each : (k : ℕ) (ranges : List Range) → slice_get lists k ≡ Some ranges → (t : Track) × (slice_get tracks k ≡ Some t) × (ranges ≡ covered t a)

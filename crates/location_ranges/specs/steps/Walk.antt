@@ -1,4 +1,4 @@
--- What the walk keeps from entry to entry.
+-- The invariant of the walk from entry to entry.
 use Rattle.std.specs.Prelude.{◌≡◌, ℕ, ◌≤◌, List, length, Some, slice_get}
 use Rattle.mir_func.specs.declared.block.Block.{Block}
 use Rattle.mir_func.specs.declared.variable.VarId.{VarId}
@@ -13,18 +13,18 @@ use Rattle.location_ranges.specs.Stands.{program, AreValuesOf}
 use Rattle.location_ranges.specs.steps.Places.{IsEmpty}
 use Rattle.location_ranges.specs.steps.Saying.{begin_at, AreTracksTo, AllSay}
 
--- the blocks have the item that an entry is of, or it is the end of one
+-- the entry's point is in the blocks: an item of a block, or the block's end
 abbrev pub IsPointIn : List Block → Entry → Type 0
 IsPointIn blocks e = (block : Block) × (slice_get blocks e.point.block ≡ Some block) × (e.point.item ≤ length block.items)
 
--- tables and tracks are as long as what they are for
+-- the tables of the walk have the right lengths, and that of first locations is empty
 pub record Fits (v : Values) (groups : List Group) (w : Walk) : Type 0 where
   pub stand : stand.Fits w.stand v
   pub firsts : IsEmpty w.firsts.items
   pub places : length w.places.items ≡ length v.variables.now
   pub tracks : length w.tracks.items ≡ length groups
 
--- the tracks ascend, and say what they have to of the first so many entries
+-- up to the entry at index i the tracks ascend, and they are exact for the first i entries
 pub record HaveSaid (blocks : List Block) (v : Values) (entries : List Entry) (variables : List VarId) (base i : ℕ) (tracks : List Track) : Type 0 where
   pub ascend : AreTracksTo tracks (begin_at base entries i)
   pub say : AreValuesOf blocks v → AllSay (program blocks v.subs.now) (block_start 0) entries variables i (begin_at base entries i) tracks

@@ -1,4 +1,4 @@
--- What a flow says of the block that it is of.
+-- The correctness of a block's flow.
 use Rattle.std.specs.Prelude.{◌≡◌, ℕ, suc, List, map, length, Option, None, Some, slice_get}
 use Rattle.mir_func.specs.declared.block.Block.{Block}
 use Rattle.mir_func.specs.declared.entry.OperandPair.{OperandPair}
@@ -14,16 +14,16 @@ use Rattle.value_solver.specs.declared.flow.Flow.{Flow}
 use Rattle.value_solver.specs.Joining.{source_at}
 use Rattle.value_solver.specs.Flows.{token_at, told}
 
--- past the items each thing has the token that the changes tell, where x2 has none before them
+-- past the items the token of each entity is the one that the changes determine, if x2 has no token before them
 pub record Tells (resolve : OperandPair → Option OperandPair) (xs : List Tracked) (items : List Item) (changes : List Change) : Type 0 where
   pub each : (n : ℕ) (t : Tokens) → token_of (InRegister 2) t ≡ None → (x : ℕ) →
       token_at xs x (after_items resolve n items t) ≡ told xs n t (source_at changes x)
 
--- the number of the block after one, where there is one
+-- the number of the next block, if there is one
 abbrev pub next_id : List Block → ℕ → Option ℕ
 next_id blocks b = slice_get (ids_of blocks) (suc b)
 
--- the flow of a block: its changes, and the indices of the blocks that branches and its end lead to
+-- the flow of a block: its changes, and the indices of its successors
 pub record IsFlowOf (g : Program) (blocks : List Block) (xs : List Tracked) (b : ℕ) (items : List Item) (f : Flow) : Type 0 where
   pub tells : Tells g.resolve xs items f.changes
   pub ways : f.ways ≡ map g.enter (ways items (next_id blocks b))
