@@ -7,7 +7,8 @@ use Rattle.cli_numbers.proofs.Decimals.{decimals}
 use Rattle.cli_numbers.proofs.Pieces.{one_text}
 use Rattle.pass_list.specs.declared.kind.PassKind.{PassKind}
 use Rattle.pass_list.proofs.Texts.{one_list}
-use Rattle.cli_numbers.specs.Reserve.{RESERVABLE, register_name, IsReserveText}
+use Rattle.rv64_instr.specs.Reserve.{RESERVABLE}
+use Rattle.cli_numbers.specs.Reserve.{register_name, IsReserveText}
 use Rattle.cli_numbers.proofs.Names.{names}
 use Rattle.cli.specs.declared.option.CommandOption.{CommandOption}
 use Rattle.cli.specs.declared.option.CommandOption.TheVariants.{Passes, Reserve, Arguments, Answers}

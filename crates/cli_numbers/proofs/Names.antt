@@ -7,7 +7,8 @@ use Rattle.std.specs.Fmt.{decimal}
 use Rattle.std.proofs.lemmas.List.Elements.{All-from_recursion, All-cons, All-contains}
 use Rattle.cli_numbers.proofs.Pieces.{IsSpelling}
 use Rattle.cli_numbers.proofs.Decimals.{decimals}
-use Rattle.cli_numbers.specs.Reserve.{RESERVABLE, register_name}
+use Rattle.rv64_instr.specs.Reserve.{RESERVABLE}
+use Rattle.cli_numbers.specs.Reserve.{register_name}
 
 all_below : All (λ r. r < 28) RESERVABLE
 all_below = All-from_recursion (λ r. r < 28) RESERVABLE (search rules)

@@ -1,11 +1,8 @@
--- The registers that may be reserved for spilling, and texts that list some of them.
-use Rattle.std.specs.Prelude.{◌≡◌, ◌≢◌, ℕ, List, [], ◌∷◌, ◌++◌, map, codes, All, AllPairs, Contains}
+-- The texts that list some of the registers that may be reserved for spilling.
+use Rattle.std.specs.Prelude.{◌≡◌, ◌≢◌, ℕ, List, [], ◌++◌, map, codes, All, AllPairs, Contains}
 use Rattle.std.specs.List.{join_with_byte}
 use Rattle.std.specs.Fmt.{decimal}
-
--- the registers that may be reserved, in ascending order: s0 to s11 (RISC-V ELF psABI)
-abbrev pub RESERVABLE : List ℕ
-RESERVABLE = 8 ∷ 9 ∷ 18 ∷ 19 ∷ 20 ∷ 21 ∷ 22 ∷ 23 ∷ 24 ∷ 25 ∷ 26 ∷ 27 ∷ []
+use Rattle.rv64_instr.specs.Reserve.{RESERVABLE}
 
 -- a register's name: x and its number
 abbrev pub register_name : ℕ → List ℕ

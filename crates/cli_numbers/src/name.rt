@@ -1,14 +1,13 @@
 //! Names of the registers that may be reserved.
 
-ghost use Rattle.std.specs.Prelude.{◌≡◌, ◌↔◌, ℕ, Contains, IsTrue, Some};
+ghost use Rattle.std.specs.Prelude.{◌≡◌, ◌↔◌, ℕ, Contains, Some};
 ghost use Rattle.std.specs.Fmt.{decimal};
-ghost use Rattle.cli_numbers.specs.Reserve.{RESERVABLE, register_name};
+ghost use Rattle.rv64_instr.specs.Reserve.{RESERVABLE};
+ghost use Rattle.cli_numbers.specs.Reserve.{register_name};
 
 use crate::number::number;
 use rv64_instr::reg::{Reg, physical};
-
-/// The numbers of the registers that may be reserved, in ascending order: s0 to s11 (RISC-V ELF psABI).
-const RESERVABLE_NUMBERS: [u64; 12] = [8, 9, 18, 19, 20, 21, 22, 23, 24, 25, 26, 27];
+use rv64_instr::reserve::is_reservable;
 
 /// The register with this name, as `x8`; `None` if it is no name of a register that may be reserved.
 pub fn register(word: &str) -> Option<Reg>
@@ -30,11 +29,4 @@ fn with_digits(digits: &str) -> Option<Reg>
     } else {
         None
     }
-}
-
-/// Whether the register with a number may be reserved.
-fn is_reservable(number: u64) -> bool
-    ensures { IsTrue result ↔ Contains RESERVABLE number }
-{
-    RESERVABLE_NUMBERS.contains(&number)
 }

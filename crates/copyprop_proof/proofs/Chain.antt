@@ -24,40 +24,28 @@ use Rattle.pass_salvage.specs.declared.way.Way.TheVariants.{HasEntry, GetsEntry,
 use Rattle.pass_salvage.specs.Way.{or_fresh, way}
 use Rattle.pass_salvage.specs.Salvage.{with_number, numbered_at, phi_for, entry_for, fresh_after}
 use Rattle.pass_salvage.proofs.Chosen.{IsEntered, entered}
-use Rattle.dce_rule.specs.Loose.{KeepsLoosely}
-use Rattle.copyprop_proof.proofs.Numbers.{AreUnlike, all_second}
+use Rattle.pass_edits.specs.Loose.{KeepsLoosely}
+use Rattle.pass_edits.proofs.Numbers.{AreUnlike, all_second}
 use Rattle.copyprop_block.specs.declared.roots.Root.{Root}
 use Rattle.copyprop_block.specs.Roots.{root_of, renamed, known_source, roots_after}
 use Rattle.copyprop_block.specs.Copied.{SoFar, renamed_kind, renamed_item, roots_with, goes_by, by_fate, salvaged, next_item, over_items, at_block}
 use Rattle.copyprop_block.specs.Copied.{BlocksSoFar, next_block, over_blocks}
 use Rattle.copyprop_rule.specs.Rule.{goes}
-use Rattle.copyprop_rule.proofs.Rows.{row_renamed, moves_by}
+use Rattle.copyprop_rule.proofs.Rows.{row_renamed}
+use Rattle.rv64_instr.proofs.Moves.{moves_by}
 use Rattle.copyprop_rule.proofs.Sizes.{known_moves}
 use Rattle.copyprop_proof.specs.Renamed.{known_after, renamed_items, renamed_block}
 use Rattle.copyprop_proof.proofs.Known.{IsClean, clean_none, keeps_zero, clean_after, not_itself}
 use Rattle.copyprop_proof.proofs.Renaming.{rooted_moves, none_known}
-use Rattle.copyprop_proof.proofs.Around.{block_of, with_block}
-use Rattle.copyprop_proof.proofs.Others.{BlocksUnlike, Others, others_of}
-use Rattle.copyprop_proof.proofs.Under.{KindUnder, AreUnder, BlocksUnder, EntryUnder, items_more, blocks_more, entries_more, under_unlike, renamed_under}
-use Rattle.copyprop_proof.proofs.Found.{split_at}
+use Rattle.pass_edits.proofs.Around.{block_of, with_block}
+use Rattle.pass_edits.proofs.Others.{BlocksUnlike, Others, others_of}
+use Rattle.pass_edits.proofs.Under.{KindUnder, AreUnder, BlocksUnder, EntryUnder, items_more, blocks_more, entries_more, under_unlike}
+use Rattle.pass_edits.proofs.Found.{split_at}
 use Rattle.copyprop_proof.proofs.Taken.{IsNoSelfCopy, takes}
-use Rattle.copyprop_proof.proofs.TakeOut.{Step, Taught, at_end, taught_push, taught_numbered, take_out}
-use Rattle.copyprop_proof.proofs.ToPhi.{to_phi}
-use Rattle.copyprop_proof.proofs.ToCode.{AllUnder, to_code}
-
--- ---- following
-
-itself : (f : Function) (subs : List Entry) → KeepsLoosely (change f subs f subs)
-itself f subs = record { follows = λ src h. h; ends = λ src h w. w }
-
-pub then : (f g h : Function) (a b c : List Entry) → KeepsLoosely (change f a g b) → KeepsLoosely (change g b h c) → KeepsLoosely (change f a h c)
-then f g h a b c x y = record {
-  follows = λ src k. y.follows src (x.follows src k);
-  ends = λ src k w. y.ends src (x.follows src k) (x.ends src k w);
-}
-
-pub and_then : (f g h : Function) (a b c : List Entry) → Step f a g b → Step g b h c → Step f a h c
-and_then f g h a b c x y = record { sound = y.sound; follows = then f g h a b c x.follows y.follows }
+use Rattle.pass_edits.proofs.Loose.{itself, then, Step, and_then}
+use Rattle.copyprop_proof.proofs.TakeOut.{Taught, at_end, taught_push, taught_numbered, take_out}
+use Rattle.pass_edits.proofs.ToPhi.{to_phi}
+use Rattle.pass_edits.proofs.ToCode.{AllUnder, to_code}
 
 -- ---- an item that stays
 
@@ -81,6 +69,12 @@ module _ (e : List Root) (clean : IsClean e) where
   no_self (Phi p m) h = tt
 
 -- ---- numbers
+
+pub renamed_under : (b : ℕ) (e : List Root) (k : ItemKind) → KindUnder b k → KindUnder b (renamed_kind e k)
+renamed_under b e (Code i (Some m)) h = h
+renamed_under b e (Code i None) h = tt
+renamed_under b e (Mark v q) h = h
+renamed_under b e (Phi p m) h = h
 
 numbered_under : (b d n : ℕ) (xs : List Item) → n < b → AreUnder b xs → AreUnder b (numbered_at d n xs)
 numbered_under b d n [] lt h = h

@@ -27,13 +27,13 @@ use Rattle.pass_salvage.specs.declared.way.Way.TheVariants.{HasEntry, GetsEntry,
 use Rattle.pass_salvage.specs.Way.{or_fresh, has_entry, asks_for, may_stand, way}
 use Rattle.pass_salvage.specs.Salvage.{with_number, numbered_at, phi_for, entry_for}
 use Rattle.pass_salvage.proofs.Chosen.{IsEntered, entered}
-use Rattle.copyprop_proof.proofs.Numbers.{IsUnlike, AreUnlike, all_first, all_second}
+use Rattle.pass_edits.proofs.Numbers.{IsUnlike, AreUnlike, all_first, all_second}
 use Rattle.copyprop_block.specs.Roots.{renamed, known_source}
 use Rattle.copyprop_block.specs.Copied.{SoFar, renamed_kind, goes_by, by_fate, salvaged, next_item}
-use Rattle.copyprop_proof.proofs.Around.{with_block}
-use Rattle.copyprop_proof.proofs.Others.{BlocksUnlike, flat_unlike, Others, others_of}
-use Rattle.copyprop_proof.proofs.Under.{KindUnder, AreUnder, EntryUnder, under_unlike, no_entry}
-use Rattle.copyprop_proof.proofs.Found.{Split, split_at, last_two, not_is}
+use Rattle.pass_edits.proofs.Around.{with_block}
+use Rattle.pass_edits.proofs.Others.{BlocksUnlike, flat_unlike, Others, others_of}
+use Rattle.pass_edits.proofs.Under.{KindUnder, AreUnder, EntryUnder, under_unlike, no_entry}
+use Rattle.pass_edits.proofs.Found.{Split, split_at, last_two, not_is}
 use Rattle.copyprop_proof.proofs.Chain.{Ready}
 
 -- code among these items has the number

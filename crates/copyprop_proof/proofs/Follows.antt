@@ -14,17 +14,16 @@ use Rattle.pass_trait.specs.Change.{change}
 use Rattle.pass_trait.specs.Following.{KeepsFollowing}
 use Rattle.pass_trait.specs.Sizes.{numbers_of, greatest_number}
 use Rattle.pass_salvage.proofs.Edits.{no_blocks}
-use Rattle.dce_rule.specs.Loose.{KeepsLoosely}
-use Rattle.dce_rule.proofs.Settled.{loosely}
-use Rattle.copyprop_proof.proofs.Numbers.{all_first, all_second}
+use Rattle.pass_edits.specs.Loose.{KeepsLoosely}
+use Rattle.pass_edits.proofs.Loose.{loosely, then, Step}
+use Rattle.pass_edits.proofs.Numbers.{all_first, all_second}
 use Rattle.copyprop_block.specs.Copied.{BlocksSoFar, over_blocks}
 use Rattle.copyprop_rule.specs.Rule.{begins, salvaged_function, salvaged_entries}
 use Rattle.copyprop_proof.specs.Renamed.{renamed_block, renamed_function}
 use Rattle.copyprop_proof.proofs.Renamed.{renaming_follows}
 use Rattle.copyprop_proof.specs.RemovalLaws.{CopiesFollow}
-use Rattle.copyprop_proof.proofs.Under.{KindUnder, EntryUnder, greatest_under, items_under, blocks_under, entries_under}
-use Rattle.copyprop_proof.proofs.TakeOut.{Step}
-use Rattle.copyprop_proof.proofs.Chain.{then, BlocksReady, over_function, renamed_blocks_under}
+use Rattle.pass_edits.proofs.Under.{KindUnder, EntryUnder, greatest_under, items_under, blocks_under, entries_under}
+use Rattle.copyprop_proof.proofs.Chain.{BlocksReady, over_function, renamed_blocks_under}
 use Rattle.copyprop_proof.proofs.Stores.{blocks_laid, stores_meet}
 
 -- where the copies begin to go

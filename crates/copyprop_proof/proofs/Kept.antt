@@ -27,7 +27,7 @@ use Rattle.pass_salvage.specs.declared.way.Way.TheVariants.{HasEntry, GetsEntry,
 use Rattle.pass_salvage.specs.Way.{way}
 use Rattle.pass_salvage.specs.Salvage.{numbered_at, phi_for, entry_for}
 use Rattle.pass_salvage.proofs.Chosen.{entered}
-use Rattle.copyprop_proof.proofs.Numbers.{IsUnlike, AreUnlike, all_second}
+use Rattle.pass_edits.proofs.Numbers.{IsUnlike, AreUnlike, all_second}
 use Rattle.copyprop_block.specs.declared.roots.Root.{Root}
 use Rattle.copyprop_block.specs.Roots.{renamed, known_source}
 use Rattle.copyprop_block.specs.Copied.{SoFar, renamed_kind, renamed_item, roots_with, goes_by, by_fate, salvaged, next_item, over_items, at_block}
@@ -35,9 +35,9 @@ use Rattle.copyprop_block.specs.Copied.{BlocksSoFar, next_block, over_blocks}
 use Rattle.copyprop_rule.specs.Rule.{begins, salvaged_function, salvaged_entries}
 use Rattle.copyprop_rule.proofs.Stripped.{code_is_copied}
 use Rattle.copyprop_proof.specs.Renamed.{known_after, renamed_items, renamed_block}
-use Rattle.copyprop_proof.proofs.Around.{block_of, with_block}
-use Rattle.copyprop_proof.proofs.Others.{Others}
-use Rattle.copyprop_proof.proofs.Under.{EntryUnder}
+use Rattle.pass_edits.proofs.Around.{block_of, with_block}
+use Rattle.pass_edits.proofs.Others.{Others}
+use Rattle.pass_edits.proofs.Under.{EntryUnder}
 use Rattle.copyprop_proof.proofs.Chain.{Ready, by_kind, next_roots, BlocksReady, ready_block, ready_next}
 use Rattle.copyprop_proof.proofs.Follows.{ready_at_start, copies_follow}
 use Rattle.copyprop_proof.specs.Ledger.{Line, line, next_lines, over_lines, ledger}

@@ -31,12 +31,13 @@ use Rattle.mir_func.specs.Sound.{BaseHasBytes, ObjectIn, ObjectsIn, IsNotPointer
 use Rattle.sem_mir.specs.State.{Core}
 use Rattle.pass_salvage.proofs.Edits.{Edited, over, pair, BlocksEdited, no_blocks, next_block}
 use Rattle.pass_salvage.proofs.EditFollows.{Allows}
-use Rattle.dce_rule.proofs.Edited.{edited_loosely}
+use Rattle.pass_edits.proofs.Edited.{edited_loosely}
 use Rattle.copyprop_block.specs.declared.roots.Root.{Root}
 use Rattle.copyprop_block.specs.Roots.{root_of, renamed_operand, renamed, known_source, outlives, roots_after}
 use Rattle.copyprop_block.specs.Copied.{renamed_kind, renamed_item, roots_with}
 use Rattle.copyprop_rule.specs.Rule.{goes}
-use Rattle.copyprop_rule.proofs.Rows.{rooted_base, rooted, KeepsZero, row_renamed, MovesBy, moves_by}
+use Rattle.copyprop_rule.proofs.Rows.{rooted_base, rooted, KeepsZero, row_renamed}
+use Rattle.rv64_instr.proofs.Moves.{MovesBy, moves_by}
 use Rattle.copyprop_rule.proofs.Roots.{Reals, real_root, real_after}
 use Rattle.copyprop_proof.specs.Renamed.{known_after, renamed_items, renamed_block, renamed_function, RenamingFollows}
 use Rattle.copyprop_proof.proofs.Known.{IsClean, clean_none, keeps_zero, clean_after}

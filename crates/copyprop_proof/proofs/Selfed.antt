@@ -25,13 +25,14 @@ use Rattle.pass_salvage.specs.Way.{way}
 use Rattle.pass_salvage.specs.Salvage.{with_number, numbered_at, phi_for}
 use Rattle.pass_salvage.proofs.Kin.{Kin, code_kin, mark_kin, phi_kin, kin_itself, kin_save, kin_edge}
 use Rattle.pass_salvage.proofs.Edits.{Edits, Edited, over, pair, out, put, BlocksEdited, no_blocks, next_block}
-use Rattle.copyprop_proof.specs.Edits.{IsMove}
+use Rattle.pass_edits.specs.Edits.{IsMove}
 use Rattle.copyprop_block.specs.declared.roots.Root.{Root}
 use Rattle.copyprop_block.specs.Roots.{root_of, renamed, known_source, outlives, roots_after}
 use Rattle.copyprop_block.specs.Copied.{SoFar, renamed_kind, renamed_item, roots_with, goes_by, by_fate, salvaged, next_item, over_items, at_block}
 use Rattle.copyprop_block.specs.Copied.{BlocksSoFar, next_block as block_next, over_blocks}
 use Rattle.copyprop_rule.specs.Rule.{goes}
-use Rattle.copyprop_rule.proofs.Rows.{rooted, row_renamed, moves_by}
+use Rattle.copyprop_rule.proofs.Rows.{rooted, row_renamed}
+use Rattle.rv64_instr.proofs.Moves.{moves_by}
 use Rattle.copyprop_rule.proofs.Sizes.{known_moves}
 use Rattle.copyprop_proof.specs.Renamed.{known_after}
 use Rattle.copyprop_proof.proofs.Known.{IsClean, keeps_zero, not_itself}

@@ -32,7 +32,7 @@ use Rattle.pass_salvage.specs.Salvage.{with_number, numbered_at, phi_for}
 use Rattle.pass_salvage.proofs.Kin.{Kin, code_kin, mark_kin, phi_kin, kin_itself}
 use Rattle.pass_salvage.proofs.Edits.{Edits, Edited, over, pair, out, put, BlocksEdited, no_blocks, next_block}
 use Rattle.pass_salvage.proofs.EditPaths.{stores_on}
-use Rattle.copyprop_proof.specs.Edits.{IsMove}
+use Rattle.pass_edits.specs.Edits.{IsMove}
 use Rattle.copyprop_block.specs.declared.roots.Root.{Root}
 use Rattle.copyprop_block.specs.Roots.{renamed, known_source, roots_after}
 use Rattle.copyprop_block.specs.Copied.{SoFar, renamed_kind, roots_with, goes_by, by_fate, salvaged, next_item, over_items, at_block, BlocksSoFar}

@@ -11,26 +11,20 @@ use Rattle.mir_func.specs.Function.{Function}
 use Rattle.mir_func.specs.Graph.{Program, program_of}
 use Rattle.mir_func.specs.Resolve.{resolve}
 use Rattle.mir_func.specs.Sound.{IsSound}
-use Rattle.pass_trait.specs.Change.{change}
 use Rattle.pass_salvage.specs.Salvage.{with_number, numbered_at}
 use Rattle.pass_salvage.proofs.Kin.{kin_itself}
 use Rattle.pass_salvage.proofs.Edits.{Edited, pair, out}
-use Rattle.dce_rule.specs.Loose.{KeepsLoosely}
-use Rattle.dce_rule.proofs.Edited.{edited_loosely}
-use Rattle.copyprop_proof.specs.Edits.{IsMove, AreEdited, goes}
-use Rattle.copyprop_proof.proofs.Numbers.{IsUnlike, AreUnlike, drops, fewer_same, fewer_behind}
-use Rattle.copyprop_proof.proofs.Sound.{edited_sound}
+use Rattle.pass_edits.proofs.Loose.{Step}
+use Rattle.pass_edits.proofs.Edited.{edited_loosely}
+use Rattle.pass_edits.specs.Edits.{IsMove, AreEdited, goes}
+use Rattle.pass_edits.proofs.Numbers.{IsUnlike, AreUnlike, drops, fewer_same, fewer_behind}
+use Rattle.pass_edits.proofs.Sound.{edited_sound}
 use Rattle.copyprop_block.specs.declared.roots.Root.{Root}
 use Rattle.copyprop_block.specs.Copied.{roots_with}
-use Rattle.copyprop_proof.proofs.Around.{with_block, stays_items, stays_blocks, around, edited_same, edited_above, edited_around}
-use Rattle.copyprop_proof.proofs.Others.{BlocksUnlike, Others, once_around}
+use Rattle.pass_edits.proofs.Around.{with_block, stays_items, stays_blocks, around, edited_same, edited_above, edited_around}
+use Rattle.pass_edits.proofs.Others.{BlocksUnlike, Others, once_around}
 use Rattle.copyprop_proof.proofs.Taken.{IsNoSelfCopy, TakenPair, teaches, passes, TakenOut, takes, taken_edits, taken_allows, TakenCores, taken_keeps}
 use Rattle.copyprop_proof.proofs.Taken.{taken_itself}
-
--- one step of the pass
-pub record Step (old : Function) (subs : List Entry) (new : Function) (subs' : List Entry) : Type 0 where
-  pub sound : IsSound new
-  pub follows : KeepsLoosely (change old subs new subs')
 
 -- ---- what is known after items that stay
 

@@ -34,7 +34,7 @@ use Rattle.pass_salvage.proofs.Edits.{Edits}
 use Rattle.pass_salvage.proofs.EditRuns.{Keeps}
 use Rattle.pass_salvage.proofs.EditFollows.{Allows}
 use Rattle.pass_salvage.proofs.NumberOff.{Everywhere}
-use Rattle.copyprop_proof.proofs.Numbers.{IsUnlike}
+use Rattle.pass_edits.proofs.Numbers.{IsUnlike}
 use Rattle.copyprop_block.specs.declared.roots.Root.{Root}
 use Rattle.copyprop_block.specs.Roots.{root_of, roots_after}
 use Rattle.copyprop_block.specs.Copied.{roots_with}

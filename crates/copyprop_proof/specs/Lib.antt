@@ -1,4 +1,3 @@
-pub mod Edits
 pub mod Renamed
 pub mod RemovalLaws
 pub mod Ledger

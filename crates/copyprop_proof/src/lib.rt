@@ -1,8 +1,5 @@
 //! Copy propagation preserves soundness, the simulation and the debug values.
 //!
-//! - `edit_laws`: A function stays sound if copies are removed from its blocks, if DBG_PHIs are added before copies,
-//!   and if code gets another number or none: its control flow is unchanged, and no number is on code twice.
-//!
 //! - `run_laws`: Copy propagation is proved as a sequence of steps: explicit uses are replaced by their roots, and then
 //!   one redundant copy after the other loses its number and is removed. This is the first step. In both runs a copy
 //!   has the value of its root, so code that uses roots has the same effect.
@@ -19,6 +16,5 @@
 #![tactic(auto)]
 
 pub mod debug_laws;
-pub mod edit_laws;
 pub mod removal_laws;
 pub mod run_laws;

@@ -42,7 +42,7 @@ use Rattle.copyprop_block.specs.Copied.{SoFar, renamed_kind, roots_with, goes_by
 use Rattle.copyprop_block.specs.Copied.{over_blocks}
 use Rattle.copyprop_rule.specs.Rule.{begins, salvaged_function, salvaged_entries}
 use Rattle.copyprop_rule.proofs.Over.{Stays, each_blocks, weight, Tests, count_blocks}
-use Rattle.copyprop_rule.proofs.Rows.{MovesBy, moves_by}
+use Rattle.rv64_instr.proofs.Moves.{MovesBy, moves_by}
 use Rattle.copyprop_rule.proofs.Calls.{call_renamed}
 use Rattle.copyprop_rule.proofs.Roots.{OfRoot, Reals, real_root, real_after}
 

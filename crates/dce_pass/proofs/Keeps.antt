@@ -18,7 +18,7 @@ use Rattle.pass_trait.specs.Change.{change}
 use Rattle.pass_trait.specs.Sizes.{greatest, item_count, greatest_number, most_numbers, KeepsSizes}
 use Rattle.dce_rule.specs.Dead.{Places, Ends, is_dead, needed_at, without_dead, thinned_block, thinned, IsRound, IsThinnedOut, over, again}
 use Rattle.dce_rule.specs.Wrong.{silenced, silenced_left, silenced_block, taken_out}
-use Rattle.dce_rule.specs.Loose.{KeepsLoosely}
+use Rattle.pass_edits.specs.Loose.{KeepsLoosely}
 use Rattle.dce_rule.proofs.Stripped.{round_stripped}
 use Rattle.dce_rule.proofs.Chain.{loose_laws}
 use Rattle.dce_proof.specs.Round.{IsDeadRound}

@@ -28,11 +28,11 @@ use Rattle.pass_salvage.specs.declared.way.Way.TheVariants.{HasEntry, GetsEntry,
 use Rattle.pass_salvage.specs.Way.{or_fresh, has_entry, asks_for, may_stand, way}
 use Rattle.pass_salvage.specs.Salvage.{with_number, numbered_at, entry_for, entries_for, above_after}
 use Rattle.pass_salvage.proofs.Chosen.{IsEntered, entered}
-use Rattle.copyprop_proof.proofs.Numbers.{IsUnlike, AreUnlike, all_first, all_second}
-use Rattle.copyprop_proof.proofs.Around.{with_block}
-use Rattle.copyprop_proof.proofs.Others.{flat_unlike, Others, others_of}
-use Rattle.copyprop_proof.proofs.Under.{KindUnder, EntryUnder, no_entry}
-use Rattle.copyprop_proof.proofs.Found.{last_two, not_is}
+use Rattle.pass_edits.proofs.Numbers.{IsUnlike, AreUnlike, all_first, all_second}
+use Rattle.pass_edits.proofs.Around.{with_block}
+use Rattle.pass_edits.proofs.Others.{flat_unlike, Others, others_of}
+use Rattle.pass_edits.proofs.Under.{KindUnder, EntryUnder, no_entry}
+use Rattle.pass_edits.proofs.Found.{last_two, not_is}
 use Rattle.dce_copies.specs.declared.off.Copied.{Copied}
 use Rattle.dce_copies.specs.Off.{phi_by, put_off}
 use Rattle.dce_copies.specs.Blocks.{going_from}

@@ -27,7 +27,7 @@ use Rattle.pass_salvage.specs.Way.{has_entry, or_fresh, asks_for, may_stand, way
 use Rattle.pass_salvage.specs.Salvage.{with_number, numbered_at, entry_for, entries_for, above_after, fresh_after}
 use Rattle.mir_substitution.proofs.Entries.{is_pair-same, entry_of-push}
 use Rattle.pass_salvage.proofs.Chosen.{IsEntered, entered}
-use Rattle.copyprop_proof.proofs.Found.{not_is}
+use Rattle.pass_edits.proofs.Found.{not_is}
 use Rattle.dce_rule.specs.Dead.{Places, is_dead, needed_at}
 use Rattle.dce_mark.specs.Judged.{verdicts}
 use Rattle.dce_copies.specs.declared.off.Copied.{Copied}

@@ -18,8 +18,8 @@ use Rattle.pass_salvage.specs.declared.way.Way.{Way}
 use Rattle.pass_salvage.specs.declared.way.Way.TheVariants.{HasEntry, GetsEntry, GetsPhi}
 use Rattle.pass_salvage.specs.Way.{way}
 use Rattle.pass_salvage.specs.Salvage.{with_number, numbered_at, above_after}
-use Rattle.copyprop_proof.proofs.Numbers.{all_first, all_second}
-use Rattle.copyprop_rule.proofs.Rows.{moves_by}
+use Rattle.pass_edits.proofs.Numbers.{all_first, all_second}
+use Rattle.rv64_instr.proofs.Moves.{moves_by}
 use Rattle.dce_copies.specs.declared.off.Copied.{Copied}
 use Rattle.dce_copies.specs.Off.{without_number, numbered_copy, phi_by, put_off, behind_off, items_off, SoFar, off_copy, copy_in, off_at, off_down}
 use Rattle.dce_copies.specs.Blocks.{going_from, BlocksSoFar, in_block, block_off, next_off, blocks_off}

@@ -9,7 +9,7 @@ use Rattle.mir_func.specs.SoundFrame.{HasPhysical}
 use Rattle.pass_trait.specs.declared.loss.Loss.{Loss}
 use Rattle.pass_trait.specs.Change.{change}
 use Rattle.pass_trait.specs.Sizes.{greatest, numbers_in, greatest_number, item_count, code_count, call_count, IsPhysical, KeepsSizes}
-use Rattle.copyprop_proof.proofs.Under.{BlocksUnder, EntryUnder}
+use Rattle.pass_edits.proofs.Under.{BlocksUnder, EntryUnder}
 use Rattle.dce_rule.specs.Dead.{Ends}
 use Rattle.dce_rule.specs.Wrong.{silenced_block, taken_out}
 use Rattle.dce_rule.proofs.Fewer.{sizes_taken}

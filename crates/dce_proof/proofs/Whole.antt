@@ -35,7 +35,7 @@ use Rattle.dce_rule.proofs.Sound.{Left, none as left_none, kept as left_kept, go
 use Rattle.dce_mark.specs.Judged.{AreJudged}
 use Rattle.dce_salvage_proof.specs.SalvageLaws.{begins_off, all_off, function_off, KeepsOff}
 use Rattle.dce_salvage_proof.proofs.Chain.{numbers_off}
-use Rattle.copyprop_proof.proofs.Numbers.{IsUnlike, AreUnlike}
+use Rattle.pass_edits.proofs.Numbers.{IsUnlike, AreUnlike}
 use Rattle.dce_round.specs.Round.{IsDeadRound}
 use Rattle.dce_proof.specs.Rule.{dead_rule}
 use Rattle.dce_proof.specs.DebugLaws.{RoundKeepsItems}

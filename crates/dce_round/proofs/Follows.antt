@@ -10,12 +10,12 @@ use Rattle.pass_trait.specs.Sizes.{code_count}
 use Rattle.dce_rule.specs.Dead.{IsRound}
 use Rattle.dce_rule.specs.Wrong.{taken_out, IsClosed}
 use Rattle.dce_rule.specs.CodeLaws.{Covers}
-use Rattle.dce_rule.specs.Loose.{KeepsLoosely}
+use Rattle.pass_edits.specs.Loose.{KeepsLoosely}
 use Rattle.dce_rule.proofs.Live.{live_closed}
 use Rattle.dce_rule.proofs.Sound.{sound_taken}
 use Rattle.dce_rule.proofs.Follows.{dead_follows}
 use Rattle.dce_rule.proofs.Stripped.{round_stripped}
-use Rattle.copyprop_proof.proofs.Chain.{then}
+use Rattle.pass_edits.proofs.Loose.{then}
 use Rattle.dce_salvage_proof.specs.SalvageLaws.{all_off, function_off, KeepsOff}
 use Rattle.dce_salvage_proof.proofs.Chain.{numbers_off}
 use Rattle.dce_round.specs.Round.{IsDeadRound}

@@ -8,7 +8,7 @@ use Rattle.pass_trait.specs.declared.loss.Loss.{Loss}
 use Rattle.pass_trait.specs.Change.{change}
 use Rattle.pass_trait.specs.Sizes.{code_count}
 use Rattle.dce_rule.specs.Dead.{IsRound}
-use Rattle.dce_rule.specs.Loose.{KeepsLoosely}
+use Rattle.pass_edits.specs.Loose.{KeepsLoosely}
 use Rattle.dce_round.specs.Round.{IsDeadRound}
 
 -- the function after it is sound, and the round preserves the weak simulation

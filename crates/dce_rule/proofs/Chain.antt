@@ -2,7 +2,8 @@
 use Rattle.mir_func.specs.Function.{Function}
 use Rattle.dce_rule.specs.Dead.{IsRound, IsThinnedOut, over, again}
 use Rattle.dce_rule.specs.Rounds.{AreRounds, no_round, one_more_round, LooseLaws}
-use Rattle.dce_rule.proofs.Settled.{settled_follows, loosely}
+use Rattle.dce_rule.proofs.Settled.{settled_follows}
+use Rattle.pass_edits.proofs.Loose.{loosely}
 
 -- rounds, and then those that end
 rounds_then : {f g h : Function} → AreRounds f g → IsThinnedOut g h → IsThinnedOut f h

@@ -46,7 +46,7 @@ use Rattle.pass_trait.specs.Change.{change}
 use Rattle.pass_trait.specs.Following.{Source}
 use Rattle.dce_rule.specs.Dead.{Places, Ends, is_dead_row, is_dead, needed_at}
 use Rattle.dce_rule.specs.Wrong.{silenced, silenced_left, taken_out, IsWrongAt, IsClosed}
-use Rattle.dce_rule.specs.Loose.{LooseShape, KeepsLoosely}
+use Rattle.pass_edits.specs.Loose.{LooseShape, KeepsLoosely}
 use Rattle.dce_rule.proofs.Lists.{quiet, quiet_is, taken, rest_at, item_from, item_to, end_from}
 use Rattle.dce_rule.proofs.Runs.{inside, all_at, Right, left_at, GoesAlong, dead_runs}
 

@@ -12,5 +12,3 @@ pub mod Rounds
 pub mod Fewer
 pub mod Debug
 pub mod Chain
-pub mod Edited
-pub mod Numbers

@@ -31,7 +31,7 @@ use Rattle.sem_simulation.specs.Sides.{Laid}
 use Rattle.sem_simulation.proofs.Laid.{rest_in, rest_of, laid_out}
 use Rattle.pass_trait.specs.Following.{Source, FollowsSource}
 use Rattle.dce_rule.specs.Dead.{Places, Ends, is_dead_row, is_dead, needed_at, without_dead, thinned_block, paths_of, IsRound}
-use Rattle.dce_rule.specs.Loose.{LooseShape, FollowsLoosely}
+use Rattle.pass_edits.specs.Loose.{LooseShape, FollowsLoosely}
 use Rattle.dce_rule.proofs.Unneeded.{ends_at, two_above}
 use Rattle.dce_rule.proofs.Lists.{rest_at}
 use Rattle.dce_rule.proofs.Live.{needed_live}
@@ -357,19 +357,4 @@ settled_follows f subs sound round src fol = record {
     };
     runs = fol.runs;
   };
-}
-
--- what follows a source follows it loosely
-pub loosely : (f : Function) (subs : List Entry) (src : Source) → FollowsSource src f subs → FollowsLoosely src f subs
-loosely f subs src fol = record {
-  objects = fol.objects;
-  shape = record {
-    among = fol.follows.shape.among;
-    first = fol.follows.shape.first;
-    back = fol.follows.shape.back;
-    order = fol.follows.shape.order;
-    items = fol.follows.shape.items;
-    marks = fol.follows.shape.marks;
-  };
-  runs = fol.follows.runs;
 }

@@ -13,7 +13,7 @@ use Rattle.dce_rule.specs.Wrong.{taken_out, IsWrongAt, IsClosed}
 use Rattle.pass_trait.specs.declared.loss.Loss.{Loss}
 use Rattle.pass_trait.specs.Debug.{KeepsItems}
 use Rattle.pass_trait.specs.Sizes.{KeepsSizes}
-use Rattle.dce_rule.specs.Loose.{FollowsLoosely, KeepsLoosely}
+use Rattle.pass_edits.specs.Loose.{FollowsLoosely, KeepsLoosely}
 use Rattle.dce_rule.specs.Out.{NoCopies, AreLosses, AreWrong, out_rule}
 
 -- the test has exactly the places that are live out of each block of the function

@@ -4,6 +4,4 @@ pub mod Gone
 pub mod Out
 pub mod Rounds
 pub mod Same
-pub mod Loose
 pub mod CodeLaws
-pub mod NumberLaws

@@ -6,7 +6,7 @@ use Rattle.mir_func.specs.Sound.{IsSound}
 use Rattle.pass_trait.specs.Change.{change}
 use Rattle.pass_trait.specs.Following.{KeepsFollowing}
 use Rattle.dce_rule.specs.Dead.{IsRound, IsThinnedOut}
-use Rattle.dce_rule.specs.Loose.{KeepsLoosely}
+use Rattle.pass_edits.specs.Loose.{KeepsLoosely}
 
 -- any number of rounds
 pub data AreRounds : Function → Function → Type 0 where

@@ -7,11 +7,6 @@
 //!   DBG_PHIs that name it become undef. No code that is kept reads a wrong place. So both runs agree except at wrong
 //!   places, and every value that a debug value reports is still true: removing dead code preserves the weak
 //!   simulation.
-//!
-//! - `number_laws`: A numbered dead copy loses its number before it is removed: to the code that defined its value, or
-//!   to a DBG_PHI before it. Between two rounds the weak simulation is true of a function, and losing the number
-//!   preserves it.
 #![tactic(auto)]
 
 pub mod code_laws;
-pub mod number_laws;

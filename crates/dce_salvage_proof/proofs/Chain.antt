@@ -11,10 +11,10 @@ use Rattle.mir_func.specs.Function.{Function}
 use Rattle.mir_func.specs.Sound.{items_of, IsSound}
 use Rattle.pass_trait.specs.Change.{change}
 use Rattle.pass_trait.specs.Sizes.{numbers_of, greatest_number}
-use Rattle.dce_rule.specs.Loose.{KeepsLoosely}
-use Rattle.copyprop_proof.proofs.Numbers.{all_first, all_second}
-use Rattle.copyprop_proof.proofs.Under.{KindUnder, BlocksUnder, EntryUnder, greatest_under, items_under, blocks_under, entries_under}
-use Rattle.copyprop_proof.proofs.Chain.{then}
+use Rattle.pass_edits.specs.Loose.{KeepsLoosely}
+use Rattle.pass_edits.proofs.Numbers.{all_first, all_second}
+use Rattle.pass_edits.proofs.Under.{KindUnder, BlocksUnder, EntryUnder, greatest_under, items_under, blocks_under, entries_under}
+use Rattle.pass_edits.proofs.Loose.{then}
 use Rattle.dce_copies.specs.Off.{SoFar}
 use Rattle.dce_copies.specs.Blocks.{going_from, BlocksSoFar, in_block, block_off, next_off, blocks_off}
 use Rattle.dce_salvage_proof.specs.SalvageLaws.{begins_off, all_off, NumbersGoOff}

@@ -21,13 +21,13 @@ use Rattle.pass_salvage.specs.declared.way.Way.TheVariants.{HasEntry, GetsEntry,
 use Rattle.pass_salvage.specs.Way.{way}
 use Rattle.pass_salvage.specs.Salvage.{numbered_at, phi_for, entry_for, entries_for, fresh_after, above_after}
 use Rattle.pass_salvage.proofs.Chosen.{IsEntered, entered}
-use Rattle.dce_rule.specs.Loose.{KeepsLoosely}
-use Rattle.copyprop_proof.proofs.Numbers.{all_first, all_second}
-use Rattle.copyprop_proof.proofs.Around.{with_block}
-use Rattle.copyprop_proof.proofs.Under.{KindUnder, AreUnder, BlocksUnder, EntryUnder, items_more, blocks_more, entries_more}
-use Rattle.copyprop_proof.proofs.TakeOut.{Step}
-use Rattle.copyprop_proof.proofs.ToPhi.{to_phi}
-use Rattle.copyprop_proof.proofs.ToCode.{to_code}
+use Rattle.pass_edits.specs.Loose.{KeepsLoosely}
+use Rattle.pass_edits.proofs.Numbers.{all_first, all_second}
+use Rattle.pass_edits.proofs.Around.{with_block}
+use Rattle.pass_edits.proofs.Under.{KindUnder, AreUnder, BlocksUnder, EntryUnder, items_more, blocks_more, entries_more}
+use Rattle.pass_edits.proofs.Loose.{Step}
+use Rattle.pass_edits.proofs.ToPhi.{to_phi}
+use Rattle.pass_edits.proofs.ToCode.{to_code}
 use Rattle.dce_copies.specs.declared.off.Copied.{Copied}
 use Rattle.dce_copies.specs.Off.{copied_by, numbered_copy, phi_by, put_off, behind_off, items_off, SoFar, off_copy, copy_in, off_at, off_down}
 use Rattle.dce_salvage_proof.proofs.SalvageNowhere.{phi_none, to_nowhere, to_phi_none}

@@ -7,7 +7,7 @@ use Rattle.mir_func.specs.Resolve.{resolve}
 use Rattle.mir_func.specs.Graph.{Program, program_of}
 use Rattle.sem_mir.specs.Follow.{MarkFits}
 use Rattle.pass_salvage.proofs.EditFollows.{Allows}
-use Rattle.dce_rule.proofs.Edited.{edited_loosely}
+use Rattle.pass_edits.proofs.Edited.{edited_loosely}
 use Rattle.dce_salvage_proof.specs.Dropped.{DropPut, puts, drop_edits}
 use Rattle.dce_salvage_proof.proofs.Dropped.{DropCores, drop_keeps, drop_itself}
 use Rattle.dce_salvage_proof.specs.DropLaws.{NumberGoesNowhere}

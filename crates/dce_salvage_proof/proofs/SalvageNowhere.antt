@@ -25,13 +25,13 @@ use Rattle.pass_salvage.proofs.Kin.{row_itself, code_kin}
 use Rattle.pass_salvage.proofs.Edits.{Edits, pair, put}
 use Rattle.dce_salvage_proof.specs.Dropped.{DropPair, elsewhere, drops, puts, drop_edits}
 use Rattle.dce_salvage_proof.proofs.DropNowhere.{number_to_nowhere}
-use Rattle.copyprop_proof.specs.Edits.{stays, same_code}
-use Rattle.copyprop_proof.proofs.Numbers.{IsUnlike, AreUnlike, all_first, all_second, HasNoOther, keeps, fewer_same, fewer_behind}
-use Rattle.copyprop_proof.proofs.Sound.{edited_sound}
-use Rattle.copyprop_proof.proofs.Around.{block_of, with_block, stays_items, stays_above, stays_blocks, around, edited_same, edited_above, edited_around}
-use Rattle.copyprop_proof.proofs.Others.{BlocksUnlike, others_of, once_around}
-use Rattle.copyprop_proof.proofs.TakeOut.{Step}
-use Rattle.copyprop_proof.proofs.ToPhi.{to_phi}
+use Rattle.pass_edits.specs.Edits.{stays, same_code}
+use Rattle.pass_edits.proofs.Numbers.{IsUnlike, AreUnlike, all_first, all_second, HasNoOther, keeps, fewer_same, fewer_behind}
+use Rattle.pass_edits.proofs.Sound.{edited_sound}
+use Rattle.pass_edits.proofs.Around.{block_of, with_block, stays_items, stays_above, stays_blocks, around, edited_same, edited_above, edited_around}
+use Rattle.pass_edits.proofs.Others.{BlocksUnlike, others_of, once_around}
+use Rattle.pass_edits.proofs.Loose.{Step}
+use Rattle.pass_edits.proofs.ToPhi.{to_phi}
 
 -- the phi of nothing that stands for a number
 abbrev pub phi_none : (k : ℕ) → Origin → Item

@@ -13,9 +13,9 @@ use Rattle.pass_salvage.specs.declared.way.Way.TheVariants.{GetsEntry}
 use Rattle.pass_salvage.specs.Salvage.{numbered_at, fresh_after}
 use Rattle.pass_salvage.specs.Way.{has_entry, or_fresh, asks_for}
 use Rattle.pass_salvage.proofs.Chosen.{IsEntered}
-use Rattle.copyprop_proof.proofs.Numbers.{all_first, all_second}
-use Rattle.copyprop_proof.proofs.Found.{Split, split_at}
-use Rattle.copyprop_proof.proofs.Under.{KindUnder, AreUnder, items_more}
+use Rattle.pass_edits.proofs.Numbers.{all_first, all_second}
+use Rattle.pass_edits.proofs.Found.{Split, split_at}
+use Rattle.pass_edits.proofs.Under.{KindUnder, AreUnder, items_more}
 
 -- whatever goes besides, the code that was chosen may stand for the copy
 weaker : (a b c d : Bool) → (a && b && c && d) ≡ true → (a && true && c && d) ≡ true

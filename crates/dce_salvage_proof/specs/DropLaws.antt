@@ -5,7 +5,7 @@ use Rattle.mir_func.specs.Function.{Function}
 use Rattle.mir_func.specs.Sound.{IsSound}
 use Rattle.pass_trait.specs.Change.{change}
 use Rattle.pass_salvage.proofs.Edits.{BlocksEdited}
-use Rattle.dce_rule.specs.Loose.{KeepsLoosely}
+use Rattle.pass_edits.specs.Loose.{KeepsLoosely}
 use Rattle.dce_salvage_proof.specs.Dropped.{drop_edits}
 
 -- code loses number k, and no item has it any more, except undef DBG_PHIs: this preserves the weak simulation

@@ -6,7 +6,7 @@ use Rattle.mir_func.specs.Sound.{IsSound}
 use Rattle.mir_func.specs.Strip.{stripped}
 use Rattle.pass_trait.specs.Change.{change}
 use Rattle.pass_trait.specs.Sizes.{greatest_number}
-use Rattle.dce_rule.specs.Loose.{KeepsLoosely}
+use Rattle.pass_edits.specs.Loose.{KeepsLoosely}
 use Rattle.dce_rule.specs.Same.{SameBlocks}
 use Rattle.dce_copies.specs.Blocks.{BlocksSoFar, blocks_off}
 

@@ -22,7 +22,7 @@ use Rattle.copyprop_block.specs.declared.copies.Fate.TheVariants.{Stays, Goes, G
 use Rattle.copyprop_block.specs.declared.roots.Root.{Root}
 use Rattle.copyprop_block.specs.Roots.{known_source}
 use Rattle.copyprop_block.specs.Copied.{SoFar, BlocksSoFar, renamed_item, goes_by, fate_of, next_item, at_block, next_block}
-use Rattle.copyprop_rule.proofs.Rows.{moves_by}
+use Rattle.rv64_instr.proofs.Moves.{moves_by}
 use Rattle.copyprop_rule.proofs.Sizes.{known_moves}
 use Rattle.copyprop_rule.specs.Rule.{begins}
 use Rattle.copyprop_proof.specs.Ledger.{Line, numbered_in, numbered_line, lines_above, phi_of, line, lines_by_fate, next_lines, over_lines, lines_in, ledger}

@@ -16,7 +16,7 @@ use Rattle.pass_trait.specs.Change.{Change}
 use Rattle.pass_salvage.specs.declared.way.Way.{Way}
 use Rattle.pass_salvage.specs.declared.way.Way.TheVariants.{HasEntry, GetsEntry, GetsPhi}
 use Rattle.pass_salvage.specs.Way.{way}
-use Rattle.copyprop_rule.proofs.Rows.{moves_by}
+use Rattle.rv64_instr.proofs.Moves.{moves_by}
 use Rattle.dce_copies.specs.declared.off.Copied.{Copied}
 use Rattle.dce_copies.specs.Off.{copied_by, numbered_copy, SoFar, off_at}
 use Rattle.dce_copies.specs.Blocks.{going_from, BlocksSoFar, in_block, blocks_off}

@@ -6,3 +6,4 @@ pub mod Row
 pub mod Access
 pub mod Decoded
 pub mod Parts
+pub mod Reserve

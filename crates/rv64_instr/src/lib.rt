@@ -13,4 +13,5 @@ pub mod operand;
 pub mod parts;
 pub mod place;
 pub mod reg;
+pub mod reserve;
 pub mod start;

@@ -1,7 +1,7 @@
 -- The reserve is one.
 use Rattle.std.proofs.Common.{◌≡◌, inl, inr, ℕ, zero, suc, ◌+◌, ◌<◌, ◌≤◌, List, length, Contains, slice_index, arith}
 use Rattle.std.proofs.lemmas.List.Kept.{AllPairs-filter, AllPairs-from_increasing}
-use Rattle.cli_numbers.specs.Reserve.{RESERVABLE}
+use Rattle.rv64_instr.specs.Reserve.{RESERVABLE}
 use Rattle.spill_select.specs.Incoming.{is_among}
 use Rattle.spill_rule.specs.Chosen.{IsReservable}
 use Rattle.spill_rule.proofs.Scratch.{kept_by}

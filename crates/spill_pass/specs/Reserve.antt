@@ -1,6 +1,6 @@
 -- Which registers may be spilled.
 use Rattle.std.specs.Prelude.{ℕ, List, filter}
-use Rattle.cli_numbers.specs.Reserve.{RESERVABLE}
+use Rattle.rv64_instr.specs.Reserve.{RESERVABLE}
 use Rattle.spill_select.specs.Incoming.{is_among}
 
 -- those of the given registers that may be spilled, without duplicates, in ascending order

@@ -1,7 +1,7 @@
 //! Which registers may be spilled.
 
 ghost use Rattle.std.specs.Prelude.{◌≡◌, filter, IfOk};
-ghost use Rattle.cli_numbers.specs.Reserve.{RESERVABLE};
+ghost use Rattle.rv64_instr.specs.Reserve.{RESERVABLE};
 ghost use Rattle.spill_select.specs.Incoming.{is_among};
 ghost use Rattle.spill_pass.specs.Reserve.{reserve_of};
 

@@ -3,7 +3,7 @@ use Rattle.std.specs.List.{Contains}
 use Rattle.std.specs.Option.{IfSome, IsNone}
 use Rattle.std.specs.Fmt.{decimal}
 use Rattle.std.proofs.lemmas.Bool.{false≢true}
-use Rattle.cli_numbers.specs.Reserve.{RESERVABLE}
+use Rattle.rv64_instr.specs.Reserve.{RESERVABLE}
 use Rattle.cli_numbers.proofs.Names.{below}
 use Rattle.cli_numbers.proofs.name.with_digits.Goals as goal
 

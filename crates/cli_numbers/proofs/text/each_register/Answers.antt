@@ -3,7 +3,8 @@ use Rattle.std.specs.List.{All, AllPairs, Contains}
 use Rattle.std.proofs.lemmas.List.{take-map}
 use Rattle.std.proofs.lemmas.List.Elements.{All-push, All-get_or, All-take}
 use Rattle.cli_numbers.proofs.Pieces.{piece_at, one_list, next_piece, whole_list, same_length}
-use Rattle.cli_numbers.specs.Reserve.{RESERVABLE, register_name, AreNamed}
+use Rattle.rv64_instr.specs.Reserve.{RESERVABLE}
+use Rattle.cli_numbers.specs.Reserve.{register_name, AreNamed}
 use Rattle.cli_numbers.proofs.Names.{names, once_more, not_before}
 use Rattle.cli_numbers.proofs.text.each_register.Goals as goal
 

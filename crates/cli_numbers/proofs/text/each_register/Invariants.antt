@@ -1,6 +1,7 @@
 use Rattle.std.proofs.Common.{◌≡◌, ◌≢◌, map, take}
 use Rattle.std.specs.List.{All, AllPairs, Contains}
-use Rattle.cli_numbers.specs.Reserve.{RESERVABLE, register_name}
+use Rattle.rv64_instr.specs.Reserve.{RESERVABLE}
+use Rattle.cli_numbers.specs.Reserve.{register_name}
 use Rattle.cli_numbers.proofs.text.each_register.Given as goal
 
 abbrev pub invariant-loop-word : goal.invariant-loop-word

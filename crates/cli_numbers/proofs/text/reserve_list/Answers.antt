@@ -1,7 +1,8 @@
 use Rattle.std.proofs.Common.{◌≡◌, List, ℕ, map, sym, ap, ◌∙◌, nat_eq}
 use Rattle.std.specs.List.{Contains, slice_split}
 use Rattle.cli_numbers.proofs.Pieces.{joined, some_pieces, split_listed, same_answers}
-use Rattle.cli_numbers.specs.Reserve.{RESERVABLE, register_name, AreNamed, IsReserveText}
+use Rattle.rv64_instr.specs.Reserve.{RESERVABLE}
+use Rattle.cli_numbers.specs.Reserve.{register_name, AreNamed, IsReserveText}
 use Rattle.cli_numbers.proofs.Names.{names}
 use Rattle.cli_numbers.proofs.text.reserve_list.Goals as goal
 

@@ -38,18 +38,18 @@ use Rattle.pass_salvage.proofs.Chosen.{IsEntered}
 use Rattle.pass_salvage.proofs.Kin.{row_itself, code_kin}
 use Rattle.pass_salvage.proofs.Edits.{Edits, Edited, pair}
 use Rattle.pass_salvage.proofs.NumberOff.{Side, Outside, Inside, Off, outside, opens, inside, closes, off_edits, IsOther, AsksOutside, AsksInside}
-use Rattle.dce_rule.proofs.Numbers.{number_to_code}
-use Rattle.copyprop_proof.specs.Edits.{AreEdited, stays, same_code}
-use Rattle.copyprop_proof.proofs.Numbers.{IsUnlike, AreUnlike, all_first, all_second, unlike_above, unlike_behind, HasNoOther, has_same, HaveFewer}
-use Rattle.copyprop_proof.proofs.Numbers.{keeps, fewer_same, fewer_behind, fewer_append, once_gains}
-use Rattle.copyprop_proof.proofs.Onward.{above_onward, goes_nowhere}
-use Rattle.copyprop_proof.proofs.Sound.{edited_sound}
-use Rattle.copyprop_proof.proofs.Around.{with_block, stays_items, stays_above, stays_blocks, around, edited_same, edited_above, edited_append, edited_around}
-use Rattle.copyprop_proof.proofs.Others.{BlocksUnlike, flat_unlike, Others, around_one, others_of, at_item, block_ends, once_around}
-use Rattle.copyprop_proof.proofs.Copies.{IsPlain, plain_copy}
-use Rattle.copyprop_proof.proofs.Under.{KindUnder, AreUnder, BlocksUnder, EntryUnder, under_unlike, no_entry, resolve_under}
-use Rattle.copyprop_proof.proofs.Found.{Split, split_at, IsNoDefinition, last_behind, first_defines, any_none, last_two, not_is}
-use Rattle.copyprop_proof.proofs.TakeOut.{Step}
+use Rattle.pass_edits.proofs.MovedNumbers.{number_to_code}
+use Rattle.pass_edits.specs.Edits.{AreEdited, stays, same_code}
+use Rattle.pass_edits.proofs.Numbers.{IsUnlike, AreUnlike, all_first, all_second, unlike_above, unlike_behind, HasNoOther, has_same, HaveFewer}
+use Rattle.pass_edits.proofs.Numbers.{keeps, fewer_same, fewer_behind, fewer_append, once_gains}
+use Rattle.pass_edits.proofs.Onward.{above_onward, goes_nowhere}
+use Rattle.pass_edits.proofs.Sound.{edited_sound}
+use Rattle.pass_edits.proofs.Around.{with_block, stays_items, stays_above, stays_blocks, around, edited_same, edited_above, edited_append, edited_around}
+use Rattle.pass_edits.proofs.Others.{BlocksUnlike, flat_unlike, Others, around_one, others_of, at_item, block_ends, once_around}
+use Rattle.pass_edits.proofs.Copies.{IsPlain, plain_copy}
+use Rattle.pass_edits.proofs.Under.{KindUnder, AreUnder, BlocksUnder, EntryUnder, under_unlike, no_entry, resolve_under}
+use Rattle.pass_edits.proofs.Found.{Split, split_at, IsNoDefinition, last_behind, first_defines, any_none, last_two, not_is}
+use Rattle.pass_edits.proofs.Loose.{Step}
 
 -- ---- tests
 

@@ -1,8 +1,8 @@
 use Rattle.std.proofs.lemmas.Bool.Decides.{Decides-eqb}
 use Rattle.std.proofs.lemmas.List.Elements.{contains_decides, Decides-contains}
 use Rattle.std.proofs.Common.{eqb}
-use Rattle.cli_numbers.specs.Reserve.{RESERVABLE}
-use Rattle.cli_numbers.proofs.name.is_reservable.Goals as goal
+use Rattle.rv64_instr.specs.Reserve.{RESERVABLE}
+use Rattle.rv64_instr.proofs.reserve.is_reservable.Goals as goal
 
 pub returns : goal.returns
 returns c =

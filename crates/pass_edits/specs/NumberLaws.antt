@@ -12,7 +12,7 @@ use Rattle.pass_salvage.specs.Salvage.{entry_for}
 use Rattle.pass_salvage.proofs.Edits.{BlocksEdited}
 use Rattle.pass_salvage.proofs.NumberOff.{off_edits}
 use Rattle.pass_salvage.proofs.NumberPhi.{phi_edits}
-use Rattle.dce_rule.specs.Loose.{KeepsLoosely}
+use Rattle.pass_edits.specs.Loose.{KeepsLoosely}
 
 -- number k of a copy of s is substituted by operand o of number n, of code above the copy. The values of numbers in `Free`
 -- may differ meanwhile

@@ -22,7 +22,7 @@ use Rattle.pass_salvage.proofs.Kin.{kin_fits, kin_marks, kin_goes, kin_end, kin_
 use Rattle.pass_salvage.proofs.Edits.{Edits, BlocksEdited, no_blocks, next_block, order_edited, item_back, item_on}
 use Rattle.pass_salvage.proofs.EditRuns.{Keeps, IsSteady, runs_edited}
 use Rattle.pass_salvage.proofs.EditFollows.{Allows, each_edited}
-use Rattle.dce_rule.specs.Loose.{LooseShape, KeepsLoosely}
+use Rattle.pass_edits.specs.Loose.{LooseShape, KeepsLoosely}
 
 all_none : {A : Type 0} (P : A → Type 0) → All P []
 all_none P k d lt = absurd (omega (arith, lt))

@@ -17,7 +17,7 @@ use Rattle.sem_mir.specs.State.{Core, Reply, writes_frame}
 use Rattle.sem_mir.specs.Step.{Outcome, Falls, Goes, Gives, Traps, Asks, Breaks, act, does, are_written, with_core, numbered, slot_loaded}
 use Rattle.sem_mir.specs.Step.{answered, read, do_item}
 use Rattle.sem_mir.specs.Step.{is_fault, address_at}
-use Rattle.copyprop_proof.specs.Edits.{IsMove}
+use Rattle.pass_edits.specs.Edits.{IsMove}
 
 -- it goes to no block
 abbrev pub GoesNowhere : Outcome → Type 0

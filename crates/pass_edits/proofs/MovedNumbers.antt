@@ -1,4 +1,4 @@
--- A copy loses its number between two rounds: to code that gave its value, or to a phi.
+-- A copy loses its number between two steps of a pass: to code that gave its value, or to a phi.
 use Rattle.std.proofs.Common.{◌≡◌, ℕ, List, [], ◌∷◌, ◌++◌, false, refl, ap}
 use Rattle.mir_func.specs.declared.entry.OperandPair.{OperandPair}
 use Rattle.mir_func.specs.declared.entry.Entry.{Entry}
@@ -12,8 +12,8 @@ use Rattle.pass_salvage.proofs.EditFollows.{Allows}
 use Rattle.pass_salvage.proofs.OneMore.{one_more}
 use Rattle.pass_salvage.proofs.NumberOff.{off_edits, OffCores, off_keeps, off_itself}
 use Rattle.pass_salvage.proofs.NumberPhi.{Spot, PhiPut, puts, phi_edits, PhiCores, phi_keeps, phi_itself}
-use Rattle.dce_rule.specs.NumberLaws.{NumberGoesToCode, NumberGoesToPhi}
-use Rattle.dce_rule.proofs.Edited.{edited_loosely}
+use Rattle.pass_edits.specs.NumberLaws.{NumberGoesToCode, NumberGoesToPhi}
+use Rattle.pass_edits.proofs.Edited.{edited_loosely}
 
 pub number_to_code : (Free : ℕ → Type 0) → NumberGoesToCode Free
 number_to_code Free old new subs k n o s sound sound' objects none end apart real edited =

@@ -6,8 +6,8 @@ use Rattle.mir_func.specs.declared.item.Item.{Item}
 use Rattle.mir_func.specs.Function.{Function}
 use Rattle.pass_salvage.proofs.Kin.{kin_itself}
 use Rattle.pass_salvage.proofs.Edits.{Edits, Edited, over, pair, BlocksEdited, no_blocks, next_block}
-use Rattle.copyprop_proof.specs.Edits.{AreEdited, AreBlocksEdited, no_items, stays, with_phi, goes, same_kind, no_blocks as nothing_edited}
-use Rattle.copyprop_proof.specs.Edits.{next_block as and_edited}
+use Rattle.pass_edits.specs.Edits.{AreEdited, AreBlocksEdited, no_items, stays, with_phi, goes, same_kind, no_blocks as nothing_edited}
+use Rattle.pass_edits.specs.Edits.{next_block as and_edited}
 
 -- a block of these items, and the function with it between others
 abbrev pub block_of : (id silent : ℕ) → List Item → Block

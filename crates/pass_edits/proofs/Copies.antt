@@ -6,7 +6,7 @@ use Rattle.rv64_instr.specs.declared.operand.Operand.TheVariants.{Def, Use}
 use Rattle.rv64_instr.specs.Instruction.{Instruction}
 use Rattle.rv64_instr.specs.Row.{Moves, row_of}
 use Rattle.mir_func.specs.Sound.{IsNotPointer}
-use Rattle.copyprop_rule.proofs.Rows.{MovesBy, moves_by}
+use Rattle.rv64_instr.proofs.Moves.{MovesBy, moves_by}
 
 -- it sets no x2 and reads none, and its first operand is what it sets
 pub record IsPlain (i : Instruction) (rd s : ℕ) : Type 0 where

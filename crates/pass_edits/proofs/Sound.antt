@@ -20,9 +20,9 @@ use Rattle.mir_func.specs.Sound.{AreApart, AllItems, ids_of, items_of, NumbersOn
 use Rattle.mir_func.specs.Sound.{IsJumpAtMost, MayFollow}
 use Rattle.mir_func.specs.Sound.{EndsWell, Closes, LastCloses, IsSoundObject, IsSound}
 use Rattle.sem_mir.specs.Align.{position_of}
-use Rattle.copyprop_proof.specs.Edits.{SameButNumber, same_code, same_kind, IsMove, phi_before, AreEdited, no_items, stays, with_phi, goes}
-use Rattle.copyprop_proof.specs.Edits.{AreBlocksEdited, no_blocks, next_block, EditsKeepSound}
-use Rattle.copyprop_proof.proofs.Onward.{move_onward, not_alone}
+use Rattle.pass_edits.specs.Edits.{SameButNumber, same_code, same_kind, IsMove, phi_before, AreEdited, no_items, stays, with_phi, goes}
+use Rattle.pass_edits.specs.Edits.{AreBlocksEdited, no_blocks, next_block, EditsKeepSound}
+use Rattle.pass_edits.proofs.Onward.{move_onward, not_alone}
 
 -- ---- what holds of each kind of item whatever its number
 

@@ -16,9 +16,7 @@ use Rattle.mir_func.specs.Sound.{items_of, AllItems}
 use Rattle.pass_trait.specs.Sizes.{greatest, numbers_of}
 use Rattle.mir_substitution.proofs.Chains.{resolve_ends}
 use Rattle.pass_salvage.specs.Salvage.{with_number}
-use Rattle.copyprop_proof.proofs.Numbers.{IsUnlike, all_first, all_second}
-use Rattle.copyprop_block.specs.declared.roots.Root.{Root}
-use Rattle.copyprop_block.specs.Copied.{renamed_kind}
+use Rattle.pass_edits.proofs.Numbers.{IsUnlike, all_first, all_second}
 
 -- the numbers of an item, and of a substitution
 abbrev pub KindUnder : ℕ → ItemKind → Type 0
@@ -91,14 +89,6 @@ ends_under b subs q r h (by e has whole rest) lt = ends_under b subs e.dst r h r
 
 pub resolve_under : (b : ℕ) (subs : List Entry) (q r : OperandPair) → All (EntryUnder b) subs → q.number < b → resolve subs q ≡ Some r → r.number < b
 resolve_under b subs q r h lt is = ends_under b subs q r h (resolve_ends subs q r is) lt
-
--- ---- where numbers change
-
-pub renamed_under : (b : ℕ) (e : List Root) (k : ItemKind) → KindUnder b k → KindUnder b (renamed_kind e k)
-renamed_under b e (Code i (Some m)) h = h
-renamed_under b e (Code i None) h = tt
-renamed_under b e (Mark v q) h = h
-renamed_under b e (Phi p m) h = h
 
 -- ---- from the greatest number
 

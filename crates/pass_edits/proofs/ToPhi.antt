@@ -20,14 +20,14 @@ use Rattle.pass_trait.specs.Rule.{item}
 use Rattle.pass_salvage.proofs.Kin.{row_itself, code_kin}
 use Rattle.pass_salvage.proofs.Edits.{Edits, Edited, pair, put}
 use Rattle.pass_salvage.proofs.NumberPhi.{Spot, Elsewhere, Behind, PhiPair, elsewhere, closes, PhiPut, puts, phi_edits}
-use Rattle.dce_rule.proofs.Numbers.{number_to_phi}
-use Rattle.copyprop_proof.specs.Edits.{phi_before, with_phi, same_code}
-use Rattle.copyprop_proof.proofs.Numbers.{IsUnlike, AreUnlike, HasNoOther, keeps, puts as puts_none, fewer_same, fewer_behind}
-use Rattle.copyprop_proof.proofs.Sound.{edited_sound}
-use Rattle.copyprop_proof.proofs.Around.{with_block, stays_items, stays_above, stays_blocks, around, edited_same, edited_above, edited_around}
-use Rattle.copyprop_proof.proofs.Others.{BlocksUnlike, Others, others_of, at_item, once_around}
-use Rattle.copyprop_proof.proofs.Copies.{IsPlain, plain_copy}
-use Rattle.copyprop_proof.proofs.TakeOut.{Step}
+use Rattle.pass_edits.proofs.MovedNumbers.{number_to_phi}
+use Rattle.pass_edits.specs.Edits.{phi_before, with_phi, same_code}
+use Rattle.pass_edits.proofs.Numbers.{IsUnlike, AreUnlike, HasNoOther, keeps, puts as puts_none, fewer_same, fewer_behind}
+use Rattle.pass_edits.proofs.Sound.{edited_sound}
+use Rattle.pass_edits.proofs.Around.{with_block, stays_items, stays_above, stays_blocks, around, edited_same, edited_above, edited_around}
+use Rattle.pass_edits.proofs.Others.{BlocksUnlike, Others, others_of, at_item, once_around}
+use Rattle.pass_edits.proofs.Copies.{IsPlain, plain_copy}
+use Rattle.pass_edits.proofs.Loose.{Step}
 
 module _ (f : Function) (above : List Block) (id silent : ℕ) (behind : List Block) where
   abbrev fn : List Item → Function

@@ -8,9 +8,9 @@ use Rattle.mir_func.specs.declared.item.Item.{Item}
 use Rattle.mir_func.specs.declared.item.ItemKind.{ItemKind}
 use Rattle.mir_func.specs.Function.{Function}
 use Rattle.mir_func.specs.Sound.{AllItems, items_of, code_number, NumbersOnce, EndsWell, IsSound}
-use Rattle.copyprop_proof.proofs.Numbers.{IsUnlike, AreUnlike, all_first, all_second, unlike_above, unlike_behind, HaveFewer, once_fewer, fewer_same}
-use Rattle.copyprop_proof.proofs.Numbers.{fewer_behind, fewer_append}
-use Rattle.copyprop_proof.proofs.Around.{block_of, with_block}
+use Rattle.pass_edits.proofs.Numbers.{IsUnlike, AreUnlike, all_first, all_second, unlike_above, unlike_behind, HaveFewer, once_fewer, fewer_same}
+use Rattle.pass_edits.proofs.Numbers.{fewer_behind, fewer_append}
+use Rattle.pass_edits.proofs.Around.{block_of, with_block}
 
 abbrev pub BlocksUnlike : ℕ → List Block → Type 0
 BlocksUnlike k bs = All (λ (b : Block). All (λ (x : Item). IsUnlike k x.kind) b.items) bs

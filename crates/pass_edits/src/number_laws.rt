@@ -1,7 +1,7 @@
 //! Laws of salvaged numbers: each is the contract of a function with an empty body.
 
 ghost use Rattle.std.specs.Prelude.{ℕ};
-ghost use Rattle.dce_rule.specs.NumberLaws.{NumberGoesToCode, NumberGoesToPhi};
+ghost use Rattle.pass_edits.specs.NumberLaws.{NumberGoesToCode, NumberGoesToPhi};
 
 /// Numbers to which no debug value refers meanwhile, so that their values may differ.
 pub trait FreeNumbers {

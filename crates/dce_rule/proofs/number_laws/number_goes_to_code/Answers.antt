@@ -1,5 +1,0 @@
-use Rattle.dce_rule.proofs.Numbers.{number_to_code}
-use Rattle.dce_rule.proofs.number_laws.number_goes_to_code.Goals as goal
-
-pub returns : goal.returns
-returns g c = number_to_code g.F.FreeNumbers.free

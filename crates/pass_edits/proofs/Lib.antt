@@ -1,0 +1,13 @@
+pub mod Loose
+pub mod Edited
+pub mod MovedNumbers
+pub mod Numbers
+pub mod Onward
+pub mod Sound
+pub mod Around
+pub mod Others
+pub mod Copies
+pub mod Under
+pub mod Found
+pub mod ToPhi
+pub mod ToCode

@@ -1,0 +1,3 @@
+pub mod Loose
+pub mod NumberLaws
+pub mod Edits
