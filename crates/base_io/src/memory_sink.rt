@@ -1,9 +1,7 @@
 //! A sink over memory.
 
-ghost use Rattle.std.specs.Prelude.{◌≡◌, ◌<◌, ◌≤◌, ◌-◌, ◌++◌, ◌↔◌, ◌⊎◌, ℕ, [], Some, length, take, min, IfOk, OnErr};
+ghost use Rattle.std.specs.Prelude.{◌≡◌, ◌<◌, ◌≤◌, ◌-◌, ◌++◌, ◌↔◌, ◌⊎◌, [], Some, length, take, min, IfOk, OnErr};
 ghost use Rattle.std.specs.Prelude.{IsErr};
-ghost use Rattle.base_io.specs.Faults.{CountRose};
-ghost use Rattle.base_io.specs.Told.{Appends};
 ghost use Rattle.base_io.specs.Calls.{no_calls, IsToFail, after_call, after_fault};
 ghost use Rattle.base_io.specs.Memory.{MemoryOutput, MeetsFullRoom};
 

@@ -1,8 +1,6 @@
 //! A source over memory.
 
-ghost use Rattle.std.specs.Prelude.{◌≡◌, ◌<◌, ◌≤◌, ◌++◌, ◌↔◌, ℕ, Some, length, take, drop, min, IfOk, OnErr, IsErr};
-ghost use Rattle.base_io.specs.Faults.{CountRose};
-ghost use Rattle.base_io.specs.Told.{Takes, IsAtEnd};
+ghost use Rattle.std.specs.Prelude.{◌≡◌, ◌<◌, ◌≤◌, ◌++◌, ◌↔◌, Some, length, take, drop, min, IfOk, OnErr, IsErr};
 ghost use Rattle.base_io.specs.Calls.{no_calls, IsToFail, after_call, after_fault};
 ghost use Rattle.base_io.specs.Memory.{MemoryInput};
 

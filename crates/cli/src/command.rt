@@ -1,6 +1,6 @@
 //! The commands, and the words of a command line that are each of them.
 
-ghost use Rattle.std.specs.Prelude.{◌≡◌, ◌↔◌, ◌∷◌, [], List, map, string_bytes, Some, IfOk};
+ghost use Rattle.std.specs.Prelude.{◌≡◌, ◌↔◌, ◌∷◌, [], map, string_bytes, Some, IfOk};
 ghost use Rattle.cli.specs.Command.{IsCommand, IsPlain, GivesPlan, IsPlanOf, reserve_in};
 ghost use Rattle.cli.specs.Command.{GivesRun, GivesSteps, IsRunPlanOf, numbers_in, passes_in};
 ghost use Rattle.cli.specs.Command.{GivesTest, GivesTestOf};

@@ -1,6 +1,6 @@
 //! All options of a command.
 
-ghost use Rattle.std.specs.Prelude.{◌≡◌, ◌↔◌, List, map, string_bytes, Some, IfOk};
+ghost use Rattle.std.specs.Prelude.{◌≡◌, ◌↔◌, map, string_bytes, Some, IfOk};
 ghost use Rattle.cli.specs.Options.{none_given, GivesOption, GiveOptions};
 ghost use Rattle.cli.specs.declared.given.Options.{Options};
 

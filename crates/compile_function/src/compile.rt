@@ -1,6 +1,6 @@
 //! Compilation of one function.
 
-ghost use Rattle.std.specs.Prelude.{◌≡◌, ◌<◌, ◌≤◌, ◌%◌, All, IfOk, OnOk, IsErrOf, length};
+ghost use Rattle.std.specs.Prelude.{◌≡◌, ◌<◌, ◌≤◌, ◌%◌, All, IfOk, OnOk, IsErrOf};
 ghost use Rattle.mir_func.specs.Graph.{block_start, framed_program};
 ghost use Rattle.mir_func.specs.Limits.{MAX_FRAME};
 ghost use Rattle.mir_func.specs.Resolve.{resolve};

@@ -1,6 +1,6 @@
 //! Location lists of a function.
 
-ghost use Rattle.std.specs.Prelude.{◌≡◌, ◌≤◌, All, IfOk, length};
+ghost use Rattle.std.specs.Prelude.{◌≡◌, All, IfOk};
 ghost use Rattle.mir_func.specs.Graph.{block_start, framed_program};
 ghost use Rattle.mir_func.specs.Resolve.{resolve};
 ghost use Rattle.dwarf_loclists.specs.Ranges.{Ascend};

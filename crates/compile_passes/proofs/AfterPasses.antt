@@ -32,7 +32,6 @@ use Rattle.pass_trait.specs.Change.{change}
 use Rattle.pass_trait.specs.declared.loss.Loss.{Loss}
 use Rattle.pass_trait.specs.Following.{Source, FollowsSource, KeepsFollowing}
 use Rattle.pass_trait.specs.Sizes.{greatest, numbers_of, greatest_number, item_count}
-use Rattle.pass_trait.specs.Steps.{KeepsSteps}
 use Rattle.listing_text.specs.Shown.{declared_by, IsPrintableEntry}
 use Rattle.listing_function.specs.Printable.{IsPrintableFramedKind}
 use Rattle.listing_proof.proofs.Framed.{read_bodies}

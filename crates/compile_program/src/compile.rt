@@ -1,6 +1,6 @@
 //! Compilation of a program to its output.
 
-ghost use Rattle.std.specs.Prelude.{◌≡◌, ◌<◌, [], IfOk, IsErrOf};
+ghost use Rattle.std.specs.Prelude.{◌≡◌, ◌<◌, IfOk, IsErrOf};
 ghost use Rattle.pass_list.specs.Names.{AreDistinct};
 ghost use Rattle.compile_function.specs.Passed.{steps_of};
 ghost use Rattle.compile_program.specs.Program.{IsOutputOf, IsCompilationOf, HasLargeFrame, HasLargeSection};

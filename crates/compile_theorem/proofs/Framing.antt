@@ -27,8 +27,7 @@ use Rattle.mir_func.specs.SoundFrame.{adds_to_pointer, saves, restores, prologue
 use Rattle.frame_rule.specs.Rule.{size_of, saved_of, added, added_all, prologue, epilogue, renamed_operand, renamed_kind, renamed, framed_item}
 use Rattle.frame_rule.specs.Rule.{framed_items, framed_block, framed_blocks}
 use Rattle.emit_code.specs.steps.Emitted.{IsFormed}
-use Rattle.dwarf_unit.specs.Variables.{variables_of_function}
-use Rattle.compile_theorem.proofs.Variables.{MarkIn, marks_among}
+use Rattle.compile_theorem.proofs.Variables.{MarkIn}
 
 module _ (f : Function) (P : ItemKind → Type 0) (lowers : P (Code (adds_to_pointer (pos 0 -ℤ pos (size_of f))) None))
     (raises : P (Code (adds_to_pointer (pos (size_of f))) None)) (saving : (s : SavedRegister) → P (Code (saves s) None))

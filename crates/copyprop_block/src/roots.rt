@@ -1,9 +1,9 @@
 //! Copies that are available along a block: registers that have the same value as another one.
 
-ghost use Rattle.std.specs.Prelude.{◌≡◌, OnOk, map, filter};
-ghost use Rattle.rv64_instr.specs.Row.{Row, row_of};
+ghost use Rattle.std.specs.Prelude.{◌≡◌, OnOk, map};
+ghost use Rattle.rv64_instr.specs.Row.{row_of};
 ghost use Rattle.copyprop_block.specs.Roots.{root_of, renamed_operand, renamed, known_source, outlives, forgotten};
-ghost use Rattle.copyprop_block.specs.Roots.{learned, roots_after};
+ghost use Rattle.copyprop_block.specs.Roots.{roots_after};
 
 use rv64_instr::decoded::Decoded;
 use rv64_instr::instr::Instr;

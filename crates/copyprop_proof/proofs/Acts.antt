@@ -19,7 +19,7 @@ use Rattle.rv64_instr.specs.Parts.{is_call}
 use Rattle.mir_func.specs.declared.item.ItemKind.TheVariants.{Code}
 use Rattle.mir_func.specs.Graph.{Program}
 use Rattle.sem_mir.specs.State.{Core, content, updated}
-use Rattle.sem_mir.specs.Step.{Outcome, Falls, Goes, Traps, or_zero, read, input_value, base_value, address_at, is_fault, set_register, loaded}
+use Rattle.sem_mir.specs.Step.{Falls, Goes, Traps, or_zero, read, input_value, base_value, address_at, is_fault, set_register, loaded}
 use Rattle.sem_mir.specs.Step.{put_in_memory}
 use Rattle.sem_mir.specs.Step.{does, are_written, act, numbered, given, defined, with_core, do_item}
 use Rattle.copyprop_block.specs.declared.roots.Root.{Root}

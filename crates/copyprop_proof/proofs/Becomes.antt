@@ -1,42 +1,35 @@
 -- What each item becomes, by its line in the ledger.
-use Rattle.std.proofs.Common.{◌≡◌, ◌⊎◌, inl, inr, ℕ, zero, suc, ◌+◌, ◌<◌, ◌≤◌, List, [], ◌∷◌, ◌++◌, All, Contains, Option, Some, None, Bool, true}
-use Rattle.std.proofs.Common.{false, cond, ◌&&◌, count_by, nat_eq, eq-eqb, ne_eqb, slice_get, append-nil, refl, sym, ap, ◌∙◌, subst, arith}
-use Rattle.std.specs.List.{flat_map}
-use Rattle.std.proofs.lemmas.List.{append_assoc}
+use Rattle.std.proofs.Common.{◌≡◌, ℕ, zero, suc, ◌+◌, ◌<◌, ◌≤◌, List, [], ◌∷◌, ◌++◌, All, Contains, Option, Some, None, Bool, true}
+use Rattle.std.proofs.Common.{cond, ◌&&◌, count_by, eq-eqb, ne_eqb, slice_get, refl, sym, ap, ◌∙◌, subst, arith}
 use Rattle.std.proofs.lemmas.List.Sums.{sum_by-append}
 use Rattle.std.proofs.lemmas.List.Elements.{All-contains}
 use Rattle.std.proofs.lemmas.Option.{get_or_from_slice_get}
 use Rattle.rv64_instr.specs.declared.place.Place.{Place}
 use Rattle.rv64_instr.specs.declared.place.Place.TheVariants.{Register, Slot, Const}
-use Rattle.rv64_instr.specs.Instruction.{Instruction}
-use Rattle.rv64_instr.specs.Row.{row_of}
 use Rattle.mir_func.specs.declared.entry.Entry.{Entry}
 use Rattle.mir_func.specs.declared.position.Pos.{Pos}
 use Rattle.mir_func.specs.declared.position.Origin.{Origin}
 use Rattle.mir_func.specs.declared.position.Origin.TheVariants.{Kept, Before}
-use Rattle.mir_func.specs.declared.location.Loc.{Loc}
 use Rattle.mir_func.specs.declared.block.Block.{Block}
 use Rattle.mir_func.specs.declared.item.Item.{Item}
-use Rattle.mir_func.specs.declared.item.ItemKind.{ItemKind}
-use Rattle.mir_func.specs.declared.item.ItemKind.TheVariants.{Code, Mark, Phi}
 use Rattle.mir_func.specs.declared.variable.MarkValue.{MarkValue}
 use Rattle.mir_func.specs.declared.variable.MarkValue.TheVariants.{Nothing, Constant, At, Pair}
 use Rattle.mir_func.specs.Function.{Function}
 use Rattle.mir_func.specs.Sound.{AreApart, ids_of, items_of, OriginIn, IsSound}
 use Rattle.sem_mir.specs.Align.{position_of, is_code}
 use Rattle.sem_mir.proofs.Reading.{apart_tail, within_list}
-use Rattle.pass_trait.specs.Causes.{is_position, is_origin, IsFewer, IsRemoved}
+use Rattle.pass_trait.specs.Causes.{is_position, is_origin, IsRemoved}
 use Rattle.pass_trait.specs.Change.{Change, change}
-use Rattle.pass_trait.specs.Rule.{IsCopy, item}
+use Rattle.pass_trait.specs.Rule.{item}
 use Rattle.pass_trait.specs.Debug.{RegisterStays, ValueStays, PlaceStays, IsKillAt, Becomes, mark_stays, phi_stays, code_stays, code_numbered}
 use Rattle.pass_trait.specs.Debug.{code_unnumbered, code_goes, substituted, salvaged}
 use Rattle.pass_trait.specs.Debug.{BecomeAll, over, next, BlocksBecome, none, stays as block_stays}
 use Rattle.pass_salvage.specs.Salvage.{phi_for}
-use Rattle.copyprop_block.specs.Copied.{SoFar, over_items, at_block, BlocksSoFar, next_block, over_blocks}
-use Rattle.copyprop_rule.specs.Rule.{begins, salvaged_function, salvaged_entries}
-use Rattle.copyprop_proof.specs.Ledger.{Line, line, over_lines, lines_in, ledger}
+use Rattle.copyprop_block.specs.Copied.{at_block, BlocksSoFar, next_block}
+use Rattle.copyprop_rule.specs.Rule.{salvaged_function, salvaged_entries}
+use Rattle.copyprop_proof.specs.Ledger.{Line, over_lines, lines_in, ledger}
 use Rattle.copyprop_proof.specs.Rule.{HasLine, copy_debug_rule}
-use Rattle.copyprop_proof.proofs.Lines.{IsEnteredIn, LineIs, mark, phi, code, numbered, out, out_entered, out_phi, LinesAre, no_lines, next_line, all_now}
+use Rattle.copyprop_proof.proofs.Lines.{LineIs, mark, phi, code, numbered, out, out_entered, out_phi, LinesAre, no_lines, next_line, all_now}
 use Rattle.copyprop_proof.proofs.Lines.{test, count_one, count_lines, fewer_lines}
 
 -- the lines of all blocks

@@ -1,13 +1,13 @@
 -- Copies go from blocks one after the other: each step keeps the function sound and following.
-use Rattle.std.proofs.Common.{◌≡◌, ◌⊎◌, inl, inr, ℕ, zero, suc, ◌+◌, ◌<◌, ◌≤◌, List, [], ◌∷◌, ◌++◌, map, All, Option, Some, None, Bool, true, false}
-use Rattle.std.proofs.Common.{cond, is_some, slice_get, get_or, eq-eqb, append-nil, refl, sym, ap, ◌∙◌, subst, arith}
+use Rattle.std.proofs.Common.{◌≡◌, ℕ, zero, suc, ◌+◌, ◌<◌, ◌≤◌, List, [], ◌∷◌, ◌++◌, map, All, Option, Some, None, Bool, true, false}
+use Rattle.std.proofs.Common.{cond, is_some, get_or, eq-eqb, append-nil, refl, sym, ap, ◌∙◌, subst, arith}
 use Rattle.std.specs.Prelude.{nat_eq}
 use Rattle.std.proofs.Common.{eqb-true}
 use Rattle.std.proofs.Math.Nat.{le_refl}
 use Rattle.std.proofs.lemmas.List.{append_assoc}
-use Rattle.std.proofs.lemmas.List.Elements.{All-nil, All-cons, All-head, All-tail, All-append, All-map, All-weaker}
+use Rattle.std.proofs.lemmas.List.Elements.{All-nil, All-cons, All-head, All-tail, All-append}
 use Rattle.rv64_instr.specs.Instruction.{Instruction}
-use Rattle.rv64_instr.specs.Row.{Row, Moves, row_of}
+use Rattle.rv64_instr.specs.Row.{Moves, row_of}
 use Rattle.mir_func.specs.declared.entry.Entry.{Entry}
 use Rattle.mir_func.specs.declared.position.Origin.{Origin}
 use Rattle.mir_func.specs.declared.location.Loc.{Loc}
@@ -16,7 +16,7 @@ use Rattle.mir_func.specs.declared.item.Item.{Item}
 use Rattle.mir_func.specs.declared.item.ItemKind.{ItemKind}
 use Rattle.mir_func.specs.declared.item.ItemKind.TheVariants.{Code, Mark, Phi}
 use Rattle.mir_func.specs.Function.{Function}
-use Rattle.mir_func.specs.Sound.{items_of, IsSound}
+use Rattle.mir_func.specs.Sound.{IsSound}
 use Rattle.pass_trait.specs.Change.{change}
 use Rattle.pass_trait.specs.Rule.{item}
 use Rattle.pass_salvage.specs.declared.way.Way.{Way}
@@ -45,7 +45,7 @@ use Rattle.copyprop_proof.proofs.Taken.{IsNoSelfCopy, takes}
 use Rattle.pass_edits.proofs.Loose.{itself, then, Step, and_then}
 use Rattle.copyprop_proof.proofs.TakeOut.{Taught, at_end, taught_push, taught_numbered, take_out}
 use Rattle.pass_edits.proofs.ToPhi.{to_phi}
-use Rattle.pass_edits.proofs.ToCode.{AllUnder, to_code}
+use Rattle.pass_edits.proofs.ToCode.{to_code}
 
 -- ---- an item that stays
 

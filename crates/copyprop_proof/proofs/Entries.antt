@@ -1,14 +1,12 @@
 -- The substitutions that are added: each is for a number that nothing has any more, and leads to a number that code has.
-use Rattle.std.proofs.Common.{◌≡◌, ◌⊎◌, inl, inr, ℕ, zero, suc, ◌+◌, ◌<◌, ◌≤◌, List, [], ◌∷◌, ◌++◌, map, All, Contains, Option, Some, None, Bool}
-use Rattle.std.proofs.Common.{true, false, cond, nat_eq, is_some, slice_get, get_or, drop, not, append-nil, refl, sym, ap, ◌∙◌, subst, arith}
-use Rattle.std.specs.List.{flat_map, filter_map, cons_option, list_any}
+use Rattle.std.proofs.Common.{◌≡◌, ◌⊎◌, inl, inr, ℕ, zero, suc, ◌+◌, ◌<◌, List, [], ◌∷◌, ◌++◌, All, Contains, Option, Some, None, Bool}
+use Rattle.std.proofs.Common.{true, false, cond, nat_eq, is_some, slice_get, get_or, drop, not, refl, sym, ap, ◌∙◌, subst, arith}
+use Rattle.std.specs.List.{list_any}
 use Rattle.std.specs.Prelude.{nat_lt, ◌^◌}
-use Rattle.std.proofs.lemmas.Grind.{flat_map-append}
 use Rattle.std.proofs.lemmas.List.{append_assoc}
 use Rattle.std.proofs.lemmas.List.Elements.{All-nil, All-cons, All-head, All-tail, All-append, All-weaker, All-contains, Contains-append_left}
-use Rattle.std.proofs.lemmas.List.Elements.{Contains-append_right, Contains-append_cases, Contains-push}
+use Rattle.std.proofs.lemmas.List.Elements.{Contains-append_right, Contains-append_cases}
 use Rattle.rv64_instr.specs.Instruction.{Instruction}
-use Rattle.rv64_instr.specs.Row.{row_of}
 use Rattle.mir_func.specs.declared.entry.Entry.{Entry}
 use Rattle.mir_func.specs.declared.entry.OperandPair.{OperandPair}
 use Rattle.mir_func.specs.declared.position.Origin.{Origin}
@@ -19,20 +17,16 @@ use Rattle.mir_func.specs.declared.item.ItemKind.{ItemKind}
 use Rattle.mir_func.specs.declared.item.ItemKind.TheVariants.{Code, Mark, Phi}
 use Rattle.mir_func.specs.Function.{Function}
 use Rattle.mir_func.specs.Resolve.{is_pair, entry_of}
-use Rattle.mir_func.specs.Sound.{items_of, number_of, code_number, IsSound}
+use Rattle.mir_func.specs.Sound.{items_of, number_of, code_number}
 use Rattle.pass_trait.specs.Rule.{item, first_operand}
 use Rattle.mir_substitution.proofs.Entries.{entry_of-push, is_pair-true}
-use Rattle.pass_salvage.specs.declared.way.Way.{Way}
-use Rattle.pass_salvage.specs.declared.way.Way.TheVariants.{HasEntry, GetsEntry, GetsPhi}
-use Rattle.pass_salvage.specs.Way.{or_fresh, has_entry, asks_for, may_stand, way}
-use Rattle.pass_salvage.specs.Salvage.{with_number, numbered_at, phi_for, entry_for}
-use Rattle.pass_salvage.proofs.Chosen.{IsEntered, entered}
-use Rattle.pass_edits.proofs.Numbers.{IsUnlike, AreUnlike, all_first, all_second}
-use Rattle.copyprop_block.specs.Roots.{renamed, known_source}
-use Rattle.copyprop_block.specs.Copied.{SoFar, renamed_kind, goes_by, by_fate, salvaged, next_item}
-use Rattle.pass_edits.proofs.Around.{with_block}
-use Rattle.pass_edits.proofs.Others.{BlocksUnlike, flat_unlike, Others, others_of}
-use Rattle.pass_edits.proofs.Under.{KindUnder, AreUnder, EntryUnder, under_unlike, no_entry}
+use Rattle.pass_salvage.specs.Way.{or_fresh, has_entry, asks_for, may_stand}
+use Rattle.pass_salvage.specs.Salvage.{with_number, numbered_at, entry_for}
+use Rattle.pass_salvage.proofs.Chosen.{IsEntered}
+use Rattle.pass_edits.proofs.Numbers.{IsUnlike, AreUnlike, all_second}
+use Rattle.copyprop_block.specs.Copied.{SoFar}
+use Rattle.pass_edits.proofs.Others.{flat_unlike, Others, others_of}
+use Rattle.pass_edits.proofs.Under.{KindUnder, EntryUnder, no_entry}
 use Rattle.pass_edits.proofs.Found.{Split, split_at, last_two, not_is}
 use Rattle.copyprop_proof.proofs.Chain.{Ready}
 

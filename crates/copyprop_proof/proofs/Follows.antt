@@ -1,5 +1,5 @@
 -- What a function followed, it follows without its copies that are known.
-use Rattle.std.proofs.Common.{◌≡◌, ℕ, ◌+◌, ◌<◌, List, [], ◌∷◌, ◌++◌, map, All, true, false, refl}
+use Rattle.std.proofs.Common.{ℕ, ◌+◌, ◌<◌, List, [], ◌∷◌, ◌++◌, All, true}
 use Rattle.std.specs.List.{flat_map}
 use Rattle.std.proofs.Math.Nat.{le_refl}
 use Rattle.std.proofs.lemmas.List.Elements.{All-nil}
@@ -11,18 +11,16 @@ use Rattle.mir_func.specs.Graph.{Program, program_of}
 use Rattle.mir_func.specs.Resolve.{resolve}
 use Rattle.mir_func.specs.Sound.{items_of, IsSound}
 use Rattle.pass_trait.specs.Change.{change}
-use Rattle.pass_trait.specs.Following.{KeepsFollowing}
 use Rattle.pass_trait.specs.Sizes.{numbers_of, greatest_number}
 use Rattle.pass_salvage.proofs.Edits.{no_blocks}
 use Rattle.pass_edits.specs.Loose.{KeepsLoosely}
 use Rattle.pass_edits.proofs.Loose.{loosely, then, Step}
 use Rattle.pass_edits.proofs.Numbers.{all_first, all_second}
-use Rattle.copyprop_block.specs.Copied.{BlocksSoFar, over_blocks}
 use Rattle.copyprop_rule.specs.Rule.{begins, salvaged_function, salvaged_entries}
-use Rattle.copyprop_proof.specs.Renamed.{renamed_block, renamed_function}
+use Rattle.copyprop_proof.specs.Renamed.{renamed_function}
 use Rattle.copyprop_proof.proofs.Renamed.{renaming_follows}
 use Rattle.copyprop_proof.specs.RemovalLaws.{CopiesFollow}
-use Rattle.pass_edits.proofs.Under.{KindUnder, EntryUnder, greatest_under, items_under, blocks_under, entries_under}
+use Rattle.pass_edits.proofs.Under.{KindUnder, greatest_under, items_under, blocks_under, entries_under}
 use Rattle.copyprop_proof.proofs.Chain.{BlocksReady, over_function, renamed_blocks_under}
 use Rattle.copyprop_proof.proofs.Stores.{blocks_laid, stores_meet}
 

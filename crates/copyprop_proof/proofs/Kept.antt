@@ -1,6 +1,6 @@
 -- All debug items stay where copies go, or an entry or a phi stands for them.
-use Rattle.std.proofs.Common.{◌≡◌, ◌⊎◌, inl, inr, ℕ, zero, suc, ◌+◌, ◌<◌, List, [], ◌∷◌, ◌++◌, map, All, AllPairs, Contains, Option, Some, None, Bool}
-use Rattle.std.proofs.Common.{true, false, slice_get, append-nil, refl, sym, ap, ◌∙◌, subst, arith}
+use Rattle.std.proofs.Common.{◌≡◌, inl, inr, ℕ, zero, suc, ◌+◌, List, [], ◌∷◌, ◌++◌, map, All, Contains, Option, Some, None}
+use Rattle.std.proofs.Common.{append-nil, refl, sym, ap, ◌∙◌, subst, arith}
 use Rattle.std.specs.List.{flat_map, filter_map, cons_option}
 use Rattle.std.proofs.lemmas.Grind.{flat_map-append}
 use Rattle.std.proofs.lemmas.List.{append_assoc}
@@ -15,13 +15,11 @@ use Rattle.mir_func.specs.declared.item.Item.{Item}
 use Rattle.mir_func.specs.declared.item.ItemKind.{ItemKind}
 use Rattle.mir_func.specs.declared.item.ItemKind.TheVariants.{Code, Mark, Phi}
 use Rattle.mir_func.specs.Function.{Function}
-use Rattle.mir_func.specs.Resolve.{Ends, at}
-use Rattle.mir_func.specs.Sound.{items_of, number_of, code_number, IsSound}
+use Rattle.mir_func.specs.Resolve.{at}
+use Rattle.mir_func.specs.Sound.{items_of, number_of, code_number}
 use Rattle.pass_trait.specs.Change.{Change, change}
-use Rattle.pass_trait.specs.Rule.{item, numbers_on}
+use Rattle.pass_trait.specs.Rule.{item}
 use Rattle.pass_trait.specs.Debug.{IsFor, KeepsItems}
-use Rattle.pass_trait.specs.Steps.{KeepsSteps}
-use Rattle.pass_trait.specs.declared.loss.Loss.{Loss}
 use Rattle.pass_salvage.specs.declared.way.Way.{Way}
 use Rattle.pass_salvage.specs.declared.way.Way.TheVariants.{HasEntry, GetsEntry, GetsPhi}
 use Rattle.pass_salvage.specs.Way.{way}
@@ -30,22 +28,21 @@ use Rattle.pass_salvage.proofs.Chosen.{entered}
 use Rattle.pass_edits.proofs.Numbers.{IsUnlike, AreUnlike, all_second}
 use Rattle.copyprop_block.specs.declared.roots.Root.{Root}
 use Rattle.copyprop_block.specs.Roots.{renamed, known_source}
-use Rattle.copyprop_block.specs.Copied.{SoFar, renamed_kind, renamed_item, roots_with, goes_by, by_fate, salvaged, next_item, over_items, at_block}
+use Rattle.copyprop_block.specs.Copied.{SoFar, renamed_kind, roots_with, goes_by, by_fate, salvaged, next_item, over_items, at_block}
 use Rattle.copyprop_block.specs.Copied.{BlocksSoFar, next_block, over_blocks}
 use Rattle.copyprop_rule.specs.Rule.{begins, salvaged_function, salvaged_entries}
 use Rattle.copyprop_rule.proofs.Stripped.{code_is_copied}
 use Rattle.copyprop_proof.specs.Renamed.{known_after, renamed_items, renamed_block}
-use Rattle.pass_edits.proofs.Around.{block_of, with_block}
-use Rattle.pass_edits.proofs.Others.{Others}
+use Rattle.pass_edits.proofs.Around.{block_of}
 use Rattle.pass_edits.proofs.Under.{EntryUnder}
 use Rattle.copyprop_proof.proofs.Chain.{Ready, by_kind, next_roots, BlocksReady, ready_block, ready_next}
 use Rattle.copyprop_proof.proofs.Follows.{ready_at_start, copies_follow}
-use Rattle.copyprop_proof.specs.Ledger.{Line, line, next_lines, over_lines, ledger}
-use Rattle.copyprop_proof.specs.Rule.{copy_debug_rule, copy_step}
+use Rattle.copyprop_proof.specs.Ledger.{Line, next_lines, over_lines}
+use Rattle.copyprop_proof.specs.Rule.{copy_debug_rule}
 use Rattle.copyprop_proof.specs.DebugLaws.{CopiesKeepItems}
-use Rattle.copyprop_proof.proofs.Lines.{LinesAre, no_lines, all_now, lines_more, Written, one_line}
+use Rattle.copyprop_proof.proofs.Lines.{LinesAre, no_lines, lines_more, Written, one_line}
 use Rattle.copyprop_proof.proofs.Becomes.{all_lines, BlocksAre, no_blocks, and_block, lines_at, all_become}
-use Rattle.copyprop_proof.proofs.Entries.{HasCode, Stands, stand_stays, stand_goes, stand_added}
+use Rattle.copyprop_proof.proofs.Entries.{Stands, stand_stays, stand_goes, stand_added}
 
 -- ---- one item
 

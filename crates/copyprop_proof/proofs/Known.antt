@@ -1,6 +1,6 @@
 -- What is kept of roots: none is x0, and none is a copy itself; and that copies hold what their roots hold.
-use Rattle.std.proofs.Common.{◌≡◌, ◌⊎◌, inl, inr, ℕ, zero, suc, ◌+◌, ◌<◌, List, [], ◌∷◌, ◌++◌, filter, Contains, Option, Some, None, Bool, true, false, cond}
-use Rattle.std.proofs.Common.{not, ◌&&◌, nat_eq}
+use Rattle.std.proofs.Common.{◌≡◌, ◌⊎◌, inl, inr, ℕ, zero, suc, List, [], ◌∷◌, filter, Contains, Some, None, Bool, true, false, cond}
+use Rattle.std.proofs.Common.{not, nat_eq}
 use Rattle.std.proofs.Common.{eq-eqb, ne_eqb, eqb-true, ◌||◌, refl, sym, ap, ◌∙◌, subst, arith}
 use Rattle.std.proofs.lemmas.Bool.{and_parts, not-true, cases_eq}
 use Rattle.std.proofs.lemmas.List.Elements.{Contains-append_cases}
@@ -16,7 +16,7 @@ use Rattle.sem_mir.proofs.Parts.{effects_hold}
 use Rattle.sem_mir.proofs.Places.{contains_head, contains_tail}
 use Rattle.sem_agreement.proofs.Outcomes.{on_all, on_given}
 use Rattle.copyprop_block.specs.declared.roots.Root.{Root}
-use Rattle.copyprop_block.specs.Roots.{root_of, known_source, outlives, forgotten, learned, roots_after}
+use Rattle.copyprop_block.specs.Roots.{root_of, known_source, outlives, roots_after}
 use Rattle.copyprop_rule.proofs.Rows.{KeepsZero}
 
 -- ---- lists

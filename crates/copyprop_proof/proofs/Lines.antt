@@ -1,11 +1,9 @@
 -- What the lines of a ledger say: what each item became.
-use Rattle.std.proofs.Common.{◌≡◌, ◌⊎◌, inl, inr, ℕ, zero, suc, ◌+◌, ◌<◌, ◌≤◌, List, [], ◌∷◌, ◌++◌, drop, Option, Some, None, Bool, true, false, cond}
+use Rattle.std.proofs.Common.{◌≡◌, ℕ, zero, suc, ◌+◌, ◌<◌, ◌≤◌, List, [], ◌∷◌, ◌++◌, drop, Option, Some, None, Bool, true, false, cond}
 use Rattle.std.proofs.Common.{◌&&◌, count_by, is_some, slice_get, append-nil, refl, sym, ap, ◌∙◌, subst, arith}
 use Rattle.std.specs.List.{flat_map}
 use Rattle.std.proofs.lemmas.Grind.{flat_map-append}
-use Rattle.std.proofs.lemmas.List.{append_assoc}
 use Rattle.std.proofs.lemmas.List.Sums.{sum_by-cons, sum_by-append}
-use Rattle.rv64_instr.specs.declared.place.Place.TheVariants.{Register}
 use Rattle.rv64_instr.specs.Instruction.{Instruction}
 use Rattle.rv64_instr.specs.Row.{Row, Fixes, Moves, Sets, Addresses, Loads, Stores, LoadsSlot, StoresSlot, Branches, Jumps, Calls, Returns, Unfit, row_of}
 use Rattle.rv64_instr.specs.Parts.{is_call}
@@ -13,7 +11,6 @@ use Rattle.mir_func.specs.declared.entry.Entry.{Entry}
 use Rattle.mir_func.specs.declared.entry.OperandPair.{OperandPair}
 use Rattle.mir_func.specs.declared.position.Origin.{Origin}
 use Rattle.mir_func.specs.declared.location.Loc.{Loc}
-use Rattle.mir_func.specs.declared.block.Block.{Block}
 use Rattle.mir_func.specs.declared.item.Item.{Item}
 use Rattle.mir_func.specs.declared.item.ItemKind.{ItemKind}
 use Rattle.mir_func.specs.declared.item.ItemKind.TheVariants.{Code, Mark, Phi}
@@ -27,16 +24,16 @@ use Rattle.pass_trait.specs.Rule.{IsCopy, item, first_operand}
 use Rattle.pass_salvage.specs.declared.way.Way.{Way}
 use Rattle.pass_salvage.specs.declared.way.Way.TheVariants.{HasEntry, GetsEntry, GetsPhi}
 use Rattle.pass_salvage.specs.Way.{has_entry, or_fresh, may_stand, way_by, way_of_kind, way_at, way_from, way, first_definition, last_definition}
-use Rattle.pass_salvage.specs.Salvage.{with_number, numbered_at, phi_for, entry_for, entries_for, above_after, put_for}
+use Rattle.pass_salvage.specs.Salvage.{numbered_at, phi_for, entry_for, put_for}
 use Rattle.mir_substitution.proofs.Entries.{is_pair-same, entry_of-push}
-use Rattle.pass_salvage.proofs.Chosen.{IsEntered, entered}
+use Rattle.pass_salvage.proofs.Chosen.{entered}
 use Rattle.copyprop_block.specs.declared.roots.Root.{Root}
 use Rattle.copyprop_block.specs.Roots.{renamed, known_source, roots_after}
-use Rattle.copyprop_block.specs.Copied.{SoFar, goes_with, goes_by, by_fate, salvaged, next_item, over_items, at_block}
-use Rattle.copyprop_rule.proofs.Rows.{rooted, KeepsZero, row_renamed}
+use Rattle.copyprop_block.specs.Copied.{SoFar, goes_by, by_fate, salvaged, next_item}
+use Rattle.copyprop_rule.proofs.Rows.{rooted, row_renamed}
 use Rattle.copyprop_rule.proofs.Sizes.{known_moves}
 use Rattle.copyprop_proof.proofs.Known.{IsClean, keeps_zero}
-use Rattle.copyprop_proof.specs.Ledger.{Line, gained_by, numbered_in, numbered_line, line, lines_above, phi_of, lines_by_fate, next_lines, over_lines}
+use Rattle.copyprop_proof.specs.Ledger.{Line, numbered_line, line, lines_above, phi_of, lines_by_fate, next_lines}
 
 -- the copy's pair has an entry
 abbrev pub IsEnteredIn : List Entry → ℕ → Type 0

@@ -1,6 +1,6 @@
 -- A function with roots for its explicit uses is a function still, and follows what it followed.
-use Rattle.std.proofs.Common.{◌≡◌, ◌⊎◌, inl, inr, ℕ, zero, suc, ◌≤◌, List, [], ◌∷◌, ◌++◌, map, length, All, Option, Some, None, Bool, true, false, cond}
-use Rattle.std.proofs.Common.{slice_get, is_some, ◌+◌, refl, sym, ap, ◌∙◌, subst, arith}
+use Rattle.std.proofs.Common.{◌≡◌, ℕ, zero, suc, ◌≤◌, List, [], ◌∷◌, ◌++◌, map, length, All, Option, Some, None, Bool, true, false, cond}
+use Rattle.std.proofs.Common.{slice_get, is_some, ◌+◌, refl, sym, ap, ◌∙◌, subst}
 use Rattle.std.proofs.lemmas.List.{length-map, map-append}
 use Rattle.std.proofs.lemmas.List.Elements.{All-nil, All-cons, All-head, All-tail, All-map, All-weaker}
 use Rattle.rv64_instr.specs.declared.operand.Operand.{Operand}
@@ -11,7 +11,6 @@ use Rattle.rv64_instr.specs.Instruction.{Instruction}
 use Rattle.rv64_instr.specs.Row.{Row, Fixes, Moves, Sets, Addresses, Loads, Stores, LoadsSlot, StoresSlot, Branches, Jumps, Calls, Returns, Unfit, row_of}
 use Rattle.rv64_instr.specs.Arithmetic.{load_width, store_width}
 use Rattle.mir_func.specs.declared.block.Block.{Block}
-use Rattle.mir_func.specs.declared.entry.Entry.{Entry}
 use Rattle.mir_func.specs.declared.entry.OperandPair.{OperandPair}
 use Rattle.mir_func.specs.declared.item.Item.{Item}
 use Rattle.mir_func.specs.declared.item.ItemKind.{ItemKind}
@@ -28,16 +27,14 @@ use Rattle.mir_func.specs.Resolve.{resolve}
 use Rattle.mir_func.specs.Graph.{Program, program_of}
 use Rattle.mir_func.specs.Sound.{AreApart, AllItems, ids_of, items_of, number_of, code_number, NumbersOnce, OriginIn, TargetIn, TargetsIn, SlotIn, SlotsIn}
 use Rattle.mir_func.specs.Sound.{BaseHasBytes, ObjectIn, ObjectsIn, IsNotPointer, LeavesPointer, IsJumpAtMost, MayFollow, EndsWell, Closes, LastCloses, IsSound}
-use Rattle.sem_mir.specs.State.{Core}
 use Rattle.pass_salvage.proofs.Edits.{Edited, over, pair, BlocksEdited, no_blocks, next_block}
-use Rattle.pass_salvage.proofs.EditFollows.{Allows}
 use Rattle.pass_edits.proofs.Edited.{edited_loosely}
 use Rattle.copyprop_block.specs.declared.roots.Root.{Root}
-use Rattle.copyprop_block.specs.Roots.{root_of, renamed_operand, renamed, known_source, outlives, roots_after}
+use Rattle.copyprop_block.specs.Roots.{renamed_operand, renamed, known_source, roots_after}
 use Rattle.copyprop_block.specs.Copied.{renamed_kind, renamed_item, roots_with}
 use Rattle.copyprop_rule.specs.Rule.{goes}
-use Rattle.copyprop_rule.proofs.Rows.{rooted_base, rooted, KeepsZero, row_renamed}
-use Rattle.rv64_instr.proofs.Moves.{MovesBy, moves_by}
+use Rattle.copyprop_rule.proofs.Rows.{rooted_base, rooted, row_renamed}
+use Rattle.rv64_instr.proofs.Moves.{moves_by}
 use Rattle.copyprop_rule.proofs.Roots.{Reals, real_root, real_after}
 use Rattle.copyprop_proof.specs.Renamed.{known_after, renamed_items, renamed_block, renamed_function, RenamingFollows}
 use Rattle.copyprop_proof.proofs.Known.{IsClean, clean_none, keeps_zero, clean_after}

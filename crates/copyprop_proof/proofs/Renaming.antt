@@ -1,5 +1,5 @@
 -- Explicit uses become roots: how the two runs are related.
-use Rattle.std.proofs.Common.{◌≡◌, ◌⊎◌, inl, inr, ℕ, zero, suc, List, [], ◌∷◌, Option, Some, None, Bool, true, false, cond, is_some, refl, sym, ap, ◌∙◌, subst}
+use Rattle.std.proofs.Common.{◌≡◌, inr, ℕ, suc, List, [], Option, Some, None, true, false, is_some, refl, sym, ap, ◌∙◌, subst}
 use Rattle.rv64_instr.specs.declared.place.Place.{Place}
 use Rattle.rv64_instr.specs.Instruction.{Instruction}
 use Rattle.rv64_instr.specs.Row.{Row, Fixes, Moves, Sets, Addresses, Loads, Stores, LoadsSlot, StoresSlot, Branches, Jumps, Calls, Returns, Unfit, row_of}
@@ -13,9 +13,7 @@ use Rattle.mir_func.specs.Graph.{Program}
 use Rattle.sem_mir.specs.State.{Core}
 use Rattle.sem_mir.specs.Step.{Outcome, Falls, Goes, Gives, Traps, Asks, Breaks, act, numbered, pair_value, do_item}
 use Rattle.sem_mir.specs.Effects.{held_in, OnCore, EndAlike}
-use Rattle.sem_mir.specs.Align.{is_code}
 use Rattle.sem_mir.proofs.Outcomes.{alike_weaker}
-use Rattle.sem_simulation.specs.Sides.{OutcomesAlike, ShowsSame}
 use Rattle.sem_simulation.proofs.Outcomes.{alike_of}
 use Rattle.sem_agreement.specs.Alike.{TellsNoMore, Alike, OrDefined, HeldAfter, NumbersHeld, Depends}
 use Rattle.sem_agreement.proofs.Outcomes.{alike_both, on_with, held_numbered}

@@ -1,16 +1,14 @@
 -- Code with roots for its explicit uses keeps its kind.
-use Rattle.std.proofs.Common.{◌≡◌, ◌⊎◌, inl, inr, ℕ, zero, suc, ◌+◌, List, [], ◌∷◌, map, Option, Some, None, Bool, true, false, refl, sym, ap, ◌∙◌, subst}
+use Rattle.std.proofs.Common.{inl, inr, ℕ, List, refl, sym, subst}
 use Rattle.rv64_instr.specs.declared.op.BranchOp.{BranchOp}
-use Rattle.rv64_instr.specs.Instruction.{Instruction}
 use Rattle.rv64_instr.specs.Row.{Row, Fixes, Moves, Sets, Addresses, Loads, Stores, LoadsSlot, StoresSlot, Branches, Jumps, Calls, Returns, Unfit, row_of}
 use Rattle.mir_func.specs.declared.item.ItemKind.{ItemKind}
 use Rattle.mir_func.specs.declared.item.ItemKind.TheVariants.{Code, Mark, Phi}
-use Rattle.mir_func.specs.declared.position.Pos.{Pos}
-use Rattle.mir_func.specs.Graph.{RowEdge, below, block_start}
+use Rattle.mir_func.specs.Graph.{RowEdge}
 use Rattle.sem_mir.specs.Follow.{SameEnd, IsEnd}
 use Rattle.pass_salvage.proofs.Kin.{GoesAlike, RowKin, row_itself, Kin, code_kin, kin_itself}
 use Rattle.copyprop_block.specs.declared.roots.Root.{Root}
-use Rattle.copyprop_block.specs.Roots.{root_of, renamed}
+use Rattle.copyprop_block.specs.Roots.{root_of}
 use Rattle.copyprop_block.specs.Copied.{renamed_kind}
 use Rattle.copyprop_rule.proofs.Rows.{rooted, KeepsZero, row_renamed}
 

@@ -1,8 +1,7 @@
 -- A function with roots for its explicit uses in which copies that go move a register into itself: a function between, with the
 -- paths of the one before and the items of the one after.
-use Rattle.std.proofs.Common.{◌≡◌, ◌⊎◌, inl, inr, ℕ, zero, suc, ◌+◌, ◌<◌, List, [], ◌∷◌, ◌++◌, map, filter, drop, Option, Some, None, Bool, true}
-use Rattle.std.proofs.Common.{false, cond, nat_eq, is_some, slice_get, append-nil, refl, sym, ap, ◌∙◌, subst, arith}
-use Rattle.std.proofs.lemmas.List.{append_assoc}
+use Rattle.std.proofs.Common.{◌≡◌, ◌⊎◌, inl, inr, ℕ, zero, suc, ◌<◌, List, [], ◌∷◌, filter, Option, Some, None, Bool, true}
+use Rattle.std.proofs.Common.{false, cond, is_some, slice_get, refl, sym, ap, ◌∙◌, subst, arith}
 use Rattle.rv64_instr.specs.declared.op.Op.TheVariants.{Copy}
 use Rattle.rv64_instr.specs.declared.operand.Operand.TheVariants.{Def, Use}
 use Rattle.rv64_instr.specs.Instruction.{Instruction}
@@ -15,21 +14,14 @@ use Rattle.mir_func.specs.declared.block.Block.{Block}
 use Rattle.mir_func.specs.declared.item.Item.{Item}
 use Rattle.mir_func.specs.declared.item.ItemKind.{ItemKind}
 use Rattle.mir_func.specs.declared.item.ItemKind.TheVariants.{Code, Mark, Phi}
-use Rattle.mir_func.specs.Graph.{below, block_start, KindEdge, RowEdge}
-use Rattle.sem_mir.specs.Align.{is_code}
+use Rattle.mir_func.specs.Graph.{KindEdge, RowEdge}
 use Rattle.sem_mir.specs.Follow.{OnRow, Counts}
 use Rattle.pass_trait.specs.Rule.{item}
-use Rattle.pass_salvage.specs.declared.way.Way.{Way}
-use Rattle.pass_salvage.specs.declared.way.Way.TheVariants.{HasEntry, GetsEntry, GetsPhi}
-use Rattle.pass_salvage.specs.Way.{way}
-use Rattle.pass_salvage.specs.Salvage.{with_number, numbered_at, phi_for}
-use Rattle.pass_salvage.proofs.Kin.{Kin, code_kin, mark_kin, phi_kin, kin_itself, kin_save, kin_edge}
-use Rattle.pass_salvage.proofs.Edits.{Edits, Edited, over, pair, out, put, BlocksEdited, no_blocks, next_block}
+use Rattle.pass_salvage.proofs.Kin.{Kin, kin_itself, kin_save, kin_edge}
 use Rattle.pass_edits.specs.Edits.{IsMove}
 use Rattle.copyprop_block.specs.declared.roots.Root.{Root}
 use Rattle.copyprop_block.specs.Roots.{root_of, renamed, known_source, outlives, roots_after}
-use Rattle.copyprop_block.specs.Copied.{SoFar, renamed_kind, renamed_item, roots_with, goes_by, by_fate, salvaged, next_item, over_items, at_block}
-use Rattle.copyprop_block.specs.Copied.{BlocksSoFar, next_block as block_next, over_blocks}
+use Rattle.copyprop_block.specs.Copied.{renamed_kind, roots_with}
 use Rattle.copyprop_rule.specs.Rule.{goes}
 use Rattle.copyprop_rule.proofs.Rows.{rooted, row_renamed}
 use Rattle.rv64_instr.proofs.Moves.{moves_by}

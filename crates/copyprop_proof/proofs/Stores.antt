@@ -6,7 +6,6 @@ use Rattle.std.proofs.lemmas.Bool.{cases_order}
 use Rattle.std.proofs.lemmas.List.{append_assoc}
 use Rattle.std.proofs.lemmas.List.Elements.{All-contains}
 use Rattle.std.proofs.lemmas.Option.{get_or_from_slice_get}
-use Rattle.rv64_instr.specs.Instruction.{Instruction}
 use Rattle.rv64_instr.specs.Row.{Row, Moves, Branches, Jumps, Returns, Unfit, row_of}
 use Rattle.rv64_instr.specs.Parts.{IsSlotStore}
 use Rattle.mir_func.specs.declared.entry.OperandPair.{OperandPair}
@@ -18,8 +17,8 @@ use Rattle.mir_func.specs.declared.block.Block.{Block}
 use Rattle.mir_func.specs.declared.item.Item.{Item}
 use Rattle.mir_func.specs.declared.item.ItemKind.{ItemKind}
 use Rattle.mir_func.specs.declared.item.ItemKind.TheVariants.{Code, Mark, Phi}
-use Rattle.mir_func.specs.Graph.{Fetch, Here, Silent, Outside, Program, below, block_start, end_of, front, fetch_in, from_block, program_of, KindEdge}
-use Rattle.mir_func.specs.Graph.{RowEdge, FetchEdge, Edge, Leads, stay, go}
+use Rattle.mir_func.specs.Graph.{Fetch, Here, Silent, Outside, Program, below, end_of, front, fetch_in, from_block, program_of, KindEdge}
+use Rattle.mir_func.specs.Graph.{RowEdge, FetchEdge, Leads, stay, go}
 use Rattle.mir_func.specs.Sound.{AreApart, ids_of, OriginIn}
 use Rattle.sem_mir.specs.Align.{position_of, is_code}
 use Rattle.sem_mir.specs.Follow.{OnRow, Counts, IsMetApart, KindFits, MayAdd}
@@ -34,14 +33,14 @@ use Rattle.pass_salvage.proofs.Edits.{Edits, Edited, over, pair, out, put, Block
 use Rattle.pass_salvage.proofs.EditPaths.{stores_on}
 use Rattle.pass_edits.specs.Edits.{IsMove}
 use Rattle.copyprop_block.specs.declared.roots.Root.{Root}
-use Rattle.copyprop_block.specs.Roots.{renamed, known_source, roots_after}
+use Rattle.copyprop_block.specs.Roots.{renamed, known_source}
 use Rattle.copyprop_block.specs.Copied.{SoFar, renamed_kind, roots_with, goes_by, by_fate, salvaged, next_item, over_items, at_block, BlocksSoFar}
 use Rattle.copyprop_block.specs.Copied.{next_block as block_next, over_blocks}
 use Rattle.copyprop_rule.specs.Rule.{goes}
 use Rattle.copyprop_proof.specs.Renamed.{known_after}
 use Rattle.copyprop_proof.proofs.Known.{IsClean, clean_none}
 use Rattle.copyprop_proof.proofs.Chain.{clean_next, next_roots}
-use Rattle.copyprop_proof.proofs.Selfed.{selfed_kind, selfed_item, selfed_items, selfed_block, selfed_stays, Self, selfed_goes, SameWay, selfed_way}
+use Rattle.copyprop_proof.proofs.Selfed.{selfed_kind, selfed_item, selfed_items, selfed_block, selfed_stays, selfed_goes, SameWay, selfed_way}
 use Rattle.copyprop_proof.proofs.Selfed.{IsSome, Witness, counts_or}
 
 clean_behind : (e : List Root) → IsClean e → (k : ItemKind) → IsClean (known_after e (renamed_kind e k))

@@ -1,7 +1,6 @@
 -- A copy that changes nothing goes from a function, without a number or with one that nothing needs.
-use Rattle.std.proofs.Common.{◌≡◌, ℕ, zero, suc, List, [], ◌∷◌, ◌++◌, All, Option, Some, None, false, refl, sym, ap, ◌∙◌, subst}
+use Rattle.std.proofs.Common.{◌≡◌, ℕ, zero, suc, List, [], ◌∷◌, ◌++◌, All, false, refl, sym, subst}
 use Rattle.std.proofs.lemmas.List.Elements.{All-head, All-tail, All-weaker}
-use Rattle.rv64_instr.specs.Row.{Moves, row_of}
 use Rattle.mir_func.specs.declared.entry.Entry.{Entry}
 use Rattle.mir_func.specs.declared.block.Block.{Block}
 use Rattle.mir_func.specs.declared.item.Item.{Item}
@@ -16,7 +15,7 @@ use Rattle.pass_salvage.proofs.Kin.{kin_itself}
 use Rattle.pass_salvage.proofs.Edits.{Edited, pair, out}
 use Rattle.pass_edits.proofs.Loose.{Step}
 use Rattle.pass_edits.proofs.Edited.{edited_loosely}
-use Rattle.pass_edits.specs.Edits.{IsMove, AreEdited, goes}
+use Rattle.pass_edits.specs.Edits.{IsMove, goes}
 use Rattle.pass_edits.proofs.Numbers.{IsUnlike, AreUnlike, drops, fewer_same, fewer_behind}
 use Rattle.pass_edits.proofs.Sound.{edited_sound}
 use Rattle.copyprop_block.specs.declared.roots.Root.{Root}

@@ -1,9 +1,8 @@
 -- A copy that changes nothing goes: how the two runs are related.
-use Rattle.std.proofs.Common.{◌≡◌, ℕ, suc, List, [], Option, Some, None, Bool, true, false, refl, sym, ap, ◌∙◌, subst}
+use Rattle.std.proofs.Common.{◌≡◌, ℕ, suc, List, [], Option, Some, None, true, false, refl, sym, ap, ◌∙◌, subst}
 use Rattle.rv64_instr.specs.declared.place.Place.{Place}
-use Rattle.rv64_instr.specs.declared.place.Place.TheVariants.{Register}
 use Rattle.rv64_instr.specs.Instruction.{Instruction}
-use Rattle.rv64_instr.specs.Row.{Row, Moves, Branches, Jumps, Returns, Unfit, row_of}
+use Rattle.rv64_instr.specs.Row.{Row, Moves, Branches, Unfit, row_of}
 use Rattle.rv64_instr.specs.Parts.{is_call, is_pure}
 use Rattle.mir_func.specs.declared.entry.OperandPair.{OperandPair}
 use Rattle.mir_func.specs.declared.position.Pos.{Pos}
@@ -16,11 +15,10 @@ use Rattle.mir_func.specs.declared.item.ItemKind.TheVariants.{Code, Mark, Phi}
 use Rattle.mir_func.specs.Graph.{Program, below, KindEdge, RowEdge}
 use Rattle.sem_mir.specs.State.{Core}
 use Rattle.sem_mir.specs.Step.{Outcome, Falls, Goes, Gives, Traps, Asks, Breaks, act, numbered, do_item}
-use Rattle.sem_mir.specs.Effects.{held_in, OnCore, EndAlike, FallsInto}
+use Rattle.sem_mir.specs.Effects.{held_in, OnCore, EndAlike}
 use Rattle.sem_mir.specs.Align.{is_code, is_jump, is_jump_row}
-use Rattle.sem_mir.specs.Follow.{KindFits, MayAdd, OnRow, GoesTo, SameEnd, KindsEndAlike, MarkFits}
+use Rattle.sem_mir.specs.Follow.{KindFits, MayAdd, OnRow, GoesTo, SameEnd, KindsEndAlike}
 use Rattle.sem_mir.proofs.Outcomes.{alike_weaker}
-use Rattle.sem_simulation.specs.Sides.{OutcomesAlike}
 use Rattle.sem_simulation.specs.InPlace.{FallsOrTraps}
 use Rattle.sem_simulation.proofs.Outcomes.{alike_of}
 use Rattle.pass_trait.specs.Rule.{item}

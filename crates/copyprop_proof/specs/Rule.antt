@@ -1,6 +1,5 @@
 -- The debug rule of copy propagation: nothing is lost.
-use Rattle.std.specs.Prelude.{◌≡◌, ℕ, List, [], ◌++◌, Option, Some, slice_get}
-use Rattle.rv64_instr.specs.declared.place.Place.{Place}
+use Rattle.std.specs.Prelude.{◌≡◌, ℕ, [], ◌++◌, Some, slice_get}
 use Rattle.rv64_instr.specs.declared.place.Place.TheVariants.{Register}
 use Rattle.mir_func.specs.declared.position.Pos.{Pos}
 use Rattle.pass_trait.specs.Change.{Change}

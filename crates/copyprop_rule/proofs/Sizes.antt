@@ -1,20 +1,17 @@
 -- A function without its copies is no larger, and gets at most a number for each item.
-use Rattle.std.proofs.Common.{◌≡◌, ℕ, zero, suc, ◌+◌, ◌-◌, ◌*◌, ◌<◌, ◌≤◌, List, [], ◌∷◌, ◌++◌, map, filter, length, All, count_by, Option, Some, None, Bool}
+use Rattle.std.proofs.Common.{◌≡◌, ℕ, zero, suc, ◌+◌, ◌-◌, ◌*◌, ◌<◌, ◌≤◌, List, [], ◌∷◌, ◌++◌, map, length, All, count_by, Option, Some, None, Bool}
 use Rattle.std.proofs.Common.{true, false}
 use Rattle.std.proofs.Common.{cond, nat_eq, slice_get, eq-eqb, ne_eqb, eqb-true, length-append, refl, sym, ap, ◌∙◌, subst, arith}
 use Rattle.std.specs.Prelude.{max}
 use Rattle.std.specs.List.{flat_map}
-use Rattle.std.proofs.lemmas.List.Elements.{All-nil, All-cons, All-head, All-tail, All-map, All-weaker, All-append, All-filter}
+use Rattle.std.proofs.lemmas.List.Elements.{All-nil, All-head, All-tail, All-map, All-weaker}
 use Rattle.std.proofs.lemmas.List.Sums.{sum_by-cons}
 use Rattle.std.proofs.lemmas.Grind.{flat_map-append}
 use Rattle.std.proofs.Math.Nat.{le-max_left, le-max_right, max-le, le_trans, le_refl}
 use Rattle.rv64_instr.specs.declared.operand.Operand.{Operand}
 use Rattle.rv64_instr.specs.declared.operand.Operand.TheVariants.{Def, Use, ImplicitDef, ImplicitUse, Imm, Slot, Object, Block as BlockOperand, Symbol, Mask}
-use Rattle.rv64_instr.specs.declared.place.Place.{Place}
-use Rattle.rv64_instr.specs.declared.place.Place.TheVariants.{Register}
 use Rattle.rv64_instr.specs.Instruction.{Instruction}
 use Rattle.rv64_instr.specs.Row.{Row, Fixes, Moves, Sets, Addresses, Loads, Stores, LoadsSlot, StoresSlot, Branches, Jumps, Calls, Returns, Unfit, row_of}
-use Rattle.rv64_instr.specs.Parts.{is_call}
 use Rattle.mir_func.specs.declared.block.Block.{Block}
 use Rattle.mir_func.specs.declared.entry.Entry.{Entry}
 use Rattle.mir_func.specs.declared.item.Item.{Item}
@@ -22,27 +19,26 @@ use Rattle.mir_func.specs.declared.item.ItemKind.{ItemKind}
 use Rattle.mir_func.specs.declared.item.ItemKind.TheVariants.{Code, Mark, Phi}
 use Rattle.mir_func.specs.declared.location.Loc.{Loc}
 use Rattle.mir_func.specs.declared.position.Origin.{Origin}
-use Rattle.mir_func.specs.declared.variable.MarkValue.TheVariants.{Nothing, Constant, At, Pair}
 use Rattle.mir_func.specs.Function.{Function}
-use Rattle.mir_func.specs.Limits.{MAX_BLOCKS, MAX_SLOTS}
-use Rattle.mir_func.specs.Sound.{items_of, AllItems}
+use Rattle.mir_func.specs.Limits.{MAX_BLOCKS}
+use Rattle.mir_func.specs.Sound.{items_of}
 use Rattle.mir_func.specs.SoundFrame.{IsPhysical, HasPhysical}
 use Rattle.sem_mir.specs.Align.{is_code}
 use Rattle.pass_trait.specs.Change.{change}
 use Rattle.pass_trait.specs.Rule.{item}
-use Rattle.pass_trait.specs.Sizes.{greatest, numbers_of, greatest_number, item_count, most_numbers, calls, KeepsSizes}
+use Rattle.pass_trait.specs.Sizes.{greatest, numbers_of, greatest_number, item_count, calls, KeepsSizes}
 use Rattle.pass_salvage.specs.declared.way.Way.{Way}
 use Rattle.pass_salvage.specs.declared.way.Way.TheVariants.{HasEntry, GetsEntry, GetsPhi}
 use Rattle.pass_salvage.specs.Way.{or_fresh, way}
-use Rattle.pass_salvage.specs.Salvage.{with_number, numbered_at, above_after, put_for, entry_for, entries_for, fresh_after}
+use Rattle.pass_salvage.specs.Salvage.{with_number, numbered_at, put_for, entry_for}
 use Rattle.pass_salvage.proofs.Chosen.{IsEntered, entered}
 use Rattle.copyprop_block.specs.declared.roots.Root.{Root}
-use Rattle.copyprop_block.specs.Roots.{root_of, renamed_operand, renamed, known_source, outlives, learned, roots_after}
+use Rattle.copyprop_block.specs.Roots.{root_of, renamed_operand, renamed, known_source, roots_after}
 use Rattle.copyprop_block.specs.Copied.{SoFar, renamed_kind, roots_with, goes_by, by_fate, salvaged, next_item, over_items, at_block, BlocksSoFar, next_block}
 use Rattle.copyprop_block.specs.Copied.{over_blocks}
 use Rattle.copyprop_rule.specs.Rule.{begins, salvaged_function, salvaged_entries}
-use Rattle.copyprop_rule.proofs.Over.{Stays, each_blocks, weight, Tests, count_blocks}
-use Rattle.rv64_instr.proofs.Moves.{MovesBy, moves_by}
+use Rattle.copyprop_rule.proofs.Over.{Stays, each_blocks, Tests, count_blocks}
+use Rattle.rv64_instr.proofs.Moves.{moves_by}
 use Rattle.copyprop_rule.proofs.Calls.{call_renamed}
 use Rattle.copyprop_rule.proofs.Roots.{OfRoot, Reals, real_root, real_after}
 

@@ -2,7 +2,6 @@
 use Rattle.std.proofs.Common.{◌≡◌, ℕ, zero, suc, List, [], ◌∷◌, ◌++◌, map, Option, Some, None, append-nil, cond, is_some, refl, sym, ap, ◌∙◌}
 use Rattle.std.proofs.lemmas.List.{append_assoc, map-append}
 use Rattle.std.proofs.lemmas.List.Elements.{filter_map-append}
-use Rattle.rv64_instr.specs.Instruction.{Instruction}
 use Rattle.rv64_instr.specs.Row.{row_of}
 use Rattle.mir_func.specs.declared.block.Block.{Block}
 use Rattle.mir_func.specs.declared.entry.Entry.{Entry}
@@ -18,9 +17,8 @@ use Rattle.pass_salvage.specs.declared.way.Way.{Way}
 use Rattle.pass_salvage.specs.declared.way.Way.TheVariants.{HasEntry, GetsEntry, GetsPhi}
 use Rattle.pass_salvage.specs.Way.{way}
 use Rattle.pass_salvage.specs.Salvage.{numbered_at, above_after, put_for}
-use Rattle.copyprop_block.specs.declared.roots.Root.{Root}
 use Rattle.copyprop_block.specs.Roots.{renamed, known_source, roots_after}
-use Rattle.copyprop_block.specs.Copied.{SoFar, renamed_item, goes_by, by_fate, salvaged, next_item, over_items, at_block, BlocksSoFar, next_block, over_blocks}
+use Rattle.copyprop_block.specs.Copied.{SoFar, goes_by, by_fate, next_item, over_items, at_block, BlocksSoFar, next_block, over_blocks}
 use Rattle.copyprop_rule.specs.Rule.{copied_items, copied_block, copied, begins, salvaged_function}
 
 two_stripped : (xs ys : List Item) → stripped_items (xs ++ ys) ≡ stripped_items xs ++ stripped_items ys

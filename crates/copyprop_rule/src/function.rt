@@ -1,10 +1,10 @@
 //! Removal of redundant copies from a function.
 
-ghost use Rattle.std.specs.Prelude.{◌≡◌, ◌+◌, ◌≤◌, ◌<◌, ◌^◌, [], length, OnOk, IfOk};
+ghost use Rattle.std.specs.Prelude.{◌≡◌, ◌+◌, ◌<◌, ◌^◌, [], length, OnOk, IfOk};
 ghost use Rattle.mir_func.specs.Sound.{items_of};
 ghost use Rattle.pass_trait.specs.Sizes.{greatest_number, item_count};
 ghost use Rattle.copyprop_block.specs.Copied.{over_blocks};
-ghost use Rattle.copyprop_rule.specs.Rule.{begins, salvaged_function, salvaged_entries};
+ghost use Rattle.copyprop_rule.specs.Rule.{salvaged_function, salvaged_entries};
 
 use copyprop_block::copies::copy_items;
 use mir_func::block::{Block, Blocks, copy_blocks};

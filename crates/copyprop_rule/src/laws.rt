@@ -2,7 +2,6 @@
 
 ghost use Rattle.pass_trait.specs.Code.{HasOneResult, SeesCodeAlone};
 ghost use Rattle.copyprop_rule.specs.Rule.{IsCopied};
-ghost use Rattle.copyprop_rule.specs.Laws.{one_copied, same_copied};
 ghost use Rattle.copyprop_rule.specs.Made.{CodeIsCopied, CopiesKeepSizes};
 
 /// The rule is functional, and doesn't depend on debug items.

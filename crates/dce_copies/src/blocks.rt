@@ -1,9 +1,8 @@
 //! The dead copies of all blocks lose their numbers.
 
-ghost use Rattle.std.specs.Prelude.{◌≡◌, ◌+◌, ◌<◌, ◌≤◌, ◌^◌, [], length, OnOk};
+ghost use Rattle.std.specs.Prelude.{◌≡◌, ◌+◌, ◌<◌, ◌^◌, [], length, OnOk};
 ghost use Rattle.mir_func.specs.Sound.{items_of};
-ghost use Rattle.dce_copies.specs.Off.{off_down};
-ghost use Rattle.dce_copies.specs.Blocks.{going_from, blocks_off};
+ghost use Rattle.dce_copies.specs.Blocks.{blocks_off};
 
 use crate::off::numbers_off;
 use crate::verdicts::{going, verdicts_at};

@@ -1,8 +1,8 @@
 //! Which items of a function are dead.
 
-ghost use Rattle.std.specs.Prelude.{◌≡◌, ◌<◌, All, length, slice_index, IfOk};
+ghost use Rattle.std.specs.Prelude.{◌≡◌, ◌<◌, All, IfOk};
 ghost use Rattle.rv64_instr.specs.Row.{row_of};
-ghost use Rattle.mir_func.specs.Sound.{SlotsIn, ids_of};
+ghost use Rattle.mir_func.specs.Sound.{SlotsIn};
 ghost use Rattle.pass_liveness.specs.Sets.{has};
 ghost use Rattle.pass_liveness.specs.Liveness.{AreLiveSets};
 ghost use Rattle.dce_rule.specs.Dead.{is_dead_row, is_dead};

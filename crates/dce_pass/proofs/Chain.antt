@@ -1,11 +1,10 @@
 -- Rounds are steps one after the other; what is left of the steps changes nothing.
-use Rattle.std.proofs.Common.{◌≡◌, ℕ, zero, suc, ◌+◌, ◌<◌, ◌≤◌, ◌^◌, List, [], ◌∷◌, ◌++◌, refl, sym, ap, ◌∙◌, subst, arith}
+use Rattle.std.proofs.Common.{◌≡◌, ℕ, zero, suc, ◌≤◌, ◌^◌, List, [], refl, arith}
 use Rattle.mir_func.specs.declared.entry.Entry.{Entry}
 use Rattle.mir_func.specs.Function.{Function}
 use Rattle.mir_func.specs.Sound.{IsSound}
 use Rattle.pass_trait.specs.declared.loss.Loss.{Loss}
 use Rattle.pass_trait.specs.Change.{change}
-use Rattle.pass_trait.specs.Rule.{Rule}
 use Rattle.pass_trait.specs.Sizes.{code_count}
 use Rattle.pass_trait.specs.Steps.{KeepsStep, KeepsSteps}
 use Rattle.pass_trait.specs.Code.{CodeRule, HasOneResult, SeesCodeAlone}
@@ -14,7 +13,6 @@ use Rattle.dce_rule.specs.Dead.{IsRound}
 use Rattle.dce_proof.specs.Rule.{dead_rule}
 use Rattle.dce_proof.proofs.Whole.{round_keeps}
 use Rattle.dce_proof.proofs.Idle.{idle_keeps}
-use Rattle.dce_pass.specs.Round.{IsDeadRound}
 use Rattle.dce_pass.proofs.Follows.{round_follows, round_code}
 use Rattle.dce_pass.specs.Rounds.{AreDeadRounds, ended, and_round}
 use Rattle.dce_pass.proofs.Keeps.{settled_stripped}

@@ -1,5 +1,5 @@
 -- There is no more code than items.
-use Rattle.std.proofs.Common.{◌+◌, ◌≤◌, List, [], ◌∷◌, length, count_by, Bool, true, false, cond, arith}
+use Rattle.std.proofs.Common.{◌≤◌, List, [], ◌∷◌, length, count_by, Bool, true, false, cond, arith}
 use Rattle.std.proofs.lemmas.List.Sums.{sum_by-cons}
 use Rattle.mir_func.specs.declared.item.Item.{Item}
 use Rattle.mir_func.specs.Function.{Function}

@@ -1,7 +1,6 @@
 -- What is kept over rounds.
-use Rattle.std.proofs.Common.{◌≡◌, ℕ, suc, ◌+◌, ◌*◌, ◌≤◌, List, [], ◌∷◌, map, Some, None, Bool, true, false, cond, refl, sym, ap, ◌∙◌, subst, arith}
+use Rattle.std.proofs.Common.{◌≡◌, ℕ, suc, List, [], ◌∷◌, map, Some, None, Bool, true, false, cond, refl, sym, ap, ◌∙◌, subst, arith}
 use Rattle.std.proofs.Math.Nat.{le_refl, le_trans}
-use Rattle.rv64_instr.specs.declared.place.Place.{Place}
 use Rattle.mir_func.specs.declared.position.Pos.{Pos}
 use Rattle.mir_func.specs.declared.variable.MarkValue.TheVariants.{Nothing, Constant, At, Pair}
 use Rattle.mir_func.specs.declared.block.Block.{Block}
@@ -10,23 +9,21 @@ use Rattle.mir_func.specs.declared.item.Item.{Item}
 use Rattle.mir_func.specs.declared.item.ItemKind.{ItemKind}
 use Rattle.mir_func.specs.declared.item.ItemKind.TheVariants.{Code, Mark, Phi}
 use Rattle.mir_func.specs.Function.{Function}
-use Rattle.mir_func.specs.Limits.{MAX_BLOCKS, MAX_SLOTS}
 use Rattle.mir_func.specs.Sound.{IsSound}
 use Rattle.mir_func.specs.Strip.{stripped}
 use Rattle.pass_trait.specs.declared.loss.Loss.{Loss}
 use Rattle.pass_trait.specs.Change.{change}
-use Rattle.pass_trait.specs.Sizes.{greatest, item_count, greatest_number, most_numbers, KeepsSizes}
-use Rattle.dce_rule.specs.Dead.{Places, Ends, is_dead, needed_at, without_dead, thinned_block, thinned, IsRound, IsThinnedOut, over, again}
+use Rattle.pass_trait.specs.Sizes.{greatest, item_count, KeepsSizes}
+use Rattle.dce_rule.specs.Dead.{Places, Ends, is_dead, needed_at, without_dead, thinned_block, IsRound, IsThinnedOut, over, again}
 use Rattle.dce_rule.specs.Wrong.{silenced, silenced_left, silenced_block, taken_out}
 use Rattle.pass_edits.specs.Loose.{KeepsLoosely}
 use Rattle.dce_rule.proofs.Stripped.{round_stripped}
 use Rattle.dce_rule.proofs.Chain.{loose_laws}
-use Rattle.dce_proof.specs.Round.{IsDeadRound}
 use Rattle.dce_proof.proofs.Follows.{round_follows, round_code}
 use Rattle.dce_proof.specs.SizeLaws.{IsNoLarger}
 use Rattle.dce_proof.proofs.Round.{round_sizes}
 use Rattle.dce_pass.specs.Rounds.{AreDeadRounds, ended, and_round}
-use Rattle.dce_pass.specs.RoundsLaws.{KeepsRounds, RoundsKeep}
+use Rattle.dce_pass.specs.RoundsLaws.{RoundsKeep}
 
 -- ---- where nothing goes, nothing goes from the stripped function
 

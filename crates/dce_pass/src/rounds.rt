@@ -1,6 +1,6 @@
 //! Rounds of dead code elimination.
 
-ghost use Rattle.std.specs.Prelude.{◌≡◌, ◌+◌, ◌<◌, ◌^◌, IfOk};
+ghost use Rattle.std.specs.Prelude.{◌+◌, ◌<◌, ◌^◌, IfOk};
 ghost use Rattle.mir_func.specs.Sound.{IsSound};
 ghost use Rattle.pass_trait.specs.Sizes.{greatest_number, item_count};
 ghost use Rattle.dce_pass.specs.Rounds.{AreDeadRounds};

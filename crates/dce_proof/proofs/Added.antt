@@ -2,7 +2,7 @@
 use Rattle.std.proofs.Common.{◌≡◌, ◌⊎◌, inl, inr, ℕ, zero, suc, ◌+◌, ◌<◌, ◌≤◌, List, [], ◌∷◌, ◌++◌, length, take, drop, get_or, All}
 use Rattle.std.proofs.Common.{Option, Some, None, Bool, true, false, slice_get, append-nil, refl, sym, ap, ◌∙◌, subst, arith}
 use Rattle.std.specs.List.{flat_map}
-use Rattle.std.proofs.Math.Nat.{le_refl, le_trans}
+use Rattle.std.proofs.Math.Nat.{le_refl}
 use Rattle.std.proofs.lemmas.Grind.{flat_map-append}
 use Rattle.std.proofs.lemmas.List.{append_assoc, length-take-le}
 use Rattle.std.proofs.lemmas.List.Elements.{All-nil, All-cons, All-append, All-head, All-tail, All-weaker, Contains-append_right}
@@ -22,13 +22,13 @@ use Rattle.pass_salvage.specs.declared.way.Way.TheVariants.{HasEntry, GetsEntry,
 use Rattle.pass_salvage.specs.Way.{way}
 use Rattle.pass_salvage.specs.Salvage.{entry_for, entries_for, above_after, fresh_after}
 use Rattle.pass_edits.proofs.Numbers.{AreUnlike, all_first, all_second}
-use Rattle.pass_edits.proofs.Under.{KindUnder, BlocksUnder, EntryUnder, greatest_under, items_under, blocks_under, entries_under}
+use Rattle.pass_edits.proofs.Under.{KindUnder, EntryUnder, greatest_under, items_under, blocks_under, entries_under}
 use Rattle.dce_copies.specs.declared.off.Copied.{Copied}
 use Rattle.dce_copies.specs.Off.{numbered_copy, put_off, behind_off, items_off, SoFar, off_by, off_copy, copy_in, off_at, off_down}
 use Rattle.dce_copies.specs.Blocks.{going_from, BlocksSoFar, in_block, block_off, next_off, blocks_off}
 use Rattle.dce_copies.proofs.Down.{off_long}
 use Rattle.dce_salvage_proof.specs.SalvageLaws.{begins_off, all_off}
-use Rattle.dce_salvage_proof.proofs.Copy.{IsCopyOf, copy_of, SplitAt, split_at, Ready, copy_goes}
+use Rattle.dce_salvage_proof.proofs.Copy.{copy_of, split_at, Ready, copy_goes}
 use Rattle.dce_salvage_proof.proofs.Chain.{BlocksReady}
 use Rattle.dce_proof.proofs.Lines.{get_there}
 use Rattle.dce_proof.proofs.Entries.{HasCode, HasAbove, Stands, stand_on, old_stand, new_stands}

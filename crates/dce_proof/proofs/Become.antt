@@ -1,6 +1,6 @@
 -- What each item becomes in a round.
-use Rattle.std.proofs.Common.{◌≡◌, ℤ, ◌⊎◌, ◌↔◌, inl, inr, ℕ, zero, suc, ◌+◌, List, [], ◌∷◌, ◌++◌, Contains, Option, Some, None, Bool, true, false, cond}
-use Rattle.std.proofs.Common.{◌||◌, nat_eq, eq-eqb, slice_get, refl, sym, ap, ◌∙◌, subst, arith}
+use Rattle.std.proofs.Common.{◌≡◌, ℤ, ◌↔◌, inl, inr, ℕ, zero, suc, ◌+◌, List, [], ◌∷◌, Option, Some, None, Bool, true, false, cond}
+use Rattle.std.proofs.Common.{◌||◌, nat_eq, eq-eqb, refl, sym, ap, ◌∙◌, subst, arith}
 use Rattle.std.proofs.lemmas.Bool.{eqb-true}
 use Rattle.rv64_instr.specs.declared.place.Place.{Place}
 use Rattle.rv64_instr.specs.declared.place.Place.TheVariants.{Register, Slot, Const}
@@ -11,7 +11,6 @@ use Rattle.mir_func.specs.declared.position.Pos.{Pos}
 use Rattle.mir_func.specs.declared.position.Origin.{Origin}
 use Rattle.mir_func.specs.declared.location.Loc.{Loc}
 use Rattle.mir_func.specs.declared.variable.VarId.{VarId}
-use Rattle.mir_func.specs.declared.variable.MarkValue.{MarkValue}
 use Rattle.mir_func.specs.declared.variable.MarkValue.TheVariants.{Nothing, Constant, At, Pair}
 use Rattle.mir_func.specs.declared.entry.Entry.{Entry}
 use Rattle.mir_func.specs.declared.item.Item.{Item}
@@ -23,27 +22,26 @@ use Rattle.mir_func.specs.Resolve.{entry_of}
 use Rattle.mir_func.specs.Sound.{IsSound}
 use Rattle.sem_mir.specs.Align.{is_code}
 use Rattle.sem_mir.specs.Live.{Defines, KindDefines}
-use Rattle.pass_trait.specs.declared.loss.Reason.{Reason}
 use Rattle.pass_trait.specs.declared.loss.Reason.TheVariants.{Removed, WrongPlace}
 use Rattle.pass_trait.specs.declared.loss.Loss.{Loss}
 use Rattle.pass_trait.specs.Change.{Change}
 use Rattle.pass_trait.specs.Rule.{IsCopy, StandsAt, item, item_before, number_lost, mark_lost, first_operand}
-use Rattle.pass_trait.specs.Causes.{IsWrong, removed, HasCause, code_removed, place_wrong, salvage_wrong, Comes, goes_on, IsRemoved, IsKeptDefinition}
-use Rattle.pass_trait.specs.Debug.{RegisterStays, ValueStays, PlaceStays, Becomes, mark_stays, phi_stays, code_stays, code_numbered, code_unnumbered, code_goes}
+use Rattle.pass_trait.specs.Causes.{IsWrong, removed, HasCause, code_removed, place_wrong, salvage_wrong, IsRemoved}
+use Rattle.pass_trait.specs.Debug.{RegisterStays, PlaceStays, Becomes, mark_stays, phi_stays, code_stays, code_numbered, code_unnumbered, code_goes}
 use Rattle.pass_trait.specs.Debug.{number_goes, substituted, salvaged, salvaged_wrong, mark_silenced, phi_silenced}
 use Rattle.dce_rule.specs.Dead.{Places, Ends, is_dead, needed_at, paths_of}
-use Rattle.dce_rule.specs.Wrong.{silenced, taken_out, is_dead_at, IsWrongAt, made, on}
+use Rattle.dce_rule.specs.Wrong.{silenced, is_dead_at, IsWrongAt, made, on}
 use Rattle.dce_rule.proofs.Lists.{quiet}
 use Rattle.dce_mark.specs.Judged.{AreJudged}
 use Rattle.dce_copies.specs.declared.off.Copied.{Copied}
 use Rattle.dce_copies.specs.Off.{copied_by, numbered_copy, phi_by, phi_off}
-use Rattle.dce_salvage_proof.specs.SalvageLaws.{all_off, function_off}
-use Rattle.dce_salvage_proof.proofs.Copy.{IsCopyOf, copy_of}
+use Rattle.dce_salvage_proof.specs.SalvageLaws.{all_off}
+use Rattle.dce_salvage_proof.proofs.Copy.{copy_of}
 use Rattle.dce_proof.specs.Ledger.{Line, line_of}
 use Rattle.dce_proof.specs.Rule.{HasLine, Loses, number, copy, mark, phi, IsNumbered, dead_rule}
-use Rattle.dce_proof.proofs.Lines.{bare_of, LineIs, as_it_was, numbered, by_entry, by_phi}
+use Rattle.dce_proof.proofs.Lines.{LineIs, as_it_was, by_entry, by_phi}
 use Rattle.dce_proof.proofs.Places.{edge_ways}
-use Rattle.dce_proof.proofs.Here.{c, dead_one, PlaceLine, place_line, one_line, dead_is, removed_at, comes_wrong}
+use Rattle.dce_proof.proofs.Here.{c, dead_one, PlaceLine, place_line, one_line, removed_at, comes_wrong}
 
 -- ---- copies
 

@@ -1,6 +1,6 @@
 -- The lines of all blocks, and what stands in the blocks when copies that go have lost their numbers.
-use Rattle.std.proofs.Common.{◌≡◌, ◌⊎◌, ◌↔◌, inl, inr, Contains, ℕ, zero, suc, ◌<◌, ◌≤◌, List, [], ◌∷◌, ◌++◌, map, length, drop, get_or}
-use Rattle.std.proofs.Common.{Option, Some, None, Bool, true, false, cond, nat_eq, eq-eqb, ne_eqb, slice_get, append-nil, refl, sym, ap, ◌∙◌, subst, arith}
+use Rattle.std.proofs.Common.{◌≡◌, ◌⊎◌, inl, inr, Contains, ℕ, zero, suc, List, [], ◌∷◌, ◌++◌, map, length, drop, get_or}
+use Rattle.std.proofs.Common.{Some, Bool, true, false, cond, nat_eq, eq-eqb, ne_eqb, slice_get, append-nil, refl, sym, ap, ◌∙◌, subst, arith}
 use Rattle.std.proofs.Math.Nat.{le_refl}
 use Rattle.std.proofs.lemmas.Bool.{eqb-true}
 use Rattle.std.proofs.lemmas.List.{append_assoc}
@@ -14,8 +14,7 @@ use Rattle.sem_mir.proofs.Reading.{apart_tail}
 use Rattle.pass_trait.specs.declared.loss.Loss.{Loss}
 use Rattle.dce_rule.specs.Dead.{Ends}
 use Rattle.dce_mark.specs.Judged.{verdicts}
-use Rattle.dce_copies.specs.Off.{SoFar, off_down}
-use Rattle.dce_copies.specs.Blocks.{going_from, BlocksSoFar, in_block, block_off, next_off, blocks_off}
+use Rattle.dce_copies.specs.Blocks.{going_from, BlocksSoFar, in_block, block_off, blocks_off}
 use Rattle.dce_proof.specs.Ledger.{Line, lines_down, lines_in}
 use Rattle.dce_proof.proofs.Lines.{LinesAre, LineAt, lines_from, lines_more, all_now, Own, Done, down}
 

@@ -1,7 +1,6 @@
 -- How many items are left of some, and how many of them are dead.
-use Rattle.std.proofs.Common.{◌≡◌, ℕ, zero, suc, ◌+◌, ◌<◌, ◌≤◌, List, [], ◌∷◌, ◌++◌, map, length, take, get_or, count_by, Option, None, Bool, true, false, cond}
+use Rattle.std.proofs.Common.{◌≡◌, ℕ, zero, suc, ◌+◌, ◌≤◌, List, [], ◌∷◌, ◌++◌, map, length, take, get_or, count_by, None, Bool, true, false, cond}
 use Rattle.std.proofs.Common.{refl, sym, ap, ◌∙◌, arith, length-append}
-use Rattle.std.specs.List.{cons_option}
 use Rattle.std.proofs.lemmas.List.{take_more, take_all}
 use Rattle.std.proofs.lemmas.List.Sums.{sum_by-cons, sum_by-append}
 use Rattle.rv64_instr.specs.Row.{row_of}

@@ -1,15 +1,13 @@
 -- The substitutions that are added: each is for a number that nothing has any more, and leads to a number that code has.
-use Rattle.std.proofs.Common.{◌≡◌, ◌⊎◌, inl, inr, ℕ, zero, suc, ◌+◌, ◌<◌, ◌≤◌, List, [], ◌∷◌, ◌++◌, length, take, drop, get_or, All, Contains}
+use Rattle.std.proofs.Common.{◌≡◌, ◌⊎◌, inl, inr, ℕ, zero, suc, ◌+◌, ◌<◌, List, [], ◌∷◌, ◌++◌, length, drop, get_or, All, Contains}
 use Rattle.std.proofs.Common.{Option, Some, None, Bool, true, false, cond, not, is_some, slice_get, append-nil, refl, sym, ap, ◌∙◌, subst, arith}
 use Rattle.std.specs.List.{list_any}
 use Rattle.std.specs.Prelude.{nat_lt, ◌^◌, nat_eq}
 use Rattle.std.proofs.lemmas.Bool.{cases_eq}
 use Rattle.std.proofs.lemmas.List.{append_assoc, length-append}
-use Rattle.std.proofs.lemmas.List.Elements.{All-nil, All-cons, All-head, All-tail, All-append, All-contains, Contains-append_left, Contains-append_right}
-use Rattle.std.proofs.lemmas.List.Elements.{Contains-append_cases}
+use Rattle.std.proofs.lemmas.List.Elements.{All-nil, All-cons, All-head, All-tail, All-append, All-contains, Contains-append_right}
 use Rattle.std.proofs.lemmas.Option.{slice_get_within, get_or_from_slice_get}
 use Rattle.rv64_instr.specs.Instruction.{Instruction}
-use Rattle.rv64_instr.specs.Row.{Moves, row_of}
 use Rattle.mir_func.specs.declared.entry.Entry.{Entry}
 use Rattle.mir_func.specs.declared.entry.OperandPair.{OperandPair}
 use Rattle.mir_func.specs.declared.position.Origin.{Origin}
@@ -25,13 +23,12 @@ use Rattle.pass_trait.specs.Rule.{item, first_operand}
 use Rattle.mir_substitution.proofs.Entries.{entry_of-push, is_pair-true}
 use Rattle.pass_salvage.specs.declared.way.Way.{Way}
 use Rattle.pass_salvage.specs.declared.way.Way.TheVariants.{HasEntry, GetsEntry, GetsPhi}
-use Rattle.pass_salvage.specs.Way.{or_fresh, has_entry, asks_for, may_stand, way}
+use Rattle.pass_salvage.specs.Way.{or_fresh, has_entry, asks_for, way}
 use Rattle.pass_salvage.specs.Salvage.{with_number, numbered_at, entry_for, entries_for, above_after}
 use Rattle.pass_salvage.proofs.Chosen.{IsEntered, entered}
 use Rattle.pass_edits.proofs.Numbers.{IsUnlike, AreUnlike, all_first, all_second}
-use Rattle.pass_edits.proofs.Around.{with_block}
 use Rattle.pass_edits.proofs.Others.{flat_unlike, Others, others_of}
-use Rattle.pass_edits.proofs.Under.{KindUnder, EntryUnder, no_entry}
+use Rattle.pass_edits.proofs.Under.{KindUnder, no_entry}
 use Rattle.pass_edits.proofs.Found.{last_two, not_is}
 use Rattle.dce_copies.specs.declared.off.Copied.{Copied}
 use Rattle.dce_copies.specs.Off.{phi_by, put_off}

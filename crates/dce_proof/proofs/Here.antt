@@ -1,11 +1,9 @@
 -- What stands at a place before and after, and why code is gone.
-use Rattle.std.proofs.Common.{◌≡◌, ◌⊎◌, ◌↔◌, inl, inr, ℕ, zero, suc, ◌+◌, ◌<◌, ◌≤◌, List, [], ◌∷◌, ◌++◌, map, drop, All, Contains, count_by}
-use Rattle.std.proofs.Common.{Option, Some, None, Bool, true, false, cond, ◌&&◌, slice_get, append-nil, eq-eqb, refl, sym, ap, ◌∙◌, subst, arith}
-use Rattle.std.specs.List.{flat_map}
+use Rattle.std.proofs.Common.{◌≡◌, ℕ, zero, suc, ◌+◌, List, [], ◌∷◌, ◌++◌, drop, All, Contains, count_by}
+use Rattle.std.proofs.Common.{Some, None, Bool, true, false, cond, ◌&&◌, slice_get, append-nil, eq-eqb, refl, sym, ap, ◌∙◌, subst, arith}
 use Rattle.std.proofs.lemmas.List.Elements.{All-contains}
 use Rattle.std.proofs.lemmas.List.Sums.{sum_by-cons, sum_by-append}
 use Rattle.rv64_instr.specs.declared.place.Place.{Place}
-use Rattle.rv64_instr.specs.declared.place.Place.TheVariants.{Register}
 use Rattle.mir_func.specs.declared.position.Pos.{Pos}
 use Rattle.mir_func.specs.declared.position.Origin.{Origin}
 use Rattle.mir_func.specs.declared.position.Origin.TheVariants.{Kept, Before}
@@ -16,7 +14,7 @@ use Rattle.mir_func.specs.declared.item.ItemKind.{ItemKind}
 use Rattle.mir_func.specs.declared.item.ItemKind.TheVariants.{Code, Mark, Phi}
 use Rattle.mir_func.specs.Function.{Function}
 use Rattle.mir_func.specs.Sound.{ids_of, items_of, OriginIn, IsSound}
-use Rattle.mir_func.specs.Graph.{Fetch, Here, below, fetch_in, from_block}
+use Rattle.mir_func.specs.Graph.{Fetch, Here, below, from_block}
 use Rattle.sem_mir.specs.Align.{position_of, is_code}
 use Rattle.sem_mir.specs.Live.{Defines, KindDefines}
 use Rattle.sem_mir.proofs.Reading.{found_in}
@@ -26,15 +24,14 @@ use Rattle.pass_trait.specs.Rule.{StandsAt}
 use Rattle.pass_trait.specs.Causes.{is_position, is_origin, old_program, defines, Comes, begins, goes_on, IsFewer, IsRemoved, IsRemovedDefinition}
 use Rattle.pass_trait.specs.Causes.{IsKeptDefinition, IsAfter}
 use Rattle.dce_rule.specs.Dead.{Places, Ends, is_dead, needed_at, paths_of}
-use Rattle.dce_rule.specs.CodeLaws.{AreLive}
 use Rattle.dce_rule.specs.Wrong.{begins_dead, silenced, taken_out, is_dead_at, IsWrongAt, made, on}
-use Rattle.dce_rule.proofs.Lists.{quiet, quiet_is, taken, rest_at}
+use Rattle.dce_rule.proofs.Lists.{quiet, quiet_is, rest_at}
 use Rattle.dce_rule.proofs.Fewer.{fewer_of}
 use Rattle.dce_rule.proofs.Sound.{ids_taken}
 use Rattle.dce_rule.proofs.Rounds.{ends_one, blocks_self}
 use Rattle.dce_mark.specs.Judged.{AreJudged}
 use Rattle.dce_copies.specs.declared.off.Copied.{Copied}
-use Rattle.dce_copies.specs.Off.{without_number, phi_by, phi_off}
+use Rattle.dce_copies.specs.Off.{without_number, phi_off}
 use Rattle.dce_salvage_proof.specs.SalvageLaws.{begins_off, all_off, function_off}
 use Rattle.dce_proof.specs.Ledger.{Line, ledger}
 use Rattle.dce_proof.specs.Rule.{HasLine}

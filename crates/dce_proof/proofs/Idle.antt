@@ -1,26 +1,21 @@
 -- Where nothing is dead all stays, and nothing is lost.
-use Rattle.std.proofs.Common.{◌≡◌, ◌↔◌, ℕ, zero, suc, ◌<◌, ◌≤◌, List, [], ◌∷◌, ◌++◌}
-use Rattle.std.proofs.Common.{map, length, drop, get_or, AllPairs, Contains, Bool, true, false, cond, ◌||◌}
+use Rattle.std.proofs.Common.{◌≡◌, ◌↔◌, ℕ, zero, suc, ◌≤◌, List, [], ◌∷◌, ◌++◌}
+use Rattle.std.proofs.Common.{map, length, drop, get_or, Contains, Bool, true, false, cond, ◌||◌}
 use Rattle.std.proofs.Common.{append-nil, refl, sym, ap, ◌∙◌, subst, arith}
-use Rattle.rv64_instr.specs.declared.place.Place.{Place}
 use Rattle.mir_func.specs.declared.position.Pos.{Pos}
-use Rattle.mir_func.specs.declared.variable.MarkValue.TheVariants.{Nothing, Constant, At, Pair}
 use Rattle.mir_func.specs.declared.block.Block.{Block}
 use Rattle.mir_func.specs.declared.entry.Entry.{Entry}
 use Rattle.mir_func.specs.declared.item.Item.{Item}
-use Rattle.mir_func.specs.declared.item.ItemKind.{ItemKind}
-use Rattle.mir_func.specs.declared.item.ItemKind.TheVariants.{Code, Mark, Phi}
 use Rattle.mir_func.specs.Function.{Function}
-use Rattle.mir_func.specs.Sound.{IsSound}
 use Rattle.pass_trait.specs.declared.loss.Loss.{Loss}
 use Rattle.pass_trait.specs.Change.{change}
 use Rattle.pass_trait.specs.Debug.{KeepsItems}
-use Rattle.dce_rule.specs.Dead.{Places, Ends, is_dead, needed_at, without_dead, thinned_block, thinned, IsRound}
-use Rattle.dce_rule.specs.Wrong.{taken_out, IsWrongAt}
+use Rattle.dce_rule.specs.Dead.{Places, Ends, is_dead, needed_at, without_dead, thinned_block}
+use Rattle.dce_rule.specs.Wrong.{taken_out}
 use Rattle.dce_rule.specs.Out.{LosesAt, AreWrong}
 use Rattle.dce_mark.specs.Judged.{verdicts, AreJudged}
 use Rattle.dce_copies.specs.Off.{SoFar, off_at, off_down}
-use Rattle.dce_copies.specs.Blocks.{going_from, BlocksSoFar, in_block, block_off, with_front, next_off, blocks_off}
+use Rattle.dce_copies.specs.Blocks.{going_from, BlocksSoFar, in_block, block_off, with_front, blocks_off}
 use Rattle.dce_salvage_proof.specs.SalvageLaws.{begins_off, all_off, function_off}
 use Rattle.dce_sweep.proofs.None.{some_true, some_dead, blocks_same, never_wrong, loses_none}
 use Rattle.dce_proof.specs.Rule.{dead_rule}

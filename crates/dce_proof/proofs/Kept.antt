@@ -1,13 +1,8 @@
 -- A round keeps all debug items, or tells their loss.
-use Rattle.std.proofs.Common.{◌≡◌, ◌⊎◌, ◌↔◌, inl, inr, ℕ, zero, suc, ◌+◌, ◌<◌, List, [], ◌∷◌, ◌++◌, map, drop, All, Contains, Option, Some, None, Bool, true}
-use Rattle.std.proofs.Common.{false, cond, nat_eq, slice_get, append-nil, refl, sym, ap, ◌∙◌, subst, arith}
-use Rattle.std.specs.List.{flat_map, filter_map, cons_option}
-use Rattle.std.proofs.lemmas.List.{append_assoc}
-use Rattle.std.proofs.lemmas.List.Elements.{All-nil, All-cons, All-head, All-tail, All-weaker, All-contains_itself}
-use Rattle.std.proofs.lemmas.List.Elements.{Contains-append_left, Contains-append_right, Contains-append_cases}
+use Rattle.std.proofs.Common.{◌≡◌, ℕ, zero, suc, ◌+◌, List, [], ◌∷◌, ◌++◌, map, drop, All, Contains, Option, Some, None, Bool, true}
+use Rattle.std.proofs.Common.{false, cond, nat_eq, slice_get, refl, sym, ap, ◌∙◌, subst, arith}
 use Rattle.std.proofs.lemmas.Option.{slice_get_within, get_or_from_slice_get}
 use Rattle.rv64_instr.specs.declared.place.Place.{Place}
-use Rattle.rv64_instr.specs.declared.place.Place.TheVariants.{Register}
 use Rattle.rv64_instr.specs.Instruction.{Instruction}
 use Rattle.rv64_instr.specs.Row.{Moves, row_of}
 use Rattle.mir_func.specs.declared.position.Pos.{Pos}
@@ -18,40 +13,34 @@ use Rattle.mir_func.specs.declared.entry.Entry.{Entry}
 use Rattle.mir_func.specs.declared.item.Item.{Item}
 use Rattle.mir_func.specs.declared.item.ItemKind.{ItemKind}
 use Rattle.mir_func.specs.declared.item.ItemKind.TheVariants.{Code, Mark, Phi}
-use Rattle.mir_func.specs.declared.variable.MarkValue.TheVariants.{Nothing, Constant, At, Pair}
 use Rattle.mir_func.specs.Function.{Function}
-use Rattle.mir_func.specs.Graph.{Fetch, Here, front, fetch_in, from_block}
-use Rattle.mir_func.specs.Resolve.{entry_of, at as ends_here}
-use Rattle.mir_func.specs.Sound.{AreApart, ids_of, items_of, number_of, code_number, IsSound}
+use Rattle.mir_func.specs.Graph.{front, fetch_in}
+use Rattle.mir_func.specs.Resolve.{entry_of}
+use Rattle.mir_func.specs.Sound.{IsSound}
 use Rattle.mir_func.specs.Successors.{pos_in}
 use Rattle.sem_mir.proofs.Reading.{found}
 use Rattle.sem_mir.specs.Align.{is_code}
-use Rattle.sem_simulation.proofs.Laid.{rest_in, rest_of, laid_out}
-use Rattle.pass_trait.specs.declared.loss.Reason.TheVariants.{Removed, WrongPlace}
-use Rattle.pass_trait.specs.declared.loss.Loss.{Loss}
-use Rattle.pass_trait.specs.Change.{Change, change}
-use Rattle.pass_trait.specs.Order.{IsInOrder}
-use Rattle.pass_trait.specs.Rule.{StandsAt, item, first_operand, number_lost, mark_lost, numbers_on}
-use Rattle.pass_trait.specs.Debug.{IsKillAt, Becomes, BecomeAll, over, next, BlocksBecome, none, stays as block_stays, IsLoss, IsFor, IsGivenOrLost, KeepsItems}
-use Rattle.dce_rule.specs.Dead.{Places, Ends, is_dead, needed_at}
-use Rattle.dce_rule.specs.Wrong.{begins_dead, silenced, silenced_left, taken_out, is_dead_at, IsWrongAt}
-use Rattle.dce_rule.specs.Out.{LosesOf, LosesAt, AreWrong}
-use Rattle.dce_rule.proofs.Lists.{quiet, quiet_is, taken}
-use Rattle.dce_rule.proofs.Sound.{Left, none as left_none, kept as left_kept, gone as left_gone, left_items}
+use Rattle.sem_simulation.proofs.Laid.{rest_in, rest_of}
+use Rattle.pass_trait.specs.Change.{Change}
+use Rattle.pass_trait.specs.Rule.{StandsAt, item, first_operand}
+use Rattle.pass_trait.specs.Debug.{IsKillAt, Becomes, BecomeAll, over, next, BlocksBecome, none, stays as block_stays}
+use Rattle.dce_rule.specs.Dead.{Places, is_dead, needed_at}
+use Rattle.dce_rule.specs.Wrong.{begins_dead, silenced, silenced_left, is_dead_at, IsWrongAt}
+use Rattle.dce_rule.specs.Out.{AreWrong}
+use Rattle.dce_rule.proofs.Lists.{quiet, taken}
 use Rattle.dce_mark.specs.Judged.{AreJudged}
 use Rattle.dce_copies.specs.declared.off.Copied.{Copied}
-use Rattle.dce_copies.specs.Off.{without_number, numbered_copy, phi_by, phi_off}
+use Rattle.dce_copies.specs.Off.{without_number, phi_by, phi_off}
 use Rattle.dce_salvage_proof.specs.SalvageLaws.{begins_off, all_off, function_off}
-use Rattle.dce_salvage_proof.proofs.Copy.{IsCopyOf, copy_of as copy_is}
+use Rattle.dce_salvage_proof.proofs.Copy.{copy_of as copy_is}
 use Rattle.dce_proof.specs.Ledger.{Line, line_of, ledger}
-use Rattle.dce_proof.specs.Rule.{HasLine, Loses, number, copy, mark, phi, dead_rule}
-use Rattle.dce_proof.proofs.Lines.{bare_of, LineIs, as_it_was, numbered, by_entry, by_phi, LinesAre, all_now}
+use Rattle.dce_proof.specs.Rule.{number, phi, dead_rule}
+use Rattle.dce_proof.proofs.Lines.{LineIs, as_it_was, numbered, by_entry, by_phi, LinesAre, all_now}
 use Rattle.dce_proof.proofs.Blocks.{all_lines, BlocksAre, no_blocks, and_block, lines_at, lines_for, lines_for_is}
-use Rattle.dce_proof.proofs.Blocks.{Found, nowhere, there, found_at, OwnIn, lost_there, there_lost}
-use Rattle.dce_proof.proofs.Places.{ahead, ahead_zero, over_now, LineHere, line_here, past_here, Whose}
-use Rattle.dce_proof.proofs.Places.{first_of, copy_of, whose, forth, home, wrong_home, wrong_forth}
-use Rattle.dce_proof.proofs.Here.{c, all, dead_one, PlaceLine, place_line, one_line, dead_is}
-use Rattle.dce_proof.proofs.Become.{lost_here, Stood, kept, gone, gets_number, entered_goes, phi_put, cause_of}
+use Rattle.dce_proof.proofs.Places.{ahead, ahead_zero, over_now, line_here, past_here}
+use Rattle.dce_proof.proofs.Places.{forth, wrong_home, wrong_forth}
+use Rattle.dce_proof.proofs.Here.{c, all, PlaceLine, place_line}
+use Rattle.dce_proof.proofs.Become.{Stood, kept, gone, gets_number, entered_goes, phi_put}
 
 drop_next : (xs : List Item) (n : ℕ) (y : Item) (ys : List Item) → drop n xs ≡ y ∷ ys → drop (suc n) xs ≡ ys
 drop_next [] zero y ys e = cc

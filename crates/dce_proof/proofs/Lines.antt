@@ -24,7 +24,7 @@ use Rattle.pass_trait.specs.declared.loss.Loss.{Loss}
 use Rattle.pass_salvage.specs.declared.way.Way.{Way}
 use Rattle.pass_salvage.specs.declared.way.Way.TheVariants.{HasEntry, GetsEntry, GetsPhi}
 use Rattle.pass_salvage.specs.Way.{has_entry, or_fresh, asks_for, may_stand, way_by, way_of_kind, way_at, way_from, way, first_definition, last_definition}
-use Rattle.pass_salvage.specs.Salvage.{with_number, numbered_at, entry_for, entries_for, above_after, fresh_after}
+use Rattle.pass_salvage.specs.Salvage.{with_number, numbered_at, entry_for, entries_for, above_after}
 use Rattle.mir_substitution.proofs.Entries.{is_pair-same, entry_of-push}
 use Rattle.pass_salvage.proofs.Chosen.{IsEntered, entered}
 use Rattle.pass_edits.proofs.Found.{not_is}
@@ -32,10 +32,10 @@ use Rattle.dce_rule.specs.Dead.{Places, is_dead, needed_at}
 use Rattle.dce_mark.specs.Judged.{verdicts}
 use Rattle.dce_copies.specs.declared.off.Copied.{Copied}
 use Rattle.dce_copies.specs.Off.{without_number, numbered_copy, phi_off, put_off, lost_if_own, lost_off, behind_off}
-use Rattle.dce_copies.specs.Off.{items_off, SoFar, off_by, off_copy, copy_in, off_at, off_down}
+use Rattle.dce_copies.specs.Off.{SoFar, off_by, off_copy, copy_in, off_at, off_down}
 use Rattle.dce_copies.specs.Blocks.{going_from}
-use Rattle.dce_salvage_proof.proofs.Copy.{SplitAt, split_at}
-use Rattle.dce_proof.specs.Ledger.{Line, phi_source, line_by, line_of, line_of_copy, lines_of, lines_down}
+use Rattle.dce_salvage_proof.proofs.Copy.{split_at}
+use Rattle.dce_proof.specs.Ledger.{Line, line_by, line_of, line_of_copy, lines_of, lines_down}
 use Rattle.rv64_instr.specs.Row.{row_of}
 use Rattle.rv64_instr.specs.Parts.{is_call}
 

@@ -1,13 +1,10 @@
 -- How much there is where copies have lost their numbers.
 use Rattle.std.proofs.Common.{◌≡◌, ℕ, zero, suc, ◌+◌, ◌<◌, ◌≤◌, List, [], ◌∷◌, ◌++◌, map, length, take, drop, get_or, All}
 use Rattle.std.proofs.Common.{Option, Some, None, Bool, true, false}
-use Rattle.std.proofs.Common.{cond, slice_get, refl, sym, ap, ◌∙◌, subst, arith, length-append}
+use Rattle.std.proofs.Common.{cond, slice_get, refl, sym, ap, subst, arith, length-append}
 use Rattle.std.proofs.Math.Nat.{le_refl, le_trans}
-use Rattle.std.proofs.lemmas.List.Elements.{All-nil, All-cons, All-append, All-head, All-tail}
-use Rattle.rv64_instr.specs.declared.operand.Operand.{Operand}
+use Rattle.std.proofs.lemmas.List.Elements.{All-cons, All-append, All-head, All-tail}
 use Rattle.rv64_instr.specs.declared.operand.Operand.TheVariants.{Def, Use}
-use Rattle.rv64_instr.specs.Instruction.{Instruction}
-use Rattle.rv64_instr.specs.Row.{Moves, row_of}
 use Rattle.mir_func.specs.declared.block.Block.{Block}
 use Rattle.mir_func.specs.declared.item.Item.{Item}
 use Rattle.mir_func.specs.declared.item.ItemKind.{ItemKind}
@@ -26,8 +23,8 @@ use Rattle.dce_copies.specs.Blocks.{going_from, BlocksSoFar, in_block, block_off
 use Rattle.dce_copies.proofs.Down.{off_grows, fresh_least}
 use Rattle.dce_rule.specs.Dead.{Ends}
 use Rattle.dce_mark.specs.Judged.{verdicts}
-use Rattle.dce_salvage_proof.proofs.Copy.{IsCopyOf, copy_of, SplitAt, split_at}
-use Rattle.dce_proof.proofs.Counts.{trues, below, below_all, dead_in}
+use Rattle.dce_salvage_proof.proofs.Copy.{IsCopyOf, copy_of, split_at}
+use Rattle.dce_proof.proofs.Counts.{below, below_all, dead_in}
 
 -- ---- each fresh number and each phi is for a copy that goes
 

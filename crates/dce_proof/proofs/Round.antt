@@ -1,17 +1,14 @@
 -- How large a function is after a round.
-use Rattle.std.proofs.Common.{◌≡◌, ℕ, ◌+◌, ◌-◌, ◌<◌, ◌≤◌, List, [], ◌∷◌, map, length, All, Bool, refl, sym, ap, ◌∙◌, subst, arith}
-use Rattle.std.proofs.Math.Nat.{le_trans}
-use Rattle.mir_func.specs.declared.block.Block.{Block}
+use Rattle.std.proofs.Common.{◌≡◌, ℕ, ◌+◌, ◌-◌, ◌≤◌, List, All, Bool, refl, sym, ap, ◌∙◌, subst, arith}
 use Rattle.mir_func.specs.declared.entry.Entry.{Entry}
 use Rattle.mir_func.specs.Function.{Function}
-use Rattle.mir_func.specs.Sound.{IsSound, items_of, AllItems}
-use Rattle.mir_func.specs.SoundFrame.{HasPhysical}
+use Rattle.mir_func.specs.Sound.{IsSound}
 use Rattle.pass_trait.specs.declared.loss.Loss.{Loss}
 use Rattle.pass_trait.specs.Change.{change}
-use Rattle.pass_trait.specs.Sizes.{greatest, numbers_in, greatest_number, item_count, code_count, call_count, IsPhysical, KeepsSizes}
+use Rattle.pass_trait.specs.Sizes.{greatest_number, item_count, call_count, IsPhysical, KeepsSizes}
 use Rattle.pass_edits.proofs.Under.{BlocksUnder, EntryUnder}
 use Rattle.dce_rule.specs.Dead.{Ends}
-use Rattle.dce_rule.specs.Wrong.{silenced_block, taken_out}
+use Rattle.dce_rule.specs.Wrong.{taken_out}
 use Rattle.dce_rule.proofs.Fewer.{sizes_taken}
 use Rattle.dce_rule.proofs.Rounds.{ends_one}
 use Rattle.dce_copies.specs.Blocks.{BlocksSoFar, blocks_off}
@@ -21,7 +18,7 @@ use Rattle.dce_round.specs.Round.{IsDeadRound}
 use Rattle.dce_round.proofs.Follows.{round_code}
 use Rattle.dce_proof.specs.SizeLaws.{IsNoLarger, RoundSizes}
 use Rattle.dce_proof.proofs.Counts.{dead_in, dead_same, all_left, calls_same}
-use Rattle.dce_proof.proofs.Off.{BlocksGrow, verdicts_of, blocks_grow, blocks_physical}
+use Rattle.dce_proof.proofs.Off.{BlocksGrow, blocks_grow, blocks_physical}
 use Rattle.dce_proof.proofs.Numbers.{greatest_less}
 
 module _ (f g : Function) (subs more : List Entry) (losses : List Loss) (sound : IsSound f) (r : IsDeadRound f subs g more losses) where

@@ -1,13 +1,12 @@
 -- What is lost in a round is what its rule says is lost at each place.
-use Rattle.std.proofs.Common.{◌≡◌, ◌⊎◌, ◌↔◌, inl, inr, ℕ, zero, suc, ◌<◌, List, [], ◌∷◌, ◌++◌, drop, Contains, Option, Some, None, Bool, true, false}
-use Rattle.std.proofs.Common.{nat_eq, eq-eqb, slice_get, get_or, refl, sym, ap, ◌∙◌, subst, arith}
-use Rattle.std.proofs.lemmas.List.Elements.{Contains-append_left, Contains-append_right, Contains-append_cases}
+use Rattle.std.proofs.Common.{◌≡◌, ℕ, zero, suc, List, [], ◌∷◌, ◌++◌, drop, Contains, Some, None, Bool, true, false}
+use Rattle.std.proofs.Common.{nat_eq, eq-eqb, slice_get, get_or, refl, sym, ap, ◌∙◌, subst}
 use Rattle.std.proofs.lemmas.Bool.{eqb-true}
 use Rattle.std.proofs.lemmas.Option.{slice_get-get_or, slice_get_within, get_or_from_slice_get}
 use Rattle.rv64_instr.specs.declared.place.Place.{Place}
 use Rattle.rv64_instr.specs.declared.place.Place.TheVariants.{Register}
 use Rattle.rv64_instr.specs.Instruction.{Instruction}
-use Rattle.rv64_instr.specs.Row.{Moves, row_of}
+use Rattle.rv64_instr.specs.Row.{row_of}
 use Rattle.mir_func.specs.declared.position.Pos.{Pos}
 use Rattle.mir_func.specs.declared.position.Origin.{Origin}
 use Rattle.mir_func.specs.declared.location.Loc.{Loc}
@@ -19,7 +18,7 @@ use Rattle.mir_func.specs.declared.item.ItemKind.TheVariants.{Code, Mark, Phi}
 use Rattle.mir_func.specs.declared.variable.MarkValue.TheVariants.{Nothing, Constant, At, Pair}
 use Rattle.mir_func.specs.Function.{Function}
 use Rattle.sem_mir.specs.Live.{Defines, KindDefines}
-use Rattle.mir_func.specs.Graph.{Fetch, Here, below, front, fetch_in, from_block}
+use Rattle.mir_func.specs.Graph.{Fetch, below, front, fetch_in, from_block}
 use Rattle.mir_func.specs.Sound.{IsSound}
 use Rattle.mir_func.specs.Successors.{pos_in}
 use Rattle.sem_mir.proofs.Reading.{found, found_in}
@@ -35,13 +34,13 @@ use Rattle.dce_mark.specs.Judged.{AreJudged}
 use Rattle.dce_copies.specs.declared.off.Copied.{Copied}
 use Rattle.dce_copies.specs.Off.{without_number, numbered_copy, phi_by, phi_off}
 use Rattle.dce_salvage_proof.specs.SalvageLaws.{begins_off, all_off, function_off}
-use Rattle.dce_salvage_proof.proofs.Copy.{IsCopyOf, copy_of as copy_is, SplitAt, split_at}
-use Rattle.dce_proof.specs.Ledger.{Line, line_of, ledger}
+use Rattle.dce_salvage_proof.proofs.Copy.{IsCopyOf, copy_of as copy_is, split_at}
+use Rattle.dce_proof.specs.Ledger.{Line, ledger}
 use Rattle.dce_proof.specs.Rule.{HasLine, Loses, number, copy, mark, phi, dead_rule}
-use Rattle.dce_proof.proofs.Lines.{bare_of, LineIs, as_it_was, numbered, by_entry, by_phi, LinesAre, all_now, Own}
+use Rattle.dce_proof.proofs.Lines.{bare_of, LineIs, as_it_was, numbered, by_entry, by_phi, Own}
 use Rattle.dce_proof.proofs.Blocks.{all_lines, BlocksAre, no_blocks, and_block, lines_at, lines_for, lines_for_is, Found, nowhere, there, found_at, OwnIn}
-use Rattle.dce_proof.proofs.Blocks.{lost_there, there_lost}
-use Rattle.dce_proof.proofs.Places.{ahead, Whose, first_of, copy_of, whose, forth, home, wrong_home, wrong_forth}
+use Rattle.dce_proof.proofs.Blocks.{there_lost}
+use Rattle.dce_proof.proofs.Places.{ahead, Whose, first_of, copy_of, whose, forth, wrong_home, wrong_forth}
 use Rattle.dce_proof.proofs.Here.{c, all, PlaceLine, place_line, one_line, dead_is}
 use Rattle.dce_proof.proofs.Become.{copied_not, is_copy, is_not, copy_defines, wrong_above, own_wrong, wrong_below, ends_are}
 

@@ -1,10 +1,9 @@
 -- A round keeps all debug items, or tells their loss.
-use Rattle.std.proofs.Common.{◌≡◌, ◌⊎◌, ◌↔◌, inl, inr, ℕ, zero, suc, ◌<◌, List, [], ◌∷◌, ◌++◌, map, drop, All, Contains, Option, Some, None, Bool, true}
-use Rattle.std.proofs.Common.{false, cond, append-nil, refl, sym, ap, ◌∙◌, subst, arith}
-use Rattle.std.specs.List.{flat_map, filter_map, cons_option}
-use Rattle.std.proofs.lemmas.List.Elements.{All-nil, All-cons, All-head, All-tail, All-weaker, All-contains_itself}
+use Rattle.std.proofs.Common.{◌≡◌, ◌⊎◌, ◌↔◌, inl, inr, ℕ, zero, suc, List, [], ◌∷◌, ◌++◌, map, drop, All, Contains, Option, Some, None, Bool, true}
+use Rattle.std.proofs.Common.{false, cond, refl, sym, ap, ◌∙◌, subst, arith}
+use Rattle.std.specs.List.{filter_map, cons_option}
+use Rattle.std.proofs.lemmas.List.Elements.{All-cons, All-head, All-tail, All-weaker, All-contains_itself}
 use Rattle.std.proofs.lemmas.List.Elements.{Contains-append_left, Contains-append_right, Contains-append_cases}
-use Rattle.rv64_instr.specs.declared.place.Place.{Place}
 use Rattle.mir_func.specs.declared.position.Pos.{Pos}
 use Rattle.mir_func.specs.declared.position.Origin.{Origin}
 use Rattle.mir_func.specs.declared.block.Block.{Block}
@@ -19,12 +18,11 @@ use Rattle.mir_func.specs.Sound.{items_of, number_of, code_number, IsSound}
 use Rattle.mir_func.specs.Successors.{pos_in}
 use Rattle.sem_mir.proofs.Reading.{found}
 use Rattle.sem_simulation.proofs.Laid.{rest_in, rest_of}
-use Rattle.pass_trait.specs.declared.loss.Reason.{Reason}
 use Rattle.pass_trait.specs.declared.loss.Reason.TheVariants.{Removed}
 use Rattle.pass_trait.specs.declared.loss.Loss.{Loss}
-use Rattle.pass_trait.specs.Change.{Change, change}
+use Rattle.pass_trait.specs.Change.{change}
 use Rattle.pass_trait.specs.Order.{IsInOrder}
-use Rattle.pass_trait.specs.Rule.{StandsAt, number_lost, numbers_on}
+use Rattle.pass_trait.specs.Rule.{StandsAt, number_lost}
 use Rattle.pass_trait.specs.Debug.{IsLoss, IsFor, IsGivenOrLost, KeepsItems}
 use Rattle.dce_rule.specs.Dead.{Places, Ends, is_dead, needed_at}
 use Rattle.dce_rule.specs.Wrong.{begins_dead, silenced, silenced_left, taken_out, is_dead_at}
@@ -36,7 +34,6 @@ use Rattle.dce_mark.specs.Judged.{AreJudged}
 use Rattle.dce_salvage_proof.specs.SalvageLaws.{begins_off, all_off, function_off, KeepsOff}
 use Rattle.dce_salvage_proof.proofs.Chain.{numbers_off}
 use Rattle.pass_edits.proofs.Numbers.{IsUnlike, AreUnlike}
-use Rattle.dce_round.specs.Round.{IsDeadRound}
 use Rattle.dce_proof.specs.Rule.{dead_rule}
 use Rattle.dce_proof.specs.DebugLaws.{RoundKeepsItems}
 use Rattle.dce_proof.proofs.Blocks.{lost_there}

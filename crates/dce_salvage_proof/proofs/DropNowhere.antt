@@ -1,8 +1,6 @@
 -- Code loses its number between two rounds, and nothing gets it.
-use Rattle.std.proofs.Common.{◌≡◌, ℕ, List, false, refl}
-use Rattle.mir_func.specs.declared.entry.Entry.{Entry}
+use Rattle.std.proofs.Common.{ℕ, false, refl}
 use Rattle.mir_func.specs.declared.item.Item.{Item}
-use Rattle.mir_func.specs.Function.{Function}
 use Rattle.mir_func.specs.Resolve.{resolve}
 use Rattle.mir_func.specs.Graph.{Program, program_of}
 use Rattle.sem_mir.specs.Follow.{MarkFits}

@@ -1,17 +1,14 @@
 -- Code loses its number, and nothing gives it any more: how the two runs are related.
-use Rattle.std.proofs.Common.{◌≡◌, ◌⊎◌, inl, inr, ℕ, zero, suc, Option, Some, None, Bool, true, false, refl, sym, ap, ◌∙◌}
+use Rattle.std.proofs.Common.{◌≡◌, ◌⊎◌, inl, inr, ℕ, zero, suc, Option, Some, None, false, sym, ap, ◌∙◌}
 use Rattle.std.proofs.lemmas.Bool.{cases_eq}
 use Rattle.rv64_instr.specs.Instruction.{Instruction}
 use Rattle.rv64_instr.specs.Row.{row_of}
 use Rattle.rv64_instr.specs.Parts.{is_call}
 use Rattle.mir_func.specs.declared.entry.OperandPair.{OperandPair}
-use Rattle.mir_func.specs.declared.position.Origin.{Origin}
-use Rattle.mir_func.specs.declared.location.Loc.{Loc}
 use Rattle.mir_func.specs.declared.item.Item.{Item}
 use Rattle.mir_func.specs.declared.item.ItemKind.{ItemKind}
 use Rattle.mir_func.specs.declared.item.ItemKind.TheVariants.{Code, Mark, Phi}
 use Rattle.mir_func.specs.declared.variable.MarkValue.TheVariants.{Nothing, Constant, At, Pair}
-use Rattle.mir_func.specs.Sound.{number_of}
 use Rattle.mir_func.specs.Graph.{Program}
 use Rattle.sem_mir.specs.State.{Core, updated}
 use Rattle.sem_mir.specs.Step.{numbered, given, defined, pair_value, do_item}
@@ -19,9 +16,8 @@ use Rattle.sem_mir.specs.Effects.{EndAlike, FallsInto}
 use Rattle.sem_mir.specs.Align.{is_code}
 use Rattle.sem_mir.proofs.Outcomes.{alike_weaker}
 use Rattle.sem_mir.proofs.Places.{updated_same, updated_other}
-use Rattle.sem_simulation.specs.Sides.{OutcomesAlike, ShowsSame}
+use Rattle.sem_simulation.specs.Sides.{OutcomesAlike}
 use Rattle.sem_simulation.proofs.Outcomes.{alike_of}
-use Rattle.pass_trait.specs.Rule.{item}
 use Rattle.sem_agreement.specs.Alike.{HeldAlike, TellsNoMore, Alike, OrDefined, HeldAfter, NumbersHeld, Depends}
 use Rattle.sem_agreement.proofs.Outcomes.{TellsAs, alike_both, code_alike, leaves_pair}
 use Rattle.sem_agreement.proofs.Held.{held_fewer, held_itself, held_number, held_by, act_held}

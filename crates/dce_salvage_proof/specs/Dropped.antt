@@ -1,11 +1,11 @@
 -- Code loses its number, and no item has it any more, except perhaps an undef DBG_PHI.
-use Rattle.std.specs.Prelude.{◌≡◌, ℕ, Option, Some, None}
+use Rattle.std.specs.Prelude.{◌≡◌, ℕ, Some, None}
 use Rattle.rv64_instr.specs.Instruction.{Instruction}
 use Rattle.mir_func.specs.declared.position.Origin.{Origin}
 use Rattle.mir_func.specs.declared.location.Loc.{Loc}
 use Rattle.mir_func.specs.declared.item.Item.{Item}
 use Rattle.mir_func.specs.declared.item.ItemKind.{ItemKind}
-use Rattle.mir_func.specs.declared.item.ItemKind.TheVariants.{Code, Mark, Phi}
+use Rattle.mir_func.specs.declared.item.ItemKind.TheVariants.{Code, Phi}
 use Rattle.mir_func.specs.Sound.{number_of}
 use Rattle.pass_trait.specs.Rule.{item}
 use Rattle.pass_salvage.proofs.Edits.{Edits}

@@ -1,14 +1,11 @@
 //! The forward walk over a block, and the propagation to its successors.
 
-ghost use Rattle.std.specs.Prelude.{◌≡◌, ℕ, ◌+◌, ◌<◌, ◌⊎◌, ◌&&◌, [], true, false, length, All, Some};
+ghost use Rattle.std.specs.Prelude.{◌≡◌, ◌+◌, ◌<◌, ◌&&◌, [], true, false, length, All, Some};
 ghost use Rattle.std.specs.Prelude.{slice_index_or};
 ghost use Rattle.rv64_instr.specs.declared.place.Place.{Place};
-ghost use Rattle.mir_func.specs.Exits.{exit_of};
-ghost use Rattle.mir_func.specs.Function.{Function};
 ghost use Rattle.mir_func.specs.Sound.{SlotsIn, AllItems};
 ghost use Rattle.mir_func.proofs.Ways.{IsOut};
 ghost use Rattle.pass_liveness.specs.Sets.{has};
-ghost use Rattle.pass_liveness.specs.Liveness.{items_at};
 ghost use Rattle.dce_stale.specs.Flow.{wrong_past, goes_on, wrong_at, IsHanded};
 ghost use Rattle.dce_stale.specs.Sets.{Handed, HandsOn};
 

@@ -1,6 +1,6 @@
 -- Where nothing is dead, nothing is wrong and nothing goes; where something is, there is less code.
-use Rattle.std.proofs.Common.{◌≡◌, ◌⊎◌, ◌↔◌, inl, inr, ℕ, zero, suc, ◌+◌, ◌<◌, ◌≤◌, List, [], ◌∷◌, ◌++◌, map, count_by}
-use Rattle.std.proofs.Common.{drop, get_or, Contains, Option, Some, None}
+use Rattle.std.proofs.Common.{◌≡◌, ℕ, zero, suc, ◌+◌, ◌<◌, ◌≤◌, List, [], ◌∷◌, ◌++◌, map, count_by}
+use Rattle.std.proofs.Common.{drop, get_or, Contains, Some, None}
 use Rattle.std.proofs.Common.{Bool, true, false, cond, ◌||◌, refl, sym, ap, ◌∙◌, subst, arith}
 use Rattle.std.specs.List.{list_any}
 use Rattle.std.proofs.lemmas.List.Sums.{sum_by-cons, sum_by-append}
@@ -18,12 +18,11 @@ use Rattle.mir_func.specs.Sound.{IsSound, AllItems, HasForm, items_of}
 use Rattle.mir_func.specs.Successors.{pos_in}
 use Rattle.sem_mir.specs.Align.{is_code}
 use Rattle.sem_mir.proofs.Reading.{found_in}
-use Rattle.sem_simulation.proofs.Laid.{rest_in, rest_of}
+use Rattle.sem_simulation.proofs.Laid.{rest_in}
 use Rattle.pass_trait.specs.declared.loss.Loss.{Loss}
-use Rattle.dce_rule.specs.Dead.{Places, Ends, is_dead, needed_at, without_dead, thinned_block, thinned, IsRound}
-use Rattle.dce_rule.specs.CodeLaws.{AreLive}
+use Rattle.dce_rule.specs.Dead.{Places, Ends, is_dead, needed_at, without_dead, thinned_block, IsRound}
 use Rattle.dce_rule.specs.Wrong.{begins_dead, silenced, silenced_left, silenced_block, taken_out, is_dead_at, IsWrongAt, made, on}
-use Rattle.dce_rule.specs.Out.{LosesOf, LosesAt}
+use Rattle.dce_rule.specs.Out.{LosesOf}
 use Rattle.dce_rule.proofs.Lists.{quiet, quiet_is}
 use Rattle.dce_rule.proofs.Sound.{left_of, left_items}
 use Rattle.dce_rule.proofs.Fewer.{count_left}

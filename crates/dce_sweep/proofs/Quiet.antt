@@ -1,7 +1,6 @@
 -- A phi that asks for a place that is wrong gives nothing.
 use Rattle.std.proofs.Common.{◌≡◌, ℕ, Option, Some, None, true, false, cond, Bool, refl, sym, ap}
 use Rattle.rv64_instr.specs.declared.place.Place.{Place}
-use Rattle.mir_func.specs.declared.item.ItemKind.{ItemKind}
 use Rattle.mir_func.specs.declared.item.ItemKind.TheVariants.{Phi}
 use Rattle.dce_rule.specs.Dead.{Places}
 use Rattle.dce_rule.specs.Wrong.{silenced}

@@ -1,9 +1,8 @@
 -- What is lost along the blocks is what the rule says is lost at each place.
-use Rattle.std.proofs.Common.{◌≡◌, ◌⊎◌, ◌↔◌, inl, inr, ℕ, zero, suc, ◌+◌, List, [], ◌∷◌, drop, get_or, Contains, Option, Some, None, Bool, true, false, cond}
+use Rattle.std.proofs.Common.{◌≡◌, ◌↔◌, inl, inr, ℕ, zero, suc, ◌+◌, List, [], ◌∷◌, drop, get_or, Contains, Some, None, Bool, true, false, cond}
 use Rattle.std.proofs.Common.{refl, sym, ap, ◌∙◌, subst, arith}
 use Rattle.std.specs.Prelude.{option_to_list}
 use Rattle.std.proofs.lemmas.List.Elements.{Contains-append_left, Contains-append_right, Contains-append_cases}
-use Rattle.rv64_instr.specs.declared.place.Place.{Place}
 use Rattle.rv64_instr.specs.declared.place.Place.TheVariants.{Register}
 use Rattle.mir_func.specs.declared.position.Pos.{Pos}
 use Rattle.mir_func.specs.declared.position.Origin.{Origin}
@@ -22,7 +21,7 @@ use Rattle.pass_trait.specs.declared.loss.Reason.TheVariants.{Removed, WrongPlac
 use Rattle.pass_trait.specs.declared.loss.Loss.{Loss}
 use Rattle.pass_trait.specs.Rule.{StandsAt, number_lost, mark_lost}
 use Rattle.dce_rule.specs.Dead.{Places, Ends, is_dead, needed_at}
-use Rattle.dce_rule.specs.Wrong.{begins_dead, is_dead_at, IsWrongAt}
+use Rattle.dce_rule.specs.Wrong.{begins_dead, is_dead_at}
 use Rattle.dce_rule.specs.Out.{LosesOf, LosesAt, AreWrong}
 use Rattle.dce_rule.proofs.Lists.{rest_at}
 use Rattle.dce_mark.specs.Judged.{verdicts}

@@ -1,20 +1,18 @@
 -- A block by its index: its verdicts, and the places that are wrong along it.
-use Rattle.std.proofs.Common.{◌≡◌, ◌<◌, ◌+◌, ℕ, zero, suc, List, [], ◌∷◌, map, length, drop, get_or, All, Option, Some, Bool, false}
-use Rattle.std.proofs.Common.{refl, sym, ap, ◌∙◌, subst, arith}
+use Rattle.std.proofs.Common.{◌≡◌, ◌<◌, ℕ, zero, suc, List, [], ◌∷◌, map, length, get_or, All, Some, Bool}
+use Rattle.std.proofs.Common.{sym, ap, ◌∙◌, subst, arith}
 use Rattle.std.specs.Prelude.{slice_get}
-use Rattle.rv64_instr.specs.declared.place.Place.{Place}
 use Rattle.mir_func.specs.declared.block.Block.{Block}
 use Rattle.mir_func.specs.declared.item.Item.{Item}
 use Rattle.mir_func.specs.Function.{Function}
 use Rattle.mir_func.specs.Graph.{from_block}
 use Rattle.mir_func.specs.Sound.{AreApart, ids_of, IsSound, SlotsIn}
 use Rattle.mir_func.specs.Successors.{pos_in}
-use Rattle.pass_trait.specs.declared.loss.Loss.{Loss}
 use Rattle.pass_liveness.specs.Index.{index_in}
 use Rattle.pass_liveness.specs.Sets.{has}
-use Rattle.pass_liveness.specs.Liveness.{set_at, has_at_start}
+use Rattle.pass_liveness.specs.Liveness.{set_at}
 use Rattle.pass_liveness.proofs.Blocks.{from_block-at, index_at, get_at, get_or_any}
-use Rattle.dce_rule.specs.Dead.{Places, Ends}
+use Rattle.dce_rule.specs.Dead.{Ends}
 use Rattle.dce_rule.specs.Wrong.{silenced_left, silenced_block}
 use Rattle.dce_mark.specs.Judged.{verdicts}
 use Rattle.dce_stale.specs.Flow.{wrong_at}

@@ -1,9 +1,9 @@
 //! Readers of a number at the front of bytes, with the bytes after it. They accept only the shortest encoding of a
 //! number in range.
 
-ghost use Rattle.std.specs.Prelude.{◌≡◌, ◌≢◌, ℕ, ℤ, List, ◌≤◌, ◌<◌, ◌^◌, ◌++◌, length, Some, IfSome, IfNone};
+ghost use Rattle.std.specs.Prelude.{◌≡◌, ◌≢◌, ℕ, ℤ, List, ◌<◌, ◌^◌, ◌++◌, length, Some, IfSome, IfNone};
 ghost use Rattle.std.specs.Prelude.{FitsSigned};
-ghost use Rattle.std.specs.Int.{w16, w32, w64, to_le_bytes};
+ghost use Rattle.std.specs.Int.{w32, w64, to_le_bytes};
 ghost use Rattle.dwarf_base.specs.Leb.{uleb_of, sleb_of, IsLeb, unsigned_value, signed_value};
 
 use crate::leb::{sleb, uleb};

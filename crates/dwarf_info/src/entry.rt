@@ -1,11 +1,11 @@
 //! Single entries, written.
 
-ghost use Rattle.std.specs.Prelude.{◌≡◌, ◌+◌, ◌<◌, ◌≤◌, ◌++◌, ◌∷◌, [], ◌==◌, length, OnOk};
+ghost use Rattle.std.specs.Prelude.{◌≡◌, ◌+◌, ◌<◌, ◌++◌, ◌∷◌, [], ◌==◌, length, OnOk};
 ghost use Rattle.std.specs.Int.{w16, w32, w64, to_le_bytes};
 ghost use Rattle.dwarf_base.specs.Leb.{uleb_of};
 ghost use Rattle.dwarf_info.specs.declared.kind.Kind.TheVariants.{TypedParameter, Parameter, TypedVariable, Variable};
 ghost use Rattle.dwarf_info.specs.Kinds;
-ghost use Rattle.dwarf_info.specs.Entries.{named, value, entry, base_type, variable, variable_by, subprogram};
+ghost use Rattle.dwarf_info.specs.Entries.{named, entry, base_type, variable, subprogram};
 ghost use Rattle.dwarf_info.specs.Entries.{compile_unit, HasType};
 ghost use Rattle.dwarf_info.specs.steps.Parts.{in_table};
 

@@ -1,6 +1,6 @@
 //! The writer of a unit's section.
 
-ghost use Rattle.std.specs.Prelude.{◌≡◌, ◌+◌, ◌^◌, ◌<◌, ◌++◌, ◌∷◌, [], ℕ, length, vec_len, All, OnOk, IfOk};
+ghost use Rattle.std.specs.Prelude.{◌≡◌, ◌+◌, ◌^◌, ◌<◌, ◌++◌, [], length, All, OnOk, IfOk};
 ghost use Rattle.std.specs.List.{flat_map};
 ghost use Rattle.dwarf_info.specs.Entries.{header, spelling, HasType, HasTypes};
 ghost use Rattle.dwarf_info.specs.steps.Parts.{type_bytes, variable_bytes, function_bytes, in_table, AreOffsets};

@@ -1,14 +1,13 @@
 //! The reader of a section, from the left.
 
-ghost use Rattle.std.specs.Prelude.{◌≡◌, ◌+◌, ◌^◌, ◌≤◌, ◌<◌, ◌++◌, ◌∷◌, [], ◌-◌, length, IfOk, IsErrOf, MatchResult, ℕ};
+ghost use Rattle.std.specs.Prelude.{◌≡◌, ◌+◌, ◌^◌, ◌<◌, [], ◌-◌, length, IfOk, IsErrOf, MatchResult, ℕ};
 ghost use Rattle.std.specs.Prelude.{List, true};
-ghost use Rattle.std.specs.Int.{w16, w32, w64, to_le_bytes};
+ghost use Rattle.std.specs.Int.{w16, w32, w64};
 ghost use Rattle.dwarf_line.specs.Fields.{constants_at, number_at, uleb_at, advanced_at, line_at, behind_text};
 ghost use Rattle.dwarf_line.specs.FirstFault.{behind_dirs, behind_files, behind_tables, behind_header, register_at};
 ghost use Rattle.dwarf_line.specs.FirstFault.{advance_at, copied_at, ended_at, closed_at, group_at, start_at};
 ghost use Rattle.dwarf_line.specs.FirstFault.{Rows, RowsFault, Program, ProgramFault, SectionFault};
 ghost use Rattle.dwarf_line.specs.FirstFault.{FirstFault, IsSection};
-ghost use Rattle.dwarf_line.specs.Table.{IsRow};
 ghost use Rattle.dwarf_line.specs.Spelling.{registers_at};
 ghost use Rattle.dwarf_line.specs.steps.Gives.{Gives, Faults, Reads};
 ghost use Rattle.dwarf_line.specs.declared.table.LineTable.{LineTable};

@@ -2,10 +2,10 @@
 
 ghost use Rattle.std.specs.Prelude.{◌≡◌, ◌+◌, ◌^◌, ◌≤◌, ◌<◌, ◌↔◌, length, All, IsNone, IfSome};
 ghost use Rattle.std.specs.List.{flat_map};
-ghost use Rattle.dwarf_line.specs.Table.{Ascend, HasRows, IsSequence};
+ghost use Rattle.dwarf_line.specs.Table.{HasRows, IsSequence};
 ghost use Rattle.dwarf_line.specs.Spelling;
-ghost use Rattle.dwarf_line.specs.Spelling.{changing, set_file, set_column, advance_pc, advance_line, rows_to};
-ghost use Rattle.dwarf_line.specs.Spelling.{first_address, registers_at, sequence, program, text, tables, spelling};
+ghost use Rattle.dwarf_line.specs.Spelling.{changing, set_file, set_column, advance_pc, advance_line};
+ghost use Rattle.dwarf_line.specs.Spelling.{registers_at, sequence, program, text, tables, spelling};
 ghost use Rattle.dwarf_line.specs.steps.Size.{capped};
 
 use crate::constants::*;

@@ -2,11 +2,11 @@
 
 ghost use Rattle.std.specs.Prelude.{◌≡◌, ◌+◌, ◌^◌, ◌≤◌, ◌<◌, ◌++◌, ◌∷◌, length, All, OnOk, IfOk};
 ghost use Rattle.std.specs.List.{flat_map};
-ghost use Rattle.dwarf_line.specs.Table.{Ascend, HasRows, IsSequence, HasNames, IsRow, HasRange, IsNumbered};
+ghost use Rattle.dwarf_line.specs.Table.{HasRows, IsSequence, HasNames, IsRow, HasRange, IsNumbered};
 ghost use Rattle.dwarf_line.specs.FirstFault.{IsSection};
 ghost use Rattle.dwarf_line.specs.Spelling;
 ghost use Rattle.dwarf_line.specs.Spelling.{changing, set_file, set_column, advance_pc, advance_line, set_address};
-ghost use Rattle.dwarf_line.specs.Spelling.{end_sequence, rows_to, first_address, registers_at, sequence, program};
+ghost use Rattle.dwarf_line.specs.Spelling.{end_sequence, sequence, program};
 ghost use Rattle.dwarf_line.specs.Spelling.{text, tables, header, spelling};
 
 use crate::constants::*;

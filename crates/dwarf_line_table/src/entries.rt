@@ -1,6 +1,6 @@
 //! The directory and file entries of a line number table.
 
-ghost use Rattle.std.specs.Prelude.{◌≡◌, ◌+◌, ◌-◌, ◌<◌, ◌^◌, map, length, IfOk};
+ghost use Rattle.std.specs.Prelude.{◌≡◌, ◌-◌, ◌<◌, ◌^◌, map, length, IfOk};
 ghost use Rattle.dwarf_line_table.specs.Files.{dirs_of, entries_of, entry_zero};
 ghost use Rattle.dwarf_line_table.specs.steps.Seen.{seen};
 

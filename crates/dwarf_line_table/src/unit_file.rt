@@ -3,7 +3,7 @@
 ghost use Rattle.std.specs.Prelude.{◌≡◌, IfOk};
 ghost use Rattle.std.specs.Option.{option_copied};
 ghost use Rattle.read_metadata.specs.declared.node.FileNode.{FileNode};
-ghost use Rattle.dwarf_line_table.specs.Files.{no_file, file_of_node, function_file};
+ghost use Rattle.dwarf_line_table.specs.Files.{file_of_node, function_file};
 ghost use Rattle.dwarf_line_table.specs.Program.{program_file};
 
 use crate::compiled::Compiled;

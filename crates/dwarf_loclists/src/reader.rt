@@ -1,6 +1,6 @@
 //! Queries on a section: the number of its lists, and the location at an address by a list.
 
-ghost use Rattle.std.specs.Prelude.{◌≡◌, ◌<◌, ℕ, List, length, IfOk, IfErr};
+ghost use Rattle.std.specs.Prelude.{◌≡◌, ◌<◌, List, length, IfOk, IfErr};
 ghost use Rattle.dwarf_loclists.specs.declared.range.Range.{Range};
 ghost use Rattle.dwarf_loclists.specs.Fault.{FaultAt};
 ghost use Rattle.dwarf_loclists.specs.Grammar.{IsSection, PlaceAt, PieceAt};

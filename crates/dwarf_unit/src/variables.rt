@@ -1,7 +1,6 @@
 //! The variables of functions.
 
 ghost use Rattle.std.specs.Prelude.{◌≡◌, [], map, OnOk, IfOk};
-ghost use Rattle.std.specs.List.{flat_map};
 ghost use Rattle.mir_func.specs.Variables.{is_same_variable};
 ghost use Rattle.dwarf_line_table.specs.Files.{with_new, first_uses};
 ghost use Rattle.dwarf_unit.specs.Variables.{whole, marked, marks_of, variables_of_function};

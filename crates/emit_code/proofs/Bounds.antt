@@ -11,7 +11,7 @@ use Rattle.mir_func.specs.declared.position.Pos.{Pos}
 use Rattle.mir_func.specs.Successors.{pos_in}
 use Rattle.emit_code.specs.Counts.{row_words, kind_count, item_count, count_of}
 use Rattle.emit_code.specs.Rule as rule
-use Rattle.emit_code.specs.Rule.{Form, form_size, row_form, form_of, size_of, items_size, blocks_size, items_at, bytes_before}
+use Rattle.emit_code.specs.Rule.{Form, form_size, row_form, form_of, items_size, blocks_size, items_at, bytes_before}
 
 -- ---- multiples of 4
 

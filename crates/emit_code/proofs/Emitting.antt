@@ -35,8 +35,8 @@ use Rattle.emit_code.specs.declared.span.Span.{Span}
 use Rattle.emit_code.specs.declared.span.Span.TheVariants.{Nothing, OneWord, CallSite, Short, Long}
 use Rattle.emit_code.specs.Inverted.{inverted, inverted_op}
 use Rattle.emit_code.specs.Rule as rule
-use Rattle.emit_code.specs.Rule.{Layout, Site, Form, form_of, row_form, form_words, form_entries, kind_words, words_at, entries_at, address_in, start_of}
-use Rattle.emit_code.specs.Rule.{operation_at, skip_operation, jump_operation, word_if, call_words, entry, added_before, items_at, sites_in, sites_from}
+use Rattle.emit_code.specs.Rule.{Layout, Site, form_of, row_form, form_words, form_entries, kind_words, entries_at, address_in, start_of}
+use Rattle.emit_code.specs.Rule.{operation_at, skip_operation, word_if, entry, added_before, items_at, sites_in, sites_from}
 use Rattle.emit_code.specs.steps.Places.{items_count, first_of}
 use Rattle.emit_code.specs.steps.Spans.{row_span, span_of, site_span, sums_from}
 use Rattle.emit_code.specs.steps.Plans.{IsPlan}

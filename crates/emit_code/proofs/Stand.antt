@@ -23,7 +23,7 @@ use Rattle.emit_code.specs.Counts.{MAX_BASE, count_of}
 use Rattle.emit_code.specs.Laid.{StandFrom, IsOfItem, IsCode, is_call_kind, FormWorded, IsWorded}
 use Rattle.emit_code.specs.Rule as rule
 use Rattle.emit_code.specs.Rule.{Layout, Site, Form, form_of, form_size, row_form, form_words, form_entries, kind_words, words_at, entries_at, address_in}
-use Rattle.emit_code.specs.Rule.{word_if, entry, added_before, bytes_before, sites_from, sites_of, words_of, entries_of}
+use Rattle.emit_code.specs.Rule.{word_if, entry, added_before, sites_of, words_of, entries_of}
 use Rattle.emit_code.proofs.Bounds.{before_small}
 use Rattle.emit_code.proofs.Settled.{placed, fetched, in_range}
 use Rattle.emit_code.proofs.Sites.{site_size, bytes_at, blocks_sum}

@@ -1,6 +1,6 @@
 //! The entries of a function's machine code.
 
-ghost use Rattle.std.specs.Prelude.{◌≡◌, ℕ, ◌<◌, ◌+◌, ◌++◌, ◌^◌, ◌∷◌, [], slice_index, true, false, IfOk, OnOk, length};
+ghost use Rattle.std.specs.Prelude.{◌≡◌, ◌<◌, ◌+◌, ◌++◌, ◌^◌, ◌∷◌, [], slice_index, true, false, IfOk, OnOk, length};
 ghost use Rattle.std.specs.List.{flat_map};
 ghost use Rattle.mir_func.specs.declared.position.Pos.{Pos};
 ghost use Rattle.emit_code.specs.Rule.{Layout, Site, entries_of, entries_at, sites_in, entry, added_before};

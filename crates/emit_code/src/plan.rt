@@ -1,8 +1,7 @@
 //! The computed layout of a function, as lookup tables.
 
-ghost use Rattle.std.specs.Prelude.{◌≡◌, ◌+◌, ◌<◌, ◌^◌, length, slice_index, slice_get, Option, Some, option_map};
+ghost use Rattle.std.specs.Prelude.{◌≡◌, ◌+◌, ◌<◌, ◌^◌, length, slice_index, Some};
 ghost use Rattle.std.specs.Prelude.{get_or, IfOk};
-ghost use Rattle.mir_func.specs.Limits.{MAX_BLOCKS};
 ghost use Rattle.emit_code.specs.Counts.{MAX_WORDS, count_of};
 ghost use Rattle.emit_code.specs.Rule.{Layout, offset_to, start_of};
 ghost use Rattle.emit_code.specs.steps.Plans.{IsPlan, IsPlanOf};

@@ -1,7 +1,6 @@
 //! How each item of a function is encoded.
 
 ghost use Rattle.std.specs.Prelude.{◌≡◌, ◌++◌, List, false, map, OnOk, IfOk};
-ghost use Rattle.std.specs.List.{flat_map};
 ghost use Rattle.rv64_instr.specs.Row.{Row};
 ghost use Rattle.rv64_instr.specs.Decoded.{Shows};
 ghost use Rattle.mir_func.specs.declared.block.Block.{Block};

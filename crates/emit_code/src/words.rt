@@ -1,13 +1,12 @@
 //! The machine words of a function.
 
-ghost use Rattle.std.specs.Prelude.{◌≡◌, ℕ, Option, All, ◌<◌, ◌+◌, ◌++◌, ◌^◌, IsTrue, IfSome, IfOk, OnOk, get_or};
-ghost use Rattle.std.specs.Prelude.{slice_index, List, length, pos, ◌-ℤ◌};
+ghost use Rattle.std.specs.Prelude.{◌≡◌, ℕ, Option, All, ◌<◌, ◌+◌, ◌++◌, ◌^◌, IsTrue, IfSome, IfOk, OnOk};
+ghost use Rattle.std.specs.Prelude.{pos, ◌-ℤ◌};
 ghost use Rattle.std.specs.List.{flat_map};
 ghost use Rattle.rv64_instr.specs.Row.{row_of};
 ghost use Rattle.rv64_instr.specs.Form.{has_form};
 ghost use Rattle.mir_func.specs.Sound.{AllItems, HasForm};
 ghost use Rattle.rv64_word.specs.MachineOp.{is_encodable};
-ghost use Rattle.rv64_word.specs.Lowering.{lowered};
 ghost use Rattle.mir_func.specs.declared.item.ItemKind.TheVariants.{Code};
 ghost use Rattle.mir_func.specs.Exits.{row_exit};
 ghost use Rattle.emit_code.specs.Rule.{Layout, Site, words_of, words_at, sites_in, word_if, call_words, operation_at};

@@ -1,45 +1,41 @@
 -- A folded function runs along where the function before did.
-use Rattle.std.proofs.Common.{◌≡◌, ◌⊎◌, ℕ, zero, suc, ◌<◌, List, [], ◌∷◌, ◌++◌, drop, length, slice_get, All, Contains, Option, Some, None, Bool}
+use Rattle.std.proofs.Common.{◌≡◌, ◌⊎◌, ℕ, suc, List, [], ◌∷◌, ◌++◌, drop, length, slice_get, All, Contains, Option, Some, None, Bool}
 use Rattle.std.proofs.Common.{true, false, cond}
-use Rattle.std.proofs.Common.{nat_eq, refl, sym, ap, ◌∙◌, subst, inl, inr, eq-eqb, arith}
+use Rattle.std.proofs.Common.{nat_eq, refl, sym, ap, ◌∙◌, subst, inl, inr, arith}
 use Rattle.std.proofs.lemmas.List.Elements.{All-nil, All-cons, All-weaker, All-contains, All-append}
 use Rattle.std.proofs.lemmas.Option.{slice_get-get_or}
 use Rattle.mir_func.specs.declared.block.Block.{Block}
-use Rattle.mir_func.specs.declared.entry.OperandPair.{OperandPair}
 use Rattle.mir_func.specs.declared.exit.Exit.{Exit}
 use Rattle.mir_func.specs.declared.exit.Exit.TheVariants.{Onward, Perhaps, Always, Final}
 use Rattle.mir_func.specs.declared.item.Item.{Item}
 use Rattle.mir_func.specs.declared.item.ItemKind.{ItemKind}
 use Rattle.mir_func.specs.declared.item.ItemKind.TheVariants.{Code, Mark, Phi}
 use Rattle.mir_func.specs.declared.position.Pos.{Pos}
-use Rattle.mir_func.specs.declared.position.Origin.{Origin}
 use Rattle.mir_func.specs.Exits.{exit_of, Leaves}
-use Rattle.mir_func.specs.Graph.{Program, Here, Silent, block_start, front, fetch_in, from_block, index_of, program_of}
-use Rattle.mir_func.specs.Sound.{IsJumpAtMost, MayFollow, EndsWell, Closes, LastCloses, IsSound, AllItems}
+use Rattle.mir_func.specs.Graph.{Program, Here, Silent, block_start, fetch_in, from_block, index_of, program_of}
+use Rattle.mir_func.specs.Sound.{IsJumpAtMost, MayFollow, EndsWell, Closes, LastCloses}
 use Rattle.sem_mir.specs.State.{State}
 use Rattle.sem_mir.specs.Align.{position_of, is_code, ByItems, ByEnds, station_of, station_at, IsOrigin, AnyOrigin, RunsAlong, Station}
 use Rattle.sem_mir.specs.Follow.{first_of as first_number}
 use Rattle.sem_mir.proofs.Reading.{found_in, item_front, front_item}
-use Rattle.sem_simulation.specs.Rewired.{Rewired, RewiredFollows}
+use Rattle.sem_simulation.specs.Rewired.{Rewired}
 use Rattle.sem_simulation.proofs.Rewired.{rewired_follows}
 use Rattle.sem_simulation.proofs.Stations.{code_station, end_is_station, IsStationOf, of_item, of_end, station_is_of}
 use Rattle.sem_simulation.proofs.Laid.{rest_in, rest_of, laid_out, in_order_at, from_home, from_before_end, falls_down}
-use Rattle.fold_targets.specs.Leads.{first_id, always_to}
-use Rattle.fold_rule.specs.Turned.{sent, turned, made_jump}
+use Rattle.fold_targets.specs.Leads.{first_id}
+use Rattle.fold_rule.specs.Turned.{sent, turned}
 use Rattle.fold_rule.specs.Tails.{first_of, else_way, is_number, if_needed, jump_at_end, jump_for_branch, branch_tail, plain_tail, branch_tail_to, tail_by}
 use Rattle.fold_rule.specs.Tails.{rewritten}
-use Rattle.fold_rule.specs.Reached.{ways_in, LeadTo, Reached, first, onward}
+use Rattle.fold_rule.specs.Reached.{LeadTo, first, onward}
 use Rattle.fold_rule_proof.proofs.Tails.{goes_else}
-use Rattle.fold_rule_proof.proofs.Rows.{Leads}
-use Rattle.fold_rule_proof.specs.Kills.{kills, IsFoldedWithKills}
+use Rattle.fold_rule_proof.specs.Kills.{kills}
 use Rattle.fold_rule_proof.proofs.Kills.{IsKillKind, IsKill, each_kill}
 use Rattle.fold_proof.specs.Runs.{FoldedRunsAlong}
 use Rattle.fold_proof.proofs.Told.{kin_itself}
-use Rattle.fold_proof.proofs.Placed.{Found, falls_from, made_block, made_at, WasBlock, made_was}
+use Rattle.fold_proof.proofs.Placed.{Found, falls_from, made_block, made_at, made_was}
 use Rattle.fold_proof.proofs.Ways.{ways_at}
 use Rattle.fold_proof.proofs.Folding.{Folding, old, end, stays, was, new, fp, gp, origins_new, apart_new, new_is, found_staying, was_staying}
 use Rattle.fold_proof.proofs.Folding.{code_leads, leads_to}
-use Rattle.fold_proof.proofs.Folding.{code_final}
 use Rattle.fold_proof.proofs.Runs.{sides, relation, Rest, view}
 
 -- control doesn't fall out of the last block

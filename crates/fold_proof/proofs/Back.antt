@@ -1,32 +1,30 @@
 -- Where a path of the source leads back to its first block, a branch of the folded function goes there.
-use Rattle.std.proofs.Common.{◌≡◌, ◌⊎◌, ℕ, zero, suc, ◌+◌, ◌<◌, ◌≤◌, List, [], ◌∷◌, ◌++◌, length, slice_get, All, Contains, Option, Some, None, Bool}
+use Rattle.std.proofs.Common.{◌≡◌, ◌⊎◌, ℕ, zero, suc, ◌<◌, List, [], ◌∷◌, length, All, Contains, Option, Some, None, Bool}
 use Rattle.std.proofs.Common.{true, false}
-use Rattle.std.proofs.Common.{cond, nat_eq, refl, sym, ap, ◌∙◌, subst, inl, inr, eq-eqb, arith}
-use Rattle.std.proofs.lemmas.Bool.{eqb-true, cases_eq}
-use Rattle.std.proofs.lemmas.List.Elements.{All-nil, All-cons, All-head, All-tail, All-contains, Contains-append_right}
-use Rattle.std.proofs.lemmas.Option.{slice_get-get_or}
-use Rattle.rv64_instr.specs.Row.{Row, Branches, Jumps, Returns, Unfit, row_of}
+use Rattle.std.proofs.Common.{cond, nat_eq, refl, sym, ap, ◌∙◌, subst, inl, inr, arith}
+use Rattle.std.proofs.lemmas.Bool.{eqb-true}
+use Rattle.std.proofs.lemmas.List.Elements.{All-head, All-tail}
+use Rattle.rv64_instr.specs.Row.{Row, Branches, Jumps, Returns, row_of}
 use Rattle.mir_func.specs.declared.block.Block.{Block}
-use Rattle.mir_func.specs.declared.entry.OperandPair.{OperandPair}
 use Rattle.mir_func.specs.declared.exit.Exit.{Exit}
 use Rattle.mir_func.specs.declared.exit.Exit.TheVariants.{Onward, Perhaps, Always, Final}
 use Rattle.mir_func.specs.declared.item.Item.{Item}
 use Rattle.mir_func.specs.declared.item.ItemKind.{ItemKind}
 use Rattle.mir_func.specs.declared.item.ItemKind.TheVariants.{Code, Mark, Phi}
 use Rattle.mir_func.specs.declared.position.Pos.{Pos}
-use Rattle.mir_func.specs.Exits.{row_exit, exit_of, IsAlways, Leaves}
-use Rattle.mir_func.specs.Sound.{ids_of, IsJumpAtMost, MayFollow, EndsWell, Closes, LastCloses}
+use Rattle.mir_func.specs.Exits.{row_exit, exit_of, Leaves}
+use Rattle.mir_func.specs.Sound.{ids_of, IsJumpAtMost, MayFollow, EndsWell, Closes}
 use Rattle.sem_mir.specs.Follow.{OnRow, GoesTo, KindsEndAlike, SameEnd}
 use Rattle.fold_targets.specs.Leads.{first_id, always_to, lead}
 use Rattle.fold_targets.specs.Ways.{EndsAt, leads_nowhere, comes_round, goes_on}
 use Rattle.fold_rule.specs.declared.ways.Ways.{Ways}
-use Rattle.fold_rule.specs.Turned.{sent, turned, made_jump}
-use Rattle.fold_rule.specs.Tails.{first_of, else_way, ways_by, ways_of, is_number, if_needed, jump_at_end, jump_for_branch, branch_tail, plain_tail}
+use Rattle.fold_rule.specs.Turned.{sent, turned}
+use Rattle.fold_rule.specs.Tails.{first_of, else_way, ways_by, ways_of, is_number, if_needed, jump_at_end, jump_for_branch, plain_tail}
 use Rattle.fold_rule.specs.Tails.{branch_tail_to, tail_by, rewritten}
 use Rattle.fold_rule.specs.Reached.{ways_in, LeadTo, Reached, first, onward}
-use Rattle.fold_rule_proof.proofs.Rows.{Leads, sent_branch, turned_branch, sent_jump}
+use Rattle.fold_rule_proof.proofs.Rows.{sent_branch, turned_branch, sent_jump}
 use Rattle.fold_rule_proof.proofs.Tails.{goes_else, jump_exit, always_some}
-use Rattle.fold_proof.proofs.Ways.{always_is, lead_at, lead_ways, ways_at, ends_elsewhere, Was}
+use Rattle.fold_proof.proofs.Ways.{lead_at, lead_ways, ways_at, Was}
 
 -- ---- items that lead somewhere
 

@@ -1,14 +1,12 @@
 -- What the items of a block become: those of a block that stays stay, but for its end, which is written anew.
-use Rattle.std.proofs.Common.{◌≡◌, ◌⊎◌, ℕ, zero, suc, ◌+◌, ◌<◌, List, [], ◌∷◌, ◌++◌, count_by, All, Contains, Option, Some, None, Bool, true, false, cond}
-use Rattle.std.proofs.Common.{not, ◌&&◌, nat_eq, refl, sym, ap, ◌∙◌, subst, inl, inr, arith}
+use Rattle.std.proofs.Common.{◌≡◌, ◌⊎◌, ℕ, suc, ◌<◌, List, [], ◌∷◌, count_by, All, Option, Some, None, Bool, true, false, cond}
+use Rattle.std.proofs.Common.{not, ◌&&◌, nat_eq, refl, sym, ap, subst, inl, inr, arith}
 use Rattle.std.proofs.lemmas.List.Elements.{All-head, All-tail}
 use Rattle.rv64_instr.specs.declared.place.Place.{Place}
 use Rattle.rv64_instr.specs.declared.place.Place.TheVariants.{Register, Slot, Const}
 use Rattle.rv64_instr.specs.Instruction.{Instruction}
 use Rattle.rv64_instr.specs.Access.{sets}
 use Rattle.rv64_instr.specs.Row.{Row, Branches, Jumps, row_of}
-use Rattle.mir_func.specs.declared.block.Block.{Block}
-use Rattle.mir_func.specs.declared.entry.Entry.{Entry}
 use Rattle.mir_func.specs.declared.exit.Exit.{Exit}
 use Rattle.mir_func.specs.declared.exit.Exit.TheVariants.{Onward, Perhaps, Always, Final}
 use Rattle.mir_func.specs.declared.item.Item.{Item}
@@ -32,7 +30,7 @@ use Rattle.pass_trait.specs.Debug.{mark_stays, phi_stays, code_stays, code_unnum
 use Rattle.pass_trait.specs.Debug.{code_goes, idle_goes, BecomeAll, over, next as step, added}
 use Rattle.pass_trait.specs.declared.loss.Loss.{Loss}
 use Rattle.fold_rule.specs.Turned.{to_block, inverse_to, with_code, sent, turned, made_jump}
-use Rattle.fold_rule.specs.Tails.{first_of, else_way, is_number, if_needed, jump_at_end}
+use Rattle.fold_rule.specs.Tails.{first_of, else_way, is_number, jump_at_end}
 use Rattle.fold_rule.specs.Tails.{jump_for_branch, branch_tail, plain_tail, branch_tail_to, tail_by, rewritten}
 use Rattle.fold_rule_proof.proofs.Rows.{Leads, sent_jump}
 use Rattle.fold_rule_proof.proofs.Tails.{goes_else, always_some}

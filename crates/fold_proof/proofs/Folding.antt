@@ -1,6 +1,6 @@
 -- A function that is folded, with what is known of it.
-use Rattle.std.proofs.Common.{◌≡◌, ◌⊎◌, ℕ, zero, suc, ◌+◌, List, [], ◌∷◌, map, drop, All, Contains, Option, Some, None, Bool, true, false, IsTrue}
-use Rattle.std.proofs.Common.{nat_eq, refl, sym}
+use Rattle.std.proofs.Common.{◌≡◌, ◌⊎◌, ℕ, ◌+◌, List, [], ◌∷◌, map, All, Option, Bool, true, false}
+use Rattle.std.proofs.Common.{refl, sym}
 use Rattle.std.proofs.Common.{ap, ◌∙◌, subst, inl, inr, arith}
 use Rattle.std.proofs.lemmas.List.Elements.{All-contains}
 use Rattle.std.proofs.lemmas.Option.{get_or_from_slice_get}
@@ -14,23 +14,22 @@ use Rattle.mir_func.specs.declared.item.ItemKind.{ItemKind}
 use Rattle.mir_func.specs.declared.item.ItemKind.TheVariants.{Code, Mark, Phi}
 use Rattle.mir_func.specs.declared.position.Pos.{Pos}
 use Rattle.mir_func.specs.declared.position.Origin.{Origin}
-use Rattle.mir_func.specs.declared.position.Origin.TheVariants.{Kept, Before}
+use Rattle.mir_func.specs.declared.position.Origin.TheVariants.{Kept}
 use Rattle.mir_func.specs.Exits.{row_exit, exit_of}
 use Rattle.mir_func.specs.Function.{Function}
 use Rattle.mir_func.specs.Graph.{Program, Here, below, block_start, fetch_in, from_block, program_of, KindEdge, RowEdge, FetchEdge}
 use Rattle.mir_func.specs.Sound.{AllItems, AreApart, ids_of, OriginIn, IsSound, HasForm}
 use Rattle.sem_mir.specs.State.{Core, State}
-use Rattle.sem_mir.specs.Step.{Outcome, Falls, Goes, Went, do_item, step}
-use Rattle.sem_mir.specs.Align.{position_of, is_code, is_jump, is_jump_row, waits_at, moves_on, Count, since_of, After}
+use Rattle.sem_mir.specs.Step.{Falls, Goes, Went, do_item, step}
+use Rattle.sem_mir.specs.Align.{is_code, is_jump, is_jump_row, waits_at, moves_on, Count, since_of, After}
 use Rattle.sem_mir.specs.Follow.{OnRow, IsEnd, InOrder}
 use Rattle.sem_mir.proofs.Edges.{step_edge}
 use Rattle.sem_mir.proofs.Outcomes.{step_item}
 use Rattle.sem_mir.proofs.Reading.{found_in, front_item, within_list}
 use Rattle.sem_simulation.specs.Sides.{since_item}
 use Rattle.fold_targets.specs.Ways.{EndsAt}
-use Rattle.fold_targets.specs.Leads.{first_id, lead}
+use Rattle.fold_targets.specs.Leads.{lead}
 use Rattle.fold_rule.specs.Turned.{with_code}
-use Rattle.fold_rule.specs.Reached.{Reached}
 use Rattle.fold_rule_proof.proofs.Rows.{Leads}
 use Rattle.rv64_instr.specs.Instruction.{Instruction}
 use Rattle.fold_rule_proof.specs.Kills.{with_kills, IsFoldedWithKills}

@@ -1,20 +1,13 @@
 -- What is folded follows.
-use Rattle.std.proofs.Common.{◌≡◌, List, Option, All, true, false, refl, sym, ap, ◌∙◌, subst}
-use Rattle.mir_func.specs.declared.block.Block.{Block}
+use Rattle.std.proofs.Common.{◌≡◌, List, true, false, refl, sym, ap, ◌∙◌}
 use Rattle.mir_func.specs.declared.entry.Entry.{Entry}
-use Rattle.mir_func.specs.declared.entry.OperandPair.{OperandPair}
-use Rattle.mir_func.specs.declared.item.Item.{Item}
 use Rattle.mir_func.specs.declared.item.ItemKind.{ItemKind}
 use Rattle.mir_func.specs.declared.item.ItemKind.TheVariants.{Code, Mark, Phi}
-use Rattle.mir_func.specs.declared.object.Object.{Object}
-use Rattle.mir_func.specs.declared.position.Pos.{Pos}
 use Rattle.mir_func.specs.Function.{Function}
-use Rattle.mir_func.specs.Graph.{Program, block_start, program_of}
+use Rattle.mir_func.specs.Graph.{block_start, program_of}
 use Rattle.mir_func.specs.Resolve.{resolve}
 use Rattle.mir_func.specs.Sound.{AllItems, IsSound, HasForm, HasForm as InForm}
-use Rattle.sem_mir.specs.Follow.{Follows, first_of}
-use Rattle.pass_trait.specs.Change.{change}
-use Rattle.pass_trait.specs.Following.{Source, FollowsSource, EndsAsSource, KeepsFollowing}
+use Rattle.pass_trait.specs.Following.{Source, FollowsSource, EndsAsSource}
 use Rattle.fold_rule_proof.specs.Kills.{IsFoldedWithKills}
 use Rattle.fold_proof.proofs.Along.{folded_runs_along}
 use Rattle.fold_proof.proofs.Shape.{folded_has_shape}

@@ -1,7 +1,7 @@
 -- All kills together are no more than the items of the blocks that are gone.
-use Rattle.std.proofs.Common.{◌≡◌, ◌⊎◌, ℕ, zero, suc, ◌+◌, ◌≤◌, List, [], ◌∷◌, ◌++◌}
+use Rattle.std.proofs.Common.{◌≡◌, ℕ, suc, ◌+◌, ◌≤◌, List, [], ◌∷◌}
 use Rattle.std.proofs.Common.{filter, length, slice_get, Option, Some, None, Bool, true, false, cond, not, ◌&&◌}
-use Rattle.std.proofs.Common.{nat_eq, refl, sym, ap, ◌∙◌, subst, inl, inr, eqb-true, eq-eqb, arith}
+use Rattle.std.proofs.Common.{nat_eq, refl, sym, ap, ◌∙◌, eqb-true, eq-eqb, arith}
 use Rattle.std.specs.List.{flat_map, filter_map, cons_option, sum_by}
 use Rattle.std.specs.Option.{is_some}
 use Rattle.std.proofs.lemmas.List.{length-append}
@@ -9,7 +9,7 @@ use Rattle.mir_func.specs.declared.block.Block.{Block}
 use Rattle.mir_func.specs.declared.entry.Entry.{Entry}
 use Rattle.mir_func.specs.declared.item.Item.{Item}
 use Rattle.mir_func.specs.Function.{Function}
-use Rattle.mir_func.specs.Sound.{AreApart, ids_of, IsSound}
+use Rattle.mir_func.specs.Sound.{AreApart, IsSound}
 use Rattle.fold_targets.specs.Leads.{lead}
 use Rattle.fold_targets.proofs.Blocks.{apart_tail}
 use Rattle.fold_rule_proof.specs.Kills.{kill_by, kills_same, once, is_bypassed, lost_ways, kills, IsFoldedWithKills}

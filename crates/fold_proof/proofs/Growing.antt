@@ -1,14 +1,14 @@
 -- A folded function with its kills keeps its bounds.
-use Rattle.std.proofs.Common.{◌≡◌, ◌⊎◌, ℕ, zero, suc, ◌+◌, ◌*◌, ◌<◌, ◌≤◌, List, []}
-use Rattle.std.proofs.Common.{◌∷◌, ◌++◌, map, length, count_by, slice_get, All, Contains, Option, Some, None, Bool}
-use Rattle.std.proofs.Common.{true, false, cond, nat_eq, refl, sym, ap, ◌∙◌, subst, inl, inr, arith}
+use Rattle.std.proofs.Common.{◌≡◌, ◌⊎◌, ℕ, zero, suc, ◌+◌, ◌*◌, ◌≤◌, List, []}
+use Rattle.std.proofs.Common.{◌∷◌, ◌++◌, map, length, count_by, All, Contains, Some, None, Bool}
+use Rattle.std.proofs.Common.{true, false, cond, refl, sym, ap, ◌∙◌, subst, inl, inr, arith}
 use Rattle.std.specs.List.{flat_map, sum_by}
 use Rattle.std.proofs.lemmas.List.Sums.{sum_by-append}
 use Rattle.std.proofs.lemmas.List.Elements.{All-nil, All-cons, All-head, All-tail}
-use Rattle.std.proofs.lemmas.List.Elements.{All-weaker, All-set, All-contains, Contains-append_left, Contains-append_right}
-use Rattle.std.proofs.Math.Nat.{le-max_left, le-max_right, max-le, le_trans, le_refl}
+use Rattle.std.proofs.lemmas.List.Elements.{All-weaker, All-set, Contains-append_left, Contains-append_right}
+use Rattle.std.proofs.Math.Nat.{le-max_left, le-max_right, max-le, le_trans}
 use Rattle.rv64_instr.specs.declared.op.Op.{Op}
-use Rattle.rv64_instr.specs.declared.op.Op.TheVariants.{Registers, Immediate, Lui, Branch, Load, Store, Copy, PseudoBr, PseudoCall, PseudoRet}
+use Rattle.rv64_instr.specs.declared.op.Op.TheVariants.{Branch, PseudoBr}
 use Rattle.rv64_instr.specs.declared.operand.Operand.{Operand}
 use Rattle.rv64_instr.specs.declared.operand.Operand.TheVariants.{Block as OfBlock}
 use Rattle.rv64_instr.specs.Row.{Row, Branches, Jumps, row_of}
@@ -19,7 +19,7 @@ use Rattle.mir_func.specs.declared.item.Item.{Item}
 use Rattle.mir_func.specs.declared.item.ItemKind.{ItemKind}
 use Rattle.mir_func.specs.declared.item.ItemKind.TheVariants.{Code, Mark, Phi}
 use Rattle.mir_func.specs.declared.location.Loc.{Loc}
-use Rattle.mir_func.specs.declared.variable.MarkValue.TheVariants.{Nothing, Constant, At, Pair}
+use Rattle.mir_func.specs.declared.variable.MarkValue.TheVariants.{Nothing}
 use Rattle.mir_func.specs.Exits.{row_exit, exit_of}
 use Rattle.mir_func.specs.Function.{Function}
 use Rattle.mir_func.specs.Limits.{MAX_BLOCKS, MAX_SLOTS}
@@ -27,7 +27,7 @@ use Rattle.mir_func.specs.Sound.{AreApart, ids_of, items_of, EndsWell, Closes, L
 use Rattle.mir_func.specs.SoundFrame.{IsPhysical as OperandIsPhysical, HasPhysical}
 use Rattle.sem_mir.specs.Align.{is_code}
 use Rattle.pass_trait.specs.Change.{change}
-use Rattle.pass_trait.specs.Sizes.{greatest, numbers_in, most_numbers, numbers_of, calls, KeepsSizes}
+use Rattle.pass_trait.specs.Sizes.{greatest, most_numbers, numbers_of, calls, KeepsSizes}
 use Rattle.fold_targets.specs.Leads.{first_id}
 use Rattle.fold_rule.specs.Turned.{aimed, to_block, inverse_to, with_code}
 use Rattle.fold_rule.specs.Rule.{folded_block, staying, folded_blocks}
@@ -37,7 +37,6 @@ use Rattle.fold_rule_proof.specs.Kills.{kill_by, kills, with_kills, IsFoldedWith
 use Rattle.fold_rule_proof.proofs.Kills.{IsKillKind, IsKill, each_kill, ComesFrom, each_from}
 use Rattle.fold_proof.proofs.Folding.{code_leads}
 use Rattle.fold_proof.proofs.Placed.{made}
-use Rattle.fold_proof.proofs.Passing.{new_is}
 use Rattle.fold_proof.specs.Sizes.{FoldedKeepsSizes}
 use Rattle.fold_proof.proofs.Weights.{sum_first, anew_weighs}
 use Rattle.fold_proof.proofs.Gone.{gone_items, all_kills}

@@ -1,5 +1,5 @@
 -- What holds of the kinds of items holds of them once an end is written anew, if it doesn't hang on where branches go.
-use Rattle.std.proofs.Common.{◌≡◌, ℕ, List, [], ◌∷◌, ◌++◌, map, All, Option, Some, None, Bool, true, false, cond, nat_eq, refl}
+use Rattle.std.proofs.Common.{ℕ, List, [], ◌∷◌, map, All, Option, Some, None, Bool, true, false, cond, nat_eq}
 use Rattle.std.proofs.lemmas.List.Elements.{All-nil, All-cons, All-head, All-tail, All-append}
 use Rattle.mir_func.specs.declared.block.Block.{Block}
 use Rattle.mir_func.specs.declared.exit.Exit.{Exit}
@@ -12,8 +12,8 @@ use Rattle.mir_func.specs.declared.position.Origin.TheVariants.{Before}
 use Rattle.mir_func.specs.Exits.{exit_of}
 use Rattle.fold_targets.specs.Leads.{first_id}
 use Rattle.fold_rule.specs.Turned.{to_block, inverse_to, with_code, sent, turned, made_jump}
-use Rattle.fold_rule.specs.Tails.{first_of, else_way, is_number, if_needed, jump_at_end}
-use Rattle.fold_rule.specs.Tails.{jump_for_branch, branch_tail, plain_tail, branch_tail_to, tail_by, rewritten}
+use Rattle.fold_rule.specs.Tails.{first_of, else_way, is_number, jump_at_end}
+use Rattle.fold_rule.specs.Tails.{jump_for_branch, plain_tail, branch_tail_to, tail_by, rewritten}
 use Rattle.fold_rule.specs.Rule.{folded_block, staying, folded_blocks}
 use Rattle.fold_rule_proof.specs.Kills.{kills, with_kills}
 use Rattle.fold_proof.proofs.Placed.{made}

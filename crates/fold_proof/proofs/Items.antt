@@ -1,10 +1,9 @@
 -- The shape of a folded function: its blocks, and what its items are.
-use Rattle.std.proofs.Common.{◌≡◌, ◌⊎◌, ℕ, zero, suc, ◌*◌, ◌≤◌, List, [], ◌∷◌, ◌++◌, map, length, All, Contains, Option, Some, None, Bool, true}
+use Rattle.std.proofs.Common.{◌≡◌, ◌⊎◌, ℕ, suc, ◌*◌, ◌≤◌, List, [], ◌∷◌, ◌++◌, map, length, All, Option, Some, None, Bool, true}
 use Rattle.std.proofs.Common.{false, cond, nat_eq}
-use Rattle.std.proofs.Common.{refl, sym, ap, ◌∙◌, subst, inl, inr, le_trans, arith}
+use Rattle.std.proofs.Common.{refl, sym, ◌∙◌, subst, inl, inr, arith}
 use Rattle.std.proofs.lemmas.List.Elements.{All-nil, All-cons, All-head, All-tail, All-weaker, All-append}
 use Rattle.rv64_instr.specs.declared.op.Op.{Op}
-use Rattle.rv64_instr.specs.declared.op.Op.TheVariants.{PseudoBr}
 use Rattle.rv64_instr.specs.declared.operand.Operand.{Operand}
 use Rattle.rv64_instr.specs.Row.{Row, Branches, Jumps, row_of, row_by}
 use Rattle.mir_func.specs.declared.block.Block.{Block}
@@ -22,11 +21,11 @@ use Rattle.mir_func.specs.Exits.{row_exit, exit_of, Leaves}
 use Rattle.mir_func.specs.Graph.{Program, Fetch, Here, Silent, Outside}
 use Rattle.mir_func.specs.Sound.{IsJumpAtMost, MayFollow, EndsWell, Closes, LastCloses, OriginIn, ids_of}
 use Rattle.sem_mir.specs.Align.{position_of}
-use Rattle.sem_mir.specs.Follow.{class_of, MayAdd, ItemHasClass, HasClass, RowFits, KindFits, MarkFits, rank, next_rank, InOrder, Among, none, same, left}
+use Rattle.sem_mir.specs.Follow.{class_of, ItemHasClass, HasClass, RowFits, KindFits, MarkFits, rank, next_rank, InOrder, Among, none, same, left}
 use Rattle.sem_mir.specs.Follow.{first_of as first_number}
 use Rattle.fold_targets.specs.Leads.{first_id}
 use Rattle.fold_rule.specs.Turned.{inverse, inverse_op, aimed, to_block, inverse_to, with_code, sent, turned, made_jump}
-use Rattle.fold_rule.specs.Tails.{first_of, else_way, is_number, if_needed, jump_at_end, jump_for_branch, branch_tail, plain_tail, branch_tail_to, tail_by}
+use Rattle.fold_rule.specs.Tails.{first_of, else_way, is_number, if_needed, jump_at_end, jump_for_branch, plain_tail, branch_tail_to, tail_by}
 use Rattle.fold_rule.specs.Tails.{rewritten}
 use Rattle.fold_rule.specs.Rule.{folded_block, staying, folded_blocks}
 use Rattle.fold_rule_proof.proofs.Rows.{Leads, IsEnding, branch, jump, is_ending}

@@ -1,5 +1,5 @@
 -- A folded function with its kills keeps each debug item, or its loss is told.
-use Rattle.std.proofs.Common.{◌≡◌, ◌⊎◌, ◌↔◌, ℕ, zero, suc, ◌+◌, ◌<◌, List, [], ◌∷◌, ◌++◌, map, slice_get, All, Contains, Option, Some, None, Bool, true, false}
+use Rattle.std.proofs.Common.{◌≡◌, ◌⊎◌, ℕ, suc, ◌+◌, List, [], ◌∷◌, map, slice_get, All, Contains, Some, None, Bool, true, false}
 use Rattle.std.proofs.Common.{cond, not, ◌&&◌, nat_eq, append-nil, refl, sym, ap, ◌∙◌, subst, inl, inr, eqb-true, eq-eqb, arith}
 use Rattle.std.specs.Option.{is_some}
 use Rattle.std.proofs.lemmas.List.Elements.{All-nil, All-cons, All-head, All-tail, All-weaker, All-contains}
@@ -20,13 +20,11 @@ use Rattle.mir_func.specs.Graph.{from_block}
 use Rattle.mir_func.specs.Sound.{AreApart, ids_of, OriginIn, EndsWell, Closes, LastCloses, IsSound}
 use Rattle.sem_mir.specs.Align.{position_of, is_code}
 use Rattle.pass_trait.specs.declared.loss.Reason.TheVariants.{Bypassed, Unreachable}
-use Rattle.pass_trait.specs.declared.loss.Loss.{Loss}
-use Rattle.pass_trait.specs.Order.{IsInOrder}
 use Rattle.pass_trait.specs.Rule.{IsJump, item}
 use Rattle.pass_trait.specs.Causes.{IsJumpOrDebug}
 use Rattle.pass_trait.specs.Debug.{IsKillAt, Becomes, code_goes, idle_goes, number_goes, mark_goes}
 use Rattle.pass_trait.specs.Debug.{phi_goes, BecomeAll, over, next as step, BlocksBecome, none, stays as block_stays}
-use Rattle.pass_trait.specs.Debug.{goes as block_goes, IsLoss, KeepsItems}
+use Rattle.pass_trait.specs.Debug.{goes as block_goes, IsLoss}
 use Rattle.fold_targets.specs.Leads.{first_id, lead}
 use Rattle.fold_targets.proofs.Blocks.{apart_tail}
 use Rattle.fold_targets.proofs.Ways.{test_of}
@@ -35,11 +33,10 @@ use Rattle.fold_rule.specs.Rule.{folded_block, staying, folded_blocks}
 use Rattle.fold_rule_proof.specs.Kills.{kill_by, is_bypassed, kills, with_kills, IsFoldedWithKills}
 use Rattle.fold_rule_proof.proofs.Kills.{ComesFrom, each_from}
 use Rattle.fold_proof.proofs.Placed.{place_of, made_block, made}
-use Rattle.fold_proof.specs.Lost.{loss_of, all_lost}
-use Rattle.fold_proof.specs.Debug.{IsPassed, IsLostFor, IsLostAt, fold_debug}
+use Rattle.fold_proof.specs.Debug.{IsPassed, IsLostFor, fold_debug}
 use Rattle.fold_proof.specs.Keeps.{FoldedKeepsItems}
 use Rattle.fold_proof.proofs.Passing.{c, new_is, gone_reason, passed_jumps, stays_unlost}
-use Rattle.fold_proof.proofs.Fewer.{same_origin, home_of, Passes, fewer_staying, fewer_gone}
+use Rattle.fold_proof.proofs.Fewer.{same_origin, home_of, fewer_staying, fewer_gone}
 use Rattle.fold_proof.proofs.Becoming.{become}
 use Rattle.fold_proof.proofs.Losing.{stands_in, told, said, caused}
 

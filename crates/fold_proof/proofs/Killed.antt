@@ -1,5 +1,5 @@
 -- What the kills at the end of a way take away: all that the debug items of its bypassed blocks give.
-use Rattle.std.proofs.Common.{◌≡◌, ◌⊎◌, ℕ, zero, suc, List, [], ◌∷◌, ◌++◌, filter, filter_map, flat_map, Contains, Option, Some, None, Bool, true}
+use Rattle.std.proofs.Common.{◌≡◌, ℕ, zero, suc, List, [], ◌∷◌, ◌++◌, filter, filter_map, flat_map, Contains, Option, Some, None, Bool, true}
 use Rattle.std.proofs.Common.{false, cond, not}
 use Rattle.std.proofs.Common.{◌||◌, nat_eq, refl, sym, ap, ◌∙◌, subst, arith}
 use Rattle.std.specs.List.{list_any, cons_option}
@@ -13,7 +13,7 @@ use Rattle.mir_func.specs.Variables.{is_same, overlaps}
 use Rattle.sem_mir.specs.Align.{is_code}
 use Rattle.sem_mir.proofs.Assignments.{same_is}
 use Rattle.fold_rule_proof.specs.Kills.{kill_by, kills_same, once, is_bypassed, lost_ways, kills}
-use Rattle.fold_proof.proofs.Told.{kills_part, kills_number, part_killed, number_killed, IsCovered}
+use Rattle.fold_proof.proofs.Told.{kills_part, kills_number, IsCovered}
 
 or_left : (x y : Bool) → x ≡ true → (x || y) ≡ true
 or_left x y e = λ i. e i || y

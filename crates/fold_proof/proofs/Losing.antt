@@ -1,9 +1,8 @@
 -- What is lost, as it is told and as the rule says it, and its causes.
-use Rattle.std.proofs.Common.{◌≡◌, ◌⊎◌, ◌↔◌, ℕ, zero, suc, ◌+◌, ◌<◌, List, [], ◌∷◌, ◌++◌, slice_get, All, Contains, Option, Some, None, Bool, true, false, cond}
+use Rattle.std.proofs.Common.{◌≡◌, ◌⊎◌, ℕ, zero, suc, ◌+◌, List, [], ◌∷◌, ◌++◌, slice_get, Contains, Option, Some, None, Bool, true, false, cond}
 use Rattle.std.proofs.Common.{refl, sym, ap, ◌∙◌, subst, inl, inr, arith}
-use Rattle.std.specs.List.{flat_map, filter_map, cons_option}
+use Rattle.std.specs.List.{flat_map, cons_option}
 use Rattle.std.proofs.lemmas.List.Elements.{Contains-append_left, Contains-append_right}
-use Rattle.std.proofs.lemmas.Option.{slice_get-get_or, get_or_from_slice_get, slice_get_within}
 use Rattle.rv64_instr.specs.Instruction.{Instruction}
 use Rattle.mir_func.specs.declared.block.Block.{Block}
 use Rattle.mir_func.specs.declared.entry.Entry.{Entry}
@@ -18,16 +17,16 @@ use Rattle.mir_func.specs.Graph.{Here, fetch_in, from_block}
 use Rattle.mir_func.specs.Sound.{IsSound}
 use Rattle.sem_mir.proofs.Reading.{found, found_in, front_item, item_front}
 use Rattle.pass_trait.specs.declared.loss.Reason.{Reason}
-use Rattle.pass_trait.specs.declared.loss.Reason.TheVariants.{Removed, WrongPlace, Scratch, Bypassed, Unreachable, NoScratch, CallNamed, EntryLoop, NoSlot}
+use Rattle.pass_trait.specs.declared.loss.Reason.TheVariants.{Bypassed, Unreachable}
 use Rattle.pass_trait.specs.declared.loss.Loss.{Loss}
 use Rattle.pass_trait.specs.Rule.{number_lost, mark_lost, item, StandsAt}
 use Rattle.pass_trait.specs.Causes.{HasCause, block_bypassed, block_unreachable, code_unreachable}
 use Rattle.fold_targets.specs.Leads.{lead}
 use Rattle.fold_rule_proof.specs.Kills.{IsFoldedWithKills}
 use Rattle.fold_proof.specs.Lost.{is_unreachable, loss_of, lost_in, lost_for, reason_for, all_lost}
-use Rattle.fold_proof.specs.Debug.{IsPassed, IsLostFor, IsLostAt, fold_debug}
-use Rattle.fold_proof.proofs.Passing.{old, end, was, stays, Was, c}
-use Rattle.fold_proof.proofs.Passing.{gone_block, passed_gone, unreached_gone, not_reached, passed_block, lost_reason, reason_lost}
+use Rattle.fold_proof.specs.Debug.{IsLostFor, IsLostAt, fold_debug}
+use Rattle.fold_proof.proofs.Passing.{end, was, c}
+use Rattle.fold_proof.proofs.Passing.{gone_block, unreached_gone, not_reached, passed_block, lost_reason, reason_lost}
 
 -- ---- where an element of a list that is put together comes from
 

@@ -1,6 +1,6 @@
 -- Which blocks stay: those that were reached and aren't bypassed. The others are gone, and why.
-use Rattle.std.proofs.Common.{◌≡◌, ◌⊎◌, ℕ, zero, suc, List, [], ◌∷◌, map, slice_get, All, Contains, Option, Some, None, Bool, true, false, cond, not, ◌&&◌}
-use Rattle.std.proofs.Common.{IsTrue, nat_eq, refl, sym, ap, ◌∙◌, subst, inl, inr, eqb-true, ne_eqb, arith}
+use Rattle.std.proofs.Common.{◌≡◌, ◌⊎◌, ℕ, List, [], ◌∷◌, map, All, Option, Some, None, Bool, true, false, cond, not, ◌&&◌}
+use Rattle.std.proofs.Common.{nat_eq, refl, sym, ap, ◌∙◌, subst, inl, inr, ne_eqb}
 use Rattle.std.specs.Option.{is_some}
 use Rattle.rv64_instr.specs.Row.{Row, Jumps, row_of}
 use Rattle.mir_func.specs.declared.block.Block.{Block}
@@ -11,9 +11,9 @@ use Rattle.mir_func.specs.declared.item.ItemKind.{ItemKind}
 use Rattle.mir_func.specs.declared.item.ItemKind.TheVariants.{Code, Mark, Phi}
 use Rattle.mir_func.specs.Exits.{row_exit, exit_of}
 use Rattle.mir_func.specs.Function.{Function}
-use Rattle.mir_func.specs.Graph.{from_block, block_start, program_of}
+use Rattle.mir_func.specs.Graph.{from_block}
 use Rattle.mir_func.specs.Resolve.{resolve}
-use Rattle.mir_func.specs.Sound.{AreApart, ids_of, MayFollow, EndsWell, IsSound}
+use Rattle.mir_func.specs.Sound.{ids_of, MayFollow, EndsWell, IsSound}
 use Rattle.sem_mir.proofs.Reading.{found_in}
 use Rattle.std.proofs.lemmas.List.Elements.{All-nil, All-cons, All-contains}
 use Rattle.pass_trait.specs.Change.{Change, change}
@@ -21,15 +21,15 @@ use Rattle.pass_trait.specs.Rule.{IsJump}
 use Rattle.pass_trait.specs.Causes.{IsJumpOrDebug, IsReached, IsGoneBlock, IsBypassed}
 use Rattle.pass_trait.specs.declared.loss.Reason.{Reason}
 use Rattle.pass_trait.specs.declared.loss.Reason.TheVariants.{Bypassed, Unreachable}
-use Rattle.fold_targets.specs.Ways.{EndsAt, leads_nowhere, comes_round, goes_on}
-use Rattle.fold_targets.specs.Leads.{first_id, always_to, lead_by, lead_of, lead}
+use Rattle.fold_targets.specs.Ways.{leads_nowhere}
+use Rattle.fold_targets.specs.Leads.{first_id, lead_by, lead_of, lead}
 use Rattle.fold_targets.proofs.Ways.{one_end}
-use Rattle.fold_rule.specs.Reached.{Reached, first, onward}
+use Rattle.fold_rule.specs.Reached.{Reached, onward}
 use Rattle.fold_rule_proof.proofs.Blocks.{has_from}
 use Rattle.fold_rule_proof.specs.Kills.{with_kills, IsFoldedWithKills}
-use Rattle.fold_proof.proofs.Placed.{Found, found_at, made, made_gone}
-use Rattle.fold_proof.proofs.Ways.{always_is, LeadsOn, lead_at, was_before, staying_end}
-use Rattle.fold_proof.proofs.Back.{WayTo, stays_or_way}
+use Rattle.fold_proof.proofs.Placed.{found_at, made, made_gone}
+use Rattle.fold_proof.proofs.Ways.{always_is, lead_at, was_before, staying_end}
+use Rattle.fold_proof.proofs.Back.{stays_or_way}
 use Rattle.fold_proof.specs.Lost.{reason_for}
 use Rattle.fold_proof.specs.Debug.{IsPassed, IsLostFor}
 use Rattle.fold_proof.proofs.Reaching.{reached_leads, leads_reached}

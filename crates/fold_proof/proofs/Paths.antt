@@ -1,15 +1,14 @@
 -- Paths of the source are paths of a function with its ends of blocks, from block to block.
-use Rattle.std.proofs.Common.{◌≡◌, ◌⊎◌, ℕ, zero, suc, ◌+◌, ◌<◌, ◌≤◌, List, [], ◌∷◌, ◌++◌, drop, length, slice_get, get_or, All, Contains, Option}
+use Rattle.std.proofs.Common.{◌≡◌, ◌⊎◌, ℕ, suc, ◌+◌, ◌<◌, ◌≤◌, List, [], ◌∷◌, ◌++◌, drop, length, slice_get, get_or, All, Contains, Option}
 use Rattle.std.proofs.Common.{Some, None, Bool}
-use Rattle.std.proofs.Common.{true, false, cond, nat_eq, refl, sym, ap, ◌∙◌, subst, inl, inr, eq-eqb, arith}
+use Rattle.std.proofs.Common.{true, false, cond, refl, sym, ap, ◌∙◌, subst, inl, inr, eq-eqb, arith}
 use Rattle.std.proofs.lemmas.Bool.{cases_eq}
 use Rattle.std.proofs.lemmas.List.Elements.{All-contains, Contains-append_right}
 use Rattle.std.proofs.lemmas.Option.{slice_get-get_or, slice_get_within, get_or_from_slice_get}
 use Rattle.rv64_instr.specs.Row.{Row, Branches, Jumps, Returns, Unfit, row_of}
 use Rattle.mir_func.specs.declared.block.Block.{Block}
 use Rattle.mir_func.specs.declared.entry.OperandPair.{OperandPair}
-use Rattle.mir_func.specs.declared.exit.Exit.{Exit}
-use Rattle.mir_func.specs.declared.exit.Exit.TheVariants.{Onward, Perhaps, Always, Final}
+use Rattle.mir_func.specs.declared.exit.Exit.TheVariants.{Perhaps, Always}
 use Rattle.mir_func.specs.declared.item.Item.{Item}
 use Rattle.mir_func.specs.declared.item.ItemKind.{ItemKind}
 use Rattle.mir_func.specs.declared.item.ItemKind.TheVariants.{Code, Mark, Phi}
@@ -17,15 +16,15 @@ use Rattle.mir_func.specs.declared.position.Pos.{Pos}
 use Rattle.mir_func.specs.declared.position.Origin.{Origin}
 use Rattle.mir_func.specs.declared.position.Origin.TheVariants.{Kept, Before}
 use Rattle.mir_func.specs.Exits.{row_exit, exit_of, Leaves}
-use Rattle.mir_func.specs.Graph.{Program, Fetch, Here, Silent, Outside, below, block_start, end_of, front, fetch_in, from_block, index_of, program_of}
+use Rattle.mir_func.specs.Graph.{Program, Fetch, Here, Silent, Outside, below, block_start, fetch_in, from_block, index_of, program_of}
 use Rattle.mir_func.specs.Graph.{RowEdge, KindEdge, FetchEdge, Edge, Leads as LeadsFrom, stay, go}
-use Rattle.mir_func.specs.Sound.{ids_of, EndsWell, Closes, LastCloses}
+use Rattle.mir_func.specs.Sound.{ids_of, EndsWell, LastCloses}
 use Rattle.sem_mir.specs.Align.{position_of}
 use Rattle.sem_mir.specs.Follow.{class_of, Odd, HasClass, ItemHasClass, RowFits, KindFits, Shape, OnRow, GoesTo, IsEnd, SameEnd, KindsEndAlike, EndIsKept}
 use Rattle.sem_mir.specs.Follow.{EndComesFrom, first_of as first_number}
 use Rattle.sem_mir.proofs.Reading.{found_in, front_item, item_front, front_end}
-use Rattle.sem_simulation.proofs.Laid.{rest_in, rest_of, from_home, falls_down}
-use Rattle.fold_targets.specs.Ways.{EndsAt, leads_nowhere}
+use Rattle.sem_simulation.proofs.Laid.{rest_in, from_home, falls_down}
+use Rattle.fold_targets.specs.Ways.{leads_nowhere}
 use Rattle.fold_targets.specs.Leads.{first_id, lead}
 use Rattle.fold_targets.proofs.Ways.{one_end}
 use Rattle.fold_rule.specs.declared.ways.Ways.{Ways}
@@ -36,9 +35,9 @@ use Rattle.fold_rule_proof.proofs.Blocks.{has_from, contains_from, ways_goes}
 use Rattle.fold_rule_proof.specs.Kills.{kills}
 use Rattle.fold_proof.proofs.Placed.{Found, found_at, first_end, falls_from, made_block, made, made_at, made_first}
 use Rattle.fold_proof.proofs.Ways.{ways_at, ways_found, lead_at, Was, targets_of}
-use Rattle.fold_proof.proofs.Folding.{Folding, old, end, stays, was, new, fp, gp, ends, apart_new, found_staying, end_kind, leads_to}
+use Rattle.fold_proof.proofs.Folding.{Folding, old, end, stays, was, new, fp, gp, ends, apart_new, end_kind, leads_to}
 use Rattle.fold_proof.proofs.Along.{last_closes, none_after}
-use Rattle.fold_proof.proofs.Back.{item_leads, falls_on, way_goes, WayTo, way_from, stays_or_way, next_by_ids, same_exit}
+use Rattle.fold_proof.proofs.Back.{item_leads, falls_on, way_goes, way_from, stays_or_way, next_by_ids, same_exit}
 use Rattle.fold_proof.proofs.Items.{same_ids}
 
 -- where control goes from an item: to a block, or below

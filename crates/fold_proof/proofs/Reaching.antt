@@ -1,6 +1,6 @@
 -- A block is reached by ways just where a path leads to its start.
-use Rattle.std.proofs.Common.{◌≡◌, ◌⊎◌, ℕ, zero, suc, ◌+◌, ◌<◌, ◌≤◌, List, [], ◌∷◌, drop, length, slice_get, get_or, All, Contains, Option, Some, None, Bool}
-use Rattle.std.proofs.Common.{true, false, cond, nat_eq, refl, sym, ap, ◌∙◌, subst, inl, inr, arith}
+use Rattle.std.proofs.Common.{◌≡◌, ◌⊎◌, ℕ, zero, suc, ◌+◌, ◌<◌, List, [], ◌∷◌, drop, slice_get, get_or, All, Option, Some}
+use Rattle.std.proofs.Common.{false, refl, sym, ap, ◌∙◌, subst, inl, inr, arith}
 use Rattle.std.proofs.lemmas.Bool.{cases_order}
 use Rattle.std.proofs.lemmas.List.Elements.{All-contains}
 use Rattle.std.proofs.lemmas.Option.{slice_get-get_or}
@@ -17,17 +17,17 @@ use Rattle.mir_func.specs.Exits.{row_exit, exit_of, Leaves}
 use Rattle.mir_func.specs.Function.{Function}
 use Rattle.mir_func.specs.Graph.{Program, Fetch, Here, Silent, Outside, below, block_start, front, fetch_in, from_block, program_of}
 use Rattle.mir_func.specs.Graph.{RowEdge, KindEdge, FetchEdge, Edge, Leads as LeadsFrom, stay, go}
-use Rattle.mir_func.specs.Sound.{AreApart, ids_of, EndsWell, LastCloses, IsSound}
+use Rattle.mir_func.specs.Sound.{EndsWell, LastCloses, IsSound}
 use Rattle.sem_mir.specs.Follow.{first_of as first_number}
 use Rattle.sem_mir.proofs.Reading.{found_in, item_front}
-use Rattle.fold_targets.specs.Leads.{first_id, always_to}
+use Rattle.fold_targets.specs.Leads.{first_id}
 use Rattle.fold_rule.specs.declared.ways.Ways.{Ways}
 use Rattle.fold_rule.specs.Tails.{first_of, else_way, ways_by, ways_of}
-use Rattle.fold_rule.specs.Reached.{ways_in, LeadTo, Reached, first, onward}
+use Rattle.fold_rule.specs.Reached.{LeadTo, Reached, first, onward}
 use Rattle.fold_proof.proofs.Placed.{end_first}
 use Rattle.fold_proof.proofs.Ways.{always_is, ways_at, ways_found}
 use Rattle.fold_proof.proofs.Back.{item_leads, falls_on}
-use Rattle.fold_proof.proofs.Paths.{edge_item, contains_at, StandsIn, stands_in, EndsIn, ends_in}
+use Rattle.fold_proof.proofs.Paths.{edge_item, contains_at, stands_in, EndsIn, ends_in}
 
 -- ---- edges
 

@@ -1,8 +1,8 @@
 -- The run of a folded function.
-use Rattle.std.proofs.Common.{◌≡◌, ◌⊎◌, ℕ, zero, suc, ◌+◌, List, [], ◌∷◌, ◌++◌, drop, All, Contains, Option, Some, None, Bool, true, false, cond, not, ◌&&◌}
-use Rattle.std.proofs.Common.{IsTrue, nat_eq, refl, sym, ap, ◌∙◌, subst, inl, inr, eq-eqb, ne_eqb, arith}
+use Rattle.std.proofs.Common.{◌≡◌, ℕ, suc, ◌+◌, List, [], ◌∷◌, ◌++◌, drop, All, Contains, Option, Some, None, Bool, true, false, cond, not, ◌&&◌}
+use Rattle.std.proofs.Common.{nat_eq, refl, sym, ap, ◌∙◌, subst, inl, inr, eq-eqb, ne_eqb, arith}
 use Rattle.std.specs.Option.{is_some}
-use Rattle.std.proofs.lemmas.Bool.{eqb-true, and_from}
+use Rattle.std.proofs.lemmas.Bool.{eqb-true}
 use Rattle.std.proofs.lemmas.List.Elements.{All-nil, All-head, All-tail}
 use Rattle.rv64_instr.specs.Row.{row_of}
 use Rattle.mir_func.specs.declared.block.Block.{Block}
@@ -12,18 +12,18 @@ use Rattle.mir_func.specs.declared.item.Item.{Item}
 use Rattle.mir_func.specs.declared.item.ItemKind.{ItemKind}
 use Rattle.mir_func.specs.declared.item.ItemKind.TheVariants.{Code, Mark, Phi}
 use Rattle.mir_func.specs.declared.position.Pos.{Pos}
-use Rattle.mir_func.specs.declared.position.Origin.TheVariants.{Kept, Before}
+use Rattle.mir_func.specs.declared.position.Origin.TheVariants.{Before}
 use Rattle.mir_func.specs.Exits.{row_exit, exit_of, IsAlways, Leaves as LeavesBlock}
-use Rattle.mir_func.specs.Graph.{Program, Here, Silent, Outside, below, block_start, front, fetch_in, from_block, index_of, program_of}
+use Rattle.mir_func.specs.Graph.{Program, Here, Outside, below, block_start, fetch_in, from_block, index_of}
 use Rattle.mir_func.specs.Sound.{IsJumpAtMost, MayFollow, EndsWell, Closes, HasForm}
 use Rattle.sem_mir.specs.State.{Core, State}
 use Rattle.sem_mir.specs.Step.{Outcome, Falls, Goes, Gives, Traps, Asks, Breaks, do_item}
-use Rattle.sem_mir.specs.Align.{position_of, is_code, ByItems, ByEnds, station_at, IsOrigin, Since, After, AnyOrigin, RunsAlong}
+use Rattle.sem_mir.specs.Align.{position_of, is_code, ByItems, ByEnds, Since, After}
 use Rattle.sem_mir.specs.Effects.{EndAlike}
 use Rattle.sem_mir.proofs.Told.{TellsLess, SeesLess, item_less}
-use Rattle.sem_simulation.specs.Sides.{Sides, Relation, since_item}
+use Rattle.sem_simulation.specs.Sides.{Sides, since_item}
 use Rattle.sem_simulation.specs.Rewired.{RewiredRelation, IsAbsent, Reaches, arrived, debug, jump, finish, Leaves, by_end, by_jump, by_branch, FallsTo, DoAlike}
-use Rattle.sem_simulation.specs.Rewired.{View, both, added, paired, closes, ended, Jumps as JumpsTo}
+use Rattle.sem_simulation.specs.Rewired.{View, both, added, paired, closes, ended}
 use Rattle.sem_simulation.proofs.Stations.{IsStationOf, of_item, of_end, station_is_of}
 use Rattle.sem_simulation.proofs.Laid.{rest_in, rest_of, laid_out, from_home}
 use Rattle.fold_targets.specs.Ways.{EndsAt, leads_nowhere, comes_round, goes_on}
@@ -32,19 +32,19 @@ use Rattle.fold_targets.proofs.Ways.{one_end}
 use Rattle.fold_rule.specs.Turned.{to_block, sent, turned, made_jump}
 use Rattle.fold_rule.specs.Tails.{first_of, else_way, ways_by, ways_of, is_number, if_needed, jump_at_end, jump_for_branch, branch_tail, plain_tail}
 use Rattle.fold_rule.specs.Tails.{branch_tail_to, tail_by, rewritten}
-use Rattle.fold_rule.specs.Reached.{LeadTo, Reached}
+use Rattle.fold_rule.specs.Reached.{LeadTo}
 use Rattle.fold_rule.specs.Rule.{staying}
-use Rattle.fold_rule_proof.proofs.Rows.{Leads, sent_jump}
+use Rattle.fold_rule_proof.proofs.Rows.{Leads}
 use Rattle.fold_rule_proof.proofs.Tails.{always_some, goes_else, jump_exit}
 use Rattle.fold_rule_proof.specs.Kills.{is_bypassed, kills}
 use Rattle.fold_rule_proof.proofs.Kills.{IsKill}
 use Rattle.fold_rule_proof.specs.Alike.{aimed_at, swapped}
 use Rattle.fold_rule_proof.proofs.StepAlike.{items_do_alike}
-use Rattle.fold_proof.proofs.Told.{Kin, kin_itself, kin_more, kin_less, kin_shows, kin_kill, kin_debug, kin_jump, kin_branch, kin_new_jump, BranchDoes}
+use Rattle.fold_proof.proofs.Told.{Kin, kin_itself, kin_more, kin_less, kin_shows, kin_kill, kin_debug, kin_jump, kin_branch, kin_new_jump}
 use Rattle.fold_proof.proofs.Killed.{covered}
-use Rattle.fold_proof.proofs.Placed.{Found, falls_from, made_block, made_at, made_gone, made_first, WasBlock, made_was}
-use Rattle.fold_proof.proofs.Ways.{always_is, ways_at, LeadsOn, lead_at, lead_ways, ends_elsewhere, staying_end, Was, was_led}
-use Rattle.fold_proof.proofs.Folding.{Folding, old, end, stays, was, new, fp, gp, ends, origins_new, apart_new, found_staying, was_staying, form_at}
+use Rattle.fold_proof.proofs.Placed.{falls_from, made_block, made_at, made_gone, made_first}
+use Rattle.fold_proof.proofs.Ways.{always_is, LeadsOn, lead_at, ends_elsewhere, staying_end, Was, was_led}
+use Rattle.fold_proof.proofs.Folding.{Folding, old, end, stays, was, new, fp, gp, ends, origins_new, form_at}
 use Rattle.fold_proof.proofs.Folding.{after_end, end_kind, leads_to, code_leads, code_final, branch_no_jump, still_code, onward_never_goes, final_never_falls}
 use Rattle.fold_proof.proofs.Folding.{final_never_goes}
 use Rattle.sem_mir.proofs.Reading.{found_in}

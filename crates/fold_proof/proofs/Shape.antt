@@ -14,10 +14,9 @@ use Rattle.mir_func.specs.declared.item.Item.{Item}
 use Rattle.mir_func.specs.declared.item.ItemKind.{ItemKind}
 use Rattle.mir_func.specs.declared.item.ItemKind.TheVariants.{Code, Mark, Phi}
 use Rattle.mir_func.specs.declared.position.Pos.{Pos}
-use Rattle.mir_func.specs.declared.position.Origin.{Origin}
 use Rattle.mir_func.specs.declared.position.Origin.TheVariants.{Before}
 use Rattle.mir_func.specs.Exits.{row_exit, exit_of, IsAlways}
-use Rattle.mir_func.specs.Graph.{Program, Here, block_start, fetch_in, from_block, program_of, Leads as LeadsFrom, stay}
+use Rattle.mir_func.specs.Graph.{Program, Here, fetch_in, from_block, program_of, Leads as LeadsFrom, stay}
 use Rattle.mir_func.specs.Sound.{IsJumpAtMost, MayFollow, EndsWell, Closes}
 use Rattle.sem_mir.specs.Align.{position_of}
 use Rattle.sem_mir.specs.Follow.{InOrder, KindFits, MarkFits, OnRow, IsEnd, Shape, IsMetApart, EndIsKept, EndComesFrom}
@@ -28,13 +27,13 @@ use Rattle.fold_rule.specs.Reached.{first}
 use Rattle.fold_rule.specs.Rule.{staying}
 use Rattle.fold_rule_proof.specs.Kills.{kills}
 use Rattle.fold_rule_proof.proofs.Kills.{IsKillKind, IsKill, each_kill}
-use Rattle.fold_proof.proofs.Placed.{made_block, made, made_at, made_was}
+use Rattle.fold_proof.proofs.Placed.{made_was}
 use Rattle.fold_proof.proofs.Along.{last_closes, none_after}
 use Rattle.fold_proof.proofs.Folding.{Folding, old, end, stays, was, new, fp, gp, apart_new}
 use Rattle.fold_proof.proofs.Items.{among_made, first_made, each_made, Facts, order_made, fits_made, marks_made}
-use Rattle.fold_proof.proofs.Paths.{StandsIn, stands_in, back_new, contains_at}
-use Rattle.fold_proof.proofs.Tails.{nothing_at, onward_was, stands_still}
-use Rattle.fold_proof.proofs.Stores.{at_new, Above, Stand, above, stand_along, stands_there, slice_put}
+use Rattle.fold_proof.proofs.Paths.{stands_in, back_new}
+use Rattle.fold_proof.proofs.Tails.{nothing_at, onward_was}
+use Rattle.fold_proof.proofs.Stores.{at_new, Above, above, stand_along, stands_there}
 
 split_put : (ks xs : List Item) (n : ℕ) (i : Item) → slice_get (ks ++ xs) n ≡ Some i → Contains ks i ⊎
     ((k : ℕ) × (n ≡ length ks + k) × (slice_get xs k ≡ Some i))

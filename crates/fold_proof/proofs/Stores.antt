@@ -7,7 +7,6 @@ use Rattle.std.proofs.lemmas.Bool.{eqb-true, cases_eq}
 use Rattle.std.proofs.lemmas.List.Elements.{All-contains, All-head, All-tail}
 use Rattle.std.proofs.lemmas.Option.{slice_get_within}
 use Rattle.rv64_instr.specs.Row.{Row, Branches, Jumps, Returns, Unfit, row_of}
-use Rattle.rv64_instr.specs.Parts.{IsSlotStore}
 use Rattle.mir_func.specs.declared.block.Block.{Block}
 use Rattle.mir_func.specs.declared.exit.Exit.{Exit}
 use Rattle.mir_func.specs.declared.exit.Exit.TheVariants.{Onward, Perhaps, Always, Final}
@@ -16,7 +15,7 @@ use Rattle.mir_func.specs.declared.item.ItemKind.{ItemKind}
 use Rattle.mir_func.specs.declared.item.ItemKind.TheVariants.{Code, Mark, Phi}
 use Rattle.mir_func.specs.declared.position.Pos.{Pos}
 use Rattle.mir_func.specs.Exits.{row_exit, exit_of, IsAlways, Leaves}
-use Rattle.mir_func.specs.Graph.{Program, Fetch, Here, Silent, Outside, below, block_start, front, fetch_in, from_block, RowEdge, KindEdge, FetchEdge, Edge}
+use Rattle.mir_func.specs.Graph.{Program, Fetch, Here, Silent, Outside, below, block_start, fetch_in, from_block, RowEdge, KindEdge, FetchEdge, Edge}
 use Rattle.mir_func.specs.Graph.{Leads as LeadsFrom, stay, go}
 use Rattle.mir_func.specs.Sound.{IsJumpAtMost, MayFollow, EndsWell, Closes}
 use Rattle.sem_mir.specs.Follow.{OnRow, Counts}
@@ -26,19 +25,19 @@ use Rattle.sem_simulation.proofs.Laid.{rest_in, rest_of, laid_out}
 use Rattle.fold_targets.specs.Ways.{EndsAt, leads_nowhere, comes_round, goes_on}
 use Rattle.fold_targets.specs.Leads.{first_id, always_to, lead_by, lead_of, lead}
 use Rattle.fold_targets.proofs.Ways.{one_end}
-use Rattle.fold_rule.specs.Turned.{sent, turned, made_jump}
-use Rattle.fold_rule.specs.Tails.{first_of, else_way, ways_by, ways_of, is_number, if_needed, jump_at_end, jump_for_branch, branch_tail, plain_tail}
+use Rattle.fold_rule.specs.Turned.{sent, turned}
+use Rattle.fold_rule.specs.Tails.{first_of, else_way, ways_by, ways_of, is_number, if_needed, jump_at_end, jump_for_branch, plain_tail}
 use Rattle.fold_rule.specs.Tails.{branch_tail_to, tail_by, rewritten}
-use Rattle.fold_rule.specs.Reached.{LeadTo, Reached, onward}
+use Rattle.fold_rule.specs.Reached.{LeadTo, onward}
 use Rattle.fold_rule.specs.Rule.{staying}
 use Rattle.fold_rule_proof.proofs.Rows.{sent_branch, turned_branch, sent_jump}
-use Rattle.fold_rule_proof.proofs.Tails.{goes_else, jump_exit, always_some}
+use Rattle.fold_rule_proof.proofs.Tails.{goes_else, jump_exit}
 use Rattle.fold_rule_proof.specs.Kills.{kills}
 use Rattle.fold_rule_proof.proofs.Kills.{IsKill, each_kill}
 use Rattle.fold_proof.proofs.Placed.{falls_from, made_block, made, made_at, made_first}
-use Rattle.fold_proof.proofs.Ways.{always_is, LeadsOn, lead_at}
+use Rattle.fold_proof.proofs.Ways.{always_is, lead_at}
 use Rattle.fold_proof.proofs.Folding.{Folding, old, end, stays, was, new, fp, gp, ends}
-use Rattle.fold_proof.proofs.Paths.{edge_item, StandsIn, stands_in, EndsIn, ends_in}
+use Rattle.fold_proof.proofs.Paths.{edge_item, ends_in}
 
 branch_edge : (k : ItemKind) (n : ℕ) (p : Pos) → exit_of k ≡ Perhaps n → KindEdge (λ m. m) k p (block_start n) × KindEdge (λ m. m) k p (below p)
 branch_edge (Code i m) n p e = by_row (row_of i) e where

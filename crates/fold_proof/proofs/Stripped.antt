@@ -1,5 +1,5 @@
 -- Kills are debug items.
-use Rattle.std.proofs.Common.{◌≡◌, ℕ, List, [], ◌∷◌, ◌++◌, map, All, Option, Some, None, Bool, refl, sym, ap, ◌∙◌}
+use Rattle.std.proofs.Common.{◌≡◌, ℕ, List, [], ◌∷◌, ◌++◌, map, All, Option, None, Bool, refl, sym, ap, ◌∙◌}
 use Rattle.std.specs.List.{cons_option}
 use Rattle.std.proofs.lemmas.List.Elements.{All-head, All-tail}
 use Rattle.mir_func.specs.declared.block.Block.{Block}
@@ -8,12 +8,11 @@ use Rattle.mir_func.specs.declared.item.ItemKind.{ItemKind}
 use Rattle.mir_func.specs.declared.item.ItemKind.TheVariants.{Code, Mark, Phi}
 use Rattle.mir_func.specs.declared.location.Loc.{Loc}
 use Rattle.mir_func.specs.declared.position.Origin.{Origin}
-use Rattle.mir_func.specs.declared.variable.MarkValue.TheVariants.{Nothing}
 use Rattle.mir_func.specs.Function.{Function}
 use Rattle.mir_func.specs.Strip.{bare, stripped_items, stripped_blocks, stripped}
 use Rattle.fold_rule.specs.Rule.{IsFolded}
 use Rattle.fold_rule_proof.proofs.Stripped.{strips}
-use Rattle.fold_rule_proof.specs.Kills.{with_kills, kills, IsFoldedWithKills}
+use Rattle.fold_rule_proof.specs.Kills.{with_kills, kills}
 use Rattle.fold_proof.specs.Follows.{KillsStrip}
 use Rattle.fold_rule_proof.proofs.Kills.{IsKillKind, IsKill, each_kill}
 

@@ -11,7 +11,7 @@ use Rattle.rv64_instr.specs.declared.operand.Operand.{Operand}
 use Rattle.rv64_instr.specs.declared.operand.Operand.TheVariants.{Use, ImplicitDef, ImplicitUse, Block as OfBlock}
 use Rattle.rv64_instr.specs.Form.{is_implicit, has_form}
 use Rattle.rv64_instr.specs.Arithmetic.{taken}
-use Rattle.rv64_instr.specs.Row.{Row, Branches, Jumps, row_of, row_by}
+use Rattle.rv64_instr.specs.Row.{Branches, Jumps, row_of, row_by}
 use Rattle.rv64_instr.specs.Parts.{is_call}
 use Rattle.mir_func.specs.declared.exit.Exit.{Exit}
 use Rattle.mir_func.specs.declared.exit.Exit.TheVariants.{Perhaps, Always}
@@ -27,7 +27,6 @@ use Rattle.mir_func.specs.Sound.{HasForm}
 use Rattle.sem_mir.specs.State.{Core, updated, assigned}
 use Rattle.sem_mir.specs.Step.{Outcome, Falls, Goes, Traps, act, does, are_written, read, with_core, numbered, given, defined, part_of}
 use Rattle.sem_mir.specs.Step.{mark_value, place_value, do_item}
-use Rattle.sem_mir.specs.Align.{is_code}
 use Rattle.sem_mir.proofs.Effects.{told_by}
 use Rattle.sem_mir.proofs.Told.{Below, TellsLess}
 use Rattle.sem_simulation.specs.Sides.{Does, ShowsSame}

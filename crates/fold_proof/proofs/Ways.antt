@@ -1,9 +1,7 @@
 -- Which blocks are reached, before folding and after it.
-use Rattle.std.proofs.Common.{◌≡◌, ◌⊎◌, ℕ, zero, suc, List, [], ◌∷◌, All, Contains, Option, Some, None, Bool, true, false, cond, IsTrue, nat_eq, refl, sym, ap}
+use Rattle.std.proofs.Common.{◌≡◌, ◌⊎◌, ℕ, suc, List, [], ◌∷◌, All, Contains, Option, Some, None, Bool, true, false, cond, nat_eq, refl, sym, ap}
 use Rattle.std.proofs.Common.{◌∙◌, subst, inl, inr, eq-eqb, ne_eqb, arith}
-use Rattle.std.proofs.lemmas.Bool.{eqb-true}
 use Rattle.std.proofs.lemmas.List.Elements.{All-weaker}
-use Rattle.std.specs.List.{slice_get}
 use Rattle.rv64_instr.specs.Row.{row_of}
 use Rattle.mir_func.specs.declared.block.Block.{Block}
 use Rattle.mir_func.specs.declared.exit.Exit.{Exit}
@@ -20,8 +18,7 @@ use Rattle.fold_targets.specs.Leads.{first_id, always_to, lead_by, lead_of, lead
 use Rattle.fold_targets.proofs.Ways.{test_of, one_end}
 use Rattle.fold_rule.specs.declared.ways.Ways.{Ways}
 use Rattle.fold_rule.specs.Tails.{first_of, ways_by, ways_of}
-use Rattle.fold_rule.specs.Reached.{ways_in, LeadTo, Reached, first, onward}
-use Rattle.fold_rule.specs.Rule.{AreFolded}
+use Rattle.fold_rule.specs.Reached.{ways_in, Reached, first, onward}
 use Rattle.fold_rule_proof.proofs.Rows.{GoesIn, targets_kind}
 use Rattle.fold_rule_proof.proofs.Blocks.{has_from, contains_from, Targets, lead_stays, end_stays, ways_goes}
 use Rattle.fold_proof.proofs.Placed.{Found, found_or_none, place_of, found_at}

@@ -1,5 +1,5 @@
 -- The shape of a folded function.
-use Rattle.std.specs.Prelude.{◌≡◌, List, Option, false, true, All, length}
+use Rattle.std.specs.Prelude.{◌≡◌, List, Option, false, true, length}
 use Rattle.mir_func.specs.declared.block.Block.{Block}
 use Rattle.mir_func.specs.declared.entry.OperandPair.{OperandPair}
 use Rattle.mir_func.specs.declared.item.Item.{Item}

@@ -3,7 +3,7 @@
 ghost use Rattle.std.specs.Prelude.{◌≡◌, IfOk};
 ghost use Rattle.std.specs.List.{slice_set};
 ghost use Rattle.rv64_instr.specs.declared.operand.Operand.TheVariants.{Block as OfBlock};
-ghost use Rattle.fold_rule.specs.Turned.{inverse, inverse_op, aimed, to_block, inverse_to, sent, turned, made_jump};
+ghost use Rattle.fold_rule.specs.Turned.{inverse, inverse_op, to_block, sent, turned, made_jump};
 
 use base_ids::code::BlockId;
 use mir_func::item::{Item, ItemKind};

@@ -1,7 +1,7 @@
 -- What kills are, and from what they come.
-use Rattle.std.proofs.Common.{◌≡◌, ℕ, List, [], ◌∷◌, ◌++◌, filter, filter_map, flat_map, All, Contains, Option, Some, None, Bool, true, false, not}
-use Rattle.std.proofs.Common.{cond, refl, sym}
-use Rattle.std.proofs.Common.{subst, ◌∙◌, ap}
+use Rattle.std.proofs.Common.{◌≡◌, ℕ, List, [], ◌∷◌, filter, filter_map, flat_map, All, Contains, Option, Some, None, Bool, true, false, not}
+use Rattle.std.proofs.Common.{cond, refl}
+use Rattle.std.proofs.Common.{subst}
 use Rattle.std.specs.List.{cons_option}
 use Rattle.std.proofs.lemmas.List.Elements.{All-nil, All-cons, All-head, All-tail, All-append, All-filter, All-weaker}
 use Rattle.mir_func.specs.declared.block.Block.{Block}

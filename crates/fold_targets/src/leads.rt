@@ -3,7 +3,7 @@
 ghost use Rattle.std.specs.Prelude.{◌≡◌, ℕ, IfOk, nat_eq};
 ghost use Rattle.std.specs.HashMap.{get};
 ghost use Rattle.mir_func.specs.Sound.{AreApart, ids_of};
-ghost use Rattle.fold_targets.specs.Leads.{first_id, always_to, lead_of, lead_in, lead};
+ghost use Rattle.fold_targets.specs.Leads.{always_to, lead_of, lead_in, lead};
 
 use base_ids::code::BlockId;
 use mir_func::block::Block;

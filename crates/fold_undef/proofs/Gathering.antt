@@ -1,6 +1,6 @@
 -- Kills that are gathered by ends are those of the rule.
-use Rattle.std.proofs.Common.{◌≡◌, ◌⊎◌, ℕ, List, [], ◌∷◌, ◌++◌, map, filter, Option, Some, None, Bool, true, false, cond, not, ◌&&◌, nat_eq}
-use Rattle.std.proofs.Common.{refl, sym, ap, ◌∙◌, inl, inr, eqb-true, append_assoc}
+use Rattle.std.proofs.Common.{◌≡◌, ℕ, List, [], ◌∷◌, ◌++◌, map, filter, Option, Some, None, Bool, true, false, cond, not, ◌&&◌, nat_eq}
+use Rattle.std.proofs.Common.{refl, sym, ap, ◌∙◌, eqb-true}
 use Rattle.std.specs.List.{flat_map, filter_map, cons_option}
 use Rattle.std.specs.Option.{is_some}
 use Rattle.mir_func.specs.declared.block.Block.{Block}
@@ -10,7 +10,7 @@ use Rattle.mir_func.specs.declared.item.ItemKind.TheVariants.{Code, Mark, Phi}
 use Rattle.mir_func.specs.declared.location.Loc.{Loc}
 use Rattle.fold_targets.specs.Leads.{lead}
 use Rattle.fold_rule.specs.Tails.{is_number}
-use Rattle.fold_rule_proof.specs.Kills.{kill_by, once, is_bypassed, lost_ways, kills, with_kills}
+use Rattle.fold_rule_proof.specs.Kills.{kill_by, once, is_bypassed, kills, with_kills}
 use Rattle.fold_undef.specs.declared.kill.Kill.{Kill}
 use Rattle.fold_undef.specs.Bypassed.{end_past}
 use Rattle.fold_undef.specs.Kill.{kill_of, kill_item, kills_in}

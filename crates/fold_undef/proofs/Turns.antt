@@ -1,8 +1,7 @@
 -- What loops have after one more element.
-use Rattle.std.proofs.Common.{◌≡◌, ◌⊎◌, ℕ, zero, suc, ◌+◌, ◌<◌, List, [], ◌∷◌, ◌++◌}
-use Rattle.std.proofs.Common.{length, get_or, set, take, drop, map, Option, Some, None, Bool, true, false}
-use Rattle.std.proofs.Common.{cond, nat_eq, append_assoc, append-nil, refl, sym, ap, ◌∙◌, inl, inr, eqb-true, arith}
-use Rattle.std.specs.List.{flat_map}
+use Rattle.std.proofs.Common.{◌≡◌, ℕ, zero, suc, ◌+◌, ◌<◌, List, [], ◌∷◌, ◌++◌}
+use Rattle.std.proofs.Common.{length, get_or, set, take, drop, map, Option}
+use Rattle.std.proofs.Common.{cond, append_assoc, append-nil, refl, sym, ap, ◌∙◌, arith}
 use Rattle.std.proofs.lemmas.List.{take_more}
 use Rattle.mir_func.specs.declared.block.Block.{Block}
 use Rattle.fold_rule.specs.Tails.{is_number}

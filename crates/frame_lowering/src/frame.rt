@@ -1,6 +1,6 @@
 //! The frame of a function.
 
-ghost use Rattle.std.specs.Prelude.{◌≡◌, ◌≤◌, ◌<◌, IfOk, IsErrOf};
+ghost use Rattle.std.specs.Prelude.{◌<◌, IfOk, IsErrOf};
 ghost use Rattle.mir_func.specs.Limits.{MAX_FRAME};
 ghost use Rattle.frame_rule.specs.Rule.{size_of};
 ghost use Rattle.frame_lowering.specs.steps.Framing.{IsFrameOf};

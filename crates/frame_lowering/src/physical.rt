@@ -1,6 +1,6 @@
 //! Whether a function names only physical registers.
 
-ghost use Rattle.std.specs.Prelude.{◌≡◌, ◌↔◌, ◌<◌, All, IsTrue};
+ghost use Rattle.std.specs.Prelude.{◌↔◌, ◌<◌, All, IsTrue};
 ghost use Rattle.mir_func.specs.Sound.{AllItems};
 ghost use Rattle.mir_func.specs.SoundFrame.{IsPhysical, ValueIsPhysical, PlaceIsPhysical, HasPhysical};
 

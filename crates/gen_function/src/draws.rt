@@ -1,6 +1,6 @@
 //! The pseudorandom sequence.
 
-ghost use Rattle.std.specs.Prelude.{◌≡◌, ◌+◌, ◌%◌, ◌^◌, ◌<◌, ◌≤◌};
+ghost use Rattle.std.specs.Prelude.{◌≡◌, ◌+◌, ◌%◌, ◌^◌, ◌<◌};
 ghost use Rattle.gen_function.specs.Draws.{next, draw, give};
 ghost use Rattle.gen_function.specs.Items.{register_of, variable_of};
 

@@ -1,6 +1,6 @@
 //! The first and last items of blocks.
 
-ghost use Rattle.std.specs.Prelude.{◌≡◌, ◌+◌, ◌-◌, ◌%◌, ◌^◌, ◌<◌, ◌≤◌, OnOk, ◌++◌};
+ghost use Rattle.std.specs.Prelude.{◌≡◌, ◌+◌, ◌-◌, ◌<◌, ◌≤◌, OnOk, ◌++◌};
 ghost use Rattle.gen_function.specs.Generator.{last_end, branch_end, jump_end, end_of, end, beginning};
 ghost use Rattle.gen_function.specs.steps.Making.{Appends};
 

@@ -1,7 +1,7 @@
 //! Generation of a function from a number.
 
-ghost use Rattle.std.specs.Prelude.{◌≡◌, ◌+◌, ◌*◌, ◌^◌, ◌<◌, ◌≤◌, ◌++◌, ◌∷◌, [], length, IfOk, OnOk};
-ghost use Rattle.gen_function.specs.Generator.{block_items, placed, block_of, blocks_made, generated};
+ghost use Rattle.std.specs.Prelude.{◌≡◌, ◌+◌, ◌^◌, ◌<◌, ◌≤◌, length, IfOk};
+ghost use Rattle.gen_function.specs.Generator.{placed, blocks_made, generated};
 ghost use Rattle.gen_function.specs.steps.Making.{MakesBlock};
 
 use crate::draws::Draws;

@@ -1,6 +1,6 @@
 //! The items of generated functions.
 
-ghost use Rattle.std.specs.Prelude.{◌≡◌, ◌<◌, ◌≤◌, IfOk, None};
+ghost use Rattle.std.specs.Prelude.{◌≡◌, ◌<◌, IfOk, None};
 ghost use Rattle.gen_function.specs.Items.{register_of, add, copy, constant, store, load, mark, branch, jump, return};
 
 use base_ids::code::{BlockId, DebugNumber, OperandIndex, SlotId};

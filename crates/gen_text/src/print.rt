@@ -1,6 +1,6 @@
 //! The text of a generated function.
 
-ghost use Rattle.std.specs.Prelude.{◌≡◌, ◌+◌, ◌++◌, ◌∷◌, ◌<◌, ◌≤◌, [], IfOk, OnOk};
+ghost use Rattle.std.specs.Prelude.{◌≡◌, ◌+◌, ◌++◌, ◌<◌, ◌≤◌, IfOk, OnOk};
 ghost use Rattle.gen_text.specs.GeneratedText.{variable_line, head_text, metadata_text, generated_text};
 
 use gen_function::generator::generate;

@@ -1,7 +1,7 @@
 -- What an item's entries say of its lines: code of one word and a call have one entry, and the next one is of another point, so there
 -- is one line; a long branch has two entries of one point, and two lines.
-use Rattle.std.proofs.Common.{◌≡◌, ℕ, zero, suc, ◌+◌, ◌<◌, Bool, true, false, ◌&&◌, cond, nat_eq, List, [], ◌∷◌, ◌++◌, drop, Option, Some, None}
-use Rattle.std.proofs.Common.{refl, ap, sym, subst, ◌∙◌, inl, inr, arith}
+use Rattle.std.proofs.Common.{◌≡◌, ℕ, ◌+◌, Bool, true, false, ◌&&◌, cond, nat_eq, List, [], ◌∷◌, ◌++◌, drop, Option, Some, None}
+use Rattle.std.proofs.Common.{refl, ap, sym, subst, ◌∙◌, inl, inr}
 use Rattle.std.specs.Prelude.{◌⊎◌}
 use Rattle.std.proofs.lemmas.List.{drop-drop}
 use Rattle.std.proofs.lemmas.Bool.{and_parts, eqb-true, eq-eqb}
@@ -18,14 +18,13 @@ use Rattle.mir_func.specs.declared.position.Point.{Point}
 use Rattle.mir_func.specs.declared.position.Pos.{Pos}
 use Rattle.mir_func.specs.Sound.{HasForm}
 use Rattle.emit_code.specs.declared.code.Entry.{Entry}
-use Rattle.emit_code.specs.Inverted.{inverted, jump_to}
+use Rattle.emit_code.specs.Inverted.{jump_to}
 use Rattle.emit_code.specs.Listed.{listed}
 use Rattle.emit_code.specs.Rule.{Layout, Site, Form, form_of, address_in, form_entries, entries_at, entry, added_before}
 use Rattle.emit_code.specs.steps.Emitted.{point_of}
 use Rattle.listing_text.specs.declared.output.Line.{Line}
 use Rattle.listing_meaning.specs.Listing.{branch_skip, line_at, form_lines, kind_lines, site_lines}
 use Rattle.listing_meaning.proofs.Forms.{FormView, one, call, long, viewed}
-use Rattle.listing_function.specs.declared.branch.Branch.{Branch}
 use Rattle.listing_function.specs.declared.lines.Long.{Long}
 use Rattle.listing_function.specs.steps.Entries.{first_address, second_address, is_same_point, BeginsApart, StandsAt}
 use Rattle.listing_function.specs.steps.Operands.{branch_by}

@@ -1,8 +1,8 @@
 -- A listing is printable: item by item each line tells its numbers, whose addresses are those of the entries of the layout.
-use Rattle.std.proofs.Common.{◌≡◌, ℕ, suc, ◌+◌, ◌*◌, ◌<◌, ◌≤◌, ◌^◌, ℤ, pos, negsuc, Bool, true, false, ◌&&◌, List, [], ◌∷◌, ◌++◌, length, get_or}
-use Rattle.std.proofs.Common.{Option, Some, None}
-use Rattle.std.proofs.Common.{refl, ap, sym, subst, ◌∙◌, arith}
-use Rattle.std.specs.Prelude.{All, map, IfSome, ◌+ℤ◌, IsTrue, sum_by}
+use Rattle.std.proofs.Common.{◌≡◌, ℕ, suc, ◌+◌, ◌*◌, ◌<◌, ◌^◌, ℤ, pos, negsuc, Bool, true, false, List, [], ◌∷◌, ◌++◌, length}
+use Rattle.std.proofs.Common.{Option, Some}
+use Rattle.std.proofs.Common.{refl, ap, sym, subst, arith}
+use Rattle.std.specs.Prelude.{All, map, IfSome, ◌+ℤ◌, sum_by}
 use Rattle.std.specs.List.{flat_map, list_all}
 use Rattle.std.proofs.lemmas.Bool.{and_parts}
 use Rattle.std.proofs.lemmas.Bool.Decides.{nat_tests}
@@ -15,14 +15,13 @@ use Rattle.rv64_instr.specs.declared.op.BranchOp.{BranchOp}
 use Rattle.rv64_instr.specs.declared.op.ImmediateOp.{ImmediateOp}
 use Rattle.rv64_instr.specs.declared.op.ImmediateOp.TheVariants.{Addi, Slti, Sltiu, Xori, Ori, Andi, Slli, Srli, Srai, Addiw, Slliw, Srliw, Sraiw}
 use Rattle.rv64_instr.specs.declared.operand.Operand.{Operand}
-use Rattle.rv64_instr.specs.declared.operand.Operand.TheVariants.{Def, Use, ImplicitDef, ImplicitUse, Imm, Slot, Object, Block as OfBlock, Symbol, Mask}
+use Rattle.rv64_instr.specs.declared.operand.Operand.TheVariants.{Def, Use, ImplicitDef, ImplicitUse, Imm, Slot, Object, Block as OfBlock, Symbol}
 use Rattle.rv64_instr.specs.Instruction.{Instruction}
 use Rattle.rv64_instr.specs.declared.op.LoadOp.{LoadOp}
 use Rattle.rv64_instr.specs.declared.op.StoreOp.{StoreOp}
 use Rattle.rv64_instr.specs.Form.{is_implicit, is_result, is_within, has_12_bits, is_immediate, has_form}
 use Rattle.rv64_instr.specs.Form.{fits_registers, fits_immediate, fits_upper, fits_branch, fits_load, fits_store, fits_copy, fits_jump, fits_call}
 use Rattle.mir_func.specs.declared.block.Block.{Block}
-use Rattle.mir_func.specs.declared.entry.Entry.{Entry as Substitution}
 use Rattle.mir_func.specs.declared.item.Item.{Item}
 use Rattle.mir_func.specs.declared.item.ItemKind.{ItemKind}
 use Rattle.mir_func.specs.declared.item.ItemKind.TheVariants.{Code, Mark, Phi}
@@ -32,31 +31,23 @@ use Rattle.mir_func.specs.declared.position.Origin.TheVariants.{Kept, Before}
 use Rattle.mir_func.specs.declared.position.Pos.{Pos}
 use Rattle.mir_func.specs.Objects.{offset_of}
 use Rattle.mir_func.specs.Sound.{AllItems, IsSoundObject, HasForm}
-use Rattle.mir_func.specs.SoundFrame.{own_size, slot_offsets, IsFramed}
-use Rattle.emit_code.specs.declared.code.Entry.{Entry}
+use Rattle.mir_func.specs.SoundFrame.{own_size, IsFramed}
 use Rattle.emit_code.specs.Inverted.{jump_to}
-use Rattle.emit_code.specs.Laid.{IsWorded}
 use Rattle.emit_code.specs.Listed.{by_pointer, listed}
-use Rattle.emit_code.specs.Rule.{Layout, Site, Form, Nothing, OneWord, CallSite, LongBranch, form_of, form_entries, address_in, added_before}
+use Rattle.emit_code.specs.Rule.{Layout, Site, Form, form_of, form_entries, address_in, added_before}
 use Rattle.emit_code.specs.Rule.{entries_at, entry}
 use Rattle.emit_code.specs.Rule.{entries_of, sites_in, sites_from, sites_of, words_of}
-use Rattle.emit_code.specs.steps.Emitted.{IsFormed}
 use Rattle.emit_code.proofs.Sites.{site_size}
 use Rattle.emit_code.proofs.Stand.{stands, words_fill}
-use Rattle.mir_printer.specs.Printable.{IsNumber, IsSigned, HasNumbers, IsPrintableInstruction, IsPrintableLoc, IsPrintableVariable, IsPrintableValue}
-use Rattle.mir_printer.specs.Printable.{IsPrintableKind, IsPrintable, IsAsDeclared}
-use Rattle.listing_text.specs.declared.output.Implicit.{Implicit}
-use Rattle.listing_text.specs.declared.output.Line.{Line}
-use Rattle.listing_text.specs.declared.output.Line.TheVariants.{Item as OfItem, Skip}
-use Rattle.listing_text.specs.declared.output.ListedObject.{ListedObject}
-use Rattle.listing_text.specs.declared.output.ListedVariable.{ListedVariable}
-use Rattle.listing_text.specs.Shown.{IsPrintableOrigin, IsPrintableItem, IsPrintableImplicit, IsPrintableSkip, IsPrintableLine, IsPrintableBlock}
-use Rattle.listing_text.specs.Shown.{IsPrintableObject, IsPrintableFunction, declared_by}
-use Rattle.listing_meaning.specs.Listing.{implicits, branch_skip, line_at, form_lines, kind_lines, site_lines, items_listed, blocks_listed, prologue_listed}
-use Rattle.listing_meaning.specs.Listing.{body_listed, object_listed, listing_of}
+use Rattle.mir_printer.specs.Printable.{IsNumber, IsSigned, HasNumbers, IsPrintableInstruction}
+use Rattle.mir_printer.specs.Printable.{IsAsDeclared}
+use Rattle.listing_text.specs.Shown.{IsPrintableOrigin, IsPrintableImplicit, IsPrintableLine, IsPrintableBlock}
+use Rattle.listing_text.specs.Shown.{IsPrintableObject}
+use Rattle.listing_meaning.specs.Listing.{implicits, branch_skip, line_at, form_lines, kind_lines, site_lines, blocks_listed, prologue_listed}
+use Rattle.listing_meaning.specs.Listing.{body_listed, object_listed}
 use Rattle.listing_meaning.proofs.Forms.{FormView, one, call, long, viewed}
 use Rattle.listing_function.specs.steps.Entries.{IsLow, IsPlaced}
-use Rattle.listing_function.specs.Printable.{IsPrintableFramedKind, IsPrintableFramedItem, IsPrintableFramedBlock, IsPrintableFramed}
+use Rattle.listing_function.specs.Printable.{IsPrintableFramedKind, IsPrintableFramedItem, IsPrintableFramedBlock}
 use Rattle.listing_function.specs.Laws.{ListingsArePrintable}
 use Rattle.listing_function.proofs.Declared.{operands_declared}
 use Rattle.listing_function.proofs.Low.{entries_low, offsets_low}

@@ -1,6 +1,6 @@
 //! Instructions after frame index elimination: slots and stack objects as offsets from x2.
 
-ghost use Rattle.std.specs.Prelude.{◌≡◌, [], ◌∷◌, ◌++◌, false, pos, ℤ, IfOk, OnOk, MatchOption};
+ghost use Rattle.std.specs.Prelude.{◌≡◌, ◌∷◌, ◌++◌, false, IfOk, OnOk, MatchOption};
 ghost use Rattle.rv64_instr.specs.declared.operand.Operand.TheVariants.{Use, Imm};
 ghost use Rattle.rv64_instr.specs.Form.{has_form};
 ghost use Rattle.mir_func.specs.Function.{FramedFunction};

@@ -1,6 +1,6 @@
 //! The parts of each variable: fragments, or the whole.
 
-ghost use Rattle.std.specs.Prelude.{◌≡◌, ◌<◌, ◌≤◌, ◌+◌, ◌++◌, ◌∷◌, [], ℕ};
+ghost use Rattle.std.specs.Prelude.{◌≡◌, ◌<◌, ◌+◌, ◌++◌, ℕ};
 ghost use Rattle.std.specs.Prelude.{List, Option, Some, None, IfOk, OnOk, IsSome, length, slice_get};
 ghost use Rattle.std.specs.HashMap.{get};
 ghost use Rattle.std.specs.List.Sorted.{IsPermutation, IsNonDecreasingBy};

@@ -1,6 +1,6 @@
 //! A variable's location, from the places of its parts.
 
-ghost use Rattle.std.specs.Prelude.{◌≡◌, ◌++◌, ◌≤◌, ◌+◌, ℕ, List, Option, IfOk, OnOk, IfSome, All, option_to_list};
+ghost use Rattle.std.specs.Prelude.{◌≡◌, ◌++◌, ◌+◌, Option, IfOk, OnOk, All, option_to_list};
 ghost use Rattle.mir_func.specs.Parts.{IsPart};
 ghost use Rattle.location_of_variable.specs.Wanted.{IsLocationBy};
 ghost use Rattle.location_of_variable.specs.steps.Telling.{

@@ -1,6 +1,6 @@
 //! The ranges of one variable, as the walk writes them.
 
-ghost use Rattle.std.specs.Prelude.{◌≡◌, ◌++◌, ◌∷◌, [], ℕ, Some, None, Option, IfOk, OnOk, IsTrue, ◌↔◌};
+ghost use Rattle.std.specs.Prelude.{◌≡◌, ◌++◌, [], Some, None, Option, IfOk, OnOk, IsTrue, ◌↔◌};
 ghost use Rattle.dwarf_loclists.specs.declared.range.Location.{Location};
 ghost use Rattle.location_ranges.specs.Covered.{covered, located, opened, closed, Turns};
 ghost use Rattle.location_ranges.specs.Turning.{TurnsSayOn, TracksAreRanges};

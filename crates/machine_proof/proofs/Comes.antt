@@ -36,7 +36,7 @@ use Rattle.machine_steps_proof.proofs.Points.{got, dropped}
 use Rattle.machine_steps_proof.proofs.Rows.{acts}
 use Rattle.machine_proof.specs.Runs.{NeverFaults, IsHarmless, FallsTo, past_item, past_end}
 use Rattle.machine_proof.specs.Runs as runs
-use Rattle.frame_rule.specs.Rule.{slot_offset, size_of, saved_of, framed_items, framed_of, renamed, renamed_code}
+use Rattle.frame_rule.specs.Rule.{size_of, saved_of, framed_items, framed_of, renamed_code}
 use Rattle.machine_proof.specs.Framing.{ResultsArePhysical, KindReturnsPhysical, IsMadeFrom}
 use Rattle.machine_proof.proofs.Renames.{renamed_row, row_renamed}
 use Rattle.machine_proof.proofs.Framed.{IsFrameCode, adds, stores, loads, prologue_is, epilogue_is, frame_onward, IsFramedItem, own, gives_back}

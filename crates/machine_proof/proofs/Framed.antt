@@ -19,7 +19,7 @@ use Rattle.mir_func.specs.Graph.{Here, block_start}
 use Rattle.mir_func.specs.SoundFrame.{adds_to_pointer, saves, restores, prologue_code, epilogue_code}
 use Rattle.sem_mir.specs.Align.{position_of}
 use Rattle.sem_mir.specs.Follow.{rank, next_rank, InOrder}
-use Rattle.frame_rule.specs.Rule.{size_of, saved_of, added, added_all, position_in, prologue, epilogue, renamed, framed_item, framed_items}
+use Rattle.frame_rule.specs.Rule.{size_of, saved_of, added, added_all, position_in, epilogue, renamed, framed_item, framed_items}
 use Rattle.frame_rule.specs.Rule.{framed_block, framed_blocks, framed_of}
 use Rattle.machine_steps_proof.specs.Laid.{fetched}
 use Rattle.machine_steps_proof.proofs.Points.{StandsAt, stands_at}

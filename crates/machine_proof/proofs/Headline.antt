@@ -1,5 +1,5 @@
 -- The headline of an image in which a function with its frame lies.
-use Rattle.std.proofs.Common.{◌≡◌, ◌⊎◌, ℕ, zero, suc, ◌+◌, ◌<◌, List, [], ◌∷◌, All, Option, Some, None, Bool, true, false, refl, sym, ap, ◌∙◌, subst, inl, inr}
+use Rattle.std.proofs.Common.{◌≡◌, ◌⊎◌, ℕ, ◌+◌, List, [], ◌∷◌, Option, Some, None, Bool, true, false, refl, sym, ap, ◌∙◌, subst, inl, inr}
 use Rattle.rv64_instr.specs.Instruction.{Instruction}
 use Rattle.rv64_instr.specs.Row.{Row, row_of}
 use Rattle.rv64_instr.specs.declared.place.Place.{Place}
@@ -26,7 +26,7 @@ use Rattle.sem_simulation.proofs.Stations.{code_station}
 use Rattle.sem_machine.specs.Image.{CodeLine, Image, line_at}
 use Rattle.sem_machine.specs.Machine.{Machine, machine_start}
 use Rattle.sem_machine.specs.MachineStep.{Continues, Ends, machine_step}
-use Rattle.sem_machine.specs.Headline.{StartsAt, KEPT, MachineAgrees}
+use Rattle.sem_machine.specs.Headline.{StartsAt, MachineAgrees}
 use Rattle.machine_steps_proof.specs.Beside.{Beside}
 use Rattle.machine_steps_proof.specs.Laid.{fetched, IsLaidAt}
 use Rattle.machine_steps_proof.specs.Steps.{framed_run, Level, OneStep, goes, gives, waits, faults, TwoSteps, over, through, AtCode, single, double}

@@ -1,7 +1,7 @@
 -- A function with its frame comes from the source: what was added before a position and the next code that comes from it have no mark
 -- between them that gives a variable a value, since origins go up in a block, and what is added before a position comes before what is kept
 -- of it.
-use Rattle.std.proofs.Common.{◌≡◌, ◌⊎◌, ℕ, zero, suc, ◌+◌, ◌*◌, ◌<◌, ◌≤◌, List, [], ◌∷◌, drop, slice_get, Option, Some, None, Bool, true, false, refl, sym, ap}
+use Rattle.std.proofs.Common.{◌≡◌, ◌⊎◌, ℕ, zero, suc, ◌+◌, ◌*◌, ◌<◌, ◌≤◌, List, [], ◌∷◌, drop, slice_get, Option, Some, None, true, false, refl, sym, ap}
 use Rattle.std.proofs.Common.{◌∙◌, subst, inl, inr, arith}
 use Rattle.std.proofs.lemmas.Bool.{cases_lt}
 use Rattle.std.proofs.lemmas.List.Elements.{All-contains}
@@ -28,7 +28,7 @@ use Rattle.sem_simulation.proofs.Order.{rank_high}
 use Rattle.machine_steps_proof.specs.Laid.{fetched}
 use Rattle.machine_steps_proof.proofs.Points.{got, dropped}
 use Rattle.machine_proof.specs.Runs.{AssignsNothing, FallsTo, ComesFrom}
-use Rattle.frame_rule.specs.Rule.{size_of, saved_of, framed_items, framed_of, renamed}
+use Rattle.frame_rule.specs.Rule.{size_of, saved_of, framed_items, framed_of}
 use Rattle.machine_proof.specs.Framing.{IsMadeFrom, FramedComesFrom}
 use Rattle.machine_proof.proofs.Framed.{prologue_is, frame_onward, IsFramedItem, own, gives_back, framed_item_is, InPrologue, InBlock, point_of}
 use Rattle.machine_proof.proofs.Framed.{in_order_below}

@@ -1,7 +1,7 @@
 -- A path of a function is one of the function with its frame.
-use Rattle.std.proofs.Common.{◌≡◌, ◌⊎◌, ℕ, zero, suc, ◌+◌, ◌<◌, ◌≤◌, List, [], ◌∷◌, ◌++◌, drop, take, map, length, length-append, All, Contains, slice_get}
-use Rattle.std.proofs.Common.{Option, Some, None}
-use Rattle.std.proofs.Common.{Bool, true, false, cond, nat_eq, refl, sym, ap, ◌∙◌, subst, inl, inr, arith, append-nil}
+use Rattle.std.proofs.Common.{◌≡◌, ℕ, zero, suc, ◌+◌, ◌≤◌, List, [], ◌∷◌, ◌++◌, drop, take, map, length, length-append, slice_get}
+use Rattle.std.proofs.Common.{Option, Some}
+use Rattle.std.proofs.Common.{Bool, true, false, cond, nat_eq, refl, sym, ap, ◌∙◌, subst, inl, inr, arith}
 use Rattle.rv64_instr.specs.Instruction.{Instruction}
 use Rattle.rv64_instr.specs.Row.{Row, Fixes, Moves, Sets, Addresses, Loads, Stores, LoadsSlot, StoresSlot, Branches, Jumps, Calls, Returns, Unfit, row_of}
 use Rattle.mir_func.specs.declared.block.Block.{Block}
@@ -18,7 +18,7 @@ use Rattle.mir_func.specs.SoundFrame.{body_of}
 use Rattle.sem_mir.specs.Align.{position_of, is_code}
 use Rattle.sem_mir.proofs.Reading.{front_item}
 use Rattle.frame_rule.specs.Rule.{size_of, saved_of, epilogue, framed_item, framed_items, framed_block, framed_blocks, framed_of, renamed}
-use Rattle.frame_rule.specs.Rule.{renamed_kind, renamed_code, added_all, position_in}
+use Rattle.frame_rule.specs.Rule.{renamed_kind, added_all, position_in}
 use Rattle.machine_proof.proofs.Renames.{renamed_row, row_renamed}
 use Rattle.machine_proof.proofs.Framed.{drop_map, index_in, same_position}
 

@@ -1,15 +1,13 @@
 -- Addresses go up by the sizes of items, and sites stand one behind the other.
-use Rattle.std.proofs.Common.{◌≡◌, ℕ, zero, suc, ◌+◌, ◌*◌, ◌<◌, ◌≤◌, List, [], ◌∷◌, ◌++◌, drop, take, map, length, slice_get, Option, Some, None, Bool, true}
-use Rattle.std.proofs.Common.{false, refl, sym, ap, ◌∙◌}
+use Rattle.std.proofs.Common.{◌≡◌, ℕ, zero, suc, ◌+◌, ◌≤◌, List, [], ◌∷◌, ◌++◌, take, length, slice_get, Some, Bool}
+use Rattle.std.proofs.Common.{refl, sym, ap, ◌∙◌}
 use Rattle.std.proofs.Common.{subst, arith}
 use Rattle.mir_func.specs.declared.block.Block.{Block}
 use Rattle.mir_func.specs.declared.item.Item.{Item}
 use Rattle.mir_func.specs.declared.position.Pos.{Pos}
-use Rattle.mir_func.specs.Graph.{Fetch, Here, Silent, below, block_start, front, fetch_in, end_of}
+use Rattle.mir_func.specs.Graph.{block_start}
 use Rattle.mir_func.specs.Successors.{pos_in}
-use Rattle.sem_mir.proofs.Reading.{front_item, front_end}
-use Rattle.emit_code.specs.Rule.{Layout, size_of, items_size, blocks_size, items_at, bytes_before, address_in, Site, sites_in, sites_from, sites_of}
-use Rattle.machine_steps_proof.specs.Laid.{fetched}
+use Rattle.emit_code.specs.Rule.{Layout, size_of, items_size, blocks_size, items_at, address_in, Site, sites_in, sites_from, sites_of}
 
 items_more : (long : Pos → Bool) (b m n : ℕ) (xs : List Item) (i : Item) → slice_get xs n ≡ Some i →
     items_size long b m (take (suc n) xs) ≡ items_size long b m (take n xs) + size_of (long (pos_in b (m + n))) i

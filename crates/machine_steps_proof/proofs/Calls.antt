@@ -8,7 +8,7 @@ use Rattle.rv64_instr.specs.Row.{Calls}
 use Rattle.rv64_instr.specs.Access.{caller_saved}
 use Rattle.mir_func.specs.Function.{FramedFunction}
 use Rattle.mir_func.specs.SoundFrame.{IsFramed}
-use Rattle.sem_mir.specs.State.{Core, Reply, Event, Called, updated, spelled, written, in_frame, writes_frame, IsReply, IsInRange}
+use Rattle.sem_mir.specs.State.{Core, Reply, Event, Called, updated, written, in_frame, writes_frame, IsReply, IsInRange}
 use Rattle.sem_mir.specs.Step.{Outcome, Falls, Goes, Gives, Traps, Asks, Breaks, does, read, numbered}
 use Rattle.sem_mir.specs.Step as source
 use Rattle.sem_machine.specs.Machine.{Machine, register, set_all_in}

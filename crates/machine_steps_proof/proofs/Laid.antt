@@ -1,10 +1,9 @@
 -- In the image of a layout the function lies point by point.
-use Rattle.std.proofs.Common.{◌≡◌, ◌⊎◌, ℕ, zero, suc, ◌+◌, ◌*◌, ◌%◌, ◌^◌, ◌<◌, ◌≤◌, ℤ, pos, negsuc, ◌-ℤ◌, ◌-◌, List, [], ◌∷◌, ◌++◌, drop, map, length}
+use Rattle.std.proofs.Common.{◌≡◌, ◌⊎◌, ℕ, zero, suc, ◌+◌, ◌%◌, ◌^◌, ◌<◌, ◌≤◌, ℤ, pos, negsuc, ◌-ℤ◌, ◌-◌, List, [], ◌∷◌, ◌++◌, drop, map}
 use Rattle.std.proofs.Common.{slice_get, Option, Some, None, Bool}
-use Rattle.std.proofs.Common.{true, false, cond, not, nat_eq, nat_le, nat_lt, le-leb, IsSome, IsTrue, IfSome, refl, sym, ap, ◌∙◌, subst, inl, inr, eq-eqb}
+use Rattle.std.proofs.Common.{true, false, cond, not, nat_eq, IsSome, IsTrue, IfSome, refl, sym, ap, ◌∙◌, subst, inl, inr, eq-eqb}
 use Rattle.std.proofs.Common.{ne_eqb, arith}
 use Rattle.std.proofs.lemmas.Int.{ints}
-use Rattle.std.specs.List.{flat_map}
 use Rattle.std.specs.Int.{w32, to_le_bytes}
 use Rattle.rv64_instr.specs.declared.op.Op.{Op}
 use Rattle.rv64_instr.specs.declared.op.Op.TheVariants.{Registers, Immediate, Lui, Branch, Load, Store, Copy, PseudoBr, PseudoCall, PseudoRet}
@@ -20,14 +19,14 @@ use Rattle.rv64_instr.specs.Row.{Row, Fixes, Moves, Sets, Addresses, Loads, Stor
 use Rattle.rv64_instr.specs.Row.{row_by, implicit_uses, move_row, immediate_row, object_row}
 use Rattle.rv64_word.specs.declared.machine_op.MachineOp.{MachineOp}
 use Rattle.rv64_word.specs.MachineOp.{is_encodable, word_of}
-use Rattle.rv64_word.specs.MachineRow.{MachineRow, Does, Links, LinksTo, machine_row, placed, at_offset, object_named}
+use Rattle.rv64_word.specs.MachineRow.{MachineRow, Does, LinksTo, machine_row, placed, at_offset, object_named}
 use Rattle.rv64_word.specs.Decoded.{decoded}
 use Rattle.rv64_word.specs.Lowering.{lowered, return_op}
 use Rattle.rv64_word.proofs.Words.{lowered_fits, lowered_acts}
 use Rattle.rv64_word.proofs.Decoding.{is_decoded}
 use Rattle.mir_func.specs.declared.block.Block.{Block}
 use Rattle.mir_func.specs.declared.exit.Exit.{Exit}
-use Rattle.mir_func.specs.declared.exit.Exit.TheVariants.{Onward, Perhaps, Always, Final}
+use Rattle.mir_func.specs.declared.exit.Exit.TheVariants.{Perhaps, Always}
 use Rattle.mir_func.specs.declared.item.Item.{Item}
 use Rattle.mir_func.specs.declared.item.ItemKind.{ItemKind}
 use Rattle.mir_func.specs.declared.item.ItemKind.TheVariants.{Code, Mark, Phi}
@@ -36,17 +35,17 @@ use Rattle.mir_func.specs.declared.position.Origin.TheVariants.{Kept, Before}
 use Rattle.mir_func.specs.declared.position.Pos.{Pos}
 use Rattle.mir_func.specs.Exits.{row_exit}
 use Rattle.mir_func.specs.Function.{FramedFunction}
-use Rattle.mir_func.specs.Graph.{Fetch, Here, Silent, below, block_start, fetch_in, front, index_of}
+use Rattle.mir_func.specs.Graph.{Here, Silent, below, block_start, fetch_in, index_of}
 use Rattle.mir_func.specs.Successors.{pos_in}
 use Rattle.sem_mir.specs.Align.{is_code, position_of}
 use Rattle.sem_machine.specs.Image.{CodeLine, Image, line_at, word_at}
 use Rattle.sem_machine.specs.Machine.{Machine, register}
-use Rattle.sem_machine.specs.MachineStep.{Stepped, Continues, Ends, past, at, return_word, does_row, does_word, does_operation, does_line, does_at, call_of}
-use Rattle.sem_machine.specs.MachineStep.{answered, machine_step}
+use Rattle.sem_machine.specs.MachineStep.{Continues, Ends, past, at, return_word, does_row, does_word, does_operation, does_line, does_at, call_of}
+use Rattle.sem_machine.specs.MachineStep.{machine_step}
 use Rattle.sem_machine.specs.MachineStep as machine
 use Rattle.emit_code.specs.Inverted.{inverted, inverted_op, inverted_branch, skip_of, jump_to, over_bytes}
 use Rattle.emit_code.specs.Listed.{line, by_pointer, listed, form_lines, kind_lines, lines_at}
-use Rattle.emit_code.specs.Rule.{Layout, Form, Nothing, OneWord, CallSite, LongBranch, row_form, form_of, form_size, size_of, items_at, address_in}
+use Rattle.emit_code.specs.Rule.{Layout, Form, OneWord, CallSite, LongBranch, row_form, form_of, form_size, size_of, address_in}
 use Rattle.emit_code.specs.Rule.{offset_to, object_offset, operation_at, skip_operation}
 use Rattle.emit_code.specs.Rule.{jump_operation, word_if, form_words, kind_words, words_at, added_before, Site, sites_of}
 use Rattle.emit_code.proofs.Sites.{site_from}

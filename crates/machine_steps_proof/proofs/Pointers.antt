@@ -23,7 +23,6 @@ use Rattle.sem_mir.specs.Step.{Outcome, Falls, Goes, Traps, does, read}
 use Rattle.sem_mir.specs.Step.{is_fault, address_at, answered, slot_loaded, set_register}
 use Rattle.sem_mir.specs.Effects.{OnCore}
 use Rattle.sem_mir.proofs.Outcomes.{on_either}
-use Rattle.sem_mir.proofs.Places.{put_all_other}
 use Rattle.machine_steps_proof.specs.Laid.{target_of}
 use Rattle.machine_steps_proof.proofs.Rows.{NeedsFrame}
 use Rattle.machine_steps_proof.proofs.Registers.{LeavesTwo}

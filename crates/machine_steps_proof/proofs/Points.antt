@@ -18,7 +18,7 @@ use Rattle.mir_func.specs.SoundFrame.{adds_to_pointer, AreCode, prologue_code, e
 use Rattle.sem_mir.proofs.Reading.{front_item}
 use Rattle.machine_steps_proof.specs.Laid.{fetched}
 use Rattle.machine_steps_proof.specs.Pointer.{fetch_returns, is_as_at_entry, lowered_by}
-use Rattle.machine_steps_proof.proofs.Motions.{KindLeavesTwo, kind_leaves, IsNotFinal, Motion, Moves, block_moves, IsOfPrologue, prologue_moves}
+use Rattle.machine_steps_proof.proofs.Motions.{KindLeavesTwo, kind_leaves, IsNotFinal, Motion, Moves, block_moves, prologue_moves}
 use Rattle.machine_steps_proof.proofs.Motions as motion
 
 -- the item at an index is one of the list

@@ -18,9 +18,9 @@ use Rattle.mir_func.specs.Sound.{HasBytes, SlotIn, ObjectIn}
 use Rattle.std.proofs.lemmas.List.Elements.{All-contains}
 use Rattle.rv64_word.specs.MachineRow.{object_named}
 use Rattle.sem_mir.proofs.InRange.{RowInRange}
-use Rattle.sem_mir.specs.State.{Core, Reply, content, put, put_all, spelled, low_bytes, stored, written, in_frame, touches_frame, IsInRange}
-use Rattle.sem_mir.specs.Step.{Outcome, Falls, Goes, Gives, Traps, Asks, Breaks, act, does, read, or_zero, input_value, are_written, loaded, put_in_memory}
-use Rattle.sem_mir.specs.Step.{slot_loaded, saved, address_at, object_address}
+use Rattle.sem_mir.specs.State.{Core, content, put, put_all, spelled, low_bytes, stored, written, in_frame, touches_frame, IsInRange}
+use Rattle.sem_mir.specs.Step.{Outcome, Falls, Goes, Gives, Traps, Asks, Breaks, act, does, read, or_zero, input_value, are_written}
+use Rattle.sem_mir.specs.Step.{slot_loaded, saved, address_at}
 use Rattle.sem_mir.specs.Step as source
 use Rattle.sem_machine.specs.Machine.{Machine, register, register_in, input, set_in, set_all_in, address_of}
 use Rattle.sem_machine.specs.MachineStep.{Stepped, Continues, past, at, set_register, store, shown_store, does_row}

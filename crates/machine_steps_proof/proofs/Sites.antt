@@ -24,7 +24,7 @@ use Rattle.sem_mir.proofs.InRange.{row_in_range, step_in_range}
 use Rattle.sem_mir.proofs.Outcomes.{step_item}
 use Rattle.sem_machine.specs.Image.{Image}
 use Rattle.sem_machine.specs.Machine.{Machine, register}
-use Rattle.sem_machine.specs.MachineStep.{Stepped, Continues, Ends, Awaits, past, at, machine_step}
+use Rattle.sem_machine.specs.MachineStep.{Stepped, Continues, Ends, past, at, machine_step}
 use Rattle.sem_machine.specs.MachineStep as machine
 use Rattle.machine_steps_proof.specs.Beside.{frame_low, object_place, Beside}
 use Rattle.machine_steps_proof.specs.Laid.{fetched, target_of, start_of, HasWord, HasTwoWords, HasCall, HasReturn, HasRow, IsLaidAt}

@@ -1,7 +1,7 @@
 -- What stands in an image at the address of an item: its words, and its lines.
-use Rattle.std.proofs.Common.{◌≡◌, ⊎_elim, ◌⊎◌, ℕ, zero, suc, ◌+◌, ◌*◌, ◌<◌, ◌≤◌, ◌^◌, List, [], ◌∷◌, ◌++◌, drop, map, length, slice_get, append_assoc}
+use Rattle.std.proofs.Common.{◌≡◌, ℕ, zero, suc, ◌+◌, ◌*◌, ◌<◌, ◌≤◌, ◌^◌, List, [], ◌∷◌, ◌++◌, drop, map, length, slice_get, append_assoc}
 use Rattle.std.proofs.Common.{Option, Some, None, Bool}
-use Rattle.std.proofs.Common.{true, false, cond, nat_eq, IsSome, refl, sym, ap, ◌∙◌, subst, inl, inr, eq-eqb, ne_eqb, arith}
+use Rattle.std.proofs.Common.{cond, IsSome, refl, sym, ap, ◌∙◌, subst, ne_eqb, arith}
 use Rattle.std.specs.List.{flat_map}
 use Rattle.std.specs.Int.{w32, to_le_bytes}
 use Rattle.std.proofs.lemmas.List.{drop-drop}
@@ -10,20 +10,16 @@ use Rattle.rv64_word.specs.declared.machine_op.MachineOp.{MachineOp}
 use Rattle.rv64_word.specs.MachineOp.{word_of, value_of}
 use Rattle.rv64_word.specs.Operation.{encoding_of}
 use Rattle.rv64_word.proofs.Reading.{spelled_below}
-use Rattle.mir_func.specs.declared.block.Block.{Block}
-use Rattle.mir_func.specs.declared.item.Item.{Item}
 use Rattle.mir_func.specs.declared.item.ItemKind.{ItemKind}
 use Rattle.mir_func.specs.declared.item.ItemKind.TheVariants.{Code, Mark, Phi}
 use Rattle.mir_func.specs.declared.position.Origin.{Origin}
-use Rattle.mir_func.specs.declared.position.Pos.{Pos}
 use Rattle.mir_func.specs.Graph.{Here}
-use Rattle.mir_func.specs.Successors.{pos_in}
 use Rattle.sem_machine.specs.Image.{CodeLine, Image, line_at, word_at}
 use Rattle.sem_machine.proofs.Fetching.{word_here}
-use Rattle.emit_code.specs.Listed.{Line, line, form_lines, kind_lines, lines_at, lines_of}
+use Rattle.emit_code.specs.Listed.{Line, form_lines, kind_lines, lines_at}
 use Rattle.emit_code.specs.Rule.{Layout, Form, Nothing, OneWord, CallSite, LongBranch, form_of, form_size, size_of, address_in, operation_at, skip_operation}
 use Rattle.emit_code.specs.Rule.{jump_operation}
-use Rattle.emit_code.specs.Rule.{call_words, word_if, form_words, kind_words, words_at, words_of, Site, sites_in, sites_from, sites_of}
+use Rattle.emit_code.specs.Rule.{word_if, form_words, kind_words, words_at, Site, sites_of}
 use Rattle.machine_steps_proof.specs.Laid.{fetched}
 use Rattle.machine_steps_proof.specs.Images.{code_line, FormHasWords, HasAllWords, IsImageOf}
 use Rattle.machine_steps_proof.proofs.Addresses.{Chained, chained}

@@ -1,6 +1,6 @@
 //! Facts about blocks that follow from the invariants of types.
 
-ghost use Rattle.std.specs.Prelude.{ℕ, ◌<◌, ◌^◌, All};
+ghost use Rattle.std.specs.Prelude.{◌<◌, ◌^◌, All};
 ghost use Rattle.mir_func.specs.Sound.{AllItems, HasForm};
 
 use mir_func::block::Block;

@@ -1,12 +1,12 @@
 -- What a copy's operands are.
-use Rattle.std.proofs.Common.{◌≡◌, ℕ, suc, List, [], ◌∷◌, All, Option, Some, slice_get, ap, subst}
+use Rattle.std.proofs.Common.{◌≡◌, ℕ, suc, List, ◌∷◌, All, Some, slice_get, ap, subst}
 use Rattle.std.proofs.lemmas.List.Elements.{All-head, All-tail}
 use Rattle.rv64_instr.specs.declared.operand.Operand.{Operand}
 use Rattle.rv64_instr.specs.declared.operand.Operand.TheVariants.{Def, Use}
 use Rattle.rv64_instr.specs.Instruction.{Instruction}
 use Rattle.rv64_instr.specs.Row.{Moves, row_of}
 use Rattle.mir_func.specs.Sound.{IsNotPointer}
-use Rattle.rv64_instr.proofs.Moves.{MovesBy, moves_by}
+use Rattle.rv64_instr.proofs.Moves.{moves_by}
 
 -- it sets no x2 and reads none, and its first operand is what it sets
 pub record IsPlain (i : Instruction) (rd s : ℕ) : Type 0 where

@@ -1,11 +1,10 @@
 -- What stands beside one item of a function, and what of it hasn't its number.
-use Rattle.std.proofs.Common.{◌≡◌, ℕ, List, [], ◌∷◌, ◌++◌, All, Some, refl, sym, ap, ◌∙◌, subst}
+use Rattle.std.proofs.Common.{◌≡◌, ℕ, List, [], ◌∷◌, ◌++◌, All, Some, sym, ap, ◌∙◌, subst}
 use Rattle.std.proofs.lemmas.Grind.{flat_map-append}
 use Rattle.std.proofs.lemmas.List.{append_assoc}
 use Rattle.std.proofs.lemmas.List.Elements.{All-nil, All-cons, All-head, All-tail, All-append}
 use Rattle.mir_func.specs.declared.block.Block.{Block}
 use Rattle.mir_func.specs.declared.item.Item.{Item}
-use Rattle.mir_func.specs.declared.item.ItemKind.{ItemKind}
 use Rattle.mir_func.specs.Function.{Function}
 use Rattle.mir_func.specs.Sound.{AllItems, items_of, code_number, NumbersOnce, EndsWell, IsSound}
 use Rattle.pass_edits.proofs.Numbers.{IsUnlike, AreUnlike, all_first, all_second, unlike_above, unlike_behind, HaveFewer, once_fewer, fewer_same}

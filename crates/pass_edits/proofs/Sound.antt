@@ -1,8 +1,7 @@
 -- A function with edited blocks is a function still.
-use Rattle.std.proofs.Common.{◌≡◌, ℕ, suc, ◌+◌, ◌≤◌, ◌<◌, List, [], ◌∷◌, map, length, All, Contains, Option, Some, refl, sym, ap, ◌∙◌, subst, arith}
+use Rattle.std.proofs.Common.{◌≡◌, ℕ, suc, ◌+◌, ◌≤◌, ◌<◌, List, [], ◌∷◌, map, length, All, Some, refl, sym, ap, ◌∙◌, subst, arith}
 use Rattle.std.proofs.lemmas.List.Elements.{All-nil, All-cons, All-head, All-tail}
 use Rattle.rv64_instr.specs.declared.place.Place.TheVariants.{Register}
-use Rattle.rv64_instr.specs.Row.{row_of}
 use Rattle.mir_func.specs.declared.exit.Exit.{Exit}
 use Rattle.mir_func.specs.declared.exit.Exit.TheVariants.{Onward, Perhaps, Always, Final}
 use Rattle.mir_func.specs.declared.object.Object.{Object}
@@ -11,14 +10,13 @@ use Rattle.mir_func.specs.declared.position.Origin.TheVariants.{Kept, Before}
 use Rattle.mir_func.specs.declared.block.Block.{Block}
 use Rattle.mir_func.specs.declared.item.Item.{Item}
 use Rattle.mir_func.specs.declared.item.ItemKind.{ItemKind}
-use Rattle.mir_func.specs.declared.item.ItemKind.TheVariants.{Code, Mark, Phi}
+use Rattle.mir_func.specs.declared.item.ItemKind.TheVariants.{Phi}
 use Rattle.mir_func.specs.Exits.{exit_of, IsAlways, Leaves}
-use Rattle.mir_func.specs.Function.{Function}
 use Rattle.mir_func.specs.Objects.{AreLaidFrom}
 use Rattle.mir_func.specs.Limits.{MAX_BLOCKS, MAX_SLOTS}
-use Rattle.mir_func.specs.Sound.{AreApart, AllItems, ids_of, items_of, NumbersOnce, OriginIn, TargetsIn, SlotsIn, ObjectsIn, LeavesPointer}
+use Rattle.mir_func.specs.Sound.{AreApart, AllItems, ids_of, OriginIn, TargetsIn, SlotsIn, ObjectsIn, LeavesPointer}
 use Rattle.mir_func.specs.Sound.{IsJumpAtMost, MayFollow}
-use Rattle.mir_func.specs.Sound.{EndsWell, Closes, LastCloses, IsSoundObject, IsSound}
+use Rattle.mir_func.specs.Sound.{EndsWell, Closes, LastCloses, IsSoundObject}
 use Rattle.sem_mir.specs.Align.{position_of}
 use Rattle.pass_edits.specs.Edits.{SameButNumber, same_code, same_kind, IsMove, phi_before, AreEdited, no_items, stays, with_phi, goes}
 use Rattle.pass_edits.specs.Edits.{AreBlocksEdited, no_blocks, next_block, EditsKeepSound}

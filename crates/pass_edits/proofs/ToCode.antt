@@ -1,17 +1,14 @@
 -- A copy loses its number to the code that gave its value.
-use Rattle.std.proofs.Common.{◌≡◌, ◌⊎◌, inl, inr, ℕ, suc, ◌+◌, ◌<◌, ◌≤◌, List, [], ◌∷◌, ◌++◌, length, get_or, drop, All, Option, Some, None, Bool}
-use Rattle.std.proofs.Common.{true, false, not, cond, slice_get, refl, sym, ap, ◌∙◌, subst, arith}
+use Rattle.std.proofs.Common.{◌≡◌, ◌⊎◌, inl, inr, ℕ, suc, ◌+◌, ◌≤◌, List, [], ◌∷◌, ◌++◌, get_or, drop, All, Option, Some, None}
+use Rattle.std.proofs.Common.{true, false, not, slice_get, refl, sym, ap, ◌∙◌, subst, arith}
 use Rattle.std.specs.List.{list_any}
 use Rattle.std.specs.Prelude.{is_some, nat_eq, nat_lt, ◌^◌}
-use Rattle.std.proofs.Math.Nat.{le_refl}
 use Rattle.std.proofs.lemmas.List.{append_assoc}
 use Rattle.std.proofs.lemmas.List.Elements.{All-append, All-cons, All-head, All-tail}
-use Rattle.rv64_instr.specs.declared.operand.Operand.{Operand}
 use Rattle.rv64_instr.specs.declared.place.Place.TheVariants.{Register}
 use Rattle.rv64_instr.specs.Instruction.{Instruction}
 use Rattle.rv64_instr.specs.Row.{Moves, row_of}
-use Rattle.rv64_instr.specs.Parts.{is_call, defines_of}
-use Rattle.mir_func.specs.declared.entry.OperandPair.{OperandPair}
+use Rattle.rv64_instr.specs.Parts.{is_call}
 use Rattle.mir_func.specs.declared.entry.Entry.{Entry}
 use Rattle.mir_func.specs.declared.position.Origin.{Origin}
 use Rattle.mir_func.specs.declared.location.Loc.{Loc}
@@ -25,22 +22,21 @@ use Rattle.mir_func.specs.Exits.{exit_of}
 use Rattle.mir_func.specs.Function.{Function}
 use Rattle.mir_func.specs.Graph.{Program, program_of}
 use Rattle.mir_func.specs.Resolve.{is_pair, entry_of, resolve}
-use Rattle.mir_func.specs.Sound.{items_of, number_of, code_number, LeavesPointer, EndsWell, IsSound, NumbersOnce}
-use Rattle.sem_mir.specs.Step.{defined, do_item}
+use Rattle.mir_func.specs.Sound.{items_of, LeavesPointer, IsSound, NumbersOnce}
+use Rattle.sem_mir.specs.Step.{defined}
 use Rattle.sem_mir.specs.Live.{KindDefines}
 use Rattle.pass_trait.specs.Causes.{defines}
-use Rattle.pass_trait.specs.Change.{change}
 use Rattle.pass_trait.specs.Rule.{item, first_operand}
 use Rattle.mir_substitution.proofs.Entries.{is_pair-same}
 use Rattle.pass_salvage.specs.Salvage.{numbered_at, entry_for}
-use Rattle.pass_salvage.specs.Way.{has_entry, or_fresh, asks_for, is_just, may_stand}
+use Rattle.pass_salvage.specs.Way.{has_entry, or_fresh, asks_for, is_just}
 use Rattle.pass_salvage.proofs.Chosen.{IsEntered}
 use Rattle.pass_salvage.proofs.Kin.{row_itself, code_kin}
 use Rattle.pass_salvage.proofs.Edits.{Edits, Edited, pair}
 use Rattle.pass_salvage.proofs.NumberOff.{Side, Outside, Inside, Off, outside, opens, inside, closes, off_edits, IsOther, AsksOutside, AsksInside}
 use Rattle.pass_edits.proofs.MovedNumbers.{number_to_code}
-use Rattle.pass_edits.specs.Edits.{AreEdited, stays, same_code}
-use Rattle.pass_edits.proofs.Numbers.{IsUnlike, AreUnlike, all_first, all_second, unlike_above, unlike_behind, HasNoOther, has_same, HaveFewer}
+use Rattle.pass_edits.specs.Edits.{stays, same_code}
+use Rattle.pass_edits.proofs.Numbers.{IsUnlike, AreUnlike, all_first, all_second, HasNoOther}
 use Rattle.pass_edits.proofs.Numbers.{keeps, fewer_same, fewer_behind, fewer_append, once_gains}
 use Rattle.pass_edits.proofs.Onward.{above_onward, goes_nowhere}
 use Rattle.pass_edits.proofs.Sound.{edited_sound}
@@ -48,7 +44,7 @@ use Rattle.pass_edits.proofs.Around.{with_block, stays_items, stays_above, stays
 use Rattle.pass_edits.proofs.Others.{BlocksUnlike, flat_unlike, Others, around_one, others_of, at_item, block_ends, once_around}
 use Rattle.pass_edits.proofs.Copies.{IsPlain, plain_copy}
 use Rattle.pass_edits.proofs.Under.{KindUnder, AreUnder, BlocksUnder, EntryUnder, under_unlike, no_entry, resolve_under}
-use Rattle.pass_edits.proofs.Found.{Split, split_at, IsNoDefinition, last_behind, first_defines, any_none, last_two, not_is}
+use Rattle.pass_edits.proofs.Found.{split_at, IsNoDefinition, last_behind, first_defines, any_none, last_two, not_is}
 use Rattle.pass_edits.proofs.Loose.{Step}
 
 -- ---- tests

@@ -1,7 +1,6 @@
 -- A copy loses its number to a phi that is put before it.
-use Rattle.std.proofs.Common.{◌≡◌, ℕ, suc, List, [], ◌∷◌, ◌++◌, All, Option, Some, None, false, refl}
+use Rattle.std.proofs.Common.{◌≡◌, ℕ, suc, List, ◌∷◌, ◌++◌, All, Some, None, false, refl}
 use Rattle.std.proofs.lemmas.List.Elements.{All-weaker}
-use Rattle.rv64_instr.specs.declared.place.Place.TheVariants.{Register}
 use Rattle.rv64_instr.specs.Instruction.{Instruction}
 use Rattle.rv64_instr.specs.Row.{Moves, row_of}
 use Rattle.mir_func.specs.declared.entry.Entry.{Entry}
@@ -9,24 +8,22 @@ use Rattle.mir_func.specs.declared.position.Origin.{Origin}
 use Rattle.mir_func.specs.declared.location.Loc.{Loc}
 use Rattle.mir_func.specs.declared.block.Block.{Block}
 use Rattle.mir_func.specs.declared.item.Item.{Item}
-use Rattle.mir_func.specs.declared.item.ItemKind.{ItemKind}
-use Rattle.mir_func.specs.declared.item.ItemKind.TheVariants.{Code, Mark, Phi}
+use Rattle.mir_func.specs.declared.item.ItemKind.TheVariants.{Code}
 use Rattle.mir_func.specs.Function.{Function}
 use Rattle.mir_func.specs.Graph.{Program, program_of}
 use Rattle.mir_func.specs.Resolve.{resolve}
 use Rattle.mir_func.specs.Sound.{LeavesPointer, IsSound}
-use Rattle.pass_trait.specs.Change.{change}
 use Rattle.pass_trait.specs.Rule.{item}
 use Rattle.pass_salvage.proofs.Kin.{row_itself, code_kin}
-use Rattle.pass_salvage.proofs.Edits.{Edits, Edited, pair, put}
-use Rattle.pass_salvage.proofs.NumberPhi.{Spot, Elsewhere, Behind, PhiPair, elsewhere, closes, PhiPut, puts, phi_edits}
+use Rattle.pass_salvage.proofs.Edits.{Edits, pair, put}
+use Rattle.pass_salvage.proofs.NumberPhi.{Elsewhere, PhiPair, elsewhere, closes, puts, phi_edits}
 use Rattle.pass_edits.proofs.MovedNumbers.{number_to_phi}
 use Rattle.pass_edits.specs.Edits.{phi_before, with_phi, same_code}
 use Rattle.pass_edits.proofs.Numbers.{IsUnlike, AreUnlike, HasNoOther, keeps, puts as puts_none, fewer_same, fewer_behind}
 use Rattle.pass_edits.proofs.Sound.{edited_sound}
 use Rattle.pass_edits.proofs.Around.{with_block, stays_items, stays_above, stays_blocks, around, edited_same, edited_above, edited_around}
-use Rattle.pass_edits.proofs.Others.{BlocksUnlike, Others, others_of, at_item, once_around}
-use Rattle.pass_edits.proofs.Copies.{IsPlain, plain_copy}
+use Rattle.pass_edits.proofs.Others.{BlocksUnlike, others_of, at_item, once_around}
+use Rattle.pass_edits.proofs.Copies.{plain_copy}
 use Rattle.pass_edits.proofs.Loose.{Step}
 
 module _ (f : Function) (above : List Block) (id silent : ℕ) (behind : List Block) where

@@ -1,6 +1,6 @@
 -- Debug instruction numbers that are less than the next fresh one.
-use Rattle.std.proofs.Common.{◌≡◌, ℕ, suc, ◌+◌, ◌<◌, ◌≤◌, List, [], ◌∷◌, ◌++◌, All, Option, Some, None, Bool, true, false, cond, ◌&&◌, nat_eq, ne_eqb}
-use Rattle.std.proofs.Common.{refl, sym, ap, ◌∙◌, subst, arith}
+use Rattle.std.proofs.Common.{◌≡◌, ℕ, ◌+◌, ◌<◌, ◌≤◌, List, [], ◌∷◌, All, Some, None, Bool, true, false, cond, ◌&&◌, nat_eq, ne_eqb}
+use Rattle.std.proofs.Common.{refl, ap, ◌∙◌, subst, arith}
 use Rattle.std.specs.List.{flat_map}
 use Rattle.std.proofs.Math.Nat.{le-max_left, le-max_right, le_trans}
 use Rattle.std.proofs.lemmas.List.Elements.{All-nil, All-cons, All-head, All-tail, All-weaker}
@@ -12,10 +12,9 @@ use Rattle.mir_func.specs.declared.item.ItemKind.{ItemKind}
 use Rattle.mir_func.specs.declared.item.ItemKind.TheVariants.{Code, Mark, Phi}
 use Rattle.mir_func.specs.declared.variable.MarkValue.TheVariants.{Nothing, Constant, At, Pair}
 use Rattle.mir_func.specs.Resolve.{is_pair, entry_of, resolve, Ends, at, by}
-use Rattle.mir_func.specs.Sound.{items_of, AllItems}
+use Rattle.mir_func.specs.Sound.{items_of}
 use Rattle.pass_trait.specs.Sizes.{greatest, numbers_of}
 use Rattle.mir_substitution.proofs.Chains.{resolve_ends}
-use Rattle.pass_salvage.specs.Salvage.{with_number}
 use Rattle.pass_edits.proofs.Numbers.{IsUnlike, all_first, all_second}
 
 -- the numbers of an item, and of a substitution

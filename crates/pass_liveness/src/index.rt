@@ -1,6 +1,6 @@
 //! Lists of numbers in which the index of a number is found in constant time.
 
-ghost use Rattle.std.specs.Prelude.{◌≡◌, ◌<◌, ◌≤◌, ◌⊎◌, ℕ, length, nat_eq, take, IfOk, IfSome};
+ghost use Rattle.std.specs.Prelude.{◌≡◌, ◌<◌, ℕ, length, IfOk};
 ghost use Rattle.std.specs.HashMap.{get};
 ghost use Rattle.pass_liveness.specs.Index.{index_in, Finds};
 

@@ -1,11 +1,8 @@
 //! The bit of each place, and the index of each block.
 
-ghost use Rattle.std.specs.Prelude.{◌≡◌, ◌≤◌, ◌<◌, ◌||◌, ◌&&◌, not, length, nat_eq, IfOk, IfSome, Contains};
-ghost use Rattle.std.specs.Prelude.{false, true};
-ghost use Rattle.std.specs.List.{list_any};
+ghost use Rattle.std.specs.Prelude.{◌≡◌, ◌≤◌, ◌<◌, ◌||◌, ◌&&◌, not, length, IfSome};
+ghost use Rattle.std.specs.Prelude.{false};
 ghost use Rattle.rv64_instr.specs.declared.place.Place.{Place};
-ghost use Rattle.rv64_instr.specs.Parts.{is_implicit_use};
-ghost use Rattle.rv64_instr.specs.Access.{caller_saved};
 ghost use Rattle.mir_func.specs.Sound.{PlaceIn};
 ghost use Rattle.pass_liveness.specs.Sets.{bit_of, has, is_place};
 

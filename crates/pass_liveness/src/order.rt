@@ -1,6 +1,6 @@
 //! The order in which the solver visits blocks.
 
-ghost use Rattle.std.specs.Prelude.{◌≡◌, ℕ, ◌<◌, length, IfOk, All, Contains};
+ghost use Rattle.std.specs.Prelude.{ℕ, ◌<◌, length, IfOk, All, Contains};
 
 use crate::names::Names;
 use base_ids::code::BlockId;

@@ -1,6 +1,6 @@
 //! Sets of places, as bit vectors.
 
-ghost use Rattle.std.specs.Prelude.{◌≡◌, ℕ, ◌+◌, ◌*◌, ◌<◌, ◌||◌, ◌&&◌, not, nat_eq, false, true, length};
+ghost use Rattle.std.specs.Prelude.{◌≡◌, ℕ, ◌<◌, ◌||◌, ◌&&◌, not, nat_eq, false};
 ghost use Rattle.std.specs.Prelude.{slice_index_or, IsTrue};
 ghost use Rattle.pass_liveness.specs.Sets.{has_bit, gap, AreWords};
 

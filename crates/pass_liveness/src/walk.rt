@@ -1,6 +1,6 @@
 //! Backward liveness along the items of a block.
 
-ghost use Rattle.std.specs.Prelude.{◌≡◌, ◌||◌, All, false};
+ghost use Rattle.std.specs.Prelude.{◌≡◌, ◌||◌, All};
 ghost use Rattle.rv64_instr.specs.declared.place.Place.{Place};
 ghost use Rattle.mir_func.specs.Sound.{SlotsIn};
 ghost use Rattle.pass_liveness.specs.Sets.{has};

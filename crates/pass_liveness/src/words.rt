@@ -1,6 +1,6 @@
 //! Bits in lists of 64-bit words.
 
-ghost use Rattle.std.specs.Prelude.{◌≡◌, ℕ, ◌+◌, ◌*◌, ◌<◌, ◌||◌, ◌&&◌, not, nat_eq, false, true, length, IsTrue};
+ghost use Rattle.std.specs.Prelude.{◌≡◌, ℕ, ◌*◌, ◌<◌, ◌||◌, ◌&&◌, not, nat_eq, false, true, length, IsTrue};
 ghost use Rattle.pass_liveness.specs.Sets.{has_bit, gap};
 
 /// Whether a bit is set; a bit past the words isn't.

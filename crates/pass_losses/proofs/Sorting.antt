@@ -15,7 +15,7 @@ use Rattle.pass_trait.specs.declared.loss.Lost.{Lost}
 use Rattle.pass_trait.specs.declared.loss.Lost.TheVariants.{Number, Mark, Register}
 use Rattle.pass_trait.specs.declared.loss.Reason.{Reason}
 use Rattle.pass_trait.specs.declared.loss.Reason.TheVariants.{Removed, WrongPlace, Scratch, Bypassed, Unreachable, NoScratch, CallNamed, EntryLoop, NoSlot}
-use Rattle.pass_trait.specs.Order.{reason_rank, IsEarlier, ComesBefore, LossComesBefore, IsInOrder}
+use Rattle.pass_trait.specs.Order.{reason_rank, IsEarlier, LossComesBefore, IsInOrder}
 
 abbrev pub loss : Lost → Reason → Loss
 loss w r = record { what = w; reason = r }

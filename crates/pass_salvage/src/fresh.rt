@@ -1,8 +1,6 @@
 //! Fresh debug instruction numbers.
 
 ghost use Rattle.std.specs.Prelude.{◌≡◌, ◌+◌, ◌^◌, ◌<◌, max};
-ghost use Rattle.std.specs.List.{flat_map};
-ghost use Rattle.mir_func.specs.Sound.{items_of};
 ghost use Rattle.pass_trait.specs.Sizes.{greatest, numbers_of, greatest_number};
 ghost use Rattle.pass_salvage.specs.Fresh.{item_numbers, block_numbers, entry_numbers};
 

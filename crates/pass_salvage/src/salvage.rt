@@ -1,6 +1,6 @@
 //! Removes one copy and salvages its number.
 
-ghost use Rattle.std.specs.Prelude.{◌≡◌, ◌++◌, ◌<◌, ◌^◌, [], ◌∷◌, length, take, OnOk};
+ghost use Rattle.std.specs.Prelude.{◌≡◌, ◌++◌, ◌<◌, ◌^◌, length, take, OnOk};
 ghost use Rattle.pass_salvage.specs.Way.{way};
 ghost use Rattle.pass_salvage.specs.Salvage.{with_number, entry_for, entries_for, fresh_after, phi_for, items_after};
 

@@ -1,5 +1,5 @@
 //! Composition of passes: the empty pass, and one pass after another.
-ghost use Rattle.std.specs.Prelude.{◌≡◌, ◌++◌, ◌+◌, ◌*◌, true, false, not, ◌&&◌, ◌||◌, []};
+ghost use Rattle.std.specs.Prelude.{◌++◌, ◌+◌, ◌*◌, true, false, not, ◌&&◌, ◌||◌, []};
 ghost use Rattle.pass_trait.specs.Laws.{one_then, same_then, grows_then};
 ghost use Rattle.std.proofs.Common.{rules};
 

@@ -1,6 +1,6 @@
 //! Sets of variables and fragments of variables.
 
-ghost use Rattle.std.specs.Prelude.{◌≡◌, [], OnOk, OnErr};
+ghost use Rattle.std.specs.Prelude.{◌≡◌, OnOk, OnErr};
 ghost use Rattle.mir_func.specs.Variables.{is_same, is_same_node};
 ghost use Rattle.read_body.specs.Met.{is_known, known};
 

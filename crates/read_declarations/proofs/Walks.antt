@@ -1,12 +1,11 @@
 -- Fields and tokens are looked at one after the other.
-use Rattle.std.proofs.Common.{◌≡◌, ℕ, ◌+◌, ◌<◌, ◌≤◌, Bool, true, false, ◌&&◌, cond, List, [], ◌∷◌, length, get_or, drop, Option, Some, None, refl, sym, ap, ◌∙◌}
+use Rattle.std.proofs.Common.{◌≡◌, ℕ, ◌+◌, ◌<◌, ◌≤◌, Bool, true, false, ◌&&◌, cond, List, ◌∷◌, length, get_or, drop, Some, None, sym, ap, ◌∙◌}
 use Rattle.std.proofs.lemmas.List.{drop_more, drop_all}
 use Rattle.std.specs.Str.{bytes_eq}
 use Rattle.read_lexer.specs.declared.line.Line.{Line}
 use Rattle.read_declarations.specs.declared.stream.Piece.{Piece}
 use Rattle.read_declarations.specs.declared.entry.Field.{Field}
 use Rattle.read_declarations.specs.declared.entry.OpenList.{OpenList}
-use Rattle.read_declarations.specs.declared.entry.Listing.{Listing}
 use Rattle.read_declarations.specs.Stream.{text_at}
 use Rattle.read_declarations.specs.Entry.{fits_at, line_at, behind, ended, bad_line, entries_from, entries_of}
 use Rattle.read_declarations.specs.Field.{value_at}

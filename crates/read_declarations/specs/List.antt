@@ -1,10 +1,9 @@
 -- The list under a key: `[]`, or entries on the lines of the key.
-use Rattle.std.specs.Prelude.{ℕ, Bool, ◌&&◌, ◌==◌, if◌then◌else◌, is_some, drop, List, [], ◌∷◌, Option, Some, None}
+use Rattle.std.specs.Prelude.{Bool, ◌&&◌, ◌==◌, if◌then◌else◌, is_some, drop, List, [], ◌∷◌, Option, Some, None}
 use Rattle.read_lexer.specs.declared.line.Line.{Line}
 use Rattle.read_refusal.specs.declared.first.Refusal.{Refusal}
 use Rattle.read_refusal.specs.First.{earlier}
 use Rattle.read_declarations.specs.declared.stream.Piece.{Piece}
-use Rattle.read_declarations.specs.declared.stream.TokenStream.{TokenStream}
 use Rattle.read_declarations.specs.declared.entry.Listing.{Listing}
 use Rattle.read_declarations.specs.Stream.{stream_of}
 use Rattle.read_declarations.specs.Entry.{is_mark, bad_line, entries_of}

@@ -7,7 +7,6 @@ use Rattle.read_lexer.specs.declared.parts.Token.{Token}
 use Rattle.read_lexer.specs.Line.{tokens_of}
 use Rattle.read_lexer.specs.Comment.{before_comment}
 use Rattle.read_metadata.specs.Token.{text_of}
-use Rattle.read_refusal.specs.declared.first.Refusal.{Refusal}
 use Rattle.read_refusal.specs.declared.kind.RefusalKind.{RefusalKind}
 use Rattle.read_refusal.specs.declared.kind.RefusalKind.TheVariants.{BadByte, UnclosedString}
 use Rattle.read_declarations.specs.declared.stream.Piece.{Piece}

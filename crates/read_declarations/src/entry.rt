@@ -1,6 +1,6 @@
 //! The entries of a list, `- { key: value, .. }`, read token by token.
 
-ghost use Rattle.std.specs.Prelude.{◌≡◌, ◌↔◌, IfOk, OnOk, IsTrue};
+ghost use Rattle.std.specs.Prelude.{◌≡◌, IfOk, OnOk};
 ghost use Rattle.read_declarations.specs.Stream.{text_at};
 ghost use Rattle.read_declarations.specs.Entry.{
   is_mark,

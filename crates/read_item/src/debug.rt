@@ -2,7 +2,6 @@
 
 ghost use Rattle.std.specs.Prelude.{◌≡◌, Ok, Err};
 ghost use Rattle.read_refusal.specs.declared.kind.RefusalKind.{RefusalKind};
-ghost use Rattle.read_item.specs.declared.judged.JudgeError.TheVariants.{Refused};
 ghost use Rattle.read_item.specs.Debug.{
   content_value,
   register_value,

@@ -1,6 +1,6 @@
 //! The token at the front of the rest of a line.
 
-ghost use Rattle.std.specs.Prelude.{◌≡◌, ◌+◌, ◌<◌, ◌^◌, length, IfOk};
+ghost use Rattle.std.specs.Prelude.{◌≡◌, ◌+◌, ◌<◌, ◌^◌, length};
 ghost use Rattle.read_lexer.specs.Front.{token, marked, quoted, metadata_at, symbol_at, hexadecimal_len, integer_at};
 ghost use Rattle.read_lexer.specs.Front.{minus_at, token_at};
 

@@ -1,6 +1,6 @@
 //! Lines of items.
 
-ghost use Rattle.std.specs.Prelude.{◌≡◌, ◌∷◌, ◌++◌, [], length, IfOk};
+ghost use Rattle.std.specs.Prelude.{◌≡◌, [], length, IfOk};
 ghost use Rattle.read_line.specs.Read.{Gives, Lends};
 ghost use Rattle.read_line.specs.Item.{
   with_equals,

@@ -1,6 +1,6 @@
 //! Operands, parsed.
 
-ghost use Rattle.std.specs.Prelude.{◌≡◌, ◌≤◌, IfOk};
+ghost use Rattle.std.specs.Prelude.{◌≡◌, IfOk};
 ghost use Rattle.read_token.specs.Number.{BEYOND};
 ghost use Rattle.read_line.specs.Read.{Gives};
 ghost use Rattle.read_line.specs.Operand.{

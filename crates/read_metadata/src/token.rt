@@ -1,6 +1,6 @@
 //! The classes of tokens on a metadata line.
 
-ghost use Rattle.std.specs.Prelude.{◌≡◌, slice_range};
+ghost use Rattle.std.specs.Prelude.{◌≡◌};
 ghost use Rattle.read_metadata.specs.Token.{is_byte, is_word, is_node, is_kind, is_integer, is_text, text_of};
 
 use read_lexer::parts::{Class, Token};

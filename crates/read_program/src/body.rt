@@ -3,8 +3,7 @@
 ghost use Rattle.std.specs.Prelude.{◌≡◌, ◌≤◌, IfOk, IsNone};
 ghost use Rattle.read_body.specs.Body.{IsCounted};
 ghost use Rattle.read_body.specs.Limits.{MAX_ITEMS};
-ghost use Rattle.read_line.specs.Body.{body_line_of};
-ghost use Rattle.read_program.specs.BodyLines.{Reads, label_said, item_said, line_said, behind_line, body_of};
+ghost use Rattle.read_program.specs.BodyLines.{Reads, label_said, item_said, behind_line, body_of};
 
 use base_ids::code::BlockId;
 use read_body::body::Body;

@@ -1,6 +1,6 @@
 //! The kinds of refusals.
 
-ghost use Rattle.std.specs.Prelude.{◌≡◌, ◌≤◌, codes};
+ghost use Rattle.std.specs.Prelude.{◌≡◌, ◌≤◌};
 ghost use Rattle.read_refusal.specs.Kind.{number_of, name_of};
 
 /// Why a line is refused. Kinds are numbered from 1 on, in this order.

@@ -2,7 +2,6 @@
 
 ghost use Rattle.std.specs.Prelude.{◌≡◌};
 ghost use Rattle.read_metadata.specs.Field.{Spells};
-ghost use Rattle.read_token.specs.Word.{case_of};
 ghost use Rattle.read_token.specs.Register.{
   two_digits,
   physical_of,

@@ -1,8 +1,8 @@
 //! The lexemes of the tokens of a line.
 
-ghost use Rattle.std.specs.Prelude.{◌≡◌, slice_range, IfOk};
+ghost use Rattle.std.specs.Prelude.{◌≡◌, IfOk};
 ghost use Rattle.read_metadata.specs.Token.{text_of};
-ghost use Rattle.read_token.specs.Sentence.{node_of, kind_of, single_of, lexeme_by, lexeme_of, lexemes_of};
+ghost use Rattle.read_token.specs.Sentence.{node_of, kind_of, single_of, lexeme_of, lexemes_of};
 
 use crate::lexeme::{Lexeme, Lexemes};
 use crate::number::{limited, number};

@@ -1,20 +1,18 @@
 -- The slots and objects of entries, read as entries again.
-use Rattle.std.proofs.Common.{◌≡◌, ℕ, zero, suc, ◌+◌, ◌≤◌, Bool, true, false, cond, not, ◌||◌, eqb, List, [], ◌∷◌, ◌++◌, map, length, All, Option, Some, None}
+use Rattle.std.proofs.Common.{◌≡◌, ℕ, ◌+◌, ◌≤◌, Bool, true, false, cond, not, ◌||◌, eqb, List, [], ◌∷◌, ◌++◌, map, length, All, Some}
 use Rattle.std.proofs.Common.{refl, sym, ap, subst, ◌∙◌, arith, append_assoc, append-nil, inl, inr}
 use Rattle.std.specs.Prelude.{is_some, Contains}
 use Rattle.std.proofs.lemmas.Bool.{cases_Bool, or_right, or_left, eq-eqb, eqb-true}
 use Rattle.std.proofs.lemmas.List.{length-append, length-map}
 use Rattle.std.proofs.lemmas.Option.{slice_get-get_or}
-use Rattle.std.proofs.lemmas.List.Elements.{All-nil, All-cons, All-head, All-tail, All-push, All-append, All-map, All-weaker}
+use Rattle.std.proofs.lemmas.List.Elements.{All-nil, All-head, All-tail, All-push, All-append, All-map, All-weaker}
 use Rattle.base_ids.specs.Limits.{MAX_NUMBER}
 use Rattle.mir_func.specs.declared.object.Object.{Object}
 use Rattle.mir_func.specs.Objects.{up_to, AreLaidFrom, object_of}
-use Rattle.mir_func.specs.Sound.{AreApart}
-use Rattle.mir_func.specs.Limits.{MAX_SLOTS}
 use Rattle.read_declarations.specs.declared.stack.StackEntry.{StackEntry}
 use Rattle.read_body.specs.declared.frame.Laid.{Laid}
-use Rattle.read_body.specs.Frame.{is_object, with_slot, slots_behind, slots_of, laid_at, with_object, objects_behind, objects_of, with_id}
-use Rattle.read_body.specs.Frame.{ids_behind as object_ids_behind, ids_of_objects}
+use Rattle.read_body.specs.Frame.{is_object, with_slot, slots_behind, slots_of, laid_at, with_object, objects_behind, objects_of}
+use Rattle.read_body.specs.Frame.{ids_of_objects}
 use Rattle.read_body.specs.Met.{is_met, met}
 use Rattle.read_program.specs.Closing.{ids_behind, entry_ids}
 use Rattle.read_program.proofs.Entries.{ids_are_objects}
@@ -22,7 +20,7 @@ use Rattle.read_program.proofs.Frames.{frame_count, objects_laid, slot_if_no_obj
 use Rattle.read_program.proofs.Lists.{met_keeps, met_has, met_at}
 use Rattle.read_program.proofs.Stack.{IsReadEntry}
 use Rattle.readback_functions.specs.Declared.{IsEntry, slot_entry, object_entry, entries_read}
-use Rattle.readback_functions.specs.Frame.{AreDeclared, entries_again, IsReadBack, FramesReadBack}
+use Rattle.readback_functions.specs.Frame.{FramesReadBack}
 use Rattle.readback_functions.proofs.Apart.{Once, once_if_apart, apart_if_once, numbers, object_numbers, once_behind}
 
 -- ---- entries that are chosen

@@ -1,7 +1,5 @@
 -- The slots and objects of a function, printed as stack entries and read again.
 use Rattle.std.specs.Prelude.{◌≡◌, ℕ, ◌≤◌, true, List, map, length, All}
-use Rattle.base_ids.specs.Limits.{MAX_NUMBER}
-use Rattle.mir_func.specs.declared.object.Object.{Object}
 use Rattle.mir_func.specs.Limits.{MAX_SLOTS}
 use Rattle.mir_func.specs.Sound.{AreApart}
 use Rattle.read_declarations.specs.declared.stack.StackEntry.{StackEntry}

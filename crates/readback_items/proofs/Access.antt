@@ -1,5 +1,5 @@
 -- An access by a stack object isn't one that a slot could stand in.
-use Rattle.std.proofs.Common.{◌≡◌, ℕ, ℤ, Bool, true, false, not, ◌&&◌, ◌||◌, List, [], ◌∷◌, ◌++◌, Option, Some, None, refl, sym, ap, ◌∙◌}
+use Rattle.std.proofs.Common.{◌≡◌, ℕ, ℤ, Bool, true, false, ◌||◌, List, [], ◌∷◌, ◌++◌, Option, Some, None, refl, sym, ap, ◌∙◌}
 use Rattle.std.specs.List.{list_any, zip}
 use Rattle.std.proofs.lemmas.Bool.{or_parts}
 use Rattle.rv64_instr.specs.declared.operand.Operand.{Operand}

@@ -1,5 +1,5 @@
 -- Code that a line means is judged again so.
-use Rattle.std.proofs.Common.{◌≡◌, ℕ, ℤ, Bool, true, false, ◌&&◌, ◌||◌, List, [], ◌∷◌, ◌++◌, map, Option, Some, refl, sym, ap, subst, ◌∙◌}
+use Rattle.std.proofs.Common.{◌≡◌, ℕ, ℤ, Bool, true, false, ◌&&◌, List, [], ◌∷◌, map, Some, refl, sym, ap, subst, ◌∙◌}
 use Rattle.std.specs.List.{list_all, list_any, zip}
 use Rattle.std.proofs.lemmas.Bool.{and_parts, or_parts}
 use Rattle.rv64_instr.specs.declared.op.Op.{Op}
@@ -12,14 +12,13 @@ use Rattle.rv64_instr.specs.declared.operand.Operand.TheVariants.{Def, Use, Imm,
 use Rattle.rv64_instr.specs.Arithmetic.{load_width, store_width}
 use Rattle.rv64_instr.specs.Form.{is_within, has_12_bits, is_immediate, is_addi, moves_slot, is_implicit, fits_registers, fits_immediate, fits_upper}
 use Rattle.rv64_instr.specs.Form.{fits_branch, fits_load, fits_store, fits_copy, fits_jump, fits_call, has_form}
-use Rattle.rv64_instr.specs.Instruction.{Instruction}
 use Rattle.std.specs.Prelude.{pos}
 use Rattle.read_line.specs.declared.form.ItemForm.{ItemForm}
 use Rattle.read_line.specs.declared.form.OperandForm.{OperandForm}
 use Rattle.read_item.specs.declared.place.Place.TheVariants as place
-use Rattle.read_item.specs.Code.{joined, definitions, placed, names_slot, places_of, operands_of, is_whole_slot, is_misplaced, operand_at}
+use Rattle.read_item.specs.Code.{definitions, placed, names_slot, places_of, operands_of, is_misplaced, operand_at}
 use Rattle.read_item.specs.Place.{address}
-use Rattle.read_program.specs.Objects.{operand_as, operands_as, instr_as}
+use Rattle.read_program.specs.Objects.{operand_as, operands_as}
 use Rattle.read_program.proofs.Judged.{code_line}
 use Rattle.read_program.proofs.Printed.{renamed}
 use Rattle.mir_printer.specs.Printable.{as_slot}

@@ -1,15 +1,11 @@
 -- The lines of blocks are read back as the blocks.
-use Rattle.std.proofs.Common.{◌≡◌, ℕ, ◌+◌, List, [], ◌∷◌, ◌++◌, length, map, All, Option, Some, None, Ok, refl, sym, ap, ◌∙◌, arith}
-use Rattle.std.specs.Prelude.{IfSome}
+use Rattle.std.proofs.Common.{List, [], ◌∷◌, All, arith}
 use Rattle.std.proofs.lemmas.List.Elements.{All-nil, All-cons}
-use Rattle.read_metadata.specs.Maps.{Maps}
-use Rattle.read_lexer.specs.declared.line.Line.{Line}
 use Rattle.mir_func.specs.declared.block.Block.{Block}
 use Rattle.mir_func.specs.declared.item.Item.{Item}
-use Rattle.mir_func.specs.Sound.{items_of, number_of}
+use Rattle.mir_func.specs.Sound.{items_of}
 use Rattle.read_body.specs.Body.{nothing_read}
-use Rattle.read_body.specs.Met.{is_met}
-use Rattle.readback_items.specs.Body.{body_lines, texts_of, judged_constant, VariableIn, IsReadableItem, AreWithin, ReadsBlocks, BodiesReadBack}
+use Rattle.readback_items.specs.Body.{IsReadableItem, BodiesReadBack}
 use Rattle.readback_items.proofs.Made.{AllMade, blocks_made}
 use Rattle.readback_items.proofs.Room.{Fits, all_front, all_behind, blocks_walk, nothing_room}
 use Rattle.readback_items.proofs.Steps.{with_blocks, BlocksFit, blocks_read}

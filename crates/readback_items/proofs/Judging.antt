@@ -1,5 +1,5 @@
 -- The form of an item's line is judged as the item.
-use Rattle.std.proofs.Common.{◌≡◌, ℕ, ◌+◌, ◌≤◌, Bool, true, false, cond, not, ◌||◌, List, length, Option, Some, None, Result, Ok, Err, refl, sym, ap}
+use Rattle.std.proofs.Common.{◌≡◌, ℕ, ◌+◌, Bool, true, false, cond, not, ◌||◌, List, length, Option, Some, None, Result, Ok, refl, sym, ap}
 use Rattle.std.proofs.Common.{subst, ◌∙◌, arith}
 use Rattle.std.specs.List.{list_any, zip}
 use Rattle.std.proofs.lemmas.Bool.{le-ltb}
@@ -20,14 +20,13 @@ use Rattle.read_line.specs.declared.form.BodyLine.{BodyLine}
 use Rattle.read_line.specs.declared.form.BodyLine.TheVariants.{Item as OfItem}
 use Rattle.read_line.specs.declared.form.ItemForm.{ItemForm}
 use Rattle.read_line.specs.declared.form.LineError.{LineError}
-use Rattle.read_item.specs.declared.judged.Judged.{Judged}
 use Rattle.read_item.specs.declared.judged.Judged.TheVariants as judged_as
 use Rattle.read_item.specs.declared.opcode.Opcode.{Opcode}
 use Rattle.read_item.specs.declared.opcode.Opcode.TheVariants as opcodes
 use Rattle.read_item.specs.Code.{refusal_by, joined, definitions, placed, names_slot, places_of, fits, is_virtual, is_virtual_operand, is_pointer}
 use Rattle.read_item.specs.Code.{is_pointer_operand, is_misplaced, is_long, code_rules, operands_of, instruction, unless_refused, code_of}
 use Rattle.read_item.specs.Judge.{entries_of, numbered, item_of, judged_by, judged}
-use Rattle.read_item.specs.Opcode.{op_named, debug_opcode_of, opcode_or, opcode_of}
+use Rattle.read_item.specs.Opcode.{debug_opcode_of, opcode_or, opcode_of}
 use Rattle.read_item.specs.Place.{places}
 use Rattle.read_item.proofs.Named.{named_op}
 use Rattle.readback_items.specs.Debug.{IsDebug}
@@ -37,7 +36,6 @@ use Rattle.readback_items.proofs.Judged.{debug_lines_read_back}
 use Rattle.readback_items.proofs.Said.{lines_say_forms}
 use Rattle.readback_items.specs.Code.{judged_operands, judged_instruction, judged_kind, IsCode, IsReadable, FormsAreJudged}
 use Rattle.readback_items.proofs.Clean.{sets_of, uses_of, Clean, clean}
-use Rattle.readback_items.proofs.Operands.{Gives}
 use Rattle.readback_items.proofs.Forms.{Given, operands_given}
 
 -- ---- code

@@ -1,5 +1,5 @@
 -- What an item keeps that was judged, and that is then read where stack entries are objects.
-use Rattle.std.proofs.Common.{◌≡◌, ℕ, ◌≤◌, Bool, true, false, cond, eqb, List, [], ◌∷◌, length, map, Option, Some, None, refl, sym, ap, subst, ◌∙◌, arith}
+use Rattle.std.proofs.Common.{◌≡◌, ℕ, ◌≤◌, Bool, true, false, cond, eqb, List, [], ◌∷◌, length, map, Option, Some, None, refl, sym, subst, arith}
 use Rattle.std.specs.Prelude.{pos, IfSome}
 use Rattle.std.proofs.lemmas.Bool.{eqb-false}
 use Rattle.std.proofs.lemmas.List.{length-map}
@@ -12,7 +12,7 @@ use Rattle.mir_func.specs.declared.item.ItemKind.{ItemKind}
 use Rattle.mir_func.specs.declared.item.ItemKind.TheVariants.{Code, Mark, Phi}
 use Rattle.mir_func.specs.declared.location.Loc.{Loc}
 use Rattle.mir_func.specs.declared.variable.MarkValue.{MarkValue}
-use Rattle.mir_func.specs.declared.variable.MarkValue.TheVariants.{Nothing, Constant, At, Pair}
+use Rattle.mir_func.specs.declared.variable.MarkValue.TheVariants.{Nothing, Constant, At}
 use Rattle.mir_func.specs.Sound.{LeavesPointer}
 use Rattle.read_token.specs.declared.lexeme.Flag.{Flag}
 use Rattle.read_token.specs.declared.lexeme.Flag.TheVariants.{Plain, Implicit, ImplicitDef}
@@ -26,14 +26,14 @@ use Rattle.read_item.specs.declared.debug.PhiForm.{PhiForm}
 use Rattle.read_item.specs.declared.opcode.DebugOpcode.{DebugOpcode}
 use Rattle.read_item.specs.declared.opcode.DebugOpcode.TheVariants as debug
 use Rattle.read_item.specs.Code.{MAX_OPERANDS}
-use Rattle.read_item.specs.Debug.{content_value, register_value, number_value, operand_value, is_plain, is_direct, is_argument, value_mark, pair_value}
+use Rattle.read_item.specs.Debug.{content_value, register_value, operand_value, is_plain, is_direct, is_argument, value_mark, pair_value}
 use Rattle.read_item.specs.Debug.{reference_mark, list_mark, content_place, register_place, phi_place, phi_by, if_counted, count_in, phi_of, inlined_at}
 use Rattle.read_item.specs.Debug.{mark_kind, phi_kind, debug_kind}
 use Rattle.read_program.specs.Objects.{operand_as, instr_as, is_object, place_as, kind_as}
 use Rattle.read_program.proofs.Judged.{IsItemLine, of_code, of_debug}
 use Rattle.read_program.proofs.Printed.{form_kept, renamed}
 use Rattle.readback_items.specs.Debug.{ValueIsKept, PlaceIsKept}
-use Rattle.readback_items.specs.Code.{IsCode, IsReadable}
+use Rattle.readback_items.specs.Code.{IsReadable}
 use Rattle.readback_items.proofs.Few.{few_operands}
 
 pub record IsShort (i : Instruction) : Type 0 where

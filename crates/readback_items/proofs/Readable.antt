@@ -1,5 +1,5 @@
 -- Each item of a function that was read is readable.
-use Rattle.std.proofs.Common.{◌≡◌, ℕ, List, All, Option, None, Result, Ok, Err, refl, sym, ap, subst}
+use Rattle.std.proofs.Common.{◌≡◌, ℕ, List, All, Result, Ok, Err, refl, sym, ap, subst}
 use Rattle.std.proofs.lemmas.List.Elements.{All-map, All-weaker}
 use Rattle.read_refusal.specs.declared.first.Refusal.{Refusal}
 use Rattle.read_metadata.specs.Maps.{Maps}
@@ -17,7 +17,7 @@ use Rattle.read_body.specs.Body.{blocks_of}
 use Rattle.read_body.specs.Frame.{ids_of_objects}
 use Rattle.read_program.specs.declared.closing.Parsed.{Parsed}
 use Rattle.read_program.specs.BodyLines.{body_of}
-use Rattle.read_program.specs.Closing.{function_of, Closes, ParsesParts, Parses}
+use Rattle.read_program.specs.Closing.{Closes, ParsesParts}
 use Rattle.read_program.specs.Objects.{item_as, block_as, blocks_as}
 use Rattle.read_program.proofs.Bodies.{IsReadBlock, ComesFromLine, body_reads}
 use Rattle.read_program.proofs.Judged.{judged_line}

@@ -1,9 +1,9 @@
 -- Within the limits no line is refused.
-use Rattle.std.proofs.Common.{◌≡◌, ◌⊎◌, ℕ, zero, suc, ◌+◌, ◌<◌, ◌≤◌, Bool, true, false, cond, eqb, ltb, leb, ◌||◌, ◌&&◌, List, [], ◌∷◌, ◌++◌, length, map, All}
+use Rattle.std.proofs.Common.{◌≡◌, ◌⊎◌, ℕ, zero, suc, ◌+◌, ◌≤◌, Bool, true, false, cond, eqb, ltb, leb, ◌||◌, ◌&&◌, List, [], ◌∷◌, ◌++◌, length, All}
 use Rattle.std.proofs.Common.{Option, Some, None, refl, sym, ap, subst, ◌∙◌, inl, inr, arith, append_assoc}
 use Rattle.std.specs.Prelude.{IfSome}
-use Rattle.std.specs.List.{slice_get, list_any}
-use Rattle.std.proofs.lemmas.Bool.{cases_Bool, and_parts, eqb-true, eq-eqb, le-ltb, le-leb, lt-leb, or_right, false≢true}
+use Rattle.std.specs.List.{slice_get}
+use Rattle.std.proofs.lemmas.Bool.{cases_Bool, and_parts, eqb-true, eq-eqb, le-ltb, lt-leb}
 use Rattle.std.proofs.lemmas.List.{length-append, append-nil}
 use Rattle.std.proofs.lemmas.List.Elements.{All-head, All-tail}
 use Rattle.std.proofs.lemmas.Option.{slice_get_within}
@@ -19,10 +19,10 @@ use Rattle.mir_func.specs.Sound.{AreApart, ids_of, items_of, number_of, code_num
 use Rattle.mir_func.specs.Variables.{is_same_node, is_same_variable, are_same_bytes, is_same}
 use Rattle.mir_func.specs.Limits.{MAX_BLOCKS}
 use Rattle.read_body.specs.declared.body.Body.{Body}
-use Rattle.read_body.specs.Body.{repeats, exceeds, item_cause, label_cause, with_label, with_item, with_number, with_constant, with_variable, constant_of}
+use Rattle.read_body.specs.Body.{repeats, exceeds, item_cause, label_cause, with_label, with_number, with_constant, with_variable, constant_of}
 use Rattle.read_body.specs.Body.{object_named, nothing_read}
 use Rattle.read_body.specs.Limits.{MAX_ITEMS, MAX_VARIABLES, MAX_NUMBERS, MAX_CONSTANTS}
-use Rattle.read_body.specs.Met.{is_met, met, is_known, known}
+use Rattle.read_body.specs.Met.{is_met, met}
 use Rattle.read_program.proofs.Bodies.{facts_apart}
 use Rattle.read_program.proofs.Entries.{met_cases}
 use Rattle.read_program.proofs.Lists.{found, All-front}

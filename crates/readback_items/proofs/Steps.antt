@@ -1,7 +1,6 @@
 -- Lines of blocks are read one after the other.
-use Rattle.std.proofs.Common.{◌≡◌, ℕ, ◌≤◌, List, [], ◌∷◌, ◌++◌, map, All, Option, Some, None, Result, Ok, refl, sym, ap, ◌∙◌}
+use Rattle.std.proofs.Common.{◌≡◌, ℕ, ◌≤◌, List, [], ◌∷◌, ◌++◌, map, All, Option, Some, None, Result, Ok, refl, ap, ◌∙◌}
 use Rattle.std.specs.Prelude.{option_map}
-use Rattle.std.specs.List.{flat_map}
 use Rattle.std.proofs.lemmas.List.Elements.{All-head, All-tail}
 use Rattle.read_refusal.specs.declared.kind.RefusalKind.{RefusalKind}
 use Rattle.read_metadata.specs.Maps.{Maps}
@@ -9,12 +8,9 @@ use Rattle.read_lexer.specs.declared.line.Line.{Line}
 use Rattle.mir_func.specs.declared.block.Block.{Block}
 use Rattle.mir_func.specs.declared.item.Item.{Item}
 use Rattle.base_ids.specs.Limits.{MAX_NUMBER}
-use Rattle.read_line.specs.declared.form.BodyLine.{BodyLine}
-use Rattle.read_line.specs.declared.form.LineError.{LineError}
-use Rattle.read_item.specs.declared.judged.Judged.{Judged}
 use Rattle.read_body.specs.declared.body.Body.{Body}
 use Rattle.read_body.specs.Body.{block_with, label_cause, with_label, with_item, item_cause}
-use Rattle.read_program.specs.BodyLines.{unless, label_said, judged_said, item_said, line_said, behind_line, and_then, body_behind}
+use Rattle.read_program.specs.BodyLines.{unless, judged_said, item_said, line_said, behind_line, and_then, body_behind}
 use Rattle.read_program.proofs.Bodies.{facts_apart}
 use Rattle.readback_items.specs.Forms.{form_of}
 use Rattle.readback_items.proofs.Labels.{labels_read_back}

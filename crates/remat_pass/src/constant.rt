@@ -1,10 +1,8 @@
 //! Constant definitions.
 
-ghost use Rattle.std.specs.Prelude.{◌≡◌, ◌++◌, [], ◌∷◌, IsTrue, IfOk, OnOk, filter, pos};
-ghost use Rattle.std.specs.List.{list_all};
-ghost use Rattle.rv64_instr.specs.Arithmetic.{signed};
+ghost use Rattle.std.specs.Prelude.{◌≡◌, ◌++◌, ◌∷◌, IsTrue, IfOk, OnOk, filter, pos};
 ghost use Rattle.rv64_instr.specs.Form.{has_12_bits, is_implicit, is_within};
-ghost use Rattle.remat_pass.specs.Remat.{constant_code, upper_part};
+ghost use Rattle.remat_pass.specs.Remat.{constant_code};
 
 use rv64_instr::instr::Instr;
 use rv64_instr::op::{ImmediateOp, Op};

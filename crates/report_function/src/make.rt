@@ -1,6 +1,6 @@
 //! Makes the report on machine code.
 
-ghost use Rattle.std.specs.Prelude.{◌≡◌, ◌<◌, ◌^◌, All, IfOk, length};
+ghost use Rattle.std.specs.Prelude.{◌≡◌, ◌<◌, All, IfOk, length};
 ghost use Rattle.dwarf_loclists.specs.Ranges.{Ascend};
 ghost use Rattle.report_function.specs.Report.{cover_of, covers_of, report_of};
 

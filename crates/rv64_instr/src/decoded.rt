@@ -1,7 +1,6 @@
 //! Instructions decoded from their opcode and operands into what they do.
 
-ghost use Rattle.std.specs.Prelude.{◌≡◌, IsTrue};
-ghost use Rattle.rv64_instr.specs.Arithmetic.{word};
+ghost use Rattle.std.specs.Prelude.{IsTrue};
 ghost use Rattle.rv64_instr.specs.Form.{fits_registers, fits_immediate, fits_upper, fits_branch};
 ghost use Rattle.rv64_instr.specs.Form.{fits_load, fits_store, fits_copy, fits_jump, fits_call};
 ghost use Rattle.rv64_instr.specs.Row.{

@@ -1,6 +1,6 @@
 //! Instructions, in the form of their opcode.
 
-ghost use Rattle.std.specs.Prelude.{◌≡◌, false, true, IfOk, IfSome, IsNone, ◌↔◌};
+ghost use Rattle.std.specs.Prelude.{◌≡◌, false, IfOk, IfSome, IsNone, ◌↔◌};
 
 use crate::form::has_form;
 use crate::op::Op;

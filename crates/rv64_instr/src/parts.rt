@@ -7,7 +7,7 @@ ghost use Rattle.rv64_instr.specs.Row.{Row, row_of};
 ghost use Rattle.rv64_instr.specs.Decoded.{Shows};
 ghost use Rattle.rv64_instr.specs.Parts.{effect_of, set_by, place_set, input_place, base_place, moved_into, first_use};
 ghost use Rattle.rv64_instr.specs.Parts.{second_use, moved_by, constant_of, is_pure, is_call, uses_of, defines_of};
-ghost use Rattle.rv64_instr.specs.Parts.{slot_read, slot_set, names_slot, is_implicit_use};
+ghost use Rattle.rv64_instr.specs.Parts.{slot_read, slot_set, is_implicit_use};
 
 use crate::decoded::{Base, Decoded, Input};
 use crate::instr::Instr;

@@ -1,21 +1,16 @@
 -- One turn of each loop over registers.
-use Rattle.std.proofs.Common.{◌≡◌, ◌≢◌, ℕ, zero, suc, ◌+◌, ◌-◌, ◌*◌, ◌/◌, ◌%◌, ◌^◌, ◌<◌, ◌≤◌, List, [], ◌∷◌, length, Option, Some, None, Bool, true, false}
-use Rattle.std.proofs.Common.{cond, refl, sym, ap, subst, ◌∙◌, inl, inr, drop, get_or, arith, get_or-set_other, get_or-set_same, length-set}
+use Rattle.std.proofs.Common.{◌≡◌, ◌≢◌, ℕ, zero, suc, ◌+◌, ◌-◌, ◌%◌, ◌^◌, ◌<◌, ◌≤◌, List, [], ◌∷◌, length, Option, Some, None, Bool, true, false}
+use Rattle.std.proofs.Common.{cond, refl, sym, ap, ◌∙◌, inl, inr, drop, get_or, arith, get_or-set_other, get_or-set_same, length-set}
 use Rattle.std.proofs.Math.Seq.{drop-cons}
-use Rattle.std.proofs.Math.Nat.{pow-le-pow_right}
-use Rattle.std.proofs.lemmas.List.{drop_all}
-use Rattle.std.proofs.lemmas.Nat.{pow-add}
 use Rattle.std.proofs.lemmas.Bool.{cases_eq, eq-eqb, ne_eqb, ltb-true, and_parts}
-use Rattle.std.specs.Prelude.{nat_eq, nat_lt, unwrap_or, slice_index_or, slice_set, ◌||◌}
+use Rattle.std.specs.Prelude.{nat_lt, slice_index_or, slice_set, ◌||◌}
 use Rattle.std.specs.List.{list_all, slice_get}
 use Rattle.std.specs.Option.{option_map}
 use Rattle.std.proofs.lemmas.Option.{slice_get-map, slice_get-get_or}
 use Rattle.mir_func.specs.declared.block.Block.{Block}
 use Rattle.mir_func.specs.Sound.{AreApart, ids_of}
 use Rattle.mir_func.specs.Graph.{from_block}
-use Rattle.std.specs.Map.{lookup}
-use Rattle.sem_mir.specs.State.{updated, content, put, put_all, spelled, stored, low_bytes, written, in_frame, touches_frame}
-use Rattle.sem_interpreter.specs.Held.{MemoryHolds, some_writes}
+use Rattle.sem_mir.specs.State.{content, put, put_all, in_frame, touches_frame}
 use Rattle.sem_interpreter.specs.Places.{AreRegisters, RegistersHold}
 
 -- ---- the frame

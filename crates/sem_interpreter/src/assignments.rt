@@ -1,6 +1,6 @@
 //! The last assignments to parts of variables.
 
-ghost use Rattle.std.specs.Prelude.{◌≡◌, ◌≤◌, ◌<◌, ◌+◌, ◌*◌, ◌%◌, ◌^◌};
+ghost use Rattle.std.specs.Prelude.{◌≡◌, ◌≤◌, ◌<◌, ◌*◌, ◌%◌, ◌^◌};
 ghost use Rattle.std.specs.Prelude.{ℕ, [], ◌∷◌, List, Option, OnOk, OnErr, IfOk, IsTrue};
 ghost use Rattle.mir_func.specs.declared.variable.VarId.{VarId};
 ghost use Rattle.mir_func.specs.Parts.{Bytes};

@@ -1,6 +1,6 @@
 //! The effect of code on registers, frame slots and memory.
 
-ghost use Rattle.std.specs.Prelude.{◌≡◌, ◌≤◌, ℕ, List, ◌∷◌, All, IfOk, OnErr, Option, length};
+ghost use Rattle.std.specs.Prelude.{◌≡◌, ◌≤◌, ℕ, List, All, IfOk, OnErr, Option, length};
 ghost use Rattle.std.specs.Option.{option_copied};
 ghost use Rattle.rv64_instr.specs.Row as row;
 ghost use Rattle.rv64_instr.specs.Row.{row_of, implicit_uses};

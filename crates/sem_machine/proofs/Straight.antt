@@ -20,7 +20,7 @@ use Rattle.mir_func.specs.declared.item.Item.{Item}
 use Rattle.mir_func.specs.declared.item.ItemKind.{ItemKind}
 use Rattle.mir_func.specs.declared.item.ItemKind.TheVariants.{Code, Mark}
 use Rattle.sem_mir.specs.State.{Core, State}
-use Rattle.sem_mir.specs.Step.{Outcome, Falls, Gives, Went, Returned, act, read, or_zero, numbered, with_core, mark_value, part_of, do_item, step}
+use Rattle.sem_mir.specs.Step.{Falls, Gives, Went, Returned, act, read, numbered, with_core, mark_value, part_of, do_item, step}
 use Rattle.rv64_instr.specs.Parts.{is_call}
 use Rattle.mir_func.specs.Graph.{Fetch, Here, Program, below, front, fetch_in, program_of}
 use Rattle.sem_mir.specs.Step as source
@@ -29,7 +29,7 @@ use Rattle.sem_mir.specs.Align.{is_code, waits_at, since_of, Since, Start, Same,
 use Rattle.sem_mir.specs.Token.{Tokens, after_item, after_fetch, entry_tokens}
 use Rattle.sem_mir.proofs.Alignment.{aligns_once}
 use Rattle.sem_mir.proofs.Outcomes.{step_item}
-use Rattle.sem_value_ids.specs.Trace.{Trace, Names, NamesAlong, HasRegisters}
+use Rattle.sem_value_ids.specs.Trace.{Trace, Names, HasRegisters}
 use Rattle.sem_value_ids.specs.Trace as trace
 use Rattle.sem_value_ids.proofs.Along.{tokens_name_values}
 use Rattle.sem_machine.specs.Image.{CodeLine, Image, line_at, word_at}

@@ -19,8 +19,8 @@ use Rattle.sem_mir.specs.State.{State, Core, content}
 use Rattle.mir_func.specs.Graph.{Program, Fetch, Here, Silent, Outside, below, block_start, end_of, front, fetch_in, from_block, program_of, FetchEdge}
 use Rattle.mir_func.specs.Graph.{KindEdge, RowEdge}
 use Rattle.sem_mir.specs.Align.{Count, ByItems, ByEnds, station_at, AnyOrigin, RunsAlong}
-use Rattle.sem_mir.specs.Follow.{IsWithin, IsSource, IsRead, Among, none, same, first_of, OnRow, GoesTo, IsEnd, SameEnd, KindsEndAlike, EndIsKept}
-use Rattle.sem_mir.specs.Follow.{EndComesFrom, InOrder, rank, next_rank, class_of, HasClass, RowFits, KindFits, MarkFits, IsMetApart, Shape, IsStart}
+use Rattle.sem_mir.specs.Follow.{IsWithin, IsSource, IsRead, Among, none, same, first_of, OnRow, GoesTo, IsEnd, SameEnd, KindsEndAlike}
+use Rattle.sem_mir.specs.Follow.{InOrder, rank, next_rank, HasClass, KindFits, MarkFits, Shape, IsStart}
 use Rattle.sem_mir.specs.Follow.{Follows, HasWholeEnds}
 use Rattle.sem_mir.proofs.Sources.{in_step_any}
 use Rattle.sem_mir.proofs.Told.{SeesLess, Beside, goes_beside, agrees_beside, tells_itself}

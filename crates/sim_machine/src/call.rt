@@ -1,6 +1,6 @@
 //! Calls: their events, and the effects of their answers.
 
-ghost use Rattle.std.specs.Prelude.{◌≡◌, ◌<◌, ◌+◌, ◌%◌, ◌^◌, true, List, ℕ, ◌∷◌, All, Some, map, IfOk, OnOk, OnErr};
+ghost use Rattle.std.specs.Prelude.{◌≡◌, ◌<◌, ◌+◌, ◌^◌, true, List, ℕ, All, Some, map, IfOk, OnOk, OnErr};
 ghost use Rattle.rv64_instr.specs.Access.{caller_saved};
 ghost use Rattle.rv64_instr.specs.Parts.{is_call};
 ghost use Rattle.rv64_instr.specs.Row.{row_of, implicit_uses};

@@ -1,6 +1,6 @@
 //! The simulator of machine code.
 
-ghost use Rattle.std.specs.Prelude.{◌≡◌, ◌<◌, ◌+◌, ◌*◌, ◌^◌, ℕ, List, Some, None, true, false, IfSome, IfOk, OnErr};
+ghost use Rattle.std.specs.Prelude.{◌≡◌, ◌<◌, ◌+◌, ◌*◌, ℕ, Some, None, true, false, IfSome, IfOk, OnErr};
 ghost use Rattle.std.specs.Prelude.{length, slice_index};
 ghost use Rattle.mir_func.specs.Objects.{area_of};
 ghost use Rattle.sem_machine.specs.Machine.{Machine as State, register, register_in};

@@ -1,6 +1,6 @@
 //! Entries and instructions by address.
 
-ghost use Rattle.std.specs.Prelude.{◌≡◌, ◌<◌, ◌+◌, ◌*◌, ◌^◌, List, ℕ, Some, None, Option, true, false, IfSome};
+ghost use Rattle.std.specs.Prelude.{◌≡◌, ◌<◌, ◌+◌, ◌*◌, ◌^◌, Some, None, Option, true, false, IfSome};
 ghost use Rattle.std.specs.Prelude.{MatchOption, length, slice_index};
 ghost use Rattle.rv64_instr.specs.Parts.{is_call};
 ghost use Rattle.rv64_instr.specs.Row.{row_of};

@@ -1,6 +1,6 @@
 //! Values of variables from their location lists, at the program counter and in the current state.
 
-ghost use Rattle.std.specs.Prelude.{◌≡◌, ◌<◌, ◌^◌, ◌*◌, ◌%◌, ◌≤◌, ℕ, List, IfOk, IfErr, length};
+ghost use Rattle.std.specs.Prelude.{◌≡◌, ◌<◌, ◌^◌, ◌*◌, ◌%◌, ◌≤◌, List, IfOk, IfErr, length};
 ghost use Rattle.rv64_instr.specs.declared.place.Place.{Place};
 ghost use Rattle.dwarf_loclists.specs.declared.range.Range.{Range};
 ghost use Rattle.dwarf_loclists.specs.Fault.{FaultAt};

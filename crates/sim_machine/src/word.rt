@@ -1,7 +1,6 @@
 //! Steps that aren't calls.
 
-ghost use Rattle.std.specs.Prelude.{◌≡◌, ◌<◌, ◌^◌, Some, None, false, IfOk, OnErr};
-ghost use Rattle.emit_code.specs.Laid.{LaidCode};
+ghost use Rattle.std.specs.Prelude.{◌≡◌, ◌<◌, Some, None, false, IfOk, OnErr};
 ghost use Rattle.sim_machine.specs.Shown.{entry_at, entry_call};
 ghost use Rattle.sim_machine.specs.Kept.{IsSameFrame};
 ghost use Rattle.sim_machine.specs.Running.{StepsOn, StaysIf};

@@ -1,5 +1,5 @@
 -- The lines of a layout are those of its entries.
-use Rattle.std.proofs.Common.{◌≡◌, ℕ, zero, suc, ◌+◌, List, [], ◌∷◌, ◌++◌, map, drop, slice_get, Option, Some, None, Bool, refl, sym, ap, ◌∙◌, subst, arith}
+use Rattle.std.proofs.Common.{◌≡◌, ℕ, suc, ◌+◌, List, [], ◌∷◌, ◌++◌, map, drop, slice_get, Some, refl, sym, ap, ◌∙◌, subst, arith}
 use Rattle.std.specs.List.{flat_map}
 use Rattle.rv64_instr.specs.Instruction.{Instruction}
 use Rattle.rv64_instr.specs.Row.{row_of}
@@ -18,7 +18,7 @@ use Rattle.emit_code.specs.Rule.{Layout, Form, Nothing, OneWord, CallSite, LongB
 use Rattle.emit_code.specs.Rule.{entries_of}
 use Rattle.emit_code.proofs.Settled as settled
 use Rattle.machine_steps_proof.specs.Images.{code_line}
-use Rattle.sim_machine.specs.Shown.{kind_call, fetch_call, entry_call, IsLineOf, AreLinesOf}
+use Rattle.sim_machine.specs.Shown.{kind_call, fetch_call, AreLinesOf}
 use Rattle.sim_proof.proofs.Listed.{call_listed, long_none, skip_none, jump_none}
 
 abbrev fetched : FramedFunction → Pos → Fetch

@@ -1,16 +1,15 @@
 -- The image of a layout shows the machine code.
-use Rattle.std.proofs.Common.{◌≡◌, ℕ, List, ◌++◌, map, drop, refl, sym, ap, ◌∙◌, subst}
+use Rattle.std.proofs.Common.{◌≡◌, ℕ, List, ◌++◌, map, drop, sym, ap, ◌∙◌, subst}
 use Rattle.std.specs.List.{flat_map}
 use Rattle.std.specs.Int.{w32, to_le_bytes}
 use Rattle.mir_func.specs.Function.{FramedFunction}
 use Rattle.mir_func.specs.Objects.{area_of}
-use Rattle.sem_machine.specs.Image.{CodeLine, Image}
+use Rattle.sem_machine.specs.Image.{CodeLine}
 use Rattle.emit_code.specs.declared.code.Entry.{Entry}
-use Rattle.emit_code.specs.Laid.{LaidCode, IsCodeOf}
 use Rattle.emit_code.specs.Listed.{lines_of}
 use Rattle.emit_code.specs.Rule.{entries_of}
-use Rattle.machine_steps_proof.specs.Images.{code_line, IsImageOf}
-use Rattle.sim_machine.specs.Shown.{AreLinesOf, ShowsCode}
+use Rattle.machine_steps_proof.specs.Images.{code_line}
+use Rattle.sim_machine.specs.Shown.{AreLinesOf}
 use Rattle.sim_proof.specs.Shows.{ImagesShowCode}
 use Rattle.sim_proof.proofs.Lines.{lines_beside}
 

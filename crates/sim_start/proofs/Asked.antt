@@ -1,17 +1,15 @@
 -- The run with values for its calls is the one that is asked for.
-use Rattle.std.proofs.Common.{◌≡◌, ℕ, zero, suc, ◌+◌, ◌-◌, ◌<◌, ◌≤◌, ◌%◌, ◌^◌, List, [], ◌∷◌, ◌++◌, length, get_or, refl, sym, ap, ◌∙◌, subst, arith}
+use Rattle.std.proofs.Common.{◌≡◌, ℕ, zero, suc, ◌+◌, ◌-◌, ◌<◌, ◌≤◌, ◌%◌, ◌^◌, List, [], ◌∷◌, ◌++◌, length, get_or, refl, sym, ap, ◌∙◌, arith}
 use Rattle.std.proofs.lemmas.List.{append-nil}
 use Rattle.rv64_instr.specs.declared.start.CallEvent.{CallEvent}
 use Rattle.rv64_instr.specs.declared.start.Start.{Start}
 use Rattle.sem_mir.specs.State.{Reply, written}
-use Rattle.sem_machine.specs.Image.{Image}
 use Rattle.sem_machine.specs.Machine.{Machine, register, register_in}
 use Rattle.emit_code.specs.Laid.{LaidCode}
 use Rattle.sim_machine.specs.Machines.{StartsCode}
-use Rattle.sim_machine.specs.Shown.{ShowsCode}
 use Rattle.sim_proof.specs.Runs.{WereGiven}
 use Rattle.sim_trace.specs.declared.variable.Variable.{Variable}
-use Rattle.sim_trace.specs.Run.{IsRunText, IsTextOfRun}
+use Rattle.sim_trace.specs.Run.{IsTextOfRun}
 use Rattle.sim_start.specs.Asked.{start_register, BeginsRun, reply_to, replies, IsTextOfAskedRun}
 
 -- the answers that values give

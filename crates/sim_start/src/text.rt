@@ -1,6 +1,6 @@
 //! The text of a run.
 
-ghost use Rattle.std.specs.Prelude.{◌≡◌, ◌≤◌, ◌+◌, ◌*◌, ◌^◌, All, IfOk, length};
+ghost use Rattle.std.specs.Prelude.{◌≤◌, ◌+◌, ◌*◌, ◌^◌, All, IfOk, length};
 ghost use Rattle.dwarf_loclists.specs.Ranges.{Ascend, ArePlaces};
 ghost use Rattle.sim_start.specs.Asked.{IsTextOfAskedRun};
 

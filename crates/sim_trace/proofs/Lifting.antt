@@ -22,9 +22,9 @@ use Rattle.sim_proof.specs.Runs.{WereGiven, next_call}
 use Rattle.sim_proof.proofs.Runs.{given_on, steps_are_the_machines}
 use Rattle.sim_trace.specs.declared.variable.Variable.{Variable}
 use Rattle.sim_trace.specs.Lines.{step_line, stop_line}
-use Rattle.sim_trace.specs.Run.{line_at_code, line_before, Prints, IsRunText, makes_steps, stops, HasText, IsTextOfRun}
+use Rattle.sim_trace.specs.Run.{line_at_code, line_before, Prints, makes_steps, stops, HasText, IsTextOfRun}
 use Rattle.sim_trace.specs.Run as run
-use Rattle.sim_trace.specs.steps.Printed.{line_at_entry, IsLineAdded, IsPrintedStep, Printed, IsStopAdded, IsRunPrinted, made_steps, stopped}
+use Rattle.sim_trace.specs.steps.Printed.{line_at_entry, IsLineAdded, IsPrintedStep, Printed, IsRunPrinted, made_steps, stopped}
 use Rattle.sim_trace.specs.steps.Printed as printed
 
 -- the line of an entry is that of the image's line at its address

@@ -1,5 +1,5 @@
 -- Variables with their location lists.
-use Rattle.std.specs.Prelude.{ℕ, List, [], slice_index_or}
+use Rattle.std.specs.Prelude.{List, [], slice_index_or}
 use Rattle.listing_text.specs.declared.output.ListedVariable.{ListedVariable}
 use Rattle.dwarf_loclists.specs.declared.range.Range.{Range}
 use Rattle.sim_trace.specs.declared.variable.Variable.{Variable}

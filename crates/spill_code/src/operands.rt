@@ -1,8 +1,8 @@
 //! The operands of code in which registers are spilled.
 
-ghost use Rattle.std.specs.Prelude.{◌≡◌, ℕ, IfOk, map};
+ghost use Rattle.std.specs.Prelude.{◌≡◌, IfOk, map};
 ghost use Rattle.spill_code.specs.Rewrite.{slot_used, slot_defined, unless_is, first_used, other_used, first_defined};
-ghost use Rattle.spill_code.specs.Rewrite.{stand_in, use_now, set_in, def_now, renamed_operand, spilled_code};
+ghost use Rattle.spill_code.specs.Rewrite.{use_now, def_now, renamed_operand, spilled_code};
 
 use crate::spilling::{Home, Spilling, slot_of};
 use base_ids::code::SlotId;

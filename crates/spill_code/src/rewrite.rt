@@ -3,7 +3,7 @@
 ghost use Rattle.std.specs.Prelude.{◌≡◌, ◌++◌, ◌<◌, ◌^◌, ◌+◌, IfOk, OnOk, All, Some, map, ℕ};
 ghost use Rattle.mir_func.specs.Graph.{below};
 ghost use Rattle.sem_mir.specs.Align.{position_of};
-ghost use Rattle.spill_code.specs.Rewrite.{code_items, kind_items, spilled_item};
+ghost use Rattle.spill_code.specs.Rewrite.{code_items, spilled_item};
 ghost use Rattle.spill_code.specs.Rewrite.{spilled_items, spilled_block, first_block};
 ghost use Rattle.spill_code.specs.Rewrite.{slot_of, place_in, spilled_place, spilled_blocks, first_defined};
 ghost use Rattle.spill_code.specs.Room.{HasRoom, HaveRoom};

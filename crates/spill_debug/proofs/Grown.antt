@@ -1,8 +1,8 @@
 -- Functions that grow: items stay, rewritten perhaps, and others that fall through come before and after them. What every function
 -- keeps stays.
-use Rattle.std.proofs.Common.{◌≡◌, ◌⊎◌, inl, inr, ℕ, zero, suc, ◌+◌, ◌≤◌, List, [], ◌∷◌, ◌++◌, length, map, All, Contains, Option, Some, None, slice_get}
+use Rattle.std.proofs.Common.{◌≡◌, ◌⊎◌, inl, inr, ℕ, suc, ◌+◌, ◌≤◌, List, [], ◌∷◌, ◌++◌, length, map, All, Option, Some, None, slice_get}
 use Rattle.std.proofs.Common.{refl, sym, ap, ◌∙◌, subst, append_assoc}
-use Rattle.std.specs.List.{filter_map, cons_option}
+use Rattle.std.specs.List.{cons_option}
 use Rattle.std.proofs.lemmas.List.Concat.{flat_map-cons}
 use Rattle.std.proofs.lemmas.List.Elements.{All-nil, All-cons, All-head, All-tail, All-append}
 use Rattle.mir_func.specs.declared.exit.Exit.{Exit}
@@ -20,7 +20,7 @@ use Rattle.mir_func.specs.Sound.{AreApart, AllItems, ids_of, items_of, number_of
 use Rattle.mir_func.specs.Sound.{LeavesPointer}
 use Rattle.mir_func.specs.Sound.{IsJumpAtMost, MayFollow, EndsWell, Closes, LastCloses, IsSoundObject, IsSound}
 use Rattle.mir_func.proofs.Checks.{at_get}
-use Rattle.mir_func.proofs.Once.{codes_of, codes_apart, phis_off, once_from, PhiOff, PhisOff, IsCode}
+use Rattle.mir_func.proofs.Once.{codes_of, codes_apart, phis_off, once_from, PhiOff, IsCode}
 
 module _ (Fresh : ℕ → Type 0) where
   -- what is added goes on, is no code with a number, and its number is fresh

@@ -1,6 +1,6 @@
 -- The losses of marks.
-use Rattle.std.proofs.Common.{◌≡◌, ◌⊎◌, ℕ, ◌<◌, List, [], ◌∷◌, map, length, All, Contains, Bool, true, false, ◌&&◌, nat_eq, zero, suc, eq-eqb}
-use Rattle.std.proofs.Common.{eqb-true, ne_eqb, refl, subst, sym, ap, ◌∙◌, inl, inr, arith}
+use Rattle.std.proofs.Common.{◌≡◌, ℕ, ◌<◌, List, [], ◌∷◌, map, All, Contains, Bool, true, ◌&&◌, nat_eq, zero, suc, eq-eqb}
+use Rattle.std.proofs.Common.{eqb-true, ne_eqb, refl, sym, ap, ◌∙◌, inl, inr, arith}
 use Rattle.std.proofs.Common.{Ordering, Less, Equal, Greater}
 use Rattle.std.specs.Cmp.{IsTotalOrder, IsEquivalence}
 use Rattle.std.specs.List.Sorted.{IsSorted, IsPermutation, IsStrictlySortedBy}

@@ -1,13 +1,12 @@
 -- The losses of scratch registers: numbers and marks.
-use Rattle.std.proofs.Common.{◌≡◌, ◌⊎◌, inl, inr, ◌↔◌, ℕ, zero, suc, ◌+◌, ◌<◌, List, [], ◌∷◌, ◌++◌, length, All, Contains, Option, Some, None, Bool}
-use Rattle.std.proofs.Common.{true, false, cond, get_or}
+use Rattle.std.proofs.Common.{◌≡◌, ◌⊎◌, inl, inr, ℕ, zero, suc, ◌+◌, List, [], ◌∷◌, ◌++◌, All, Contains, Option, Some, None, Bool}
+use Rattle.std.proofs.Common.{true, false, cond}
 use Rattle.std.proofs.Common.{refl, sym, ap, ◌∙◌, subst, arith}
 use Rattle.std.specs.Prelude.{AllPairs}
 use Rattle.std.specs.List.{filter_map, flat_map, cons_option}
 use Rattle.std.proofs.lemmas.List.Concat.{flat_map-cons}
 use Rattle.std.proofs.lemmas.List.Elements.{All-nil, All-cons, All-append, Contains-append_left, Contains-append_right, Contains-append_cases}
 use Rattle.std.proofs.lemmas.List.Kept.{AllPairs-cons}
-use Rattle.rv64_instr.specs.declared.place.Place.{Place}
 use Rattle.rv64_instr.specs.declared.place.Place.TheVariants.{Register, Slot, Const}
 use Rattle.mir_func.specs.declared.position.Pos.{Pos}
 use Rattle.mir_func.specs.declared.position.Origin.{Origin}
@@ -27,7 +26,7 @@ use Rattle.spill_code.specs.declared.spilling.Spilling.{Spilling}
 use Rattle.spill_code.specs.Rewrite.{slot_of}
 use Rattle.spill_debug.specs.Asked.{is_scratch}
 use Rattle.spill_debug.specs.Lost.{mark_from, AreMarksLost, is_silent, LosesScratch, AreScratchLosses, number_silenced, mark_silenced}
-use Rattle.spill_debug.specs.Lost.{numbers_silenced, marks_silenced, all_numbers_silenced, all_marks_silenced}
+use Rattle.spill_debug.specs.Lost.{all_numbers_silenced, all_marks_silenced}
 
 -- ---- what a walk over items finds
 

@@ -1,6 +1,6 @@
 //! The spilling pass.
 
-ghost use Rattle.std.specs.Prelude.{◌+◌, ◌<◌, ◌^◌, [], ◌∷◌, false, true, IfOk, OnOk};
+ghost use Rattle.std.specs.Prelude.{◌+◌, ◌<◌, ◌^◌, [], ◌∷◌, false, true, IfOk};
 ghost use Rattle.mir_func.specs.Limits.{MAX_SLOTS};
 ghost use Rattle.mir_func.specs.Sound.{AllItems, IsSound, HasForm};
 ghost use Rattle.pass_trait.specs.Sizes.{greatest, greatest_number, item_count};

@@ -1,5 +1,5 @@
 -- The rule's choice sees code alone.
-use Rattle.std.proofs.Common.{◌≡◌, ℕ, List, [], ◌∷◌, ◌++◌, map, filter, take, length, Option, Some, None, Bool, true, false, cond, not, ◌&&◌, ◌||◌, nat_lt}
+use Rattle.std.proofs.Common.{◌≡◌, ℕ, List, [], ◌∷◌, filter, take, length, Option, Some, None, Bool, false, cond, not, ◌&&◌, ◌||◌, nat_lt}
 use Rattle.std.proofs.Common.{refl, sym, ap, ◌∙◌}
 use Rattle.std.specs.List.{list_any}
 use Rattle.std.proofs.lemmas.List.Concat.{flat_map-cons}
@@ -19,9 +19,7 @@ use Rattle.pass_trait.specs.declared.loss.Reason.TheVariants.{NoScratch, CallNam
 use Rattle.pass_trait.specs.Causes.{names, is_named, scratch_of}
 use Rattle.pass_trait.specs.Rule.{item}
 use Rattle.pass_trait.specs.Sizes.{calls}
-use Rattle.spill_code.specs.declared.spilling.Home.{Home}
-use Rattle.spill_code.specs.declared.spilling.Spilling.{Spilling}
-use Rattle.spill_rule.specs.Choice.{is_added, binds, is_bound, goes, is_looped, is_free, candidates, room, next_slot, homes_from, homes_of}
+use Rattle.spill_rule.specs.Choice.{is_added, is_bound, goes, is_looped, is_free, candidates, room, next_slot, homes_from, homes_of}
 use Rattle.spill_rule.specs.Choice.{first_scratch, second_scratch, spilling_of}
 use Rattle.spill_proof.specs.WholeLaws.{ChoiceIsBare}
 

@@ -1,9 +1,9 @@
 -- Registers that are spilled are of the reserve, and scratch registers aren't.
-use Rattle.std.proofs.Common.{◌≡◌, ℕ, zero, suc, ◌+◌, ◌<◌, List, [], ◌∷◌, filter, take, Contains, Option, Some, None, Bool, true, false, cond, not}
+use Rattle.std.proofs.Common.{◌≡◌, ℕ, zero, suc, ◌+◌, List, [], ◌∷◌, filter, take, Contains, Some, Bool, true, false, cond, not}
 use Rattle.std.proofs.Common.{◌&&◌, nat_eq}
-use Rattle.std.proofs.Common.{refl, sym, ap, ◌∙◌, subst, arith, eqb-true}
+use Rattle.std.proofs.Common.{refl, sym, subst, arith, eqb-true}
 use Rattle.mir_func.specs.Function.{Function}
-use Rattle.pass_trait.specs.Causes.{is_named, scratch_of}
+use Rattle.pass_trait.specs.Causes.{is_named}
 use Rattle.spill_code.specs.Rewrite.{slot_of}
 use Rattle.spill_simulation.specs.MaySpill.{IsNoScratch}
 use Rattle.spill_rule.specs.Choice.{is_free, reason_of, candidates, room, chosen, next_slot, homes_from, homes_of, first_scratch, second_scratch, spilling_of}

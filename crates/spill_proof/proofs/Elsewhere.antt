@@ -1,7 +1,7 @@
 -- Where marks ask by phis, no mark asks for a register that goes elsewhere, and no phi for a scratch register.
-use Rattle.std.proofs.Common.{◌≡◌, ℕ, ◌+◌, List, [], ◌∷◌, ◌++◌, All, Option, Some, None, Bool, true, false, cond, ◌||◌, nat_eq, eq-eqb, refl, sym, ap}
-use Rattle.std.proofs.Common.{◌∙◌, subst}
-use Rattle.std.proofs.lemmas.List.Elements.{All-nil, All-cons, All-head, All-tail, All-append}
+use Rattle.std.proofs.Common.{◌≡◌, ℕ, List, [], ◌∷◌, All, Option, Some, None, Bool, true, false, cond, ◌||◌, nat_eq, eq-eqb, refl, sym}
+use Rattle.std.proofs.Common.{◌∙◌}
+use Rattle.std.proofs.lemmas.List.Elements.{All-nil, All-cons, All-append}
 use Rattle.rv64_instr.specs.declared.place.Place.{Place}
 use Rattle.rv64_instr.specs.declared.place.Place.TheVariants.{Register, Slot, Const}
 use Rattle.mir_func.specs.declared.block.Block.{Block}

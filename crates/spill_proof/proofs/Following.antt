@@ -1,36 +1,32 @@
 -- What followed a source follows it where marks ask by phis.
-use Rattle.std.proofs.Common.{◌≡◌, ◌⊎◌, inl, inr, ℕ, zero, suc, ◌<◌, ◌≤◌, List, [], ◌∷◌, length, All, Contains, Option, Some, None, true, false, refl}
+use Rattle.std.proofs.Common.{◌≡◌, ◌⊎◌, inl, inr, ℕ, zero, suc, ◌<◌, List, ◌∷◌, length, All, Contains, true, false, refl}
 use Rattle.std.proofs.Common.{sym, ap, ◌∙◌}
 use Rattle.std.proofs.Common.{subst, arith}
-use Rattle.std.proofs.lemmas.List.Elements.{All-nil, All-cons, All-head, All-tail}
+use Rattle.std.proofs.lemmas.List.Elements.{All-cons, All-head, All-tail}
 use Rattle.std.specs.Prelude.{IsTrue}
-use Rattle.rv64_instr.specs.declared.place.Place.TheVariants.{Register}
 use Rattle.rv64_instr.specs.Parts.{IsSlotStore}
 use Rattle.mir_func.specs.declared.block.Block.{Block}
 use Rattle.mir_func.specs.declared.entry.Entry.{Entry}
 use Rattle.mir_func.specs.declared.item.Item.{Item}
 use Rattle.mir_func.specs.declared.item.ItemKind.{ItemKind}
-use Rattle.mir_func.specs.declared.item.ItemKind.TheVariants.{Code, Mark, Phi}
+use Rattle.mir_func.specs.declared.item.ItemKind.TheVariants.{Mark}
 use Rattle.mir_func.specs.declared.position.Origin.{Origin}
 use Rattle.mir_func.specs.declared.position.Origin.TheVariants.{Kept, Before}
 use Rattle.mir_func.specs.declared.position.Pos.{Pos}
 use Rattle.mir_func.specs.declared.variable.MarkValue.TheVariants.{At, Pair}
 use Rattle.mir_func.specs.declared.variable.VarId.{VarId}
 use Rattle.mir_func.specs.Function.{Function}
-use Rattle.mir_func.specs.Graph.{Program, Here, program_of, block_start, Leads}
+use Rattle.mir_func.specs.Graph.{Program, Here, program_of, Leads}
 use Rattle.mir_func.specs.Resolve.{resolve}
 use Rattle.mir_func.specs.Sound.{AllItems, IsSound}
-use Rattle.sem_mir.specs.State.{State}
-use Rattle.sem_mir.specs.Align.{Count, ByItems, ByEnds}
-use Rattle.sem_mir.specs.Follow.{first_of, Among, none, left, InOrder, next_rank, rank, KindFits, MarkFits, OnRow, Counts, GoesTo, IsMetApart}
+use Rattle.sem_mir.specs.Align.{ByItems, ByEnds}
+use Rattle.sem_mir.specs.Follow.{first_of, Among, none, left, InOrder, next_rank, KindFits, MarkFits, OnRow, Counts, GoesTo, IsMetApart}
 use Rattle.sem_mir.specs.Follow.{Shape, Follows}
-use Rattle.sem_mir.specs.Follow.{IsEnd, KindsEndAlike, EndIsKept, EndComesFrom, HasWholeEnds, IsStart}
+use Rattle.sem_mir.specs.Follow.{IsEnd, EndIsKept, HasWholeEnds}
 use Rattle.sem_mir.specs.Follow.Among.{same as still}
 use Rattle.pass_trait.specs.Change.{change}
-use Rattle.pass_trait.specs.Following.{Source, FollowsSource, EndsAsSource, KeepsFollowing}
-use Rattle.pass_trait.specs.Rule.{item, item_before, first_operand}
-use Rattle.pass_trait.specs.Sizes.{greatest_number}
-use Rattle.spill_code.specs.declared.spilling.Spilling.{Spilling}
+use Rattle.pass_trait.specs.Following.{KeepsFollowing}
+use Rattle.pass_trait.specs.Rule.{item, first_operand}
 use Rattle.spill_debug.specs.Asked.{blocks_asked, asked}
 use Rattle.spill_debug.specs.Laws.{AreBelow}
 use Rattle.spill_debug.proofs.AskedSound.{asked_is_sound}

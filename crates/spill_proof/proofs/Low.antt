@@ -1,6 +1,6 @@
 -- Numbers below a fresh one.
 use Rattle.std.proofs.Common.{◌≡◌, ℕ, ◌+◌, ◌<◌, List, [], ◌∷◌, ◌++◌, max, All, Option, Some, None, Bool, true, false, cond, ◌&&◌, nat_eq, eqb-true}
-use Rattle.std.proofs.Common.{refl, sym, ap, ◌∙◌, subst, arith}
+use Rattle.std.proofs.Common.{refl, ap, ◌∙◌, subst, arith}
 use Rattle.std.specs.List.{flat_map}
 use Rattle.std.proofs.lemmas.List.Concat.{flat_map-cons}
 use Rattle.std.proofs.lemmas.List.Elements.{All-nil, All-cons}
@@ -16,7 +16,7 @@ use Rattle.mir_func.specs.Function.{Function}
 use Rattle.mir_func.specs.Resolve.{is_pair, entry_of, Ends, at, by, resolve}
 use Rattle.mir_func.specs.Sound.{items_of, AllItems, number_of}
 use Rattle.mir_substitution.proofs.Chains.{resolve_ends, ends_resolve}
-use Rattle.pass_trait.specs.Sizes.{greatest, numbers_of, numbers_in, greatest_number}
+use Rattle.pass_trait.specs.Sizes.{greatest, numbers_of, greatest_number}
 use Rattle.pass_salvage.proofs.Greatest.{greatest_append}
 
 -- the number that an item gives or asks for is below k

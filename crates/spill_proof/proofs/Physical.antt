@@ -1,6 +1,6 @@
 -- Without virtual registers there are none after spilling.
-use Rattle.std.proofs.Common.{◌≡◌, ℕ, ◌<◌, List, [], ◌∷◌, ◌++◌, map, All, Contains, Option, Some, None, Bool, true, false, cond, refl, sym, ap, ◌∙◌}
-use Rattle.std.proofs.Common.{subst, arith, pos}
+use Rattle.std.proofs.Common.{ℕ, ◌<◌, List, [], ◌∷◌, ◌++◌, map, All, Option, Some, None, Bool, true, false, cond, sym}
+use Rattle.std.proofs.Common.{subst, pos}
 use Rattle.std.proofs.lemmas.List.Concat.{flat_map-cons}
 use Rattle.std.proofs.lemmas.List.Elements.{All-nil, All-cons, All-head, All-tail, All-append}
 use Rattle.rv64_instr.specs.declared.operand.Operand.{Operand}
@@ -8,7 +8,6 @@ use Rattle.rv64_instr.specs.declared.operand.Operand.TheVariants.{Def, Use, Impl
 use Rattle.rv64_instr.specs.declared.operand.Operand.TheVariants.{Symbol, Mask}
 use Rattle.rv64_instr.specs.declared.place.Place.{Place}
 use Rattle.rv64_instr.specs.declared.place.Place.TheVariants.{Register, Slot, Const}
-use Rattle.rv64_instr.specs.Instruction.{Instruction}
 use Rattle.rv64_instr.specs.Parts.{names_slot}
 use Rattle.mir_func.specs.declared.block.Block.{Block}
 use Rattle.mir_func.specs.declared.item.Item.{Item}
@@ -17,7 +16,6 @@ use Rattle.mir_func.specs.declared.item.ItemKind.TheVariants.{Code, Mark, Phi}
 use Rattle.mir_func.specs.declared.location.Loc.{Loc}
 use Rattle.mir_func.specs.declared.position.Origin.{Origin}
 use Rattle.mir_func.specs.declared.position.Pos.{Pos}
-use Rattle.mir_func.specs.declared.variable.MarkValue.{MarkValue}
 use Rattle.mir_func.specs.declared.variable.MarkValue.TheVariants.{Nothing, Constant, At, Pair}
 use Rattle.mir_func.specs.declared.variable.VarId.{VarId}
 use Rattle.mir_func.specs.Graph.{below, block_start}
@@ -29,7 +27,7 @@ use Rattle.spill_code.specs.declared.spilling.Home.{Home}
 use Rattle.spill_code.specs.declared.spilling.Spilling.{Spilling}
 use Rattle.spill_code.specs.Rewrite.{slot_of, first_used, other_used, first_defined, stand_in, use_now, set_in, def_now, renamed_operand}
 use Rattle.spill_code.specs.Rewrite.{spilled_code, load, store, added}
-use Rattle.spill_code.specs.Rewrite.{loads, stores, two_loads, code_items, place_in, spilled_place, spilled_item, spilled_items, spilled_block}
+use Rattle.spill_code.specs.Rewrite.{loads, stores, two_loads, place_in, spilled_place, spilled_item, spilled_items, spilled_block}
 use Rattle.spill_code.specs.Rewrite.{entry_stores, spilled_blocks}
 use Rattle.spill_debug.specs.Asked.{is_scratch, is_scratch_place, value_left, place_left, mark_asked, kind_asked, next_number, number_behind}
 use Rattle.spill_debug.specs.Asked.{items_asked, blocks_asked}

@@ -1,6 +1,6 @@
 -- The function in between: phis are put before the marks of spilled registers, which still ask for the registers, and scratch
 -- registers tell nothing.
-use Rattle.std.proofs.Common.{◌≡◌, inl, inr, ℕ, ◌≤◌, List, [], ◌∷◌, ◌++◌, All, Option, Some, None, Bool, true, false, cond, refl, sym, ap, ◌∙◌, subst, arith}
+use Rattle.std.proofs.Common.{inr, ℕ, ◌≤◌, List, [], ◌∷◌, ◌++◌, All, Option, Some, None, Bool, true, false, cond, refl}
 use Rattle.std.proofs.lemmas.List.Elements.{All-head, All-tail}
 use Rattle.rv64_instr.specs.declared.place.Place.{Place}
 use Rattle.rv64_instr.specs.declared.place.Place.TheVariants.{Register}
@@ -17,7 +17,7 @@ use Rattle.mir_func.specs.Sound.{AllItems}
 use Rattle.pass_trait.specs.Rule.{item, item_before}
 use Rattle.spill_code.specs.declared.spilling.Spilling.{Spilling}
 use Rattle.spill_code.specs.Rewrite.{slot_of}
-use Rattle.spill_debug.specs.Asked.{is_scratch, is_scratch_place, value_left, place_left, number_past, next_number, number_behind}
+use Rattle.spill_debug.specs.Asked.{is_scratch, is_scratch_place, value_left, place_left, next_number, number_behind}
 use Rattle.spill_debug.proofs.AskedSound.{low_next}
 use Rattle.pass_salvage.proofs.Kin.{mark_kin, phi_kin, kin_itself}
 use Rattle.pass_salvage.proofs.Edits.{Edits, Edited, over, pair, put, BlocksEdited, no_blocks, next_block}

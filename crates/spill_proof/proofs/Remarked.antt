@@ -1,5 +1,5 @@
 -- Marks that ask for the numbers of phis right before them, in place of the registers that these phis take. What every function keeps stays.
-use Rattle.std.proofs.Common.{◌≡◌, ◌⊎◌, inl, inr, ℕ, ◌+◌, ◌<◌, ◌≤◌, List, [], ◌∷◌, ◌++◌, All, Option, Some, None, refl, sym, ap, ◌∙◌, subst}
+use Rattle.std.proofs.Common.{◌≡◌, inl, ℕ, ◌+◌, ◌<◌, ◌≤◌, List, [], ◌∷◌, ◌++◌, All, Option, Some, None, refl, sym, ◌∙◌, subst}
 use Rattle.std.proofs.lemmas.List.Elements.{All-nil, All-cons, All-head, All-tail}
 use Rattle.rv64_instr.specs.declared.place.Place.TheVariants.{Register}
 use Rattle.mir_func.specs.declared.block.Block.{Block}
@@ -17,10 +17,10 @@ use Rattle.mir_func.specs.Sound.{AllItems, ids_of, OriginIn, TargetsIn, SlotsIn,
 use Rattle.pass_trait.specs.Rule.{item, item_before, first_operand}
 use Rattle.spill_code.specs.declared.spilling.Spilling.{Spilling}
 use Rattle.spill_code.specs.Rewrite.{slot_of}
-use Rattle.spill_debug.specs.Asked.{mark_asked, kind_asked, next_number, number_behind, items_asked, blocks_asked, asked}
+use Rattle.spill_debug.specs.Asked.{mark_asked, kind_asked, next_number, number_behind, items_asked, blocks_asked}
 use Rattle.spill_debug.proofs.AskedSound.{low_next}
 use Rattle.spill_debug.proofs.Grown.{IsExtra, IsLike, Grown, none, grows, BlocksGrow, no_blocks, next_block, sound_grown}
-use Rattle.spill_proof.proofs.Put.{mark_put, kind_put, items_put, blocks_put, with_phis, behind_low}
+use Rattle.spill_proof.proofs.Put.{mark_put, kind_put, items_put, blocks_put, behind_low}
 
 module _ (least : ℕ) where
   -- the items of a block, before and after

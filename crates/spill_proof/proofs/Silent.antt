@@ -1,6 +1,5 @@
 -- What follows a source follows it with phis of fresh numbers, where scratch registers tell nothing.
-use Rattle.std.proofs.Common.{◌≡◌, ◌⊎◌, inl, inr, ℕ, ◌<◌, ◌≤◌, List, Option, Some, None, Bool, true, false, refl, sym, ap, ◌∙◌, subst, arith}
-use Rattle.rv64_instr.specs.declared.place.Place.{Place}
+use Rattle.std.proofs.Common.{◌≡◌, inr, ℕ, ◌<◌, ◌≤◌, List, Option, Some, None, true, false, refl, sym, ap, ◌∙◌, arith}
 use Rattle.rv64_instr.specs.Instruction.{Instruction}
 use Rattle.mir_func.specs.declared.entry.Entry.{Entry}
 use Rattle.mir_func.specs.declared.entry.OperandPair.{OperandPair}
@@ -15,7 +14,6 @@ use Rattle.mir_func.specs.Sound.{AllItems, IsSound}
 use Rattle.sem_mir.specs.State.{Core}
 use Rattle.sem_mir.specs.Step.{do_item, pair_value}
 use Rattle.sem_mir.specs.Effects.{EndAlike, FallsInto}
-use Rattle.sem_mir.specs.Align.{is_code}
 use Rattle.sem_mir.specs.Follow.{OnRow, Counts, MarkFits}
 use Rattle.sem_mir.proofs.Outcomes.{alike_weaker}
 use Rattle.sem_simulation.specs.Sides.{OutcomesAlike}

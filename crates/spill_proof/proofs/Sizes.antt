@@ -1,7 +1,7 @@
 -- How large a function is after spilling.
-use Rattle.std.proofs.Common.{◌≡◌, ℕ, zero, suc, ◌+◌, ◌-◌, ◌*◌, ◌<◌, ◌≤◌, List, [], ◌∷◌, ◌++◌, max, min, map, filter, take, length, count_by, All}
-use Rattle.std.proofs.Common.{Contains, Option, Some}
-use Rattle.std.proofs.Common.{Bool, true, false, cond, not, ◌&&◌, refl, sym, ap, ◌∙◌, subst, arith, length-append}
+use Rattle.std.proofs.Common.{◌≡◌, ℕ, zero, suc, ◌+◌, ◌-◌, ◌*◌, ◌<◌, ◌≤◌, List, [], ◌∷◌, ◌++◌, max, min, map, filter, length, count_by, All}
+use Rattle.std.proofs.Common.{Contains}
+use Rattle.std.proofs.Common.{Bool, true, false, cond, not, ◌&&◌, refl, sym, ap, ◌∙◌, subst, arith}
 use Rattle.std.proofs.lemmas.List.{length-map}
 use Rattle.std.specs.List.{flat_map}
 use Rattle.std.proofs.lemmas.List.Elements.{All-nil, All-cons, All-filter}
@@ -24,11 +24,11 @@ use Rattle.spill_rule.specs.Choice.{is_free, reason_of, candidates, room, chosen
 use Rattle.spill_rule.specs.Choice.{spilling_of, entry_of}
 use Rattle.spill_rule.specs.Chosen.{IsReservable}
 use Rattle.spill_rule.proofs.Scratch.{CANDIDATES, kept_by, reservable_real}
-use Rattle.spill_proof.specs.Whole.{spilled_by, where_spilled, whole}
+use Rattle.spill_proof.specs.Whole.{spilled_by, where_spilled}
 use Rattle.spill_proof.proofs.Chosen.{in_take}
 use Rattle.spill_proof.proofs.Slots.{how_many}
 use Rattle.spill_proof.specs.Sizes.{WholeKeepsSizes}
-use Rattle.spill_proof.proofs.Measures.{IsMeasure, blocks_bound}
+use Rattle.spill_proof.proofs.Measures.{blocks_bound}
 use Rattle.spill_proof.proofs.Counts.{count_measure, four_measure, length_measure, long_kind, code_kind, call_kind, long_entry, no_calls_entry}
 use Rattle.spill_proof.proofs.Numbers.{nums, top, beyond_most, top_blocks}
 use Rattle.spill_proof.proofs.Physical.{real_blocks, real_all_asked}

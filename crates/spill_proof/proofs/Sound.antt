@@ -1,5 +1,5 @@
 -- A function with registers in slots is a function still.
-use Rattle.std.proofs.Common.{◌≡◌, ◌⊎◌, inl, inr, ℕ, zero, suc, ◌+◌, ◌<◌, ◌≤◌, List, [], ◌∷◌, ◌++◌, map, All, Contains, Option, Some, None, Bool}
+use Rattle.std.proofs.Common.{◌≡◌, ◌⊎◌, inl, inr, ℕ, zero, suc, ◌+◌, ◌≤◌, List, [], ◌∷◌, ◌++◌, map, All, Contains, Option, Some, None, Bool}
 use Rattle.std.proofs.Common.{true, false, cond, ◌||◌, nat_eq, length, append_assoc}
 use Rattle.std.proofs.lemmas.Bool.{or_right}
 use Rattle.std.proofs.Common.{refl, sym, ap, ◌∙◌, subst, arith}
@@ -14,11 +14,10 @@ use Rattle.rv64_instr.specs.declared.place.Place.TheVariants.{Register, Slot, Co
 use Rattle.rv64_instr.specs.Access.{caller_saved, reads, sets}
 use Rattle.rv64_instr.specs.Instruction.{Instruction}
 use Rattle.rv64_instr.specs.Parts.{has_implicit_uses, names_slot}
-use Rattle.rv64_instr.specs.Row.{Row, Fixes, Moves, Sets, Addresses, Loads, Stores, LoadsSlot, StoresSlot, Branches, Jumps, Calls, Returns, Unfit, row_of}
+use Rattle.rv64_instr.specs.Row.{Row, Addresses, Loads, Stores, LoadsSlot, StoresSlot, Branches, Jumps, Returns, Unfit, row_of}
 use Rattle.rv64_instr.specs.declared.decoded.Base.{Base}
 use Rattle.rv64_instr.specs.declared.decoded.Base.TheVariants.{PointedBy, ObjectAt}
 use Rattle.mir_func.specs.declared.entry.OperandPair.{OperandPair}
-use Rattle.mir_func.specs.declared.exit.Exit.{Exit}
 use Rattle.mir_func.specs.declared.exit.Exit.TheVariants.{Onward}
 use Rattle.mir_func.specs.declared.location.Loc.{Loc}
 use Rattle.mir_func.specs.declared.object.Object.{Object}
@@ -50,8 +49,8 @@ use Rattle.spill_simulation.specs.Follows.{MaySpill}
 use Rattle.spill_simulation.proofs.Explicit.{first_from, other_from, used_is, other_is, defined_is, explicit}
 use Rattle.spill_simulation.proofs.Near.{keeps_zero}
 use Rattle.spill_simulation.proofs.Rows.{renamed_base, renamed_row, row_renamed}
-use Rattle.spill_simulation.proofs.Shape.{kept_use, kept_def}
-use Rattle.spill_debug.proofs.Grown.{IsExtra, IsLike, Grown, none, grows, BlocksGrow, no_blocks, next_block, KeepsEach, sound_grown}
+use Rattle.spill_simulation.proofs.Shape.{kept_def}
+use Rattle.spill_debug.proofs.Grown.{IsExtra, IsLike, Grown, none, grows, BlocksGrow, no_blocks, next_block, sound_grown}
 use Rattle.spill_proof.specs.Sound.{slots_now, SpilledIsSound}
 
 -- ---- rows with other registers

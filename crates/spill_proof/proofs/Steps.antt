@@ -1,10 +1,8 @@
 -- Runs of a function whose marks ask for the numbers of phis right before them are those of the function whose marks ask for the registers.
-use Rattle.std.proofs.Common.{◌≡◌, ◌⊎◌, inl, inr, ℕ, ◌<◌, ◌≤◌, List, ◌∷◌, Option, Some, None, Bool, true, false, refl, sym, ap, ◌∙◌, subst, arith}
-use Rattle.rv64_instr.specs.declared.place.Place.TheVariants.{Register}
+use Rattle.std.proofs.Common.{◌≡◌, ◌⊎◌, inl, inr, ℕ, ◌<◌, List, ◌∷◌, Option, Some, true, false, refl, sym, ap, ◌∙◌, subst, arith}
 use Rattle.mir_func.specs.declared.block.Block.{Block}
 use Rattle.mir_func.specs.declared.entry.Entry.{Entry}
 use Rattle.mir_func.specs.declared.entry.OperandPair.{OperandPair}
-use Rattle.mir_func.specs.declared.item.Item.{Item}
 use Rattle.mir_func.specs.declared.item.ItemKind.{ItemKind}
 use Rattle.mir_func.specs.declared.item.ItemKind.TheVariants.{Code, Mark, Phi}
 use Rattle.mir_func.specs.declared.location.Loc.{Loc}
@@ -15,12 +13,12 @@ use Rattle.mir_func.specs.declared.variable.VarId.{VarId}
 use Rattle.mir_func.specs.Graph.{Program, Fetch, Here, Silent, Outside, below, block_start, program_of}
 use Rattle.mir_func.specs.Resolve.{resolve}
 use Rattle.sem_mir.specs.State.{Core, State, updated}
-use Rattle.sem_mir.specs.Step.{Outcome, Falls, Goes, Gives, Traps, Asks, Breaks, Next, Went, Returned, Faulted, seen, pair_value, part_of}
+use Rattle.sem_mir.specs.Step.{Outcome, Falls, Goes, Gives, Traps, Asks, Breaks, Went, seen, pair_value, part_of}
 use Rattle.sem_mir.specs.Step.{do_item, do_fetch, moved, step}
-use Rattle.sem_mir.specs.Align.{Station, Count, station_at, fetch_station, IsOrigin, AnyOrigin, Along, begin, other, met, Agrees, Since, Aligns}
+use Rattle.sem_mir.specs.Align.{Station, Count, station_at, fetch_station, AnyOrigin, Along, begin, other, met, Agrees, Since, Aligns}
 use Rattle.sem_mir.specs.Align.{FailsBefore, RunsAlong}
 use Rattle.sem_mir.proofs.Places.{updated_same}
-use Rattle.pass_trait.specs.Rule.{item, item_before, first_operand}
+use Rattle.pass_trait.specs.Rule.{item, first_operand}
 use Rattle.spill_proof.proofs.Low.{LowEntries, resolve_high}
 use Rattle.spill_proof.proofs.Remarked.{BlocksReask}
 use Rattle.spill_proof.proofs.Reasked.{FetchLike, alike, mark_asks, has_register_mark, IsAbove, fetch_like, start_same, stands_above}

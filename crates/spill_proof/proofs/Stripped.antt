@@ -13,9 +13,8 @@ use Rattle.mir_func.specs.declared.block.Block.{Block}
 use Rattle.mir_func.specs.declared.item.Item.{Item}
 use Rattle.mir_func.specs.declared.item.ItemKind.{ItemKind}
 use Rattle.mir_func.specs.declared.item.ItemKind.TheVariants.{Code, Mark, Phi}
-use Rattle.mir_func.specs.Function.{Function}
 use Rattle.mir_func.specs.Graph.{below}
-use Rattle.mir_func.specs.Strip.{stripped_item, stripped_items, stripped_block, stripped_blocks, stripped}
+use Rattle.mir_func.specs.Strip.{stripped_item, stripped_items, stripped_blocks}
 use Rattle.sem_mir.specs.Align.{position_of}
 use Rattle.pass_trait.specs.Rule.{item}
 use Rattle.spill_code.specs.declared.spilling.Home.{Home}
@@ -23,7 +22,7 @@ use Rattle.spill_code.specs.declared.spilling.Spilling.{Spilling}
 use Rattle.spill_code.specs.Rewrite.{slot_of, first_used, other_used, first_defined, spilled_code, load, store, added, loads, stores, two_loads}
 use Rattle.spill_code.specs.Rewrite.{code_items, kind_items}
 use Rattle.spill_code.specs.Rewrite.{spilled_item, spilled_items, spilled_block, entry_stores, spilled_blocks}
-use Rattle.spill_debug.specs.Asked.{mark_asked, kind_asked, next_number, number_behind, items_asked, blocks_asked, asked}
+use Rattle.spill_debug.specs.Asked.{mark_asked, kind_asked, next_number, number_behind, items_asked, blocks_asked}
 use Rattle.spill_proof.specs.Stripped.{AskedIsStripped, SpilledIsStripped}
 
 module _ (s : Spilling) where

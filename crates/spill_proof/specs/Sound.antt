@@ -1,5 +1,5 @@
 -- Spilling keeps functions sound.
-use Rattle.std.specs.Prelude.{◌≡◌, ℕ, ◌+◌, ◌≤◌, List, ◌++◌, length, map, Option}
+use Rattle.std.specs.Prelude.{ℕ, ◌+◌, ◌≤◌, List, ◌++◌, length, map, Option}
 use Rattle.mir_func.specs.declared.entry.OperandPair.{OperandPair}
 use Rattle.mir_func.specs.Function.{Function}
 use Rattle.mir_func.specs.Limits.{MAX_SLOTS}

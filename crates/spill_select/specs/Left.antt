@@ -1,5 +1,5 @@
 -- Why registers of a reserve aren't spilled.
-use Rattle.std.specs.Prelude.{ℕ, List, Option, Some, None, Bool, cond, ◌&&◌}
+use Rattle.std.specs.Prelude.{ℕ, List, Option, Some, None, Bool, cond}
 use Rattle.std.specs.List.{filter_map}
 use Rattle.mir_func.specs.Function.{Function}
 use Rattle.pass_trait.specs.declared.loss.Loss.{Loss}
@@ -9,7 +9,7 @@ use Rattle.pass_trait.specs.Causes.{is_named}
 use Rattle.pass_trait.specs.Rule.{register_lost}
 use Rattle.spill_code.specs.declared.spilling.Home.{Home}
 use Rattle.spill_code.specs.Rewrite.{slot_of}
-use Rattle.spill_rule.specs.Choice.{is_bound, reason_of, homes_of}
+use Rattle.spill_rule.specs.Choice.{reason_of, homes_of}
 
 -- the first reason that applies, apart from a lack of slots, given the conditions on the function and the register
 abbrev pub first_reason : (lacks bound loops : Bool) → Option Reason

@@ -1,7 +1,7 @@
 //! Whether a line table can be written.
 
 ghost use Rattle.std.specs.Prelude.{IsTrue, All};
-ghost use Rattle.dwarf_line.specs.Table.{Ascend, HasRows, IsSequence, IsName, IsNamed, HasNames};
+ghost use Rattle.dwarf_line.specs.Table.{Ascend, HasRows, IsSequence, IsName, IsNamed};
 
 use dwarf_line::table::{FileEntry, LineTable, Name, Row, Sequence};
 

@@ -1,8 +1,7 @@
 -- The same passes make alike code of alike code, function by function, and what is compiled of it has the same `.text`.
-use Rattle.std.proofs.Common.{◌≡◌, List, [], ◌∷◌, ℕ, sym, ap, subst}
+use Rattle.std.proofs.Common.{◌≡◌, List, [], ◌∷◌, sym, subst}
 use Rattle.std.specs.Prelude.{All}
 use Rattle.std.proofs.lemmas.List.Elements.{All-head, All-tail}
-use Rattle.mir_func.specs.Function.{Function}
 use Rattle.theorem_invariance.specs.Compiled.{functions_of}
 use Rattle.theorem_invariance.proofs.Compiled.{same_text}
 use Rattle.pass_trait.specs.Change.{change}

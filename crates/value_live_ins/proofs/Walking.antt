@@ -9,7 +9,7 @@ use Rattle.mir_func.specs.declared.entry.OperandPair.{OperandPair}
 use Rattle.mir_func.specs.declared.item.Item.{Item}
 use Rattle.sem_mir.specs.Token.{Made, Tokens, after_item}
 use Rattle.sem_value_ids.specs.Pullback as path
-use Rattle.sem_value_ids.specs.Pullback.{InRegister, InSlot, OfPair, OfVariable, OfNumber, token_of, token_back, Back, back, after_items}
+use Rattle.sem_value_ids.specs.Pullback.{InRegister, token_of, token_back, Back, back, after_items}
 use Rattle.sem_value_ids.proofs.Backwards.{tokens_pull_back}
 use Rattle.value_proof.specs.Classes.{Classes, KnowsItem, class_back}
 use Rattle.value_proof.proofs.Passing.{Knows, known_back}

@@ -1,6 +1,6 @@
 //! A block's effect on the tokens of tracked entities.
 
-ghost use Rattle.std.specs.Prelude.{◌≡◌, ◌<◌, ◌≤◌, Some, All, IfOk, OnOk, [], length, map, slice_get, slice_index};
+ghost use Rattle.std.specs.Prelude.{◌≡◌, ◌<◌, Some, All, IfOk, OnOk, [], length, map, slice_get, slice_index};
 ghost use Rattle.mir_func.specs.Resolve.{resolve};
 ghost use Rattle.mir_func.specs.Sound.{HasForm};
 ghost use Rattle.value_proof.specs.Classes.{Classes, KnowsItem};

@@ -1,6 +1,6 @@
 //! Keys of tracked entities.
 
-ghost use Rattle.std.specs.Prelude.{◌≡◌, ℕ};
+ghost use Rattle.std.specs.Prelude.{◌≡◌};
 ghost use Rattle.value_live_ins.specs.Keys.{key_of, node_code, start_code, length_code};
 
 use base_ids::metadata::NodeId;

@@ -1,8 +1,7 @@
 //! The entities that items copy.
 
-ghost use Rattle.std.specs.Prelude.{◌≡◌, ℕ, List, Option, Some, OnOk, All, map, Contains};
+ghost use Rattle.std.specs.Prelude.{Option, Some, OnOk, All, map, Contains};
 ghost use Rattle.rv64_instr.specs.Row.{row_of};
-ghost use Rattle.rv64_instr.specs.Parts.{is_call};
 ghost use Rattle.mir_func.specs.declared.item.ItemKind.TheVariants.{Code};
 ghost use Rattle.mir_func.specs.Resolve.{resolve};
 ghost use Rattle.mir_func.specs.SoundFrame.{IsPhysical, HasPhysical, ValueIsPhysical, PlaceIsPhysical};

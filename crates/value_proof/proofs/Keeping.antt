@@ -1,21 +1,19 @@
 -- A path to the position below an item comes by the item. What the item leaves alone has the token that it had before it, so part and
 -- place share one below it too; and below the mark they share the mark's. Over the items in between by induction.
-use Rattle.std.proofs.Common.{◌≡◌, ℕ, suc, ◌+◌, [], ◌∷◌, refl, sym, ap, ◌∙◌, subst, arith}
+use Rattle.std.proofs.Common.{◌≡◌, ℕ, suc, ◌+◌, [], ◌∷◌, sym, ap, ◌∙◌, arith}
 use Rattle.std.specs.Prelude.{Option, Some}
 use Rattle.rv64_instr.specs.declared.place.Place.{Place}
 use Rattle.mir_func.specs.declared.position.Pos.{Pos}
 use Rattle.mir_func.specs.declared.variable.VarId.{VarId}
-use Rattle.mir_func.specs.declared.variable.MarkValue.{MarkValue}
 use Rattle.mir_func.specs.declared.item.Item.{Item}
 use Rattle.mir_func.specs.declared.item.ItemKind.{ItemKind}
-use Rattle.mir_func.specs.declared.item.ItemKind.TheVariants.{Mark}
 use Rattle.mir_func.specs.Graph.{Program, Fetch, Here, Edge, below, block_start}
-use Rattle.sem_mir.specs.Token.{Token, Tokens, Path, onward, after_fetch, Sits, SitsIn, IsPlace, NoneIsWanted, mark_token, place_token, variable_token}
-use Rattle.sem_value_ids.specs.Pullback.{OfVariable, token_of, token_back, Was, back}
+use Rattle.sem_mir.specs.Token.{Token, Tokens, onward, after_fetch, Sits, SitsIn, mark_token, place_token, variable_token}
+use Rattle.sem_value_ids.specs.Pullback.{OfVariable, token_back, Was, back}
 use Rattle.sem_value_ids.proofs.Backwards.{tokens_pull_back}
 use Rattle.value_proof.specs.Wanted.{thing_at}
 use Rattle.value_proof.proofs.Passing.{path_above}
-use Rattle.value_proof.specs.Kept.{LeavesAlone, IsKept, here, down, IsToldAndKept, KeptValuesSit, KeptValuesAreWanted}
+use Rattle.value_proof.specs.Kept.{LeavesAlone, IsKept, here, down, KeptValuesSit, KeptValuesAreWanted}
 use Rattle.value_proof.proofs.Leaving.{place_kept, part_kept, mark_told, mark_keeps, place_thing}
 
 no_start : (p : Pos) (n : ℕ) → block_start n ≡ below p → ⊥

@@ -1,8 +1,8 @@
 -- What sits in a place, by classes. Where a thing and a place have one class, on every path they have one token. The other way round, what has
 -- no class though it is none of the tracked things has no token on any path, but for numbers: and a number that isn't tracked nothing tracked
 -- has.
-use Rattle.std.proofs.Common.{◌≡◌, ◌≢◌, ℕ, List, refl, sym, ap, ◌∙◌}
-use Rattle.std.specs.Prelude.{Option, Some, None, Contains}
+use Rattle.std.proofs.Common.{◌≡◌, ◌≢◌, ℕ, List, refl, sym, ◌∙◌}
+use Rattle.std.specs.Prelude.{Option, Some}
 use Rattle.rv64_instr.specs.declared.place.Place.{Place}
 use Rattle.rv64_instr.specs.declared.place.Place.TheVariants.{Register, Slot, Const}
 use Rattle.rv64_instr.specs.Arithmetic.{word}

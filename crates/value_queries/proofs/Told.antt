@@ -1,5 +1,5 @@
 -- The classes that the walk tells where it stands, of parts of variables, pairs and places; and so what sits in a place there.
-use Rattle.std.proofs.Common.{◌≡◌, ◌≢◌, ℕ, zero, suc, ◌+◌, ◌-◌, ◌*◌, ◌/◌, ◌%◌, ◌<◌, ◌≤◌}
+use Rattle.std.proofs.Common.{◌≡◌, ◌≢◌, ℕ, zero, suc, ◌-◌, ◌*◌, ◌%◌}
 use Rattle.std.proofs.Common.{List, map, arith, refl, sym, ap, ◌∙◌, subst, eqb-true, eq-eqb, lt-ltb, ltb-true}
 use Rattle.std.proofs.Math.Nat.{div-add-mod}
 use Rattle.std.proofs.lemmas.Option.{slice_get_within, get_or_from_slice_get, slice_get-get_or}
@@ -17,24 +17,22 @@ use Rattle.mir_func.specs.declared.position.Pos.{Pos}
 use Rattle.mir_func.specs.declared.variable.VarId.{VarId}
 use Rattle.mir_func.specs.Graph.{Program, block_start}
 use Rattle.mir_func.specs.Successors.{pos_in}
-use Rattle.sem_mir.specs.Token.{Fixed, Token, Tokens, IsPlace, Sits, place_token}
+use Rattle.sem_mir.specs.Token.{Fixed, IsPlace, Sits, place_token}
 use Rattle.sem_value_ids.specs.Pullback.{InRegister, InSlot, OfPair, OfVariable, OfNumber, token_of}
 use Rattle.sem_value_ids.specs.Pullback as path
 use Rattle.value_solver.specs.declared.tracked.Tracked.{Tracked}
 use Rattle.value_solver.specs.declared.tracked.Tracked.TheVariants.{Pair, Part, Number}
 use Rattle.value_solver.specs.Entry.{thing}
-use Rattle.value_proof.specs.Classes.{Classes, IsKnown}
-use Rattle.value_proof.specs.Wanted.{thing_at}
 use Rattle.value_proof.proofs.Known.{slot, variable}
 use Rattle.value_tracker.specs.declared.index.Index.{Index}
 use Rattle.value_tracker.specs.Things.{is_key, Indexes}
-use Rattle.value_tracker.specs.Held.{SLOTS_FROM, PLACES, slot_place, class_at, number_class, pair_class}
-use Rattle.value_tracker.proofs.Starting.{stands as stand_of, contained, is_part, is_pair}
+use Rattle.value_tracker.specs.Held.{SLOTS_FROM, slot_place, class_at, pair_class}
+use Rattle.value_tracker.proofs.Starting.{stands as stand_of, contained, is_part}
 use Rattle.location_ranges.specs.declared.stand.Stand.{Stand}
 use Rattle.location_ranges.specs.declared.values.Values.{Values}
 use Rattle.location_ranges.specs.Stands.{program, AreValuesOf, Reaches, Stands}
 use Rattle.value_queries.specs.Sitting.{IsFit, SitsAt, SitsByClass, named_class, place_number}
-use Rattle.value_queries.proofs.Sitting.{Told, PlaceTold, place_is, sits_by_class, class_by_sits}
+use Rattle.value_queries.proofs.Sitting.{Told, PlaceTold, sits_by_class, class_by_sits}
 
 module _ (v : Values) (index : Index) (s : Stand) (g : Program) (r : Reaches g v index s) (indexes : Indexes v.things.now index) where
   abbrev things : List path.Tracked

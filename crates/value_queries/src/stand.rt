@@ -1,6 +1,6 @@
 //! The walk's state before an item, and the index of a part.
 
-ghost use Rattle.std.specs.Prelude.{◌≡◌, ◌<◌, ◌≤◌, Contains, IfOk, IfSome, IsNone, List, Some, length, slice_get};
+ghost use Rattle.std.specs.Prelude.{◌≡◌, ◌<◌, ◌≤◌, Contains, IfOk, IfSome, IsNone, Some, length, slice_get};
 ghost use Rattle.mir_func.specs.declared.block.Block.{Block};
 ghost use Rattle.value_tracker.specs.Things.{AreThings, Indexes};
 ghost use Rattle.location_ranges.specs.Stands.{AreValuesOf, Stands, Fits};

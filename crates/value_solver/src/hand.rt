@@ -1,6 +1,6 @@
 //! What a block propagates to its successors.
 
-ghost use Rattle.std.specs.Prelude.{◌≡◌, ℕ, ◌<◌, length, IfOk};
+ghost use Rattle.std.specs.Prelude.{◌≡◌, ◌<◌, length, IfOk};
 ghost use Rattle.value_solver.specs.Joining.{IsKnown, AreWithin, SourceWithin, IsPast, class_past, bit_past};
 
 use crate::entry::BlockEntry;

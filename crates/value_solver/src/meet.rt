@@ -1,6 +1,6 @@
 //! The join of two lists of class numbers.
 
-ghost use Rattle.std.specs.Prelude.{◌≡◌, ℕ, ◌↔◌, ◌<◌, ◌≤◌, length, IfOk};
+ghost use Rattle.std.specs.Prelude.{◌≡◌, ◌<◌, length, IfOk};
 ghost use Rattle.value_solver.specs.Numbering.{IsMeet};
 
 use indexmap::IndexSet;

@@ -1,7 +1,7 @@
 //! The entries of all blocks, as a fixpoint of sweeps.
 
-ghost use Rattle.std.specs.Prelude.{◌≡◌, ℕ, ◌+◌, ◌*◌, ◌<◌, ◌≤◌, length, slice_get, slice_index_or, IfOk, All};
-ghost use Rattle.std.specs.Prelude.{Contains, List, Some, true, false, []};
+ghost use Rattle.std.specs.Prelude.{◌≡◌, ℕ, ◌+◌, ◌*◌, ◌<◌, ◌≤◌, length, slice_get, slice_index_or, IfOk};
+ghost use Rattle.std.specs.Prelude.{List, Some, true, false, []};
 ghost use Rattle.mir_func.specs.Graph.{Program};
 ghost use Rattle.value_solver.specs.declared.tracked.Tracked.{Tracked};
 ghost use Rattle.value_solver.specs.declared.entry.BlockEntry.{BlockEntry};

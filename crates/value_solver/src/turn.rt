@@ -1,9 +1,7 @@
 //! Sweeps with a worklist: a marked block is visited, and if its entry changes its successors are marked.
 
-ghost use Rattle.std.specs.Prelude.{◌≡◌, ◌⊎◌, ℕ, ◌<◌, ◌≤◌, length, slice_get, slice_index_or, IfOk, All, cond};
-ghost use Rattle.std.specs.Prelude.{true, false, IsTrue, Contains};
-ghost use Rattle.mir_func.specs.Graph.{Program};
-ghost use Rattle.value_solver.specs.declared.tracked.Tracked.{Tracked};
+ghost use Rattle.std.specs.Prelude.{◌≡◌, ℕ, ◌<◌, length, slice_index_or, IfOk, All, cond};
+ghost use Rattle.std.specs.Prelude.{true, false, Contains};
 ghost use Rattle.value_solver.specs.Invariants.{IsProblem, IsOrder, IsTable, Turned, Swept};
 
 use crate::entry::BlockEntry;

@@ -1,9 +1,9 @@
 //! A visit of a block: its entry becomes the join of what its predecessors propagate now.
 
-ghost use Rattle.std.specs.Prelude.{◌≡◌, ◌↔◌, ℕ, ◌<◌, List, ◌++◌, Some, length, slice_set, slice_index_or, IfOk};
-ghost use Rattle.std.specs.Prelude.{IfErr, OnErr, All, IsTrue, true, false, [], ◌≤◌};
+ghost use Rattle.std.specs.Prelude.{◌≡◌, ◌↔◌, ◌<◌, List, ◌++◌, Some, length, IfOk};
+ghost use Rattle.std.specs.Prelude.{All, IsTrue, true, false, []};
 ghost use Rattle.value_solver.specs.Joining.{IsKnown, AreWithin, IsJoin, Hand};
-ghost use Rattle.value_solver.specs.Hands.{IsShaped, AreSoundFlows, handed, preds_at, first_hand, hand_by};
+ghost use Rattle.value_solver.specs.Hands.{IsShaped, AreSoundFlows, handed, first_hand, hand_by};
 ghost use Rattle.value_solver.specs.Hands.{ArePredecessors, Visited};
 
 use crate::entry::BlockEntry;

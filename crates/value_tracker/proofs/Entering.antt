@@ -36,12 +36,12 @@ use Rattle.mir_func.specs.Graph.{Program, block_start}
 use Rattle.sem_mir.specs.Token.{Token}
 use Rattle.sem_mir.proofs.Assignments.{same_refl, same_is}
 use Rattle.sem_value_ids.specs.Pullback as path
-use Rattle.sem_value_ids.specs.Pullback.{InRegister, InSlot, OfPair, OfVariable, OfNumber, token_of, Share}
+use Rattle.sem_value_ids.specs.Pullback.{InRegister, InSlot, OfPair, OfVariable, OfNumber, token_of}
 use Rattle.value_solver.specs.declared.tracked.Tracked.{Tracked}
 use Rattle.value_solver.specs.declared.tracked.Tracked.TheVariants.{Register, Slot, Pair, Part, Number}
 use Rattle.value_solver.specs.declared.entry.BlockEntry.{BlockEntry}
 use Rattle.value_solver.specs.Entry as entry
-use Rattle.value_solver.specs.Entry.{thing, IsEntry, IsReached, AreAlike, IsGiven, HasNone, PathTo}
+use Rattle.value_solver.specs.Entry.{thing, IsReached, AreAlike, IsGiven, HasNone}
 use Rattle.value_proof.specs.Classes.{Classes, IsKnown, HaveOneClass, ShareOnPaths, AreClasses}
 use Rattle.value_proof.specs.Wanted.{AreThingsOf}
 use Rattle.value_proof.proofs.Known.{path_bare, pointer}

@@ -1,7 +1,7 @@
 //! The first location of each class. A table by class is filled for a lookup of all variables, and emptied after it.
 
-ghost use Rattle.std.specs.Prelude.{◌≡◌, ◌≢◌, ◌<◌, ◌≤◌, ℕ, None, All, length, slice_index, slice_index_or};
-ghost use Rattle.value_tracker.specs.Firsts.{IsFirstBelow, AreFirsts};
+ghost use Rattle.std.specs.Prelude.{◌≡◌, ◌≢◌, ◌<◌, ℕ, None, length, slice_index, slice_index_or};
+ghost use Rattle.value_tracker.specs.Firsts.{AreFirsts};
 
 /// Fills an empty table with the first location index of each class.
 pub fn fill(firsts: &mut [Option<usize>], places: &[usize])

@@ -1,7 +1,6 @@
 //! The tracker's state between two items of a block.
 
 ghost use Rattle.std.specs.Prelude.{◌≡◌, ◌<◌, ◌≤◌, ◌+◌, ◌^◌, ℕ, length, slice_index, cond, nat_eq, nat_lt};
-ghost use Rattle.rv64_instr.specs.declared.place.Place.{Place};
 ghost use Rattle.std.specs.List.{list_any};
 ghost use Rattle.rv64_instr.specs.Access.{caller_saved};
 ghost use Rattle.value_tracker.specs.Held.{SLOTS_FROM, PLACES, slot_place, put};

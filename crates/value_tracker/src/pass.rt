@@ -17,7 +17,6 @@ ghost use Rattle.std.specs.Prelude.{
   nat_eq,
 };
 ghost use Rattle.std.specs.HashMap.{get};
-ghost use Rattle.rv64_instr.specs.Row.{row_of};
 ghost use Rattle.sem_mir.specs.Step.{defined as defined_by};
 ghost use Rattle.mir_func.specs.declared.variable.VarId.{VarId};
 ghost use Rattle.mir_func.specs.declared.item.ItemKind.TheVariants.{Code, Mark, Phi};

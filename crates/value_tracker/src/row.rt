@@ -1,6 +1,6 @@
 //! The locations past an instruction.
 
-ghost use Rattle.std.specs.Prelude.{◌≡◌, ◌<◌, ◌≤◌, ◌^◌, ℕ, length, slice_index};
+ghost use Rattle.std.specs.Prelude.{◌≡◌, ◌<◌, ◌^◌, ℕ, length, slice_index};
 ghost use Rattle.rv64_instr.specs.Row.{row_of};
 ghost use Rattle.value_tracker.specs.Held.{number_class, places_past};
 

@@ -4,7 +4,7 @@ use Rattle.mir_func.specs.declared.item.ItemKind.{ItemKind}
 use Rattle.mir_func.specs.declared.position.Point.{Point}
 use Rattle.mir_func.specs.declared.position.Pos.{Pos}
 use Rattle.mir_func.specs.Function.{FramedFunction}
-use Rattle.mir_func.specs.Sound.{SlotsIn, ObjectsIn, HasForm}
+use Rattle.mir_func.specs.Sound.{SlotsIn, ObjectsIn}
 use Rattle.mir_func.specs.SoundFrame.{slot_offsets, IsFramed}
 use Rattle.emit_code.specs.declared.code.Entry.{Entry}
 use Rattle.emit_code.specs.declared.objects.ObjectOffsets.{ObjectOffsets}

@@ -1,5 +1,5 @@
 -- Operands of listed code.
-use Rattle.std.specs.Prelude.{ℕ, IsTrue, List, ◌∷◌, Option, Some, None}
+use Rattle.std.specs.Prelude.{IsTrue, List, ◌∷◌, Option, Some, None}
 use Rattle.rv64_instr.specs.declared.op.Op.{Op}
 use Rattle.rv64_instr.specs.declared.op.BranchOp.{BranchOp}
 use Rattle.rv64_instr.specs.declared.op.Op.TheVariants.{Registers, Immediate, Lui, Branch as OfBranch, Load, Store, Copy, PseudoBr, PseudoCall, PseudoRet}

@@ -1,7 +1,7 @@
-use Rattle.std.proofs.Common.{◌≡◌, ◌<◌, ◌+◌, ◌^◌, List, length, get_or, set, sym, ap, ◌∙◌, subst, arith}
+use Rattle.std.proofs.Common.{◌≡◌, ◌<◌, List, length, sym, ap, ◌∙◌, subst, arith}
 use Rattle.mir_func.specs.declared.block.Block.{Block}
 use Rattle.copyprop_block.specs.Copied.{over_items, at_block}
-use Rattle.copyprop_rule.proofs.Loop.{Copies, copies_begin, room, copies_more, copies_end, without}
+use Rattle.copyprop_rule.proofs.Loop.{Copies, copies_begin, room, copies_more, without}
 use Rattle.copyprop_rule.proofs.function.copy_in_blocks.Goals as goal
 
 pub loop-b-init : goal.loop-b-init

@@ -1,4 +1,4 @@
-use Rattle.std.proofs.Common.{◌≡◌, ◌||◌, ◌∷◌, [], ◌++◌, ℕ, List, Vec, Global, map, take, Bool, true, false, cond, not, append-nil, refl, ap, sym, ◌∙◌}
+use Rattle.std.proofs.Common.{◌≡◌, ◌||◌, ◌∷◌, [], ◌++◌, List, Vec, Global, map, take, Bool, true, false, cond, not, append-nil, refl, ap, sym, ◌∙◌}
 use Rattle.std.specs.List.{list_any}
 use Rattle.mir_func.specs.declared.item.Item.{Item}
 use Rattle.fold_rule_proof.specs.Kills.{once}

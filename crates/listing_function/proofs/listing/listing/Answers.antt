@@ -1,6 +1,5 @@
-use Rattle.std.proofs.Common.{◌+◌, ◌*◌, ◌<◌, ◌^◌, length, List, sym, subst}
+use Rattle.std.proofs.Common.{◌+◌, ◌*◌, ◌<◌, ◌^◌, length, sym, subst}
 use Rattle.std.specs.Prelude.{All}
-use Rattle.emit_code.specs.declared.code.Entry.{Entry}
 use Rattle.emit_code.specs.Laid.{LaidCode}
 use Rattle.listing_function.specs.steps.Entries.{IsLow}
 use Rattle.listing_function.proofs.Low.{entries_low}

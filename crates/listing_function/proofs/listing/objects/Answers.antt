@@ -1,7 +1,6 @@
 use Rattle.std.proofs.Common.{◌<◌, ◌^◌, List, sym, subst}
 use Rattle.std.specs.Prelude.{All}
 use Rattle.mir_func.specs.declared.object.Object.{Object}
-use Rattle.mir_func.specs.Function.{FramedFunction}
 use Rattle.listing_function.proofs.Low.{offsets_low}
 use Rattle.listing_function.proofs.listing.objects.Goals as goal
 

@@ -1,5 +1,5 @@
 use Rattle.std.proofs.Common.{refl}
-use Rattle.pass_losses.proofs.Sorting.{each, Compares, Equals, in_order, same_losses}
+use Rattle.pass_losses.proofs.Sorting.{each, in_order, same_losses}
 use Rattle.pass_losses.proofs.told.put_in_order.Goals as goal
 
 pub returns-clause-ordered : goal.returns-clause-ordered

@@ -1,4 +1,4 @@
-use Rattle.std.proofs.Common.{ℕ, List, refl}
+use Rattle.std.proofs.Common.{refl}
 use Rattle.read_declarations.specs.declared.stack.StackEntry.{StackEntry}
 use Rattle.read_body.specs.Frame.{with_id, ids_behind, ids_of_objects}
 use Rattle.read_body.proofs.Entries.{one_more, no_more}

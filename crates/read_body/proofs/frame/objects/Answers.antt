@@ -1,4 +1,4 @@
-use Rattle.std.proofs.Common.{◌≡◌, ℕ, ◌+◌, ◌*◌, ◌≤◌, List, [], refl, arith}
+use Rattle.std.proofs.Common.{refl, arith}
 use Rattle.read_declarations.specs.declared.stack.StackEntry.{StackEntry}
 use Rattle.read_body.specs.Frame.{with_object, objects_behind, objects_of}
 use Rattle.read_body.proofs.Entries.{one_more, no_more}

@@ -1,6 +1,5 @@
-use Rattle.std.proofs.Common.{List, [], ap, ◌∙◌}
+use Rattle.std.proofs.Common.{[], ap, ◌∙◌}
 use Rattle.read_declarations.specs.declared.entry.Entry.{Entry}
-use Rattle.read_declarations.specs.declared.entry.Field.{Field}
 use Rattle.read_declarations.specs.Stack.{stack_entry_of, judged}
 use Rattle.read_declarations.proofs.Walks.{stack_more, stack_whole}
 use Rattle.read_declarations.proofs.stack.stack.Goals as goal

@@ -1,13 +1,11 @@
-use Rattle.std.proofs.Common.{◌≡◌, ℕ, ◌+◌, List, [], ◌++◌, drop, Option, Some, None, map, sym, ap, ◌∙◌, arith}
+use Rattle.std.proofs.Common.{◌≡◌, ℕ, ◌+◌, List, [], ◌++◌, drop, Some, None, map, sym, ap, ◌∙◌}
 use Rattle.read_lexer.specs.declared.line.Line.{Line}
 use Rattle.read_lexer.specs.declared.parts.Token.{Token}
 use Rattle.read_lexer.specs.Line.{tokens_of}
 use Rattle.read_lexer.specs.Comment.{before_comment}
-use Rattle.read_refusal.specs.declared.kind.RefusalKind.{RefusalKind}
 use Rattle.read_declarations.specs.declared.stream.Piece.{Piece}
 use Rattle.read_declarations.specs.declared.stream.LineTokens.{LineTokens}
-use Rattle.read_declarations.specs.declared.stream.TokenStream.{TokenStream}
-use Rattle.read_declarations.specs.Stream.{line_tokens_of, piece_of, before_lines, stream_from, stream_of}
+use Rattle.read_declarations.specs.Stream.{line_tokens_of, piece_of, before_lines, stream_from}
 use Rattle.read_declarations.proofs.Streams.{read_of, stopped, goes_on, all_read}
 use Rattle.read_declarations.proofs.stream.stream.Goals as goal
 

@@ -1,6 +1,5 @@
-use Rattle.std.proofs.Common.{List, [], ap, ◌∙◌}
+use Rattle.std.proofs.Common.{[], ap, ◌∙◌}
 use Rattle.read_declarations.specs.declared.entry.Entry.{Entry}
-use Rattle.read_declarations.specs.declared.entry.Field.{Field}
 use Rattle.read_declarations.specs.Substitutions.{substitution_of, substituted}
 use Rattle.read_declarations.proofs.Walks.{substitutions_more, substitutions_whole}
 use Rattle.read_declarations.proofs.substitutions.substitutions.Goals as goal

@@ -1,4 +1,4 @@
-use Rattle.std.proofs.Common.{◌≡◌, ◌≢◌, ◌<◌, length, arith, get_or-set_other, get_or-set_same, below_more}
+use Rattle.std.proofs.Common.{◌≢◌, ◌<◌, length, arith, get_or-set_other, get_or-set_same, below_more}
 use Rattle.std.proofs.Math.ListN.{length-set}
 use Rattle.sim_start.proofs.start.registers.Goals as goal
 

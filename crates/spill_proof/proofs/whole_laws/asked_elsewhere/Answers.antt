@@ -1,4 +1,3 @@
-use Rattle.spill_code.specs.declared.spilling.Spilling.{Spilling}
 use Rattle.spill_rule.specs.Choice.{spilling_of}
 use Rattle.spill_proof.proofs.Chosen.{no_scratch}
 use Rattle.spill_proof.proofs.Elsewhere.{asks_elsewhere}

@@ -1,4 +1,4 @@
-use Rattle.std.proofs.Common.{◌≡◌, ◌&&◌, ℕ, filter, ◌∙◌, rules}
+use Rattle.std.proofs.Common.{◌&&◌, ℕ, filter, ◌∙◌, rules}
 use Rattle.std.proofs.lemmas.Fn.{filter_same}
 use Rattle.pass_trait.specs.Causes.{is_named}
 use Rattle.spill_rule.specs.Choice.{is_bound, is_free}

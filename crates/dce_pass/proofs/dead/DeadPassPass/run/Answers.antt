@@ -1,8 +1,7 @@
-use Rattle.std.proofs.Common.{◌+◌, ◌<◌, ◌^◌, ℕ, List, false, true, arith}
+use Rattle.std.proofs.Common.{◌<◌, ◌^◌, List, arith}
 use Rattle.mir_func.specs.declared.entry.Entry.{Entry}
 use Rattle.mir_func.specs.Function.{Function}
 use Rattle.pass_trait.specs.Change.{change}
-use Rattle.pass_trait.specs.Following.{KeepsFollowing}
 use Rattle.pass_trait.specs.Sizes.{code_count, KeepsSizes}
 use Rattle.pass_trait.specs.Steps.{KeepsSteps}
 use Rattle.dce_pass.specs.Rounds.{AreDeadRounds}

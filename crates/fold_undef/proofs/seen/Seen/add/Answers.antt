@@ -1,4 +1,4 @@
-use Rattle.std.proofs.Common.{◌≡◌, ◌||◌, true, cond, not, sym, ap, ◌∙◌}
+use Rattle.std.proofs.Common.{◌||◌, true, cond, not, sym, ap, ◌∙◌}
 use Rattle.std.specs.HashSet.{contains}
 use Rattle.fold_undef.specs.declared.kill.Kill.{Kill}
 use Rattle.fold_undef.specs.Kill.{is_same_kill}
