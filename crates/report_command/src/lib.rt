@@ -3,7 +3,4 @@
 #![tactic(auto)]
 
 pub mod laws;
-
-pub use compile_program::compile as compile;
-
 pub mod report;

@@ -3,9 +3,9 @@
 ghost use Rattle.std.specs.Prelude.{◌≡◌, ◌↔◌, IfOk, IsTrue, MatchOption};
 ghost use Rattle.run_command.specs.Runs.{IsFirstNamed, HasNone, IsRunOf, CanRun};
 
+use compile_program::compile::Compilation;
 use listing_text::output::ListedFunction;
 use mir_printer::text::Text;
-use report_command::compile::Compilation;
 use rv64_instr::start::Values;
 use sim_start::text::run_text;
 use sim_trace::variable::variables_of;

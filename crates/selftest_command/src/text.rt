@@ -9,16 +9,16 @@ ghost use Rattle.gen_function.specs.Generator.{generated};
 ghost use Rattle.read_program.specs.declared.closing.Parsed.{Parsed};
 ghost use Rattle.sem_interpreter.specs.StandsFor.{AreCounted};
 ghost use Rattle.pass_list.specs.Names.{AreDistinct};
-ghost use Rattle.run_command.specs.Program.{HasLargeFrame, HasLargeSection, steps_of};
+ghost use Rattle.compile_program.specs.Program.{HasLargeFrame, HasLargeSection, steps_of};
 ghost use Rattle.selftest_command.specs.Tested.{IsSelfTestOf};
 ghost use Rattle.selftest_command.specs.steps.First.{TestsFirst, FirstGoesApart};
 
+use compile_program::compile::{Compilation, CompileError, compile};
 use dwarf_unit::variables::variables;
 use gen_program::program::generated_program;
 use mir_printer::text::Text;
 use pass_list::kind::PassKind;
 use read_program::program::Program;
-use run_command::compile::{Compilation, CompileError, compile};
 use rv64_instr::reg::Reg;
 use selftest_count::text::self_test_text;
 use std::alloc::{AllocError, Global};

@@ -1,22 +1,22 @@
 //! The output texts of the commands that compile.
 
 ghost use Rattle.std.specs.Prelude.{IfOk, IfErr};
-ghost use Rattle.run_command.specs.Reported.{IsReportText};
+ghost use Rattle.report_command.specs.Reported.{IsReportText};
 ghost use Rattle.run_command.specs.Source.{IsRunOfProgram};
 ghost use Rattle.cli.specs.Command.{IsWithin};
 ghost use Rattle.tool_driver.specs.Answer.{IsTestText, RefusesToCompile, RefusesToRun, RefusesToTest};
 ghost use Rattle.tool_driver.specs.Compiled.{plan_steps, IsCompiledText, IsListingText};
-ghost use Rattle.run_command.specs.Program.{IsOutputOf, IsCompilationOf};
+ghost use Rattle.compile_program.specs.Program.{IsOutputOf, IsCompilationOf};
 ghost use Rattle.read_proof.specs.Read.{IsReadProgram};
 
 use cli::command::{Plan, RunPlan, TestPlan};
 use cli::fault::Fault;
+use compile_program::compile::{Compilation, CompileError, compile};
 use listing_text::print::{print_listing, print_output};
 use mir_printer::text::Text;
 use read_program::program::Program;
-use run_command::compile::{Compilation, CompileError, compile};
+use report_command::report::report;
 use run_command::name::is_unknown;
-use run_command::report::report;
 use run_command::run::run;
 use selftest_command::text::self_test;
 use std::alloc::Global;
