@@ -1,14 +1,13 @@
 #!/usr/bin/env python3
 """Makes docs/MAP.md: the rooms of the house as a picture, and a line for each crate.
 
-    bench/map.py             what docs/MAP.md says otherwise than crates.txt, bench/rooms.txt and the crates; ends with 1 if there is any
+    bench/map.py             what docs/MAP.md says otherwise than crates.txt and the crates; ends with 1 if there is any
     bench/map.py --write     writes docs/MAP.md anew
     bench/map.py --above NAME     the crates that stand on a crate: what a change of its contracts has proved again
 
-The rooms and their order are those of bench/rooms.txt. What a crate is says the first sentence of its `src/lib.rt` (of a program `src/main.rt`);
+The rooms are the headings of crates.txt. What a crate is says the first sentence of its `src/lib.rt` (of a program `src/main.rt`);
 what it stands on says crates.txt, without what the crates that are named already stand on. A crate with no function that does anything is one of laws.
 """
-import fnmatch
 import os
 import re
 import sys
@@ -17,8 +16,8 @@ TOP = os.path.join(os.path.dirname(os.path.abspath(__file__)), "..")
 WIDTH = 100
 HEAD = """# Map
 
-Where everything is: the rooms of the house, and a line for each crate. This page is made by `bench/map.py --write` from `crates.txt`,
-`bench/rooms.txt` and the first sentence of each crate. `DESIGN.md` says why it is so, and `PROVED.md` what each crate's clauses say.
+Where everything is: the rooms of the house, and a line for each crate. This page is made by `bench/map.py --write` from `crates.txt`, whose
+headings are the rooms, and the first sentence of each crate. `DESIGN.md` says why it is so, and `PROVED.md` what each crate's clauses say.
 
 A room stands on rooms of the rows below its own, and on no other; a crate on crates of its room or of these. *Laws* are crates whose functions do
 nothing: their contracts are statements. A crate's line ends with what it stands on directly, without what those stand on themselves.
@@ -46,26 +45,18 @@ def crates():
 
 def rooms(known):
     """The rooms, each with its name, what it is, and its crates; and what is wrong with them."""
-    found, faults, placed = [], [], set()
-    for line in read("bench", "rooms.txt").splitlines():
-        if line.startswith("## "):
-            name, about = line[3:].split(": ", 1)
+    found, faults = [], []
+    for number, line in enumerate(read("crates.txt").splitlines(), 1):
+        if line.startswith("# "):
+            name, colon, about = line[2:].partition(": ")
+            if not colon:
+                faults.append(f"crates.txt:{number}: a heading is `# Name: what it is`")
             found.append((name, about, []))
-        elif line and not line.startswith("#"):
-            found[-1][2].extend(line.split())
-    for _, _, members in found:
-        for it in members:
-            if "*" not in it and it not in known:
-                faults.append(f"bench/rooms.txt names {it}, which crates.txt hasn't")
-        members[:] = [it for it in members if it in known or "*" in it]
-        placed.update(members)
-    for _, _, members in found:
-        for pattern in [it for it in members if "*" in it]:
-            more = [it for it in sorted(known) if fnmatch.fnmatch(it, pattern) and it not in placed]
-            placed.update(more)
-            at = members.index(pattern)
-            members[at:at + 1] = more
-    faults += [f"no room of bench/rooms.txt has {it}" for it in sorted(known) if it not in placed]
+        elif line.strip():
+            if not found:
+                faults.append(f"crates.txt:{number}: stands above the first heading")
+                found.append(("", "", []))
+            found[-1][2].append(re.split(r"[ :]", line)[0])
     return found, faults
 
 
@@ -188,7 +179,7 @@ def main():
         with open(path, "w", encoding="utf-8") as it:
             it.write(text)
     elif read("docs", "MAP.md") != text:
-        faults.append("docs/MAP.md isn't what crates.txt, bench/rooms.txt and the crates say: bench/map.py --write")
+        faults.append("docs/MAP.md isn't what crates.txt and the crates say: bench/map.py --write")
     for it in faults:
         print(it)
     sys.exit(1 if faults else 0)

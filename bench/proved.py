@@ -4,7 +4,7 @@
     bench/proved.py             what the page says otherwise than the code; ends with 1 if there is any
     bench/proved.py --write     writes the tables anew
 
-A table stands in each room (bench/rooms.txt) whose crates promise something. A call is public where its module is; its clauses are its `ensures`, by
+A table stands in each room (a heading of crates.txt) whose crates promise something. A call is public where its module is; its clauses are its `ensures`, by
 their names or, without one, by the definitions that they name. The clauses of the top call have a list of their own, which is checked both ways.
 """
 import os
