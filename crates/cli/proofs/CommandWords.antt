@@ -12,7 +12,7 @@ use Rattle.cli.specs.Options.{none_given, IsWith, GivesOption, GiveOptions}
 use Rattle.cli.proofs.OptionWords.{the_option}
 use Rattle.cli.specs.declared.command.Command.{Command}
 use Rattle.cli.specs.declared.command.Command.TheVariants.{Compile, Listing, Report, Run, Strip, Gen, SelfTest}
-use Rattle.cli.specs.declared.command.Plan.{Plan}
+use Rattle.cli.specs.declared.command.PassPipeline.{PassPipeline}
 use Rattle.cli.specs.declared.command.RunPlan.{RunPlan}
 use Rattle.cli.specs.declared.command.TestPlan.{TestPlan}
 use Rattle.cli.specs.Command.{MAX_STEPS, IsPlanOf, GivesPlan, IsRunPlanOf, GivesSteps, GivesRun, GivesTestOf, GivesTest}
@@ -41,13 +41,13 @@ one_given (word ∷ words) given a b ha hb =
     let same : ha.0 ≡ hb.0 = one_more given word ha.0 hb.0 ha.1 hb.1 in
     one_given words hb.0 a b (subst (λ (o : Options). GiveOptions o words a) same ha.2) hb.2
 
-plan_by : (given : Options) (p q : Plan) → IsPlanOf given p → IsPlanOf given q → p ≡ q
+plan_by : (given : Options) (p q : PassPipeline) → IsPlanOf given p → IsPlanOf given q → p ≡ q
 plan_by given p q hp hq =
     let passes : p.passes ≡ q.passes = hp.passes ∙ sym hq.passes in
     let reserve : p.reserve ≡ q.reserve = hp.reserve ∙ sym hq.reserve in
     λ i. record { passes = passes i; reserve = reserve i }
 
-pub one_plan : (words : List (List ℕ)) (p q : Plan) → GivesPlan words p → GivesPlan words q → p ≡ q
+pub one_plan : (words : List (List ℕ)) (p q : PassPipeline) → GivesPlan words p → GivesPlan words q → p ≡ q
 one_plan words p q hp hq =
     let same : hp.0 ≡ hq.0 = one_given words none_given hp.0 hq.0 hp.1 hq.1 in
     plan_by hq.0 p q (subst (λ (o : Options). IsPlanOf o p) same hp.2) hq.2
@@ -146,7 +146,7 @@ other : (name : List ℕ) (words : List (List ℕ)) (a b : Command) → IsComman
 other name words a b ha hb = sym (named_by name words a ha) ∙ named_by name words b hb
 
 by_name : (name : List ℕ) (words : List (List ℕ)) (a b : Command) → sign_of a ≡ sign_of b → IsCommand (name ∷ words) a → IsCommand (name ∷ words) b → a ≡ b
-by_name name words (Compile p) (Compile q) e ha hb = ap (λ (x : Plan). Compile x) (one_plan words p q ha.1 hb.1)
+by_name name words (Compile p) (Compile q) e ha hb = ap (λ (x : PassPipeline). Compile x) (one_plan words p q ha.1 hb.1)
 by_name name words (Compile p) (Listing q) e ha hb = absurd (omega (arith, e))
 by_name name words (Compile p) (Report q) e ha hb = absurd (omega (arith, e))
 by_name name words (Compile p) (Run s) e ha hb = absurd (omega (arith, e))
@@ -154,7 +154,7 @@ by_name name words (Compile p) Strip e ha hb = absurd (omega (arith, e))
 by_name name words (Compile p) (Gen h) e ha hb = absurd (omega (arith, e))
 by_name name words (Compile p) (SelfTest u) e ha hb = absurd (omega (arith, e))
 by_name name words (Listing p) (Compile q) e ha hb = absurd (omega (arith, e))
-by_name name words (Listing p) (Listing q) e ha hb = ap (λ (x : Plan). Listing x) (one_plan words p q ha.1 hb.1)
+by_name name words (Listing p) (Listing q) e ha hb = ap (λ (x : PassPipeline). Listing x) (one_plan words p q ha.1 hb.1)
 by_name name words (Listing p) (Report q) e ha hb = absurd (omega (arith, e))
 by_name name words (Listing p) (Run s) e ha hb = absurd (omega (arith, e))
 by_name name words (Listing p) Strip e ha hb = absurd (omega (arith, e))
@@ -162,7 +162,7 @@ by_name name words (Listing p) (Gen h) e ha hb = absurd (omega (arith, e))
 by_name name words (Listing p) (SelfTest u) e ha hb = absurd (omega (arith, e))
 by_name name words (Report p) (Compile q) e ha hb = absurd (omega (arith, e))
 by_name name words (Report p) (Listing q) e ha hb = absurd (omega (arith, e))
-by_name name words (Report p) (Report q) e ha hb = ap (λ (x : Plan). Report x) (one_plan words p q ha.1 hb.1)
+by_name name words (Report p) (Report q) e ha hb = ap (λ (x : PassPipeline). Report x) (one_plan words p q ha.1 hb.1)
 by_name name words (Report p) (Run s) e ha hb = absurd (omega (arith, e))
 by_name name words (Report p) Strip e ha hb = absurd (omega (arith, e))
 by_name name words (Report p) (Gen h) e ha hb = absurd (omega (arith, e))
@@ -203,7 +203,7 @@ one_command (name ∷ words) a b ha hb = by_name name words a b (other name word
 
 -- ---- names whose options aren't given
 
-pub no_compile : (name : List ℕ) (words : List (List ℕ)) → name ≡ codes "compile" → ((p : Plan) → GivesPlan words p → ⊥) →
+pub no_compile : (name : List ℕ) (words : List (List ℕ)) → name ≡ codes "compile" → ((p : PassPipeline) → GivesPlan words p → ⊥) →
     (c : Command) → IsCommand (name ∷ words) c → ⊥
 no_compile name words is none (Compile p) h = none p h.1
 no_compile name words is none (Listing p) h = let e : 321 ≡ 318 = sym (ap sign is) ∙ ap sign h.0 in omega (arith, e)
@@ -213,7 +213,7 @@ no_compile name words is none Strip h = let e : 321 ≡ 347 = sym (ap sign is) �
 no_compile name words is none (Gen g) h = let e : 321 ≡ 305 = sym (ap sign is) ∙ ap sign h.0 in omega (arith, e)
 no_compile name words is none (SelfTest t) h = let e : 321 ≡ 317 = sym (ap sign is) ∙ ap sign h.0 in omega (arith, e)
 
-pub no_listing : (name : List ℕ) (words : List (List ℕ)) → name ≡ codes "listing" → ((p : Plan) → GivesPlan words p → ⊥) →
+pub no_listing : (name : List ℕ) (words : List (List ℕ)) → name ≡ codes "listing" → ((p : PassPipeline) → GivesPlan words p → ⊥) →
     (c : Command) → IsCommand (name ∷ words) c → ⊥
 no_listing name words is none (Compile p) h = let e : 318 ≡ 321 = sym (ap sign is) ∙ ap sign h.0 in omega (arith, e)
 no_listing name words is none (Listing p) h = none p h.1
@@ -223,7 +223,7 @@ no_listing name words is none Strip h = let e : 318 ≡ 347 = sym (ap sign is) �
 no_listing name words is none (Gen g) h = let e : 318 ≡ 305 = sym (ap sign is) ∙ ap sign h.0 in omega (arith, e)
 no_listing name words is none (SelfTest t) h = let e : 318 ≡ 317 = sym (ap sign is) ∙ ap sign h.0 in omega (arith, e)
 
-pub no_report : (name : List ℕ) (words : List (List ℕ)) → name ≡ codes "report" → ((p : Plan) → GivesPlan words p → ⊥) →
+pub no_report : (name : List ℕ) (words : List (List ℕ)) → name ≡ codes "report" → ((p : PassPipeline) → GivesPlan words p → ⊥) →
     (c : Command) → IsCommand (name ∷ words) c → ⊥
 no_report name words is none (Compile p) h = let e : 316 ≡ 321 = sym (ap sign is) ∙ ap sign h.0 in omega (arith, e)
 no_report name words is none (Listing p) h = let e : 316 ≡ 318 = sym (ap sign is) ∙ ap sign h.0 in omega (arith, e)

@@ -7,7 +7,7 @@ use Rattle.cli.specs.declared.given.Options.{Options}
 use Rattle.cli.specs.Options.{none_given, GiveOptions}
 use Rattle.cli.specs.declared.command.Command.{Command}
 use Rattle.cli.specs.declared.command.Command.TheVariants.{Compile, Listing, Report, Run, Strip, Gen, SelfTest}
-use Rattle.cli.specs.declared.command.Plan.{Plan}
+use Rattle.cli.specs.declared.command.PassPipeline.{PassPipeline}
 use Rattle.cli.specs.declared.command.RunPlan.{RunPlan}
 use Rattle.cli.specs.declared.command.TestPlan.{TestPlan}
 use Rattle.pass_list.specs.declared.kind.PassKind.{PassKind}
@@ -29,14 +29,14 @@ passes_in None = STANDARD
 passes_in (Some passes) = passes
 
 -- the plan of these options, which may include `--passes` and `--reserve` but no numbers
-pub record IsPlanOf (given : Options) (plan : Plan) : Type 0 where
+pub record IsPlanOf (given : Options) (plan : PassPipeline) : Type 0 where
   pub passes : plan.passes ≡ passes_in given.passes
   pub reserve : plan.reserve ≡ reserve_in given.reserve
   pub no_arguments : given.arguments ≡ None
   pub no_answers : given.answers ≡ None
 
 -- the words are options, in any order and each at most once, with this plan
-abbrev pub GivesPlan : (words : List (List ℕ)) → Plan → Type 0
+abbrev pub GivesPlan : (words : List (List ℕ)) → PassPipeline → Type 0
 GivesPlan words plan = (given : Options) × GiveOptions none_given words given × IsPlanOf given plan
 
 -- the run of the function with this name, for at most `count` steps, with these options, which may be any

@@ -5,7 +5,7 @@ ghost use Rattle.cli.specs.Command.{IsCommand, IsPlain, GivesPlan, IsPlanOf, res
 ghost use Rattle.cli.specs.Command.{GivesRun, GivesSteps, IsRunPlanOf, numbers_in, passes_in};
 ghost use Rattle.cli.specs.Command.{GivesTest, GivesTestOf};
 ghost use Rattle.cli.specs.declared.command.Command.{Command};
-ghost use Rattle.cli.specs.declared.command.Plan.{Plan};
+ghost use Rattle.cli.specs.declared.command.PassPipeline.{PassPipeline};
 ghost use Rattle.cli.specs.declared.command.RunPlan.{RunPlan};
 ghost use Rattle.cli.specs.declared.command.TestPlan.{TestPlan};
 
@@ -25,7 +25,7 @@ const MAX_STEPS: u64 = 1_000_000;
 
 /// How each function is transformed before it is compiled.
 #[derive(Debug, Drop)]
-pub struct Plan {
+pub struct PassPipeline {
     /// The passes, in their order.
     pub passes: PassList,
     /// The registers that may be spilled.
@@ -40,7 +40,7 @@ pub struct RunPlan {
     /// The greatest number of its steps: 0 to 1,000,000.
     pub steps: u32,
     /// The passes before compilation, and the registers that may be spilled.
-    pub plan: Plan,
+    pub plan: PassPipeline,
     /// The arguments of the function.
     pub arguments: Numbers,
     /// The return values of the functions that it calls.
@@ -53,19 +53,19 @@ pub struct TestPlan {
     /// The function, which is generated.
     pub function: Generation,
     /// The passes before compilation, and the registers that may be spilled.
-    pub plan: Plan,
+    pub plan: PassPipeline,
 }
 
 /// A command with what it needs.
 #[derive(Debug, Drop)]
 pub enum Command {
     /// Writes the sections and the listing of each function after passes.
-    Compile(Plan),
+    Compile(PassPipeline),
     /// Writes the listing of each function alone after passes.
-    Listing(Plan),
+    Listing(PassPipeline),
     /// Writes at how many of each function's words each variable has a location, after passes, and what the passes
     /// lost.
-    Report(Plan),
+    Report(PassPipeline),
     /// Writes the steps of a function's machine code, with the values of its variables.
     Run(RunPlan),
     /// Writes each function without its debug items.
@@ -149,8 +149,8 @@ fn without_plan(name: &str, words: &[String]) -> Option<Command>
 }
 
 /// The plan of options; `None` if a word is no option, an option repeats, or one has numbers.
-fn plan_asked(alloc: Global, words: &[String]) -> Result<Option<Plan>, AllocError>
-    ensures { IfOk result (λ o. (plan : Plan) → (o ≡ Some plan) ↔ GivesPlan (map string_bytes words.now) plan) }
+fn plan_asked(alloc: Global, words: &[String]) -> Result<Option<PassPipeline>, AllocError>
+    ensures { IfOk result (λ o. (plan : PassPipeline) → (o ≡ Some plan) ↔ GivesPlan (map string_bytes words.now) plan) }
 {
     match options(alloc, words)? {
         Some(given) => Ok(plan_of(alloc, given)),
@@ -159,8 +159,8 @@ fn plan_asked(alloc: Global, words: &[String]) -> Result<Option<Plan>, AllocErro
 }
 
 /// The plan of options; `None` if numbers are among them.
-fn plan_of(alloc: Global, given: Options) -> Option<Plan>
-    ensures { (plan : Plan) → (result ≡ Some plan) ↔ IsPlanOf given plan }
+fn plan_of(alloc: Global, given: Options) -> Option<PassPipeline>
+    ensures { (plan : PassPipeline) → (result ≡ Some plan) ↔ IsPlanOf given plan }
 {
     let Options {
         passes,
@@ -171,7 +171,7 @@ fn plan_of(alloc: Global, given: Options) -> Option<Plan>
     if arguments.is_some() || answers.is_some() {
         return None;
     }
-    Some(Plan {
+    Some(PassPipeline {
         passes: passes_in(passes),
         reserve: reserve_in(alloc, reserve),
     })
@@ -220,7 +220,7 @@ fn run_of(alloc: Global, name: Name, steps: u32, given: Options) -> RunPlan
     RunPlan {
         name,
         steps,
-        plan: Plan {
+        plan: PassPipeline {
             passes: passes_in(passes),
             reserve: reserve_in(alloc, reserve),
         },

@@ -4,7 +4,7 @@ use Rattle.std.specs.Prelude.{All, slice_get}
 use Rattle.std.proofs.lemmas.List.Elements.{All-nil, All-cons}
 use Rattle.mir_func.specs.declared.variable.VarId.{VarId}
 use Rattle.mir_func.specs.Graph.{Program, block_start}
-use Rattle.emit_code.specs.declared.code.Entry.{Entry}
+use Rattle.emit_code.specs.declared.code.EncodedInstruction.{EncodedInstruction}
 use Rattle.dwarf_loclists.specs.declared.range.Range.{Range}
 use Rattle.dwarf_loclists.specs.Ranges.{ArePlaces}
 use Rattle.location_ranges.specs.Lists.{AreListsOf}
@@ -18,7 +18,7 @@ all_each P (x ∷ xs) (y ∷ ys) same each =
     let rest : length ys ≡ length xs = cc in
     All-cons P y ys (each zero x y refl refl) (all_each P xs ys rest (λ k v z at here. each (suc k) v z at here))
 
-pub places : (g : Program) (entries : List Entry) (variables : List VarId) (lists : List (List Range)) →
+pub places : (g : Program) (entries : List EncodedInstruction) (variables : List VarId) (lists : List (List Range)) →
     AreListsOf g (block_start 0) entries variables lists → All ArePlaces lists
 places g entries variables lists are =
     all_each ArePlaces variables lists are.for_all (λ k v ranges at here. (are.each k v ranges at here).places)

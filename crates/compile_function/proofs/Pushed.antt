@@ -3,7 +3,7 @@ use Rattle.std.proofs.Common.{◌≡◌, ℕ, ◌<◌, ◌≤◌, List, [], ◌�
 use Rattle.std.specs.List.{flat_map}
 use Rattle.std.specs.Int.{w32, to_le_bytes}
 use Rattle.emit_code.specs.Counts.{MAX_WORDS, MAX_BASE, count_of}
-use Rattle.emit_code.specs.declared.code.Entry.{Entry}
+use Rattle.emit_code.specs.declared.code.EncodedInstruction.{EncodedInstruction}
 use Rattle.emit_code.specs.Rule.{Layout, entries_of}
 use Rattle.listing_text.specs.declared.output.ListedFunction.{ListedFunction}
 use Rattle.frame_rule.specs.Rule.{framed_of}
@@ -22,7 +22,7 @@ use Rattle.compile_theorem.specs.Promise.{variable_lines}
 use Rattle.compile_theorem.specs.Source.{SourceFunction, PassedFunction}
 use Rattle.compile_function.proofs.Listed.{variables_few, lines_same}
 use Rattle.compile_function.proofs.Located.{places}
-use Rattle.compile_function.specs.declared.emit.Made.{Made}
+use Rattle.compile_function.specs.declared.emit.EmittedFunctions.{EmittedFunctions}
 use Rattle.compile_function.specs.Emitted.{names_of, IsOneCompiled, IsPushed}
 use Rattle.compile_passes.specs.Passed.{source_of}
 use Rattle.read_proof.specs.Read.{IsReadFunction}
@@ -40,7 +40,8 @@ few_variables meta q p base c of read one =
     let items = read.few_items in
     omega (arith, is, few, items)
 
-module _ (meta : Maps) (q : Parsed) (p : PassedFunction) (m : Made) (c : CompiledFunction) (of : p.source ≡ source_of q) (read : IsReadFunction meta q.func)
+module _ (meta : Maps) (q : Parsed) (p : PassedFunction) (m : EmittedFunctions) (c : CompiledFunction) (of : p.source ≡ source_of q)
+    (read : IsReadFunction meta q.func)
     (one : IsOneCompiled p (length m.text) c) (low : length m.text < MAX_BASE) where
   abbrev vs : List VarId
   vs = variables_of_function p.source.function.blocks
@@ -71,13 +72,13 @@ module _ (meta : Maps) (q : Parsed) (p : PassedFunction) (m : Made) (c : Compile
   are_located =
       subst (λ (f : FramedFunction). AreListsOf (framed_program f.blocks (resolve p.substitutions)) (block_start 0) (entries_of layout)
       vs c.lists) (sym one.code.of)
-      (subst (λ (es : List Entry). AreListsOf (framed_program (framed_of p.function).blocks (resolve p.substitutions)) (block_start 0) es
+      (subst (λ (es : List EncodedInstruction). AreListsOf (framed_program (framed_of p.function).blocks (resolve p.substitutions)) (block_start 0) es
       vs c.lists) one.code.entries
       (subst (λ (ws : List VarId). AreListsOf (framed_program (framed_of p.function).blocks (resolve p.substitutions)) (block_start 0) c.code.entries ws
       c.lists) one.variables
       one.lists))
 
-  pub pushed : (listed : ListedFunction) (after : Made) →
+  pub pushed : (listed : ListedFunction) (after : EmittedFunctions) →
       length c.code.words < MAX_WORDS →
       (first : ℕ) → first ≡ length m.lists →
       ((l : Layout) → IsLaid l c.code → listed ≡ listing_of l (variables_listed meta first c.variables) p.substitutions) →

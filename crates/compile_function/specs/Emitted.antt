@@ -8,7 +8,7 @@ use Rattle.dwarf_loclists.specs.declared.range.Range.{Range}
 use Rattle.dwarf_loclists.specs.Ranges.{Ascend, ArePlaces}
 use Rattle.frame_rule.specs.Rule.{framed_of, size_of}
 use Rattle.compile_function.specs.declared.compile.CompiledFunction.{CompiledFunction}
-use Rattle.compile_function.specs.declared.emit.Made.{Made}
+use Rattle.compile_function.specs.declared.emit.EmittedFunctions.{EmittedFunctions}
 use Rattle.listing_function.specs.Variables.{name_of}
 use Rattle.read_metadata.specs.Maps.{Maps}
 use Rattle.read_metadata.specs.Metadata.{variable_at}
@@ -40,7 +40,7 @@ pub record IsOneCompiled (p : PassedFunction) (base : ℕ) (c : CompiledFunction
   pub ascend : All Ascend c.lists
 
 -- One more function is compiled and appended.
-pub record IsPushed (meta : Maps) (p : PassedFunction) (before after : Made) : Type 0 where
+pub record IsPushed (meta : Maps) (p : PassedFunction) (before after : EmittedFunctions) : Type 0 where
   pub listed : ListedFunction
   pub compiled : IsCompiledFunction (names_of meta) p (length before.text) (length before.lists) listed
   pub code : LaidCode

@@ -38,7 +38,7 @@ pub type Codes = List<Code>;
 
 /// The compiled functions of a program so far.
 #[derive(Drop)]
-pub struct Made {
+pub struct EmittedFunctions {
     /// The bytes of their words.
     pub text: Bytes,
     /// Their location lists.
@@ -71,7 +71,7 @@ impl From<AllocError> for EmitError {
 /// Compiles a function that passes made of a source, and appends it to the functions before it.
 pub fn push_function(
     alloc: Global,
-    made: &mut Made,
+    made: &mut EmittedFunctions,
     meta: &Metadata,
     source: &Parsed,
     function: &Func,
@@ -116,7 +116,7 @@ fn listed(
 
 /// Appends a compiled function.
 fn push_compiled(
-    made: &mut Made,
+    made: &mut EmittedFunctions,
     compiled: CompiledFunction,
     listed: ListedFunction,
 ) -> Result<(), AllocError>

@@ -2,7 +2,7 @@
 use Rattle.std.proofs.Common.{◌≡◌, inl, inr, length-append, ℕ, zero, suc, ◌+◌, ◌*◌, ◌<◌, ◌≤◌, Bool, true, false, List, [], ◌∷◌, length, map, Some}
 use Rattle.std.proofs.Common.{refl, ap, sym, ◌∙◌, subst, arith, Contains}
 use Rattle.std.specs.Prelude.{slice_get}
-use Rattle.emit_code.specs.declared.code.Entry.{Entry}
+use Rattle.emit_code.specs.declared.code.EncodedInstruction.{EncodedInstruction}
 use Rattle.emit_code.specs.Laid.{StandFrom, LaidCode, IsCodeOf}
 use Rattle.emit_code.specs.Long.{IsSettled}
 use Rattle.emit_code.specs.Rule.{Layout, entries_of, words_of}
@@ -74,7 +74,7 @@ code_stands f base c is =
     let kept = is.base_kept in
     let end : l.base + _ ≡ function_end c = omega (arith, filled, words, from, kept) in
     subst (λ (a : ℕ). StandFrom a c.code.now.entries (function_end c)) from
-    (subst (λ (es : List Entry). StandFrom l.base es (function_end c)) (sym is.entries)
+    (subst (λ (es : List EncodedInstruction). StandFrom l.base es (function_end c)) (sym is.entries)
     (subst (λ (x : ℕ). StandFrom l.base (entries_of l) x) end (stands l)))
 
 codes_lie : (base : ℕ) (fs : List Function) (cs : List Compiled) → AreCoded base fs (map (λ (c : Compiled). c.code.now) cs) → LieFrom base cs
@@ -208,7 +208,7 @@ module _ (p : Program) (ps : List PassedFunction) (passed : ArePassed p.meta p.f
     forms = subst (λ (x : FramedFunction). AllItems IsFormed x.blocks) (sym pair.function.laid.framed)
         (forms_framed made.function pair.function.laid.small is.passed.follower.form)
 
-    entered : (a : ℕ) (line : Line) → HasByte f a line → (e : Entry) × HasCodeAt cs a pair.code e × (e.origin ≡ origin_of line)
+    entered : (a : ℕ) (line : Line) → HasByte f a line → (e : EncodedInstruction) × HasCodeAt cs a pair.code e × (e.origin ≡ origin_of line)
     entered a line has =
         let found = listing_entered a pair.function.layout
         (variable_lines (names_of p.meta) pair.first (variables_of_function made.source.function.blocks)) made.substitutions forms line
@@ -217,7 +217,7 @@ module _ (p : Program) (ps : List PassedFunction) (passed : ArePassed p.meta p.f
           found.0,
           record {
             function = pair.among;
-            entry = subst (λ (es : List Entry). Contains es found.0) (sym pair.entries) found.1;
+            entry = subst (λ (es : List EncodedInstruction). Contains es found.0) (sym pair.entries) found.1;
             from = found.2;
             below = found.3;
           },

@@ -14,12 +14,12 @@ use Rattle.rv64_instr.specs.Instruction.{Instruction}
 use Rattle.rv64_instr.specs.Parts.{is_call}
 use Rattle.rv64_instr.specs.Row.{row_of}
 use Rattle.mir_func.specs.declared.block.Block.{Block}
-use Rattle.mir_func.specs.declared.entry.Entry as func
+use Rattle.mir_func.specs.declared.entry.DebugSubstitution as func
 use Rattle.mir_func.specs.declared.item.Item.{Item}
 use Rattle.mir_func.specs.declared.item.ItemKind.{ItemKind}
 use Rattle.mir_func.specs.declared.item.ItemKind.TheVariants.{Code, Mark, Phi}
 use Rattle.mir_func.specs.Sound.{AllItems, HasForm}
-use Rattle.emit_code.specs.declared.code.Entry.{Entry}
+use Rattle.emit_code.specs.declared.code.EncodedInstruction.{EncodedInstruction}
 use Rattle.emit_code.specs.Inverted.{inverted, jump_to}
 use Rattle.emit_code.specs.Listed.{listed}
 use Rattle.emit_code.specs.Rule.{Layout, Site, Form, LongBranch, form_of, address_in, added_before, form_entries, entry, entries_at, entries_of}
@@ -56,8 +56,8 @@ module _ (a : ℕ) where
     within : a < past_line first line
 
   -- one of entries has it, from where the line comes
-  record Entered (es : List Entry) (line : Line) : Type 0 where
-    entry : Entry
+  record Entered (es : List EncodedInstruction) (line : Line) : Type 0 where
+    entry : EncodedInstruction
     among : Contains es entry
     from : entry.address ≤ a
     within : a < entry.address + entry.size
@@ -65,7 +65,8 @@ module _ (a : ℕ) where
 
   module _ (l : Layout) where
     -- a line of code with so many bytes
-    code_entered : (at size : ℕ) (i : Item) (kind : ItemKind) (e : Entry) (es : List Entry) → Contains es e → e.address ≡ at → e.size ≡ size →
+    code_entered : (at size : ℕ) (i : Item) (kind : ItemKind) (e : EncodedInstruction) (es : List EncodedInstruction) → Contains es e → e.address ≡ at →
+        e.size ≡ size →
         e.origin ≡ i.origin → ((x : ℕ) → past_line x (line_at (Some at) i kind) ≡ x + size) → LineByte (line_at (Some at) i kind) →
         Entered es (line_at (Some at) i kind)
     code_entered at size i kind e es among address sized origin past byte =
@@ -113,10 +114,10 @@ module _ (a : ℕ) where
         LongEnters at s k t (Branch o) (Use x ∷ Use y ∷ OfBlock z ∷ os)
     long_enters at s k t o x y z os line is byte =
         by (member_cases (skip_line at s o x y os) line (line_at (Some (at + 4)) s.item (Code (jump_to t) k) ∷ []) is) where
-          skip : Entry
+          skip : EncodedInstruction
           skip = entry at 4 (added_before s.item.origin) s.point false
 
-          jump : Entry
+          jump : EncodedInstruction
           jump = entry (at + 4) 4 s.item.origin s.point false
 
           by : (skip_line at s o x y os ≡ line) ⊎ Contains (line_at (Some (at + 4)) s.item (Code (jump_to t) k) ∷ []) line → Entered (skip ∷ jump ∷ []) line
@@ -225,9 +226,9 @@ module _ (a : ℕ) where
     all_lines (p ∷ blocks) = blocks_lines 0 (p ∷ blocks)
 
     -- a byte of a line of a listing
-    pub listing_entered : (variables : List ListedVariable) (substitutions : List func.Entry) → AllItems IsFormed l.framed.blocks → (line : Line) →
+    pub listing_entered : (variables : List ListedVariable) (substitutions : List func.DebugSubstitution) → AllItems IsFormed l.framed.blocks → (line : Line) →
         Contains (lines_of (listing_of l variables substitutions)) line → (first : ℕ) → address_of line ≡ Some first → first ≤ a → a < past_line first line →
-        (e : Entry) × Contains (entries_of l) e × (e.address ≤ a) × (a < e.address + e.size) × (e.origin ≡ origin_of line)
+        (e : EncodedInstruction) × Contains (entries_of l) e × (e.address ≤ a) × (a < e.address + e.size) × (e.origin ≡ origin_of line)
     listing_entered variables substitutions forms line is first begins from within =
         let found = sites_enter (sites_of l.framed) (blocks_formed 0 l.framed.blocks forms) line
         (subst (λ (ls : List Line). Contains ls line) (all_lines l.framed.blocks) is)

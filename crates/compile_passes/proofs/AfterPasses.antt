@@ -11,7 +11,7 @@ use Rattle.rv64_instr.specs.declared.place.Place.TheVariants.{Register, Slot, Co
 use Rattle.read_metadata.specs.Maps.{Maps}
 use Rattle.read_body.specs.Limits.{MAX_ITEMS}
 use Rattle.mir_func.specs.declared.block.Block.{Block}
-use Rattle.mir_func.specs.declared.entry.Entry.{Entry}
+use Rattle.mir_func.specs.declared.entry.DebugSubstitution.{DebugSubstitution}
 use Rattle.mir_func.specs.declared.item.Item.{Item}
 use Rattle.mir_func.specs.declared.item.ItemKind.{ItemKind}
 use Rattle.mir_func.specs.declared.item.ItemKind.TheVariants.{Code, Mark, Phi}
@@ -30,7 +30,7 @@ use Rattle.read_program.specs.Limited.{KindIsLimited, LocIsLimited}
 use Rattle.mir_printer.specs.Printable.{IsNumber, IsPrintablePlace, IsPrintableLoc, IsPrintableVariable}
 use Rattle.pass_trait.specs.Change.{change}
 use Rattle.pass_trait.specs.declared.loss.Loss.{Loss}
-use Rattle.pass_trait.specs.Following.{Source, FollowsSource, KeepsFollowing}
+use Rattle.pass_trait.specs.Simulation.{Source, SimulatesSource, PreservesSimulation}
 use Rattle.pass_trait.specs.Sizes.{greatest, numbers_of, greatest_number, item_count}
 use Rattle.listing_text.specs.Shown.{declared_by, IsPrintableEntry}
 use Rattle.listing_function.specs.Printable.{IsPrintableFramedKind}
@@ -95,7 +95,7 @@ kind_low (Mark v Nothing) is = All-nil Low
 kind_low (Mark v (Constant n)) is = All-nil Low
 kind_low (Mark v (At r)) is = All-nil Low
 
-entry_low : (e : Entry) → EntryIsLimited e → All Low (e.src.number ∷ e.dst.number ∷ [])
+entry_low : (e : DebugSubstitution) → EntryIsLimited e → All Low (e.src.number ∷ e.dst.number ∷ [])
 entry_low e is = All-cons Low e.src.number (e.dst.number ∷ []) is.src.0 (one_low e.dst.number is.dst.0)
 
 abbrev Limited : Item → Type 0
@@ -107,7 +107,7 @@ numbers_low meta q read subs =
     greatest_low (flat_map (λ i. numbers_of i.kind) (items_of q.func.blocks) ++ flat_map (λ e. e.src.number ∷ e.dst.number ∷ []) q.subs)
     (All-append Low (flat_map (λ i. numbers_of i.kind) (items_of q.func.blocks)) (flat_map (λ e. e.src.number ∷ e.dst.number ∷ []) q.subs)
     (all_flat Limited (λ (i : Item). numbers_of i.kind) (λ i is. kind_low i.kind is.0) (items_of q.func.blocks) (in_order Limited q.func.blocks read.limited))
-    (all_flat EntryIsLimited (λ (e : Entry). e.src.number ∷ e.dst.number ∷ []) entry_low q.subs subs))
+    (all_flat EntryIsLimited (λ (e : DebugSubstitution). e.src.number ∷ e.dst.number ∷ []) entry_low q.subs subs))
 
 -- ---- passes may run
 
@@ -127,10 +127,10 @@ module _ (meta : Maps) (q : Parsed) (passes : List PassKind) (read : IsReadFunct
       omega (arith, low, room)
 
   -- on a copy of it
-  pub numbers_of_copy : (f : Function) (subs : List Entry) → f ≡ q.func → subs ≡ q.subs →
+  pub numbers_of_copy : (f : Function) (subs : List DebugSubstitution) → f ≡ q.func → subs ≡ q.subs →
       greatest_number f subs + numbers_after passes (item_count f) < 2 ^ 31
   numbers_of_copy f subs same entries_same =
-      subst (λ (es : List Entry). greatest_number f es + numbers_after passes (item_count f) < 2 ^ 31) (sym entries_same)
+      subst (λ (es : List DebugSubstitution). greatest_number f es + numbers_after passes (item_count f) < 2 ^ 31) (sym entries_same)
       (subst (λ (g : Function). greatest_number g q.subs + numbers_after passes (item_count g) < 2 ^ 31) (sym same) has_numbers)
 
   pub slots_of_copy : (f : Function) → f ≡ q.func → greatest f.slots + MAX_SLOTS * slots_after passes < 2 ^ 31
@@ -143,7 +143,7 @@ typed_form (Code i k) is = is.0.form
 typed_form (Mark v m) is = tt
 typed_form (Phi p k) is = tt
 
-entry_prints : (e : Entry) → IsTypedEntry e → IsPrintableEntry e
+entry_prints : (e : DebugSubstitution) → IsTypedEntry e → IsPrintableEntry e
 entry_prints e is = record { src = (is.src.number, is.src.operand); dst = (is.dst.number, is.dst.operand); subreg = is.subreg }
 
 abbrev source_read : (meta : Maps) (q : Parsed) → IsReadFunction meta q.func → Source
@@ -155,12 +155,12 @@ source_read meta q read = record {
   form = read.form;
 }
 
-module _ (meta : Maps) (q : Parsed) (passes : List PassKind) (f : Function) (subs : List Entry) (read : IsReadFunction meta q.func)
+module _ (meta : Maps) (q : Parsed) (passes : List PassKind) (f : Function) (subs : List DebugSubstitution) (read : IsReadFunction meta q.func)
     (accepted : IsAccepted passes) (sound : IsSound f)
-    (following : KeepsFollowing (any_asks passes) (all_keep passes) (change q.func q.subs f subs))
+    (following : PreservesSimulation (any_asks passes) (all_keep passes) (change q.func q.subs f subs))
     (growth : KeepsGrowth passes (change q.func q.subs f subs)) (shown : KeepsShown q.func f) (typed : All IsTypedBlock f.blocks)
     (entries : All IsTypedEntry subs) where
-  follows : FollowsSource (source_read meta q read) f subs
+  follows : SimulatesSource (source_read meta q read) f subs
   follows =
       following.follows (source_read meta q read)
       (record { objects = refl; follows = follows_itself q.func.blocks read.read (resolve q.subs) q.func.objects })
@@ -221,7 +221,7 @@ module _ (meta : Maps) (q : Parsed) (passes : List PassKind) (f : Function) (sub
       All-cons (IsPrintableBlock inlined) b bs
       (record {
         id = here.id;
-        silent = here.silent;
+        source_end = here.source_end;
         kinds = All-head (λ (x : Block). All Prints x.items) b bs all;
         locs = All-weaker IsTypedItem (λ (i : Item). IsPrintableLoc i.loc) (λ i is. is.loc) b.items here.items;
       })
@@ -263,7 +263,7 @@ module _ (meta : Maps) (q : Parsed) (passes : List PassKind) (f : Function) (sub
   }
 
 -- what passes made of a copy of a function that was read
-module _ (meta : Maps) (q : Parsed) (passes : List PassKind) (g : Function) (gs : List Entry) (f : Function) (subs : List Entry)
+module _ (meta : Maps) (q : Parsed) (passes : List PassKind) (g : Function) (gs : List DebugSubstitution) (f : Function) (subs : List DebugSubstitution)
     (same : g ≡ q.func) (entries_same : gs ≡ q.subs) (read : IsReadFunction meta q.func) (accepted : IsAccepted passes) where
   pub few_after : KeepsGrowth passes (change g gs f subs) → length (items_of f.blocks) ≤ MAX_PASSED
   few_after growth =
@@ -274,17 +274,17 @@ module _ (meta : Maps) (q : Parsed) (passes : List PassKind) (g : Function) (gs 
   pub made_after : (reserve : List ℕ) (told : List Loss) → KeepsPasses (passes_of reserve passes) (change g gs f subs) told →
       IsMadeLosing reserve passes (passed_of q f subs) told
   made_after reserve told kept =
-      subst (λ (es : List Entry). KeepsPasses (passes_of reserve passes) (change q.func es f subs) told) entries_same
+      subst (λ (es : List DebugSubstitution). KeepsPasses (passes_of reserve passes) (change q.func es f subs) told) entries_same
       (subst (λ (h : Function). KeepsPasses (passes_of reserve passes) (change h gs f subs) told) same kept)
 
-  pub compilable_after : IsSound f → (Fit passes → KeepsFollowing (any_asks passes) (all_keep passes) (change g gs f subs)) →
+  pub compilable_after : IsSound f → (Fit passes → PreservesSimulation (any_asks passes) (all_keep passes) (change g gs f subs)) →
       KeepsGrowth passes (change g gs f subs) → KeepsShown g f → All IsTypedBlock f.blocks → All IsTypedEntry subs →
       IsCompilable meta (passed_of q f subs)
   compilable_after sound following growth shown typed entries =
       compilable meta q passes f subs read accepted sound
-      (subst (λ (es : List Entry). KeepsFollowing (any_asks passes) (all_keep passes) (change q.func es f subs)) entries_same
-      (subst (λ (h : Function). KeepsFollowing (any_asks passes) (all_keep passes) (change h gs f subs)) same (following accepted.fit)))
-      (subst (λ (es : List Entry). KeepsGrowth passes (change q.func es f subs)) entries_same
+      (subst (λ (es : List DebugSubstitution). PreservesSimulation (any_asks passes) (all_keep passes) (change q.func es f subs)) entries_same
+      (subst (λ (h : Function). PreservesSimulation (any_asks passes) (all_keep passes) (change h gs f subs)) same (following accepted.fit)))
+      (subst (λ (es : List DebugSubstitution). KeepsGrowth passes (change q.func es f subs)) entries_same
       (subst (λ (h : Function). KeepsGrowth passes (change h gs f subs)) same growth))
       (subst (λ (h : Function). KeepsShown h f) same shown) typed entries
 

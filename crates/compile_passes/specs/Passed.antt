@@ -3,10 +3,10 @@ use Rattle.std.specs.Prelude.{ℕ, List, All}
 use Rattle.listing_text.specs.Shown.{IsPrintableEntry}
 use Rattle.pass_trait.specs.Change.{change}
 use Rattle.pass_trait.specs.declared.loss.Loss.{Loss}
-use Rattle.pass_trait.specs.Steps.{Step, KeepsSteps}
+use Rattle.pass_trait.specs.Steps.{PassStep, KeepsSteps}
 use Rattle.listing_proof.specs.Laws.{inlined_in, IsPrintableBody}
 use Rattle.read_metadata.specs.Maps.{Maps}
-use Rattle.mir_func.specs.declared.entry.Entry.{Entry}
+use Rattle.mir_func.specs.declared.entry.DebugSubstitution.{DebugSubstitution}
 use Rattle.mir_func.specs.Function.{Function}
 use Rattle.read_program.specs.declared.closing.Parsed.{Parsed}
 use Rattle.compile_theorem.specs.Source.{SourceFunction, PassedFunction, IsPassedFunction}
@@ -23,11 +23,11 @@ abbrev pub source_of : Parsed → SourceFunction
 source_of p = record { function = p.func; substitutions = p.subs }
 
 -- a passed function with a source that was read
-abbrev pub passed_of : Parsed → (function : Function) → (substitutions : List Entry) → PassedFunction
+abbrev pub passed_of : Parsed → (function : Function) → (substitutions : List DebugSubstitution) → PassedFunction
 passed_of p f subs = record { source = source_of p; function = f; substitutions = subs }
 
 -- the steps of passes, one after the other, made the function from its source
-pub record IsMadeBy (steps : List Step) (p : PassedFunction) : Type 0 where
+pub record IsMadeBy (steps : List PassStep) (p : PassedFunction) : Type 0 where
   pub losses : List Loss
   pub kept : KeepsSteps steps (change p.source.function p.source.substitutions p.function p.substitutions) losses
 

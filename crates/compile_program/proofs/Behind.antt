@@ -11,7 +11,7 @@ use Rattle.listing_text.specs.declared.output.ListedFunction.{ListedFunction}
 use Rattle.dwarf_loclists.specs.declared.range.Range.{Range}
 use Rattle.dwarf_loclists.specs.Ranges.{Ascend, ArePlaces}
 use Rattle.pass_trait.specs.declared.loss.Loss.{Loss}
-use Rattle.compile_function.specs.declared.emit.Made.{Made}
+use Rattle.compile_function.specs.declared.emit.EmittedFunctions.{EmittedFunctions}
 use Rattle.compile_function.specs.Emitted.{names_of, AreWritable, IsPushed}
 use Rattle.compile_function.proofs.AfterPasses.{made_by}
 use Rattle.compile_function.specs.Passed.{source_of, IsMadeBy, IsMadeLosing, IsCompilable, steps_of}
@@ -26,7 +26,8 @@ use Rattle.pass_list.specs.declared.kind.PassKind.{PassKind}
 use Rattle.compile_program.specs.Program.{ArePassed, AreMadeLosing, AreCoded}
 use Rattle.compile_program.specs.steps.Made.{AreMade}
 
-pub record SoFar (meta : Maps) (reserve : List ℕ) (passes : List PassKind) (all rest : List Parsed) (losses : List (List Loss)) (m : Made) : Type 0 where
+pub record SoFar (meta : Maps) (reserve : List ℕ) (passes : List PassKind) (all rest : List Parsed) (losses : List (List Loss))
+    (m : EmittedFunctions) : Type 0 where
   pub passed : List PassedFunction
   pub are : (ps : List PassedFunction) → ArePassed meta rest ps → ArePassed meta all (passed ++ ps)
   pub made : All (IsMadeBy (steps_of reserve passes)) passed
@@ -57,7 +58,7 @@ begins meta reserve passes all = record {
   few_lists = omega arith;
 }
 
-module _ (meta : Maps) (p : PassedFunction) (m n : Made) (one : IsPushed meta p m n) where
+module _ (meta : Maps) (p : PassedFunction) (m n : EmittedFunctions) (one : IsPushed meta p m n) where
   bytes_length : length (bytes_of one.compiled.layout) ≡ 4 * length (words_of one.compiled.layout)
   bytes_length = words_length (words_of one.compiled.layout)
 
@@ -140,7 +141,7 @@ module _ (meta : Maps) (p : PassedFunction) (m n : Made) (one : IsPushed meta p 
         omega (arith, long, below, was);
   }
 
-pub all_made : (meta : Maps) (reserve : List ℕ) (passes : List PassKind) (all : List Parsed) (losses : List (List Loss)) (m : Made) →
+pub all_made : (meta : Maps) (reserve : List ℕ) (passes : List PassKind) (all : List Parsed) (losses : List (List Loss)) (m : EmittedFunctions) →
     SoFar meta reserve passes all [] losses m →
     AreMade meta reserve passes all losses m
 all_made meta reserve passes all losses m so = record {

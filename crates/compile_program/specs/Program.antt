@@ -11,7 +11,7 @@ use Rattle.dwarf_loclists.specs.declared.range.Range.{Range}
 use Rattle.dwarf_loclists.specs.Grammar.{IsSection}
 use Rattle.dwarf_loclists.specs.Spelling.{spelling as lists_spelling}
 use Rattle.pass_trait.specs.declared.loss.Loss.{Loss}
-use Rattle.pass_trait.specs.Steps.{Step}
+use Rattle.pass_trait.specs.Steps.{PassStep}
 use Rattle.frame_rule.specs.Rule.{size_of, framed_of}
 pub use Rattle.compile_function.specs.Emitted.{names_of, AreWritable}
 pub use Rattle.compile_function.specs.Passed.{source_of, IsMadeBy, IsMadeLosing, IsCompilable, steps_of, passes_of}
@@ -82,7 +82,7 @@ pub record HasSections (meta : Maps) (functions : List PassedFunction) (o : Outp
 -- ---- outputs
 
 -- The output is compiled of what steps of passes made of the program's functions, with all its sections.
-pub record IsOutputOf (steps : List Step) (p : Program) (o : Output) : Type 0 where
+pub record IsOutputOf (steps : List PassStep) (p : Program) (o : Output) : Type 0 where
   pub functions : List PassedFunction
   pub passed : ArePassed p.meta p.functions functions
   pub made : All (IsMadeBy steps) functions
@@ -105,7 +105,7 @@ pub record IsCompilationOf (reserve : List ℕ) (passes : List PassKind) (p : Pr
 -- ---- programs that have no output
 
 -- Some function, after the steps of passes, has a frame above the limit.
-pub record HasLargeFrame (steps : List Step) (functions : List Parsed) : Type 0 where
+pub record HasLargeFrame (steps : List PassStep) (functions : List Parsed) : Type 0 where
   pub function : Parsed
   pub among : Contains functions function
   pub passed : PassedFunction
@@ -119,7 +119,7 @@ IsLarge meta text_len lists compiled = (SECTION_LIMIT ≤ length (lists_spelling
     ((SECTION_LIMIT ≤ length (entries_spelling (unit_of meta text_len compiled))) ⊎ (SECTION_LIMIT ≤ length (rows_spelling (table_of meta compiled))))
 
 -- A section of the program, compiled after the steps of passes, would be too large.
-pub record HasLargeSection (steps : List Step) (p : Program) : Type 0 where
+pub record HasLargeSection (steps : List PassStep) (p : Program) : Type 0 where
   pub functions : List PassedFunction
   pub passed : ArePassed p.meta p.functions functions
   pub made : All (IsMadeBy steps) functions

@@ -11,7 +11,7 @@ ghost use Rattle.read_proof.specs.Read.{IsReadProgram};
 
 use crate::function::made_of;
 use base_list::List;
-use compile_function::emit::{Codes, EmitError, Made};
+use compile_function::emit::{Codes, EmitError, EmittedFunctions};
 use dwarf_info::abbreviation::write_abbrev;
 use dwarf_loclists::range::RangeLists;
 use dwarf_sections::sections::{SectionError, info, loclists, rows, with_code};
@@ -117,7 +117,7 @@ pub fn compile(
 fn compiled(
     alloc: Global,
     program: &Program,
-    made: Made,
+    made: EmittedFunctions,
     losses: FunctionLosses,
     _passes: &[PassKind],
     _reserve: &[Reg],
@@ -131,7 +131,7 @@ fn compiled(
         HasLargeSection (steps_of _reserve.now _passes.now) program.now }
 {
     let meta = &program.meta;
-    let Made {
+    let EmittedFunctions {
         text,
         lists,
         functions: listed,

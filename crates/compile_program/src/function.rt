@@ -12,7 +12,7 @@ ghost use Rattle.compile_program.specs.steps.Made.{IsSourcePushed, IsTooLarge, A
 ghost use Rattle.read_proof.specs.Read.{IsReadFunction, EntryIsLimited};
 
 use crate::compile::{CompileError, FunctionLosses};
-use compile_function::emit::{Codes, Made, push_function};
+use compile_function::emit::{Codes, EmittedFunctions, push_function};
 use compile_function::passed::after_passes;
 use dwarf_loclists::range::RangeLists;
 use listing_text::output::{Bytes, ListedFunctions};
@@ -31,7 +31,7 @@ pub fn made_of(
     functions: &[Parsed],
     passes: &[PassKind],
     reserve: &[Reg],
-) -> Result<(Made, FunctionLosses), CompileError>
+) -> Result<(EmittedFunctions, FunctionLosses), CompileError>
     requires few { length functions.now ≤ MAX_FUNCTIONS }
     requires read { All (λ (p : Parsed). IsReadFunction meta.now p.func) functions.now }
     requires substitutions { All (λ (p : Parsed). All EntryIsLimited p.subs) functions.now }
@@ -41,7 +41,7 @@ pub fn made_of(
         HasLargeFrame (steps_of reserve.now passes.now) functions.now }
     ensures no_section { IsErrOf result CompileError.SectionTooLarge → ⊥ }
 {
-    let mut made = Made {
+    let mut made = EmittedFunctions {
         text: Bytes::new(alloc),
         lists: RangeLists::new(alloc),
         functions: ListedFunctions::new(alloc),
@@ -58,7 +58,7 @@ pub fn made_of(
 /// Runs passes on a function, appends its code, listing and location lists, and returns the losses.
 fn push_source(
     alloc: Global,
-    made: &mut Made,
+    made: &mut EmittedFunctions,
     meta: &Metadata,
     source: &Parsed,
     passes: &[PassKind],

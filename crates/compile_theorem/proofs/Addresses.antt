@@ -14,7 +14,7 @@ use Rattle.rv64_instr.specs.Instruction.{Instruction}
 use Rattle.rv64_instr.specs.Parts.{is_call}
 use Rattle.rv64_instr.specs.Row.{row_of}
 use Rattle.mir_func.specs.declared.block.Block.{Block}
-use Rattle.mir_func.specs.declared.entry.Entry.{Entry}
+use Rattle.mir_func.specs.declared.entry.DebugSubstitution.{DebugSubstitution}
 use Rattle.mir_func.specs.declared.item.Item.{Item}
 use Rattle.mir_func.specs.declared.item.ItemKind.{ItemKind}
 use Rattle.mir_func.specs.declared.item.ItemKind.TheVariants.{Code, Mark, Phi}
@@ -99,7 +99,7 @@ module _ (l : Layout) where
   nothing_before b (i ∷ items) = refl
 
   -- a block begins where the layout says
-  pub start_shown : (variables : List ListedVariable) (substitutions : List Entry) (n : ℕ) → AllItems IsFormed l.framed.blocks →
+  pub start_shown : (variables : List ListedVariable) (substitutions : List DebugSubstitution) (n : ℕ) → AllItems IsFormed l.framed.blocks →
       Contains (ids_of (body_of l.framed.blocks)) n →
       block_address (past_lines l.base (listing_of l variables substitutions).prologue) (listing_of l variables substitutions).blocks n ≡ Some (start_of l n)
   start_shown variables substitutions n forms has = by_blocks l.framed.blocks forms has where

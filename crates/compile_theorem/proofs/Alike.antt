@@ -23,7 +23,7 @@ use Rattle.mir_func.specs.declared.object.Object.{Object}
 use Rattle.mir_func.specs.declared.position.Pos.{Pos}
 use Rattle.mir_func.specs.declared.variable.VarId.{VarId}
 use Rattle.mir_func.specs.Function.{FramedFunction}
-use Rattle.mir_func.specs.Graph.{Fetch, Here, Silent, Outside, Program, block_start, end_of, front, fetch_in, index_of, framed_program, KindEdge, FetchEdge}
+use Rattle.mir_func.specs.Graph.{Fetch, Here, EndOfBlock, Outside, Program, block_start, end_of, front, fetch_in, index_of, framed_program, KindEdge, FetchEdge}
 use Rattle.mir_func.specs.Objects.{object_of, offset_of, offset_or_zero}
 use Rattle.mir_func.specs.Sound.{AllItems, ObjectsIn, HasBytes, HasForm}
 use Rattle.mir_func.specs.SoundFrame.{body_of, own_size}
@@ -176,14 +176,14 @@ module _ (f : FramedFunction) where
 
 abbrev FetchAlike : Fetch → Fetch → Type 0
 FetchAlike (Here i) (Here j) = AreAlike i.kind j.kind
-FetchAlike (Silent k m) (Silent l n) = m ≡ n
+FetchAlike (EndOfBlock k m) (EndOfBlock l n) = m ≡ n
 FetchAlike Outside Outside = Unit {0}
-FetchAlike (Here i) (Silent l n) = ⊥
+FetchAlike (Here i) (EndOfBlock l n) = ⊥
 FetchAlike (Here i) Outside = ⊥
-FetchAlike (Silent k m) (Here j) = ⊥
-FetchAlike (Silent k m) Outside = ⊥
+FetchAlike (EndOfBlock k m) (Here j) = ⊥
+FetchAlike (EndOfBlock k m) Outside = ⊥
 FetchAlike Outside (Here j) = ⊥
-FetchAlike Outside (Silent l n) = ⊥
+FetchAlike Outside (EndOfBlock l n) = ⊥
 
 module _ (f : FramedFunction) where
   -- what is needed of an item
@@ -229,8 +229,8 @@ module _ (f : FramedFunction) where
   fetch_alike b n (block ∷ blocks) [] good same = cc
   fetch_alike zero n (block ∷ blocks) (o ∷ others) good same =
       let h = heads block o blocks others same in
-      subst (λ (xs : List Item). FetchAlike (front (drop n block.items) block.silent blocks) (front (drop n xs) o.silent others)) (sym h.items)
-      (fronts_alike block.silent o.silent n block.items blocks others (All-head GoodBlock block blocks good) h.rest)
+      subst (λ (xs : List Item). FetchAlike (front (drop n block.items) block.source_end blocks) (front (drop n xs) o.source_end others)) (sym h.items)
+      (fronts_alike block.source_end o.source_end n block.items blocks others (All-head GoodBlock block blocks good) h.rest)
   fetch_alike (suc b) n (block ∷ blocks) (o ∷ others) good same =
       fetch_alike b n blocks others (All-tail GoodBlock block blocks good) (heads block o blocks others same).rest
 
@@ -266,37 +266,37 @@ module _ (f : FramedFunction) where
 
     edge_to : (x y : Fetch) → FetchAlike x y → (p q : Pos) → FetchEdge g.enter x p q → FetchEdge h.enter y p q
     edge_to (Here i) (Here j) alike p q way = subst (λ (e : ℕ → ℕ). KindEdge e j.kind p q) enters (alike.edge g.enter p q way)
-    edge_to (Silent k m) (Silent l n) alike p q way = way ∙ ap (λ (z : ℕ). block_start (g.enter z)) alike ∙ ap (λ (e : ℕ → ℕ). block_start (e n)) enters
+    edge_to (EndOfBlock k m) (EndOfBlock l n) alike p q way = way ∙ ap (λ (z : ℕ). block_start (g.enter z)) alike ∙ ap (λ (e : ℕ → ℕ). block_start (e n)) enters
     edge_to Outside Outside alike p q way = absurd way
-    edge_to (Here i) (Silent l n) alike p q way = absurd alike
+    edge_to (Here i) (EndOfBlock l n) alike p q way = absurd alike
     edge_to (Here i) Outside alike p q way = absurd alike
-    edge_to (Silent k m) (Here j) alike p q way = absurd alike
-    edge_to (Silent k m) Outside alike p q way = absurd alike
+    edge_to (EndOfBlock k m) (Here j) alike p q way = absurd alike
+    edge_to (EndOfBlock k m) Outside alike p q way = absurd alike
     edge_to Outside (Here j) alike p q way = absurd alike
-    edge_to Outside (Silent l n) alike p q way = absurd alike
+    edge_to Outside (EndOfBlock l n) alike p q way = absurd alike
 
     edge_from : (x y : Fetch) → FetchAlike x y → (p q : Pos) → FetchEdge h.enter y p q → FetchEdge g.enter x p q
     edge_from (Here i) (Here j) alike p q way = subst (λ (e : ℕ → ℕ). KindEdge e i.kind p q) (sym enters) (alike.back h.enter p q way)
-    edge_from (Silent k m) (Silent l n) alike p q way =
+    edge_from (EndOfBlock k m) (EndOfBlock l n) alike p q way =
         way ∙ ap (λ (z : ℕ). block_start (h.enter z)) (sym alike) ∙ ap (λ (e : ℕ → ℕ). block_start (e m)) (sym enters)
     edge_from Outside Outside alike p q way = absurd way
-    edge_from (Here i) (Silent l n) alike p q way = absurd alike
+    edge_from (Here i) (EndOfBlock l n) alike p q way = absurd alike
     edge_from (Here i) Outside alike p q way = absurd alike
-    edge_from (Silent k m) (Here j) alike p q way = absurd alike
-    edge_from (Silent k m) Outside alike p q way = absurd alike
+    edge_from (EndOfBlock k m) (Here j) alike p q way = absurd alike
+    edge_from (EndOfBlock k m) Outside alike p q way = absurd alike
     edge_from Outside (Here j) alike p q way = absurd alike
-    edge_from Outside (Silent l n) alike p q way = absurd alike
+    edge_from Outside (EndOfBlock l n) alike p q way = absurd alike
 
     tokens_alike : (n : ℕ) (x y : Fetch) → FetchAlike x y → (t : Tokens) → after_fetch resolve n x t ≡ after_fetch resolve n y t
     tokens_alike n (Here i) (Here j) alike t = alike.tokens resolve n t
-    tokens_alike n (Silent k m) (Silent l o) alike t = refl
+    tokens_alike n (EndOfBlock k m) (EndOfBlock l o) alike t = refl
     tokens_alike n Outside Outside alike t = refl
-    tokens_alike n (Here i) (Silent l o) alike t = absurd alike
+    tokens_alike n (Here i) (EndOfBlock l o) alike t = absurd alike
     tokens_alike n (Here i) Outside alike t = absurd alike
-    tokens_alike n (Silent k m) (Here j) alike t = absurd alike
-    tokens_alike n (Silent k m) Outside alike t = absurd alike
+    tokens_alike n (EndOfBlock k m) (Here j) alike t = absurd alike
+    tokens_alike n (EndOfBlock k m) Outside alike t = absurd alike
     tokens_alike n Outside (Here j) alike t = absurd alike
-    tokens_alike n Outside (Silent l o) alike t = absurd alike
+    tokens_alike n Outside (EndOfBlock l o) alike t = absurd alike
 
     path_to : {n : ℕ} {p : Pos} {t : Tokens} → Path g (block_start 0) n p t → Path h (block_start 0) n p t
     path_to begin = begin

@@ -5,7 +5,7 @@ use Rattle.std.specs.Int.{w32, to_le_bytes}
 use Rattle.mir_func.specs.Function.{FramedFunction}
 use Rattle.mir_func.specs.Graph.{block_start, framed_program}
 use Rattle.mir_func.specs.Resolve.{resolve}
-use Rattle.emit_code.specs.declared.code.Entry.{Entry}
+use Rattle.emit_code.specs.declared.code.EncodedInstruction.{EncodedInstruction}
 use Rattle.emit_code.specs.Counts.{MAX_WORDS, MAX_BASE, count_of}
 use Rattle.emit_code.specs.Rule.{entries_of}
 use Rattle.frame_rule.specs.Rule.{framed_of}
@@ -31,7 +31,7 @@ codes_are_compiled names p base first f code lists is low few small located list
     located =
         subst (λ (x : FramedFunction). AreListsOf (framed_program x.blocks (resolve p.substitutions)) (block_start 0)
         (entries_of is.layout) (variables_of_function p.source.function.blocks) lists) (sym is.of)
-        (subst (λ (es : List Entry). AreListsOf (framed_program (framed_of p.function).blocks (resolve p.substitutions))
+        (subst (λ (es : List EncodedInstruction). AreListsOf (framed_program (framed_of p.function).blocks (resolve p.substitutions))
         (block_start 0) es (variables_of_function p.source.function.blocks) lists) is.entries located);
   },
   ap (flat_map (to_le_bytes w32)) (sym is.words),

@@ -7,7 +7,7 @@ use Rattle.std.proofs.lemmas.List.Elements.{All-weaker}
 use Rattle.std.specs.List.{list_any}
 use Rattle.rv64_instr.specs.declared.place.Place.{Place}
 use Rattle.mir_func.specs.declared.block.Block.{Block}
-use Rattle.mir_func.specs.declared.entry.Entry.{Entry as Substitution}
+use Rattle.mir_func.specs.declared.entry.DebugSubstitution.{DebugSubstitution as Substitution}
 use Rattle.mir_func.specs.declared.item.Item.{Item}
 use Rattle.mir_func.specs.declared.position.Pos.{Pos}
 use Rattle.mir_func.specs.declared.variable.VarId.{VarId}
@@ -19,7 +19,7 @@ use Rattle.mir_func.specs.Sound.{AllItems}
 use Rattle.mir_func.specs.Variables.{is_same_variable}
 use Rattle.sem_mir.specs.Token.{IsWanted, NoneIsWanted}
 use Rattle.sem_machine.specs.Exact.{AreExact}
-use Rattle.emit_code.specs.declared.code.Entry.{Entry}
+use Rattle.emit_code.specs.declared.code.EncodedInstruction.{EncodedInstruction}
 use Rattle.emit_code.specs.Rule.{Layout, entries_of}
 use Rattle.frame_rule.specs.Rule.{framed_of}
 use Rattle.machine_steps_proof.proofs.Points.{of_item}
@@ -96,8 +96,8 @@ list_there (x ∷ vs) (l ∷ lists) (suc k) v each e = list_there vs lists k v (
 -- ---- one function
 
 -- the byte at an address is one of an entry of this point
-pub record IsByteOf (entries : List Entry) (address : ℕ) (p : Pos) : Type 0 where
-  pub entry : Entry
+pub record IsByteOf (entries : List EncodedInstruction) (address : ℕ) (p : Pos) : Type 0 where
+  pub entry : EncodedInstruction
   pub among : Contains entries entry
   pub byte : HasByte entry address
   pub point : point_of entry ≡ p
@@ -192,9 +192,9 @@ module _ (names : ℕ → List ℕ) (o : Output) (lists : List (List Range)) (se
   given_wanted v a p at place given = let x = given_by v a place given in (told v a p at x.list).told place x.tells
 
   none_wanted : (v : VarId) (a : ℕ) (p : Pos) → IsByteOf (entries_of l) a p → ((place : Place) → Gives o f v a place → ⊥) → NoneIsWanted g (block_start 0) v p
-  none_wanted v a p at silent = by_list (listed_or v) where
+  none_wanted v a p at source_end = by_list (listed_or v) where
     by_list : ListOf v ⊎ ((q : Pos) → NoneIsWanted g (block_start 0) v q) → NoneIsWanted g (block_start 0) v p
-    by_list (inl list) = (told v a p at list).none (λ place tells. silent place (gives v a place list tells))
+    by_list (inl list) = (told v a p at list).none (λ place tells. source_end place (gives v a place list tells))
     by_list (inr none) = none p
 
   nothing_told : (b : Option Bytes) (place : Place) → Tells None b place → ⊥

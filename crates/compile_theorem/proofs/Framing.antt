@@ -80,7 +80,7 @@ module _ (f : Function) (P : ItemKind → Type 0) (lowers : P (Code (adds_to_poi
     pub framed_all : (blocks : List Block) → AllItems Q blocks → AllItems Q (framed_blocks f blocks)
     framed_all [] all = All-nil OfBlocks
     framed_all (b ∷ blocks) all =
-        All-cons OfBlocks (record { id = b.id; items = prologue f b.id; silent = b.silent }) (map (framed_block f) (b ∷ blocks))
+        All-cons OfBlocks (record { id = b.id; items = prologue f b.id; source_end = b.source_end }) (map (framed_block f) (b ∷ blocks))
         (prologue_all (size_of f) _ (saved_of f)) (blocks_all (b ∷ blocks) all)
 
 -- ---- marks

@@ -19,7 +19,7 @@ use Rattle.rv64_word.specs.declared.word_op.WordOp.TheVariants.{Branch as Branch
 use Rattle.rv64_word.specs.Lowering.{in_range, machine_op}
 use Rattle.rv64_word.specs.MachineOp.{word_of}
 use Rattle.mir_func.specs.declared.block.Block.{Block}
-use Rattle.mir_func.specs.declared.entry.Entry.{Entry}
+use Rattle.mir_func.specs.declared.entry.DebugSubstitution.{DebugSubstitution}
 use Rattle.mir_func.specs.declared.exit.Exit.{Exit}
 use Rattle.mir_func.specs.declared.exit.Exit.TheVariants.{Onward, Perhaps, Always, Final}
 use Rattle.mir_func.specs.declared.item.Item.{Item}
@@ -95,7 +95,7 @@ module _ (all : List ℕ) where
   second_text a None ws rest some text = cc
   second_text a (Some m) ws rest some text = drop_more a 4 all ∙ ap (drop 4) text
 
-module _ (l : Layout) (variables : List ListedVariable) (substitutions : List Entry) (all : List ℕ) (forms : AllItems IsFormed l.framed.blocks)
+module _ (l : Layout) (variables : List ListedVariable) (substitutions : List DebugSubstitution) (all : List ℕ) (forms : AllItems IsFormed l.framed.blocks)
     (targets : AllItems (λ i. TargetsIn (ids_of (body_of l.framed.blocks)) i.kind) l.framed.blocks) (worded : IsWorded l) where
   abbrev f : ListedFunction
   f = listing_of l variables substitutions

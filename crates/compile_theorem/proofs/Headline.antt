@@ -9,7 +9,7 @@ use Rattle.mir_func.specs.Resolve.{resolve}
 use Rattle.mir_func.specs.Sound.{AllItems}
 use Rattle.sem_mir.specs.Token.{IsWanted}
 use Rattle.sem_machine.specs.Exact.{AreExact}
-use Rattle.emit_code.specs.declared.code.Entry.{Entry}
+use Rattle.emit_code.specs.declared.code.EncodedInstruction.{EncodedInstruction}
 use Rattle.emit_code.specs.Laid.{StandFrom}
 use Rattle.emit_code.specs.Rule.{Layout, entries_of}
 use Rattle.emit_code.specs.steps.Emitted.{IsFormed}
@@ -43,12 +43,12 @@ some_bytes : (call : Bool) → 0 < cond call 8 4
 some_bytes true = omega arith
 some_bytes false = omega arith
 
-sized : (a end : ℕ) (es : List Entry) → StandFrom a es end → (e : Entry) → Contains es e → 0 < e.size
+sized : (a end : ℕ) (es : List EncodedInstruction) → StandFrom a es end → (e : EncodedInstruction) → Contains es e → 0 < e.size
 sized a end [] stand e (n, low, is) = absurd (omega (arith, low))
 sized a end (x ∷ es) stand e (zero, low, is) =
     let some = some_bytes x.call in
     let size = stand.1 in
-    subst (λ (y : Entry). 0 < y.size) is (omega (arith, some, size))
+    subst (λ (y : EncodedInstruction). 0 < y.size) is (omega (arith, some, size))
 sized a end (x ∷ es) stand e (suc n, low, is) = sized (a + x.size) end es stand.2 e (n, omega (arith, low), is)
 
 first_byte : (l : Layout) (a : ℕ) (p : Pos) → IsEntryAt l a p → IsByteOf (entries_of l) a p

@@ -5,9 +5,9 @@ use Rattle.std.specs.Prelude.{slice_get, All}
 use Rattle.std.proofs.lemmas.List.Elements.{All-head, All-tail, All-cons, All-nil}
 use Rattle.rv64_instr.specs.declared.place.Place.{Place}
 use Rattle.mir_func.specs.declared.block.Block.{Block}
-use Rattle.mir_func.specs.declared.entry.Entry.{Entry}
+use Rattle.mir_func.specs.declared.entry.DebugSubstitution.{DebugSubstitution}
 use Rattle.mir_func.specs.declared.item.Item.{Item}
-use Rattle.mir_func.specs.declared.position.Point.{Point}
+use Rattle.mir_func.specs.declared.position.ProgramPoint.{ProgramPoint}
 use Rattle.mir_func.specs.declared.position.Pos.{Pos}
 use Rattle.mir_func.specs.declared.variable.VarId.{VarId}
 use Rattle.mir_func.specs.Function.{FramedFunction}
@@ -51,7 +51,7 @@ carried g h start points others lists to from wanted wants none nothing is = rec
     λ want. (is.gives v a p (to a p at) place).1 (wants v p place want),
   );
   gives_none = λ v a p at. (
-    λ silent. none v p ((is.gives_none v a p (to a p at)).0 silent),
+    λ source_end. none v p ((is.gives_none v a p (to a p at)).0 source_end),
     λ want. (is.gives_none v a p (to a p at)).1 (nothing v p want),
   );
   outside = λ v a off. is.outside v a (λ p at. off p (from a p at));
@@ -96,7 +96,7 @@ module _ (names : ℕ → List ℕ) (o : Output) (lists : List (List Range)) (se
         entry = here.entry;
         among = here.among;
         byte = (here.from, here.within);
-        point = ap (λ (q : Point). pos_in q.block q.item) here.point;
+        point = ap (λ (q : ProgramPoint). pos_in q.block q.item) here.point;
       }
 
   points_from : (a : ℕ) (p : Pos) → IsByteOf (entries_of c.compiled.layout) a p → IsListedAt f a p
@@ -115,7 +115,7 @@ module _ (names : ℕ → List ℕ) (o : Output) (lists : List (List Range)) (se
   exact_for =
       let fr = c.compiled.layout.framed in
       let re = resolve passed.substitutions in
-      subst (λ (es : List Entry). AreExact (framed_program (blocks_shown f) (resolve es)) (block_start 0) (IsListedAt f) (Gives o f))
+      subst (λ (es : List DebugSubstitution). AreExact (framed_program (blocks_shown f) (resolve es)) (block_start 0) (IsListedAt f) (Gives o f))
       (sym (ap (λ (x : ListedFunction). x.substitutions) c.compiled.listed))
       (carried g (framed_program (blocks_shown f) re) (block_start 0) (IsByteOf (entries_of c.compiled.layout)) (IsListedAt f) (Gives o f) points_to points_from
       (wanted_to fr (blocks_shown f) re good same) (wanted_from fr (blocks_shown f) re good same) (none_to fr (blocks_shown f) re good same)

@@ -92,8 +92,8 @@ module _ (g : Program) (start : Pos) (v : VarId) (p : Pos) where
 
   none_by : (b : Option Bytes) (l : Option Location) → NoneIsWanted g start (part_of v b) p → ((place : Place) → Tells l b place → ⊥) →
       TellsWanted g start v p l b
-  none_by b l none silent = record {
-    told = λ place told. absurd (silent place told);
+  none_by b l none source_end = record {
+    told = λ place told. absurd (source_end place told);
     wanted = λ place is. absurd (none place is.named is.sits);
     none = λ _. none;
   }
@@ -103,7 +103,7 @@ module _ (g : Program) (start : Pos) (v : VarId) (p : Pos) where
   one_by b l place is told one = record {
     told = λ other tells. subst (Wanted b) (sym (one other tells)) is;
     wanted = λ other wanted. subst (Tells l b) (one_wanted g start (part_of v b) p place other is wanted) told;
-    none = λ silent. absurd (silent place told);
+    none = λ source_end. absurd (source_end place told);
   }
 
   -- in pieces a part is told its place, if some piece is of its bytes

@@ -12,7 +12,7 @@ use Rattle.mir_func.specs.declared.item.ItemKind.{ItemKind}
 use Rattle.mir_func.specs.declared.item.ItemKind.TheVariants.{Code, Mark, Phi}
 use Rattle.mir_func.specs.declared.position.Pos.{Pos}
 use Rattle.mir_func.specs.declared.variable.VarId.{VarId}
-use Rattle.mir_func.specs.Graph.{Program, Fetch, Here, Silent, Outside}
+use Rattle.mir_func.specs.Graph.{Program, Fetch, Here, EndOfBlock, Outside}
 use Rattle.mir_func.specs.Variables.{is_same_variable, is_same, overlaps}
 use Rattle.sem_mir.specs.State.{assigned}
 use Rattle.sem_mir.specs.Token.{Token, Tokens, Path, begin, onward, after_item, after_fetch, mark_token, variable_token, NoneIsWanted}
@@ -251,7 +251,7 @@ module _ (g : Program) (vs : List VarId) (among : (p : Pos) (i : Item) → g.fet
 
   past : (n : ℕ) (p : Pos) (t : Tokens) (f : Fetch) → g.fetch p ≡ f → variable_token v t ≡ None → variable_token v (after_fetch g.resolve n f t) ≡ None
   past n p t (Here i) here none = past_code n i t i.kind refl (among p i here) none
-  past n p t (Silent k m) here none = none
+  past n p t (EndOfBlock k m) here none = none
   past n p t Outside here none = none
 
   no_token : {start : Pos} {n : ℕ} {p : Pos} {t : Tokens} → Path g start n p t → variable_token v t ≡ None

@@ -1,6 +1,6 @@
 -- The functions of an output: the sources that were read, and the functions that passes made of them.
 use Rattle.std.specs.Prelude.{◌≡◌, ℕ, List, length, map, Some, slice_get, Contains}
-use Rattle.mir_func.specs.declared.entry.Entry.{Entry}
+use Rattle.mir_func.specs.declared.entry.DebugSubstitution.{DebugSubstitution}
 use Rattle.mir_func.specs.declared.item.ItemKind.{ItemKind}
 use Rattle.mir_func.specs.declared.item.ItemKind.TheVariants.{Code, Mark, Phi}
 use Rattle.mir_func.specs.declared.variable.VarId.{VarId}
@@ -16,7 +16,7 @@ use Rattle.dwarf_unit.specs.Variables.{whole, variables_of_function}
 -- a source function: as it was read, with its debug value substitutions
 pub record SourceFunction : Type 0 where
   pub function : Function
-  pub substitutions : List Entry
+  pub substitutions : List DebugSubstitution
 
 -- What a source function satisfies: the origin of each item is its own position, the operands of code have the form of the opcode, registers are
 -- physical, and the function is sound.
@@ -30,7 +30,7 @@ pub record IsSourceFunction (source : SourceFunction) : Type 0 where
 pub record PassedFunction : Type 0 where
   pub source : SourceFunction
   pub function : Function
-  pub substitutions : List Entry
+  pub substitutions : List DebugSubstitution
 
 -- a source compiled without passes
 abbrev pub unpassed : SourceFunction → PassedFunction

@@ -7,20 +7,20 @@ use Rattle.std.proofs.lemmas.Bool.{cases_eq}
 use Rattle.std.proofs.lemmas.List.{drop-set-lt, take_more, take_all, take_more_set, take-set-le, get_or-take, length-take-le}
 use Rattle.std.proofs.lemmas.List.Edits.{swap_is, length-swap}
 use Rattle.std.proofs.Math.Seq.{take-set-lt}
-use Rattle.mir_func.specs.declared.entry.Entry.{Entry}
+use Rattle.mir_func.specs.declared.entry.DebugSubstitution.{DebugSubstitution}
 use Rattle.mir_func.specs.declared.item.Item.{Item}
 use Rattle.mir_func.specs.declared.position.Origin.{Origin}
 use Rattle.pass_salvage.specs.declared.above.Above.{Above}
-use Rattle.pass_salvage.specs.declared.way.Way.{Way}
-use Rattle.pass_salvage.specs.declared.way.Way.TheVariants.{GetsEntry, GetsPhi}
+use Rattle.pass_salvage.specs.declared.way.SalvageAction.{SalvageAction}
+use Rattle.pass_salvage.specs.declared.way.SalvageAction.TheVariants.{GetsEntry, GetsPhi}
 use Rattle.pass_salvage.specs.Way.{way}
 use Rattle.pass_salvage.specs.Salvage.{numbered_at, phi_for, entry_for}
 use Rattle.pass_salvage.specs.Above.{IsIndexOf}
 use Rattle.pass_salvage.proofs.Placed.{numbered_item, numbered_set}
 use Rattle.pass_salvage.proofs.Indexed.{index_numbered}
 use Rattle.copyprop_block.specs.declared.roots.Root.{Root}
-use Rattle.copyprop_block.specs.declared.copies.Fate.{Fate}
-use Rattle.copyprop_block.specs.declared.copies.Fate.TheVariants.{Stays, Goes, GoesWith}
+use Rattle.copyprop_block.specs.declared.copies.CopyAction.{CopyAction}
+use Rattle.copyprop_block.specs.declared.copies.CopyAction.TheVariants.{Stays, Goes, GoesWith}
 use Rattle.copyprop_block.specs.Copied.{SoFar, fate_of, roots_with, salvaged, by_fate, and_renamed, next_item, over_items, at_block}
 use Rattle.copyprop_block.proofs.Lists.{behind_next}
 use Rattle.copyprop_block.specs.Next.{Stands}
@@ -82,13 +82,14 @@ numbered_front xs kept d n x0 made above le is numbered =
     take-set-lt kept xs d made above ∙ ap (set (take kept xs) d) numbered ∙
     sym (numbered_set d n (take kept xs) x0 (omega (arith, above, len)) (get_or-take kept xs d x0 above ∙ is))
 
-pub index_front : (xs : List Item) (kept d n : ℕ) (x0 made : Item) (index : Above) (subs : List Entry) → d < kept → kept ≤ length xs → get_or xs d x0 ≡ x0 →
+pub index_front : (xs : List Item) (kept d n : ℕ) (x0 made : Item) (index : Above) (subs : List DebugSubstitution) → d < kept → kept ≤ length xs →
+    get_or xs d x0 ≡ x0 →
     made ≡ numbered_item n x0 → IsIndexOf index subs (take kept xs) → IsIndexOf index subs (take kept (set xs d made))
 index_front xs kept d n x0 made index subs above le is numbered h =
     subst (IsIndexOf index subs) (sym (numbered_front xs kept d n x0 made above le is numbered)) (index_numbered index subs (take kept xs) d n h)
 
 -- the front with an item that moved to its end
-pub index_up : (xs zs : List Item) (kept at : ℕ) (made : Item) (index : Above) (subs : List Entry) → kept ≤ at → at < length xs →
+pub index_up : (xs zs : List Item) (kept at : ℕ) (made : Item) (index : Above) (subs : List DebugSubstitution) → kept ≤ at → at < length xs →
     zs ≡ swap (set xs at made) kept at → (kept ≡ length (take kept xs) → IsIndexOf index subs (take kept xs ++ made ∷ [])) →
     IsIndexOf index subs (take (kept + 1) zs)
 index_up xs zs kept at made index subs le lt e h =
@@ -96,16 +97,17 @@ index_up xs zs kept at made index subs le lt e h =
     (h (sym (length-take-le kept xs (omega (arith, le, lt)))))
 
 -- the front before an item that was written
-pub index_same : (xs : List Item) (kept at : ℕ) (y : Item) (index : Above) (subs : List Entry) → kept ≤ at → IsIndexOf index subs (take kept xs) →
+pub index_same : (xs : List Item) (kept at : ℕ) (y : Item) (index : Above) (subs : List DebugSubstitution) → kept ≤ at → IsIndexOf index subs (take kept xs) →
     IsIndexOf index subs (take kept (set xs at y))
 index_same xs kept at y index subs le h = subst (IsIndexOf index subs) (sym (take-set-le kept xs at y le)) h
 
-module _ (xs : List Item) (kept at k s : ℕ) (subs : List Entry) (fresh : ℕ) (roots : List Root) (le : kept ≤ at) (lt : at < length xs) where
+module _ (xs : List Item) (kept at k s : ℕ) (subs : List DebugSubstitution) (fresh : ℕ) (roots : List Root) (le : kept ≤ at) (lt : at < length xs) where
   abbrev before : SoFar
   before = record { done = take kept xs; roots = roots; subs = subs; fresh = fresh }
 
   -- where code above gets the number
-  entry_base : (d o n : ℕ) (x0 made : Item) (origin : Origin) (subs' : List Entry) (fresh' : ℕ) → d < kept → get_or xs d x0 ≡ x0 → made ≡ numbered_item n x0 →
+  entry_base : (d o n : ℕ) (x0 made : Item) (origin : Origin) (subs' : List DebugSubstitution) (fresh' : ℕ) → d < kept → get_or xs d x0 ≡ x0 →
+      made ≡ numbered_item n x0 →
       subs' ≡ subs ++ entry_for k n o ∷ [] → fresh' ≡ cond (nat_eq n fresh) (fresh + 1) fresh →
       Stands (salvaged before k s origin (GetsEntry d o n)) kept (at + 1) (set xs d made) xs roots subs' fresh'
   entry_base d o n x0 made origin subs' fresh' above is numbered entries counted =
@@ -119,12 +121,13 @@ module _ (xs : List Item) (kept at k s : ℕ) (subs : List Entry) (fresh : ℕ) 
         counted = counted;
       }
 
-  pub entry_stands : (d o n : ℕ) (x0 made : Item) (origin : Origin) (subs' : List Entry) (fresh' : ℕ) (w : Way) → w ≡ GetsEntry d o n → d < kept → get_or xs d
+  pub entry_stands : (d o n : ℕ) (x0 made : Item) (origin : Origin) (subs' : List DebugSubstitution) (fresh' : ℕ) (w : SalvageAction) → w ≡ GetsEntry d o n →
+      d < kept → get_or xs d
       x0 ≡ x0 →
       made ≡ numbered_item n x0 → subs' ≡ subs ++ entry_for k n o ∷ [] → fresh' ≡ cond (nat_eq n fresh) (fresh + 1) fresh →
       Stands (salvaged before k s origin w) kept (at + 1) (set xs d made) xs roots subs' fresh'
   entry_stands d o n x0 made origin subs' fresh' w e above is numbered entries counted =
-      subst (λ (z : Way). Stands (salvaged before k s origin z) kept (at + 1) (set xs d made) xs roots subs' fresh') (sym e)
+      subst (λ (z : SalvageAction). Stands (salvaged before k s origin z) kept (at + 1) (set xs d made) xs roots subs' fresh') (sym e)
       (entry_base d o n x0 made origin subs' fresh' above is numbered entries counted)
 
   -- where a phi is put
@@ -140,12 +143,13 @@ module _ (xs : List Item) (kept at k s : ℕ) (subs : List Entry) (fresh : ℕ) 
     counted = refl;
   }
 
-  pub phi_stands : (made : Item) (origin : Origin) (zs : List Item) (w : Way) → w ≡ GetsPhi → made ≡ phi_for k s origin → zs ≡ swap (set xs at made) kept at →
+  pub phi_stands : (made : Item) (origin : Origin) (zs : List Item) (w : SalvageAction) → w ≡ GetsPhi → made ≡ phi_for k s origin →
+      zs ≡ swap (set xs at made) kept at →
       Stands (salvaged before k s origin w) (kept + 1) (at + 1) zs xs roots subs fresh
   phi_stands made origin zs w e is f =
-      subst (λ (z : Way). Stands (salvaged before k s origin z) (kept + 1) (at + 1) zs xs roots subs fresh) (sym e) (phi_base made origin zs is f)
+      subst (λ (z : SalvageAction). Stands (salvaged before k s origin z) (kept + 1) (at + 1) zs xs roots subs fresh) (sym e) (phi_base made origin zs is f)
 
-module _ (xs : List Item) (kept at : ℕ) (subs : List Entry) (fresh : ℕ) (roots : List Root) (le : kept ≤ at) (lt : at < length xs) where
+module _ (xs : List Item) (kept at : ℕ) (subs : List DebugSubstitution) (fresh : ℕ) (roots : List Root) (le : kept ≤ at) (lt : at < length xs) where
   abbrev so_far : SoFar
   so_far = record { done = take kept xs; roots = roots; subs = subs; fresh = fresh }
 
@@ -153,7 +157,7 @@ module _ (xs : List Item) (kept at : ℕ) (subs : List Entry) (fresh : ℕ) (roo
   pub stays_stands : (y : Item) (zs : List Item) (roots' : List Root) → fate_of roots y.kind ≡ Stays → zs ≡ swap (set xs at y) kept at →
       roots' ≡ roots_with y.kind roots → Stands (and_renamed so_far y) (kept + 1) (at + 1) zs xs roots' subs fresh
   stays_stands y zs roots' fate e known =
-      subst (λ (z : Fate). Stands (by_fate so_far y z) (kept + 1) (at + 1) zs xs roots' subs fresh) (sym fate) (record {
+      subst (λ (z : CopyAction). Stands (by_fate so_far y z) (kept + 1) (at + 1) zs xs roots' subs fresh) (sym fate) (record {
         done = ap (take (kept + 1)) e ∙ written_up xs kept at y le lt;
         behind = ap (drop (at + 1)) e ∙ written_behind xs kept at y le lt;
         size = ap length e ∙ length-swap (set xs at y) kept at ∙ length-set xs at y;
@@ -165,7 +169,7 @@ module _ (xs : List Item) (kept at : ℕ) (subs : List Entry) (fresh : ℕ) (roo
 
   -- a copy without a number that goes
   pub goes_stands : (y : Item) → fate_of roots y.kind ≡ Goes → Stands (and_renamed so_far y) kept (at + 1) (set xs at y) xs roots subs fresh
-  goes_stands y fate = subst (λ (z : Fate). Stands (by_fate so_far y z) kept (at + 1) (set xs at y) xs roots subs fresh) (sym fate) (record {
+  goes_stands y fate = subst (λ (z : CopyAction). Stands (by_fate so_far y z) kept (at + 1) (set xs at y) xs roots subs fresh) (sym fate) (record {
     done = take-set-le kept xs at y le;
     behind = drop-set-lt (at + 1) xs at y (omega arith);
     size = length-set xs at y;
@@ -176,13 +180,13 @@ module _ (xs : List Item) (kept at : ℕ) (subs : List Entry) (fresh : ℕ) (roo
   })
 
   -- a copy with a number that goes
-  pub taken_stands : (y : Item) (k s more : ℕ) (zs : List Item) (subs' : List Entry) (fresh' : ℕ) → fate_of roots y.kind ≡ GoesWith k s →
+  pub taken_stands : (y : Item) (k s more : ℕ) (zs : List Item) (subs' : List DebugSubstitution) (fresh' : ℕ) → fate_of roots y.kind ≡ GoesWith k s →
       Stands (salvaged (record { done = take kept (set xs at y); roots = roots; subs = subs; fresh = fresh }) k s y.origin
       (way [] subs fresh k s (take kept (set xs at y)))) more (at + 1) zs (set xs at y) roots subs' fresh' →
       Stands (and_renamed so_far y) more (at + 1) zs xs roots subs' fresh'
   taken_stands y k s more zs subs' fresh' fate h =
       let front : take kept (set xs at y) ≡ take kept xs = take-set-le kept xs at y le in
-      subst (λ (z : Fate). Stands (by_fate so_far y z) more (at + 1) zs xs roots subs' fresh') (sym fate)
+      subst (λ (z : CopyAction). Stands (by_fate so_far y z) more (at + 1) zs xs roots subs' fresh') (sym fate)
       (subst (λ (ys : List Item). Stands (salvaged (record { done = ys; roots = roots; subs = subs; fresh = fresh }) k s y.origin (way [] subs fresh k s ys))
       more
       (at + 1) zs xs roots subs' fresh') front (record {
@@ -201,7 +205,8 @@ over_more a [] x = refl
 over_more a (y ∷ ys) x = over_more (next_item a y) ys x
 
 -- what one step leaves of what stood
-pub step_stands : (a : SoFar) (xs items zs : List Item) (kept at more : ℕ) (x : Item) (roots roots' : List Root) (subs subs' : List Entry) (fresh fresh' : ℕ) →
+pub step_stands : (a : SoFar) (xs items zs : List Item) (kept at more : ℕ) (x : Item) (roots roots' : List Root) (subs subs' : List DebugSubstitution)
+    (fresh fresh' : ℕ) →
     at < length xs → x ≡ get_or xs at x → Stands (over_items a (take at xs)) kept at items xs roots subs fresh →
     Stands (next_item (record { done = take kept items; roots = roots; subs = subs; fresh = fresh }) x) more (at + 1) zs items roots' subs' fresh' →
     Stands (over_items a (take (at + 1) xs)) more (at + 1) zs xs roots' subs' fresh'
@@ -225,7 +230,7 @@ take_none [] = refl
 take_none (x ∷ xs) = refl
 
 -- at first, and at last
-pub first_stands : (xs : List Item) (subs : List Entry) (fresh : ℕ) → Stands (over_items (at_block subs fresh) (take 0 xs)) 0 0 xs xs [] subs fresh
+pub first_stands : (xs : List Item) (subs : List DebugSubstitution) (fresh : ℕ) → Stands (over_items (at_block subs fresh) (take 0 xs)) 0 0 xs xs [] subs fresh
 first_stands xs subs fresh = subst (λ (ys : List Item). Stands (over_items (at_block subs fresh) ys) 0 0 xs xs [] subs fresh) (sym (take_none xs)) (record {
   done = take_none xs;
   behind = refl;
@@ -236,10 +241,11 @@ first_stands xs subs fresh = subst (λ (ys : List Item). Stands (over_items (at_
   counted = refl;
 })
 
-pub first_indexed : (index : Above) (subs : List Entry) (xs : List Item) → ((es : List Entry) → IsIndexOf index es []) → IsIndexOf index subs (take 0 xs)
+pub first_indexed : (index : Above) (subs : List DebugSubstitution) (xs : List Item) → ((es : List DebugSubstitution) → IsIndexOf index es []) →
+    IsIndexOf index subs (take 0 xs)
 first_indexed index subs xs h = subst (IsIndexOf index subs) (sym (take_none xs)) (h subs)
 
-pub last_stands : (a : SoFar) (xs items : List Item) (kept at : ℕ) (roots : List Root) (subs : List Entry) (fresh : ℕ) → length xs ≤ at →
+pub last_stands : (a : SoFar) (xs items : List Item) (kept at : ℕ) (roots : List Root) (subs : List DebugSubstitution) (fresh : ℕ) → length xs ≤ at →
     Stands (over_items a (take at xs)) kept at items xs roots subs fresh →
     (take kept items ≡ (over_items a xs).done) × (subs ≡ (over_items a xs).subs) × (fresh ≡ (over_items a xs).fresh)
 last_stands a xs items kept at roots subs fresh le h =

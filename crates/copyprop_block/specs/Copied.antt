@@ -2,17 +2,17 @@
 use Rattle.std.specs.Prelude.{ℕ, List, [], ◌∷◌, ◌++◌, Option, Some, None}
 use Rattle.rv64_instr.specs.Row.{row_of}
 use Rattle.mir_func.specs.declared.block.Block.{Block}
-use Rattle.mir_func.specs.declared.entry.Entry.{Entry}
+use Rattle.mir_func.specs.declared.entry.DebugSubstitution.{DebugSubstitution}
 use Rattle.mir_func.specs.declared.item.Item.{Item}
 use Rattle.mir_func.specs.declared.item.ItemKind.{ItemKind}
 use Rattle.mir_func.specs.declared.item.ItemKind.TheVariants.{Code, Mark, Phi}
 use Rattle.mir_func.specs.declared.position.Origin.{Origin}
-use Rattle.pass_salvage.specs.declared.way.Way.{Way}
+use Rattle.pass_salvage.specs.declared.way.SalvageAction.{SalvageAction}
 use Rattle.pass_salvage.specs.Way.{way}
 use Rattle.pass_salvage.specs.Salvage.{above_after, put_for, entries_for, fresh_after}
 use Rattle.copyprop_block.specs.declared.roots.Root.{Root}
-use Rattle.copyprop_block.specs.declared.copies.Fate.{Fate}
-use Rattle.copyprop_block.specs.declared.copies.Fate.TheVariants.{Stays, Goes, GoesWith}
+use Rattle.copyprop_block.specs.declared.copies.CopyAction.{CopyAction}
+use Rattle.copyprop_block.specs.declared.copies.CopyAction.TheVariants.{Stays, Goes, GoesWith}
 use Rattle.copyprop_block.specs.Roots.{renamed, known_source, roots_after}
 
 -- the state along a block: the result for its items so far, the available copies, the substitutions and the next fresh
@@ -20,7 +20,7 @@ use Rattle.copyprop_block.specs.Roots.{renamed, known_source, roots_after}
 pub record SoFar : Type 0 where
   pub done : List Item
   pub roots : List Root
-  pub subs : List Entry
+  pub subs : List DebugSubstitution
   pub fresh : ℕ
 
 -- (1) every explicit use of a register with a root is replaced by the root
@@ -34,17 +34,17 @@ abbrev pub renamed_item : List Root → Item → Item
 renamed_item e x = record x { kind = renamed_kind e x.kind }
 
 -- (2) then a redundant copy is removed
-abbrev pub goes_with : (number : Option ℕ) → (source : ℕ) → Fate
+abbrev pub goes_with : (number : Option ℕ) → (source : ℕ) → CopyAction
 goes_with (Some k) s = GoesWith k s
 goes_with None s = Goes
 
 -- it is removed if it is a copy of a known source
-abbrev pub goes_by : (number source : Option ℕ) → Fate
+abbrev pub goes_by : (number source : Option ℕ) → CopyAction
 goes_by n (Some s) = goes_with n s
 goes_by n None = Stays
 
 -- what happens to a renamed item: code is judged by its row, debug items are kept
-abbrev pub fate_of : List Root → ItemKind → Fate
+abbrev pub fate_of : List Root → ItemKind → CopyAction
 fate_of e (Code i n) = goes_by n (known_source e (row_of i))
 fate_of e (Mark v m) = Stays
 fate_of e (Phi p n) = Stays
@@ -56,7 +56,7 @@ roots_with (Mark v m) e = e
 roots_with (Phi p n) e = e
 
 -- the state after a removed copy of s with number k was salvaged
-abbrev pub salvaged : SoFar → (k s : ℕ) → Origin → Way → SoFar
+abbrev pub salvaged : SoFar → (k s : ℕ) → Origin → SalvageAction → SoFar
 salvaged a k s o w = record {
   done = above_after w a.done ++ put_for w k s o;
   roots = a.roots;
@@ -66,7 +66,7 @@ salvaged a k s o w = record {
 
 -- the state after a renamed item: it is kept and updates the available copies, it is removed, or it is removed and its
 -- number is salvaged
-abbrev pub by_fate : SoFar → Item → Fate → SoFar
+abbrev pub by_fate : SoFar → Item → CopyAction → SoFar
 by_fate a x Stays = record { done = a.done ++ x ∷ []; roots = roots_with x.kind a.roots; subs = a.subs; fresh = a.fresh }
 by_fate a x Goes = a
 by_fate a x (GoesWith k s) = salvaged a k s x.origin (way [] a.subs a.fresh k s a.done)
@@ -85,19 +85,19 @@ over_items a [] = a
 over_items a (x ∷ xs) = over_items (next_item a x) xs
 
 -- the state at a block's start: no copies are available
-abbrev pub at_block : List Entry → (fresh : ℕ) → SoFar
+abbrev pub at_block : List DebugSubstitution → (fresh : ℕ) → SoFar
 at_block subs fresh = record { done = []; roots = []; subs = subs; fresh = fresh }
 
 -- the state between blocks: the result for the blocks so far, the substitutions and the next fresh number
 pub record BlocksSoFar : Type 0 where
   pub blocks : List Block
-  pub subs : List Entry
+  pub subs : List DebugSubstitution
   pub fresh : ℕ
 
 -- the state after one more block, from the state at its end
 abbrev pub and_block : BlocksSoFar → Block → SoFar → BlocksSoFar
 and_block a b s =
-    record { blocks = a.blocks ++ record { id = b.id; items = s.done; silent = b.silent } ∷ []; subs = s.subs; fresh = s.fresh }
+    record { blocks = a.blocks ++ record { id = b.id; items = s.done; source_end = b.source_end } ∷ []; subs = s.subs; fresh = s.fresh }
 
 -- the state after one more block, with the substitutions and the fresh number from the blocks before it
 abbrev pub next_block : BlocksSoFar → Block → BlocksSoFar

@@ -1,6 +1,6 @@
 -- One step over an item of a block, in a list whose front is the result for the items before it.
 use Rattle.std.specs.Prelude.{◌≡◌, ℕ, ◌≤◌, ◌<◌, ◌^◌, List, take, drop, length}
-use Rattle.mir_func.specs.declared.entry.Entry.{Entry}
+use Rattle.mir_func.specs.declared.entry.DebugSubstitution.{DebugSubstitution}
 use Rattle.mir_func.specs.declared.item.Item.{Item}
 use Rattle.copyprop_block.specs.declared.roots.Root.{Root}
 use Rattle.pass_salvage.specs.declared.above.Above.{Above}
@@ -8,12 +8,12 @@ use Rattle.pass_salvage.specs.Above.{IsIndexOf}
 use Rattle.copyprop_block.specs.Copied.{SoFar}
 
 -- the invariant along a block: numbers are left, and the index is that of the items so far
-pub record IsCarried (index : Above) (subs : List Entry) (fresh : ℕ) (done : List Item) : Type 0 where
+pub record IsCarried (index : Above) (subs : List DebugSubstitution) (fresh : ℕ) (done : List Item) : Type 0 where
   pub left : fresh < 2 ^ 31
   pub indexed : IsIndexOf index subs done
 
 -- the state is `a`: the first `kept` items of the list are its result, and from index `at` on the list is the old one
-pub record Stands (a : SoFar) (kept at : ℕ) (items old : List Item) (roots : List Root) (subs : List Entry) (fresh : ℕ) : Type 0 where
+pub record Stands (a : SoFar) (kept at : ℕ) (items old : List Item) (roots : List Root) (subs : List DebugSubstitution) (fresh : ℕ) : Type 0 where
   pub done : take kept items ≡ a.done
   pub behind : drop at items ≡ drop at old
   pub size : length items ≡ length old

@@ -15,13 +15,13 @@ use mir_func::item::{Item, ItemKind};
 use mir_substitution::substitutions::Substitutions;
 use pass_salvage::above::{Above, choose_way_by, substitute};
 use pass_salvage::salvage::{give_number, put_phi};
-use pass_salvage::way::Way;
+use pass_salvage::way::SalvageAction;
 use rv64_instr::reg::Reg;
 use std::alloc::{AllocError, Global};
 
 /// What happens to an item.
 #[derive(Clone, Copy, Debug, PartialEq, Eq)]
-pub enum Fate {
+pub enum CopyAction {
     /// It is kept.
     Stays,
     /// It is a redundant copy without a number, and is removed.
@@ -40,25 +40,25 @@ fn rename_item(x: &mut Item, roots: &[Root])
 }
 
 /// What happens to an item whose uses are replaced already.
-fn fate_of(kind: &ItemKind, roots: &[Root]) -> Fate
+fn fate_of(kind: &ItemKind, roots: &[Root]) -> CopyAction
     ensures { result ≡ fate_of roots.now kind.now }
 {
     match kind {
         ItemKind::Code(i, n) => match known_source(i, roots) {
             Some(s) => goes_by(n, s),
-            None => Fate::Stays,
+            None => CopyAction::Stays,
         },
-        ItemKind::Mark(_, _) | ItemKind::Phi(_, _) => Fate::Stays,
+        ItemKind::Mark(_, _) | ItemKind::Phi(_, _) => CopyAction::Stays,
     }
 }
 
 /// How a redundant copy is removed: with a number or without.
-fn goes_by(number: &Option<DebugNumber>, source: Reg) -> Fate
+fn goes_by(number: &Option<DebugNumber>, source: Reg) -> CopyAction
     ensures { result ≡ goes_with number.now source }
 {
     match number {
-        Some(k) => Fate::GoesWith(*k, source),
-        None => Fate::Goes,
+        Some(k) => CopyAction::GoesWith(*k, source),
+        None => CopyAction::Goes,
     }
 }
 
@@ -100,14 +100,14 @@ fn next_item(
 {
     rename_item(&mut items[at], roots.as_slice());
     match fate_of(&items[at].kind, roots.as_slice()) {
-        Fate::Stays => {
+        CopyAction::Stays => {
             learn_item(&items[at].kind, roots)?;
             index.push(&items[at].kind, kept, subs)?;
             items.swap(kept, at);
             Ok(kept + 1)
         }
-        Fate::Goes => Ok(kept),
-        Fate::GoesWith(number, source) => take_out(
+        CopyAction::Goes => Ok(kept),
+        CopyAction::GoesWith(number, source) => take_out(
             alloc, items, kept, at, number, source, subs, index, fresh,
         ),
     }
@@ -143,8 +143,8 @@ fn take_out(
 {
     let above = &items[..kept];
     match choose_way_by(index, above, subs, number, source, DebugNumber(*fresh)) {
-        Way::HasEntry => Ok(kept),
-        Way::GetsEntry(d, operand, standing) => {
+        SalvageAction::HasEntry => Ok(kept),
+        SalvageAction::GetsEntry(d, operand, standing) => {
             substitute(alloc, subs, index, above, number, standing, operand)?;
             give_number(&mut items[d], standing);
             if standing.number() == *fresh {
@@ -152,7 +152,7 @@ fn take_out(
             }
             Ok(kept)
         }
-        Way::GetsPhi => {
+        SalvageAction::GetsPhi => {
             put_phi(&mut items[at], number, source);
             index.push(&items[at].kind, kept, subs)?;
             items.swap(kept, at);

@@ -6,7 +6,7 @@ use Rattle.std.proofs.lemmas.List.Elements.{All-contains}
 use Rattle.std.proofs.lemmas.Option.{get_or_from_slice_get}
 use Rattle.rv64_instr.specs.declared.place.Place.{Place}
 use Rattle.rv64_instr.specs.declared.place.Place.TheVariants.{Register, Slot, Const}
-use Rattle.mir_func.specs.declared.entry.Entry.{Entry}
+use Rattle.mir_func.specs.declared.entry.DebugSubstitution.{DebugSubstitution}
 use Rattle.mir_func.specs.declared.position.Pos.{Pos}
 use Rattle.mir_func.specs.declared.position.Origin.{Origin}
 use Rattle.mir_func.specs.declared.position.Origin.TheVariants.{Kept, Before}
@@ -38,14 +38,14 @@ all_lines a [] = []
 all_lines a (b ∷ bs) = over_lines [] (at_block a.subs a.fresh) b.items ∷ all_lines (next_block a b) bs
 
 -- what the blocks became
-pub data BlocksAre (subs : List Entry) : List Block → List (List Line) → List Block → Type 0 where
+pub data BlocksAre (subs : List DebugSubstitution) : List Block → List (List Line) → List Block → Type 0 where
   no_blocks : BlocksAre subs [] [] []
-  and_block : {b c : Block} {ls : List Line} {bs cs : List Block} {lss : List (List Line)} → c.id ≡ b.id → c.silent ≡ b.silent → c.items ≡ all_now ls →
+  and_block : {b c : Block} {ls : List Line} {bs cs : List Block} {lss : List (List Line)} → c.id ≡ b.id → c.source_end ≡ b.source_end → c.items ≡ all_now ls →
       LinesAre subs b.items ls → BlocksAre subs bs lss cs → BlocksAre subs (b ∷ bs) (ls ∷ lss) (c ∷ cs)
 
-pub ids_kept : (subs : List Entry) (bs cs : List Block) (lss : List (List Line)) → BlocksAre subs bs lss cs → ids_of cs ≡ ids_of bs
+pub ids_kept : (subs : List DebugSubstitution) (bs cs : List Block) (lss : List (List Line)) → BlocksAre subs bs lss cs → ids_of cs ≡ ids_of bs
 ids_kept subs bs cs lss no_blocks = refl
-ids_kept subs (b ∷ bs) (c ∷ cs) (ls ∷ lss) (and_block id silent items lines rest) = let e = ids_kept subs bs cs lss rest in λ i. id i ∷ e i
+ids_kept subs (b ∷ bs) (c ∷ cs) (ls ∷ lss) (and_block id source_end items lines rest) = let e = ids_kept subs bs cs lss rest in λ i. id i ∷ e i
 
 -- ---- the ledger has the lines of each block
 
@@ -73,10 +73,10 @@ module _ (o : Origin) where
   count_append : (xs ys : List Item) → count_by (test o) (xs ++ ys) ≡ count_by (test o) xs + count_by (test o) ys
   count_append xs ys = sum_by-append (λ (y : Item). cond (test o y) 1 0) xs ys
 
-  count_blocks : (subs : List Entry) (bs cs : List Block) (lss : List (List Line)) → BlocksAre subs bs lss cs →
+  count_blocks : (subs : List DebugSubstitution) (bs cs : List Block) (lss : List (List Line)) → BlocksAre subs bs lss cs →
       count_by (test o) (items_of cs) ≤ count_by (test o) (items_of bs)
   count_blocks subs bs cs lss no_blocks = omega arith
-  count_blocks subs (b ∷ bs) (c ∷ cs) (ls ∷ lss) (and_block id silent items lines rest) =
+  count_blocks subs (b ∷ bs) (c ∷ cs) (ls ∷ lss) (and_block id source_end items lines rest) =
       let a = count_lines o subs b.items ls lines in
       let d = count_blocks subs bs cs lss rest in
       let e = count_append c.items (items_of cs) in
@@ -84,11 +84,12 @@ module _ (o : Origin) where
       let g : count_by (test o) c.items ≡ count_by (test o) (all_now ls) = ap (count_by (test o)) items in
       omega (arith, a, d, e, f, g)
 
-  pub fewer_blocks : (subs : List Entry) (bs cs : List Block) (lss : List (List Line)) → BlocksAre subs bs lss cs → (j : ℕ) (b : Block) (ls : List Line) →
+  pub fewer_blocks : (subs : List DebugSubstitution) (bs cs : List Block) (lss : List (List Line)) → BlocksAre subs bs lss cs →
+      (j : ℕ) (b : Block) (ls : List Line) →
       slice_get bs j ≡ Some b → slice_get lss j ≡ Some ls → count_by (test o) (all_now ls) < count_by (test o) b.items →
       count_by (test o) (items_of cs) < count_by (test o) (items_of bs)
   fewer_blocks subs bs cs lss no_blocks j b ls at at' less = cc
-  fewer_blocks subs (x ∷ bs) (c ∷ cs) (ms ∷ lss) (and_block id silent items lines rest) zero b ls at at' less =
+  fewer_blocks subs (x ∷ bs) (c ∷ cs) (ms ∷ lss) (and_block id source_end items lines rest) zero b ls at at' less =
       let same : x ≡ b = cc in
       let is : ms ≡ ls = cc in
       let d = count_blocks subs bs cs lss rest in
@@ -97,7 +98,7 @@ module _ (o : Origin) where
       let g : count_by (test o) c.items ≡ count_by (test o) (all_now ls) = ap (count_by (test o)) (items ∙ ap all_now is) in
       let h : count_by (test o) x.items ≡ count_by (test o) b.items = ap (λ (z : Block). count_by (test o) z.items) same in
       omega (arith, less, d, e, f, g, h)
-  fewer_blocks subs (x ∷ bs) (c ∷ cs) (ms ∷ lss) (and_block id silent items lines rest) (suc j) b ls at at' less =
+  fewer_blocks subs (x ∷ bs) (c ∷ cs) (ms ∷ lss) (and_block id source_end items lines rest) (suc j) b ls at at' less =
       let a = count_lines o subs x.items ms lines in
       let d = fewer_blocks subs bs cs lss rest j b ls at at' less in
       let e = count_append c.items (items_of cs) in
@@ -119,7 +120,7 @@ of_get xs n x at = (n, within_list xs n x at, get_or_from_slice_get xs n x x at)
 
 -- ---- what becomes of an item
 
-module _ (f : Function) (sound : IsSound f) (subs : List Entry) where
+module _ (f : Function) (sound : IsSound f) (subs : List DebugSubstitution) where
   abbrev made : Change
   made = change f subs (salvaged_function f subs) (salvaged_entries f subs)
 
@@ -218,8 +219,8 @@ module _ (f : Function) (sound : IsSound f) (subs : List Entry) where
         ((j : ℕ) (b : Block) → slice_get bs j ≡ Some b → slice_get f.blocks (n + j) ≡ Some b) →
         ((j : ℕ) (ls : List Line) → slice_get mss j ≡ Some ls → slice_get lss (n + j) ≡ Some ls) → BlocksBecome copy_debug_rule made bs ds
     blocks_become n bs ds mss no_blocks here here' = none
-    blocks_become n (b ∷ bs) (c ∷ ds) (ls ∷ mss) (and_block id silent items lines rest) here here' =
-        block_stays [] (all_now ls) id silent items refl (none_killed b.id)
+    blocks_become n (b ∷ bs) (c ∷ ds) (ls ∷ mss) (and_block id source_end items lines rest) here here' =
+        block_stays [] (all_now ls) id source_end items refl (none_killed b.id)
         (become_all n b ls at at' lines 0 b.items ls lines (λ k x e. (let z : k ≡ 0 + k = omega arith in sym (ap (slice_get b.items) z) ∙ e))
         (λ k l e. (let z : k ≡ 0 + k = omega arith in sym (ap (slice_get ls) z) ∙ e)))
         (blocks_become (suc n) bs ds mss rest (λ j d e. (let z : n + suc j ≡ suc n + j = omega arith in sym (ap (slice_get f.blocks) z) ∙ here (suc j) d e))

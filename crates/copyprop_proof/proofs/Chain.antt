@@ -8,7 +8,7 @@ use Rattle.std.proofs.lemmas.List.{append_assoc}
 use Rattle.std.proofs.lemmas.List.Elements.{All-nil, All-cons, All-head, All-tail, All-append}
 use Rattle.rv64_instr.specs.Instruction.{Instruction}
 use Rattle.rv64_instr.specs.Row.{Moves, row_of}
-use Rattle.mir_func.specs.declared.entry.Entry.{Entry}
+use Rattle.mir_func.specs.declared.entry.DebugSubstitution.{DebugSubstitution}
 use Rattle.mir_func.specs.declared.position.Origin.{Origin}
 use Rattle.mir_func.specs.declared.location.Loc.{Loc}
 use Rattle.mir_func.specs.declared.block.Block.{Block}
@@ -19,12 +19,12 @@ use Rattle.mir_func.specs.Function.{Function}
 use Rattle.mir_func.specs.Sound.{IsSound}
 use Rattle.pass_trait.specs.Change.{change}
 use Rattle.pass_trait.specs.Rule.{item}
-use Rattle.pass_salvage.specs.declared.way.Way.{Way}
-use Rattle.pass_salvage.specs.declared.way.Way.TheVariants.{HasEntry, GetsEntry, GetsPhi}
+use Rattle.pass_salvage.specs.declared.way.SalvageAction.{SalvageAction}
+use Rattle.pass_salvage.specs.declared.way.SalvageAction.TheVariants.{HasEntry, GetsEntry, GetsPhi}
 use Rattle.pass_salvage.specs.Way.{or_fresh, way}
 use Rattle.pass_salvage.specs.Salvage.{with_number, numbered_at, phi_for, entry_for, fresh_after}
 use Rattle.pass_salvage.proofs.Chosen.{IsEntered, entered}
-use Rattle.pass_edits.specs.Loose.{KeepsLoosely}
+use Rattle.pass_edits.specs.WeakSimulation.{PreservesWeakSimulation}
 use Rattle.pass_edits.proofs.Numbers.{AreUnlike, all_second}
 use Rattle.copyprop_block.specs.declared.roots.Root.{Root}
 use Rattle.copyprop_block.specs.Roots.{root_of, renamed, known_source, roots_after}
@@ -90,7 +90,8 @@ numbered_under b (suc d) n (x ∷ xs) lt h =
     (numbered_under b d n xs lt (All-tail (λ (y : Item). KindUnder b y.kind) x xs h))
 
 -- the number that code has or gets is at most the fresh one
-number_most : (subs : List Entry) (fresh k s : ℕ) (done : List Item) (d o n : ℕ) → AreUnder fresh done → IsEntered [] subs fresh k s done d o n → n ≤ fresh
+number_most : (subs : List DebugSubstitution) (fresh k s : ℕ) (done : List Item) (d o n : ℕ) → AreUnder fresh done → IsEntered [] subs fresh k s done d o n →
+    n ≤ fresh
 number_most subs fresh k s done d o n h e = by_own e.own refl e.number where
   giver : (z : Option ℕ) → Item
   giver z = item (Code e.i z) e.origin e.loc
@@ -130,13 +131,13 @@ next_roots a (Phi p m) o l = refl
 
 -- ---- one item
 
-module _ (f : Function) (above : List Block) (id silent : ℕ) (behind : List Block) where
+module _ (f : Function) (above : List Block) (id source_end : ℕ) (behind : List Block) where
   abbrev fn : List Item → Function
-  fn items = with_block f above id silent items behind
+  fn items = with_block f above id source_end items behind
 
   -- what holds where a block's items up to one are done
   pub record Ready (a : SoFar) (rest : List Item) : Type 0 where
-    pub sound : IsSound (with_block f above id silent (a.done ++ rest) behind)
+    pub sound : IsSound (with_block f above id source_end (a.done ++ rest) behind)
     pub clean : IsClean a.roots
     pub taught : Taught [] a.done a.roots
     pub in_above : BlocksUnder a.fresh above
@@ -147,8 +148,8 @@ module _ (f : Function) (above : List Block) (id silent : ℕ) (behind : List Bl
 
   pub record Went (a b : SoFar) (x : Item) (rest : List Item) : Type 0 where
     pub ready : Ready b rest
-    pub follows : KeepsLoosely (change (with_block f above id silent (a.done ++ x ∷ rest) behind) a.subs
-        (with_block f above id silent (b.done ++ rest) behind) b.subs)
+    pub follows : PreservesWeakSimulation (change (with_block f above id source_end (a.done ++ x ∷ rest) behind) a.subs
+        (with_block f above id source_end (b.done ++ rest) behind) b.subs)
 
   abbrev U : ℕ → Item → Type 0
   U b x = KindUnder b x.kind
@@ -178,7 +179,7 @@ module _ (f : Function) (above : List Block) (id silent : ℕ) (behind : List Bl
           in_behind = r.in_behind;
           in_entries = r.in_entries;
         };
-        follows = subst (λ (xs : List Item). KeepsLoosely (change (fn (a.done ++ x ∷ rest)) a.subs (fn xs) a.subs)) (sym same)
+        follows = subst (λ (xs : List Item). PreservesWeakSimulation (change (fn (a.done ++ x ∷ rest)) a.subs (fn xs) a.subs)) (sym same)
             (itself (fn (a.done ++ x ∷ rest)) a.subs);
       }
 
@@ -197,7 +198,7 @@ module _ (f : Function) (above : List Block) (id silent : ℕ) (behind : List Bl
     blocks_far : (bs : List Block) → BlocksUnder b bs → BlocksUnlike n bs
     blocks_far bs h j d lt m e lt' = under_unlike b n le (get_or (get_or bs j d).items m e).kind (h j d lt m e lt')
 
-  it_goes : (a : SoFar) (x : Item) (up rest : List Item) (subs : List Entry) (b : ℕ) → Ready a (x ∷ rest) → a.fresh ≤ b → AreUnder b up →
+  it_goes : (a : SoFar) (x : Item) (up rest : List Item) (subs : List DebugSubstitution) (b : ℕ) → Ready a (x ∷ rest) → a.fresh ≤ b → AreUnder b up →
       All (EntryUnder b) subs → Taught [] up a.roots → Step (fn (a.done ++ x ∷ rest)) a.subs (fn (up ++ rest)) subs →
       Went a (record { done = up; roots = a.roots; subs = subs; fresh = b }) x rest
   it_goes a x up rest subs b r le under entries taught step = record {
@@ -221,23 +222,24 @@ module _ (f : Function) (above : List Block) (id silent : ℕ) (behind : List Bl
   without_number a i o l rest rd s row root r =
       let x : Item = item (Code i None) o l in
       it_goes a x a.done rest a.subs a.fresh r (le_refl a.fresh) r.in_done r.in_entries r.taught
-      (take_out f above id silent behind a.fresh a.done x rest a.roots a.subs r.sound (takes rd s row root (λ m e. cc)) r.taught
+      (take_out f above id source_end behind a.fresh a.done x rest a.roots a.subs r.sound (takes rd s row root (λ m e. cc)) r.taught
       (far_of a.fresh a.fresh (le_refl a.fresh) a.done rest r.in_above r.in_done (All-tail (U a.fresh) x rest r.in_rest) r.in_behind))
 
   with_number_gone : (a : SoFar) (i : Instruction) (k : ℕ) (o : Origin) (l : Loc) (rest : List Item) (rd s : ℕ) → row_of i ≡ Moves (suc rd) s →
-      root_of a.roots (suc rd) ≡ s → Ready a (item (Code i (Some k)) o l ∷ rest) → (w : Way) → way [] a.subs a.fresh k s a.done ≡ w →
+      root_of a.roots (suc rd) ≡ s → Ready a (item (Code i (Some k)) o l ∷ rest) → (w : SalvageAction) → way [] a.subs a.fresh k s a.done ≡ w →
       Went a (salvaged a k s o w) (item (Code i (Some k)) o l) rest
   with_number_gone a i k o l rest rd s row root r HasEntry is =
       let x : Item = item (Code i (Some k)) o l in
-      let step = take_out f above id silent behind k a.done x rest a.roots a.subs r.sound
-      (takes rd s row root (λ m e. (let same : k ≡ m = cc in sym same))) r.taught (others_of f above id silent behind k a.done x rest r.sound.numbers refl) in
+      let step = take_out f above id source_end behind k a.done x rest a.roots a.subs r.sound
+      (takes rd s row root (λ m e. (let same : k ≡ m = cc in sym same))) r.taught
+      (others_of f above id source_end behind k a.done x rest r.sound.numbers refl) in
       subst (λ (b : SoFar). Went a b x rest)
       (λ j. record { done = append-nil' a.done j; roots = a.roots; subs = entries-nil a.subs j; fresh = a.fresh })
       (it_goes a x a.done rest a.subs a.fresh r (le_refl a.fresh) r.in_done r.in_entries r.taught step) where
         append-nil' : (xs : List Item) → xs ≡ xs ++ []
         append-nil' xs = sym (append-nil xs)
 
-        entries-nil : (es : List Entry) → es ≡ es ++ []
+        entries-nil : (es : List DebugSubstitution) → es ≡ es ++ []
         entries-nil es = sym (append-nil es)
   with_number_gone a i k o l rest rd s row root r GetsPhi is =
       let x : Item = item (Code i (Some k)) o l in
@@ -246,14 +248,14 @@ module _ (f : Function) (above : List Block) (id silent : ℕ) (behind : List Bl
       let up : List Item = a.done ++ phi ∷ [] in
       let lt : k < a.fresh = All-head (U a.fresh) x rest r.in_rest in
       let under : AreUnder a.fresh up = All-append (U a.fresh) a.done (phi ∷ []) r.in_done (All-cons (U a.fresh) phi [] lt (All-nil (U a.fresh))) in
-      let one = to_phi f above id silent behind k rd s a.done i o l rest a.subs r.sound row in
+      let one = to_phi f above id source_end behind k rd s a.done i o l rest a.subs r.sound row in
       let same : up ++ y ∷ rest ≡ a.done ++ phi ∷ y ∷ rest = append_assoc a.done (phi ∷ []) (y ∷ rest) in
       let taught : Taught [] up a.roots = taught_push a.done phi r.taught tt in
       let first : Step (fn (a.done ++ x ∷ rest)) a.subs (fn (up ++ y ∷ rest)) a.subs =
       subst (λ (xs : List Item). Step (fn (a.done ++ x ∷ rest)) a.subs (fn xs) a.subs) (sym same) one in
-      let two = take_out f above id silent behind a.fresh up y rest a.roots a.subs first.sound (takes rd s row root (λ m e. cc)) taught
+      let two = take_out f above id source_end behind a.fresh up y rest a.roots a.subs first.sound (takes rd s row root (λ m e. cc)) taught
       (far_of a.fresh a.fresh (le_refl a.fresh) up rest r.in_above under (All-tail (U a.fresh) x rest r.in_rest) r.in_behind) in
-      subst (λ (es : List Entry). Went a (record { done = up; roots = a.roots; subs = es; fresh = a.fresh }) x rest) (sym (append-nil a.subs))
+      subst (λ (es : List DebugSubstitution). Went a (record { done = up; roots = a.roots; subs = es; fresh = a.fresh }) x rest) (sym (append-nil a.subs))
       (it_goes a x up rest a.subs a.fresh r (le_refl a.fresh) under r.in_entries taught
       (and_then (fn (a.done ++ x ∷ rest)) (fn (up ++ y ∷ rest)) (fn (up ++ rest)) a.subs a.subs a.subs first two))
   with_number_gone a i k o l rest rd s row root r (GetsEntry d p n) is =
@@ -272,9 +274,9 @@ module _ (f : Function) (above : List Block) (id silent : ℕ) (behind : List Bl
       let taught : Taught [] up a.roots = taught_numbered d n a.done r.taught in
       let tail : AreUnder a.fresh rest = All-tail (U a.fresh) x rest r.in_rest in
       let first : Step (fn (a.done ++ x ∷ rest)) a.subs (fn (up ++ y ∷ rest)) (a.subs ++ entry_for k n p ∷ []) =
-      to_code f above id silent behind a.fresh k n p rd s d a.done i o l rest a.subs r.sound row e
+      to_code f above id source_end behind a.fresh k n p rd s d a.done i o l rest a.subs r.sound row e
       (record { above = r.in_above; up = r.in_done; here = lt; down = tail; behind = r.in_behind; entries = r.in_entries }) in
-      let two = take_out f above id silent behind b up y rest a.roots (a.subs ++ entry_for k n p ∷ []) first.sound (takes rd s row root (λ m e. cc)) taught
+      let two = take_out f above id source_end behind b up y rest a.roots (a.subs ++ entry_for k n p ∷ []) first.sound (takes rd s row root (λ m e. cc)) taught
       (far_of b b (le_refl b) up rest (blocks_more a.fresh b le above r.in_above) under (items_more a.fresh b le rest tail)
       (blocks_more a.fresh b le behind r.in_behind)) in
       subst (λ (xs : List Item). Went a (record { done = xs; roots = a.roots; subs = a.subs ++ entry_for k n p ∷ []; fresh = b }) x rest) (sym (append-nil up))
@@ -303,8 +305,8 @@ module _ (f : Function) (above : List Block) (id silent : ℕ) (behind : List Bl
 
   pub record Over (a : SoFar) (xs : List Item) : Type 0 where
     pub ready : Ready (over_items a xs) []
-    pub follows : KeepsLoosely (change (with_block f above id silent (a.done ++ renamed_items a.roots xs) behind) a.subs
-        (with_block f above id silent ((over_items a xs).done ++ []) behind) (over_items a xs).subs)
+    pub follows : PreservesWeakSimulation (change (with_block f above id source_end (a.done ++ renamed_items a.roots xs) behind) a.subs
+        (with_block f above id source_end ((over_items a xs).done ++ []) behind) (over_items a xs).subs)
 
   pub over_all : (xs : List Item) (a : SoFar) → Ready a (renamed_items a.roots xs) → Over a xs
   over_all [] a r = record { ready = r; follows = itself (fn (a.done ++ [])) a.subs }
@@ -320,7 +322,7 @@ module _ (f : Function) (above : List Block) (id silent : ℕ) (behind : List Bl
         ready = more.ready;
         follows = then (fn (a.done ++ y ∷ renamed_items known xs)) (fn (b.done ++ renamed_items known xs)) (fn ((over_items b xs).done ++ [])) a.subs b.subs
             (over_items b xs).subs one.follows
-            (subst (λ (e : List Root). KeepsLoosely (change (fn (b.done ++ renamed_items e xs)) b.subs (fn ((over_items b xs).done ++ []))
+            (subst (λ (e : List Root). PreservesWeakSimulation (change (fn (b.done ++ renamed_items e xs)) b.subs (fn ((over_items b xs).done ++ []))
             (over_items b xs).subs)) same
             more.follows);
       }
@@ -338,7 +340,7 @@ B b c = All (λ (x : Item). KindUnder b x.kind) c.items
 
 -- from blocks to the items of the next, and back
 pub ready_block : (f : Function) (b : Block) (bs : List Block) (a : BlocksSoFar) → BlocksReady f a (b ∷ bs) →
-    Ready f a.blocks b.id b.silent (map renamed_block bs) (at_block a.subs a.fresh) (renamed_items [] b.items)
+    Ready f a.blocks b.id b.source_end (map renamed_block bs) (at_block a.subs a.fresh) (renamed_items [] b.items)
 ready_block f b bs a r = record {
   sound = r.sound;
   clean = clean_none;
@@ -351,16 +353,16 @@ ready_block f b bs a r = record {
 }
 
 pub block_shape : (f : Function) (b : Block) (a : BlocksSoFar) (done : List Item) (rest : List Block) →
-    with_block f a.blocks b.id b.silent (done ++ []) rest ≡ record f { blocks = (a.blocks ++ block_of b.id b.silent done ∷ []) ++ rest }
+    with_block f a.blocks b.id b.source_end (done ++ []) rest ≡ record f { blocks = (a.blocks ++ block_of b.id b.source_end done ∷ []) ++ rest }
 block_shape f b a done rest =
-    ap (λ (xs : List Item). with_block f a.blocks b.id b.silent xs rest) (append-nil done) ∙
-    ap (λ (cs : List Block). record f { blocks = cs }) (sym (append_assoc a.blocks (block_of b.id b.silent done ∷ []) rest))
+    ap (λ (xs : List Item). with_block f a.blocks b.id b.source_end xs rest) (append-nil done) ∙
+    ap (λ (cs : List Block). record f { blocks = cs }) (sym (append_assoc a.blocks (block_of b.id b.source_end done ∷ []) rest))
 
 pub ready_next : (f : Function) (b : Block) (bs : List Block) (a : BlocksSoFar) →
-    Ready f a.blocks b.id b.silent (map renamed_block bs) (over_items (at_block a.subs a.fresh) b.items) [] → BlocksReady f (next_block a b) bs
+    Ready f a.blocks b.id b.source_end (map renamed_block bs) (over_items (at_block a.subs a.fresh) b.items) [] → BlocksReady f (next_block a b) bs
 ready_next f b bs a r =
     let end : SoFar = over_items (at_block a.subs a.fresh) b.items in
-    let made : Block = block_of b.id b.silent end.done in
+    let made : Block = block_of b.id b.source_end end.done in
     record {
       sound = subst IsSound (block_shape f b a end.done (map renamed_block bs)) r.sound;
       in_blocks = All-append (B end.fresh) a.blocks (made ∷ []) r.in_above (All-cons (B end.fresh) made [] r.in_done (All-nil (B end.fresh)));
@@ -377,9 +379,9 @@ over_function f [] a r =
 over_function f (b ∷ bs) a r =
     let rest : List Block = map renamed_block bs in
     let start : SoFar = at_block a.subs a.fresh in
-    let over = over_all f a.blocks b.id b.silent rest b.items start (ready_block f b bs a r) in
+    let over = over_all f a.blocks b.id b.source_end rest b.items start (ready_block f b bs a r) in
     let end : SoFar = over_items start b.items in
-    let made : Block = block_of b.id b.silent end.done in
+    let made : Block = block_of b.id b.source_end end.done in
     let next : BlocksSoFar = next_block a b in
     let one : Step (record f { blocks = a.blocks ++ map renamed_block (b ∷ bs) }) a.subs (record f { blocks = (a.blocks ++ made ∷ []) ++ rest }) end.subs =
     subst (λ (g : Function). Step (record f { blocks = a.blocks ++ map renamed_block (b ∷ bs) }) a.subs g end.subs) (block_shape f b a end.done rest)

@@ -7,7 +7,7 @@ use Rattle.std.proofs.lemmas.List.{append_assoc}
 use Rattle.std.proofs.lemmas.List.Elements.{All-nil, All-cons, All-head, All-tail, All-append, All-weaker, All-contains, Contains-append_left}
 use Rattle.std.proofs.lemmas.List.Elements.{Contains-append_right, Contains-append_cases}
 use Rattle.rv64_instr.specs.Instruction.{Instruction}
-use Rattle.mir_func.specs.declared.entry.Entry.{Entry}
+use Rattle.mir_func.specs.declared.entry.DebugSubstitution.{DebugSubstitution}
 use Rattle.mir_func.specs.declared.entry.OperandPair.{OperandPair}
 use Rattle.mir_func.specs.declared.position.Origin.{Origin}
 use Rattle.mir_func.specs.declared.location.Loc.{Loc}
@@ -35,7 +35,7 @@ abbrev pub HasCode : ℕ → List Item → Type 0
 HasCode m xs = (x : Item) × Contains xs x × (code_number x.kind ≡ Some m)
 
 -- what holds of an entry that was added
-pub record Stands (fs : List Block) (xs ys : List Item) (gs : List Block) (subs : List Entry) (e : Entry) : Type 0 where
+pub record Stands (fs : List Block) (xs ys : List Item) (gs : List Block) (subs : List DebugSubstitution) (e : DebugSubstitution) : Type 0 where
   pub whole : (e.src.operand ≡ 0) × (e.subreg ≡ 0)
   pub gone : Others e.src.number fs xs ys gs
   pub given : HasCode e.dst.number (items_of fs ++ xs)
@@ -113,7 +113,7 @@ unlike_numbered k (suc d) n (x ∷ xs) ne h =
 
 -- ---- one item
 
-module _ (f : Function) (above : List Block) (id silent : ℕ) (behind : List Block) (more : List Entry) where
+module _ (f : Function) (above : List Block) (id source_end : ℕ) (behind : List Block) (more : List DebugSubstitution) where
   -- all that were added stand
   abbrev pub AllStand : SoFar → List Item → Type 0
   AllStand a rest = All (Stands above a.done rest behind a.subs) more
@@ -166,8 +166,9 @@ module _ (f : Function) (above : List Block) (id silent : ℕ) (behind : List Bl
       }) more h
 
 -- an entry is added
-module _ (f : Function) (above : List Block) (id silent : ℕ) (behind : List Block) (more : List Entry) (a : SoFar) (i : Instruction) (k s : ℕ) (o : Origin)
-    (l : Loc) (rest : List Item) (ready : Ready f above id silent behind a (item (Code i (Some k)) o l ∷ rest))
+module _ (f : Function) (above : List Block) (id source_end : ℕ) (behind : List Block) (more : List DebugSubstitution) (a : SoFar) (i : Instruction) (k s : ℕ)
+    (o : Origin)
+    (l : Loc) (rest : List Item) (ready : Ready f above id source_end behind a (item (Code i (Some k)) o l ∷ rest))
     (under : All (EntryUnder a.fresh) more) (d p n : ℕ) (e : IsEntered [] a.subs a.fresh k s a.done d p n) where
   abbrev copy : Item
   copy = item (Code i (Some k)) o l
@@ -178,13 +179,13 @@ module _ (f : Function) (above : List Block) (id silent : ℕ) (behind : List Bl
   abbrev up : List Item
   up = numbered_at d n a.done
 
-  abbrev subs' : List Entry
+  abbrev subs' : List DebugSubstitution
   subs' = a.subs ++ entry_for k n p ∷ []
 
   far : Others k above a.done rest behind
-  far = others_of f above id silent behind k a.done copy rest ready.sound.numbers refl
+  far = others_of f above id source_end behind k a.done copy rest ready.sound.numbers refl
 
-  none_of : (x : Option Entry) → is_some x ≡ false → x ≡ None
+  none_of : (x : Option DebugSubstitution) → is_some x ≡ false → x ≡ None
   none_of None h = refl
   none_of (Some y) h = cc
 
@@ -206,7 +207,7 @@ module _ (f : Function) (above : List Block) (id silent : ℕ) (behind : List Bl
         (all_second (λ (x : Item). IsUnlike k x.kind) split.above (giver ∷ split.behind) (subst (AreUnlike k) split.whole far.up)) m is (same ∙ h)
 
   -- a number that is gone isn't the one that code gets
-  other : (x : Entry) → Stands above a.done (copy ∷ rest) behind a.subs x → x.src.number < a.fresh → x.src.number ≡ n → ⊥
+  other : (x : DebugSubstitution) → Stands above a.done (copy ∷ rest) behind a.subs x → x.src.number < a.fresh → x.src.number ≡ n → ⊥
   other x w lt same = by_own e.own refl e.number where
     by_own : (z : Option ℕ) → e.own ≡ z → n ≡ or_fresh a.fresh z → ⊥
     by_own None is h = omega (arith, same, h, lt)
@@ -222,7 +223,7 @@ module _ (f : Function) (above : List Block) (id silent : ℕ) (behind : List Bl
         by_test true is = absurd (ne (is_pair-true (first_operand k) q is))
         by_test false is = none
 
-  old_stand : (x : Entry) → x.src.number < a.fresh → Stands above a.done (copy ∷ rest) behind a.subs x → Stands above up rest behind subs' x
+  old_stand : (x : DebugSubstitution) → x.src.number < a.fresh → Stands above a.done (copy ∷ rest) behind a.subs x → Stands above up rest behind subs' x
   old_stand x lt w = record {
     whole = w.whole;
     gone = record {

@@ -3,7 +3,7 @@ use Rattle.std.proofs.Common.{ℕ, ◌+◌, ◌<◌, List, [], ◌∷◌, ◌++�
 use Rattle.std.specs.List.{flat_map}
 use Rattle.std.proofs.Math.Nat.{le_refl}
 use Rattle.std.proofs.lemmas.List.Elements.{All-nil}
-use Rattle.mir_func.specs.declared.entry.Entry.{Entry}
+use Rattle.mir_func.specs.declared.entry.DebugSubstitution.{DebugSubstitution}
 use Rattle.mir_func.specs.declared.block.Block.{Block}
 use Rattle.mir_func.specs.declared.item.Item.{Item}
 use Rattle.mir_func.specs.Function.{Function}
@@ -13,7 +13,7 @@ use Rattle.mir_func.specs.Sound.{items_of, IsSound}
 use Rattle.pass_trait.specs.Change.{change}
 use Rattle.pass_trait.specs.Sizes.{numbers_of, greatest_number}
 use Rattle.pass_salvage.proofs.Edits.{no_blocks}
-use Rattle.pass_edits.specs.Loose.{KeepsLoosely}
+use Rattle.pass_edits.specs.WeakSimulation.{PreservesWeakSimulation}
 use Rattle.pass_edits.proofs.Loose.{loosely, then, Step}
 use Rattle.pass_edits.proofs.Numbers.{all_first, all_second}
 use Rattle.copyprop_rule.specs.Rule.{begins, salvaged_function, salvaged_entries}
@@ -25,11 +25,11 @@ use Rattle.copyprop_proof.proofs.Chain.{BlocksReady, over_function, renamed_bloc
 use Rattle.copyprop_proof.proofs.Stores.{blocks_laid, stores_meet}
 
 -- where the copies begin to go
-pub ready_at_start : (f : Function) (subs : List Entry) → IsSound f → BlocksReady f (begins f subs) f.blocks
+pub ready_at_start : (f : Function) (subs : List DebugSubstitution) → IsSound f → BlocksReady f (begins f subs) f.blocks
 ready_at_start f subs sound =
     let m : ℕ = greatest_number f subs in
     let on_items : List ℕ = flat_map (λ (i : Item). numbers_of i.kind) (items_of f.blocks) in
-    let in_subs : List ℕ = flat_map (λ (e : Entry). e.src.number ∷ e.dst.number ∷ []) subs in
+    let in_subs : List ℕ = flat_map (λ (e : DebugSubstitution). e.src.number ∷ e.dst.number ∷ []) subs in
     let all : All (λ (n : ℕ). n < m + 1) (on_items ++ in_subs) = greatest_under m (on_items ++ in_subs) (le_refl m) in
     record {
       sound = (renaming_follows f subs sound).0;
@@ -42,10 +42,10 @@ ready_at_start f subs sound =
 pub copies_follow : CopiesFollow
 copies_follow f subs sound =
     let new : Function = salvaged_function f subs in
-    let more : List Entry = salvaged_entries f subs in
+    let more : List DebugSubstitution = salvaged_entries f subs in
     let renamed = renaming_follows f subs sound in
     let step : Step (renamed_function f) subs new more = over_function f f.blocks (begins f subs) (ready_at_start f subs sound) in
-    let loose : KeepsLoosely (change f subs new more) = then f (renamed_function f) new subs subs more renamed.1 step.follows in (
+    let loose : PreservesWeakSimulation (change f subs new more) = then f (renamed_function f) new subs subs more renamed.1 step.follows in (
       step.sound,
       record {
         follows = λ src fol ends. (let g = loose.follows src (loosely f subs src fol) in

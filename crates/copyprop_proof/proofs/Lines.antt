@@ -7,7 +7,7 @@ use Rattle.std.proofs.lemmas.List.Sums.{sum_by-cons, sum_by-append}
 use Rattle.rv64_instr.specs.Instruction.{Instruction}
 use Rattle.rv64_instr.specs.Row.{Row, Fixes, Moves, Sets, Addresses, Loads, Stores, LoadsSlot, StoresSlot, Branches, Jumps, Calls, Returns, Unfit, row_of}
 use Rattle.rv64_instr.specs.Parts.{is_call}
-use Rattle.mir_func.specs.declared.entry.Entry.{Entry}
+use Rattle.mir_func.specs.declared.entry.DebugSubstitution.{DebugSubstitution}
 use Rattle.mir_func.specs.declared.entry.OperandPair.{OperandPair}
 use Rattle.mir_func.specs.declared.position.Origin.{Origin}
 use Rattle.mir_func.specs.declared.location.Loc.{Loc}
@@ -21,8 +21,8 @@ use Rattle.mir_func.specs.Resolve.{is_pair, entry_of}
 use Rattle.sem_mir.specs.Align.{is_code}
 use Rattle.pass_trait.specs.Causes.{is_origin}
 use Rattle.pass_trait.specs.Rule.{IsCopy, item, first_operand}
-use Rattle.pass_salvage.specs.declared.way.Way.{Way}
-use Rattle.pass_salvage.specs.declared.way.Way.TheVariants.{HasEntry, GetsEntry, GetsPhi}
+use Rattle.pass_salvage.specs.declared.way.SalvageAction.{SalvageAction}
+use Rattle.pass_salvage.specs.declared.way.SalvageAction.TheVariants.{HasEntry, GetsEntry, GetsPhi}
 use Rattle.pass_salvage.specs.Way.{has_entry, or_fresh, may_stand, way_by, way_of_kind, way_at, way_from, way, first_definition, last_definition}
 use Rattle.pass_salvage.specs.Salvage.{numbered_at, phi_for, entry_for, put_for}
 use Rattle.mir_substitution.proofs.Entries.{is_pair-same, entry_of-push}
@@ -36,11 +36,11 @@ use Rattle.copyprop_proof.proofs.Known.{IsClean, keeps_zero}
 use Rattle.copyprop_proof.specs.Ledger.{Line, numbered_line, line, lines_above, phi_of, lines_by_fate, next_lines}
 
 -- the copy's pair has an entry
-abbrev pub IsEnteredIn : List Entry → ℕ → Type 0
-IsEnteredIn subs k = (e : Entry) × (entry_of subs (first_operand k) ≡ Some e)
+abbrev pub IsEnteredIn : List DebugSubstitution → ℕ → Type 0
+IsEnteredIn subs k = (e : DebugSubstitution) × (entry_of subs (first_operand k) ≡ Some e)
 
 -- what an item became
-pub data LineIs (subs : List Entry) : Item → Line → Type 0 where
+pub data LineIs (subs : List DebugSubstitution) : Item → Line → Type 0 where
   mark : {v : VarId} {m : MarkValue} {o : Origin} {l : Loc} → LineIs subs (item (Mark v m) o l) (line (item (Mark v m) o l ∷ []) None)
   phi : {p : Option Place} {k : ℕ} {o : Origin} {l : Loc} → LineIs subs (item (Phi p k) o l) (line (item (Phi p k) o l ∷ []) None)
   code : {i j : Instruction} {n : Option ℕ} {o : Origin} {l : Loc} → LineIs subs (item (Code i n) o l) (line (item (Code j n) o l ∷ []) None)
@@ -52,7 +52,7 @@ pub data LineIs (subs : List Entry) : Item → Line → Type 0 where
   out_phi : {i : Instruction} {k s : ℕ} {o : Origin} {l : Loc} → IsCopy (row_of i) →
       LineIs subs (item (Code i (Some k)) o l) (line (phi_for k s o ∷ []) (Some s))
 
-pub data LinesAre (subs : List Entry) : List Item → List Line → Type 0 where
+pub data LinesAre (subs : List DebugSubstitution) : List Item → List Line → Type 0 where
   no_lines : LinesAre subs [] []
   next_line : {x : Item} {l : Line} {xs : List Item} {ls : List Line} → LineIs subs x l → LinesAre subs xs ls → LinesAre subs (x ∷ xs) (l ∷ ls)
 
@@ -62,7 +62,8 @@ all_now ls = flat_map (λ (l : Line). l.now) ls
 
 -- ---- entries are only added
 
-pub entered_more : (subs more : List Entry) (q : OperandPair) (e : Entry) → entry_of subs q ≡ Some e → entry_of (subs ++ more) q ≡ Some e
+pub entered_more : (subs more : List DebugSubstitution) (q : OperandPair) (e : DebugSubstitution) → entry_of subs q ≡ Some e →
+    entry_of (subs ++ more) q ≡ Some e
 entered_more [] more q e is = cc
 entered_more (x ∷ xs) more q e is = by_test (is_pair x.src q) is (entered_more xs more q e) where
   by_test : (z : Bool) → cond z (Some x) (entry_of xs q) ≡ Some e → (entry_of xs q ≡ Some e → entry_of (xs ++ more) q ≡ Some e) →
@@ -70,7 +71,7 @@ entered_more (x ∷ xs) more q e is = by_test (is_pair x.src q) is (entered_more
   by_test true h rec = h
   by_test false h rec = rec h
 
-line_more : (subs more : List Entry) (x : Item) (l : Line) → LineIs subs x l → LineIs (subs ++ more) x l
+line_more : (subs more : List DebugSubstitution) (x : Item) (l : Line) → LineIs subs x l → LineIs (subs ++ more) x l
 line_more subs more x l mark = mark
 line_more subs more x l phi = phi
 line_more subs more x l code = code
@@ -79,17 +80,18 @@ line_more subs more x l out = out
 line_more subs more x l (out_entered {k = k} copy e) = out_entered copy (e.0, entered_more subs more (first_operand k) e.0 e.1)
 line_more subs more x l (out_phi copy) = out_phi copy
 
-pub lines_more : (subs more : List Entry) (xs : List Item) (ls : List Line) → LinesAre subs xs ls → LinesAre (subs ++ more) xs ls
+pub lines_more : (subs more : List DebugSubstitution) (xs : List Item) (ls : List Line) → LinesAre subs xs ls → LinesAre (subs ++ more) xs ls
 lines_more subs more xs ls no_lines = no_lines
 lines_more subs more (x ∷ xs) (l ∷ ls) (next_line h rest) = next_line (line_more subs more x l h) (lines_more subs more xs ls rest)
 
-pub lines_append : {subs : List Entry} {xs us : List Item} {ls ms : List Line} → LinesAre subs xs ls → LinesAre subs us ms → LinesAre subs (xs ++ us) (ls ++ ms)
+pub lines_append : {subs : List DebugSubstitution} {xs us : List Item} {ls ms : List Line} → LinesAre subs xs ls → LinesAre subs us ms →
+    LinesAre subs (xs ++ us) (ls ++ ms)
 lines_append no_lines k = k
 lines_append (next_line h rest) k = next_line h (lines_append rest k)
 
 -- ---- code gets a number
 
-pub record Numbered (subs : List Entry) (xs : List Item) (d n : ℕ) (ls : List Line) : Type 0 where
+pub record Numbered (subs : List DebugSubstitution) (xs : List Item) (d n : ℕ) (ls : List Line) : Type 0 where
   pub lines : LinesAre subs xs (numbered_line d n ls)
   pub now : all_now (numbered_line d n ls) ≡ numbered_at d n (all_now ls)
 
@@ -103,7 +105,8 @@ unfolding code_of
 not_code y j own o l none e = let bad : false ≡ true = sym none ∙ ap code_of e in cc
 
 -- a line of one item, of which the item gets the number
-pub numbered_lines : (subs : List Entry) (fresh d n : ℕ) (j : Instruction) (own : Option ℕ) (o : Origin) (l : Loc) (xs : List Item) (ls : List Line) →
+pub numbered_lines : (subs : List DebugSubstitution) (fresh d n : ℕ) (j : Instruction) (own : Option ℕ) (o : Origin) (l : Loc) (xs : List Item)
+    (ls : List Line) →
     LinesAre subs xs ls → slice_get (all_now ls) d ≡ Some (item (Code j own) o l) → n ≡ or_fresh fresh own → Numbered subs xs d n ls
 numbered_lines subs fresh d n j own o l xs ls no_lines at same = cc
 numbered_lines subs fresh zero n j own o l (x ∷ xs) (m ∷ ls) (next_line mark rest) at same = absurd (not_code x j own o l refl at)
@@ -182,12 +185,12 @@ now_push : (ls : List Line) (l : Line) (done : List Item) → all_now ls ≡ don
 now_push ls l done is =
     flat_map-append (λ (m : Line). m.now) ls (l ∷ []) ∙ (λ i. is i ++ append-nil l.now i)
 
-has_some : (x : Option Entry) → is_some x ≡ true → (e : Entry) × (x ≡ Some e)
+has_some : (x : Option DebugSubstitution) → is_some x ≡ true → (e : DebugSubstitution) × (x ≡ Some e)
 has_some None h = cc
 has_some (Some e) h = (e, refl)
 
 -- no other way is that it has an entry
-module _ (subs : List Entry) (fresh k s : ℕ) (done : List Item) where
+module _ (subs : List DebugSubstitution) (fresh k s : ℕ) (done : List Item) where
   no_operand : (d : ℕ) (n : Option ℕ) (p : Option ℕ) (behind : List Item) → way_by [] subs fresh k d n p behind ≡ HasEntry → ⊥
   no_operand d n None behind e = cc
   no_operand d n (Some o) behind e = by_test (may_stand [] subs k d n o behind) e where
@@ -216,13 +219,14 @@ module _ (subs : List Entry) (fresh k s : ℕ) (done : List Item) where
     by_test false h e = absurd (no_from (last_definition s done) e)
 
 -- the entry that is added
-entry_added : (subs : List Entry) (k n o : ℕ) → entry_of subs (first_operand k) ≡ None → entry_of (subs ++ entry_for k n o ∷ []) (first_operand k) ≡ Some
+entry_added : (subs : List DebugSubstitution) (k n o : ℕ) → entry_of subs (first_operand k) ≡ None →
+    entry_of (subs ++ entry_for k n o ∷ []) (first_operand k) ≡ Some
     (entry_for k n o)
 entry_added subs k n o none =
     entry_of-push subs (entry_for k n o) (first_operand k) none ∙
     ap (λ (z : Bool). cond z (Some (entry_for k n o)) (entry_of subs (first_operand k))) (is_pair-same (first_operand k))
 
-none_there : (x : Option Entry) → is_some x ≡ false → x ≡ None
+none_there : (x : Option DebugSubstitution) → is_some x ≡ false → x ≡ None
 none_there None e = refl
 none_there (Some y) e = cc
 
@@ -241,7 +245,7 @@ module _ (xs : List Item) (ls : List Line) (a : SoFar) (clean : IsClean a.roots)
     now = now_push ls (line [] None) a.done w.now ∙ append-nil a.done;
   }
 
-  way_line : (i : Instruction) (k s : ℕ) (o : Origin) (l : Loc) → IsCopy (row_of i) → (v : Way) → way [] a.subs a.fresh k s a.done ≡ v →
+  way_line : (i : Instruction) (k s : ℕ) (o : Origin) (l : Loc) → IsCopy (row_of i) → (v : SalvageAction) → way [] a.subs a.fresh k s a.done ≡ v →
       Written (xs ++ item (Code i (Some k)) o l ∷ []) (lines_above v ls ++ line (put_for v k s o) (phi_of v s) ∷ []) (salvaged a k s o v)
   way_line i k s o l copy HasEntry is = record {
     lines = lines_more a.subs [] (xs ++ item (Code i (Some k)) o l ∷ []) (ls ++ line [] None ∷ [])
@@ -256,7 +260,7 @@ module _ (xs : List Item) (ls : List Line) (a : SoFar) (clean : IsClean a.roots)
   way_line i k s o l copy (GetsEntry d p n) is =
       let e = entered [] a.subs a.fresh k s a.done d p n is in
       let r = numbered_lines a.subs a.fresh d n e.i e.own e.origin e.loc xs ls w.lines (ap (λ (ys : List Item). slice_get ys d) w.now ∙ e.stands) e.number in
-      let more : List Entry = entry_for k n p ∷ [] in
+      let more : List DebugSubstitution = entry_for k n p ∷ [] in
       record {
         lines = lines_append (lines_more a.subs more xs (numbered_line d n ls) r.lines)
             (next_line (out_entered copy (entry_for k n p, entry_added a.subs k n p (none_there (entry_of a.subs (first_operand k)) e.none))) no_lines);
@@ -301,7 +305,7 @@ module _ (o : Origin) where
   pub count_one : (x : Item) → count_by test (x ∷ []) ≡ weight (test x)
   count_one x = let e = count_first x [] in let z : count_by test [] ≡ 0 = refl in omega (arith, e, z)
 
-  count_line : (subs : List Entry) (x : Item) (l : Line) → LineIs subs x l → count_by test l.now ≤ weight (test x)
+  count_line : (subs : List DebugSubstitution) (x : Item) (l : Line) → LineIs subs x l → count_by test l.now ≤ weight (test x)
   count_line subs x l mark = let e = count_one x in omega (arith, e)
   count_line subs x l phi = let e = count_one x in omega (arith, e)
   count_line subs x l (code {i} {j} {n} {o = p} {l = q}) = let e = count_one (item (Code j n) p q) in omega (arith, e)
@@ -310,7 +314,7 @@ module _ (o : Origin) where
   count_line subs x l (out_entered copy e) = let z : count_by test [] ≡ 0 = refl in omega (arith, z)
   count_line subs x l (out_phi {k} {s} {o = p} copy) = let e = count_one (phi_for k s p) in omega (arith, e)
 
-  pub count_lines : (subs : List Entry) (xs : List Item) (ls : List Line) → LinesAre subs xs ls → count_by test (all_now ls) ≤ count_by test xs
+  pub count_lines : (subs : List DebugSubstitution) (xs : List Item) (ls : List Line) → LinesAre subs xs ls → count_by test (all_now ls) ≤ count_by test xs
   count_lines subs xs ls no_lines = let z : count_by test [] ≡ 0 = refl in omega (arith, z)
   count_lines subs (x ∷ xs) (l ∷ ls) (next_line h rest) =
       let a = count_line subs x l h in
@@ -320,7 +324,8 @@ module _ (o : Origin) where
       omega (arith, a, b, c, d)
 
   -- less where one of it is gone
-  pub fewer_lines : (subs : List Entry) (xs : List Item) (ls : List Line) (n : ℕ) (x : Item) (l : Line) → LinesAre subs xs ls → slice_get xs n ≡ Some x →
+  pub fewer_lines : (subs : List DebugSubstitution) (xs : List Item) (ls : List Line) (n : ℕ) (x : Item) (l : Line) → LinesAre subs xs ls →
+      slice_get xs n ≡ Some x →
       slice_get ls n ≡ Some l → test x ≡ true → count_by test l.now ≡ 0 → count_by test (all_now ls) < count_by test xs
   fewer_lines subs xs ls n x l no_lines at at' passes none = cc
   fewer_lines subs (y ∷ xs) (m ∷ ls) zero x l (next_line h rest) at at' passes none =

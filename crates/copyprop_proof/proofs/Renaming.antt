@@ -15,7 +15,7 @@ use Rattle.sem_mir.specs.Step.{Outcome, Falls, Goes, Gives, Traps, Asks, Breaks,
 use Rattle.sem_mir.specs.Effects.{held_in, OnCore, EndAlike}
 use Rattle.sem_mir.proofs.Outcomes.{alike_weaker}
 use Rattle.sem_simulation.proofs.Outcomes.{alike_of}
-use Rattle.sem_agreement.specs.Alike.{TellsNoMore, Alike, OrDefined, HeldAfter, NumbersHeld, Depends}
+use Rattle.sem_agreement.specs.Agreement.{DebugLessDef, Alike, GenDefs, HeldAfter, NumbersHeld, Depends}
 use Rattle.sem_agreement.proofs.Outcomes.{alike_both, on_with, held_numbered}
 use Rattle.sem_agreement.proofs.Held.{held_fewer, held_itself}
 use Rattle.sem_agreement.proofs.Told.{tells_itself}
@@ -94,7 +94,7 @@ module _ (f g : Program) (blind_f : f.sees_pointer ≡ false) (blind_g : g.sees_
   all_numbers i None = tt
   all_numbers i (Some m) = λ p r e. inr tt
 
-  pair_same : (q : OperandPair) (c d : Core) → TellsNoMore NoFree c d → (v : ℕ) → pair_value (g.resolve q) d ≡ Some v → pair_value (f.resolve q) c ≡ Some v
+  pair_same : (q : OperandPair) (c d : Core) → DebugLessDef NoFree c d → (v : ℕ) → pair_value (g.resolve q) d ≡ Some v → pair_value (f.resolve q) c ≡ Some v
   pair_same q c d t v e = by_pair (f.resolve q) (ap (λ (x : Option OperandPair). pair_value x d) (sym (resolves q)) ∙ e) where
     by_pair : (x : Option OperandPair) → pair_value x d ≡ Some v → pair_value x c ≡ Some v
     by_pair None e = cc
@@ -110,7 +110,7 @@ module _ (f g : Program) (blind_f : f.sees_pointer ≡ false) (blind_g : g.sees_
   depends (Phi (Some x) m) c d h = tt
 
   all_after : (kind : ItemKind) (c d : Core) → Alike (HeldAfter Everywhere kind) NoFree c d → Alike Everywhere NoFree c d
-  all_after (Code i m) c d h = record { held = held_fewer (OrDefined Everywhere i) Everywhere (λ x u. inr tt) c d h.held; told = h.told }
+  all_after (Code i m) c d h = record { held = held_fewer (GenDefs Everywhere i) Everywhere (λ x u. inr tt) c d h.held; told = h.told }
   all_after (Mark v m) c d h = h
   all_after (Phi p m) c d h = h
 

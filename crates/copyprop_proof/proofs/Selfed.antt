@@ -50,7 +50,7 @@ selfed_items e [] = []
 selfed_items e (x ∷ xs) = selfed_item e x ∷ selfed_items (known_after e (renamed_kind e x.kind)) xs
 
 abbrev pub selfed_block : Block → Block
-selfed_block b = record { id = b.id; items = selfed_items [] b.items; silent = b.silent }
+selfed_block b = record { id = b.id; items = selfed_items [] b.items; source_end = b.source_end }
 
 -- what it is where the copy stays, and where it goes
 pub selfed_stays : (e : List Root) (k : ItemKind) → goes e (renamed_kind e k) ≡ false → selfed_kind e k ≡ renamed_kind e k

@@ -17,15 +17,15 @@ use Rattle.mir_func.specs.declared.block.Block.{Block}
 use Rattle.mir_func.specs.declared.item.Item.{Item}
 use Rattle.mir_func.specs.declared.item.ItemKind.{ItemKind}
 use Rattle.mir_func.specs.declared.item.ItemKind.TheVariants.{Code, Mark, Phi}
-use Rattle.mir_func.specs.Graph.{Fetch, Here, Silent, Outside, Program, below, end_of, front, fetch_in, from_block, program_of, KindEdge}
+use Rattle.mir_func.specs.Graph.{Fetch, Here, EndOfBlock, Outside, Program, below, end_of, front, fetch_in, from_block, program_of, KindEdge}
 use Rattle.mir_func.specs.Graph.{RowEdge, FetchEdge, Leads, stay, go}
 use Rattle.mir_func.specs.Sound.{AreApart, ids_of, OriginIn}
 use Rattle.sem_mir.specs.Align.{position_of, is_code}
 use Rattle.sem_mir.specs.Follow.{OnRow, Counts, IsMetApart, KindFits, MayAdd}
 use Rattle.sem_mir.proofs.Reading.{found, found_in, front_item, item_front, within_list}
 use Rattle.pass_trait.specs.Rule.{item}
-use Rattle.pass_salvage.specs.declared.way.Way.{Way}
-use Rattle.pass_salvage.specs.declared.way.Way.TheVariants.{HasEntry, GetsEntry, GetsPhi}
+use Rattle.pass_salvage.specs.declared.way.SalvageAction.{SalvageAction}
+use Rattle.pass_salvage.specs.declared.way.SalvageAction.TheVariants.{HasEntry, GetsEntry, GetsPhi}
 use Rattle.pass_salvage.specs.Way.{way}
 use Rattle.pass_salvage.specs.Salvage.{with_number, numbered_at, phi_for}
 use Rattle.pass_salvage.proofs.Kin.{Kin, code_kin, mark_kin, phi_kin, kin_itself}
@@ -57,7 +57,7 @@ record Beside (x y : Item) : Type 0 where
 
 data Alike : Fetch → Fetch → Type 0 where
   items : {x y : Item} → Beside x y → Alike (Here x) (Here y)
-  ends : {k n : ℕ} → Alike (Silent k n) (Silent k n)
+  ends : {k n : ℕ} → Alike (EndOfBlock k n) (EndOfBlock k n)
   outside : Alike Outside Outside
 
 ends_alike : (k : ℕ) (bs : List Block) → Alike (end_of k bs) (end_of k (map selfed_block bs))
@@ -82,7 +82,7 @@ from_selfed (b ∷ bs) n = by_test (nat_eq b.id n) (from_selfed bs n) where
 
 fetch_alike : (bs : List Block) (m : ℕ) → Alike (fetch_in bs m) (fetch_in (map selfed_block bs) m)
 fetch_alike [] m = outside
-fetch_alike (b ∷ bs) m = front_alike [] clean_none b.items m b.silent bs
+fetch_alike (b ∷ bs) m = front_alike [] clean_none b.items m b.source_end bs
 
 edge_alike : (u v : Fetch) → Alike u v → (p q : Pos) → FetchEdge (λ n. n) u p q → FetchEdge (λ n. n) v p q
 edge_alike u v (items b) p q h = b.way.edge p q h
@@ -114,7 +114,7 @@ edge_down (Here i) p q e = by_kind i.kind e where
   by_kind (Code i n) e = row_down (row_of i) p q e
   by_kind (Mark v m) e = inl e
   by_kind (Phi r n) e = inl e
-edge_down (Silent k n) p q e = inr (ap (λ (z : Pos). z.item) e)
+edge_down (EndOfBlock k n) p q e = inr (ap (λ (z : Pos). z.item) e)
 edge_down Outside p q e = absurd e
 
 module _ (bs : List Block) (resolve : OperandPair → Option OperandPair) where
@@ -148,7 +148,7 @@ of_get : {A : Type 0} (xs : List A) (n : ℕ) (x : A) → slice_get xs n ≡ Som
 of_get xs n x at = (n, within_list xs n x at, get_or_from_slice_get xs n x x at)
 
 module _ (fs : List Block) (apart : AreApart (ids_of fs)) (resolve : OperandPair → Option OperandPair) (src : Program)
-    (fits : All (λ (b : Block). All (λ (i : Item). KindFits src i.kind b.silent i.origin) b.items) fs)
+    (fits : All (λ (b : Block). All (λ (i : Item). KindFits src i.kind b.source_end i.origin) b.items) fs)
     (origins : All (λ (b : Block). All (λ (i : Item). OriginIn b i.origin) b.items) fs) where
   abbrev fp : Program
   fp = program_of false fs resolve
@@ -171,16 +171,17 @@ module _ (fs : List Block) (apart : AreApart (ids_of fs)) (resolve : OperandPair
       cc
 
   -- a move isn't at its block's end
-  move_far : (a : Block) (x : Item) → Contains fs a → Contains a.items x → IsMove x.kind → position_of x.origin ≡ record { block = a.id; item = a.silent } → ⊥
+  move_far : (a : Block) (x : Item) → Contains fs a → Contains a.items x → IsMove x.kind →
+      position_of x.origin ≡ record { block = a.id; item = a.source_end } → ⊥
   move_far a x member inside move same =
-      by_item x.kind x.origin move (All-contains (λ (i : Item). KindFits src i.kind a.silent i.origin) a.items x
-      (All-contains (λ (b : Block). All (λ (i : Item). KindFits src i.kind b.silent i.origin) b.items) fs a fits member) inside)
+      by_item x.kind x.origin move (All-contains (λ (i : Item). KindFits src i.kind a.source_end i.origin) a.items x
+      (All-contains (λ (b : Block). All (λ (i : Item). KindFits src i.kind b.source_end i.origin) b.items) fs a fits member) inside)
       (All-contains (λ (i : Item). OriginIn a i.origin) a.items x
       (All-contains (λ (b : Block). All (λ (i : Item). OriginIn b i.origin) b.items) fs a origins member) inside) same where
-        by_item : (k : ItemKind) (o : Origin) → IsMove k → KindFits src k a.silent o → OriginIn a o → position_of o ≡ record
-            { block = a.id; item = a.silent } → ⊥
-        by_item (Code i n) (Kept p) m f h e = let lt = h.1 in let is : p.item ≡ a.silent = ap (λ (z : Pos). z.item) e in omega (arith, lt, is)
-        by_item (Code i n) (Before p) m f h e = subst (λ (r : Row). MayAdd r p.item a.silent) m.2 f
+        by_item : (k : ItemKind) (o : Origin) → IsMove k → KindFits src k a.source_end o → OriginIn a o → position_of o ≡ record
+            { block = a.id; item = a.source_end } → ⊥
+        by_item (Code i n) (Kept p) m f h e = let lt = h.1 in let is : p.item ≡ a.source_end = ap (λ (z : Pos). z.item) e in omega (arith, lt, is)
+        by_item (Code i n) (Before p) m f h e = subst (λ (r : Row). MayAdd r p.item a.source_end) m.2 f
         by_item (Mark v n) o m f h e = m
         by_item (Phi r n) o m f h e = m
 
@@ -193,32 +194,32 @@ module _ (fs : List Block) (apart : AreApart (ids_of fs)) (resolve : OperandPair
         by_origin (Before z) h = h.0
 
   met_between : (a : Block) → Contains fs a → ((p : Pos) (i : Item) → p.block ≡ a.id → fp.fetch p ≡ Here i → OnRow IsSlotStore i.kind →
-      i.origin ≡ Before (record { block = a.id; item = a.silent }) → (q : Pos) × (j : Item) × IsMetApart fp p a.silent q j) →
+      i.origin ≡ Before (record { block = a.id; item = a.source_end }) → (q : Pos) × (j : Item) × IsMetApart fp p a.source_end q j) →
       (p : Pos) (i : Item) → p.block ≡ a.id → hp.fetch p ≡ Here i → OnRow IsSlotStore i.kind →
-      i.origin ≡ Before (record { block = a.id; item = a.silent }) → (q : Pos) × (j : Item) × IsMetApart hp p a.silent q j
+      i.origin ≡ Before (record { block = a.id; item = a.source_end }) → (q : Pos) × (j : Item) × IsMetApart hp p a.source_end q j
   met_between a member met p i same at save o =
       let w = back_alike (fp.fetch p) (hp.fetch p) (at_pos p) i at in
       let m = met p w.0 same w.1 (w.2.way.save save) (sym w.2.origin ∙ o) in
       let n = on_alike (fp.fetch m.0) (hp.fetch m.0) (at_pos m.0) m.1 m.2.0 in
       by_meeting m.0 m.1 m.2 n.0 n.1 n.2 where
-        by_meeting : (q : Pos) (j : Item) → IsMetApart fp p a.silent q j → (y : Item) → hp.fetch q ≡ Here y → Beside j y →
-            (r : Pos) × (z : Item) × IsMetApart hp p a.silent r z
+        by_meeting : (q : Pos) (j : Item) → IsMetApart fp p a.source_end q j → (y : Item) → hp.fetch q ≡ Here y → Beside j y →
+            (r : Pos) × (z : Item) × IsMetApart hp p a.source_end r z
         by_meeting q j m y here beside = by_blocks (from_block fs q.block) refl m.0
             (sym (ap (λ (bs : List Block). fetch_in bs q.item) (from_selfed fs q.block)) ∙ here) where
               by_blocks : (bs : List Block) → from_block fs q.block ≡ bs → fetch_in bs q.item ≡ Here j → fetch_in (map selfed_block (from_block fs q.block))
                   q.item ≡ Here y →
-                  (r : Pos) × (z : Item) × IsMetApart hp p a.silent r z
+                  (r : Pos) × (z : Item) × IsMetApart hp p a.source_end r z
               by_blocks [] is e e' = cc
               by_blocks (b ∷ bs) is e e' =
                   let k = found_in fs q.block b bs is in
-                  let old : slice_get b.items q.item ≡ Some j = front_item b.items q.item b.silent bs j e in
+                  let old : slice_get b.items q.item ≡ Some j = front_item b.items q.item b.source_end bs j e in
                   let e2 : fetch_in (map selfed_block (b ∷ bs)) q.item ≡ Here y = sym (ap (λ (cs : List Block). fetch_in (map selfed_block cs) q.item)
                   is) ∙ e' in
                   let new : slice_get (selfed_items [] b.items) q.item ≡ Some y =
-                  front_item (selfed_items [] b.items) q.item b.silent (map selfed_block bs) y e2 in
+                  front_item (selfed_items [] b.items) q.item b.source_end (map selfed_block bs) y e2 in
                   by_counts k.0 k.1 (counts_or b.items [] clean_none q.item j y old new m.1) where
                     by_counts : Contains fs b → b.id ≡ q.block → OnRow Counts y.kind ⊎ (IsSome [] ⊎ Witness b.items (selfed_items [] b.items) q.item) →
-                        (r : Pos) × (z : Item) × IsMetApart hp p a.silent r z
+                        (r : Pos) × (z : Item) × IsMetApart hp p a.source_end r z
                     by_counts inside id (inl counts) = (
                       q,
                       y,
@@ -234,7 +235,7 @@ module _ (fs : List Block) (apart : AreApart (ids_of fs)) (resolve : OperandPair
                         let r : Pos = record { block = q.block; item = w.index } in
                         let fetched : hp.fetch r ≡ Here w.new =
                         ap (λ (cs : List Block). fetch_in cs w.index) (from_selfed fs q.block ∙ ap (map selfed_block) is) ∙
-                        item_front (selfed_items [] b.items) w.index b.silent (map selfed_block bs) w.new w.at_new in (
+                        item_front (selfed_items [] b.items) w.index b.source_end (map selfed_block bs) w.new w.at_new in (
                           r,
                           w.new,
                           (
@@ -244,15 +245,15 @@ module _ (fs : List Block) (apart : AreApart (ids_of fs)) (resolve : OperandPair
                             where_from m.3,
                           ),
                         ) where
-                          far : position_of w.new.origin ≡ record { block = p.block; item = a.silent } → ⊥
+                          far : position_of w.new.origin ≡ record { block = p.block; item = a.source_end } → ⊥
                           far e =
-                              let here_in : position_of w.old.origin ≡ record { block = p.block; item = a.silent } = ap position_of (sym w.origin) ∙ e in
+                              let here_in : position_of w.old.origin ≡ record { block = p.block; item = a.source_end } = ap position_of (sym w.origin) ∙ e in
                               let in_old : Contains b.items w.old = of_get b.items w.index w.old w.at in
                               let block_is : (position_of w.old.origin).block ≡ b.id = home b w.old inside in_old in
                               let ids : b.id ≡ a.id = sym block_is ∙ ap (λ (z : Pos). z.block) here_in ∙ same in
                               let one : b ≡ a = one_block b a inside member ids in
                               move_far b w.old inside in_old w.move
-                              (here_in ∙ (λ i. record { block = (same ∙ sym ids) i; item = ap (λ (z : Block). z.silent) (sym one) i }))
+                              (here_in ∙ (λ i. record { block = (same ∙ sym ids) i; item = ap (λ (z : Block). z.source_end) (sym one) i }))
 
                           where_from : ((q.block ≡ p.block) × (q.item < p.item)) ⊎ Leads fp p q →
                               ((q.block ≡ p.block) × (w.index < p.item)) ⊎ Leads hp p (record { block = q.block; item = w.index })
@@ -348,7 +349,7 @@ next_laid a hs (Code i n) o l h = by_source (known_source a.roots (row_of (renam
   self_is s n is =
       let w = selfed_goes a.roots i n (ap is_some is) in subst IsSelf (sym w.is) (suc w.rd, w.self)
 
-  by_way : (k s : ℕ) (w : Way) → known_source a.roots (row_of (renamed a.roots i)) ≡ Some s →
+  by_way : (k s : ℕ) (w : SalvageAction) → known_source a.roots (row_of (renamed a.roots i)) ≡ Some s →
       Laid (hs ++ selfed_item a.roots (item (Code i (Some k)) o l) ∷ []) (salvaged a k s o w).done
   by_way k s HasEntry is = one_goes hs a.done (selfed_item a.roots (item (Code i (Some k)) o l)) h (self_is s (Some k) is)
   by_way k s (GetsEntry d p n) is =
@@ -382,13 +383,13 @@ over_laid (x ∷ xs) a hs h =
 
 blocks_append : (fs gs us vs : List Block) → BlocksEdited loose_edits fs gs → BlocksEdited loose_edits us vs → BlocksEdited loose_edits (fs ++ us) (gs ++ vs)
 blocks_append fs gs us vs no_blocks more = more
-blocks_append (a ∷ fs) (b ∷ gs) us vs (next_block id silent how rest) more = next_block id silent how (blocks_append fs gs us vs rest more)
+blocks_append (a ∷ fs) (b ∷ gs) us vs (next_block id source_end how rest) more = next_block id source_end how (blocks_append fs gs us vs rest more)
 
 pub blocks_laid : (bs : List Block) (a : BlocksSoFar) (hs : List Block) → BlocksEdited loose_edits hs a.blocks →
     BlocksEdited loose_edits (hs ++ map selfed_block bs) (over_blocks a bs).blocks
 blocks_laid [] a hs h = subst (λ (zs : List Block). BlocksEdited loose_edits zs a.blocks) (sym (append-nil hs)) h
 blocks_laid (b ∷ bs) a hs h =
-    let made : Block = record { id = b.id; items = (over_items (at_block a.subs a.fresh) b.items).done; silent = b.silent } in
+    let made : Block = record { id = b.id; items = (over_items (at_block a.subs a.fresh) b.items).done; source_end = b.source_end } in
     let one = blocks_append hs a.blocks (selfed_block b ∷ []) (made ∷ []) h
     (next_block refl refl (over_laid b.items (at_block a.subs a.fresh) [] (over tt)) no_blocks) in
     subst (λ (zs : List Block). BlocksEdited loose_edits zs (over_blocks (block_next a b) bs).blocks)
@@ -397,20 +398,20 @@ blocks_laid (b ∷ bs) a hs h =
 
 -- a block after has its like before
 pub block_back : (fs gs : List Block) → BlocksEdited loose_edits (map selfed_block fs) gs → (b : Block) → Contains gs b →
-    (a : Block) × Contains fs a × (a.id ≡ b.id) × (a.silent ≡ b.silent)
+    (a : Block) × Contains fs a × (a.id ≡ b.id) × (a.source_end ≡ b.source_end)
 block_back fs gs edited b h = by_blocks fs (map selfed_block fs) gs refl edited h where
   by_blocks : (cs hs gs : List Block) → map selfed_block cs ≡ hs → BlocksEdited loose_edits hs gs → Contains gs b →
-      (a : Block) × Contains cs a × (a.id ≡ b.id) × (a.silent ≡ b.silent)
+      (a : Block) × Contains cs a × (a.id ≡ b.id) × (a.source_end ≡ b.source_end)
   by_blocks cs hs gs is no_blocks k = absurd (let lt = k.1 in omega (arith, lt))
-  by_blocks [] (x ∷ hs) (g ∷ gs) is (next_block id silent how rest) k = cc
-  by_blocks (c ∷ cs) (x ∷ hs) (g ∷ gs) is (next_block id silent how rest) (zero, lt, e) =
+  by_blocks [] (x ∷ hs) (g ∷ gs) is (next_block id source_end how rest) k = cc
+  by_blocks (c ∷ cs) (x ∷ hs) (g ∷ gs) is (next_block id source_end how rest) (zero, lt, e) =
       let same : selfed_block c ≡ x = cc in (
         c,
         (0, omega arith, refl),
         ap (λ (z : Block). z.id) same ∙ sym id ∙ ap (λ (z : Block). z.id) e,
-        ap (λ (z : Block). z.silent) same ∙ sym silent ∙ ap (λ (z : Block). z.silent) e,
+        ap (λ (z : Block). z.source_end) same ∙ sym source_end ∙ ap (λ (z : Block). z.source_end) e,
       )
-  by_blocks (c ∷ cs) (x ∷ hs) (g ∷ gs) is (next_block id silent how rest) (suc n, lt, e) =
+  by_blocks (c ∷ cs) (x ∷ hs) (g ∷ gs) is (next_block id source_end how rest) (suc n, lt, e) =
       let tail : map selfed_block cs ≡ hs = cc in
       let r = by_blocks cs hs gs tail rest (n, omega (arith, lt), e) in
       let m = r.1 in
@@ -419,18 +420,18 @@ block_back fs gs edited b h = by_blocks fs (map selfed_block fs) gs refl edited 
 
 -- all of it
 module _ (fs gs : List Block) (apart : AreApart (ids_of fs)) (resolve resolve' : OperandPair → Option OperandPair) (src : Program)
-    (fits : All (λ (b : Block). All (λ (i : Item). KindFits src i.kind b.silent i.origin) b.items) fs)
+    (fits : All (λ (b : Block). All (λ (i : Item). KindFits src i.kind b.source_end i.origin) b.items) fs)
     (origins : All (λ (b : Block). All (λ (i : Item). OriginIn b i.origin) b.items) fs) (edited : BlocksEdited loose_edits (map selfed_block fs) gs) where
   abbrev MeetsIn : (sees : List Block) → (OperandPair → Option OperandPair) → Block → Type 0
   MeetsIn bs r a = (p : Pos) (i : Item) → p.block ≡ a.id → (program_of false bs r).fetch p ≡ Here i → OnRow IsSlotStore i.kind →
-      i.origin ≡ Before (record { block = a.id; item = a.silent }) → (q : Pos) × (j : Item) × IsMetApart (program_of false bs r) p a.silent q j
+      i.origin ≡ Before (record { block = a.id; item = a.source_end }) → (q : Pos) × (j : Item) × IsMetApart (program_of false bs r) p a.source_end q j
 
   pub stores_meet : ((a : Block) → Contains fs a → MeetsIn fs resolve a) → (b : Block) → Contains gs b → MeetsIn gs resolve' b
   stores_meet met b member p i at here save o =
       let w = block_back fs gs edited b member in
       let between = met_between fs apart resolve src fits origins w.0 w.1 (met w.0 w.1) in
-      stores_on loose_edits (map selfed_block fs) gs edited resolve resolve' (λ n. tt) self_falls self_gone (λ k k' x y how c. how c) b.id b.silent
-      (λ q j at' here' save' o'. (let origin : j.origin ≡ Before (record { block = w.0.id; item = w.0.silent }) =
+      stores_on loose_edits (map selfed_block fs) gs edited resolve resolve' (λ n. tt) self_falls self_gone (λ k k' x y how c. how c) b.id b.source_end
+      (λ q j at' here' save' o'. (let origin : j.origin ≡ Before (record { block = w.0.id; item = w.0.source_end }) =
       o' ∙ (λ z. Before (record { block = sym w.2 z; item = sym w.3 z })) in
       let m = between q j (at' ∙ sym w.2) here' save' origin in
       subst (λ (n : ℕ). (r : Pos) × (t : Item) × IsMetApart (program_of false (map selfed_block fs) resolve) q n r t) w.3 m))

@@ -1,7 +1,7 @@
 -- A copy that changes nothing goes from a function, without a number or with one that nothing needs.
 use Rattle.std.proofs.Common.{◌≡◌, ℕ, zero, suc, List, [], ◌∷◌, ◌++◌, All, false, refl, sym, subst}
 use Rattle.std.proofs.lemmas.List.Elements.{All-head, All-tail, All-weaker}
-use Rattle.mir_func.specs.declared.entry.Entry.{Entry}
+use Rattle.mir_func.specs.declared.entry.DebugSubstitution.{DebugSubstitution}
 use Rattle.mir_func.specs.declared.block.Block.{Block}
 use Rattle.mir_func.specs.declared.item.Item.{Item}
 use Rattle.mir_func.specs.declared.item.ItemKind.{ItemKind}
@@ -71,11 +71,12 @@ blocks_pass k bs h =
 out_move : (k : ℕ) (e : List Root) (x : Item) → TakenOut k e [] x → IsMove x.kind
 out_move k e x (takes rd s row root number) = (suc rd, s, row)
 
-module _ (f : Function) (above : List Block) (id silent : ℕ) (behind : List Block) where
+module _ (f : Function) (above : List Block) (id source_end : ℕ) (behind : List Block) where
   abbrev fn : List Item → Function
-  fn items = with_block f above id silent items behind
+  fn items = with_block f above id source_end items behind
 
-  pub take_out : (k : ℕ) (up : List Item) (x : Item) (down : List Item) (e : List Root) (subs : List Entry) → IsSound (fn (up ++ x ∷ down)) → TakenOut k e []
+  pub take_out : (k : ℕ) (up : List Item) (x : Item) (down : List Item) (e : List Root) (subs : List DebugSubstitution) → IsSound (fn (up ++ x ∷ down)) →
+      TakenOut k e []
       x →
       Taught [] up e → Others k above up down behind → Step (fn (up ++ x ∷ down)) subs (fn (up ++ down)) subs
   take_out k up x down e subs sound how taught far =
@@ -85,12 +86,12 @@ module _ (f : Function) (above : List Block) (id silent : ℕ) (behind : List Bl
       let gp : Program = program_of false new.blocks (resolve subs) in
       let sound' : IsSound new =
       edited_sound old new sound refl refl
-      (edited_around above id silent (up ++ x ∷ down) (up ++ down) behind (edited_above up (x ∷ down) down (goes (out_move k e x how) (edited_same down))))
-      (once_around f above id silent behind (up ++ x ∷ down) (up ++ down) (fewer_behind up (x ∷ down) down (drops (fewer_same down))) sound.numbers) in
+      (edited_around above id source_end (up ++ x ∷ down) (up ++ down) behind (edited_above up (x ∷ down) down (goes (out_move k e x how) (edited_same down))))
+      (once_around f above id source_end behind (up ++ x ∷ down) (up ++ down) (fewer_behind up (x ∷ down) down (drops (fewer_same down))) sound.numbers) in
       record {
         sound = sound';
         follows = edited_loosely (taken_edits k) (TakenCores fp gp refl refl (λ q. refl) k) (taken_allows k) old new sound sound' subs subs refl
-            (around (taken_edits k) above id silent (up ++ x ∷ down) (up ++ down)
+            (around (taken_edits k) above id source_end (up ++ x ∷ down) (up ++ down)
             (stays_blocks (taken_edits k) (λ n. tt) above (blocks_pass k above far.above))
             (taught_above k up (x ∷ down) down taught far.up (out how (stays_items (taken_edits k) [] down tt (all_pass k down far.down))))
             (stays_blocks (taken_edits k) (λ n. tt) behind (blocks_pass k behind far.behind)))

@@ -22,7 +22,7 @@ use Rattle.sem_mir.proofs.Outcomes.{alike_weaker}
 use Rattle.sem_simulation.specs.InPlace.{FallsOrTraps}
 use Rattle.sem_simulation.proofs.Outcomes.{alike_of}
 use Rattle.pass_trait.specs.Rule.{item}
-use Rattle.sem_agreement.specs.Alike.{Alike, ButDefined}
+use Rattle.sem_agreement.specs.Agreement.{Alike, KillDefs}
 use Rattle.sem_agreement.proofs.Outcomes.{alike_both, falls_both, falls_weaker, on_with, held_numbered, leaves_pair}
 use Rattle.sem_agreement.proofs.Held.{held_itself}
 use Rattle.sem_agreement.proofs.Told.{tells_itself}
@@ -81,10 +81,10 @@ out_no_end k a b x (takes rd s row root number) (Code c m) h = no_end_move (row_
 out_no_end k a b x (takes rd s row root number) (Mark v m) h = h
 out_no_end k a b x (takes rd s row root number) (Phi p m) h = h
 
-out_kept : (k : ℕ) (a b : List Root) (x : Item) → TakenOut k a b x → (src : Program) (silent : ℕ) → KindFits src x.kind silent x.origin →
+out_kept : (k : ℕ) (a b : List Root) (x : Item) → TakenOut k a b x → (src : Program) (source_end : ℕ) → KindFits src x.kind source_end x.origin →
     (p : Pos) × (x.origin ≡ Kept p)
-out_kept k a b x (takes {p = Kept q} rd s row root number) src silent h = (q, refl)
-out_kept k a b x (takes {p = Before q} rd s row root number) src silent h = absurd (subst (λ (r : Row). MayAdd r q.item silent) row h)
+out_kept k a b x (takes {p = Kept q} rd s row root number) src source_end h = (q, refl)
+out_kept k a b x (takes {p = Before q} rd s row root number) src source_end h = absurd (subst (λ (r : Row). MayAdd r q.item source_end) row h)
 
 pub taken_allows : (k : ℕ) → Allows (taken_edits k)
 taken_allows k = record {
@@ -146,9 +146,9 @@ module _ (f g : Program) (blind_f : f.sees_pointer ≡ false) (blind_g : g.sees_
       (do_item f x.kind c)
   falls a b x (takes {e} {i} {n} rd s row root number) c d h =
       falls_or_traps (Unit {0}) (λ z. TakenCores [] z d) (do_item f (Code i n) c) tt (pure_form f (Code i n) c (ap is_pure row, unfit))
-      (falls_weaker (λ z. Alike (ButDefined Everywhere i) NoFree z d × ((y : Place) → held_in y z ≡ held_in y c)) (λ z. TakenCores [] z d) by_core
+      (falls_weaker (λ z. Alike (KillDefs Everywhere i) NoFree z d × ((y : Place) → held_in y z ≡ held_in y c)) (λ z. TakenCores [] z d) by_core
       (do_item f (Code i n) c)
-      (falls_both (λ z. Alike (ButDefined Everywhere i) NoFree z d) (λ z. (y : Place) → held_in y z ≡ held_in y c) (do_item f (Code i n) c)
+      (falls_both (λ z. Alike (KillDefs Everywhere i) NoFree z d) (λ z. (y : Place) → held_in y z ≡ held_in y c) (do_item f (Code i n) c)
       (code_first Everywhere NoFree f i n c d (ap is_pure row) h.alike (λ m is free o. ap (λ (z : ℕ). d.pairs z o) (number m is) ∙ h.none o)) same)) where
         unfit : row_of i ≡ Unfit → ⊥
         unfit u = let bad : Moves (suc rd) s ≡ Unfit = sym row ∙ u in cc
@@ -159,7 +159,7 @@ module _ (f g : Program) (blind_f : f.sees_pointer ≡ false) (blind_g : g.sees_
             (numbered f.sees_pointer (is_call (row_of i)) n i.operands) (λ z w y. held_numbered y f.sees_pointer (is_call (row_of i)) n i.operands z ∙ w y)
             (act (row_of i) c) (known_leaves e i c h.holds rd s row root)
 
-        by_core : (z : Core) → Alike (ButDefined Everywhere i) NoFree z d × ((y : Place) → held_in y z ≡ held_in y c) → TakenCores [] z d
+        by_core : (z : Core) → Alike (KillDefs Everywhere i) NoFree z d × ((y : Place) → held_in y z ≡ held_in y c) → TakenCores [] z d
         by_core z r = record {
           alike = record { held = record { world = r.0.held.world; places = λ y u. r.1 y ∙ h.alike.held.places y tt }; told = r.0.told };
           holds = holds_none z;

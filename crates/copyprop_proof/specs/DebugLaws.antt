@@ -1,6 +1,6 @@
 -- The debug law of copy propagation.
 use Rattle.std.specs.Prelude.{List, [], ◌∷◌}
-use Rattle.mir_func.specs.declared.entry.Entry.{Entry}
+use Rattle.mir_func.specs.declared.entry.DebugSubstitution.{DebugSubstitution}
 use Rattle.mir_func.specs.Function.{Function}
 use Rattle.mir_func.specs.Sound.{IsSound}
 use Rattle.pass_trait.specs.Change.{change}
@@ -10,5 +10,5 @@ use Rattle.copyprop_proof.specs.Rule.{copy_step}
 
 -- each debug value, DBG_PHI and number is kept, or substituted or replaced by a DBG_PHI, and nothing is lost
 abbrev pub CopiesKeepItems : Type 0
-CopiesKeepItems = (f : Function) (subs : List Entry) → IsSound f →
+CopiesKeepItems = (f : Function) (subs : List DebugSubstitution) → IsSound f →
     KeepsSteps (copy_step ∷ []) (change f subs (salvaged_function f subs) (salvaged_entries f subs)) []

@@ -2,17 +2,17 @@
 -- the text.
 use Rattle.std.specs.Prelude.{ℕ, zero, suc, List, [], ◌∷◌, ◌++◌, cond, nat_eq, Option, Some, None}
 use Rattle.mir_func.specs.declared.block.Block.{Block}
-use Rattle.mir_func.specs.declared.entry.Entry.{Entry}
+use Rattle.mir_func.specs.declared.entry.DebugSubstitution.{DebugSubstitution}
 use Rattle.mir_func.specs.declared.item.Item.{Item}
 use Rattle.mir_func.specs.declared.item.ItemKind.{ItemKind}
 use Rattle.mir_func.specs.declared.item.ItemKind.TheVariants.{Code, Mark, Phi}
 use Rattle.mir_func.specs.Function.{Function}
-use Rattle.pass_salvage.specs.declared.way.Way.{Way}
-use Rattle.pass_salvage.specs.declared.way.Way.TheVariants.{HasEntry, GetsEntry, GetsPhi}
+use Rattle.pass_salvage.specs.declared.way.SalvageAction.{SalvageAction}
+use Rattle.pass_salvage.specs.declared.way.SalvageAction.TheVariants.{HasEntry, GetsEntry, GetsPhi}
 use Rattle.pass_salvage.specs.Way.{way}
 use Rattle.pass_salvage.specs.Salvage.{with_number, put_for}
-use Rattle.copyprop_block.specs.declared.copies.Fate.{Fate}
-use Rattle.copyprop_block.specs.declared.copies.Fate.TheVariants.{Stays, Goes, GoesWith}
+use Rattle.copyprop_block.specs.declared.copies.CopyAction.{CopyAction}
+use Rattle.copyprop_block.specs.declared.copies.CopyAction.TheVariants.{Stays, Goes, GoesWith}
 use Rattle.copyprop_block.specs.Copied.{SoFar, renamed_item, fate_of, next_item, at_block, BlocksSoFar, next_block}
 use Rattle.copyprop_rule.specs.Rule.{begins}
 
@@ -42,13 +42,13 @@ numbered_line d n [] = []
 numbered_line d n (l ∷ ls) = numbered_in l.now d n l ls (λ e. numbered_line e n ls)
 
 -- the lines above a removed copy: the code that replaces it in debug information has its number now
-abbrev pub lines_above : Way → List Line → List Line
+abbrev pub lines_above : SalvageAction → List Line → List Line
 lines_above HasEntry ls = ls
 lines_above (GetsEntry d o n) ls = numbered_line d n ls
 lines_above GetsPhi ls = ls
 
 -- the register of the DBG_PHI for a copy of s, if there is one
-abbrev pub phi_of : Way → (s : ℕ) → Option ℕ
+abbrev pub phi_of : SalvageAction → (s : ℕ) → Option ℕ
 phi_of HasEntry s = None
 phi_of (GetsEntry d o n) s = None
 phi_of GetsPhi s = Some s
@@ -58,7 +58,7 @@ abbrev pub line : List Item → (phi : Option ℕ) → Line
 line now phi = record { now = now; gained = None; phi = phi }
 
 -- the lines after one more item that is renamed already
-abbrev pub lines_by_fate : List Line → SoFar → Item → Fate → List Line
+abbrev pub lines_by_fate : List Line → SoFar → Item → CopyAction → List Line
 lines_by_fate ls a x Stays = ls ++ line (x ∷ []) None ∷ []
 lines_by_fate ls a x Goes = ls ++ line [] None ∷ []
 lines_by_fate ls a x (GoesWith k s) =
@@ -80,5 +80,5 @@ lines_in a [] n = []
 lines_in a (b ∷ bs) n = cond (nat_eq b.id n) (over_lines [] (at_block a.subs a.fresh) b.items) (lines_in (next_block a b) bs n)
 
 -- the lines of the function's block with this number
-abbrev pub ledger : Function → List Entry → (block : ℕ) → List Line
+abbrev pub ledger : Function → List DebugSubstitution → (block : ℕ) → List Line
 ledger f subs n = lines_in (begins f subs) f.blocks n

@@ -1,13 +1,13 @@
 -- The first step of the proof: explicit uses are replaced by their roots, and no copy is removed yet.
 use Rattle.std.specs.Prelude.{List, [], ◌∷◌, map, cond}
 use Rattle.mir_func.specs.declared.block.Block.{Block}
-use Rattle.mir_func.specs.declared.entry.Entry.{Entry}
+use Rattle.mir_func.specs.declared.entry.DebugSubstitution.{DebugSubstitution}
 use Rattle.mir_func.specs.declared.item.Item.{Item}
 use Rattle.mir_func.specs.declared.item.ItemKind.{ItemKind}
 use Rattle.mir_func.specs.Function.{Function}
 use Rattle.mir_func.specs.Sound.{IsSound}
 use Rattle.pass_trait.specs.Change.{change}
-use Rattle.pass_edits.specs.Loose.{KeepsLoosely}
+use Rattle.pass_edits.specs.WeakSimulation.{PreservesWeakSimulation}
 use Rattle.copyprop_block.specs.declared.roots.Root.{Root}
 use Rattle.copyprop_block.specs.Copied.{renamed_kind, renamed_item, roots_with}
 use Rattle.copyprop_rule.specs.Rule.{goes}
@@ -23,7 +23,7 @@ renamed_items e (x ∷ xs) = renamed_item e x ∷ renamed_items (known_after e (
 
 -- the block with roots for its uses; no copies are available at its start
 abbrev pub renamed_block : Block → Block
-renamed_block b = record { id = b.id; items = renamed_items [] b.items; silent = b.silent }
+renamed_block b = record { id = b.id; items = renamed_items [] b.items; source_end = b.source_end }
 
 -- the function with roots for its uses, and with all its copies
 abbrev pub renamed_function : Function → Function
@@ -31,4 +31,5 @@ renamed_function f = record f { blocks = map renamed_block f.blocks }
 
 -- replacing explicit uses by their roots keeps soundness and preserves the weak simulation
 abbrev pub RenamingFollows : Type 0
-RenamingFollows = (f : Function) (subs : List Entry) → IsSound f → IsSound (renamed_function f) × KeepsLoosely (change f subs (renamed_function f) subs)
+RenamingFollows = (f : Function) (subs : List DebugSubstitution) → IsSound f →
+    IsSound (renamed_function f) × PreservesWeakSimulation (change f subs (renamed_function f) subs)

@@ -4,7 +4,7 @@ use Rattle.rv64_instr.specs.declared.place.Place.TheVariants.{Register}
 use Rattle.mir_func.specs.declared.position.Pos.{Pos}
 use Rattle.pass_trait.specs.Change.{Change}
 use Rattle.pass_trait.specs.Rule.{Rule}
-use Rattle.pass_trait.specs.Steps.{Step}
+use Rattle.pass_trait.specs.Steps.{PassStep}
 use Rattle.copyprop_rule.specs.Rule.{IsCopied, salvaged_entries}
 use Rattle.copyprop_proof.specs.Ledger.{Line, ledger}
 
@@ -27,5 +27,5 @@ copy_debug_rule = record {
 }
 
 -- the pass's one step
-abbrev pub copy_step : Step
+abbrev pub copy_step : PassStep
 copy_step = record { code = IsCopied; debug = copy_debug_rule }

@@ -4,20 +4,21 @@ use Rattle.std.proofs.Common.{refl, sym, ap, ◌∙◌, arith}
 use Rattle.std.proofs.lemmas.List.{take_more, take_all, length-take-le, take-append-drop, append_assoc}
 use Rattle.std.proofs.lemmas.Grind.{flat_map-append}
 use Rattle.mir_func.specs.declared.block.Block.{Block}
-use Rattle.mir_func.specs.declared.entry.Entry.{Entry}
+use Rattle.mir_func.specs.declared.entry.DebugSubstitution.{DebugSubstitution}
 use Rattle.mir_func.specs.Sound.{items_of}
 use Rattle.copyprop_block.specs.Copied.{over_items, at_block, BlocksSoFar, next_block, over_blocks}
 
-abbrev pub starting : List Entry → (fresh : ℕ) → BlocksSoFar
+abbrev pub starting : List DebugSubstitution → (fresh : ℕ) → BlocksSoFar
 starting subs fresh = record { blocks = []; subs = subs; fresh = fresh }
 
-pub record Copies (bs : List Block) (subs0 : List Entry) (fresh0 index : ℕ) (now : List Block) (subs : List Entry) (fresh : ℕ) : Type 0 where
+pub record Copies (bs : List Block) (subs0 : List DebugSubstitution) (fresh0 index : ℕ) (now : List Block) (subs : List DebugSubstitution)
+    (fresh : ℕ) : Type 0 where
   pub blocks : now ≡ (over_blocks (starting subs0 fresh0) (take index bs)).blocks ++ drop index bs
   pub entries : subs ≡ (over_blocks (starting subs0 fresh0) (take index bs)).subs
   pub counted : fresh ≡ (over_blocks (starting subs0 fresh0) (take index bs)).fresh
   pub most : fresh ≤ fresh0 + length (items_of (take index bs))
 
-pub copies_begin : (bs : List Block) (subs : List Entry) (fresh : ℕ) → Copies bs subs fresh 0 bs subs fresh
+pub copies_begin : (bs : List Block) (subs : List DebugSubstitution) (fresh : ℕ) → Copies bs subs fresh 0 bs subs fresh
 copies_begin [] subs fresh = record { blocks = refl; entries = refl; counted = refl; most = omega arith }
 copies_begin (b ∷ bs) subs fresh = record { blocks = refl; entries = refl; counted = refl; most = omega arith }
 
@@ -36,16 +37,16 @@ over_more (c ∷ bs) a b = over_more bs (next_block a c) b
 over_length : (bs : List Block) (a : BlocksSoFar) → length (over_blocks a bs).blocks ≡ length a.blocks + length bs
 over_length [] a = omega arith
 over_length (b ∷ bs) a =
-    let made : Block = record { id = b.id; items = (over_items (at_block a.subs a.fresh) b.items).done; silent = b.silent } in
+    let made : Block = record { id = b.id; items = (over_items (at_block a.subs a.fresh) b.items).done; source_end = b.source_end } in
     let e = over_length bs (next_block a b) in
     let f : length (a.blocks ++ made ∷ []) ≡ length a.blocks + 1 = length-append a.blocks (made ∷ []) in
     omega (arith, e, f)
 
 -- the block without its copies
-abbrev pub without : List Entry → (fresh : ℕ) → Block → Block
-without subs fresh b = record { id = b.id; items = (over_items (at_block subs fresh) b.items).done; silent = b.silent }
+abbrev pub without : List DebugSubstitution → (fresh : ℕ) → Block → Block
+without subs fresh b = record { id = b.id; items = (over_items (at_block subs fresh) b.items).done; source_end = b.source_end }
 
-module _ (bs : List Block) (subs0 : List Entry) (fresh0 i : ℕ) (now : List Block) (subs : List Entry) (fresh : ℕ)
+module _ (bs : List Block) (subs0 : List DebugSubstitution) (fresh0 i : ℕ) (now : List Block) (subs : List DebugSubstitution) (fresh : ℕ)
     (h : Copies bs subs0 fresh0 i now subs fresh) (lt : i < length bs) (x : Block) (is : x ≡ get_or now i x) where
   abbrev so_far : BlocksSoFar
   so_far = over_blocks (starting subs0 fresh0) (take i bs)
@@ -89,7 +90,8 @@ module _ (bs : List Block) (subs0 : List Entry) (fresh0 i : ℕ) (now : List Blo
   pub room : fresh0 + length (items_of bs) < 2 ^ 31 → fresh + length x.items < 2 ^ 31
   room less = let a = h.most in let b = items_taken in let c = items_all in omega (arith, less, a, b, c)
 
-  pub copies_more : (made : Block) (subs' : List Entry) (fresh' : ℕ) → made ≡ without subs fresh x → subs' ≡ (over_items (at_block subs fresh) x.items).subs →
+  pub copies_more : (made : Block) (subs' : List DebugSubstitution) (fresh' : ℕ) → made ≡ without subs fresh x →
+      subs' ≡ (over_items (at_block subs fresh) x.items).subs →
       fresh' ≡ (over_items (at_block subs fresh) x.items).fresh → fresh' ≤ fresh + length x.items → Copies bs subs0 fresh0 (i + 1) (set now i made) subs' fresh'
   copies_more made subs' fresh' at entries counted most =
       let next : over_blocks (starting subs0 fresh0) (take (i + 1) bs) ≡ next_block so_far x =
@@ -112,7 +114,8 @@ module _ (bs : List Block) (subs0 : List Entry) (fresh0 i : ℕ) (now : List Blo
       }
 
 -- at the end all are
-pub copies_end : (bs : List Block) (subs0 : List Entry) (fresh0 index : ℕ) (now : List Block) (subs : List Entry) (fresh : ℕ) → length bs ≤ index →
+pub copies_end : (bs : List Block) (subs0 : List DebugSubstitution) (fresh0 index : ℕ) (now : List Block) (subs : List DebugSubstitution) (fresh : ℕ) →
+    length bs ≤ index →
     Copies bs subs0 fresh0 index now subs fresh →
     (now ≡ (over_blocks (starting subs0 fresh0) bs).blocks) × (subs ≡ (over_blocks (starting subs0 fresh0) bs).subs)
 copies_end bs subs0 fresh0 index now subs fresh le h =

@@ -15,8 +15,8 @@ use Rattle.mir_func.specs.declared.location.Loc.{Loc}
 use Rattle.mir_func.specs.declared.position.Origin.{Origin}
 use Rattle.mir_func.specs.Sound.{items_of, AllItems}
 use Rattle.pass_trait.specs.Rule.{item}
-use Rattle.pass_salvage.specs.declared.way.Way.{Way}
-use Rattle.pass_salvage.specs.declared.way.Way.TheVariants.{HasEntry, GetsEntry, GetsPhi}
+use Rattle.pass_salvage.specs.declared.way.SalvageAction.{SalvageAction}
+use Rattle.pass_salvage.specs.declared.way.SalvageAction.TheVariants.{HasEntry, GetsEntry, GetsPhi}
 use Rattle.pass_salvage.specs.Way.{way}
 use Rattle.pass_salvage.specs.Salvage.{with_number, numbered_at, above_after, put_for, phi_for}
 use Rattle.copyprop_block.specs.declared.roots.Root.{Root}
@@ -44,12 +44,12 @@ module _ (P : ItemKind → Type 0) (R : List Root → Type 0) (stays : Stays P R
       All-cons Q (record x { kind = with_number n x.kind }) xs (stays.numbered n x.kind (All-head Q x xs h)) (All-tail Q x xs h)
   each_numbered (suc d) n (x ∷ xs) h = All-cons Q x (numbered_at d n xs) (All-head Q x xs h) (each_numbered d n xs (All-tail Q x xs h))
 
-  each_above : (w : Way) (xs : List Item) → All Q xs → All Q (above_after w xs)
+  each_above : (w : SalvageAction) (xs : List Item) → All Q xs → All Q (above_after w xs)
   each_above HasEntry xs h = h
   each_above (GetsEntry d o n) xs h = each_numbered d n xs h
   each_above GetsPhi xs h = h
 
-  each_put : (w : Way) (k s : ℕ) (o : Origin) → P (Phi (Some (Register s)) k) → All Q (put_for w k s o)
+  each_put : (w : SalvageAction) (k s : ℕ) (o : Origin) → P (Phi (Some (Register s)) k) → All Q (put_for w k s o)
   each_put HasEntry k s o h = All-nil Q
   each_put (GetsEntry d p n) k s o h = All-nil Q
   each_put GetsPhi k s o h = All-cons Q (phi_for k s o) [] h (All-nil Q)
@@ -90,7 +90,7 @@ module _ (P : ItemKind → Type 0) (R : List Root → Type 0) (stays : Stays P R
   each_blocks [] a h all = h
   each_blocks (b ∷ bs) a h all =
       let items = (each_over b.items (at_block a.subs a.fresh) (stays.starts, All-nil Q) (All-head B b bs all)).1 in
-      let made : Block = record { id = b.id; items = (over_items (at_block a.subs a.fresh) b.items).done; silent = b.silent } in
+      let made : Block = record { id = b.id; items = (over_items (at_block a.subs a.fresh) b.items).done; source_end = b.source_end } in
       each_blocks bs (next_block a b) (All-append B a.blocks (made ∷ []) h (All-cons B made [] items (All-nil B))) (All-tail B b bs all)
 
 -- ---- how many items pass a test
@@ -130,12 +130,12 @@ module _ (p : ItemKind → Bool) (tests : Tests p) where
       let g = count_numbered d n xs in
       omega (arith, e, f, g)
 
-  count_above : (w : Way) (xs : List Item) → count_by test (above_after w xs) ≡ count_by test xs
+  count_above : (w : SalvageAction) (xs : List Item) → count_by test (above_after w xs) ≡ count_by test xs
   count_above HasEntry xs = refl
   count_above (GetsEntry d o n) xs = count_numbered d n xs
   count_above GetsPhi xs = refl
 
-  count_put : (w : Way) (k s : ℕ) (o : Origin) → count_by test (put_for w k s o) ≤ weight (p (Phi (Some (Register s)) k))
+  count_put : (w : SalvageAction) (k s : ℕ) (o : Origin) → count_by test (put_for w k s o) ≤ weight (p (Phi (Some (Register s)) k))
   count_put HasEntry k s o = let z : count_by test [] ≡ 0 = refl in omega (arith, z)
   count_put (GetsEntry d q n) k s o = let z : count_by test [] ≡ 0 = refl in omega (arith, z)
   count_put GetsPhi k s o = let e = count_one (phi_for k s o) in omega (arith, e)
@@ -175,7 +175,7 @@ module _ (p : ItemKind → Bool) (tests : Tests p) where
       count_by test (items_of (over_blocks a bs).blocks) ≤ count_by test (items_of a.blocks) + count_by test (items_of bs)
   count_blocks [] a = let z : count_by test [] ≡ 0 = refl in omega (arith, z)
   count_blocks (b ∷ bs) a =
-      let made : Block = record { id = b.id; items = (over_items (at_block a.subs a.fresh) b.items).done; silent = b.silent } in
+      let made : Block = record { id = b.id; items = (over_items (at_block a.subs a.fresh) b.items).done; source_end = b.source_end } in
       let e = count_blocks bs (next_block a b) in
       let two : items_of (a.blocks ++ made ∷ []) ≡ items_of a.blocks ++ (made.items ++ []) = flat_map-append (λ (c : Block). c.items) a.blocks (made ∷ []) in
       let f : count_by test (items_of (next_block a b).blocks) ≡ count_by test (items_of a.blocks) + count_by test (made.items ++ []) =

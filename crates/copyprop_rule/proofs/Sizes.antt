@@ -13,7 +13,7 @@ use Rattle.rv64_instr.specs.declared.operand.Operand.TheVariants.{Def, Use, Impl
 use Rattle.rv64_instr.specs.Instruction.{Instruction}
 use Rattle.rv64_instr.specs.Row.{Row, Fixes, Moves, Sets, Addresses, Loads, Stores, LoadsSlot, StoresSlot, Branches, Jumps, Calls, Returns, Unfit, row_of}
 use Rattle.mir_func.specs.declared.block.Block.{Block}
-use Rattle.mir_func.specs.declared.entry.Entry.{Entry}
+use Rattle.mir_func.specs.declared.entry.DebugSubstitution.{DebugSubstitution}
 use Rattle.mir_func.specs.declared.item.Item.{Item}
 use Rattle.mir_func.specs.declared.item.ItemKind.{ItemKind}
 use Rattle.mir_func.specs.declared.item.ItemKind.TheVariants.{Code, Mark, Phi}
@@ -27,8 +27,8 @@ use Rattle.sem_mir.specs.Align.{is_code}
 use Rattle.pass_trait.specs.Change.{change}
 use Rattle.pass_trait.specs.Rule.{item}
 use Rattle.pass_trait.specs.Sizes.{greatest, numbers_of, greatest_number, item_count, calls, KeepsSizes}
-use Rattle.pass_salvage.specs.declared.way.Way.{Way}
-use Rattle.pass_salvage.specs.declared.way.Way.TheVariants.{HasEntry, GetsEntry, GetsPhi}
+use Rattle.pass_salvage.specs.declared.way.SalvageAction.{SalvageAction}
+use Rattle.pass_salvage.specs.declared.way.SalvageAction.TheVariants.{HasEntry, GetsEntry, GetsPhi}
 use Rattle.pass_salvage.specs.Way.{or_fresh, way}
 use Rattle.pass_salvage.specs.Salvage.{with_number, numbered_at, put_for, entry_for}
 use Rattle.pass_salvage.proofs.Chosen.{IsEntered, entered}
@@ -187,8 +187,8 @@ under_greatest m (n ∷ ns) h = max-le (let k = h.0 in omega (arith, k)) (under_
 abbrev numbers_on : List Item → List ℕ
 numbers_on xs = flat_map (λ (i : Item). numbers_of i.kind) xs
 
-abbrev numbers_among : List Entry → List ℕ
-numbers_among subs = flat_map (λ (e : Entry). e.src.number ∷ e.dst.number ∷ []) subs
+abbrev numbers_among : List DebugSubstitution → List ℕ
+numbers_among subs = flat_map (λ (e : DebugSubstitution). e.src.number ∷ e.dst.number ∷ []) subs
 
 numbers_two : (xs ys : List Item) → numbers_on (xs ++ ys) ≡ numbers_on xs ++ numbers_on ys
 numbers_two xs ys = flat_map-append (λ (i : Item). numbers_of i.kind) xs ys
@@ -196,9 +196,10 @@ numbers_two xs ys = flat_map-append (λ (i : Item). numbers_of i.kind) xs ys
 items_two : (b : ℕ) (xs ys : List Item) → Under b (numbers_on xs) → Under b (numbers_on ys) → Under b (numbers_on (xs ++ ys))
 items_two b xs ys h k = subst (Under b) (sym (numbers_two xs ys)) (under_two b (numbers_on xs) (numbers_on ys) h k)
 
-entries_two : (b : ℕ) (xs ys : List Entry) → Under b (numbers_among xs) → Under b (numbers_among ys) → Under b (numbers_among (xs ++ ys))
+entries_two : (b : ℕ) (xs ys : List DebugSubstitution) → Under b (numbers_among xs) → Under b (numbers_among ys) → Under b (numbers_among (xs ++ ys))
 entries_two b xs ys h k =
-    subst (Under b) (sym (flat_map-append (λ (e : Entry). e.src.number ∷ e.dst.number ∷ []) xs ys)) (under_two b (numbers_among xs) (numbers_among ys) h k)
+    subst (Under b) (sym (flat_map-append (λ (e : DebugSubstitution). e.src.number ∷ e.dst.number ∷ []) xs ys)) (under_two b (numbers_among xs)
+    (numbers_among ys) h k)
 
 with_under : (b n : ℕ) (k : ItemKind) → n < b → Under b (numbers_of k) → Under b (numbers_of (with_number n k))
 with_under b n (Code i m) lt h = (lt, tt)
@@ -244,7 +245,7 @@ stays_under a k o l e h p = record {
 same_under : (a : SoFar) → AreUnder a → Counts a a
 same_under a h = record { under = h; least = le_refl a.fresh; most = omega arith }
 
-salvage_under : (a : SoFar) (k s : ℕ) (o : Origin) → AreUnder a → k < a.fresh → (w : Way) → way [] a.subs a.fresh k s a.done ≡ w →
+salvage_under : (a : SoFar) (k s : ℕ) (o : Origin) → AreUnder a → k < a.fresh → (w : SalvageAction) → way [] a.subs a.fresh k s a.done ≡ w →
     Counts a (salvaged a k s o w)
 salvage_under a k s o h lt HasEntry is = record {
   under = record { items = items_two a.fresh a.done [] h.items tt; entries = entries_two a.fresh a.subs [] h.entries tt };
@@ -335,7 +336,7 @@ blocks_under (b ∷ bs) a h k p =
     let one = items_under b.items start (record { items = tt; entries = k }) (under_first a.fresh (numbers_on b.items) (numbers_on (items_of bs)) both) in
     let low : a.fresh ≤ end.fresh = one.least in
     let high : end.fresh ≤ a.fresh + length b.items = one.most in
-    let made : Block = record { id = b.id; items = end.done; silent = b.silent } in
+    let made : Block = record { id = b.id; items = end.done; source_end = b.source_end } in
     let two : items_of (a.blocks ++ made ∷ []) ≡ items_of a.blocks ++ (end.done ++ []) = flat_map-append (λ (c : Block). c.items) a.blocks (made ∷ []) in
     let items : Under end.fresh (numbers_on (items_of (a.blocks ++ made ∷ []))) =
     subst (λ (xs : List Item). Under end.fresh (numbers_on xs)) (sym two)
@@ -348,7 +349,7 @@ blocks_under (b ∷ bs) a h k p =
     let len : length (items_of (b ∷ bs)) ≡ length b.items + length (items_of bs) = length-append b.items (items_of bs) in
     record { items = more.items; entries = more.entries; least = omega (arith, low, low'); most = omega (arith, high, high', len) }
 
-numbers_bound : (f : Function) (subs : List Entry) →
+numbers_bound : (f : Function) (subs : List DebugSubstitution) →
     greatest_number (salvaged_function f subs) (salvaged_entries f subs) ≤ greatest_number f subs + item_count f
 numbers_bound f subs =
     let m = greatest_number f subs in
@@ -371,7 +372,7 @@ le_most n m h = omega (arith, h)
 numbers_most : (n m k : ℕ) → n ≤ m + k → n ≤ m + 1 * (1 * (k + MAX_BLOCKS * 1))
 numbers_most n m k h = omega (arith, h)
 
-pub sizes_copied : (f : Function) (subs : List Entry) → KeepsSizes 1 1 (change f subs (salvaged_function f subs) (salvaged_entries f subs))
+pub sizes_copied : (f : Function) (subs : List DebugSubstitution) → KeepsSizes 1 1 (change f subs (salvaged_function f subs) (salvaged_entries f subs))
 sizes_copied f subs =
     let new = items_of (salvaged_function f subs).blocks in
     let old = items_of f.blocks in

@@ -4,7 +4,7 @@ use Rattle.std.proofs.lemmas.List.{append_assoc, map-append}
 use Rattle.std.proofs.lemmas.List.Elements.{filter_map-append}
 use Rattle.rv64_instr.specs.Row.{row_of}
 use Rattle.mir_func.specs.declared.block.Block.{Block}
-use Rattle.mir_func.specs.declared.entry.Entry.{Entry}
+use Rattle.mir_func.specs.declared.entry.DebugSubstitution.{DebugSubstitution}
 use Rattle.mir_func.specs.declared.item.Item.{Item}
 use Rattle.mir_func.specs.declared.item.ItemKind.{ItemKind}
 use Rattle.mir_func.specs.declared.item.ItemKind.TheVariants.{Code, Mark, Phi}
@@ -13,8 +13,8 @@ use Rattle.mir_func.specs.declared.position.Origin.{Origin}
 use Rattle.mir_func.specs.Function.{Function}
 use Rattle.mir_func.specs.Strip.{stripped_item, stripped_items, stripped_block, stripped_blocks, stripped}
 use Rattle.pass_trait.specs.Rule.{item}
-use Rattle.pass_salvage.specs.declared.way.Way.{Way}
-use Rattle.pass_salvage.specs.declared.way.Way.TheVariants.{HasEntry, GetsEntry, GetsPhi}
+use Rattle.pass_salvage.specs.declared.way.SalvageAction.{SalvageAction}
+use Rattle.pass_salvage.specs.declared.way.SalvageAction.TheVariants.{HasEntry, GetsEntry, GetsPhi}
 use Rattle.pass_salvage.specs.Way.{way}
 use Rattle.pass_salvage.specs.Salvage.{numbered_at, above_after, put_for}
 use Rattle.copyprop_block.specs.Roots.{renamed, known_source, roots_after}
@@ -42,15 +42,15 @@ numbered_stripped d n [] = refl
 numbered_stripped zero n (x ∷ xs) = numbered_kind zero n x.kind x.origin x.loc xs
 numbered_stripped (suc d) n (x ∷ xs) = first_stripped x.kind x.origin x.loc (numbered_at d n xs) xs (numbered_stripped d n xs)
 
-above_stripped : (w : Way) (xs : List Item) → stripped_items (above_after w xs) ≡ stripped_items xs
+above_stripped : (w : SalvageAction) (xs : List Item) → stripped_items (above_after w xs) ≡ stripped_items xs
 above_stripped HasEntry xs = refl
 above_stripped (GetsEntry d o n) xs = numbered_stripped d n xs
 above_stripped GetsPhi xs = refl
 
 -- nor does what is put
-put_stripped : (w : Way) (k s : ℕ) (o : Origin) (xs : List Item) → stripped_items (above_after w xs ++ put_for w k s o) ≡ stripped_items xs
+put_stripped : (w : SalvageAction) (k s : ℕ) (o : Origin) (xs : List Item) → stripped_items (above_after w xs ++ put_for w k s o) ≡ stripped_items xs
 put_stripped w k s o xs = two_stripped (above_after w xs) (put_for w k s o) ∙ (λ i. above_stripped w xs i ++ none w i) ∙ append-nil (stripped_items xs) where
-  none : (w : Way) → stripped_items (put_for w k s o) ≡ []
+  none : (w : SalvageAction) → stripped_items (put_for w k s o) ≡ []
   none HasEntry = refl
   none (GetsEntry d p n) = refl
   none GetsPhi = refl
@@ -98,11 +98,11 @@ blocks_stripped (b ∷ bs) a =
     let more : List Block = map copied_block (stripped_blocks bs) in
     let items = items_stripped b.items (at_block a.subs a.fresh) in
     let one : stripped_blocks (next_block a b).blocks ≡ stripped_blocks a.blocks ++ copied_block (stripped_block b) ∷ [] =
-    blocks_append a.blocks (record { id = b.id; items = (over_items (at_block a.subs a.fresh) b.items).done; silent = b.silent } ∷ []) ∙
-    ap (λ (ys : List Item). stripped_blocks a.blocks ++ record { id = b.id; items = ys; silent = b.silent } ∷ []) items in
+    blocks_append a.blocks (record { id = b.id; items = (over_items (at_block a.subs a.fresh) b.items).done; source_end = b.source_end } ∷ []) ∙
+    ap (λ (ys : List Item). stripped_blocks a.blocks ++ record { id = b.id; items = ys; source_end = b.source_end } ∷ []) items in
     blocks_stripped bs (next_block a b) ∙ ap (λ (ys : List Block). ys ++ more) one ∙
     append_assoc (stripped_blocks a.blocks) (copied_block (stripped_block b) ∷ []) more
 
-pub code_is_copied : (f : Function) (subs : List Entry) → stripped (salvaged_function f subs) ≡ copied (stripped f)
+pub code_is_copied : (f : Function) (subs : List DebugSubstitution) → stripped (salvaged_function f subs) ≡ copied (stripped f)
 code_is_copied f subs =
     let e = blocks_stripped f.blocks (begins f subs) in λ i. record { name = f.name; slots = f.slots; objects = f.objects; blocks = e i }

@@ -2,7 +2,7 @@
 use Rattle.std.specs.Prelude.{◌≡◌, ◌+◌, List, [], ◌∷◌, map, Bool, false, cond, is_some}
 use Rattle.rv64_instr.specs.Row.{row_of}
 use Rattle.mir_func.specs.declared.block.Block.{Block}
-use Rattle.mir_func.specs.declared.entry.Entry.{Entry}
+use Rattle.mir_func.specs.declared.entry.DebugSubstitution.{DebugSubstitution}
 use Rattle.mir_func.specs.declared.item.Item.{Item}
 use Rattle.mir_func.specs.declared.item.ItemKind.{ItemKind}
 use Rattle.mir_func.specs.declared.item.ItemKind.TheVariants.{Code, Mark, Phi}
@@ -27,7 +27,7 @@ copied_items e (x ∷ xs) =
 
 -- a block without its redundant copies; no copies are available at its start
 abbrev pub copied_block : Block → Block
-copied_block b = record { id = b.id; items = copied_items [] b.items; silent = b.silent }
+copied_block b = record { id = b.id; items = copied_items [] b.items; source_end = b.source_end }
 
 -- the function without its redundant copies
 abbrev pub copied : Function → Function
@@ -38,13 +38,13 @@ abbrev pub IsCopied : CodeRule
 IsCopied f g = g ≡ copied f
 
 -- the initial state over a function with debug items: no blocks yet, and the first fresh number
-abbrev pub begins : Function → List Entry → BlocksSoFar
+abbrev pub begins : Function → List DebugSubstitution → BlocksSoFar
 begins f subs = record { blocks = []; subs = subs; fresh = greatest_number f subs + 1 }
 
 -- the function after the pass, with debug items: redundant copies are removed, and their numbers salvaged
-abbrev pub salvaged_function : Function → List Entry → Function
+abbrev pub salvaged_function : Function → List DebugSubstitution → Function
 salvaged_function f subs = record f { blocks = (over_blocks (begins f subs) f.blocks).blocks }
 
 -- the substitutions after the pass: the old ones, followed by those of salvaged copies
-abbrev pub salvaged_entries : Function → List Entry → List Entry
+abbrev pub salvaged_entries : Function → List DebugSubstitution → List DebugSubstitution
 salvaged_entries f subs = (over_blocks (begins f subs) f.blocks).subs

@@ -3,8 +3,8 @@ use Rattle.std.proofs.Common.{◌≡◌, ℕ, zero, suc, ◌+◌, ◌≤◌, Lis
 use Rattle.std.proofs.lemmas.List.{length-append}
 use Rattle.mir_func.specs.declared.position.Origin.{Origin}
 use Rattle.mir_func.specs.declared.item.Item.{Item}
-use Rattle.pass_salvage.specs.declared.way.Way.{Way}
-use Rattle.pass_salvage.specs.declared.way.Way.TheVariants.{HasEntry, GetsEntry, GetsPhi}
+use Rattle.pass_salvage.specs.declared.way.SalvageAction.{SalvageAction}
+use Rattle.pass_salvage.specs.declared.way.SalvageAction.TheVariants.{HasEntry, GetsEntry, GetsPhi}
 use Rattle.pass_salvage.specs.Salvage.{numbered_at, above_after, fresh_after}
 use Rattle.dce_copies.specs.declared.off.Copied.{Copied}
 use Rattle.dce_copies.specs.Off.{without_number, put_off, behind_off, items_off, SoFar, off_at, off_down}
@@ -22,12 +22,12 @@ numbered_long d n [] = refl
 numbered_long zero n (x ∷ xs) = refl
 numbered_long (suc d) n (x ∷ xs) = ap suc (numbered_long d n xs)
 
-above_long : (w : Way) (xs : List Item) → length (above_after w xs) ≡ length xs
+above_long : (w : SalvageAction) (xs : List Item) → length (above_after w xs) ≡ length xs
 above_long HasEntry xs = refl
 above_long (GetsEntry d o n) xs = numbered_long d n xs
 above_long GetsPhi xs = refl
 
-behind_long : (w : Way) (c : Copied) (xs : List Item) → length xs ≤ length (behind_off w c xs)
+behind_long : (w : SalvageAction) (c : Copied) (xs : List Item) → length xs ≤ length (behind_off w c xs)
 behind_long w c [] = omega arith
 behind_long w c (x ∷ xs) =
     let e = length-append (put_off w c x.origin) (record x { kind = without_number x.kind } ∷ xs) in
@@ -39,7 +39,7 @@ split_long zero (x ∷ xs) = omega arith
 split_long (suc at) [] = refl
 split_long (suc at) (x ∷ xs) = let e = split_long at xs in omega (arith, e)
 
-pub off_long : (w : Way) (at : ℕ) (c : Copied) (xs : List Item) → length xs ≤ length (items_off w at c xs)
+pub off_long : (w : SalvageAction) (at : ℕ) (c : Copied) (xs : List Item) → length xs ≤ length (items_off w at c xs)
 off_long w at c xs =
     let e = length-append (above_after w (take at xs)) (behind_off w c (drop at xs)) in
     let a = above_long w (take at xs) in
@@ -47,7 +47,7 @@ off_long w at c xs =
     let s = split_long at xs in
     omega (arith, e, a, b, s)
 
-pub fresh_more : (w : Way) (fresh : ℕ) → fresh_after w fresh ≤ fresh + 1
+pub fresh_more : (w : SalvageAction) (fresh : ℕ) → fresh_after w fresh ≤ fresh + 1
 fresh_more HasEntry fresh = omega arith
 fresh_more (GetsEntry d o n) fresh = by_test (nat_eq n fresh) where
   by_test : (z : Bool) → cond z (fresh + 1) fresh ≤ fresh + 1
@@ -57,12 +57,12 @@ fresh_more GetsPhi fresh = omega arith
 
 -- ---- each fresh number and each phi counts once
 
-put_long : (w : Way) (c : Copied) (o : Origin) (fresh : ℕ) → length (put_off w c o) + fresh_after w fresh ≤ fresh + 1
+put_long : (w : SalvageAction) (c : Copied) (o : Origin) (fresh : ℕ) → length (put_off w c o) + fresh_after w fresh ≤ fresh + 1
 put_long HasEntry c o fresh = omega arith
 put_long (GetsEntry d p n) c o fresh = let e = fresh_more (GetsEntry d p n) fresh in omega (arith, e)
 put_long GetsPhi c o fresh = omega arith
 
-pub fresh_least : (w : Way) (fresh : ℕ) → fresh ≤ fresh_after w fresh
+pub fresh_least : (w : SalvageAction) (fresh : ℕ) → fresh ≤ fresh_after w fresh
 fresh_least HasEntry fresh = omega arith
 fresh_least (GetsEntry d o n) fresh = by_test (nat_eq n fresh) where
   by_test : (z : Bool) → fresh ≤ cond z (fresh + 1) fresh
@@ -70,14 +70,14 @@ fresh_least (GetsEntry d o n) fresh = by_test (nat_eq n fresh) where
   by_test false = omega arith
 fresh_least GetsPhi fresh = omega arith
 
-behind_grows : (w : Way) (c : Copied) (xs : List Item) (fresh : ℕ) → length (behind_off w c xs) + fresh_after w fresh ≤ length xs + fresh + 1
+behind_grows : (w : SalvageAction) (c : Copied) (xs : List Item) (fresh : ℕ) → length (behind_off w c xs) + fresh_after w fresh ≤ length xs + fresh + 1
 behind_grows w c [] fresh = let e = fresh_more w fresh in omega (arith, e)
 behind_grows w c (x ∷ xs) fresh =
     let e = length-append (put_off w c x.origin) (record x { kind = without_number x.kind } ∷ xs) in
     let f = put_long w c x.origin fresh in
     omega (arith, e, f)
 
-pub off_grows : (w : Way) (at : ℕ) (c : Copied) (xs : List Item) (fresh : ℕ) →
+pub off_grows : (w : SalvageAction) (at : ℕ) (c : Copied) (xs : List Item) (fresh : ℕ) →
     length (items_off w at c xs) + fresh_after w fresh ≤ length xs + fresh + 1
 off_grows w at c xs fresh =
     let e = length-append (above_after w (take at xs)) (behind_off w c (drop at xs)) in

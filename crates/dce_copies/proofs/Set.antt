@@ -4,8 +4,8 @@ use Rattle.std.specs.List.{insert}
 use Rattle.std.proofs.lemmas.List.{get_or-take, length-take-le, length-set, drop-set-lt, set_split, get_or-set_other}
 use Rattle.std.proofs.Math.Seq.{take-set-lt}
 use Rattle.mir_func.specs.declared.item.Item.{Item}
-use Rattle.pass_salvage.specs.declared.way.Way.{Way}
-use Rattle.pass_salvage.specs.declared.way.Way.TheVariants.{HasEntry, GetsEntry, GetsPhi}
+use Rattle.pass_salvage.specs.declared.way.SalvageAction.{SalvageAction}
+use Rattle.pass_salvage.specs.declared.way.SalvageAction.TheVariants.{HasEntry, GetsEntry, GetsPhi}
 use Rattle.pass_salvage.specs.Salvage.{numbered_at}
 use Rattle.pass_salvage.proofs.Placed.{numbered_item, numbered_set}
 use Rattle.dce_copies.specs.declared.off.Copied.{Copied}
@@ -20,7 +20,7 @@ any (y ∷ ys) zero x z lt = refl
 any (y ∷ ys) (suc i) x z lt = any ys i x z (omega (arith, lt))
 
 module _ (c : Copied) where
-  behind_one : (w : Way) (xs : List Item) (at : ℕ) (x : Item) → at < length xs → get_or xs at x ≡ x →
+  behind_one : (w : SalvageAction) (xs : List Item) (at : ℕ) (x : Item) → at < length xs → get_or xs at x ≡ x →
       behind_off w c (drop at xs) ≡ put_off w c x.origin ++ bare x ∷ drop (suc at) xs
   behind_one w xs at x lt e = ap (behind_off w c) (drop-cons xs at x lt ∙ ap (λ (y : Item). y ∷ drop (suc at) xs) e)
 

@@ -1,7 +1,7 @@
 -- The blocks of a function whose dead copies lose their numbers.
 use Rattle.std.specs.Prelude.{ℕ, suc, List, [], ◌∷◌, drop, length, Bool, true, false, slice_index_or}
 use Rattle.mir_func.specs.declared.block.Block.{Block}
-use Rattle.mir_func.specs.declared.entry.Entry.{Entry}
+use Rattle.mir_func.specs.declared.entry.DebugSubstitution.{DebugSubstitution}
 use Rattle.pass_trait.specs.declared.loss.Loss.{Loss}
 use Rattle.dce_copies.specs.Off.{SoFar, off_down}
 
@@ -14,7 +14,7 @@ going_from n (false ∷ ds) = going_from (suc n) ds
 -- the state between blocks: the blocks that are done, the substitutions, the next fresh number and the losses so far
 pub record BlocksSoFar : Type 0 where
   pub blocks : List Block
-  pub subs : List Entry
+  pub subs : List DebugSubstitution
   pub fresh : ℕ
   pub lost : List Loss
 

@@ -2,15 +2,15 @@
 use Rattle.std.specs.Prelude.{ℕ, zero, suc, List, [], ◌∷◌, ◌++◌, take, drop, Option, Some, None, Bool, true, false, nat_eq, slice_get, slice_index_or}
 use Rattle.rv64_instr.specs.Row.{Row, Moves, row_of}
 use Rattle.mir_func.specs.declared.position.Origin.{Origin}
-use Rattle.mir_func.specs.declared.entry.Entry.{Entry}
+use Rattle.mir_func.specs.declared.entry.DebugSubstitution.{DebugSubstitution}
 use Rattle.mir_func.specs.declared.item.Item.{Item}
 use Rattle.mir_func.specs.declared.item.ItemKind.{ItemKind}
 use Rattle.mir_func.specs.declared.item.ItemKind.TheVariants.{Code, Mark, Phi}
 use Rattle.pass_trait.specs.declared.loss.Reason.TheVariants.{WrongPlace}
 use Rattle.pass_trait.specs.declared.loss.Loss.{Loss}
 use Rattle.pass_trait.specs.Rule.{item_before, number_lost}
-use Rattle.pass_salvage.specs.declared.way.Way.{Way}
-use Rattle.pass_salvage.specs.declared.way.Way.TheVariants.{HasEntry, GetsEntry, GetsPhi}
+use Rattle.pass_salvage.specs.declared.way.SalvageAction.{SalvageAction}
+use Rattle.pass_salvage.specs.declared.way.SalvageAction.TheVariants.{HasEntry, GetsEntry, GetsPhi}
 use Rattle.pass_salvage.specs.Salvage.{above_after, phi_for, entries_for, fresh_after}
 use Rattle.pass_salvage.specs.Way.{way}
 use Rattle.dce_copies.specs.declared.off.Copied.{Copied}
@@ -43,7 +43,7 @@ abbrev pub phi_off : Copied → Origin → Item
 phi_off c o = phi_by c.own c.number c.source o
 
 -- what is added before the copy: a DBG_PHI, if its number isn't substituted
-abbrev pub put_off : Way → Copied → Origin → List Item
+abbrev pub put_off : SalvageAction → Copied → Origin → List Item
 put_off HasEntry c o = []
 put_off (GetsEntry d p n) c o = []
 put_off GetsPhi c o = phi_off c o ∷ []
@@ -54,29 +54,29 @@ lost_if_own true k = number_lost k WrongPlace ∷ []
 lost_if_own false k = []
 
 -- the losses of this salvage
-abbrev pub lost_off : Way → Copied → List Loss
+abbrev pub lost_off : SalvageAction → Copied → List Loss
 lost_off HasEntry c = []
 lost_off (GetsEntry d p n) c = []
 lost_off GetsPhi c = lost_if_own c.own c.number
 
 -- what replaces the items from the copy on
-abbrev pub behind_off : Way → Copied → List Item → List Item
+abbrev pub behind_off : SalvageAction → Copied → List Item → List Item
 behind_off w c [] = []
 behind_off w c (x ∷ xs) = put_off w c x.origin ++ record x { kind = without_number x.kind } ∷ xs
 
 -- the items of a block after that; the one at an index was the copy
-abbrev pub items_off : Way → (at : ℕ) → Copied → List Item → List Item
+abbrev pub items_off : SalvageAction → (at : ℕ) → Copied → List Item → List Item
 items_off w at c items = above_after w (take at items) ++ behind_off w c (drop at items)
 
 -- the state along a block: its items, the substitutions, the next fresh number and the losses so far
 pub record SoFar : Type 0 where
   pub items : List Item
-  pub subs : List Entry
+  pub subs : List DebugSubstitution
   pub fresh : ℕ
   pub lost : List Loss
 
 -- a copy at an index loses its number by this salvage
-abbrev pub off_by : (at : ℕ) → Copied → SoFar → Way → SoFar
+abbrev pub off_by : (at : ℕ) → Copied → SoFar → SalvageAction → SoFar
 off_by at c a w = record {
   items = items_off w at c a.items;
   subs = a.subs ++ entries_for w c.number;

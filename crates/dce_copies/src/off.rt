@@ -14,7 +14,7 @@ use mir_func::location::Loc;
 use mir_func::position::Origin;
 use mir_substitution::substitutions::Substitutions;
 use pass_salvage::salvage::{entry_for, give_number};
-use pass_salvage::way::{Way, choose_way};
+use pass_salvage::way::{SalvageAction, choose_way};
 use pass_trait::loss::{Loss, Lost, Reason};
 use rv64_instr::decoded::Decoded;
 use rv64_instr::instr::Instr;
@@ -100,8 +100,8 @@ pub fn number_off(
         copied.source,
         DebugNumber(*fresh),
     ) {
-        Way::HasEntry => drop_number(&mut items[at]),
-        Way::GetsEntry(d, operand, standing) => {
+        SalvageAction::HasEntry => drop_number(&mut items[at]),
+        SalvageAction::GetsEntry(d, operand, standing) => {
             subs.add(entry_for(copied.number, standing, operand))?;
             give_number(&mut items[d], standing);
             drop_number(&mut items[at]);
@@ -109,7 +109,7 @@ pub fn number_off(
                 *fresh += 1;
             }
         }
-        Way::GetsPhi => {
+        SalvageAction::GetsPhi => {
             if copied.own {
                 lost.push(Loss {
                     what: Lost::Number(copied.number),

@@ -1,6 +1,6 @@
 -- Rounds are steps one after the other; what is left of the steps changes nothing.
 use Rattle.std.proofs.Common.{◌≡◌, ℕ, zero, suc, ◌≤◌, ◌^◌, List, [], refl, arith}
-use Rattle.mir_func.specs.declared.entry.Entry.{Entry}
+use Rattle.mir_func.specs.declared.entry.DebugSubstitution.{DebugSubstitution}
 use Rattle.mir_func.specs.Function.{Function}
 use Rattle.mir_func.specs.Sound.{IsSound}
 use Rattle.pass_trait.specs.declared.loss.Loss.{Loss}
@@ -23,14 +23,16 @@ most_is : most_rounds ≡ 2 ^ 31
 unfolding most_rounds
 most_is = refl
 
-idle_step : (f : Function) (subs : List Entry) → IsSound f → IsRound f f → KeepsStep (round_step dead_rule) (change f subs f subs) []
+idle_step : (f : Function) (subs : List DebugSubstitution) → IsSound f → IsRound f f → KeepsStep (round_step dead_rule) (change f subs f subs) []
 idle_step f subs sound r = record { sound = sound; code = settled_stripped f r; items = idle_keeps f subs sound r }
 
-idle_steps : (n : ℕ) (f : Function) (subs : List Entry) → IsSound f → IsRound f f → KeepsSteps (repeated n (round_step dead_rule)) (change f subs f subs) []
+idle_steps : (n : ℕ) (f : Function) (subs : List DebugSubstitution) → IsSound f → IsRound f f →
+    KeepsSteps (repeated n (round_step dead_rule)) (change f subs f subs) []
 idle_steps zero f subs sound r = (refl, refl, refl)
 idle_steps (suc n) f subs sound r = (f, subs, [], [], idle_step f subs sound r, idle_steps n f subs sound r, refl)
 
-pub steps : (n : ℕ) {f g : Function} {subs more : List Entry} {losses : List Loss} → IsSound f → code_count f ≤ n → AreDeadRounds f subs g more losses →
+pub steps : (n : ℕ) {f g : Function} {subs more : List DebugSubstitution} {losses : List Loss} → IsSound f → code_count f ≤ n →
+    AreDeadRounds f subs g more losses →
     KeepsSteps (repeated n (round_step dead_rule)) (change f subs g more) losses
 steps n {f} {g} {subs} {more} sound le (ended r) = idle_steps n f subs sound r
 steps zero {f} {g} {subs} {more} sound le (and_round h mid here r rest) =

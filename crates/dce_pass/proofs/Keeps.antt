@@ -4,7 +4,7 @@ use Rattle.std.proofs.Math.Nat.{le_refl, le_trans}
 use Rattle.mir_func.specs.declared.position.Pos.{Pos}
 use Rattle.mir_func.specs.declared.variable.MarkValue.TheVariants.{Nothing, Constant, At, Pair}
 use Rattle.mir_func.specs.declared.block.Block.{Block}
-use Rattle.mir_func.specs.declared.entry.Entry.{Entry}
+use Rattle.mir_func.specs.declared.entry.DebugSubstitution.{DebugSubstitution}
 use Rattle.mir_func.specs.declared.item.Item.{Item}
 use Rattle.mir_func.specs.declared.item.ItemKind.{ItemKind}
 use Rattle.mir_func.specs.declared.item.ItemKind.TheVariants.{Code, Mark, Phi}
@@ -16,7 +16,7 @@ use Rattle.pass_trait.specs.Change.{change}
 use Rattle.pass_trait.specs.Sizes.{greatest, item_count, KeepsSizes}
 use Rattle.dce_rule.specs.Dead.{Places, Ends, is_dead, needed_at, without_dead, thinned_block, IsRound, IsThinnedOut, over, again}
 use Rattle.dce_rule.specs.Wrong.{silenced, silenced_left, silenced_block, taken_out}
-use Rattle.pass_edits.specs.Loose.{KeepsLoosely}
+use Rattle.pass_edits.specs.WeakSimulation.{PreservesWeakSimulation}
 use Rattle.dce_rule.proofs.Stripped.{round_stripped}
 use Rattle.dce_rule.proofs.Chain.{loose_laws}
 use Rattle.dce_proof.proofs.Follows.{round_follows, round_code}
@@ -54,7 +54,7 @@ quiet_blocks ends [] = refl
 quiet_blocks ends (b ∷ bs) =
     let here = quiet_left 0 b.items (ends b.id) in
     let rest = quiet_blocks ends bs in
-    λ i. record { id = b.id; items = here i; silent = b.silent } ∷ rest i
+    λ i. record { id = b.id; items = here i; source_end = b.source_end } ∷ rest i
 
 pub settled_stripped : (f : Function) → IsRound f f → IsRound (stripped f) (stripped f)
 settled_stripped f r =
@@ -65,7 +65,7 @@ settled_stripped f r =
 
 -- ---- sizes
 
-no_larger_itself : (f : Function) (subs : List Entry) → IsNoLarger f subs f subs
+no_larger_itself : (f : Function) (subs : List DebugSubstitution) → IsNoLarger f subs f subs
 no_larger_itself f subs = record {
   items = le_refl (item_count f);
   code = le_refl _;
@@ -75,7 +75,7 @@ no_larger_itself f subs = record {
   slots = refl;
 }
 
-no_larger_then : (f g h : Function) (a b c : List Entry) → IsNoLarger f a g b → IsNoLarger g b h c → IsNoLarger f a h c
+no_larger_then : (f g h : Function) (a b c : List DebugSubstitution) → IsNoLarger f a g b → IsNoLarger g b h c → IsNoLarger f a h c
 no_larger_then f g h a b c x y = record {
   items = le_trans y.items x.items;
   code = le_trans y.code x.code;
@@ -85,7 +85,7 @@ no_larger_then f g h a b c x y = record {
   slots = y.slots ∙ x.slots;
 }
 
-keeps_sizes : (f g : Function) (a b : List Entry) → IsNoLarger f a g b → KeepsSizes 1 1 (change f a g b)
+keeps_sizes : (f g : Function) (a b : List DebugSubstitution) → IsNoLarger f a g b → KeepsSizes 1 1 (change f a g b)
 keeps_sizes f g a b h =
     let items = h.items in
     let code = h.code in
@@ -101,14 +101,14 @@ keeps_sizes f g a b h =
 
 -- ---- one round after the other
 
-record Chain (f : Function) (subs : List Entry) (g : Function) (more : List Entry) : Type 0 where
+record Chain (f : Function) (subs : List DebugSubstitution) (g : Function) (more : List DebugSubstitution) : Type 0 where
   sound : IsSound g
-  loosely : KeepsLoosely (change f subs g more)
+  loosely : PreservesWeakSimulation (change f subs g more)
   last : IsRound g g
   sizes : IsNoLarger f subs g more
   code : IsThinnedOut (stripped f) (stripped g)
 
-chain : {f g : Function} {subs more : List Entry} {losses : List Loss} → IsSound f → AreDeadRounds f subs g more losses → Chain f subs g more
+chain : {f g : Function} {subs more : List DebugSubstitution} {losses : List Loss} → IsSound f → AreDeadRounds f subs g more losses → Chain f subs g more
 chain {f} {g} {subs} {more} sound (ended r) = record {
   sound = sound;
   loosely = loose_laws.itself f subs;

@@ -7,7 +7,7 @@ use Rattle.std.proofs.lemmas.Grind.{flat_map-append}
 use Rattle.std.proofs.lemmas.List.{append_assoc, length-take-le}
 use Rattle.std.proofs.lemmas.List.Elements.{All-nil, All-cons, All-append, All-head, All-tail, All-weaker, Contains-append_right}
 use Rattle.std.proofs.lemmas.Option.{slice_get_within}
-use Rattle.mir_func.specs.declared.entry.Entry.{Entry}
+use Rattle.mir_func.specs.declared.entry.DebugSubstitution.{DebugSubstitution}
 use Rattle.mir_func.specs.declared.block.Block.{Block}
 use Rattle.mir_func.specs.declared.item.Item.{Item}
 use Rattle.mir_func.specs.declared.item.ItemKind.TheVariants.{Code}
@@ -17,8 +17,8 @@ use Rattle.rv64_instr.specs.Instruction.{Instruction}
 use Rattle.mir_func.specs.Sound.{items_of, IsSound}
 use Rattle.pass_trait.specs.Rule.{item}
 use Rattle.pass_trait.specs.Sizes.{numbers_of, greatest_number}
-use Rattle.pass_salvage.specs.declared.way.Way.{Way}
-use Rattle.pass_salvage.specs.declared.way.Way.TheVariants.{HasEntry, GetsEntry, GetsPhi}
+use Rattle.pass_salvage.specs.declared.way.SalvageAction.{SalvageAction}
+use Rattle.pass_salvage.specs.declared.way.SalvageAction.TheVariants.{HasEntry, GetsEntry, GetsPhi}
 use Rattle.pass_salvage.specs.Way.{way}
 use Rattle.pass_salvage.specs.Salvage.{entry_for, entries_for, above_after, fresh_after}
 use Rattle.pass_edits.proofs.Numbers.{AreUnlike, all_first, all_second}
@@ -43,21 +43,21 @@ drop_zero (x ∷ xs) = refl
 
 -- ---- the items of a block
 
-module _ (f : Function) (fs : List Block) (id silent : ℕ) (gs : List Block) (dead : List Bool) (old : List Entry) where
+module _ (f : Function) (fs : List Block) (id source_end : ℕ) (gs : List Block) (dead : List Bool) (old : List DebugSubstitution) where
   -- the entries that were added, each of which stands, where the items from an index on are done
   pub record Going (n : ℕ) (a : SoFar) : Type 0 where
-    pub ready : Ready f fs id silent gs a.items a.subs a.fresh
-    pub more : List Entry
+    pub ready : Ready f fs id source_end gs a.items a.subs a.fresh
+    pub more : List DebugSubstitution
     pub is : a.subs ≡ old ++ more
-    pub stand : All (Stands f fs id silent gs dead a.items a.subs n) more
+    pub stand : All (Stands f fs id source_end gs dead a.items a.subs n) more
 
   step_on : (n : ℕ) (a : SoFar) (x : Item) → slice_get a.items n ≡ Some x → Going (suc n) a → Going n a
   step_on n a x at g = record {
     ready = g.ready;
     more = g.more;
     is = g.is;
-    stand = All-weaker (Stands f fs id silent gs dead a.items a.subs (suc n)) (Stands f fs id silent gs dead a.items a.subs n)
-        (stand_on f fs id silent gs dead a.items a.subs n x (split_at a.items n x at).behind at) g.more g.stand;
+    stand = All-weaker (Stands f fs id source_end gs dead a.items a.subs (suc n)) (Stands f fs id source_end gs dead a.items a.subs n)
+        (stand_on f fs id source_end gs dead a.items a.subs n x (split_at a.items n x at).behind at) g.more g.stand;
   }
 
   step_copy : (n : ℕ) (a : SoFar) (x : Item) (c : Copied) → slice_get a.items n ≡ Some x → numbered_copy x.kind ≡ Some c → get_or dead n false ≡ true →
@@ -73,41 +73,42 @@ module _ (f : Function) (fs : List Block) (id silent : ℕ) (gs : List Block) (d
       let rest : drop n a.items ≡ copy ∷ down = s.behind ∙ ap (λ (y : Item). y ∷ down) same in
       let lt : n < length a.items = slice_get_within a.items n x at in
       let long : length up ≡ n = length-take-le n a.items (omega (arith, lt)) in
-      let v : Way = way (going_from 0 dead) a.subs a.fresh c.number c.source (take n a.items) in
-      let r : Ready f fs id silent gs (up ++ copy ∷ down) a.subs a.fresh =
-      subst (λ (xs : List Item). Ready f fs id silent gs xs a.subs a.fresh) whole g.ready in
-      let one = copy_goes f fs id silent gs c.number c.source w.target up w.code x.origin x.loc down a.subs a.fresh 0 w.row r (going_from 0 dead)
+      let v : SalvageAction = way (going_from 0 dead) a.subs a.fresh c.number c.source (take n a.items) in
+      let r : Ready f fs id source_end gs (up ++ copy ∷ down) a.subs a.fresh =
+      subst (λ (xs : List Item). Ready f fs id source_end gs xs a.subs a.fresh) whole g.ready in
+      let one = copy_goes f fs id source_end gs c.number c.source w.target up w.code x.origin x.loc down a.subs a.fresh 0 w.row r (going_from 0 dead)
       c.own v refl in
       let items : List Item = above_after v up ++ (put_off v c x.origin ++ item (Code w.code None) x.origin x.loc ∷ down) in
       let made : items ≡ items_off v n c a.items = ap (λ (ys : List Item). above_after v up ++ behind_off v c ys) (sym rest) in
       let under : All (EntryUnder a.fresh) g.more = all_second (EntryUnder a.fresh) old g.more (subst (All (EntryUnder a.fresh)) g.is r.in_entries) in
-      let before : All (Stands f fs id silent gs dead (up ++ copy ∷ down) a.subs (suc n)) g.more =
-      subst (λ (xs : List Item). All (Stands f fs id silent gs dead xs a.subs (suc n)) g.more) whole g.stand in
-      let P : Entry → Type 0 = Stands f fs id silent gs dead items (a.subs ++ entries_for v c.number) n in
-      let olds : All (Stands f fs id silent gs dead items (a.subs ++ entries_for v c.number) n) g.more =
-      (λ j y inside. old_stand f fs id silent gs dead n c.number c.source c.own up w.code x.origin x.loc down a.subs a.fresh long r goes v refl
+      let before : All (Stands f fs id source_end gs dead (up ++ copy ∷ down) a.subs (suc n)) g.more =
+      subst (λ (xs : List Item). All (Stands f fs id source_end gs dead xs a.subs (suc n)) g.more) whole g.stand in
+      let P : DebugSubstitution → Type 0 = Stands f fs id source_end gs dead items (a.subs ++ entries_for v c.number) n in
+      let olds : All (Stands f fs id source_end gs dead items (a.subs ++ entries_for v c.number) n) g.more =
+      (λ j y inside. old_stand f fs id source_end gs dead n c.number c.source c.own up w.code x.origin x.loc down a.subs a.fresh long r goes v refl
       (get_or g.more j y) ((under j y inside).0) (before j y inside)) in
       record {
-        ready = subst (λ (ys : List Item). Ready f fs id silent gs ys (a.subs ++ entries_for v c.number) (fresh_after v a.fresh)) made one.ready;
+        ready = subst (λ (ys : List Item). Ready f fs id source_end gs ys (a.subs ++ entries_for v c.number) (fresh_after v a.fresh)) made one.ready;
         more = g.more ++ entries_for v c.number;
-        is = ap (λ (es : List Entry). es ++ entries_for v c.number) g.is ∙ append_assoc old g.more (entries_for v c.number);
-        stand = subst (λ (ys : List Item). All (Stands f fs id silent gs dead ys (a.subs ++ entries_for v c.number) n) (g.more ++ entries_for v c.number)) made
-            (All-append (Stands f fs id silent gs dead items (a.subs ++ entries_for v c.number) n) g.more (entries_for v c.number) olds
+        is = ap (λ (es : List DebugSubstitution). es ++ entries_for v c.number) g.is ∙ append_assoc old g.more (entries_for v c.number);
+        stand = subst (λ (ys : List Item). All (Stands f fs id source_end gs dead ys (a.subs ++ entries_for v c.number) n)
+            (g.more ++ entries_for v c.number)) made
+            (All-append (Stands f fs id source_end gs dead items (a.subs ++ entries_for v c.number) n) g.more (entries_for v c.number) olds
             (by_way w.code up down long r v refl));
       } where
         by_way : (i : Instruction) (up down : List Item) (long : length up ≡ n)
-            (r : Ready f fs id silent gs (up ++ item (Code i (Some c.number)) x.origin x.loc ∷ down) a.subs a.fresh) (v : Way) →
+            (r : Ready f fs id source_end gs (up ++ item (Code i (Some c.number)) x.origin x.loc ∷ down) a.subs a.fresh) (v : SalvageAction) →
             way (going_from 0 dead) a.subs a.fresh c.number c.source up ≡ v →
-            All (Stands f fs id silent gs dead (above_after v up ++ (put_off v c x.origin ++ item (Code i None) x.origin x.loc ∷ down))
+            All (Stands f fs id source_end gs dead (above_after v up ++ (put_off v c x.origin ++ item (Code i None) x.origin x.loc ∷ down))
             (a.subs ++ entries_for v c.number) n) (entries_for v c.number)
-        by_way i up down long r HasEntry e = All-nil (Stands f fs id silent gs dead (up ++ item (Code i None) x.origin x.loc ∷ down) (a.subs ++ []) n)
+        by_way i up down long r HasEntry e = All-nil (Stands f fs id source_end gs dead (up ++ item (Code i None) x.origin x.loc ∷ down) (a.subs ++ []) n)
         by_way i up down long r GetsPhi e =
-            All-nil (Stands f fs id silent gs dead (up ++ (put_off GetsPhi c x.origin ++ item (Code i None) x.origin x.loc ∷ down)) (a.subs ++ []) n)
+            All-nil (Stands f fs id source_end gs dead (up ++ (put_off GetsPhi c x.origin ++ item (Code i None) x.origin x.loc ∷ down)) (a.subs ++ []) n)
         by_way i up down long r (GetsEntry d p m) e =
             let made : List Item = above_after (GetsEntry d p m) up ++ item (Code i None) x.origin x.loc ∷ down in
-            All-cons (Stands f fs id silent gs dead made (a.subs ++ entry_for c.number m p ∷ []) n) (entry_for c.number m p) []
-            (new_stands f fs id silent gs dead n c.number c.source c.own up i x.origin x.loc down a.subs a.fresh long r goes d p m e)
-            (All-nil (Stands f fs id silent gs dead made (a.subs ++ entry_for c.number m p ∷ []) n))
+            All-cons (Stands f fs id source_end gs dead made (a.subs ++ entry_for c.number m p ∷ []) n) (entry_for c.number m p) []
+            (new_stands f fs id source_end gs dead n c.number c.source c.own up i x.origin x.loc down a.subs a.fresh long r goes d p m e)
+            (All-nil (Stands f fs id source_end gs dead made (a.subs ++ entry_for c.number m p ∷ []) n))
 
   pub record Next (n : ℕ) (a : SoFar) : Type 0 where
     pub going : Going n a
@@ -127,7 +128,7 @@ module _ (f : Function) (fs : List Block) (id silent : ℕ) (gs : List Block) (d
       by_copy : get_or dead n false ≡ true → (c : Option Copied) → numbered_copy x.kind ≡ c → Next n (off_at (going_from 0 dead) n true a)
       by_copy dies None e = subst (Next n) (sym (state None e)) stays
       by_copy dies (Some c) e =
-          let v : Way = way (going_from 0 dead) a.subs a.fresh c.number c.source (take n a.items) in
+          let v : SalvageAction = way (going_from 0 dead) a.subs a.fresh c.number c.source (take n a.items) in
           let more = off_long v n c a.items in
           subst (Next n) (sym (state (Some c) e)) (record { going = step_copy n a x c at e dies g; long = omega (arith, lt, more) })
 
@@ -143,16 +144,16 @@ module _ (f : Function) (fs : List Block) (id silent : ℕ) (gs : List Block) (d
 
 -- ---- all blocks
 
-pub record StandsIn (above gs : List Block) (subs : List Entry) (e : Entry) : Type 0 where
+pub record StandsIn (above gs : List Block) (subs : List DebugSubstitution) (e : DebugSubstitution) : Type 0 where
   pub whole : (e.src.operand ≡ 0) × (e.subreg ≡ 0)
   pub gone : AreUnlike e.src.number (items_of (above ++ gs))
   pub given : HasCode e.dst.number (items_of gs)
   pub end : entry_of subs e.dst ≡ None
 
-module _ (f : Function) (old : List Entry) where
-  pub record Through (above gs : List Block) (subs : List Entry) (fresh : ℕ) : Type 0 where
+module _ (f : Function) (old : List DebugSubstitution) where
+  pub record Through (above gs : List Block) (subs : List DebugSubstitution) (fresh : ℕ) : Type 0 where
     pub ready : BlocksReady f (above ++ gs) subs fresh
-    pub more : List Entry
+    pub more : List DebugSubstitution
     pub is : subs ≡ old ++ more
     pub stand : All (StandsIn above gs subs) more
 
@@ -168,7 +169,7 @@ module _ (f : Function) (old : List Entry) where
       let same : (above ++ b ∷ []) ++ m.blocks ≡ above ++ b ∷ m.blocks = append_assoc above (b ∷ []) m.blocks in
       let r : BlocksReady f (above ++ b ∷ m.blocks) m.subs m.fresh = subst (λ (cs : List Block). BlocksReady f cs m.subs m.fresh) same t.ready in
       let rest = all_second (B m.fresh) above (b ∷ m.blocks) r.in_blocks in
-      let start : Going f above b.id b.silent m.blocks d old (length b.items) (in_block b m) = record {
+      let start : Going f above b.id b.source_end m.blocks d old (length b.items) (in_block b m) = record {
         ready = record {
           sound = r.sound;
           in_above = all_first (B m.fresh) above (b ∷ m.blocks) r.in_blocks;
@@ -178,7 +179,7 @@ module _ (f : Function) (old : List Entry) where
         };
         more = t.more;
         is = t.is;
-        stand = All-weaker (StandsIn (above ++ b ∷ []) m.blocks m.subs) (Stands f above b.id b.silent m.blocks d b.items m.subs (length b.items))
+        stand = All-weaker (StandsIn (above ++ b ∷ []) m.blocks m.subs) (Stands f above b.id b.source_end m.blocks d b.items m.subs (length b.items))
             (λ e h. record {
               whole = h.whole;
               gone = subst (AreUnlike e.src.number) (ap (λ (cs : List Block). items_of cs) same ∙ all_items above b m.blocks) h.gone;
@@ -187,8 +188,8 @@ module _ (f : Function) (old : List Entry) where
             }) t.more t.stand;
       } in
       let e : SoFar = block_off d b m in
-      let g : Going f above b.id b.silent m.blocks d old 0 (block_off d b m) =
-      all_steps f above b.id b.silent m.blocks d old (length b.items) (in_block b m) (le_refl (length b.items)) start in
+      let g : Going f above b.id b.source_end m.blocks d old 0 (block_off d b m) =
+      all_steps f above b.id b.source_end m.blocks d old (length b.items) (in_block b m) (le_refl (length b.items)) start in
       record {
         ready = record {
           sound = g.ready.sound;
@@ -198,7 +199,7 @@ module _ (f : Function) (old : List Entry) where
         };
         more = g.more;
         is = g.is;
-        stand = All-weaker (Stands f above b.id b.silent m.blocks d e.items e.subs 0) (StandsIn above (record b { items = e.items } ∷ m.blocks) e.subs)
+        stand = All-weaker (Stands f above b.id b.source_end m.blocks d e.items e.subs 0) (StandsIn above (record b { items = e.items } ∷ m.blocks) e.subs)
             (λ x h. record {
               whole = h.whole;
               gone = subst (AreUnlike x.src.number) (sym (all_items above (record b { items = e.items }) m.blocks)) h.gone;
@@ -224,12 +225,12 @@ module _ (f : Function) (old : List Entry) where
       (through (above ++ b ∷ []) bs (drop 1 ds) a none start
       (subst (λ (cs : List Block). BlocksReady f cs a.subs a.fresh) (sym (append_assoc above (b ∷ []) bs)) r))
 
-pub all_added : (f : Function) (subs : List Entry) (dead : List (List Bool)) → IsSound f →
+pub all_added : (f : Function) (subs : List DebugSubstitution) (dead : List (List Bool)) → IsSound f →
     Through f subs [] (all_off f subs dead).blocks (all_off f subs dead).subs (all_off f subs dead).fresh
 all_added f subs dead sound =
     let m : ℕ = greatest_number f subs in
     let on_items : List ℕ = flat_map (λ (i : Item). numbers_of i.kind) (items_of f.blocks) in
-    let in_subs : List ℕ = flat_map (λ (e : Entry). e.src.number ∷ e.dst.number ∷ []) subs in
+    let in_subs : List ℕ = flat_map (λ (e : DebugSubstitution). e.src.number ∷ e.dst.number ∷ []) subs in
     let all : All (λ (n : ℕ). n < m + 1) (on_items ++ in_subs) = greatest_under m (on_items ++ in_subs) (le_refl m) in
     through f subs [] f.blocks dead (begins_off f subs) refl refl (record {
       sound = sound;

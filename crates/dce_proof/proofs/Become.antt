@@ -12,7 +12,7 @@ use Rattle.mir_func.specs.declared.position.Origin.{Origin}
 use Rattle.mir_func.specs.declared.location.Loc.{Loc}
 use Rattle.mir_func.specs.declared.variable.VarId.{VarId}
 use Rattle.mir_func.specs.declared.variable.MarkValue.TheVariants.{Nothing, Constant, At, Pair}
-use Rattle.mir_func.specs.declared.entry.Entry.{Entry}
+use Rattle.mir_func.specs.declared.entry.DebugSubstitution.{DebugSubstitution}
 use Rattle.mir_func.specs.declared.item.Item.{Item}
 use Rattle.mir_func.specs.declared.item.ItemKind.{ItemKind}
 use Rattle.mir_func.specs.declared.item.ItemKind.TheVariants.{Code, Mark, Phi}
@@ -101,7 +101,7 @@ defines_copy i n rd s x row e =
     let t : nat_eq x (suc rd) ≡ true = eq-eqb x (suc rd) e in
     ap (λ (r : Row). defines_of r (Register x)) row ∙ ap (λ (z : Bool). z || false) t
 
-module _ (f : Function) (subs : List Entry) (dead : List (List Bool)) (sound : IsSound f) (judged : AreJudged f dead) (wrong : Pos → Places) where
+module _ (f : Function) (subs : List DebugSubstitution) (dead : List (List Bool)) (sound : IsSound f) (judged : AreJudged f dead) (wrong : Pos → Places) where
   abbrev pub it : Change
   it = c f subs dead sound judged wrong
 
@@ -239,7 +239,7 @@ module _ (f : Function) (subs : List Entry) (dead : List (List Bool)) (sound : I
       Becomes dead_rule (c f subs dead sound judged wrong) at (item (Code i None) o d) (item (Code i (Some k)) o d ∷ [])
   gets_number at i k o d q w = code_numbered (record { now = item (Code i (Some k)) o d ∷ []; phi = None }, w.has, i, o, d, w.stands, refl)
 
-  pub entered_goes : (at : Pos) (i : Instruction) (k rd s : ℕ) (o : Origin) (d : Loc) (q : Pos) (e : Entry) → row_of i ≡ Moves (suc rd) s →
+  pub entered_goes : (at : Pos) (i : Instruction) (k rd s : ℕ) (o : Origin) (d : Loc) (q : Pos) (e : DebugSubstitution) → row_of i ≡ Moves (suc rd) s →
       Stood at (item (Code i (Some k)) o d) (record { now = item (Code i None) o d ∷ []; phi = None }) q → is_dead_at judged.ends f at ≡ true →
       entry_of (all_off f subs dead).subs (first_operand k) ≡ Some e →
       Becomes dead_rule (c f subs dead sound judged wrong) at (item (Code i (Some k)) o d) []

@@ -5,10 +5,10 @@ use Rattle.std.proofs.Math.Nat.{le_refl}
 use Rattle.std.proofs.lemmas.Bool.{eqb-true}
 use Rattle.std.proofs.lemmas.List.{append_assoc}
 use Rattle.std.proofs.lemmas.Option.{slice_get_within}
-use Rattle.mir_func.specs.declared.entry.Entry.{Entry}
+use Rattle.mir_func.specs.declared.entry.DebugSubstitution.{DebugSubstitution}
 use Rattle.mir_func.specs.declared.block.Block.{Block}
 use Rattle.mir_func.specs.declared.item.Item.{Item}
-use Rattle.mir_func.specs.Graph.{Silent, end_of, from_block}
+use Rattle.mir_func.specs.Graph.{EndOfBlock, end_of, from_block}
 use Rattle.mir_func.specs.Sound.{AreApart, ids_of}
 use Rattle.sem_mir.proofs.Reading.{apart_tail}
 use Rattle.pass_trait.specs.declared.loss.Loss.{Loss}
@@ -29,9 +29,9 @@ all_lines dead (b ∷ bs) a =
     all_lines (drop 1 dead) bs a
 
 -- what the blocks are then
-pub data BlocksAre (subs : List Entry) (ends : Ends) : List Block → List (List Line) → List Block → Type 0 where
+pub data BlocksAre (subs : List DebugSubstitution) (ends : Ends) : List Block → List (List Line) → List Block → Type 0 where
   no_blocks : BlocksAre subs ends [] [] []
-  and_block : {b c : Block} {ls : List Line} {bs cs : List Block} {lss : List (List Line)} → c.id ≡ b.id → c.silent ≡ b.silent → c.items ≡ all_now ls →
+  and_block : {b c : Block} {ls : List Line} {bs cs : List Block} {lss : List (List Line)} → c.id ≡ b.id → c.source_end ≡ b.source_end → c.items ≡ all_now ls →
       LinesAre subs (ends b.id) b.items ls → BlocksAre subs ends bs lss cs → BlocksAre subs ends (b ∷ bs) (ls ∷ lss) (c ∷ cs)
 
 drop_zero : {A : Type 0} (xs : List A) → drop 0 xs ≡ xs
@@ -48,7 +48,7 @@ drop_all (x ∷ xs) = drop_all xs
 pub record OneBlock (ends : Ends) (d : List Bool) (b : Block) (m : BlocksSoFar) : Type 0 where
   pub lines : LinesAre (block_off d b m).subs (ends b.id) b.items (lines_down (going_from 0 d) d (length b.items) (in_block b m))
   pub items : (block_off d b m).items ≡ all_now (lines_down (going_from 0 d) d (length b.items) (in_block b m))
-  pub more : List Entry
+  pub more : List DebugSubstitution
   pub grown : (block_off d b m).subs ≡ m.subs ++ more
 
 block_done : (d : List Bool) (b : Block) (m : BlocksSoFar) → Done b.items d (length b.items) (in_block b m)
@@ -69,27 +69,27 @@ one_block ends d b m is =
 -- ---- all blocks
 
 pub blocks_are : (ends : Ends) (bs : List Block) (ds : List (List Bool)) (a : BlocksSoFar) → ds ≡ verdicts_of ends bs → a.blocks ≡ [] →
-    (final more : List Entry) → final ≡ (blocks_off ds bs a).subs ++ more → BlocksAre final ends bs (all_lines ds bs a) (blocks_off ds bs a).blocks
+    (final more : List DebugSubstitution) → final ≡ (blocks_off ds bs a).subs ++ more → BlocksAre final ends bs (all_lines ds bs a) (blocks_off ds bs a).blocks
 blocks_are ends [] ds a e none final more is = subst (λ (cs : List Block). BlocksAre final ends [] [] cs) (sym none) no_blocks
 blocks_are ends (b ∷ bs) ds a e none final more is =
     let d : List Bool = get_or ds 0 [] in
     let m : BlocksSoFar = blocks_off (drop 1 ds) bs a in
     let one = one_block ends d b m (ap (λ (z : List (List Bool)). get_or z 0 []) e) in
     and_block refl refl one.items
-    (subst (λ (es : List Entry). LinesAre es (ends b.id) b.items (lines_down (going_from 0 d) d (length b.items) (in_block b m))) (sym is)
+    (subst (λ (es : List DebugSubstitution). LinesAre es (ends b.id) b.items (lines_down (going_from 0 d) d (length b.items) (in_block b m))) (sym is)
     (lines_more (block_off d b m).subs more (ends b.id) b.items (lines_down (going_from 0 d) d (length b.items) (in_block b m)) one.lines))
     (blocks_are ends bs (drop 1 ds) a (ap (drop 1) e ∙ drop_zero (verdicts_of ends bs)) none final (one.more ++ more)
-    (is ∙ ap (λ (es : List Entry). es ++ more) one.grown ∙ append_assoc m.subs one.more more))
+    (is ∙ ap (λ (es : List DebugSubstitution). es ++ more) one.grown ∙ append_assoc m.subs one.more more))
 
 pub subs_grow : (ends : Ends) (bs : List Block) (ds : List (List Bool)) (a : BlocksSoFar) → ds ≡ verdicts_of ends bs →
-    (more : List Entry) × ((blocks_off ds bs a).subs ≡ a.subs ++ more)
+    (more : List DebugSubstitution) × ((blocks_off ds bs a).subs ≡ a.subs ++ more)
 subs_grow ends [] ds a e = ([], sym (append-nil a.subs))
 subs_grow ends (b ∷ bs) ds a e =
     let d : List Bool = get_or ds 0 [] in
     let m : BlocksSoFar = blocks_off (drop 1 ds) bs a in
     let one = one_block ends d b m (ap (λ (z : List (List Bool)). get_or z 0 []) e) in
     let rest = subs_grow ends bs (drop 1 ds) a (ap (drop 1) e ∙ drop_zero (verdicts_of ends bs)) in
-    (rest.0 ++ one.more, one.grown ∙ ap (λ (es : List Entry). es ++ one.more) rest.1 ∙ append_assoc a.subs rest.0 one.more)
+    (rest.0 ++ one.more, one.grown ∙ ap (λ (es : List DebugSubstitution). es ++ one.more) rest.1 ∙ append_assoc a.subs rest.0 one.more)
 
 -- ---- the ledger has the lines of each block
 
@@ -115,15 +115,15 @@ lines_at (x ∷ xs) ds a apart (suc j) b ls at at' =
     lines_at xs (drop 1 ds) a (apart_tail x.id (ids_of xs) apart) j b ls at at'
 
 -- the blocks of one number, before and after, with their lines
-pub data Found (subs : List Entry) (ends : Ends) (n : ℕ) : List Block → List Line → List Block → Type 0 where
+pub data Found (subs : List DebugSubstitution) (ends : Ends) (n : ℕ) : List Block → List Line → List Block → Type 0 where
   nowhere : Found subs ends n [] [] []
-  there : {b c : Block} {ls : List Line} {bs cs : List Block} → b.id ≡ n → c.silent ≡ b.silent → c.items ≡ all_now ls →
+  there : {b c : Block} {ls : List Line} {bs cs : List Block} → b.id ≡ n → c.source_end ≡ b.source_end → c.items ≡ all_now ls →
       LinesAre subs (ends n) b.items ls → ((k : ℕ) → end_of k cs ≡ end_of k bs) → Found subs ends n (b ∷ bs) ls (c ∷ cs)
 
-same_ends : (subs : List Entry) (ends : Ends) (bs cs : List Block) (lss : List (List Line)) → BlocksAre subs ends bs lss cs → (k : ℕ) →
+same_ends : (subs : List DebugSubstitution) (ends : Ends) (bs cs : List Block) (lss : List (List Line)) → BlocksAre subs ends bs lss cs → (k : ℕ) →
     end_of k cs ≡ end_of k bs
 same_ends subs ends bs cs lss no_blocks k = refl
-same_ends subs ends (b ∷ bs) (c ∷ cs) (ls ∷ lss) (and_block id silent items lines rest) k = ap (λ (n : ℕ). Silent k n) id
+same_ends subs ends (b ∷ bs) (c ∷ cs) (ls ∷ lss) (and_block id source_end items lines rest) k = ap (λ (n : ℕ). EndOfBlock k n) id
 
 -- a ledger by its blocks
 abbrev pub lines_for : List Block → List (List Line) → (n : ℕ) → List Line
@@ -138,17 +138,17 @@ lines_for_is (b ∷ bs) ds a n =
     (lines_down (going_from 0 (get_or ds 0 [])) (get_or ds 0 []) (length b.items) (in_block b (blocks_off (drop 1 ds) bs a))) ls)
     (lines_for_is bs (drop 1 ds) a n)
 
-pub found_at : (subs : List Entry) (ends : Ends) (bs cs : List Block) (lss : List (List Line)) → BlocksAre subs ends bs lss cs → (n : ℕ) →
+pub found_at : (subs : List DebugSubstitution) (ends : Ends) (bs cs : List Block) (lss : List (List Line)) → BlocksAre subs ends bs lss cs → (n : ℕ) →
     Found subs ends n (from_block bs n) (lines_for bs lss n) (from_block cs n)
 found_at subs ends bs cs lss no_blocks n = nowhere
-found_at subs ends (b ∷ bs) (c ∷ cs) (ls ∷ lss) (and_block id silent items lines rest) n =
+found_at subs ends (b ∷ bs) (c ∷ cs) (ls ∷ lss) (and_block id source_end items lines rest) n =
     by_test (nat_eq b.id n) refl (nat_eq c.id n) (ap (λ (k : ℕ). nat_eq k n) id) (found_at subs ends bs cs lss rest n) where
       by_test : (z : Bool) → nat_eq b.id n ≡ z → (w : Bool) → w ≡ nat_eq b.id n →
           Found subs ends n (from_block bs n) (lines_for bs lss n) (from_block cs n) →
           Found subs ends n (cond z (b ∷ bs) (from_block bs n)) (cond z ls (lines_for bs lss n)) (cond w (c ∷ cs) (from_block cs n))
       by_test true e true same rec =
           let id_is = eqb-true b.id n e in
-          there id_is silent items (subst (λ (k : ℕ). LinesAre subs (ends k) b.items ls) id_is lines) (same_ends subs ends bs cs lss rest)
+          there id_is source_end items (subst (λ (k : ℕ). LinesAre subs (ends k) b.items ls) id_is lines) (same_ends subs ends bs cs lss rest)
       by_test false e false same rec = rec
       by_test true e false same rec = let bad : false ≡ true = same ∙ e in cc
       by_test false e true same rec = let bad : true ≡ false = same ∙ e in cc

@@ -8,7 +8,7 @@ use Rattle.std.proofs.lemmas.List.{append_assoc, length-append}
 use Rattle.std.proofs.lemmas.List.Elements.{All-nil, All-cons, All-head, All-tail, All-append, All-contains, Contains-append_right}
 use Rattle.std.proofs.lemmas.Option.{slice_get_within, get_or_from_slice_get}
 use Rattle.rv64_instr.specs.Instruction.{Instruction}
-use Rattle.mir_func.specs.declared.entry.Entry.{Entry}
+use Rattle.mir_func.specs.declared.entry.DebugSubstitution.{DebugSubstitution}
 use Rattle.mir_func.specs.declared.entry.OperandPair.{OperandPair}
 use Rattle.mir_func.specs.declared.position.Origin.{Origin}
 use Rattle.mir_func.specs.declared.location.Loc.{Loc}
@@ -21,8 +21,8 @@ use Rattle.mir_func.specs.Resolve.{is_pair, entry_of}
 use Rattle.mir_func.specs.Sound.{items_of, number_of, code_number}
 use Rattle.pass_trait.specs.Rule.{item, first_operand}
 use Rattle.mir_substitution.proofs.Entries.{entry_of-push, is_pair-true}
-use Rattle.pass_salvage.specs.declared.way.Way.{Way}
-use Rattle.pass_salvage.specs.declared.way.Way.TheVariants.{HasEntry, GetsEntry, GetsPhi}
+use Rattle.pass_salvage.specs.declared.way.SalvageAction.{SalvageAction}
+use Rattle.pass_salvage.specs.declared.way.SalvageAction.TheVariants.{HasEntry, GetsEntry, GetsPhi}
 use Rattle.pass_salvage.specs.Way.{or_fresh, has_entry, asks_for, way}
 use Rattle.pass_salvage.specs.Salvage.{with_number, numbered_at, entry_for, entries_for, above_after}
 use Rattle.pass_salvage.proofs.Chosen.{IsEntered, entered}
@@ -82,7 +82,7 @@ drop_past [] ys (suc n) e = absurd (omega (arith, e))
 drop_past (x ∷ xs) ys zero e = absurd (omega (arith, e))
 drop_past (x ∷ xs) ys (suc n) e = drop_past xs ys n (omega (arith, e))
 
-none_of : (x : Option Entry) → is_some x ≡ false → x ≡ None
+none_of : (x : Option DebugSubstitution) → is_some x ≡ false → x ≡ None
 none_of None h = refl
 none_of (Some y) h = cc
 
@@ -96,9 +96,9 @@ numbered_code m j y i (Some n) o l fresh is number code =
     let same : n ≡ j = cc in
     number ∙ same
 
-module _ (f : Function) (fs : List Block) (id silent : ℕ) (gs : List Block) (dead : List Bool) where
+module _ (f : Function) (fs : List Block) (id source_end : ℕ) (gs : List Block) (dead : List Bool) where
   -- what holds of an entry that was added, where the items from an index on are done
-  pub record Stands (items : List Item) (subs : List Entry) (n : ℕ) (e : Entry) : Type 0 where
+  pub record Stands (items : List Item) (subs : List DebugSubstitution) (n : ℕ) (e : DebugSubstitution) : Type 0 where
     pub whole : (e.src.operand ≡ 0) × (e.subreg ≡ 0)
     pub gone : AreUnlike e.src.number (items_of fs ++ (items ++ items_of gs))
     pub given : HasCode e.dst.number (drop n items ++ items_of gs) ⊎ HasAbove dead items n e.dst.number
@@ -106,7 +106,8 @@ module _ (f : Function) (fs : List Block) (id silent : ℕ) (gs : List Block) (d
 
   -- ---- an item that stays as it is
 
-  pub stand_on : (items : List Item) (subs : List Entry) (n : ℕ) (x : Item) → drop n items ≡ x ∷ drop (suc n) items → slice_get items n ≡ Some x → (e : Entry) →
+  pub stand_on : (items : List Item) (subs : List DebugSubstitution) (n : ℕ) (x : Item) → drop n items ≡ x ∷ drop (suc n) items → slice_get items n ≡ Some x →
+      (e : DebugSubstitution) →
       Stands items subs (suc n) e → Stands items subs n e
   stand_on items subs n x first at e w = record { whole = w.whole; gone = w.gone; given = by_given w.given; end = w.end } where
     front : (y : Item) → Contains (x ∷ (drop (suc n) items ++ items_of gs)) y → Contains (drop n items ++ items_of gs) y
@@ -126,8 +127,8 @@ module _ (f : Function) (fs : List Block) (id silent : ℕ) (gs : List Block) (d
 
   -- ---- a copy loses its number
 
-  module _ (n k s : ℕ) (own : Bool) (up : List Item) (i : Instruction) (o : Origin) (l : Loc) (down : List Item) (subs : List Entry) (fresh : ℕ)
-      (long : length up ≡ n) (r : Ready f fs id silent gs (up ++ item (Code i (Some k)) o l ∷ down) subs fresh) (goes : get_or dead n false ≡ true) where
+  module _ (n k s : ℕ) (own : Bool) (up : List Item) (i : Instruction) (o : Origin) (l : Loc) (down : List Item) (subs : List DebugSubstitution) (fresh : ℕ)
+      (long : length up ≡ n) (r : Ready f fs id source_end gs (up ++ item (Code i (Some k)) o l ∷ down) subs fresh) (goes : get_or dead n false ≡ true) where
     abbrev copy : Item
     copy = item (Code i (Some k)) o l
 
@@ -138,7 +139,7 @@ module _ (f : Function) (fs : List Block) (id silent : ℕ) (gs : List Block) (d
     c = record { number = k; source = s; own = own }
 
     far : Others k fs up down gs
-    far = others_of f fs id silent gs k up (item (Code i (Some k)) o l) down r.sound.numbers refl
+    far = others_of f fs id source_end gs k up (item (Code i (Some k)) o l) down r.sound.numbers refl
 
     record Parts (j : ℕ) : Type 0 where
       above : AreUnlike j (items_of fs)
@@ -170,7 +171,7 @@ module _ (f : Function) (fs : List Block) (id silent : ℕ) (gs : List Block) (d
         (All-append (N j) (up' ++ (put ++ bare ∷ down)) (items_of gs)
         (All-append (N j) up' (put ++ bare ∷ down) b (All-append (N j) put (bare ∷ down) p (All-cons (N j) bare down (bare_unlike j) d))) g)
 
-    put_unlike : (j : ℕ) (w : Way) → IsUnlike j (Code i (Some k)) → AreUnlike j (put_off w (record { number = k; source = s; own = own }) o)
+    put_unlike : (j : ℕ) (w : SalvageAction) → IsUnlike j (Code i (Some k)) → AreUnlike j (put_off w (record { number = k; source = s; own = own }) o)
     put_unlike j HasEntry h = All-nil (N j)
     put_unlike j (GetsEntry d p m) h = All-nil (N j)
     put_unlike j GetsPhi h = by_own own where
@@ -199,19 +200,19 @@ module _ (f : Function) (fs : List Block) (id silent : ℕ) (gs : List Block) (d
         (all_second (λ (x : Item). KindUnder fresh x.kind) up (copy ∷ down) r.in_items)
 
     -- the items above, and what is known of numbers there
-    up_unlike : (j : ℕ) (w : Way) → way (going_from 0 dead) subs fresh k s up ≡ w → AreUnlike j up → j < fresh → AreUnlike j (above_after w up)
+    up_unlike : (j : ℕ) (w : SalvageAction) → way (going_from 0 dead) subs fresh k s up ≡ w → AreUnlike j up → j < fresh → AreUnlike j (above_after w up)
     up_unlike j HasEntry is h lt = h
     up_unlike j GetsPhi is h lt = h
     up_unlike j (GetsEntry d p m) is h lt =
         unlike_numbered j d m up (other j d p m (entered (going_from 0 dead) subs fresh k s up d p m is) h lt) h
 
-    up_has : (m : ℕ) (w : Way) → way (going_from 0 dead) subs fresh k s up ≡ w → (rest : List Item) → (q : ℕ) (y : Item) → q < n →
+    up_has : (m : ℕ) (w : SalvageAction) → way (going_from 0 dead) subs fresh k s up ≡ w → (rest : List Item) → (q : ℕ) (y : Item) → q < n →
         slice_get up q ≡ Some y → code_number y.kind ≡ Some m → (z : Item) × (slice_get (above_after w up ++ rest) q ≡ Some z) × (code_number z.kind ≡ Some m)
     up_has m w is rest q y lt at code = by_way w is where
       left : (ys : List Item) → length ys ≡ length up → slice_get (ys ++ rest) q ≡ slice_get ys q
       left ys e = get_left ys rest q (omega (arith, e, long, lt))
 
-      by_way : (w : Way) → way (going_from 0 dead) subs fresh k s up ≡ w →
+      by_way : (w : SalvageAction) → way (going_from 0 dead) subs fresh k s up ≡ w →
           (z : Item) × (slice_get (above_after w up ++ rest) q ≡ Some z) × (code_number z.kind ≡ Some m)
       by_way HasEntry is = (y, left up refl ∙ at, code)
       by_way GetsPhi is = (y, left up refl ∙ at, code)
@@ -229,10 +230,10 @@ module _ (f : Function) (fs : List Block) (id silent : ℕ) (gs : List Block) (d
         | inr ne ↦ (y, left (numbered_at d a up) (above_long (GetsEntry d p a) up) ∙ number_other d a up q ne ∙ at, code)
       ]
 
-    abbrev after : Way → List Item
+    abbrev after : SalvageAction → List Item
     after w = above_after w up ++ (put_off w (record { number = k; source = s; own = own }) o ++ item (Code i None) o l ∷ down)
 
-    rest_after : (w : Way) → drop n (after w) ≡ put_off w (record { number = k; source = s; own = own }) o ++ item (Code i None) o l ∷ down
+    rest_after : (w : SalvageAction) → drop n (after w) ≡ put_off w (record { number = k; source = s; own = own }) o ++ item (Code i None) o l ∷ down
     rest_after w = drop_past (above_after w up) (put_off w (record { number = k; source = s; own = own }) o ++ item (Code i None) o l ∷ down) n
         (above_long w up ∙ long)
 
@@ -250,7 +251,7 @@ module _ (f : Function) (fs : List Block) (id silent : ℕ) (gs : List Block) (d
           by_test false is = none
 
     -- the entries that were there
-    pub old_stand : (w : Way) → way (going_from 0 dead) subs fresh k s up ≡ w → (e : Entry) → e.src.number < fresh →
+    pub old_stand : (w : SalvageAction) → way (going_from 0 dead) subs fresh k s up ≡ w → (e : DebugSubstitution) → e.src.number < fresh →
         Stands (up ++ item (Code i (Some k)) o l ∷ down) subs (suc n) e → Stands (after w) (subs ++ entries_for w k) n e
     old_stand w is e lt h = record {
       whole = h.whole;
@@ -298,9 +299,9 @@ module _ (f : Function) (fs : List Block) (id silent : ℕ) (gs : List Block) (d
               )
         ]
 
-      by_way : (w : Way) → way (going_from 0 dead) subs fresh k s up ≡ w → entry_of (subs ++ entries_for w k) e.dst ≡ None
-      by_way HasEntry is = ap (λ (es : List Entry). entry_of es e.dst) (append-nil subs) ∙ h.end
-      by_way GetsPhi is = ap (λ (es : List Entry). entry_of es e.dst) (append-nil subs) ∙ h.end
+      by_way : (w : SalvageAction) → way (going_from 0 dead) subs fresh k s up ≡ w → entry_of (subs ++ entries_for w k) e.dst ≡ None
+      by_way HasEntry is = ap (λ (es : List DebugSubstitution). entry_of es e.dst) (append-nil subs) ∙ h.end
+      by_way GetsPhi is = ap (λ (es : List DebugSubstitution). entry_of es e.dst) (append-nil subs) ∙ h.end
       by_way (GetsEntry d q m) is =
           let v = entered (going_from 0 dead) subs fresh k s up d q m is in
           push_none m q e.dst (none_of (entry_of subs (first_operand k)) v.none) h.end apart

@@ -8,7 +8,7 @@ use Rattle.mir_func.specs.declared.position.Pos.{Pos}
 use Rattle.mir_func.specs.declared.position.Origin.{Origin}
 use Rattle.mir_func.specs.declared.position.Origin.TheVariants.{Kept, Before}
 use Rattle.mir_func.specs.declared.block.Block.{Block}
-use Rattle.mir_func.specs.declared.entry.Entry.{Entry}
+use Rattle.mir_func.specs.declared.entry.DebugSubstitution.{DebugSubstitution}
 use Rattle.mir_func.specs.declared.item.Item.{Item}
 use Rattle.mir_func.specs.declared.item.ItemKind.{ItemKind}
 use Rattle.mir_func.specs.declared.item.ItemKind.TheVariants.{Code, Mark, Phi}
@@ -63,7 +63,7 @@ module _ (p : ItemKind → Bool) (o : Origin) where
     same_weight : (x y : Item) → Alike x.kind y.kind → y.origin ≡ x.origin → weight (tested y) ≡ weight (tested x)
     same_weight x y a e = λ t. weight (sym (alike x.kind y.kind a) t && is_origin (e t) o)
 
-    count_line : (subs : List Entry) (goes : Bool) (x : Item) (l : Line) → LineIs subs goes x l → count_by tested l.now ≡ weight (tested x)
+    count_line : (subs : List DebugSubstitution) (goes : Bool) (x : Item) (l : Line) → LineIs subs goes x l → count_by tested l.now ≡ weight (tested x)
     count_line subs goes x l (as_it_was q) = count_one x
     count_line subs goes x l (numbered {i} {k} {o = o'} {l = d} stays) =
         count_one (record x { kind = Code i (Some k) }) ∙ same_weight x (record x { kind = Code i (Some k) }) (code i None (Some k)) refl
@@ -76,7 +76,7 @@ module _ (p : ItemKind → Bool) (o : Origin) where
         (λ t. weight (quiet_no (phi_off c x.origin).kind (phi_quiet c x.origin) t && is_origin (phi_off c x.origin).origin o)) in
         omega (arith, a, b, e, z)
 
-    count_lines : (subs : List Entry) (needed : Places) (xs : List Item) (ls : List Line) → LinesAre subs needed xs ls →
+    count_lines : (subs : List DebugSubstitution) (needed : Places) (xs : List Item) (ls : List Line) → LinesAre subs needed xs ls →
         count_by tested (all_now ls) ≡ count_by tested xs
     count_lines subs needed xs ls no_lines = refl
     count_lines subs needed (x ∷ xs) (l ∷ ls) (next_line h rest) =
@@ -86,10 +86,10 @@ module _ (p : ItemKind → Bool) (o : Origin) where
         let d = count_first x xs in
         omega (arith, a, b, c, d)
 
-    pub count_blocks : (subs : List Entry) (ends : Ends) (bs cs : List Block) (lss : List (List Line)) → BlocksAre subs ends bs lss cs →
+    pub count_blocks : (subs : List DebugSubstitution) (ends : Ends) (bs cs : List Block) (lss : List (List Line)) → BlocksAre subs ends bs lss cs →
         count_by tested (items_of cs) ≡ count_by tested (items_of bs)
     count_blocks subs ends bs cs lss no_blocks = refl
-    count_blocks subs ends (b ∷ bs) (c ∷ cs) (ls ∷ lss) (and_block id silent items lines rest) =
+    count_blocks subs ends (b ∷ bs) (c ∷ cs) (ls ∷ lss) (and_block id source_end items lines rest) =
         let a = count_lines subs (ends b.id) b.items ls lines in
         let d = count_blocks subs ends bs cs lss rest in
         let e = count_two c.items (items_of cs) in
@@ -97,9 +97,10 @@ module _ (p : ItemKind → Bool) (o : Origin) where
         let k : count_by tested c.items ≡ count_by tested (all_now ls) = ap (count_by tested) items in
         omega (arith, a, d, e, h, k)
 
-pub ids_same : (subs : List Entry) (ends : Ends) (bs cs : List Block) (lss : List (List Line)) → BlocksAre subs ends bs lss cs → ids_of cs ≡ ids_of bs
+pub ids_same : (subs : List DebugSubstitution) (ends : Ends) (bs cs : List Block) (lss : List (List Line)) → BlocksAre subs ends bs lss cs →
+    ids_of cs ≡ ids_of bs
 ids_same subs ends bs cs lss no_blocks = refl
-ids_same subs ends (b ∷ bs) (c ∷ cs) (ls ∷ lss) (and_block id silent items lines rest) =
+ids_same subs ends (b ∷ bs) (c ∷ cs) (ls ∷ lss) (and_block id source_end items lines rest) =
     let e = ids_same subs ends bs cs lss rest in λ t. id t ∷ e t
 
 code_alike : (k l : ItemKind) → Alike k l → is_code k ≡ is_code l
@@ -149,7 +150,7 @@ dead_one f dead dead' j j' =
     let e : j'.ends ≡ j.ends = ends_one f f (blocks_self f.blocks) j'.ends j.ends j'.live j.live in
     (j'.verdicts_are ∙ ap (λ (ends : Ends). verdicts_of ends f.blocks) e ∙ sym j.verdicts_are, e)
 
-module _ (f : Function) (subs : List Entry) (dead : List (List Bool)) (sound : IsSound f) (judged : AreJudged f dead) (wrong : Pos → Places) where
+module _ (f : Function) (subs : List DebugSubstitution) (dead : List (List Bool)) (sound : IsSound f) (judged : AreJudged f dead) (wrong : Pos → Places) where
   abbrev ends : Ends
   ends = judged.ends
 
@@ -159,7 +160,7 @@ module _ (f : Function) (subs : List Entry) (dead : List (List Bool)) (sound : I
   abbrev pub lss : List (List Line)
   lss = all_lines dead f.blocks (begins_off f subs)
 
-  abbrev final : List Entry
+  abbrev final : List DebugSubstitution
   final = (all_off f subs dead).subs
 
   abbrev pub c : Change
@@ -197,7 +198,7 @@ module _ (f : Function) (subs : List Entry) (dead : List (List Bool)) (sound : I
               from_block (function_off f subs dead).blocks at.block ≡ cs → PlaceLine at x
           by_found nowhere ef el eg =
               let bad : [] ≡ x ∷ us = ap (λ (ds : List Block). rest_in ds at.item) (sym ef) ∙ rest in cc
-          by_found (there {b} {c = d} {ls} id silent items lines same) ef el eg =
+          by_found (there {b} {c = d} {ls} id source_end items lines same) ef el eg =
               let here : drop at.item b.items ≡ x ∷ us = ap (λ (ds : List Block). rest_in ds at.item) (sym ef) ∙ rest in
               let r = line_here (all_off f subs dead).subs (judged.ends at.block) b.items ls lines at.item x us here in
               record {

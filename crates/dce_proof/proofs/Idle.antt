@@ -4,7 +4,7 @@ use Rattle.std.proofs.Common.{map, length, drop, get_or, Contains, Bool, true, f
 use Rattle.std.proofs.Common.{append-nil, refl, sym, ap, ◌∙◌, subst, arith}
 use Rattle.mir_func.specs.declared.position.Pos.{Pos}
 use Rattle.mir_func.specs.declared.block.Block.{Block}
-use Rattle.mir_func.specs.declared.entry.Entry.{Entry}
+use Rattle.mir_func.specs.declared.entry.DebugSubstitution.{DebugSubstitution}
 use Rattle.mir_func.specs.declared.item.Item.{Item}
 use Rattle.mir_func.specs.Function.{Function}
 use Rattle.pass_trait.specs.declared.loss.Loss.{Loss}
@@ -121,5 +121,5 @@ idle_keeps f subs sound r =
     let out : taken_out (λ p x. false) ends (function_off f subs dead) ≡ f =
     ap (λ (g : Function). taken_out (λ p x. false) ends g) same ∙ (let bs = blocks_same ends f.blocks none in λ t. record f { blocks = bs t }) in
     subst (λ (g : Function). KeepsItems dead_rule (change f subs g subs) []) out
-    (subst (λ (es : List Entry). KeepsItems dead_rule (change f subs (taken_out (λ p x. false) ends (function_off f subs dead)) es) [])
+    (subst (λ (es : List DebugSubstitution). KeepsItems dead_rule (change f subs (taken_out (λ p x. false) ends (function_off f subs dead)) es) [])
     (ap (λ (z : BlocksSoFar). z.subs) off) kept)

@@ -9,7 +9,7 @@ use Rattle.mir_func.specs.declared.position.Pos.{Pos}
 use Rattle.mir_func.specs.declared.position.Origin.{Origin}
 use Rattle.mir_func.specs.declared.location.Loc.{Loc}
 use Rattle.mir_func.specs.declared.block.Block.{Block}
-use Rattle.mir_func.specs.declared.entry.Entry.{Entry}
+use Rattle.mir_func.specs.declared.entry.DebugSubstitution.{DebugSubstitution}
 use Rattle.mir_func.specs.declared.item.Item.{Item}
 use Rattle.mir_func.specs.declared.item.ItemKind.{ItemKind}
 use Rattle.mir_func.specs.declared.item.ItemKind.TheVariants.{Code, Mark, Phi}
@@ -64,12 +64,12 @@ dead_is_code (Phi p n) needed e = cc
 silenced_code : (w : Places) (i : Instruction) (n : Option ℕ) → silenced w (Code i n) ≡ Code i n
 silenced_code w i n = refl
 
-module _ (f : Function) (subs : List Entry) (dead : List (List Bool)) (sound : IsSound f) (judged : AreJudged f dead) (wrong : Pos → Places)
+module _ (f : Function) (subs : List DebugSubstitution) (dead : List (List Bool)) (sound : IsSound f) (judged : AreJudged f dead) (wrong : Pos → Places)
     (exact : AreWrong judged.ends (function_off f subs dead) wrong) where
   abbrev fo : Function
   fo = function_off f subs dead
 
-  abbrev final : List Entry
+  abbrev final : List DebugSubstitution
   final = (all_off f subs dead).subs
 
   abbrev lss : List (List Line)
@@ -99,7 +99,7 @@ module _ (f : Function) (subs : List Entry) (dead : List (List Bool)) (sound : I
         StandsAt f (pos_in b.id n) x × (rest_of f.blocks (pos_in b.id n) ≡ x ∷ xs)
     stands_in n x xs e =
         let w = found f.blocks sound.blocks_apart b (of_get f.blocks j b at_b) in (
-          ap (λ (bs : List Block). fetch_in bs n) w.at ∙ ap (λ (ys : List Item). front ys b.silent w.rest) e,
+          ap (λ (bs : List Block). fetch_in bs n) w.at ∙ ap (λ (ys : List Item). front ys b.source_end w.rest) e,
           ap (λ (bs : List Block). rest_in bs n) w.at ∙ e,
         )
 
@@ -149,7 +149,7 @@ module _ (f : Function) (subs : List Entry) (dead : List (List Bool)) (sound : I
         BecomeAll dead_rule (c f subs dead sound judged wrong) b.id n (item kk x.origin x.loc ∷ xs)
         (silenced_left (λ m. wrong (pos_in b.id m)) (ahead ls n) (item (without_number kk) x.origin x.loc ∷ zs) (judged.ends b.id))
 
-    entry_line : (n : ℕ) (i : Instruction) (k rd s : ℕ) (o : Origin) (d : Loc) (xs zs : List Item) (entry : Entry) → row_of i ≡ Moves (suc rd) s →
+    entry_line : (n : ℕ) (i : Instruction) (k rd s : ℕ) (o : Origin) (d : Loc) (xs zs : List Item) (entry : DebugSubstitution) → row_of i ≡ Moves (suc rd) s →
         entry_of (all_off f subs dead).subs (first_operand k) ≡ Some entry → drop n b.items ≡ item (Code i (Some k)) o d ∷ xs →
         slice_get ls n ≡ Some (record { now = item (Code i None) o d ∷ []; phi = None }) → is_dead_at judged.ends f (pos_in b.id n) ≡ true →
         is_dead (Code i (Some k)) (needed_at zs (judged.ends b.id)) ≡ true →
@@ -287,8 +287,8 @@ module _ (f : Function) (subs : List Entry) (dead : List (List Bool)) (sound : I
       ((j : ℕ) (ls : List Line) → slice_get mss j ≡ Some ls → slice_get (all_lines dead f.blocks (begins_off f subs)) (n + j) ≡ Some ls) →
       BlocksBecome dead_rule (c f subs dead sound judged wrong) bs (map (taken wrong judged.ends) cs)
   blocks_become n bs cs mss no_blocks here here' = none
-  blocks_become n (b ∷ bs) (d ∷ cs) (ls ∷ mss) (and_block id silent items lines rest) here here' =
-      block_stays [] (silenced_left (λ m. wrong (pos_in b.id m)) 0 (all_now ls) (judged.ends b.id)) id silent
+  blocks_become n (b ∷ bs) (d ∷ cs) (ls ∷ mss) (and_block id source_end items lines rest) here here' =
+      block_stays [] (silenced_left (λ m. wrong (pos_in b.id m)) 0 (all_now ls) (judged.ends b.id)) id source_end
       (λ t. silenced_left (λ m. wrong (pos_in (id t) m)) 0 (items t) (judged.ends (id t))) refl (none_killed b.id)
       (block_becomes n b ls at at' lines)
       (blocks_become (suc n) bs cs mss rest (λ j e h. (let z : n + suc j ≡ suc n + j = omega arith in sym (ap (slice_get f.blocks) z) ∙ here (suc j) e h))

@@ -10,7 +10,7 @@ use Rattle.std.proofs.lemmas.List.{append_assoc, length-append, length-take-le}
 use Rattle.std.proofs.lemmas.Option.{slice_get_within}
 use Rattle.std.proofs.lemmas.List.Elements.{Contains-append_left, Contains-append_right, Contains-append_cases}
 use Rattle.rv64_instr.specs.Instruction.{Instruction}
-use Rattle.mir_func.specs.declared.entry.Entry.{Entry}
+use Rattle.mir_func.specs.declared.entry.DebugSubstitution.{DebugSubstitution}
 use Rattle.mir_func.specs.declared.entry.OperandPair.{OperandPair}
 use Rattle.mir_func.specs.declared.position.Origin.{Origin}
 use Rattle.mir_func.specs.declared.location.Loc.{Loc}
@@ -21,8 +21,8 @@ use Rattle.mir_func.specs.Resolve.{is_pair, entry_of}
 use Rattle.pass_trait.specs.Rule.{item, first_operand, number_lost}
 use Rattle.pass_trait.specs.declared.loss.Reason.TheVariants.{WrongPlace}
 use Rattle.pass_trait.specs.declared.loss.Loss.{Loss}
-use Rattle.pass_salvage.specs.declared.way.Way.{Way}
-use Rattle.pass_salvage.specs.declared.way.Way.TheVariants.{HasEntry, GetsEntry, GetsPhi}
+use Rattle.pass_salvage.specs.declared.way.SalvageAction.{SalvageAction}
+use Rattle.pass_salvage.specs.declared.way.SalvageAction.TheVariants.{HasEntry, GetsEntry, GetsPhi}
 use Rattle.pass_salvage.specs.Way.{has_entry, or_fresh, asks_for, may_stand, way_by, way_of_kind, way_at, way_from, way, first_definition, last_definition}
 use Rattle.pass_salvage.specs.Salvage.{with_number, numbered_at, entry_for, entries_for, above_after}
 use Rattle.mir_substitution.proofs.Entries.{is_pair-same, entry_of-push}
@@ -40,15 +40,15 @@ use Rattle.rv64_instr.specs.Row.{row_of}
 use Rattle.rv64_instr.specs.Parts.{is_call}
 
 -- the copy's pair has an entry
-abbrev pub IsEnteredIn : List Entry → ℕ → Type 0
-IsEnteredIn subs k = (e : Entry) × (entry_of subs (first_operand k) ≡ Some e)
+abbrev pub IsEnteredIn : List DebugSubstitution → ℕ → Type 0
+IsEnteredIn subs k = (e : DebugSubstitution) × (entry_of subs (first_operand k) ≡ Some e)
 
 -- the item without its number
 abbrev pub bare_of : Item → Item
 bare_of x = record x { kind = without_number x.kind }
 
 -- what stands for an item, which goes or stays
-pub data LineIs (subs : List Entry) (goes : Bool) : Item → Line → Type 0 where
+pub data LineIs (subs : List DebugSubstitution) (goes : Bool) : Item → Line → Type 0 where
   as_it_was : {x : Item} → (goes ≡ true → numbered_copy x.kind ≡ None) → LineIs subs goes x (line_of x)
   numbered : {i : Instruction} {k : ℕ} {o : Origin} {l : Loc} → goes ≡ false →
       LineIs subs goes (item (Code i None) o l) (record { now = item (Code i (Some k)) o l ∷ []; phi = None })
@@ -58,7 +58,7 @@ pub data LineIs (subs : List Entry) (goes : Bool) : Item → Line → Type 0 whe
       LineIs subs goes x (record { now = phi_off c x.origin ∷ bare_of x ∷ []; phi = Some c.source })
 
 -- the lines of items, at the end of which these places are needed
-pub data LinesAre (subs : List Entry) (needed : Places) : List Item → List Line → Type 0 where
+pub data LinesAre (subs : List DebugSubstitution) (needed : Places) : List Item → List Line → Type 0 where
   no_lines : LinesAre subs needed [] []
   next_line : {x : Item} {l : Line} {xs : List Item} {ls : List Line} → LineIs subs (is_dead x.kind (needed_at xs needed)) x l →
       LinesAre subs needed xs ls → LinesAre subs needed (x ∷ xs) (l ∷ ls)
@@ -68,10 +68,10 @@ abbrev pub all_now : List Line → List Item
 all_now ls = flat_map (λ (l : Line). l.now) ls
 
 -- the line of an item, by its index
-abbrev pub LineAt : (subs : List Entry) (dead : List Bool) (ls : List Line) (j : ℕ) (x : Item) → Type 0
+abbrev pub LineAt : (subs : List DebugSubstitution) (dead : List Bool) (ls : List Line) (j : ℕ) (x : Item) → Type 0
 LineAt subs dead ls j x = (l : Line) × (slice_get ls j ≡ Some l) × LineIs subs (get_or dead j false) x l
 
-pub lines_from : (subs : List Entry) (needed : Places) (xs : List Item) (ls : List Line) → length ls ≡ length xs →
+pub lines_from : (subs : List DebugSubstitution) (needed : Places) (xs : List Item) (ls : List Line) → length ls ≡ length xs →
     ((j : ℕ) (x : Item) → slice_get xs j ≡ Some x → LineAt subs (verdicts xs needed) ls j x) → LinesAre subs needed xs ls
 lines_from subs needed [] [] e h = no_lines
 lines_from subs needed [] (l ∷ ls) e h = absurd (omega (arith, e))
@@ -85,7 +85,8 @@ lines_from subs needed (x ∷ xs) (l ∷ ls) e h =
 
 -- ---- entries are only added
 
-pub entered_more : (subs more : List Entry) (q : OperandPair) (e : Entry) → entry_of subs q ≡ Some e → entry_of (subs ++ more) q ≡ Some e
+pub entered_more : (subs more : List DebugSubstitution) (q : OperandPair) (e : DebugSubstitution) → entry_of subs q ≡ Some e →
+    entry_of (subs ++ more) q ≡ Some e
 entered_more [] more q e is = cc
 entered_more (x ∷ xs) more q e is = by_test (is_pair x.src q) is (entered_more xs more q e) where
   by_test : (z : Bool) → cond z (Some x) (entry_of xs q) ≡ Some e → (entry_of xs q ≡ Some e → entry_of (xs ++ more) q ≡ Some e) →
@@ -93,13 +94,13 @@ entered_more (x ∷ xs) more q e is = by_test (is_pair x.src q) is (entered_more
   by_test true h rec = h
   by_test false h rec = rec h
 
-pub line_more : (subs more : List Entry) (goes : Bool) (x : Item) (l : Line) → LineIs subs goes x l → LineIs (subs ++ more) goes x l
+pub line_more : (subs more : List DebugSubstitution) (goes : Bool) (x : Item) (l : Line) → LineIs subs goes x l → LineIs (subs ++ more) goes x l
 line_more subs more goes x l (as_it_was h) = as_it_was h
 line_more subs more goes x l (numbered stays) = numbered stays
 line_more subs more goes x l (by_entry c dead is e) = by_entry c dead is (e.0, entered_more subs more (first_operand c.number) e.0 e.1)
 line_more subs more goes x l (by_phi c dead is) = by_phi c dead is
 
-pub lines_more : (subs more : List Entry) (needed : Places) (xs : List Item) (ls : List Line) → LinesAre subs needed xs ls →
+pub lines_more : (subs more : List DebugSubstitution) (needed : Places) (xs : List Item) (ls : List Line) → LinesAre subs needed xs ls →
     LinesAre (subs ++ more) needed xs ls
 lines_more subs more needed xs ls no_lines = no_lines
 lines_more subs more needed (x ∷ xs) (l ∷ ls) (next_line h rest) =
@@ -136,7 +137,7 @@ second_of true false c d h = cc
 second_of false b c d h = cc
 
 -- code that stands for a copy doesn't go
-pub giver_stays : (dead : List Bool) (subs : List Entry) (fresh k s : ℕ) (above : List Item) (d o n : ℕ) →
+pub giver_stays : (dead : List Bool) (subs : List DebugSubstitution) (fresh k s : ℕ) (above : List Item) (d o n : ℕ) →
     IsEntered (going_from 0 dead) subs fresh k s above d o n → get_or dead d false ≡ false
 giver_stays dead subs fresh k s above d o n e =
     stays_at d 0 dead d (omega arith) (not_is (list_any (nat_eq d) (going_from 0 dead))
@@ -189,7 +190,7 @@ numbered_long d n [] = refl
 numbered_long zero n (x ∷ xs) = refl
 numbered_long (suc d) n (x ∷ xs) = ap suc (numbered_long d n xs)
 
-pub above_long : (w : Way) (xs : List Item) → length (above_after w xs) ≡ length xs
+pub above_long : (w : SalvageAction) (xs : List Item) → length (above_after w xs) ≡ length xs
 above_long HasEntry xs = refl
 above_long (GetsEntry d o n) xs = numbered_long d n xs
 above_long GetsPhi xs = refl
@@ -209,15 +210,15 @@ abbrev pub Now : (goes : Bool) → Item → Item → Type 0
 Now goes x y = (y ≡ x) ⊎ ((goes ≡ false) × IsGiven x y)
 
 -- no other way is that it has an entry
-has_some : (x : Option Entry) → is_some x ≡ true → (e : Entry) × (x ≡ Some e)
+has_some : (x : Option DebugSubstitution) → is_some x ≡ true → (e : DebugSubstitution) × (x ≡ Some e)
 has_some None h = cc
 has_some (Some e) h = (e, refl)
 
-none_there : (x : Option Entry) → is_some x ≡ false → x ≡ None
+none_there : (x : Option DebugSubstitution) → is_some x ≡ false → x ≡ None
 none_there None e = refl
 none_there (Some y) e = cc
 
-module _ (removed : List ℕ) (subs : List Entry) (fresh k s : ℕ) (done : List Item) where
+module _ (removed : List ℕ) (subs : List DebugSubstitution) (fresh k s : ℕ) (done : List Item) where
   no_operand : (d : ℕ) (n : Option ℕ) (p : Option ℕ) (behind : List Item) → way_by removed subs fresh k d n p behind ≡ HasEntry → ⊥
   no_operand d n None behind e = cc
   no_operand d n (Some o) behind e = by_test (may_stand removed subs k d n o behind) e where
@@ -246,7 +247,7 @@ module _ (removed : List ℕ) (subs : List Entry) (fresh k s : ℕ) (done : List
     by_test false h e = absurd (no_from (last_definition s done) e)
 
 -- the entry that is added
-entry_added : (subs : List Entry) (k n o : ℕ) → entry_of subs (first_operand k) ≡ None →
+entry_added : (subs : List DebugSubstitution) (k n o : ℕ) → entry_of subs (first_operand k) ≡ None →
     entry_of (subs ++ entry_for k n o ∷ []) (first_operand k) ≡ Some (entry_for k n o)
 entry_added subs k n o none =
     entry_of-push subs (entry_for k n o) (first_operand k) none ∙
@@ -275,7 +276,8 @@ module _ (xs : List Item) (dead : List Bool) where
   now_numbered j m x y i (Some n) o l fresh stays h is number =
       subst (λ (z : Item). Now (get_or dead j false) x z) (is ∙ (λ t. item (Code i (Some (sym number t))) o l)) h
 
-  now_above : (items : List Item) (subs : List Entry) (fresh k s n : ℕ) (rest : List Item) → n ≤ length items → AreNow items n → (w : Way) →
+  now_above : (items : List Item) (subs : List DebugSubstitution) (fresh k s n : ℕ) (rest : List Item) → n ≤ length items → AreNow items n →
+      (w : SalvageAction) →
       way (going_from 0 dead) subs fresh k s (take n items) ≡ w → AreNow (above_after w (take n items) ++ rest) n
   now_above items subs fresh k s n rest le h w is j x lt at = by_way w is where
     up : List Item
@@ -293,7 +295,7 @@ module _ (xs : List Item) (dead : List Bool) where
     same_up : slice_get (take n items) j ≡ Some (h j x lt at).0
     same_up = get_taken items n j lt ∙ (h j x lt at).1
 
-    by_way : (w : Way) → way (going_from 0 dead) subs fresh k s (take n items) ≡ w →
+    by_way : (w : SalvageAction) → way (going_from 0 dead) subs fresh k s (take n items) ≡ w →
         (y : Item) × (slice_get (above_after w (take n items) ++ rest) j ≡ Some y) × Now (get_or dead j false) x y
     by_way HasEntry is = (u.0, left (take n items) refl ∙ same_up, u.2)
     by_way GetsPhi is = (u.0, left (take n items) refl ∙ same_up, u.2)
@@ -324,7 +326,7 @@ module _ (xs : List Item) (dead : List Bool) where
     pub is : lines_of (going_from 0 dead) n goes a (slice_get a.items n) ≡ line ∷ []
     pub fits : LineIs b.subs goes x line
     pub now : line.now ++ drop (suc n) a.items ≡ drop n b.items
-    pub more : List Entry
+    pub more : List DebugSubstitution
     pub grown : b.subs ≡ a.subs ++ more
     pub above : AreNow a.items (suc n) → AreNow b.items n
     pub lost : (loss : Loss) → Contains b.lost loss ↔ (Contains a.lost loss ⊎ Own x line loss)
@@ -356,12 +358,12 @@ module _ (xs : List Item) (dead : List Bool) where
   lost_own true k loss t e = (0, omega arith, sym e)
   lost_own false k loss t e = cc
 
-  one_copy : (n : ℕ) (a : SoFar) (x : Item) (c : Copied) → slice_get a.items n ≡ Some x → numbered_copy x.kind ≡ Some c → (w : Way) →
+  one_copy : (n : ℕ) (a : SoFar) (x : Item) (c : Copied) → slice_get a.items n ≡ Some x → numbered_copy x.kind ≡ Some c → (w : SalvageAction) →
       way (going_from 0 dead) a.subs a.fresh c.number c.source (take n a.items) ≡ w → OneLine n true a (off_by n c a w) x
   one_copy n a x c at is w way_is = record {
     line = line_by w c x;
     is = ap (λ (o : Option Item). lines_of (going_from 0 dead) n true a o) at ∙
-        ap (λ (o : Option Copied). line_of_copy (going_from 0 dead) n a x o ∷ []) is ∙ ap (λ (v : Way). line_by v c x ∷ []) way_is;
+        ap (λ (o : Option Copied). line_of_copy (going_from 0 dead) n a x o ∷ []) is ∙ ap (λ (v : SalvageAction). line_by v c x ∷ []) way_is;
     fits = by_way w way_is;
     now = append_assoc (put_off w c x.origin) (bare_of x ∷ []) (drop (suc n) a.items) ∙
         ap (λ (ys : List Item). behind_off w c ys) (sym (split_at a.items n x at).behind) ∙
@@ -376,7 +378,7 @@ module _ (xs : List Item) (dead : List Bool) where
     inside : n < length a.items
     inside = slice_get_within a.items n x at
 
-    by_way : (w : Way) → way (going_from 0 dead) a.subs a.fresh c.number c.source (take n a.items) ≡ w →
+    by_way : (w : SalvageAction) → way (going_from 0 dead) a.subs a.fresh c.number c.source (take n a.items) ≡ w →
         LineIs (a.subs ++ entries_for w c.number) true x (line_by w c x)
     by_way HasEntry e =
         let k = entry_there (going_from 0 dead) a.subs a.fresh c.number c.source (take n a.items) e in
@@ -386,17 +388,17 @@ module _ (xs : List Item) (dead : List Bool) where
         by_entry c refl is (entry_for c.number m p, entry_added a.subs c.number m p (none_there (entry_of a.subs (first_operand c.number)) k.none))
     by_way GetsPhi e = by_phi c refl is
 
-    lost_there : (w : Way) (loss : Loss) → Contains (a.lost ++ lost_off w c) loss → Contains a.lost loss ⊎ Own x (line_by w c x) loss
+    lost_there : (w : SalvageAction) (loss : Loss) → Contains (a.lost ++ lost_off w c) loss → Contains a.lost loss ⊎ Own x (line_by w c x) loss
     lost_there w loss k = elim (Contains-append_cases a.lost (lost_off w c) loss k) [ inl old ↦ inl old | inr new ↦ inr (by_new w new) ] where
-      by_new : (w : Way) → Contains (lost_off w c) loss → Own x (line_by w c x) loss
+      by_new : (w : SalvageAction) → Contains (lost_off w c) loss → Own x (line_by w c x) loss
       by_new HasEntry (j, lt, e) = absurd (omega (arith, lt))
       by_new (GetsEntry d p m) (j, lt, e) = absurd (omega (arith, lt))
       by_new GetsPhi h = let o = own_lost c.own c.number loss h in (c, is, o.0, refl, o.1)
 
-    there_lost : (w : Way) (loss : Loss) → Contains a.lost loss ⊎ Own x (line_by w c x) loss → Contains (a.lost ++ lost_off w c) loss
+    there_lost : (w : SalvageAction) (loss : Loss) → Contains a.lost loss ⊎ Own x (line_by w c x) loss → Contains (a.lost ++ lost_off w c) loss
     there_lost w loss (inl k) = Contains-append_left a.lost (lost_off w c) loss k
     there_lost w loss (inr h) = Contains-append_right a.lost (lost_off w c) loss (by_way_lost w h) where
-      by_way_lost : (w : Way) → Own x (line_by w c x) loss → Contains (lost_off w c) loss
+      by_way_lost : (w : SalvageAction) → Own x (line_by w c x) loss → Contains (lost_off w c) loss
       by_way_lost HasEntry o = let bad = o.3 in cc
       by_way_lost (GetsEntry d p m) o = let bad = o.3 in cc
       by_way_lost GetsPhi (c', is', own, phi, e) =
@@ -440,7 +442,7 @@ module _ (xs : List Item) (dead : List Bool) where
     pub lines : (j : ℕ) (x : Item) → j < n → slice_get xs j ≡ Some x →
         LineAt (off_down (going_from 0 dead) dead n a).subs dead (lines_down (going_from 0 dead) dead n a) j x
     pub now : all_now (lines_down (going_from 0 dead) dead n a) ++ drop n a.items ≡ (off_down (going_from 0 dead) dead n a).items
-    pub more : List Entry
+    pub more : List DebugSubstitution
     pub grown : (off_down (going_from 0 dead) dead n a).subs ≡ a.subs ++ more
     pub lost : (loss : Loss) →
         Contains (off_down (going_from 0 dead) dead n a).lost loss ↔ (Contains a.lost loss ⊎ OwnBefore n (lines_down (going_from 0 dead) dead n a) loss)
@@ -461,7 +463,7 @@ module _ (xs : List Item) (dead : List Bool) where
         ap (λ (ys : List Item). all_now (lines_down (going_from 0 dead) dead n (off_at (going_from 0 dead) n (get_or dead n false) a)) ++ ys) one.now
         ∙ rest.now;
     more = one.more ++ rest.more;
-    grown = rest.grown ∙ ap (λ (es : List Entry). es ++ rest.more) one.grown ∙ append_assoc a.subs one.more rest.more;
+    grown = rest.grown ∙ ap (λ (es : List DebugSubstitution). es ++ rest.more) one.grown ∙ append_assoc a.subs one.more rest.more;
     lost = λ loss. (lost_there loss, there_lost loss);
   } where
     all_is : lines_down (going_from 0 dead) dead (suc n) a ≡
@@ -489,7 +491,7 @@ module _ (xs : List Item) (dead : List Bool) where
             ap (slice_get (lines_down (going_from 0 dead) dead (suc n) a)) same ∙ last,
             subst (λ (z : Item). LineIs (off_down (going_from 0 dead) dead (suc n) a).subs (get_or dead j false) z one.line) (sym x_is)
                 (subst (λ (m : ℕ). LineIs (off_down (going_from 0 dead) dead (suc n) a).subs (get_or dead m false) x_n one.line) (sym same)
-                (subst (λ (es : List Entry). LineIs es (get_or dead n false) x_n one.line) (sym rest.grown)
+                (subst (λ (es : List DebugSubstitution). LineIs es (get_or dead n false) x_n one.line) (sym rest.grown)
                 (line_more (off_at (going_from 0 dead) n (get_or dead n false) a).subs rest.more (get_or dead n false) x_n one.line one.fits))),
           )
           )

@@ -4,7 +4,7 @@ use Rattle.std.specs.List.{flat_map}
 use Rattle.std.proofs.Math.Nat.{max-le}
 use Rattle.std.proofs.lemmas.List.Elements.{All-nil, All-cons, All-append, All-head, All-tail}
 use Rattle.mir_func.specs.declared.block.Block.{Block}
-use Rattle.mir_func.specs.declared.entry.Entry.{Entry}
+use Rattle.mir_func.specs.declared.entry.DebugSubstitution.{DebugSubstitution}
 use Rattle.mir_func.specs.declared.item.Item.{Item}
 use Rattle.mir_func.specs.declared.item.ItemKind.{ItemKind}
 use Rattle.mir_func.specs.declared.item.ItemKind.TheVariants.{Code, Mark, Phi}
@@ -40,18 +40,19 @@ all_items b (c ∷ bs) h =
     All-append (λ (y : Item). KindUnder b y.kind) c.items (items_of bs) (All-head (λ (a : Block). All (λ (y : Item). KindUnder b y.kind) a.items) c bs h)
     (all_items b bs (All-tail (λ (a : Block). All (λ (y : Item). KindUnder b y.kind) a.items) c bs h))
 
-entries_numbers : (b : ℕ) (es : List Entry) → All (EntryUnder b) es →
-    All (λ (n : ℕ). n < b) (flat_map (λ (e : Entry). e.src.number ∷ e.dst.number ∷ []) es)
+entries_numbers : (b : ℕ) (es : List DebugSubstitution) → All (EntryUnder b) es →
+    All (λ (n : ℕ). n < b) (flat_map (λ (e : DebugSubstitution). e.src.number ∷ e.dst.number ∷ []) es)
 entries_numbers b [] h = All-nil (λ (n : ℕ). n < b)
 entries_numbers b (e ∷ es) h =
     let here = All-head (EntryUnder b) e es h in
-    let more : List ℕ = flat_map (λ (x : Entry). x.src.number ∷ x.dst.number ∷ []) es in
+    let more : List ℕ = flat_map (λ (x : DebugSubstitution). x.src.number ∷ x.dst.number ∷ []) es in
     All-cons (λ (n : ℕ). n < b) e.src.number (e.dst.number ∷ more) here.0
     (All-cons (λ (n : ℕ). n < b) e.dst.number more here.1 (entries_numbers b es (All-tail (EntryUnder b) e es h)))
 
-pub greatest_less : (m : ℕ) (bs : List Block) (es : List Entry) → BlocksUnder (m + 1) bs → All (EntryUnder (m + 1)) es → greatest (numbers_in bs es) ≤ m
+pub greatest_less : (m : ℕ) (bs : List Block) (es : List DebugSubstitution) → BlocksUnder (m + 1) bs → All (EntryUnder (m + 1)) es →
+    greatest (numbers_in bs es) ≤ m
 greatest_less m bs es hb he =
     greatest_most m (numbers_in bs es)
     (All-append (λ (n : ℕ). n < m + 1) (flat_map (λ (i : Item). numbers_of i.kind) (items_of bs))
-    (flat_map (λ (e : Entry). e.src.number ∷ e.dst.number ∷ []) es) (items_numbers (m + 1) (items_of bs) (all_items (m + 1) bs hb))
+    (flat_map (λ (e : DebugSubstitution). e.src.number ∷ e.dst.number ∷ []) es) (items_numbers (m + 1) (items_of bs) (all_items (m + 1) bs hb))
     (entries_numbers (m + 1) es he))

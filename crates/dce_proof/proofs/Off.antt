@@ -11,8 +11,8 @@ use Rattle.mir_func.specs.declared.item.ItemKind.{ItemKind}
 use Rattle.mir_func.specs.declared.item.ItemKind.TheVariants.{Code, Mark, Phi}
 use Rattle.mir_func.specs.Sound.{items_of, AllItems}
 use Rattle.mir_func.specs.SoundFrame.{IsPhysical, HasPhysical}
-use Rattle.pass_salvage.specs.declared.way.Way.{Way}
-use Rattle.pass_salvage.specs.declared.way.Way.TheVariants.{HasEntry, GetsEntry, GetsPhi}
+use Rattle.pass_salvage.specs.declared.way.SalvageAction.{SalvageAction}
+use Rattle.pass_salvage.specs.declared.way.SalvageAction.TheVariants.{HasEntry, GetsEntry, GetsPhi}
 use Rattle.pass_salvage.specs.Way.{way}
 use Rattle.pass_salvage.specs.Salvage.{with_number, numbered_at, above_after}
 use Rattle.pass_edits.proofs.Numbers.{all_first, all_second}
@@ -38,7 +38,7 @@ at_grows removed at true a = by_item (slice_get a.items at) where
   by_copy : (c : Option Copied) → Grows a (off_copy removed at a c) 1
   by_copy None = record { grows = omega arith; least = le_refl a.fresh }
   by_copy (Some c) =
-      let w : Way = way removed a.subs a.fresh c.number c.source (take at a.items) in
+      let w : SalvageAction = way removed a.subs a.fresh c.number c.source (take at a.items) in
       record { grows = off_grows w at c a.items a.fresh; least = fresh_least w a.fresh }
 
   by_item : (x : Option Item) → Grows a (off_copy removed at a (copy_in x)) 1
@@ -107,7 +107,7 @@ numbered_physical zero n (x ∷ xs) h =
     All-cons P (record x { kind = with_number n x.kind }) xs (numbered_kind n x.kind (All-head P x xs h)) (All-tail P x xs h)
 numbered_physical (suc d) n (x ∷ xs) h = All-cons P x (numbered_at d n xs) (All-head P x xs h) (numbered_physical d n xs (All-tail P x xs h))
 
-above_physical : (w : Way) (xs : List Item) → All P xs → All P (above_after w xs)
+above_physical : (w : SalvageAction) (xs : List Item) → All P xs → All P (above_after w xs)
 above_physical HasEntry xs h = h
 above_physical (GetsEntry d o n) xs h = numbered_physical d n xs h
 above_physical GetsPhi xs h = h
@@ -119,7 +119,7 @@ source_physical k c w h =
     let os : All IsPhysical (Def (suc w.target) ∷ Use c.source ∷ by.rest) = subst (All IsPhysical) by.operands all in
     All-head IsPhysical (Use c.source) by.rest (All-tail IsPhysical (Def (suc w.target)) (Use c.source ∷ by.rest) os)
 
-put_physical : (w : Way) (c : Copied) (x : Item) (xs : List Item) → c.source < 32 → P x → All P xs →
+put_physical : (w : SalvageAction) (c : Copied) (x : Item) (xs : List Item) → c.source < 32 → P x → All P xs →
     All P (put_off w c x.origin ++ record x { kind = without_number x.kind } ∷ xs)
 put_physical HasEntry c x xs lt h hs = All-cons P (record x { kind = without_number x.kind }) xs (bare_kind x.kind h) hs
 put_physical (GetsEntry d o n) c x xs lt h hs = All-cons P (record x { kind = without_number x.kind }) xs (bare_kind x.kind h) hs
@@ -131,7 +131,7 @@ put_physical GetsPhi c x xs lt h hs = by_own c.own where
   by_own true = All-cons P _ (record x { kind = without_number x.kind } ∷ xs) tt rest
   by_own false = All-cons P _ (record x { kind = without_number x.kind } ∷ xs) lt rest
 
-off_physical : (w : Way) (at : ℕ) (c : Copied) (xs : List Item) (x : Item) → slice_get xs at ≡ Some x → numbered_copy x.kind ≡ Some c → All P xs →
+off_physical : (w : SalvageAction) (at : ℕ) (c : Copied) (xs : List Item) (x : Item) → slice_get xs at ≡ Some x → numbered_copy x.kind ≡ Some c → All P xs →
     All P (items_off w at c xs)
 off_physical w at c xs x there is h =
     let s = split_at xs at x there in

@@ -4,7 +4,7 @@ use Rattle.std.proofs.Common.{Option, Some, None, Bool, true, false, slice_get, 
 use Rattle.rv64_instr.specs.declared.place.Place.{Place}
 use Rattle.rv64_instr.specs.Instruction.{Instruction}
 use Rattle.rv64_instr.specs.Row.{Row, Branches, Jumps, Returns, Unfit, row_of}
-use Rattle.mir_func.specs.declared.entry.Entry.{Entry}
+use Rattle.mir_func.specs.declared.entry.DebugSubstitution.{DebugSubstitution}
 use Rattle.mir_func.specs.declared.position.Pos.{Pos}
 use Rattle.mir_func.specs.declared.position.Origin.{Origin}
 use Rattle.mir_func.specs.declared.block.Block.{Block}
@@ -12,7 +12,7 @@ use Rattle.mir_func.specs.declared.item.Item.{Item}
 use Rattle.mir_func.specs.declared.item.ItemKind.{ItemKind}
 use Rattle.mir_func.specs.declared.item.ItemKind.TheVariants.{Code, Mark, Phi}
 use Rattle.mir_func.specs.Function.{Function}
-use Rattle.mir_func.specs.Graph.{Fetch, Here, Silent, Outside, Program, below, block_start}
+use Rattle.mir_func.specs.Graph.{Fetch, Here, EndOfBlock, Outside, Program, below, block_start}
 use Rattle.mir_func.specs.Graph.{end_of, front, fetch_in, from_block, RowEdge, KindEdge, FetchEdge, Edge}
 use Rattle.sem_mir.specs.Align.{is_code}
 use Rattle.sem_mir.specs.Live.{Defines, KindDefines}
@@ -128,7 +128,7 @@ edge_ways (Here i) p q e = by_kind i.kind e where
   by_kind (Code j n) e = elim (row_ways j n (row_of j) refl p q e) [ inl w ↦ inl w.0 | inr w ↦ inr (w.0, w.1) ]
   by_kind (Mark v m) e = inl e
   by_kind (Phi x n) e = inl e
-edge_ways (Silent k n) p q e = inr (n, e)
+edge_ways (EndOfBlock k n) p q e = inr (n, e)
 edge_ways Outside p q e = absurd e
 
 alike_ways : (k l : ItemKind) (p q : Pos) → Alike k l → KindEdge (λ m. m) l p q → Ways k p q
@@ -172,7 +172,7 @@ quiet_needed (Phi l n) needed e = refl
 
 -- ---- along the lines
 
-pub needed_same : (subs : List Entry) (needed : Places) (xs : List Item) (ls : List Line) → LinesAre subs needed xs ls →
+pub needed_same : (subs : List DebugSubstitution) (needed : Places) (xs : List Item) (ls : List Line) → LinesAre subs needed xs ls →
     needed_at (all_now ls) needed ≡ needed_at xs needed
 needed_same subs needed xs ls no_lines = refl
 needed_same subs needed (x ∷ xs) (l ∷ ls) (next_line h rest) = by_line x l h (needed_same subs needed xs ls rest) where
@@ -186,18 +186,18 @@ needed_same subs needed (x ∷ xs) (l ∷ ls) (next_line h rest) = by_line x l h
       quiet_needed (phi_off c x.origin).kind (needed_before (without_number x.kind) (needed_at (all_now ls) needed)) (phi_quiet c x.origin) ∙
       alike_needed x.kind (without_number x.kind) (needed_at (all_now ls) needed) (alike_bare x.kind) ∙ ap (needed_before x.kind) e
 
-first_now : (subs : List Entry) (goes : Bool) (x : Item) (l : Line) (further : ℕ → ℕ) → LineIs subs goes x l → in_now l.now 0 further ≡ 0
+first_now : (subs : List DebugSubstitution) (goes : Bool) (x : Item) (l : Line) (further : ℕ → ℕ) → LineIs subs goes x l → in_now l.now 0 further ≡ 0
 first_now subs goes x l further (as_it_was q) = refl
 first_now subs goes x l further (numbered stays) = refl
 first_now subs goes x l further (by_entry c dead is entry) = refl
 first_now subs goes x l further (by_phi c dead is) = refl
 
-back_zero : (subs : List Entry) (needed : Places) (xs : List Item) (ls : List Line) → LinesAre subs needed xs ls → back ls 0 ≡ 0
+back_zero : (subs : List DebugSubstitution) (needed : Places) (xs : List Item) (ls : List Line) → LinesAre subs needed xs ls → back ls 0 ≡ 0
 back_zero subs needed xs ls no_lines = refl
 back_zero subs needed (x ∷ xs) (l ∷ ls) (next_line h rest) = first_now subs (is_dead x.kind (needed_at xs needed)) x l (λ k. back ls k) h
 
 -- the line of an item
-pub record LineHere (subs : List Entry) (needed : Places) (ls : List Line) (n : ℕ) (x : Item) (us : List Item) : Type 0 where
+pub record LineHere (subs : List DebugSubstitution) (needed : Places) (ls : List Line) (n : ℕ) (x : Item) (us : List Item) : Type 0 where
   pub line : Line
   pub at : slice_get ls n ≡ Some line
   pub is : LineIs subs (is_dead x.kind (needed_at us needed)) x line
@@ -208,7 +208,8 @@ pub record LineHere (subs : List Entry) (needed : Places) (ls : List Line) (n : 
   pub same : needed_at rest needed ≡ needed_at us needed
   pub origin : back ls (ahead ls n) ≡ n
 
-pub line_here : (subs : List Entry) (needed : Places) (xs : List Item) (ls : List Line) → LinesAre subs needed xs ls → (n : ℕ) (x : Item) (us : List Item) →
+pub line_here : (subs : List DebugSubstitution) (needed : Places) (xs : List Item) (ls : List Line) → LinesAre subs needed xs ls →
+    (n : ℕ) (x : Item) (us : List Item) →
     drop n xs ≡ x ∷ us → LineHere subs needed ls n x us
 line_here subs needed xs ls no_lines zero x us e = cc
 line_here subs needed xs ls no_lines (suc n) x us e = cc
@@ -241,7 +242,7 @@ line_here subs needed (y ∷ xs) (l ∷ ls) (next_line h rest) (suc n) x us e =
       origin = in_over l.now (ahead ls n) (λ k. back ls k) ∙ ap suc r.origin;
     }
 
-pub past_here : (subs : List Entry) (needed : Places) (xs : List Item) (ls : List Line) → LinesAre subs needed xs ls → (n : ℕ) → drop n xs ≡ [] →
+pub past_here : (subs : List DebugSubstitution) (needed : Places) (xs : List Item) (ls : List Line) → LinesAre subs needed xs ls → (n : ℕ) → drop n xs ≡ [] →
     drop (ahead ls n) (all_now ls) ≡ []
 past_here subs needed xs ls no_lines n e = drop_nil n
 past_here subs needed (x ∷ xs) (l ∷ ls) (next_line h rest) zero e = cc
@@ -255,7 +256,7 @@ pub data Behind (needed : Places) (xs : List Item) (ls : List Line) (m : ℕ) : 
       needed_at vs needed ≡ needed_at us needed → back ls (suc m) ≡ suc (back ls m) → Behind needed xs ls m
   past : drop (back ls m) xs ≡ [] → drop m (all_now ls) ≡ [] → Behind needed xs ls m
 
-single : (subs : List Entry) (needed : Places) (x y : Item) (p : Option ℕ) (xs : List Item) (ls : List Line) → LinesAre subs needed xs ls →
+single : (subs : List DebugSubstitution) (needed : Places) (x y : Item) (p : Option ℕ) (xs : List Item) (ls : List Line) → LinesAre subs needed xs ls →
     Alike x.kind y.kind → ((k : ℕ) → Behind needed xs ls k) → (m : ℕ) → Behind needed (x ∷ xs) (record { now = y ∷ []; phi = p } ∷ ls) m
 single subs needed x y p xs ls lines alike rec zero =
     at_item x y xs (all_now ls) refl refl alike (needed_same subs needed xs ls lines) (ap suc (back_zero subs needed xs ls lines))
@@ -265,7 +266,7 @@ single subs needed x y p xs ls lines alike rec (suc m) = shift (rec m) where
   shift (at_item u v us vs at at' same needs more) = at_item u v us vs at at' same needs (ap suc more)
   shift (past at at') = past at at'
 
-double : (subs : List Entry) (needed : Places) (x h y : Item) (p : Option ℕ) (xs : List Item) (ls : List Line) → LinesAre subs needed xs ls →
+double : (subs : List DebugSubstitution) (needed : Places) (x h y : Item) (p : Option ℕ) (xs : List Item) (ls : List Line) → LinesAre subs needed xs ls →
     is_code h.kind ≡ false → Alike x.kind y.kind → ((k : ℕ) → Behind needed xs ls k) → (m : ℕ) →
     Behind needed (x ∷ xs) (record { now = h ∷ y ∷ []; phi = p } ∷ ls) m
 double subs needed x h y p xs ls lines quiet alike rec zero = inside h (y ∷ all_now ls) refl quiet refl
@@ -277,7 +278,7 @@ double subs needed x h y p xs ls lines quiet alike rec (suc (suc m)) = shift (re
   shift (at_item u v us vs at at' same needs more) = at_item u v us vs at at' same needs (ap suc more)
   shift (past at at') = past at at'
 
-pub behind : (subs : List Entry) (needed : Places) (xs : List Item) (ls : List Line) → LinesAre subs needed xs ls → (m : ℕ) → Behind needed xs ls m
+pub behind : (subs : List DebugSubstitution) (needed : Places) (xs : List Item) (ls : List Line) → LinesAre subs needed xs ls → (m : ℕ) → Behind needed xs ls m
 behind subs needed xs ls no_lines m = past (drop_nil m) (drop_nil m)
 behind subs needed (x ∷ xs) (l ∷ ls) (next_line h rest) m = by_line x l h (λ k. behind subs needed xs ls rest k) where
   by_line : (x : Item) (l : Line) → LineIs subs (is_dead x.kind (needed_at xs needed)) x l → ((k : ℕ) → Behind needed xs ls k) →
@@ -290,18 +291,20 @@ behind subs needed (x ∷ xs) (l ∷ ls) (next_line h rest) m = by_line x l h (�
       double subs needed x (phi_off c x.origin) (bare_of x) (Some c.source) xs ls rest (phi_quiet c x.origin) (alike_bare x.kind) rec m
 
 -- for which item something stands afterwards: the first thing that stands for it, or the copy below its phi
-pub data Whose (subs : List Entry) (needed : Places) (xs : List Item) (ls : List Line) (m : ℕ) (y : Item) : Type 0 where
+pub data Whose (subs : List DebugSubstitution) (needed : Places) (xs : List Item) (ls : List Line) (m : ℕ) (y : Item) : Type 0 where
   first_of : (n : ℕ) (x : Item) (us : List Item) (line : Line) → drop n xs ≡ x ∷ us → slice_get ls n ≡ Some line →
       LineIs subs (is_dead x.kind (needed_at us needed)) x line → m ≡ ahead ls n → (more : List Item) → line.now ≡ y ∷ more → Whose subs needed xs ls m y
   copy_of : (x : Item) (c : Copied) → numbered_copy x.kind ≡ Some c → bare_of x ≡ y → Whose subs needed xs ls m y
 
-whose_later : (subs : List Entry) (needed : Places) (x : Item) (xs : List Item) (l : Line) (ls : List Line) (m k : ℕ) (y : Item) → k ≡ over_now l.now m →
+whose_later : (subs : List DebugSubstitution) (needed : Places) (x : Item) (xs : List Item) (l : Line) (ls : List Line) (m k : ℕ) (y : Item) →
+    k ≡ over_now l.now m →
     Whose subs needed xs ls m y → Whose subs needed (x ∷ xs) (l ∷ ls) k y
 whose_later subs needed x xs l ls m k y is (first_of n z us line at at_line h e more now) =
     first_of (suc n) z us line at at_line h (is ∙ ap (over_now l.now) e) more now
 whose_later subs needed x xs l ls m k y is (copy_of z c copy e) = copy_of z c copy e
 
-pub whose : (subs : List Entry) (needed : Places) (xs : List Item) (ls : List Line) → LinesAre subs needed xs ls → (m : ℕ) (y : Item) (vs : List Item) →
+pub whose : (subs : List DebugSubstitution) (needed : Places) (xs : List Item) (ls : List Line) → LinesAre subs needed xs ls →
+    (m : ℕ) (y : Item) (vs : List Item) →
     drop m (all_now ls) ≡ y ∷ vs → Whose subs needed xs ls m y
 whose subs needed xs ls no_lines zero y vs e = cc
 whose subs needed xs ls no_lines (suc m) y vs e = cc
@@ -332,7 +335,7 @@ whose subs needed (x ∷ xs) (l ∷ ls) (next_line h rest) m y vs e = by_line x 
 
 -- ---- the paths of both functions
 
-module _ (final : List Entry) (ends : Ends) (f g : Function) (lss : List (List Line)) (all : BlocksAre final ends f.blocks lss g.blocks) where
+module _ (final : List DebugSubstitution) (ends : Ends) (f g : Function) (lss : List (List Line)) (all : BlocksAre final ends f.blocks lss g.blocks) where
   -- where what stands for the item of a place begins, and the place for which something stands
   abbrev pub forth : Pos → Pos
   forth p = record { block = p.block; item = ahead (lines_for f.blocks lss p.block) p.item }
@@ -353,7 +356,7 @@ module _ (final : List Entry) (ends : Ends) (f g : Function) (lss : List (List L
   home_start n = by_found (found n) where
     by_found : {us : List Block} {ls : List Line} {vs : List Block} → Found final ends n us ls vs → record { block = n; item = back ls 0 } ≡ block_start n
     by_found nowhere = refl
-    by_found (there {b} {c} {ls} id silent items lines same) = ap (λ (k : ℕ). record { block = n; item = k }) (back_zero final (ends n) b.items ls lines)
+    by_found (there {b} {c} {ls} id source_end items lines same) = ap (λ (k : ℕ). record { block = n; item = k }) (back_zero final (ends n) b.items ls lines)
 
   forth_start : (n : ℕ) → forth (block_start n) ≡ block_start n
   forth_start n = ap (λ (k : ℕ). record { block = n; item = k }) (ahead_zero (lines_for f.blocks lss n))
@@ -379,7 +382,7 @@ module _ (final : List Entry) (ends : Ends) (f g : Function) (lss : List (List L
     by_found : {us : List Block} {ls : List Line} {vs : List Block} → Found final ends q.block us ls vs → from_block f.blocks q.block ≡ us →
         lines_for f.blocks lss q.block ≡ ls → from_block g.blocks q.block ≡ vs → FetchEdge (λ m. m) (fetch_in vs q.item) q q' → StepHome q q'
     by_found nowhere ef el eg e = absurd e
-    by_found (there {b} {c} {ls} {bs} {cs} id silent items lines same) ef el eg e = by_view (behind final (ends q.block) b.items ls lines q.item) where
+    by_found (there {b} {c} {ls} {bs} {cs} id source_end items lines same) ef el eg e = by_view (behind final (ends q.block) b.items ls lines q.item) where
       at_home : home q ≡ record { block = q.block; item = back ls q.item }
       at_home = λ t. record { block = q.block; item = back (el t) q.item }
 
@@ -389,15 +392,15 @@ module _ (final : List Entry) (ends : Ends) (f g : Function) (lss : List (List L
       rest_g : (zs : List Item) → drop q.item (all_now ls) ≡ zs → rest_of g.blocks q ≡ zs
       rest_g zs at = ap (λ (ds : List Block). rest_in ds q.item) eg ∙ ap (drop q.item) items ∙ at
 
-      fetch_g : (zs : List Item) → drop q.item (all_now ls) ≡ zs → (paths_of g).fetch q ≡ front zs c.silent cs
-      fetch_g zs at = ap (λ (ds : List Block). fetch_in ds q.item) eg ∙ ap (λ (ys : List Item). front (drop q.item ys) c.silent cs) items ∙
-          ap (λ (ys : List Item). front ys c.silent cs) at
+      fetch_g : (zs : List Item) → drop q.item (all_now ls) ≡ zs → (paths_of g).fetch q ≡ front zs c.source_end cs
+      fetch_g zs at = ap (λ (ds : List Block). fetch_in ds q.item) eg ∙ ap (λ (ys : List Item). front (drop q.item ys) c.source_end cs) items ∙
+          ap (λ (ys : List Item). front ys c.source_end cs) at
 
       rest_f : (zs : List Item) → drop (back ls q.item) b.items ≡ zs → rest_of f.blocks (home q) ≡ zs
       rest_f zs at = (λ t. rest_in (ef t) (back (el t) q.item)) ∙ at
 
-      fetch_f : (zs : List Item) → drop (back ls q.item) b.items ≡ zs → (paths_of f).fetch (home q) ≡ front zs b.silent bs
-      fetch_f zs at = (λ t. fetch_in (ef t) (back (el t) q.item)) ∙ ap (λ (ys : List Item). front ys b.silent bs) at
+      fetch_f : (zs : List Item) → drop (back ls q.item) b.items ≡ zs → (paths_of f).fetch (home q) ≡ front zs b.source_end bs
+      fetch_f zs at = (λ t. fetch_in (ef t) (back (el t) q.item)) ∙ ap (λ (ys : List Item). front ys b.source_end bs) at
 
       by_view : Behind (ends q.block) b.items ls q.item → StepHome q q'
       by_view (inside h vs at quiet back_same) =
@@ -426,16 +429,16 @@ module _ (final : List Entry) (ends : Ends) (f g : Function) (lss : List (List L
                 let is : home q' ≡ block_start w.0 = ap (λ (r : Pos). home r) w.1 ∙ home_start w.0 in
                 subst (Edge (paths_of f) (home q)) (sym is) (to_home (block_start w.0) (w.2 (home q)))
       by_view (past at_f at_g) =
-          let one : end_of c.silent cs ≡ end_of b.silent bs = ap (λ (k : ℕ). end_of k cs) silent ∙ same b.silent in
-          let w = past_edge ((paths_of g).fetch q) b.silent bs (fetch_g [] at_g ∙ one) q q' (home q) edge in
+          let one : end_of c.source_end cs ≡ end_of b.source_end bs = ap (λ (k : ℕ). end_of k cs) source_end ∙ same b.source_end in
+          let w = past_edge ((paths_of g).fetch q) b.source_end bs (fetch_g [] at_g ∙ one) q q' (home q) edge in
           let is : home q' ≡ block_start w.0 = ap (λ (r : Pos). home r) w.1 ∙ home_start w.0 in
           let both : (paths_of g).fetch q ≡ (paths_of f).fetch (home q) = fetch_g [] at_g ∙ one ∙ sym (fetch_f [] at_f) in
           moves
           (ap (λ (xs : List Item). begins_dead xs (ends q.block)) (rest_f [] at_f) ∙
           sym (ap (λ (xs : List Item). begins_dead xs (ends q.block)) (rest_g [] at_g)))
           (λ z. (
-            λ h. absurd (past_defines ((paths_of f).fetch (home q)) b.silent bs z (fetch_f [] at_f) h),
-            λ h. absurd (past_defines ((paths_of g).fetch q) b.silent bs z (fetch_g [] at_g ∙ one) h),
+            λ h. absurd (past_defines ((paths_of f).fetch (home q)) b.source_end bs z (fetch_f [] at_f) h),
+            λ h. absurd (past_defines ((paths_of g).fetch q) b.source_end bs z (fetch_g [] at_g ∙ one) h),
           ))
           (subst (Edge (paths_of f) (home q)) (sym is) (subst (λ (z : Fetch). FetchEdge (λ m. m) z (home q) (block_start w.0)) both w.2))
 
@@ -500,7 +503,7 @@ module _ (final : List Entry) (ends : Ends) (f g : Function) (lss : List (List L
     by_found : {us : List Block} {ls : List Line} {vs : List Block} → Found final ends p.block us ls vs → from_block f.blocks p.block ≡ us →
         lines_for f.blocks lss p.block ≡ ls → from_block g.blocks p.block ≡ vs → FetchEdge (λ m. m) (fetch_in us p.item) p p' → StepForth p p'
     by_found nowhere ef el eg e = absurd e
-    by_found (there {b} {c} {ls} {bs} {cs} id silent items lines same) ef el eg e = by_rest (drop p.item b.items) refl where
+    by_found (there {b} {c} {ls} {bs} {cs} id source_end items lines same) ef el eg e = by_rest (drop p.item b.items) refl where
       m : ℕ
       m = ahead ls p.item
 
@@ -517,15 +520,15 @@ module _ (final : List Entry) (ends : Ends) (f g : Function) (lss : List (List L
       rest_f : (zs : List Item) → drop p.item b.items ≡ zs → rest_of f.blocks p ≡ zs
       rest_f zs at = ap (λ (ds : List Block). rest_in ds p.item) ef ∙ at
 
-      fetch_f : (zs : List Item) → drop p.item b.items ≡ zs → (paths_of f).fetch p ≡ front zs b.silent bs
-      fetch_f zs at = ap (λ (ds : List Block). fetch_in ds p.item) ef ∙ ap (λ (ys : List Item). front ys b.silent bs) at
+      fetch_f : (zs : List Item) → drop p.item b.items ≡ zs → (paths_of f).fetch p ≡ front zs b.source_end bs
+      fetch_f zs at = ap (λ (ds : List Block). fetch_in ds p.item) ef ∙ ap (λ (ys : List Item). front ys b.source_end bs) at
 
       rest_g : (k : ℕ) (zs : List Item) → drop k (all_now ls) ≡ zs → rest_of g.blocks (record { block = p.block; item = k }) ≡ zs
       rest_g k zs at = ap (λ (ds : List Block). rest_in ds k) eg ∙ ap (drop k) items ∙ at
 
-      fetch_g : (k : ℕ) (zs : List Item) → drop k (all_now ls) ≡ zs → (paths_of g).fetch (record { block = p.block; item = k }) ≡ front zs c.silent cs
-      fetch_g k zs at = ap (λ (ds : List Block). fetch_in ds k) eg ∙ ap (λ (ys : List Item). front (drop k ys) c.silent cs) items ∙
-          ap (λ (ys : List Item). front ys c.silent cs) at
+      fetch_g : (k : ℕ) (zs : List Item) → drop k (all_now ls) ≡ zs → (paths_of g).fetch (record { block = p.block; item = k }) ≡ front zs c.source_end cs
+      fetch_g k zs at = ap (λ (ds : List Block). fetch_in ds k) eg ∙ ap (λ (ys : List Item). front (drop k ys) c.source_end cs) items ∙
+          ap (λ (ys : List Item). front ys c.source_end cs) at
 
       directly : CodeAt p p' (ahead ls p.item) → StepForth p p'
       directly k =
@@ -584,10 +587,10 @@ module _ (final : List Entry) (ends : Ends) (f g : Function) (lss : List (List L
           by_line x us r.line r.rest at r.is r.front r.next r.same
       by_rest [] at =
           let at_g = past_here final (ends p.block) b.items ls lines p.item at in
-          let one : end_of c.silent cs ≡ end_of b.silent bs = ap (λ (k : ℕ). end_of k cs) silent ∙ same b.silent in
-          let w = past_edge ((paths_of f).fetch p) b.silent bs (fetch_f [] at) p p' (forth p) edge in
+          let one : end_of c.source_end cs ≡ end_of b.source_end bs = ap (λ (k : ℕ). end_of k cs) source_end ∙ same b.source_end in
+          let w = past_edge ((paths_of f).fetch p) b.source_end bs (fetch_f [] at) p p' (forth p) edge in
           let is : forth p' ≡ block_start w.0 = ap (λ (r : Pos). forth r) w.1 ∙ forth_start w.0 in
-          let there_g : (paths_of g).fetch (forth p) ≡ end_of b.silent bs =
+          let there_g : (paths_of g).fetch (forth p) ≡ end_of b.source_end bs =
           ap (λ (r : Pos). (paths_of g).fetch r) (sym at_forth) ∙ fetch_g (ahead ls p.item) [] at_g ∙ one in
           let rest_there : rest_of g.blocks (forth p) ≡ [] =
           ap (λ (r : Pos). rest_of g.blocks r) (sym at_forth) ∙ rest_g (ahead ls p.item) [] at_g in
@@ -595,8 +598,8 @@ module _ (final : List Entry) (ends : Ends) (f g : Function) (lss : List (List L
           direct
           (ap (λ (xs : List Item). begins_dead xs (ends p.block)) rest_there ∙ sym (ap (λ (xs : List Item). begins_dead xs (ends p.block)) (rest_f [] at)))
           (λ z. (
-            λ h. absurd (past_defines ((paths_of f).fetch p) b.silent bs z (fetch_f [] at) h),
-            λ h. absurd (past_defines ((paths_of g).fetch (forth p)) b.silent bs z there_g h),
+            λ h. absurd (past_defines ((paths_of f).fetch p) b.source_end bs z (fetch_f [] at) h),
+            λ h. absurd (past_defines ((paths_of g).fetch (forth p)) b.source_end bs z there_g h),
           ))
           (subst (Edge (paths_of g) (forth p)) (sym is) (subst (λ (z : Fetch). FetchEdge (λ m. m) z (forth p) (block_start w.0)) both w.2))
 

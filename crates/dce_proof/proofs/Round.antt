@@ -1,6 +1,6 @@
 -- How large a function is after a round.
 use Rattle.std.proofs.Common.{◌≡◌, ℕ, ◌+◌, ◌-◌, ◌≤◌, List, All, Bool, refl, sym, ap, ◌∙◌, subst, arith}
-use Rattle.mir_func.specs.declared.entry.Entry.{Entry}
+use Rattle.mir_func.specs.declared.entry.DebugSubstitution.{DebugSubstitution}
 use Rattle.mir_func.specs.Function.{Function}
 use Rattle.mir_func.specs.Sound.{IsSound}
 use Rattle.pass_trait.specs.declared.loss.Loss.{Loss}
@@ -21,7 +21,7 @@ use Rattle.dce_proof.proofs.Counts.{dead_in, dead_same, all_left, calls_same}
 use Rattle.dce_proof.proofs.Off.{BlocksGrow, blocks_grow, blocks_physical}
 use Rattle.dce_proof.proofs.Numbers.{greatest_less}
 
-module _ (f g : Function) (subs more : List Entry) (losses : List Loss) (sound : IsSound f) (r : IsDeadRound f subs g more losses) where
+module _ (f g : Function) (subs more : List DebugSubstitution) (losses : List Loss) (sound : IsSound f) (r : IsDeadRound f subs g more losses) where
   abbrev mid : Function
   mid = function_off f subs r.dead
 

@@ -11,7 +11,7 @@ use Rattle.mir_func.specs.declared.position.Pos.{Pos}
 use Rattle.mir_func.specs.declared.position.Origin.{Origin}
 use Rattle.mir_func.specs.declared.location.Loc.{Loc}
 use Rattle.mir_func.specs.declared.block.Block.{Block}
-use Rattle.mir_func.specs.declared.entry.Entry.{Entry}
+use Rattle.mir_func.specs.declared.entry.DebugSubstitution.{DebugSubstitution}
 use Rattle.mir_func.specs.declared.item.Item.{Item}
 use Rattle.mir_func.specs.declared.item.ItemKind.{ItemKind}
 use Rattle.mir_func.specs.declared.item.ItemKind.TheVariants.{Code, Mark, Phi}
@@ -44,11 +44,12 @@ use Rattle.dce_proof.proofs.Places.{ahead, Whose, first_of, copy_of, whose, fort
 use Rattle.dce_proof.proofs.Here.{c, all, PlaceLine, place_line, one_line, dead_is}
 use Rattle.dce_proof.proofs.Become.{copied_not, is_copy, is_not, copy_defines, wrong_above, own_wrong, wrong_below, ends_are}
 
-lines_of_block : (subs : List Entry) (ends : Ends) (bs cs : List Block) (lss : List (List Line)) → BlocksAre subs ends bs lss cs → (j : ℕ) (b : Block) →
+lines_of_block : (subs : List DebugSubstitution) (ends : Ends) (bs cs : List Block) (lss : List (List Line)) → BlocksAre subs ends bs lss cs →
+    (j : ℕ) (b : Block) →
     slice_get bs j ≡ Some b → (ls : List Line) × (slice_get lss j ≡ Some ls)
 lines_of_block subs ends bs cs lss no_blocks j b at = cc
-lines_of_block subs ends (a ∷ bs) (d ∷ cs) (ls ∷ lss) (and_block id silent items lines rest) zero b at = (ls, refl)
-lines_of_block subs ends (a ∷ bs) (d ∷ cs) (ls ∷ lss) (and_block id silent items lines rest) (suc j) b at = lines_of_block subs ends bs cs lss rest j b at
+lines_of_block subs ends (a ∷ bs) (d ∷ cs) (ls ∷ lss) (and_block id source_end items lines rest) zero b at = (ls, refl)
+lines_of_block subs ends (a ∷ bs) (d ∷ cs) (ls ∷ lss) (and_block id source_end items lines rest) (suc j) b at = lines_of_block subs ends bs cs lss rest j b at
 
 block_at : (bs : List Block) (b : Block) → Contains bs b → (j : ℕ) × (slice_get bs j ≡ Some b)
 block_at bs b (j, lt, e) = (j, slice_get-get_or bs j b lt ∙ ap Some e)
@@ -62,7 +63,7 @@ get_of_drop (y ∷ ys) (suc n) x us e = get_of_drop ys n x us e
 head_is : (x y : Item) (xs ys : List Item) → x ∷ xs ≡ y ∷ ys → x ≡ y
 head_is x y xs ys e = cc
 
-module _ (f : Function) (subs : List Entry) (dead : List (List Bool)) (sound : IsSound f) (judged : AreJudged f dead) (wrong : Pos → Places) where
+module _ (f : Function) (subs : List DebugSubstitution) (dead : List (List Bool)) (sound : IsSound f) (judged : AreJudged f dead) (wrong : Pos → Places) where
   every : BlocksAre (all_off f subs dead).subs judged.ends f.blocks (all_lines dead f.blocks (begins_off f subs)) (function_off f subs dead).blocks
   every = all f subs dead sound judged wrong
 
@@ -161,7 +162,7 @@ module _ (f : Function) (subs : List Entry) (dead : List (List Bool)) (sound : I
               from_block f.blocks q.block ≡ bs → lines_for f.blocks (all_lines dead f.blocks (begins_off f subs)) q.block ≡ ls →
               from_block (function_off f subs dead).blocks q.block ≡ cs → (at : Pos) × dead_rule.loses (c f subs dead sound judged wrong) at loss
           by_found nowhere ef el eg = let bad : [] ≡ y ∷ vs = ap (λ (ds : List Block). rest_in ds q.item) (sym eg) ∙ rest in cc
-          by_found (there {b} {c = e} {ls} {bs} id silent items lines same) ef el eg =
+          by_found (there {b} {c = e} {ls} {bs} id source_end items lines same) ef el eg =
               by_whose (whose (all_off f subs dead).subs (judged.ends q.block) b.items ls lines q.item y vs
               (ap (drop q.item) (sym items) ∙ ap (λ (ds : List Block). rest_in ds q.item) (sym eg) ∙ rest)) where
                 by_whose : Whose (all_off f subs dead).subs (judged.ends q.block) b.items ls q.item y →
@@ -173,7 +174,7 @@ module _ (f : Function) (subs : List Entry) (dead : List (List Bool)) (sound : I
                 by_whose (first_of n x us line at_x at_l is m_is more now) =
                     let at : Pos = pos_in q.block n in
                     let stands_x : StandsAt f (pos_in q.block n) x =
-                    ap (λ (ds : List Block). fetch_in ds n) ef ∙ ap (λ (zs : List Item). front zs b.silent bs) at_x in
+                    ap (λ (ds : List Block). fetch_in ds n) ef ∙ ap (λ (zs : List Item). front zs b.source_end bs) at_x in
                     let p = place_line f subs dead sound judged wrong (pos_in q.block n) x stands_x in
                     let led : ledger f subs dead q.block ≡ ls = sym (lines_for_is f.blocks dead (begins_off f subs) q.block) ∙ el in
                     let has : HasLine (c f subs dead sound judged wrong) (pos_in q.block n) line =
@@ -203,7 +204,7 @@ module _ (f : Function) (subs : List Entry) (dead : List (List Bool)) (sound : I
         get_or_from_slice_get f.blocks j b b at_b,
       ) in
       let stands : StandsAt f (pos_in b.id n) x =
-      ap (λ (bs : List Block). fetch_in bs n) w.at ∙ ap (λ (ys : List Item). front ys b.silent w.rest) behind in
+      ap (λ (bs : List Block). fetch_in bs n) w.at ∙ ap (λ (ys : List Item). front ys b.source_end w.rest) behind in
       let p = place_line f subs dead sound judged wrong (pos_in b.id n) x stands in
       let led = lines_at f.blocks dead (begins_off f subs) sound.blocks_apart j b ls at_b at_ls in
       let has : HasLine (c f subs dead sound judged wrong) (pos_in b.id n) line =

@@ -7,7 +7,7 @@ use Rattle.std.proofs.lemmas.List.Elements.{Contains-append_left, Contains-appen
 use Rattle.mir_func.specs.declared.position.Pos.{Pos}
 use Rattle.mir_func.specs.declared.position.Origin.{Origin}
 use Rattle.mir_func.specs.declared.block.Block.{Block}
-use Rattle.mir_func.specs.declared.entry.Entry.{Entry}
+use Rattle.mir_func.specs.declared.entry.DebugSubstitution.{DebugSubstitution}
 use Rattle.mir_func.specs.declared.item.Item.{Item}
 use Rattle.mir_func.specs.declared.item.ItemKind.{ItemKind}
 use Rattle.mir_func.specs.declared.item.ItemKind.TheVariants.{Code, Mark, Phi}
@@ -138,7 +138,7 @@ of_map F [] b (k, lt, e) = absurd (omega (arith, lt))
 of_map F (a ∷ bs) b (zero, lt, e) = (0, omega arith, ap F e)
 of_map F (a ∷ bs) b (suc k, lt, e) = let w = of_map F bs b (k, omega (arith, lt), e) in (suc w.0, (let l = w.1 in omega (arith, l)), w.2)
 
-module _ (f : Function) (subs : List Entry) (dead : List (List Bool)) (sound : IsSound f) (judged : AreJudged f dead) (wrong : Pos → Places)
+module _ (f : Function) (subs : List DebugSubstitution) (dead : List (List Bool)) (sound : IsSound f) (judged : AreJudged f dead) (wrong : Pos → Places)
     (exact : AreWrong judged.ends (function_off f subs dead) wrong) (here losses : List Loss)
     (told : (l : Loss) → Contains here l ↔ ((at : Pos) × LosesAt judged.ends (function_off f subs dead) at l))
     (each : (l : Loss) → Contains losses l ↔ Contains ((all_off f subs dead).lost ++ here) l) (ordered : IsInOrder losses) where
@@ -174,7 +174,7 @@ module _ (f : Function) (subs : List Entry) (dead : List (List Bool)) (sound : I
       by_fate (inr (j, vs, at, dies)) =
           let w = found (function_off f subs dead).blocks off.sound.blocks_apart b member in
           let stands : StandsAt (function_off f subs dead) (pos_in b.id j) y =
-          ap (λ (bs : List Block). fetch_in bs j) w.at ∙ ap (λ (ys : List Item). front ys b.silent w.rest) at in
+          ap (λ (bs : List Block). fetch_in bs j) w.at ∙ ap (λ (ys : List Item). front ys b.source_end w.rest) at in
           let rest : rest_of (function_off f subs dead).blocks (pos_in b.id j) ≡ y ∷ vs = ap (λ (bs : List Block). rest_in bs j) w.at ∙ at in
           inr (
             Removed,
@@ -182,7 +182,8 @@ module _ (f : Function) (subs : List Entry) (dead : List (List Bool)) (sound : I
                 (y, stands, code_loses (pos_in b.id j) y.kind y.origin m code (ap (λ (xs : List Item). begins_dead xs (judged.ends b.id)) rest ∙ dies)),
           )
 
-  is_for : (e : Entry) → StandsIn [] (function_off f subs dead).blocks (all_off f subs dead).subs e → IsFor (c f subs dead sound judged wrong) losses e
+  is_for : (e : DebugSubstitution) → StandsIn [] (function_off f subs dead).blocks (all_off f subs dead).subs e →
+      IsFor (c f subs dead sound judged wrong) losses e
   is_for e w = record {
     whole = w.whole;
     gone = number_not (items_of (map (taken wrong judged.ends) (function_off f subs dead).blocks)) e.src.number
@@ -237,5 +238,5 @@ round_keeps f g subs more losses sound r =
     let kept : KeepsItems dead_rule (c f subs r.dead sound r.judged r.out.wrong) losses =
     items_kept f subs r.dead sound r.judged r.out.wrong exact r.here losses told r.each r.ordered in
     subst (λ (h : Function). KeepsItems dead_rule (change f subs h more) losses) (sym out)
-    (subst (λ (es : List Entry). KeepsItems dead_rule (change f subs (taken_out r.out.wrong r.judged.ends (function_off f subs r.dead)) es) losses)
+    (subst (λ (es : List DebugSubstitution). KeepsItems dead_rule (change f subs (taken_out r.out.wrong r.judged.ends (function_off f subs r.dead)) es) losses)
     (sym r.entries) kept)

@@ -1,6 +1,6 @@
 -- The debug law of a round.
 use Rattle.std.specs.Prelude.{List, []}
-use Rattle.mir_func.specs.declared.entry.Entry.{Entry}
+use Rattle.mir_func.specs.declared.entry.DebugSubstitution.{DebugSubstitution}
 use Rattle.mir_func.specs.Function.{Function}
 use Rattle.mir_func.specs.Sound.{IsSound}
 use Rattle.pass_trait.specs.declared.loss.Loss.{Loss}
@@ -13,9 +13,9 @@ use Rattle.dce_proof.specs.Rule.{dead_rule}
 -- each debug value, DBG_PHI and number is kept, or substituted or replaced by a DBG_PHI, or is among the losses with
 -- its cause
 abbrev pub RoundKeepsItems : Type 0
-RoundKeepsItems = (f g : Function) (subs more : List Entry) (losses : List Loss) → IsSound f → IsDeadRound f subs g more losses →
+RoundKeepsItems = (f g : Function) (subs more : List DebugSubstitution) (losses : List Loss) → IsSound f → IsDeadRound f subs g more losses →
     KeepsItems dead_rule (change f subs g more) losses
 
 -- and the same for a round in which nothing is dead, with no losses
 abbrev pub IdleKeepsItems : Type 0
-IdleKeepsItems = (f : Function) (subs : List Entry) → IsSound f → IsRound f f → KeepsItems dead_rule (change f subs f subs) []
+IdleKeepsItems = (f : Function) (subs : List DebugSubstitution) → IsSound f → IsRound f f → KeepsItems dead_rule (change f subs f subs) []

@@ -3,10 +3,10 @@ use Rattle.std.specs.Prelude.{ℕ, zero, suc, List, [], ◌∷◌, ◌++◌, tak
 use Rattle.std.specs.Prelude.{cond, nat_eq, Option, Some, None, Bool, true, false, slice_get, slice_index_or}
 use Rattle.mir_func.specs.declared.block.Block.{Block}
 use Rattle.mir_func.specs.declared.item.Item.{Item}
-use Rattle.mir_func.specs.declared.entry.Entry.{Entry}
+use Rattle.mir_func.specs.declared.entry.DebugSubstitution.{DebugSubstitution}
 use Rattle.mir_func.specs.Function.{Function}
-use Rattle.pass_salvage.specs.declared.way.Way.{Way}
-use Rattle.pass_salvage.specs.declared.way.Way.TheVariants.{HasEntry, GetsEntry, GetsPhi}
+use Rattle.pass_salvage.specs.declared.way.SalvageAction.{SalvageAction}
+use Rattle.pass_salvage.specs.declared.way.SalvageAction.TheVariants.{HasEntry, GetsEntry, GetsPhi}
 use Rattle.pass_salvage.specs.Way.{way}
 use Rattle.dce_copies.specs.declared.off.Copied.{Copied}
 use Rattle.dce_copies.specs.Off.{without_number, numbered_copy, put_off, SoFar, off_at}
@@ -19,13 +19,13 @@ pub record Line : Type 0 where
   pub phi : Option ℕ
 
 -- the source of a copy whose number goes to a DBG_PHI
-abbrev pub phi_source : Way → Copied → Option ℕ
+abbrev pub phi_source : SalvageAction → Copied → Option ℕ
 phi_source HasEntry c = None
 phi_source (GetsEntry d o n) c = None
 phi_source GetsPhi c = Some c.source
 
 -- the line of a copy that loses its number by this salvage
-abbrev pub line_by : Way → Copied → Item → Line
+abbrev pub line_by : SalvageAction → Copied → Item → Line
 line_by w c x = record { now = put_off w c x.origin ++ record x { kind = without_number x.kind } ∷ []; phi = phi_source w c }
 
 -- the line of an item that is unchanged
@@ -58,5 +58,5 @@ lines_in dead (b ∷ bs) a n =
     (lines_in (drop 1 dead) bs a n)
 
 -- the lines of a function's block, given which items are dead
-abbrev pub ledger : Function → List Entry → (dead : List (List Bool)) → (block : ℕ) → List Line
+abbrev pub ledger : Function → List DebugSubstitution → (dead : List (List Bool)) → (block : ℕ) → List Line
 ledger f subs dead n = lines_in dead f.blocks (begins_off f subs) n

@@ -1,6 +1,6 @@
 -- The size of a function after a round.
 use Rattle.std.specs.Prelude.{◌≡◌, ◌+◌, ◌≤◌, List}
-use Rattle.mir_func.specs.declared.entry.Entry.{Entry}
+use Rattle.mir_func.specs.declared.entry.DebugSubstitution.{DebugSubstitution}
 use Rattle.mir_func.specs.Function.{Function}
 use Rattle.mir_func.specs.Sound.{IsSound}
 use Rattle.pass_trait.specs.declared.loss.Loss.{Loss}
@@ -9,7 +9,7 @@ use Rattle.dce_round.specs.Round.{IsDeadRound}
 
 -- the second function, with its substitutions, is no larger: the greatest number grows by at most the number of removed
 -- items
-pub record IsNoLarger (f : Function) (subs : List Entry) (g : Function) (more : List Entry) : Type 0 where
+pub record IsNoLarger (f : Function) (subs : List DebugSubstitution) (g : Function) (more : List DebugSubstitution) : Type 0 where
   pub items : item_count g ≤ item_count f
   pub code : code_count g ≤ code_count f
   pub calls : call_count g ≤ call_count f
@@ -19,4 +19,5 @@ pub record IsNoLarger (f : Function) (subs : List Entry) (g : Function) (more : 
 
 -- a round makes a function no larger
 abbrev pub RoundSizes : Type 0
-RoundSizes = (f g : Function) (subs more : List Entry) (losses : List Loss) → IsSound f → IsDeadRound f subs g more losses → IsNoLarger f subs g more
+RoundSizes = (f g : Function) (subs more : List DebugSubstitution) (losses : List Loss) → IsSound f → IsDeadRound f subs g more losses →
+    IsNoLarger f subs g more

@@ -1,6 +1,6 @@
 -- What a round keeps.
 use Rattle.std.proofs.Common.{◌≡◌, ◌<◌, List, sym, ap, subst, arith}
-use Rattle.mir_func.specs.declared.entry.Entry.{Entry}
+use Rattle.mir_func.specs.declared.entry.DebugSubstitution.{DebugSubstitution}
 use Rattle.mir_func.specs.Function.{Function}
 use Rattle.mir_func.specs.Sound.{IsSound}
 use Rattle.mir_func.specs.Strip.{stripped}
@@ -10,7 +10,7 @@ use Rattle.pass_trait.specs.Sizes.{code_count}
 use Rattle.dce_rule.specs.Dead.{IsRound}
 use Rattle.dce_rule.specs.Wrong.{taken_out, IsClosed}
 use Rattle.dce_rule.specs.CodeLaws.{Covers}
-use Rattle.pass_edits.specs.Loose.{KeepsLoosely}
+use Rattle.pass_edits.specs.WeakSimulation.{PreservesWeakSimulation}
 use Rattle.dce_rule.proofs.Live.{live_closed}
 use Rattle.dce_rule.proofs.Sound.{sound_taken}
 use Rattle.dce_rule.proofs.Follows.{dead_follows}
@@ -22,11 +22,11 @@ use Rattle.dce_round.specs.Round.{IsDeadRound}
 use Rattle.dce_round.specs.Laws.{RoundFollows, RoundCode}
 use Rattle.dce_round.proofs.SameCode.{code_same}
 
-module _ (f g : Function) (subs more : List Entry) (losses : List Loss) (sound : IsSound f) (r : IsDeadRound f subs g more losses) where
+module _ (f g : Function) (subs more : List DebugSubstitution) (losses : List Loss) (sound : IsSound f) (r : IsDeadRound f subs g more losses) where
   abbrev mid : Function
   mid = function_off f subs r.dead
 
-  abbrev mid_subs : List Entry
+  abbrev mid_subs : List DebugSubstitution
   mid_subs = (all_off f subs r.dead).subs
 
   off : KeepsOff f subs r.dead
@@ -34,7 +34,7 @@ module _ (f g : Function) (subs more : List Entry) (losses : List Loss) (sound :
 
   -- the second half of the round
   pub taken : IsSound (taken_out r.out.wrong r.out.ends mid) ×
-      KeepsLoosely (change mid mid_subs (taken_out r.out.wrong r.out.ends mid) mid_subs)
+      PreservesWeakSimulation (change mid mid_subs (taken_out r.out.wrong r.out.ends mid) mid_subs)
   taken =
       let closed : IsClosed r.out.ends mid = live_closed mid off.sound.ends r.out.ends r.out.live in
       let covers : Covers r.out.wrong r.out.ends mid = λ p x w. (r.out.exact p x).1 w in (
@@ -42,13 +42,13 @@ module _ (f g : Function) (subs more : List Entry) (losses : List Loss) (sound :
         dead_follows mid mid_subs off.sound r.out.forms r.out.ends closed r.out.wrong covers,
       )
 
-  pub round_keeps : IsSound g × KeepsLoosely (change f subs g more)
+  pub round_keeps : IsSound g × PreservesWeakSimulation (change f subs g more)
   round_keeps =
       let out : Function = taken_out r.out.wrong r.out.ends mid in
-      let both : KeepsLoosely (change f subs out mid_subs) = then f mid out subs mid_subs mid_subs off.follows taken.1 in (
+      let both : PreservesWeakSimulation (change f subs out mid_subs) = then f mid out subs mid_subs mid_subs off.follows taken.1 in (
         subst IsSound (sym r.out.out) taken.0,
-        subst (λ (h : Function). KeepsLoosely (change f subs h more)) (sym r.out.out)
-            (subst (λ (es : List Entry). KeepsLoosely (change f subs out es)) (sym r.entries) both),
+        subst (λ (h : Function). PreservesWeakSimulation (change f subs h more)) (sym r.out.out)
+            (subst (λ (es : List DebugSubstitution). PreservesWeakSimulation (change f subs out es)) (sym r.entries) both),
       )
 
   pub round_is_code : IsRound (stripped f) (stripped g) × (code_count g < code_count f)

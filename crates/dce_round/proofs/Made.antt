@@ -2,7 +2,7 @@
 use Rattle.std.proofs.Common.{◌≡◌, ◌↔◌, List, ◌++◌, Contains, Bool, true, false, sym, ap, ◌∙◌, subst}
 use Rattle.std.specs.List.{list_any}
 use Rattle.mir_func.specs.declared.block.Block.{Block}
-use Rattle.mir_func.specs.declared.entry.Entry.{Entry}
+use Rattle.mir_func.specs.declared.entry.DebugSubstitution.{DebugSubstitution}
 use Rattle.mir_func.specs.Function.{Function}
 use Rattle.mir_func.specs.Sound.{IsSound}
 use Rattle.pass_trait.specs.declared.loss.Loss.{Loss}
@@ -17,7 +17,7 @@ use Rattle.dce_salvage_proof.proofs.Chain.{numbers_off}
 use Rattle.dce_round.specs.Round.{IsDeadRound}
 use Rattle.dce_round.proofs.SameCode.{dead_same}
 
-pub sound_off : (f : Function) (subs : List Entry) (dead : List (List Bool)) (bs : List Block) → IsSound f → bs ≡ (all_off f subs dead).blocks →
+pub sound_off : (f : Function) (subs : List DebugSubstitution) (dead : List (List Bool)) (bs : List Block) → IsSound f → bs ≡ (all_off f subs dead).blocks →
     IsSound (record { name = f.name; slots = f.slots; objects = f.objects; blocks = bs })
 sound_off f subs dead bs sound is =
     subst (λ (cs : List Block). IsSound (record { name = f.name; slots = f.slots; objects = f.objects; blocks = cs })) (sym is)
@@ -31,7 +31,7 @@ some_dead vss = list_any (λ vs. list_any (λ d. d) vs) vss
 pub none_dead : (f : Function) (dead : List (List Bool)) (judged : AreJudged f dead) → IsSound f → some_dead dead ≡ false → IsRound f f
 none_dead f dead judged sound e = settled f dead judged e
 
-module _ (f : Function) (subs : List Entry) (dead : List (List Bool)) (judged : AreJudged f dead) (sound : IsSound f) (some : some_dead dead ≡ true)
+module _ (f : Function) (subs : List DebugSubstitution) (dead : List (List Bool)) (judged : AreJudged f dead) (sound : IsSound f) (some : some_dead dead ≡ true)
     (g : Function)
     (here : List Loss) (any : Bool) (out : IsTakenOut (function_off f subs dead) g here any) where
   off : KeepsOff f subs dead
@@ -44,7 +44,7 @@ module _ (f : Function) (subs : List Entry) (dead : List (List Bool)) (judged : 
       dead_same judged.ends f.blocks (function_off f subs dead).blocks (ap (λ (h : Function). h.blocks) off.stripped_is) ∙
       ap some_dead (sym judged.verdicts_are) ∙ some
 
-  pub made : (more : List Entry) (losses lost : List Loss) → more ≡ (all_off f subs dead).subs → lost ≡ (all_off f subs dead).lost ++ here →
+  pub made : (more : List DebugSubstitution) (losses lost : List Loss) → more ≡ (all_off f subs dead).subs → lost ≡ (all_off f subs dead).lost ++ here →
       IsInOrder losses → ((l : Loss) → Contains losses l ↔ Contains lost l) → IsDeadRound f subs g more losses
   made more losses lost entries is ordered same = record {
     dead = dead;
@@ -59,7 +59,7 @@ module _ (f : Function) (subs : List Entry) (dead : List (List Bool)) (judged : 
   }
 
 -- what was taken out behind copies that lost their numbers
-module _ (f : Function) (subs : List Entry) (dead : List (List Bool)) (judged : AreJudged f dead) (sound : IsSound f) (some : some_dead dead ≡ true)
+module _ (f : Function) (subs : List DebugSubstitution) (dead : List (List Bool)) (judged : AreJudged f dead) (sound : IsSound f) (some : some_dead dead ≡ true)
     (mid g : Function) (mid_is : mid ≡ function_off f subs dead) (before after : List Loss) (before_is : before ≡ (all_off f subs dead).lost) (any : Bool)
     (out : (here : List Loss) × (after ≡ before ++ here) × IsTakenOut mid g here any) where
   taken : IsTakenOut (function_off f subs dead) g out.0 any
@@ -68,6 +68,6 @@ module _ (f : Function) (subs : List Entry) (dead : List (List Bool)) (judged : 
   after_is : after ≡ (all_off f subs dead).lost ++ out.0
   after_is = out.1 ∙ ap (λ (ls : List Loss). ls ++ out.0) before_is
 
-  pub round_made : (more : List Entry) (losses : List Loss) → more ≡ (all_off f subs dead).subs → IsInOrder losses →
+  pub round_made : (more : List DebugSubstitution) (losses : List Loss) → more ≡ (all_off f subs dead).subs → IsInOrder losses →
       ((l : Loss) → Contains losses l ↔ Contains after l) → IsDeadRound f subs g more losses
   round_made more losses entries ordered same = made f subs dead judged sound some g out.0 any taken more losses after entries after_is ordered same

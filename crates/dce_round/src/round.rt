@@ -9,7 +9,7 @@ ghost use Rattle.dce_round.specs.Round.{IsRoundWith};
 use base_list::List;
 use dce_copies::blocks::blocks_off;
 use dce_mark::judge::judge;
-use dce_sweep::round::{has_dead, take_out_dead};
+use dce_sweep::round::{has_dead, sweep_dead};
 use mir_func::block::{Blocks, copy_blocks};
 use mir_func::func::Func;
 use mir_substitution::substitutions::Substitutions;
@@ -38,7 +38,7 @@ pub fn dead_round(
         return Ok(None);
     }
     let mut lost = copies_off(alloc, f, dead.as_slice(), subs)?;
-    take_out_dead(alloc, f, &live, &mut lost)?;
+    sweep_dead(alloc, f, &live, &mut lost)?;
     put_in_order(&mut lost);
     Ok(Some(List::from(lost)))
 }

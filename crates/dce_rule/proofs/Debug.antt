@@ -11,7 +11,7 @@ use Rattle.mir_func.specs.declared.location.Loc.{Loc}
 use Rattle.mir_func.specs.declared.variable.MarkValue.{MarkValue}
 use Rattle.mir_func.specs.declared.variable.MarkValue.TheVariants.{Nothing, Constant, At, Pair}
 use Rattle.mir_func.specs.declared.block.Block.{Block}
-use Rattle.mir_func.specs.declared.entry.Entry.{Entry}
+use Rattle.mir_func.specs.declared.entry.DebugSubstitution.{DebugSubstitution}
 use Rattle.mir_func.specs.declared.item.Item.{Item}
 use Rattle.mir_func.specs.declared.item.ItemKind.{ItemKind}
 use Rattle.mir_func.specs.declared.item.ItemKind.TheVariants.{Code, Mark, Phi}
@@ -76,7 +76,7 @@ quiet_code w k = quiet_is (λ z. is_code z ≡ is_code k) w k refl (λ v r e. sy
 quiet_defines : (x : Place) (w : Places) (k : ItemKind) → defines x (silenced w k) ≡ defines x k
 quiet_defines x w k = quiet_is (λ z. defines x z ≡ defines x k) w k refl (λ v r e. sym (ap (defines x) e)) (λ y n e. sym (ap (defines x) e))
 
-module _ (f : Function) (sound : IsSound f) (subs : List Entry) (ends : Ends) (wrong : Pos → Places) (exact : AreWrong ends f wrong)
+module _ (f : Function) (sound : IsSound f) (subs : List DebugSubstitution) (ends : Ends) (wrong : Pos → Places) (exact : AreWrong ends f wrong)
     (no_copies : NoCopies ends f) where
   abbrev c : Change
   c = record { old = f; old_subs = subs; new = taken_out wrong ends f; new_subs = subs }
@@ -224,7 +224,7 @@ module _ (f : Function) (sound : IsSound f) (subs : List Entry) (ends : Ends) (w
         StandsAt f (pos_in b.id n) x × (rest_of f.blocks (pos_in b.id n) ≡ x ∷ xs)
     stands_in n x xs e =
         let w = found f.blocks sound.blocks_apart b member in (
-          ap (λ (bs : List Block). fetch_in bs n) w.at ∙ ap (λ (ys : List Item). front ys b.silent w.rest) e,
+          ap (λ (bs : List Block). fetch_in bs n) w.at ∙ ap (λ (ys : List Item). front ys b.source_end w.rest) e,
           ap (λ (bs : List Block). rest_in bs n) w.at ∙ e,
         )
 

@@ -9,7 +9,7 @@ use Rattle.std.proofs.lemmas.List.Sums.{sum_by-cons}
 use Rattle.std.proofs.Math.Nat.{le-max_left, le-max_right, max-le, le_trans, le_refl}
 use Rattle.mir_func.specs.declared.position.Pos.{Pos}
 use Rattle.mir_func.specs.declared.block.Block.{Block}
-use Rattle.mir_func.specs.declared.entry.Entry.{Entry}
+use Rattle.mir_func.specs.declared.entry.DebugSubstitution.{DebugSubstitution}
 use Rattle.mir_func.specs.declared.item.Item.{Item}
 use Rattle.mir_func.specs.declared.item.ItemKind.{ItemKind}
 use Rattle.mir_func.specs.Function.{Function}
@@ -154,10 +154,11 @@ quiet_code w x = quiet_is (λ z. is_code z ≡ is_code x.kind) w x.kind refl (λ
 quiet_calls : (w : Places) (x : Item) → calls (quiet w x).kind ≡ calls x.kind
 quiet_calls w x = quiet_is (λ z. calls z ≡ calls x.kind) w x.kind refl (λ v r e. sym (ap calls e)) (λ y n e. sym (ap calls e))
 
-pub sizes_taken : (wrong : Pos → Places) (ends : Ends) (f : Function) (subs : List Entry) → KeepsSizes 1 0 (change f subs (taken_out wrong ends f) subs)
+pub sizes_taken : (wrong : Pos → Places) (ends : Ends) (f : Function) (subs : List DebugSubstitution) →
+    KeepsSizes 1 0 (change f subs (taken_out wrong ends f) subs)
 sizes_taken wrong ends f subs =
     let l = left_items wrong ends f.blocks in
-    let entries : List ℕ = flat_map (λ (s : Entry). s.src.number ∷ s.dst.number ∷ []) subs in
+    let entries : List ℕ = flat_map (λ (s : DebugSubstitution). s.src.number ∷ s.dst.number ∷ []) subs in
     record {
       items = (let k = length_left l in omega (arith, k));
       code = (let k = count_left (λ i. is_code i.kind) quiet_code l in omega (arith, k));

@@ -15,18 +15,18 @@ use Rattle.mir_func.specs.declared.position.Origin.TheVariants.{Kept, Before}
 use Rattle.mir_func.specs.declared.variable.VarId.{VarId}
 use Rattle.mir_func.specs.declared.variable.MarkValue.TheVariants.{Nothing, At}
 use Rattle.mir_func.specs.declared.block.Block.{Block}
-use Rattle.mir_func.specs.declared.entry.Entry.{Entry}
+use Rattle.mir_func.specs.declared.entry.DebugSubstitution.{DebugSubstitution}
 use Rattle.mir_func.specs.declared.item.Item.{Item}
 use Rattle.mir_func.specs.declared.item.ItemKind.{ItemKind}
 use Rattle.mir_func.specs.declared.item.ItemKind.TheVariants.{Code, Mark, Phi}
 use Rattle.mir_func.specs.Function.{Function}
 use Rattle.mir_func.specs.Sound.{AllItems, IsSound, OriginIn, HasForm}
-use Rattle.mir_func.specs.Graph.{Fetch, Here, Silent, Outside, Program, below, block_start, fetch_in, from_block, program_of, KindEdge, RowEdge, FetchEdge}
+use Rattle.mir_func.specs.Graph.{Fetch, Here, EndOfBlock, Outside, Program, below, block_start, fetch_in, from_block, program_of, KindEdge, RowEdge, FetchEdge}
 use Rattle.mir_func.specs.Resolve.{resolve}
 use Rattle.mir_func.specs.Successors.{pos_in}
 use Rattle.sem_mir.specs.State.{State}
 use Rattle.sem_mir.specs.Step.{Faulted, moved, do_fetch}
-use Rattle.sem_mir.specs.Align.{is_jump, is_jump_row, waits_at, moves_on, Count, ByItems, ByEnds, station_at, Arrives, here, onward, AnyOrigin, RunsAlong}
+use Rattle.sem_mir.specs.Align.{is_jump, is_jump_row, waits_at, moves_on, Count, ByItems, ByEnds, sync_point_at, Arrives, here, onward, AnyOrigin, RunsMatch}
 use Rattle.sem_mir.specs.Align.{After, since_of}
 use Rattle.sem_mir.specs.Follow.{MayAdd, KindFits, MarkFits, InOrder, next_rank, Among, none}
 use Rattle.sem_mir.specs.Follow.{same, left, first_of, OnRow, GoesTo, IsStart, SameEnd, ItemHasClass}
@@ -43,10 +43,10 @@ use Rattle.sem_simulation.proofs.Laid.{rest_of, laid_out}
 use Rattle.sem_agreement.proofs.Held.{held_itself}
 use Rattle.sem_agreement.proofs.Told.{tells_itself}
 use Rattle.pass_trait.specs.Change.{change}
-use Rattle.pass_trait.specs.Following.{Source}
+use Rattle.pass_trait.specs.Simulation.{Source}
 use Rattle.dce_rule.specs.Dead.{Places, Ends, is_dead_row, is_dead, needed_at}
 use Rattle.dce_rule.specs.Wrong.{silenced, silenced_left, taken_out, IsWrongAt, IsClosed}
-use Rattle.pass_edits.specs.Loose.{LooseShape, KeepsLoosely}
+use Rattle.pass_edits.specs.WeakSimulation.{LooseShape, PreservesWeakSimulation}
 use Rattle.dce_rule.proofs.Lists.{quiet, quiet_is, taken, rest_at, item_from, item_to, end_from}
 use Rattle.dce_rule.proofs.Runs.{inside, all_at, Right, left_at, GoesAlong, dead_runs}
 
@@ -59,7 +59,7 @@ at_item P sp blocks resolve all p i e = by_blocks (from_block blocks p.block) re
   by_blocks : (bs : List Block) → from_block blocks p.block ≡ bs → fetch_in bs p.item ≡ Here i → P i
   by_blocks [] h e = cc
   by_blocks (b ∷ bs) h e =
-      let at = front_item b.items p.item b.silent bs i e in
+      let at = front_item b.items p.item b.source_end bs i e in
       subst P (get_or_from_slice_get b.items p.item i i at)
       (All-contains (λ (b : Block). All P b.items) blocks b all (found_in blocks p.block b bs h).0 p.item i (within_list b.items p.item i at))
 
@@ -165,21 +165,21 @@ end_stays (Phi p m) l needed h = absurd h
 -- ---- where code goes elsewhere, and where the source stops
 
 -- added code that goes to a block is a jump
-added_goes : (r : Row) (item silent : ℕ) (p : Pos) (n : ℕ) → MayAdd r item silent → RowEdge (λ m. m) r p (block_start n) → is_jump_row r ≡ true
-added_goes (Fixes rd m) item silent p n may e = let z : 0 ≡ p.item + 1 = ap (λ (q : Pos). q.item) e in absurd (omega (arith, z))
-added_goes (LoadsSlot rd m) item silent p n may e = let z : 0 ≡ p.item + 1 = ap (λ (q : Pos). q.item) e in absurd (omega (arith, z))
-added_goes (StoresSlot rs m) item silent p n may e = let z : 0 ≡ p.item + 1 = ap (λ (q : Pos). q.item) e in absurd (omega (arith, z))
-added_goes (Jumps t) item silent p n may e = refl
-added_goes _ item silent p n may e = absurd may
+added_goes : (r : Row) (item source_end : ℕ) (p : Pos) (n : ℕ) → MayAdd r item source_end → RowEdge (λ m. m) r p (block_start n) → is_jump_row r ≡ true
+added_goes (Fixes rd m) item source_end p n may e = let z : 0 ≡ p.item + 1 = ap (λ (q : Pos). q.item) e in absurd (omega (arith, z))
+added_goes (LoadsSlot rd m) item source_end p n may e = let z : 0 ≡ p.item + 1 = ap (λ (q : Pos). q.item) e in absurd (omega (arith, z))
+added_goes (StoresSlot rs m) item source_end p n may e = let z : 0 ≡ p.item + 1 = ap (λ (q : Pos). q.item) e in absurd (omega (arith, z))
+added_goes (Jumps t) item source_end p n may e = refl
+added_goes _ item source_end p n may e = absurd may
 
 -- so an item goes elsewhere only where the source moves on after it
-moves_after : (ct : Count) (srcp : Program) (k : ItemKind) (o : Origin) (silent : ℕ) (p : Pos) (n : ℕ) → moves_on ct k ≡ is_jump k →
-    KindFits srcp k silent o → KindEdge (λ m. m) k p (block_start n) → since_of (waits_at (moves_on ct k) o) ≡ After
-moves_after ct srcp k (Kept q) silent p n counts fits e = refl
-moves_after ct srcp (Code i m) (Before q) silent p n counts fits e =
-    ap (λ (z : Bool). since_of (waits_at z (Before q))) (counts ∙ added_goes (row_of i) q.item silent p n fits e)
-moves_after ct srcp (Mark v m) (Before q) silent p n counts fits e = let z : 0 ≡ p.item + 1 = ap (λ (r : Pos). r.item) e in absurd (omega (arith, z))
-moves_after ct srcp (Phi l m) (Before q) silent p n counts fits e = let z : 0 ≡ p.item + 1 = ap (λ (r : Pos). r.item) e in absurd (omega (arith, z))
+moves_after : (ct : Count) (srcp : Program) (k : ItemKind) (o : Origin) (source_end : ℕ) (p : Pos) (n : ℕ) → moves_on ct k ≡ is_jump k →
+    KindFits srcp k source_end o → KindEdge (λ m. m) k p (block_start n) → since_of (waits_at (moves_on ct k) o) ≡ After
+moves_after ct srcp k (Kept q) source_end p n counts fits e = refl
+moves_after ct srcp (Code i m) (Before q) source_end p n counts fits e =
+    ap (λ (z : Bool). since_of (waits_at z (Before q))) (counts ∙ added_goes (row_of i) q.item source_end p n fits e)
+moves_after ct srcp (Mark v m) (Before q) source_end p n counts fits e = let z : 0 ≡ p.item + 1 = ap (λ (r : Pos). r.item) e in absurd (omega (arith, z))
+moves_after ct srcp (Phi l m) (Before q) source_end p n counts fits e = let z : 0 ≡ p.item + 1 = ap (λ (r : Pos). r.item) e in absurd (omega (arith, z))
 
 arrives_at : (g : Program) (Stops : Pos → Type 0) (p : Pos) {s t : State} → Arrives g Stops p s t → t.pos ≡ p
 arrives_at g Stops p (here e) = e
@@ -191,29 +191,29 @@ never_faults g s0 p no_item (s, arrives, stops) = by_fetch (g.fetch p) refl
     (ap (λ (q : Pos). moved g.enter s.pos (do_fetch g (g.fetch q) s.core)) (sym (arrives_at g _ p arrives)) ∙ stops) where
       by_fetch : (x : Fetch) → g.fetch p ≡ x → moved g.enter s.pos (do_fetch g x s.core) ≡ Faulted → ⊥
       by_fetch (Here i) e h = no_item i e
-      by_fetch (Silent k n) e h = cc
+      by_fetch (EndOfBlock k n) e h = cc
       by_fetch Outside e h = cc
 
 -- a block of a function that follows is one of the source's
-pub among_in : {bs src : List Block} → Among bs src → (b : Block) → Contains bs b → (a : Block) × Contains src a × (b.id ≡ a.id) × (b.silent ≡ a.silent)
+pub among_in : {bs src : List Block} → Among bs src → (b : Block) → Contains bs b → (a : Block) × Contains src a × (b.id ≡ a.id) × (b.source_end ≡ a.source_end)
 among_in none b (k, lt, e) = absurd (omega (arith, lt))
-among_in (same {b = c} id silent more) b (zero, lt, e) =
-    (c, (0, omega arith, refl), sym (ap (λ (z : Block). z.id) e) ∙ id, sym (ap (λ (z : Block). z.silent) e) ∙ silent)
-among_in (same {b = c} id silent more) b (suc k, lt, e) =
+among_in (same {b = c} id source_end more) b (zero, lt, e) =
+    (c, (0, omega arith, refl), sym (ap (λ (z : Block). z.id) e) ∙ id, sym (ap (λ (z : Block). z.source_end) e) ∙ source_end)
+among_in (same {b = c} id source_end more) b (suc k, lt, e) =
     let w = among_in more b (k, omega (arith, lt), e) in (w.0, (let m = w.1 in (suc m.0, (let l = m.1 in omega (arith, l)), m.2)), w.2, w.3)
 among_in (left more) b h = let w = among_in more b h in (w.0, (let m = w.1 in (suc m.0, (let l = m.1 in omega (arith, l)), m.2)), w.2, w.3)
 
 -- no item of a source stands at the silent index of a block
 pub none_silent : (src : List Block) (sp : Bool) (resolve : OperandPair → Option OperandPair) → IsRead src → (a : Block) → Contains src a → (p : Pos) →
-    p.block ≡ a.id → p.item ≡ a.silent → (i : Item) → (program_of sp src resolve).fetch p ≡ Here i → ⊥
+    p.block ≡ a.id → p.item ≡ a.source_end → (i : Item) → (program_of sp src resolve).fetch p ≡ Here i → ⊥
 none_silent src sp resolve read a member p block item i e =
     let w = found src read.apart a member in
-    let long : a.silent ≡ length a.items = All-contains (λ (b : Block). b.silent ≡ length b.items) src a read.silent member in
+    let long : a.source_end ≡ length a.items = All-contains (λ (b : Block). b.source_end ≡ length b.items) src a read.source_end member in
     let at : fetch_in (a ∷ w.rest) p.item ≡ Here i = ap (λ (bs : List Block). fetch_in bs p.item) (sym (ap (from_block src) block ∙ w.at)) ∙ e in
-    let lt = within_list a.items p.item i (front_item a.items p.item a.silent w.rest i at) in
+    let lt = within_list a.items p.item i (front_item a.items p.item a.source_end w.rest i at) in
     omega (arith, lt, long, item)
 
-module _ (f : Function) (subs : List Entry) (sound : IsSound f) (forms : AllItems (λ i. HasForm i.kind) f.blocks)
+module _ (f : Function) (subs : List DebugSubstitution) (sound : IsSound f) (forms : AllItems (λ i. HasForm i.kind) f.blocks)
     (ends : Ends) (closed : IsClosed ends f) (wrong : Pos → Places) (covers : (p : Pos) (x : Place) → IsWrongAt ends f x p → wrong p x ≡ true)
     (src : Source) where
   abbrev fp : Program
@@ -262,54 +262,55 @@ module _ (f : Function) (subs : List Entry) (sound : IsSound f) (forms : AllItem
         let home : OriginIn w.block (Before q) = subst (OriginIn w.block) before
         (All-head (λ (i : Item). OriginIn w.block i.origin) x xs
         (all_at f (resolve subs) sound forms ends closed wrong covers (λ b i. OriginIn b i.origin) sound.origins p x xs at)) in
-        let fits = all_at f (resolve subs) sound forms ends closed wrong covers (λ b i. KindFits srcp i.kind b.silent i.origin) shape.items p x xs at in
+        let fits = all_at f (resolve subs) sound forms ends closed wrong covers (λ b i. KindFits srcp i.kind b.source_end i.origin) shape.items p x xs at in
         let marks = all_at f (resolve subs) sound forms ends closed wrong covers (λ b i. MarkFits i.kind i.origin) shape.marks p x xs at in
         let order = order_drop w.block.id 0 p.item w.block.items (All-contains (λ (b : Block). InOrder b.id 0 b.items) f.blocks w.block shape.order w.member) in
         let order_here : InOrder w.block.id order.0 (x ∷ xs) = subst (InOrder w.block.id order.0) w.at order.1 in
         let order_xs : InOrder q.block (2 * q.item) xs = subst (λ (o : Origin). InOrder q.block (next_rank o) xs) before
         (subst (λ (n : ℕ). InOrder n (next_rank x.origin) xs) (sym home.0) order_here.2) in
         let le = home.1 in
-        elim (cases_eq q.item w.block.silent) [
+        elim (cases_eq q.item w.block.source_end) [
           | inl same_item ↦ (let a = among_in shape.among w.block w.member in
               absurd (never_faults srcp s0 q (none_silent src.function.blocks true (resolve src.subs) src.read a.0 a.1 q (home.0 ∙ a.2)
               (same_item ∙ a.3)) faults))
-          | inr ne ↦ idles_ahead ct srcp gp src.function.objects (first_of src.function.blocks) s0 start physical q w.block.silent (omega (arith, le, ne))
+          | inr ne ↦ idles_ahead ct srcp gp src.function.objects (first_of src.function.blocks) s0 start physical q w.block.source_end (omega (arith, le, ne))
               (λ e k n block fetch. one_end_of w.block w.member e k n (block ∙ home.0) fetch) _ (2 * q.item)
               (order_left (λ n. wrong (pos_in p.block n)) (ends p.block) q.block (2 * q.item) (p.item + 1) xs order_xs) (omega arith)
-              (all_left (λ n. wrong (pos_in p.block n)) (ends p.block) (λ i. KindFits srcp i.kind w.block.silent i.origin)
-              (λ i. KindFits srcp i.kind w.block.silent i.origin)
-              (λ s i h. fits_quiet srcp s i.kind w.block.silent i.origin h) (p.item + 1) xs
-              (All-tail (λ (i : Item). KindFits srcp i.kind w.block.silent i.origin) x xs fits))
+              (all_left (λ n. wrong (pos_in p.block n)) (ends p.block) (λ i. KindFits srcp i.kind w.block.source_end i.origin)
+              (λ i. KindFits srcp i.kind w.block.source_end i.origin)
+              (λ s i h. fits_quiet srcp s i.kind w.block.source_end i.origin h) (p.item + 1) xs
+              (All-tail (λ (i : Item). KindFits srcp i.kind w.block.source_end i.origin) x xs fits))
               (all_left (λ n. wrong (pos_in p.block n)) (ends p.block) (λ i. MarkFits i.kind i.origin) (λ i. MarkFits i.kind i.origin)
               (λ s i h. marks_quiet s i.kind i.origin h) (p.item + 1) xs (All-tail (λ (i : Item). MarkFits i.kind i.origin) x xs marks))
               faults
         ] where
-          one_end_of : (b : Block) → Contains f.blocks b → (e : Pos) (k n : ℕ) → e.block ≡ b.id → gp.fetch e ≡ Silent k n → k ≡ b.silent
+          one_end_of : (b : Block) → Contains f.blocks b → (e : Pos) (k n : ℕ) → e.block ≡ b.id → gp.fetch e ≡ EndOfBlock k n → k ≡ b.source_end
           one_end_of b member e k n block fetch =
               let v = end_from wrong ends false f.blocks (resolve subs) e k n fetch in
               let u = found f.blocks sound.blocks_apart b member in
-              let there : fetch_in (b ∷ u.rest) v.0.item ≡ Silent k n =
+              let there : fetch_in (b ∷ u.rest) v.0.item ≡ EndOfBlock k n =
               ap (λ (bs : List Block). fetch_in bs v.0.item) (sym (ap (from_block f.blocks) (v.1 ∙ block) ∙ u.at)) ∙ v.2 in
-              sym (end_index b.silent u.rest k n (front_end b.items v.0.item b.silent u.rest k n there).1)
+              sym (end_index b.source_end u.rest k n (front_end b.items v.0.item b.source_end u.rest k n there).1)
 
     along : (ct : Count) → ((k : ItemKind) → moves_on ct k ≡ is_jump k) → (s0 : State) → IsStart src.function.objects (first_of src.function.blocks) s0 →
         GoesAlong f (resolve subs) sound forms ends closed wrong covers ct srcp s0
     along ct counts s0 start = record {
       moves = λ p x xs at c e n go.
           (let w = inside f (resolve subs) sound forms ends closed wrong covers p x xs at in
-          let fits = All-head (λ (i : Item). KindFits srcp i.kind w.block.silent i.origin) x xs
-          (all_at f (resolve subs) sound forms ends closed wrong covers (λ b i. KindFits srcp i.kind b.silent i.origin) shape.items p x xs at) in
+          let fits = All-head (λ (i : Item). KindFits srcp i.kind w.block.source_end i.origin) x xs
+          (all_at f (resolve subs) sound forms ends closed wrong covers (λ b i. KindFits srcp i.kind b.source_end i.origin) shape.items p x xs at) in
           let edge = step_edge fp (record { pos = p; core = c }) (record { pos = block_start n; core = e })
           (ap (λ (z : Fetch). moved (λ m. m) p (do_fetch fp z c)) (laid.cons p x xs at).0 ∙ ap (moved (λ m. m) p) go) in
-          moves_after ct srcp x.kind x.origin w.block.silent p n (counts x.kind) fits
+          moves_after ct srcp x.kind x.origin w.block.source_end p n (counts x.kind) fits
           (subst (λ (z : Fetch). FetchEdge (λ m. m) z p (block_start n)) (laid.cons p x xs at).0 edge));
       idles = λ p x xs at dead q before faults. idles ct s0 start p x xs at q before faults;
     }
 
     runs_new : (ct : Count) → ((k : ItemKind) → moves_on ct k ≡ is_jump k) →
         ((s : State) → IsStart src.function.objects (first_of src.function.blocks) s →
-        RunsAlong srcp fp (station_at ct fp) (AnyOrigin (station_at ct fp)) s s) →
-        (s : State) → IsStart src.function.objects (first_of src.function.blocks) s → RunsAlong srcp gp (station_at ct gp) (AnyOrigin (station_at ct gp)) s s
+        RunsMatch srcp fp (sync_point_at ct fp) (AnyOrigin (sync_point_at ct fp)) s s) →
+        (s : State) → IsStart src.function.objects (first_of src.function.blocks) s →
+        RunsMatch srcp gp (sync_point_at ct gp) (AnyOrigin (sync_point_at ct gp)) s s
     runs_new ct counts runs s start =
         dead_runs f (resolve subs) sound forms ends closed wrong covers ct srcp s (along ct counts s start) shape.order order_new origins_new
         (ap (λ (p : Pos). p.item) start.pos)
@@ -325,7 +326,7 @@ module _ (f : Function) (subs : List Entry) (sound : IsSound f) (forms : AllItem
     kept_at P p i at stays holds =
         let r = rest_at false f.blocks (resolve subs) p i at in
         let t = item_to wrong ends false f.blocks (resolve subs) p i r.0 r.1 (stays (needed_at r.0 (ends p.block))) in
-        (t.pos, quiet t.silent i, t.stands, holds t.silent)
+        (t.pos, quiet t.source_end i, t.stands, holds t.source_end)
 
     pub shape_new : LooseShape src.function.blocks new srcp gp
     shape_new = record {
@@ -335,8 +336,8 @@ module _ (f : Function) (subs : List Entry) (sound : IsSound f) (forms : AllItem
           kept_at (λ j. OnRow (GoesTo (first_of src.function.blocks)) j.kind) w.0 w.1 w.2
           (λ needed. going_stays w.1.kind (first_of src.function.blocks) needed w.3) (λ s. row_quiet (GoesTo (first_of src.function.blocks)) s w.1.kind w.3));
       order = order_new;
-      items = each_left wrong ends (λ b i. KindFits srcp i.kind b.silent i.origin) (λ b i. KindFits srcp i.kind b.silent i.origin)
-          (λ b w x h. fits_quiet srcp w x.kind b.silent x.origin h) f.blocks shape.items;
+      items = each_left wrong ends (λ b i. KindFits srcp i.kind b.source_end i.origin) (λ b i. KindFits srcp i.kind b.source_end i.origin)
+          (λ b w x h. fits_quiet srcp w x.kind b.source_end x.origin h) f.blocks shape.items;
       marks = each_left wrong ends (λ b i. MarkFits i.kind i.origin) (λ b i. MarkFits i.kind i.origin)
           (λ b w x h. marks_quiet w x.kind x.origin h) f.blocks shape.marks;
     }
@@ -353,13 +354,13 @@ module _ (f : Function) (subs : List Entry) (sound : IsSound f) (forms : AllItem
         OnRow IsEnd j.kind → EndComesFrom srcp j
     ends_only only q j at end =
         let w = item_from wrong ends false f.blocks (resolve subs) q j at in
-        let k = only w.pos w.item w.stands (row_loud IsEnd w.silent w.item.kind (subst (λ (i : Item). OnRow IsEnd i.kind) w.is end)) in
-        subst (EndComesFrom srcp) (sym w.is) (k.0, k.1, k.2, k.3, end_quiet k.1.kind w.silent w.item.kind k.4)
+        let k = only w.pos w.item w.stands (row_loud IsEnd w.source_end w.item.kind (subst (λ (i : Item). OnRow IsEnd i.kind) w.is end)) in
+        subst (EndComesFrom srcp) (sym w.is) (k.0, k.1, k.2, k.3, end_quiet k.1.kind w.source_end w.item.kind k.4)
 
 -- without its dead code, and with silence where places are wrong, a function follows what it followed
-pub dead_follows : (f : Function) (subs : List Entry) → IsSound f → AllItems (λ i. HasForm i.kind) f.blocks → (ends : Ends) → IsClosed ends f →
+pub dead_follows : (f : Function) (subs : List DebugSubstitution) → IsSound f → AllItems (λ i. HasForm i.kind) f.blocks → (ends : Ends) → IsClosed ends f →
     (wrong : Pos → Places) → ((p : Pos) (x : Place) → IsWrongAt ends f x p → wrong p x ≡ true) →
-    KeepsLoosely (change f subs (taken_out wrong ends f) subs)
+    PreservesWeakSimulation (change f subs (taken_out wrong ends f) subs)
 dead_follows f subs sound forms ends closed wrong covers = record {
   follows = λ src fol. record {
     objects = fol.objects;

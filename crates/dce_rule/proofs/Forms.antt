@@ -21,7 +21,7 @@ use Rattle.rv64_instr.specs.Parts.{is_pure, is_call, defines_of}
 use Rattle.mir_func.specs.Sound.{IsNotPointer}
 use Rattle.sem_mir.specs.Step.{defined}
 use Rattle.sem_mir.proofs.Parts.{row_defines}
-use Rattle.sem_agreement.specs.Alike.{OrDefined, NumbersHeld}
+use Rattle.sem_agreement.specs.Agreement.{GenDefs, NumbersHeld}
 
 -- ---- operands that define nothing
 
@@ -178,7 +178,7 @@ clobbered r e =
 
 module _ (i : Instruction) (Held : Place → Type 0) (zero_held : Held (Register 0)) (pointer_held : Held (Register 2)) where
   abbrev Given : ℕ → Type 0
-  Given r = OrDefined Held i (Register r)
+  Given r = GenDefs Held i (Register r)
 
   by_argument : (x : Operand) (r : ℕ) (name args : List ℕ) → row_of i ≡ Calls name args → is_argument x ≡ true → defined true (Some x) ≡ Some r → Given r
   by_argument (ImplicitDef q) r name args row fits e =

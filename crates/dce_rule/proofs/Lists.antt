@@ -13,7 +13,7 @@ use Rattle.mir_func.specs.declared.block.Block.{Block}
 use Rattle.mir_func.specs.declared.item.Item.{Item}
 use Rattle.mir_func.specs.declared.item.ItemKind.{ItemKind}
 use Rattle.mir_func.specs.declared.item.ItemKind.TheVariants.{Code, Mark, Phi}
-use Rattle.mir_func.specs.Graph.{Here, Silent, Program, block_start, end_of, front, fetch_in, from_block, program_of}
+use Rattle.mir_func.specs.Graph.{Here, EndOfBlock, Program, block_start, end_of, front, fetch_in, from_block, program_of}
 use Rattle.mir_func.specs.Successors.{pos_in}
 use Rattle.mir_func.specs.Sound.{items_of}
 use Rattle.sem_mir.proofs.Reading.{found_in}
@@ -52,7 +52,7 @@ first_of_front [] k [] y e = cc
 first_of_front [] k (b ∷ bs) y e = cc
 first_of_front (x ∷ xs) k bs y e = let w : x ≡ y = cc in (xs, λ i. w i ∷ xs)
 
-none_of_front : (xs : List Item) (k : ℕ) (bs : List Block) (j n : ℕ) → front xs k bs ≡ Silent j n → (xs ≡ []) × (end_of k bs ≡ Silent j n)
+none_of_front : (xs : List Item) (k : ℕ) (bs : List Block) (j n : ℕ) → front xs k bs ≡ EndOfBlock j n → (xs ≡ []) × (end_of k bs ≡ EndOfBlock j n)
 none_of_front [] k bs j n e = (refl, e)
 none_of_front (x ∷ xs) k bs j n e = cc
 
@@ -70,7 +70,7 @@ pub rest_at : (sp : Bool) (blocks : List Block) (resolve : OperandPair → Optio
 rest_at sp blocks resolve p x e = by_blocks (from_block blocks p.block) e where
   by_blocks : (bs : List Block) → fetch_in bs p.item ≡ Here x → (is : List Item) × (rest_in bs p.item ≡ x ∷ is)
   by_blocks [] e = cc
-  by_blocks (b ∷ bs) e = first_of_front (drop p.item b.items) b.silent bs x e
+  by_blocks (b ∷ bs) e = first_of_front (drop p.item b.items) b.source_end bs x e
 
 -- an item of a list that isn't dead
 pub record Stays (xs : List Item) (needed : Places) (y : Item) : Type 0 where
@@ -167,15 +167,15 @@ module _ (wrong : Pos → Places) (ends : Ends) where
       pub stands : f.fetch pos ≡ Here item
       pub at : rest_of blocks pos ≡ item ∷ rest
       pub stays : is_dead item.kind (needed_at rest (ends pos.block)) ≡ false
-      pub silent : Places
-      pub is : y ≡ quiet silent item
+      pub source_end : Places
+      pub is : y ≡ quiet source_end item
 
     pub item_from : (q : Pos) (y : Item) → g.fetch q ≡ Here y → CameFrom q y
     item_from q y e = by_blocks (from_block blocks q.block) refl (ap (λ (bs : List Block). fetch_in bs q.item) (sym (from_taken blocks q.block)) ∙ e) where
       by_blocks : (bs : List Block) → from_block blocks q.block ≡ bs → fetch_in (map taken bs) q.item ≡ Here y → CameFrom q y
       by_blocks [] h k = cc
       by_blocks (b ∷ bs) h k =
-          let t = first_of_front (drop q.item (silenced_left (λ n. wrong (pos_in b.id n)) 0 b.items (ends b.id))) b.silent (map taken bs) y k in
+          let t = first_of_front (drop q.item (silenced_left (λ n. wrong (pos_in b.id n)) 0 b.items (ends b.id))) b.source_end (map taken bs) y k in
           let s = left_from (ends b.id) (λ n. wrong (pos_in b.id n)) 0 b.items q.item y t.0 t.1 in
           let id : b.id ≡ q.block = (found_in blocks q.block b bs h).1 in
           record {
@@ -183,10 +183,10 @@ module _ (wrong : Pos → Places) (ends : Ends) where
             block = refl;
             item = s.item;
             rest = s.rest;
-            stands = ap (λ (x : List Block). fetch_in x s.index) h ∙ ap (λ (x : List Item). front x b.silent bs) s.at;
+            stands = ap (λ (x : List Block). fetch_in x s.index) h ∙ ap (λ (x : List Item). front x b.source_end bs) s.at;
             at = ap (λ (x : List Block). rest_in x s.index) h ∙ s.at;
             stays = ap (λ (n : ℕ). is_dead s.item.kind (needed_at s.rest (ends n))) (sym id) ∙ s.stays;
-            silent = s.wrong;
+            source_end = s.wrong;
             is = s.is;
           }
 
@@ -194,8 +194,8 @@ module _ (wrong : Pos → Places) (ends : Ends) where
     pub record GoesOn (p : Pos) (x : Item) : Type 0 where
       pub pos : Pos
       pub block : pos.block ≡ p.block
-      pub silent : Places
-      pub stands : g.fetch pos ≡ Here (quiet silent x)
+      pub source_end : Places
+      pub stands : g.fetch pos ≡ Here (quiet source_end x)
 
     pub item_to : (p : Pos) (x : Item) (rest : List Item) → rest_of blocks p ≡ x ∷ rest → is_dead x.kind (needed_at rest (ends p.block)) ≡ false → GoesOn p x
     item_to p x rest at stay = by_blocks (from_block blocks p.block) refl at where
@@ -208,47 +208,47 @@ module _ (wrong : Pos → Places) (ends : Ends) where
           record {
             pos = record { block = p.block; item = s.index };
             block = refl;
-            silent = s.wrong;
+            source_end = s.wrong;
             stands = ap (λ (z : List Block). fetch_in z s.index) (from_taken blocks p.block ∙ ap (map taken) h) ∙
-                ap (λ (z : List Item). front z b.silent (map taken bs)) s.at;
+                ap (λ (z : List Item). front z b.source_end (map taken bs)) s.at;
           }
 
     -- a block's end is where it was
-    pub end_from : (q : Pos) (k n : ℕ) → g.fetch q ≡ Silent k n → (p : Pos) × (p.block ≡ q.block) × (f.fetch p ≡ Silent k n)
+    pub end_from : (q : Pos) (k n : ℕ) → g.fetch q ≡ EndOfBlock k n → (p : Pos) × (p.block ≡ q.block) × (f.fetch p ≡ EndOfBlock k n)
     end_from q k n e = by_blocks (from_block blocks q.block) refl (ap (λ (bs : List Block). fetch_in bs q.item) (sym (from_taken blocks q.block)) ∙ e) where
-      by_blocks : (bs : List Block) → from_block blocks q.block ≡ bs → fetch_in (map taken bs) q.item ≡ Silent k n →
-          (p : Pos) × (p.block ≡ q.block) × (f.fetch p ≡ Silent k n)
+      by_blocks : (bs : List Block) → from_block blocks q.block ≡ bs → fetch_in (map taken bs) q.item ≡ EndOfBlock k n →
+          (p : Pos) × (p.block ≡ q.block) × (f.fetch p ≡ EndOfBlock k n)
       by_blocks [] h e = cc
       by_blocks (b ∷ bs) h e =
-          let t = none_of_front (drop q.item (silenced_left (λ n. wrong (pos_in b.id n)) 0 b.items (ends b.id))) b.silent (map taken bs) k n e in (
+          let t = none_of_front (drop q.item (silenced_left (λ n. wrong (pos_in b.id n)) 0 b.items (ends b.id))) b.source_end (map taken bs) k n e in (
             record { block = q.block; item = length b.items },
             refl,
             ap (λ (x : List Block). fetch_in x (length b.items)) h ∙
-                ap (λ (x : List Item). front x b.silent bs) (drop_all b.items) ∙ sym (end_taken b.silent bs) ∙ t.1,
+                ap (λ (x : List Item). front x b.source_end bs) (drop_all b.items) ∙ sym (end_taken b.source_end bs) ∙ t.1,
           )
 
     -- past the items of a block f stands where g does
-    pub end_there : (p q : Pos) (k n : ℕ) → p.block ≡ q.block → rest_of blocks p ≡ [] → g.fetch q ≡ Silent k n → f.fetch p ≡ Silent k n
+    pub end_there : (p q : Pos) (k n : ℕ) → p.block ≡ q.block → rest_of blocks p ≡ [] → g.fetch q ≡ EndOfBlock k n → f.fetch p ≡ EndOfBlock k n
     end_there p q k n same none e = by_blocks (from_block blocks q.block) refl
         (ap (λ (bs : List Block). fetch_in bs q.item) (sym (from_taken blocks q.block)) ∙ e) where
-          by_blocks : (bs : List Block) → from_block blocks q.block ≡ bs → fetch_in (map taken bs) q.item ≡ Silent k n → f.fetch p ≡ Silent k n
+          by_blocks : (bs : List Block) → from_block blocks q.block ≡ bs → fetch_in (map taken bs) q.item ≡ EndOfBlock k n → f.fetch p ≡ EndOfBlock k n
           by_blocks [] h e = cc
           by_blocks (b ∷ bs) h e =
-              let t = none_of_front (drop q.item (silenced_left (λ n. wrong (pos_in b.id n)) 0 b.items (ends b.id))) b.silent (map taken bs) k n e in
+              let t = none_of_front (drop q.item (silenced_left (λ n. wrong (pos_in b.id n)) 0 b.items (ends b.id))) b.source_end (map taken bs) k n e in
               let at : from_block blocks p.block ≡ b ∷ bs = ap (from_block blocks) same ∙ h in
               let r : drop p.item b.items ≡ [] = ap (λ (x : List Block). rest_in x p.item) (sym at) ∙ none in
-              ap (λ (x : List Block). fetch_in x p.item) at ∙ ap (λ (x : List Item). front x b.silent bs) r ∙ sym (end_taken b.silent bs) ∙ t.1
+              ap (λ (x : List Block). fetch_in x p.item) at ∙ ap (λ (x : List Item). front x b.source_end bs) r ∙ sym (end_taken b.source_end bs) ∙ t.1
 
     -- two positions of one block past its items have one end
-    pub one_past : (p q : Pos) (k n : ℕ) → p.block ≡ q.block → rest_of blocks p ≡ [] → f.fetch q ≡ Silent k n → f.fetch p ≡ Silent k n
+    pub one_past : (p q : Pos) (k n : ℕ) → p.block ≡ q.block → rest_of blocks p ≡ [] → f.fetch q ≡ EndOfBlock k n → f.fetch p ≡ EndOfBlock k n
     one_past p q k n same none e = by_blocks (from_block blocks q.block) refl e where
-      by_blocks : (bs : List Block) → from_block blocks q.block ≡ bs → fetch_in bs q.item ≡ Silent k n → f.fetch p ≡ Silent k n
+      by_blocks : (bs : List Block) → from_block blocks q.block ≡ bs → fetch_in bs q.item ≡ EndOfBlock k n → f.fetch p ≡ EndOfBlock k n
       by_blocks [] h e = cc
       by_blocks (b ∷ bs) h e =
-          let t = none_of_front (drop q.item b.items) b.silent bs k n e in
+          let t = none_of_front (drop q.item b.items) b.source_end bs k n e in
           let at : from_block blocks p.block ≡ b ∷ bs = ap (from_block blocks) same ∙ h in
           let r : drop p.item b.items ≡ [] = ap (λ (x : List Block). rest_in x p.item) (sym at) ∙ none in
-          ap (λ (x : List Block). fetch_in x p.item) at ∙ ap (λ (x : List Item). front x b.silent bs) r ∙ t.1
+          ap (λ (x : List Block). fetch_in x p.item) at ∙ ap (λ (x : List Item). front x b.source_end bs) r ∙ t.1
 
     -- what a block starts with
     pub rest_taken : (n : ℕ) →

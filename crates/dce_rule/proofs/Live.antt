@@ -97,8 +97,8 @@ module _ (f : Function) (wells : All (λ (b : Block). EndsWell b.items) f.blocks
             end_none s [] d = d
             end_none s (c ∷ cs) d = d
 
-            by_rest : (xs : List Item) → All Defined xs → Defines (front xs b.silent bs) x → ⊥
-            by_rest [] all d = end_none b.silent bs d
+            by_rest : (xs : List Item) → All Defined xs → Defines (front xs b.source_end bs) x → ⊥
+            by_rest [] all d = end_none b.source_end bs d
             by_rest (y ∷ ys) all d = All-head Defined y ys all d
 
     -- so where a block is passed by, what is live at its end is live above

@@ -7,7 +7,7 @@ use Rattle.mir_func.specs.declared.item.ItemKind.{ItemKind}
 use Rattle.mir_func.specs.declared.item.ItemKind.TheVariants.{Code, Mark, Phi}
 use Rattle.mir_func.specs.Function.{Function}
 use Rattle.sem_mir.specs.Align.{is_code}
-use Rattle.pass_trait.specs.Code.{HasOneResult, SeesCodeAlone, AreAlike, placeless_item, placeless_block, placeless}
+use Rattle.pass_trait.specs.Code.{HasOneResult, SeesCodeAlone, AreAlike, originless_item, originless_block, originless}
 use Rattle.dce_rule.specs.Dead.{Places, Ends, is_dead, needed_before, needed_at, without_dead}
 use Rattle.dce_rule.specs.Dead.{thinned_block, thinned, LiveAtEnd, IsRound, IsThinnedOut, over, again}
 use Rattle.dce_rule.specs.Same.{SameItems, none, both, first, second, SameBlocks, no_blocks, one_more}
@@ -64,58 +64,59 @@ one_thinned_out f g h a b = one_from f f g h refl a b
 
 -- ---- code alone is seen
 
-alike_items : (xs ys : List Item) → map placeless_item xs ≡ map placeless_item ys → SameItems xs ys
+alike_items : (xs ys : List Item) → map originless_item xs ≡ map originless_item ys → SameItems xs ys
 alike_items [] [] e = none
 alike_items [] (y ∷ ys) e = cc
 alike_items (x ∷ xs) [] e = cc
 alike_items (x ∷ xs) (y ∷ ys) e =
-    let head : placeless_item x ≡ placeless_item y = cc in
-    let tail : map placeless_item xs ≡ map placeless_item ys = cc in
+    let head : originless_item x ≡ originless_item y = cc in
+    let tail : map originless_item xs ≡ map originless_item ys = cc in
     by_kind x.kind refl (ap (λ (z : Item). z.kind) head) (alike_items xs ys tail) where
       by_kind : (k : ItemKind) → x.kind ≡ k → x.kind ≡ y.kind → SameItems xs ys → SameItems (x ∷ xs) (y ∷ ys)
       by_kind (Code i n) e same more = both x y i n n e (sym same ∙ e) more
       by_kind (Mark v m) e same more = first x (ap is_code e) (second y (ap is_code (sym same ∙ e)) more)
       by_kind (Phi l n) e same more = first x (ap is_code e) (second y (ap is_code (sym same ∙ e)) more)
 
-alike_blocks : (bs cs : List Block) → map placeless_block bs ≡ map placeless_block cs → SameBlocks bs cs
+alike_blocks : (bs cs : List Block) → map originless_block bs ≡ map originless_block cs → SameBlocks bs cs
 alike_blocks [] [] e = no_blocks
 alike_blocks [] (c ∷ cs) e = cc
 alike_blocks (b ∷ bs) [] e = cc
 alike_blocks (b ∷ bs) (c ∷ cs) e =
-    let head : placeless_block b ≡ placeless_block c = cc in
-    let tail : map placeless_block bs ≡ map placeless_block cs = cc in
+    let head : originless_block b ≡ originless_block c = cc in
+    let tail : map originless_block bs ≡ map originless_block cs = cc in
     one_more b c (ap (λ (z : Block). z.id) head) (alike_items b.items c.items (ap (λ (z : Block). z.items) head)) (alike_blocks bs cs tail)
 
-needed_placeless : (xs : List Item) (needed : Places) → needed_at (map placeless_item xs) needed ≡ needed_at xs needed
-needed_placeless [] needed = refl
-needed_placeless (x ∷ xs) needed = ap (needed_before x.kind) (needed_placeless xs needed)
+needed_originless : (xs : List Item) (needed : Places) → needed_at (map originless_item xs) needed ≡ needed_at xs needed
+needed_originless [] needed = refl
+needed_originless (x ∷ xs) needed = ap (needed_before x.kind) (needed_originless xs needed)
 
-items_placeless : (xs : List Item) (needed : Places) → map placeless_item (without_dead xs needed) ≡ without_dead (map placeless_item xs) needed
-items_placeless [] needed = refl
-items_placeless (x ∷ xs) needed =
-    by_test (is_dead x.kind (needed_at xs needed)) (items_placeless xs needed) ∙
-    ap (λ (z : Places). cond (is_dead x.kind z) (without_dead (map placeless_item xs) needed) (placeless_item x ∷ without_dead (map placeless_item xs) needed))
-    (sym (needed_placeless xs needed)) where
-      by_test : (z : Bool) → map placeless_item (without_dead xs needed) ≡ without_dead (map placeless_item xs) needed →
-          map placeless_item (cond z (without_dead xs needed) (x ∷ without_dead xs needed)) ≡
-          cond z (without_dead (map placeless_item xs) needed) (placeless_item x ∷ without_dead (map placeless_item xs) needed)
+items_originless : (xs : List Item) (needed : Places) → map originless_item (without_dead xs needed) ≡ without_dead (map originless_item xs) needed
+items_originless [] needed = refl
+items_originless (x ∷ xs) needed =
+    by_test (is_dead x.kind (needed_at xs needed)) (items_originless xs needed) ∙
+    ap (λ (z : Places). cond (is_dead x.kind z) (without_dead (map originless_item xs) needed) (originless_item x ∷ without_dead
+    (map originless_item xs) needed))
+    (sym (needed_originless xs needed)) where
+      by_test : (z : Bool) → map originless_item (without_dead xs needed) ≡ without_dead (map originless_item xs) needed →
+          map originless_item (cond z (without_dead xs needed) (x ∷ without_dead xs needed)) ≡
+          cond z (without_dead (map originless_item xs) needed) (originless_item x ∷ without_dead (map originless_item xs) needed)
       by_test true h = h
-      by_test false h = ap (λ (ys : List Item). placeless_item x ∷ ys) h
+      by_test false h = ap (λ (ys : List Item). originless_item x ∷ ys) h
 
-blocks_placeless : (ends : Ends) (bs : List Block) → map placeless_block (map (thinned_block ends) bs) ≡ map (thinned_block ends) (map placeless_block bs)
-blocks_placeless ends [] = refl
-blocks_placeless ends (b ∷ bs) =
-    let e = items_placeless b.items (ends b.id) in
-    let es = blocks_placeless ends bs in
-    λ i. record { id = b.id; items = e i; silent = 0 } ∷ es i
+blocks_originless : (ends : Ends) (bs : List Block) → map originless_block (map (thinned_block ends) bs) ≡ map (thinned_block ends) (map originless_block bs)
+blocks_originless ends [] = refl
+blocks_originless ends (b ∷ bs) =
+    let e = items_originless b.items (ends b.id) in
+    let es = blocks_originless ends bs in
+    λ i. record { id = b.id; items = e i; source_end = 0 } ∷ es i
 
-thinned_placeless : (ends : Ends) (f : Function) → placeless (thinned ends f) ≡ thinned ends (placeless f)
-thinned_placeless ends f = let e = blocks_placeless ends f.blocks in λ i. record f { blocks = e i }
+thinned_originless : (ends : Ends) (f : Function) → originless (thinned ends f) ≡ thinned ends (originless f)
+thinned_originless ends f = let e = blocks_originless ends f.blocks in λ i. record f { blocks = e i }
 
 pub round_alike : SeesCodeAlone IsRound
 round_alike f f' g g' alike r r' =
     let e = ends_one f f' (alike_blocks f.blocks f'.blocks (ap (λ (z : Function). z.blocks) alike)) r.ends r'.ends r.live r'.live in
-    ap placeless r.thins ∙ thinned_placeless r.ends f ∙ (λ i. thinned (e i) (alike i)) ∙ sym (thinned_placeless r'.ends f') ∙ ap placeless (sym r'.thins)
+    ap originless r.thins ∙ thinned_originless r.ends f ∙ (λ i. thinned (e i) (alike i)) ∙ sym (thinned_originless r'.ends f') ∙ ap originless (sym r'.thins)
 
 stays_alike : (f f' g' : Function) → AreAlike f f' → IsRound f f → IsThinnedOut f' g' → AreAlike f g'
 stays_alike f f' g' alike r (over s) = alike

@@ -19,26 +19,26 @@ use Rattle.mir_func.specs.declared.item.ItemKind.{ItemKind}
 use Rattle.mir_func.specs.declared.item.ItemKind.TheVariants.{Code, Mark, Phi}
 use Rattle.mir_func.specs.Function.{Function}
 use Rattle.mir_func.specs.Sound.{AllItems, IsSound, number_of, code_number, LeavesPointer, OriginIn, HasForm}
-use Rattle.mir_func.specs.Graph.{Fetch, Here, Silent, Program, below, block_start, from_block, index_of, program_of, Edge, FetchEdge}
+use Rattle.mir_func.specs.Graph.{Fetch, Here, EndOfBlock, Program, below, block_start, from_block, index_of, program_of, Edge, FetchEdge}
 use Rattle.mir_func.specs.Successors.{pos_in}
 use Rattle.sem_mir.specs.State.{Core, State}
 use Rattle.sem_mir.specs.Step.{Outcome, Falls, Goes, Gives, Traps, Asks, Breaks, Went, moved, do_item, do_fetch}
 use Rattle.sem_mir.specs.Step.{pair_value}
 use Rattle.sem_mir.specs.Align.{position_of, is_code, is_jump, is_jump_row, Count, moves_on}
-use Rattle.sem_mir.specs.Align.{end_station, station_at, IsOrigin, Since, After, AnyOrigin, RunsAlong}
-use Rattle.sem_mir.specs.Align.{since_of, waits_at, station_of}
+use Rattle.sem_mir.specs.Align.{end_sync_point, sync_point_at, IsOrigin, Since, After, AnyOrigin, RunsMatch}
+use Rattle.sem_mir.specs.Align.{since_of, waits_at, sync_point_of}
 use Rattle.sem_mir.specs.Effects.{held_in, EndAlike, OnCore, FallsInto}
 use Rattle.sem_mir.specs.Live.{Defines, KindDefines}
 use Rattle.sem_mir.specs.Follow.{InOrder}
 use Rattle.sem_mir.proofs.Edges.{step_edge}
 use Rattle.sem_mir.proofs.Reading.{found_in}
 use Rattle.sem_simulation.specs.Refinement.{FaultsAt}
-use Rattle.sem_simulation.specs.Sides.{Sides, Relation, since_item, Laid, DoBoth}
+use Rattle.sem_simulation.specs.Sides.{Sides, MatchStates, since_item, Laid, DoBoth}
 use Rattle.sem_simulation.specs.InPlace.{FallsOrTraps, DoAlike, MayTrap, IsIdleAt, View, ended, both, taken as view_taken, paired, InPlace}
-use Rattle.sem_simulation.proofs.Stations.{moves_on_less, code_station, end_is_station, IsStationOf, of_item, of_end, station_is_of}
+use Rattle.sem_simulation.proofs.Stations.{moves_on_less, code_sync_point, end_is_sync_point, IsSyncPointOf, of_item, of_end, sync_point_is_of}
 use Rattle.sem_simulation.proofs.Laid.{rest_in, rest_of, laid_out, in_order_at, one_end, from_home, from_within, from_before_end, falls_down}
 use Rattle.sem_simulation.proofs.InPlace.{in_place_follows}
-use Rattle.sem_agreement.specs.Alike.{Alike, ButDefined, HeldAfter, Depends}
+use Rattle.sem_agreement.specs.Agreement.{Alike, KillDefs, HeldAfter, Depends}
 use Rattle.sem_agreement.specs.Laws.{ItemsAreAlike}
 use Rattle.sem_agreement.proofs.Items.{items_are_alike}
 use Rattle.sem_agreement.proofs.Views.{does_both, pure_form}
@@ -145,7 +145,7 @@ module _ (f : Function) (resolve : OperandPair → Option OperandPair) (sound : 
   -- ---- how the cores are related
 
   -- alike but at wrong places, and g knows no number of dead code
-  pub record Kin (p : Pos) (c d : Core) : Type 0 where
+  pub record MatchCores (p : Pos) (c d : Core) : Type 0 where
     pub alike : Alike (Right p) (λ k. ⊥) c d
     pub none : (k o : ℕ) → IsGone ends f k → d.pairs k o ≡ None
 
@@ -153,7 +153,8 @@ module _ (f : Function) (resolve : OperandPair → Option OperandPair) (sound : 
   HasNone d = (k o : ℕ) → IsGone ends f k → d.pairs k o ≡ None
 
   -- where all that is right at q is held alike, or x0
-  kin_at : (q : Pos) (H : Place → Type 0) (c d : Core) → ((y : Place) → Right q y → H y ⊎ (y ≡ Register 0)) → Alike H (λ k. ⊥) c d → HasNone d → Kin q c d
+  kin_at : (q : Pos) (H : Place → Type 0) (c d : Core) → ((y : Place) → Right q y → H y ⊎ (y ≡ Register 0)) → Alike H (λ k. ⊥) c d → HasNone d →
+      MatchCores q c d
   kin_at q H c d right h none = record {
     alike = record { held = record { world = h.held.world; places = λ y r. at y (right y r) }; told = h.told };
     none = none;
@@ -226,7 +227,7 @@ module _ (f : Function) (resolve : OperandPair → Option OperandPair) (sound : 
   -- what is right behind dead code is right before it and not defined by it, or x0
   right_dead : (p : Pos) (x : Item) (xs : List Item) (i : Instruction) (n : Option ℕ) → rf p ≡ x ∷ xs → x.kind ≡ Code i n →
       is_dead x.kind (needed_at xs (ends p.block)) ≡ true → Edge (paths_of f) p (below p) → (y : Place) → Right (below p) y →
-      ButDefined (Right p) i y ⊎ (y ≡ Register 0)
+      KillDefs (Right p) i y ⊎ (y ≡ Register 0)
   right_dead p x xs i n at code dead edge y right =
       let here : (paths_of f).fetch p ≡ Here x = (laid.cons p x xs at).0 in
       let dead_here : is_dead_at ends f p ≡ true = ap (λ (z : List Item). begins_dead z (ends p.block)) at ∙ dead in
@@ -250,12 +251,12 @@ module _ (f : Function) (resolve : OperandPair → Option OperandPair) (sound : 
     abbrev pub left_at : Pos → List Item → List Item
     left_at p xs = silenced_left (λ n. wrong (pos_in p.block n)) p.item xs (ends p.block)
 
-    abbrev pub relation : Relation
-    relation = record {
+    abbrev pub match_states : MatchStates
+    match_states = record {
       Stage = Pos;
       entry = block_start;
-      Rests = λ p b xs ys. (rf p ≡ xs) × (p.block ≡ b) × (ys ≡ left_at p xs);
-      Cores = λ p b xs ys c d. Kin p c d;
+      MatchItems = λ p b xs ys. (rf p ≡ xs) × (p.block ≡ b) × (ys ≡ left_at p xs);
+      MatchCores = λ p b xs ys c d. MatchCores p c d;
     }
 
     -- both go on, or end alike
@@ -272,7 +273,7 @@ module _ (f : Function) (resolve : OperandPair → Option OperandPair) (sound : 
         ((q : Pos) → Edge (paths_of f) p q → (y : Place) → Right q y → H y ⊎ (y ≡ Register 0)) →
         ((e : Core) (n : ℕ) → do_item fp x.kind c ≡ Goes n e → m ≡ After) →
         (o o' : Outcome) → do_item fp x.kind c ≡ o → EndAlike (λ e e'. Alike H (λ k. ⊥) e e' × HasNone e') o o' →
-        DoAlike ct src sides relation p.block xs ys m (below p) o o'
+        DoAlike ct src sides match_states p.block xs ys m (below p) o o'
     do_alike p x xs at H c m ys right go (Falls e) (Falls e') is h = kin_at (below p) H e e' (right (below p) (falls_edge p x xs at c e is)) h.0 h.1
     do_alike p x xs at H c m ys right go (Goes n e) (Goes n' e') is h =
         (h.0, (go e n is, kin_at (block_start n) H e e' (right (block_start n) (goes_edge p x xs at c e n is)) h.1.0 h.1.1))
@@ -324,21 +325,21 @@ module _ (f : Function) (resolve : OperandPair → Option OperandPair) (sound : 
           x.origin ≡ Before q → FaultsAt src s0 q → All (IsIdleAt ct gp q) (left_at (below p) xs)
 
     module _ (along : GoesAlong) where
-      next : (p : Pos) (x : Item) (xs : List Item) → rf p ≡ x ∷ xs → relation.Rests (below p) p.block xs (left_at (below p) xs)
+      next : (p : Pos) (x : Item) (xs : List Item) → rf p ≡ x ∷ xs → match_states.MatchItems (below p) p.block xs (left_at (below p) xs)
       next p x xs at = ((laid.cons p x xs at).1, refl, refl)
 
       may_trap : (p : Pos) (x : Item) (xs : List Item) → rf p ≡ x ∷ xs → is_dead x.kind (needed_at xs (ends p.block)) ≡ true →
-          MayTrap ct src sides relation x (left_at (below p) xs)
+          MayTrap ct src sides match_states x (left_at (below p) xs)
       may_trap p x xs at dead = by_origin x.origin refl where
-        by_origin : (o : Origin) → x.origin ≡ o → MayTrap ct src sides relation x (left_at (below p) xs)
+        by_origin : (o : Origin) → x.origin ≡ o → MayTrap ct src sides match_states x (left_at (below p) xs)
         by_origin (Kept q) e = inl (ap (λ (o : Origin). since_of (waits_at (moves_on ct x.kind) o)) e)
         by_origin (Before q) e = inr (subst (λ (o : Origin). FaultsAt src s0 (position_of o) →
             All (IsIdleAt ct gp (position_of o)) (left_at (below p) xs)) (sym e)
             (along.idles p x xs at dead q e))
 
       dead_falls : (p : Pos) (x : Item) (xs : List Item) (i : Instruction) (n : Option ℕ) (at : rf p ≡ x ∷ xs) → x.kind ≡ Code i n →
-          (dead : is_dead x.kind (needed_at xs (ends p.block)) ≡ true) → (c d : Core) → Kin p c d →
-          FallsOrTraps (MayTrap ct src sides relation x (left_at (below p) xs)) (λ e. Kin (below p) e d) (do_item fp x.kind c)
+          (dead : is_dead x.kind (needed_at xs (ends p.block)) ≡ true) → (c d : Core) → MatchCores p c d →
+          FallsOrTraps (MayTrap ct src sides match_states x (left_at (below p) xs)) (λ e. MatchCores (below p) e d) (do_item fp x.kind c)
       dead_falls p x xs i n at code dead c d kin =
           let row : is_dead_row (row_of i) (needed_at xs (ends p.block)) ≡ true = ap (λ (k : ItemKind). is_dead k (needed_at xs (ends p.block)))
           (sym code) ∙ dead in
@@ -346,14 +347,14 @@ module _ (f : Function) (resolve : OperandPair → Option OperandPair) (sound : 
           let number : (k : ℕ) → n ≡ Some k → (⊥ → ⊥) → (o : ℕ) → d.pairs k o ≡ None =
           λ k e free o. kin.none k o (gone_number p x xs at dead k (ap code_number code ∙ e)) in
           by_outcome (do_item fp x.kind c) refl
-          (subst (λ (k : ItemKind). FallsInto (λ e. Alike (ButDefined (Right p) i) (λ k. ⊥) e d) (do_item fp k c)) (sym code)
+          (subst (λ (k : ItemKind). FallsInto (λ e. Alike (KillDefs (Right p) i) (λ k. ⊥) e d) (do_item fp k c)) (sym code)
           ((laws p).alone fp i n c d pure kin.alike number))
           (subst (λ (k : ItemKind). do_item fp k c ≡ Breaks → ⊥) (sym code)
           (pure_form fp (Code i n) c (pure, no_unfit (row_of i) (needed_at xs (ends p.block)) row))) where
-            by_outcome : (o : Outcome) → do_item fp x.kind c ≡ o → FallsInto (λ e. Alike (ButDefined (Right p) i) (λ k. ⊥) e d) o → (o ≡ Breaks → ⊥) →
-                FallsOrTraps (MayTrap ct src sides relation x (left_at (below p) xs)) (λ e. Kin (below p) e d) o
+            by_outcome : (o : Outcome) → do_item fp x.kind c ≡ o → FallsInto (λ e. Alike (KillDefs (Right p) i) (λ k. ⊥) e d) o → (o ≡ Breaks → ⊥) →
+                FallsOrTraps (MayTrap ct src sides match_states x (left_at (below p) xs)) (λ e. MatchCores (below p) e d) o
             by_outcome (Falls e) is h b =
-                kin_at (below p) (ButDefined (Right p) i) e d (right_dead p x xs i n at code dead (falls_edge p x xs at c e is)) h kin.none
+                kin_at (below p) (KillDefs (Right p) i) e d (right_dead p x xs i n at code dead (falls_edge p x xs at c e is)) h kin.none
             by_outcome (Goes t e) is h b = absurd h
             by_outcome (Gives v) is h b = absurd h
             by_outcome Traps is h b = may_trap p x xs at dead
@@ -367,7 +368,7 @@ module _ (f : Function) (resolve : OperandPair → Option OperandPair) (sound : 
       quiet_number w k = quiet_is (λ z. number_of z ≡ number_of k) w k refl (λ v r e. sym (ap number_of e)) (λ y n e. sym (ap number_of e))
 
       debug_pairs : (p : Pos) (x : Item) (xs : List Item) → rf p ≡ x ∷ xs → is_code x.kind ≡ false → is_dead x.kind (needed_at xs (ends p.block)) ≡ false →
-          (c d : Core) → Kin p c d → DoBoth fp gp x (quiet (wrong p) x) c d (Kin (below p))
+          (c d : Core) → MatchCores p c d → DoBoth fp gp x (quiet (wrong p) x) c d (MatchCores (below p))
       debug_pairs p x xs at code stay c d kin =
           let k : EndAlike (Alike (Right p) (λ n. ⊥)) (do_item fp x.kind c) (do_item gp (silenced
           (wrong p) x.kind) d) = debug_alike p x.kind c d code kin.alike in
@@ -388,8 +389,8 @@ module _ (f : Function) (resolve : OperandPair → Option OperandPair) (sound : 
             no_defines (Phi l n) e y h = h
 
       code_pairs : (p : Pos) (x : Item) (xs : List Item) (i : Instruction) (n : Option ℕ) → rf p ≡ x ∷ xs → x.kind ≡ Code i n →
-          is_dead x.kind (needed_at xs (ends p.block)) ≡ false → (c d : Core) → Kin p c d →
-          DoAlike ct src sides relation p.block xs (left_at (below p) xs) (since_item ct x) (below p) (do_item fp x.kind c) (do_item gp x.kind d)
+          is_dead x.kind (needed_at xs (ends p.block)) ≡ false → (c d : Core) → MatchCores p c d →
+          DoAlike ct src sides match_states p.block xs (left_at (below p) xs) (since_item ct x) (below p) (do_item fp x.kind c) (do_item gp x.kind d)
       code_pairs p x xs i n at code stay c d kin =
           do_alike p x xs at (HeldAfter (Right p) x.kind) c (since_item ct x) (left_at (below p) xs) (λ q edge. held_before p q x xs at edge)
           (λ e m go. along.moves p x xs at c e m go) (do_item fp x.kind c) (do_item gp x.kind d) refl
@@ -401,20 +402,20 @@ module _ (f : Function) (resolve : OperandPair → Option OperandPair) (sound : 
       -- ---- the views
 
       view_at : (p : Pos) (x : Item) (xs : List Item) → rf p ≡ x ∷ xs → (z : Bool) → is_dead x.kind (needed_at xs (ends p.block)) ≡ z →
-          View ct src sides relation p.block p (x ∷ xs) (cond z (silenced_left (λ n. wrong (pos_in p.block n)) (suc p.item) xs (ends p.block))
+          View ct src sides match_states p.block p (x ∷ xs) (cond z (silenced_left (λ n. wrong (pos_in p.block n)) (suc p.item) xs (ends p.block))
           (quiet (wrong p) x ∷ silenced_left (λ n. wrong (pos_in p.block n)) (suc p.item) xs (ends p.block)))
-      view_at p x xs at z verdict_is = subst (λ (m : ℕ). View ct src sides relation p.block p (x ∷ xs)
+      view_at p x xs at z verdict_is = subst (λ (m : ℕ). View ct src sides match_states p.block p (x ∷ xs)
           (cond z (silenced_left (λ n. wrong (pos_in p.block n)) m xs (ends p.block))
           (quiet (wrong p) x ∷ silenced_left (λ n. wrong (pos_in p.block n)) m xs (ends p.block)))) one (by_verdict z verdict_is) where
             one : p.item + 1 ≡ suc p.item
             one = omega arith
 
             by_kind : (k : ItemKind) → x.kind ≡ k → is_dead x.kind (needed_at xs (ends p.block)) ≡ false →
-                View ct src sides relation p.block p (x ∷ xs) (quiet (wrong p) x ∷ left_at (below p) xs)
+                View ct src sides match_states p.block p (x ∷ xs) (quiet (wrong p) x ∷ left_at (below p) xs)
             by_kind (Code i n) code stay =
                 let same : quiet (wrong p) x ≡ x = (λ j. record x { kind = silenced (wrong p) (code j) }) ∙
                 (let back = sym code in λ j. record x { kind = back j }) in
-                subst (λ (y : Item). View ct src sides relation p.block p (x ∷ xs) (y ∷ left_at (below p) xs)) (sym same)
+                subst (λ (y : Item). View ct src sides match_states p.block p (x ∷ xs) (y ∷ left_at (below p) xs)) (sym same)
                 (both {k' = below p} (ap is_code code) (ap is_code code) refl refl (next p x xs at) (λ c d kin. code_pairs p x xs i n at code stay c d kin))
             by_kind (Mark v m) kind stay =
                 let no_code : is_code x.kind ≡ false = ap is_code kind in
@@ -424,7 +425,7 @@ module _ (f : Function) (resolve : OperandPair → Option OperandPair) (sound : 
                 paired {k' = below p} no_code (quiet_code (wrong p) x.kind ∙ no_code) (next p x xs at) (λ c d kin. debug_pairs p x xs at no_code stay c d kin)
 
             by_dead : (k : ItemKind) → x.kind ≡ k → is_dead x.kind (needed_at xs (ends p.block)) ≡ true →
-                View ct src sides relation p.block p (x ∷ xs) (left_at (below p) xs)
+                View ct src sides match_states p.block p (x ∷ xs) (left_at (below p) xs)
             by_dead (Code i n) code dead =
                 let row : is_dead_row (row_of i) (needed_at xs (ends p.block)) ≡ true =
                 ap (λ (k : ItemKind). is_dead k (needed_at xs (ends p.block))) (sym code) ∙ dead in
@@ -437,66 +438,68 @@ module _ (f : Function) (resolve : OperandPair → Option OperandPair) (sound : 
                 let bad : false ≡ true = ap (λ (k : ItemKind). is_dead k (needed_at xs (ends p.block))) (sym kind) ∙ dead in cc
 
             by_verdict : (z : Bool) → is_dead x.kind (needed_at xs (ends p.block)) ≡ z →
-                View ct src sides relation p.block p (x ∷ xs) (cond z (left_at (below p) xs) (quiet (wrong p) x ∷ left_at (below p) xs))
+                View ct src sides match_states p.block p (x ∷ xs) (cond z (left_at (below p) xs) (quiet (wrong p) x ∷ left_at (below p) xs))
             by_verdict true dead = by_dead x.kind refl dead
             by_verdict false stay = by_kind x.kind refl stay
 
-      view : (p : Pos) (b : ℕ) (xs ys : List Item) → relation.Rests p b xs ys → View ct src sides relation b p xs ys
-      view p b [] ys (at, id, left) = subst (View ct src sides relation b p []) (sym left) ended
+      view : (p : Pos) (b : ℕ) (xs ys : List Item) → match_states.MatchItems p b xs ys → View ct src sides match_states b p xs ys
+      view p b [] ys (at, id, left) = subst (View ct src sides match_states b p []) (sym left) ended
       view p b (x ∷ xs) ys (at, id, left) =
-          subst (λ (n : ℕ). View ct src sides relation n p (x ∷ xs) ys) id
-          (subst (View ct src sides relation p.block p (x ∷ xs)) (sym left) (view_at p x xs at (is_dead x.kind (needed_at xs (ends p.block))) refl))
+          subst (λ (n : ℕ). View ct src sides match_states n p (x ∷ xs) ys) id
+          (subst (View ct src sides match_states p.block p (x ∷ xs)) (sym left) (view_at p x xs at (is_dead x.kind (needed_at xs (ends p.block))) refl))
 
-      past_end : (k p : Pos) (j n : ℕ) (c d : Core) → fp.fetch p ≡ Silent j n → relation.Rests k p.block [] [] → Kin k c d → Kin (block_start n) c d
+      past_end : (k p : Pos) (j n : ℕ) (c d : Core) → fp.fetch p ≡ EndOfBlock j n → match_states.MatchItems k p.block [] [] → MatchCores k c d →
+          MatchCores (block_start n) c d
       past_end k p j n c d fetch (at, id, left) kin =
-          let there : fp.fetch k ≡ Silent j n = one_past wrong ends false f.blocks resolve k p j n id at fetch in
+          let there : fp.fetch k ≡ EndOfBlock j n = one_past wrong ends false f.blocks resolve k p j n id at fetch in
           let edge : Edge (paths_of f) k (block_start n) = subst (λ (z : Fetch). FetchEdge (λ m. m) z k (block_start n)) (sym there) refl in
           kin_at (block_start n) (Right k) c d (λ y right. inl (λ w. right (on k w (λ stay defines. subst (λ (z : Fetch). Defines z y) there defines) edge)))
           kin.alike kin.none
 
-      origin_from : (p : Pos) → IsOrigin (station_at ct gp) p → IsOrigin (station_at ct fp) p
-      origin_from p o = by_station (station_is_of ct gp o.place o.station o.stands) where
-        by_station : IsStationOf ct gp o.place o.station → IsOrigin (station_at ct fp) p
-        by_station (of_item y at code st) =
+      origin_from : (p : Pos) → IsOrigin (sync_point_at ct gp) p → IsOrigin (sync_point_at ct fp) p
+      origin_from p o = by_sync_point (sync_point_is_of ct gp o.place o.sync_point o.stands) where
+        by_sync_point : IsSyncPointOf ct gp o.place o.sync_point → IsOrigin (sync_point_at ct fp) p
+        by_sync_point (of_item y at code st) =
             let w = item_from wrong ends false f.blocks resolve o.place y at in
-            let kind : y.kind ≡ silenced w.silent w.item.kind = ap (λ (z : Item). z.kind) w.is in
-            let code' : is_code w.item.kind ≡ true = sym (quiet_code w.silent w.item.kind) ∙ ap is_code (sym kind) ∙ code in
+            let kind : y.kind ≡ silenced w.source_end w.item.kind = ap (λ (z : Item). z.kind) w.is in
+            let code' : is_code w.item.kind ≡ true = sym (quiet_code w.source_end w.item.kind) ∙ ap is_code (sym kind) ∙ code in
             record {
               place = w.pos;
-              station = o.station;
-              stands = code_station ct fp w.pos w.item w.stands code' ∙ ap Some (quiet_station w.silent w.item code' ∙ ap (λ
-                  (z : Item). station_of ct z) (sym w.is)) ∙ ap Some st;
+              sync_point = o.sync_point;
+              stands = code_sync_point ct fp w.pos w.item w.stands code' ∙ ap Some (quiet_sync_point w.source_end w.item code' ∙ ap (λ
+                  (z : Item). sync_point_of ct z) (sym w.is)) ∙ ap Some st;
               from = o.from;
             } where
-              quiet_station : (s : Places) (x : Item) → is_code x.kind ≡ true →
-                  station_of ct x ≡ station_of ct (quiet s x)
-              quiet_station s x code = by_kind x.kind code where
-                by_kind : (k : ItemKind) → is_code k ≡ true → station_of ct (record x { kind = k }) ≡
-                    station_of ct (record x { kind = silenced s k })
+              quiet_sync_point : (s : Places) (x : Item) → is_code x.kind ≡ true →
+                  sync_point_of ct x ≡ sync_point_of ct (quiet s x)
+              quiet_sync_point s x code = by_kind x.kind code where
+                by_kind : (k : ItemKind) → is_code k ≡ true → sync_point_of ct (record x { kind = k }) ≡
+                    sync_point_of ct (record x { kind = silenced s k })
                 by_kind (Code i n) e = refl
                 by_kind (Mark v m) e = cc
                 by_kind (Phi l n) e = cc
-        by_station (of_end k n at ends_at st) =
+        by_sync_point (of_end k n at ends_at st) =
             let w = end_from wrong ends false f.blocks resolve o.place k n at in
             record {
               place = w.0;
-              station = o.station;
-              stands = end_is_station ct fp w.0 k n w.2 ∙ ap (λ (z : ℕ). end_station ct (record { block = z; item = k })) w.1 ∙
-                  ap (λ (z : Count). end_station z (record { block = o.place.block; item = k })) ends_at ∙ ap Some (sym st);
+              sync_point = o.sync_point;
+              stands = end_is_sync_point ct fp w.0 k n w.2 ∙ ap (λ (z : ℕ). end_sync_point ct (record { block = z; item = k })) w.1 ∙
+                  ap (λ (z : Count). end_sync_point z (record { block = o.place.block; item = k })) ends_at ∙ ap Some (sym st);
               from = o.from;
             }
 
       -- it runs along where the function with its dead code did
       pub dead_runs : All (λ (b : Block). InOrder b.id 0 b.items) f.blocks → All (λ (b : Block). InOrder b.id 0 b.items) (map (taken wrong ends) f.blocks) →
           All (λ (b : Block). All (λ (i : Item). OriginIn b i.origin) b.items) (map (taken wrong ends) f.blocks) →
-          s0.pos.item ≡ 0 → Kin s0.pos s0.core s0.core →
-          RunsAlong src fp (station_at ct fp) (AnyOrigin (station_at ct fp)) s0 s0 → RunsAlong src gp (station_at ct gp) (AnyOrigin (station_at ct gp)) s0 s0
+          s0.pos.item ≡ 0 → MatchCores s0.pos s0.core s0.core →
+          RunsMatch src fp (sync_point_at ct fp) (AnyOrigin (sync_point_at ct fp)) s0 s0 →
+          RunsMatch src gp (sync_point_at ct gp) (AnyOrigin (sync_point_at ct gp)) s0 s0
       dead_runs ordered ordered' origins' first kin runs =
-          in_place_follows relation ct src sides (index_of f.blocks) in_place first refl (at_start kin) runs where
-            at_start : Kin s0.pos s0.core s0.core → Kin (block_start s0.pos.block) s0.core s0.core
-            at_start k = subst (λ (n : ℕ). Kin (record { block = s0.pos.block; item = n }) s0.core s0.core) first k
+          in_place_follows match_states ct src sides (index_of f.blocks) in_place first refl (at_start kin) runs where
+            at_start : MatchCores s0.pos s0.core s0.core → MatchCores (block_start s0.pos.block) s0.core s0.core
+            at_start k = subst (λ (n : ℕ). MatchCores (record { block = s0.pos.block; item = n }) s0.core s0.core) first k
 
-            in_place : InPlace ct src sides relation (index_of f.blocks)
+            in_place : InPlace ct src sides match_states (index_of f.blocks)
             in_place = record {
               laid_f = laid;
               laid_g = laid_out false (map (taken wrong ends) f.blocks) resolve;

@@ -10,7 +10,7 @@ use Rattle.mir_func.specs.declared.item.Item.{Item}
 use Rattle.mir_func.specs.declared.item.ItemKind.{ItemKind}
 use Rattle.mir_func.specs.declared.item.ItemKind.TheVariants.{Code, Mark, Phi}
 use Rattle.mir_func.specs.Function.{Function}
-use Rattle.mir_func.specs.Graph.{Fetch, Here, Silent, Outside, Program, below, block_start}
+use Rattle.mir_func.specs.Graph.{Fetch, Here, EndOfBlock, Outside, Program, below, block_start}
 use Rattle.mir_func.specs.Graph.{end_of, front, fetch_in, from_block, Edge, FetchEdge, KindEdge, RowEdge}
 use Rattle.mir_func.specs.Successors.{pos_in, ComesDown, GoesTo}
 use Rattle.sem_mir.specs.Align.{is_code}
@@ -114,8 +114,9 @@ module _ (f g : Function) (same : SameBlocks f.blocks g.blocks) where
             FetchEdge (λ m. m) (fetch_in us p.item) p q → (n : ℕ) × (q ≡ block_start n) × FetchEdge (λ m. m) (fetch_in vs p'.item) p' (block_start n)
         by_same no_blocks na nb e = absurd e
         by_same (one_more {us = us} {vs = vs} a b id items more) na nb e =
-            let w = by_end a.silent b.silent more (subst (λ (x : Fetch). FetchEdge (λ m. m) x p q) (past_of (drop p.item a.items) a.silent us na) e) in
-            (w.0, w.1, subst (λ (x : Fetch). FetchEdge (λ m. m) x p' (block_start w.0)) (sym (past_of (drop p'.item b.items) b.silent vs nb)) w.2)
+            let w = by_end a.source_end b.source_end more (subst (λ (x : Fetch). FetchEdge (λ m. m) x p q) (past_of
+            (drop p.item a.items) a.source_end us na) e) in
+            (w.0, w.1, subst (λ (x : Fetch). FetchEdge (λ m. m) x p' (block_start w.0)) (sym (past_of (drop p'.item b.items) b.source_end vs nb)) w.2)
 
   edge_at : (p q : Pos) (x : Item) (xs : List Item) → rf p ≡ x ∷ xs → Edge fp p q → KindEdge (λ m. m) x.kind p q
   edge_at p q x xs at e = subst (λ (z : Fetch). FetchEdge (λ m. m) z p q) (laid_f.cons p x xs at).0 e
@@ -149,7 +150,7 @@ module _ (f g : Function) (same : SameBlocks f.blocks g.blocks) where
     used_same xs ys none p p' at at' uses = absurd (no_use (fp.fetch p) (laid_f.nil p at).0 uses) where
       no_use : (z : Fetch) → IsPastItems z → Uses z x → ⊥
       no_use (Here i) past uses = past
-      no_use (Silent k n) past uses = uses
+      no_use (EndOfBlock k n) past uses = uses
       no_use Outside past uses = uses
     used_same (u ∷ us) (v ∷ vs) (both u' v' i n m e e' more) p p' at at' uses =
         let reads : KindUses u.kind x = subst (λ (z : Fetch). Uses z x) (laid_f.cons p u us at).0 uses in
@@ -172,7 +173,7 @@ module _ (f g : Function) (same : SameBlocks f.blocks g.blocks) where
         (starts_beside w.0))) where
           no_def : (z : Fetch) → IsPastItems z → Defines z x → ⊥
           no_def (Here i) past d = past
-          no_def (Silent k n) past d = d
+          no_def (EndOfBlock k n) past d = d
           no_def Outside past d = d
     later_same (u ∷ us) (v ∷ vs) (both u' v' i n m e e' more) p p' q block at at' ne edge live =
         let ne' : Defines (gp.fetch p') x → ⊥ = λ d. ne (subst (λ (z : Fetch). Defines z x) (sym (laid_f.cons p u us at).0)

@@ -11,14 +11,14 @@ use Rattle.mir_func.specs.declared.position.Pos.{Pos}
 use Rattle.mir_func.specs.declared.position.Origin.{Origin}
 use Rattle.mir_func.specs.declared.position.Origin.TheVariants.{Kept, Before}
 use Rattle.mir_func.specs.declared.block.Block.{Block}
-use Rattle.mir_func.specs.declared.entry.Entry.{Entry}
+use Rattle.mir_func.specs.declared.entry.DebugSubstitution.{DebugSubstitution}
 use Rattle.mir_func.specs.declared.item.Item.{Item}
 use Rattle.mir_func.specs.declared.item.ItemKind.{ItemKind}
 use Rattle.mir_func.specs.declared.item.ItemKind.TheVariants.{Code, Mark, Phi}
 use Rattle.mir_func.specs.Function.{Function}
 use Rattle.mir_func.specs.Sound.{IsSound, AreApart, ids_of, OriginIn, EndsWell, MayFollow, IsJumpAtMost}
 use Rattle.mir_func.specs.Exits.{exit_of, row_exit, IsAlways}
-use Rattle.mir_func.specs.Graph.{Fetch, Here, Silent, Outside, Program, below, block_start, from_block}
+use Rattle.mir_func.specs.Graph.{Fetch, Here, EndOfBlock, Outside, Program, below, block_start, from_block}
 use Rattle.mir_func.specs.Graph.{program_of, Edge, FetchEdge, KindEdge, RowEdge, Leads, stay, go}
 use Rattle.mir_func.specs.Resolve.{resolve}
 use Rattle.mir_func.specs.Successors.{pos_in, ComesDown}
@@ -29,9 +29,9 @@ use Rattle.sem_mir.proofs.Edges.{leads_on, leads_trans}
 use Rattle.sem_mir.proofs.Reading.{found, found_in}
 use Rattle.sem_simulation.specs.Sides.{Laid}
 use Rattle.sem_simulation.proofs.Laid.{rest_in, rest_of, laid_out}
-use Rattle.pass_trait.specs.Following.{Source, FollowsSource}
+use Rattle.pass_trait.specs.Simulation.{Source, SimulatesSource}
 use Rattle.dce_rule.specs.Dead.{Places, Ends, is_dead_row, is_dead, needed_at, without_dead, thinned_block, paths_of, IsRound}
-use Rattle.pass_edits.specs.Loose.{LooseShape, FollowsLoosely}
+use Rattle.pass_edits.specs.WeakSimulation.{LooseShape, WeakSimulation}
 use Rattle.dce_rule.proofs.Unneeded.{ends_at, two_above}
 use Rattle.dce_rule.proofs.Lists.{rest_at}
 use Rattle.dce_rule.proofs.Live.{needed_live}
@@ -99,7 +99,7 @@ one_block_in bs apart c b inside member id =
     let w : c ∷ u.rest ≡ b ∷ v.rest = sym u.at ∙ ap (from_block bs) id ∙ v.at in
     cc
 
-module _ (f : Function) (subs : List Entry) (sound : IsSound f) (round : IsRound f f) (src : Source) where
+module _ (f : Function) (subs : List DebugSubstitution) (sound : IsSound f) (round : IsRound f f) (src : Source) where
   abbrev ends : Ends
   ends = round.ends
 
@@ -243,7 +243,7 @@ module _ (f : Function) (subs : List Entry) (sound : IsSound f) (round : IsRound
     by_fetch : (x : Fetch) → fp.fetch p ≡ x → Uses x (Slot m) →
         (q : Pos) × (j : Item) × (fp.fetch q ≡ Here j) × OnRow (λ r. slot_read r ≡ Some m) j.kind × Leads fp p q
     by_fetch (Here j) e uses = (p, j, e, slot_loads j m uses, stay)
-    by_fetch (Silent k n) e uses = absurd uses
+    by_fetch (EndOfBlock k n) e uses = absurd uses
     by_fetch Outside e uses = absurd uses
   live_leads m {p} (later ne edge more) = let w = live_leads m more in (w.0, w.1, w.2, w.3, go edge w.4)
 
@@ -276,51 +276,51 @@ module _ (f : Function) (subs : List Entry) (sound : IsSound f) (round : IsRound
   module _ (shape : LooseShape src.function.blocks f.blocks srcp fp) where
     -- a load stands at no silent position
     load_inside : (q : Pos) (j : Item) (m : ℕ) → fp.fetch q ≡ Here j → OnRow (λ r. slot_read r ≡ Some m) j.kind → (b : Block) → Contains f.blocks b →
-        position_of j.origin ≡ record { block = b.id; item = b.silent } → ⊥
+        position_of j.origin ≡ record { block = b.id; item = b.source_end } → ⊥
     load_inside q j m at loads b member from =
         let a = among_in shape.among b member in
         let r = rest_at false f.blocks (resolve subs) q j at in
         by_blocks (from_block f.blocks q.block) refl r.1 a where
-          none_there : (a : Block) × Contains src.function.blocks a × (b.id ≡ a.id) × (b.silent ≡ a.silent) → (i : Item) →
-              srcp.fetch (record { block = b.id; item = b.silent }) ≡ Here i → ⊥
-          none_there a i e = none_silent src.function.blocks true (resolve src.subs) src.read a.0 a.1 (record { block = b.id; item = b.silent }) a.2 a.3 i e
+          none_there : (a : Block) × Contains src.function.blocks a × (b.id ≡ a.id) × (b.source_end ≡ a.source_end) → (i : Item) →
+              srcp.fetch (record { block = b.id; item = b.source_end }) ≡ Here i → ⊥
+          none_there a i e = none_silent src.function.blocks true (resolve src.subs) src.read a.0 a.1 (record { block = b.id; item = b.source_end }) a.2 a.3 i e
 
-          by_origin : (a : (a : Block) × Contains src.function.blocks a × (b.id ≡ a.id) × (b.silent ≡ a.silent)) →
-              (k : ItemKind) (o : Origin) (c : Block) → Contains f.blocks c → OnRow (λ r. slot_read r ≡ Some m) k → KindFits srcp k c.silent o →
-              OriginIn c o → position_of o ≡ record { block = b.id; item = b.silent } → ⊥
+          by_origin : (a : (a : Block) × Contains src.function.blocks a × (b.id ≡ a.id) × (b.source_end ≡ a.source_end)) →
+              (k : ItemKind) (o : Origin) (c : Block) → Contains f.blocks c → OnRow (λ r. slot_read r ≡ Some m) k → KindFits srcp k c.source_end o →
+              OriginIn c o → position_of o ≡ record { block = b.id; item = b.source_end } → ⊥
           by_origin a (Code i n) (Kept o) c inside loads fits home from = by_fetch (srcp.fetch o) refl fits where
             by_fetch : (x : Fetch) → srcp.fetch o ≡ x → HasClass (row_of i) x → ⊥
             by_fetch (Here y) e h = none_there a y (sym (ap srcp.fetch from) ∙ e)
-            by_fetch (Silent k l) e h = h
+            by_fetch (EndOfBlock k l) e h = h
             by_fetch Outside e h = h
           by_origin a (Code i n) (Before o) c inside loads fits home from =
               let block : c.id ≡ b.id = sym home.0 ∙ ap (λ (z : Pos). z.block) from in
-              let item : o.item ≡ b.silent = ap (λ (z : Pos). z.item) from in
+              let item : o.item ≡ b.source_end = ap (λ (z : Pos). z.item) from in
               let same : c ≡ b = one_block_in f.blocks sound.blocks_apart c b inside member block in
-              let lt : o.item < c.silent = by_row (row_of i) loads fits in
-              let s : c.silent ≡ b.silent = ap (λ (z : Block). z.silent) same in
+              let lt : o.item < c.source_end = by_row (row_of i) loads fits in
+              let s : c.source_end ≡ b.source_end = ap (λ (z : Block). z.source_end) same in
               omega (arith, lt, item, s) where
-                by_row : (r : Row) → slot_read r ≡ Some m → MayAdd r o.item c.silent → o.item < c.silent
+                by_row : (r : Row) → slot_read r ≡ Some m → MayAdd r o.item c.source_end → o.item < c.source_end
                 by_row (LoadsSlot rd k) loads may = may
                 by_row _ loads may = cc
           by_origin a (Mark v l) o c inside loads fits home from = loads
           by_origin a (Phi l n) o c inside loads fits home from = loads
 
           by_blocks : (bs : List Block) → from_block f.blocks q.block ≡ bs → rest_in bs q.item ≡ j ∷ (rest_at false f.blocks (resolve subs) q j at).0 →
-              (a : Block) × Contains src.function.blocks a × (b.id ≡ a.id) × (b.silent ≡ a.silent) → ⊥
+              (a : Block) × Contains src.function.blocks a × (b.id ≡ a.id) × (b.source_end ≡ a.source_end) → ⊥
           by_blocks [] h e a = cc
           by_blocks (c ∷ cs) h e a =
               let k = found_in f.blocks q.block c cs h in
               let inside : Contains c.items j = in_drop c.items q.item j _ e in
               by_origin a j.kind j.origin c k.0 loads
-              (All-contains (λ (i : Item). KindFits srcp i.kind c.silent i.origin) c.items j
-              (All-contains (λ (b : Block). All (λ (i : Item). KindFits srcp i.kind b.silent i.origin) b.items) f.blocks c shape.items k.0) inside)
+              (All-contains (λ (i : Item). KindFits srcp i.kind c.source_end i.origin) c.items j
+              (All-contains (λ (b : Block). All (λ (i : Item). KindFits srcp i.kind b.source_end i.origin) b.items) f.blocks c shape.items k.0) inside)
               (All-contains (λ (i : Item). OriginIn c i.origin) c.items j
               (All-contains (λ (b : Block). All (λ (i : Item). OriginIn b i.origin) b.items) f.blocks c sound.origins k.0) inside)
               from
 
     stores : (b : Block) → Contains f.blocks b → (p : Pos) (i : Item) → p.block ≡ b.id → fp.fetch p ≡ Here i → OnRow IsSlotStore i.kind →
-        i.origin ≡ Before (record { block = b.id; item = b.silent }) → (q : Pos) × (j : Item) × IsMetApart fp p b.silent q j
+        i.origin ≡ Before (record { block = b.id; item = b.source_end }) → (q : Pos) × (j : Item) × IsMetApart fp p b.source_end q j
     stores b member p i block at store from =
         let r = rest_at false f.blocks (resolve subs) p i at in
         let w = store_loads p i r.0 r.1 store in (
@@ -329,7 +329,7 @@ module _ (f : Function) (subs : List Entry) (sound : IsSound f) (round : IsRound
           (
             w.3,
             counts w.2.kind w.0 w.4,
-            (λ e. load_inside w.1 w.2 w.0 w.3 w.4 b member (e ∙ (λ n. record { block = block n; item = b.silent }))),
+            (λ e. load_inside w.1 w.2 w.0 w.3 w.4 b member (e ∙ (λ n. record { block = block n; item = b.source_end }))),
             inr w.5,
           ),
         ) where
@@ -342,7 +342,8 @@ module _ (f : Function) (subs : List Entry) (sound : IsSound f) (round : IsRound
           counts (Phi l n) m loads = loads
 
 -- where a round takes nothing out, a function that follows a source loosely follows it
-pub settled_follows : (f : Function) (subs : List Entry) → IsSound f → IsRound f f → (src : Source) → FollowsLoosely src f subs → FollowsSource src f subs
+pub settled_follows : (f : Function) (subs : List DebugSubstitution) → IsSound f → IsRound f f → (src : Source) → WeakSimulation src f subs →
+    SimulatesSource src f subs
 settled_follows f subs sound round src fol = record {
   objects = fol.objects;
   follows = record {

@@ -62,7 +62,7 @@ blocks_stripped wrong ends [] = refl
 blocks_stripped wrong ends (b ∷ bs) =
     let e = items_stripped (λ n. wrong (pos_in b.id n)) (ends b.id) 0 b.items in
     let es = blocks_stripped wrong ends bs in
-    λ i. record { id = b.id; items = e i; silent = b.silent } ∷ es i
+    λ i. record { id = b.id; items = e i; source_end = b.source_end } ∷ es i
 
 -- whatever is silenced
 pub stripped_taken : (wrong : Pos → Places) (ends : Ends) (f : Function) → stripped (taken_out wrong ends f) ≡ thinned ends (stripped f)

@@ -18,7 +18,7 @@ use Rattle.mir_func.specs.declared.item.ItemKind.TheVariants.{Code, Mark, Phi}
 use Rattle.mir_func.specs.Function.{Function}
 use Rattle.mir_func.specs.Sound.{EndsWell, MayFollow, IsJumpAtMost}
 use Rattle.mir_func.specs.Exits.{exit_of, row_exit, IsAlways}
-use Rattle.mir_func.specs.Graph.{Fetch, Here, Silent, Outside, Program, below, block_start, from_block, Edge, FetchEdge, KindEdge, RowEdge}
+use Rattle.mir_func.specs.Graph.{Fetch, Here, EndOfBlock, Outside, Program, below, block_start, from_block, Edge, FetchEdge, KindEdge, RowEdge}
 use Rattle.mir_func.specs.Successors.{pos_in, ComesDown}
 use Rattle.sem_mir.specs.Live.{Defines, KindDefines}
 use Rattle.sem_mir.proofs.Parts.{effects_hold}
@@ -230,7 +230,7 @@ module _ (f : Function) (wells : All (λ (b : Block). EndsWell b.items) f.blocks
     goes_past p q at down edge out = by_fetch (fp.fetch p) refl (laid.nil p at).0 where
       by_fetch : (z : Fetch) → fp.fetch p ≡ z → IsPastItems z → IsUnneeded q
       by_fetch (Here i) e past = absurd past
-      by_fetch (Silent k n) e past =
+      by_fetch (EndOfBlock k n) e past =
           let w : q ≡ block_start n = subst (λ (z : Fetch). FetchEdge (λ m. m) z p q) e edge in
           subst IsUnneeded (sym w) (at_start p n down (subst (Edge fp p) w edge) out)
       by_fetch Outside e past = absurd (subst (λ (z : Fetch). FetchEdge (λ m. m) z p q) e edge)

@@ -55,7 +55,7 @@ Ends = ℕ → Places
 
 -- a block without its dead code, for what is needed at its end
 abbrev pub thinned_block : Ends → Block → Block
-thinned_block ends b = record { id = b.id; items = without_dead b.items (ends b.id); silent = b.silent }
+thinned_block ends b = record { id = b.id; items = without_dead b.items (ends b.id); source_end = b.source_end }
 
 -- the function without its dead code
 abbrev pub thinned : Ends → Function → Function

@@ -1,12 +1,12 @@
 -- Sequences of rounds, and what is true once a round removes nothing.
 use Rattle.std.specs.Prelude.{List, true, false}
-use Rattle.mir_func.specs.declared.entry.Entry.{Entry}
+use Rattle.mir_func.specs.declared.entry.DebugSubstitution.{DebugSubstitution}
 use Rattle.mir_func.specs.Function.{Function}
 use Rattle.mir_func.specs.Sound.{IsSound}
 use Rattle.pass_trait.specs.Change.{change}
-use Rattle.pass_trait.specs.Following.{KeepsFollowing}
+use Rattle.pass_trait.specs.Simulation.{PreservesSimulation}
 use Rattle.dce_rule.specs.Dead.{IsRound, IsThinnedOut}
-use Rattle.pass_edits.specs.Loose.{KeepsLoosely}
+use Rattle.pass_edits.specs.WeakSimulation.{PreservesWeakSimulation}
 
 -- any number of rounds
 pub data AreRounds : Function → Function → Type 0 where
@@ -20,7 +20,8 @@ RoundsEnd = (f g : Function) → AreRounds f g → IsRound g g → IsThinnedOut 
 -- preserving the weak simulation is reflexive and transitive; and if after that a round removes nothing, the full simulation
 -- is preserved
 pub record LooseLaws : Type 0 where
-  pub itself : (f : Function) (subs : List Entry) → KeepsLoosely (change f subs f subs)
-  pub then : (f g h : Function) (a b c : List Entry) → KeepsLoosely (change f a g b) → KeepsLoosely (change g b h c) → KeepsLoosely (change f a h c)
-  pub settles : (f g : Function) (subs more : List Entry) → KeepsLoosely (change f subs g more) → IsSound g → IsRound g g →
-      KeepsFollowing false true (change f subs g more)
+  pub itself : (f : Function) (subs : List DebugSubstitution) → PreservesWeakSimulation (change f subs f subs)
+  pub then : (f g h : Function) (a b c : List DebugSubstitution) → PreservesWeakSimulation (change f a g b) → PreservesWeakSimulation (change g b h c) →
+      PreservesWeakSimulation (change f a h c)
+  pub settles : (f g : Function) (subs more : List DebugSubstitution) → PreservesWeakSimulation (change f subs g more) → IsSound g → IsRound g g →
+      PreservesSimulation false true (change f subs g more)

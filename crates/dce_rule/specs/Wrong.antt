@@ -43,7 +43,7 @@ abbrev pub silenced_block : (wrong : Pos → Places) → Ends → Block → Bloc
 silenced_block wrong ends b = record {
   id = b.id;
   items = silenced_left (λ n. wrong (record { block = b.id; item = n })) 0 b.items (ends b.id);
-  silent = b.silent;
+  source_end = b.source_end;
 }
 
 -- the function without its dead code, if these places are wrong at each position

@@ -4,14 +4,14 @@ use Rattle.std.specs.List.{flat_map}
 use Rattle.std.proofs.Math.Nat.{le_refl}
 use Rattle.std.proofs.lemmas.List.{append_assoc}
 use Rattle.std.proofs.lemmas.List.Elements.{All-append, All-cons, All-head, All-tail}
-use Rattle.mir_func.specs.declared.entry.Entry.{Entry}
+use Rattle.mir_func.specs.declared.entry.DebugSubstitution.{DebugSubstitution}
 use Rattle.mir_func.specs.declared.block.Block.{Block}
 use Rattle.mir_func.specs.declared.item.Item.{Item}
 use Rattle.mir_func.specs.Function.{Function}
 use Rattle.mir_func.specs.Sound.{items_of, IsSound}
 use Rattle.pass_trait.specs.Change.{change}
 use Rattle.pass_trait.specs.Sizes.{numbers_of, greatest_number}
-use Rattle.pass_edits.specs.Loose.{KeepsLoosely}
+use Rattle.pass_edits.specs.WeakSimulation.{PreservesWeakSimulation}
 use Rattle.pass_edits.proofs.Numbers.{all_first, all_second}
 use Rattle.pass_edits.proofs.Under.{KindUnder, BlocksUnder, EntryUnder, greatest_under, items_under, blocks_under, entries_under}
 use Rattle.pass_edits.proofs.Loose.{then}
@@ -26,14 +26,15 @@ module _ (f : Function) where
   of blocks = record f { blocks = blocks }
 
   -- what holds of all blocks before each step
-  pub record BlocksReady (blocks : List Block) (subs : List Entry) (fresh : ℕ) : Type 0 where
+  pub record BlocksReady (blocks : List Block) (subs : List DebugSubstitution) (fresh : ℕ) : Type 0 where
     pub sound : IsSound (record f { blocks = blocks })
     pub in_blocks : BlocksUnder fresh blocks
     pub in_entries : All (EntryUnder fresh) subs
 
-  pub record BlocksWent (blocks : List Block) (subs : List Entry) (blocks' : List Block) (subs' : List Entry) (fresh' : ℕ) : Type 0 where
+  pub record BlocksWent (blocks : List Block) (subs : List DebugSubstitution) (blocks' : List Block) (subs' : List DebugSubstitution)
+      (fresh' : ℕ) : Type 0 where
     pub ready : BlocksReady blocks' subs' fresh'
-    pub follows : KeepsLoosely (change (record f { blocks = blocks }) subs (record f { blocks = blocks' }) subs')
+    pub follows : PreservesWeakSimulation (change (record f { blocks = blocks }) subs (record f { blocks = blocks' }) subs')
 
   abbrev B : ℕ → Block → Type 0
   B b c = All (λ (x : Item). KindUnder b x.kind) c.items
@@ -44,7 +45,7 @@ module _ (f : Function) where
   one_block above b dead a r =
       let rest = all_second (B a.fresh) above (b ∷ a.blocks) r.in_blocks in
       let e : SoFar = block_off dead b a in
-      let w = all_down f above b.id b.silent a.blocks (going_from 0 dead) dead (length b.items)
+      let w = all_down f above b.id b.source_end a.blocks (going_from 0 dead) dead (length b.items)
       (in_block b a)
       (record {
         sound = r.sound;
@@ -85,12 +86,12 @@ module _ (f : Function) where
       }
 
 -- all numbers are less than the next fresh one, and are so still where copies have lost theirs
-pub all_went : (f : Function) (subs : List Entry) (dead : List (List Bool)) → IsSound f →
+pub all_went : (f : Function) (subs : List DebugSubstitution) (dead : List (List Bool)) → IsSound f →
     BlocksWent f f.blocks subs (all_off f subs dead).blocks (all_off f subs dead).subs (all_off f subs dead).fresh
 all_went f subs dead sound =
     let m : ℕ = greatest_number f subs in
     let on_items : List ℕ = flat_map (λ (i : Item). numbers_of i.kind) (items_of f.blocks) in
-    let in_subs : List ℕ = flat_map (λ (e : Entry). e.src.number ∷ e.dst.number ∷ []) subs in
+    let in_subs : List ℕ = flat_map (λ (e : DebugSubstitution). e.src.number ∷ e.dst.number ∷ []) subs in
     let all : All (λ (n : ℕ). n < m + 1) (on_items ++ in_subs) = greatest_under m (on_items ++ in_subs) (le_refl m) in
     all_blocks f [] f.blocks dead (begins_off f subs) refl (record {
       sound = sound;

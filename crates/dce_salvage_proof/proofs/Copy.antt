@@ -5,7 +5,7 @@ use Rattle.std.proofs.Math.Nat.{le_refl}
 use Rattle.std.proofs.lemmas.List.Elements.{All-nil, All-append, All-cons, All-head, All-tail}
 use Rattle.rv64_instr.specs.Instruction.{Instruction}
 use Rattle.rv64_instr.specs.Row.{Row, Fixes, Moves, Sets, Addresses, Loads, Stores, LoadsSlot, StoresSlot, Branches, Jumps, Calls, Returns, Unfit, row_of}
-use Rattle.mir_func.specs.declared.entry.Entry.{Entry}
+use Rattle.mir_func.specs.declared.entry.DebugSubstitution.{DebugSubstitution}
 use Rattle.mir_func.specs.declared.position.Origin.{Origin}
 use Rattle.mir_func.specs.declared.location.Loc.{Loc}
 use Rattle.mir_func.specs.declared.block.Block.{Block}
@@ -16,12 +16,12 @@ use Rattle.mir_func.specs.Function.{Function}
 use Rattle.mir_func.specs.Sound.{IsSound}
 use Rattle.pass_trait.specs.Change.{change}
 use Rattle.pass_trait.specs.Rule.{item}
-use Rattle.pass_salvage.specs.declared.way.Way.{Way}
-use Rattle.pass_salvage.specs.declared.way.Way.TheVariants.{HasEntry, GetsEntry, GetsPhi}
+use Rattle.pass_salvage.specs.declared.way.SalvageAction.{SalvageAction}
+use Rattle.pass_salvage.specs.declared.way.SalvageAction.TheVariants.{HasEntry, GetsEntry, GetsPhi}
 use Rattle.pass_salvage.specs.Way.{way}
 use Rattle.pass_salvage.specs.Salvage.{numbered_at, phi_for, entry_for, entries_for, fresh_after, above_after}
 use Rattle.pass_salvage.proofs.Chosen.{IsEntered, entered}
-use Rattle.pass_edits.specs.Loose.{KeepsLoosely}
+use Rattle.pass_edits.specs.WeakSimulation.{PreservesWeakSimulation}
 use Rattle.pass_edits.proofs.Numbers.{all_first, all_second}
 use Rattle.pass_edits.proofs.Around.{with_block}
 use Rattle.pass_edits.proofs.Under.{KindUnder, AreUnder, BlocksUnder, EntryUnder, items_more, blocks_more, entries_more}
@@ -86,26 +86,27 @@ split_at (y ∷ z ∷ ys) zero x e =
 split_at (y ∷ ys) (suc n) x e =
     let s = split_at ys n x e in record { whole = ap (λ (zs : List Item). y ∷ zs) s.whole; behind = s.behind }
 
-module _ (f : Function) (above : List Block) (id silent : ℕ) (behind : List Block) where
+module _ (f : Function) (above : List Block) (id source_end : ℕ) (behind : List Block) where
   abbrev fn : List Item → Function
-  fn items = with_block f above id silent items behind
+  fn items = with_block f above id source_end items behind
 
   -- what holds before each step
-  pub record Ready (items : List Item) (subs : List Entry) (fresh : ℕ) : Type 0 where
-    pub sound : IsSound (with_block f above id silent items behind)
+  pub record Ready (items : List Item) (subs : List DebugSubstitution) (fresh : ℕ) : Type 0 where
+    pub sound : IsSound (with_block f above id source_end items behind)
     pub in_above : BlocksUnder fresh above
     pub in_items : AreUnder fresh items
     pub in_behind : BlocksUnder fresh behind
     pub in_entries : All (EntryUnder fresh) subs
 
-  pub record Went (items : List Item) (subs : List Entry) (items' : List Item) (subs' : List Entry) (fresh' : ℕ) : Type 0 where
+  pub record Went (items : List Item) (subs : List DebugSubstitution) (items' : List Item) (subs' : List DebugSubstitution) (fresh' : ℕ) : Type 0 where
     pub ready : Ready items' subs' fresh'
-    pub follows : KeepsLoosely (change (with_block f above id silent items behind) subs (with_block f above id silent items' behind) subs')
+    pub follows : PreservesWeakSimulation (change (with_block f above id source_end items behind) subs (with_block f above id source_end items' behind) subs')
 
   abbrev U : ℕ → Item → Type 0
   U b x = KindUnder b x.kind
 
-  it_went : (items : List Item) (subs : List Entry) (fresh : ℕ) (items' : List Item) (subs' : List Entry) (fresh' : ℕ) → Ready items subs fresh →
+  it_went : (items : List Item) (subs : List DebugSubstitution) (fresh : ℕ) (items' : List Item) (subs' : List DebugSubstitution) (fresh' : ℕ) →
+      Ready items subs fresh →
       fresh ≤ fresh' → AreUnder fresh' items' → All (EntryUnder fresh') subs' → Step (fn items) subs (fn items') subs' →
       Went items subs items' subs' fresh'
   it_went items subs fresh items' subs' fresh' r le under entries step = record {
@@ -119,7 +120,7 @@ module _ (f : Function) (above : List Block) (id silent : ℕ) (behind : List Bl
     follows = step.follows;
   }
 
-  module _ (k s rd : ℕ) (up : List Item) (i : Instruction) (o : Origin) (l : Loc) (down : List Item) (subs : List Entry) (fresh : ℕ) (lost : ℕ)
+  module _ (k s rd : ℕ) (up : List Item) (i : Instruction) (o : Origin) (l : Loc) (down : List Item) (subs : List DebugSubstitution) (fresh : ℕ) (lost : ℕ)
       (row : row_of i ≡ Moves (suc rd) s) where
     abbrev copy : Item
     copy = item (Code i (Some k)) o l
@@ -148,21 +149,22 @@ module _ (f : Function) (above : List Block) (id silent : ℕ) (behind : List Bl
       phi_goes true =
           it_went (up ++ copy ∷ down) subs fresh (up ++ phi_none k o ∷ bare ∷ down) subs fresh r (le_refl fresh)
           (All-append (U fresh) up (phi_none k o ∷ bare ∷ down) under_up (All-cons (U fresh) (phi_none k o) (bare ∷ down) under_copy under_bare)) r.in_entries
-          (to_phi_none f above id silent behind k up i o l down subs rd s row r.sound)
+          (to_phi_none f above id source_end behind k up i o l down subs rd s row r.sound)
       phi_goes false =
           it_went (up ++ copy ∷ down) subs fresh (up ++ phi_for k s o ∷ bare ∷ down) subs fresh r (le_refl fresh)
           (All-append (U fresh) up (phi_for k s o ∷ bare ∷ down) under_up (All-cons (U fresh) (phi_for k s o) (bare ∷ down) under_copy under_bare)) r.in_entries
-          (to_phi f above id silent behind k rd s up i o l down subs r.sound row)
+          (to_phi f above id source_end behind k rd s up i o l down subs r.sound row)
 
-      pub copy_goes : (removed : List ℕ) (own : Bool) (w : Way) → way removed subs fresh k s up ≡ w →
+      pub copy_goes : (removed : List ℕ) (own : Bool) (w : SalvageAction) → way removed subs fresh k s up ≡ w →
           Went (up ++ copy ∷ down) subs (above_after w up ++ (put_off w (record { number = k; source = s; own = own }) o ++ bare ∷ down))
           (subs ++ entries_for w k) (fresh_after w fresh)
       copy_goes removed own HasEntry is =
-          subst (λ (es : List Entry). Went (up ++ copy ∷ down) subs (up ++ bare ∷ down) es fresh) (sym (append-nil subs))
+          subst (λ (es : List DebugSubstitution). Went (up ++ copy ∷ down) subs (up ++ bare ∷ down) es fresh) (sym (append-nil subs))
           (it_went (up ++ copy ∷ down) subs fresh (up ++ bare ∷ down) subs fresh r (le_refl fresh)
-          (All-append (U fresh) up (bare ∷ down) under_up under_bare) r.in_entries (to_nowhere f above id silent behind k up i o l down subs r.sound))
+          (All-append (U fresh) up (bare ∷ down) under_up under_bare) r.in_entries (to_nowhere f above id source_end behind k up i o l down subs r.sound))
       copy_goes removed own GetsPhi is =
-          subst (λ (es : List Entry). Went (up ++ copy ∷ down) subs (up ++ phi_by own k s o ∷ bare ∷ down) es fresh) (sym (append-nil subs)) (phi_goes own)
+          subst (λ (es : List DebugSubstitution). Went (up ++ copy ∷ down) subs (up ++ phi_by own k s o ∷ bare ∷ down) es fresh) (sym (append-nil subs))
+          (phi_goes own)
       copy_goes removed own (GetsEntry d p n) is =
           let e : IsEntered [] subs fresh k s up d p n = with_none removed subs fresh k s up d p n (entered removed subs fresh k s up d p n is) in
           let b : ℕ = fresh_after (GetsEntry d p n) fresh in
@@ -173,7 +175,7 @@ module _ (f : Function) (above : List Block) (id silent : ℕ) (behind : List Bl
           (All-append (U b) (numbered_at d n up) (bare ∷ down) c.under (items_more fresh b le (bare ∷ down) under_bare))
           (All-append (EntryUnder b) subs (entry_for k n p ∷ []) (entries_more fresh b le subs r.in_entries)
           (All-cons (EntryUnder b) (entry_for k n p) [] (omega (arith, under_copy, le), lt) (All-nil (EntryUnder b))))
-          (to_code f above id silent behind fresh k n p rd s d up i o l down subs r.sound row e
+          (to_code f above id source_end behind fresh k n p rd s d up i o l down subs r.sound row e
           (record { above = r.in_above; up = under_up; here = under_copy; down = under_down; behind = r.in_behind; entries = r.in_entries }))
 
   -- ---- by an index
@@ -204,7 +206,7 @@ module _ (f : Function) (above : List Block) (id silent : ℕ) (behind : List Bl
       let same : x ≡ copy = (λ j. item (w.is j) x.origin x.loc) in
       let whole : a.items ≡ up ++ copy ∷ down = s.whole ∙ ap (λ (y : Item). up ++ y ∷ down) same in
       let rest : drop at a.items ≡ copy ∷ down = s.behind ∙ ap (λ (y : Item). y ∷ down) same in
-      let v : Way = way removed a.subs a.fresh c.number c.source up in
+      let v : SalvageAction = way removed a.subs a.fresh c.number c.source up in
       let one = copy_goes c.number c.source w.target up w.code x.origin x.loc down a.subs a.fresh 0 w.row
       (subst (λ (xs : List Item). Ready xs a.subs a.fresh) whole r) removed c.own v refl in
       let made : above_after v up ++ (put_off v c x.origin ++ item (Code w.code None) x.origin x.loc ∷ down) ≡ items_off v at c a.items =

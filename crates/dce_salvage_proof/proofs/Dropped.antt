@@ -18,7 +18,7 @@ use Rattle.sem_mir.proofs.Outcomes.{alike_weaker}
 use Rattle.sem_mir.proofs.Places.{updated_same, updated_other}
 use Rattle.sem_simulation.specs.Sides.{OutcomesAlike}
 use Rattle.sem_simulation.proofs.Outcomes.{alike_of}
-use Rattle.sem_agreement.specs.Alike.{HeldAlike, TellsNoMore, Alike, OrDefined, HeldAfter, NumbersHeld, Depends}
+use Rattle.sem_agreement.specs.Agreement.{AgreeOn, DebugLessDef, Alike, GenDefs, HeldAfter, NumbersHeld, Depends}
 use Rattle.sem_agreement.proofs.Outcomes.{TellsAs, alike_both, code_alike, leaves_pair}
 use Rattle.sem_agreement.proofs.Held.{held_fewer, held_itself, held_number, held_by, act_held}
 use Rattle.sem_agreement.proofs.Told.{tells_itself, tells_of}
@@ -44,7 +44,7 @@ module _ (f g : Program) (blind_f : f.sees_pointer ≡ false) (blind_g : g.sees_
   all_numbers i None = tt
   all_numbers i (Some m) = λ p r e. inr tt
 
-  pair_same : (q : OperandPair) (c d : Core) → TellsNoMore NoneFree c d → (v : ℕ) → pair_value (g.resolve q) d ≡ Some v →
+  pair_same : (q : OperandPair) (c d : Core) → DebugLessDef NoneFree c d → (v : ℕ) → pair_value (g.resolve q) d ≡ Some v →
       pair_value (f.resolve q) c ≡ Some v
   pair_same q c d t v e = by_pair (f.resolve q) (ap (λ (x : Option OperandPair). pair_value x d) (sym (resolves q)) ∙ e) where
     by_pair : (x : Option OperandPair) → pair_value x d ≡ Some v → pair_value x c ≡ Some v
@@ -61,7 +61,7 @@ module _ (f g : Program) (blind_f : f.sees_pointer ≡ false) (blind_g : g.sees_
   depends (Phi (Some x) m) c d h = tt
 
   all_after : (kind : ItemKind) (c d : Core) → Alike (HeldAfter Everywhere kind) NoneFree c d → Alike Everywhere NoneFree c d
-  all_after (Code i m) c d h = record { held = held_fewer (OrDefined Everywhere i) Everywhere (λ x u. inr tt) c d h.held; told = h.told }
+  all_after (Code i m) c d h = record { held = held_fewer (GenDefs Everywhere i) Everywhere (λ x u. inr tt) c d h.held; told = h.told }
   all_after (Mark v m) c d h = h
   all_after (Phi p m) c d h = h
 
@@ -105,17 +105,17 @@ module _ (f g : Program) (blind_f : f.sees_pointer ≡ false) (blind_g : g.sees_
   -- the code
   drop_number : (i : Instruction) (c d : Core) → DropCores c d → EndAlike DropCores (do_item f (Code i (Some k)) c) (do_item g (Code i None) d)
   drop_number i c d h =
-      code_alike f g i i (Some k) None c d (HeldAlike (OrDefined Everywhere i)) DropCores (act_held Everywhere i c d h.alike.held (λ x u. tt)) by_core where
-        by_core : (c' d' : Core) → HeldAlike (OrDefined Everywhere i) c' d' → TellsAs c c' → TellsAs d d' →
+      code_alike f g i i (Some k) None c d (AgreeOn (GenDefs Everywhere i)) DropCores (act_held Everywhere i c d h.alike.held (λ x u. tt)) by_core where
+        by_core : (c' d' : Core) → AgreeOn (GenDefs Everywhere i) c' d' → TellsAs c c' → TellsAs d d' →
             DropCores (numbered f.sees_pointer (is_call (row_of i)) (Some k) i.operands c') (numbered g.sees_pointer (is_call (row_of i)) None i.operands d')
         by_core c' d' r same same' =
             let value : ℕ → Option ℕ = λ p. given f.sees_pointer (defined (is_call (row_of i)) (slice_get i.operands p)) (c'.pairs k p) c' in
-            let after : TellsNoMore NoneFree c' d' = tells_of NoneFree c d c' d' same same' h.alike.told in
+            let after : DebugLessDef NoneFree c' d' = tells_of NoneFree c d c' d' same same' h.alike.told in
             let none : (p : ℕ) → d'.pairs k p ≡ None = λ p. ap (λ (z : ℕ → ℕ → Option ℕ). z k p) same'.0 ∙ h.none p in
             record {
               alike = record {
                 held = held_number Everywhere f.sees_pointer g.sees_pointer (is_call (row_of i)) (is_call (row_of i)) (Some k) None i.operands i.operands c' d'
-                    (held_fewer (OrDefined Everywhere i) Everywhere (λ x u. inr tt) c' d' r);
+                    (held_fewer (GenDefs Everywhere i) Everywhere (λ x u. inr tt) c' d' r);
                 told = record {
                   pairs = λ m p no v e. by_number value after none m p v e (cases_eq m k);
                   marks = after.marks;
@@ -123,7 +123,7 @@ module _ (f g : Program) (blind_f : f.sees_pointer ≡ false) (blind_g : g.sees_
               };
               none = none;
             } where
-              by_number : (value : ℕ → Option ℕ) → TellsNoMore NoneFree c' d' → ((p : ℕ) → d'.pairs k p ≡ None) → (m p v : ℕ) → d'.pairs m p ≡ Some v →
+              by_number : (value : ℕ → Option ℕ) → DebugLessDef NoneFree c' d' → ((p : ℕ) → d'.pairs k p ≡ None) → (m p v : ℕ) → d'.pairs m p ≡ Some v →
                   (m ≡ k) ⊎ (m ≡ k → ⊥) → updated k value c'.pairs m p ≡ Some v
               by_number value after none m p v e (inl is) = unknown _ v _ (none p) (ap (λ (z : ℕ). d'.pairs z p) (sym is) ∙ e)
               by_number value after none m p v e (inr ne) =

@@ -3,7 +3,7 @@ use Rattle.std.proofs.Common.{◌≡◌, ℕ, suc, ◌≤◌, List, [], ◌∷�
 use Rattle.std.proofs.lemmas.List.Elements.{All-append, All-cons, All-head, All-tail, All-weaker}
 use Rattle.rv64_instr.specs.Instruction.{Instruction}
 use Rattle.rv64_instr.specs.Row.{Moves, row_of}
-use Rattle.mir_func.specs.declared.entry.Entry.{Entry}
+use Rattle.mir_func.specs.declared.entry.DebugSubstitution.{DebugSubstitution}
 use Rattle.mir_func.specs.declared.position.Origin.{Origin}
 use Rattle.mir_func.specs.declared.position.Origin.TheVariants.{Kept, Before}
 use Rattle.mir_func.specs.declared.location.Loc.{Loc}
@@ -98,12 +98,12 @@ module _ (x y : Option Place) (k : ℕ) (o : Origin) where
   closes (u ∷ []) down h = closes_first down h
   closes (u ∷ v ∷ up) down h = closes (v ∷ up) down h
 
-  module _ (id silent : ℕ) (up down : List Item) where
+  module _ (id source_end : ℕ) (up down : List Item) where
     abbrev had : Block
-    had = block_of id silent (up ++ was ∷ down)
+    had = block_of id source_end (up ++ was ∷ down)
 
     abbrev has : Block
-    has = block_of id silent (up ++ now ∷ down)
+    has = block_of id source_end (up ++ now ∷ down)
 
     last_closes : (above behind : List Block) → LastCloses (above ++ had ∷ behind) → LastCloses (above ++ has ∷ behind)
     last_closes [] [] h = closes up down h
@@ -124,8 +124,8 @@ module _ (x y : Option Place) (k : ℕ) (o : Origin) where
           one_block (λ (b : Block). All (λ (i : Item). P i.kind) b.items) above had has behind
           (λ z. one_item (λ (i : Item). P i.kind) up was now down (λ v. n) z) h
 
-      pub phi_sound : ((slots : List ℕ) → PlaceIn slots y) → IsSound (with_block f above id silent (up ++ was ∷ down) behind) →
-          IsSound (with_block f above id silent (up ++ now ∷ down) behind)
+      pub phi_sound : ((slots : List ℕ) → PlaceIn slots y) → IsSound (with_block f above id source_end (up ++ was ∷ down) behind) →
+          IsSound (with_block f above id source_end (up ++ now ∷ down) behind)
       phi_sound fits s =
           let ids : ids_of (above ++ has ∷ behind) ≡ ids_of (above ++ had ∷ behind) = ids_around above had has behind refl in
           record {
@@ -141,7 +141,7 @@ module _ (x y : Option Place) (k : ℕ) (o : Origin) where
             slots = each (SlotsIn f.slots) (fits f.slots) s.slots;
             objects = each (ObjectsIn f.objects) tt s.objects;
             pointer = each LeavesPointer tt s.pointer;
-            numbers = once_around f above id silent behind (up ++ was ∷ down) (up ++ now ∷ down)
+            numbers = once_around f above id source_end behind (up ++ was ∷ down) (up ++ now ∷ down)
                 (fewer_behind up (was ∷ down) (now ∷ down) (keeps (record { number = λ m e. e; code = λ m e. e }) (fewer_same down))) s.numbers;
             origins = one_block (λ (b : Block). All (λ (i : Item). OriginIn b i.origin) b.items) above had has behind
                 (λ z. origins_same (up ++ now ∷ down)
@@ -152,11 +152,11 @@ module _ (x y : Option Place) (k : ℕ) (o : Origin) where
 
 -- ---- the number goes
 
-module _ (f : Function) (above : List Block) (id silent : ℕ) (behind : List Block) where
+module _ (f : Function) (above : List Block) (id source_end : ℕ) (behind : List Block) where
   abbrev fn : List Item → Function
-  fn items = with_block f above id silent items behind
+  fn items = with_block f above id source_end items behind
 
-  module _ (k : ℕ) (up : List Item) (i : Instruction) (o : Origin) (l : Loc) (down : List Item) (subs : List Entry) where
+  module _ (k : ℕ) (up : List Item) (i : Instruction) (o : Origin) (l : Loc) (down : List Item) (subs : List DebugSubstitution) where
     abbrev copy : Item
     copy = item (Code i (Some k)) o l
 
@@ -176,18 +176,18 @@ module _ (f : Function) (above : List Block) (id silent : ℕ) (behind : List Bl
 
     pub to_nowhere : IsSound (fn (up ++ copy ∷ down)) → Step (fn (up ++ copy ∷ down)) subs (fn (up ++ bare ∷ down)) subs
     to_nowhere sound =
-        let far = others_of f above id silent behind k up copy down sound.numbers refl in
+        let far = others_of f above id source_end behind k up copy down sound.numbers refl in
         let other : HasNoOther copy bare = record { number = λ m e. cc; code = λ m e. cc } in
         let sound' : IsSound (fn (up ++ bare ∷ down)) =
         edited_sound (fn (up ++ copy ∷ down)) (fn (up ++ bare ∷ down)) sound refl refl
-        (edited_around above id silent (up ++ copy ∷ down) (up ++ bare ∷ down) behind
+        (edited_around above id source_end (up ++ copy ∷ down) (up ++ bare ∷ down) behind
         (edited_above up (copy ∷ down) (bare ∷ down) (stays refl same_code (edited_same down))))
-        (once_around f above id silent behind (up ++ copy ∷ down) (up ++ bare ∷ down)
+        (once_around f above id source_end behind (up ++ copy ∷ down) (up ++ bare ∷ down)
         (fewer_behind up (copy ∷ down) (bare ∷ down) (keeps other (fewer_same down))) sound.numbers) in
         record {
           sound = sound';
           follows = number_to_nowhere (fn (up ++ copy ∷ down)) (fn (up ++ bare ∷ down)) subs k sound sound' refl
-              (around E above id silent (up ++ copy ∷ down) (up ++ bare ∷ down) (stays_blocks E (λ n. tt) above (each_block above far.above))
+              (around E above id source_end (up ++ copy ∷ down) (up ++ bare ∷ down) (stays_blocks E (λ n. tt) above (each_block above far.above))
               (stays_above E tt up (copy ∷ down) (bare ∷ down) (all up far.up)
               (pair refl (code_kin (row_itself (row_of i))) drops (stays_items E tt down tt (all down far.down))))
               (stays_blocks E (λ n. tt) behind (each_block behind far.behind)));
@@ -196,14 +196,14 @@ module _ (f : Function) (above : List Block) (id silent : ℕ) (behind : List Bl
     pub to_phi_none : (rd s : ℕ) → row_of i ≡ Moves (suc rd) s → IsSound (fn (up ++ copy ∷ down)) →
         Step (fn (up ++ copy ∷ down)) subs (fn (up ++ phi_none k o ∷ bare ∷ down)) subs
     to_phi_none rd s row sound =
-        let far = others_of f above id silent behind k up copy down sound.numbers refl in
-        let one = to_phi f above id silent behind k rd s up i o l down subs sound row in
+        let far = others_of f above id source_end behind k up copy down sound.numbers refl in
+        let one = to_phi f above id source_end behind k rd s up i o l down subs sound row in
         let sound' : IsSound (fn (up ++ phi_none k o ∷ bare ∷ down)) =
-        phi_sound (Some (Register s)) None k o id silent up (bare ∷ down) f above behind (λ slots. tt) one.sound in
+        phi_sound (Some (Register s)) None k o id source_end up (bare ∷ down) f above behind (λ slots. tt) one.sound in
         record {
           sound = sound';
           follows = number_to_nowhere (fn (up ++ copy ∷ down)) (fn (up ++ phi_none k o ∷ bare ∷ down)) subs k sound sound' refl
-              (around E above id silent (up ++ copy ∷ down) (up ++ phi_none k o ∷ bare ∷ down) (stays_blocks E (λ n. tt) above (each_block above far.above))
+              (around E above id source_end (up ++ copy ∷ down) (up ++ phi_none k o ∷ bare ∷ down) (stays_blocks E (λ n. tt) above (each_block above far.above))
               (stays_above E tt up (copy ∷ down) (phi_none k o ∷ bare ∷ down) (all up far.up)
               (put refl refl puts
               (pair refl (code_kin (row_itself (row_of i))) drops (stays_items E tt down tt (all down far.down)))))

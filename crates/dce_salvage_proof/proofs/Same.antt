@@ -6,7 +6,7 @@ use Rattle.std.proofs.lemmas.List.{take-append-drop}
 use Rattle.std.proofs.lemmas.List.Elements.{filter_map-append}
 use Rattle.rv64_instr.specs.Instruction.{Instruction}
 use Rattle.mir_func.specs.declared.block.Block.{Block}
-use Rattle.mir_func.specs.declared.entry.Entry.{Entry}
+use Rattle.mir_func.specs.declared.entry.DebugSubstitution.{DebugSubstitution}
 use Rattle.mir_func.specs.declared.position.Origin.{Origin}
 use Rattle.mir_func.specs.declared.location.Loc.{Loc}
 use Rattle.mir_func.specs.declared.item.Item.{Item}
@@ -15,8 +15,8 @@ use Rattle.mir_func.specs.declared.item.ItemKind.TheVariants.{Code, Mark, Phi}
 use Rattle.mir_func.specs.Function.{Function}
 use Rattle.mir_func.specs.Strip.{bare, stripped_item, stripped_items, stripped_blocks, stripped}
 use Rattle.pass_trait.specs.Rule.{item}
-use Rattle.pass_salvage.specs.declared.way.Way.{Way}
-use Rattle.pass_salvage.specs.declared.way.Way.TheVariants.{HasEntry, GetsEntry, GetsPhi}
+use Rattle.pass_salvage.specs.declared.way.SalvageAction.{SalvageAction}
+use Rattle.pass_salvage.specs.declared.way.SalvageAction.TheVariants.{HasEntry, GetsEntry, GetsPhi}
 use Rattle.pass_salvage.specs.Way.{way}
 use Rattle.pass_salvage.specs.Salvage.{with_number, numbered_at, above_after}
 use Rattle.dce_rule.specs.Same.{SameItems, none, both, first, second, SameBlocks, no_blocks, one_more}
@@ -81,7 +81,7 @@ code_numbered d n [] = refl
 code_numbered zero n (x ∷ xs) = ap (λ (o : Option Item). cons_option o (stripped_items xs)) (bare_numbered n x.kind x.origin x.loc)
 code_numbered (suc d) n (x ∷ xs) = ap (cons_option (stripped_item x)) (code_numbered d n xs)
 
-code_above : (w : Way) (xs : List Item) → stripped_items (above_after w xs) ≡ stripped_items xs
+code_above : (w : SalvageAction) (xs : List Item) → stripped_items (above_after w xs) ≡ stripped_items xs
 code_above HasEntry xs = refl
 code_above (GetsEntry d o n) xs = code_numbered d n xs
 code_above GetsPhi xs = refl
@@ -89,7 +89,7 @@ code_above GetsPhi xs = refl
 code_first : (x : Item) (xs : List Item) → stripped_items (record x { kind = without_number x.kind } ∷ xs) ≡ stripped_items (x ∷ xs)
 code_first x xs = ap (λ (o : Option Item). cons_option o (stripped_items xs)) (bare_without x.kind x.origin x.loc)
 
-code_behind : (w : Way) (c : Copied) (xs : List Item) → stripped_items (behind_off w c xs) ≡ stripped_items xs
+code_behind : (w : SalvageAction) (c : Copied) (xs : List Item) → stripped_items (behind_off w c xs) ≡ stripped_items xs
 code_behind w c [] = refl
 code_behind HasEntry c (x ∷ xs) = code_first x xs
 code_behind (GetsEntry d o n) c (x ∷ xs) = code_first x xs
@@ -98,7 +98,7 @@ code_behind GetsPhi c (x ∷ xs) = by_own c.own where
   by_own true = code_first x xs
   by_own false = code_first x xs
 
-code_off : (w : Way) (at : ℕ) (c : Copied) (xs : List Item) → stripped_items (items_off w at c xs) ≡ stripped_items xs
+code_off : (w : SalvageAction) (at : ℕ) (c : Copied) (xs : List Item) → stripped_items (items_off w at c xs) ≡ stripped_items xs
 code_off w at c xs =
     code_append (above_after w (take at xs)) (behind_off w c (drop at xs)) ∙ (λ j. code_above w (take at xs) j ++ code_behind w c (drop at xs) j) ∙
     sym (code_append (take at xs) (drop at xs)) ∙ ap (λ (ys : List Item). stripped_items ys) (take-append-drop at xs)
@@ -135,8 +135,8 @@ blocks_stripped dead (b ∷ bs) a empty =
     let d : List Bool = get_or dead 0 [] in
     let here = code_down (going_from 0 d) d (length b.items) (in_block b m) in
     let rest = blocks_stripped (drop 1 dead) bs a empty in
-    λ i. record { id = b.id; items = here i; silent = b.silent } ∷ rest i
+    λ i. record { id = b.id; items = here i; source_end = b.source_end } ∷ rest i
 
 -- the function without debug items is the same
-pub off_stripped : (f : Function) (subs : List Entry) (dead : List (List Bool)) → stripped (function_off f subs dead) ≡ stripped f
+pub off_stripped : (f : Function) (subs : List DebugSubstitution) (dead : List (List Bool)) → stripped (function_off f subs dead) ≡ stripped f
 off_stripped f subs dead = let e = blocks_stripped dead f.blocks (begins_off f subs) refl in λ i. record (stripped f) { blocks = e i }

@@ -5,11 +5,11 @@ use Rattle.std.specs.List.{list_any}
 use Rattle.std.specs.Prelude.{nat_lt, ◌^◌}
 use Rattle.std.proofs.lemmas.List.Elements.{All-append, All-cons, All-tail}
 use Rattle.std.proofs.lemmas.Option.{slice_get_within, get_or_from_slice_get}
-use Rattle.mir_func.specs.declared.entry.Entry.{Entry}
+use Rattle.mir_func.specs.declared.entry.DebugSubstitution.{DebugSubstitution}
 use Rattle.mir_func.specs.declared.item.Item.{Item}
 use Rattle.mir_func.specs.declared.item.ItemKind.TheVariants.{Code}
 use Rattle.pass_trait.specs.Rule.{item}
-use Rattle.pass_salvage.specs.declared.way.Way.TheVariants.{GetsEntry}
+use Rattle.pass_salvage.specs.declared.way.SalvageAction.TheVariants.{GetsEntry}
 use Rattle.pass_salvage.specs.Salvage.{numbered_at, fresh_after}
 use Rattle.pass_salvage.specs.Way.{has_entry, or_fresh, asks_for}
 use Rattle.pass_salvage.proofs.Chosen.{IsEntered}
@@ -23,7 +23,8 @@ weaker true true c d h = h
 weaker true false c d h = cc
 weaker false b c d h = cc
 
-pub with_none : (removed : List ℕ) (subs : List Entry) (fresh k s : ℕ) (above : List Item) (d o n : ℕ) → IsEntered removed subs fresh k s above d o n →
+pub with_none : (removed : List ℕ) (subs : List DebugSubstitution) (fresh k s : ℕ) (above : List Item) (d o n : ℕ) →
+    IsEntered removed subs fresh k s above d o n →
     IsEntered [] subs fresh k s above d o n
 with_none removed subs fresh k s above d o n e = record {
   i = e.i;
@@ -49,7 +50,7 @@ under_at : (b : ℕ) (xs : List Item) (d : ℕ) (x : Item) → AreUnder b xs →
 under_at b xs d x h at =
     subst (λ (y : Item). KindUnder b y.kind) (get_or_from_slice_get xs d x x at) (h d x (slice_get_within xs d x at))
 
-pub counted : (subs : List Entry) (fresh k s : ℕ) (above : List Item) (d o n : ℕ) → IsEntered [] subs fresh k s above d o n → AreUnder fresh above →
+pub counted : (subs : List DebugSubstitution) (fresh k s : ℕ) (above : List Item) (d o n : ℕ) → IsEntered [] subs fresh k s above d o n → AreUnder fresh above →
     Counted fresh n (fresh_after (GetsEntry d o n) fresh) (numbered_at d n above)
 counted subs fresh k s above d o n e h = by_own e.own refl where
   next : ℕ

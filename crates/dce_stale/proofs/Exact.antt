@@ -15,7 +15,7 @@ use Rattle.mir_func.specs.declared.item.ItemKind.TheVariants.{Code, Mark, Phi}
 use Rattle.mir_func.specs.declared.position.Pos.{Pos}
 use Rattle.mir_func.specs.Exits.{exit_of}
 use Rattle.mir_func.specs.Function.{Function}
-use Rattle.mir_func.specs.Graph.{Fetch, Here, Silent, Edge, FetchEdge, KindEdge, below, block_start, from_block, front, fetch_in, end_of}
+use Rattle.mir_func.specs.Graph.{Fetch, Here, EndOfBlock, Edge, FetchEdge, KindEdge, below, block_start, from_block, front, fetch_in, end_of}
 use Rattle.mir_func.specs.Successors.{pos_in}
 use Rattle.mir_func.proofs.Ways.{IsDown}
 use Rattle.sem_mir.specs.Live.{Defines, KindDefines}
@@ -118,9 +118,9 @@ down_goes (Always n) h = absurd h
 down_goes Final h = absurd h
 
 -- the end of a block, before a block of a number
-end_next : (silent : ℕ) (bs : List Block) (n : ℕ) → next_of bs ≡ Some n → end_of silent bs ≡ Silent silent n
-end_next silent [] n e = absurd cc
-end_next silent (b ∷ bs) n e = let same : b.id ≡ n = cc in ap (Silent silent) same
+end_next : (source_end : ℕ) (bs : List Block) (n : ℕ) → next_of bs ≡ Some n → end_of source_end bs ≡ EndOfBlock source_end n
+end_next source_end [] n e = absurd cc
+end_next source_end (b ∷ bs) n e = let same : b.id ≡ n = cc in ap (EndOfBlock source_end) same
 
 module _ (ends : Ends) (f : Function) where
   abbrev fp : Pos → Fetch
@@ -135,7 +135,7 @@ module _ (ends : Ends) (f : Function) where
     dead_is k = ap (λ (bs : List Block). begins_dead (rest_in bs k) (ends block.id)) begins ∙ begins_at block.items (ends block.id) k
 
     pub fetched : (k : ℕ) (i : Item) → slice_get block.items k ≡ Some i → (paths_of f).fetch (pos_in block.id k) ≡ Here i
-    fetched k i at = ap (λ (bs : List Block). fetch_in bs k) begins ∙ ap (λ (is : List Item). front is block.silent rest) (drop_at block.items k i at)
+    fetched k i at = ap (λ (bs : List Block). fetch_in bs k) begins ∙ ap (λ (is : List Item). front is block.source_end rest) (drop_at block.items k i at)
 
     -- past an item paths say so too
     pub past_wrong : (k : ℕ) (i : Item) (w : Places) (x : Place) → slice_get block.items k ≡ Some i →
@@ -189,9 +189,9 @@ module _ (ends : Ends) (f : Function) where
         (at_wrong start begun h.index x) h.wrong
         (block_start n) (edge_by h.index h.item (block_start n) h.stands (out_edge h.item.kind (pos_in block.id h.index) n h.out))
 
-    end_is : (n : ℕ) → next_of rest ≡ Some n → (paths_of f).fetch (pos_in block.id (length block.items)) ≡ Silent block.silent n
+    end_is : (n : ℕ) → next_of rest ≡ Some n → (paths_of f).fetch (pos_in block.id (length block.items)) ≡ EndOfBlock block.source_end n
     end_is n e = ap (λ (bs : List Block). fetch_in bs (length block.items)) begins ∙
-        (ap (λ (is : List Item). front is block.silent rest) (drop_all block.items) ∙ end_next block.silent rest n e)
+        (ap (λ (is : List Item). front is block.source_end rest) (drop_all block.items) ∙ end_next block.source_end rest n e)
 
     pub handed_down_wrong : (start : Places) → ((x : Place) → start x ≡ true → IsWrongAt ends f x (block_start block.id)) → (next : Option ℕ) →
         next ≡ next_of rest →

@@ -30,7 +30,7 @@ use Rattle.dce_rule.specs.Dead.{Places, Ends, paths_of}
 use Rattle.dce_rule.specs.Wrong.{is_dead_at, IsWrongAt, made, on}
 use Rattle.dce_mark.specs.Judged.{verdicts}
 use Rattle.dce_stale.specs.Flow.{wrong_past, wrong_over, wrong_at, goes_on, IsHanded, IsHandedDown}
-use Rattle.dce_stale.specs.Sets.{AreVerdicts, Handed, HandsOn, IsClosed, AreFound, Swept, Settled, wrong_in, wrong_of, WrongSets, starts_of, AreWrongSets}
+use Rattle.dce_stale.specs.Sets.{AreVerdicts, Handed, HandsOn, IsClosed, AreFound, SweepStep, Fixpoint, wrong_in, wrong_of, StaleSets, starts_of, AreStaleSets}
 use Rattle.dce_stale.proofs.Handing.{found_index}
 use Rattle.dce_stale.proofs.Exact.{and_true, down_goes, drop_at, drop_past, get_drop}
 use Rattle.dce_stale.proofs.Exact.{at_within, at_wrong, handed_wrong, handed_down_wrong, wrong_made, wrong_on}
@@ -149,7 +149,7 @@ module _ {slots ids : List ℕ} {f : Function} {dead : List (List Bool)} where
   }
 
   pub sweep_ends : {old new : List (List ℕ)} {order : List ℕ} {k : ℕ} {grown : Bool} → Sweeping slots ids f dead old new order k grown → length order ≤ k →
-      Swept slots ids f dead old new order grown
+      SweepStep slots ids f dead old new order grown
   sweep_ends {old} {new} {order} {k} {grown} s end = record {
     long = s.long;
     found = s.found;
@@ -176,11 +176,11 @@ module _ {slots ids : List ℕ} {f : Function} {dead : List (List Bool)} where
   settling_begins old = record { long = refl; found = λ h. h }
 
   pub settling_goes_on : {old mid new : List (List ℕ)} {order : List ℕ} {grown : Bool} → Settling slots ids f dead old mid →
-      Swept slots ids f dead mid new order grown → Settling slots ids f dead old new
+      SweepStep slots ids f dead mid new order grown → Settling slots ids f dead old new
   settling_goes_on s w = record { long = w.long ∙ s.long; found = λ h. w.found (s.found h) }
 
   pub settling_ends : {old mid new : List (List ℕ)} {order : List ℕ} {grown : Bool} → Settling slots ids f dead old mid →
-      Swept slots ids f dead mid new order grown → grown ≡ false → ((b : ℕ) → b < length f.blocks → Contains order b) → Settled slots ids f dead old new
+      SweepStep slots ids f dead mid new order grown → grown ≡ false → ((b : ℕ) → b < length f.blocks → Contains order b) → Fixpoint slots ids f dead old new
   settling_ends s w g each = record { long = w.long ∙ s.long; found = λ h. w.found (s.found h); closed = λ b l. w.closed g b (each b l) }
 
 -- ---- what was found is all that is wrong
@@ -220,7 +220,7 @@ drop_none : (xs : List Item) → drop 0 xs ≡ xs
 drop_none [] = refl
 drop_none (y ∷ ys) = refl
 
-module _ (f : Function) (sound : IsSound f) (dead : List (List Bool)) (w : WrongSets) (names : w.ids ≡ ids_of f.blocks)
+module _ (f : Function) (sound : IsSound f) (dead : List (List Bool)) (w : StaleSets) (names : w.ids ≡ ids_of f.blocks)
     (found : AreFound w.slots w.ids f dead w.starts) (closed : (b : ℕ) → b < length f.blocks → IsClosed w.slots w.ids f dead w.starts b)
     (ends : Ends) (judged : AreVerdicts ends f dead) where
   abbrev S : ℕ → Places
@@ -303,7 +303,7 @@ module _ (f : Function) (sound : IsSound f) (dead : List (List Bool)) (w : Wrong
               })))
         ] where
           fetched : (paths_of f).fetch (pos_in block.id k) ≡ Here i
-          fetched = ap (λ (bs : List Block). fetch_in bs k) begins ∙ ap (λ (is : List Item). front is block.silent rest) (drop_at block.items k i stands)
+          fetched = ap (λ (bs : List Block). fetch_in bs k) begins ∙ ap (λ (is : List Item). front is block.source_end rest) (drop_at block.items k i stands)
 
           target : TargetsIn (ids_of f.blocks) i.kind
           target = all_at (λ (j : Item). TargetsIn (ids_of f.blocks) j.kind) block.items k i
@@ -330,10 +330,10 @@ module _ (f : Function) (sound : IsSound f) (dead : List (List Bool)) (w : Wrong
       none_left (y ∷ ys) zero l = absurd (omega arith)
       none_left (y ∷ ys) (suc k) l = none_left ys k (omega arith)
 
-      fetched : (paths_of f).fetch (pos_in block.id k) ≡ end_of block.silent rest
-      fetched = ap (λ (bs : List Block). fetch_in bs k) begins ∙ ap (λ (is : List Item). front is block.silent rest) (none_left block.items k far)
+      fetched : (paths_of f).fetch (pos_in block.id k) ≡ end_of block.source_end rest
+      fetched = ap (λ (bs : List Block). fetch_in bs k) begins ∙ ap (λ (is : List Item). front is block.source_end rest) (none_left block.items k far)
 
-      by_next : (bs : List Block) → bs ≡ drop (suc b) f.blocks → FetchEdge Stays (end_of block.silent bs) (pos_in block.id k) q →
+      by_next : (bs : List Block) → bs ≡ drop (suc b) f.blocks → FetchEdge Stays (end_of block.source_end bs) (pos_in block.id k) q →
           wrong_of ends f (starts_of w) q x ≡ true
       by_next [] is h = absurd h
       by_next (c ∷ cs) is h =
@@ -386,10 +386,10 @@ module _ (f : Function) (sound : IsSound f) (dead : List (List Bool)) (w : Wrong
     nothing_there : (block : Block) (rest : List Block) → from_block f.blocks block.id ≡ block ∷ rest → drop p.item block.items ≡ [] → block.id ≡ p.block → ⊥
     nothing_there block rest begins none id =
         let place : pos_in block.id p.item ≡ p = ap (λ (n : ℕ). pos_in n p.item) id in
-        let fetched : (paths_of f).fetch (pos_in block.id p.item) ≡ end_of block.silent rest =
-        ap (λ (bs : List Block). fetch_in bs p.item) begins ∙ ap (λ (is : List Item). front is block.silent rest) none in
+        let fetched : (paths_of f).fetch (pos_in block.id p.item) ≡ end_of block.source_end rest =
+        ap (λ (bs : List Block). fetch_in bs p.item) begins ∙ ap (λ (is : List Item). front is block.source_end rest) none in
         no_define rest (subst (λ (z : Fetch). Defines z x) fetched (subst (λ (r : Pos). Defines ((paths_of f).fetch r) x) (sym place) d)) where
-          no_define : (bs : List Block) → Defines (end_of block.silent bs) x → ⊥
+          no_define : (bs : List Block) → Defines (end_of block.source_end bs) x → ⊥
           no_define [] h = h
           no_define (c ∷ cs) h = h
   all_said x q (on p before keeps edge) =
@@ -408,8 +408,8 @@ module _ (f : Function) (sound : IsSound f) (dead : List (List Bool)) (w : Wrong
 
 pub solved : (f : Function) → IsSound f → (dead : List (List Bool)) (slots ids : List ℕ) (begun starts : List (List ℕ)) → slots ≡ f.slots →
     ids ≡ ids_of f.blocks →
-    length begun ≡ length f.blocks → ((slots : List ℕ) (b : ℕ) (x : Place) → has slots (get_or begun b []) x ≡ false) → Settled slots ids f dead begun starts →
-    AreWrongSets f dead (record { slots = slots; ids = ids; starts = starts })
+    length begun ≡ length f.blocks → ((slots : List ℕ) (b : ℕ) (x : Place) → has slots (get_or begun b []) x ≡ false) → Fixpoint slots ids f dead begun starts →
+    AreStaleSets f dead (record { slots = slots; ids = ids; starts = starts })
 solved f sound dead slots ids begun starts same names long none s = record {
   slots = same;
   ids = names;

@@ -42,7 +42,7 @@ module _ (slots ids : List ℕ) (f : Function) (dead : List (List Bool)) where
   AreFound sets = (ends : Ends) → AreVerdicts ends f dead → (n : ℕ) (x : Place) → has_at_start slots ids sets n x ≡ true → IsWrongAt ends f x (block_start n)
 
   -- the result of visiting some blocks, in order; `grown` is whether any set grew
-  pub record Swept (old new : List (List ℕ)) (order : List ℕ) (grown : Bool) : Type 0 where
+  pub record SweepStep (old new : List (List ℕ)) (order : List ℕ) (grown : Bool) : Type 0 where
     pub long : length new ≡ length old
     pub found : AreFound old → AreFound new
     pub fuller : grown ≡ true → gap_of new < gap_of old
@@ -50,7 +50,7 @@ module _ (slots ids : List ℕ) (f : Function) (dead : List (List Bool)) where
     pub closed : grown ≡ false → (b : ℕ) → Contains order b → IsClosed new b
 
   -- the fixpoint: blocks were visited until no set grew
-  pub record Settled (old new : List (List ℕ)) : Type 0 where
+  pub record Fixpoint (old new : List (List ℕ)) : Type 0 where
     pub long : length new ≡ length old
     pub found : AreFound old → AreFound new
     pub closed : (b : ℕ) → b < length f.blocks → IsClosed new b
@@ -65,17 +65,17 @@ abbrev pub wrong_of : Ends → Function → (starts : ℕ → Places) → Pos �
 wrong_of ends f starts p = wrong_in ends (from_block f.blocks p.block) starts p.item
 
 -- the sets of the wrong places at the starts of a function's blocks, with its slots and block numbers
-pub record WrongSets : Type 0 where
+pub record StaleSets : Type 0 where
   pub slots : List ℕ
   pub ids : List ℕ
   pub starts : List (List ℕ)
 
 -- the wrong places at the start of the block with this number
-abbrev pub starts_of : WrongSets → ℕ → Places
+abbrev pub starts_of : StaleSets → ℕ → Places
 starts_of w n = has_at_start w.slots w.ids w.starts n
 
 -- the sets determine exactly the wrong places of the function, if these items are dead
-pub record AreWrongSets (f : Function) (dead : List (List Bool)) (w : WrongSets) : Type 0 where
+pub record AreStaleSets (f : Function) (dead : List (List Bool)) (w : StaleSets) : Type 0 where
   pub slots : w.slots ≡ f.slots
   pub ids : w.ids ≡ ids_of f.blocks
   pub apart : AreApart w.ids

@@ -5,7 +5,7 @@ ghost use Rattle.rv64_instr.specs.declared.place.Place.{Place};
 ghost use Rattle.mir_func.specs.Sound.{SlotsIn};
 ghost use Rattle.dce_stale.specs.Flow.{wrong_past, goes_on};
 ghost use Rattle.pass_liveness.specs.Sets.{has};
-ghost use Rattle.dce_stale.specs.Sets.{AreWrongSets};
+ghost use Rattle.dce_stale.specs.Sets.{AreStaleSets};
 
 use crate::sweep::settle;
 use crate::walk::{go_on, step_down};
@@ -14,7 +14,7 @@ use mir_func::exit::Exit;
 use mir_func::func::Func;
 use mir_func::item::ItemKind;
 use pass_liveness::live::{empty_sets, names_of};
-use pass_liveness::names::Names;
+use pass_liveness::names::SlotAndBlockNumbers;
 use pass_liveness::set::PlaceSet;
 use rv64_instr::place::Place;
 use std::alloc::{AllocError, Global};
@@ -22,32 +22,32 @@ use std::marker::Model;
 
 /// The places that are wrong at the starts of a function's blocks.
 #[derive(Drop)]
-pub struct WrongPlaces {
-    names: Names,
+pub struct StaleLocations {
+    names: SlotAndBlockNumbers,
     starts: Vec<PlaceSet>,
 }
 
-impl Model for WrongPlaces {
-    ghost use Rattle.dce_stale.specs.Sets.{WrongSets};
+impl Model for StaleLocations {
+    ghost use Rattle.dce_stale.specs.Sets.{StaleSets};
 
-    ghost Value = { WrongSets };
+    ghost Value = { StaleSets };
 
     ghost view = { λ w. record { slots = w.names.slots; ids = w.names.blocks; starts = w.starts.items } };
 }
 
-impl WrongPlaces {
+impl StaleLocations {
     /// Computes the wrong places of a function, for these dead items: for each block and each of its items whether it
     /// is dead. Each block is visited a number of times that doesn't grow with the function, except with the nesting of
     /// loops.
-    pub fn solve(alloc: Global, f: &Func, dead: &[List<bool>]) -> Result<WrongPlaces, AllocError>
-        ensures { IfOk result (AreWrongSets f.now dead.now) }
+    pub fn solve(alloc: Global, f: &Func, dead: &[List<bool>]) -> Result<StaleLocations, AllocError>
+        ensures { IfOk result (AreStaleSets f.now dead.now) }
     {
         let names = names_of(alloc, f)?;
         let mut order = names.order(alloc, f)?;
         order.reverse();
         let mut starts = empty_sets(alloc, f.blocks.len())?;
         settle(&names, f, dead, &mut starts, order.as_slice());
-        Ok(WrongPlaces { names, starts })
+        Ok(StaleLocations { names, starts })
     }
 
     /// The places that are wrong at the start of the block of this index. It takes no memory.

@@ -2,17 +2,17 @@
 
 ghost use Rattle.std.specs.Prelude.{◌≡◌, ℕ, ◌<◌, length, All, Contains};
 ghost use Rattle.mir_func.specs.Sound.{SlotsIn, AllItems, AreApart, ids_of};
-ghost use Rattle.dce_stale.specs.Sets.{Swept, Settled};
+ghost use Rattle.dce_stale.specs.Sets.{SweepStep, Fixpoint};
 
 use crate::walk::visit;
 use base_list::List;
 use mir_func::func::Func;
-use pass_liveness::names::Names;
+use pass_liveness::names::SlotAndBlockNumbers;
 use pass_liveness::set::PlaceSet;
 
 /// Visits blocks in an order, and returns whether any set grew.
 fn sweep(
-    names: &Names,
+    names: &SlotAndBlockNumbers,
     f: &Func,
     dead: &[List<bool>],
     starts: &mut Vec<PlaceSet>,
@@ -24,7 +24,7 @@ fn sweep(
     requires apart { AreApart names.now.blocks }
     requires full { length starts.old.items ≡ length f.now.blocks }
     requires within { All (λ b. b < length f.now.blocks) order.now }
-    ensures { Swept names.now.slots names.now.blocks f.now dead.now starts.old.items starts.new.items order.now result }
+    ensures { SweepStep names.now.slots names.now.blocks f.now dead.now starts.old.items starts.new.items order.now result }
 {
     let mut grown = false;
     for block in order {
@@ -37,7 +37,7 @@ fn sweep(
 
 /// Repeats the visits until no set grows.
 pub fn settle(
-    names: &Names,
+    names: &SlotAndBlockNumbers,
     f: &Func,
     dead: &[List<bool>],
     starts: &mut Vec<PlaceSet>,
@@ -50,7 +50,7 @@ pub fn settle(
     requires full { length starts.old.items ≡ length f.now.blocks }
     requires within { All (λ b. b < length f.now.blocks) order.now }
     requires all { (b : ℕ) → b < length f.now.blocks → Contains order.now b }
-    ensures { Settled names.now.slots names.now.blocks f.now dead.now starts.old.items starts.new.items }
+    ensures { Fixpoint names.now.slots names.now.blocks f.now dead.now starts.old.items starts.new.items }
 {
     while sweep(names, f, dead, starts, order) {}
 }

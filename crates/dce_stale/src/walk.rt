@@ -16,7 +16,7 @@ use mir_func::exit::Exit;
 use mir_func::func::Func;
 use mir_func::item::{Item, ItemKind};
 use mir_func::successors::id_at;
-use pass_liveness::names::Names;
+use pass_liveness::names::SlotAndBlockNumbers;
 use pass_liveness::set::PlaceSet;
 
 /// Whether the item of an index is dead; false if there is none.
@@ -40,7 +40,7 @@ pub fn verdicts_at(dead: &[List<bool>], block: usize) -> &[bool]
 }
 
 /// From the places that are wrong before an item to those that are wrong after it.
-pub fn step_down(names: &Names, set: &mut PlaceSet, kind: &ItemKind, dead: bool)
+pub fn step_down(names: &SlotAndBlockNumbers, set: &mut PlaceSet, kind: &ItemKind, dead: bool)
     ensures { SlotsIn names.now.slots kind.now → (x : Place) →
         has names.now.slots set.new x ≡ wrong_past kind.now dead (has names.now.slots set.old) x }
 {
@@ -57,7 +57,7 @@ pub fn step_down(names: &Names, set: &mut PlaceSet, kind: &ItemKind, dead: bool)
 }
 
 /// From the places that are wrong after an item to those that are wrong before the next item.
-pub fn go_on(names: &Names, set: &mut PlaceSet, exit: Exit)
+pub fn go_on(names: &SlotAndBlockNumbers, set: &mut PlaceSet, exit: Exit)
     ensures { (x : Place) → has names.now.slots set.new x ≡ (goes_on exit && has names.now.slots set.old x) }
 {
     match exit {
@@ -68,7 +68,12 @@ pub fn go_on(names: &Names, set: &mut PlaceSet, exit: Exit)
 }
 
 /// Adds these places to the set of a block, and returns whether it grew.
-fn hand_to(names: &Names, starts: &mut Vec<PlaceSet>, set: &PlaceSet, n: BlockId) -> bool
+fn hand_to(
+    names: &SlotAndBlockNumbers,
+    starts: &mut Vec<PlaceSet>,
+    set: &PlaceSet,
+    n: BlockId,
+) -> bool
     requires { length starts.old.items ≡ length names.now.blocks }
     ensures { Handed names.now.slots names.now.blocks starts.old.items starts.new.items
         (λ m x. (n ≡ m) × (has names.now.slots set.now x ≡ true)) result }
@@ -84,7 +89,12 @@ fn hand_to(names: &Names, starts: &mut Vec<PlaceSet>, set: &PlaceSet, n: BlockId
 }
 
 /// Adds these places to the sets of an item's branch targets, and returns whether any grew.
-fn hand_out(names: &Names, starts: &mut Vec<PlaceSet>, set: &PlaceSet, exit: Exit) -> bool
+fn hand_out(
+    names: &SlotAndBlockNumbers,
+    starts: &mut Vec<PlaceSet>,
+    set: &PlaceSet,
+    exit: Exit,
+) -> bool
     requires { length starts.old.items ≡ length names.now.blocks }
     ensures { Handed names.now.slots names.now.blocks starts.old.items starts.new.items
         (λ m x. IsOut exit m × (has names.now.slots set.now x ≡ true)) result }
@@ -98,7 +108,7 @@ fn hand_out(names: &Names, starts: &mut Vec<PlaceSet>, set: &PlaceSet, exit: Exi
 
 /// Adds these places to the set of the block that comes next, and returns whether it grew.
 fn hand_down(
-    names: &Names,
+    names: &SlotAndBlockNumbers,
     starts: &mut Vec<PlaceSet>,
     set: &PlaceSet,
     next: Option<BlockId>,
@@ -116,7 +126,7 @@ fn hand_down(
 /// Goes over items, and adds what is wrong to the sets of their branch targets. On return `set` has the places that are
 /// wrong after them.
 fn walk_items(
-    names: &Names,
+    names: &SlotAndBlockNumbers,
     items: &[Item],
     dead: &[bool],
     starts: &mut Vec<PlaceSet>,
@@ -143,7 +153,7 @@ fn walk_items(
 
 /// Goes over a block, and adds what is wrong to the sets of its successors. Returns whether a set grew.
 pub fn visit(
-    names: &Names,
+    names: &SlotAndBlockNumbers,
     f: &Func,
     dead: &[List<bool>],
     starts: &mut Vec<PlaceSet>,

@@ -27,7 +27,7 @@ use Rattle.dce_rule.proofs.Lists.{quiet, quiet_is}
 use Rattle.dce_rule.proofs.Sound.{left_of, left_items}
 use Rattle.dce_rule.proofs.Fewer.{count_left}
 use Rattle.dce_mark.specs.Judged.{verdicts, AreJudged}
-use Rattle.dce_stale.specs.Sets.{AreVerdicts, WrongSets, AreWrongSets, wrong_of, starts_of}
+use Rattle.dce_stale.specs.Sets.{AreVerdicts, StaleSets, AreStaleSets, wrong_of, starts_of}
 use Rattle.dce_stale.proofs.Exact.{begins_at}
 use Rattle.dce_sweep.specs.Left.{lost_in}
 use Rattle.dce_sweep.specs.Round.{IsTakenOut}
@@ -95,14 +95,14 @@ blocks_same ends [] e = refl
 blocks_same ends (b ∷ bs) e =
     let items = items_same (ends b.id) 0 b.items (left_false (some_true (verdicts_in ends b)) (some_dead (map (verdicts_in ends) bs)) e) in
     let rest = blocks_same ends bs (right_false (some_true (verdicts_in ends b)) (some_dead (map (verdicts_in ends) bs)) e) in
-    λ i. record { id = b.id; items = items i; silent = b.silent } ∷ rest i
+    λ i. record { id = b.id; items = items i; source_end = b.source_end } ∷ rest i
 
 blocks_left : (ends : Ends) (bs : List Block) → some_dead (map (verdicts_in ends) bs) ≡ false → map (thinned_block ends) bs ≡ bs
 blocks_left ends [] e = refl
 blocks_left ends (b ∷ bs) e =
     let items = items_left (ends b.id) b.items (left_false (some_true (verdicts_in ends b)) (some_dead (map (verdicts_in ends) bs)) e) in
     let rest = blocks_left ends bs (right_false (some_true (verdicts_in ends b)) (some_dead (map (verdicts_in ends) bs)) e) in
-    λ i. record { id = b.id; items = items i; silent = b.silent } ∷ rest i
+    λ i. record { id = b.id; items = items i; source_end = b.source_end } ∷ rest i
 
 module _ (f : Function) (ends : Ends) (none : some_dead (map (verdicts_in ends) f.blocks) ≡ false) where
   never_dead : (p : Pos) → is_dead_at ends f p ≡ false
@@ -241,7 +241,7 @@ module _ (f : Function) (dead : List (List Bool)) (judged : AreJudged f dead) (f
         over = λ h. settled f dead judged e;
       }
 
-  module _ (sound : IsSound f) (w : WrongSets) (sets : AreWrongSets f dead w) (left : List Block) (before after : List Loss)
+  module _ (sound : IsSound f) (w : StaleSets) (sets : AreStaleSets f dead w) (left : List Block) (before after : List Loss)
       (left_is : (ends : Ends) → AreVerdicts ends f dead → left ≡ map (silenced_block (wrong_of ends f (starts_of w)) ends) f.blocks)
       (lost_is : (ends : Ends) → AreVerdicts ends f dead → after ≡ before ++ lost_in (wrong_of ends f (starts_of w)) ends f.blocks) where
     pub was_taken : (g : Function) → g ≡ record f { blocks = left } → some_dead dead ≡ true →

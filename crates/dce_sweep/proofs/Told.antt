@@ -90,7 +90,7 @@ module _ (f : Function) (sound : IsSound f) (ends : Ends) (wrong : Pos → Place
         StandsAt f (pos_in b.id n) x × (rest_of f.blocks (pos_in b.id n) ≡ x ∷ xs)
     stands_in n x xs e =
         let u = found f.blocks sound.blocks_apart b member in (
-          ap (λ (bs : List Block). fetch_in bs n) u.at ∙ ap (λ (ys : List Item). front ys b.silent u.rest) e,
+          ap (λ (bs : List Block). fetch_in bs n) u.at ∙ ap (λ (ys : List Item). front ys b.source_end u.rest) e,
           ap (λ (bs : List Block). rest_in bs n) u.at ∙ e,
         )
 

@@ -16,7 +16,7 @@ use Rattle.dce_rule.specs.Dead.{Ends}
 use Rattle.dce_rule.specs.Wrong.{silenced_left, silenced_block}
 use Rattle.dce_mark.specs.Judged.{verdicts}
 use Rattle.dce_stale.specs.Flow.{wrong_at}
-use Rattle.dce_stale.specs.Sets.{AreVerdicts, WrongSets, AreWrongSets, starts_of, wrong_in, wrong_of}
+use Rattle.dce_stale.specs.Sets.{AreVerdicts, StaleSets, AreStaleSets, starts_of, wrong_in, wrong_of}
 use Rattle.dce_sweep.specs.Left.{left_from, lost_from, lost_in_block}
 use Rattle.dce_sweep.proofs.Steps.{wrongs, is_silenced}
 
@@ -30,7 +30,7 @@ mapped_at F [] n b e = absurd cc
 mapped_at F (c ∷ cs) zero b e = let same : c ≡ b = cc in ap F same
 mapped_at F (c ∷ cs) (suc n) b e = mapped_at F cs n b e
 
-module _ (f : Function) (dead : List (List Bool)) (w : WrongSets) (sets : AreWrongSets f dead w) (ends : Ends) (verdicts_are : AreVerdicts ends f dead)
+module _ (f : Function) (dead : List (List Bool)) (w : StaleSets) (sets : AreStaleSets f dead w) (ends : Ends) (verdicts_are : AreVerdicts ends f dead)
     (n : ℕ) (b : Block) (at : slice_get f.blocks n ≡ Some b) where
   dead_is : get_or dead n [] ≡ verdicts b.items (ends b.id)
   dead_is = ap (λ (vs : List (List Bool)). get_or vs n []) verdicts_are ∙ mapped_at (λ c. verdicts c.items (ends c.id)) f.blocks n b at
@@ -60,7 +60,7 @@ module _ (f : Function) (dead : List (List Bool)) (w : WrongSets) (sets : AreWro
   block_lost = λ i. lost_from (sym wrong_is i) (dead_is i) 0 b.items
 
 -- a block that was walked down
-module _ (f : Function) (dead : List (List Bool)) (w : WrongSets) (sets : AreWrongSets f dead w) (n : ℕ) (b : Block) (lt : n < length f.blocks)
+module _ (f : Function) (dead : List (List Bool)) (w : StaleSets) (sets : AreStaleSets f dead w) (n : ℕ) (b : Block) (lt : n < length f.blocks)
     (is : b ≡ get_or f.blocks n b) (set : List ℕ) (set_is : set ≡ get_or w.starts n set) (vs : List Bool) (vs_are : vs ≡ get_or dead n [])
     (xs : List Item) (xs_are : xs ≡ b.items) (ends : Ends) (verdicts_are : AreVerdicts ends f dead) where
   at_n : slice_get f.blocks n ≡ Some b
@@ -73,10 +73,10 @@ module _ (f : Function) (dead : List (List Bool)) (w : WrongSets) (sets : AreWro
   walked = λ i. wrongs (xs_are i) (vs_are i) (has w.slots (start i))
 
   pub block_is : (items : List Item) → items ≡ left_from (wrongs xs vs (has w.slots set)) vs 0 xs → (c : Block) → c.id ≡ b.id → c.items ≡ items →
-      c.silent ≡ b.silent → c ≡ silenced_block (wrong_of ends f (starts_of w)) ends b
-  block_is items walk c id items_are silent =
+      c.source_end ≡ b.source_end → c ≡ silenced_block (wrong_of ends f (starts_of w)) ends b
+  block_is items walk c id items_are source_end =
       let left = block_left f dead w sets ends verdicts_are n b at_n items (walk ∙ (λ i. left_from (walked i) (vs_are i) 0 (xs_are i))) in
-      λ i. record { id = id i; items = (items_are ∙ left) i; silent = silent i }
+      λ i. record { id = id i; items = (items_are ∙ left) i; source_end = source_end i }
 
   pub lost_is : lost_from (wrongs xs vs (has w.slots set)) vs 0 xs ≡ lost_in_block (wrong_of ends f (starts_of w)) ends b
   lost_is = (λ i. lost_from (walked i) (vs_are i) 0 (xs_are i)) ∙ block_lost f dead w sets ends verdicts_are n b at_n

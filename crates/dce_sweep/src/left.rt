@@ -7,13 +7,13 @@ ghost use Rattle.pass_liveness.specs.Sets.{has};
 ghost use Rattle.dce_rule.specs.Dead.{Ends};
 ghost use Rattle.dce_rule.specs.Wrong.{silenced, silenced_block};
 ghost use Rattle.dce_stale.specs.Flow.{wrong_at};
-ghost use Rattle.dce_stale.specs.Sets.{AreVerdicts, AreWrongSets, wrong_of, starts_of};
+ghost use Rattle.dce_stale.specs.Sets.{AreVerdicts, AreStaleSets, wrong_of, starts_of};
 ghost use Rattle.dce_sweep.specs.Left.{asks_wrong, left_of, lost_of, left_from, lost_from, lost_in};
 
 use base_ids::code::DebugNumber;
 use base_list::List;
 use dce_copies::verdicts::{verdict, verdicts_at};
-use dce_stale::places::WrongPlaces;
+use dce_stale::places::StaleLocations;
 use mir_func::block::Block;
 use mir_func::func::Func;
 use mir_func::item::{Item, ItemKind};
@@ -30,11 +30,11 @@ use std::alloc::{AllocError, Global};
 pub fn left_blocks(
     alloc: Global,
     f: &Func,
-    wrong: &WrongPlaces,
+    wrong: &StaleLocations,
     dead: &[List<bool>],
     lost: &mut Vec<Loss>,
 ) -> Result<Vec<Block>, AllocError>
-    requires { AreWrongSets f.now dead.now wrong.now }
+    requires { AreStaleSets f.now dead.now wrong.now }
     ensures left { IfOk result (λ left. (ends : Ends) → AreVerdicts ends f.now dead.now →
         left.items ≡ map (silenced_block (wrong_of ends f.now (starts_of wrong.now)) ends) f.now.blocks) }
     ensures lost { OnOk result ((ends : Ends) → AreVerdicts ends f.now dead.now →
@@ -56,7 +56,7 @@ pub fn left_blocks(
         left.push(Block {
             id: b.id,
             items: List::from(items),
-            silent: b.silent,
+            source_end: b.source_end,
         })?;
     }
     Ok(left)
@@ -65,7 +65,7 @@ pub fn left_blocks(
 /// What remains of a block's items, if the places of `set` are wrong at the block's start.
 fn left_items(
     alloc: Global,
-    wrong: &WrongPlaces,
+    wrong: &StaleLocations,
     items: &[Item],
     dead: &[bool],
     set: &mut PlaceSet,
@@ -90,7 +90,7 @@ fn left_items(
 
 /// Appends what remains of an item, and what is lost of it, if these places are wrong before it.
 fn keep(
-    wrong: &WrongPlaces,
+    wrong: &StaleLocations,
     set: &PlaceSet,
     item: &Item,
     goes: bool,
@@ -108,7 +108,7 @@ fn keep(
 
 /// Appends the item, unless it is dead.
 fn stay(
-    wrong: &WrongPlaces,
+    wrong: &StaleLocations,
     set: &PlaceSet,
     item: &Item,
     goes: bool,
@@ -129,7 +129,7 @@ fn stay(
 }
 
 /// The item, undef if it reads a wrong place.
-fn silenced(wrong: &WrongPlaces, set: &PlaceSet, kind: &ItemKind) -> Result<ItemKind, AllocError>
+fn silenced(wrong: &StaleLocations, set: &PlaceSet, kind: &ItemKind) -> Result<ItemKind, AllocError>
     ensures { IfOk result (λ now. now ≡ silenced (has wrong.now.slots set.now) kind.now) }
 {
     match kind {
@@ -139,7 +139,12 @@ fn silenced(wrong: &WrongPlaces, set: &PlaceSet, kind: &ItemKind) -> Result<Item
     }
 }
 
-fn silenced_mark(wrong: &WrongPlaces, set: &PlaceSet, variable: VarId, value: MarkValue) -> ItemKind
+fn silenced_mark(
+    wrong: &StaleLocations,
+    set: &PlaceSet,
+    variable: VarId,
+    value: MarkValue,
+) -> ItemKind
     ensures { result ≡ silenced (has wrong.now.slots set.now) (Mark variable value) }
 {
     match value {
@@ -156,7 +161,7 @@ fn silenced_mark(wrong: &WrongPlaces, set: &PlaceSet, variable: VarId, value: Ma
 
 #[tactic(auto, using(crate::proofs::Quiet::phi_wrong, crate::proofs::Quiet::phi_right))]
 fn silenced_phi(
-    wrong: &WrongPlaces,
+    wrong: &StaleLocations,
     set: &PlaceSet,
     place: Option<Place>,
     number: DebugNumber,
@@ -171,7 +176,7 @@ fn silenced_phi(
 }
 
 /// Whether a DBG_PHI of this location reads a wrong place.
-fn asks_wrong(wrong: &WrongPlaces, set: &PlaceSet, place: &Option<Place>) -> bool
+fn asks_wrong(wrong: &StaleLocations, set: &PlaceSet, place: &Option<Place>) -> bool
     ensures { result ≡ asks_wrong (has wrong.now.slots set.now) place.now }
 {
     match place {
@@ -182,7 +187,7 @@ fn asks_wrong(wrong: &WrongPlaces, set: &PlaceSet, place: &Option<Place>) -> boo
 
 /// Appends what is lost of an item: the number of dead code, and a debug value or DBG_PHI of a wrong place.
 fn tell(
-    wrong: &WrongPlaces,
+    wrong: &StaleLocations,
     set: &PlaceSet,
     kind: &ItemKind,
     origin: Origin,

@@ -9,7 +9,7 @@ ghost use Rattle.dce_sweep.specs.Round.{IsTakenOut};
 use crate::left::left_blocks;
 use base_list::List;
 use dce_mark::judge::judge;
-use dce_stale::places::WrongPlaces;
+use dce_stale::places::StaleLocations;
 use mir_func::func::Func;
 use mir_type_facts::blocks::know_forms;
 use pass_liveness::live::Live;
@@ -21,7 +21,7 @@ use std::alloc::{AllocError, Global};
 /// text. The number of a dead copy is reported as lost too: the caller salvages such numbers before, so that dead
 /// copies have none. Returns whether there was dead code; if there was none the function is unchanged, and nothing is
 /// lost. After an error the function is unchanged.
-pub fn take_out_dead(
+pub fn sweep_dead(
     alloc: Global,
     f: &mut Func,
     live: &Live,
@@ -36,7 +36,7 @@ pub fn take_out_dead(
     if !has_dead(dead.as_slice()) {
         return Ok(false);
     }
-    let wrong = WrongPlaces::solve(alloc, f, dead.as_slice())?;
+    let wrong = StaleLocations::solve(alloc, f, dead.as_slice())?;
     let left = left_blocks(alloc, f, &wrong, dead.as_slice(), lost)?;
     f.blocks = List::from(left);
     Ok(true)

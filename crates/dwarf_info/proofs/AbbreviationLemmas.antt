@@ -1,6 +1,6 @@
 -- The abbreviations, as they were written one after the other.
 use Rattle.std.proofs.Common.{◌≡◌, ℕ, List, [], ◌∷◌, ◌++◌, append_assoc, append-nil}
-use Rattle.dwarf_info.specs.declared.kind.Kind.TheVariants.{CompileUnit, Subprogram, TypedParameter, Parameter, TypedVariable, Variable, BaseType}
+use Rattle.dwarf_info.specs.declared.kind.DieKind.TheVariants.{CompileUnit, Subprogram, TypedParameter, Parameter, TypedVariable, Variable, BaseType}
 use Rattle.dwarf_info.specs.Kinds.{abbreviation, abbreviations}
 
 pub all_written : (o0 o1 o2 o3 o4 o5 o6 o7 o8 : List ℕ) → o0 ≡ [] → o1 ≡ o0 ++ abbreviation CompileUnit → o2 ≡ o1 ++ abbreviation Subprogram

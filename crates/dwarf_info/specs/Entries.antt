@@ -4,8 +4,8 @@ use Rattle.std.specs.List.{flat_map, before_first}
 use Rattle.std.specs.Int.{w16, w32, w64, to_le_bytes}
 use Rattle.dwarf_base.specs.Leb.{uleb_of}
 use Rattle.dwarf_base.specs.Standard.{VERSION, ADDRESS_SIZE}
-use Rattle.dwarf_info.specs.declared.kind.Kind.{Kind}
-use Rattle.dwarf_info.specs.declared.kind.Kind.TheVariants.{CompileUnit, Subprogram, TypedParameter, Parameter, TypedVariable, Variable, BaseType}
+use Rattle.dwarf_info.specs.declared.kind.DieKind.{DieKind}
+use Rattle.dwarf_info.specs.declared.kind.DieKind.TheVariants.{CompileUnit, Subprogram, TypedParameter, Parameter, TypedVariable, Variable, BaseType}
 use Rattle.dwarf_info.specs.declared.kind.Form.{Form}
 use Rattle.dwarf_info.specs.declared.kind.Form.TheVariants.{Address, Data1, Data2, Data4, Text, Reference, SectionOffset, LocationList}
 use Rattle.dwarf_info.specs.declared.kind.Attribute.{Attribute}
@@ -53,36 +53,36 @@ values [] given = []
 values (a ∷ others) given = value a.form given.0 ++ values others given.1
 
 -- an entry: its kind, and a value for each of the kind's attributes
-pub record Entry : Type 0 where
-  pub kind : Kind
+pub record DebugInfoEntry : Type 0 where
+  pub kind : DieKind
   pub given : Values (attributes kind)
 
 -- the encoding of an entry (section 7.5.2): the code of its abbreviation, and the values in order
-unfoldable pub entry : Entry → List ℕ
+unfoldable pub entry : DebugInfoEntry → List ℕ
 entry e = uleb_of (code e.kind) ++ values (attributes e.kind) e.given
 
 -- a base type
-abbrev pub base_type : BaseEntry → Entry
+abbrev pub base_type : BaseEntry → DebugInfoEntry
 base_type b = record { kind = BaseType; given = (b.name, (b.size, (b.encoding, tt))) }
 
 -- a parameter or a variable. `offset` is the offset of each type's entry from the unit's first byte. Its location is the list
 -- with this index
-abbrev pub variable_by : (offset : ℕ → ℕ) → List ℕ → (argument : Bool) → Option ℕ → ℕ → Entry
+abbrev pub variable_by : (offset : ℕ → ℕ) → List ℕ → (argument : Bool) → Option ℕ → ℕ → DebugInfoEntry
 variable_by offset name true (Some base) list = record { kind = TypedParameter; given = (name, (offset base, (list, tt))) }
 variable_by offset name true None list = record { kind = Parameter; given = (name, (list, tt)) }
 variable_by offset name false (Some base) list = record { kind = TypedVariable; given = (name, (offset base, (list, tt))) }
 variable_by offset name false None list = record { kind = Variable; given = (name, (list, tt)) }
 
 -- the entry of a variable or of a formal parameter, with DW_AT_type if its type is known
-abbrev pub variable : (offset : ℕ → ℕ) → VariableEntry → Entry
+abbrev pub variable : (offset : ℕ → ℕ) → VariableEntry → DebugInfoEntry
 variable offset v = variable_by offset v.name v.argument v.base v.list
 
 -- a function: its high_pc is a length (section 2.17.2)
-abbrev pub subprogram : FunctionEntry → Entry
+abbrev pub subprogram : FunctionEntry → DebugInfoEntry
 subprogram f = record { kind = Subprogram; given = (f.name, (f.lo, (f.len, tt))) }
 
 -- a compilation unit. Its line number table is the first one, and its code begins at address 0
-abbrev pub compile_unit : CompilationUnit → Entry
+abbrev pub compile_unit : CompilationUnit → DebugInfoEntry
 compile_unit u = record { kind = CompileUnit; given = (DW_LANG_C99, (u.name, (u.dir, (0, (0, (u.text_len, (LOCLISTS_BASE, tt))))))) }
 
 -- the offset of type k's entry from the unit's first byte: after the header, the unit's entry and the types before it
@@ -91,13 +91,13 @@ type_offset u k = HEADER_LENGTH + length (entry (compile_unit u)) + length (flat
 
 -- an entry and its children
 pub record Function : Type 0 where
-  pub self : Entry
-  pub variables : List Entry
+  pub self : DebugInfoEntry
+  pub variables : List DebugInfoEntry
 
 -- the unit's entry and its children: the types and the functions
 pub record Tree : Type 0 where
-  pub self : Entry
-  pub types : List Entry
+  pub self : DebugInfoEntry
+  pub types : List DebugInfoEntry
   pub functions : List Function
 
 -- the entry of a function, with its parameters and variables as children

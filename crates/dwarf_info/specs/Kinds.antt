@@ -3,8 +3,8 @@ use Rattle.std.specs.Prelude.{ℕ, List, [], ◌∷◌, ◌++◌}
 use Rattle.std.specs.List.{flat_map}
 use Rattle.dwarf_base.specs.Leb.{uleb_of}
 use Rattle.dwarf_base.specs.Standard.{DW_FORM_string}
-use Rattle.dwarf_info.specs.declared.kind.Kind.{Kind}
-use Rattle.dwarf_info.specs.declared.kind.Kind.TheVariants.{CompileUnit, Subprogram, TypedParameter, Parameter, TypedVariable, Variable, BaseType}
+use Rattle.dwarf_info.specs.declared.kind.DieKind.{DieKind}
+use Rattle.dwarf_info.specs.declared.kind.DieKind.TheVariants.{CompileUnit, Subprogram, TypedParameter, Parameter, TypedVariable, Variable, BaseType}
 use Rattle.dwarf_info.specs.declared.kind.Form.{Form}
 use Rattle.dwarf_info.specs.declared.kind.Form.TheVariants.{Address, Data1, Data2, Data4, Text, Reference, SectionOffset, LocationList}
 use Rattle.dwarf_info.specs.declared.kind.Attribute.{Attribute}
@@ -25,7 +25,7 @@ form_number SectionOffset = DW_FORM_sec_offset
 form_number LocationList = DW_FORM_loclistx
 
 -- the code of a kind's abbreviation: its position among the abbreviations, counted from 1
-abbrev pub code : Kind → ℕ
+abbrev pub code : DieKind → ℕ
 code CompileUnit = 1
 code Subprogram = 2
 code TypedParameter = 3
@@ -35,7 +35,7 @@ code Variable = 6
 code BaseType = 7
 
 -- the tag of a kind (section 7.5.3). It is the same with and without a type
-abbrev pub tag : Kind → ℕ
+abbrev pub tag : DieKind → ℕ
 tag CompileUnit = DW_TAG_compile_unit
 tag Subprogram = DW_TAG_subprogram
 tag TypedParameter = DW_TAG_formal_parameter
@@ -45,7 +45,7 @@ tag Variable = DW_TAG_variable
 tag BaseType = DW_TAG_base_type
 
 -- whether entries of a kind have children (section 7.5.3): the unit and functions have
-abbrev pub children : Kind → ℕ
+abbrev pub children : DieKind → ℕ
 children CompileUnit = DW_CHILDREN_yes
 children Subprogram = DW_CHILDREN_yes
 children TypedParameter = DW_CHILDREN_no
@@ -58,7 +58,7 @@ abbrev at : ℕ → Form → Attribute
 at name form = record { name = name; form = form }
 
 -- the attributes of a kind, in order, each with its form
-abbrev pub attributes : Kind → List Attribute
+abbrev pub attributes : DieKind → List Attribute
 attributes CompileUnit =
     at DW_AT_language Data2 ∷ at DW_AT_name Text ∷ at DW_AT_comp_dir Text ∷ at DW_AT_stmt_list SectionOffset ∷ at DW_AT_low_pc Address
     ∷ at DW_AT_high_pc Data4 ∷ at DW_AT_loclists_base SectionOffset ∷ []
@@ -70,7 +70,7 @@ attributes Variable = at DW_AT_name Text ∷ at DW_AT_location LocationList ∷ 
 attributes BaseType = at DW_AT_name Text ∷ at DW_AT_byte_size Data1 ∷ at DW_AT_encoding Data1 ∷ []
 
 -- all kinds, in the order of their codes
-abbrev pub kinds : List Kind
+abbrev pub kinds : List DieKind
 kinds = CompileUnit ∷ Subprogram ∷ TypedParameter ∷ Parameter ∷ TypedVariable ∷ Variable ∷ BaseType ∷ []
 
 -- an attribute in an abbreviation: the number of its name, and that of its form
@@ -78,7 +78,7 @@ abbrev pub attribute : Attribute → List ℕ
 attribute a = uleb_of a.name ++ uleb_of (form_number a.form)
 
 -- an abbreviation (section 7.5.3): the code, the tag, the children flag, the attributes, and two zero bytes
-unfoldable pub abbreviation : Kind → List ℕ
+unfoldable pub abbreviation : DieKind → List ℕ
 abbreviation kind = uleb_of (code kind) ++ uleb_of (tag kind) ++ children kind ∷ [] ++ flat_map attribute (attributes kind) ++ 0 ∷ 0 ∷ []
 
 -- the section .debug_abbrev: the abbreviations, and a zero byte

@@ -6,7 +6,7 @@ ghost use Rattle.dwarf_info.specs.Kinds;
 ghost use Rattle.dwarf_info.specs.Kinds.{form_number, abbreviation, abbreviations};
 
 use crate::constants::*;
-use crate::kind::{Attribute, Form, Kind};
+use crate::kind::{Attribute, DieKind, Form};
 use base_list::List;
 use dwarf_base::constants::DW_FORM_string;
 use dwarf_base::leb::{Leb, uleb};
@@ -108,20 +108,20 @@ pub fn write_abbrev(alloc: Global) -> Result<Bytes, AllocError>
     ensures { IfOk result (λ bytes. bytes ≡ abbreviations) }
 {
     let mut out = Vec::new(alloc);
-    push_abbreviation(&mut out, Kind::CompileUnit)?;
-    push_abbreviation(&mut out, Kind::Subprogram)?;
-    push_abbreviation(&mut out, Kind::TypedParameter)?;
-    push_abbreviation(&mut out, Kind::Parameter)?;
-    push_abbreviation(&mut out, Kind::TypedVariable)?;
-    push_abbreviation(&mut out, Kind::Variable)?;
-    push_abbreviation(&mut out, Kind::BaseType)?;
+    push_abbreviation(&mut out, DieKind::CompileUnit)?;
+    push_abbreviation(&mut out, DieKind::Subprogram)?;
+    push_abbreviation(&mut out, DieKind::TypedParameter)?;
+    push_abbreviation(&mut out, DieKind::Parameter)?;
+    push_abbreviation(&mut out, DieKind::TypedVariable)?;
+    push_abbreviation(&mut out, DieKind::Variable)?;
+    push_abbreviation(&mut out, DieKind::BaseType)?;
     out.push(0)?;
     Ok(List::from(out))
 }
 
 /// Appends the abbreviation of a kind.
 #[tactic(auto, unfolding(crate::specs::Kinds::abbreviation))]
-fn push_abbreviation(out: &mut Vec<u8>, kind: Kind) -> Result<(), AllocError>
+fn push_abbreviation(out: &mut Vec<u8>, kind: DieKind) -> Result<(), AllocError>
     ensures { OnOk result (out.new.items ≡ out.old.items ++ abbreviation kind) }
 {
     push_leb(out, &uleb(code(kind) as u64))?;
@@ -145,57 +145,57 @@ fn push_attributes(out: &mut Vec<u8>, attributes: &[Attribute]) -> Result<(), Al
 }
 
 /// The code of a kind's abbreviation.
-pub fn code(kind: Kind) -> u8
+pub fn code(kind: DieKind) -> u8
     ensures { result ≡ Kinds.code kind }
 {
     match kind {
-        Kind::CompileUnit => 1,
-        Kind::Subprogram => 2,
-        Kind::TypedParameter => 3,
-        Kind::Parameter => 4,
-        Kind::TypedVariable => 5,
-        Kind::Variable => 6,
-        Kind::BaseType => 7,
+        DieKind::CompileUnit => 1,
+        DieKind::Subprogram => 2,
+        DieKind::TypedParameter => 3,
+        DieKind::Parameter => 4,
+        DieKind::TypedVariable => 5,
+        DieKind::Variable => 6,
+        DieKind::BaseType => 7,
     }
 }
 
 /// The tag of a kind (DWARF 5 section 7.5.3).
-fn tag(kind: Kind) -> u8
+fn tag(kind: DieKind) -> u8
     ensures { result ≡ Kinds.tag kind }
 {
     match kind {
-        Kind::CompileUnit => DW_TAG_compile_unit,
-        Kind::Subprogram => DW_TAG_subprogram,
-        Kind::TypedParameter | Kind::Parameter => DW_TAG_formal_parameter,
-        Kind::TypedVariable | Kind::Variable => DW_TAG_variable,
-        Kind::BaseType => DW_TAG_base_type,
+        DieKind::CompileUnit => DW_TAG_compile_unit,
+        DieKind::Subprogram => DW_TAG_subprogram,
+        DieKind::TypedParameter | DieKind::Parameter => DW_TAG_formal_parameter,
+        DieKind::TypedVariable | DieKind::Variable => DW_TAG_variable,
+        DieKind::BaseType => DW_TAG_base_type,
     }
 }
 
 /// Whether entries of a kind have children (DWARF 5 section 7.5.3).
-fn children(kind: Kind) -> u8
+fn children(kind: DieKind) -> u8
     ensures { result ≡ Kinds.children kind }
 {
     match kind {
-        Kind::CompileUnit | Kind::Subprogram => DW_CHILDREN_yes,
-        Kind::TypedParameter
-        | Kind::Parameter
-        | Kind::TypedVariable
-        | Kind::Variable
-        | Kind::BaseType => DW_CHILDREN_no,
+        DieKind::CompileUnit | DieKind::Subprogram => DW_CHILDREN_yes,
+        DieKind::TypedParameter
+        | DieKind::Parameter
+        | DieKind::TypedVariable
+        | DieKind::Variable
+        | DieKind::BaseType => DW_CHILDREN_no,
     }
 }
 
 /// The attributes of a kind, in order.
-fn attributes(kind: Kind) -> &'static [Attribute]
+fn attributes(kind: DieKind) -> &'static [Attribute]
     ensures { result.now ≡ Kinds.attributes kind }
 {
     match kind {
-        Kind::CompileUnit => &COMPILE_UNIT,
-        Kind::Subprogram => &SUBPROGRAM,
-        Kind::TypedParameter | Kind::TypedVariable => &TYPED,
-        Kind::Parameter | Kind::Variable => &UNTYPED,
-        Kind::BaseType => &BASE_TYPE,
+        DieKind::CompileUnit => &COMPILE_UNIT,
+        DieKind::Subprogram => &SUBPROGRAM,
+        DieKind::TypedParameter | DieKind::TypedVariable => &TYPED,
+        DieKind::Parameter | DieKind::Variable => &UNTYPED,
+        DieKind::BaseType => &BASE_TYPE,
     }
 }
 

@@ -3,7 +3,8 @@
 ghost use Rattle.std.specs.Prelude.{◌≡◌, ◌+◌, ◌<◌, ◌++◌, ◌∷◌, [], ◌==◌, length, OnOk};
 ghost use Rattle.std.specs.Int.{w16, w32, w64, to_le_bytes};
 ghost use Rattle.dwarf_base.specs.Leb.{uleb_of};
-ghost use Rattle.dwarf_info.specs.declared.kind.Kind.TheVariants.{TypedParameter, Parameter, TypedVariable, Variable};
+ghost use Rattle.dwarf_info.specs.declared.kind.DieKind.TheVariants.{TypedParameter, Parameter, TypedVariable};
+ghost use Rattle.dwarf_info.specs.declared.kind.DieKind.TheVariants.{Variable};
 ghost use Rattle.dwarf_info.specs.Kinds;
 ghost use Rattle.dwarf_info.specs.Entries.{named, entry, base_type, variable, subprogram};
 ghost use Rattle.dwarf_info.specs.Entries.{compile_unit, HasType};
@@ -11,7 +12,7 @@ ghost use Rattle.dwarf_info.specs.steps.Parts.{in_table};
 
 use crate::abbreviation::{code, push_leb};
 use crate::constants::*;
-use crate::kind::Kind;
+use crate::kind::DieKind;
 use crate::unit::{BaseEntry, FunctionEntry, Unit, VariableEntry};
 use dwarf_base::leb::uleb;
 use std::alloc::AllocError;
@@ -21,7 +22,7 @@ use std::alloc::AllocError;
 pub fn push_compile_unit(out: &mut Vec<u8>, u: &Unit) -> Result<(), AllocError>
     ensures { OnOk result (out.new.items ≡ out.old.items ++ entry (compile_unit u.now)) }
 {
-    push_code(out, Kind::CompileUnit)?;
+    push_code(out, DieKind::CompileUnit)?;
     push_u16(out, DW_LANG_C99)?;
     push_text(out, u.name.as_slice())?;
     push_text(out, u.dir.as_slice())?;
@@ -36,7 +37,7 @@ pub fn push_compile_unit(out: &mut Vec<u8>, u: &Unit) -> Result<(), AllocError>
 pub fn push_base_type(out: &mut Vec<u8>, b: &BaseEntry) -> Result<(), AllocError>
     ensures { OnOk result (out.new.items ≡ out.old.items ++ entry (base_type b.now)) }
 {
-    push_code(out, Kind::BaseType)?;
+    push_code(out, DieKind::BaseType)?;
     push_text(out, b.name.as_slice())?;
     out.push(b.size)?;
     out.push(b.encoding)?;
@@ -48,7 +49,7 @@ pub fn push_base_type(out: &mut Vec<u8>, b: &BaseEntry) -> Result<(), AllocError
 pub fn push_subprogram(out: &mut Vec<u8>, f: &FunctionEntry) -> Result<(), AllocError>
     ensures { OnOk result (out.new.items ≡ out.old.items ++ entry (subprogram f.now)) }
 {
-    push_code(out, Kind::Subprogram)?;
+    push_code(out, DieKind::Subprogram)?;
     push_text(out, f.name.as_slice())?;
     push_u64(out, f.lo)?;
     push_u32(out, f.len)
@@ -83,7 +84,7 @@ fn push_typed_parameter(
     ensures { OnOk result (out.new.items ≡ out.old.items
         ++ entry (record { kind = TypedParameter; given = (name.now, (offset, (list, tt))) })) }
 {
-    push_code(out, Kind::TypedParameter)?;
+    push_code(out, DieKind::TypedParameter)?;
     push_text(out, name)?;
     push_u32(out, offset)?;
     push_leb(out, &uleb(list as u64))
@@ -100,7 +101,7 @@ fn push_typed_variable(
     ensures { OnOk result (out.new.items ≡ out.old.items
         ++ entry (record { kind = TypedVariable; given = (name.now, (offset, (list, tt))) })) }
 {
-    push_code(out, Kind::TypedVariable)?;
+    push_code(out, DieKind::TypedVariable)?;
     push_text(out, name)?;
     push_u32(out, offset)?;
     push_leb(out, &uleb(list as u64))
@@ -112,7 +113,7 @@ fn push_parameter(out: &mut Vec<u8>, name: &[u8], list: u32) -> Result<(), Alloc
     ensures { OnOk result (out.new.items ≡ out.old.items
         ++ entry (record { kind = Parameter; given = (name.now, (list, tt)) })) }
 {
-    push_code(out, Kind::Parameter)?;
+    push_code(out, DieKind::Parameter)?;
     push_text(out, name)?;
     push_leb(out, &uleb(list as u64))
 }
@@ -123,13 +124,13 @@ fn push_plain_variable(out: &mut Vec<u8>, name: &[u8], list: u32) -> Result<(), 
     ensures { OnOk result (out.new.items ≡ out.old.items
         ++ entry (record { kind = Variable; given = (name.now, (list, tt)) })) }
 {
-    push_code(out, Kind::Variable)?;
+    push_code(out, DieKind::Variable)?;
     push_text(out, name)?;
     push_leb(out, &uleb(list as u64))
 }
 
 /// Appends the code of the abbreviation of a kind.
-fn push_code(out: &mut Vec<u8>, kind: Kind) -> Result<(), AllocError>
+fn push_code(out: &mut Vec<u8>, kind: DieKind) -> Result<(), AllocError>
     ensures { OnOk result (out.new.items ≡ out.old.items ++ uleb_of (Kinds.code kind)) }
 {
     push_leb(out, &uleb(code(kind) as u64))

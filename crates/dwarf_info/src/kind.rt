@@ -3,7 +3,7 @@
 
 /// A kind of entry.
 #[derive(Clone, Copy, Debug, PartialEq, Eq)]
-pub enum Kind {
+pub enum DieKind {
     /// The unit.
     CompileUnit,
     /// A function.

@@ -10,7 +10,7 @@ ghost use Rattle.dwarf_info.specs.steps.Size.{capped};
 
 use crate::abbreviation::code;
 use crate::entry::text_of;
-use crate::kind::Kind;
+use crate::kind::DieKind;
 use crate::unit::{BaseEntry, FunctionEntry, Unit, VariableEntry};
 use dwarf_base::leb::uleb;
 use dwarf_base::limits::SECTION_LIMIT;
@@ -89,7 +89,7 @@ fn variables_len(variables: &[VariableEntry]) -> usize
 fn compile_unit_len(u: &Unit) -> usize
     ensures { result ≡ capped (length (entry (compile_unit u.now))) }
 {
-    (code_len(Kind::CompileUnit) + 22)
+    (code_len(DieKind::CompileUnit) + 22)
         .saturating_add(text_len(u.name.as_slice()))
         .saturating_add(text_len(u.dir.as_slice()))
 }
@@ -99,7 +99,7 @@ fn compile_unit_len(u: &Unit) -> usize
 fn base_type_len(b: &BaseEntry) -> usize
     ensures { result ≡ capped (length (entry (base_type b.now))) }
 {
-    (code_len(Kind::BaseType) + 2).saturating_add(text_len(b.name.as_slice()))
+    (code_len(DieKind::BaseType) + 2).saturating_add(text_len(b.name.as_slice()))
 }
 
 /// The bytes of the entry of a function, without its children.
@@ -107,7 +107,7 @@ fn base_type_len(b: &BaseEntry) -> usize
 fn subprogram_len(f: &FunctionEntry) -> usize
     ensures { result ≡ capped (length (entry (subprogram f.now))) }
 {
-    (code_len(Kind::Subprogram) + 12).saturating_add(text_len(f.name.as_slice()))
+    (code_len(DieKind::Subprogram) + 12).saturating_add(text_len(f.name.as_slice()))
 }
 
 /// The bytes of the entry of a parameter or variable.
@@ -118,15 +118,15 @@ fn variable_len(v: &VariableEntry) -> usize
     let name = text_len(v.name.as_slice());
     let list = uleb(v.list as u64).len();
     match (v.argument, v.base) {
-        (true, Some(_)) => (code_len(Kind::TypedParameter) + 4 + list).saturating_add(name),
-        (true, None) => (code_len(Kind::Parameter) + list).saturating_add(name),
-        (false, Some(_)) => (code_len(Kind::TypedVariable) + 4 + list).saturating_add(name),
-        (false, None) => (code_len(Kind::Variable) + list).saturating_add(name),
+        (true, Some(_)) => (code_len(DieKind::TypedParameter) + 4 + list).saturating_add(name),
+        (true, None) => (code_len(DieKind::Parameter) + list).saturating_add(name),
+        (false, Some(_)) => (code_len(DieKind::TypedVariable) + 4 + list).saturating_add(name),
+        (false, None) => (code_len(DieKind::Variable) + list).saturating_add(name),
     }
 }
 
 /// The bytes of the code of a kind's abbreviation.
-fn code_len(kind: Kind) -> usize
+fn code_len(kind: DieKind) -> usize
     ensures exact { result ≡ length (uleb_of (Kinds.code kind)) }
     ensures within { result ≤ 10 }
 {

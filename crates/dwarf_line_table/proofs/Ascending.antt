@@ -7,17 +7,17 @@ use Rattle.dwarf_line.specs.declared.table.Row.{Row}
 use Rattle.dwarf_line.specs.Table.{Ascend, IsSequence}
 use Rattle.read_metadata.specs.Maps.{Maps}
 use Rattle.mir_func.specs.declared.block.Block.{Block}
-use Rattle.emit_code.specs.declared.code.Entry.{Entry}
+use Rattle.emit_code.specs.declared.code.EncodedInstruction.{EncodedInstruction}
 use Rattle.emit_code.specs.Laid.{StandFrom}
 use Rattle.dwarf_line_table.specs.declared.file.SourceFile.{SourceFile}
 use Rattle.dwarf_line_table.specs.Table.{row_of_line, entry_line, is_place_before, changes, rows_in}
 use Rattle.dwarf_line_table.specs.Program.{sequence_if}
 
 module _ (files : List SourceFile) (meta : Maps) (unit : SourceFile) (blocks : List Block) where
-  abbrev row : Entry → Row
+  abbrev row : EncodedInstruction → Row
   row e = row_of_line files e.address (entry_line meta unit blocks e)
 
-  ascend : (a : ℕ) (es : List Entry) (end : ℕ) → StandFrom a es end → (from : ℕ) (before : Option Row) → from ≤ a
+  ascend : (a : ℕ) (es : List EncodedInstruction) (end : ℕ) → StandFrom a es end → (from : ℕ) (before : Option Row) → from ≤ a
       → Ascend from (changes before (rows_in files meta unit blocks es)) end
   ascend a [] end at from before low = let e : a ≡ end = at in omega (arith, e, low)
   ascend a (e ∷ es) end (here, sized, rest) from before low =
@@ -30,7 +30,7 @@ module _ (files : List SourceFile) (meta : Maps) (unit : SourceFile) (blocks : L
       by true same new = same
       by false same new = (omega (arith, here, low), new)
 
-  pub sequence_is : (a : ℕ) (es : List Entry) (end : ℕ) → StandFrom a es end → All IsSequence
+  pub sequence_is : (a : ℕ) (es : List EncodedInstruction) (end : ℕ) → StandFrom a es end → All IsSequence
       (sequence_if (changes None (rows_in files meta unit blocks es)) end)
   sequence_is a [] end at = All-nil IsSequence
   sequence_is a (e ∷ es) end (here, sized, rest) =

@@ -13,7 +13,7 @@ use Rattle.dwarf_line.specs.Table.{IsName, IsNamed, HasNames}
 use Rattle.read_metadata.specs.Maps.{Maps}
 use Rattle.read_metadata.specs.declared.node.FileNode.{FileNode}
 use Rattle.mir_func.specs.declared.block.Block.{Block}
-use Rattle.emit_code.specs.declared.code.Entry.{Entry}
+use Rattle.emit_code.specs.declared.code.EncodedInstruction.{EncodedInstruction}
 use Rattle.dwarf_line_table.specs.declared.compiled.Compiled.{Compiled}
 use Rattle.dwarf_line_table.specs.declared.file.SourceFile.{SourceFile}
 use Rattle.dwarf_line_table.specs.Files.{file_or, function_file, unit_file, is_file, is_name, with_new, first_uses, dirs_of, entry_in, entry_zero}
@@ -56,7 +56,7 @@ first_all P is known (x ∷ xs) old new = first_all P is (with_new is known x) x
     by true = old
     by false = All-push P known x old (All-head P x xs new)
 
-uses_clean : (meta : Maps) (unit : SourceFile) (blocks : List Block) (es : List Entry) → IsClean unit → All IsClean (uses_in meta unit blocks es)
+uses_clean : (meta : Maps) (unit : SourceFile) (blocks : List Block) (es : List EncodedInstruction) → IsClean unit → All IsClean (uses_in meta unit blocks es)
 uses_clean meta unit blocks [] clean = All-nil IsClean
 uses_clean meta unit blocks (e ∷ es) clean = All-cons IsClean _ (uses_in meta unit blocks es)
     (or_clean (option_and_then (file_of_scope_at meta) (scope_line meta (loc_of blocks (position_of e.origin))).scope) unit clean)

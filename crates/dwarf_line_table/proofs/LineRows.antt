@@ -8,7 +8,7 @@ use Rattle.std.proofs.lemmas.List.Elements.{All-nil, All-cons, All-head, All-tai
 use Rattle.dwarf_line.specs.declared.table.Row.{Row}
 use Rattle.read_metadata.specs.Maps.{Maps}
 use Rattle.mir_func.specs.declared.block.Block.{Block}
-use Rattle.emit_code.specs.declared.code.Entry.{Entry}
+use Rattle.emit_code.specs.declared.code.EncodedInstruction.{EncodedInstruction}
 use Rattle.emit_code.specs.Laid.{StandFrom}
 use Rattle.dwarf_line_table.specs.declared.file.SourceFile.{SourceFile}
 use Rattle.dwarf_line_table.specs.Table.{row_of_line, entry_line, is_place, is_place_before, changes, rows_in}
@@ -83,41 +83,43 @@ last_reached P (q ∷ rows) a r all (inr later) = last_reached P rows a r (All-t
 
 -- ---- entries
 
-pub stands_up : (a : ℕ) (es : List Entry) (end : ℕ) → StandFrom a es end → a ≤ end
+pub stands_up : (a : ℕ) (es : List EncodedInstruction) (end : ℕ) → StandFrom a es end → a ≤ end
 stands_up a [] end at = let same : a ≡ end = at in omega (arith, same)
 stands_up a (x ∷ es) end (here, sized, rest) = let low = stands_up (a + x.size) es end rest in omega (arith, low)
 
-pub entry_from : (a : ℕ) (es : List Entry) (end : ℕ) → StandFrom a es end → (e : Entry) → Contains es e → (a ≤ e.address) × (e.address + e.size ≤ end)
+pub entry_from : (a : ℕ) (es : List EncodedInstruction) (end : ℕ) → StandFrom a es end → (e : EncodedInstruction) → Contains es e →
+    (a ≤ e.address) × (e.address + e.size ≤ end)
 entry_from a [] end at e is = absurd (no_member e is)
 entry_from a (x ∷ es) end (here, sized, rest) e is =
     let later = stands_up (a + x.size) es end rest in
     elim (member_cases x e es is) [
-      | inl same ↦ subst (λ (z : Entry). (a ≤ z.address) × (z.address + z.size ≤ end)) same (omega (arith, here), omega (arith, here, later))
+      | inl same ↦ subst (λ (z : EncodedInstruction). (a ≤ z.address) × (z.address + z.size ≤ end)) same (omega (arith, here), omega (arith, here, later))
       | inr more ↦ (let r = entry_from (a + x.size) es end rest e more in let low = r.0 in (omega (arith, low), r.1))
     ]
 
 -- each address between is one of an entry
-pub entry_at : (a : ℕ) (es : List Entry) (end : ℕ) → StandFrom a es end → (x : ℕ) → a ≤ x → x < end →
-    (e : Entry) × Contains es e × (e.address ≤ x) × (x < e.address + e.size)
+pub entry_at : (a : ℕ) (es : List EncodedInstruction) (end : ℕ) → StandFrom a es end → (x : ℕ) → a ≤ x → x < end →
+    (e : EncodedInstruction) × Contains es e × (e.address ≤ x) × (x < e.address + e.size)
 entry_at a [] end at x low high = let same : a ≡ end = at in absurd (omega (arith, same, low, high))
 entry_at a (e ∷ es) end (here, sized, rest) x low high =
     by (cases_lt x (a + e.size)) (λ beyond. entry_at (a + e.size) es end rest x beyond high) where
-      by : (x < a + e.size) ⊎ (a + e.size ≤ x) → (a + e.size ≤ x → (y : Entry) × Contains es y × (y.address ≤ x) × (x < y.address + y.size)) →
-          (y : Entry) × Contains (e ∷ es) y × (y.address ≤ x) × (x < y.address + y.size)
+      by : (x < a + e.size) ⊎ (a + e.size ≤ x) → (a + e.size ≤ x → (y : EncodedInstruction) × Contains es y × (y.address ≤ x) × (x < y.address + y.size)) →
+          (y : EncodedInstruction) × Contains (e ∷ es) y × (y.address ≤ x) × (x < y.address + y.size)
       by (inl inside) later = (e, head_member e es, omega (arith, here, low), omega (arith, here, inside))
       by (inr beyond) later =
           let r = later beyond in (r.0, later_member e r.0 es r.1, r.2, r.3)
 
 module _ (files : List SourceFile) (meta : Maps) (unit : SourceFile) (blocks : List Block) where
   -- the row of an entry
-  abbrev pub row : Entry → Row
+  abbrev pub row : EncodedInstruction → Row
   row e = row_of_line files e.address (entry_line meta unit blocks e)
 
-  abbrev pub rows : List Entry → List Row
+  abbrev pub rows : List EncodedInstruction → List Row
   rows es = rows_in files meta unit blocks es
 
   -- no row is below the first entry
-  pub rows_from : (a : ℕ) (es : List Entry) (end : ℕ) → StandFrom a es end → (before : Option Row) → All (λ r. a ≤ r.address) (changes before (rows es))
+  pub rows_from : (a : ℕ) (es : List EncodedInstruction) (end : ℕ) → StandFrom a es end → (before : Option Row) →
+      All (λ r. a ≤ r.address) (changes before (rows es))
   rows_from a [] end at before = All-nil (λ (r : Row). a ≤ r.address)
   rows_from a (e ∷ es) end (here, sized, rest) before =
       by (λ b. All-weaker (λ (r : Row). a + e.size ≤ r.address) (λ (r : Row). a ≤ r.address) (λ r low. omega (arith, low)) (changes b (rows es))
@@ -136,12 +138,12 @@ module _ (files : List SourceFile) (meta : Maps) (unit : SourceFile) (blocks : L
   same_before None r e = absurd cc
   same_before (Some b) r e = (b, refl, place_same b r e)
 
-  stands : (a : ℕ) (es : List Entry) (end : ℕ) → StandFrom a es end → (before : Option Row) (e : Entry) → Contains es e →
+  stands : (a : ℕ) (es : List EncodedInstruction) (end : ℕ) → StandFrom a es end → (before : Option Row) (e : EncodedInstruction) → Contains es e →
       (x : ℕ) → e.address ≤ x → x < e.address + e.size → Stands before (changes before (rows es)) x (row e)
   stands a [] end at before e is x low high = absurd (no_member e is)
   stands a (f ∷ es) end (here, sized, rest) before e is x low high = elim (member_cases f e es is) [
-    | inl same ↦ subst (λ (z : Entry). Stands before (changes before (rows (f ∷ es))) x (row z)) same
-        (first (subst (λ (z : Entry). z.address ≤ x) (sym same) low) (subst (λ (z : Entry). x < z.address + z.size) (sym same) high)
+    | inl same ↦ subst (λ (z : EncodedInstruction). Stands before (changes before (rows (f ∷ es))) x (row z)) same
+        (first (subst (λ (z : EncodedInstruction). z.address ≤ x) (sym same) low) (subst (λ (z : EncodedInstruction). x < z.address + z.size) (sym same) high)
         (is_place_before before (row f)) refl)
     | inr later ↦ (let from = entry_from (a + f.size) es end rest e later in let beyond = from.0 in
         further (λ b. stands (a + f.size) es end rest b e later x low high) (omega (arith, here, beyond, low)) (is_place_before before (row f)))
@@ -168,7 +170,7 @@ module _ (files : List SourceFile) (meta : Maps) (unit : SourceFile) (blocks : L
       further later reached false = behind reached (later (Some (row f)))
 
   -- a row of an entry's place is the last one at an address of the entry
-  pub row_of_entry : (a : ℕ) (es : List Entry) (end : ℕ) → StandFrom a es end → (e : Entry) → Contains es e →
+  pub row_of_entry : (a : ℕ) (es : List EncodedInstruction) (end : ℕ) → StandFrom a es end → (e : EncodedInstruction) → Contains es e →
       (x : ℕ) → e.address ≤ x → x < e.address + e.size → (r : Row) × LastIn (changes None (rows es)) x r × SamePlace r (row e)
   row_of_entry a es end at e is x low high = by (stands a es end at None e is x low high) where
     by : Stands None (changes None (rows es)) x (row e) → (r : Row) × LastIn (changes None (rows es)) x r × SamePlace r (row e)

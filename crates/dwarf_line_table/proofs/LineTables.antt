@@ -1,7 +1,7 @@
 -- What the line number table of functions that lie one after the other says of the addresses of their code.
 use Rattle.std.proofs.Common.{◌≡◌, ℕ, List, sym, subst, ap, ◌∙◌, Contains}
 use Rattle.std.specs.List.{flat_map}
-use Rattle.emit_code.specs.declared.code.Entry.{Entry}
+use Rattle.emit_code.specs.declared.code.EncodedInstruction.{EncodedInstruction}
 use Rattle.dwarf_line.specs.declared.table.Row.{Row}
 use Rattle.read_metadata.specs.Maps.{Maps}
 use Rattle.dwarf_line_table.specs.declared.compiled.Compiled.{Compiled}
@@ -28,10 +28,10 @@ module _ (meta : Maps) (functions : List Compiled) where
   uses = flat_map (function_uses meta unit) functions
 
   -- the place of an entry
-  abbrev place : Compiled → Entry → SourceLine
+  abbrev place : Compiled → EncodedInstruction → SourceLine
   place f e = entry_line meta unit f.source.now.blocks e
 
-  module _ (base : ℕ) (lie : LieFrom base functions) (a : ℕ) (f : Compiled) (e : Entry) (has : HasCodeAt functions a f e) where
+  module _ (base : ℕ) (lie : LieFrom base functions) (a : ℕ) (f : Compiled) (e : EncodedInstruction) (has : HasCodeAt functions a f e) where
     same_place : (r : Row) → IsRowAt (table_of meta functions) a r → SamePlace r (entry_row files meta unit f e)
     unfolding table_of
     same_place r is = each_row files meta unit base functions lie f has.function e has.entry a has.from has.below is.sequence is.among r
@@ -39,7 +39,7 @@ module _ (meta : Maps) (functions : List Compiled) where
 
     file_used : Contains uses (place f e).file
     file_used = flat_member (function_uses meta unit) functions f (place f e).file has.function
-        (mapped_member (λ (x : Entry). (place f x).file) f.code.now.entries e has.entry)
+        (mapped_member (λ (x : EncodedInstruction). (place f x).file) f.code.now.entries e has.entry)
 
     says : (r : Row) → IsRowAt (table_of meta functions) a r → Says (table_of meta functions) r (place f e)
     unfolding table_of

@@ -8,7 +8,7 @@ use Rattle.dwarf_line.specs.declared.table.Row.{Row}
 use Rattle.read_metadata.specs.Maps.{Maps}
 use Rattle.mir_func.specs.declared.block.Block.{Block}
 use Rattle.mir_func.specs.declared.location.Loc.{Loc}
-use Rattle.emit_code.specs.declared.code.Entry.{Entry}
+use Rattle.emit_code.specs.declared.code.EncodedInstruction.{EncodedInstruction}
 use Rattle.dwarf_line_table.specs.declared.file.SourceFile.{SourceFile}
 use Rattle.dwarf_line_table.specs.declared.places.Places.{Places}
 use Rattle.dwarf_line_table.specs.Files.{with_new, first_uses, is_file, unit_in}
@@ -18,7 +18,8 @@ use Rattle.dwarf_line_table.specs.steps.Places.{ArePlaces}
 use Rattle.dwarf_line_table.proofs.FirstUses.{joined_only}
 use Rattle.dwarf_line_table.proofs.Keys.{unit_stays}
 
-pub record SoFar (meta : Maps) (places : Places) (first files : List SourceFile) (entries rest : List Entry) (before : Option Row) (rows : List Row) : Type
+pub record SoFar (meta : Maps) (places : Places) (first files : List SourceFile) (entries rest : List EncodedInstruction) (before : Option Row)
+    (rows : List Row) : Type
     0 where
   pub unit : 0 < length files
   pub led : unit_in files ≡ unit_in first
@@ -29,7 +30,8 @@ pub record SoFar (meta : Maps) (places : Places) (first files : List SourceFile)
       → rows ++ changes before (rows_in (files ++ more) meta (unit_in first) blocks rest) ≡ changes None
       (rows_in (files ++ more) meta (unit_in first) blocks entries)
 
-pub starts : (meta : Maps) (places : Places) (first : List SourceFile) (entries : List Entry) → 0 < length first → SoFar meta places first first entries
+pub starts : (meta : Maps) (places : Places) (first : List SourceFile) (entries : List EncodedInstruction) → 0 < length first →
+    SoFar meta places first first entries
     entries None []
 starts meta places first entries unit = record { unit = unit; led = refl; few = omega arith; known = λ blocks are. refl; listed = λ blocks more are. refl }
 
@@ -42,7 +44,8 @@ row_step before rows r rr = by (is_place_before before r)
     by true = refl
     by false = sym (append_assoc rows (r ∷ []) (changes (Some r) rr))
 
-pub next : (meta : Maps) (places : Places) (first files files_ : List SourceFile) (entries rest : List Entry) (e : Entry) (before before_ : Option Row)
+pub next : (meta : Maps) (places : Places) (first files files_ : List SourceFile) (entries rest : List EncodedInstruction) (e : EncodedInstruction)
+    (before before_ : Option Row)
     (rows rows_ : List Row)
     (r : Row) (loc : Loc)
     → SoFar meta places first files entries (e ∷ rest) before rows

@@ -5,7 +5,7 @@ use Rattle.std.proofs.lemmas.List.Elements.{All-weaker, Contains-append_cases}
 use Rattle.dwarf_line.specs.declared.table.Row.{Row}
 use Rattle.dwarf_line.specs.declared.table.Sequence.{Sequence}
 use Rattle.read_metadata.specs.Maps.{Maps}
-use Rattle.emit_code.specs.declared.code.Entry.{Entry}
+use Rattle.emit_code.specs.declared.code.EncodedInstruction.{EncodedInstruction}
 use Rattle.emit_code.specs.Laid.{StandFrom}
 use Rattle.dwarf_line_table.specs.declared.compiled.Compiled.{Compiled}
 use Rattle.dwarf_line_table.specs.declared.file.SourceFile.{SourceFile}
@@ -26,7 +26,8 @@ stands_of b (g ∷ fs) (from, stand, lie) f is = elim (member_cases g f fs is) [
 ]
 
 -- all code is above where the functions begin
-pub code_above : (b : ℕ) (fs : List Compiled) → LieFrom b fs → (f : Compiled) → Contains fs f → (e : Entry) → Contains f.code.now.entries e → b ≤ e.address
+pub code_above : (b : ℕ) (fs : List Compiled) → LieFrom b fs → (f : Compiled) → Contains fs f → (e : EncodedInstruction) → Contains f.code.now.entries e →
+    b ≤ e.address
 code_above b [] lie f is e has = absurd (no_member f is)
 code_above b (g ∷ fs) (from, stand, lie) f is e has = elim (member_cases g f fs is) [
   | inl same ↦ (entry_from b g.code.now.entries (function_end g) stand e (subst (λ (x : Compiled). Contains x.code.now.entries e) (sym same) has)).0
@@ -53,10 +54,11 @@ module _ (files : List SourceFile) (meta : Maps) (unit : SourceFile) where
   all fs = flat_map (sequences_of files meta unit) fs
 
   -- the row of an entry of a function
-  abbrev pub entry_row : Compiled → Entry → Row
+  abbrev pub entry_row : Compiled → EncodedInstruction → Row
   entry_row f e = row files meta unit f.source.now.blocks e
 
-  function_row : (f : Compiled) (e : Entry) (a : ℕ) → StandFrom f.code.now.base f.code.now.entries (function_end f) → Contains f.code.now.entries e →
+  function_row : (f : Compiled) (e : EncodedInstruction) (a : ℕ) → StandFrom f.code.now.base f.code.now.entries (function_end f) →
+      Contains f.code.now.entries e →
       e.address ≤ a → a < e.address + e.size → (r : Row) × LastIn (rows_of files meta unit f) a r × SamePlace r (entry_row f e)
   function_row f e a stand has low high =
       row_of_entry files meta unit f.source.now.blocks f.code.now.base f.code.now.entries (function_end f) stand e has a low high
@@ -74,7 +76,7 @@ module _ (files : List SourceFile) (meta : Maps) (unit : SourceFile) where
   ]
 
   -- an address of code has a row
-  pub some_row : (b : ℕ) (fs : List Compiled) → LieFrom b fs → (f : Compiled) → Contains fs f → (e : Entry) → Contains f.code.now.entries e →
+  pub some_row : (b : ℕ) (fs : List Compiled) → LieFrom b fs → (f : Compiled) → Contains fs f → (e : EncodedInstruction) → Contains f.code.now.entries e →
       (a : ℕ) → e.address ≤ a → a < e.address + e.size → (s : Sequence) × Contains (all fs) s × (r : Row) × LastIn s.rows a r × (a < s.end)
   some_row b fs lie f is e has a low high =
       let stand = stands_of b fs lie f is in
@@ -89,7 +91,7 @@ module _ (files : List SourceFile) (meta : Maps) (unit : SourceFile) where
       )
 
   -- each row that is of the address is of the place of its code
-  pub each_row : (b : ℕ) (fs : List Compiled) → LieFrom b fs → (f : Compiled) → Contains fs f → (e : Entry) → Contains f.code.now.entries e →
+  pub each_row : (b : ℕ) (fs : List Compiled) → LieFrom b fs → (f : Compiled) → Contains fs f → (e : EncodedInstruction) → Contains f.code.now.entries e →
       (a : ℕ) → e.address ≤ a → a < e.address + e.size → (s : Sequence) → Contains (all fs) s → (r : Row) → LastIn s.rows a r → a < s.end →
       SamePlace r (entry_row f e)
   each_row b [] lie f is e has a low high s among r last inside = absurd (no_member f is)
@@ -121,13 +123,14 @@ module _ (files : List SourceFile) (meta : Maps) (unit : SourceFile) where
 
   -- a row is of an address of code alone
   pub row_has_code : (b : ℕ) (fs : List Compiled) → LieFrom b fs → (s : Sequence) → Contains (all fs) s → (a : ℕ) (r : Row) → LastIn s.rows a r → a < s.end →
-      (f : Compiled) × Contains fs f × (e : Entry) × Contains f.code.now.entries e × (e.address ≤ a) × (a < e.address + e.size)
+      (f : Compiled) × Contains fs f × (e : EncodedInstruction) × Contains f.code.now.entries e × (e.address ≤ a) × (a < e.address + e.size)
   row_has_code b [] lie s among a r last inside = absurd (no_member s among)
   row_has_code b (g ∷ fs) (from, stand, lie) s among a r last inside =
       by (λ later. row_has_code (function_end g) fs lie s later a r last inside) (Contains-append_cases (sequences_of files meta unit g) (all fs) s among) where
-        by : (Contains (all fs) s → (f : Compiled) × Contains fs f × (e : Entry) × Contains f.code.now.entries e × (e.address ≤ a) × (a < e.address + e.size)) →
+        by : (Contains (all fs) s → (f : Compiled) × Contains fs f × (e : EncodedInstruction) × Contains f.code.now.entries e × (e.address ≤ a) ×
+            (a < e.address + e.size)) →
             Contains (sequences_of files meta unit g) s ⊎ Contains (all fs) s →
-            (f : Compiled) × Contains (g ∷ fs) f × (e : Entry) × Contains f.code.now.entries e × (e.address ≤ a) × (a < e.address + e.size)
+            (f : Compiled) × Contains (g ∷ fs) f × (e : EncodedInstruction) × Contains f.code.now.entries e × (e.address ≤ a) × (a < e.address + e.size)
         by more (inl here) =
             let e_is = sequence_is (rows_of files meta unit g) (function_end g) s here in
             let end = e_is.1 in

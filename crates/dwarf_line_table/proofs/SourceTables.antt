@@ -6,7 +6,7 @@ use Rattle.std.proofs.Common.{append_assoc, append-nil, subst}
 use Rattle.std.specs.List.{flat_map}
 use Rattle.dwarf_line.specs.declared.table.Sequence.{Sequence}
 use Rattle.read_metadata.specs.Maps.{Maps}
-use Rattle.emit_code.specs.declared.code.Entry.{Entry}
+use Rattle.emit_code.specs.declared.code.EncodedInstruction.{EncodedInstruction}
 use Rattle.emit_code.specs.Laid.{StandFrom}
 use Rattle.dwarf_line_table.specs.declared.compiled.Compiled.{Compiled}
 use Rattle.dwarf_line_table.specs.declared.file.SourceFile.{SourceFile}
@@ -16,7 +16,7 @@ use Rattle.dwarf_line_table.specs.Program.{program_file, program_files, function
 use Rattle.dwarf_line_table.proofs.FirstUses.{lengthened, uses_append}
 
 -- no more entries than words
-pub few_entries : (address : ℕ) (es : List Entry) (end : ℕ) → StandFrom address es end → address + 4 * length es ≤ end
+pub few_entries : (address : ℕ) (es : List EncodedInstruction) (end : ℕ) → StandFrom address es end → address + 4 * length es ≤ end
 few_entries address [] end at = omega (arith, at)
 few_entries address (e ∷ es) end (here, sized, rest) =
     let after : address + e.size + 4 * length es ≤ end = few_entries (address + e.size) es end rest in
@@ -26,7 +26,7 @@ few_entries address (e ∷ es) end (here, sized, rest) =
     by true size after = omega (arith, size, after)
     by false size after = omega (arith, size, after)
 
-pub entries_within : (base words : ℕ) (es listed : List Entry) → StandFrom base es (base + 4 * words) → listed ≡ es → length listed ≤ words
+pub entries_within : (base words : ℕ) (es listed : List EncodedInstruction) → StandFrom base es (base + 4 * words) → listed ≡ es → length listed ≤ words
 entries_within base words es listed stand e =
     let few : base + 4 * length es ≤ base + 4 * words = few_entries base es (base + 4 * words) stand in
     let same : length listed ≡ length es = ap length e in

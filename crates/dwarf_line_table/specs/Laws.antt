@@ -1,6 +1,6 @@
 -- Laws of a program's line number table.
 use Rattle.std.specs.Prelude.{◌≡◌, ℕ, ◌+◌, ◌<◌, ◌≤◌, List, [], ◌∷◌, Contains}
-use Rattle.emit_code.specs.declared.code.Entry.{Entry}
+use Rattle.emit_code.specs.declared.code.EncodedInstruction.{EncodedInstruction}
 use Rattle.emit_code.specs.Laid.{StandFrom}
 use Rattle.dwarf_line.specs.declared.table.Row.{Row}
 use Rattle.read_metadata.specs.Maps.{Maps}
@@ -16,7 +16,7 @@ LieFrom a [] = Unit {0}
 LieFrom a (f ∷ fs) = (f.code.now.base ≡ a) × StandFrom a f.code.now.entries (function_end f) × LieFrom (function_end f) fs
 
 -- this entry of one of the functions has a byte at the address
-pub record HasCodeAt (functions : List Compiled) (address : ℕ) (f : Compiled) (e : Entry) : Type 0 where
+pub record HasCodeAt (functions : List Compiled) (address : ℕ) (f : Compiled) (e : EncodedInstruction) : Type 0 where
   pub function : Contains functions f
   pub entry : Contains f.code.now.entries e
   pub from : e.address ≤ address
@@ -26,13 +26,13 @@ pub record HasCodeAt (functions : List Compiled) (address : ℕ) (f : Compiled) 
 -- code there, in the origin's block of the function as it was read.
 abbrev pub TablesGiveLines : Type 0
 TablesGiveLines = (meta : Maps) (functions : List Compiled) (base : ℕ) → LieFrom base functions →
-    (address : ℕ) (f : Compiled) (e : Entry) → HasCodeAt functions address f e →
+    (address : ℕ) (f : Compiled) (e : EncodedInstruction) → HasCodeAt functions address f e →
     GivesLine (table_of meta functions) address (entry_line meta (program_file meta functions) f.source.now.blocks e)
 
 -- No row is that of an address without code.
 abbrev pub NothingOutside : Type 0
 NothingOutside = (meta : Maps) (functions : List Compiled) (base : ℕ) → LieFrom base functions →
-    (address : ℕ) → ((f : Compiled) (e : Entry) → HasCodeAt functions address f e → ⊥) →
+    (address : ℕ) → ((f : Compiled) (e : EncodedInstruction) → HasCodeAt functions address f e → ⊥) →
     (row : Row) → IsRowAt (table_of meta functions) address row → ⊥
 
 -- a row without a line: line 0 and column 0 of file 1
@@ -45,7 +45,7 @@ pub record IsNoLine (row : Row) : Type 0 where
 -- line.
 abbrev pub NoneIsLineZero : Type 0
 NoneIsLineZero = (meta : Maps) (functions : List Compiled) (base : ℕ) → LieFrom base functions →
-    (address : ℕ) (f : Compiled) (e : Entry) → HasCodeAt functions address f e →
+    (address : ℕ) (f : Compiled) (e : EncodedInstruction) → HasCodeAt functions address f e →
     scope_line meta (loc_of f.source.now.blocks (position_of e.origin)) ≡ no_line →
     (row : Row) → IsRowAt (table_of meta functions) address row → IsNoLine row
 
@@ -53,6 +53,6 @@ NoneIsLineZero = (meta : Maps) (functions : List Compiled) (base : ℕ) → LieF
 -- isn't readable.
 abbrev pub UnitIsFileOne : Type 0
 UnitIsFileOne = (meta : Maps) (functions : List Compiled) (base : ℕ) → LieFrom base functions →
-    (address : ℕ) (f : Compiled) (e : Entry) → HasCodeAt functions address f e →
+    (address : ℕ) (f : Compiled) (e : EncodedInstruction) → HasCodeAt functions address f e →
     (entry_line meta (program_file meta functions) f.source.now.blocks e).file ≡ program_file meta functions →
     (row : Row) → IsRowAt (table_of meta functions) address row → row.file ≡ 1

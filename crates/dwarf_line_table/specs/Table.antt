@@ -6,7 +6,7 @@ use Rattle.dwarf_line_table.specs.declared.file.SourceFile.{SourceFile}
 use Rattle.dwarf_line_table.specs.Files.{number_in}
 use Rattle.dwarf_line_table.specs.Lines.{SourceLine, line_of}
 use Rattle.mir_func.specs.declared.block.Block.{Block}
-use Rattle.emit_code.specs.declared.code.Entry.{Entry}
+use Rattle.emit_code.specs.declared.code.EncodedInstruction.{EncodedInstruction}
 
 -- the row of a source position at an address
 abbrev pub row_of_line : List SourceFile → ℕ → SourceLine → Row
@@ -27,13 +27,13 @@ changes before [] = []
 changes before (r ∷ rows) = cond (is_place_before before r) (changes before rows) (r ∷ changes (Some r) rows)
 
 -- the source position of an entry: that of its origin, in the blocks of the function as it was read
-abbrev pub entry_line : Maps → (unit : SourceFile) → List Block → Entry → SourceLine
+abbrev pub entry_line : Maps → (unit : SourceFile) → List Block → EncodedInstruction → SourceLine
 entry_line meta unit blocks e = line_of meta unit blocks e.origin
 
 -- the files of the entries, in their order
-abbrev pub uses_in : Maps → (unit : SourceFile) → List Block → List Entry → List SourceFile
+abbrev pub uses_in : Maps → (unit : SourceFile) → List Block → List EncodedInstruction → List SourceFile
 uses_in meta unit blocks entries = map (λ e. (entry_line meta unit blocks e).file) entries
 
 -- a row for each entry
-abbrev pub rows_in : List SourceFile → Maps → (unit : SourceFile) → List Block → List Entry → List Row
+abbrev pub rows_in : List SourceFile → Maps → (unit : SourceFile) → List Block → List EncodedInstruction → List Row
 rows_in files meta unit blocks entries = map (λ e. row_of_line files e.address (entry_line meta unit blocks e)) entries

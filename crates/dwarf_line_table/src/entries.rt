@@ -4,7 +4,7 @@ ghost use Rattle.std.specs.Prelude.{◌≡◌, ◌-◌, ◌<◌, ◌^◌, map, l
 ghost use Rattle.dwarf_line_table.specs.Files.{dirs_of, entries_of, entry_zero};
 ghost use Rattle.dwarf_line_table.specs.steps.Seen.{seen};
 
-use crate::names::Names;
+use crate::names::NameTable;
 use base_list::List;
 use dwarf_line::table::{FileEntries, FileEntry, NameList};
 use std::alloc::{AllocError, Global};
@@ -24,7 +24,7 @@ pub fn make_entries(alloc: Global, keys: &[(Vec<u8>, Vec<u8>)]) -> Result<Entrie
     ensures dirs { IfOk result (λ e. e.dirs ≡ dirs_of (map seen keys.now)) }
     ensures files { IfOk result (λ e. e.files ≡ entries_of (map seen keys.now)) }
 {
-    let mut dirs = Names::new(alloc);
+    let mut dirs = NameTable::new(alloc);
     let mut files = entry_zero(alloc, keys)?;
     for key in keys {
         let dir = dirs.number(alloc, key.1.as_slice())?;

@@ -11,11 +11,11 @@ use std::marker::Model;
 
 /// A list of names without duplicates, in the order of their first use.
 #[derive(Drop)]
-pub struct Names {
+pub struct NameTable {
     known: IndexSet<Vec<u8>>,
 }
 
-impl Model for Names {
+impl Model for NameTable {
     ghost use Rattle.std.specs.Prelude.{List, ℕ, map};
 
     ghost Value = { List (List ℕ) };
@@ -23,12 +23,12 @@ impl Model for Names {
     ghost view = { λ n. map (λ k. k.items) n.known.keys };
 }
 
-impl Names {
+impl NameTable {
     /// No names. It takes no memory.
-    pub fn new(alloc: Global) -> Names
+    pub fn new(alloc: Global) -> NameTable
         ensures { result ≡ [] }
     {
-        Names {
+        NameTable {
             known: IndexSet::new(alloc),
         }
     }

@@ -16,7 +16,7 @@ use crate::scope_line::scope_line;
 use base_ids::metadata::NodeId;
 use dwarf_info::entry::text_of;
 use dwarf_line::table::{Row, RowList};
-use emit_code::code::Entry;
+use emit_code::code::EncodedInstruction;
 use mir_func::location::Loc;
 use read_metadata::metadata::Metadata;
 use read_metadata::node::FileNode;
@@ -104,7 +104,7 @@ pub fn rows(
     files: &mut Files,
     meta: &Metadata,
     places: &Places,
-    entries: &[Entry],
+    entries: &[EncodedInstruction],
 ) -> Result<RowList, AllocError>
     requires unit { 0 < length files.old }
     requires room { length files.old + length entries.now < 2 ^ 32 - 2 }

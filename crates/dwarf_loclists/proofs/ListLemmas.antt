@@ -13,7 +13,7 @@ use Rattle.dwarf_loclists.specs.declared.range.Range.{Range}
 use Rattle.dwarf_loclists.specs.Ranges.{location_in}
 use Rattle.dwarf_loclists.specs.Spelling.{entry, expression, list_spelling, bodies}
 use Rattle.dwarf_loclists.specs.Standard.{DW_LLE_end_of_list}
-use Rattle.dwarf_loclists.specs.Fault.{Field, onward, MayBe, first_byte, after, FaultAt, ListOffset, EntryKind, StartOffset}
+use Rattle.dwarf_loclists.specs.Fault.{LocationListField, onward, MayBe, first_byte, after, FaultAt, ListOffset, EntryKind, StartOffset}
 use Rattle.dwarf_loclists.specs.steps.Reader.{StandsAt, AtLists, EntryRead, RangesRead, ListRead, ListsRead, AllRead, location_of}
 use Rattle.dwarf_loclists.proofs.ReaderLemmas.{step, stuck}
 use Rattle.dwarf_loclists.proofs.LastLemmas.{last_none, found_last, found_before}
@@ -93,7 +93,7 @@ pub offset_stands : (bytes : List ℕ) (n number k address : ℕ) (found : Optio
 offset_stands bytes n number k address found table rest r more = at_offset bytes n r.done table rest r.at (omega (arith, r.count))
 
 pub only_offset : (total n : ℕ) (done : List (List Range)) (field : List ℕ) → length done < n → field ≡ to_le_bytes w32 (4 * n + length (bodies done))
-    → (xs : List ℕ) (next : Field) → MayBe total (ListOffset n done) xs next → xs ≡ field
+    → (xs : List ℕ) (next : LocationListField) → MayBe total (ListOffset n done) xs next → xs ≡ field
 only_offset total n done field more is xs next m =
     elim m [
       | inl offset ↦ offset.1 ∙ sym is

@@ -4,18 +4,20 @@ use Rattle.std.proofs.Common.{◌≡◌, ℕ, List, [], ◌∷◌, ◌++◌, ari
 use Rattle.std.proofs.lemmas.Nat.{from_le_bytes-to_le_bytes_4}
 use Rattle.dwarf_loclists.specs.declared.range.Location.{Location}
 use Rattle.dwarf_loclists.specs.declared.range.Range.{Range}
-use Rattle.dwarf_loclists.specs.Fault.{Field, Reaches, begin, onward, IsRight, first_byte, FaultAt, UnitLength, Version, AddressSize, SegmentSelectorSize}
+use Rattle.dwarf_loclists.specs.Fault.{LocationListField, Reaches, begin, onward, IsRight, first_byte, FaultAt, UnitLength, Version, AddressSize}
+use Rattle.dwarf_loclists.specs.Fault.{SegmentSelectorSize}
 use Rattle.dwarf_loclists.specs.Fault.{OffsetEntryCount, ListOffset, EntryKind, StartOffset, EndOffset, ExpressionLength, Expression, Nothing}
 use Rattle.dwarf_loclists.proofs.OneLocation.{uleb_one, heads_one, expression_one}
 use Rattle.dwarf_loclists.proofs.OneReading.{cut}
 
-both : (bytes : List ℕ) (f s t : Field) (a : IsRight bytes f s) (b : IsRight bytes f t) → a.here ++ a.rest ≡ b.here ++ b.rest
+both : (bytes : List ℕ) (f s t : LocationListField) (a : IsRight bytes f s) (b : IsRight bytes f t) → a.here ++ a.rest ≡ b.here ++ b.rest
 both bytes f s t a b = sym a.stands ∙ b.stands
 
-fronts : (bytes : List ℕ) (f s t : Field) (a : IsRight bytes f s) (b : IsRight bytes f t) (x y : List ℕ) → a.here ≡ x → b.here ≡ y → x ++ a.rest ≡ y ++ b.rest
+fronts : (bytes : List ℕ) (f s t : LocationListField) (a : IsRight bytes f s) (b : IsRight bytes f t) (x y : List ℕ) → a.here ≡ x → b.here ≡ y →
+    x ++ a.rest ≡ y ++ b.rest
 fronts bytes f s t a b x y is_x is_y = ap (λ (xs : List ℕ). xs ++ a.rest) (sym is_x) ∙ both bytes f s t a b ∙ ap (λ (xs : List ℕ). xs ++ b.rest) is_y
 
-right_one : (bytes : List ℕ) (f s t : Field) → IsRight bytes f s → IsRight bytes f t → s ≡ t
+right_one : (bytes : List ℕ) (f s t : LocationListField) → IsRight bytes f s → IsRight bytes f t → s ≡ t
 right_one bytes UnitLength s t a b = a.may.4 ∙ sym b.may.4
 right_one bytes Version s t a b = a.may.1 ∙ sym b.may.1
 right_one bytes AddressSize s t a b = a.may.1 ∙ sym b.may.1
@@ -59,24 +61,26 @@ right_one bytes (Expression n done ranges lo hi len) s t a b =
 right_one bytes (Nothing done) s t a b = absurd a.may
 
 -- from one field on to another
-data Onward (bytes : List ℕ) : Field → Field → Type 0 where
-  here : {f : Field} → Onward bytes f f
-  more : {f s t : Field} → IsRight bytes f s → Onward bytes s t → Onward bytes f t
+data Onward (bytes : List ℕ) : LocationListField → LocationListField → Type 0 where
+  here : {f : LocationListField} → Onward bytes f f
+  more : {f s t : LocationListField} → IsRight bytes f s → Onward bytes s t → Onward bytes f t
 
-from_start : (bytes : List ℕ) (f t : Field) → Reaches bytes f → Onward bytes f t → Onward bytes UnitLength t
+from_start : (bytes : List ℕ) (f t : LocationListField) → Reaches bytes f → Onward bytes f t → Onward bytes UnitLength t
 from_start bytes f t begin o = o
 from_start bytes f t (onward {field} {next} reached right) o = from_start bytes field t reached (more right o)
 
-one_end : (bytes : List ℕ) (f g s t : Field) → f ≡ g → Onward bytes f s → Onward bytes g t → ((n : Field) → IsRight bytes s n → ⊥)
-    → ((n : Field) → IsRight bytes t n → ⊥) → s ≡ t
+one_end : (bytes : List ℕ) (f g s t : LocationListField) → f ≡ g → Onward bytes f s → Onward bytes g t → ((n : LocationListField) → IsRight bytes s n → ⊥)
+    → ((n : LocationListField) → IsRight bytes t n → ⊥) → s ≡ t
 one_end bytes f g s t same here here end_s end_t = same
-one_end bytes f g s t same here (more {f = _} {s = m} right rest) end_s end_t = absurd (end_s m (subst (λ (x : Field). IsRight bytes x m) (sym same) right))
-one_end bytes f g s t same (more {f = _} {s = m} right rest) here end_s end_t = absurd (end_t m (subst (λ (x : Field). IsRight bytes x m) same right))
+one_end bytes f g s t same here (more {f = _} {s = m} right rest) end_s end_t = absurd (end_s m (subst (λ (x : LocationListField). IsRight bytes x m)
+    (sym same) right))
+one_end bytes f g s t same (more {f = _} {s = m} right rest) here end_s end_t = absurd (end_t m (subst (λ
+    (x : LocationListField). IsRight bytes x m) same right))
 one_end bytes f g s t same (more {f = _} {s = m} right rest) (more {f = _} {s = k} right' rest') end_s end_t =
-    one_end bytes m k s t (right_one bytes g m k (subst (λ (x : Field). IsRight bytes x m) same right) right') rest rest' end_s end_t
+    one_end bytes m k s t (right_one bytes g m k (subst (λ (x : LocationListField). IsRight bytes x m) same right) right') rest rest' end_s end_t
 
-pub one_field : (bytes : List ℕ) (s t : Field) → Reaches bytes s → Reaches bytes t → ((n : Field) → IsRight bytes s n → ⊥)
-    → ((n : Field) → IsRight bytes t n → ⊥) → s ≡ t
+pub one_field : (bytes : List ℕ) (s t : LocationListField) → Reaches bytes s → Reaches bytes t → ((n : LocationListField) → IsRight bytes s n → ⊥)
+    → ((n : LocationListField) → IsRight bytes t n → ⊥) → s ≡ t
 one_field bytes s t to_s to_t end_s end_t =
     one_end bytes UnitLength UnitLength s t refl (from_start bytes s s to_s here) (from_start bytes t t to_t here) end_s end_t
 

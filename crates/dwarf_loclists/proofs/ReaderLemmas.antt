@@ -5,10 +5,10 @@ use Rattle.dwarf_loclists.proofs.OneReading.{cut}
 use Rattle.std.proofs.Common.{◌≡◌, ℕ, ◌+◌, ◌-◌, ◌*◌, ◌/◌, ◌^◌, ◌<◌, ◌≤◌, List, [], ◌++◌, length, drop, arith, ap, sym, ◌∙◌, refl, length-append, length-drop}
 use Rattle.std.proofs.lemmas.List.{drop-drop}
 use Rattle.std.proofs.lemmas.List.Prefix.{front_rest}
-use Rattle.dwarf_loclists.specs.Fault.{Field, begin, onward, MayBe, first_byte, FaultAt, UnitLength, Version, OffsetEntryCount}
+use Rattle.dwarf_loclists.specs.Fault.{LocationListField, begin, onward, MayBe, first_byte, FaultAt, UnitLength, Version, OffsetEntryCount}
 use Rattle.dwarf_loclists.specs.steps.Reader.{StandsAt, Goes, AtLists}
 
-pub step : (bytes : List ℕ) (field next : Field) (here rest after : List ℕ) → StandsAt bytes field rest → rest ≡ here ++ after
+pub step : (bytes : List ℕ) (field next : LocationListField) (here rest after : List ℕ) → StandsAt bytes field rest → rest ≡ here ++ after
     → MayBe (length bytes) field here next
     → first_byte next ≡ first_byte field + length here → StandsAt bytes next after
 step bytes field next here rest after s e may place = record {
@@ -18,8 +18,8 @@ step bytes field next here rest after s e may place = record {
   within = omega (arith, place, s.within, ap length e, length-append here after);
 }
 
-pub stuck : (bytes : List ℕ) (field : Field) (rest : List ℕ) (at : ℕ) → StandsAt bytes field rest → Goes field → at + length rest ≡ length bytes
-    → ((here after : List ℕ) (next : Field) → rest ≡ here ++ after → MayBe (length bytes) field here next → ⊥) → FaultAt bytes at
+pub stuck : (bytes : List ℕ) (field : LocationListField) (rest : List ℕ) (at : ℕ) → StandsAt bytes field rest → Goes field → at + length rest ≡ length bytes
+    → ((here after : List ℕ) (next : LocationListField) → rest ≡ here ++ after → MayBe (length bytes) field here next → ⊥) → FaultAt bytes at
 stuck bytes field rest at s goes is none = record {
   field = field;
   reached = s.reached;
@@ -33,7 +33,7 @@ at_start bytes = record { reached = begin; here = refl; within = omega arith }
 
 -- the length that is right, and the only one
 pub length_field : (bytes : List ℕ) → 4 ≤ length bytes → length bytes - 4 < 4294967280 → (field : List ℕ) → field ≡ to_le_bytes w32 (length bytes - 4)
-    → MayBe (length bytes) UnitLength field Version × ((xs : List ℕ) (next : Field) → MayBe (length bytes) UnitLength xs next → xs ≡ field)
+    → MayBe (length bytes) UnitLength field Version × ((xs : List ℕ) (next : LocationListField) → MayBe (length bytes) UnitLength xs next → xs ≡ field)
 length_field bytes some small field is = (
   (length bytes - 4, small, omega arith, is, refl),
   λ xs next m. m.3 ∙ ap (to_le_bytes w32) (let after : m.0 ≡ length bytes - 4 = omega (arith, m.2) in after) ∙ sym is,

@@ -15,7 +15,8 @@ use Rattle.dwarf_loclists.specs.declared.range.Range.{Range}
 use Rattle.dwarf_loclists.specs.Ranges.{Ascend, ArePlaces, Are64Bit, IsLocated, HasWords}
 use Rattle.dwarf_loclists.specs.Spelling.{entry, expression, list_spelling, bodies, offsets_from, header, spelling}
 use Rattle.dwarf_loclists.specs.Grammar.{IsSection}
-use Rattle.dwarf_loclists.specs.Fault.{Field, Reaches, begin, onward, IsRight, first_byte, after, UnitLength, Version, AddressSize, SegmentSelectorSize}
+use Rattle.dwarf_loclists.specs.Fault.{LocationListField, Reaches, begin, onward, IsRight, first_byte, after, UnitLength, Version, AddressSize}
+use Rattle.dwarf_loclists.specs.Fault.{SegmentSelectorSize}
 use Rattle.dwarf_loclists.specs.Fault.{OffsetEntryCount, ListOffset, EntryKind, StartOffset, EndOffset, ExpressionLength, Expression, Nothing}
 use Rattle.dwarf_loclists.proofs.SpellingLemmas.{length-offsets_from}
 
@@ -63,7 +64,7 @@ pub record Listed (bytes : List ℕ) (n : ℕ) (done : List (List Range)) : Type
   pub lists : Front (drop (12 + 4 * n) bytes) (bodies done)
 
 -- what stands before a field
-abbrev pub Before : List ℕ → Field → Type 0
+abbrev pub Before : List ℕ → LocationListField → Type 0
 Before bytes UnitLength = Unit {0}
 Before bytes Version = (length bytes < 4294967284) × (4 ≤ length bytes) × Front bytes (to_le_bytes w32 (length bytes - 4))
 Before bytes AddressSize = (length bytes < 4294967284) × (4 ≤ length bytes) × Front bytes (to_le_bytes w32 (length bytes - 4) ++ to_le_bytes w16 5)
@@ -216,7 +217,7 @@ list_begun bytes n done here rest l more stands is =
 moved : (bytes here rest is : List ℕ) (at : ℕ) → drop at bytes ≡ here ++ rest → here ≡ is → drop at bytes ≡ is ++ rest
 moved bytes here rest is at stands e = stands ∙ ap (λ (xs : List ℕ). xs ++ rest) e
 
-one_more : (bytes : List ℕ) (f next : Field) → Before bytes f → IsRight bytes f next → Before bytes next
+one_more : (bytes : List ℕ) (f next : LocationListField) → Before bytes f → IsRight bytes f next → Before bytes next
 one_more bytes UnitLength next b r =
     let here : r.here ≡ to_le_bytes w32 (length bytes - 4) = r.may.3 ∙ ap (to_le_bytes w32) (omega (arith, r.may.2)) in
     subst (Before bytes) (sym r.may.4) (
@@ -311,7 +312,7 @@ one_more bytes (Expression n done ranges lo hi len) next b r =
     r.stands r.may.1.spelled r.may.2 r.may.3 r.may.1.located (b.1, b.2, r.may.1.wide))
 one_more bytes (Nothing done) next b r = absurd r.may
 
-pub what_stands : (bytes : List ℕ) (f : Field) → Reaches bytes f → Before bytes f
+pub what_stands : (bytes : List ℕ) (f : LocationListField) → Reaches bytes f → Before bytes f
 what_stands bytes f begin = tt
 what_stands bytes f (onward {field} {next} reached right) = one_more bytes field next (what_stands bytes field reached) right
 

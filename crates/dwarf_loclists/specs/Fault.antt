@@ -13,26 +13,26 @@ use Rattle.dwarf_loclists.specs.Standard.{DW_LLE_end_of_list, DW_LLE_offset_pair
 
 -- the next field (DWARF 5 section 7.29), with what was read before it: the number n of lists by the header, the complete lists,
 -- the ranges of the next list so far, and the parts of an entry
-pub data Field : Type 0 where
-  UnitLength : Field
-  Version : Field
-  AddressSize : Field
-  SegmentSelectorSize : Field
-  OffsetEntryCount : Field
-  ListOffset : (n : ℕ) (done : List (List Range)) → Field
-  EntryKind : (n : ℕ) (done : List (List Range)) (ranges : List Range) → Field
-  StartOffset : (n : ℕ) (done : List (List Range)) (ranges : List Range) → Field
-  EndOffset : (n : ℕ) (done : List (List Range)) (ranges : List Range) (lo : ℕ) → Field
-  ExpressionLength : (n : ℕ) (done : List (List Range)) (ranges : List Range) (lo hi : ℕ) → Field
-  Expression : (n : ℕ) (done : List (List Range)) (ranges : List Range) (lo hi len : ℕ) → Field
-  Nothing : (done : List (List Range)) → Field
+pub data LocationListField : Type 0 where
+  UnitLength : LocationListField
+  Version : LocationListField
+  AddressSize : LocationListField
+  SegmentSelectorSize : LocationListField
+  OffsetEntryCount : LocationListField
+  ListOffset : (n : ℕ) (done : List (List Range)) → LocationListField
+  EntryKind : (n : ℕ) (done : List (List Range)) (ranges : List Range) → LocationListField
+  StartOffset : (n : ℕ) (done : List (List Range)) (ranges : List Range) → LocationListField
+  EndOffset : (n : ℕ) (done : List (List Range)) (ranges : List Range) (lo : ℕ) → LocationListField
+  ExpressionLength : (n : ℕ) (done : List (List Range)) (ranges : List Range) (lo hi : ℕ) → LocationListField
+  Expression : (n : ℕ) (done : List (List Range)) (ranges : List Range) (lo hi len : ℕ) → LocationListField
+  Nothing : (done : List (List Range)) → LocationListField
 
 -- the offset after the header, the n list offsets, the complete lists, and these ranges of the next list
 abbrev pub after : ℕ → List (List Range) → List Range → ℕ
 after n done ranges = 12 + 4 * n + length (bodies done) + length (flat_map entry ranges)
 
 -- the offset of a field's first byte
-abbrev pub first_byte : Field → ℕ
+abbrev pub first_byte : LocationListField → ℕ
 first_byte UnitLength = 0
 first_byte Version = 4
 first_byte AddressSize = 6
@@ -47,7 +47,7 @@ first_byte (Expression n done ranges lo hi len) = after n done ranges + 1 + leng
 first_byte (Nothing done) = after (length done) done []
 
 -- the allowed bytes of a field in a section of `total` bytes, with the next field
-abbrev pub MayBe : (total : ℕ) → Field → List ℕ → Field → Type 0
+abbrev pub MayBe : (total : ℕ) → LocationListField → List ℕ → LocationListField → Type 0
 -- the length of what follows it, in the 32-bit format
 MayBe total UnitLength bytes next = (n : ℕ) × (n < LENGTH_LIMIT) × (total ≡ 4 + n) × (bytes ≡ to_le_bytes w32 n) × (next ≡ Version)
 MayBe total Version bytes next = (bytes ≡ to_le_bytes w16 VERSION) × (next ≡ AddressSize)
@@ -77,21 +77,21 @@ MayBe total (Expression n done ranges lo hi len) bytes next =
 MayBe total (Nothing done) bytes next = ⊥
 
 -- the bytes at a field are allowed, and this field is next
-pub record IsRight (bytes : List ℕ) (field next : Field) : Type 0 where
+pub record IsRight (bytes : List ℕ) (field next : LocationListField) : Type 0 where
   pub here : List ℕ
   pub rest : List ℕ
   pub stands : drop (first_byte field) bytes ≡ here ++ rest
   pub may : MayBe (length bytes) field here next
 
 -- all fields before this one have allowed bytes
-pub data Reaches (bytes : List ℕ) : Field → Type 0 where
+pub data Reaches (bytes : List ℕ) : LocationListField → Type 0 where
   begin : Reaches bytes UnitLength
-  onward : {field next : Field} → Reaches bytes field → IsRight bytes field next → Reaches bytes next
+  onward : {field next : LocationListField} → Reaches bytes field → IsRight bytes field next → Reaches bytes next
 
 -- the first field without allowed bytes begins at this byte
 pub record FaultAt (bytes : List ℕ) (at : ℕ) : Type 0 where
-  pub field : Field
+  pub field : LocationListField
   pub reached : Reaches bytes field
-  pub wrong : (next : Field) → IsRight bytes field next → ⊥
+  pub wrong : (next : LocationListField) → IsRight bytes field next → ⊥
   pub unfinished : (done : List (List Range)) → field ≢ Nothing done
   pub is : at ≡ first_byte field

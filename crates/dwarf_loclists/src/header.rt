@@ -3,7 +3,7 @@
 ghost use Rattle.std.specs.Prelude.{◌≡◌, ◌+◌, ◌*◌, ◌<◌, ◌≤◌, ◌++◌, ℕ, List, [], length, IfOk, IfErr};
 ghost use Rattle.std.specs.Prelude.{drop};
 ghost use Rattle.dwarf_base.specs.Standard;
-ghost use Rattle.dwarf_loclists.specs.Fault.{Field, OffsetEntryCount, MayBe, first_byte, FaultAt};
+ghost use Rattle.dwarf_loclists.specs.Fault.{LocationListField, OffsetEntryCount, MayBe, first_byte, FaultAt};
 ghost use Rattle.dwarf_loclists.specs.steps.Reader.{StandsAt, Goes, AtLists};
 
 use crate::fault::ListFault;
@@ -57,12 +57,12 @@ fn read_count(bytes: &[u8], rest: &[u8]) -> Result<u32, ListFault>
 /// The bytes after a field with only one allowed encoding.
 pub fn expect<'a>(bytes: &[u8], rest: &'a [u8], field: &[u8]) -> Result<&'a [u8], ListFault>
     requires { length rest.now ≤ length bytes.now }
-    ensures ok { IfOk result (λ after. (f next : Field) → StandsAt bytes.now f rest.now
+    ensures ok { IfOk result (λ after. (f next : LocationListField) → StandsAt bytes.now f rest.now
         → MayBe (length bytes.now) f field.now next
         → first_byte next ≡ first_byte f + length field.now → StandsAt bytes.now next after.now) }
     ensures front { IfOk result (λ after. rest.now ≡ field.now ++ after.now) }
-    ensures err { IfErr result (λ e. (f : Field) → StandsAt bytes.now f rest.now → Goes f
-        → ((xs : List ℕ) (next : Field) → MayBe (length bytes.now) f xs next → xs ≡ field.now)
+    ensures err { IfErr result (λ e. (f : LocationListField) → StandsAt bytes.now f rest.now → Goes f
+        → ((xs : List ℕ) (next : LocationListField) → MayBe (length bytes.now) f xs next → xs ≡ field.now)
         → FaultAt bytes.now e.at) }
 {
     match rest.strip_prefix(field) {

@@ -23,7 +23,7 @@ const HEADER: usize = 12;
 
 /// An entry as read.
 #[derive(Clone, Copy)]
-pub struct Entry<'a> {
+pub struct LocationListEntry<'a> {
     /// The first address of its range.
     pub lo: u64,
     /// The address after the range.
@@ -83,7 +83,7 @@ fn read_list<'a>(bytes: &[u8], start: &'a [u8], address: u64) -> Result<ReadList
         → FaultAt bytes.now f.at) }
 {
     let mut rest = start;
-    let mut last = Entry {
+    let mut last = LocationListEntry {
         lo: 0,
         hi: 0,
         expression: &start[..0],
@@ -123,8 +123,8 @@ fn read_kind<'a>(bytes: &[u8], rest: &'a [u8]) -> Result<(u8, &'a [u8]), ListFau
 fn read_entry<'a>(
     bytes: &[u8],
     rest: &'a [u8],
-    last: Entry<'a>,
-) -> Result<(Entry<'a>, &'a [u8]), ListFault>
+    last: LocationListEntry<'a>,
+) -> Result<(LocationListEntry<'a>, &'a [u8]), ListFault>
     requires { length rest.now ≤ length bytes.now }
     ensures ok { IfOk result (λ r. (n : ℕ) (done : List (List Range)) (ranges : List Range)
         → StandsAt bytes.now (StartOffset n done ranges) rest.now
@@ -154,11 +154,11 @@ fn read_entry<'a>(
     if repeats(lo, expression, last) {
         return Err(ListFault::at(bytes, rest));
     }
-    Ok((Entry { lo, hi, expression }, after))
+    Ok((LocationListEntry { lo, hi, expression }, after))
 }
 
 /// Whether a range begins where the last one ends, at the same location.
-fn repeats(lo: u64, expression: &[u8], last: Entry) -> bool
+fn repeats(lo: u64, expression: &[u8], last: LocationListEntry) -> bool
     ensures { IsTrue result ↔ ((lo ≡ last.entry.hi) × (expression.now ≡ last.entry.expression.now)) }
 {
     lo == last.hi && expression == last.expression

@@ -30,7 +30,7 @@ use Rattle.mir_func.specs.declared.item.ItemKind.{ItemKind}
 use Rattle.mir_func.specs.declared.item.ItemKind.TheVariants.{Code, Mark, Phi}
 use Rattle.mir_func.specs.declared.position.Pos.{Pos}
 use Rattle.mir_func.specs.Successors.{pos_in}
-use Rattle.emit_code.specs.declared.plan.Plan.{Plan}
+use Rattle.emit_code.specs.declared.plan.ItemLayout.{ItemLayout}
 use Rattle.emit_code.specs.declared.span.Span.{Span}
 use Rattle.emit_code.specs.declared.span.Span.TheVariants.{Nothing, OneWord, CallSite, Short, Long}
 use Rattle.emit_code.specs.Inverted.{inverted, inverted_op}
@@ -354,7 +354,7 @@ span_got f [] k s e = absurd cc
 span_got f (x ∷ sites) zero s e = let same : x ≡ s = cc in ap f same
 span_got f (x ∷ sites) (suc k) s e = span_got f sites k s e
 
-pub all_stand : (l : Layout) (p : Plan) → IsPlan l p → (k : ℕ) (b : Block) → k < length l.framed.blocks → b ≡ get_or l.framed.blocks k b →
+pub all_stand : (l : Layout) (p : ItemLayout) → IsPlan l p → (k : ℕ) (b : Block) → k < length l.framed.blocks → b ≡ get_or l.framed.blocks k b →
     AllStandAt l p (slice_index p.table.firsts k) k b.items
 all_stand l p is k b lt at n i within item =
     let blocks = l.framed.blocks in

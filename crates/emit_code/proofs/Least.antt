@@ -18,7 +18,7 @@ use Rattle.mir_func.specs.declared.item.ItemKind.TheVariants.{Code, Mark, Phi}
 use Rattle.mir_func.specs.declared.position.Pos.{Pos}
 use Rattle.mir_func.specs.Exits.{row_exit, exit_of}
 use Rattle.mir_func.specs.Function.{FramedFunction}
-use Rattle.mir_func.specs.Graph.{Fetch, Here, Silent, Outside, fetch_in, index_of}
+use Rattle.mir_func.specs.Graph.{Fetch, Here, EndOfBlock, Outside, fetch_in, index_of}
 use Rattle.mir_func.specs.SoundFrame.{body_of}
 use Rattle.mir_func.specs.Successors.{pos_in}
 use Rattle.emit_code.specs.declared.span.Span.{Span}
@@ -239,7 +239,7 @@ fetch_is_far blocks long p (Here i) at e = kind_is_far i i.kind refl at e
         record { item = x; stands = here; target = found.0; goes = ap exit_of is ∙ found.1; unreached = found.2 }
     kind_is_far x (Mark v m) is here holds = absurd cc
     kind_is_far x (Phi r k) is here holds = absurd cc
-fetch_is_far blocks long p (Silent k n) at e = absurd cc
+fetch_is_far blocks long p (EndOfBlock k n) at e = absurd cc
 fetch_is_far blocks long p Outside at e = absurd cc
 
 -- spans with all that the rounds made long so far

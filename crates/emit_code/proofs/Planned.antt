@@ -9,7 +9,7 @@ use Rattle.mir_func.specs.declared.item.Item.{Item}
 use Rattle.mir_func.specs.declared.item.ItemKind.{ItemKind}
 use Rattle.mir_func.specs.declared.item.ItemKind.TheVariants.{Code, Mark, Phi}
 use Rattle.mir_func.specs.declared.position.Pos.{Pos}
-use Rattle.emit_code.specs.declared.plan.Plan.{Plan}
+use Rattle.emit_code.specs.declared.plan.ItemLayout.{ItemLayout}
 use Rattle.emit_code.specs.Counts.{row_words, kind_count, item_count, count_of}
 use Rattle.emit_code.specs.Rule.{Layout, start_of, sites_from}
 use Rattle.emit_code.specs.steps.Places.{items_count, first_of}
@@ -60,7 +60,7 @@ spans_length blocks long = length-map (sites_from 0 blocks) (site_span blocks lo
 
 -- ---- addresses
 
-pub starts_at : (l : Layout) (p : Plan) (n k : ℕ) → IsPlan l p → k ≡ first_of l.framed.blocks n → p.base + slice_index p.sums k ≡ start_of l n
+pub starts_at : (l : Layout) (p : ItemLayout) (n k : ℕ) → IsPlan l p → k ≡ first_of l.framed.blocks n → p.base + slice_index p.sums k ≡ start_of l n
 starts_at l p n k is e =
     (λ i. is.base i + slice_index (is.sums i) (e i))
     ∙ ap (λ spans. l.base + slice_index (sums_from 0 spans) (first_of l.framed.blocks n)) is.spans

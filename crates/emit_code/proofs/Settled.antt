@@ -13,7 +13,7 @@ use Rattle.mir_func.specs.declared.item.Item.{Item}
 use Rattle.mir_func.specs.declared.item.ItemKind.{ItemKind}
 use Rattle.mir_func.specs.declared.item.ItemKind.TheVariants.{Code, Mark, Phi}
 use Rattle.mir_func.specs.declared.position.Pos.{Pos}
-use Rattle.mir_func.specs.Graph.{Fetch, Here, Silent, Outside, fetch_in, front, index_of, block_start}
+use Rattle.mir_func.specs.Graph.{Fetch, Here, EndOfBlock, Outside, fetch_in, front, index_of, block_start}
 use Rattle.mir_func.specs.SoundFrame.{body_of}
 use Rattle.mir_func.specs.Successors.{pos_in}
 use Rattle.emit_code.specs.declared.span.Span.TheVariants.{Short, Long}
@@ -31,7 +31,7 @@ front_at (x ∷ items) (suc n) k blocks i e = front_at items n k blocks i e
 
 pub fetched : (blocks : List Block) (b n : ℕ) (i : Item) → slice_get (items_at blocks b) n ≡ Some i → fetch_in (drop b blocks) n ≡ Here i
 fetched [] b n i e = absurd cc
-fetched (x ∷ blocks) zero n i e = front_at x.items n x.silent blocks i e
+fetched (x ∷ blocks) zero n i e = front_at x.items n x.source_end blocks i e
 fetched (x ∷ blocks) (suc b) n i e = fetched blocks b n i e
 
 end_apart : (k : ℕ) (blocks : List Block) (i : Item) → front [] k blocks ≡ Here i → ⊥
@@ -47,7 +47,7 @@ at_front (x ∷ items) (suc n) k blocks i e = at_front items n k blocks i e
 pub item_at : (blocks : List Block) (b n : ℕ) (i : Item) → fetch_in (drop b blocks) n ≡ Here i → slice_get (items_at blocks b) n ≡ Some i
 item_at [] zero n i e = absurd cc
 item_at [] (suc b) n i e = absurd cc
-item_at (x ∷ blocks) zero n i e = at_front x.items n x.silent blocks i e
+item_at (x ∷ blocks) zero n i e = at_front x.items n x.source_end blocks i e
 item_at (x ∷ blocks) (suc b) n i e = item_at blocks b n i e
 
 -- ---- where a site is
@@ -162,7 +162,7 @@ kind_far blocks long p (Phi r k) = false
 
 abbrev pub fetch_far : List Block → (Pos → Bool) → Pos → Fetch → Bool
 fetch_far blocks long p (Here i) = kind_far blocks long p i.kind
-fetch_far blocks long p (Silent k n) = false
+fetch_far blocks long p (EndOfBlock k n) = false
 fetch_far blocks long p Outside = false
 
 abbrev pub next_long : List Block → (Pos → Bool) → Pos → Bool

@@ -18,7 +18,7 @@ use Rattle.mir_func.specs.declared.position.Pos.{Pos}
 use Rattle.mir_func.specs.Function.{FramedFunction}
 use Rattle.mir_func.specs.Graph.{Here, fetch_in}
 use Rattle.mir_func.specs.Successors.{pos_in}
-use Rattle.emit_code.specs.declared.code.Entry.{Entry}
+use Rattle.emit_code.specs.declared.code.EncodedInstruction.{EncodedInstruction}
 use Rattle.emit_code.specs.Counts.{MAX_BASE, count_of}
 use Rattle.emit_code.specs.Laid.{StandFrom, IsOfItem, IsCode, is_call_kind, FormWorded, IsWorded}
 use Rattle.emit_code.specs.Rule as rule
@@ -30,7 +30,7 @@ use Rattle.emit_code.proofs.Sites.{site_size, bytes_at, blocks_sum}
 
 -- ---- one after the other
 
-form_stands : (f : Form) (a b : ℕ) (o : Origin) (p : Pos) (rest : List Entry) (end : ℕ) → b ≡ a + form_size f → StandFrom b rest end →
+form_stands : (f : Form) (a b : ℕ) (o : Origin) (p : Pos) (rest : List EncodedInstruction) (end : ℕ) → b ≡ a + form_size f → StandFrom b rest end →
     StandFrom a (form_entries a o p f ++ rest) end
 form_stands rule.Nothing a b o p rest end e h = let same : b ≡ a = omega arith in subst (λ (x : ℕ). StandFrom x rest end) same h
 form_stands rule.OneWord a b o p rest end e h = (refl, refl, subst (λ (x : ℕ). StandFrom x rest end) e h)

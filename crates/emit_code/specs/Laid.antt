@@ -9,7 +9,7 @@ use Rattle.mir_func.specs.declared.item.ItemKind.TheVariants.{Code, Mark, Phi}
 use Rattle.mir_func.specs.declared.position.Pos.{Pos}
 use Rattle.mir_func.specs.Function.{FramedFunction}
 use Rattle.mir_func.specs.Graph.{Here, fetch_in}
-use Rattle.emit_code.specs.declared.code.Entry.{Entry}
+use Rattle.emit_code.specs.declared.code.EncodedInstruction.{EncodedInstruction}
 use Rattle.emit_code.specs.Counts.{MAX_WORDS, MAX_BASE}
 use Rattle.emit_code.specs.Rule.{Layout, Form, Nothing, OneWord, CallSite, LongBranch, row_form, address_in, operation_at, skip_operation, jump_operation}
 use Rattle.emit_code.specs.Rule.{entries_of, words_of}
@@ -19,11 +19,11 @@ use Rattle.emit_code.specs.Long.{IsSettled}
 pub record LaidCode : Type 0 where
   pub base : ℕ
   pub words : List ℕ
-  pub entries : List Entry
+  pub entries : List EncodedInstruction
   pub framed : FramedFunction
 
 -- the entries are contiguous from an address to an end. A call has 8 bytes, any other entry 4
-abbrev pub StandFrom : (address : ℕ) → List Entry → (end : ℕ) → Type 0
+abbrev pub StandFrom : (address : ℕ) → List EncodedInstruction → (end : ℕ) → Type 0
 StandFrom a [] end = a ≡ end
 StandFrom a (e ∷ es) end = (e.address ≡ a) × (e.size ≡ cond e.call 8 4) × StandFrom (a + e.size) es end
 
@@ -34,7 +34,7 @@ is_call_kind (Mark v m) = false
 is_call_kind (Phi p k) = false
 
 -- the function has an item at the entry's point, and the entry is a call if and only if the item is one
-pub record IsOfItem (f : FramedFunction) (e : Entry) : Type 0 where
+pub record IsOfItem (f : FramedFunction) (e : EncodedInstruction) : Type 0 where
   pub item : Item
   pub stands : fetch_in (drop e.point.block f.blocks) e.point.item ≡ Here item
   pub call : e.call ≡ is_call_kind item.kind

@@ -26,7 +26,7 @@ use Rattle.mir_func.specs.Graph.{index_of, block_start}
 use Rattle.mir_func.specs.Objects.{offset_of}
 use Rattle.mir_func.specs.SoundFrame.{body_of, own_size}
 use Rattle.mir_func.specs.Successors.{pos_in}
-use Rattle.emit_code.specs.declared.code.Entry.{Entry}
+use Rattle.emit_code.specs.declared.code.EncodedInstruction.{EncodedInstruction}
 use Rattle.emit_code.specs.Inverted.{inverted_branch, jump_to}
 
 -- a layout: a function with its frame, the points of its long conditional branches, and its first address
@@ -163,12 +163,12 @@ added_before (Kept p) = Before p
 added_before (Before p) = Before p
 
 -- an entry at an address, for the item at this point
-abbrev pub entry : (address size : ℕ) → Origin → Pos → (call : Bool) → Entry
+abbrev pub entry : (address size : ℕ) → Origin → Pos → (call : Bool) → EncodedInstruction
 entry a n o p call = record { address = a; size = n; origin = o; point = record { block = p.block; item = p.item }; call = call }
 
 -- the entries of an item. Those of a long branch have one point: the inverted branch's origin is `Before` the item's position,
 -- the jump's is the item's
-abbrev pub form_entries : (address : ℕ) → Origin → Pos → Form → List Entry
+abbrev pub form_entries : (address : ℕ) → Origin → Pos → Form → List EncodedInstruction
 form_entries a o p Nothing = []
 form_entries a o p OneWord = entry a 4 o p false ∷ []
 form_entries a o p CallSite = entry a 8 o p true ∷ []
@@ -196,7 +196,7 @@ abbrev pub sites_of : FramedFunction → List Site
 sites_of f = sites_from 0 f.blocks
 
 -- the entries of an item at the address of its point
-abbrev pub entries_at : Layout → Site → List Entry
+abbrev pub entries_at : Layout → Site → List EncodedInstruction
 entries_at l s = form_entries (address_in l s.point) s.item.origin s.point (form_of (l.long s.point) s.item.kind)
 
 -- the words of an item, at the address of its point
@@ -204,7 +204,7 @@ abbrev pub words_at : Layout → Site → List ℕ
 words_at l s = kind_words l s.point s.item.kind
 
 -- all entries of a function, in the order of their addresses
-abbrev pub entries_of : Layout → List Entry
+abbrev pub entries_of : Layout → List EncodedInstruction
 entries_of l = flat_map (entries_at l) (sites_of l.framed)
 
 -- all words of a function from its first address on

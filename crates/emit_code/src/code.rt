@@ -2,12 +2,12 @@
 
 use base_list::List;
 use mir_func::framed::Framed;
-use mir_func::position::{Origin, Point};
+use mir_func::position::{Origin, ProgramPoint};
 use std::marker::Model;
 
 /// An encoded instruction at its address. A call's two words are one entry, the two words of a long branch are two.
 #[derive(Clone, Copy, Debug, PartialEq, Eq)]
-pub struct Entry {
+pub struct EncodedInstruction {
     /// The address of its first byte.
     pub address: u64,
     /// Its size in bytes: 8 for a call, 4 otherwise.
@@ -15,13 +15,13 @@ pub struct Entry {
     /// The source position that it stands for, or that it was added before.
     pub origin: Origin,
     /// The point of its item in the function with its frame.
-    pub point: Point,
+    pub point: ProgramPoint,
     /// Whether it is a call.
     pub call: bool,
 }
 
 /// Entries, contiguous in the order of their addresses.
-pub type Entries = List<Entry>;
+pub type Entries = List<EncodedInstruction>;
 
 /// Words, in the order of their addresses.
 pub type Words = List<u32>;

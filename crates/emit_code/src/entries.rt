@@ -8,17 +8,17 @@ ghost use Rattle.emit_code.specs.steps.Places.{items_count};
 ghost use Rattle.emit_code.specs.steps.Plans.{IsPlan};
 ghost use Rattle.emit_code.specs.steps.Emitted.{StandsAt, AllStandAt, point_of};
 
-use crate::code::{Entries, Entry};
-use crate::plan::Plan;
+use crate::code::{EncodedInstruction, Entries};
+use crate::plan::ItemLayout;
 use crate::span::Span;
 use base_ids::code::BlockIndex;
 use mir_func::block::Block;
 use mir_func::item::Item;
-use mir_func::position::{Origin, Point};
+use mir_func::position::{Origin, ProgramPoint};
 use std::alloc::{AllocError, Global};
 
 /// The entries of blocks by their plan, in the order of their addresses. The error is out of memory.
-pub fn entries(alloc: Global, plan: &Plan, blocks: &[Block]) -> Result<Entries, AllocError>
+pub fn entries(alloc: Global, plan: &ItemLayout, blocks: &[Block]) -> Result<Entries, AllocError>
     requires blocks { length blocks.now < 2 ^ 32 }
     requires items { items_count blocks.now < 2 ^ 32 }
     ensures { (l : Layout) → IsPlan l plan.now → l.framed.blocks ≡ blocks.now →
@@ -34,7 +34,7 @@ pub fn entries(alloc: Global, plan: &Plan, blocks: &[Block]) -> Result<Entries, 
 /// Appends the entries of the items of a block.
 fn push_block(
     entries: &mut Entries,
-    plan: &Plan,
+    plan: &ItemLayout,
     block: u32,
     items: &[Item],
 ) -> Result<(), AllocError>
@@ -44,7 +44,7 @@ fn push_block(
 {
     let first = plan.table.first(block as usize) as usize;
     for (index, item) in items.iter().enumerate() {
-        let point = Point {
+        let point = ProgramPoint {
             block: BlockIndex(block),
             item: index as u32,
         };
@@ -55,9 +55,9 @@ fn push_block(
 
 fn push_item(
     entries: &mut Entries,
-    plan: &Plan,
+    plan: &ItemLayout,
     index: usize,
-    point: &Point,
+    point: &ProgramPoint,
     origin: &Origin,
 ) -> Result<(), AllocError>
     ensures { (l : Layout) (s : Site) → StandsAt l plan.now index s → point.now ≡ point_of s.point →
@@ -78,7 +78,7 @@ fn push_long(
     entries: &mut Entries,
     address: u64,
     origin: &Origin,
-    point: &Point,
+    point: &ProgramPoint,
 ) -> Result<(), AllocError>
     requires { address < 2 ^ 33 }
     ensures { (p : Pos) → point.now ≡ point_of p →
@@ -89,10 +89,10 @@ fn push_long(
     entries.push(word_entry(address + 4, origin, point))
 }
 
-fn word_entry(address: u64, origin: &Origin, point: &Point) -> Entry
+fn word_entry(address: u64, origin: &Origin, point: &ProgramPoint) -> EncodedInstruction
     ensures { (p : Pos) → point.now ≡ point_of p → result ≡ entry address 4 origin.now p false }
 {
-    Entry {
+    EncodedInstruction {
         address,
         size: 4,
         origin: *origin,
@@ -101,10 +101,10 @@ fn word_entry(address: u64, origin: &Origin, point: &Point) -> Entry
     }
 }
 
-fn call_entry(address: u64, origin: &Origin, point: &Point) -> Entry
+fn call_entry(address: u64, origin: &Origin, point: &ProgramPoint) -> EncodedInstruction
     ensures { (p : Pos) → point.now ≡ point_of p → result ≡ entry address 8 origin.now p true }
 {
-    Entry {
+    EncodedInstruction {
         address,
         size: 8,
         origin: *origin,

@@ -7,7 +7,7 @@ ghost use Rattle.emit_code.specs.Laid.{IsCodeOf};
 
 use crate::code::Code;
 use crate::entries::entries;
-use crate::plan::Plan;
+use crate::plan::ItemLayout;
 use crate::words::words;
 use mir_func::framed::Framed;
 use std::alloc::{AllocError, Global};
@@ -20,7 +20,7 @@ pub fn lay_out(alloc: Global, framed: Framed, base: u64) -> Result<Code, AllocEr
     requires items { count_of framed.blocks < MAX_WORDS }
     ensures laid { IfOk result (IsCodeOf framed base) }
 {
-    let plan = Plan::new(alloc, &framed, base as u32)?;
+    let plan = ItemLayout::new(alloc, &framed, base as u32)?;
     let blocks = framed.blocks.as_slice();
     let words = words(alloc, &plan, blocks)?;
     let entries = entries(alloc, &plan, blocks)?;

@@ -18,7 +18,7 @@ use std::alloc::{AllocError, Global};
 
 /// The plan of a function: how and at which address each item is encoded.
 #[derive(Drop)]
-pub struct Plan {
+pub struct ItemLayout {
     /// The function's first address.
     pub base: u32,
     /// The number of items before each block.
@@ -31,9 +31,9 @@ pub struct Plan {
     pub objects: ObjectOffsets,
 }
 
-impl Plan {
+impl ItemLayout {
     /// The plan of a function at a first address. The error is out of memory.
-    pub fn new(alloc: Global, framed: &Framed, base: u32) -> Result<Plan, AllocError>
+    pub fn new(alloc: Global, framed: &Framed, base: u32) -> Result<ItemLayout, AllocError>
         requires blocks { length framed.now.blocks < 2 ^ 32 }
         requires items { count_of framed.now.blocks < MAX_WORDS }
         ensures { IfOk result (IsPlanOf framed.now base) }
@@ -41,7 +41,7 @@ impl Plan {
         let table = Table::new(alloc, framed.blocks.as_slice())?;
         let mut spans = short_spans(alloc, framed.blocks.as_slice(), &table)?;
         let sums = settle(alloc, &mut spans)?;
-        Ok(Plan {
+        Ok(ItemLayout {
             base,
             table,
             spans,

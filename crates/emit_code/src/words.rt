@@ -16,7 +16,7 @@ ghost use Rattle.emit_code.specs.steps.Emitted.{StandsAt, AllStandAt, jump_by, i
 
 use crate::branch::inverted;
 use crate::code::Words;
-use crate::plan::Plan;
+use crate::plan::ItemLayout;
 use crate::span::Span;
 use mir_func::block::Block;
 use mir_func::exit::Exit;
@@ -28,7 +28,7 @@ use rv64_word::word_op::WordOp;
 use std::alloc::{AllocError, Global};
 
 /// The words of blocks by their plan, in the order of their addresses. The error is out of memory.
-pub fn words(alloc: Global, plan: &Plan, blocks: &[Block]) -> Result<Words, AllocError>
+pub fn words(alloc: Global, plan: &ItemLayout, blocks: &[Block]) -> Result<Words, AllocError>
     ensures value { (l : Layout) → IsPlan l plan.now → l.framed.blocks ≡ blocks.now →
         IfOk result (λ words. words ≡ words_of l) }
     ensures forms { OnOk result (AllItems IsFormed blocks.now) }
@@ -46,7 +46,12 @@ pub fn words(alloc: Global, plan: &Plan, blocks: &[Block]) -> Result<Words, Allo
 }
 
 /// Appends the words of items. The first of them has this index in the function's items.
-fn push_block(words: &mut Words, plan: &Plan, first: u32, items: &[Item]) -> Result<(), AllocError>
+fn push_block(
+    words: &mut Words,
+    plan: &ItemLayout,
+    first: u32,
+    items: &[Item],
+) -> Result<(), AllocError>
     ensures forms { OnOk result (All IsFormed items.now) }
     ensures value { (l : Layout) (b : ℕ) → IsPlan l plan.now → AllStandAt l plan.now first b items.now →
         OnOk result (words.new ≡ words.old ++ flat_map (words_at l) (sites_in b 0 items.now)) }
@@ -59,7 +64,7 @@ fn push_block(words: &mut Words, plan: &Plan, first: u32, items: &[Item]) -> Res
 
 fn push_item(
     words: &mut Words,
-    plan: &Plan,
+    plan: &ItemLayout,
     index: usize,
     kind: &ItemKind,
 ) -> Result<(), AllocError>
@@ -75,7 +80,7 @@ fn push_item(
 
 fn push_code(
     words: &mut Words,
-    plan: &Plan,
+    plan: &ItemLayout,
     index: usize,
     i: &Instr,
     exit: Exit,
@@ -102,7 +107,7 @@ fn push_code(
 
 fn push_one(
     words: &mut Words,
-    plan: &Plan,
+    plan: &ItemLayout,
     address: u64,
     i: &Instr,
     exit: Exit,

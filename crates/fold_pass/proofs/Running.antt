@@ -1,6 +1,6 @@
 -- The steps of the run.
 use Rattle.std.proofs.Common.{◌≡◌, List, [], ◌∷◌, refl, sym, append-nil}
-use Rattle.mir_func.specs.declared.entry.Entry.{Entry}
+use Rattle.mir_func.specs.declared.entry.DebugSubstitution.{DebugSubstitution}
 use Rattle.mir_func.specs.Function.{Function}
 use Rattle.mir_func.specs.Sound.{IsSound}
 use Rattle.pass_trait.specs.declared.loss.Loss.{Loss}
@@ -14,7 +14,7 @@ use Rattle.fold_proof.specs.Keeps.{FoldedKeepsItems}
 use Rattle.fold_pass.specs.Folded.{AreFoldedWithLosses}
 use Rattle.fold_pass.proofs.Folding.{with_all_kills}
 
-pub fold_steps : KillsStrip → FoldedKeepsItems → (f g : Function) (subs : List Entry) (losses : List Loss) → IsSound f →
+pub fold_steps : KillsStrip → FoldedKeepsItems → (f g : Function) (subs : List DebugSubstitution) (losses : List Loss) → IsSound f →
     AreFoldedWithLosses f.blocks g.blocks losses →
     g ≡ record f { blocks = g.blocks } → KeepsSteps (fold_step ∷ []) (change f subs g subs) losses
 unfolding with_all_kills

@@ -12,7 +12,7 @@ use fold_proof::debug_laws::folded_keeps_items;
 use fold_proof::follow_laws::{folded_follows, kills_strip};
 use fold_proof::size_laws::folded_keeps_sizes;
 use fold_rule::fold::fold_blocks;
-use fold_undef::bypassed::old_ways;
+use fold_undef::bypassed::jump_chains;
 use fold_undef::put::put_kills;
 use mir_func::block::{Block, copy_blocks};
 use mir_func::func::Func;
@@ -81,7 +81,7 @@ fn fold_copy(alloc: Global, before: &[Block], after: &mut Vec<Block>) -> Result<
     ensures forms { OnOk result (AllItems (λ i. HasForm i.kind) before.now) }
 {
     know_forms(before);
-    let ways = old_ways(alloc, before)?;
+    let ways = jump_chains(alloc, before)?;
     let losses = fold_losses(alloc, before, &ways)?;
     fold_blocks(alloc, after)?;
     put_kills(alloc, before, &ways, after)?;

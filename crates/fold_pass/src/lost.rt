@@ -10,7 +10,7 @@ ghost use Rattle.fold_targets.specs.Ends.{told, end_in};
 ghost use Rattle.fold_proof.specs.Lost.{is_unreachable, reason_for, loss_of, lost_in, all_lost};
 
 use base_ids::code::BlockId;
-use fold_undef::bypassed::{OldWays, end_past};
+use fold_undef::bypassed::{JumpChains, end_past};
 use mir_func::block::Block;
 use mir_func::item::{Item, ItemKind};
 use pass_losses::told::put_in_order;
@@ -19,7 +19,7 @@ use sem_mir::align::position_of;
 use std::alloc::{AllocError, Global};
 
 /// The losses of blocks that are folded, without duplicates and in order.
-pub fn fold_losses(alloc: Global, blocks: &[Block], ways: &OldWays) -> Result<Losses, AllocError>
+pub fn fold_losses(alloc: Global, blocks: &[Block], ways: &JumpChains) -> Result<Losses, AllocError>
     requires { (n : ℕ) → told ways.now.leads n ≡ lead blocks.now n }
     ensures ordered { IfOk result IsInOrder }
     ensures each { IfOk result (λ losses. (l : Loss) → Contains losses l ↔ Contains
@@ -31,7 +31,7 @@ pub fn fold_losses(alloc: Global, blocks: &[Block], ways: &OldWays) -> Result<Lo
 }
 
 /// The losses of blocks, in the order of the text.
-fn all_lost(alloc: Global, blocks: &[Block], ways: &OldWays) -> Result<Vec<Loss>, AllocError>
+fn all_lost(alloc: Global, blocks: &[Block], ways: &JumpChains) -> Result<Vec<Loss>, AllocError>
     ensures { IfOk result (λ losses. losses.items
         ≡ all_lost (end_in ways.now.ends) (contains nat_eq ways.now.reached) (told ways.now.leads) blocks.now) }
 {
@@ -45,7 +45,7 @@ fn all_lost(alloc: Global, blocks: &[Block], ways: &OldWays) -> Result<Vec<Loss>
 }
 
 /// Why the items of a block are lost, if they are.
-fn reason_for(ways: &OldWays, block: BlockId) -> Option<Reason>
+fn reason_for(ways: &JumpChains, block: BlockId) -> Option<Reason>
     ensures { result
         ≡ reason_for (end_in ways.now.ends) (contains nat_eq ways.now.reached) (told ways.now.leads) block }
 {

@@ -12,15 +12,15 @@ use Rattle.mir_func.specs.declared.item.ItemKind.{ItemKind}
 use Rattle.mir_func.specs.declared.item.ItemKind.TheVariants.{Code, Mark, Phi}
 use Rattle.mir_func.specs.declared.position.Pos.{Pos}
 use Rattle.mir_func.specs.Exits.{exit_of, Leaves}
-use Rattle.mir_func.specs.Graph.{Program, Here, Silent, block_start, fetch_in, from_block, index_of, program_of}
+use Rattle.mir_func.specs.Graph.{Program, Here, EndOfBlock, block_start, fetch_in, from_block, index_of, program_of}
 use Rattle.mir_func.specs.Sound.{IsJumpAtMost, MayFollow, EndsWell, Closes, LastCloses}
 use Rattle.sem_mir.specs.State.{State}
-use Rattle.sem_mir.specs.Align.{position_of, is_code, ByItems, ByEnds, station_of, station_at, IsOrigin, AnyOrigin, RunsAlong, Station}
+use Rattle.sem_mir.specs.Align.{position_of, is_code, ByItems, ByEnds, sync_point_of, sync_point_at, IsOrigin, AnyOrigin, RunsMatch, SyncPoint}
 use Rattle.sem_mir.specs.Follow.{first_of as first_number}
 use Rattle.sem_mir.proofs.Reading.{found_in, item_front, front_item}
 use Rattle.sem_simulation.specs.Rewired.{Rewired}
 use Rattle.sem_simulation.proofs.Rewired.{rewired_follows}
-use Rattle.sem_simulation.proofs.Stations.{code_station, end_is_station, IsStationOf, of_item, of_end, station_is_of}
+use Rattle.sem_simulation.proofs.Stations.{code_sync_point, end_is_sync_point, IsSyncPointOf, of_item, of_end, sync_point_is_of}
 use Rattle.sem_simulation.proofs.Laid.{rest_in, rest_of, laid_out, in_order_at, from_home, from_before_end, falls_down}
 use Rattle.fold_targets.specs.Leads.{first_id}
 use Rattle.fold_rule.specs.Turned.{sent, turned}
@@ -36,7 +36,7 @@ use Rattle.fold_proof.proofs.Placed.{Found, falls_from, made_block, made_at, mad
 use Rattle.fold_proof.proofs.Ways.{ways_at}
 use Rattle.fold_proof.proofs.Folding.{Folding, old, end, stays, was, new, fp, gp, origins_new, apart_new, new_is, found_staying, was_staying}
 use Rattle.fold_proof.proofs.Folding.{code_leads, leads_to}
-use Rattle.fold_proof.proofs.Runs.{sides, relation, Rest, view}
+use Rattle.fold_proof.proofs.Runs.{sides, match_states, Rest, view}
 
 -- control doesn't fall out of the last block
 pub last_closes : (bs : List Block) (n : ℕ) (b : Block) → from_block bs n ≡ b ∷ [] → LastCloses bs → Closes b.items
@@ -64,12 +64,12 @@ drop_all (x ∷ xs) = drop_all xs
 
 -- ---- where the code of ends written anew comes from
 
-module _ (to_end : ℕ → ℕ) (next fall : Option ℕ) (silent : Pos) where
+module _ (to_end : ℕ → ℕ) (next fall : Option ℕ) (source_end : Pos) where
   -- from code of the old items, or it was made at the end of a block that falls
   abbrev CodeFrom : List Item → Item → Type 0
   CodeFrom xs y = is_code y.kind ≡ true →
       ((x : Item) × Contains xs x × (is_code x.kind ≡ true) × (position_of x.origin ≡ position_of y.origin)) ⊎
-      ((n : ℕ) × (fall ≡ Some n) × (position_of y.origin ≡ silent))
+      ((n : ℕ) × (fall ≡ Some n) × (position_of y.origin ≡ source_end))
 
   one_from : (xs : List Item) (y : Item) → CodeFrom xs y → All (CodeFrom xs) (y ∷ [])
   one_from xs y h = All-cons (CodeFrom xs) y [] h (All-nil (CodeFrom xs))
@@ -87,7 +87,7 @@ module _ (to_end : ℕ → ℕ) (next fall : Option ℕ) (silent : Pos) where
   tail x y xs (k, lt, e) = (suc k, omega (arith, lt), e)
 
   jump_from : (x : Item) (xs : List Item) (m n : ℕ) → IsJumpAtMost xs → else_way (first_of xs) fall ≡ Some m →
-      CodeFrom (x ∷ xs) (jump_at_end silent (first_of xs) n)
+      CodeFrom (x ∷ xs) (jump_at_end source_end (first_of xs) n)
   jump_from x [] m n may to code = inr (m, to, refl)
   jump_from x (j ∷ []) m n may to code =
       let go : exit_of j.kind ≡ Always m = Rattle.fold_proof.proofs.Ways.always_is (exit_of j.kind) m to in
@@ -95,7 +95,7 @@ module _ (to_end : ℕ → ℕ) (next fall : Option ℕ) (silent : Pos) where
   jump_from x (j ∷ y ∷ ys) m n may to code = absurd may
 
   branch_from : (x : Item) (xs : List Item) (t m u v : ℕ) → exit_of x.kind ≡ Perhaps t → IsJumpAtMost xs → else_way (first_of xs) fall ≡ Some m →
-      All (CodeFrom (x ∷ xs)) (branch_tail next silent x (first_of xs) u v)
+      All (CodeFrom (x ∷ xs)) (branch_tail next source_end x (first_of xs) u v)
   branch_from x xs t m u v exit may to = by_tests (nat_eq u v) (is_number next v) (is_number next u) where
     code : is_code x.kind ≡ true
     code = code_leads x.kind (leads_to (exit_of x.kind) t (inl exit))
@@ -103,19 +103,19 @@ module _ (to_end : ℕ → ℕ) (next fall : Option ℕ) (silent : Pos) where
     own : (y : Item) → y.origin ≡ x.origin → CodeFrom (x ∷ xs) y
     own y o k = inl (x, head x xs, code, ap position_of (sym o))
 
-    by_tests : (q r z : Bool) → All (CodeFrom (x ∷ xs)) (cond q (if_needed next v (jump_for_branch silent x (first_of xs) v)) (cond r (sent u x ∷ [])
-        (cond z (turned v x ∷ []) (sent u x ∷ jump_at_end silent (first_of xs) v ∷ []))))
-    by_tests true r z = needed_from (x ∷ xs) v (jump_for_branch silent x (first_of xs) v) (own (jump_for_branch silent x (first_of xs) v) refl)
+    by_tests : (q r z : Bool) → All (CodeFrom (x ∷ xs)) (cond q (if_needed next v (jump_for_branch source_end x (first_of xs) v)) (cond r (sent u x ∷ [])
+        (cond z (turned v x ∷ []) (sent u x ∷ jump_at_end source_end (first_of xs) v ∷ []))))
+    by_tests true r z = needed_from (x ∷ xs) v (jump_for_branch source_end x (first_of xs) v) (own (jump_for_branch source_end x (first_of xs) v) refl)
     by_tests false true z = one_from (x ∷ xs) (sent u x) (own (sent u x) refl)
     by_tests false false true = one_from (x ∷ xs) (turned v x) (own (turned v x) refl)
-    by_tests false false false = All-cons (CodeFrom (x ∷ xs)) (sent u x) (jump_at_end silent (first_of xs) v ∷ []) (own (sent u x) refl)
-        (one_from (x ∷ xs) (jump_at_end silent (first_of xs) v) (jump_from x xs m v may to))
+    by_tests false false false = All-cons (CodeFrom (x ∷ xs)) (sent u x) (jump_at_end source_end (first_of xs) v ∷ []) (own (sent u x) refl)
+        (one_from (x ∷ xs) (jump_at_end source_end (first_of xs) v) (jump_from x xs m v may to))
 
-  pub rewritten_from : (xs : List Item) → EndsWell xs → (fall ≡ None → Closes xs) → All (CodeFrom xs) (rewritten to_end next fall silent xs)
+  pub rewritten_from : (xs : List Item) → EndsWell xs → (fall ≡ None → Closes xs) → All (CodeFrom xs) (rewritten to_end next fall source_end xs)
   rewritten_from [] ends onto = by_fall fall refl where
-    by_fall : (o : Option ℕ) → fall ≡ o → All (CodeFrom []) (plain_tail to_end next fall silent None o)
+    by_fall : (o : Option ℕ) → fall ≡ o → All (CodeFrom []) (plain_tail to_end next fall source_end None o)
     by_fall None e = All-nil (CodeFrom [])
-    by_fall (Some n) e = needed_from [] (to_end n) (jump_at_end silent None (to_end n)) (λ code. inr (n, e, refl))
+    by_fall (Some n) e = needed_from [] (to_end n) (jump_at_end source_end None (to_end n)) (λ code. inr (n, e, refl))
   rewritten_from (x ∷ xs) ends onto = by_exit (exit_of x.kind) refl ends.0 (λ o. rewritten_from xs ends.1 o) where
     below : exit_of x.kind ≡ Onward → fall ≡ None → Closes xs
     below e none = by_rest xs (onto none) where
@@ -125,19 +125,19 @@ module _ (to_end : ℕ → ℕ) (next fall : Option ℕ) (silent : Pos) where
 
     more : (y : Item) → CodeFrom xs y → CodeFrom (x ∷ xs) y
     more y h code = elim (h code) as (λ z. ((w : Item) × Contains (x ∷ xs) w × (is_code w.kind ≡ true) × (position_of w.origin ≡ position_of y.origin)) ⊎
-        ((n : ℕ) × (fall ≡ Some n) × (position_of y.origin ≡ silent))) [
+        ((n : ℕ) × (fall ≡ Some n) × (position_of y.origin ≡ source_end))) [
           | inl w ↦ inl (w.0, tail x w.0 xs w.1, w.2, w.3)
           | inr w ↦ inr w
         ]
 
     by_exit : (e : Exit) → exit_of x.kind ≡ e → MayFollow e xs →
-        ((fall ≡ None → Closes xs) → All (CodeFrom xs) (rewritten to_end next fall silent xs)) →
-        All (CodeFrom (x ∷ xs)) (tail_by to_end next fall silent e x (first_of xs) (rewritten to_end next fall silent xs))
-    by_exit Onward e may rest = All-cons (CodeFrom (x ∷ xs)) x (rewritten to_end next fall silent xs) (λ code. inl (x, head x xs, code, refl))
-        (All-weaker (CodeFrom xs) (CodeFrom (x ∷ xs)) more (rewritten to_end next fall silent xs) (rest (below e)))
+        ((fall ≡ None → Closes xs) → All (CodeFrom xs) (rewritten to_end next fall source_end xs)) →
+        All (CodeFrom (x ∷ xs)) (tail_by to_end next fall source_end e x (first_of xs) (rewritten to_end next fall source_end xs))
+    by_exit Onward e may rest = All-cons (CodeFrom (x ∷ xs)) x (rewritten to_end next fall source_end xs) (λ code. inl (x, head x xs, code, refl))
+        (All-weaker (CodeFrom xs) (CodeFrom (x ∷ xs)) more (rewritten to_end next fall source_end xs) (rest (below e)))
     by_exit (Perhaps t) e may rest =
         let w = goes_else x t xs fall e may onto in
-        subst (λ (o : Option ℕ). All (CodeFrom (x ∷ xs)) (branch_tail_to to_end next fall silent x (first_of xs) t o)) (sym w.1)
+        subst (λ (o : Option ℕ). All (CodeFrom (x ∷ xs)) (branch_tail_to to_end next fall source_end x (first_of xs) t o)) (sym w.1)
         (branch_from x xs t w.0 (to_end t) (to_end w.0) e may w.1)
     by_exit (Always n) e may rest = needed_from (x ∷ xs) (to_end n) (sent (to_end n) x)
         (λ code. inl (x, head x xs, code_leads x.kind (leads_to (exit_of x.kind) n (inr e)), refl))
@@ -185,7 +185,7 @@ module _ (fold : Folding) (s : State) where
 
     anew : List Item → List Item
     anew xs = rewritten (end fold) (first_id (Rattle.fold_rule.specs.Rule.staying (stays fold) w.rest)) (first_id w.rest)
-        (record { block = w.block.id; item = w.block.silent }) xs
+        (record { block = w.block.id; item = w.block.source_end }) xs
 
     made_items : rest_of (new fold) (block_start n) ≡ kills (end fold) (was fold) (old fold) w.block.id ++ anew w.block.items
     made_items = ap (λ (z : List Block). rest_in z 0) (made_at (end fold) (stays fold) (was fold) (old fold) (old fold) n w.block w.rest w.at stay) ∙
@@ -208,28 +208,28 @@ module _ (fold : Folding) (s : State) where
   slice_at xs x h = (h.0, slice_get-get_or xs h.0 x h.1 ∙ ap (λ (z : Item). Some z) h.2)
 
   item_origin : (n : ℕ) (b : Block) (after : List Block) → from_block (old fold) n ≡ b ∷ after → (x : Item) → Contains b.items x → is_code x.kind ≡ true →
-      IsOrigin (station_at ByEnds f) (position_of x.origin)
+      IsOrigin (sync_point_at ByEnds f) (position_of x.origin)
   item_origin n b after at x member code =
       let k = slice_at b.items x member in
       let p : Pos = record { block = n; item = k.0 } in
-      let here : f.fetch p ≡ Here x = ap (λ (z : List Block). fetch_in z k.0) at ∙ item_front b.items k.0 b.silent after x k.1 in
-      record { place = p; station = station_of ByEnds x; stands = code_station ByEnds f p x here code; from = refl }
+      let here : f.fetch p ≡ Here x = ap (λ (z : List Block). fetch_in z k.0) at ∙ item_front b.items k.0 b.source_end after x k.1 in
+      record { place = p; sync_point = sync_point_of ByEnds x; stands = code_sync_point ByEnds f p x here code; from = refl }
 
   end_origin : (n : ℕ) (b : Block) (after : List Block) → from_block (old fold) n ≡ b ∷ after → (m : ℕ) → first_id after ≡ Some m →
-      IsOrigin (station_at ByEnds f) (record { block = b.id; item = b.silent })
+      IsOrigin (sync_point_at ByEnds f) (record { block = b.id; item = b.source_end })
   end_origin n b after at m falls =
       let p : Pos = record { block = n; item = length b.items } in
       let over : rest_of (old fold) p ≡ [] = ap (λ (z : List Block). rest_in z (length b.items)) at ∙ drop_all b.items in
-      let silent : f.fetch p ≡ Silent b.silent m = falls_from (old fold) n m b after at falls p refl over in
+      let source_end : f.fetch p ≡ EndOfBlock b.source_end m = falls_from (old fold) n m b after at falls p refl over in
       record {
         place = p;
-        station = record { pos = record { block = n; item = b.silent }; waits = false };
-        stands = end_is_station ByEnds f p b.silent m silent;
-        from = ap (λ (z : ℕ). record { block = z; item = b.silent }) (sym (found_in (old fold) n b after at).1);
+        sync_point = record { pos = record { block = n; item = b.source_end }; waits = false };
+        stands = end_is_sync_point ByEnds f p b.source_end m source_end;
+        from = ap (λ (z : ℕ). record { block = z; item = b.source_end }) (sym (found_in (old fold) n b after at).1);
       }
 
   abbrev CodeOf : Item → Type 0
-  CodeOf y = is_code y.kind ≡ true → IsOrigin (station_at ByEnds f) (position_of y.origin)
+  CodeOf y = is_code y.kind ≡ true → IsOrigin (sync_point_at ByEnds f) (position_of y.origin)
 
   made_code : (n : ℕ) (b : Block) (after : List Block) → from_block (old fold) n ≡ b ∷ after →
       All CodeOf (made_block (end fold) (stays fold) (was fold) (old fold) b after).items
@@ -238,33 +238,33 @@ module _ (fold : Folding) (s : State) where
       (All-weaker (IsKill b.id) CodeOf (λ y k code. absurd (kill_is_debug y.kind k.kind code)) (kills (end fold) (was fold) (old fold) b.id)
       (each_kill (end fold) (was fold) (old fold) b.id))
       (All-weaker From CodeOf from_old anew
-      (rewritten_from (end fold) next (first_id after) silent b.items (ends_at n b after at) (onto_at n b after at))) where
+      (rewritten_from (end fold) next (first_id after) source_end b.items (ends_at n b after at) (onto_at n b after at))) where
         next : Option ℕ
         next = first_id (Rattle.fold_rule.specs.Rule.staying (stays fold) after)
 
-        silent : Pos
-        silent = record { block = b.id; item = b.silent }
+        source_end : Pos
+        source_end = record { block = b.id; item = b.source_end }
 
         anew : List Item
-        anew = rewritten (end fold) next (first_id after) silent b.items
+        anew = rewritten (end fold) next (first_id after) source_end b.items
 
         From : Item → Type 0
-        From = CodeFrom (end fold) next (first_id after) silent b.items
+        From = CodeFrom (end fold) next (first_id after) source_end b.items
 
         from_old : (y : Item) → From y → CodeOf y
-        from_old y h code = elim (h code) as (λ z. IsOrigin (station_at ByEnds f) (position_of y.origin)) [
-          | inl w ↦ subst (IsOrigin (station_at ByEnds f)) w.3 (item_origin n b after at w.0 w.1 w.2)
-          | inr w ↦ subst (IsOrigin (station_at ByEnds f)) (sym w.2) (end_origin n b after at w.0 w.1)
+        from_old y h code = elim (h code) as (λ z. IsOrigin (sync_point_at ByEnds f) (position_of y.origin)) [
+          | inl w ↦ subst (IsOrigin (sync_point_at ByEnds f)) w.3 (item_origin n b after at w.0 w.1 w.2)
+          | inr w ↦ subst (IsOrigin (sync_point_at ByEnds f)) (sym w.2) (end_origin n b after at w.0 w.1)
         ]
 
-  origins : (p : Pos) → IsOrigin (station_at ByItems g) p → IsOrigin (station_at ByEnds f) p
-  origins p o = by_station (station_is_of ByItems g o.place o.station o.stands) where
+  origins : (p : Pos) → IsOrigin (sync_point_at ByItems g) p → IsOrigin (sync_point_at ByEnds f) p
+  origins p o = by_sync_point (sync_point_is_of ByItems g o.place o.sync_point o.stands) where
     by_blocks : (y : Item) → g.fetch o.place ≡ Here y → (bs : List Block) → from_block (new fold) o.place.block ≡ bs → CodeOf y
     by_blocks y at [] e = let bad : Rattle.mir_func.specs.Graph.Outside ≡ Here y = ap (λ (z : List Block). fetch_in z o.place.item) (sym e) ∙ at in cc
     by_blocks y at (c ∷ cs) e =
         let w = made_was (end fold) (stays fold) (was fold) (old fold) o.place.block c cs e in
         let here : fetch_in (c ∷ cs) o.place.item ≡ Here y = ap (λ (z : List Block). fetch_in z o.place.item) (sym e) ∙ at in
-        let k : slice_get c.items o.place.item ≡ Some y = front_item c.items o.place.item c.silent cs y here in
+        let k : slice_get c.items o.place.item ≡ Some y = front_item c.items o.place.item c.source_end cs y here in
         let member : Contains c.items y = (
           o.place.item,
           Rattle.std.proofs.lemmas.Option.slice_get_within c.items o.place.item y k,
@@ -272,12 +272,12 @@ module _ (fold : Folding) (s : State) where
         ) in
         All-contains CodeOf c.items y (subst (λ (z : Block). All CodeOf z.items) (sym w.same) (made_code o.place.block w.block w.rest w.at)) member
 
-    by_station : IsStationOf ByItems g o.place o.station → IsOrigin (station_at ByEnds f) p
-    by_station (of_item y at code st) =
-        subst (IsOrigin (station_at ByEnds f)) (ap (λ (z : Station). z.pos) st ∙ o.from) (by_blocks y at (from_block (new fold) o.place.block) refl code)
-    by_station (of_end k n at ends st) = cc
+    by_sync_point : IsSyncPointOf ByItems g o.place o.sync_point → IsOrigin (sync_point_at ByEnds f) p
+    by_sync_point (of_item y at code st) =
+        subst (IsOrigin (sync_point_at ByEnds f)) (ap (λ (z : SyncPoint). z.pos) st ∙ o.from) (by_blocks y at (from_block (new fold) o.place.block) refl code)
+    by_sync_point (of_end k n at ends st) = cc
 
-  rewired : Rewired (sides fold s) (index_of (new fold)) (relation fold s)
+  rewired : Rewired (sides fold s) (index_of (new fold)) (match_states fold s)
   rewired = record {
     laid_f = laid_out false (old fold) fold.resolve;
     laid_g = laid_out false (new fold) fold.resolve;
@@ -298,15 +298,15 @@ module _ (fold : Folding) (s : State) where
   first_stays (b ∷ bs) h = refl
 
   pub runs_along : (src : Program) → s.pos ≡ block_start (first_number (old fold)) →
-      RunsAlong src f (station_at ByEnds f) (AnyOrigin (station_at ByEnds f)) s s →
-      RunsAlong src g (station_at ByItems g) (AnyOrigin (station_at ByItems g)) s s
+      RunsMatch src f (sync_point_at ByEnds f) (AnyOrigin (sync_point_at ByEnds f)) s s →
+      RunsMatch src g (sync_point_at ByItems g) (AnyOrigin (sync_point_at ByItems g)) s s
   runs_along src at runs =
-      rewired_follows (relation fold s) src (sides fold s) (index_of (new fold)) (first_number (old fold)) rewired at at
+      rewired_follows (match_states fold s) src (sides fold s) (index_of (new fold)) (first_number (old fold)) rewired at at
       ((fold.kills.folded.reached (first_number (old fold))).1 (first (first_stays (old fold) fold.sound.last)))
       (kin_itself (kills (end fold) (was fold) (old fold) (first_number (old fold))) s.core) runs
 
 pub folded_runs_along : FoldedRunsAlong
 folded_runs_along f g src resolve s sound forms kills kept order at runs =
     let fold : Folding = record { f = f; g = g; sound = sound; forms = forms; kills = kills; resolve = resolve; kept = kept; order = order } in
-    subst (λ (bs : List Block). RunsAlong src (program_of false bs resolve) (station_at ByItems (program_of false bs resolve))
-    (AnyOrigin (station_at ByItems (program_of false bs resolve))) s s) (sym (new_is fold)) (runs_along fold s src at runs)
+    subst (λ (bs : List Block). RunsMatch src (program_of false bs resolve) (sync_point_at ByItems (program_of false bs resolve))
+    (AnyOrigin (sync_point_at ByItems (program_of false bs resolve))) s s) (sym (new_is fold)) (runs_along fold s src at runs)

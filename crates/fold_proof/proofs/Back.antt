@@ -113,7 +113,7 @@ falls_on (x ∷ xs) n ends all =
 
 -- ---- a way to a block that isn't next is an item
 
-module _ (end : ℕ → ℕ) (next fall : Option ℕ) (silent : Pos) (to : ℕ) (far : is_number next to ≡ false) where
+module _ (end : ℕ → ℕ) (next fall : Option ℕ) (source_end : Pos) (to : ℕ) (far : is_number next to ≡ false) where
   abbrev pub Going : List Item → Type 0
   Going ys = (y : Item) × Contains ys y × OnRow (GoesTo to) y.kind
 
@@ -128,8 +128,8 @@ module _ (end : ℕ → ℕ) (next fall : Option ℕ) (silent : Pos) (to : ℕ) 
       subst (λ (z : Bool). Going (cond z [] (j ∷ []))) (sym (ap (is_number next) same ∙ far)) (going_one j [] (inr (e ∙ ap Always same)))
 
   abbrev branch_items : (x : Item) (xs : List Item) (u v : ℕ) (q r z : Bool) → List Item
-  branch_items x xs u v q r z = cond q (if_needed next v (jump_for_branch silent x (first_of xs) v)) (cond r (sent u x ∷ [])
-      (cond z (turned v x ∷ []) (sent u x ∷ jump_at_end silent (first_of xs) v ∷ [])))
+  branch_items x xs u v q r z = cond q (if_needed next v (jump_for_branch source_end x (first_of xs) v)) (cond r (sent u x ∷ [])
+      (cond z (turned v x ∷ []) (sent u x ∷ jump_at_end source_end (first_of xs) v ∷ [])))
 
   not_far : {P : Type 0} (n : ℕ) → n ≡ to → is_number next n ≡ true → P
   not_far n same e = let bad : true ≡ false = sym e ∙ ap (is_number next) same ∙ far in cc
@@ -137,24 +137,24 @@ module _ (end : ℕ → ℕ) (next fall : Option ℕ) (silent : Pos) (to : ℕ) 
   branch_going : (x : Item) (xs : List Item) (t u v : ℕ) → exit_of x.kind ≡ Perhaps t → IsJumpAtMost xs → (u ≡ to) ⊎ (v ≡ to) → (q r z : Bool) →
       nat_eq u v ≡ q → is_number next v ≡ r → is_number next u ≡ z → Going (branch_items x xs u v q r z)
   branch_going x xs t u v e may (inl h) true r z a b c =
-      going_needed v (jump_for_branch silent x (first_of xs) v) (sym (eqb-true u v a) ∙ h) (jump_exit silent xs v may)
-  branch_going x xs t u v e may (inr h) true r z a b c = going_needed v (jump_for_branch silent x (first_of xs) v) h (jump_exit silent xs v may)
+      going_needed v (jump_for_branch source_end x (first_of xs) v) (sym (eqb-true u v a) ∙ h) (jump_exit source_end xs v may)
+  branch_going x xs t u v e may (inr h) true r z a b c = going_needed v (jump_for_branch source_end x (first_of xs) v) h (jump_exit source_end xs v may)
   branch_going x xs t u v e may (inl h) false true z a b c = going_one (sent u x) [] (inl (sent_branch x.kind t u e ∙ ap Perhaps h))
   branch_going x xs t u v e may (inr h) false true z a b c = not_far v h b
   branch_going x xs t u v e may (inl h) false false true a b c = not_far u h c
   branch_going x xs t u v e may (inr h) false false true a b c = going_one (turned v x) [] (inl (turned_branch x.kind t v e ∙ ap Perhaps h))
   branch_going x xs t u v e may (inl h) false false false a b c =
-      going_one (sent u x) (jump_at_end silent (first_of xs) v ∷ []) (inl (sent_branch x.kind t u e ∙ ap Perhaps h))
+      going_one (sent u x) (jump_at_end source_end (first_of xs) v ∷ []) (inl (sent_branch x.kind t u e ∙ ap Perhaps h))
   branch_going x xs t u v e may (inr h) false false false a b c =
-      going_more (sent u x) (jump_at_end silent (first_of xs) v ∷ [])
-      (going_one (jump_at_end silent (first_of xs) v) [] (inr (jump_exit silent xs v may ∙ ap Always h)))
+      going_more (sent u x) (jump_at_end source_end (first_of xs) v ∷ [])
+      (going_one (jump_at_end source_end (first_of xs) v) [] (inr (jump_exit source_end xs v may ∙ ap Always h)))
 
   pub way_goes : (xs : List Item) (n : ℕ) → EndsWell xs → (fall ≡ None → Closes xs) → LeadTo (ways_of xs fall) n → end n ≡ to →
-      Going (rewritten end next fall silent xs)
+      Going (rewritten end next fall source_end xs)
   way_goes [] n ends onto (inl e) same = cc
   way_goes [] n ends onto (inr e) same =
-      subst (λ (o : Option ℕ). Going (plain_tail end next fall silent None o)) (sym e)
-      (going_needed (end n) (jump_at_end silent None (end n)) same refl)
+      subst (λ (o : Option ℕ). Going (plain_tail end next fall source_end None o)) (sym e)
+      (going_needed (end n) (jump_at_end source_end None (end n)) same refl)
   way_goes (x ∷ xs) n ends onto l same = by_exit (exit_of x.kind) refl ends.0 l (λ into k. way_goes xs n ends.1 into k same) where
     below : exit_of x.kind ≡ Onward → fall ≡ None → Closes xs
     below e none = by_rest xs (onto none) where
@@ -163,12 +163,12 @@ module _ (end : ℕ → ℕ) (next fall : Option ℕ) (silent : Pos) (to : ℕ) 
       by_rest (y ∷ ys) h = h
 
     by_exit : (q : Exit) → exit_of x.kind ≡ q → MayFollow q xs → LeadTo (ways_by q (first_of xs) (ways_of xs fall) fall) n →
-        ((fall ≡ None → Closes xs) → LeadTo (ways_of xs fall) n → Going (rewritten end next fall silent xs)) →
-        Going (tail_by end next fall silent q x (first_of xs) (rewritten end next fall silent xs))
-    by_exit Onward e may l later = going_more x (rewritten end next fall silent xs) (later (below e) l)
+        ((fall ≡ None → Closes xs) → LeadTo (ways_of xs fall) n → Going (rewritten end next fall source_end xs)) →
+        Going (tail_by end next fall source_end q x (first_of xs) (rewritten end next fall source_end xs))
+    by_exit Onward e may l later = going_more x (rewritten end next fall source_end xs) (later (below e) l)
     by_exit (Perhaps t) e may l later =
         let w = goes_else x t xs fall e may onto in
-        subst (λ (o : Option ℕ). Going (branch_tail_to end next fall silent x (first_of xs) t o)) (sym w.1)
+        subst (λ (o : Option ℕ). Going (branch_tail_to end next fall source_end x (first_of xs) t o)) (sym w.1)
         (branch_going x xs t (end t) (end w.0) e may (either t w.0 w.1 l) (nat_eq (end t) (end w.0)) (is_number next (end w.0)) (is_number next (end t))
         refl refl refl) where
           either : (t m : ℕ) → else_way (first_of xs) fall ≡ Some m → LeadTo (record { branch = Some t; onward = else_way (first_of xs) fall }) n →

@@ -187,13 +187,13 @@ module _ (c : Change) (b : ℕ) (unlost : (n : ℕ) (loss : Loss) → IsLostAt c
       let one = counts is_code j e in
       omega (arith, k, l, one)
 
-  module _ (end : ℕ → ℕ) (next fall : Option ℕ) (silent : Pos) where
+  module _ (end : ℕ → ℕ) (next fall : Option ℕ) (source_end : Pos) where
     abbrev anew : List Item → List Item
-    anew xs = rewritten end next fall silent xs
+    anew xs = rewritten end next fall source_end xs
 
     abbrev branch_items : (x : Item) (rest : Option Item) (u v : ℕ) (q r z s : Bool) → List Item
-    branch_items x rest u v q r z s = cond q (cond s [] (jump_for_branch silent x rest v ∷ [])) (cond r (sent u x ∷ [])
-        (cond z (turned v x ∷ []) (sent u x ∷ jump_at_end silent rest v ∷ [])))
+    branch_items x rest u v q r z s = cond q (cond s [] (jump_for_branch source_end x rest v ∷ [])) (cond r (sent u x ∷ [])
+        (cond z (turned v x ∷ []) (sent u x ∷ jump_at_end source_end rest v ∷ [])))
 
     -- a branch alone at the end
     branch_alone : (x : Item) (n t u v : ℕ) → exit_of x.kind ≡ Perhaps t → Home x → (q r z s : Bool) → Less (branch_items x None u v q r z s) (x ∷ []) →
@@ -204,7 +204,7 @@ module _ (c : Change) (b : ℕ) (unlost : (n : ℕ) (loss : Loss) → IsLostAt c
     branch_alone x n t u v e home true r z false less =
         let leads = leads_branch (exit_of x.kind) t e in
         added (step (gone n x leads (inr (less is_other_code x.origin other_test home
-        (fewer_one is_other_code x (jump_for_branch silent x None v) [] (other_some x.kind t e) refl)))) over)
+        (fewer_one is_other_code x (jump_for_branch source_end x None v) [] (other_some x.kind t e) refl)))) over)
     branch_alone x n t u v e home false true z s less = step (changed (to_block u) n x) over
     branch_alone x n t u v e home false false true s less = step (changed (inverse_to v) n x) over
     branch_alone x n t u v e home false false false s less = step (changed (to_block u) n x) (added over)
@@ -221,7 +221,7 @@ module _ (c : Change) (b : ℕ) (unlost : (n : ℕ) (loss : Loss) → IsLostAt c
         let leads = leads_branch (exit_of x.kind) t e in
         let went = sent_jump j.kind m v d in
         step (gone n x leads (inr (less is_other_code x.origin other_test home
-        (fewer_one is_other_code x (jump_for_branch silent x (Some j) v) (j ∷ []) (other_some x.kind t e) (other_none (sent v j).kind v went)))))
+        (fewer_one is_other_code x (jump_for_branch source_end x (Some j) v) (j ∷ []) (other_some x.kind t e) (other_none (sent v j).kind v went)))))
         (step (moved_kind (to_block v) (suc n) m v j.kind j.origin x.origin j.loc x.loc d went) over)
     branch_jump x j n t m u v e d home home' false true z s less =
         let code = code_leads j.kind (leads_jump (exit_of j.kind) m d) in
@@ -234,7 +234,7 @@ module _ (c : Change) (b : ℕ) (unlost : (n : ℕ) (loss : Loss) → IsLostAt c
     branch_jump x j n t m u v e d home home' false false false s less = step (changed (to_block u) n x) (step (changed (to_block v) (suc n) j) over)
 
     branch_becomes : (x : Item) (xs : List Item) (n t u v : ℕ) → exit_of x.kind ≡ Perhaps t → IsJumpAtMost xs → Home x → All Home xs →
-        Less (branch_tail next silent x (first_of xs) u v) (x ∷ xs) → Whole n (x ∷ xs) (branch_tail next silent x (first_of xs) u v)
+        Less (branch_tail next source_end x (first_of xs) u v) (x ∷ xs) → Whole n (x ∷ xs) (branch_tail next source_end x (first_of xs) u v)
     branch_becomes x [] n t u v e may home homes less =
         branch_alone x n t u v e home (nat_eq u v) (is_number next v) (is_number next u) (is_number next v) less
     branch_becomes x (j ∷ []) n t u v e may home homes less =
@@ -244,11 +244,11 @@ module _ (c : Change) (b : ℕ) (unlost : (n : ℕ) (loss : Loss) → IsLostAt c
 
     pub become : (xs : List Item) (n : ℕ) → EndsWell xs → (fall ≡ None → Closes xs) → All Home xs → Less (anew xs) xs → Whole n xs (anew xs)
     become [] n ends onto homes less = by_fall fall where
-      by_test : (m : ℕ) (z : Bool) → Whole n [] (cond z [] (made_jump m (Before silent) Absent ∷ []))
+      by_test : (m : ℕ) (z : Bool) → Whole n [] (cond z [] (made_jump m (Before source_end) Absent ∷ []))
       by_test m true = over
       by_test m false = added over
 
-      by_fall : (o : Option ℕ) → Whole n [] (plain_tail end next fall silent None o)
+      by_fall : (o : Option ℕ) → Whole n [] (plain_tail end next fall source_end None o)
       by_fall None = over
       by_fall (Some m) = by_test (end m) (is_number next (end m))
     become (x ∷ xs) n ends onto homes less =
@@ -274,14 +274,14 @@ module _ (c : Change) (b : ℕ) (unlost : (n : ℕ) (loss : Loss) → IsLostAt c
           jump_test m t e none false k = step (changed (to_block m) n x) (nothing_more (suc n) xs none)
 
           by_to : (t : ℕ) (o : Option ℕ) (m : ℕ) → o ≡ Some m → exit_of x.kind ≡ Perhaps t → IsJumpAtMost xs →
-              Less (branch_tail_to end next fall silent x (first_of xs) t o) (x ∷ xs) →
-              Whole n (x ∷ xs) (branch_tail_to end next fall silent x (first_of xs) t o)
+              Less (branch_tail_to end next fall source_end x (first_of xs) t o) (x ∷ xs) →
+              Whole n (x ∷ xs) (branch_tail_to end next fall source_end x (first_of xs) t o)
           by_to t None m e at may k = cc
           by_to t (Some m) m' e at may k = branch_becomes x xs n t (end t) (end m) at may home (All-tail Home x xs homes) k
 
-          by_exit : (q : Exit) → exit_of x.kind ≡ q → MayFollow q xs → Less (tail_by end next fall silent q x (first_of xs) (anew xs)) (x ∷ xs) →
+          by_exit : (q : Exit) → exit_of x.kind ≡ q → MayFollow q xs → Less (tail_by end next fall source_end q x (first_of xs) (anew xs)) (x ∷ xs) →
               ((fall ≡ None → Closes xs) → Less (anew xs) xs → Whole (suc n) xs (anew xs)) →
-              Whole n (x ∷ xs) (tail_by end next fall silent q x (first_of xs) (anew xs))
+              Whole n (x ∷ xs) (tail_by end next fall source_end q x (first_of xs) (anew xs))
           by_exit Onward e may k rest = step (kept n x) (rest (below e) (lifted k))
           by_exit (Perhaps t) e may k rest =
               let w = goes_else x t xs fall e may onto in

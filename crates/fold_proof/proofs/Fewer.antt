@@ -6,7 +6,7 @@ use Rattle.std.proofs.lemmas.Bool.{and_parts}
 use Rattle.std.proofs.lemmas.List.Elements.{All-head, All-tail}
 use Rattle.std.proofs.lemmas.List.Sums.{sum_by-cons, sum_by-append}
 use Rattle.mir_func.specs.declared.block.Block.{Block}
-use Rattle.mir_func.specs.declared.entry.Entry.{Entry}
+use Rattle.mir_func.specs.declared.entry.DebugSubstitution.{DebugSubstitution}
 use Rattle.mir_func.specs.declared.item.Item.{Item}
 use Rattle.mir_func.specs.declared.item.ItemKind.{ItemKind}
 use Rattle.mir_func.specs.declared.item.ItemKind.TheVariants.{Code, Mark, Phi}
@@ -160,7 +160,7 @@ module _ (test : ItemKind → Bool) (o : Origin) where
   kills_none code e ks h = count_none p ks (λ k d lt.
       ap (λ (z : Bool). z && is_origin (get_or ks k d).origin o) (code (get_or ks k d).kind (kill_kind (get_or ks k d).kind (h k d lt).kind)))
 
-  module _ (f g : Function) (subs : List Entry) (sound : IsSound f) (h : IsFoldedWithKills f g) (code : OfCode test) where
+  module _ (f g : Function) (subs : List DebugSubstitution) (sound : IsSound f) (h : IsFoldedWithKills f g) (code : OfCode test) where
     abbrev all_old : List Block
     all_old = old f g subs sound h
 

@@ -98,7 +98,7 @@ at_item P sp blocks resolve all p i e = by_blocks (from_block blocks p.block) re
   by_blocks : (bs : List Block) → from_block blocks p.block ≡ bs → fetch_in bs p.item ≡ Here i → P i
   by_blocks [] h e = cc
   by_blocks (b ∷ bs) h e =
-      let at = front_item b.items p.item b.silent bs i e in
+      let at = front_item b.items p.item b.source_end bs i e in
       subst P (get_or_from_slice_get b.items p.item i i at)
       (All-contains (λ (b : Block). All P b.items) blocks b all (found_in blocks p.block b bs h).0 p.item i (within_list b.items p.item i at))
 

@@ -1,13 +1,13 @@
 -- What is folded follows.
 use Rattle.std.proofs.Common.{◌≡◌, List, true, false, refl, sym, ap, ◌∙◌}
-use Rattle.mir_func.specs.declared.entry.Entry.{Entry}
+use Rattle.mir_func.specs.declared.entry.DebugSubstitution.{DebugSubstitution}
 use Rattle.mir_func.specs.declared.item.ItemKind.{ItemKind}
 use Rattle.mir_func.specs.declared.item.ItemKind.TheVariants.{Code, Mark, Phi}
 use Rattle.mir_func.specs.Function.{Function}
 use Rattle.mir_func.specs.Graph.{block_start, program_of}
 use Rattle.mir_func.specs.Resolve.{resolve}
 use Rattle.mir_func.specs.Sound.{AllItems, IsSound, HasForm, HasForm as InForm}
-use Rattle.pass_trait.specs.Following.{Source, FollowsSource, EndsAsSource}
+use Rattle.pass_trait.specs.Simulation.{Source, SimulatesSource, EndsAsSource}
 use Rattle.fold_rule_proof.specs.Kills.{IsFoldedWithKills}
 use Rattle.fold_proof.proofs.Along.{folded_runs_along}
 use Rattle.fold_proof.proofs.Shape.{folded_has_shape}
@@ -19,11 +19,12 @@ same_form (Code i n) h = h
 same_form (Mark v m) h = h
 same_form (Phi p n) h = h
 
-module _ (f g : Function) (subs : List Entry) (sound : IsSound f) (forms : AllItems (λ i. HasForm i.kind) f.blocks) (kills : IsFoldedWithKills f g) where
+module _ (f g : Function) (subs : List DebugSubstitution) (sound : IsSound f) (forms : AllItems (λ i. HasForm i.kind) f.blocks)
+    (kills : IsFoldedWithKills f g) where
   in_form : AllItems (λ i. InForm i.kind) f.blocks
   in_form k d lt j e within = same_form _ (forms k d lt j e within)
 
-  followed : (src : Source) → FollowsSource src f subs → EndsAsSource src f subs → FollowsSource src g subs
+  followed : (src : Source) → SimulatesSource src f subs → EndsAsSource src f subs → SimulatesSource src g subs
   followed src fol whole = record {
     objects = ap (λ (z : Function). z.objects) kills.killed ∙ fol.objects;
     follows = record {

@@ -6,7 +6,7 @@ use Rattle.std.specs.List.{flat_map, filter_map, cons_option, sum_by}
 use Rattle.std.specs.Option.{is_some}
 use Rattle.std.proofs.lemmas.List.{length-append}
 use Rattle.mir_func.specs.declared.block.Block.{Block}
-use Rattle.mir_func.specs.declared.entry.Entry.{Entry}
+use Rattle.mir_func.specs.declared.entry.DebugSubstitution.{DebugSubstitution}
 use Rattle.mir_func.specs.declared.item.Item.{Item}
 use Rattle.mir_func.specs.Function.{Function}
 use Rattle.mir_func.specs.Sound.{AreApart, IsSound}
@@ -86,7 +86,7 @@ sum_zero : (ns : List ℕ) → sum_by (λ n. 0) ns ≡ 0
 sum_zero [] = refl
 sum_zero (n ∷ ns) = let a = sum_first (λ (k : ℕ). 0) n ns in let b = sum_zero ns in omega (arith, a, b)
 
-module _ (f g : Function) (subs : List Entry) (sound : IsSound f) (h : IsFoldedWithKills f g) where
+module _ (f g : Function) (subs : List DebugSubstitution) (sound : IsSound f) (h : IsFoldedWithKills f g) where
   abbrev old : List Block
   old = f.blocks
 

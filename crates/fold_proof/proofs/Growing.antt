@@ -14,7 +14,7 @@ use Rattle.rv64_instr.specs.declared.operand.Operand.TheVariants.{Block as OfBlo
 use Rattle.rv64_instr.specs.Row.{Row, Branches, Jumps, row_of}
 use Rattle.rv64_instr.specs.Parts.{is_call}
 use Rattle.mir_func.specs.declared.block.Block.{Block}
-use Rattle.mir_func.specs.declared.entry.Entry.{Entry}
+use Rattle.mir_func.specs.declared.entry.DebugSubstitution.{DebugSubstitution}
 use Rattle.mir_func.specs.declared.item.Item.{Item}
 use Rattle.mir_func.specs.declared.item.ItemKind.{ItemKind}
 use Rattle.mir_func.specs.declared.item.ItemKind.TheVariants.{Code, Mark, Phi}
@@ -97,7 +97,7 @@ module _ (w : Item → ℕ) (k : ℕ) (ends_weigh : (x : Item) → Leads (exit_o
             sum_by w (items_of (map (with_kills end was old) (cond z (fb ∷ folded_blocks end stays bs) (folded_blocks end stays bs)))) ≤
             killed (b ∷ bs) + kept (b ∷ bs) + extra (b ∷ bs)
         by_test true rest a d n =
-            let one = anew_weighs w k ends_weigh end (first_id (staying stays bs)) (first_id bs) (record { block = b.id; item = b.silent }) b.items
+            let one = anew_weighs w k ends_weigh end (first_id (staying stays bs)) (first_id bs) (record { block = b.id; item = b.source_end }) b.items
             (All-head (λ (b : Block). EndsWell b.items) b bs ends) (onto b bs (closing b bs last)) in
             let both = sum_two w (kills end was old b.id) fb.items in
             let all = sum_two w (kills end was old b.id ++ fb.items) (items_of (made end stays was old bs)) in
@@ -283,7 +283,7 @@ own_numbers (j ∷ is) i (suc k, lt, e) n h =
 in_items : (bs : List Block) (b : Block) (x : Item) → Contains bs b → Contains b.items x → Contains (items_of bs) x
 in_items = Rattle.fold_rule_proof.proofs.KillSound.in_items
 
-module _ (f g : Function) (subs : List Entry) (sound : IsSound f) (h : IsFoldedWithKills f g) where
+module _ (f g : Function) (subs : List DebugSubstitution) (sound : IsSound f) (h : IsFoldedWithKills f g) where
   abbrev old : List Block
   old = f.blocks
 

@@ -18,7 +18,7 @@ use Rattle.mir_func.specs.declared.position.Origin.{Origin}
 use Rattle.mir_func.specs.declared.position.Origin.TheVariants.{Kept, Before}
 use Rattle.mir_func.specs.declared.variable.MarkValue.TheVariants.{Nothing}
 use Rattle.mir_func.specs.Exits.{row_exit, exit_of, Leaves}
-use Rattle.mir_func.specs.Graph.{Program, Fetch, Here, Silent, Outside}
+use Rattle.mir_func.specs.Graph.{Program, Fetch, Here, EndOfBlock, Outside}
 use Rattle.mir_func.specs.Sound.{IsJumpAtMost, MayFollow, EndsWell, Closes, LastCloses, OriginIn, ids_of}
 use Rattle.sem_mir.specs.Align.{position_of}
 use Rattle.sem_mir.specs.Follow.{class_of, ItemHasClass, HasClass, RowFits, KindFits, MarkFits, rank, next_rank, InOrder, Among, none, same, left}
@@ -105,8 +105,9 @@ same_ids (left {b} {rest} {bs} more) e = let k : length rest ≡ suc (length bs)
 -- ---- items
 
 -- what holds of items written anew: P stays where what leads elsewhere is sent or turned, and where a jump is made or takes a branch's place
-module _ (P : Item → Type 0) (end : ℕ → ℕ) (next fall : Option ℕ) (silent : Pos) (on_sent : (x : Item) (n : ℕ) → Leads (exit_of x.kind) → P x → P (sent n x))
-    (on_turned : (x : Item) (n t : ℕ) → exit_of x.kind ≡ Perhaps t → P x → P (turned n x)) (on_made : (n : ℕ) → P (made_jump n (Before silent) Absent))
+module _ (P : Item → Type 0) (end : ℕ → ℕ) (next fall : Option ℕ) (source_end : Pos) (on_sent : (x : Item) (n : ℕ) → Leads (exit_of x.kind) → P x → P
+    (sent n x))
+    (on_turned : (x : Item) (n t : ℕ) → exit_of x.kind ≡ Perhaps t → P x → P (turned n x)) (on_made : (n : ℕ) → P (made_jump n (Before source_end) Absent))
     (on_moved : (x j : Item) (t : ℕ) → exit_of x.kind ≡ Perhaps t → P x → Leads (exit_of j.kind) → P (record j { origin = x.origin; loc = x.loc })) where
   leads_perhaps : (e : Exit) (t : ℕ) → e ≡ Perhaps t → Leads e
   leads_perhaps e t h = subst Leads (sym h) tt
@@ -123,24 +124,24 @@ module _ (P : Item → Type 0) (end : ℕ → ℕ) (next fall : Option ℕ) (sil
     by_test true = All-nil P
     by_test false = one y h
 
-  last : (xs : List Item) (m n : ℕ) → IsJumpAtMost xs → else_way (first_of xs) fall ≡ Some m → All P xs → P (jump_at_end silent (first_of xs) n)
+  last : (xs : List Item) (m n : ℕ) → IsJumpAtMost xs → else_way (first_of xs) fall ≡ Some m → All P xs → P (jump_at_end source_end (first_of xs) n)
   last [] m n may to all = on_made n
   last (j ∷ []) m n may to all = on_sent j n (leads_always (exit_of j.kind) m (always_is (exit_of j.kind) m to)) (All-head P j [] all)
   last (j ∷ y ∷ ys) m n may to all = absurd may
 
   moved : (x : Item) (t : ℕ) (xs : List Item) (m n : ℕ) → exit_of x.kind ≡ Perhaps t → P x → IsJumpAtMost xs → else_way (first_of xs) fall ≡ Some m →
-      P (jump_for_branch silent x (first_of xs) n)
-  moved x t [] m n e h may to = on_moved x (made_jump n (Before silent) Absent) t e h tt
+      P (jump_for_branch source_end x (first_of xs) n)
+  moved x t [] m n e h may to = on_moved x (made_jump n (Before source_end) Absent) t e h tt
   moved x t (j ∷ []) m n e h may to =
       on_moved x (sent n j) t e h (leads_always (exit_of (sent n j).kind) n
       (Rattle.fold_rule_proof.proofs.Rows.sent_jump j.kind m n (always_is (exit_of j.kind) m to)))
   moved x t (j ∷ y ∷ ys) m n e h may to = absurd may
 
-  pub all_anew : (xs : List Item) → EndsWell xs → (fall ≡ None → Closes xs) → All P xs → All P (rewritten end next fall silent xs)
+  pub all_anew : (xs : List Item) → EndsWell xs → (fall ≡ None → Closes xs) → All P xs → All P (rewritten end next fall source_end xs)
   all_anew [] ends onto all = by_fall fall where
-    by_fall : (o : Option ℕ) → All P (plain_tail end next fall silent None o)
+    by_fall : (o : Option ℕ) → All P (plain_tail end next fall source_end None o)
     by_fall None = All-nil P
-    by_fall (Some n) = needed (end n) (made_jump (end n) (Before silent) Absent) (on_made (end n))
+    by_fall (Some n) = needed (end n) (made_jump (end n) (Before source_end) Absent) (on_made (end n))
   all_anew (x ∷ xs) ends onto all = by_exit (exit_of x.kind) refl ends.0 (λ o. all_anew xs ends.1 o (All-tail P x xs all)) where
     px : P x
     px = All-head P x xs all
@@ -152,21 +153,21 @@ module _ (P : Item → Type 0) (end : ℕ → ℕ) (next fall : Option ℕ) (sil
       by_rest (y ∷ ys) h = h
 
     tests : (t m u v : ℕ) → exit_of x.kind ≡ Perhaps t → IsJumpAtMost xs → else_way (first_of xs) fall ≡ Some m → (q r z : Bool) →
-        All P (cond q (if_needed next v (jump_for_branch silent x (first_of xs) v)) (cond r (sent u x ∷ [])
-        (cond z (turned v x ∷ []) (sent u x ∷ jump_at_end silent (first_of xs) v ∷ []))))
-    tests t m u v e may to true r z = needed v (jump_for_branch silent x (first_of xs) v) (moved x t xs m v e px may to)
+        All P (cond q (if_needed next v (jump_for_branch source_end x (first_of xs) v)) (cond r (sent u x ∷ [])
+        (cond z (turned v x ∷ []) (sent u x ∷ jump_at_end source_end (first_of xs) v ∷ []))))
+    tests t m u v e may to true r z = needed v (jump_for_branch source_end x (first_of xs) v) (moved x t xs m v e px may to)
     tests t m u v e may to false true z = one (sent u x) (on_sent x u (leads_perhaps (exit_of x.kind) t e) px)
     tests t m u v e may to false false true = one (turned v x) (on_turned x v t e px)
     tests t m u v e may to false false false =
-        All-cons P (sent u x) (jump_at_end silent (first_of xs) v ∷ []) (on_sent x u (leads_perhaps (exit_of x.kind) t e) px)
-        (one (jump_at_end silent (first_of xs) v) (last xs m v may to (All-tail P x xs all)))
+        All-cons P (sent u x) (jump_at_end source_end (first_of xs) v ∷ []) (on_sent x u (leads_perhaps (exit_of x.kind) t e) px)
+        (one (jump_at_end source_end (first_of xs) v) (last xs m v may to (All-tail P x xs all)))
 
-    by_exit : (e : Exit) → exit_of x.kind ≡ e → MayFollow e xs → ((fall ≡ None → Closes xs) → All P (rewritten end next fall silent xs)) →
-        All P (tail_by end next fall silent e x (first_of xs) (rewritten end next fall silent xs))
-    by_exit Onward e may rest = All-cons P x (rewritten end next fall silent xs) px (rest (below e))
+    by_exit : (e : Exit) → exit_of x.kind ≡ e → MayFollow e xs → ((fall ≡ None → Closes xs) → All P (rewritten end next fall source_end xs)) →
+        All P (tail_by end next fall source_end e x (first_of xs) (rewritten end next fall source_end xs))
+    by_exit Onward e may rest = All-cons P x (rewritten end next fall source_end xs) px (rest (below e))
     by_exit (Perhaps t) e may rest =
         let w = goes_else x t xs fall e may onto in
-        subst (λ (o : Option ℕ). All P (branch_tail_to end next fall silent x (first_of xs) t o)) (sym w.1)
+        subst (λ (o : Option ℕ). All P (branch_tail_to end next fall source_end x (first_of xs) t o)) (sym w.1)
         (tests t w.0 (end t) (end w.0) e may w.1 (nat_eq (end t) (end w.0)) (is_number next (end w.0)) (is_number next (end t)))
     by_exit (Always n) e may rest = needed (end n) (sent (end n) x) (on_sent x (end n) (leads_always (exit_of x.kind) n e) px)
     by_exit Final e may rest = one x px
@@ -180,29 +181,29 @@ class_fits r q (Here i) e h = by_kind i.kind h where
   by_kind (Code c n) h = h ∙ e
   by_kind (Mark v m) h = h
   by_kind (Phi p n) h = h
-class_fits r q (Silent k n) e h = h
+class_fits r q (EndOfBlock k n) e h = h
 class_fits r q Outside e h = h
 
-module _ (src : Program) (silent : ℕ) where
+module _ (src : Program) (source_end : ℕ) where
   abbrev Fits : ItemKind → Origin → Type 0
-  Fits k o = KindFits src k silent o
+  Fits k o = KindFits src k source_end o
 
-  sent_by : (op : Op) (os : List Operand) (n : ℕ) (o : Origin) → IsEnding op os → RowFits src (row_by op os) silent o →
-      RowFits src (row_by op (aimed op n os)) silent o
+  sent_by : (op : Op) (os : List Operand) (n : ℕ) (o : Origin) → IsEnding op os → RowFits src (row_by op os) source_end o →
+      RowFits src (row_by op (aimed op n os)) source_end o
   sent_by _ _ n (Kept p) (branch {op} {a} {b} {t} {rest}) h = class_fits (Branches op a b t) (Branches op a b n) (src.fetch p) refl h
   sent_by _ _ n (Before p) branch h = absurd h
   sent_by _ _ n (Kept p) (jump {t} {rest}) h = class_fits (Jumps t) (Jumps n) (src.fetch p) refl h
   sent_by _ _ n (Before p) jump h = h
 
   turned_by : (op : Op) (os : List Operand) (n t : ℕ) (o : Origin) → IsEnding op os → row_exit (row_by op os) ≡ Perhaps t →
-      RowFits src (row_by op os) silent o → RowFits src (row_by (inverse_op op) (aimed op n os)) silent o
+      RowFits src (row_by op os) source_end o → RowFits src (row_by (inverse_op op) (aimed op n os)) source_end o
   turned_by _ _ n t (Kept p) (branch {op} {a} {b} {t = u} {rest}) e h =
       class_fits (Branches op a b u) (Branches (inverse op) a b n) (src.fetch p) refl h
   turned_by _ _ n t (Before p) branch e h = absurd h
   turned_by _ _ n t o jump e h = cc
 
   moved_by : (op : Op) (os : List Operand) (op' : Op) (os' : List Operand) (t : ℕ) (o : Origin) → IsEnding op os → row_exit (row_by op os) ≡ Perhaps t →
-      IsEnding op' os' → RowFits src (row_by op os) silent o → RowFits src (row_by op' os') silent o
+      IsEnding op' os' → RowFits src (row_by op os) source_end o → RowFits src (row_by op' os') source_end o
   moved_by _ _ _ _ t (Kept p) (branch {op} {a} {b} {t = u} {rest}) e (branch {op = q} {a = c} {b = d} {t = v} {rest = more}) h =
       class_fits (Branches op a b u) (Branches q c d v) (src.fetch p) refl h
   moved_by _ _ _ _ t (Kept p) (branch {op} {a} {b} {t = u} {rest}) e (jump {t = v} {rest = more}) h =
@@ -232,10 +233,10 @@ module _ (src : Program) (silent : ℕ) where
   moved_fits (Mark v m) l t o e h k = cc
   moved_fits (Phi p m) l t o e h k = cc
 
-kill_fits : (src : Program) (silent : ℕ) (k : ItemKind) (o : Origin) → IsKillKind k → KindFits src k silent o
-kill_fits src silent (Mark v m) o h = tt
-kill_fits src silent (Phi p n) o h = tt
-kill_fits src silent (Code i n) o h = absurd h
+kill_fits : (src : Program) (source_end : ℕ) (k : ItemKind) (o : Origin) → IsKillKind k → KindFits src k source_end o
+kill_fits src source_end (Mark v m) o h = tt
+kill_fits src source_end (Phi p n) o h = tt
+kill_fits src source_end (Code i n) o h = absurd h
 
 kill_marks : (k : ItemKind) (o : Origin) → IsKillKind k → MarkFits k o
 kill_marks (Mark v Nothing) o h = tt
@@ -250,12 +251,12 @@ code_marks (Phi p n) o h = absurd h
 
 -- ---- order
 
-module _ (end : ℕ → ℕ) (next fall : Option ℕ) (silent : Pos) (b : ℕ) (same_block : silent.block ≡ b) where
+module _ (end : ℕ → ℕ) (next fall : Option ℕ) (source_end : Pos) (b : ℕ) (same_block : source_end.block ≡ b) where
   abbrev Soon : Item → Type 0
-  Soon x = next_rank x.origin ≤ 2 * silent.item
+  Soon x = next_rank x.origin ≤ 2 * source_end.item
 
-  order_last : (xs : List Item) (n m k : ℕ) → IsJumpAtMost xs → n ≤ 2 * silent.item → InOrder b n xs →
-      InOrder b n (jump_at_end silent (first_of xs) k ∷ [])
+  order_last : (xs : List Item) (n m k : ℕ) → IsJumpAtMost xs → n ≤ 2 * source_end.item → InOrder b n xs →
+      InOrder b n (jump_at_end source_end (first_of xs) k ∷ [])
   order_last [] n m k may le o = (same_block, le, tt)
   order_last (j ∷ []) n m k may le o = (o.0, o.1, tt)
   order_last (j ∷ y ∷ ys) n m k may le o = absurd may
@@ -266,12 +267,12 @@ module _ (end : ℕ → ℕ) (next fall : Option ℕ) (silent : Pos) (b : ℕ) (
     by_test true = tt
     by_test false = h
 
-  pub order_anew : (xs : List Item) (n : ℕ) → EndsWell xs → (fall ≡ None → Closes xs) → n ≤ 2 * silent.item → All Soon xs → InOrder b n xs →
-      InOrder b n (rewritten end next fall silent xs)
+  pub order_anew : (xs : List Item) (n : ℕ) → EndsWell xs → (fall ≡ None → Closes xs) → n ≤ 2 * source_end.item → All Soon xs → InOrder b n xs →
+      InOrder b n (rewritten end next fall source_end xs)
   order_anew [] n ends onto le soon o = by_fall fall where
-    by_fall : (o : Option ℕ) → InOrder b n (plain_tail end next fall silent None o)
+    by_fall : (o : Option ℕ) → InOrder b n (plain_tail end next fall source_end None o)
     by_fall None = tt
-    by_fall (Some m) = order_needed n (end m) (made_jump (end m) (Before silent) Absent) (same_block, le, tt)
+    by_fall (Some m) = order_needed n (end m) (made_jump (end m) (Before source_end) Absent) (same_block, le, tt)
   order_anew (x ∷ xs) n ends onto le soon o =
       by_exit (exit_of x.kind) refl ends.0
       (λ into. order_anew xs (next_rank x.origin) ends.1 into (All-head Soon x xs soon) (All-tail Soon x xs soon) o.2) where
@@ -282,20 +283,20 @@ module _ (end : ℕ → ℕ) (next fall : Option ℕ) (silent : Pos) (b : ℕ) (
           by_rest (y ∷ ys) h = h
 
         tests : (m u v : ℕ) → IsJumpAtMost xs → (q r z : Bool) →
-            InOrder b n (cond q (if_needed next v (jump_for_branch silent x (first_of xs) v)) (cond r (sent u x ∷ [])
-            (cond z (turned v x ∷ []) (sent u x ∷ jump_at_end silent (first_of xs) v ∷ []))))
-        tests m u v may true r z = order_needed n v (jump_for_branch silent x (first_of xs) v) (o.0, o.1, tt)
+            InOrder b n (cond q (if_needed next v (jump_for_branch source_end x (first_of xs) v)) (cond r (sent u x ∷ [])
+            (cond z (turned v x ∷ []) (sent u x ∷ jump_at_end source_end (first_of xs) v ∷ []))))
+        tests m u v may true r z = order_needed n v (jump_for_branch source_end x (first_of xs) v) (o.0, o.1, tt)
         tests m u v may false true z = (o.0, o.1, tt)
         tests m u v may false false true = (o.0, o.1, tt)
         tests m u v may false false false = (o.0, o.1, order_last xs (next_rank x.origin) m v may (All-head Soon x xs soon) o.2)
 
         by_exit : (e : Exit) → exit_of x.kind ≡ e → MayFollow e xs →
-            ((fall ≡ None → Closes xs) → InOrder b (next_rank x.origin) (rewritten end next fall silent xs)) →
-            InOrder b n (tail_by end next fall silent e x (first_of xs) (rewritten end next fall silent xs))
+            ((fall ≡ None → Closes xs) → InOrder b (next_rank x.origin) (rewritten end next fall source_end xs)) →
+            InOrder b n (tail_by end next fall source_end e x (first_of xs) (rewritten end next fall source_end xs))
         by_exit Onward e may rest = (o.0, o.1, rest (below e))
         by_exit (Perhaps t) e may rest =
             let w = goes_else x t xs fall e may onto in
-            subst (λ (o : Option ℕ). InOrder b n (branch_tail_to end next fall silent x (first_of xs) t o)) (sym w.1)
+            subst (λ (o : Option ℕ). InOrder b n (branch_tail_to end next fall source_end x (first_of xs) t o)) (sym w.1)
             (tests w.0 (end t) (end w.0) may (nat_eq (end t) (end w.0)) (is_number next (end w.0)) (is_number next (end t)))
         by_exit (Always m) e may rest = order_needed n (end m) (sent (end m) x) (o.0, o.1, tt)
         by_exit Final e may rest = (o.0, o.1, tt)
@@ -312,17 +313,17 @@ order_kills b (k ∷ ks) xs h o =
 pub record Facts (src : Program) (b : Block) : Type 0 where
   pub ends : EndsWell b.items
   pub order : InOrder b.id 0 b.items
-  pub fits : All (λ (i : Item). KindFits src i.kind b.silent i.origin) b.items
+  pub fits : All (λ (i : Item). KindFits src i.kind b.source_end i.origin) b.items
   pub marks : All (λ (i : Item). MarkFits i.kind i.origin) b.items
   pub origins : All (λ (i : Item). OriginIn b i.origin) b.items
 
-next_within : (b : Block) (o : Origin) → OriginIn b o → next_rank o ≤ 2 * b.silent
+next_within : (b : Block) (o : Origin) → OriginIn b o → next_rank o ≤ 2 * b.source_end
 next_within b (Kept p) h = let k = h.1 in omega (arith, k)
 next_within b (Before p) h = let k = h.1 in omega (arith, k)
 
 module _ (end : ℕ → ℕ) (stays was : ℕ → Bool) (old : List Block) (src : Program) where
   abbrev silent_of : Block → Pos
-  silent_of b = record { block = b.id; item = b.silent }
+  silent_of b = record { block = b.id; item = b.source_end }
 
   pub order_made : (b : Block) (rest : List Block) → Facts src b → (first_id rest ≡ None → Closes b.items) →
       InOrder b.id 0 (made_block end stays was old b rest).items
@@ -330,19 +331,20 @@ module _ (end : ℕ → ℕ) (stays was : ℕ → Bool) (old : List Block) (src 
       order_kills b.id (kills end was old b.id) (rewritten end (first_id (staying stays rest)) (first_id rest) (silent_of b) b.items)
       (each_kill end was old b.id)
       (order_anew end (first_id (staying stays rest)) (first_id rest) (silent_of b) b.id refl b.items 0 h.ends onto (omega arith)
-      (All-weaker (λ (i : Item). OriginIn b i.origin) (λ (i : Item). next_rank i.origin ≤ 2 * b.silent) (λ i o. next_within b i.origin o) b.items h.origins)
+      (All-weaker (λ (i : Item). OriginIn b i.origin) (λ (i : Item). next_rank i.origin ≤ 2 * b.source_end) (λ i o. next_within b i.origin o) b.items h.origins)
       h.order)
 
   pub fits_made : (b : Block) (rest : List Block) → Facts src b → (first_id rest ≡ None → Closes b.items) →
-      All (λ (i : Item). KindFits src i.kind b.silent i.origin) (made_block end stays was old b rest).items
+      All (λ (i : Item). KindFits src i.kind b.source_end i.origin) (made_block end stays was old b rest).items
   fits_made b rest h onto =
       All-append P (kills end was old b.id) (rewritten end (first_id (staying stays rest)) (first_id rest) (silent_of b) b.items)
-      (All-weaker (IsKill b.id) P (λ i k. kill_fits src b.silent i.kind i.origin k.kind) (kills end was old b.id) (each_kill end was old b.id))
-      (all_anew P end (first_id (staying stays rest)) (first_id rest) (silent_of b) (λ x n l p. sent_fits src b.silent x.kind n x.origin l p)
-      (λ x n t e p. turned_fits src b.silent x.kind n t x.origin e p) (λ n. refl) (λ x j t e p l. moved_fits src b.silent x.kind j.kind t x.origin e p l)
+      (All-weaker (IsKill b.id) P (λ i k. kill_fits src b.source_end i.kind i.origin k.kind) (kills end was old b.id) (each_kill end was old b.id))
+      (all_anew P end (first_id (staying stays rest)) (first_id rest) (silent_of b) (λ x n l p. sent_fits src b.source_end x.kind n x.origin l p)
+      (λ x n t e p. turned_fits src b.source_end x.kind n t x.origin e p) (λ n. refl)
+      (λ x j t e p l. moved_fits src b.source_end x.kind j.kind t x.origin e p l)
       b.items h.ends onto h.fits) where
         P : Item → Type 0
-        P i = KindFits src i.kind b.silent i.origin
+        P i = KindFits src i.kind b.source_end i.origin
 
   pub marks_made : (b : Block) (rest : List Block) → Facts src b → (first_id rest ≡ None → Closes b.items) →
       All (λ (i : Item). MarkFits i.kind i.origin) (made_block end stays was old b rest).items

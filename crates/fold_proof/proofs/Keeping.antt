@@ -7,7 +7,7 @@ use Rattle.std.proofs.lemmas.Option.{slice_get-get_or, slice_get_within, get_or_
 use Rattle.rv64_instr.specs.Access.{sets}
 use Rattle.rv64_instr.specs.Row.{Row, Jumps, row_of}
 use Rattle.mir_func.specs.declared.block.Block.{Block}
-use Rattle.mir_func.specs.declared.entry.Entry.{Entry}
+use Rattle.mir_func.specs.declared.entry.DebugSubstitution.{DebugSubstitution}
 use Rattle.mir_func.specs.declared.item.Item.{Item}
 use Rattle.mir_func.specs.declared.item.ItemKind.{ItemKind}
 use Rattle.mir_func.specs.declared.item.ItemKind.TheVariants.{Code, Mark, Phi}
@@ -58,7 +58,7 @@ all_of : {X : Type 0} (P : X → Type 0) (xs : List X) → ((x : X) → Contains
 all_of P [] h = All-nil P
 all_of P (x ∷ xs) h = All-cons P x xs (h x (0, omega arith, refl)) (all_of P xs (λ y w. h y (suc w.0, (let lt = w.1 in omega (arith, lt)), w.2)))
 
-module _ (f g : Function) (subs : List Entry) (sound : IsSound f) (h : IsFoldedWithKills f g) where
+module _ (f g : Function) (subs : List DebugSubstitution) (sound : IsSound f) (h : IsFoldedWithKills f g) where
   abbrev old : List Block
   old = f.blocks
 
@@ -201,18 +201,18 @@ module _ (f g : Function) (subs : List Entry) (sound : IsSound f) (h : IsFoldedW
         member : Contains old b
         member = sub b (0, omega arith, refl)
 
-        silent : Pos
-        silent = record { block = b.id; item = b.silent }
+        source_end : Pos
+        source_end = record { block = b.id; item = b.source_end }
 
         anew : List Item
-        anew = rewritten end (first_id (staying stays bs)) (first_id bs) silent b.items
+        anew = rewritten end (first_id (staying stays bs)) (first_id bs) source_end b.items
 
         stay : stays b.id ≡ true → BlocksBecome fold_debug ch bs (made end stays was old bs) →
             BlocksBecome fold_debug ch (b ∷ bs) (made_block end stays was old b bs ∷ made end stays was old bs)
         stay s rest = block_stays (kills end was old b.id) anew refl refl refl (end, was, h.folded.ends, h.reached, refl)
             (All-weaker (ComesFrom end was old b.id) (IsKillAt fold_debug ch b.id) (kill_at b.id) (kills end was old b.id) (each_from end was old b.id))
             (become ch b.id (λ n loss l. stays_unlost f g subs sound h b.id loss.reason s l.why) end (first_id (staying stays bs))
-            (first_id bs) silent b.items 0
+            (first_id bs) source_end b.items 0
             (All-head (λ (b : Block). EndsWell b.items) b bs ends) (onto b bs (closing b bs last))
             (All-weaker (λ (i : Item). OriginIn b i.origin) (λ (i : Item). (position_of i.origin).block ≡ b.id) (λ i o. home_of b i.origin o) b.items
             (All-contains (λ (d : Block). All (λ (i : Item). OriginIn d i.origin) d.items) old b sound.origins member))

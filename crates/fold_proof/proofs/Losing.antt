@@ -5,7 +5,7 @@ use Rattle.std.specs.List.{flat_map, cons_option}
 use Rattle.std.proofs.lemmas.List.Elements.{Contains-append_left, Contains-append_right}
 use Rattle.rv64_instr.specs.Instruction.{Instruction}
 use Rattle.mir_func.specs.declared.block.Block.{Block}
-use Rattle.mir_func.specs.declared.entry.Entry.{Entry}
+use Rattle.mir_func.specs.declared.entry.DebugSubstitution.{DebugSubstitution}
 use Rattle.mir_func.specs.declared.item.Item.{Item}
 use Rattle.mir_func.specs.declared.item.ItemKind.{ItemKind}
 use Rattle.mir_func.specs.declared.item.ItemKind.TheVariants.{Code, Mark, Phi}
@@ -108,7 +108,7 @@ reason_is why (Code i (Some k)) o loss e = by_test (is_unreachable why) e where
   by_test true h = let same : number_lost k why ≡ loss = cc in ap (λ (l : Loss). l.reason) same
   by_test false h = cc
 
-module _ (f g : Function) (subs : List Entry) (sound : IsSound f) (h : IsFoldedWithKills f g) where
+module _ (f g : Function) (subs : List DebugSubstitution) (sound : IsSound f) (h : IsFoldedWithKills f g) where
   abbrev all : List Loss
   all = all_lost h.folded.end h.was (lead f.blocks) f.blocks
 
@@ -117,14 +117,14 @@ module _ (f g : Function) (subs : List Entry) (sound : IsSound f) (h : IsFoldedW
 
   pub stands_in : (b : Block) → Contains f.blocks b → (n : ℕ) (x : Item) → slice_get b.items n ≡ Some x → StandsAt f (record { block = b.id; item = n }) x
   stands_in b member n x at = let w = found f.blocks sound.blocks_apart b member in
-      ap (λ (bs : List Block). fetch_in bs n) w.at ∙ item_front b.items n b.silent w.rest x at
+      ap (λ (bs : List Block). fetch_in bs n) w.at ∙ item_front b.items n b.source_end w.rest x at
 
   pub block_of : (at : Pos) (x : Item) → StandsAt f at x → (b : Block) × Contains f.blocks b × (b.id ≡ at.block) × (slice_get b.items at.item ≡ Some x)
   block_of at x stands = by_blocks (from_block f.blocks at.block) refl stands where
     by_blocks : (bs : List Block) → from_block f.blocks at.block ≡ bs → fetch_in bs at.item ≡ Here x →
         (b : Block) × Contains f.blocks b × (b.id ≡ at.block) × (slice_get b.items at.item ≡ Some x)
     by_blocks [] e k = cc
-    by_blocks (b ∷ bs) e k = let w = found_in f.blocks at.block b bs e in (b, w.0, w.1, front_item b.items at.item b.silent bs x k)
+    by_blocks (b ∷ bs) e k = let w = found_in f.blocks at.block b bs e in (b, w.0, w.1, front_item b.items at.item b.source_end bs x k)
 
   -- what the rule says is told
   pub told : (at : Pos) (loss : Loss) → IsLostAt f at loss → Contains all loss

@@ -4,7 +4,7 @@ use Rattle.std.proofs.Common.{nat_eq, refl, sym, ap, ◌∙◌, subst, inl, inr,
 use Rattle.std.specs.Option.{is_some}
 use Rattle.rv64_instr.specs.Row.{Row, Jumps, row_of}
 use Rattle.mir_func.specs.declared.block.Block.{Block}
-use Rattle.mir_func.specs.declared.entry.Entry.{Entry}
+use Rattle.mir_func.specs.declared.entry.DebugSubstitution.{DebugSubstitution}
 use Rattle.mir_func.specs.declared.exit.Exit.TheVariants.{Always}
 use Rattle.mir_func.specs.declared.item.Item.{Item}
 use Rattle.mir_func.specs.declared.item.ItemKind.{ItemKind}
@@ -61,7 +61,7 @@ leading_items (x ∷ xs) next m ends e = by_kind x.kind refl ends.0 e (leading_i
   by_kind (Mark v n) k may h later = with_first (subst IsJumpOrDebug (sym k) tt) (later h)
   by_kind (Phi p n) k may h later = with_first (subst IsJumpOrDebug (sym k) tt) (later h)
 
-module _ (f g : Function) (subs : List Entry) (sound : IsSound f) (h : IsFoldedWithKills f g) where
+module _ (f g : Function) (subs : List DebugSubstitution) (sound : IsSound f) (h : IsFoldedWithKills f g) where
   abbrev pub old : List Block
   old = f.blocks
 

@@ -16,7 +16,7 @@ use Rattle.mir_func.specs.declared.position.Pos.{Pos}
 use Rattle.mir_func.specs.declared.position.Origin.{Origin}
 use Rattle.mir_func.specs.declared.position.Origin.TheVariants.{Kept, Before}
 use Rattle.mir_func.specs.Exits.{row_exit, exit_of, Leaves}
-use Rattle.mir_func.specs.Graph.{Program, Fetch, Here, Silent, Outside, below, block_start, fetch_in, from_block, index_of, program_of}
+use Rattle.mir_func.specs.Graph.{Program, Fetch, Here, EndOfBlock, Outside, below, block_start, fetch_in, from_block, index_of, program_of}
 use Rattle.mir_func.specs.Graph.{RowEdge, KindEdge, FetchEdge, Edge, Leads as LeadsFrom, stay, go}
 use Rattle.mir_func.specs.Sound.{ids_of, EndsWell, LastCloses}
 use Rattle.sem_mir.specs.Align.{position_of}
@@ -89,7 +89,7 @@ pub stands_in : (sp : Bool) (bs : List Block) (resolve : OperandPair → Option 
 stands_in sp bs resolve p i e = by_blocks (from_block bs p.block) refl e where
   by_blocks : (cs : List Block) → from_block bs p.block ≡ cs → fetch_in cs p.item ≡ Here i → StandsIn bs p i
   by_blocks [] h k = cc
-  by_blocks (b ∷ rest) h k = record { block = b; rest = rest; at = h; item = front_item b.items p.item b.silent rest i k }
+  by_blocks (b ∷ rest) h k = record { block = b; rest = rest; at = h; item = front_item b.items p.item b.source_end rest i k }
 
 pub record EndsIn (bs : List Block) (p : Pos) (n : ℕ) : Type 0 where
   pub block : Block
@@ -99,13 +99,13 @@ pub record EndsIn (bs : List Block) (p : Pos) (n : ℕ) : Type 0 where
   pub next : first_id rest ≡ Some n
 
 pub ends_in : (sp : Bool) (bs : List Block) (resolve : OperandPair → Option OperandPair) (p : Pos) (k n : ℕ) →
-    (program_of sp bs resolve).fetch p ≡ Silent k n → EndsIn bs p n
+    (program_of sp bs resolve).fetch p ≡ EndOfBlock k n → EndsIn bs p n
 ends_in sp bs resolve p k n e = by_blocks (from_block bs p.block) refl e where
-  by_blocks : (cs : List Block) → from_block bs p.block ≡ cs → fetch_in cs p.item ≡ Silent k n → EndsIn bs p n
+  by_blocks : (cs : List Block) → from_block bs p.block ≡ cs → fetch_in cs p.item ≡ EndOfBlock k n → EndsIn bs p n
   by_blocks [] h q = cc
   by_blocks (b ∷ rest) h q =
-      let w = front_end b.items p.item b.silent rest k n q in
-      record { block = b; rest = rest; at = h; past = w.0; next = first_end b.silent k rest n w.1 }
+      let w = front_end b.items p.item b.source_end rest k n q in
+      record { block = b; rest = rest; at = h; past = w.0; next = first_end b.source_end k rest n w.1 }
 
 module _ (fold : Folding) (src : List Block) (subs : OperandPair → Option OperandPair) where
   abbrev srcp : Program
@@ -163,9 +163,9 @@ module _ (fold : Folding) (src : List Block) (subs : OperandPair → Option Oper
           s : StandsIn (old fold) q j
           s = stands_in false (old fold) fold.resolve q j at
 
-          fits : KindFits srcp j.kind s.block.silent j.origin
-          fits = All-contains (λ (i : Item). KindFits srcp i.kind s.block.silent i.origin) s.block.items j
-              (All-contains (λ (b : Block). All (λ (i : Item). KindFits srcp i.kind b.silent i.origin) b.items) (old fold) s.block shape.items
+          fits : KindFits srcp j.kind s.block.source_end j.origin
+          fits = All-contains (λ (i : Item). KindFits srcp i.kind s.block.source_end i.origin) s.block.items j
+              (All-contains (λ (b : Block). All (λ (i : Item). KindFits srcp i.kind b.source_end i.origin) b.items) (old fold) s.block shape.items
               (found_in (old fold) q.block s.block s.rest s.at).0) (contains_at s.block.items q.item j s.item)
 
           Result : Type 0
@@ -180,17 +180,17 @@ module _ (fold : Folding) (src : List Block) (subs : OperandPair → Option Oper
             of_class (Code c n) h = odd_leaves (row_of c) h
             of_class (Mark v m) h = absurd h
             of_class (Phi r n) h = absurd h
-          odd_item p (Silent k n) at' o h = absurd h
+          odd_item p (EndOfBlock k n) at' o h = absurd h
           odd_item p Outside at' o h = absurd h
 
-          of_odd : (o : Origin) → j.origin ≡ o → RowFits srcp Unfit s.block.silent o → Result
+          of_odd : (o : Origin) → j.origin ≡ o → RowFits srcp Unfit s.block.source_end o → Result
           of_odd (Kept p) e h = odd_item p (srcp.fetch p) refl e h
           of_odd (Before p) e h = absurd h
 
           by_kind : (k : ItemKind) → j.kind ≡ k → Leaves (exit_of k) → Result
           by_kind (Code i n) e l = by_row (row_of i) refl l where
-            fits_row : RowFits srcp (row_of i) s.block.silent j.origin
-            fits_row = subst (λ (k : ItemKind). KindFits srcp k s.block.silent j.origin) e fits
+            fits_row : RowFits srcp (row_of i) s.block.source_end j.origin
+            fits_row = subst (λ (k : ItemKind). KindFits srcp k s.block.source_end j.origin) e fits
 
             of_row : IsEnd (row_of i) → Result
             of_row h = of_end (subst (OnRow IsEnd) (sym e) h)
@@ -198,12 +198,12 @@ module _ (fold : Folding) (src : List Block) (subs : OperandPair → Option Oper
             by_row : (r : Row) → row_of i ≡ r → Leaves (row_exit r) → Result
             by_row (Jumps t) q l = of_row (subst IsEnd (sym q) tt)
             by_row (Returns v) q l = of_row (subst IsEnd (sym q) tt)
-            by_row Unfit q l = of_odd j.origin refl (subst (λ (r : Row). RowFits srcp r s.block.silent j.origin) q fits_row)
+            by_row Unfit q l = of_odd j.origin refl (subst (λ (r : Row). RowFits srcp r s.block.source_end j.origin) q fits_row)
             by_row _ q l = absurd l
           by_kind (Mark v m) e l = absurd l
           by_kind (Phi r n) e l = absurd l
 
-    way_of_end : (p : Pos) (k n : ℕ) → Down p → srcp.fetch p ≡ Silent k n → HasWay p.block n
+    way_of_end : (p : Pos) (k n : ℕ) → Down p → srcp.fetch p ≡ EndOfBlock k n → HasWay p.block n
     way_of_end p k n down at =
         let w = was_found down.reached in
         let c = ends_in true src subs p k n at in
@@ -221,14 +221,14 @@ module _ (fold : Folding) (src : List Block) (subs : OperandPair → Option Oper
               let j = get_or w.block.items d e in
               let q : Pos = record { block = p.block; item = d } in
               let here : f.fetch q ≡ Here j = ap (λ (z : List Block). fetch_in z d) w.at ∙
-              item_front w.block.items d w.block.silent w.rest j (slice_get-get_or w.block.items d e lt) in
+              item_front w.block.items d w.block.source_end w.rest j (slice_get-get_or w.block.items d e lt) in
               let s = from_source q j here leaves in
               let home : s.0.block ≡ p.block =
               ap (λ (o : Origin). (position_of o).block) (sym s.3) ∙ from_home false (old fold) fold.resolve fold.sound.origins q j here in
               let there : srcp.fetch (record { block = p.block; item = s.0.item }) ≡ Here s.1 =
               ap (λ (z : ℕ). srcp.fetch (record { block = z; item = s.0.item })) (sym home) ∙ s.2 in
               let in_c : slice_get c.items s.0.item ≡ Some s.1 =
-              front_item c.items s.0.item c.silent rest s.1 (ap (λ (z : List Block). fetch_in z s.0.item) (sym at_c) ∙ there) in
+              front_item c.items s.0.item c.source_end rest s.1 (ap (λ (z : List Block). fetch_in z s.0.item) (sym at_c) ∙ there) in
               let below_end = slice_get_within c.items s.0.item s.1 in_c in
               down.open_above s.0.item s.1 (omega (arith, below_end, past)) there s.4
 
@@ -244,7 +244,7 @@ module _ (fold : Folding) (src : List Block) (subs : OperandPair → Option Oper
         | inl w ↦ to_block w.0 (way_of_item p i w.0 at w.1) w.2
         | inr w ↦ to_below i at w.0 w.1
       ]
-      by_fetch (Silent k n) at e = to_block n (way_of_end p k n down at) e
+      by_fetch (EndOfBlock k n) at e = to_block n (way_of_end p k n down at) e
       by_fetch Outside at e = absurd e
 
     start_down : (n : ℕ) → WasReached n → Down (block_start n)
@@ -318,7 +318,7 @@ module _ (fold : Folding) (src : List Block) (subs : OperandPair → Option Oper
           let falls = falls_from (new fold) b one mb (made (end fold) (stays fold) (was fold) (old fold) after) there
           (made_first (end fold) (stays fold) (was fold) (old fold) after ∙ is_next next e) (record { block = b; item = length mb.items }) refl
           (ap (λ (z : List Block). rest_in z (length mb.items)) there ∙ drop_all mb.items) in
-          let lt = falls_down false (new fold) fold.resolve (apart_new fold) (record { block = b; item = length mb.items }) mb.silent one falls in
+          let lt = falls_down false (new fold) fold.resolve (apart_new fold) (record { block = b; item = length mb.items }) mb.source_end one falls in
           let none : index_of (new fold) one ≡ 0 = ap (index_of (new fold)) (sym first_new) ∙ index_first (new fold) in
           absurd (omega (arith, lt, none))
 
@@ -340,17 +340,17 @@ module _ (fold : Folding) (src : List Block) (subs : OperandPair → Option Oper
           let member = (found_in (old fold) v.block b after k.0.at).0 in
           let well = All-contains (λ (b : Block). EndsWell b.items) (old fold) b fold.sound.ends member in
           let next = first_id (staying (stays fold) after) in
-          let silent : Pos = record { block = b.id; item = b.silent } in
-          let g = way_goes (end fold) next (first_id after) silent one (never_next v.block b after k.0.at v.stay) b.items v.to well
+          let source_end : Pos = record { block = b.id; item = b.source_end } in
+          let g = way_goes (end fold) next (first_id after) source_end one (never_next v.block b after k.0.at v.stay) b.items v.to well
           (λ none. last_closes (old fold) v.block b (k.0.at ∙ ap (λ (z : List Block). b ∷ z) (none_after after none)) fold.sound.last)
           (subst (λ (w : Ways). LeadTo w v.to) k.1 v.leads) (v.is_end ∙ first_ends) in
-          let anew = rewritten (end fold) next (first_id after) silent b.items in
+          let anew = rewritten (end fold) next (first_id after) source_end b.items in
           let ks = kills (end fold) (was fold) (old fold) b.id in
           let s = slice_at (ks ++ anew) g.0 (Contains-append_right ks anew g.0 g.1) in (
             record { block = v.block; item = s.0 },
             g.0,
             ap (λ (z : List Block). fetch_in z s.0) (made_at (end fold) (stays fold) (was fold) (old fold) (old fold) v.block b after k.0.at v.stay) ∙
-                item_front (ks ++ anew) s.0 b.silent (made (end fold) (stays fold) (was fold) (old fold) after) g.0 s.1,
+                item_front (ks ++ anew) s.0 b.source_end (made (end fold) (stays fold) (was fold) (old fold) after) g.0 s.1,
             g.2,
           )
 

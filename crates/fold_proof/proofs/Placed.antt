@@ -7,7 +7,7 @@ use Rattle.mir_func.specs.declared.block.Block.{Block}
 use Rattle.mir_func.specs.declared.item.Item.{Item}
 use Rattle.mir_func.specs.declared.position.Pos.{Pos}
 use Rattle.mir_func.specs.Sound.{ids_of}
-use Rattle.mir_func.specs.Graph.{Silent, end_of, front, fetch_in, from_block}
+use Rattle.mir_func.specs.Graph.{EndOfBlock, end_of, front, fetch_in, from_block}
 use Rattle.sem_simulation.proofs.Laid.{rest_in, rest_of}
 use Rattle.fold_targets.specs.Leads.{first_id}
 use Rattle.fold_targets.proofs.Ways.{test_of}
@@ -50,20 +50,20 @@ found_at (a ∷ cs) n k e = elim (test_of a.id n (nat_eq a.id n) refl) as (λ z.
 
 -- ---- a block's end
 
-pub end_first : (k : ℕ) (bs : List Block) (n : ℕ) → first_id bs ≡ Some n → end_of k bs ≡ Silent k n
+pub end_first : (k : ℕ) (bs : List Block) (n : ℕ) → first_id bs ≡ Some n → end_of k bs ≡ EndOfBlock k n
 end_first k [] n e = cc
-end_first k (b ∷ bs) n e = let same : b.id ≡ n = cc in ap (Silent k) same
+end_first k (b ∷ bs) n e = let same : b.id ≡ n = cc in ap (EndOfBlock k) same
 
-pub first_end : (k j : ℕ) (bs : List Block) (n : ℕ) → end_of k bs ≡ Silent j n → first_id bs ≡ Some n
+pub first_end : (k j : ℕ) (bs : List Block) (n : ℕ) → end_of k bs ≡ EndOfBlock j n → first_id bs ≡ Some n
 first_end k j [] n e = cc
 first_end k j (b ∷ bs) n e = let same : b.id ≡ n = cc in ap (λ (m : ℕ). Some m) same
 
 pub falls_from : (bs : List Block) (b n : ℕ) (block : Block) (rest : List Block) → from_block bs b ≡ block ∷ rest → first_id rest ≡ Some n → (p : Pos) →
-    p.block ≡ b → rest_of bs p ≡ [] → fetch_in (from_block bs p.block) p.item ≡ Silent block.silent n
+    p.block ≡ b → rest_of bs p ≡ [] → fetch_in (from_block bs p.block) p.item ≡ EndOfBlock block.source_end n
 falls_from bs b n block rest at next p same none =
     let here : from_block bs p.block ≡ block ∷ rest = ap (from_block bs) same ∙ at in
     let over : drop p.item block.items ≡ [] = ap (λ (z : List Block). rest_in z p.item) (sym here) ∙ none in
-    ap (λ (z : List Block). fetch_in z p.item) here ∙ ap (λ (z : List Item). front z block.silent rest) over ∙ end_first block.silent rest n next
+    ap (λ (z : List Block). fetch_in z p.item) here ∙ ap (λ (z : List Item). front z block.source_end rest) over ∙ end_first block.source_end rest n next
 
 module _ (end : ℕ → ℕ) (stays was : ℕ → Bool) (old : List Block) where
   abbrev put : Block → Block

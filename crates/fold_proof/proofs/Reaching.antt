@@ -15,7 +15,7 @@ use Rattle.mir_func.specs.declared.item.ItemKind.TheVariants.{Code, Mark, Phi}
 use Rattle.mir_func.specs.declared.position.Pos.{Pos}
 use Rattle.mir_func.specs.Exits.{row_exit, exit_of, Leaves}
 use Rattle.mir_func.specs.Function.{Function}
-use Rattle.mir_func.specs.Graph.{Program, Fetch, Here, Silent, Outside, below, block_start, front, fetch_in, from_block, program_of}
+use Rattle.mir_func.specs.Graph.{Program, Fetch, Here, EndOfBlock, Outside, below, block_start, front, fetch_in, from_block, program_of}
 use Rattle.mir_func.specs.Graph.{RowEdge, KindEdge, FetchEdge, Edge, Leads as LeadsFrom, stay, go}
 use Rattle.mir_func.specs.Sound.{EndsWell, LastCloses, IsSound}
 use Rattle.sem_mir.specs.Follow.{first_of as first_number}
@@ -100,11 +100,11 @@ module _ (f : Function) (sound : IsSound f) (resolve : OperandPair → Option Op
     place k = record { block = b; item = k }
 
     here_at : (k : ℕ) (x : Item) (xs : List Item) → drop k block.items ≡ x ∷ xs → fp.fetch (place k) ≡ Here x
-    here_at k x xs e = ap (λ (z : List Block). fetch_in z k) at ∙ ap (λ (z : List Item). front z block.silent rest) e
+    here_at k x xs e = ap (λ (z : List Block). fetch_in z k) at ∙ ap (λ (z : List Item). front z block.source_end rest) e
 
-    end_at : (k n : ℕ) → drop k block.items ≡ [] → first_id rest ≡ Some n → fp.fetch (place k) ≡ Silent block.silent n
+    end_at : (k n : ℕ) → drop k block.items ≡ [] → first_id rest ≡ Some n → fp.fetch (place k) ≡ EndOfBlock block.source_end n
     end_at k n e next =
-        ap (λ (z : List Block). fetch_in z k) at ∙ ap (λ (z : List Item). front z block.silent rest) e ∙ end_first block.silent rest n next
+        ap (λ (z : List Block). fetch_in z k) at ∙ ap (λ (z : List Item). front z block.source_end rest) e ∙ end_first block.source_end rest n next
 
     step_to : (k : ℕ) (x : Item) (xs : List Item) (q : Pos) → drop k block.items ≡ x ∷ xs → KindEdge (λ m. m) x.kind (place k) q → Edge fp (place k) q
     step_to k x xs q e edge = subst (λ (z : Fetch). FetchEdge (λ m. m) z (place k) q) (sym (here_at k x xs e)) edge
@@ -182,7 +182,7 @@ module _ (f : Function) (sound : IsSound f) (resolve : OperandPair → Option Op
       onward {b = p.block} {n = n} (ways_of s.block.items (first_id s.rest)) down.reached (ways_at old p.block s.block s.rest s.at)
       (item_leads s.block.items (first_id s.rest) i n (well p.block s.block s.rest s.at) (contains_at s.block.items p.item i s.item) e)
 
-  fell_to : (p : Pos) (k n : ℕ) → Down p → fp.fetch p ≡ Silent k n → Was n
+  fell_to : (p : Pos) (k n : ℕ) → Down p → fp.fetch p ≡ EndOfBlock k n → Was n
   fell_to p k n down at =
       let s = ends_in false old resolve p k n at in
       onward {b = p.block} {n = n} (ways_of s.block.items (first_id s.rest)) down.reached (ways_at old p.block s.block s.rest s.at)
@@ -192,7 +192,7 @@ module _ (f : Function) (sound : IsSound f) (resolve : OperandPair → Option Op
         open_items s d e lt leaves =
             let j = get_or s.block.items d e in
             let here : fp.fetch (record { block = p.block; item = d }) ≡ Here j = ap (λ (z : List Block). fetch_in z d) s.at ∙
-            item_front s.block.items d s.block.silent s.rest j (slice_get-get_or s.block.items d e lt) in
+            item_front s.block.items d s.block.source_end s.rest j (slice_get-get_or s.block.items d e lt) in
             let past = s.past in
             down.open_above d j (omega (arith, lt, past)) here leaves
 
@@ -206,7 +206,7 @@ module _ (f : Function) (sound : IsSound f) (resolve : OperandPair → Option Op
 
     by_fetch : (x : Fetch) → fp.fetch p ≡ x → FetchEdge (λ n. n) x p q → Down q
     by_fetch (Here i) at e = by_item i at (edge_item i.kind p q e)
-    by_fetch (Silent k n) at e = subst Down (sym e) (down_start n (fell_to p k n down at))
+    by_fetch (EndOfBlock k n) at e = subst Down (sym e) (down_start n (fell_to p k n down at))
     by_fetch Outside at e = absurd e
 
   down_path : {p q : Pos} → LeadsFrom fp p q → Down p → Down q

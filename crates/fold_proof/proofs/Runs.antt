@@ -22,9 +22,10 @@ use Rattle.sem_mir.specs.Align.{position_of, is_code, ByItems, ByEnds, Since, Af
 use Rattle.sem_mir.specs.Effects.{EndAlike}
 use Rattle.sem_mir.proofs.Told.{TellsLess, SeesLess, item_less}
 use Rattle.sem_simulation.specs.Sides.{Sides, since_item}
-use Rattle.sem_simulation.specs.Rewired.{RewiredRelation, IsAbsent, Reaches, arrived, debug, jump, finish, Leaves, by_end, by_jump, by_branch, FallsTo, DoAlike}
+use Rattle.sem_simulation.specs.Rewired.{RewiredMatchStates, IsAbsent, Reaches, arrived, debug, jump, finish, Leaves, by_end, by_jump, by_branch, FallsTo}
+use Rattle.sem_simulation.specs.Rewired.{DoAlike}
 use Rattle.sem_simulation.specs.Rewired.{View, both, added, paired, closes, ended}
-use Rattle.sem_simulation.proofs.Stations.{IsStationOf, of_item, of_end, station_is_of}
+use Rattle.sem_simulation.proofs.Stations.{IsSyncPointOf, of_item, of_end, sync_point_is_of}
 use Rattle.sem_simulation.proofs.Laid.{rest_in, rest_of, laid_out, from_home}
 use Rattle.fold_targets.specs.Ways.{EndsAt, leads_nowhere, comes_round, goes_on}
 use Rattle.fold_targets.specs.Leads.{first_id, always_to, lead_by, lead_of, lead}
@@ -40,7 +41,7 @@ use Rattle.fold_rule_proof.specs.Kills.{is_bypassed, kills}
 use Rattle.fold_rule_proof.proofs.Kills.{IsKill}
 use Rattle.fold_rule_proof.specs.Alike.{aimed_at, swapped}
 use Rattle.fold_rule_proof.proofs.StepAlike.{items_do_alike}
-use Rattle.fold_proof.proofs.Told.{Kin, kin_itself, kin_more, kin_less, kin_shows, kin_kill, kin_debug, kin_jump, kin_branch, kin_new_jump}
+use Rattle.fold_proof.proofs.Told.{MatchCores, kin_itself, kin_more, kin_less, kin_shows, kin_kill, kin_debug, kin_jump, kin_branch, kin_new_jump}
 use Rattle.fold_proof.proofs.Killed.{covered}
 use Rattle.fold_proof.proofs.Placed.{falls_from, made_block, made_at, made_gone, made_first}
 use Rattle.fold_proof.proofs.Ways.{always_is, LeadsOn, lead_at, ends_elsewhere, staying_end, Was, was_led}
@@ -82,7 +83,7 @@ module _ (fold : Folding) (s : State) where
   next_of after = first_id (staying (stays fold) after)
 
   abbrev silent_of : Block → Pos
-  silent_of b = record { block = b.id; item = b.silent }
+  silent_of b = record { block = b.id; item = b.source_end }
 
   abbrev anew : Block → List Block → List Item → List Item
   anew b after xs = rewritten to_end (next_of after) (first_id after) (silent_of b) xs
@@ -102,29 +103,29 @@ module _ (fold : Folding) (s : State) where
     pub killed : All (IsKill b) ks
     pub same : ys ≡ ks ++ anew block after xs
 
-  abbrev pub relation : RewiredRelation
-  relation = record {
-    relation = record {
+  abbrev pub match_states : RewiredMatchStates
+  match_states = record {
+    match_states = record {
       Stage = List Item;
       entry = lost;
-      Rests = Rest;
-      Cores = λ k b xs ys c d. Kin k c d;
+      MatchItems = Rest;
+      MatchCores = λ k b xs ys c d. MatchCores k c d;
     };
     Has = λ n. stays fold n ≡ true;
-    Ways = λ e c d. Kin (lost e) c d;
+    Ways = λ e c d. MatchCores (lost e) c d;
   }
 
   abbrev place : ℕ → ℕ
   place = index_of (new fold)
 
   abbrev To : ℕ → Pos → Type 0
-  To e p = Reaches sides place relation e p
+  To e p = Reaches sides place match_states e p
 
   -- ---- ways
 
   -- of a block that doesn't stay nothing is left
-  absent : (q : Pos) → stays fold q.block ≡ false → IsAbsent sides place relation q
-  absent q gone o = by_station (station_is_of ByItems g o.place o.station o.stands) where
+  absent : (q : Pos) → stays fold q.block ≡ false → IsAbsent sides place match_states q
+  absent q gone o = by_sync_point (sync_point_is_of ByItems g o.place o.sync_point o.stands) where
     empty : (x : Item) → o.place.block ≡ q.block → g.fetch o.place ≡ Here x → ⊥
     empty x same at =
         let none : from_block (new fold) o.place.block ≡ [] =
@@ -132,11 +133,11 @@ module _ (fold : Folding) (s : State) where
         let bad : Outside ≡ Here x = ap (λ (z : List Block). fetch_in z o.place.item) (sym none) ∙ at in
         cc
 
-    by_station : IsStationOf ByItems g o.place o.station → ⊥
-    by_station (of_item x at code st) =
+    by_sync_point : IsSyncPointOf ByItems g o.place o.sync_point → ⊥
+    by_sync_point (of_item x at code st) =
         empty x (sym (from_home false (new fold) fold.resolve (origins_new fold) o.place x at) ∙
-        ap (λ (z : Rattle.sem_mir.specs.Align.Station). z.pos.block) st ∙ ap (λ (z : Pos). z.block) o.from) at
-    by_station (of_end k n at ends st) = cc
+        ap (λ (z : Rattle.sem_mir.specs.Align.SyncPoint). z.pos.block) st ∙ ap (λ (z : Pos). z.block) o.from) at
+    by_sync_point (of_end k n at ends st) = cc
 
   -- control goes on from what is left of a block that is bypassed
   module _ (e n b : ℕ) (block : Block) (after : List Block) (at : from_block (old fold) b ≡ block ∷ after) (gone : stays fold b ≡ false)
@@ -144,8 +145,8 @@ module _ (fold : Folding) (s : State) where
     walk : (xs : List Item) (p : Pos) → p.block ≡ b → rf p ≡ xs → ((x : Item) → Contains xs x → Contains block.items x) → lead_of xs (first_id after) ≡ Some n →
         To e p
     walk [] p same here sub leads =
-        finish block.silent n (falls_from (old fold) b n block after at leads p same here)
-        (absent (record { block = p.block; item = block.silent }) (ap (stays fold) same ∙ gone)) onward_to
+        finish block.source_end n (falls_from (old fold) b n block after at leads p same here)
+        (absent (record { block = p.block; item = block.source_end }) (ap (stays fold) same ∙ gone)) onward_to
     walk (x ∷ xs) p same here sub leads =
         by_kind x.kind refl leads (λ k. walk xs (below p) same ((laid_out false (old fold) fold.resolve).cons p x xs here).1
         (λ y c. sub y (suc c.0, (let l = c.1 in omega (arith, l)), c.2)) k) where
@@ -227,25 +228,25 @@ module _ (fold : Folding) (s : State) where
   closes_below x (y ∷ ys) stays_on h = h
 
   abbrev Seen : ℕ → List Item → List Item → List Item → Type 0
-  Seen b k xs ys = View sides place relation b k xs ys
+  Seen b k xs ys = View sides place match_states b k xs ys
 
   abbrev Alike : ℕ → List Item → List Item → Since → Outcome → Outcome → Type 0
-  Alike b xs ys m o p = DoAlike sides place relation b xs ys m o p
+  Alike b xs ys m o p = DoAlike sides place match_states b xs ys m o p
 
   same_sight : SeesLess f g
   same_sight = record { sees = λ r c v e. e; resolve = λ q. refl }
 
-  less : (x : Item) (c d : Core) → Kin [] c d → EndAlike TellsLess (do_item f x.kind c) (do_item g x.kind d)
+  less : (x : Item) (c d : Core) → MatchCores [] c d → EndAlike TellsLess (do_item f x.kind c) (do_item g x.kind d)
   less x c d h = item_less f g same_sight x.kind c d (kin_less c d h)
 
-  on_the_way : (e : ℕ) (c d : Core) → Kin [] c d → Kin (lost e) c d
+  on_the_way : (e : ℕ) (c d : Core) → MatchCores [] c d → MatchCores (lost e) c d
   on_the_way e c d h = kin_more (lost e) c d (kin_less c d h)
 
   -- g falls into the next block that stays
   falls_to : (b e : ℕ) (block : Block) (after : List Block) → from_block (old fold) b ≡ block ∷ after → stays fold b ≡ true → next_of after ≡ Some e →
-      FallsTo sides place relation b e
+      FallsTo sides place match_states b e
   falls_to b e block after at stay next q same none = (
-    block.silent,
+    block.source_end,
     falls_from (new fold) b e (made_block to_end (stays fold) (was fold) (old fold) block after)
         (Rattle.fold_proof.proofs.Placed.made to_end (stays fold) (was fold) (old fold) after)
         (made_at to_end (stays fold) (was fold) (old fold) (old fold) b block after at stay)
@@ -284,7 +285,7 @@ module _ (fold : Folding) (s : State) where
   alike_sent b xs ys m u t _ _ af r has to goes h = absurd h
 
   alike_turned : (b : ℕ) (xs : List Item) (m : Since) (u v t : ℕ) (o p : Outcome) → m ≡ After → stays fold u ≡ true → stays fold v ≡ true →
-      To u (block_start t) → FallsTo sides place relation b u → Leaves sides place relation v b xs →
+      To u (block_start t) → FallsTo sides place match_states b u → Leaves sides place match_states v b xs →
       ((n : ℕ) (c : Core) → o ≡ Goes n c → n ≡ t) → EndAlike TellsLess o p → Alike b xs [] m o (swapped v p)
   alike_turned b xs m u v t (Falls c) (Falls d) af has_u has_v to fall leave goes h = (af, has_v, refl, leave, kin_more (lost v) c d h)
   alike_turned b xs m u v t (Goes n c) (Goes k d) af has_u has_v to fall leave goes h =
@@ -296,7 +297,7 @@ module _ (fold : Folding) (s : State) where
   alike_turned b xs m u v t _ _ af has_u has_v to fall leave goes h = absurd h
 
   debug_falls : (k : ItemKind) → is_code k ≡ false → (c d : Core) → EndAlike TellsLess (do_item f k c) (do_item g k d) →
-      (e e' : Core) × (do_item f k c ≡ Falls e) × (do_item g k d ≡ Falls e') × Kin [] e e'
+      (e e' : Core) × (do_item f k c ≡ Falls e) × (do_item g k d ≡ Falls e') × MatchCores [] e e'
   debug_falls (Code i n) code c d h = cc
   debug_falls (Mark v m) code c d h = (_, _, refl, refl, kin_more [] _ _ h)
   debug_falls (Phi p n) code c d h = (_, _, refl, refl, kin_more [] _ _ h)
@@ -308,11 +309,11 @@ module _ (fold : Folding) (s : State) where
         Seen b [] [] (cond z [] (made_jump (to_end n) (Before (silent_of block)) Rattle.mir_func.specs.declared.location.Loc.TheVariants.Absent ∷ []))
     view_fall n fall has was true e =
         ended (to_end n) has (falls_to b (to_end n) block after at stay (is_next (next_of after) (to_end n) e))
-        (by_end block.silent n (λ p same none. falls_from (old fold) b n block after at fall p same none) (arrive n was))
+        (by_end block.source_end n (λ p same none. falls_from (old fold) b n block after at fall p same none) (arrive n was))
         (λ c d h. on_the_way (to_end n) c d h)
     view_fall n fall has was false e =
-        closes block.silent n (to_end n) refl
-        (ap (λ (m : ℕ). record { block = m; item = block.silent }) (found_in (old fold) b block after at).1) refl (λ c d h. kin_shows c d h)
+        closes block.source_end n (to_end n) refl
+        (ap (λ (m : ℕ). record { block = m; item = block.source_end }) (found_in (old fold) b block after at).1) refl (λ c d h. kin_shows c d h)
         (λ p same none. falls_from (old fold) b n block after at fall p same none) has (arrive n was)
         (λ c d h. (
           d,
@@ -342,7 +343,7 @@ module _ (fold : Folding) (s : State) where
           after_y = let w = fold.kept p x here (end_kind x.kind leads) in
               Rattle.fold_proof.proofs.Folding.kept_after ByItems (sent (to_end n) x) w.0 w.1
 
-          do_both : (c d : Core) → Kin [] c d → Alike b xs [] (since_item ByEnds x) (do_item f x.kind c) (do_item g (sent (to_end n) x).kind d)
+          do_both : (c d : Core) → MatchCores [] c d → Alike b xs [] (since_item ByEnds x) (do_item f x.kind c) (do_item g (sent (to_end n) x).kind d)
           do_both c d h =
               let k = kin_jump f x n [] c d form exit h in
               let l = kin_new_jump g x.kind n [] k.0 d form exit k.2 in
@@ -393,8 +394,8 @@ module _ (fold : Folding) (s : State) where
 
       -- from past the branch f goes to the second end
       leave_by : (ys : List Item) (q : Pos) → q.block ≡ b → rf q ≡ ys → IsJumpAtMost ys → else_way (first_of ys) (first_id after) ≡ Some m →
-          Leaves sides place relation v b ys
-      leave_by [] q k r jumps to = by_end block.silent m (λ z s none. falls_from (old fold) b m block after at to z s none) (arrive m was_m)
+          Leaves sides place match_states v b ys
+      leave_by [] q k r jumps to = by_end block.source_end m (λ z s none. falls_from (old fold) b m block after at to z s none) (arrive m was_m)
       leave_by (j ∷ []) q k r jumps to =
           let there = (laid_out false (old fold) fold.resolve).cons q j [] r in
           let go : exit_of j.kind ≡ Always m = always_is (exit_of j.kind) m to in
@@ -403,7 +404,7 @@ module _ (fold : Folding) (s : State) where
           (λ c d h. kin_jump f j m (lost v) c d (form_at fold q j there.0) go h) (arrive m was_m)
       leave_by (j ∷ y ∷ ys) q k r jumps to = absurd jumps
 
-      leave : Leaves sides place relation v b xs
+      leave : Leaves sides place match_states v b xs
       leave = leave_by xs (below p) same rest may else_to
 
       goes_t : (c : Core) (n : ℕ) (e : Core) → do_item f x.kind c ≡ Goes n e → n ≡ t
@@ -450,7 +451,7 @@ module _ (fold : Folding) (s : State) where
       jump_code : is_code one_jump.kind ≡ true
       jump_code = code_leads one_jump.kind (leads_to (exit_of one_jump.kind) v (inr jump_goes))
 
-      do_removed : u ≡ v → (c d : Core) → Kin [] c d → Alike b xs [] (since_item ByEnds x) (do_item f x.kind c) (do_item g one_jump.kind d)
+      do_removed : u ≡ v → (c d : Core) → MatchCores [] c d → Alike b xs [] (since_item ByEnds x) (do_item f x.kind c) (do_item g one_jump.kind d)
       do_removed uv c d h = elim (kin_branch f x t [] c d form exit h) as (λ z. Alike b xs [] (since_item ByEnds x) (do_item f x.kind c)
           (do_item g one_jump.kind d)) [
             | inl a ↦ (let l = jumps a.0 a.2 in
@@ -465,7 +466,7 @@ module _ (fold : Folding) (s : State) where
                 subst (λ (o : Outcome). Alike b xs [] (since_item ByEnds x) o (do_item g one_jump.kind d)) (sym a)
                 (subst (λ (o : Outcome). Alike b xs [] (since_item ByEnds x) Traps o) (sym l.1) after_x))
           ] where
-            jumps : (e : Core) → Kin [] e d → (d' : Core) × (do_item g one_jump.kind d ≡ Goes v d') × Kin [] e d'
+            jumps : (e : Core) → MatchCores [] e d → (d' : Core) × (do_item g one_jump.kind d ≡ Goes v d') × MatchCores [] e d'
             jumps e k = kin_new_jump g one_jump.kind v [] e d (jump_form xs (below p) rest may) jump_goes k
 
       view_removed : u ≡ v → (z : Bool) → is_number next v ≡ z → Seen b [] (x ∷ xs) (cond z [] (one_jump ∷ []))
@@ -475,7 +476,7 @@ module _ (fold : Folding) (s : State) where
           (subst (λ (z : ℕ). To z (block_start t)) uv (arrive t was_t)) leave) (λ c d h. on_the_way v c d h)
       view_removed uv false e = both code jump_code refl (after_x ∙ sym (after_y one_jump refl)) (λ c d h. kin_shows c d h) (do_removed uv)
 
-      do_sent : (ys : List Item) → Rest [] b xs ys → (c d : Core) → Kin [] c d →
+      do_sent : (ys : List Item) → Rest [] b xs ys → (c d : Core) → MatchCores [] c d →
           Alike b xs ys (since_item ByEnds x) (do_item f x.kind c) (do_item g (sent u x).kind d)
       do_sent ys r c d h =
           subst (Alike b xs ys (since_item ByEnds x) (do_item f x.kind c)) (sym (items_do_alike.sent g x t u d (inl exit)))
@@ -486,7 +487,7 @@ module _ (fold : Folding) (s : State) where
       view_sent ys r = both code (still_code (to_block u) x.kind ∙ code) refl (after_x ∙ sym (after_y (sent u x) refl)) (λ c d h. kin_shows c d h)
           (do_sent ys r)
 
-      do_turned : next ≡ Some u → (c d : Core) → Kin [] c d →
+      do_turned : next ≡ Some u → (c d : Core) → MatchCores [] c d →
           Alike b xs [] (since_item ByEnds x) (do_item f x.kind c) (do_item g (turned v x).kind d)
       do_turned e c d h =
           subst (Alike b xs [] (since_item ByEnds x) (do_item f x.kind c)) (sym (items_do_alike.turned g x t v d exit))

@@ -105,9 +105,9 @@ module _ (fold : Folding) (src : List Block) (subs : OperandPair → Option Oper
     }
 
     stores : (b : Block) → Contains (new fold) b → (p : Pos) (i : Item) → p.block ≡ b.id → g.fetch p ≡ Here i → OnRow IsSlotStore i.kind →
-        i.origin ≡ Before (record { block = b.id; item = b.silent }) → (q : Pos) × (j : Item) × IsMetApart g p b.silent q j
+        i.origin ≡ Before (record { block = b.id; item = b.source_end }) → (q : Pos) × (j : Item) × IsMetApart g p b.source_end q j
     stores b member p i same at save o =
-        elim (split_put lost anew p.item i in_b) as (λ z. (q : Pos) × (j : Item) × IsMetApart g p b.silent q j) [
+        elim (split_put lost anew p.item i in_b) as (λ z. (q : Pos) × (j : Item) × IsMetApart g p b.source_end q j) [
           | inl c ↦ absurd (store_kind i.kind (All-contains (IsKill w.block.id) lost i (each_kill (end fold) (was fold) (old fold) w.block.id) c).kind save)
           | inr k ↦ was_store k.0 k.1 k.2
         ] where
@@ -126,11 +126,11 @@ module _ (fold : Folding) (src : List Block) (subs : OperandPair → Option Oper
           next : Option ℕ
           next = first_id (staying (stays fold) w.rest)
 
-          silent : Pos
-          silent = record { block = w.block.id; item = w.block.silent }
+          source_end : Pos
+          source_end = record { block = w.block.id; item = w.block.source_end }
 
           anew : List Item
-          anew = rewritten (end fold) next (first_id w.rest) silent w.block.items
+          anew = rewritten (end fold) next (first_id w.rest) source_end w.block.items
 
           in_b : slice_get (lost ++ anew) p.item ≡ Some i
           in_b = let s = stands_in false (new fold) fold.resolve p i at in
@@ -147,15 +147,16 @@ module _ (fold : Folding) (src : List Block) (subs : OperandPair → Option Oper
           onto : first_id w.rest ≡ None → Closes w.block.items
           onto none = last_closes (old fold) b.id w.block (w.at ∙ ap (λ (z : List Block). w.block ∷ z) (none_after w.rest none)) fold.sound.last
 
-          silent_same : b.silent ≡ w.block.silent
-          silent_same = ap (λ (c : Block). c.silent) w.same
+          silent_same : b.source_end ≡ w.block.source_end
+          silent_same = ap (λ (c : Block). c.source_end) w.same
 
-          was_store : (k : ℕ) → p.item ≡ length lost + k → slice_get anew k ≡ Some i → (q : Pos) × (j : Item) × IsMetApart g p b.silent q j
+          was_store : (k : ℕ) → p.item ≡ length lost + k → slice_get anew k ≡ Some i → (q : Pos) × (j : Item) × IsMetApart g p b.source_end q j
           was_store k index in_anew =
               let onward = store_passed i.kind save in
-              let stood : slice_get w.block.items k ≡ Some i = onward_was (end fold) next (first_id w.rest) silent w.block.items k i well onto in_anew onward in
-              let here : f.fetch p' ≡ Here i = ap (λ (z : List Block). fetch_in z k) at_p ∙ item_front w.block.items k w.block.silent w.rest i stood in
-              let origin : i.origin ≡ Before (record { block = w.block.id; item = w.block.silent }) =
+              let stood : slice_get w.block.items k ≡ Some i = onward_was (end fold) next
+              (first_id w.rest) source_end w.block.items k i well onto in_anew onward in
+              let here : f.fetch p' ≡ Here i = ap (λ (z : List Block). fetch_in z k) at_p ∙ item_front w.block.items k w.block.source_end w.rest i stood in
+              let origin : i.origin ≡ Before (record { block = w.block.id; item = w.block.source_end }) =
               o ∙ (λ t. Before (record { block = sym id t; item = silent_same t })) in
               let met = shape.stores w.block member_old p' i (same ∙ sym id) here save origin in
               by_met met.0 met.1 met.2 onward stood where
@@ -168,14 +169,14 @@ module _ (fold : Folding) (src : List Block) (subs : OperandPair → Option Oper
                 stay_p : stays fold p.block ≡ true
                 stay_p = ap (stays fold) same ∙ w.stay
 
-                by_met : (q : Pos) (j : Item) → IsMetApart f p' w.block.silent q j → exit_of i.kind ≡ Onward → slice_get w.block.items k ≡ Some i →
-                    (q : Pos) × (j : Item) × IsMetApart g p b.silent q j
-                by_met q j met onward stood = elim met.3 as (λ z. (q : Pos) × (j : Item) × IsMetApart g p b.silent q j) [
+                by_met : (q : Pos) (j : Item) → IsMetApart f p' w.block.source_end q j → exit_of i.kind ≡ Onward → slice_get w.block.items k ≡ Some i →
+                    (q : Pos) × (j : Item) × IsMetApart g p b.source_end q j
+                by_met q j met onward stood = elim met.3 as (λ z. (q : Pos) × (j : Item) × IsMetApart g p b.source_end q j) [
                   | inl before ↦ (at_new fold p q, j, (near before.0 before.1, met.1, far, inl (before.0, nearer before.0 before.1)))
                   | inr leads ↦ (let s = stands_there fold p q j (stand_along fold p leads (above stand)) met.0 met.1 in
                       (at_new fold p q, j, (s.0, met.1, far, inr s.1)))
                 ] where
-                  far : position_of j.origin ≡ record { block = p.block; item = b.silent } → ⊥
+                  far : position_of j.origin ≡ record { block = p.block; item = b.source_end } → ⊥
                   far e = met.2 (e ∙ ap (λ (n : ℕ). record { block = p.block; item = n }) silent_same)
 
                   lost_p : kills (end fold) (was fold) (old fold) p.block ≡ lost
@@ -224,7 +225,7 @@ module _ (fold : Folding) (src : List Block) (subs : OperandPair → Option Oper
       back = back_new fold src subs shape count kept only;
       order = each_made (end fold) (stays fold) (was fold) (old fold) (Facts srcp) (λ b. InOrder b.id 0 b.items)
           (order_made (end fold) (stays fold) (was fold) (old fold) srcp) (old fold) facts (inr fold.sound.last);
-      items = each_made (end fold) (stays fold) (was fold) (old fold) (Facts srcp) (λ b. All (λ (i : Item). KindFits srcp i.kind b.silent i.origin) b.items)
+      items = each_made (end fold) (stays fold) (was fold) (old fold) (Facts srcp) (λ b. All (λ (i : Item). KindFits srcp i.kind b.source_end i.origin) b.items)
           (fits_made (end fold) (stays fold) (was fold) (old fold) srcp) (old fold) facts (inr fold.sound.last);
       stores = stores;
       marks = each_made (end fold) (stays fold) (was fold) (old fold) (Facts srcp) (λ b. All (λ (i : Item). MarkFits i.kind i.origin) b.items)

@@ -15,7 +15,7 @@ use Rattle.mir_func.specs.declared.item.ItemKind.{ItemKind}
 use Rattle.mir_func.specs.declared.item.ItemKind.TheVariants.{Code, Mark, Phi}
 use Rattle.mir_func.specs.declared.position.Pos.{Pos}
 use Rattle.mir_func.specs.Exits.{row_exit, exit_of, IsAlways, Leaves}
-use Rattle.mir_func.specs.Graph.{Program, Fetch, Here, Silent, Outside, below, block_start, fetch_in, from_block, RowEdge, KindEdge, FetchEdge, Edge}
+use Rattle.mir_func.specs.Graph.{Program, Fetch, Here, EndOfBlock, Outside, below, block_start, fetch_in, from_block, RowEdge, KindEdge, FetchEdge, Edge}
 use Rattle.mir_func.specs.Graph.{Leads as LeadsFrom, stay, go}
 use Rattle.mir_func.specs.Sound.{IsJumpAtMost, MayFollow, EndsWell, Closes}
 use Rattle.sem_mir.specs.Follow.{OnRow, Counts}
@@ -86,8 +86,8 @@ module _ (fold : Folding) (b : ℕ) (block : Block) (after : List Block) (at : f
   abbrev fall : Option ℕ
   fall = first_id after
 
-  abbrev silent : Pos
-  silent = record { block = block.id; item = block.silent }
+  abbrev source_end : Pos
+  source_end = record { block = block.id; item = block.source_end }
 
   abbrev Come : ℕ → Type 0
   Come n = LeadsFrom g p0 (block_start n)
@@ -120,10 +120,10 @@ module _ (fold : Folding) (b : ℕ) (block : Block) (after : List Block) (at : f
 
   both_ways : (x : Item) (xs : List Item) (t u v : ℕ) (r : Pos) → r.block ≡ b → exit_of x.kind ≡ Perhaps t → IsJumpAtMost xs → (q w z : Bool) →
       nat_eq u v ≡ q → is_number next v ≡ w → is_number next u ≡ z →
-      rest_of (new fold) r ≡ cond q (if_needed next v (jump_for_branch silent x (first_of xs) v)) (cond w (sent u x ∷ [])
-      (cond z (turned v x ∷ []) (sent u x ∷ jump_at_end silent (first_of xs) v ∷ []))) → LeadsFrom g p0 r → Come u × Come v
+      rest_of (new fold) r ≡ cond q (if_needed next v (jump_for_branch source_end x (first_of xs) v)) (cond w (sent u x ∷ [])
+      (cond z (turned v x ∷ []) (sent u x ∷ jump_at_end source_end (first_of xs) v ∷ []))) → LeadsFrom g p0 r → Come u × Come v
   both_ways x xs t u v r same e may true w z a c d h l =
-      let k = needed v r (jump_for_branch silent x (first_of xs) v) same (jump_exit silent xs v may) (is_number next v) refl h l in
+      let k = needed v r (jump_for_branch source_end x (first_of xs) v) same (jump_exit source_end xs v may) (is_number next v) refl h l in
       (subst Come (sym (eqb-true u v a)) k, k)
   both_ways x xs t u v r same e may false true z a c d h l =
       let k = passes u r (sent u x) [] h (sent_branch x.kind t u e) l in
@@ -132,28 +132,28 @@ module _ (fold : Folding) (b : ℕ) (block : Block) (after : List Block) (at : f
       let k = passes v r (turned v x) [] h (turned_branch x.kind t v e) l in
       (falls u (below r) same k.1 (is_next next u d) k.0, branches v r (turned v x) [] h (turned_branch x.kind t v e) l)
   both_ways x xs t u v r same e may false false false a c d h l =
-      let j = jump_at_end silent (first_of xs) v in
+      let j = jump_at_end source_end (first_of xs) v in
       let k = passes u r (sent u x) (j ∷ []) h (sent_branch x.kind t u e) l in
-      (branches u r (sent u x) (j ∷ []) h (sent_branch x.kind t u e) l, jumps v (below r) j [] k.1 (jump_exit silent xs v may) k.0)
+      (branches u r (sent u x) (j ∷ []) h (sent_branch x.kind t u e) l, jumps v (below r) j [] k.1 (jump_exit source_end xs v may) k.0)
 
   -- from where the end begins
-  tail_ways : (xs : List Item) (r : Pos) → r.block ≡ b → rest_of (new fold) r ≡ rewritten (end fold) next fall silent xs → EndsWell xs →
+  tail_ways : (xs : List Item) (r : Pos) → r.block ≡ b → rest_of (new fold) r ≡ rewritten (end fold) next fall source_end xs → EndsWell xs →
       (fall ≡ None → Closes xs) → ((x : Item) (ys : List Item) → xs ≡ x ∷ ys → exit_of x.kind ≡ Onward → ⊥) → LeadsFrom g p0 r → (n : ℕ) →
       LeadTo (ways_of xs fall) n → Come (end fold n)
   tail_ways [] r same h ends onto opens l n (inl e) = cc
   tail_ways [] r same h ends onto opens l n (inr e) =
-      needed (end fold n) r (jump_at_end silent None (end fold n)) same refl (is_number next (end fold n)) refl
-      (h ∙ ap (plain_tail (end fold) next fall silent None) e) l
+      needed (end fold n) r (jump_at_end source_end None (end fold n)) same refl (is_number next (end fold n)) refl
+      (h ∙ ap (plain_tail (end fold) next fall source_end None) e) l
   tail_ways (x ∷ xs) r same h ends onto opens l n way = by_exit (exit_of x.kind) refl ends.0 h way where
     by_exit : (q : Exit) → exit_of x.kind ≡ q → MayFollow q xs →
-        rest_of (new fold) r ≡ tail_by (end fold) next fall silent q x (first_of xs) (rewritten (end fold) next fall silent xs) →
+        rest_of (new fold) r ≡ tail_by (end fold) next fall source_end q x (first_of xs) (rewritten (end fold) next fall source_end xs) →
         LeadTo (ways_by q (first_of xs) (ways_of xs fall) fall) n → Come (end fold n)
     by_exit Onward e may h way = absurd (opens x xs refl e)
     by_exit (Perhaps t) e may h way =
         let w = goes_else x t xs fall e may onto in
         let u = end fold t in
         let v = end fold w.0 in
-        let made_of = h ∙ ap (λ (o : Option ℕ). branch_tail_to (end fold) next fall silent x (first_of xs) t o) w.1 in
+        let made_of = h ∙ ap (λ (o : Option ℕ). branch_tail_to (end fold) next fall source_end x (first_of xs) t o) w.1 in
         let k = both_ways x xs t u v r same e may (nat_eq u v) (is_number next v) (is_number next u) refl refl refl made_of l in
         by_way t w.0 w.1 k way where
           by_way : (t m : ℕ) → else_way (first_of xs) fall ≡ Some m → Come (end fold t) × Come (end fold m) →
@@ -295,15 +295,15 @@ module _ (fold : Folding) (p0 : Pos) where
 
   -- what stands in the folded function from there on
   rest_new : (p : Pos) (a : Above p) → rest_of (new fold) (at_new p) ≡ rewritten (end fold) (first_id (staying (stays fold) a.after)) (first_id a.after)
-      (record { block = a.block.id; item = a.block.silent }) (drop p.item a.block.items)
+      (record { block = a.block.id; item = a.block.source_end }) (drop p.item a.block.items)
   rest_new p a =
       let id : a.block.id ≡ p.block = (found_in (old fold) p.block a.block a.after a.at).1 in
-      let anew = rewritten (end fold) (first_id (staying (stays fold) a.after)) (first_id a.after) (record { block = a.block.id; item = a.block.silent })
+      let anew = rewritten (end fold) (first_id (staying (stays fold) a.after)) (first_id a.after) (record { block = a.block.id; item = a.block.source_end })
       a.block.items in
       ap (λ (z : List Block). rest_in z (length (lost p.block) + p.item))
       (made_at (end fold) (stays fold) (was fold) (old fold) (old fold) p.block a.block a.after a.at a.stay) ∙
       ap (λ (n : ℕ). drop (length (lost p.block) + p.item) (lost n ++ anew)) id ∙ drop_put (lost p.block) anew p.item ∙
-      anew_drop (end fold) (first_id (staying (stays fold) a.after)) (first_id a.after) (record { block = a.block.id; item = a.block.silent }) a.block.items
+      anew_drop (end fold) (first_id (staying (stays fold) a.after)) (first_id a.after) (record { block = a.block.id; item = a.block.source_end }) a.block.items
       p.item a.within a.passed
 
   enter : (n : ℕ) → stays fold (end fold n) ≡ true → Arrives (block_start (end fold n)) → Stand (block_start n)
@@ -314,7 +314,7 @@ module _ (fold : Folding) (p0 : Pos) where
         let w = Rattle.fold_proof.proofs.Folding.found_staying fold n st' in
         let l' : Arrives (block_start n) = subst (λ (m : ℕ). Arrives (block_start m)) own l in
         let id : w.block.id ≡ n = (found_in (old fold) n w.block w.rest w.at).1 in
-        let anew = rewritten (end fold) (first_id (staying (stays fold) w.rest)) (first_id w.rest) (record { block = w.block.id; item = w.block.silent })
+        let anew = rewritten (end fold) (first_id (staying (stays fold) w.rest)) (first_id w.rest) (record { block = w.block.id; item = w.block.source_end })
         w.block.items in
         let items : rest_of (new fold) (block_start n) ≡ lost n ++ anew =
         ap (λ (z : List Block). rest_in z 0) (made_at (end fold) (stays fold) (was fold) (old fold) (old fold) n w.block w.rest w.at st') ∙
@@ -381,7 +381,7 @@ module _ (fold : Folding) (p0 : Pos) where
   rest_at : (p : Pos) (b : Block) (after : List Block) → from_block (old fold) p.block ≡ b ∷ after → (x : Item) → f.fetch p ≡ Here x →
       (slice_get b.items p.item ≡ Some x) × ((ys : List Item) × (drop p.item b.items ≡ x ∷ ys))
   rest_at p b after at x e =
-      let k = Rattle.sem_mir.proofs.Reading.front_item b.items p.item b.silent after x (ap (λ (z : List Block). fetch_in z p.item) (sym at) ∙ e) in
+      let k = Rattle.sem_mir.proofs.Reading.front_item b.items p.item b.source_end after x (ap (λ (z : List Block). fetch_in z p.item) (sym at) ∙ e) in
       (k, drop_at b.items p.item x k)
 
   drop_more : (xs : List Item) (k : ℕ) (x : Item) (ys : List Item) → drop k xs ≡ x ∷ ys → drop (k + 1) xs ≡ ys
@@ -429,7 +429,7 @@ module _ (fold : Folding) (p0 : Pos) where
                 | inl w ↦ on_exit w.0 exit w.1 w.2
                 | inr w ↦ absurd (w.0 (subst Leaves (sym exit) tt))
               ]
-    by_fetch (Silent k n) at e =
+    by_fetch (EndOfBlock k n) at e =
         let w = ends_in false (old fold) fold.resolve p k n at in
         let same_blocks : w.block ∷ w.rest ≡ s.block ∷ s.after = sym w.at ∙ s.at in
         let block : w.block ≡ s.block = cc in
@@ -487,10 +487,10 @@ module _ (fold : Folding) (p0 : Pos) where
         ];
         arrived = (let here : goal.fetch (at_new p) ≡ Here x =
             ((laid_out false (new fold) fold.resolve).cons (at_new p) x _ (rest_new p a ∙
-            ap (rewritten (end fold) (first_id (staying (stays fold) a.after)) fall (record { block = a.block.id; item = a.block.silent })) left.1 ∙
-            ap (λ (e : Exit). tail_by (end fold) (first_id (staying (stays fold) a.after)) fall (record { block = a.block.id; item = a.block.silent }) e x
+            ap (rewritten (end fold) (first_id (staying (stays fold) a.after)) fall (record { block = a.block.id; item = a.block.source_end })) left.1 ∙
+            ap (λ (e : Exit). tail_by (end fold) (first_id (staying (stays fold) a.after)) fall (record { block = a.block.id; item = a.block.source_end }) e x
             (first_of left.0) (rewritten (end fold) (first_id (staying (stays fold) a.after)) fall
-            (record { block = a.block.id; item = a.block.silent }) left.0)) h)).0 in
+            (record { block = a.block.id; item = a.block.source_end }) left.0)) h)).0 in
             let z : length (lost p.block) + p.item + 1 ≡ length (lost p.block) + (p.item + 1) = omega arith in
             subst (λ (m : ℕ). Arrives (record { block = p.block; item = m })) z
             (leads_on goal a.arrived (edge_at goal (at_new p) (below (at_new p)) x here (pass_edge x.kind (at_new p) h))));
@@ -545,7 +545,7 @@ module _ (fold : Folding) (p0 : Pos) where
       by_exit Final h (inl (n, inl k, e)) = let bad : Final ≡ Perhaps n = sym h ∙ k in cc
       by_exit Final h (inl (n, inr k, e)) = let bad : Final ≡ Always n = sym h ∙ k in cc
       by_exit Final h (inr w) = absurd (w.0 (subst Leaves (sym h) tt))
-    by_fetch (Silent k n) at e =
+    by_fetch (EndOfBlock k n) at e =
         let w = ends_in false (old fold) fold.resolve p k n at in
         let same_blocks : w.block ∷ w.rest ≡ a.block ∷ a.after = sym w.at ∙ a.at in
         let block : w.block ≡ a.block = cc in
@@ -581,15 +581,15 @@ module _ (fold : Folding) (p0 : Pos) where
       let id : a.block.id ≡ q.block = (found_in (old fold) q.block a.block a.after a.at).1 in
       let well = All-contains (λ (b : Block). EndsWell b.items) (old fold) a.block fold.sound.ends member in
       let next = first_id (staying (stays fold) a.after) in
-      let silent : Pos = record { block = a.block.id; item = a.block.silent } in
-      let anew = rewritten (end fold) next (first_id a.after) silent a.block.items in
-      let still = Rattle.fold_proof.proofs.Tails.stands_still (end fold) next (first_id a.after) silent a.block.items q.item j well item
+      let source_end : Pos = record { block = a.block.id; item = a.block.source_end } in
+      let anew = rewritten (end fold) next (first_id a.after) source_end a.block.items in
+      let still = Rattle.fold_proof.proofs.Tails.stands_still (end fold) next (first_id a.after) source_end a.block.items q.item j well item
       (of_kind j.kind counts) in
       let placed : slice_get (lost a.block.id ++ anew) (length (lost q.block) + q.item) ≡ Some j =
       ap (λ (n : ℕ). slice_get (lost a.block.id ++ anew) (length (lost n) + q.item)) (sym id) ∙ slice_put (lost a.block.id) anew q.item ∙ still in (
         ap (λ (z : List Block). fetch_in z (length (lost q.block) + q.item))
             (made_at (end fold) (stays fold) (was fold) (old fold) (old fold) q.block a.block a.after a.at a.stay) ∙
-            item_front (lost a.block.id ++ anew) (length (lost q.block) + q.item) a.block.silent
+            item_front (lost a.block.id ++ anew) (length (lost q.block) + q.item) a.block.source_end
             (made (end fold) (stays fold) (was fold) (old fold) a.after) j placed,
         a.arrived,
       ) where

@@ -33,7 +33,7 @@ module _ (end : ℕ → ℕ) (was : ℕ → Bool) (old : List Block) where
   killed_stripped (b ∷ bs) =
       let e = none_left b.id (kills end was old b.id) b.items (each_kill end was old b.id) in
       let es = killed_stripped bs in
-      λ i. record { id = b.id; items = e i; silent = b.silent } ∷ es i
+      λ i. record { id = b.id; items = e i; source_end = b.source_end } ∷ es i
 
 pub kills_strip : KillsStrip
 kills_strip f g sound h =

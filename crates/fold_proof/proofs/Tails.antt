@@ -23,9 +23,9 @@ nothing_at (x ∷ xs) k y e at = cc
 abbrev pub LeadsTo : Item → ℕ → Type 0
 LeadsTo y n = (exit_of y.kind ≡ Perhaps n) ⊎ (exit_of y.kind ≡ Always n)
 
-module _ (end : ℕ → ℕ) (next fall : Option ℕ) (silent : Pos) where
+module _ (end : ℕ → ℕ) (next fall : Option ℕ) (source_end : Pos) where
   abbrev anew : List Item → List Item
-  anew xs = rewritten end next fall silent xs
+  anew xs = rewritten end next fall source_end xs
 
   -- nothing in these is passed
   abbrev NoneOnward : List Item → Type 0
@@ -51,24 +51,25 @@ module _ (end : ℕ → ℕ) (next fall : Option ℕ) (silent : Pos) where
     by_test false = none_cons j [] (not_always (exit_of j.kind) n h) none_nil
 
   none_branch : (x : Item) (xs : List Item) (t u v : ℕ) → exit_of x.kind ≡ Perhaps t → IsJumpAtMost xs → (q r z : Bool) →
-      NoneOnward (cond q (if_needed next v (jump_for_branch silent x (first_of xs) v)) (cond r (sent u x ∷ [])
-      (cond z (turned v x ∷ []) (sent u x ∷ jump_at_end silent (first_of xs) v ∷ []))))
-  none_branch x xs t u v e may true r z = none_needed v (jump_for_branch silent x (first_of xs) v) (jump_exit silent xs v may)
+      NoneOnward (cond q (if_needed next v (jump_for_branch source_end x (first_of xs) v)) (cond r (sent u x ∷ [])
+      (cond z (turned v x ∷ []) (sent u x ∷ jump_at_end source_end (first_of xs) v ∷ []))))
+  none_branch x xs t u v e may true r z = none_needed v (jump_for_branch source_end x (first_of xs) v) (jump_exit source_end xs v may)
   none_branch x xs t u v e may false true z = none_cons (sent u x) [] (not_perhaps (exit_of (sent u x).kind) u (sent_branch x.kind t u e)) none_nil
   none_branch x xs t u v e may false false true =
       none_cons (turned v x) [] (not_perhaps (exit_of (turned v x).kind) v (turned_branch x.kind t v e)) none_nil
   none_branch x xs t u v e may false false false =
-      none_cons (sent u x) (jump_at_end silent (first_of xs) v ∷ []) (not_perhaps (exit_of (sent u x).kind) u (sent_branch x.kind t u e))
-      (none_cons (jump_at_end silent (first_of xs) v) [] (not_always (exit_of (jump_at_end silent (first_of xs) v).kind) v (jump_exit silent xs v may))
+      none_cons (sent u x) (jump_at_end source_end (first_of xs) v ∷ []) (not_perhaps (exit_of (sent u x).kind) u (sent_branch x.kind t u e))
+      (none_cons (jump_at_end source_end (first_of xs) v) [] (not_always (exit_of (jump_at_end source_end (first_of xs) v).kind) v
+      (jump_exit source_end xs v may))
       none_nil)
 
   -- an item that control goes on past stood there before
   pub onward_was : (xs : List Item) (k : ℕ) (y : Item) → EndsWell xs → (fall ≡ None → Closes xs) → slice_get (anew xs) k ≡ Some y → exit_of y.kind ≡ Onward →
       slice_get xs k ≡ Some y
   onward_was [] k y ends onto at e = absurd (by_fall fall k y at e) where
-    by_fall : (o : Option ℕ) → NoneOnward (plain_tail end next fall silent None o)
+    by_fall : (o : Option ℕ) → NoneOnward (plain_tail end next fall source_end None o)
     by_fall None = none_nil
-    by_fall (Some n) = none_needed (end n) (jump_at_end silent None (end n)) refl
+    by_fall (Some n) = none_needed (end n) (jump_at_end source_end None (end n)) refl
   onward_was (x ∷ xs) k y ends onto at e = by_exit (exit_of x.kind) refl ends.0 k at (λ into j q. onward_was xs j y ends.1 into q e) where
     below : exit_of x.kind ≡ Onward → fall ≡ None → Closes xs
     below e none = by_rest xs (onto none) where
@@ -76,13 +77,13 @@ module _ (end : ℕ → ℕ) (next fall : Option ℕ) (silent : Pos) where
       by_rest [] h = absurd (subst Leaves e h)
       by_rest (y ∷ ys) h = h
 
-    by_exit : (q : Exit) → exit_of x.kind ≡ q → MayFollow q xs → (k : ℕ) → slice_get (tail_by end next fall silent q x (first_of xs) (anew xs)) k ≡ Some y →
+    by_exit : (q : Exit) → exit_of x.kind ≡ q → MayFollow q xs → (k : ℕ) → slice_get (tail_by end next fall source_end q x (first_of xs) (anew xs)) k ≡ Some y →
         ((fall ≡ None → Closes xs) → (j : ℕ) → slice_get (anew xs) j ≡ Some y → slice_get xs j ≡ Some y) → slice_get (x ∷ xs) k ≡ Some y
     by_exit Onward h may zero at later = at
     by_exit Onward h may (suc k) at later = later (below h) k at
     by_exit (Perhaps t) h may k at later =
         let w = goes_else x t xs fall h may onto in
-        absurd (subst (λ (o : Option ℕ). NoneOnward (branch_tail_to end next fall silent x (first_of xs) t o)) (sym w.1)
+        absurd (subst (λ (o : Option ℕ). NoneOnward (branch_tail_to end next fall source_end x (first_of xs) t o)) (sym w.1)
         (none_branch x xs t (end t) (end w.0) h may (nat_eq (end t) (end w.0)) (is_number next (end w.0)) (is_number next (end t))) k y at e)
     by_exit (Always n) h may k at later = absurd (none_needed (end n) (sent (end n) x) (sent_jump x.kind n (end n) h) k y at e)
     by_exit Final h may k at later = absurd (none_cons x [] (λ o. let bad : Final ≡ Onward = sym h ∙ o in cc) none_nil k y at e)
@@ -114,7 +115,8 @@ module _ (end : ℕ → ℕ) (next fall : Option ℕ) (silent : Pos) where
     only_jump (z ∷ u ∷ ys) j may q = absurd may
 
     by_exit : (q : Exit) → exit_of x.kind ≡ q → MayFollow q xs → (k : ℕ) → slice_get (x ∷ xs) k ≡ Some y →
-        ((j : ℕ) → slice_get xs j ≡ Some y → slice_get (anew xs) j ≡ Some y) → slice_get (tail_by end next fall silent q x (first_of xs) (anew xs)) k ≡ Some y
+        ((j : ℕ) → slice_get xs j ≡ Some y → slice_get (anew xs) j ≡ Some y) →
+        slice_get (tail_by end next fall source_end q x (first_of xs) (anew xs)) k ≡ Some y
     by_exit Onward h may zero at later = at
     by_exit Onward h may (suc k) at later = later k at
     by_exit (Perhaps t) h may zero at later = let same : x ≡ y = cc in absurd (no_branch t (ap (λ (i : Item). exit_of i.kind) (sym same) ∙ h))

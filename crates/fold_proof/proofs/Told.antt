@@ -52,21 +52,21 @@ abbrev pub number_killed : List Item → ℕ → Bool
 number_killed ks n = list_any (λ i. kills_number n i.kind) ks
 
 -- d is c but for pairs and marks, and there it has less, but for what the kills take away
-pub record Kin (ks : List Item) (c d : Core) : Type 0 where
+pub record MatchCores (ks : List Item) (c d : Core) : Type 0 where
   pub same : told_by d.pairs d.marks c ≡ d
   pub pairs : (k o : ℕ) → (o ≡ 0 → number_killed ks k ≡ false) → Below (c.pairs k o) (d.pairs k o)
   pub marks : (v : VarId) → part_killed ks v ≡ false → Below (assigned v c.marks) (assigned v d.marks)
 
-pub kin_itself : (ks : List Item) (c : Core) → Kin ks c c
+pub kin_itself : (ks : List Item) (c : Core) → MatchCores ks c c
 kin_itself ks c = record { same = refl; pairs = λ k o e v h. h; marks = λ v e x h. h }
 
-pub kin_more : (ks : List Item) (c d : Core) → TellsLess c d → Kin ks c d
+pub kin_more : (ks : List Item) (c d : Core) → TellsLess c d → MatchCores ks c d
 kin_more ks c d h = record { same = h.same; pairs = λ k o e. h.pairs k o; marks = λ v e. h.marks v }
 
-pub kin_less : (c d : Core) → Kin [] c d → TellsLess c d
+pub kin_less : (c d : Core) → MatchCores [] c d → TellsLess c d
 kin_less c d h = record { same = h.same; pairs = λ k o. h.pairs k o (λ z. refl); marks = λ v. h.marks v refl }
 
-pub kin_shows : (c d : Core) → Kin [] c d → ShowsSame c d
+pub kin_shows : (c d : Core) → MatchCores [] c d → ShowsSame c d
 kin_shows c d h = record { events = ap (λ (z : Core). z.events) (sym h.same); told = λ v x e. h.marks v refl x e }
 
 or_false : (x y : Bool) → x ≡ false → y ≡ false → (x || y) ≡ false
@@ -74,15 +74,15 @@ or_false x y e k = λ i. e i || k i
 
 -- ---- a kill runs
 
-pub kin_kill : (g : Program) (i : Item) (ks : List Item) (c d : Core) → IsKillKind i.kind → Kin (i ∷ ks) c d → Does g i d (λ e. Kin ks c e)
+pub kin_kill : (g : Program) (i : Item) (ks : List Item) (c d : Core) → IsKillKind i.kind → MatchCores (i ∷ ks) c d → Does g i d (λ e. MatchCores ks c e)
 kin_kill g i ks c d kill h = by_kind i.kind kill (λ k o. h.pairs k o) (λ v. h.marks v) where
   by_kind : (k : ItemKind) → IsKillKind k →
       ((n o : ℕ) → (o ≡ 0 → (kills_number n k || number_killed ks n) ≡ false) → Below (c.pairs n o) (d.pairs n o)) →
       ((v : VarId) → (kills_part v k || part_killed ks v) ≡ false → Below (assigned v c.marks) (assigned v d.marks)) →
-      (e : Core) × (do_item g k d ≡ Falls e) × Kin ks c e
+      (e : Core) × (do_item g k d ≡ Falls e) × MatchCores ks c e
   by_kind (Mark w m) kill pairs marks = by_value m kill where
     by_value : (m : Rattle.mir_func.specs.declared.variable.MarkValue.MarkValue) → IsKillKind (Mark w m) →
-        (e : Core) × (do_item g (Mark w m) d ≡ Falls e) × Kin ks c e
+        (e : Core) × (do_item g (Mark w m) d ≡ Falls e) × MatchCores ks c e
     by_value Nothing kill = (
       record d { marks = (w, None) ∷ d.marks },
       refl,
@@ -129,9 +129,9 @@ IsCovered ks (Mark w m) = (v : VarId) → (is_same v w || overlaps v w) ≡ true
 IsCovered ks (Phi p n) = number_killed ks n ≡ true
 IsCovered ks (Code i n) = ⊥
 
-pub kin_debug : (f : Program) (x : Item) (ks : List Item) (c d : Core) → IsCovered ks x.kind → Kin ks c d → Does f x c (λ e. Kin ks e d)
+pub kin_debug : (f : Program) (x : Item) (ks : List Item) (c d : Core) → IsCovered ks x.kind → MatchCores ks c d → Does f x c (λ e. MatchCores ks e d)
 kin_debug f x ks c d covered h = by_kind x.kind covered where
-  by_kind : (k : ItemKind) → IsCovered ks k → (e : Core) × (do_item f k c ≡ Falls e) × Kin ks e d
+  by_kind : (k : ItemKind) → IsCovered ks k → (e : Core) × (do_item f k c ≡ Falls e) × MatchCores ks e d
   by_kind (Mark w m) covered = (
     record c { marks = (w, a) ∷ c.marks },
     refl,
@@ -201,7 +201,7 @@ jump_none t rest zero e = refl
 jump_none t rest (suc o) e = implicit_none rest o e
 
 kin_numbered : (sp : Bool) (m : Option ℕ) (os : List Operand) (ks : List Item) (c d : Core) → ((o : ℕ) → defined false (slice_get os o) ≡ None) →
-    Kin ks c d → Kin ks (numbered sp false m os c) d
+    MatchCores ks c d → MatchCores ks (numbered sp false m os c) d
 kin_numbered sp None os ks c d none h = h
 kin_numbered sp (Some n) os ks c d none h = record { same = h.same; pairs = after; marks = λ v e. h.marks v e } where
   after : (k o : ℕ) → (o ≡ 0 → number_killed ks k ≡ false) →
@@ -230,8 +230,8 @@ act_branch op a b t c = unfold act in unfold does in refl
 
 -- a jump of f: it goes, and nothing else changes
 jump_by : (sp : Bool) (m : Option ℕ) (op : Op) (os : List Operand) (n : ℕ) (ks : List Item) (c d : Core) → IsEnding op os → has_form op os ≡ true →
-    row_exit (row_by op os) ≡ Always n → Kin ks c d →
-    (e : Core) × (with_core (numbered sp (is_call (row_by op os)) m os) (act (row_by op os) c) ≡ Goes n e) × Kin ks e d
+    row_exit (row_by op os) ≡ Always n → MatchCores ks c d →
+    (e : Core) × (with_core (numbered sp (is_call (row_by op os)) m os) (act (row_by op os) c) ≡ Goes n e) × MatchCores ks e d
 jump_by sp m _ _ n ks c d (jump {t} {rest}) form e h =
     let same : t ≡ n = cc in (
       numbered sp false m (OfBlock t ∷ rest) c,
@@ -240,10 +240,10 @@ jump_by sp m _ _ n ks c d (jump {t} {rest}) form e h =
     )
 jump_by sp m _ _ n ks c d branch form e h = cc
 
-pub kin_jump : (f : Program) (x : Item) (n : ℕ) (ks : List Item) (c d : Core) → HasForm x.kind → exit_of x.kind ≡ Always n → Kin ks c d →
-    JumpsTo f x c n (λ e. Kin ks e d)
+pub kin_jump : (f : Program) (x : Item) (n : ℕ) (ks : List Item) (c d : Core) → HasForm x.kind → exit_of x.kind ≡ Always n → MatchCores ks c d →
+    JumpsTo f x c n (λ e. MatchCores ks e d)
 kin_jump f x n ks c d form e h = by_kind x.kind form e where
-  by_kind : (k : ItemKind) → HasForm k → exit_of k ≡ Always n → (e : Core) × (do_item f k c ≡ Goes n e) × Kin ks e d
+  by_kind : (k : ItemKind) → HasForm k → exit_of k ≡ Always n → (e : Core) × (do_item f k c ≡ Goes n e) × MatchCores ks e d
   by_kind (Code i m) form e =
       jump_by f.sees_pointer m i.op i.operands n ks c d (is_ending i.op i.operands (leads_always (row_exit (row_of i)) n e)) form e h
   by_kind (Mark v m) form e = cc
@@ -254,11 +254,11 @@ abbrev pub BranchDoes : Outcome → ℕ → (Core → Type 0) → Type 0
 BranchDoes o n P = ((e : Core) × (o ≡ Goes n e) × P e) ⊎ (((e : Core) × (o ≡ Falls e) × P e) ⊎ (o ≡ Traps))
 
 branch_by : (sp : Bool) (m : Option ℕ) (op : Op) (os : List Operand) (n : ℕ) (ks : List Item) (c d : Core) → IsEnding op os → has_form op os ≡ true →
-    row_exit (row_by op os) ≡ Perhaps n → Kin ks c d →
-    BranchDoes (with_core (numbered sp (is_call (row_by op os)) m os) (act (row_by op os) c)) n (λ e. Kin ks e d)
+    row_exit (row_by op os) ≡ Perhaps n → MatchCores ks c d →
+    BranchDoes (with_core (numbered sp (is_call (row_by op os)) m os) (act (row_by op os) c)) n (λ e. MatchCores ks e d)
 branch_by sp m _ _ n ks c d (branch {op} {a} {b} {t} {rest}) form e h =
     let same : t ≡ n = cc in
-    subst (λ (o : Outcome). BranchDoes (with_core (numbered sp false m os) o) n (λ e. Kin ks e d)) (sym (act_branch op a b t c))
+    subst (λ (o : Outcome). BranchDoes (with_core (numbered sp false m os) o) n (λ e. MatchCores ks e d)) (sym (act_branch op a b t c))
     (by_tests same (are_written c (a ∷ b ∷ [])) (taken op (read c a) (read c b))) where
       os : List Operand
       os = Use a ∷ Use b ∷ OfBlock t ∷ rest
@@ -266,20 +266,20 @@ branch_by sp m _ _ n ks c d (branch {op} {a} {b} {t} {rest}) form e h =
       c' : Core
       c' = numbered sp false m os c
 
-      kin : Kin ks c' d
+      kin : MatchCores ks c' d
       kin = kin_numbered sp m os ks c d (λ o. branch_none a b t rest o form) h
 
       by_tests : t ≡ n → (written goes : Bool) →
-          BranchDoes (with_core (numbered sp false m os) (cond written (cond goes (Goes t c) (Falls c)) Traps)) n (λ e. Kin ks e d)
+          BranchDoes (with_core (numbered sp false m os) (cond written (cond goes (Goes t c) (Falls c)) Traps)) n (λ e. MatchCores ks e d)
       by_tests same true true = inl (c', ap (λ (z : ℕ). Goes z c') same, kin)
       by_tests same true false = inr (inl (c', refl, kin))
       by_tests same false goes = inr (inr refl)
 branch_by sp m _ _ n ks c d jump form e h = cc
 
-pub kin_branch : (f : Program) (x : Item) (n : ℕ) (ks : List Item) (c d : Core) → HasForm x.kind → exit_of x.kind ≡ Perhaps n → Kin ks c d →
-    BranchDoes (do_item f x.kind c) n (λ e. Kin ks e d)
+pub kin_branch : (f : Program) (x : Item) (n : ℕ) (ks : List Item) (c d : Core) → HasForm x.kind → exit_of x.kind ≡ Perhaps n → MatchCores ks c d →
+    BranchDoes (do_item f x.kind c) n (λ e. MatchCores ks e d)
 kin_branch f x n ks c d form e h = by_kind x.kind form e where
-  by_kind : (k : ItemKind) → HasForm k → exit_of k ≡ Perhaps n → BranchDoes (do_item f k c) n (λ e. Kin ks e d)
+  by_kind : (k : ItemKind) → HasForm k → exit_of k ≡ Perhaps n → BranchDoes (do_item f k c) n (λ e. MatchCores ks e d)
   by_kind (Code i m) form e =
       branch_by f.sees_pointer m i.op i.operands n ks c d (is_ending i.op i.operands (leads_perhaps (row_exit (row_of i)) n e)) form e h
   by_kind (Mark v m) form e = cc
@@ -288,7 +288,7 @@ kin_branch f x n ks c d form e h = by_kind x.kind form e where
 -- ---- a jump of g goes, and nothing else changes
 
 kin_numbered_new : (sp : Bool) (m : Option ℕ) (os : List Operand) (ks : List Item) (c d : Core) → ((o : ℕ) → defined false (slice_get os o) ≡ None) →
-    Kin ks c d → Kin ks c (numbered sp false m os d)
+    MatchCores ks c d → MatchCores ks c (numbered sp false m os d)
 kin_numbered_new sp None os ks c d none h = h
 kin_numbered_new sp (Some n) os ks c d none h = record {
   same = ap (λ (z : Core). record z { pairs = given_all }) h.same;
@@ -309,8 +309,8 @@ kin_numbered_new sp (Some n) os ks c d none h = record {
     by_number false t = h.pairs k o e
 
 new_jump_by : (sp : Bool) (m : Option ℕ) (op : Op) (os : List Operand) (n : ℕ) (ks : List Item) (c d : Core) → IsEnding op os → has_form op os ≡ true →
-    row_exit (row_by op os) ≡ Always n → Kin ks c d →
-    (e : Core) × (with_core (numbered sp (is_call (row_by op os)) m os) (act (row_by op os) d) ≡ Goes n e) × Kin ks c e
+    row_exit (row_by op os) ≡ Always n → MatchCores ks c d →
+    (e : Core) × (with_core (numbered sp (is_call (row_by op os)) m os) (act (row_by op os) d) ≡ Goes n e) × MatchCores ks c e
 new_jump_by sp m _ _ n ks c d (jump {t} {rest}) form e h =
     let same : t ≡ n = cc in (
       numbered sp false m (OfBlock t ∷ rest) d,
@@ -319,8 +319,8 @@ new_jump_by sp m _ _ n ks c d (jump {t} {rest}) form e h =
     )
 new_jump_by sp m _ _ n ks c d branch form e h = cc
 
-pub kin_new_jump : (g : Program) (k : ItemKind) (n : ℕ) (ks : List Item) (c d : Core) → HasForm k → exit_of k ≡ Always n → Kin ks c d →
-    (e : Core) × (do_item g k d ≡ Goes n e) × Kin ks c e
+pub kin_new_jump : (g : Program) (k : ItemKind) (n : ℕ) (ks : List Item) (c d : Core) → HasForm k → exit_of k ≡ Always n → MatchCores ks c d →
+    (e : Core) × (do_item g k d ≡ Goes n e) × MatchCores ks c e
 kin_new_jump g (Code i m) n ks c d form e h =
     new_jump_by g.sees_pointer m i.op i.operands n ks c d (is_ending i.op i.operands (leads_always (row_exit (row_of i)) n e)) form e h
 kin_new_jump g (Mark v m) n ks c d form e h = cc

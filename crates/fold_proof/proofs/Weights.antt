@@ -27,9 +27,9 @@ leads_jump : (e : Exit) (t : ℕ) → e ≡ Always t → Leads e
 leads_jump e t h = subst Leads (sym h) tt
 
 -- each branch and each jump weighs k
-module _ (w : Item → ℕ) (k : ℕ) (ends_weigh : (x : Item) → Leads (exit_of x.kind) → w x ≡ k) (end : ℕ → ℕ) (next fall : Option ℕ) (silent : Pos) where
+module _ (w : Item → ℕ) (k : ℕ) (ends_weigh : (x : Item) → Leads (exit_of x.kind) → w x ≡ k) (end : ℕ → ℕ) (next fall : Option ℕ) (source_end : Pos) where
   abbrev anew : List Item → List Item
-  anew xs = rewritten end next fall silent xs
+  anew xs = rewritten end next fall source_end xs
 
   weighs_one : (x : Item) → Leads (exit_of x.kind) → sum_by w (x ∷ []) ≡ k
   weighs_one x leads = let a = sum_first w x [] in let b = ends_weigh x leads in omega (arith, a, b)
@@ -39,28 +39,28 @@ module _ (w : Item → ℕ) (k : ℕ) (ends_weigh : (x : Item) → Leads (exit_o
   needed j leads false = let a = weighs_one j leads in omega (arith, a)
 
   branch_weighs : (x : Item) (xs : List Item) (t u v : ℕ) → exit_of x.kind ≡ Perhaps t → IsJumpAtMost xs → (q r z s : Bool) →
-      sum_by w (cond q (cond s [] (jump_for_branch silent x (first_of xs) v ∷ [])) (cond r (sent u x ∷ [])
-      (cond z (turned v x ∷ []) (sent u x ∷ jump_at_end silent (first_of xs) v ∷ [])))) ≤ w x + sum_by w xs + k
+      sum_by w (cond q (cond s [] (jump_for_branch source_end x (first_of xs) v ∷ [])) (cond r (sent u x ∷ [])
+      (cond z (turned v x ∷ []) (sent u x ∷ jump_at_end source_end (first_of xs) v ∷ [])))) ≤ w x + sum_by w xs + k
   branch_weighs x xs t u v e may true r z s =
-      let a = needed (jump_for_branch silent x (first_of xs) v) (leads_jump _ v (jump_exit silent xs v may)) s in
+      let a = needed (jump_for_branch source_end x (first_of xs) v) (leads_jump _ v (jump_exit source_end xs v may)) s in
       omega (arith, a)
   branch_weighs x xs t u v e may false true z s =
       let a = weighs_one (sent u x) (leads_branch _ u (sent_branch x.kind t u e)) in omega (arith, a)
   branch_weighs x xs t u v e may false false true s =
       let a = weighs_one (turned v x) (leads_branch _ v (turned_branch x.kind t v e)) in omega (arith, a)
   branch_weighs x xs t u v e may false false false s =
-      let j : Item = jump_at_end silent (first_of xs) v in
+      let j : Item = jump_at_end source_end (first_of xs) v in
       let a = sum_first w (sent u x) (j ∷ []) in
-      let b = weighs_one j (leads_jump _ v (jump_exit silent xs v may)) in
+      let b = weighs_one j (leads_jump _ v (jump_exit source_end xs v may)) in
       let c = ends_weigh (sent u x) (leads_branch _ u (sent_branch x.kind t u e)) in
       let d = ends_weigh x (leads_branch _ t e) in
       omega (arith, a, b, c, d)
 
   pub anew_weighs : (xs : List Item) → EndsWell xs → (fall ≡ None → Closes xs) → sum_by w (anew xs) ≤ sum_by w xs + k
   anew_weighs [] ends onto = by_fall fall where
-    by_fall : (o : Option ℕ) → sum_by w (plain_tail end next fall silent None o) ≤ sum_by w [] + k
+    by_fall : (o : Option ℕ) → sum_by w (plain_tail end next fall source_end None o) ≤ sum_by w [] + k
     by_fall None = omega arith
-    by_fall (Some n) = let a = needed (made_jump (end n) (Before silent) Absent) tt (is_number next (end n)) in omega (arith, a)
+    by_fall (Some n) = let a = needed (made_jump (end n) (Before source_end) Absent) tt (is_number next (end n)) in omega (arith, a)
   anew_weighs (x ∷ xs) ends onto =
       let all = sum_first w x xs in
       let step = by_exit (exit_of x.kind) refl ends.0 (λ o. anew_weighs xs ends.1 o) in
@@ -72,13 +72,13 @@ module _ (w : Item → ℕ) (k : ℕ) (ends_weigh : (x : Item) → Leads (exit_o
           by_rest (y ∷ ys) h = h
 
         by_to : (t : ℕ) (o : Option ℕ) (m : ℕ) → o ≡ Some m → exit_of x.kind ≡ Perhaps t → IsJumpAtMost xs →
-            sum_by w (branch_tail_to end next fall silent x (first_of xs) t o) ≤ w x + sum_by w xs + k
+            sum_by w (branch_tail_to end next fall source_end x (first_of xs) t o) ≤ w x + sum_by w xs + k
         by_to t None m e at may = cc
         by_to t (Some m) m' e at may = branch_weighs x xs t (end t) (end m) at may (nat_eq (end t) (end m)) (is_number next (end m)) (is_number next (end t))
             (is_number next (end m))
 
         by_exit : (q : Exit) → exit_of x.kind ≡ q → MayFollow q xs → ((fall ≡ None → Closes xs) → sum_by w (anew xs) ≤ sum_by w xs + k) →
-            sum_by w (tail_by end next fall silent q x (first_of xs) (anew xs)) ≤ w x + sum_by w xs + k
+            sum_by w (tail_by end next fall source_end q x (first_of xs) (anew xs)) ≤ w x + sum_by w xs + k
         by_exit Onward e may rest = let a = sum_first w x (anew xs) in let b = rest (below e) in omega (arith, a, b)
         by_exit (Perhaps t) e may rest =
             let g = goes_else x t xs fall e may onto in

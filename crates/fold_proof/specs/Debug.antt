@@ -8,7 +8,7 @@ use Rattle.pass_trait.specs.declared.loss.Reason.{Reason}
 use Rattle.pass_trait.specs.declared.loss.Reason.TheVariants.{Bypassed, Unreachable}
 use Rattle.pass_trait.specs.declared.loss.Loss.{Loss}
 use Rattle.pass_trait.specs.Rule.{Rule, StandsAt}
-use Rattle.pass_trait.specs.Steps.{Step}
+use Rattle.pass_trait.specs.Steps.{PassStep}
 use Rattle.fold_targets.specs.Leads.{lead}
 use Rattle.fold_targets.specs.Ways.{EndsAt}
 use Rattle.fold_rule.specs.Reached.{Reached}
@@ -56,5 +56,5 @@ fold_debug = record {
 }
 
 -- the pass's only step
-abbrev pub fold_step : Step
+abbrev pub fold_step : PassStep
 fold_step = record { code = IsFolded; debug = fold_debug }

@@ -8,7 +8,7 @@ use Rattle.mir_func.specs.Function.{Function}
 use Rattle.mir_func.specs.Sound.{AllItems, IsSound, HasForm}
 use Rattle.mir_func.specs.Graph.{Here, Program, program_of, block_start}
 use Rattle.sem_mir.specs.State.{State}
-use Rattle.sem_mir.specs.Align.{ByItems, ByEnds, station_at, AnyOrigin, RunsAlong}
+use Rattle.sem_mir.specs.Align.{ByItems, ByEnds, sync_point_at, AnyOrigin, RunsMatch}
 use Rattle.sem_mir.specs.Follow.{InOrder, OnRow, IsEnd, first_of}
 use Rattle.fold_rule_proof.specs.Kills.{IsFoldedWithKills}
 
@@ -23,7 +23,7 @@ FoldedRunsAlong = (f g : Function) (src : Program) (resolve : OperandPair → Op
     AllItems (λ i. HasForm i.kind) f.blocks → IsFoldedWithKills f g → EndsAreKept (program_of false f.blocks resolve) →
     All (λ b. InOrder b.id 0 b.items) f.blocks →
     s.pos ≡ block_start (first_of f.blocks) →
-    RunsAlong src (program_of false f.blocks resolve) (station_at ByEnds (program_of false f.blocks resolve))
-    (AnyOrigin (station_at ByEnds (program_of false f.blocks resolve))) s s →
-    RunsAlong src (program_of false g.blocks resolve) (station_at ByItems (program_of false g.blocks resolve))
-    (AnyOrigin (station_at ByItems (program_of false g.blocks resolve))) s s
+    RunsMatch src (program_of false f.blocks resolve) (sync_point_at ByEnds (program_of false f.blocks resolve))
+    (AnyOrigin (sync_point_at ByEnds (program_of false f.blocks resolve))) s s →
+    RunsMatch src (program_of false g.blocks resolve) (sync_point_at ByItems (program_of false g.blocks resolve))
+    (AnyOrigin (sync_point_at ByItems (program_of false g.blocks resolve))) s s

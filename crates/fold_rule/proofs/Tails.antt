@@ -8,16 +8,16 @@ use Rattle.mir_func.specs.Exits.{exit_of}
 use Rattle.fold_rule.specs.Tails.{first_of, tail_by, rewritten}
 use Rattle.fold_rule.specs.steps.Onward.{count_by_exit, onward_count}
 
-module _ (end : ℕ → ℕ) (next fall : Option ℕ) (silent : Pos) where
+module _ (end : ℕ → ℕ) (next fall : Option ℕ) (source_end : Pos) where
   split_onward : (xs : List Item) →
-      rewritten end next fall silent xs ≡ take (onward_count xs) xs ++ rewritten end next fall silent (drop (onward_count xs) xs)
+      rewritten end next fall source_end xs ≡ take (onward_count xs) xs ++ rewritten end next fall source_end (drop (onward_count xs) xs)
   split_onward [] = refl
   split_onward (x ∷ xs) = by_exit (split_onward xs) (exit_of x.kind) refl where
-    by_exit : rewritten end next fall silent xs ≡ take (onward_count xs) xs ++ rewritten end next fall silent (drop (onward_count xs) xs) →
+    by_exit : rewritten end next fall source_end xs ≡ take (onward_count xs) xs ++ rewritten end next fall source_end (drop (onward_count xs) xs) →
         (e : Exit) → exit_of x.kind ≡ e →
-        rewritten end next fall silent (x ∷ xs) ≡
-        take (count_by_exit e (onward_count xs)) (x ∷ xs) ++ rewritten end next fall silent (drop (count_by_exit e (onward_count xs)) (x ∷ xs))
-    by_exit below Onward h = ap (λ (z : Exit). tail_by end next fall silent z x (first_of xs) (rewritten end next fall silent xs)) h ∙
+        rewritten end next fall source_end (x ∷ xs) ≡
+        take (count_by_exit e (onward_count xs)) (x ∷ xs) ++ rewritten end next fall source_end (drop (count_by_exit e (onward_count xs)) (x ∷ xs))
+    by_exit below Onward h = ap (λ (z : Exit). tail_by end next fall source_end z x (first_of xs) (rewritten end next fall source_end xs)) h ∙
         ap (λ (ys : List Item). x ∷ ys) below
     by_exit below (Perhaps n) h = refl
     by_exit below (Always n) h = refl
@@ -25,10 +25,10 @@ module _ (end : ℕ → ℕ) (next fall : Option ℕ) (silent : Pos) where
 
   -- the new items, where a block's own are left up to its end
   pub finish : (items new kept tail out : List Item) (k : ℕ) → k ≡ onward_count items → kept ≡ take k items → tail ≡ drop k items →
-      rewritten end next fall silent tail ≡ out → new ≡ kept ++ out → new ≡ rewritten end next fall silent items
+      rewritten end next fall source_end tail ≡ out → new ≡ kept ++ out → new ≡ rewritten end next fall source_end items
   finish items new kept tail out k e keep rest by h =
-      h ∙ (λ i. keep i ++ sym by i) ∙ (λ i. take k items ++ rewritten end next fall silent (rest i)) ∙
-      (λ i. take (e i) items ++ rewritten end next fall silent (drop (e i) items)) ∙ sym (split_onward items)
+      h ∙ (λ i. keep i ++ sym by i) ∙ (λ i. take k items ++ rewritten end next fall source_end (rest i)) ∙
+      (λ i. take (e i) items ++ rewritten end next fall source_end (drop (e i) items)) ∙ sym (split_onward items)
 
 -- control may leave the item at which the count ends
 pub not_onward : (items : List Item) (x : Item) (xs : List Item) → drop (onward_count items) items ≡ x ∷ xs → exit_of x.kind ≡ Onward → ⊥

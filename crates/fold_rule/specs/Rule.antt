@@ -10,7 +10,7 @@ use Rattle.fold_rule.specs.Reached.{Reached}
 
 -- a block with its terminators rewritten; `next` comes next among the kept blocks, and `fall` among all
 abbrev pub folded_block : (end : ℕ → ℕ) (next fall : Option ℕ) → Block → Block
-folded_block end next fall b = record b { items = rewritten end next fall (record { block = b.id; item = b.silent }) b.items }
+folded_block end next fall b = record b { items = rewritten end next fall (record { block = b.id; item = b.source_end }) b.items }
 
 -- the blocks that are kept
 abbrev pub staying : (stays : ℕ → Bool) → List Block → List Block

@@ -44,32 +44,32 @@ if_needed next n j = cond (is_number next n) [] (j ∷ [])
 
 -- the jump to a block at the end: the old jump with a new target, or, if there is none, a new one whose origin is before the
 -- block's silent position
-abbrev pub jump_at_end : (silent : Pos) → Option Item → (block : ℕ) → Item
-jump_at_end silent None n = made_jump n (Before silent) Absent
-jump_at_end silent (Some j) n = sent n j
+abbrev pub jump_at_end : (source_end : Pos) → Option Item → (block : ℕ) → Item
+jump_at_end source_end None n = made_jump n (Before source_end) Absent
+jump_at_end source_end (Some j) n = sent n j
 
 -- the same jump in the position of a removed conditional branch, with the branch's origin and debug location
-abbrev pub jump_for_branch : (silent : Pos) (branch : Item) → Option Item → (block : ℕ) → Item
-jump_for_branch silent x rest n = record (jump_at_end silent rest n) { origin = x.origin; loc = x.loc }
+abbrev pub jump_for_branch : (source_end : Pos) (branch : Item) → Option Item → (block : ℕ) → Item
+jump_for_branch source_end x rest n = record (jump_at_end source_end rest n) { origin = x.origin; loc = x.loc }
 
 -- A conditional branch whose edges end at blocks a and b: it is removed if they are the same, kept if b comes next, inverted
 -- if a comes next, and otherwise followed by a jump to b
-abbrev pub branch_tail : (next : Option ℕ) (silent : Pos) (branch : Item) → Option Item → (a b : ℕ) → List Item
-branch_tail next silent x rest a b =
-    cond (nat_eq a b) (if_needed next b (jump_for_branch silent x rest b)) (cond (is_number next b) (sent a x ∷ [])
-    (cond (is_number next a) (turned b x ∷ []) (sent a x ∷ jump_at_end silent rest b ∷ [])))
+abbrev pub branch_tail : (next : Option ℕ) (source_end : Pos) (branch : Item) → Option Item → (a b : ℕ) → List Item
+branch_tail next source_end x rest a b =
+    cond (nat_eq a b) (if_needed next b (jump_for_branch source_end x rest b)) (cond (is_number next b) (sent a x ∷ [])
+    (cond (is_number next a) (turned b x ∷ []) (sent a x ∷ jump_at_end source_end rest b ∷ [])))
 
 -- `end n` is the end of block n's chain; `next` is the block that comes next among the kept blocks, and `fall` the one that
 -- comes next among all
-module _ (end : ℕ → ℕ) (next fall : Option ℕ) (silent : Pos) where
+module _ (end : ℕ → ℕ) (next fall : Option ℕ) (source_end : Pos) where
   -- the terminators of a block without a conditional branch
   abbrev pub plain_tail : Option Item → (to : Option ℕ) → List Item
-  plain_tail rest (Some n) = if_needed next (end n) (jump_at_end silent rest (end n))
+  plain_tail rest (Some n) = if_needed next (end n) (jump_at_end source_end rest (end n))
   plain_tail rest None = option_to_list rest
 
   -- the terminators from a conditional branch on: it goes to block a, and otherwise to another block, or control ends there
   abbrev pub branch_tail_to : (branch : Item) → Option Item → (a : ℕ) (to : Option ℕ) → List Item
-  branch_tail_to x rest a (Some m) = branch_tail next silent x rest (end a) (end m)
+  branch_tail_to x rest a (Some m) = branch_tail next source_end x rest (end a) (end m)
   branch_tail_to x rest a None = x ∷ []
 
   -- an item with this exit, the item after it, and the rewritten items after it: the items from it on, rewritten

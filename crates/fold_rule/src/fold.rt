@@ -7,7 +7,7 @@ ghost use Rattle.fold_targets.specs.Ends.{end_in};
 ghost use Rattle.fold_rule.specs.Rule.{folded_block, folded_blocks, AreFolded};
 
 use crate::reached::reached;
-use crate::tail::{Place, rewrite};
+use crate::tail::{BlockPlacement, rewrite};
 use base_ids::code::BlockId;
 use fold_targets::ends::ends;
 use fold_targets::leads::leads;
@@ -64,12 +64,12 @@ fn folded_block(
     ensures { IfOk result (λ c. c ≡ folded_block (end_in ends.now) next fall b) }
 {
     let mut block = b;
-    let at = Place {
+    let at = BlockPlacement {
         next,
         fall,
-        silent: Pos {
+        source_end: Pos {
             block: block.id,
-            item: block.silent,
+            item: block.source_end,
         },
     };
     rewrite(alloc, &mut block.items.items, ends, &at)?;

@@ -28,13 +28,13 @@ use std::collections::HashMap;
 
 /// What a block's terminators depend on: the next block among the kept ones and among all, and its silent position.
 #[derive(Drop)]
-pub struct Place {
+pub struct BlockPlacement {
     /// The next block among those that are kept.
     pub next: Option<BlockId>,
     /// The next block, to which control falls.
     pub fall: Option<BlockId>,
     /// The block's silent position.
-    pub silent: Pos,
+    pub source_end: Pos,
 }
 
 /// Rewrites the terminators of a block's items.
@@ -42,10 +42,10 @@ pub fn rewrite(
     alloc: Global,
     items: &mut Vec<Item>,
     ends: &HashMap<u32, u32>,
-    at: &Place,
+    at: &BlockPlacement,
 ) -> Result<(), AllocError>
     ensures { OnOk result (items.new.items
-        ≡ rewritten (end_in ends.now) at.now.next at.now.fall at.now.silent items.old.items) }
+        ≡ rewritten (end_in ends.now) at.now.next at.now.fall at.now.source_end items.old.items) }
 {
     let count = onward_count(items.as_slice());
     let mut tail = items.split_off(count)?.into_iter();
@@ -83,12 +83,12 @@ fn push_plain(
     alloc: Global,
     items: &mut Vec<Item>,
     ends: &HashMap<u32, u32>,
-    at: &Place,
+    at: &BlockPlacement,
     rest: Option<Item>,
     to: Option<BlockId>,
 ) -> Result<(), AllocError>
     ensures { OnOk result (items.new.items ≡ items.old.items
-        ++ plain_tail (end_in ends.now) at.now.next at.now.fall at.now.silent rest to) }
+        ++ plain_tail (end_in ends.now) at.now.next at.now.fall at.now.source_end rest to) }
 {
     match to {
         Some(n) => push_jump(alloc, items, at, rest, end_of(ends, n)),
@@ -100,12 +100,12 @@ fn push_plain(
 fn push_jump(
     alloc: Global,
     items: &mut Vec<Item>,
-    at: &Place,
+    at: &BlockPlacement,
     rest: Option<Item>,
     block: BlockId,
 ) -> Result<(), AllocError>
     ensures { OnOk result (items.new.items
-        ≡ items.old.items ++ if_needed at.now.next block (jump_at_end at.now.silent rest block)) }
+        ≡ items.old.items ++ if_needed at.now.next block (jump_at_end at.now.source_end rest block)) }
 {
     let jump = jump_at_end(alloc, at, rest, block)?;
     push_if_needed(items, at, block, jump)
@@ -114,7 +114,7 @@ fn push_jump(
 /// Appends a jump to a block, unless that block comes next.
 fn push_if_needed(
     items: &mut Vec<Item>,
-    at: &Place,
+    at: &BlockPlacement,
     block: BlockId,
     jump: Item,
 ) -> Result<(), AllocError>
@@ -141,13 +141,13 @@ fn push_branch(
     alloc: Global,
     items: &mut Vec<Item>,
     ends: &HashMap<u32, u32>,
-    at: &Place,
+    at: &BlockPlacement,
     branch: Item,
     rest: Option<Item>,
     target: BlockId,
 ) -> Result<(), AllocError>
     ensures { OnOk result (items.new.items ≡ items.old.items
-        ++ branch_tail_to (end_in ends.now) at.now.next at.now.fall at.now.silent branch rest target
+        ++ branch_tail_to (end_in ends.now) at.now.next at.now.fall at.now.source_end branch rest target
         (else_way rest at.now.fall)) }
 {
     match else_way(&rest, at.fall) {
@@ -167,13 +167,13 @@ fn push_branch(
 fn push_branch_to(
     alloc: Global,
     items: &mut Vec<Item>,
-    at: &Place,
+    at: &BlockPlacement,
     branch: Item,
     rest: Option<Item>,
     a: BlockId,
     b: BlockId,
 ) -> Result<(), AllocError>
-    ensures { OnOk result (items.new.items ≡ items.old.items ++ branch_tail at.now.next at.now.silent branch rest a b) }
+    ensures { OnOk result (items.new.items ≡ items.old.items ++ branch_tail at.now.next at.now.source_end branch rest a b) }
 {
     if a.number() == b.number() {
         let jump = jump_for_branch(alloc, at, &branch, rest, b)?;
@@ -199,14 +199,14 @@ fn push_branch_to(
 /// The jump to a block at the end: the old jump with a new target, or a new one if there is none.
 fn jump_at_end(
     alloc: Global,
-    at: &Place,
+    at: &BlockPlacement,
     rest: Option<Item>,
     block: BlockId,
 ) -> Result<Item, AllocError>
-    ensures { IfOk result (λ j. j ≡ jump_at_end at.now.silent rest block) }
+    ensures { IfOk result (λ j. j ≡ jump_at_end at.now.source_end rest block) }
 {
     match rest {
-        None => made_jump(alloc, block, Origin::Before(at.silent), Loc::Absent),
+        None => made_jump(alloc, block, Origin::Before(at.source_end), Loc::Absent),
         Some(j) => {
             let mut jump = j;
             send(&mut jump, block);
@@ -218,12 +218,12 @@ fn jump_at_end(
 /// The jump to a block in the position of a removed conditional branch.
 fn jump_for_branch(
     alloc: Global,
-    at: &Place,
+    at: &BlockPlacement,
     branch: &Item,
     rest: Option<Item>,
     block: BlockId,
 ) -> Result<Item, AllocError>
-    ensures { IfOk result (λ j. j ≡ jump_for_branch at.now.silent branch.now rest block) }
+    ensures { IfOk result (λ j. j ≡ jump_for_branch at.now.source_end branch.now rest block) }
 {
     let mut jump = jump_at_end(alloc, at, rest, block)?;
     jump.origin = branch.origin;

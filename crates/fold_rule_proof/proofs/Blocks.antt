@@ -245,7 +245,7 @@ module _ (slots : List ℕ) (objects : List Object) (end : ℕ → ℕ) (kept : 
             AllGood (cond z (folded_block end (first_id (staying kept bs)) (first_id bs) b ∷ folded_blocks end kept bs) (folded_blocks end kept bs))
         by_test true k e l p rest = All-cons (λ (b : Block). All (IsGood ids slots objects b) b.items)
             (folded_block end (first_id (staying kept bs)) (first_id bs) b) (folded_blocks end kept bs)
-            (good_again b (rewritten end (first_id (staying kept bs)) (first_id bs) (record { block = b.id; item = b.silent }) b.items)
+            (good_again b (rewritten end (first_id (staying kept bs)) (first_id bs) (record { block = b.id; item = b.source_end }) b.items)
             (rewritten_good ids slots objects b end (first_id (staying kept bs)) (first_id bs) b.items e (onto b bs l) p
             (λ n to. ways b.id n (ways_of b.items (first_id bs)) k (ways_first b bs) to))) rest
         by_test false k e l p rest = rest
@@ -261,7 +261,7 @@ module _ (slots : List ℕ) (objects : List Object) (end : ℕ → ℕ) (kept : 
             (cond z (folded_block end (first_id (staying kept bs)) (first_id bs) b ∷ folded_blocks end kept bs) (folded_blocks end kept bs))
         by_test true e l rest = All-cons (λ (b : Block). EndsWell b.items) (folded_block end (first_id (staying kept bs)) (first_id bs) b)
             (folded_blocks end kept bs)
-            (rewritten_ends end (first_id (staying kept bs)) (first_id bs) (record { block = b.id; item = b.silent }) b.items e (onto b bs l)).0 rest
+            (rewritten_ends end (first_id (staying kept bs)) (first_id bs) (record { block = b.id; item = b.source_end }) b.items e (onto b bs l)).0 rest
         by_test false e l rest = rest
 
   last_cons : (b : Block) (cs : List Block) → LastCloses cs → LastCloses (b ∷ cs)
@@ -284,7 +284,7 @@ module _ (slots : List ℕ) (objects : List Object) (end : ℕ → ℕ) (kept : 
         by_next : (o : Option ℕ) → first_id (staying kept bs) ≡ o → EndsWell b.items → LastCloses (b ∷ bs) →
             Both (staying kept bs) (folded_blocks end kept bs) → LastCloses (fb ∷ folded_blocks end kept bs)
         by_next None e well l rest = subst (λ (cs : List Block). LastCloses (fb ∷ cs)) (sym (rest.0 e))
-            ((rewritten_ends end (first_id (staying kept bs)) (first_id bs) (record { block = b.id; item = b.silent }) b.items well (onto b bs l)).1 e)
+            ((rewritten_ends end (first_id (staying kept bs)) (first_id bs) (record { block = b.id; item = b.source_end }) b.items well (onto b bs l)).1 e)
         by_next (Some m) e well l rest = last_cons fb (folded_blocks end kept bs) (rest.1 m e)
 
         by_test : (z : Bool) → EndsWell b.items → LastCloses (b ∷ bs) → Both (staying kept bs) (folded_blocks end kept bs) →

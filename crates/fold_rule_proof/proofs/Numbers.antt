@@ -144,5 +144,5 @@ folded_comes end kept (b ∷ bs) = by_test (kept b.id) (folded_comes end kept bs
   by_test : (z : Bool) → ComeFrom (items_of (folded_blocks end kept bs)) (items_of bs) →
       ComeFrom (items_of (cond z (folded_block end (first_id (staying kept bs)) (first_id bs) b ∷ folded_blocks end kept bs) (folded_blocks end kept bs)))
       (items_of (b ∷ bs))
-  by_test true h = come_append (rewritten_comes end (first_id (staying kept bs)) (first_id bs) (record { block = b.id; item = b.silent }) b.items) h
+  by_test true h = come_append (rewritten_comes end (first_id (staying kept bs)) (first_id bs) (record { block = b.id; item = b.source_end }) b.items) h
   by_test false h = come_append (all_go b.items) h

@@ -186,17 +186,18 @@ folded_stripped end stays (b ∷ bs) all =
       next : first_id (staying stays bs) ≡ first_id (staying stays (stripped_blocks bs))
       next = sym (ap first_id (staying_stripped stays bs) ∙ first_id_stripped (staying stays bs))
 
-      items : EndsWell b.items → S (rewritten end (first_id (staying stays bs)) (first_id bs) (record { block = b.id; item = b.silent }) b.items) ≡
-          rewritten end (first_id (staying stays (stripped_blocks bs))) (first_id (stripped_blocks bs)) (record { block = b.id; item = b.silent }) (S b.items)
+      items : EndsWell b.items → S (rewritten end (first_id (staying stays bs)) (first_id bs) (record { block = b.id; item = b.source_end }) b.items) ≡
+          rewritten end (first_id (staying stays (stripped_blocks bs))) (first_id (stripped_blocks bs)) (record { block = b.id; item = b.source_end })
+          (S b.items)
       items h = let f = sym (first_id_stripped bs) in
-          rewritten_stripped end (first_id (staying stays bs)) (first_id bs) (record { block = b.id; item = b.silent }) b.items h ∙
-          (λ i. rewritten end (next i) (f i) (record { block = b.id; item = b.silent }) (S b.items))
+          rewritten_stripped end (first_id (staying stays bs)) (first_id bs) (record { block = b.id; item = b.source_end }) b.items h ∙
+          (λ i. rewritten end (next i) (f i) (record { block = b.id; item = b.source_end }) (S b.items))
 
       by_test : (z : Bool) → EndsWell b.items → stripped_blocks (folded_blocks end stays bs) ≡ folded_blocks end stays (stripped_blocks bs) →
           stripped_blocks (cond z (folded_block end (first_id (staying stays bs)) (first_id bs) b ∷ folded_blocks end stays bs) (folded_blocks end stays bs)) ≡
           cond z (folded_block end (first_id (staying stays (stripped_blocks bs))) (first_id (stripped_blocks bs)) (stripped_block b) ∷
           folded_blocks end stays (stripped_blocks bs)) (folded_blocks end stays (stripped_blocks bs))
-      by_test true w h = let e = items w in λ i. record { id = b.id; items = e i; silent = b.silent } ∷ h i
+      by_test true w h = let e = items w in λ i. record { id = b.id; items = e i; source_end = b.source_end } ∷ h i
       by_test false w h = h
 
 pub are_folded_stripped : (old new : List Block) → All (λ (b : Block). EndsWell b.items) old → AreFolded old new →

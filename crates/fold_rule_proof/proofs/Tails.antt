@@ -88,19 +88,19 @@ module _ (ids slots : List ℕ) (objects : List Object) (b : Block) where
   good_made : (n : ℕ) (o : Origin) (l : Loc) → Contains ids n → OriginIn b o → Good (made_jump n o l)
   good_made n o l has origin = good_leading (made_jump n o l) (Always n) refl has tt (made_pointer n o l) origin
 
-  silent_in : OriginIn b (Before (record { block = b.id; item = b.silent }))
+  silent_in : OriginIn b (Before (record { block = b.id; item = b.source_end }))
   silent_in = (refl, omega arith)
 
-  abbrev silent : Pos
-  silent = record { block = b.id; item = b.silent }
+  abbrev source_end : Pos
+  source_end = record { block = b.id; item = b.source_end }
 
-  good_jump : (xs : List Item) (n : ℕ) → IsJumpAtMost xs → All Plain xs → Contains ids n → Good (jump_at_end silent (first_of xs) n)
-  good_jump [] n h all has = good_made n (Before silent) Absent has silent_in
+  good_jump : (xs : List Item) (n : ℕ) → IsJumpAtMost xs → All Plain xs → Contains ids n → Good (jump_at_end source_end (first_of xs) n)
+  good_jump [] n h all has = good_made n (Before source_end) Absent has silent_in
   good_jump (j ∷ []) n h all has = let w = always_some (exit_of j.kind) h in good_sent_jump j w.0 n w.1 has (All-head Plain j [] all)
   good_jump (j ∷ y ∷ ys) n h all has = absurd h
 
   good_branch_jump : (x : Item) (xs : List Item) (n : ℕ) → IsJumpAtMost xs → Plain x → All Plain xs → Contains ids n →
-      Good (jump_for_branch silent x (first_of xs) n)
+      Good (jump_for_branch source_end x (first_of xs) n)
   good_branch_jump x xs n h p all has = let g = good_jump xs n h all has in record {
     target = g.target;
     plain = record { slot = g.plain.slot; object = g.plain.object; pointer = g.plain.pointer; origin = p.origin };
@@ -116,24 +116,25 @@ module _ (ids slots : List ℕ) (objects : List Object) (b : Block) where
     by_test false = one_good j g
 
   branch_good : (next : Option ℕ) (x : Item) (t : ℕ) (xs : List Item) (u v : ℕ) → exit_of x.kind ≡ Perhaps t → IsJumpAtMost xs → Plain x → All Plain xs →
-      Contains ids u → Contains ids v → All Good (branch_tail next silent x (first_of xs) u v)
+      Contains ids u → Contains ids v → All Good (branch_tail next source_end x (first_of xs) u v)
   branch_good next x t xs u v e h p all has_u has_v = by_tests (nat_eq u v) (is_number next v) (is_number next u) where
-    by_tests : (q r s : Bool) → All Good (cond q (if_needed next v (jump_for_branch silent x (first_of xs) v)) (cond r (sent u x ∷ [])
-        (cond s (turned v x ∷ []) (sent u x ∷ jump_at_end silent (first_of xs) v ∷ []))))
-    by_tests true r s = needed_good next v (jump_for_branch silent x (first_of xs) v) (good_branch_jump x xs v h p all has_v)
+    by_tests : (q r s : Bool) → All Good (cond q (if_needed next v (jump_for_branch source_end x (first_of xs) v)) (cond r (sent u x ∷ [])
+        (cond s (turned v x ∷ []) (sent u x ∷ jump_at_end source_end (first_of xs) v ∷ []))))
+    by_tests true r s = needed_good next v (jump_for_branch source_end x (first_of xs) v) (good_branch_jump x xs v h p all has_v)
     by_tests false true s = one_good (sent u x) (good_sent x t u e has_u p)
     by_tests false false true = one_good (turned v x) (good_turned x t v e has_v p)
     by_tests false false false =
-        All-cons Good (sent u x) (jump_at_end silent (first_of xs) v ∷ []) (good_sent x t u e has_u p) (one_good (jump_at_end silent (first_of xs) v)
+        All-cons Good (sent u x) (jump_at_end source_end (first_of xs) v ∷ []) (good_sent x t u e has_u p) (one_good (jump_at_end source_end (first_of xs) v)
         (good_jump xs v h all has_v))
 
   module _ (end : ℕ → ℕ) (next fall : Option ℕ) where
     pub rewritten_good : (xs : List Item) → EndsWell xs → (fall ≡ None → Closes xs) → All Plain xs →
-        ((n : ℕ) → LeadTo (ways_of xs fall) n → Contains ids (end n)) → All Good (rewritten end next fall silent xs)
+        ((n : ℕ) → LeadTo (ways_of xs fall) n → Contains ids (end n)) → All Good (rewritten end next fall source_end xs)
     rewritten_good [] ends onto all ways = by_fall fall (λ n e. ways n (inr e)) where
-      by_fall : (o : Option ℕ) → ((n : ℕ) → o ≡ Some n → Contains ids (end n)) → All Good (plain_tail end next fall silent None o)
+      by_fall : (o : Option ℕ) → ((n : ℕ) → o ≡ Some n → Contains ids (end n)) → All Good (plain_tail end next fall source_end None o)
       by_fall None to = none_in Good
-      by_fall (Some n) to = needed_good next (end n) (made_jump (end n) (Before silent) Absent) (good_made (end n) (Before silent) Absent (to n refl) silent_in)
+      by_fall (Some n) to = needed_good next (end n) (made_jump (end n) (Before source_end) Absent) (good_made (end n) (Before source_end) Absent
+          (to n refl) silent_in)
     rewritten_good (x ∷ xs) ends onto all ways =
         by_exit (exit_of x.kind) refl ends.0 ways (λ o w. rewritten_good xs ends.1 o (All-tail Plain x xs all) w) where
           plain : Plain x
@@ -146,7 +147,7 @@ module _ (ids slots : List ℕ) (objects : List Object) (b : Block) where
             by_rest (y ∷ ys) h = h
 
           by_to : (n : ℕ) (o : Option ℕ) (m : ℕ) → o ≡ Some m → exit_of x.kind ≡ Perhaps n → IsJumpAtMost xs → Contains ids (end n) → Contains ids (end m) →
-              All Good (branch_tail_to end next fall silent x (first_of xs) n o)
+              All Good (branch_tail_to end next fall source_end x (first_of xs) n o)
           by_to n None m e at may has_n has_m = cc
           by_to n (Some k) m e at may has_n has_m =
               let same : m ≡ k = cc in
@@ -154,9 +155,9 @@ module _ (ids slots : List ℕ) (objects : List Object) (b : Block) where
 
           by_exit : (e : Exit) → exit_of x.kind ≡ e → MayFollow e xs →
               ((n : ℕ) → LeadTo (ways_by e (first_of xs) (ways_of xs fall) fall) n → Contains ids (end n)) →
-              ((fall ≡ None → Closes xs) → ((n : ℕ) → LeadTo (ways_of xs fall) n → Contains ids (end n)) → All Good (rewritten end next fall silent xs)) →
-              All Good (tail_by end next fall silent e x (first_of xs) (rewritten end next fall silent xs))
-          by_exit Onward e may to rest = All-cons Good x (rewritten end next fall silent xs) (good_left x Onward e tt plain) (rest (below e) to)
+              ((fall ≡ None → Closes xs) → ((n : ℕ) → LeadTo (ways_of xs fall) n → Contains ids (end n)) → All Good (rewritten end next fall source_end xs)) →
+              All Good (tail_by end next fall source_end e x (first_of xs) (rewritten end next fall source_end xs))
+          by_exit Onward e may to rest = All-cons Good x (rewritten end next fall source_end xs) (good_left x Onward e tt plain) (rest (below e) to)
           by_exit (Perhaps n) e may to rest =
               let w = goes_else x n xs fall e may onto in
               by_to n (else_way (first_of xs) fall) w.0 w.1 e may (to n (inl refl)) (to w.0 (inr w.1))

@@ -20,7 +20,7 @@ use std::collections::{HashMap, HashSet};
 
 /// The chains and the reachable blocks of a function before folding, by block number.
 #[derive(Drop)]
-pub struct OldWays {
+pub struct JumpChains {
     /// Where each jump-only block forwards control.
     pub leads: HashMap<u32, u32>,
     /// The end of each block's chain. A block that is its own end may be missing.
@@ -30,7 +30,7 @@ pub struct OldWays {
 }
 
 /// Computes these for blocks with distinct numbers.
-pub fn old_ways(alloc: Global, blocks: &[Block]) -> Result<OldWays, AllocError>
+pub fn jump_chains(alloc: Global, blocks: &[Block]) -> Result<JumpChains, AllocError>
     requires { AreApart (ids_of blocks.now) }
     ensures leads { IfOk result (λ w. (n : ℕ) → told w.leads n ≡ lead blocks.now n) }
     ensures ends { IfOk result (λ w. (n : ℕ) → EndsAt (lead blocks.now) n (end_in w.ends n)) }
@@ -40,7 +40,7 @@ pub fn old_ways(alloc: Global, blocks: &[Block]) -> Result<OldWays, AllocError>
     let leads = leads(alloc, blocks)?;
     let ends = ends(alloc, &leads)?;
     let reached = reached_before(alloc, blocks)?;
-    Ok(OldWays {
+    Ok(JumpChains {
         leads,
         ends,
         reached,
@@ -48,7 +48,7 @@ pub fn old_ways(alloc: Global, blocks: &[Block]) -> Result<OldWays, AllocError>
 }
 
 /// The end of a block's chain, if the block is bypassed: it is reachable, jump-only, and not its own end.
-pub fn end_past(ways: &OldWays, block: BlockId) -> Option<BlockId>
+pub fn end_past(ways: &JumpChains, block: BlockId) -> Option<BlockId>
     ensures { result ≡ end_past (end_in ways.now.ends) (contains nat_eq ways.now.reached) (told ways.now.leads) block }
 {
     let number = block.number();

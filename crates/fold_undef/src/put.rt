@@ -9,7 +9,7 @@ ghost use Rattle.fold_undef.specs.Bypassed.{end_past};
 ghost use Rattle.fold_undef.specs.Kill.{kill_item, kills_in};
 ghost use Rattle.fold_undef.specs.steps.Gathered.{kills_at, kills_to, with_kills_of};
 
-use crate::bypassed::{OldWays, end_past};
+use crate::bypassed::{JumpChains, end_past};
 use crate::kill::{Kill, kill_item, kill_of};
 use crate::seen::Seen;
 use base_ids::code::BlockId;
@@ -24,7 +24,7 @@ use std::collections::HashMap;
 pub fn put_kills(
     alloc: Global,
     before: &[Block],
-    ways: &OldWays,
+    ways: &JumpChains,
     after: &mut Vec<Block>,
 ) -> Result<(), AllocError>
     requires { (n : ℕ) → told ways.now.leads n ≡ lead before.now n }
@@ -39,7 +39,7 @@ pub fn put_kills(
 fn kills_by_end(
     alloc: Global,
     blocks: &[Block],
-    ways: &OldWays,
+    ways: &JumpChains,
 ) -> Result<HashMap<u32, List<Kill>>, AllocError>
     ensures { IfOk result (λ m. (e : ℕ) → kills_at m e ≡ kills_to
         (end_past (end_in ways.now.ends) (contains nat_eq ways.now.reached) (told ways.now.leads)) e blocks.now) }

@@ -40,7 +40,7 @@ fn prologue_block(alloc: Global, frame: &Frame, b: &Block) -> Result<Block, Allo
     Ok(Block {
         id: b.id,
         items: prologue(alloc, frame, b.id)?,
-        silent: b.silent,
+        source_end: b.source_end,
     })
 }
 
@@ -66,7 +66,7 @@ fn framed_block(alloc: Global, frame: &Frame, b: &Block) -> Result<Block, AllocE
     Ok(Block {
         id: b.id,
         items: framed_items(alloc, frame, b.items.as_slice())?,
-        silent: b.silent,
+        source_end: b.source_end,
     })
 }
 

@@ -3,7 +3,7 @@ use Rattle.std.proofs.Common.{◌≡◌, ℕ, suc, List, [], ◌∷◌, map, dro
 use Rattle.mir_func.specs.declared.block.Block.{Block}
 use Rattle.mir_func.specs.declared.item.Item.{Item}
 use Rattle.mir_func.specs.Function.{Function}
-use Rattle.mir_func.specs.Graph.{Silent, end_of, front, fetch_in, from_block, index_of}
+use Rattle.mir_func.specs.Graph.{EndOfBlock, end_of, front, fetch_in, from_block, index_of}
 use Rattle.mir_func.specs.SoundFrame.{body_of}
 use Rattle.sem_simulation.proofs.Laid.{rest_in}
 use Rattle.frame_rule.specs.Rule.{framed_items, framed_block, framed_blocks}
@@ -39,11 +39,11 @@ module _ (f : Function) where
   items_from (b ∷ bs) = drop_zero (framed_items f b.items) ∙ ap (framed_items f) (sym (drop_zero b.items))
 
   -- the end of a block is that of the block without the frame
-  pub ends_alike : (bs : List Block) (i j k n : ℕ) → rest_in bs i ≡ [] → rest_in (with_frame bs) j ≡ [] → fetch_in (with_frame bs) j ≡ Silent k n →
-      fetch_in bs i ≡ Silent k n
+  pub ends_alike : (bs : List Block) (i j k n : ℕ) → rest_in bs i ≡ [] → rest_in (with_frame bs) j ≡ [] → fetch_in (with_frame bs) j ≡ EndOfBlock k n →
+      fetch_in bs i ≡ EndOfBlock k n
   ends_alike [] i j k n e e' h = cc
   ends_alike (b ∷ bs) i j k n e e' h =
-      ap (λ (z : List Item). front z b.silent bs) e ∙ next bs (sym (ap (λ (z : List Item). front z b.silent (with_frame bs)) e') ∙ h) where
-        next : (cs : List Block) → end_of b.silent (with_frame cs) ≡ Silent k n → end_of b.silent cs ≡ Silent k n
+      ap (λ (z : List Item). front z b.source_end bs) e ∙ next bs (sym (ap (λ (z : List Item). front z b.source_end (with_frame bs)) e') ∙ h) where
+        next : (cs : List Block) → end_of b.source_end (with_frame cs) ≡ EndOfBlock k n → end_of b.source_end cs ≡ EndOfBlock k n
         next [] w = cc
         next (c ∷ cs) w = w

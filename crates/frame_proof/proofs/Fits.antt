@@ -81,20 +81,20 @@ going r j Traps n e h w = cc
 going r j Asks n e h w = cc
 going r j Breaks n e h w = cc
 
-row_moves : (src : Program) (r : Row) (silent : ℕ) (o : Origin) → RowFits src r silent o → IsGoing r →
+row_moves : (src : Program) (r : Row) (source_end : ℕ) (o : Origin) → RowFits src r source_end o → IsGoing r →
     since_of (waits_at (is_jump_row r) o) ≡ After
-row_moves src (Branches op a b t) silent (Kept p) f h = refl
-row_moves src (Branches op a b t) silent (Before p) f h = absurd f
-row_moves src (Jumps t) silent (Kept p) f h = refl
-row_moves src (Jumps t) silent (Before p) f h = refl
-row_moves src _ silent o f h = absurd h
+row_moves src (Branches op a b t) source_end (Kept p) f h = refl
+row_moves src (Branches op a b t) source_end (Before p) f h = absurd f
+row_moves src (Jumps t) source_end (Kept p) f h = refl
+row_moves src (Jumps t) source_end (Before p) f h = refl
+row_moves src _ source_end o f h = absurd h
 
 -- after a branch the source moves on: a conditional one is kept
-pub branch_moves : (src f : Program) (silent : ℕ) (x : Item) → KindFits src x.kind silent x.origin → (c e : Core) (n : ℕ) →
+pub branch_moves : (src f : Program) (source_end : ℕ) (x : Item) → KindFits src x.kind source_end x.origin → (c e : Core) (n : ℕ) →
     do_item f x.kind c ≡ Goes n e → since_item ByItems x ≡ After
-branch_moves src f silent x fits c e n go = by_kind x.kind fits go where
-  by_kind : (k : ItemKind) → KindFits src k silent x.origin → do_item f k c ≡ Goes n e → since_of (waits_at (is_jump k) x.origin) ≡ After
-  by_kind (Code i m) h w = row_moves src (row_of i) silent x.origin h (going (row_of i) _ (act (row_of i) c) n e (act_by (row_of i) c) w)
+branch_moves src f source_end x fits c e n go = by_kind x.kind fits go where
+  by_kind : (k : ItemKind) → KindFits src k source_end x.origin → do_item f k c ≡ Goes n e → since_of (waits_at (is_jump k) x.origin) ≡ After
+  by_kind (Code i m) h w = row_moves src (row_of i) source_end x.origin h (going (row_of i) _ (act (row_of i) c) n e (act_by (row_of i) c) w)
   by_kind (Mark v m) h w = cc
   by_kind (Phi p m) h w = cc
 

@@ -7,7 +7,7 @@ use Rattle.mir_func.specs.declared.position.Pos.{Pos}
 use Rattle.mir_func.specs.Graph.{block_start, from_block, program_of, framed_program}
 use Rattle.mir_func.specs.Sound.{SlotsIn, LeavesPointer, LastCloses, HasForm}
 use Rattle.sem_mir.specs.State.{content}
-use Rattle.sem_mir.specs.Align.{ByItems, station_at, First, RunsAlong}
+use Rattle.sem_mir.specs.Align.{ByItems, sync_point_at, First, RunsMatch}
 use Rattle.sem_mir.specs.Follow.{KindFits, first_of}
 use Rattle.sem_mir.proofs.Reading.{found_in}
 use Rattle.sem_simulation.proofs.Laid.{rest_in, rest_of}
@@ -23,8 +23,8 @@ frame_follows src f subs fsubs sound forms follows s start = by_blocks f.blocks 
   fits_in b member = λ k d lt. record {
     pointer = All-contains (λ (c : Block). All (λ (i : Item). LeavesPointer i.kind) c.items) f.blocks b sound.pointer member k d lt;
     slots = All-contains (λ (c : Block). All (λ (i : Item). SlotsIn f.slots i.kind) c.items) f.blocks b sound.slots member k d lt;
-    moves = branch_moves (program_of true src subs) (program_of false f.blocks fsubs) b.silent (get_or b.items k d)
-        (All-contains (λ (c : Block). All (λ (i : Item). KindFits (program_of true src subs) i.kind c.silent i.origin) c.items) f.blocks b
+    moves = branch_moves (program_of true src subs) (program_of false f.blocks fsubs) b.source_end (get_or b.items k d)
+        (All-contains (λ (c : Block). All (λ (i : Item). KindFits (program_of true src subs) i.kind c.source_end i.origin) c.items) f.blocks b
         follows.shape.items member k d lt);
     results = final_reads (get_or b.items k d).kind (All-contains (λ (c : Block). All (λ (i : Item). HasForm i.kind) c.items) f.blocks b forms member k d lt);
   }
@@ -39,7 +39,8 @@ frame_follows src f subs fsubs sound forms follows s start = by_blocks f.blocks 
   regs r lt = subst IsSome (sym (start.regs r lt).1) refl
 
   by_blocks : (bs : List Block) → f.blocks ≡ bs → LastCloses bs →
-      RunsAlong (program_of true src subs) (framed_program (framed_of f).blocks fsubs) (station_at ByItems (framed_program (framed_of f).blocks fsubs)) First s
+      RunsMatch (program_of true src subs) (framed_program (framed_of f).blocks fsubs) (sync_point_at ByItems (framed_program
+      (framed_of f).blocks fsubs)) First s
       (record { pos = block_start 0; core = s.core })
   by_blocks [] e closes = absurd closes
   by_blocks (b ∷ more) e closes =

@@ -24,7 +24,7 @@ use Rattle.mir_func.specs.declared.position.Pos.{Pos}
 use Rattle.mir_func.specs.declared.framed.SavedRegister.{SavedRegister}
 use Rattle.mir_func.specs.Exits.{row_exit, exit_of, is_final}
 use Rattle.mir_func.specs.Function.{Function}
-use Rattle.mir_func.specs.Graph.{Program, Fetch, Here, Silent, Outside, block_start, from_block, framed_program}
+use Rattle.mir_func.specs.Graph.{Program, Fetch, Here, EndOfBlock, Outside, block_start, from_block, framed_program}
 use Rattle.mir_func.specs.Sound.{IsNotPointer, LeavesPointer, SlotsIn, LastCloses, IsSound}
 use Rattle.mir_func.specs.SoundFrame.{SAVED}
 use Rattle.sem_mir.specs.State.{Core, State, Reply, content, writes_frame}
@@ -150,7 +150,7 @@ return_stands g t v go = by_fetch (g.fetch t.pos) go where
 
   by_fetch : (x : Fetch) → moved g.enter t.pos (do_fetch g x t.core) ≡ Returned v → is_return x ≡ true
   by_fetch (Here i) w = by_kind i.kind w
-  by_fetch (Silent k n) w = cc
+  by_fetch (EndOfBlock k n) w = cc
   by_fetch Outside w = cc
 
 -- ---- the laws

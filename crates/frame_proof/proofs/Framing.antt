@@ -20,19 +20,20 @@ use Rattle.mir_func.specs.declared.position.Origin.TheVariants.{Before}
 use Rattle.mir_func.specs.declared.position.Pos.{Pos}
 use Rattle.mir_func.specs.Exits.{exit_of, is_final}
 use Rattle.mir_func.specs.Function.{Function}
-use Rattle.mir_func.specs.Graph.{Program, Silent, block_start, fetch_in, front, from_block, index_of, program_of, framed_program}
+use Rattle.mir_func.specs.Graph.{Program, EndOfBlock, block_start, fetch_in, front, from_block, index_of, program_of, framed_program}
 use Rattle.mir_func.specs.Sound.{SlotsIn, LeavesPointer}
 use Rattle.mir_func.specs.SoundFrame.{adds_to_pointer, saves, restores, prologue_code, epilogue_code, body_of}
 use Rattle.sem_mir.specs.State.{Core, State, updated, content, put, assigned}
 use Rattle.sem_mir.specs.Step.{Falls, Goes, act, read, set_register, with_core, do_item}
-use Rattle.sem_mir.specs.Align.{position_of, is_code, waits_at, ByItems, ByEnds, station_at, IsOrigin, After, since_of, First}
+use Rattle.sem_mir.specs.Align.{position_of, is_code, waits_at, ByItems, ByEnds, sync_point_at, IsOrigin, After, since_of, First}
 use Rattle.sem_mir.specs.Align.{AnyOrigin}
-use Rattle.sem_mir.specs.Align.{RunsAlong}
+use Rattle.sem_mir.specs.Align.{RunsMatch}
 use Rattle.sem_mir.specs.Effects.{EndAlike}
 use Rattle.sem_mir.proofs.Outcomes.{alike_with}
 use Rattle.sem_mir.proofs.Places.{contains_head, contains_tail, updated_same, updated_other, put_other}
 use Rattle.sem_simulation.specs.Sides.{Sides, ShowsSame, since_item}
-use Rattle.sem_simulation.specs.Added.{Standing, Opening, Level, Ahead, AddedRelation, MayCome, DoAlike, View, ended, both, before, opening, entering, paired}
+use Rattle.sem_simulation.specs.Added.{Standing, Opening, Level, Ahead, AddedMatchStates, MayCome, DoAlike, View, ended, both, before, opening, entering}
+use Rattle.sem_simulation.specs.Added.{paired}
 use Rattle.sem_simulation.specs.Added.{Adds, Begins, opens}
 use Rattle.sem_simulation.proofs.Laid.{rest_in, rest_of, laid_out, laid_out_framed}
 use Rattle.sem_simulation.proofs.Added.{added_follows}
@@ -123,23 +124,23 @@ module _ (fn : Function) (resolve : OperandPair → Option OperandPair) (src : P
     pub these : ys ≡ renamed fn.slots item ∷ framed_items fn rest
     pub fits : All IsFit (item ∷ rest)
 
-  abbrev Rests : Stage → ℕ → List Item → List Item → Type 0
-  Rests Lowering b xs ys = (b ≡ s0.pos.block) × (xs ≡ rf (block_start b)) × (ys ≡ start_code (prologue_code (size_of fn) saved))
-  Rests (Saving todo) b xs ys = (b ≡ s0.pos.block) × (xs ≡ rf (block_start b)) × (ys ≡ start_code (map saves todo)) × AreSaved todo
-  Rests Body b xs ys = (ys ≡ framed_items fn xs) × All IsFit xs
-  Rests (Loading q todo) b xs ys = IsLoading q todo xs ys
-  Rests (Loaded q) b xs ys = IsLoaded q xs ys
+  abbrev MatchItems : Stage → ℕ → List Item → List Item → Type 0
+  MatchItems Lowering b xs ys = (b ≡ s0.pos.block) × (xs ≡ rf (block_start b)) × (ys ≡ start_code (prologue_code (size_of fn) saved))
+  MatchItems (Saving todo) b xs ys = (b ≡ s0.pos.block) × (xs ≡ rf (block_start b)) × (ys ≡ start_code (map saves todo)) × AreSaved todo
+  MatchItems Body b xs ys = (ys ≡ framed_items fn xs) × All IsFit xs
+  MatchItems (Loading q todo) b xs ys = IsLoading q todo xs ys
+  MatchItems (Loaded q) b xs ys = IsLoaded q xs ys
 
-  abbrev Cores : Stage → ℕ → List Item → List Item → Core → Core → Type 0
-  Cores Lowering b xs ys c d = Beside fn.slots saved IsOther saved c d
-  Cores (Saving todo) b xs ys c d = Beside fn.slots saved IsOther todo c d
-  Cores Body b xs ys c d = Beside fn.slots saved IsOther [] c d
-  Cores (Loading q todo) b xs ys c d = Beside fn.slots saved IsResult [] c d
-  Cores (Loaded q) b xs ys c d = Beside fn.slots saved IsResult [] c d
+  abbrev MatchCores : Stage → ℕ → List Item → List Item → Core → Core → Type 0
+  MatchCores Lowering b xs ys c d = Beside fn.slots saved IsOther saved c d
+  MatchCores (Saving todo) b xs ys c d = Beside fn.slots saved IsOther todo c d
+  MatchCores Body b xs ys c d = Beside fn.slots saved IsOther [] c d
+  MatchCores (Loading q todo) b xs ys c d = Beside fn.slots saved IsResult [] c d
+  MatchCores (Loaded q) b xs ys c d = Beside fn.slots saved IsResult [] c d
 
-  abbrev pub framing : AddedRelation
-  framing = record {
-    relation = record { Stage = Stage; entry = λ n. Body; Rests = Rests; Cores = Cores };
+  abbrev pub match_states : AddedMatchStates
+  match_states = record {
+    match_states = record { Stage = Stage; entry = λ n. Body; MatchItems = MatchItems; MatchCores = MatchCores };
     standing = stands;
     Stops = First;
     Extra = λ p. ⊥;
@@ -147,7 +148,7 @@ module _ (fn : Function) (resolve : OperandPair → Option OperandPair) (src : P
   }
 
   abbrev Seen : (b : ℕ) → Stage → List Item → List Item → Type 0
-  Seen b k xs ys = View ByItems src sides framing b k xs ys
+  Seen b k xs ys = View ByItems src sides match_states b k xs ys
 
   -- ---- one step of each
 
@@ -223,7 +224,7 @@ module _ (fn : Function) (resolve : OperandPair → Option OperandPair) (src : P
     here_after = renamed fn.slots x ∷ framed_items fn rest
 
     loads : (k : Stage) → MayCome (stands k) (position_of x.origin) →
-        ((ys : List Item) (c d : Core) → Cores k b (x ∷ rest) ys c d → Beside fn.slots saved IsResult [] c d) →
+        ((ys : List Item) (c d : Core) → MatchCores k b (x ∷ rest) ys c d → Beside fn.slots saved IsResult [] c d) →
         (todo : List SavedRegister) → AreSaved todo → Seen b k (x ∷ rest) (left x.origin todo ++ here_after)
     loads k come near [] all =
         before {k' = Loaded (position_of x.origin)} come (final_code x.kind final) refl (same_position x.origin)
@@ -245,7 +246,8 @@ module _ (fn : Function) (resolve : OperandPair → Option OperandPair) (src : P
         (refl, All-tail IsFit x rest fits)
         (λ c d h. by_kind x.kind final ((All-head IsFit x rest fits).results final) c d h) where
           by_kind : (k : ItemKind) → exit_of k ≡ Final → ReadsResults k → (c d : Core) → Beside fn.slots saved IsResult [] c d →
-              DoAlike ByItems src sides framing b rest (framed_items fn rest) (since_item ByItems x) Body (do_item f k c) (do_item g (renamed_kind fn.slots k)
+              DoAlike ByItems src sides match_states b rest (framed_items fn rest) (since_item ByItems x) Body (do_item f k c) (do_item g
+              (renamed_kind fn.slots k)
               d)
           by_kind (Mark v m) e r c d h = cc
           by_kind (Phi p m) e r c d h = cc
@@ -307,25 +309,26 @@ module _ (fn : Function) (resolve : OperandPair → Option OperandPair) (src : P
     started : (n : ℕ) → rg (block_start (suc (index_of (body_of framed) n))) ≡ framed_items fn (rf (block_start n))
     started n = ap (λ (bs : List Block). rest_in bs 0) (from_index fn fn.blocks n) ∙ items_from fn (from_block fn.blocks n)
 
-    view_start : (todo : List SavedRegister) (b : ℕ) (xs ys : List Item) → Rests (Saving todo) b xs ys → Seen b (Saving todo) xs ys
+    view_start : (todo : List SavedRegister) (b : ℕ) (xs ys : List Item) → MatchItems (Saving todo) b xs ys → Seen b (Saving todo) xs ys
     view_start [] b xs ys h =
         subst (Seen b (Saving []) xs) (sym h.2)
         (entering {k' = Body} refl (λ e. by_items e) refl
-        (started b ∙ ap (framed_items fn) (sym h.1), subst (All IsFit) (sym h.1) (fits b)) (λ c d k. k) (λ p o e. subst (IsOrigin (station_at ByItems f)) (sym
+        (started b ∙ ap (framed_items fn) (sym h.1), subst (All IsFit) (sym h.1) (fits b)) (λ c d k. k) (λ p o e. subst (IsOrigin (sync_point_at ByItems f))
+        (sym
         e) o)
         (λ q j n e none go. leads q j n e none go)) where
           by_items : ByItems ≡ ByEnds → ⊥
           by_items e = cc
 
-          leads : (q : Pos) (j n : ℕ) → q.block ≡ 0 → rg q ≡ [] → g.fetch q ≡ Silent j n → n ≡ s0.pos.block
+          leads : (q : Pos) (j n : ℕ) → q.block ≡ 0 → rg q ≡ [] → g.fetch q ≡ EndOfBlock j n → n ≡ s0.pos.block
           leads q j n e none go =
               let w : drop q.block framed ≡ prologue_block fn b0 ∷ framed_block fn b0 ∷ map (framed_block fn) more =
               λ i. drop (e i) (framed_blocks fn (blocks i)) in
               let none' : drop q.item (prologue fn b0.id) ≡ [] = sym (ap (λ (bs : List Block). rest_in bs q.item) w) ∙ none in
-              let go' : front (drop q.item (prologue fn b0.id)) b0.silent (framed_block fn b0 ∷ map (framed_block fn) more) ≡ Silent j n =
+              let go' : front (drop q.item (prologue fn b0.id)) b0.source_end (framed_block fn b0 ∷ map (framed_block fn) more) ≡ EndOfBlock j n =
               sym (ap (λ (bs : List Block). fetch_in bs q.item) w) ∙ go in
-              let end : Silent b0.silent b0.id ≡ Silent j n =
-              sym (ap (λ (z : List Item). front z b0.silent (framed_block fn b0 ∷ map (framed_block fn) more)) none') ∙ go' in
+              let end : EndOfBlock b0.source_end b0.id ≡ EndOfBlock j n =
+              sym (ap (λ (z : List Item). front z b0.source_end (framed_block fn b0 ∷ map (framed_block fn) more)) none') ∙ go' in
               let same : b0.id ≡ n = cc in
               sym same ∙ first
     view_start (s ∷ todo) b xs ys h =
@@ -335,7 +338,7 @@ module _ (fn : Function) (resolve : OperandPair → Option OperandPair) (src : P
         let w = store_does s d (k.written s.register (saved_given fn s m).0) in
         (record d { slots = updated s.offset (Some (read d s.register)) d.slots }, ap (with_core (λ z. z)) w, saving s todo (read d s.register) c d m k))))
 
-    view : (k : Stage) (b : ℕ) (xs ys : List Item) → Rests k b xs ys → Seen b k xs ys
+    view : (k : Stage) (b : ℕ) (xs ys : List Item) → MatchItems k b xs ys → Seen b k xs ys
     view Lowering b xs ys h =
         subst (Seen b Lowering xs) (sym h.2)
         (opening {k' = Saving saved} refl refl refl
@@ -361,14 +364,14 @@ module _ (fn : Function) (resolve : OperandPair → Option OperandPair) (src : P
       told = λ v x e. ap (λ (z : Core). assigned v z.marks) h.same ∙ e;
     }
 
-    shows : (k : Stage) (b : ℕ) (xs ys : List Item) (c d : Core) → Cores k b xs ys c d → ShowsSame c d
+    shows : (k : Stage) (b : ℕ) (xs ys : List Item) (c d : Core) → MatchCores k b xs ys c d → ShowsSame c d
     shows Lowering b xs ys c d h = shows_same IsOther saved c d h
     shows (Saving todo) b xs ys c d h = shows_same IsOther todo c d h
     shows Body b xs ys c d h = shows_same IsOther [] c d h
     shows (Loading q todo) b xs ys c d h = shows_same IsResult [] c d h
     shows (Loaded q) b xs ys c d h = shows_same IsResult [] c d h
 
-    ends : (k : Stage) (p : Pos) (n : ℕ) (c d : Core) → stands k ≡ Level → Cores k p.block [] [] c d → Cores Body n (rf (block_start n))
+    ends : (k : Stage) (p : Pos) (n : ℕ) (c d : Core) → stands k ≡ Level → MatchCores k p.block [] [] c d → MatchCores Body n (rf (block_start n))
         (rg (block_start (suc (index_of (body_of framed) n)))) c d
     ends Body p n c d e h = h
     ends Lowering p n c d e h = cc
@@ -376,17 +379,18 @@ module _ (fn : Function) (resolve : OperandPair → Option OperandPair) (src : P
     ends (Loading q todo) p n c d e h = cc
     ends (Loaded q) p n c d e h = cc
 
-    onward : (p q : Pos) (k n : ℕ) → q.block ≡ suc (index_of (body_of framed) p.block) → rf p ≡ [] → rg q ≡ [] → g.fetch q ≡ Silent k n → f.fetch p ≡ Silent k n
+    onward : (p q : Pos) (k n : ℕ) → q.block ≡ suc (index_of (body_of framed) p.block) → rf p ≡ [] → rg q ≡ [] → g.fetch q ≡ EndOfBlock k n →
+        f.fetch p ≡ EndOfBlock k n
     onward p q k n e none none' go =
         let w : drop q.block framed ≡ map (framed_block fn) (from_block fn.blocks p.block) =
         ap (λ (m : ℕ). drop m framed) e ∙ from_index fn fn.blocks p.block in
         ends_alike fn (from_block fn.blocks p.block) p.item q.item k n none (sym (ap (λ (bs : List Block). rest_in bs q.item) w) ∙ none')
         (sym (ap (λ (bs : List Block). fetch_in bs q.item) w) ∙ go)
 
-    adds : Adds ByItems src sides framing
+    adds : Adds ByItems src sides match_states
     adds = record {
       more = record {
-        stops = λ p q o e. inl (subst (IsOrigin (station_at ByItems f)) (sym e) o);
+        stops = λ p q o e. inl (subst (IsOrigin (sync_point_at ByItems f)) (sym e) o);
         own = λ p o. refl;
         below = λ p x. absurd x;
         on =
@@ -422,14 +426,15 @@ module _ (fn : Function) (resolve : OperandPair → Option OperandPair) (src : P
       written = regs;
     }
 
-    begins : Begins ByItems src sides framing
+    begins : Begins ByItems src sides match_states
     begins = by_size (size_of fn) refl (at_first 0) where
       by_size : (n : ℕ) → size_of fn ≡ n → rg (block_start 0) ≡ added_all n (Before s0.pos) (prologue_code (size_of fn) saved) →
-          Begins ByItems src sides framing
+          Begins ByItems src sides match_states
       by_size zero e w =
           opens (Saving []) refl (refl, ap rf at, w, λ s k. absurd (no_member s k))
           (start_beside [] (λ s k. subst (λ (z : List SavedRegister). Contains z s) (none_saved fn e) k))
       by_size (suc n) e w = opens Lowering refl (refl, ap rf at, w) (start_beside saved (λ s k. k))
 
-    pub framing_follows : RunsAlong src f (station_at ByItems f) (AnyOrigin (station_at ByItems f)) s0 s0 → RunsAlong src g (station_at ByItems g) First s0 g0
-    framing_follows runs = added_follows framing ByItems src sides adds tt begins runs
+    pub framing_follows : RunsMatch src f (sync_point_at ByItems f) (AnyOrigin (sync_point_at ByItems f)) s0 s0 →
+        RunsMatch src g (sync_point_at ByItems g) First s0 g0
+    framing_follows runs = added_follows match_states ByItems src sides adds tt begins runs

@@ -14,7 +14,7 @@ use Rattle.mir_func.specs.declared.position.Origin.TheVariants.{Before}
 use Rattle.mir_func.specs.declared.position.Pos.{Pos}
 use Rattle.mir_func.specs.Exits.{row_exit, exit_of, is_final}
 use Rattle.mir_func.specs.Function.{Function, FramedFunction}
-use Rattle.mir_func.specs.Graph.{Program, Fetch, Here, Silent, Outside, framed_program}
+use Rattle.mir_func.specs.Graph.{Program, Fetch, Here, EndOfBlock, Outside, framed_program}
 use Rattle.mir_func.specs.SoundFrame.{SAVED, adds_to_pointer, saves, restores, epilogue_code}
 use Rattle.sem_mir.specs.State.{Core, content}
 use Rattle.sem_simulation.specs.Sides.{Laid, IsPastItems}
@@ -39,7 +39,7 @@ or_cases false b h = inr h
 
 past_no_return : (x : Fetch) → IsPastItems x → is_return x ≡ true → ⊥
 past_no_return (Here i) past h = past
-past_no_return (Silent k n) past h = cc
+past_no_return (EndOfBlock k n) past h = cc
 past_no_return Outside past h = cc
 
 no_member : {A : Type 0} (x : A) → Contains [] x → ⊥

@@ -23,7 +23,7 @@ use Rattle.mir_func.specs.declared.position.Origin.TheVariants.{Before}
 use Rattle.mir_func.specs.declared.position.Pos.{Pos}
 use Rattle.mir_func.specs.Exits.{row_exit, exit_of, is_final}
 use Rattle.mir_func.specs.Function.{Function}
-use Rattle.mir_func.specs.Graph.{Program, Fetch, Here, Silent, Outside, below, block_start, from_block, index_of, framed_program}
+use Rattle.mir_func.specs.Graph.{Program, Fetch, Here, EndOfBlock, Outside, below, block_start, from_block, index_of, framed_program}
 use Rattle.mir_func.specs.Sound.{SlotsIn}
 use Rattle.mir_func.specs.SoundFrame.{SAVED, adds_to_pointer, saves, restores, prologue_code, epilogue_code, body_of}
 use Rattle.sem_mir.specs.State.{Core, State, content, put, updated}
@@ -235,7 +235,7 @@ module _ (fn : Function) (resolve : OperandPair → Option OperandPair) (e : Cor
     end_step t u w h go = by_fetch (g.fetch t.pos) (laid.nil t.pos w).0 go where
       by_fetch : (x : Fetch) → IsPastItems x → moved g.enter t.pos (do_fetch g x t.core) ≡ Went u → Part u.pos u.core
       by_fetch (Here i) past go = absurd past
-      by_fetch (Silent k n) past go =
+      by_fetch (EndOfBlock k n) past go =
           let made : State = record { pos = block_start (g.enter n); core = t.core } in
           let q : made ≡ u = cc in subst (λ (z : State). Part z.pos z.core) q (at_block n t.core h)
       by_fetch Outside past go = cc

@@ -6,7 +6,7 @@ use Rattle.mir_func.specs.Function.{Function}
 use Rattle.mir_func.specs.Graph.{block_start, program_of, framed_program}
 use Rattle.mir_func.specs.Sound.{AllItems, IsSound, HasForm}
 use Rattle.sem_mir.specs.State.{State}
-use Rattle.sem_mir.specs.Align.{ByItems, station_at, First, RunsAlong}
+use Rattle.sem_mir.specs.Align.{ByItems, sync_point_at, First, RunsMatch}
 use Rattle.sem_mir.specs.Follow.{Follows, IsStart, first_of}
 use Rattle.frame_rule.specs.Rule.{framed_of}
 
@@ -16,4 +16,4 @@ abbrev pub FrameFollows : Type 0
 FrameFollows = (src : List Block) (f : Function) (subs fsubs : OperandPair → Option OperandPair) → IsSound f → AllItems (λ i. HasForm i.kind) f.blocks →
     Follows f.objects src f.blocks subs fsubs → (s : State) → IsStart f.objects (first_of src) s →
     let g = framed_program (framed_of f).blocks fsubs in
-    RunsAlong (program_of true src subs) g (station_at ByItems g) First s (record { pos = block_start 0; core = s.core })
+    RunsMatch (program_of true src subs) g (sync_point_at ByItems g) First s (record { pos = block_start 0; core = s.core })

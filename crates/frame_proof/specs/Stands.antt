@@ -6,7 +6,7 @@ use Rattle.mir_func.specs.declared.framed.SavedRegister.{SavedRegister}
 use Rattle.mir_func.specs.declared.position.Pos.{Pos}
 use Rattle.mir_func.specs.Exits.{exit_of, is_final}
 use Rattle.mir_func.specs.Function.{Function, FramedFunction}
-use Rattle.mir_func.specs.Graph.{Fetch, Here, Silent, Outside, block_start, fetch_in, framed_program}
+use Rattle.mir_func.specs.Graph.{Fetch, Here, EndOfBlock, Outside, block_start, fetch_in, framed_program}
 use Rattle.mir_func.specs.Limits.{MAX_FRAME, FRAME_ROOM}
 use Rattle.mir_func.specs.Sound.{IsSound}
 use Rattle.mir_func.specs.SoundFrame.{SAVED}
@@ -22,7 +22,7 @@ pub record FrameState : Type 0 where
 -- the position is that of a return
 abbrev pub is_return : Fetch → Bool
 is_return (Here i) = is_final (exit_of i.kind)
-is_return (Silent k n) = false
+is_return (EndOfBlock k n) = false
 is_return Outside = false
 
 -- all is as at entry: if the frame is empty, before the prologue, and at a return

@@ -150,11 +150,11 @@ framed_items f items = flat_map (framed_item f) items
 
 -- a block of the body: its number and its silent index are unchanged
 abbrev pub framed_block : Function → Block → Block
-framed_block f b = record { id = b.id; items = framed_items f b.items; silent = b.silent }
+framed_block f b = record { id = b.id; items = framed_items f b.items; source_end = b.source_end }
 
 -- the prologue block has the number and the silent index of the block after it
 abbrev pub prologue_block : Function → Block → Block
-prologue_block f b = record { id = b.id; items = prologue f b.id; silent = b.silent }
+prologue_block f b = record { id = b.id; items = prologue f b.id; source_end = b.source_end }
 
 -- the body after its prologue block, which control enters once and leaves by falling through
 abbrev pub framed_blocks : Function → List Block → List Block

@@ -82,7 +82,7 @@ items_fine ids b n (k ∷ kinds) h =
     All-cons (λ (i : Item). IsFine ids i.kind) (item_at b n k) (placed b (suc n) kinds) (All-head (IsFine ids) k kinds h)
     (items_fine ids b (suc n) kinds (All-tail (IsFine ids) k kinds h))
 
-origins_in : (b : Block) (n : ℕ) (kinds : List ItemKind) → n + length kinds ≤ b.silent → All (λ i. OriginIn b i.origin) (placed b.id n kinds)
+origins_in : (b : Block) (n : ℕ) (kinds : List ItemKind) → n + length kinds ≤ b.source_end → All (λ i. OriginIn b i.origin) (placed b.id n kinds)
 origins_in b n [] l = All-nil (λ (i : Item). OriginIn b i.origin)
 origins_in b n (k ∷ kinds) l =
     All-cons (λ (i : Item). OriginIn b i.origin) (item_at b.id n k) (placed b.id (suc n) kinds) (refl, omega arith)

@@ -10,7 +10,7 @@ use Rattle.gen_function.specs.Draws.{Drawn, next, draw}
 use Rattle.gen_function.specs.Items.{register_of, variable_of, add, copy, constant, store, load, phi, mark, branch, jump, return}
 
 -- items, and the state of the sequence after them
-pub record Made : Type 0 where
+pub record GeneratedItems : Type 0 where
   pub kinds : List ItemKind
   pub rest : Drawn
 
@@ -19,7 +19,7 @@ abbrev pub register_at : (state : ℕ) → ℕ
 register_at s = register_of (s % 8)
 
 -- an addition with the next number, and a DBG_INSTR_REF to it
-abbrev pub add_group : Drawn → Made
+abbrev pub add_group : Drawn → GeneratedItems
 add_group d =
     let rd = next d.state in let rs = next rd in let rt = next rs in let v = next rt in let k = d.given + 1 in
     record {
@@ -28,13 +28,13 @@ add_group d =
     }
 
 -- a copy with the next number
-abbrev pub copy_group : Drawn → Made
+abbrev pub copy_group : Drawn → GeneratedItems
 copy_group d =
     let rd = next d.state in let rs = next rd in let k = d.given + 1 in
     record { kinds = copy (register_at rd) (register_at rs) (Some k) ∷ []; rest = record { state = rs; given = k } }
 
 -- a constant below 64 with the next number, and a DBG_INSTR_REF to it
-abbrev pub constant_group : Drawn → Made
+abbrev pub constant_group : Drawn → GeneratedItems
 constant_group d =
     let rd = next d.state in let n = next rd in let v = next n in let k = d.given + 1 in
     record {
@@ -43,13 +43,13 @@ constant_group d =
     }
 
 -- a slot store
-abbrev pub store_group : Drawn → Made
+abbrev pub store_group : Drawn → GeneratedItems
 store_group d =
     let rs = next d.state in let n = next rs in
     record { kinds = store (register_at rs) (n % 4) ∷ []; rest = record d { state = n } }
 
 -- a slot load with the next number, and a DBG_INSTR_REF to it
-abbrev pub load_group : Drawn → Made
+abbrev pub load_group : Drawn → GeneratedItems
 load_group d =
     let rd = next d.state in let n = next rd in let v = next n in let k = d.given + 1 in
     record {
@@ -58,7 +58,7 @@ load_group d =
     }
 
 -- a DBG_PHI with the next number, and a DBG_INSTR_REF to it
-abbrev pub phi_group : Drawn → Made
+abbrev pub phi_group : Drawn → GeneratedItems
 phi_group d =
     let rs = next d.state in let v = next rs in let k = d.given + 1 in
     record {
@@ -67,13 +67,13 @@ phi_group d =
     }
 
 -- a DBG_INSTR_REF to a number that is used, or to the next one
-abbrev pub mark_group : Drawn → Made
+abbrev pub mark_group : Drawn → GeneratedItems
 mark_group d =
     let v = next d.state in let m = next v in
     record { kinds = mark (variable_of (v % 4)) (m % (d.given + 1) + 1) ∷ []; rest = record d { state = m } }
 
 -- the group of a random number below 8
-unfoldable pub group_of : (drawn : ℕ) → Drawn → Made
+unfoldable pub group_of : (drawn : ℕ) → Drawn → GeneratedItems
 group_of zero d = add_group d
 group_of (suc zero) d = add_group d
 group_of (suc (suc zero)) d = copy_group d
@@ -84,11 +84,11 @@ group_of (suc (suc (suc (suc (suc (suc zero)))))) d = phi_group d
 group_of (suc (suc (suc (suc (suc (suc (suc n))))))) d = mark_group d
 
 -- A group chosen by a random number below 8: two of these numbers choose an addition, and one each other group.
-unfoldable pub group : Drawn → Made
+unfoldable pub group : Drawn → GeneratedItems
 group d = group_of (next d.state % 8) (draw d)
 
 -- `count` groups, one after the other
-unfoldable pub groups : (count : ℕ) → Drawn → Made
+unfoldable pub groups : (count : ℕ) → Drawn → GeneratedItems
 groups zero d = record { kinds = []; rest = d }
 groups (suc n) d =
     let before = groups n d in let last = group before.rest in
@@ -99,25 +99,25 @@ abbrev pub last_end : List ItemKind
 last_end = copy 10 8 None ∷ return ∷ []
 
 -- a branch to any block but the first, of `blocks` in all
-abbrev pub branch_end : (blocks : ℕ) → Drawn → Made
+abbrev pub branch_end : (blocks : ℕ) → Drawn → GeneratedItems
 branch_end count d =
     let rs = next d.state in let t = next rs in
     record { kinds = branch (register_at rs) (t % (count - 1) + 1) ∷ []; rest = record d { state = t } }
 
 -- a jump to a later block
-abbrev pub jump_end : (blocks block : ℕ) → Drawn → Made
+abbrev pub jump_end : (blocks block : ℕ) → Drawn → GeneratedItems
 jump_end count b d =
     let t = next d.state in
     record { kinds = jump (b + 1 + t % (count - 1 - b)) ∷ []; rest = record d { state = t } }
 
 -- the end of a block that isn't the last, by a random number below 3
-unfoldable pub end_of : (drawn blocks block : ℕ) → Drawn → Made
+unfoldable pub end_of : (drawn blocks block : ℕ) → Drawn → GeneratedItems
 end_of zero count b d = record { kinds = []; rest = d }
 end_of (suc zero) count b d = branch_end count d
 end_of (suc (suc n)) count b d = jump_end count b d
 
 -- the end of a block: the last one returns, any other falls through, branches or jumps
-unfoldable pub end : (blocks block : ℕ) → Drawn → Made
+unfoldable pub end : (blocks block : ℕ) → Drawn → GeneratedItems
 end count b d = cond (nat_eq (b + 1) count) (record { kinds = last_end; rest = d }) (end_of (next d.state % 3) count b (draw d))
 
 -- the first items of a block: the first block stores x10 into each slot
@@ -126,7 +126,7 @@ beginning zero = store 10 0 ∷ store 10 1 ∷ store 10 2 ∷ store 10 3 ∷ []
 beginning (suc b) = []
 
 -- the items of a block, of `blocks` in all: its first items, six groups, and its end
-unfoldable pub block_items : (blocks block : ℕ) → Drawn → Made
+unfoldable pub block_items : (blocks block : ℕ) → Drawn → GeneratedItems
 block_items count b d =
     let body = groups 6 d in let last = end count b body.rest in
     record { kinds = beginning b ++ body.kinds ++ last.kinds; rest = last.rest }
@@ -138,7 +138,7 @@ placed b n (k ∷ kinds) = record { kind = k; origin = Kept (record { block = b;
 
 -- a basic block of items of these kinds, as it is read
 abbrev pub block_of : (block : ℕ) → List ItemKind → Block
-block_of b kinds = record { id = b; items = placed b 0 kinds; silent = length kinds }
+block_of b kinds = record { id = b; items = placed b 0 kinds; source_end = length kinds }
 
 -- blocks, and the state of the sequence after them
 pub record MadeBlocks : Type 0 where

@@ -62,11 +62,11 @@ fn make_block(
     push_beginning(alloc, block, &mut kinds)?;
     push_groups(alloc, &mut kinds, draws)?;
     push_end(alloc, blocks, block, &mut kinds, draws)?;
-    let silent = kinds.len() as u32;
+    let source_end = kinds.len() as u32;
     Ok(Block {
         id: BlockId(block),
         items: placed(alloc, block, kinds)?,
-        silent,
+        source_end,
     })
 }
 

@@ -175,7 +175,7 @@ pub record IsMadeItem (top : ℕ) (i : Item) : Type 0 where
 pub record IsMadeBlock (top : ℕ) (b : Block) : Type 0 where
   pub items : All (IsMadeItem top) b.items
   pub origins : (k : ℕ) (i : Item) → slice_get b.items k ≡ Some i → i.origin ≡ Kept (record { block = b.id; item = k })
-  pub silent : b.silent ≡ length b.items
+  pub source_end : b.source_end ≡ length b.items
   pub few : length b.items ≤ 18
   pub low : b.id < top
 
@@ -208,7 +208,7 @@ block_made top count b d l h g =
     record {
       items = placed_made top b 0 kinds made.all;
       origins = λ k i e. placed_origins b 0 kinds k i e ∙ ap (λ (m : ℕ). Kept (record { block = b; item = m })) (zero_plus k);
-      silent = sym long;
+      source_end = sym long;
       few = omega (arith, long, first, few);
       low = omega (arith, l, h);
     } where

@@ -203,7 +203,7 @@ generated_is_read meta number count some few =
         items = All-weaker (IsMadeBlock TOP)
             (λ (b : Block). (k : ℕ) (i : Item) → slice_get b.items k ≡ Some i → i.origin ≡ Kept (record { block = b.id; item = k })) (λ b m. m.origins)
             f.blocks made;
-        silent = All-weaker (IsMadeBlock TOP) (λ (b : Block). b.silent ≡ length b.items) (λ b m. m.silent) f.blocks made;
+        source_end = All-weaker (IsMadeBlock TOP) (λ (b : Block). b.source_end ≡ length b.items) (λ b m. m.source_end) f.blocks made;
       };
       form = of_made (λ i. HasForm i.kind) (λ i m. has_form_made m.made) number count few;
       physical = of_made (λ i. HasPhysical i.kind) (λ i m. physical_made m.made) number count few;

@@ -25,7 +25,7 @@ use Rattle.mir_func.specs.declared.item.Item.{Item}
 use Rattle.mir_func.specs.declared.item.ItemKind.{ItemKind}
 use Rattle.mir_func.specs.declared.item.ItemKind.TheVariants.{Code, Mark, Phi}
 use Rattle.mir_func.specs.declared.position.Pos.{Pos}
-use Rattle.mir_func.specs.Graph.{Fetch, Here, Silent, Outside, Program, below, block_start, end_of, front, fetch_in, from_block, program_of}
+use Rattle.mir_func.specs.Graph.{Fetch, Here, EndOfBlock, Outside, Program, below, block_start, end_of, front, fetch_in, from_block, program_of}
 use Rattle.mir_func.specs.Sound.{AllItems}
 use Rattle.sem_mir.specs.Follow.{first_of}
 use Rattle.sem_mir.specs.State.{Core, State, content, put, updated}
@@ -222,7 +222,7 @@ front_item P (x ∷ items) k bs i e h = let same : x ≡ i = cc in subst P same 
 pub item_in : (P : Item → Type 0) (bs : List Block) (n : ℕ) (i : Item) → fetch_in bs n ≡ Here i → All (λ b. All P b.items) bs → P i
 item_in P [] n i e h = absurd cc
 item_in P (b ∷ bs) n i e h =
-    front_item P (drop n b.items) b.silent bs i e (All-drop P n b.items (All-head (λ (x : Block). All P x.items) b bs h))
+    front_item P (drop n b.items) b.source_end bs i e (All-drop P n b.items (All-head (λ (x : Block). All P x.items) b bs h))
 
 -- what holds of all items holds of the one at a position
 pub fetched : (P : Item → Type 0) (bs : List Block) (b n : ℕ) (i : Item) → fetch_in (from_block bs b) n ≡ Here i → All (λ b. All P b.items) bs → P i
@@ -273,7 +273,7 @@ module _ (blocks : List Block) (mild : All (λ b. All (λ i. IsMild i.kind) b.it
 
   fetch_mildly : (p : Pos) (x : Fetch) (c : Core) → src.fetch p ≡ x → Keeps c → IsMildOutcome (do_fetch src x c)
   fetch_mildly p (Here i) c e h = item_mildly src i.kind c (fetched (λ j. IsMild j.kind) blocks p.block p.item i e mild) h
-  fetch_mildly p (Silent k n) c e h = h
+  fetch_mildly p (EndOfBlock k n) c e h = h
   fetch_mildly p Outside c e h = tt
 
   -- the core past one of the first stores

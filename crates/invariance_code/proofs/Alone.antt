@@ -7,10 +7,10 @@ use Rattle.mir_func.specs.Function.{FramedFunction}
 use Rattle.emit_code.specs.Listed.{Line, lines_of}
 use Rattle.emit_code.specs.Long.{IsSettled}
 use Rattle.emit_code.specs.Rule.{Layout, entries_of, words_of, added_before}
-use Rattle.pass_trait.specs.Code.{placeless_origin}
+use Rattle.pass_trait.specs.Code.{originless_origin}
 use Rattle.invariance_code.specs.Alike.{stripped_framed}
 use Rattle.invariance_code.specs.Alone.{AreCodedSame, CodeHasWords, AlikeCodeIsCodedAlike, SameCodeIsCodedSame}
-use Rattle.invariance_code.proofs.Drops.{DropsEach, stripped_each, placeless_each}
+use Rattle.invariance_code.proofs.Drops.{DropsEach, stripped_each, originless_each}
 use Rattle.invariance_code.proofs.Settled.{lay, long_alone, settled_alone, same_layout}
 use Rattle.invariance_code.proofs.Coded.{entry_seen, line_seen, Leaves, CodedBy, coded_alone}
 
@@ -19,14 +19,14 @@ use Rattle.invariance_code.proofs.Coded.{entry_seen, line_seen, Leaves, CodedBy,
 all_left : Leaves (λ o. o)
 all_left = record { twice = λ o. refl; before = λ o. refl }
 
-kind_left : Leaves placeless_origin
+kind_left : Leaves originless_origin
 kind_left = record { twice = twice; before = before }
   where
-    twice : (o : Origin) → placeless_origin (placeless_origin o) ≡ placeless_origin o
+    twice : (o : Origin) → originless_origin (originless_origin o) ≡ originless_origin o
     twice (Kept p) = refl
     twice (Before p) = refl
 
-    before : (o : Origin) → placeless_origin (added_before (placeless_origin o)) ≡ placeless_origin (added_before o)
+    before : (o : Origin) → originless_origin (added_before (originless_origin o)) ≡ originless_origin (added_before o)
     before (Kept p) = refl
     before (Before p) = refl
 
@@ -74,7 +74,7 @@ code_has_words l settled =
 
 pub alike_code : AlikeCodeIsCodedAlike
 alike_code l m settled settled' base alike =
-    let is = meet kind_left l m (placeless_each l.framed.blocks) (placeless_each m.framed.blocks) alike base settled settled' in
+    let is = meet kind_left l m (originless_each l.framed.blocks) (originless_each m.framed.blocks) alike base settled settled' in
     record { words = is.words; entries = is.entries; lines = is.lines }
 
 pub same_code : SameCodeIsCodedSame

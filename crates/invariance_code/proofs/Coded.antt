@@ -20,7 +20,7 @@ use Rattle.mir_func.specs.declared.variable.VarId.{VarId}
 use Rattle.mir_func.specs.Exits.{row_exit}
 use Rattle.mir_func.specs.Function.{FramedFunction}
 use Rattle.mir_func.specs.Successors.{pos_in}
-use Rattle.emit_code.specs.declared.code.Entry.{Entry}
+use Rattle.emit_code.specs.declared.code.EncodedInstruction.{EncodedInstruction}
 use Rattle.emit_code.specs.Inverted.{skip_of, jump_to}
 use Rattle.emit_code.specs.Listed.{Line, listed, form_lines, lines_at, lines_of}
 use Rattle.emit_code.specs.Rule.{Layout, Form, Nothing, OneWord, CallSite, LongBranch, row_form, address_in, start_of, offset_to, object_offset, operation_at}
@@ -84,7 +84,7 @@ map_flat see of (x ∷ xs) = map_both see (of x) (flat_map of xs) ∙ ap (λ t. 
 -- ---- machine code
 
 -- an entry without its point, and with what is left of its origin
-abbrev pub entry_seen : (Origin → Origin) → Entry → Entry
+abbrev pub entry_seen : (Origin → Origin) → EncodedInstruction → EncodedInstruction
 entry_seen w e = record { address = e.address; size = e.size; origin = w e.origin; point = record { block = 0; item = 0 }; call = e.call }
 
 -- a line with what is left of its origin

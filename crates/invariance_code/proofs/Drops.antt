@@ -20,7 +20,7 @@ use Rattle.mir_func.specs.SoundFrame.{body_of}
 use Rattle.mir_func.specs.Strip.{stripped_items, stripped_blocks}
 use Rattle.mir_func.specs.Successors.{pos_in}
 use Rattle.emit_code.specs.Rule.{items_at}
-use Rattle.pass_trait.specs.Code.{placeless_origin, placeless_item, placeless_block}
+use Rattle.pass_trait.specs.Code.{originless_origin, originless_item, originless_block}
 
 -- the code of items in order, whatever its numbers and locations, with what is left of its origins
 pub data Drops (w : Origin → Origin) : List Item → List Item → Type 0 where
@@ -36,7 +36,7 @@ pub data Drops (w : Origin → Origin) : List Item → List Item → Type 0 wher
 pub data DropsEach (w : Origin → Origin) : List Block → List Block → Type 0 where
   no_more : DropsEach w [] []
   more : (id s s' : ℕ) {xs ys : List Item} {bs cs : List Block} → Drops w xs ys → DropsEach w bs cs →
-      DropsEach w (record { id = id; items = xs; silent = s } ∷ bs) (record { id = id; items = ys; silent = s' } ∷ cs)
+      DropsEach w (record { id = id; items = xs; source_end = s } ∷ bs) (record { id = id; items = ys; source_end = s' } ∷ cs)
 
 -- ---- which is which
 
@@ -136,19 +136,19 @@ stripped_drops (x ∷ xs) = stripped_first x.kind x.origin x.loc xs (stripped_dr
 
 pub stripped_each : (bs : List Block) → DropsEach (λ o. o) bs (stripped_blocks bs)
 stripped_each [] = no_more
-stripped_each (b ∷ bs) = more b.id b.silent b.silent (stripped_drops b.items) (stripped_each bs)
+stripped_each (b ∷ bs) = more b.id b.source_end b.source_end (stripped_drops b.items) (stripped_each bs)
 
-placeless_first : (k : ItemKind) (o : Origin) (l : Loc) (xs : List Item) → Drops placeless_origin xs (map placeless_item (stripped_items xs)) →
-    Drops placeless_origin (record { kind = k; origin = o; loc = l } ∷ xs)
-    (map placeless_item (stripped_items (record { kind = k; origin = o; loc = l } ∷ xs)))
-placeless_first (Code c k) o l xs d = code c k None o l Absent d
-placeless_first (Mark v m) o l xs d = mark v m o l d
-placeless_first (Phi p k) o l xs d = phi p k o l d
+originless_first : (k : ItemKind) (o : Origin) (l : Loc) (xs : List Item) → Drops originless_origin xs (map originless_item (stripped_items xs)) →
+    Drops originless_origin (record { kind = k; origin = o; loc = l } ∷ xs)
+    (map originless_item (stripped_items (record { kind = k; origin = o; loc = l } ∷ xs)))
+originless_first (Code c k) o l xs d = code c k None o l Absent d
+originless_first (Mark v m) o l xs d = mark v m o l d
+originless_first (Phi p k) o l xs d = phi p k o l d
 
-pub placeless_drops : (xs : List Item) → Drops placeless_origin xs (map placeless_item (stripped_items xs))
-placeless_drops [] = none
-placeless_drops (x ∷ xs) = placeless_first x.kind x.origin x.loc xs (placeless_drops xs)
+pub originless_drops : (xs : List Item) → Drops originless_origin xs (map originless_item (stripped_items xs))
+originless_drops [] = none
+originless_drops (x ∷ xs) = originless_first x.kind x.origin x.loc xs (originless_drops xs)
 
-pub placeless_each : (bs : List Block) → DropsEach placeless_origin bs (map placeless_block (stripped_blocks bs))
-placeless_each [] = no_more
-placeless_each (b ∷ bs) = more b.id b.silent 0 (placeless_drops b.items) (placeless_each bs)
+pub originless_each : (bs : List Block) → DropsEach originless_origin bs (map originless_block (stripped_blocks bs))
+originless_each [] = no_more
+originless_each (b ∷ bs) = more b.id b.source_end 0 (originless_drops b.items) (originless_each bs)

@@ -119,14 +119,14 @@ module _ (f : Function) where
   rest_same : (bs : List Block) → map (framed_block (stripped f)) (stripped_blocks bs) ≡ stripped_blocks (map (framed_block f) bs)
   rest_same [] = refl
   rest_same (b ∷ bs) =
-      let e = items_same b.items in let es = rest_same bs in λ i. record { id = b.id; items = e i; silent = b.silent } ∷ es i
+      let e = items_same b.items in let es = rest_same bs in λ i. record { id = b.id; items = e i; source_end = b.source_end } ∷ es i
 
   blocks_same : (bs : List Block) → framed_blocks (stripped f) (stripped_blocks bs) ≡ stripped_blocks (framed_blocks f bs)
   blocks_same [] = refl
   blocks_same (b ∷ bs) =
       let p = prologue_same b.id in
       let es = rest_same (b ∷ bs) in
-      λ i. record { id = b.id; items = p i; silent = b.silent } ∷ es i
+      λ i. record { id = b.id; items = p i; source_end = b.source_end } ∷ es i
 
 pub frames_strip : FramesStrip
 frames_strip f =

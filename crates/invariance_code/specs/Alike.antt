@@ -2,7 +2,7 @@
 use Rattle.std.specs.Prelude.{◌≡◌, map}
 use Rattle.mir_func.specs.Function.{Function, FramedFunction}
 use Rattle.mir_func.specs.Strip.{stripped_blocks, stripped}
-use Rattle.pass_trait.specs.Code.{placeless_block, AreAlike}
+use Rattle.pass_trait.specs.Code.{originless_block, AreAlike}
 use Rattle.frame_rule.specs.Rule.{framed_of}
 
 -- ---- functions
@@ -22,12 +22,12 @@ abbrev pub stripped_framed : FramedFunction → FramedFunction
 stripped_framed f = record f { blocks = stripped_blocks f.blocks }
 
 -- The function with its frame without positions, silent indices and debug locations. These depend on where debug items were.
-abbrev pub placeless_framed : FramedFunction → FramedFunction
-placeless_framed f = record f { blocks = map placeless_block f.blocks }
+abbrev pub originless_framed : FramedFunction → FramedFunction
+originless_framed f = record f { blocks = map originless_block f.blocks }
 
 -- Without debug items, both have the same names, frames, stack objects, block numbers and code in order, of which the same items are kept and added.
 abbrev pub AreFramedAlike : FramedFunction → FramedFunction → Type 0
-AreFramedAlike f g = placeless_framed (stripped_framed f) ≡ placeless_framed (stripped_framed g)
+AreFramedAlike f g = originless_framed (stripped_framed f) ≡ originless_framed (stripped_framed g)
 
 -- Without debug items, both are equal, including origins.
 abbrev pub AreFramedSame : FramedFunction → FramedFunction → Type 0

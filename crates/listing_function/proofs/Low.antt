@@ -4,17 +4,17 @@ use Rattle.std.specs.Prelude.{All}
 use Rattle.std.proofs.lemmas.List.Elements.{All-cons, All-nil}
 use Rattle.mir_func.specs.Function.{FramedFunction}
 use Rattle.mir_func.specs.SoundFrame.{IsFramed}
-use Rattle.emit_code.specs.declared.code.Entry.{Entry}
+use Rattle.emit_code.specs.declared.code.EncodedInstruction.{EncodedInstruction}
 use Rattle.emit_code.specs.Laid.{StandFrom}
 use Rattle.emit_code.proofs.Areas.{object_within, end_small}
 use Rattle.listing_function.specs.steps.Entries.{IsLow}
 
-reaches_end : (a : ℕ) (es : List Entry) (end : ℕ) → StandFrom a es end → a ≤ end
+reaches_end : (a : ℕ) (es : List EncodedInstruction) (end : ℕ) → StandFrom a es end → a ≤ end
 reaches_end a [] end stand = omega (arith, stand)
 reaches_end a (e ∷ es) end stand = omega (arith, reaches_end (a + e.size) es end stand.2)
 
 -- entries that stand before an end stand below it
-pub entries_low : (a : ℕ) (es : List Entry) (end : ℕ) → StandFrom a es end → end < 2 ^ 32 → All IsLow es
+pub entries_low : (a : ℕ) (es : List EncodedInstruction) (end : ℕ) → StandFrom a es end → end < 2 ^ 32 → All IsLow es
 entries_low a [] end stand low = All-nil IsLow
 entries_low a (e ∷ es) end stand low =
     All-cons IsLow e es (omega (arith, stand.0, reaches_end (a + e.size) es end stand.2, low)) (entries_low (a + e.size) es end stand.2 low)

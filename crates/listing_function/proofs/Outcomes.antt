@@ -14,10 +14,10 @@ use Rattle.rv64_instr.specs.Instruction.{Instruction}
 use Rattle.mir_func.specs.declared.item.Item.{Item}
 use Rattle.mir_func.specs.declared.item.ItemKind.{ItemKind}
 use Rattle.mir_func.specs.declared.item.ItemKind.TheVariants.{Code}
-use Rattle.mir_func.specs.declared.position.Point.{Point}
+use Rattle.mir_func.specs.declared.position.ProgramPoint.{ProgramPoint}
 use Rattle.mir_func.specs.declared.position.Pos.{Pos}
 use Rattle.mir_func.specs.Sound.{HasForm}
-use Rattle.emit_code.specs.declared.code.Entry.{Entry}
+use Rattle.emit_code.specs.declared.code.EncodedInstruction.{EncodedInstruction}
 use Rattle.emit_code.specs.Inverted.{jump_to}
 use Rattle.emit_code.specs.Listed.{listed}
 use Rattle.emit_code.specs.Rule.{Layout, Site, Form, form_of, address_in, form_entries, entries_at, entry, added_before}
@@ -32,7 +32,8 @@ use Rattle.listing_function.specs.steps.Lines.{long_by, long_lines}
 
 -- ---- the next entry
 
-same_by : (q : Bool) (p : Pos) (y : Entry) → is_same_point (point_of p) y.point ≡ q → (y.point ≡ point_of p → ⊥) → cond q (Some y.address) None ≡ None
+same_by : (q : Bool) (p : Pos) (y : EncodedInstruction) → is_same_point (point_of p) y.point ≡ q → (y.point ≡ point_of p → ⊥) →
+    cond q (Some y.address) None ≡ None
 same_by false p y is apart = refl
 same_by true p y is apart =
     let both = and_parts (nat_eq p.block y.point.block) (nat_eq p.item y.point.item) is in
@@ -40,14 +41,15 @@ same_by true p y is apart =
     let item : p.item ≡ y.point.item = eqb-true _ _ both.1 in
     absurd (apart (λ i. record { block = sym block i; item = sym item i }))
 
-next_apart : (p : Pos) (e : Entry) (others : List Entry) → e.point ≡ point_of p → BeginsApart p others → second_address (e ∷ others) ≡ None
+next_apart : (p : Pos) (e : EncodedInstruction) (others : List EncodedInstruction) → e.point ≡ point_of p → BeginsApart p others →
+    second_address (e ∷ others) ≡ None
 next_apart p e [] is apart = refl
 next_apart p e (y ∷ others) is apart =
-    ap (λ (q : Point). cond (is_same_point q y.point) (Some y.address) None) is ∙ same_by (is_same_point (point_of p) y.point) p y refl apart
+    ap (λ (q : ProgramPoint). cond (is_same_point q y.point) (Some y.address) None) is ∙ same_by (is_same_point (point_of p) y.point) p y refl apart
 
 -- ---- what the entries say
 
-module _ (l : Layout) (i : Item) (c : Instruction) (k : Option ℕ) (a : ℕ) (es others : List Entry) (lines : List Line) where
+module _ (l : Layout) (i : Item) (c : Instruction) (k : Option ℕ) (a : ℕ) (es others : List EncodedInstruction) (lines : List Line) where
   pub record One : Type 0 where
     pub first : first_address es ≡ Some a
     pub second : second_address es ≡ None
@@ -61,7 +63,7 @@ module _ (l : Layout) (i : Item) (c : Instruction) (k : Option ℕ) (a : ℕ) (e
     pub lined : lines ≡ long_lines a branch i c.operands k
     pub rest : drop 2 es ≡ others
 
-  single : (e : Entry) (p : Pos) → e.point ≡ point_of p → e.address ≡ a → es ≡ e ∷ others → BeginsApart p others →
+  single : (e : EncodedInstruction) (p : Pos) → e.point ≡ point_of p → e.address ≡ a → es ≡ e ∷ others → BeginsApart p others →
       lines ≡ line_at (Some a) i (Code (listed l.framed c) k) ∷ [] → One
   single e p at here is apart lined = record {
     first = ap first_address is ∙ ap (λ (x : ℕ). Some x) here;
@@ -83,7 +85,7 @@ module _ (l : Layout) (i : Item) (c : Instruction) (k : Option ℕ) (a : ℕ) (e
       branch_by op os ≡ Some (record { op = b; first = x; second = y; target = n })
   branch_found b x y n rest op os op_is os_is = ap (λ (o : Op). branch_by o os) op_is ∙ ap (branch_by (OfBranch b)) os_is
 
-  second_there : (x y : Entry) (p : Pos) → x.point ≡ point_of p → y.point ≡ point_of p → second_address (x ∷ y ∷ others) ≡ Some y.address
+  second_there : (x y : EncodedInstruction) (p : Pos) → x.point ≡ point_of p → y.point ≡ point_of p → second_address (x ∷ y ∷ others) ≡ Some y.address
   second_there x y p e d =
       let same : is_same_point x.point y.point ≡ true = (λ i. is_same_point (e i) (d i)) ∙ point_is p in
       ap (λ (q : Bool). cond q (Some y.address) None) same
@@ -107,7 +109,7 @@ module _ (l : Layout) (i : Item) (c : Instruction) (k : Option ℕ) (a : ℕ) (e
         rest = ap (drop 2) is;
       })
 
-pub outcome : (l : Layout) (s : Site) (c : Instruction) (k : Option ℕ) (es others : List Entry) → HasForm (Code c k) → Code c k ≡ s.item.kind →
+pub outcome : (l : Layout) (s : Site) (c : Instruction) (k : Option ℕ) (es others : List EncodedInstruction) → HasForm (Code c k) → Code c k ≡ s.item.kind →
     es ≡ entries_at l s ++ others → BeginsApart s.point others →
     One l s.item c k (address_in l s.point) es others (site_lines l s) ⊎ Two l s.item c k (address_in l s.point) es others (site_lines l s)
 outcome l s c k es others form kind is apart =
@@ -118,7 +120,7 @@ outcome l s c k es others form kind is apart =
 
 -- ---- what is listed
 
-module _ (l : Layout) (s : Site) (c : Instruction) (k : Option ℕ) (es others : List Entry) (a : ℕ) where
+module _ (l : Layout) (s : Site) (c : Instruction) (k : Option ℕ) (es others : List EncodedInstruction) (a : ℕ) where
   two_given : (far : Long) → Some a ≡ first_address es → Some far ≡ long_by (second_address es) (branch_by c.op c.operands) →
       One l s.item c k (address_in l s.point) es others (site_lines l s) ⊎ Two l s.item c k (address_in l s.point) es others (site_lines l s) →
       (long_lines a far s.item c.operands k ≡ site_lines l s) × (drop 2 es ≡ others)
@@ -140,7 +142,7 @@ module _ (l : Layout) (s : Site) (c : Instruction) (k : Option ℕ) (es others :
       (ap (λ (x : ℕ). line_at (Some x) s.item (Code (listed l.framed c) k) ∷ []) address ∙ sym o.lined, o.rest)
   one_given first none (inr t) = let some : None ≡ Some t.branch = none ∙ t.second in absurd cc
 
-module _ (l : Layout) (s : Site) (c : Instruction) (k : Option ℕ) (entries others : List Entry) (at a : ℕ) (form : HasForm (Code c k))
+module _ (l : Layout) (s : Site) (c : Instruction) (k : Option ℕ) (entries others : List EncodedInstruction) (at a : ℕ) (form : HasForm (Code c k))
     (kind : Code c k ≡ s.item.kind) (stands : StandsAt l entries at s others) where
   pub long_lined : (far : Long) → Some a ≡ first_address (drop at entries) →
       Some far ≡ long_by (second_address (drop at entries)) (branch_by c.op c.operands) → (old new : List Line) (item : Item) → item ≡ s.item →

@@ -6,9 +6,9 @@ use Rattle.std.proofs.lemmas.List.Concat.{flat_map-append}
 use Rattle.mir_func.specs.declared.block.Block.{Block}
 use Rattle.mir_func.specs.declared.item.Item.{Item}
 use Rattle.mir_func.specs.declared.position.Pos.{Pos}
-use Rattle.mir_func.specs.declared.position.Point.{Point}
+use Rattle.mir_func.specs.declared.position.ProgramPoint.{ProgramPoint}
 use Rattle.mir_func.specs.Successors.{pos_in}
-use Rattle.emit_code.specs.declared.code.Entry.{Entry}
+use Rattle.emit_code.specs.declared.code.EncodedInstruction.{EncodedInstruction}
 use Rattle.emit_code.specs.Rule.{Layout, Site, Form, Nothing, OneWord, CallSite, LongBranch, form_of, form_entries, address_in, entries_at, sites_in}
 use Rattle.emit_code.specs.Rule.{sites_from}
 use Rattle.emit_code.specs.steps.Emitted.{point_of}
@@ -20,29 +20,32 @@ use Rattle.listing_function.proofs.Steps.{split_at}
 
 module _ (l : Layout) where
   -- what is listed of a block's items, of which some are left from an index on, and what is left of the entries
-  pub record ItemsSoFar (b n : ℕ) (left : List Item) (entries : List Entry) (at : ℕ) (others : List Entry) (lines whole : List Line) : Type 0 where
+  pub record ItemsSoFar (b n : ℕ) (left : List Item) (entries : List EncodedInstruction) (at : ℕ) (others : List EncodedInstruction)
+      (lines whole : List Line) : Type 0 where
     pub lined : lines ++ flat_map (site_lines l) (sites_in b n left) ≡ whole
     pub here : drop at entries ≡ flat_map (entries_at l) (sites_in b n left) ++ others
 
   -- ---- the entries of what follows are of other points
 
-  by_form : (a : ℕ) (p q : Pos) (i : Item) (f : Form) (more : List Entry) → (point_of q ≡ point_of p → ⊥) → BeginsApart p more → BeginsApart p
+  by_form : (a : ℕ) (p q : Pos) (i : Item) (f : Form) (more : List EncodedInstruction) → (point_of q ≡ point_of p → ⊥) → BeginsApart p more → BeginsApart p
       (form_entries a i.origin q f ++ more)
   by_form a p q i Nothing more apart rest = rest
   by_form a p q i OneWord more apart rest = apart
   by_form a p q i CallSite more apart rest = apart
   by_form a p q i (LongBranch n) more apart rest = apart
 
-  site_apart : (p : Pos) (s : Site) (more : List Entry) → (point_of s.point ≡ point_of p → ⊥) → BeginsApart p more → BeginsApart p (entries_at l s ++ more)
+  site_apart : (p : Pos) (s : Site) (more : List EncodedInstruction) → (point_of s.point ≡ point_of p → ⊥) → BeginsApart p more →
+      BeginsApart p (entries_at l s ++ more)
   site_apart p s more apart rest = by_form (address_in l s.point) p s.point s.item (form_of (l.long s.point) s.item.kind) more apart rest
 
-  assoc_apart : (p : Pos) (x y z : List Entry) → BeginsApart p (x ++ (y ++ z)) → BeginsApart p ((x ++ y) ++ z)
+  assoc_apart : (p : Pos) (x y z : List EncodedInstruction) → BeginsApart p (x ++ (y ++ z)) → BeginsApart p ((x ++ y) ++ z)
   assoc_apart p x y z apart = subst (BeginsApart p) (sym (append_assoc x y z)) apart
 
   later_item : (b m n : ℕ) → m < n → point_of (pos_in b n) ≡ point_of (pos_in b m) → ⊥
-  later_item b m n less e = let same : n ≡ m = ap (λ (q : Point). q.item) e in omega (arith, same)
+  later_item b m n less e = let same : n ≡ m = ap (λ (q : ProgramPoint). q.item) e in omega (arith, same)
 
-  items_apart : (b m n : ℕ) (items : List Item) (others : List Entry) → m < n → BeginsApart (pos_in b m) others → BeginsApart (pos_in b m) (flat_map
+  items_apart : (b m n : ℕ) (items : List Item) (others : List EncodedInstruction) → m < n → BeginsApart (pos_in b m) others →
+      BeginsApart (pos_in b m) (flat_map
       (entries_at l) (sites_in b n items) ++ others)
   items_apart b m n [] others less rest = rest
   items_apart b m n (i ∷ items) others less rest =
@@ -53,10 +56,10 @@ module _ (l : Layout) where
 
   -- ---- one item more
 
-  abbrev pub Rest : (b n : ℕ) → List Item → List Entry → List Entry
+  abbrev pub Rest : (b n : ℕ) → List Item → List EncodedInstruction → List EncodedInstruction
   Rest b n items others = flat_map (entries_at l) (sites_in b n items) ++ others
 
-  pub item_stands : (b n : ℕ) (items : List Item) (i : Item) (entries others : List Entry) (at : ℕ) (lines whole : List Line) → n < length items →
+  pub item_stands : (b n : ℕ) (items : List Item) (i : Item) (entries others : List EncodedInstruction) (at : ℕ) (lines whole : List Line) → n < length items →
       i ≡ get_or items n i → BeginsApart (pos_in b n) others → ItemsSoFar b n (drop n items) entries at others lines whole →
       StandsAt l entries at (record { point = pos_in b n; item = i }) (Rest b (suc n) (drop (n + 1) items) others)
   item_stands b n items i entries others at lines whole less is apart so = record {
@@ -65,7 +68,8 @@ module _ (l : Layout) where
     apart = items_apart b n (suc n) (drop (n + 1) items) others (omega arith) apart;
   }
 
-  pub item_more : (b n : ℕ) (items : List Item) (i : Item) (entries others : List Entry) (at next : ℕ) (lines new whole : List Line) → n < length items →
+  pub item_more : (b n : ℕ) (items : List Item) (i : Item) (entries others : List EncodedInstruction) (at next : ℕ) (lines new whole : List Line) →
+      n < length items →
       i ≡ get_or items n i → ItemsSoFar b n (drop n items) entries at others lines whole →
       (new ≡ lines ++ site_lines l (record { point = pos_in b n; item = i })) × (drop next entries ≡ Rest b (suc n) (drop (n + 1) items) others) →
       ItemsSoFar b (n + 1) (drop (n + 1) items) entries next others new whole
@@ -83,14 +87,15 @@ module _ (l : Layout) where
   -- ---- one block more
 
   -- what is listed of blocks, of which some are left from an index on, and what is left of the entries
-  pub record BlocksSoFar (b : ℕ) (left : List Block) (entries : List Entry) (at : ℕ) (blocks whole : List ListedBlock) : Type 0 where
+  pub record BlocksSoFar (b : ℕ) (left : List Block) (entries : List EncodedInstruction) (at : ℕ) (blocks whole : List ListedBlock) : Type 0 where
     pub listed : blocks ++ blocks_listed l b left ≡ whole
     pub here : drop at entries ≡ flat_map (entries_at l) (sites_from b left)
 
   later_block : (b c m n : ℕ) → b < c → point_of (pos_in c n) ≡ point_of (pos_in b m) → ⊥
-  later_block b c m n less e = let same : c ≡ b = ap (λ (q : Point). q.block) e in omega (arith, same)
+  later_block b c m n less e = let same : c ≡ b = ap (λ (q : ProgramPoint). q.block) e in omega (arith, same)
 
-  items_apart_of : (b c m n : ℕ) (items : List Item) (others : List Entry) → b < c → BeginsApart (pos_in b m) others → BeginsApart (pos_in b m) (flat_map
+  items_apart_of : (b c m n : ℕ) (items : List Item) (others : List EncodedInstruction) → b < c → BeginsApart (pos_in b m) others →
+      BeginsApart (pos_in b m) (flat_map
       (entries_at l) (sites_in c n items) ++ others)
   items_apart_of b c m n [] others less rest = rest
   items_apart_of b c m n (i ∷ items) others less rest =
@@ -105,14 +110,15 @@ module _ (l : Layout) where
       subst (BeginsApart (pos_in b m)) (sym (flat_map-append (entries_at l) (sites_in c 0 block.items) (sites_from (suc c) blocks)))
       (items_apart_of b c m 0 block.items (flat_map (entries_at l) (sites_from (suc c) blocks)) less (blocks_apart b (suc c) m blocks (omega arith)))
 
-  pub block_here : (b : ℕ) (blocks : List Block) (n : ℕ) (block : Block) (entries : List Entry) (at : ℕ) (listed whole : List ListedBlock) → n < length blocks →
+  pub block_here : (b : ℕ) (blocks : List Block) (n : ℕ) (block : Block) (entries : List EncodedInstruction) (at : ℕ) (listed whole : List ListedBlock) →
+      n < length blocks →
       block ≡ get_or blocks n block → BlocksSoFar (b + n) (drop n blocks) entries at listed whole →
       drop at entries ≡ flat_map (entries_at l) (sites_in (b + n) 0 block.items) ++ flat_map (entries_at l) (sites_from (suc (b + n)) (drop (n + 1) blocks))
   block_here b blocks n block entries at listed whole less is so =
       so.here ∙ ap (λ (t : List Block). flat_map (entries_at l) (sites_from (b + n) t)) (split_at blocks n block less is)
       ∙ flat_map-append (entries_at l) (sites_in (b + n) 0 block.items) (sites_from (suc (b + n)) (drop (n + 1) blocks))
 
-  pub block_more : (b : ℕ) (blocks : List Block) (n : ℕ) (block : Block) (entries : List Entry) (at next : ℕ) (lines : List Line)
+  pub block_more : (b : ℕ) (blocks : List Block) (n : ℕ) (block : Block) (entries : List EncodedInstruction) (at next : ℕ) (lines : List Line)
       (listed new whole : List ListedBlock) → n < length blocks → block ≡ get_or blocks n block → BlocksSoFar (b + n) (drop n blocks) entries at listed whole →
       lines ≡ items_listed l (b + n) block.items → drop next entries ≡ flat_map (entries_at l) (sites_from (suc (b + n)) (drop (n + 1) blocks)) →
       new ≡ listed ++ record { id = block.id; lines = lines } ∷ [] → BlocksSoFar (b + (n + 1)) (drop (n + 1) blocks) entries next new whole
@@ -131,6 +137,6 @@ module _ (l : Layout) where
       })
 
   -- all of them, the prologue first
-  pub whole_here : (first : Block) (body : List Block) (entries : List Entry) → entries ≡ flat_map (entries_at l) (sites_from 0 (first ∷ body)) →
+  pub whole_here : (first : Block) (body : List Block) (entries : List EncodedInstruction) → entries ≡ flat_map (entries_at l) (sites_from 0 (first ∷ body)) →
       drop 0 entries ≡ flat_map (entries_at l) (sites_in 0 0 first.items) ++ flat_map (entries_at l) (sites_from 1 body)
   whole_here first body entries here = here ∙ flat_map-append (entries_at l) (sites_in 0 0 first.items) (sites_from 1 body)

@@ -6,7 +6,7 @@ ghost use Rattle.rv64_instr.specs.Form.{has_form};
 ghost use Rattle.mir_func.specs.Function.{FramedFunction};
 ghost use Rattle.mir_func.specs.declared.item.ItemKind.TheVariants.{Code};
 ghost use Rattle.mir_func.specs.Successors.{pos_in};
-ghost use Rattle.emit_code.specs.declared.code.Entry.{Entry as Laid};
+ghost use Rattle.emit_code.specs.declared.code.EncodedInstruction.{EncodedInstruction as Laid};
 ghost use Rattle.emit_code.specs.Rule.{Layout, Site, entries_at, sites_in};
 ghost use Rattle.emit_code.specs.Listed.{by_pointer, listed};
 ghost use Rattle.emit_code.specs.steps.Plans.{AreOffsetsOf};
@@ -19,11 +19,11 @@ ghost use Rattle.listing_function.specs.steps.Lines.{long_by, long_lines};
 use crate::branch::{Branch, branch_of, jump, skip};
 use crate::lowered::listed;
 use base_ids::code::DebugNumber;
-use emit_code::code::Entry;
+use emit_code::code::EncodedInstruction;
 use emit_code::objects::ObjectOffsets;
 use listing_text::output::{ItemLine, Line, Lines};
 use mir_func::item::{Item, ItemKind};
-use mir_func::position::Point;
+use mir_func::position::ProgramPoint;
 use rv64_instr::instr::Instr;
 use std::alloc::{AllocError, Global};
 
@@ -40,7 +40,7 @@ struct Long {
 pub(crate) fn push_items(
     alloc: Global,
     lines: &mut Lines,
-    entries: &[Entry],
+    entries: &[EncodedInstruction],
     offsets: &ObjectOffsets,
     start: usize,
     items: &[Item],
@@ -62,7 +62,7 @@ pub(crate) fn push_items(
 fn push_item(
     alloc: Global,
     lines: &mut Lines,
-    entries: &[Entry],
+    entries: &[EncodedInstruction],
     offsets: &ObjectOffsets,
     at: usize,
     item: &Item,
@@ -90,7 +90,7 @@ fn push_item(
 fn push_code(
     alloc: Global,
     lines: &mut Lines,
-    entries: &[Entry],
+    entries: &[EncodedInstruction],
     offsets: &ObjectOffsets,
     at: usize,
     item: &Item,
@@ -157,7 +157,7 @@ fn push_one(
 }
 
 /// The long branch of an instruction whose entries begin at index `at`, if it is one.
-fn long_of(entries: &[Entry], at: usize, i: &Instr) -> Option<Long>
+fn long_of(entries: &[EncodedInstruction], at: usize, i: &Instr) -> Option<Long>
     requires { All IsLow entries.now }
     ensures { result ≡ long_by (second_address (drop at entries.now)) (branch_by i.now.op i.now.operands) }
 {
@@ -181,7 +181,7 @@ fn code_line(address: u32, item: &Item, i: Instr, number: Option<DebugNumber>) -
 }
 
 /// The address of the entry at an index, if there is one.
-fn address(entries: &[Entry], at: usize) -> Option<u32>
+fn address(entries: &[EncodedInstruction], at: usize) -> Option<u32>
     requires { All IsLow entries.now }
     ensures { result ≡ first_address (drop at entries.now) }
 {
@@ -192,7 +192,7 @@ fn address(entries: &[Entry], at: usize) -> Option<u32>
 }
 
 /// The address of the entry after an index, if both entries are of the same point.
-fn second(entries: &[Entry], at: usize) -> Option<u32>
+fn second(entries: &[EncodedInstruction], at: usize) -> Option<u32>
     requires { All IsLow entries.now }
     ensures { result ≡ second_address (drop at entries.now) }
 {
@@ -205,7 +205,7 @@ fn second(entries: &[Entry], at: usize) -> Option<u32>
     }
 }
 
-fn is_same(p: &Point, q: &Point) -> bool
+fn is_same(p: &ProgramPoint, q: &ProgramPoint) -> bool
     ensures { result ≡ is_same_point p.now q.now }
 {
     p.block.number() == q.block.number() && p.item == q.item

@@ -12,17 +12,17 @@ ghost use Rattle.listing_function.specs.steps.Entries.{IsLow, IsSource, IsPlaced
 use crate::lines::push_items;
 use crate::variables::ListedVariables;
 use base_list::List;
-use emit_code::code::{Code, Entry as Laid};
+use emit_code::code::{Code, EncodedInstruction as Laid};
 use emit_code::objects::ObjectOffsets;
 use listing_text::output::{Lines, ListedBlock, ListedFunction, ListedObject};
 use mir_func::block::Block;
-use mir_func::entry::Entry;
+use mir_func::entry::DebugSubstitution;
 use mir_func::framed::Framed;
 use mir_func::object::Object;
 use std::alloc::{AllocError, Global};
 
 /// Substitutions of debug instruction numbers, in the order in which they were added.
-pub type ListedSubstitutions = List<Entry>;
+pub type ListedSubstitutions = List<DebugSubstitution>;
 
 /// The lines of a function's code.
 #[derive(Drop)]

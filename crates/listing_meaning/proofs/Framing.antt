@@ -14,7 +14,7 @@ use Rattle.rv64_instr.specs.Arithmetic.{word}
 use Rattle.rv64_instr.specs.Instruction.{Instruction}
 use Rattle.rv64_instr.specs.Row.{add_row}
 use Rattle.mir_func.specs.declared.block.Block.{Block}
-use Rattle.mir_func.specs.declared.entry.Entry.{Entry}
+use Rattle.mir_func.specs.declared.entry.DebugSubstitution.{DebugSubstitution}
 use Rattle.mir_func.specs.declared.framed.SavedRegister.{SavedRegister}
 use Rattle.mir_func.specs.declared.item.Item.{Item}
 use Rattle.mir_func.specs.declared.item.ItemKind.{ItemKind}
@@ -151,7 +151,7 @@ module _ (l : Layout) where
   size_by (suc n) saved (p ∷ blocks) small has = prologue_size (suc n) saved p.items small (omega arith) has.0
 
   -- the frame that is shown
-  pub frame_same : (variables : List ListedVariable) (substitutions : List Entry) → IsFramed l.framed →
+  pub frame_same : (variables : List ListedVariable) (substitutions : List DebugSubstitution) → IsFramed l.framed →
       frame_shown (listing_of l variables substitutions) ≡ frame_of l.framed
   frame_same variables substitutions framed =
       let size = size_by l.framed.size l.framed.saved l.framed.blocks framed.small framed.frame in
@@ -193,7 +193,7 @@ module _ (l : Layout) where
   whole_by (p ∷ b ∷ rest) alike = ap (λ (n : ℕ). record { id = n; lines = items_listed l 0 p.items } ∷ blocks_listed l 1 (b ∷ rest)) (sym alike)
 
   -- the prologue and the blocks below it are listed one after the other
-  pub blocks_whole : (variables : List ListedVariable) (substitutions : List Entry) → IsFramed l.framed →
+  pub blocks_whole : (variables : List ListedVariable) (substitutions : List DebugSubstitution) → IsFramed l.framed →
       blocks_of (listing_of l variables substitutions) ≡ blocks_listed l 0 l.framed.blocks
   blocks_whole variables substitutions framed = whole_by l.framed.blocks framed.number
 

@@ -25,7 +25,7 @@ use Rattle.emit_code.specs.Rule.{Layout, Site, Form, form_of, address_in, form_e
 use Rattle.emit_code.specs.steps.Emitted.{IsFormed}
 use Rattle.emit_code.proofs.Sites.{site_size}
 use Rattle.emit_code.proofs.Stand.{stands, words_fill}
-use Rattle.emit_code.specs.declared.code.Entry.{Entry}
+use Rattle.emit_code.specs.declared.code.EncodedInstruction.{EncodedInstruction}
 use Rattle.listing_text.specs.declared.output.Line.{Line}
 use Rattle.listing_meaning.specs.Program.{LinesLie, lines_of}
 use Rattle.listing_meaning.specs.Listing.{branch_skip, line_at, form_lines, kind_lines, site_lines, items_listed, blocks_listed, prologue_listed, body_listed}
@@ -43,7 +43,7 @@ module _ (l : Layout) where
   long_lies a at i k rest end b x y n m os first second lie = (first, (ap (λ (z : ℕ). Some z) second, lie))
 
   form_lies : (a : ℕ) (at : ℕ) (p : Pos) (i : Item) (c : Instruction) (k : Option ℕ) (rest : List Line) (end : ℕ) (f : Form) → FormView c.op c.operands f →
-      is_call (row_of (listed l.framed c)) ≡ is_call_form f → (es : List Entry) →
+      is_call (row_of (listed l.framed c)) ≡ is_call_form f → (es : List EncodedInstruction) →
       StandFrom a (form_entries at i.origin p f ++ es) end → ((x : ℕ) → StandFrom x es end → LinesLie x rest end) →
       LinesLie a (form_lines l at i c k f ++ rest) end
   form_lies a at p i c k rest end f one calls es stand more =
@@ -55,7 +55,7 @@ module _ (l : Layout) where
       subst (λ (op : Op). LongLies a at i k n rest end op c.operands) (sym op_is)
       (subst (λ (ps : List Operand). LongLies a at i k n rest end (Branch b) ps) (sym os_is) lie)
 
-  kind_lies : (a : ℕ) (s : Site) (kind : ItemKind) (rest : List Line) (end : ℕ) → HasForm kind → (es : List Entry) →
+  kind_lies : (a : ℕ) (s : Site) (kind : ItemKind) (rest : List Line) (end : ℕ) → HasForm kind → (es : List EncodedInstruction) →
       StandFrom a (form_entries (address_in l s.point) s.item.origin s.point (form_of (l.long s.point) kind) ++ es) end →
       ((x : ℕ) → StandFrom x es end → LinesLie x rest end) → LinesLie a (kind_lines l s kind ++ rest) end
   kind_lies a s (Code c k) rest end form es stand more =

@@ -18,10 +18,10 @@ use Rattle.mir_func.specs.declared.item.Item.{Item}
 use Rattle.mir_func.specs.declared.item.ItemKind.{ItemKind}
 use Rattle.mir_func.specs.declared.item.ItemKind.TheVariants.{Code, Mark, Phi}
 use Rattle.mir_func.specs.declared.position.Pos.{Pos}
-use Rattle.mir_func.specs.declared.position.Point.{Point}
+use Rattle.mir_func.specs.declared.position.ProgramPoint.{ProgramPoint}
 use Rattle.mir_func.specs.Sound.{AllItems, HasForm}
 use Rattle.mir_func.specs.Successors.{pos_in}
-use Rattle.emit_code.specs.declared.code.Entry.{Entry}
+use Rattle.emit_code.specs.declared.code.EncodedInstruction.{EncodedInstruction}
 use Rattle.emit_code.specs.Inverted.{jump_to}
 use Rattle.emit_code.specs.Listed.{listed}
 use Rattle.emit_code.specs.Rule.{Layout, Site, Form, LongBranch, form_of, address_in, form_entries, entries_at, sites_in, sites_from}
@@ -79,28 +79,28 @@ module _ (a : ℕ) where
 
   -- ---- entries
 
-  abbrev EntryByte : Entry → Type 0
+  abbrev EntryByte : EncodedInstruction → Type 0
   EntryByte e = (e.address ≤ a) × (a < e.address + e.size)
 
-  abbrev Entered : List Entry → Pos → Type 0
+  abbrev Entered : List EncodedInstruction → Pos → Type 0
   Entered [] p = ⊥
   Entered (e ∷ es) p = (EntryByte e × (e.point ≡ point_of p)) ⊎ Entered es p
 
-  entered_left : (es ds : List Entry) (p : Pos) → Entered es p → Entered (es ++ ds) p
+  entered_left : (es ds : List EncodedInstruction) (p : Pos) → Entered es p → Entered (es ++ ds) p
   entered_left [] ds p none = elim none [ ]
   entered_left (e ∷ es) ds p (inl is) = inl is
   entered_left (e ∷ es) ds p (inr more) = inr (entered_left es ds p more)
 
-  entered_right : (es ds : List Entry) (p : Pos) → Entered ds p → Entered (es ++ ds) p
+  entered_right : (es ds : List EncodedInstruction) (p : Pos) → Entered ds p → Entered (es ++ ds) p
   entered_right [] ds p is = is
   entered_right (e ∷ es) ds p is = inr (entered_right es ds p is)
 
-  entered_cases : (es ds : List Entry) (p : Pos) → Entered (es ++ ds) p → Entered es p ⊎ Entered ds p
+  entered_cases : (es ds : List EncodedInstruction) (p : Pos) → Entered (es ++ ds) p → Entered es p ⊎ Entered ds p
   entered_cases [] ds p is = inr is
   entered_cases (e ∷ es) ds p (inl is) = inl (inl is)
   entered_cases (e ∷ es) ds p (inr more) = elim (entered_cases es ds p more) [ inl x ↦ inl (inr x) | inr y ↦ inr y ]
 
-  to_byte : (es : List Entry) (p : Pos) → Entered es p → HasByteAt es a p
+  to_byte : (es : List EncodedInstruction) (p : Pos) → Entered es p → HasByteAt es a p
   to_byte [] p none = elim none [ ]
   to_byte (e ∷ es) p (inl (byte, is)) =
       record { entry = e; among = (0, omega arith, refl); point = is; from = byte.0; within = byte.1 }
@@ -108,9 +108,9 @@ module _ (a : ℕ) where
       let r = to_byte es p more in
       record { entry = r.entry; among = Contains-append_right (e ∷ []) es r.entry r.among; point = r.point; from = r.from; within = r.within }
 
-  from_byte : (es : List Entry) (p : Pos) (e : Entry) → Contains es e → e.point ≡ point_of p → EntryByte e → Entered es p
+  from_byte : (es : List EncodedInstruction) (p : Pos) (e : EncodedInstruction) → Contains es e → e.point ≡ point_of p → EntryByte e → Entered es p
   from_byte [] p e (n, low, is) point byte = absurd (omega (arith, low))
-  from_byte (x ∷ es) p e (zero, low, is) point byte = inl (subst (λ (y : Entry). EntryByte y × (y.point ≡ point_of p)) (sym is) (byte, point))
+  from_byte (x ∷ es) p e (zero, low, is) point byte = inl (subst (λ (y : EncodedInstruction). EntryByte y × (y.point ≡ point_of p)) (sym is) (byte, point))
   from_byte (x ∷ es) p e (suc n, low, is) point byte = inr (from_byte es p e (n, omega (arith, low), is) point byte)
 
   -- ---- one item
@@ -176,10 +176,10 @@ module _ (a : ℕ) where
       listed : (rest : List Line) → Listed (lines ++ rest) n p.item
 
     index : (p : Pos) → point_of (pos_in b n) ≡ point_of p → p.item ≡ n
-    index p e = ap (λ (q : Point). q.item) (sym e)
+    index p e = ap (λ (q : ProgramPoint). q.item) (sym e)
 
     block : (p : Pos) → point_of (pos_in b n) ≡ point_of p → p.block ≡ b
-    block p e = ap (λ (q : Point). q.block) (sym e)
+    block p e = ap (λ (q : ProgramPoint). q.block) (sym e)
 
     abbrev LongBack : (at : ℕ) (i : Item) (k : Option ℕ) (t : ℕ) (p : Pos) → Op → List Operand → Type 0
     LongBack at i k t p op os = Entered (form_entries at i.origin (pos_in b n) (LongBranch t)) p →
@@ -278,12 +278,13 @@ module _ (a : ℕ) where
         (x : ListedBlock). Listed x.lines 0 m) same is) in
         let first : b + 0 ≡ b = omega arith in
         subst (λ (x : ℕ). Entered (flat_map (entries_at l) (sites_from b (block ∷ blocks))) (pos_in x m)) (sym first)
-        (subst (λ (es : List Entry). Entered es (pos_in b m)) (sym (flat_map-append (entries_at l) (sites_in b 0 block.items) (sites_from (suc b) blocks)))
+        (subst (λ (es : List EncodedInstruction). Entered es (pos_in b m)) (sym (flat_map-append (entries_at l) (sites_in b 0 block.items) (sites_from
+        (suc b) blocks)))
         (entered_left (flat_map (entries_at l) (sites_in b 0 block.items)) (flat_map (entries_at l) (sites_from (suc b) blocks)) (pos_in b m) here))
     blocks_to b (suc k) m (block ∷ blocks) listed forms e is =
         let more = blocks_to (suc b) k m blocks listed (All-tail (λ x. All IsFormed x.items) block blocks forms) e is in
         let next : suc b + k ≡ b + suc k = omega arith in
-        subst (λ (es : List Entry). Entered es (pos_in (b + suc k) m)) (sym (flat_map-append (entries_at l) (sites_in b 0 block.items) (sites_from
+        subst (λ (es : List EncodedInstruction). Entered es (pos_in (b + suc k) m)) (sym (flat_map-append (entries_at l) (sites_in b 0 block.items) (sites_from
         (suc b) blocks)))
         (entered_right (flat_map (entries_at l) (sites_in b 0 block.items)) (flat_map (entries_at l) (sites_from (suc b) blocks)) (pos_in (b + suc k) m)
         (subst (λ (x : ℕ). Entered (flat_map (entries_at l) (sites_from (suc b) blocks)) (pos_in x m)) next more))
@@ -302,7 +303,7 @@ module _ (a : ℕ) where
         let first = sites_in b 0 block.items in
         let rest = sites_from (suc b) blocks in
         elim (entered_cases (flat_map (entries_at l) first) (flat_map (entries_at l) rest) p
-        (subst (λ (es : List Entry). Entered es p) (flat_map-append (entries_at l) first rest) is)) [
+        (subst (λ (es : List EncodedInstruction). Entered es p) (flat_map-append (entries_at l) first rest) is)) [
           | inl here ↦ let back = items_back b 0 block.items p (All-head (λ x. All IsFormed x.items) block blocks forms) here in record {
             number = 0;
             listed = record { id = block.id; lines = items_listed l b block.items };

@@ -7,7 +7,7 @@ use Rattle.rv64_instr.specs.declared.operand.Operand.{Operand}
 use Rattle.rv64_instr.specs.declared.operand.Operand.TheVariants.{Use, ImplicitDef, ImplicitUse}
 use Rattle.rv64_instr.specs.Instruction.{Instruction}
 use Rattle.mir_func.specs.declared.block.Block.{Block}
-use Rattle.mir_func.specs.declared.entry.Entry.{Entry}
+use Rattle.mir_func.specs.declared.entry.DebugSubstitution.{DebugSubstitution}
 use Rattle.mir_func.specs.declared.item.Item.{Item}
 use Rattle.mir_func.specs.declared.item.ItemKind.{ItemKind}
 use Rattle.mir_func.specs.declared.item.ItemKind.TheVariants.{Code, Mark, Phi}
@@ -90,7 +90,7 @@ abbrev pub object_listed : Object → ListedObject
 object_listed o = record { id = o.id; size = o.size; offset = o.offset }
 
 -- the listing of a layout, with variables and substitutions
-abbrev pub listing_of : Layout → List ListedVariable → List Entry → ListedFunction
+abbrev pub listing_of : Layout → List ListedVariable → List DebugSubstitution → ListedFunction
 listing_of l variables substitutions = record {
   name = l.framed.name;
   low = l.base;

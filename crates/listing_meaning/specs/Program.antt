@@ -88,7 +88,7 @@ items_shown frame skip (Skip s ∷ ls) = items_shown frame (Some s) ls
 
 -- the block that a listed block shows
 abbrev pub block_shown : ShownFrame → ListedBlock → Block
-block_shown frame b = record { id = b.id; items = items_shown frame None b.lines; silent = length b.lines }
+block_shown frame b = record { id = b.id; items = items_shown frame None b.lines; source_end = length b.lines }
 
 -- the blocks that a function's lines show, the prologue first
 abbrev pub blocks_shown : ListedFunction → List Block

@@ -211,8 +211,8 @@ module _ (inlined : ℕ → Option ℕ) (f : Function) (body : IsPrintableBody i
   kind_fits loc (Phi p k) is = (place_fits p is.0, is.1)
 
   origin_fits : (b : Block) (o : Origin) → IsPrintableBlock inlined b → OriginIn b o → IsPrintableOrigin o
-  origin_fits b (Kept p) has is = (subst IsNumber (sym is.0) has.id, omega (arith, is.1, has.silent))
-  origin_fits b (Before p) has is = (subst IsNumber (sym is.0) has.id, omega (arith, is.1, has.silent))
+  origin_fits b (Kept p) has is = (subst IsNumber (sym is.0) has.id, omega (arith, is.1, has.source_end))
+  origin_fits b (Before p) has is = (subst IsNumber (sym is.0) has.id, omega (arith, is.1, has.source_end))
 
   position_fits : (o : Origin) → IsPrintableOrigin o → IsPrintableOrigin (Before (position_in o))
   position_fits (Kept p) is = is
@@ -320,28 +320,28 @@ module _ (meta : Maps) (f : Function) where
   kind_known loc (Mark v m) is = (record { node = is.0.node; inlined = is.0.inlined; part = is.0.part }, is.1)
   kind_known loc (Phi p k) is = is
 
-  blocks_printable : (bs : List Block) → length (items_of bs) ≤ MAX_ITEMS → All (λ b. b.id ≤ MAX_NUMBER) bs → All (λ b. b.silent ≡ length b.items) bs →
+  blocks_printable : (bs : List Block) → length (items_of bs) ≤ MAX_ITEMS → All (λ b. b.id ≤ MAX_NUMBER) bs → All (λ b. b.source_end ≡ length b.items) bs →
       AllItems ReadItem bs → All (IsPrintableBlock (inlined_in meta)) bs
-  blocks_printable [] few ids silent prints = All-nil (IsPrintableBlock (inlined_in meta))
-  blocks_printable (b ∷ bs) few ids silent prints =
+  blocks_printable [] few ids source_end prints = All-nil (IsPrintableBlock (inlined_in meta))
+  blocks_printable (b ∷ bs) few ids source_end prints =
       let both = length-append b.items (items_of bs) in
-      let here = All-head (λ (x : Block). x.silent ≡ length x.items) b bs silent in
+      let here = All-head (λ (x : Block). x.source_end ≡ length x.items) b bs source_end in
       let items = All-head (λ (x : Block). All ReadItem x.items) b bs prints in
       All-cons (IsPrintableBlock (inlined_in meta)) b bs
       (record {
         id = number b.id (All-head (λ (x : Block). x.id ≤ MAX_NUMBER) b bs ids);
-        silent = omega (arith, few, both, here);
+        source_end = omega (arith, few, both, here);
         kinds = All-weaker ReadItem (λ (i : Item). IsPrintableFramedKind (inlined_in meta) i.loc i.kind)
             (λ i is. kind_known i.loc i.kind is.kind) b.items items;
         locs = All-weaker ReadItem (λ (i : Item). IsPrintableLoc i.loc) (λ i is. is.loc) b.items items;
       })
       (blocks_printable bs (omega (arith, few, both)) (All-tail (λ (x : Block). x.id ≤ MAX_NUMBER) b bs ids)
-      (All-tail (λ (x : Block). x.silent ≡ length x.items) b bs silent) (All-tail (λ (x : Block). All ReadItem x.items) b bs prints))
+      (All-tail (λ (x : Block). x.source_end ≡ length x.items) b bs source_end) (All-tail (λ (x : Block). All ReadItem x.items) b bs prints))
 
 pub read_bodies : ReadFunctionsHavePrintableBodies
 read_bodies meta f read = record {
   objects = All-weaker (λ (o : func.Object). o.id ≤ MAX_NUMBER) (λ (o : func.Object). IsNumber o.id) (λ o small. number o.id small) f.objects read.objects;
-  blocks = blocks_printable meta f f.blocks read.few_items read.ids read.read.silent read.printable;
+  blocks = blocks_printable meta f f.blocks read.few_items read.ids read.read.source_end read.printable;
 }
 
 pub printable : ReadFunctionsArePrintable

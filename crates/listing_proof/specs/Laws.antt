@@ -20,7 +20,7 @@ inlined_in meta n = inlined_at_node (location_at meta n)
 -- by `inlined`.
 pub record IsPrintableBlock (inlined : ℕ → Option ℕ) (b : Block) : Type 0 where
   pub id : IsNumber b.id
-  pub silent : IsNumber b.silent
+  pub source_end : IsNumber b.source_end
   pub kinds : All (λ i. IsPrintableFramedKind inlined i.loc i.kind) b.items
   pub locs : All (λ i. IsPrintableLoc i.loc) b.items
 

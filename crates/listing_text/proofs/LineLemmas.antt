@@ -7,7 +7,7 @@ use Rattle.std.proofs.lemmas.Bool.{eqb-true, eqb-false}
 use Rattle.mir_func.specs.declared.position.Pos.{Pos}
 use Rattle.mir_func.specs.declared.position.Origin.{Origin}
 use Rattle.mir_func.specs.declared.position.Origin.TheVariants.{Kept, Before}
-use Rattle.mir_func.specs.declared.entry.Entry.{Entry}
+use Rattle.mir_func.specs.declared.entry.DebugSubstitution.{DebugSubstitution}
 use Rattle.mir_printer.specs.Spelling.{item_text, quoted_byte, upper_hex_digit}
 use Rattle.mir_printer.specs.Printable.{IsNumber}
 use Rattle.mir_printer.proofs.Cuts.{front_one, apart, Spells, spelled_one}
@@ -167,7 +167,8 @@ pair_one p q r s is others e =
 entry_parts : (a b c d e rest : List ℕ) → (a ++ b ++ c ++ d ++ e) ++ rest ≡ a ++ (b ++ (c ++ (d ++ (e ++ rest))))
 entry_parts a b c d e rest = simp append_assoc
 
-pub substitution_line_one : (x y : Entry) (r s : List ℕ) → IsPrintableEntry x → IsPrintableEntry y → substitution_line x ++ r ≡ substitution_line y ++ s →
+pub substitution_line_one : (x y : DebugSubstitution) (r s : List ℕ) → IsPrintableEntry x → IsPrintableEntry y →
+    substitution_line x ++ r ≡ substitution_line y ++ s →
     (x ≡ y) × (r ≡ s)
 substitution_line_one x y r s is others e =
     let whole = sym (entry_parts (codes "substitute ") (pair_text x.src) (pair_text x.dst) (decimal x.subreg) (10 ∷ []) r)

@@ -8,7 +8,7 @@ use Rattle.rv64_instr.specs.Mnemonic.{branch_name}
 use Rattle.mir_func.specs.declared.position.Pos.{Pos}
 use Rattle.mir_func.specs.declared.position.Origin.{Origin}
 use Rattle.mir_func.specs.declared.position.Origin.TheVariants.{Kept, Before}
-use Rattle.mir_func.specs.declared.entry.Entry.{Entry}
+use Rattle.mir_func.specs.declared.entry.DebugSubstitution.{DebugSubstitution}
 use Rattle.mir_func.specs.declared.entry.OperandPair.{OperandPair}
 use Rattle.mir_printer.specs.Spelling.{item_text, operand_text, register_text, quoted_byte}
 use Rattle.listing_text.specs.declared.output.ItemLine.{ItemLine}
@@ -70,7 +70,7 @@ abbrev pub pair_text : OperandPair → List ℕ
 pair_text q = decimal q.number ++ codes " " ++ decimal q.operand ++ codes " "
 
 -- a debug value substitution, as in debugValueSubstitutions of LLVM MIR
-abbrev pub substitution_line : Entry → List ℕ
+abbrev pub substitution_line : DebugSubstitution → List ℕ
 substitution_line e = codes "substitute " ++ pair_text e.src ++ pair_text e.dst ++ decimal e.subreg ++ 10 ∷ []
 
 -- ---- the lines of its code

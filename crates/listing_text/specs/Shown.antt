@@ -3,7 +3,7 @@ use Rattle.std.specs.Prelude.{◌≡◌, ℕ, false, List, length, All, Option, 
 use Rattle.mir_func.specs.declared.position.Pos.{Pos}
 use Rattle.mir_func.specs.declared.position.Origin.{Origin}
 use Rattle.mir_func.specs.declared.position.Origin.TheVariants.{Kept, Before}
-use Rattle.mir_func.specs.declared.entry.Entry.{Entry}
+use Rattle.mir_func.specs.declared.entry.DebugSubstitution.{DebugSubstitution}
 use Rattle.mir_func.specs.declared.entry.OperandPair.{OperandPair}
 use Rattle.mir_printer.specs.Printable.{Declared, IsNumber, IsPrintable}
 use Rattle.listing_text.specs.declared.output.ItemLine.{ItemLine}
@@ -75,7 +75,7 @@ pub record IsPrintableObject (o : ListedObject) : Type 0 where
   pub offset : IsNumber o.offset
 
 -- the numbers of a debug value substitution have 32 bits
-pub record IsPrintableEntry (e : Entry) : Type 0 where
+pub record IsPrintableEntry (e : DebugSubstitution) : Type 0 where
   pub src : HasNumbers e.src
   pub dst : HasNumbers e.dst
   pub subreg : IsNumber e.subreg

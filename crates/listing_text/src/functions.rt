@@ -12,7 +12,7 @@ use crate::name::push_name;
 use crate::output::{ListedBlock, ListedFunction, ListedObject, ListedVariable};
 use base_ids::code::BlockId;
 use base_ids::metadata::NodeId;
-use mir_func::entry::{Entry, OperandPair};
+use mir_func::entry::{DebugSubstitution, OperandPair};
 use mir_printer::text::{Text, push_decimal, push_numbered, push_str};
 use std::alloc::AllocError;
 
@@ -112,7 +112,10 @@ fn push_inlined(text: &mut Text, inlined_at: &Option<NodeId>) -> Result<(), Allo
     }
 }
 
-fn push_substitutions(text: &mut Text, substitutions: &[Entry]) -> Result<(), AllocError>
+fn push_substitutions(
+    text: &mut Text,
+    substitutions: &[DebugSubstitution],
+) -> Result<(), AllocError>
     ensures { OnOk result (text.new ≡ text.old ++ flat_map substitution_line substitutions.now) }
 {
     for substitution in substitutions {
@@ -121,7 +124,7 @@ fn push_substitutions(text: &mut Text, substitutions: &[Entry]) -> Result<(), Al
     Ok(())
 }
 
-fn push_substitution(text: &mut Text, entry: &Entry) -> Result<(), AllocError>
+fn push_substitution(text: &mut Text, entry: &DebugSubstitution) -> Result<(), AllocError>
     ensures { OnOk result (text.new ≡ text.old ++ substitution_line entry.now) }
 {
     push_str(text, "substitute ")?;

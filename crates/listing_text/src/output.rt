@@ -2,7 +2,7 @@
 
 use base_ids::code::{BlockId, ObjectId};
 use base_list::List;
-use mir_func::entry::Entry;
+use mir_func::entry::DebugSubstitution;
 use mir_func::item::Item;
 use mir_func::position::Origin;
 use mir_func::variable::VarId;
@@ -109,7 +109,7 @@ pub struct ListedFunction {
     /// Its variables.
     pub variables: List<ListedVariable>,
     /// The substitutions of its debug instruction numbers.
-    pub substitutions: List<Entry>,
+    pub substitutions: List<DebugSubstitution>,
     /// The code before its first block.
     pub prologue: Lines,
     /// Its blocks.

@@ -23,19 +23,19 @@ use Rattle.value_solver.specs.Entry.{thing}
 use Rattle.value_proof.specs.Wanted.{HasItsClass, IsFirstByClass, IsWantedOrNone}
 use Rattle.value_proof.proofs.Wanted.{first_by_class_is_wanted, unmarked_is_nowhere}
 use Rattle.value_tracker.proofs.Constants.{place_is_first}
-use Rattle.value_tracker.specs.declared.index.Index.{Index}
+use Rattle.value_tracker.specs.declared.index.TrackedIndex.{TrackedIndex}
 use Rattle.value_tracker.specs.Firsts.{AreFirsts}
 use Rattle.value_tracker.specs.Look.{place_of}
 use Rattle.dwarf_loclists.specs.Ranges.{IsListed}
 use Rattle.location_of_variable.specs.Wanted.{IsWantedPlace, AreWantedPlaces}
-use Rattle.location_ranges.specs.declared.stand.Stand.{Stand}
+use Rattle.location_ranges.specs.declared.stand.TransferTracker.{TransferTracker}
 use Rattle.location_ranges.specs.declared.values.Values.{Values}
 use Rattle.location_ranges.specs.Stands.{program, AreValuesOf, Reaches, Stands}
 use Rattle.location_ranges.specs.steps.Places.{ArePlacesAt}
 
 -- ---- by classes
 
-module _ (g : Program) (start : Pos) (v : Values) (index : Index) (s : Stand) (r : Reaches g v index s) (firsts : List (Option ℕ))
+module _ (g : Program) (start : Pos) (v : Values) (index : TrackedIndex) (s : TransferTracker) (r : Reaches g v index s) (firsts : List (Option ℕ))
     (are : AreFirsts s.held.places.items firsts) (w : VarId) where
   pub first_by_class : IsFirstByClass (map thing v.things.now) r.class w (place_of firsts s.constants.items (r.class (OfVariable w)))
   first_by_class = place_is_first v.variables.now v.things.now index s.settled.items s.held r.class r.held firsts s.constants.items are r.constants w
@@ -77,7 +77,7 @@ at_thing [] w (k, lt, e) = absurd (omega (arith, lt))
 at_thing (y ∷ ys) w (zero, lt, e) = (0, ap (λ (z : Tracked). Some z) (part_is y w e))
 at_thing (y ∷ ys) w (suc k, lt, e) = let h = at_thing ys w (k, omega (arith, lt), e) in (suc h.0, h.1)
 
-module _ (blocks : List Block) (v : Values) (index : Index) (are : AreValuesOf blocks v) (s : Stand) (stands : Stands blocks v index s)
+module _ (blocks : List Block) (v : Values) (index : TrackedIndex) (are : AreValuesOf blocks v) (s : TransferTracker) (stands : Stands blocks v index s)
     (found : List (Option Place)) (count : length found ≡ length v.variables.now) (at : ArePlacesAt s found) where
   abbrev g : Program
   g = program blocks v.subs.now

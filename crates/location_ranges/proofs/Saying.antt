@@ -11,7 +11,7 @@ use Rattle.std.proofs.lemmas.List.Elements.{All-nil, All-cons, All-append}
 use Rattle.mir_func.specs.declared.position.Pos.{Pos}
 use Rattle.mir_func.specs.declared.variable.VarId.{VarId}
 use Rattle.mir_func.specs.Graph.{Program}
-use Rattle.emit_code.specs.declared.code.Entry.{Entry}
+use Rattle.emit_code.specs.declared.code.EncodedInstruction.{EncodedInstruction}
 use Rattle.emit_code.specs.Laid.{StandFrom}
 use Rattle.dwarf_loclists.specs.declared.range.Location.{Location}
 use Rattle.dwarf_loclists.specs.declared.range.Range.{Range}
@@ -31,45 +31,48 @@ size_some : (b : Bool) → 0 < cond b 8 4
 size_some true = omega arith
 size_some false = omega arith
 
-pub size_is : (a end : ℕ) (es : List Entry) (i : ℕ) (e : Entry) → StandFrom a es end → slice_get es i ≡ Some e → 0 < e.size
+pub size_is : (a end : ℕ) (es : List EncodedInstruction) (i : ℕ) (e : EncodedInstruction) → StandFrom a es end → slice_get es i ≡ Some e → 0 < e.size
 size_is a end [] i e stand at = absurd (let no : None ≡ Some e = at in cc)
 size_is a end (x ∷ es) zero e stand at =
     let same : x ≡ e = cc in
-    subst (λ (z : Entry). 0 < z.size) same (let s = size_some x.call in let is = stand.1 in omega (arith, s, is))
+    subst (λ (z : EncodedInstruction). 0 < z.size) same (let s = size_some x.call in let is = stand.1 in omega (arith, s, is))
 size_is a end (x ∷ es) (suc i) e stand at = size_is (a + x.size) end es i e stand.2 at
 
-pub at_entry : (a end : ℕ) (es : List Entry) (i : ℕ) (e : Entry) → StandFrom a es end → slice_get es i ≡ Some e → e.address ≡ begin_at a es i
+pub at_entry : (a end : ℕ) (es : List EncodedInstruction) (i : ℕ) (e : EncodedInstruction) → StandFrom a es end → slice_get es i ≡ Some e →
+    e.address ≡ begin_at a es i
 at_entry a end [] i e stand at = absurd (let no : None ≡ Some e = at in cc)
-at_entry a end (x ∷ es) zero e stand at = let same : x ≡ e = cc in subst (λ (z : Entry). z.address ≡ a) same stand.0
+at_entry a end (x ∷ es) zero e stand at = let same : x ≡ e = cc in subst (λ (z : EncodedInstruction). z.address ≡ a) same stand.0
 at_entry a end (x ∷ es) (suc i) e stand at = at_entry (a + x.size) end es i e stand.2 at
 
-begin_first : (a : ℕ) (es : List Entry) → begin_at a es 0 ≡ a
+begin_first : (a : ℕ) (es : List EncodedInstruction) → begin_at a es 0 ≡ a
 begin_first a [] = refl
 begin_first a (x ∷ es) = refl
 
-pub past_entry : (a : ℕ) (es : List Entry) (i : ℕ) (e : Entry) → slice_get es i ≡ Some e → begin_at a es (suc i) ≡ begin_at a es i + e.size
+pub past_entry : (a : ℕ) (es : List EncodedInstruction) (i : ℕ) (e : EncodedInstruction) → slice_get es i ≡ Some e →
+    begin_at a es (suc i) ≡ begin_at a es i + e.size
 past_entry a [] i e at = absurd (let no : None ≡ Some e = at in cc)
-past_entry a (x ∷ es) zero e at = let same : x ≡ e = cc in begin_first (a + x.size) es ∙ ap (λ (z : Entry). a + z.size) same
+past_entry a (x ∷ es) zero e at = let same : x ≡ e = cc in begin_first (a + x.size) es ∙ ap (λ (z : EncodedInstruction). a + z.size) same
 past_entry a (x ∷ es) (suc i) e at = past_entry (a + x.size) es i e at
 
-pub at_end : (a end : ℕ) (es : List Entry) → StandFrom a es end → begin_at a es (length es) ≡ end
+pub at_end : (a end : ℕ) (es : List EncodedInstruction) → StandFrom a es end → begin_at a es (length es) ≡ end
 at_end a end [] stand = stand
 at_end a end (x ∷ es) stand = at_end (a + x.size) end es stand.2
 
-below_begin : (a : ℕ) (es : List Entry) (i : ℕ) → a ≤ begin_at a es i
+below_begin : (a : ℕ) (es : List EncodedInstruction) (i : ℕ) → a ≤ begin_at a es i
 below_begin a [] i = omega arith
 below_begin a (x ∷ es) zero = omega arith
 below_begin a (x ∷ es) (suc i) = let h = below_begin (a + x.size) es i in omega (arith, h)
 
 -- an entry before another ends by its address
-ends_by : (a end : ℕ) (es : List Entry) (i n : ℕ) (e : Entry) → StandFrom a es end → n < i → slice_get es n ≡ Some e → e.address + e.size ≤ begin_at a es i
+ends_by : (a end : ℕ) (es : List EncodedInstruction) (i n : ℕ) (e : EncodedInstruction) → StandFrom a es end → n < i → slice_get es n ≡ Some e →
+    e.address + e.size ≤ begin_at a es i
 ends_by a end [] i n e stand lt at = absurd (let no : None ≡ Some e = at in cc)
 ends_by a end (x ∷ es) zero n e stand lt at = absurd (omega (arith, lt))
 ends_by a end (x ∷ es) (suc i) zero e stand lt at =
     let same : x ≡ e = cc in
     let h = below_begin (a + x.size) es i in
     let is = stand.0 in
-    subst (λ (z : Entry). z.address + z.size ≤ begin_at (a + x.size) es i) same (omega (arith, h, is))
+    subst (λ (z : EncodedInstruction). z.address + z.size ≤ begin_at (a + x.size) es i) same (omega (arith, h, is))
 ends_by a end (x ∷ es) (suc i) (suc n) e stand lt at = ends_by (a + x.size) end es i n e stand.2 (omega (arith, lt)) at
 
 -- ---- places
@@ -92,25 +95,27 @@ turned_places t u a l (turns differs ranges present) listed places b =
 
 -- ---- one entry more
 
-module _ (g : Program) (start : Pos) (base end : ℕ) (entries : List Entry) (stand : StandFrom base entries end) where
+module _ (g : Program) (start : Pos) (base end : ℕ) (entries : List EncodedInstruction) (stand : StandFrom base entries end) where
   -- where the entry of an index begins
   abbrev from : ℕ → ℕ
   from i = begin_at base entries i
 
-  further : (i : ℕ) (e : Entry) → slice_get entries i ≡ Some e → (from (suc i) ≡ e.address + e.size) × (from i ≡ e.address) × (from i < from (suc i))
+  further : (i : ℕ) (e : EncodedInstruction) → slice_get entries i ≡ Some e →
+      (from (suc i) ≡ e.address + e.size) × (from i ≡ e.address) × (from i < from (suc i))
   further i e at =
       let is = at_entry base end entries i e stand at in
       let past = past_entry base entries i e at in
       let some = size_is base end entries i e stand at in
       (past ∙ ap (λ (n : ℕ). n + e.size) (sym is), sym is, omega (arith, past, some))
 
-  pub track_more : (i : ℕ) (e : Entry) (t u : Track) (o : Option Location) → slice_get entries i ≡ Some e → Turns t e.address o u → IsTrackTo t (from i) →
+  pub track_more : (i : ℕ) (e : EncodedInstruction) (t u : Track) (o : Option Location) → slice_get entries i ≡ Some e → Turns t e.address o u →
+      IsTrackTo t (from i) →
       IsTrackTo u (from (suc i))
   track_more i e t u o at turned track =
       let f = further i e at in
       (turns_say_on t u (from i) (from (suc i)) o track f.2 (subst (λ (n : ℕ). Turns t n o u) (sym f.1) turned)).track
 
-  pub says_more : (v : VarId) (i : ℕ) (e : Entry) (t u : Track) (o : Option Location) → slice_get entries i ≡ Some e → Turns t e.address o u →
+  pub says_more : (v : VarId) (i : ℕ) (e : EncodedInstruction) (t u : Track) (o : Option Location) → slice_get entries i ≡ Some e → Turns t e.address o u →
       IsTrackTo t (from i) → IsWantedLocation g start v (point_of e) o → MayBeListed o → Says g start entries v i (from i) t →
       Says g start entries v (suc i) (from (suc i)) u
   says_more v i e t u o at turned track wanted listed says = record {
@@ -132,14 +137,14 @@ module _ (g : Program) (start : Pos) (base end : ℕ) (entries : List Entry) (st
         let ends = f.0 in
         on.here x (omega (arith, a, begins)) (omega (arith, b, ends))
 
-    inside : (n : ℕ) (d : Entry) → n < suc i → slice_get entries n ≡ Some d → (x : ℕ) → HasByte d x →
+    inside : (n : ℕ) (d : EncodedInstruction) → n < suc i → slice_get entries n ≡ Some d → (x : ℕ) → HasByte d x →
         IsWantedLocation g start v (point_of d) (location_in (covered u (from (suc i))) x)
     inside n d lt is x has = elim (eqb_tells n i) [
       | inl h ↦
           let both : Some e ≡ Some d = sym at ∙ (ap (slice_get entries) (sym h.1) ∙ is) in
           let same : e ≡ d = cc in
-          subst (λ (z : Entry). IsWantedLocation g start v (point_of z) (location_in (covered u (from (suc i))) x)) same
-          (subst (IsWantedLocation g start v (point_of e)) (sym (here x (subst (λ (z : Entry). HasByte z x) (sym same) has))) wanted)
+          subst (λ (z : EncodedInstruction). IsWantedLocation g start v (point_of z) (location_in (covered u (from (suc i))) x)) same
+          (subst (IsWantedLocation g start v (point_of e)) (sym (here x (subst (λ (z : EncodedInstruction). HasByte z x) (sym same) has))) wanted)
       | inr h ↦
           let ne = h.1 in
           let before : n < i = omega (arith, lt, ne) in
@@ -148,7 +153,7 @@ module _ (g : Program) (start : Pos) (base end : ℕ) (entries : List Entry) (st
           subst (IsWantedLocation g start v (point_of d)) (sym (on.before x (omega (arith, by, b)))) (says.inside n d before is x has)
     ]
 
-    outside : (x : ℕ) → ((d : Entry) → Contains entries d → HasByte d x → ⊥) → location_in (covered u (from (suc i))) x ≡ None
+    outside : (x : ℕ) → ((d : EncodedInstruction) → Contains entries d → HasByte d x → ⊥) → location_in (covered u (from (suc i))) x ≡ None
     outside x none = elim (cases_lt x (from i)) [
       | inl lt ↦ on.before x lt ∙ says.outside x none
       | inr le ↦ elim (cases_lt x (from (suc i))) [
@@ -159,7 +164,7 @@ module _ (g : Program) (start : Pos) (base end : ℕ) (entries : List Entry) (st
         | inr past ↦ (tracks_are_ranges u (from (suc i)) on.track).1 x past
       ]
     ] where
-      get_or_at : (xs : List Entry) (k : ℕ) (y : Entry) → slice_get xs k ≡ Some y → slice_index_or xs k y ≡ y
+      get_or_at : (xs : List EncodedInstruction) (k : ℕ) (y : EncodedInstruction) → slice_get xs k ≡ Some y → slice_index_or xs k y ≡ y
       get_or_at xs k y at = get_or_from_slice_get xs k y y at
 
   -- no entry yet

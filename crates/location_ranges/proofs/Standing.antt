@@ -19,28 +19,28 @@ use Rattle.value_solver.specs.declared.entry.BlockEntry.{BlockEntry}
 use Rattle.value_solver.specs.Entry.{thing, IsEntry}
 use Rattle.value_proof.specs.Classes.{Classes, IsReached, AreClasses, AreFresh, class_back}
 use Rattle.value_proof.proofs.Passing.{classes_pass_items, paths_come_from_above}
-use Rattle.value_tracker.specs.declared.index.Index.{Index}
+use Rattle.value_tracker.specs.declared.index.TrackedIndex.{TrackedIndex}
 use Rattle.value_tracker.specs.Things.{Settle, settled_at}
 use Rattle.value_tracker.specs.Held.{Holds, Passes}
 use Rattle.value_tracker.specs.Start.{ConstantsNow}
 use Rattle.value_tracker.proofs.Entering.{entries_give_classes}
 use Rattle.location_ranges.specs.declared.values.Values.{Values}
-use Rattle.location_ranges.specs.declared.stand.Stand.{Stand}
+use Rattle.location_ranges.specs.declared.stand.TransferTracker.{TransferTracker}
 use Rattle.location_ranges.specs.Stands.{program, AreValuesOf, Stands, Falls, IsBlockAt}
 
 -- ---- what stands at a position
 
-front_at : (items : List Item) (k silent : ℕ) (bs : List Block) (i : Item) → slice_get items k ≡ Some i → front (drop k items) silent bs ≡ Here i
-front_at [] k silent bs i e = cc
-front_at (x ∷ xs) zero silent bs i e = let is : x ≡ i = cc in ap Here is
-front_at (x ∷ xs) (suc k) silent bs i e = front_at xs k silent bs i e
+front_at : (items : List Item) (k source_end : ℕ) (bs : List Block) (i : Item) → slice_get items k ≡ Some i → front (drop k items) source_end bs ≡ Here i
+front_at [] k source_end bs i e = cc
+front_at (x ∷ xs) zero source_end bs i e = let is : x ≡ i = cc in ap Here is
+front_at (x ∷ xs) (suc k) source_end bs i e = front_at xs k source_end bs i e
 
 pub fetch_at : (blocks : List Block) (b k : ℕ) (block : Block) (i : Item) → slice_get blocks b ≡ Some block → slice_get block.items k ≡ Some i →
     fetch_in (drop b blocks) k ≡ Here i
 fetch_at [] b k block i e f = cc
 fetch_at (x ∷ xs) zero k block i e f =
     let is : x ≡ block = cc in
-    front_at x.items k x.silent xs i (ap (λ (z : Block). slice_get z.items k) is ∙ f)
+    front_at x.items k x.source_end xs i (ap (λ (z : Block). slice_get z.items k) is ∙ f)
 fetch_at (x ∷ xs) (suc b) k block i e f = fetch_at xs b k block i e f
 
 pub fetch_block : (blocks : List Block) (b k : ℕ) (items : List Item) (i : Item) → IsBlockAt blocks b items → slice_get items k ≡ Some i →
@@ -109,7 +109,7 @@ constants_stay things class after constants same now = record {
 
 -- ---- steps of the walk
 
-module _ (blocks : List Block) (v : Values) (index : Index) (are : AreValuesOf blocks v) (s : Stand) (item : Item) where
+module _ (blocks : List Block) (v : Values) (index : TrackedIndex) (are : AreValuesOf blocks v) (s : TransferTracker) (item : Item) where
   abbrev g : Program
   g = program blocks v.subs.now
 
@@ -120,19 +120,20 @@ module _ (blocks : List Block) (v : Values) (index : Index) (are : AreValuesOf b
   not_first e = let i : 0 ≡ s.item + 1 = ap (λ (z : Pos). z.item) e in omega (arith, i)
 
   -- no path leads below what no path leads to
-  pub stays_unreached : (after : Stand) → Stands blocks v index s → s.reached ≡ false → after.reached ≡ false → after.block ≡ s.block →
+  pub stays_unreached : (after : TransferTracker) → Stands blocks v index s → s.reached ≡ false → after.reached ≡ false → after.block ≡ s.block →
       after.item ≡ s.item + 1 →
       Stands blocks v index after
   stays_unreached after stands off off_after block next = record {
     reached = λ on. absurd (let both : true ≡ false = sym on ∙ off_after in cc);
     unreached = λ e path. stands.unreached off (paths_come_from_above g (block_start 0) here not_first (at_below after block next path)).0;
   } where
-    at_below : (after : Stand) → after.block ≡ s.block → after.item ≡ s.item + 1 → IsReached g (block_start 0) (pos_in after.block after.item) →
+    at_below : (after : TransferTracker) → after.block ≡ s.block → after.item ≡ s.item + 1 → IsReached g (block_start 0) (pos_in after.block after.item) →
         IsReached g (block_start 0) (below here)
     at_below after block next path = subst (λ (z : Pos). IsReached g (block_start 0) z) (λ i. record { block = block i; item = next i }) path
 
   -- nor below an item that control doesn't go below from
-  pub leaves_unreached : (after : Stand) → g.fetch here ≡ Here item → (Falls (exit_of item.kind) → ⊥) → after.reached ≡ false → after.block ≡ s.block →
+  pub leaves_unreached : (after : TransferTracker) → g.fetch here ≡ Here item → (Falls (exit_of item.kind) → ⊥) → after.reached ≡ false →
+      after.block ≡ s.block →
       after.item ≡ s.item + 1 → Stands blocks v index after
   leaves_unreached after fetch stops off_after block next = record {
     reached = λ on. absurd (let both : true ≡ false = sym on ∙ off_after in cc);
@@ -143,7 +144,7 @@ module _ (blocks : List Block) (v : Values) (index : Index) (are : AreValuesOf b
         stops (kind_falls g.enter here item.kind (subst (λ (f : Fetch). FetchEdge g.enter f here (below here)) fetch edge));
   }
 
-  pub passes_on : (after : Stand) → Stands blocks v index s → s.reached ≡ true → g.fetch here ≡ Here item → Falls (exit_of item.kind) →
+  pub passes_on : (after : TransferTracker) → Stands blocks v index s → s.reached ≡ true → g.fetch here ≡ Here item → Falls (exit_of item.kind) →
       Passes v.variables.now v.things.now index s.settled.items (resolve v.subs.now) s.held after.held item.kind → after.reached ≡ true →
       after.block ≡ s.block → after.item ≡ s.item + 1 → after.settled ≡ s.settled → after.constants ≡ s.constants → Stands blocks v index after
   passes_on after stands on fetch falls passes on_after block next settled constants =
@@ -174,7 +175,7 @@ module _ (blocks : List Block) (v : Values) (index : Index) (are : AreValuesOf b
 
 -- ---- the start of a block
 
-pub enters : (blocks : List Block) (v : Values) (index : Index) → AreValuesOf blocks v → (s : Stand) (e : BlockEntry) →
+pub enters : (blocks : List Block) (v : Values) (index : TrackedIndex) → AreValuesOf blocks v → (s : TransferTracker) (e : BlockEntry) →
     slice_get v.entries.now s.block ≡ Some e →
     s.item ≡ 0 → s.reached ≡ e.reached → length s.settled.items ≡ length v.things.now →
     ((i : ℕ) → i < length v.things.now → slice_index s.settled.items i ≡ settled_at e.classes e.given i) →

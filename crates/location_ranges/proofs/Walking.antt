@@ -9,8 +9,8 @@ use Rattle.mir_func.specs.declared.position.Pos.{Pos}
 use Rattle.mir_func.specs.declared.variable.VarId.{VarId}
 use Rattle.mir_func.specs.Function.{FramedFunction}
 use Rattle.mir_func.specs.Graph.{Program, Here, block_start, end_of, front, fetch_in}
-use Rattle.value_tracker.specs.declared.index.Index.{Index}
-use Rattle.emit_code.specs.declared.code.Entry.{Entry}
+use Rattle.value_tracker.specs.declared.index.TrackedIndex.{TrackedIndex}
+use Rattle.emit_code.specs.declared.code.EncodedInstruction.{EncodedInstruction}
 use Rattle.emit_code.specs.Laid.{StandFrom, IsOfItem}
 use Rattle.dwarf_loclists.specs.declared.range.Range.{Range}
 use Rattle.dwarf_loclists.specs.Ranges.{Ascend}
@@ -32,24 +32,24 @@ use Rattle.location_ranges.proofs.Saying.{at_end, track_more, says_more, says_no
 
 -- ---- points of entries
 
-no_item_at_end : (silent : ℕ) (bs : List Block) (i : Item) → end_of silent bs ≡ Here i → ⊥
-no_item_at_end silent [] i e = cc
-no_item_at_end silent (b ∷ bs) i e = cc
+no_item_at_end : (source_end : ℕ) (bs : List Block) (i : Item) → end_of source_end bs ≡ Here i → ⊥
+no_item_at_end source_end [] i e = cc
+no_item_at_end source_end (b ∷ bs) i e = cc
 
-here_within : (items : List Item) (k silent : ℕ) (bs : List Block) (i : Item) → front (drop k items) silent bs ≡ Here i → k < length items
-here_within [] zero silent bs i e = absurd (no_item_at_end silent bs i e)
-here_within [] (suc k) silent bs i e = absurd (no_item_at_end silent bs i e)
-here_within (x ∷ xs) zero silent bs i e = omega arith
-here_within (x ∷ xs) (suc k) silent bs i e = let h = here_within xs k silent bs i e in omega (arith, h)
+here_within : (items : List Item) (k source_end : ℕ) (bs : List Block) (i : Item) → front (drop k items) source_end bs ≡ Here i → k < length items
+here_within [] zero source_end bs i e = absurd (no_item_at_end source_end bs i e)
+here_within [] (suc k) source_end bs i e = absurd (no_item_at_end source_end bs i e)
+here_within (x ∷ xs) zero source_end bs i e = omega arith
+here_within (x ∷ xs) (suc k) source_end bs i e = let h = here_within xs k source_end bs i e in omega (arith, h)
 
 fetched_block : (blocks : List Block) (b k : ℕ) (i : Item) → fetch_in (drop b blocks) k ≡ Here i →
     (block : Block) × (slice_get blocks b ≡ Some block) × (k ≤ length block.items)
 fetched_block [] zero k i e = cc
 fetched_block [] (suc b) k i e = cc
-fetched_block (x ∷ xs) zero k i e = (x, refl, let h = here_within x.items k x.silent xs i e in omega (arith, h))
+fetched_block (x ∷ xs) zero k i e = (x, refl, let h = here_within x.items k x.source_end xs i e in omega (arith, h))
 fetched_block (x ∷ xs) (suc b) k i e = fetched_block xs b k i e
 
-pub points_in : (f : FramedFunction) (entries : List Entry) → All (IsOfItem f) entries → All (IsPointIn f.blocks) entries
+pub points_in : (f : FramedFunction) (entries : List EncodedInstruction) → All (IsOfItem f) entries → All (IsPointIn f.blocks) entries
 points_in f entries are = λ k d lt.
     let e = slice_index_or entries k d in
     let at = are k d lt in
@@ -70,20 +70,20 @@ one_at xs ys k y count e = elim (slice_get_cases xs k).1 [
   | inr h ↦ absurd (let lt = slice_get_within ys k y e in let le = h.0 in omega (arith, lt, le, count))
 ]
 
-module _ (blocks : List Block) (v : Values) (index : Index) (entries : List Entry) (variables : List VarId) (base end : ℕ)
+module _ (blocks : List Block) (v : Values) (index : TrackedIndex) (entries : List EncodedInstruction) (variables : List VarId) (base end : ℕ)
     (stand : StandFrom base entries end) (groups : List Group) (of : AreGroupsOf v.variables.now variables groups) where
   abbrev g : Program
   g = program blocks v.subs.now
 
   -- what the track of a number has turned to
-  record Turned (w : Walk) (e : Entry) (old : List Track) (k : ℕ) (u : Track) : Type 0 where
+  record Turned (w : Walk) (e : EncodedInstruction) (old : List Track) (k : ℕ) (u : Track) : Type 0 where
     track : Track
     group : Group
     was : slice_get old k ≡ Some track
     mine : slice_get groups k ≡ Some group
     turns : TurnsBy group w.places.items e.address track u
 
-  turned_at : (w : Walk) (e : Entry) (old : List Track) → length old ≡ length groups →
+  turned_at : (w : Walk) (e : EncodedInstruction) (old : List Track) → length old ≡ length groups →
       TurnedBelow groups w.places.items e.address old (length groups) w.tracks.items → (k : ℕ) (u : Track) → slice_get w.tracks.items k ≡ Some u →
       Turned w e old k u
   turned_at w e old as_many turned k u at =
@@ -97,7 +97,7 @@ module _ (blocks : List Block) (v : Values) (index : Index) (entries : List Entr
         turns = turned.done k group.0 t.0 u (slice_get_within groups k group.0 group.1) group.1 t.1 at;
       }
 
-  pub have_said_more : (i : ℕ) (e : Entry) (w : Walk) (old : List Track) → slice_get entries i ≡ Some e → length old ≡ length groups →
+  pub have_said_more : (i : ℕ) (e : EncodedInstruction) (w : Walk) (old : List Track) → slice_get entries i ≡ Some e → length old ≡ length groups →
       length w.places.items ≡ length v.variables.now → (AreValuesOf blocks v → Stands blocks v index w.stand) → w.stand.block ≡ e.point.block →
       w.stand.item ≡ e.point.item → ArePlacesAt w.stand w.places.items →
       TurnedBelow groups w.places.items e.address old (length groups) w.tracks.items → HaveSaid blocks v entries variables base i old →
@@ -119,7 +119,8 @@ module _ (blocks : List Block) (v : Values) (index : Index) (entries : List Entr
 
 -- ---- the beginning and the end
 
-module _ (blocks : List Block) (v : Values) (entries : List Entry) (variables : List VarId) (base end : ℕ) (stand : StandFrom base entries end) where
+module _ (blocks : List Block) (v : Values) (entries : List EncodedInstruction) (variables : List VarId) (base end : ℕ)
+    (stand : StandFrom base entries end) where
   abbrev program_of : Program
   program_of = program blocks v.subs.now
 

@@ -1,7 +1,7 @@
 -- The walk's state before an item.
 use Rattle.std.specs.Prelude.{◌≡◌, ℕ, List, length, map, Some, true, false, slice_get}
 use Rattle.mir_func.specs.declared.block.Block.{Block}
-use Rattle.mir_func.specs.declared.entry.Entry.{Entry}
+use Rattle.mir_func.specs.declared.entry.DebugSubstitution.{DebugSubstitution}
 use Rattle.mir_func.specs.declared.exit.Exit.{Exit}
 use Rattle.mir_func.specs.declared.exit.Exit.TheVariants.{Onward, Perhaps, Always, Final}
 use Rattle.mir_func.specs.declared.item.Item.{Item}
@@ -12,15 +12,15 @@ use Rattle.value_solver.specs.declared.entry.BlockEntry.{BlockEntry}
 use Rattle.value_solver.specs.Entry.{thing, IsEntry}
 use Rattle.value_proof.specs.Classes.{Classes, AreClasses, IsReached}
 use Rattle.value_proof.specs.Wanted.{AreThingsOf}
-use Rattle.value_tracker.specs.declared.index.Index.{Index}
+use Rattle.value_tracker.specs.declared.index.TrackedIndex.{TrackedIndex}
 use Rattle.value_tracker.specs.Things.{AreThings}
 use Rattle.value_tracker.specs.Held.{PLACES, Holds}
 use Rattle.value_tracker.specs.Start.{ConstantsNow}
 use Rattle.location_ranges.specs.declared.values.Values.{Values}
-use Rattle.location_ranges.specs.declared.stand.Stand.{Stand}
+use Rattle.location_ranges.specs.declared.stand.TransferTracker.{TransferTracker}
 
 -- the semantics of the function with its frame
-abbrev pub program : List Block → List Entry → Program
+abbrev pub program : List Block → List DebugSubstitution → Program
 program blocks subs = framed_program blocks (resolve subs)
 
 -- the result of the value analysis of a function: the tracked entities, parts of variables first, and the exact live-in values of
@@ -32,19 +32,19 @@ pub record AreValuesOf (blocks : List Block) (v : Values) : Type 0 where
   pub for_all : length v.entries.now ≡ length blocks
 
 -- before a reached item the state holds the classes of the tracked entities there, and the constants of classes
-pub record Reaches (g : Program) (v : Values) (index : Index) (s : Stand) : Type 0 where
+pub record Reaches (g : Program) (v : Values) (index : TrackedIndex) (s : TransferTracker) : Type 0 where
   pub class : Classes
   pub held : Holds v.variables.now v.things.now index s.settled.items s.held class
   pub classes : AreClasses g (block_start 0) (pos_in s.block s.item) (map thing v.things.now) class
   pub constants : ConstantsNow v.things.now class s.constants.items
 
 -- the state is that before an item: `Reaches` if some path leads to it, and otherwise it is marked as unreached
-pub record Stands (blocks : List Block) (v : Values) (index : Index) (s : Stand) : Type 0 where
+pub record Stands (blocks : List Block) (v : Values) (index : TrackedIndex) (s : TransferTracker) : Type 0 where
   pub reached : s.reached ≡ true → Reaches (program blocks v.subs.now) v index s
   pub unreached : s.reached ≡ false → IsReached (program blocks v.subs.now) (block_start 0) (pos_in s.block s.item) → ⊥
 
 -- the state has a class for each machine location and for each part of a variable
-pub record Fits (s : Stand) (v : Values) : Type 0 where
+pub record Fits (s : TransferTracker) (v : Values) : Type 0 where
   pub places : length s.held.places.items ≡ PLACES
   pub parts : length s.held.parts.items ≡ length v.variables.now
 

@@ -5,7 +5,7 @@ ghost use Rattle.value_tracker.specs.Held.{PLACES};
 ghost use Rattle.value_tracker.specs.Look.{place_of};
 ghost use Rattle.location_ranges.specs.steps.Places.{IsEmpty, ArePlacesAt};
 
-use crate::stand::Stand;
+use crate::stand::TransferTracker;
 use rv64_instr::place::Place;
 use std::alloc::AllocError;
 use value_tracker::firsts::{empty, fill};
@@ -14,7 +14,7 @@ use value_tracker::look::place_of;
 /// Looks up the place of each part of a variable before an item: the first location of its class, and None at an
 /// unreached item. A table of first locations is filled for it, and emptied again. The error is out of memory.
 pub fn look_up(
-    stand: &Stand,
+    stand: &TransferTracker,
     firsts: &mut Vec<Option<usize>>,
     places: &mut [Option<Place>],
 ) -> Result<(), AllocError>
@@ -32,7 +32,7 @@ pub fn look_up(
 }
 
 /// The place of each part, by the first location of each class.
-fn place_parts(places: &mut [Option<Place>], stand: &Stand, firsts: &[Option<usize>])
+fn place_parts(places: &mut [Option<Place>], stand: &TransferTracker, firsts: &[Option<usize>])
     requires parts { length stand.now.held.parts.items ≡ length places.old }
     requires within { (k i : ℕ) → slice_index_or firsts.now k None ≡ Some i → i < PLACES }
     ensures { (j : ℕ) → j < length places.old → slice_index_or places.new j None
@@ -45,7 +45,7 @@ fn place_parts(places: &mut [Option<Place>], stand: &Stand, firsts: &[Option<usi
 }
 
 /// The place of a part with a class.
-fn place_part(stand: &Stand, firsts: &[Option<usize>], class: usize) -> Option<Place>
+fn place_part(stand: &TransferTracker, firsts: &[Option<usize>], class: usize) -> Option<Place>
     requires { (k i : ℕ) → slice_index_or firsts.now k None ≡ Some i → i < PLACES }
     ensures { result ≡ cond stand.now.reached (place_of firsts.now stand.now.constants.items class) None }
 {

@@ -15,25 +15,25 @@ ghost use Rattle.location_ranges.specs.steps.Saying.{TurnedBelow, IsNew, Closes}
 ghost use Rattle.location_ranges.specs.steps.Walk.{IsPointIn, Fits, HaveSaid};
 
 use crate::places::look_up;
-use crate::stand::{Stand, enter, move_to};
+use crate::stand::{TransferTracker, enter, move_to};
 use crate::track::Track;
 use crate::turn::turn_all;
 use crate::values::Values;
 use dwarf_loclists::range::{RangeLists, Ranges};
-use emit_code::code::{Code, Entry};
+use emit_code::code::{Code, EncodedInstruction};
 use location_of_variable::group::{Group, groups};
 use mir_func::block::Block;
 use mir_func::variable::VarId;
 use rv64_instr::place::Place;
 use std::alloc::{AllocError, Global};
 use std::mem;
-use value_tracker::index::{Index, index_of};
+use value_tracker::index::{TrackedIndex, index_of};
 
 /// The state of the walk between two entries.
 #[derive(Drop)]
 pub struct Walk {
     /// The state of the walk over a block's items.
-    pub stand: Stand,
+    pub stand: TransferTracker,
     /// A table for first locations, which is empty.
     pub firsts: Vec<Option<usize>>,
     /// The places of the parts of variables at the last lookup.
@@ -80,7 +80,7 @@ fn blocks_of(code: &Code) -> &[Block]
 }
 
 /// Its entries, contiguous, each with an item.
-fn entries_of(code: &Code) -> &[Entry]
+fn entries_of(code: &Code) -> &[EncodedInstruction]
     ensures entries { result.now ≡ code.now.entries }
     ensures stand { StandFrom code.now.base code.now.entries (code.now.base + 4 * length code.now.words) }
     ensures points { All (IsPointIn code.now.framed.blocks) code.now.entries }
@@ -112,7 +112,7 @@ fn past_entries(
     alloc: Global,
     values: &Values,
     blocks: &[Block],
-    entries: &[Entry],
+    entries: &[EncodedInstruction],
     groups: &[Group],
     tracks: Vec<Track>,
 ) -> Result<Vec<Track>, AllocError>
@@ -151,7 +151,7 @@ fn past_entries(
 }
 
 /// The index of an entry's block.
-fn block_of(entry: &Entry) -> usize
+fn block_of(entry: &EncodedInstruction) -> usize
     ensures { result ≡ entry.now.point.block }
 {
     entry.point.block.number() as usize
@@ -163,10 +163,10 @@ impl Walk {
         self,
         alloc: Global,
         values: &Values,
-        index: &Index,
+        index: &TrackedIndex,
         blocks: &[Block],
         groups: &[Group],
-        entry: &Entry,
+        entry: &EncodedInstruction,
     ) -> Result<Walk, AllocError>
         requires things { AreThings values.now.variables.now values.now.things.now }
         requires parts { length values.now.variables.now ≤ length values.now.things.now }

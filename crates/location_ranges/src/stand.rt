@@ -14,15 +14,15 @@ use crate::values::Values;
 use mir_func::exit::Exit;
 use mir_func::item::{Item, ItemKind};
 use std::alloc::{AllocError, Global};
-use value_tracker::held::Held;
-use value_tracker::index::Index;
+use value_tracker::held::LocationTracker;
+use value_tracker::index::TrackedIndex;
 use value_tracker::look::constants;
 use value_tracker::pass::Block as Fixed;
 use value_tracker::start::{settle, start};
 
 /// The state before an item (LLVM: `TransferTracker`).
 #[derive(Drop)]
-pub struct Stand {
+pub struct TransferTracker {
     /// The index of the block.
     pub block: usize,
     /// The index of the next item.
@@ -34,16 +34,16 @@ pub struct Stand {
     /// The constant of each class that has one.
     pub constants: Vec<Option<i64>>,
     /// The tracker's state before the item.
-    pub held: Held,
+    pub held: LocationTracker,
 }
 
 /// The state before the first item of a block. The error is out of memory.
 pub fn enter(
     alloc: Global,
     values: &Values,
-    index: &Index,
+    index: &TrackedIndex,
     block: usize,
-) -> Result<Stand, AllocError>
+) -> Result<TransferTracker, AllocError>
     requires block { block < length values.now.entries.now }
     requires things { AreThings values.now.variables.now values.now.things.now }
     requires variables { length values.now.variables.now ≤ length values.now.things.now }
@@ -64,7 +64,7 @@ pub fn enter(
         settled.as_slice(),
     )?;
     let constants = constants(alloc, values.things, settled.as_slice(), held.next)?;
-    Ok(Stand {
+    Ok(TransferTracker {
         block,
         item: 0,
         reached: entry.reached,
@@ -86,9 +86,9 @@ fn falls(kind: &ItemKind) -> bool
     }
 }
 
-impl Stand {
+impl TransferTracker {
     /// Steps over an item.
-    fn pass(&mut self, values: &Values, index: &Index, item: &Item) -> Result<(), AllocError>
+    fn pass(&mut self, values: &Values, index: &TrackedIndex, item: &Item) -> Result<(), AllocError>
         requires few { self.old.item < 2 ^ 63 }
         requires fits { Fits self.old values.now }
         ensures stands { OnOk result ((blocks : List Block) → AreValuesOf blocks values.now →
@@ -122,7 +122,7 @@ impl Stand {
     fn advance(
         &mut self,
         values: &Values,
-        index: &Index,
+        index: &TrackedIndex,
         items: &[Item],
         to: usize,
     ) -> Result<(), AllocError>
@@ -145,9 +145,9 @@ impl Stand {
 
 /// Steps over an item below which control may continue.
 fn pass_held(
-    held: &mut Held,
+    held: &mut LocationTracker,
     values: &Values,
-    index: &Index,
+    index: &TrackedIndex,
     settled: &[usize],
     kind: &ItemKind,
 ) -> Result<(), AllocError>
@@ -172,12 +172,12 @@ fn pass_held(
 pub fn move_to(
     alloc: Global,
     values: &Values,
-    index: &Index,
-    stand: Stand,
+    index: &TrackedIndex,
+    stand: TransferTracker,
     block: usize,
     items: &[Item],
     item: usize,
-) -> Result<Stand, AllocError>
+) -> Result<TransferTracker, AllocError>
     requires block { block < length values.now.entries.now }
     requires things { AreThings values.now.variables.now values.now.things.now }
     requires variables { length values.now.variables.now ≤ length values.now.things.now }
@@ -200,11 +200,11 @@ pub fn move_to(
 fn stand_in(
     alloc: Global,
     values: &Values,
-    index: &Index,
-    stand: Stand,
+    index: &TrackedIndex,
+    stand: TransferTracker,
     block: usize,
     item: usize,
-) -> Result<Stand, AllocError>
+) -> Result<TransferTracker, AllocError>
     requires block { block < length values.now.entries.now }
     requires things { AreThings values.now.variables.now values.now.things.now }
     requires variables { length values.now.variables.now ≤ length values.now.things.now }

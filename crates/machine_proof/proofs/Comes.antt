@@ -20,7 +20,7 @@ use Rattle.mir_func.specs.declared.position.Origin.TheVariants.{Kept, Before}
 use Rattle.mir_func.specs.declared.position.Pos.{Pos}
 use Rattle.mir_func.specs.Exits.{row_exit, exit_of}
 use Rattle.mir_func.specs.Function.{Function}
-use Rattle.mir_func.specs.Graph.{Fetch, Here, Silent, Outside, Program, below, front, fetch_in, from_block, program_of}
+use Rattle.mir_func.specs.Graph.{Fetch, Here, EndOfBlock, Outside, Program, below, front, fetch_in, from_block, program_of}
 use Rattle.mir_func.specs.Sound.{ids_of}
 use Rattle.mir_func.specs.SoundFrame.{IsFramed}
 use Rattle.sem_mir.specs.Align.{position_of, is_code}
@@ -55,20 +55,20 @@ frame_harmless c (stores s e) = subst (λ (x : Instruction). IsHarmless (row_of 
 frame_harmless c (loads s e) = subst (λ (x : Instruction). IsHarmless (row_of x)) (sym e) tt
 
 -- added code is harmless once its slot is named by its offset, or a jump at the end of its block
-added_row : (slots : List ℕ) (r : Row) (k silent : ℕ) → MayAdd r k silent → IsHarmless (renamed_row slots r) ⊎ (k ≡ silent)
-added_row slots (LoadsSlot rd n) k silent h = inl tt
-added_row slots (Fixes rd n) k silent h = inl tt
-added_row slots (StoresSlot rs n) k silent h = inl tt
-added_row slots (Jumps target) k silent h = inr h
-added_row slots (Moves rd rs) k silent h = absurd h
-added_row slots (Sets rd op a b) k silent h = absurd h
-added_row slots (Addresses rd n o) k silent h = absurd h
-added_row slots (Loads rd op base o) k silent h = absurd h
-added_row slots (Stores op rs base o) k silent h = absurd h
-added_row slots (Branches op a b t) k silent h = absurd h
-added_row slots (Calls name args) k silent h = absurd h
-added_row slots (Returns results) k silent h = absurd h
-added_row slots Unfit k silent h = absurd h
+added_row : (slots : List ℕ) (r : Row) (k source_end : ℕ) → MayAdd r k source_end → IsHarmless (renamed_row slots r) ⊎ (k ≡ source_end)
+added_row slots (LoadsSlot rd n) k source_end h = inl tt
+added_row slots (Fixes rd n) k source_end h = inl tt
+added_row slots (StoresSlot rs n) k source_end h = inl tt
+added_row slots (Jumps target) k source_end h = inr h
+added_row slots (Moves rd rs) k source_end h = absurd h
+added_row slots (Sets rd op a b) k source_end h = absurd h
+added_row slots (Addresses rd n o) k source_end h = absurd h
+added_row slots (Loads rd op base o) k source_end h = absurd h
+added_row slots (Stores op rs base o) k source_end h = absurd h
+added_row slots (Branches op a b t) k source_end h = absurd h
+added_row slots (Calls name args) k source_end h = absurd h
+added_row slots (Returns results) k source_end h = absurd h
+added_row slots Unfit k source_end h = absurd h
 
 renamed_exit : (slots : List ℕ) (r : Row) → row_exit (renamed_row slots r) ≡ row_exit r
 renamed_exit slots (LoadsSlot rd n) = refl
@@ -101,22 +101,22 @@ final_class (Branches op a b t) e = cc
 final_class (Jumps t) e = cc
 final_class (Calls name args) e = cc
 
-pub final_not_added : (r : Row) (k silent : ℕ) → row_exit r ≡ Final → MayAdd r k silent → ⊥
-final_not_added (Returns results) k silent e h = h
-final_not_added Unfit k silent e h = h
-final_not_added (Fixes rd n) k silent e h = cc
-final_not_added (LoadsSlot rd n) k silent e h = cc
-final_not_added (StoresSlot rs n) k silent e h = cc
-final_not_added (Jumps t) k silent e h = cc
-final_not_added _ k silent e h = h
+pub final_not_added : (r : Row) (k source_end : ℕ) → row_exit r ≡ Final → MayAdd r k source_end → ⊥
+final_not_added (Returns results) k source_end e h = h
+final_not_added Unfit k source_end e h = h
+final_not_added (Fixes rd n) k source_end e h = cc
+final_not_added (LoadsSlot rd n) k source_end e h = cc
+final_not_added (StoresSlot rs n) k source_end e h = cc
+final_not_added (Jumps t) k source_end e h = cc
+final_not_added _ k source_end e h = h
 
-branch_not_added : (r : Row) (k silent n : ℕ) → row_exit r ≡ Perhaps n → MayAdd r k silent → ⊥
-branch_not_added (Branches op a b t) k silent n e h = h
-branch_not_added (Fixes rd m) k silent n e h = cc
-branch_not_added (LoadsSlot rd m) k silent n e h = cc
-branch_not_added (StoresSlot rs m) k silent n e h = cc
-branch_not_added (Jumps t) k silent n e h = cc
-branch_not_added _ k silent n e h = h
+branch_not_added : (r : Row) (k source_end n : ℕ) → row_exit r ≡ Perhaps n → MayAdd r k source_end → ⊥
+branch_not_added (Branches op a b t) k source_end n e h = h
+branch_not_added (Fixes rd m) k source_end n e h = cc
+branch_not_added (LoadsSlot rd m) k source_end n e h = cc
+branch_not_added (StoresSlot rs m) k source_end n e h = cc
+branch_not_added (Jumps t) k source_end n e h = cc
+branch_not_added _ k source_end n e h = h
 
 -- a return of physical registers, or no code, doesn't stop on a frame fault
 return_goes : (r : Row) (c : Core) → (class_of r ≡ Return) ⊎ (class_of r ≡ Odd) → ResultsArePhysical r → ((q : ℕ) → q < 32 → IsSome (content c.regs q)) →
@@ -162,7 +162,7 @@ no_item : (src : Program) (q : Pos) → ((i : Item) → src.fetch q ≡ Here i �
 no_item src q h s at w e = by_fetch (src.fetch s.pos) refl e where
   by_fetch : (x : Fetch) → src.fetch s.pos ≡ x → moved src.enter s.pos (do_fetch src x s.core) ≡ Faulted → ⊥
   by_fetch (Here i) f k = h i (ap src.fetch (sym at) ∙ f)
-  by_fetch (Silent j n) f k = cc
+  by_fetch (EndOfBlock j n) f k = cc
   by_fetch Outside f k = cc
 
 -- a block's end has no item
@@ -173,11 +173,11 @@ past_items xs k bs i e = none_at xs (front_item xs (length xs) k bs i e) where
   none_at (x ∷ xs) h = none_at xs h
 
 -- the source has each block of f, with its silent index
-among_has : {fs bs : List Block} → Among fs bs → (b : Block) → Contains fs b → (c : Block) × Contains bs c × (c.id ≡ b.id) × (c.silent ≡ b.silent)
+among_has : {fs bs : List Block} → Among fs bs → (b : Block) → Contains fs b → (c : Block) × Contains bs c × (c.id ≡ b.id) × (c.source_end ≡ b.source_end)
 among_has none b (k, lt, e) = absurd (omega (arith, lt))
-among_has (same {a} {b} {rest} {bs} id silent more) x (zero, lt, e) =
-    (b, Rattle.sem_mir.proofs.Places.contains_head b bs, sym id ∙ ap (λ (z : Block). z.id) e, sym silent ∙ ap (λ (z : Block). z.silent) e)
-among_has (same {a} {b} {rest} {bs} id silent more) x (suc k, lt, e) =
+among_has (same {a} {b} {rest} {bs} id source_end more) x (zero, lt, e) =
+    (b, Rattle.sem_mir.proofs.Places.contains_head b bs, sym id ∙ ap (λ (z : Block). z.id) e, sym source_end ∙ ap (λ (z : Block). z.source_end) e)
+among_has (same {a} {b} {rest} {bs} id source_end more) x (suc k, lt, e) =
     let h = among_has more x (k, omega (arith, lt), e) in
     (h.0, Rattle.sem_mir.proofs.Places.contains_tail b h.0 bs h.1, h.2, h.3)
 among_has (left {b} {rest} {bs} more) x m = let h = among_has more x m in (h.0, Rattle.sem_mir.proofs.Places.contains_tail b h.0 bs h.1, h.2, h.3)
@@ -187,15 +187,15 @@ module _ (source f : Function) (resolve fresolve : OperandPair → Option Operan
   src = program_of true source.blocks resolve
 
   -- at the silent position of a block of f the source has no item
-  pub silent_never : (b : Block) → Contains f.blocks b → (q : Pos) → q.block ≡ b.id → q.item ≡ b.silent → (i : Item) → src.fetch q ≡ Here i → ⊥
+  pub silent_never : (b : Block) → Contains f.blocks b → (q : Pos) → q.block ≡ b.id → q.item ≡ b.source_end → (i : Item) → src.fetch q ≡ Here i → ⊥
   silent_never b member q at item i e =
       let a = among_has made.shape.among b member in
       let fd = Rattle.sem_mir.proofs.Reading.found source.blocks made.read.apart a.0 a.1 in
-      let len : a.0.silent ≡ length a.0.items = All-contains (λ (c : Block). c.silent ≡ length c.items) source.blocks a.0 made.read.silent a.1 in
+      let len : a.0.source_end ≡ length a.0.items = All-contains (λ (c : Block). c.source_end ≡ length c.items) source.blocks a.0 made.read.source_end a.1 in
       let from : from_block source.blocks q.block ≡ a.0 ∷ fd.rest = ap (from_block source.blocks) (at ∙ sym a.2) ∙ fd.at in
       let k : q.item ≡ length a.0.items = item ∙ sym a.3 ∙ len in
-      past_items a.0.items a.0.silent fd.rest i
-      (ap (λ (n : ℕ). front (drop n a.0.items) a.0.silent fd.rest) (sym k) ∙ ap (λ (bs : List Block). fetch_in bs q.item) (sym from) ∙ e)
+      past_items a.0.items a.0.source_end fd.rest i
+      (ap (λ (n : ℕ). front (drop n a.0.items) a.0.source_end fd.rest) (sym k) ∙ ap (λ (bs : List Block). fetch_in bs q.item) (sym from) ∙ e)
 
   -- at a return, or at what is no code, it doesn't stop on a frame fault
   returns_never : (r : Row) (q : Pos) → (class_of r ≡ Return) ⊎ (class_of r ≡ Odd) → HasClass r (src.fetch q) → NeverFaults src q
@@ -220,13 +220,13 @@ module _ (source f : Function) (resolve fresolve : OperandPair → Option Operan
                 let fd = found_in source.blocks q.block b rest d in
                 All-contains (λ (j : Item). KindReturnsPhysical j.kind) b.items i
                 (All-contains (λ (b : Block). All (λ (j : Item). KindReturnsPhysical j.kind) b.items) source.blocks b made.returns fd.0)
-                (got b.items q.item i (front_item b.items q.item b.silent rest i h))
+                (got b.items q.item i (front_item b.items q.item b.source_end rest i h))
     by_kind i f (Mark v m) ek hc = absurd hc
     by_kind i f (Phi p n) ek hc = absurd hc
 
     by_fetch : (x : Fetch) → src.fetch q ≡ x → HasClass r x → ⊥
     by_fetch (Here i) f hc = by_kind i f i.kind refl hc
-    by_fetch (Silent j n) f hc = absurd hc
+    by_fetch (EndOfBlock j n) f hc = absurd hc
     by_fetch Outside f hc = absurd hc
 
   -- ---- points
@@ -235,7 +235,7 @@ module _ (source f : Function) (resolve fresolve : OperandPair → Option Operan
   pub record IsOf (b : Block) (x : Item) : Type 0 where
     pub member : Contains f.blocks b
     pub home : (position_of x.origin).block ≡ b.id
-    pub fits : KindFits src x.kind b.silent x.origin
+    pub fits : KindFits src x.kind b.source_end x.origin
 
   pub of_f : (j : ℕ) (b : Block) (rest : List Block) → drop j f.blocks ≡ b ∷ rest → (n : ℕ) (x : Item) → slice_get b.items n ≡ Some x → IsOf b x
   of_f j b rest d n x e =
@@ -243,8 +243,8 @@ module _ (source f : Function) (resolve fresolve : OperandPair → Option Operan
       record {
         member = m;
         home = (in_order_get b.id 0 b.items (All-contains (λ (c : Block). InOrder c.id 0 c.items) f.blocks b made.shape.order m) n x e).0;
-        fits = All-contains (λ (i : Item). KindFits src i.kind b.silent i.origin) b.items x
-            (All-contains (λ (c : Block). All (λ (i : Item). KindFits src i.kind c.silent i.origin) c.items) f.blocks b made.shape.items m)
+        fits = All-contains (λ (i : Item). KindFits src i.kind b.source_end i.origin) b.items x
+            (All-contains (λ (c : Block). All (λ (i : Item). KindFits src i.kind c.source_end i.origin) c.items) f.blocks b made.shape.items m)
             (got b.items n x e);
       }
 
@@ -272,9 +272,9 @@ module _ (source f : Function) (resolve fresolve : OperandPair → Option Operan
     by_kind (Phi p n) = refl
 
   pub fits_before : (b : Block) (x : Item) (d : Instruction) (k : Option ℕ) (q : Pos) → x.kind ≡ Code d k → x.origin ≡ Before q →
-      KindFits src x.kind b.silent x.origin →
-      MayAdd (row_of d) q.item b.silent
-  fits_before b x d k q ek eo h = subst (RowFits src (row_of d) b.silent) eo (subst (λ (z : ItemKind). KindFits src z b.silent x.origin) ek h)
+      KindFits src x.kind b.source_end x.origin →
+      MayAdd (row_of d) q.item b.source_end
+  fits_before b x d k q ek eo h = subst (RowFits src (row_of d) b.source_end) eo (subst (λ (z : ItemKind). KindFits src z b.source_end x.origin) ek h)
 
   module _ (framed : IsFramed (framed_of f)) where
     pub added_at : (p : Pos) (i : Item) (c : Instruction) (k : Option ℕ) (q : Pos) → fetched (framed_of f) p ≡ Here i → i.kind ≡ Code c k →
@@ -293,7 +293,7 @@ module _ (source f : Function) (resolve fresolve : OperandPair → Option Operan
           let code = own_code x c k (ap (λ (z : Item). z.kind) (sym made_of) ∙ kind) in
           let eo : x.origin ≡ Before q = ap (λ (z : Item). z.origin) (sym made_of) ∙ origin in
           let may = fits_before blk.block x code.0 k q code.1 eo o.fits in
-          elim (added_row f.slots (row_of code.0) q.item blk.block.silent may) as (λ _. IsHarmless (row_of c) ⊎ NeverFaults src q) [
+          elim (added_row f.slots (row_of code.0) q.item blk.block.source_end may) as (λ _. IsHarmless (row_of c) ⊎ NeverFaults src q) [
             | inl h ↦ inl (subst IsHarmless (sym (ap row_of code.2 ∙ row_renamed f.slots code.0)) h)
             | inr z ↦ inr (no_item src q (silent_never blk.block o.member q (ap (λ (w : Origin). (position_of w).block) (sym eo) ∙ o.home) z))
           ]
@@ -322,9 +322,9 @@ module _ (source f : Function) (resolve fresolve : OperandPair → Option Operan
               row = ap exit_of (sym ek) ∙ ex
 
               by_origin : (w : Origin) → x.origin ≡ w → NeverFaults src (position_of w)
-              by_origin (Before q) eo = absurd (final_not_added (row_of d) q.item blk.block.silent row (fits_before blk.block x d n q ek eo o.fits))
+              by_origin (Before q) eo = absurd (final_not_added (row_of d) q.item blk.block.source_end row (fits_before blk.block x d n q ek eo o.fits))
               by_origin (Kept q) eo = returns_never (row_of d) q (final_class (row_of d) row)
-                  (subst (RowFits src (row_of d) blk.block.silent) eo (subst (λ (z : ItemKind). KindFits src z blk.block.silent x.origin) ek o.fits))
+                  (subst (RowFits src (row_of d) blk.block.source_end) eo (subst (λ (z : ItemKind). KindFits src z blk.block.source_end x.origin) ek o.fits))
 
     -- ---- the order
 
@@ -375,7 +375,7 @@ module _ (source f : Function) (resolve fresolve : OperandPair → Option Operan
           by_kind x o (Code d m) ek ex = by_origin x.origin refl where
             by_origin : (w : Origin) → x.origin ≡ w → (q : Pos) × (x.origin ≡ Kept q)
             by_origin (Kept q) eo = (q, eo)
-            by_origin (Before q) eo = absurd (branch_not_added (row_of d) q.item blk.block.silent n (ap exit_of (sym ek)
+            by_origin (Before q) eo = absurd (branch_not_added (row_of d) q.item blk.block.source_end n (ap exit_of (sym ek)
                 ∙ ex) (fits_before blk.block x d m q ek eo o.fits))
 
     pub apart_at : (p q : Pos) (i j : Item) (n : ℕ) → fetched (framed_of f) p ≡ Here i → exit_of i.kind ≡ Perhaps n → FallsTo (framed_of f) (below p) q →

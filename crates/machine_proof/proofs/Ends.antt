@@ -57,28 +57,28 @@ pub added_of : (o : Origin) → waits_at false o ≡ true → (q : Pos) × (o �
 added_of (Kept p) e = cc
 added_of (Before p) e = (p, refl)
 
-pub jump_may : (r : Row) (k silent n : ℕ) → row_exit r ≡ Always n → MayAdd r k silent → k ≡ silent
-jump_may (Jumps t) k silent n e h = h
-jump_may (Fixes rd m) k silent n e h = cc
-jump_may (LoadsSlot rd m) k silent n e h = cc
-jump_may (StoresSlot rs m) k silent n e h = cc
-jump_may _ k silent n e h = absurd h
+pub jump_may : (r : Row) (k source_end n : ℕ) → row_exit r ≡ Always n → MayAdd r k source_end → k ≡ source_end
+jump_may (Jumps t) k source_end n e h = h
+jump_may (Fixes rd m) k source_end n e h = cc
+jump_may (LoadsSlot rd m) k source_end n e h = cc
+jump_may (StoresSlot rs m) k source_end n e h = cc
+jump_may _ k source_end n e h = absurd h
 
 -- code at the end of a block stores a slot or jumps
-pub end_row : (r : Row) (k silent : ℕ) → k ≡ silent → MayAdd r k silent → IsSlotStore r ⊎ (is_jump_row r ≡ true)
-end_row (StoresSlot rs n) k silent e h = inl tt
-end_row (Jumps t) k silent e h = inr refl
-end_row (Fixes rd n) k silent e h = absurd (omega (arith, e, h))
-end_row (LoadsSlot rd n) k silent e h = absurd (omega (arith, e, h))
-end_row (Moves rd rs) k silent e h = absurd h
-end_row (Sets rd op a b) k silent e h = absurd h
-end_row (Addresses rd n o) k silent e h = absurd h
-end_row (Loads rd op base o) k silent e h = absurd h
-end_row (Stores op rs base o) k silent e h = absurd h
-end_row (Branches op a b t) k silent e h = absurd h
-end_row (Calls name args) k silent e h = absurd h
-end_row (Returns results) k silent e h = absurd h
-end_row Unfit k silent e h = absurd h
+pub end_row : (r : Row) (k source_end : ℕ) → k ≡ source_end → MayAdd r k source_end → IsSlotStore r ⊎ (is_jump_row r ≡ true)
+end_row (StoresSlot rs n) k source_end e h = inl tt
+end_row (Jumps t) k source_end e h = inr refl
+end_row (Fixes rd n) k source_end e h = absurd (omega (arith, e, h))
+end_row (LoadsSlot rd n) k source_end e h = absurd (omega (arith, e, h))
+end_row (Moves rd rs) k source_end e h = absurd h
+end_row (Sets rd op a b) k source_end e h = absurd h
+end_row (Addresses rd n o) k source_end e h = absurd h
+end_row (Loads rd op base o) k source_end e h = absurd h
+end_row (Stores op rs base o) k source_end e h = absurd h
+end_row (Branches op a b t) k source_end e h = absurd h
+end_row (Calls name args) k source_end e h = absurd h
+end_row (Returns results) k source_end e h = absurd h
+end_row Unfit k source_end e h = absurd h
 
 pub final_row : (r : Row) → row_exit r ≡ Final → IsSlotStore r ⊎ (is_jump_row r ≡ true) → ⊥
 final_row (Returns results) e (inl h) = h

@@ -15,7 +15,7 @@ use Rattle.mir_func.specs.Exits.{row_exit, exit_of}
 use Rattle.mir_func.specs.Graph.{Here, below}
 use Rattle.mir_func.specs.Successors.{pos_in}
 use Rattle.sem_mir.specs.Align.{is_code}
-use Rattle.emit_code.specs.declared.code.Entry.{Entry}
+use Rattle.emit_code.specs.declared.code.EncodedInstruction.{EncodedInstruction}
 use Rattle.emit_code.specs.Rule.{Layout, Form, Nothing, OneWord, CallSite, LongBranch, row_form, form_of, form_size, size_of, address_in, entry, form_entries}
 use Rattle.emit_code.specs.Rule.{Site, sites_of, entries_at, entries_of}
 use Rattle.emit_code.specs.Listed.{form_lines, kind_lines, lines_at}
@@ -40,12 +40,13 @@ in_right : {A : Type 0} (xs ys : List A) (y : A) → Contains ys y → Contains 
 in_right [] ys y c = c
 in_right (a ∷ xs) ys y c = let h = in_right xs ys y c in (suc h.0, (let l = h.1 in omega (arith, l)), h.2)
 
-in_flat : (g : Site → List Entry) (ss : List Site) (s : Site) (x : Entry) → Contains ss s → Contains (g s) x → Contains (flat_map g ss) x
+in_flat : (g : Site → List EncodedInstruction) (ss : List Site) (s : Site) (x : EncodedInstruction) → Contains ss s → Contains (g s) x →
+    Contains (flat_map g ss) x
 in_flat g [] s x (k, lt, e) c = absurd (omega (arith, lt))
 in_flat g (a ∷ ss) s x (zero, lt, e) c = in_left (g a) (flat_map g ss) x (subst (λ (z : Site). Contains (g z) x) (sym e) c)
 in_flat g (a ∷ ss) s x (suc k, lt, e) c = in_right (g a) (flat_map g ss) x (in_flat g ss s x (k, omega (arith, lt), e) c)
 
-from_append : (xs ys : List Entry) (x : Entry) → Contains (xs ++ ys) x → Contains xs x ⊎ Contains ys x
+from_append : (xs ys : List EncodedInstruction) (x : EncodedInstruction) → Contains (xs ++ ys) x → Contains xs x ⊎ Contains ys x
 from_append [] ys x c = inr c
 from_append (a ∷ xs) ys x (zero, lt, e) = inl (zero, omega arith, e)
 from_append (a ∷ xs) ys x (suc k, lt, e) = elim (from_append xs ys x (k, omega (arith, lt), e)) as (λ _. Contains (a ∷ xs) x ⊎ Contains ys x) [
@@ -53,7 +54,7 @@ from_append (a ∷ xs) ys x (suc k, lt, e) = elim (from_append xs ys x (k, omega
   | inr h ↦ inr h
 ]
 
-from_flat : (g : Site → List Entry) (ss : List Site) (x : Entry) → Contains (flat_map g ss) x →
+from_flat : (g : Site → List EncodedInstruction) (ss : List Site) (x : EncodedInstruction) → Contains (flat_map g ss) x →
     (k : ℕ) × (s : Site) × (slice_get ss k ≡ Some s) × Contains (g s) x
 from_flat g [] x (k, lt, e) = absurd (omega (arith, lt))
 from_flat g (a ∷ ss) x c = by_part (from_append (g a) (flat_map g ss) x c) (λ d. from_flat g ss x d) where
@@ -142,7 +143,7 @@ long_exit long (Phi p j) n e = cc
 
 module _ (l : Layout) where
   -- the entries of an item are among the layout's
-  among_all : (p : Pos) (i : Item) (x : Entry) → fetched l.framed p ≡ Here i →
+  among_all : (p : Pos) (i : Item) (x : EncodedInstruction) → fetched l.framed p ≡ Here i →
       Contains (form_entries (address_in l p) i.origin p (form_of (l.long p) i.kind)) x → Contains (entries_of l) x
   among_all p i x here c =
       let own : p.block ≡ 0 + p.block = omega arith in
@@ -204,21 +205,21 @@ module _ (l : Layout) where
       ap (fetched l.framed) p.point ∙ ap (λ (n : ℕ). fetched l.framed (pos_in n p.index)) b
       ∙ settled.fetched l.framed.blocks p.block p.index s.item p.item
 
-  module _ (p : Pos) (i : Item) (here : fetched l.framed p ≡ Here i) (x : Entry) where
+  module _ (p : Pos) (i : Item) (here : fetched l.framed p ≡ Here i) (x : EncodedInstruction) where
     -- the entry's address and its point
     abbrev IsHere : Type 0
     IsHere = IsPointAt l.framed (λ q. address_in l q) x.address (record { block = x.point.block; item = x.point.item })
 
     at_first : (size : ℕ) (o : Origin) (call : Bool) → is_code i.kind ≡ true → entry (address_in l p) size o p call ≡ x → IsHere
     at_first size o call code e =
-        subst (λ (z : Entry). IsPointAt l.framed (λ q. address_in l q) z.address (record { block = z.point.block; item = z.point.item })) e
+        subst (λ (z : EncodedInstruction). IsPointAt l.framed (λ q. address_in l q) z.address (record { block = z.point.block; item = z.point.item })) e
         (at_code i here code refl)
 
     at_second : (n : ℕ) → form_of (l.long p) i.kind ≡ LongBranch n → entry (address_in l p + 4) 4 i.origin p false ≡ x → IsHere
     at_second n form e =
         let own = size_at p i here in
         let size : size_of (l.long p) i ≡ 8 = ap form_size form in
-        subst (λ (z : Entry). IsPointAt l.framed (λ q. address_in l q) z.address (record { block = z.point.block; item = z.point.item })) e
+        subst (λ (z : EncodedInstruction). IsPointAt l.framed (λ q. address_in l q) z.address (record { block = z.point.block; item = z.point.item })) e
         (at_jump i n here (long_exit (l.long p) i.kind n form) (omega (arith, own, size)) refl)
 
     by_form : (z : Form) → form_of (l.long p) i.kind ≡ z → Contains (form_entries (address_in l p) i.origin p z) x → IsHere

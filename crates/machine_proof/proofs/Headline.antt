@@ -16,13 +16,13 @@ use Rattle.mir_func.specs.Exits.{exit_of}
 use Rattle.mir_func.specs.Function.{Function, FramedFunction}
 use Rattle.mir_func.specs.Graph.{Here, Program, below, block_start, program_of, framed_program}
 use Rattle.mir_func.specs.SoundFrame.{IsFramed}
-use Rattle.sem_mir.specs.Align.{position_of, is_code, waits_at, ByWords, station_of, Since, Start, Same, After, since_of, First, Aligns}
+use Rattle.sem_mir.specs.Align.{position_of, is_code, waits_at, ByWords, sync_point_of, Since, Start, Same, After, since_of, First, MatchesNext}
 use Rattle.sem_mir.specs.Align.{begin, FailsBefore}
 use Rattle.sem_mir.specs.State.{Core, State}
 use Rattle.sem_mir.specs.Step.{Returned, read, step}
 use Rattle.sem_simulation.specs.Words.{Shown}
 use Rattle.sem_simulation.proofs.Order.{cases_pos}
-use Rattle.sem_simulation.proofs.Stations.{code_station}
+use Rattle.sem_simulation.proofs.Stations.{code_sync_point}
 use Rattle.sem_machine.specs.Image.{CodeLine, Image, line_at}
 use Rattle.sem_machine.specs.Machine.{Machine, machine_start}
 use Rattle.sem_machine.specs.MachineStep.{Continues, Ends, machine_step}
@@ -147,11 +147,15 @@ module _ (source : Function) (f : FramedFunction) (resolve fresolve : OperandPai
   -- the alignment counts as the function's does
   aligned_as : (s s' : State) (p q : Pos) (since since_g : Since) →
       Counts source f resolve fresolve image framed from beside laid lists s0 start s p since since_g →
-      (since_g ≡ After → (s.pos ≡ q → ⊥) ⊎ (since ≡ since_g)) → Aligns S (First q) q since_g s s' → Aligns S (First q) q since s s'
-  aligned_as s s' p q since since_g (inl e) ne a = subst (λ (z : Since). Aligns S (First q) q z s s') (sym e) a
-  aligned_as s s' p q since since_g (inr (e, eg, apart)) ne a = elim (ne eg) as (λ _. Aligns S (First q) q since s s') [
-    | inl other_place ↦ subst (λ (z : Since). Aligns S (First q) q z s s') (sym e) (inr (other_place, subst (λ (z : Since). Aligns S (First q) q z s s') eg a))
-    | inr same ↦ subst (λ (z : Since). Aligns S (First q) q z s s') (sym same) a
+      (since_g ≡ After → (s.pos ≡ q → ⊥) ⊎ (since ≡ since_g)) → MatchesNext S (First q) q since_g s s' → MatchesNext S (First q) q since s s'
+  aligned_as s s' p q since since_g (inl e) ne a = subst (λ (z : Since). MatchesNext S (First q) q z s s') (sym e) a
+  aligned_as s s' p q since since_g (inr (e, eg, apart)) ne a = elim (ne eg) as (λ _. MatchesNext S (First q) q since s s') [
+    | inl other_place ↦ subst (λ (z : Since). MatchesNext S (First q) q z s s') (sym e) (inr (
+      other_place,
+      subst (λ (z : Since). MatchesNext S
+          (First q) q z s s') eg a,
+    ))
+    | inr same ↦ subst (λ (z : Since). MatchesNext S (First q) q z s s') (sym same) a
   ]
 
   fails_as : (s : State) (p q : Pos) (since since_g : Since) → Counts source f resolve fresolve image framed from beside laid lists s0 start s p since since_g →
@@ -194,8 +198,8 @@ module _ (source : Function) (f : FramedFunction) (resolve fresolve : OperandPai
     ne : since_g ≡ After → (s.pos ≡ q → ⊥) ⊎ (since ≡ since_g)
     ne = differs s t.pos lands.place i since since_g counts (falls_to lands.settles) lands.stands code
 
-    owed : ((s' : State) × Aligns S (First q) q since_g s s' × Shown S G s0 (start_beside s0) t' s') ⊎ FailsBefore S (First q) q since_g s
-    owed = beside.follows s0 start t' s since_g (station_of ByWords i) z.along (code_station ByWords G t'.pos i here code)
+    owed : ((s' : State) × MatchesNext S (First q) q since_g s s' × Shown S G s0 (start_beside s0) t' s') ⊎ FailsBefore S (First q) q since_g s
+    owed = beside.follows s0 start t' s since_g (sync_point_of ByWords i) z.along (code_sync_point ByWords G t'.pos i here code)
 
     by_code : AtCode f fresolve image laid t' m i → Met m s since l.origin
     by_code (single l0 at0 o0 one) =

@@ -3,7 +3,7 @@ use Rattle.std.proofs.Common.{◌≡◌, ℕ, zero, suc, List, [], ◌∷◌, ma
 use Rattle.std.proofs.lemmas.Bool.{eqb-true}
 use Rattle.mir_func.specs.declared.position.Origin.{Origin}
 use Rattle.sem_machine.specs.Image.{CodeLine, line_at}
-use Rattle.emit_code.specs.declared.code.Entry.{Entry}
+use Rattle.emit_code.specs.declared.code.EncodedInstruction.{EncodedInstruction}
 use Rattle.emit_code.specs.Listed.{Line, lines_of}
 use Rattle.emit_code.specs.Rule.{entries_of}
 use Rattle.machine_steps_proof.proofs.Points.{got}
@@ -25,8 +25,8 @@ line_found (l ∷ ls) a x e = by_test (nat_eq l.address a) refl e (λ h. line_fo
   by_test false t h more = let r = more h in (suc r.0, r.1, r.2)
 
 -- the entry beside a line
-beside : (ls : List CodeLine) (es : List Entry) → map place ls ≡ map place_of_entry es → (k : ℕ) (x : CodeLine) → slice_get ls k ≡ Some x →
-    (e : Entry) × (slice_get es k ≡ Some e) × (place_of_entry e ≡ place x)
+beside : (ls : List CodeLine) (es : List EncodedInstruction) → map place ls ≡ map place_of_entry es → (k : ℕ) (x : CodeLine) → slice_get ls k ≡ Some x →
+    (e : EncodedInstruction) × (slice_get es k ≡ Some e) × (place_of_entry e ≡ place x)
 beside [] es same k x g = cc
 beside (l ∷ ls) [] same k x g = cc
 beside (l ∷ ls) (e ∷ es) same zero x g =

@@ -14,13 +14,14 @@ use Rattle.mir_func.specs.Exits.{exit_of}
 use Rattle.mir_func.specs.Function.{Function, FramedFunction}
 use Rattle.mir_func.specs.Graph.{Here, Program, below, block_start, program_of, framed_program}
 use Rattle.mir_func.specs.SoundFrame.{IsFramed}
-use Rattle.sem_mir.specs.Align.{position_of, is_code, waits_at, ByItems, ByWords, station_of, station_at, Since, Same, After, since_of, First, Aligns}
+use Rattle.sem_mir.specs.Align.{position_of, is_code, waits_at, ByItems, ByWords, sync_point_of, sync_point_at, Since, Same, After, since_of, First}
+use Rattle.sem_mir.specs.Align.{MatchesNext}
 use Rattle.sem_mir.specs.Align.{met}
 use Rattle.sem_mir.specs.State.{State}
 use Rattle.sem_mir.specs.Step.{Went, Returned, Faulted, read, step}
 use Rattle.sem_mir.proofs.Alignment.{aligns_at}
 use Rattle.sem_simulation.specs.Words.{Shown}
-use Rattle.sem_simulation.proofs.Stations.{code_station}
+use Rattle.sem_simulation.proofs.Stations.{code_sync_point}
 use Rattle.sem_machine.specs.Image.{CodeLine, Image, line_at}
 use Rattle.sem_machine.specs.Machine.{Machine, register, machine_start}
 use Rattle.sem_machine.specs.MachineStep.{Continues, Ends, Awaits, machine_step}
@@ -97,7 +98,7 @@ module _ (source : Function) (f : FramedFunction) (resolve fresolve : OperandPai
       HeldAt m s
   held_shown m t s shown bk pointer at =
       held_by f framed fresolve image laid lists wanted shown.first t.core m s
-      (known_along S G (station_at ByItems G) First s0 (start_beside s0) shown.along known_first)
+      (known_along S G (sync_point_at ByItems G) First s0 (start_beside s0) shown.along known_first)
       shown.agrees.told shown.code bk (subst (λ (p : Pos). IsPointerAt f p t.core) (sym shown.pos) pointer)
       (subst (λ (p : Pos). IsPointAt f laid.address m.counter p) (sym shown.pos) at)
 
@@ -116,7 +117,8 @@ module _ (source : Function) (f : FramedFunction) (resolve fresolve : OperandPai
   -- at code at which the function with its frame stands, aligned with the source
   module _ (t s : State) (since : Since) (m : Machine) (i : Item) (here : fetched f t.pos ≡ Here i) (code : is_code i.kind ≡ true)
       (along : AlongWords source f resolve fresolve image framed from beside laid lists s0 start t s since) (stands : Level f fresolve image laid t m)
-      (s' : State) (written : IsWritten s'.core) (aligned : Aligns S (First (position_of i.origin)) (position_of i.origin) since s s') (shown : ShownAt t s')
+      (s' : State) (written : IsWritten s'.core) (aligned : MatchesNext S (First (position_of i.origin)) (position_of i.origin) since s s')
+      (shown : ShownAt t s')
     where
       ic : IsCode i
       ic = as_code i code
@@ -130,19 +132,19 @@ module _ (source : Function) (f : FramedFunction) (resolve fresolve : OperandPai
       first_returns : (v : List ℕ) → step G t ≡ Returned v → step S s' ≡ Returned v
       first_returns v e = shown.agrees.returns v (returns_alike G shown.first t ic.code ic.number i ic.kind here shown.pos shown.code v e)
 
-      station : station_at ByWords G t.pos ≡ Some (station_of ByWords i)
-      station = code_station ByWords G t.pos i here code
+      sync_point : sync_point_at ByWords G t.pos ≡ Some (sync_point_of ByWords i)
+      sync_point = code_sync_point ByWords G t.pos i here code
 
       along_next : (u : State) → step G t ≡ Went u →
           AlongWords source f resolve fresolve image framed from beside laid lists s0 start u s' (since_of (waits_at false i.origin))
-      along_next u went = met (station_of ByWords i) along station aligned went
+      along_next u went = met (sync_point_of ByWords i) along sync_point aligned went
 
       lands : (u : State) → step G t ≡ Went u → Lands f u.pos
       lands u went = step_lands f framed fresolve image laid t m stands i here ic.code ic.number ic.kind u went
 
       kept_there : (v : List ℕ) → step G t ≡ Returned v → All (λ r. register m r ≡ register M0 r) KEPT
       kept_there v ret =
-          let r = along_run S G (station_at ByWords G) First s0 (start_beside s0) along in
+          let r = along_run S G (sync_point_at ByWords G) First s0 (start_beside s0) along in
           All-weaker (λ (r : ℕ). read t.core r ≡ read s0.core r) (λ (r : ℕ). register m r ≡ register M0 r)
           (λ r e. stands.beside.regs r ∙ e ∙ sym (g_start.beside.regs r)) KEPT (beside.keeps s0 start r.0 t v r.1 ret)
 
@@ -161,7 +163,7 @@ module _ (source : Function) (f : FramedFunction) (resolve fresolve : OperandPai
           full = is_filled f framed fresolve image laid t.core shown.first.core m;
           events = shown.code.events ∙ shown.agrees.events;
           known = known_filled f framed fresolve image laid shown.first t m
-              (known_along S G (station_at ByItems G) First s0 (start_beside s0) shown.along known_first) shown.pos shown.code stands;
+              (known_along S G (sync_point_at ByItems G) First s0 (start_beside s0) shown.along known_first) shown.pos shown.code stands;
           told = shown.agrees.told;
         }
 
@@ -173,7 +175,7 @@ module _ (source : Function) (f : FramedFunction) (resolve fresolve : OperandPai
             core = filled f t.core shown.first.core m;
           }) m n carried
               (level_filled f framed fresolve image laid t shown.first.core m stands
-              (known_along S G (station_at ByItems G) First s0 (start_beside s0) shown.along known_first).range)
+              (known_along S G (sync_point_at ByItems G) First s0 (start_beside s0) shown.along known_first).range)
               i here ic.code ic.number ic.kind code (eo ∙ ap Before (sym (place ∙ ap position_of eo))) harmless e
           | inr never ↦ absurd (never s' (place ∙ ap position_of eo) written (first_stops flt))
         ]

@@ -13,12 +13,12 @@ use Rattle.mir_func.specs.declared.position.Pos.{Pos}
 use Rattle.mir_func.specs.declared.item.Item.{Item}
 use Rattle.mir_func.specs.declared.item.ItemKind.{ItemKind}
 use Rattle.mir_func.specs.declared.item.ItemKind.TheVariants.{Code, Mark, Phi}
-use Rattle.mir_func.specs.Graph.{Fetch, Here, Silent, Outside, Program, below, block_start}
+use Rattle.mir_func.specs.Graph.{Fetch, Here, EndOfBlock, Outside, Program, below, block_start}
 use Rattle.sem_mir.specs.State.{Core, State, Reply, content, put, put_all, writes_frame}
 use Rattle.sem_mir.specs.Step.{Went, Returned, Faulted, Outcome, Falls, Goes, Gives, Traps, Asks, Breaks, act, does, are_written, is_fault, address_at}
 use Rattle.sem_mir.specs.Step.{answered}
 use Rattle.sem_mir.specs.Step.{slot_loaded, numbered, with_core, do_item, do_fetch, moved, step, read, run}
-use Rattle.sem_mir.specs.Align.{Arrives, here, onward, Since, Start, Same, After, Aligns, Along, begin, other, met, Station}
+use Rattle.sem_mir.specs.Align.{Arrives, here, onward, Since, Start, Same, After, MatchesNext, MatchedUpTo, begin, other, met, SyncPoint}
 use Rattle.sem_mir.specs.Effects.{SameWorld, EndAlike, AreHeldAlike, OnCore, held_in}
 use Rattle.sem_mir.proofs.Outcomes.{on_either, alike_with, alike_returns, alike_faults}
 use Rattle.sem_mir.proofs.Parts.{effects_hold}
@@ -131,7 +131,7 @@ item_written g (Phi p n) c h = h
 
 fetch_written : (g : Program) (x : Fetch) (c : Core) → IsWritten c → OnCore IsWritten (do_fetch g x c)
 fetch_written g (Here i) c h = item_written g i.kind c h
-fetch_written g (Silent k n) c h = h
+fetch_written g (EndOfBlock k n) c h = h
 fetch_written g Outside c h = tt
 
 moved_written : (enter : ℕ → ℕ) (p : Pos) (x : Outcome) (t : State) → OnCore IsWritten x → moved enter p x ≡ Went t → IsWritten t.core
@@ -153,7 +153,7 @@ module _ (src : Program) (Stops : Pos → Type 0) (p : Pos) where
   arrives_written (onward {s = s} {u = u} ne go rest) h = arrives_written rest (step_written src s u h go)
 
   -- so where the source is aligned they are
-  pub aligns_written : (m : Since) (s t : State) → Aligns src Stops p m s t → IsWritten s.core → IsWritten t.core
+  pub aligns_written : (m : Since) (s t : State) → MatchesNext src Stops p m s t → IsWritten s.core → IsWritten t.core
   aligns_written Start s t a h = arrives_written a h
   aligns_written Same s t (inl a) h = subst (λ (z : State). IsWritten z.core) a.1 h
   aligns_written Same s t (inr (ne, (u, go, rest))) h = arrives_written rest (step_written src s u h go)
@@ -162,10 +162,10 @@ module _ (src : Program) (Stops : Pos → Type 0) (p : Pos) where
 -- ---- runs
 
 -- a state that is met along is one of the run
-pub along_run : (src f : Program) (stations : Pos → Option Station) (Stops : Pos → Pos → Type 0) (s0 f0 : State) {t s : State} {m : Since} →
-    Along src f stations Stops s0 f0 t s m → (n : ℕ) × (run f n f0 ≡ Went t)
-along_run src f stations Stops s0 f0 begin = (0, refl)
-along_run src f stations Stops s0 f0 (other {t = t} {t' = t'} a none go) =
-    let r = along_run src f stations Stops s0 f0 a in (suc r.0, run_step_last f r.0 f0 t r.1 ∙ go)
-along_run src f stations Stops s0 f0 (met {t = t} {t' = t'} i a at al go) =
-    let r = along_run src f stations Stops s0 f0 a in (suc r.0, run_step_last f r.0 f0 t r.1 ∙ go)
+pub along_run : (src f : Program) (sync_points : Pos → Option SyncPoint) (Stops : Pos → Pos → Type 0) (s0 f0 : State) {t s : State} {m : Since} →
+    MatchedUpTo src f sync_points Stops s0 f0 t s m → (n : ℕ) × (run f n f0 ≡ Went t)
+along_run src f sync_points Stops s0 f0 begin = (0, refl)
+along_run src f sync_points Stops s0 f0 (other {t = t} {t' = t'} a none go) =
+    let r = along_run src f sync_points Stops s0 f0 a in (suc r.0, run_step_last f r.0 f0 t r.1 ∙ go)
+along_run src f sync_points Stops s0 f0 (met {t = t} {t' = t'} i a at al go) =
+    let r = along_run src f sync_points Stops s0 f0 a in (suc r.0, run_step_last f r.0 f0 t r.1 ∙ go)

@@ -13,9 +13,10 @@ use Rattle.mir_func.specs.declared.position.Origin.TheVariants.{Before}
 use Rattle.mir_func.specs.declared.position.Pos.{Pos}
 use Rattle.mir_func.specs.declared.variable.VarId.{VarId}
 use Rattle.mir_func.specs.Function.{Function, FramedFunction}
-use Rattle.mir_func.specs.Graph.{Here, Silent, Program, below, block_start, program_of}
+use Rattle.mir_func.specs.Graph.{Here, EndOfBlock, Program, below, block_start, program_of}
 use Rattle.mir_func.specs.SoundFrame.{IsFramed}
-use Rattle.sem_mir.specs.Align.{position_of, is_code, waits_at, Station, ByWords, station_at, Since, Same, After, since_of, First, Aligns, Along}
+use Rattle.sem_mir.specs.Align.{position_of, is_code, waits_at, SyncPoint, ByWords, sync_point_at, Since, Same, After, since_of, First, MatchesNext}
+use Rattle.sem_mir.specs.Align.{MatchedUpTo}
 use Rattle.sem_mir.specs.Align.{other, FailsBefore}
 use Rattle.mir_func.specs.declared.exit.Exit.TheVariants.{Perhaps}
 use Rattle.mir_func.specs.Exits.{row_exit, exit_of}
@@ -23,7 +24,7 @@ use Rattle.sem_mir.specs.State.{Core, State}
 use Rattle.sem_mir.specs.Step.{Went, Returned, Faulted, Waits, step}
 use Rattle.sem_mir.proofs.Alignment.{went_once}
 use Rattle.sem_simulation.specs.Words.{SameCode, Shown}
-use Rattle.sem_simulation.proofs.Stations.{debug_station, end_is_station}
+use Rattle.sem_simulation.proofs.Stations.{debug_sync_point, end_is_sync_point}
 use Rattle.sem_machine.specs.Image.{CodeLine, Image, line_at}
 use Rattle.sem_machine.specs.Machine.{Machine, machine_start}
 use Rattle.sem_machine.specs.MachineStep.{Continues, machine_step}
@@ -96,11 +97,11 @@ module _ (source : Function) (f : FramedFunction) (resolve fresolve : OperandPai
   abbrev pub m0 : Machine
   m0 = machine_start image s0
 
-  abbrev pub words : Pos → Option Station
-  words p = station_at ByWords g p
+  abbrev pub words : Pos → Option SyncPoint
+  words p = sync_point_at ByWords g p
 
   abbrev pub AlongWords : State → State → Since → Type 0
-  AlongWords t s m = Along src g words First s0 (start_beside s0) t s m
+  AlongWords t s m = MatchedUpTo src g words First s0 (start_beside s0) t s m
 
   abbrev pub At : State → Machine → Type 0
   At t m = Level f fresolve image laid t m
@@ -139,7 +140,7 @@ module _ (source : Function) (f : FramedFunction) (resolve fresolve : OperandPai
   -- what is owed at a line of an origin
   abbrev pub MetAt : Machine → State → Since → Origin → Type 0
   MetAt m s since o = FailsBefore src (First (position_of o)) (position_of o) since s ⊎
-      ((s' : State) × Aligns src (First (position_of o)) (position_of o) since s s' × MachineAgrees src image lists m0 m s' ×
+      ((s' : State) × MatchesNext src (First (position_of o)) (position_of o) since s s' × MachineAgrees src image lists m0 m s' ×
       ((n : Machine) → machine_step image m ≡ Continues n → Stage n s' (since_of (waits_at false o))))
 
   -- ---- over debug items and ends of blocks
@@ -155,11 +156,11 @@ module _ (source : Function) (f : FramedFunction) (resolve fresolve : OperandPai
   settle (past_item i here plain rest) t s since m e a l =
       let here_t : fetched f t.pos ≡ Here i = ap (fetched f) e ∙ here in
       let k = past_debug f framed fresolve image laid t m l i here_t plain in
-      settle rest k.next s since m (k.at ∙ ap below e) (other a (debug_station ByWords g t.pos i here_t plain) k.went) k.level
+      settle rest k.next s since m (k.at ∙ ap below e) (other a (debug_sync_point ByWords g t.pos i here_t plain) k.went) k.level
   settle (past_end j n end rest) t s since m e a l =
-      let end_t : fetched f t.pos ≡ Silent j n = ap (fetched f) e ∙ end in
+      let end_t : fetched f t.pos ≡ EndOfBlock j n = ap (fetched f) e ∙ end in
       let k = past_block f framed fresolve image laid t m l j n end_t in
-      settle rest k.next s since m (k.at ∙ ap (λ (p : Pos). block_start (suc p.block)) e) (other a (end_is_station ByWords g t.pos j n end_t) k.went) k.level
+      settle rest k.next s since m (k.at ∙ ap (λ (p : Pos). block_start (suc p.block)) e) (other a (end_is_sync_point ByWords g t.pos j n end_t) k.went) k.level
 
   -- no variable gets a value on the way from one place to another
   abbrev pub GoesQuietly : (p q : Pos) → Type 0
@@ -203,7 +204,7 @@ module _ (source : Function) (f : FramedFunction) (resolve fresolve : OperandPai
       (λ w r d down. w r d (runs.past_item i here_h plain (subst (λ (x : Pos). FallsTo f x r) k.at down)))
       (settle_late rest k.next m (k.at ∙ ap below e) k.level)
   settle_late (past_end j n end rest) h m e l =
-      let end_h : fetched f h.pos ≡ Silent j n = ap (fetched f) e ∙ end in
+      let end_h : fetched f h.pos ≡ EndOfBlock j n = ap (fetched f) e ∙ end in
       let k = past_block f framed fresolve image laid h m l j n end_h in
       settled_more h k.next m k.code k.went
       (λ w. end_tells g h k.next j n end_h k.went)

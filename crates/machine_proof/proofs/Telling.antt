@@ -16,10 +16,10 @@ use Rattle.mir_func.specs.declared.position.Pos.{Pos}
 use Rattle.mir_func.specs.declared.variable.MarkValue.{MarkValue}
 use Rattle.mir_func.specs.declared.variable.VarId.{VarId}
 use Rattle.mir_func.specs.Function.{FramedFunction}
-use Rattle.mir_func.specs.Graph.{Here, Silent, Program, below, block_start}
+use Rattle.mir_func.specs.Graph.{Here, EndOfBlock, Program, below, block_start}
 use Rattle.mir_func.specs.SoundFrame.{IsFramed}
 use Rattle.mir_func.specs.Variables.{is_same, overlaps, part_value}
-use Rattle.sem_mir.specs.Align.{is_code, Since, Station, Along, begin, other, met, Tells}
+use Rattle.sem_mir.specs.Align.{is_code, Since, SyncPoint, MatchedUpTo, begin, other, met, Tells}
 use Rattle.sem_mir.specs.Effects.{OnCore}
 use Rattle.sem_mir.specs.State.{Core, State, Reply, updated, content, spelled, assigned, writes_frame}
 use Rattle.sem_mir.specs.Step.{Went, Outcome, Falls, Goes, Gives, Traps, Asks, Breaks, act, does, are_written, is_fault, address_at, answered, slot_loaded}
@@ -144,7 +144,7 @@ debug_tells g h u i here plain none went v x e = by_kind i.kind refl plain none 
       let d : Core = record h.core { pairs = updated n (updated 0 (place_value r h.core) (h.core.pairs n)) h.core.pairs } in
       after d (ap (λ (z : ItemKind). do_item g z h.core) q)
 
-pub end_tells : (g : Program) (h u : State) (k n : ℕ) → g.fetch h.pos ≡ Silent k n → step g h ≡ Went u → Telling u h
+pub end_tells : (g : Program) (h u : State) (k n : ℕ) → g.fetch h.pos ≡ EndOfBlock k n → step g h ≡ Went u → Telling u h
 end_tells g h u k n end went =
     let made : State = record { pos = block_start (g.enter n); core = h.core } in
     let both : Went made ≡ Went u = sym (step_end g h k n end) ∙ went in
@@ -154,11 +154,11 @@ end_tells g h u k n end went =
 -- ---- what is known
 
 -- along a run beside the source's
-pub known_along : (src g : Program) (stations : Pos → Option Station) (Stops : Pos → Pos → Type 0) (s0 g0 : State) {t s : State} {m : Since} →
-    Along src g stations Stops s0 g0 t s m → Known g g0.pos g0 → Known g g0.pos t
-known_along src g stations Stops s0 g0 begin k = k
-known_along src g stations Stops s0 g0 (other {t = t} {t' = t'} a none go) k = known_step g g0.pos t t' (known_along src g stations Stops s0 g0 a k) go
-known_along src g stations Stops s0 g0 (met {t = t} {t' = t'} i a at al go) k = known_step g g0.pos t t' (known_along src g stations Stops s0 g0 a k) go
+pub known_along : (src g : Program) (sync_points : Pos → Option SyncPoint) (Stops : Pos → Pos → Type 0) (s0 g0 : State) {t s : State} {m : Since} →
+    MatchedUpTo src g sync_points Stops s0 g0 t s m → Known g g0.pos g0 → Known g g0.pos t
+known_along src g sync_points Stops s0 g0 begin k = k
+known_along src g sync_points Stops s0 g0 (other {t = t} {t' = t'} a none go) k = known_step g g0.pos t t' (known_along src g sync_points Stops s0 g0 a k) go
+known_along src g sync_points Stops s0 g0 (met {t = t} {t' = t'} i a at al go) k = known_step g g0.pos t t' (known_along src g sync_points Stops s0 g0 a k) go
 
 module _ (f : FramedFunction) (framed : IsFramed f) (resolve : OperandPair → Option OperandPair) (image : Image) (laid : IsLaidAt f image) where
   abbrev G : Program

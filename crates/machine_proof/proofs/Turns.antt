@@ -18,7 +18,7 @@ use Rattle.mir_func.specs.declared.position.Origin.TheVariants.{Kept, Before}
 use Rattle.mir_func.specs.declared.position.Pos.{Pos}
 use Rattle.mir_func.specs.Exits.{exit_of, is_final}
 use Rattle.mir_func.specs.Function.{Function}
-use Rattle.mir_func.specs.Graph.{Fetch, Here, Silent, Outside, Program, below, block_start, fetch_in, program_of, framed_program, Leads}
+use Rattle.mir_func.specs.Graph.{Fetch, Here, EndOfBlock, Outside, Program, below, block_start, fetch_in, program_of, framed_program, Leads}
 use Rattle.mir_func.specs.Sound.{EndsWell}
 use Rattle.mir_func.specs.SoundFrame.{body_of, IsFramed}
 use Rattle.sem_mir.specs.Align.{position_of, is_code, is_jump, is_jump_row}
@@ -61,7 +61,7 @@ module _ (source f : Function) (resolve fresolve : OperandPair →
       (q : Pos) → q.block ≡ p.block → q.item ≡ k → G.fetch q ≡ Here j
   fetch_at p i s k j e q b n =
       ap (λ (x : ℕ). fetch_in (drop x (framed_of f).blocks) q.item) b ∙ ap (λ (bs : List Block). fetch_in bs q.item) s.found
-      ∙ item_front s.block.items q.item s.block.silent s.rest j (ap (slice_get s.block.items) n ∙ e)
+      ∙ item_front s.block.items q.item s.block.source_end s.rest j (ap (slice_get s.block.items) n ∙ e)
 
   same_stands : (p q : Pos) (i j : Item) (s : StandsAt (framed_of f) p i) (t : StandsAt (framed_of f) q j) → p.block ≡ q.block → s.block ≡ t.block
   same_stands p q i j s t b =
@@ -173,7 +173,7 @@ module _ (source f : Function) (resolve fresolve : OperandPair →
   -- an added jump is one of f at the end of its block
   record IsEndJump (p : Pos) (i : Item) : Type 0 where
     blk : InBlock f p i
-    at : (position_of i.origin).item ≡ blk.block.silent
+    at : (position_of i.origin).item ≡ blk.block.source_end
     pos : Pos
     before : i.origin ≡ Before pos
 
@@ -206,29 +206,29 @@ module _ (source f : Function) (resolve fresolve : OperandPair →
           let may = fits_before source f resolve fresolve made b.block x d m w.0 ek eo o.fits in
           record {
             blk = b;
-            at = ap (λ (z : Origin). (position_of z).item) w.1 ∙ jump_may (row_of d) w.0.item b.block.silent ex.0 (ap exit_of (sym ek) ∙ exit) may;
+            at = ap (λ (z : Origin). (position_of z).item) w.1 ∙ jump_may (row_of d) w.0.item b.block.source_end ex.0 (ap exit_of (sym ek) ∙ exit) may;
             pos = w.0;
             before = w.1;
           }
 
   has_item : (r : Row) (x : Fetch) → HasClass r x → (i : Item) × (x ≡ Here i)
   has_item r (Here i) h = (i, refl)
-  has_item r (Silent k n) h = absurd h
+  has_item r (EndOfBlock k n) h = absurd h
   has_item r Outside h = absurd h
 
   -- what f has at the silent position of a block was added before it
   end_code : (b : Block) (x : Item) → IsOf source f resolve fresolve made b x → (d : Instruction) (k : Option ℕ) → x.kind ≡ Code d k →
-      (position_of x.origin).item ≡ b.silent → (q : Pos) × (x.origin ≡ Before q) × (IsSlotStore (row_of d) ⊎ (is_jump_row (row_of d) ≡ true))
+      (position_of x.origin).item ≡ b.source_end → (q : Pos) × (x.origin ≡ Before q) × (IsSlotStore (row_of d) ⊎ (is_jump_row (row_of d) ≡ true))
   end_code b x o d k ek at = by_origin x.origin refl where
     by_origin : (w : Origin) → x.origin ≡ w → (q : Pos) × (x.origin ≡ Before q) × (IsSlotStore (row_of d) ⊎ (is_jump_row (row_of d) ≡ true))
     by_origin (Before q) eo = (
       q,
       eo,
-      end_row (row_of d) q.item b.silent (ap (λ (w : Origin). (position_of w).item) (sym eo)
+      end_row (row_of d) q.item b.source_end (ap (λ (w : Origin). (position_of w).item) (sym eo)
           ∙ at) (fits_before source f resolve fresolve made b x d k q ek eo o.fits),
     )
     by_origin (Kept q) eo =
-        let h = subst (RowFits src (row_of d) b.silent) eo (subst (λ (z : ItemKind). KindFits src z b.silent x.origin) ek o.fits) in
+        let h = subst (RowFits src (row_of d) b.source_end) eo (subst (λ (z : ItemKind). KindFits src z b.source_end x.origin) ek o.fits) in
         let i = has_item (row_of d) (src.fetch q) h in
         absurd (silent_never source f resolve fresolve made b o.member q (ap (λ (w : Origin). (position_of w).block) (sym eo) ∙ o.home)
         (ap (λ (w : Origin). (position_of w).item) (sym eo) ∙ at) i.0 i.1)
@@ -245,7 +245,7 @@ module _ (source f : Function) (resolve fresolve : OperandPair →
     kind : item.kind ≡ Code code number
     pos : Pos
     before : item.origin ≡ Before pos
-    at : pos.item ≡ b.silent
+    at : pos.item ≡ b.source_end
     row : IsSlotStore (row_of code) ⊎ (is_jump_row (row_of code) ≡ true)
     place : q.item ≡ index_in f b.items index
 
@@ -261,8 +261,8 @@ module _ (source f : Function) (resolve fresolve : OperandPair →
     blocks : ej.blk.block ≡ b.block
     blocks = same_block p q i j ej.blk b (sym same)
 
-    at_silent : (position_of j.origin).item ≡ b.block.silent
-    at_silent = ap (λ (z : Pos). z.item) eq ∙ ej.at ∙ ap (λ (z : Block). z.silent) blocks
+    at_silent : (position_of j.origin).item ≡ b.block.source_end
+    at_silent = ap (λ (z : Pos). z.item) eq ∙ ej.at ∙ ap (λ (z : Block). z.source_end) blocks
 
     not_final_debug : (x : Item) → exit_of x.kind ≡ Final → (d : Instruction) × (m : Option ℕ) × (x.kind ≡ Code d m)
     not_final_debug x fin = by_kind x.kind refl fin where
@@ -280,14 +280,14 @@ module _ (source f : Function) (resolve fresolve : OperandPair →
     by_item (gives_back n x at fin is) =
         let o = of_f source f resolve fresolve made b.index b.block b.rest b.found n x at in
         let k = not_final_debug x fin in
-        let here : (position_of x.origin).item ≡ b.block.silent =
+        let here : (position_of x.origin).item ≡ b.block.source_end =
         ap (λ (z : Pos). z.item) (sym (same_position x.origin)) ∙ ap (λ (z : Origin). (position_of z).item) (sym is.origin) ∙ at_silent in
         absurd (final_row (row_of k.0) (ap exit_of (sym k.2) ∙ fin) (end_code b.block x o k.0 k.1 k.2 here).2)
     by_item (own n x at made_of ix) =
         let o = of_f source f resolve fresolve made b.index b.block b.rest b.found n x at in
         let c = as_code j.kind code in
         let d = own_code source f resolve fresolve made x c.0 c.1 (ap (λ (z : Item). z.kind) (sym made_of) ∙ c.2) in
-        let here : (position_of x.origin).item ≡ b.block.silent = ap (λ (z : Item). (position_of z.origin).item) (sym made_of) ∙ at_silent in
+        let here : (position_of x.origin).item ≡ b.block.source_end = ap (λ (z : Item). (position_of z.origin).item) (sym made_of) ∙ at_silent in
         let ec = end_code b.block x o d.0 c.1 d.1 here in
         record {
           index = n;
@@ -331,9 +331,9 @@ module _ (source f : Function) (resolve fresolve : OperandPair →
   kind_named : (q : Pos) (j : Item) (b : Block) (c : IsEndCode q j b) → j.kind ≡ Code (renamed_code f.slots c.code) c.number
   kind_named q j b c = ap (λ (z : Item). z.kind) c.is ∙ ap (renamed_kind f.slots) c.kind
 
-  silent : (p q : Pos) (i j : Item) → q.block ≡ p.block → G.fetch p ≡ Here i → IsAddedJump i → G.fetch q ≡ Here j → is_code j.kind ≡ true →
+  source_end : (p q : Pos) (i j : Item) → q.block ≡ p.block → G.fetch p ≡ Here i → IsAddedJump i → G.fetch q ≡ Here j → is_code j.kind ≡ true →
       position_of j.origin ≡ position_of i.origin → OnRow IsSlotStore j.kind ⊎ (is_jump j.kind ≡ true)
-  silent p q i j same e jump g code eq =
+  source_end p q i j same e jump g code eq =
       let z = end_item p q i j same e jump g code eq in
       let c = z.1 in
       let k = kind_named q j z.0.block c in
@@ -366,11 +366,11 @@ module _ (source f : Function) (resolve fresolve : OperandPair →
     fd = found f.blocks made.sound.blocks_apart b member
 
     fetch_f : fp.fetch pf ≡ Here c.item
-    fetch_f = ap (λ (bs : List Block). fetch_in bs c.index) fd.at ∙ item_front b.items c.index b.silent fd.rest c.item c.stands
+    fetch_f = ap (λ (bs : List Block). fetch_in bs c.index) fd.at ∙ item_front b.items c.index b.source_end fd.rest c.item c.stands
 
     -- the store's position
     end : Pos
-    end = record { block = b.id; item = b.silent }
+    end = record { block = b.id; item = b.source_end }
 
     at_end : c.pos ≡ end
     at_end = same_pos c.pos end (ap (λ (w : Origin). (position_of w).block) (sym c.before) ∙ c.of_it.home) c.at
@@ -379,7 +379,7 @@ module _ (source f : Function) (resolve fresolve : OperandPair →
     store_row = subst (OnRow IsSlotStore) (sym c.kind) (store_of (row_of c.code)
         (subst IsSlotStore (row_renamed f.slots c.code) (subst (OnRow IsSlotStore) (kind_named q j b c) store)))
 
-    z : (q' : Pos) × (j' : Item) × IsMetApart fp pf b.silent q' j'
+    z : (q' : Pos) × (j' : Item) × IsMetApart fp pf b.source_end q' j'
     z = made.shape.stores b member pf c.item refl fetch_f store_row (c.before ∙ ap Before at_end)
 
     r : Pos
@@ -424,7 +424,7 @@ module _ (source f : Function) (resolve fresolve : OperandPair →
               let below_x : next_rank z.1.origin ≤ rank c.item.origin =
               in_order_below b.id 0 b.items (All-contains (λ (w : Block). InOrder w.id 0 w.items) f.blocks b made.shape.order member) z.0.item c.index z.1
               c.item
-              (front_item b.items z.0.item b.silent fd.rest z.1
+              (front_item b.items z.0.item b.source_end fd.rest z.1
               (ap (λ (bs : List Block). fetch_in bs z.0.item) (sym (ap (from_block f.blocks) l.0 ∙ fd.at)) ∙ z.2.0)) c.stands l.1 in
               let up = rank_high c.item.origin in
               let low = next_low z.1.origin in
@@ -442,7 +442,7 @@ module _ (source f : Function) (resolve fresolve : OperandPair →
     last = last;
     filled = filled;
     order = order;
-    silent = silent;
+    source_end = source_end;
     stores = stores;
   }
 

@@ -12,7 +12,7 @@ use Rattle.mir_func.specs.declared.item.ItemKind.TheVariants.{Code, Mark, Phi}
 use Rattle.mir_func.specs.declared.position.Pos.{Pos}
 use Rattle.mir_func.specs.Exits.{row_exit, exit_of, is_final}
 use Rattle.mir_func.specs.Function.{Function}
-use Rattle.mir_func.specs.Graph.{Fetch, Here, Silent, Program, below, block_start, end_of, front, fetch_in, from_block, index_of, program_of}
+use Rattle.mir_func.specs.Graph.{Fetch, Here, EndOfBlock, Program, below, block_start, end_of, front, fetch_in, from_block, index_of, program_of}
 use Rattle.mir_func.specs.Graph.{framed_program, Edge, FetchEdge, KindEdge, RowEdge, Leads, stay, go}
 use Rattle.mir_func.specs.SoundFrame.{body_of}
 use Rattle.sem_mir.specs.Align.{position_of, is_code}
@@ -142,12 +142,12 @@ module _ (f : Function) (fresolve : OperandPair → Option OperandPair) where
       ∙ drop_past (framed_items f (take n b.items)) (framed_items f (drop n b.items))
 
   fetch_image : (p : Pos) (b : Block) (rest : List Block) → from_block f.blocks p.block ≡ b ∷ rest →
-      G.fetch (image_of f p) ≡ front (framed_items f (drop p.item b.items)) b.silent (map (framed_block f) rest)
+      G.fetch (image_of f p) ≡ front (framed_items f (drop p.item b.items)) b.source_end (map (framed_block f) rest)
   fetch_image p b rest e =
       ap (λ (bs : List Block). fetch_in bs (image_of f p).item) (later f (index_of f.blocks p.block)
       ∙ ap (map (framed_block f)) (drop_index f.blocks p.block ∙ e))
-      ∙ ap (λ (bs : List Block). front (drop (index_in f (items_in bs) p.item) (framed_items f b.items)) b.silent (map (framed_block f) rest)) e
-      ∙ ap (λ (is : List Item). front is b.silent (map (framed_block f) rest)) (items_from b p.item)
+      ∙ ap (λ (bs : List Block). front (drop (index_in f (items_in bs) p.item) (framed_items f b.items)) b.source_end (map (framed_block f) rest)) e
+      ∙ ap (λ (is : List Item). front is b.source_end (map (framed_block f) rest)) (items_from b p.item)
 
   -- at the image of an item stands something of its position
   pub head_at : (p : Pos) (x : Item) → fp.fetch p ≡ Here x → (y : Item) × (G.fetch (image_of f p) ≡ Here y) × IsHead f x y
@@ -156,11 +156,11 @@ module _ (f : Function) (fresolve : OperandPair → Option OperandPair) where
         (y : Item) × (G.fetch (image_of f p) ≡ Here y) × IsHead f x y
     by_blocks [] d h = cc
     by_blocks (b ∷ rest) d h =
-        let at = drop_at b.items p.item x (front_item b.items p.item b.silent rest x h) in
+        let at = drop_at b.items p.item x (front_item b.items p.item b.source_end rest x h) in
         let hd = framed_head f x in (
           hd.0,
-          fetch_image p b rest d ∙ ap (λ (is : List Item). front (framed_items f is) b.silent (map (framed_block f) rest)) at.1
-              ∙ ap (λ (is : List Item). front (is ++ framed_items f at.0) b.silent (map (framed_block f) rest)) hd.2,
+          fetch_image p b rest d ∙ ap (λ (is : List Item). front (framed_items f is) b.source_end (map (framed_block f) rest)) at.1
+              ∙ ap (λ (is : List Item). front (is ++ framed_items f at.0) b.source_end (map (framed_block f) rest)) hd.2,
           hd.3,
         )
 
@@ -235,23 +235,23 @@ module _ (f : Function) (fresolve : OperandPair → Option OperandPair) where
   edge_image : (p q : Pos) → Edge fp p q → Edge G (image_of f p) (image_of f q)
   edge_image p q e = by_blocks (from_block f.blocks p.block) refl e where
     by_end : (b : Block) (rest : List Block) → from_block f.blocks p.block ≡ b ∷ rest → (rs : List Block) → rest ≡ rs → drop p.item b.items ≡ [] →
-        FetchEdge (λ n. n) (end_of b.silent rs) p q → Edge G (image_of f p) (image_of f q)
+        FetchEdge (λ n. n) (end_of b.source_end rs) p q → Edge G (image_of f p) (image_of f q)
     by_end b rest d [] er none h = absurd h
     by_end b rest d (c ∷ cs) er none h =
-        let at : G.fetch (image_of f p) ≡ Silent b.silent c.id = fetch_image p b rest d
-        ∙ ap (λ (is : List Item). front (framed_items f is) b.silent (map (framed_block f) rest)) none
-        ∙ ap (λ (bs : List Block). end_of b.silent (map (framed_block f) bs)) er in
+        let at : G.fetch (image_of f p) ≡ EndOfBlock b.source_end c.id = fetch_image p b rest d
+        ∙ ap (λ (is : List Item). front (framed_items f is) b.source_end (map (framed_block f) rest)) none
+        ∙ ap (λ (bs : List Block). end_of b.source_end (map (framed_block f) bs)) er in
         subst (λ (z : Fetch). FetchEdge G.enter z (image_of f p) (image_of f q)) (sym at) (ap (image_of f) h ∙ sym (start_image c.id))
 
     by_items : (b : Block) (rest : List Block) → from_block f.blocks p.block ≡ b ∷ rest → (is : List Item) → drop p.item b.items ≡ is →
-        FetchEdge (λ n. n) (front is b.silent rest) p q → Edge G (image_of f p) (image_of f q)
+        FetchEdge (λ n. n) (front is b.source_end rest) p q → Edge G (image_of f p) (image_of f q)
     by_items b rest d [] di h = by_end b rest d rest refl di h
     by_items b rest d (x ∷ xs) di h =
         let at_x = Rattle.machine_steps_proof.proofs.Points.dropped b.items p.item x xs di in
         let no_return = kind_not_final x.kind p q h in
         let at : G.fetch (image_of f p) ≡ Here (renamed f.slots x) = fetch_image p b rest d
-        ∙ ap (λ (is : List Item). front (framed_items f is) b.silent (map (framed_block f) rest)) di
-        ∙ ap (λ (z : Bool). front ((cond z (epilogue f x.origin) [] ++ renamed f.slots x ∷ []) ++ framed_items f xs) b.silent (map (framed_block f) rest))
+        ∙ ap (λ (is : List Item). front (framed_items f is) b.source_end (map (framed_block f) rest)) di
+        ∙ ap (λ (z : Bool). front ((cond z (epilogue f x.origin) [] ++ renamed f.slots x ∷ []) ++ framed_items f xs) b.source_end (map (framed_block f) rest))
         no_return in
         subst (λ (z : Fetch). FetchEdge G.enter z (image_of f p) (image_of f q)) (sym at)
         (kind_way x.kind p q x h (below_image p b rest x d at_x no_return))

@@ -3,7 +3,7 @@ use Rattle.std.specs.Prelude.{◌≡◌, ◌↔◌, ℕ, map, Contains, Some}
 use Rattle.mir_func.specs.declared.position.Origin.{Origin}
 use Rattle.mir_func.specs.declared.position.Pos.{Pos}
 use Rattle.sem_machine.specs.Image.{CodeLine, Image, line_at}
-use Rattle.emit_code.specs.declared.code.Entry.{Entry}
+use Rattle.emit_code.specs.declared.code.EncodedInstruction.{EncodedInstruction}
 use Rattle.emit_code.specs.Listed.{Line, lines_of}
 use Rattle.emit_code.specs.Rule.{Layout, address_in, entries_of}
 use Rattle.machine_steps_proof.specs.Images.{IsImageOf}
@@ -11,7 +11,7 @@ use Rattle.machine_proof.specs.Lists.{IsPointAt}
 
 -- an entry of the layout begins at the address and is of the item at the point
 pub record IsEntryAt (l : Layout) (address : ℕ) (p : Pos) : Type 0 where
-  pub entry : Entry
+  pub entry : EncodedInstruction
   pub among : Contains (entries_of l) entry
   pub begins : entry.address ≡ address
   pub point : record { block = entry.point.block; item = entry.point.item } ≡ p
@@ -25,7 +25,7 @@ abbrev pub place_of_line : Line → ℕ × Origin
 place_of_line x = (x.address, x.origin)
 
 -- the address and the origin of an entry
-abbrev pub place_of_entry : Entry → ℕ × Origin
+abbrev pub place_of_entry : EncodedInstruction → ℕ × Origin
 place_of_entry e = (e.address, e.origin)
 
 -- The lines and the entries of a layout have the same addresses and origins, in the same order.

@@ -14,7 +14,7 @@ use Rattle.mir_func.specs.declared.variable.MarkValue.TheVariants.{Nothing}
 use Rattle.mir_func.specs.declared.variable.VarId.{VarId}
 use Rattle.mir_func.specs.Exits.{exit_of}
 use Rattle.mir_func.specs.Function.{Function, FramedFunction}
-use Rattle.mir_func.specs.Graph.{Here, Silent, Program, below, block_start, program_of, framed_program}
+use Rattle.mir_func.specs.Graph.{Here, EndOfBlock, Program, below, block_start, program_of, framed_program}
 use Rattle.mir_func.specs.SoundFrame.{IsFramed}
 use Rattle.sem_mir.specs.State.{State, content}
 use Rattle.sem_mir.specs.Step.{Went, Returned, Faulted, read, step, run}
@@ -49,7 +49,7 @@ IsHarmless Unfit = ⊥
 pub data FallsTo (f : FramedFunction) : Pos → Pos → Type 0 where
   here : {p : Pos} → FallsTo f p p
   past_item : {p q : Pos} (i : Item) → fetched f p ≡ Here i → is_code i.kind ≡ false → FallsTo f (below p) q → FallsTo f p q
-  past_end : {p q : Pos} (k n : ℕ) → fetched f p ≡ Silent k n → FallsTo f (block_start (suc p.block)) q → FallsTo f p q
+  past_end : {p q : Pos} (k n : ℕ) → fetched f p ≡ EndOfBlock k n → FallsTo f (block_start (suc p.block)) q → FallsTo f p q
 
 -- an item that assigns no value to a variable: any but a debug value with an operand other than $noreg
 abbrev pub AssignsNothing : ItemKind → Type 0

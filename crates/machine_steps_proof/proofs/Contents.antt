@@ -7,7 +7,7 @@ use Rattle.mir_func.specs.declared.entry.OperandPair.{OperandPair}
 use Rattle.mir_func.specs.declared.item.Item.{Item}
 use Rattle.mir_func.specs.declared.position.Pos.{Pos}
 use Rattle.mir_func.specs.declared.variable.VarId.{VarId}
-use Rattle.mir_func.specs.Graph.{Fetch, Here, Silent, Outside, Program, block_start, end_of, front, fetch_in, index_of, framed_program, KindEdge, FetchEdge}
+use Rattle.mir_func.specs.Graph.{Fetch, Here, EndOfBlock, Outside, Program, block_start, end_of, front, fetch_in, index_of, framed_program, KindEdge, FetchEdge}
 use Rattle.mir_func.specs.SoundFrame.{body_of}
 use Rattle.sem_mir.specs.Token.{Tokens, after_fetch, Path, begin, onward, SitsIn}
 use Rattle.machine_steps_proof.specs.Contents.{contents_of, ContentsTellWanted}
@@ -15,14 +15,14 @@ use Rattle.machine_steps_proof.specs.Contents.{contents_of, ContentsTellWanted}
 -- the same stands there, silent indices aside
 abbrev AreAlike : Fetch → Fetch → Type 0
 AreAlike (Here i) (Here j) = i ≡ j
-AreAlike (Silent k m) (Silent l n) = m ≡ n
+AreAlike (EndOfBlock k m) (EndOfBlock l n) = m ≡ n
 AreAlike Outside Outside = Unit {0}
-AreAlike (Here i) (Silent l n) = ⊥
+AreAlike (Here i) (EndOfBlock l n) = ⊥
 AreAlike (Here i) Outside = ⊥
-AreAlike (Silent k m) (Here j) = ⊥
-AreAlike (Silent k m) Outside = ⊥
+AreAlike (EndOfBlock k m) (Here j) = ⊥
+AreAlike (EndOfBlock k m) Outside = ⊥
 AreAlike Outside (Here j) = ⊥
-AreAlike Outside (Silent l n) = ⊥
+AreAlike Outside (EndOfBlock l n) = ⊥
 
 -- the first of two blocks, and the others
 record HeadsAlike (b c : Block) (bs cs : List Block) : Type 0 where
@@ -60,8 +60,8 @@ fetch_alike [] (c ∷ cs) n e = cc
 fetch_alike (b ∷ bs) [] n e = cc
 fetch_alike (b ∷ bs) (c ∷ cs) n e =
     let h = heads b c bs cs e in
-    subst (λ (xs : List Item). AreAlike (front (drop n xs) b.silent bs) (front (drop n c.items) c.silent cs)) (sym h.items)
-    (fronts_alike (drop n c.items) b.silent c.silent bs cs h.rest)
+    subst (λ (xs : List Item). AreAlike (front (drop n xs) b.source_end bs) (front (drop n c.items) c.source_end cs)) (sym h.items)
+    (fronts_alike (drop n c.items) b.source_end c.source_end bs cs h.rest)
 
 index_alike : (bs cs : List Block) (n : ℕ) → map contents_of bs ≡ map contents_of cs → index_of bs n ≡ index_of cs n
 index_alike [] [] n e = refl
@@ -80,27 +80,27 @@ body_alike (b ∷ bs) (c ∷ cs) e = (heads b c bs cs e).rest
 edge_alike : (enter other : ℕ → ℕ) → enter ≡ other → (x y : Fetch) → AreAlike x y → (p q : Pos) → FetchEdge enter x p q → FetchEdge other y p q
 edge_alike enter other e (Here i) (Here j) same p q way =
     subst (λ (f : ℕ → ℕ). KindEdge f j.kind p q) e (subst (λ (z : Item). KindEdge enter z.kind p q) same way)
-edge_alike enter other e (Silent k m) (Silent l n) same p q way =
+edge_alike enter other e (EndOfBlock k m) (EndOfBlock l n) same p q way =
     way ∙ ap (λ (z : ℕ). block_start (enter z)) same ∙ ap (λ (f : ℕ → ℕ). block_start (f n)) e
 edge_alike enter other e Outside Outside same p q way = absurd way
-edge_alike enter other e (Here i) (Silent l n) same p q way = absurd same
+edge_alike enter other e (Here i) (EndOfBlock l n) same p q way = absurd same
 edge_alike enter other e (Here i) Outside same p q way = absurd same
-edge_alike enter other e (Silent k m) (Here j) same p q way = absurd same
-edge_alike enter other e (Silent k m) Outside same p q way = absurd same
+edge_alike enter other e (EndOfBlock k m) (Here j) same p q way = absurd same
+edge_alike enter other e (EndOfBlock k m) Outside same p q way = absurd same
 edge_alike enter other e Outside (Here j) same p q way = absurd same
-edge_alike enter other e Outside (Silent l n) same p q way = absurd same
+edge_alike enter other e Outside (EndOfBlock l n) same p q way = absurd same
 
 tokens_alike : (resolve : OperandPair → Option OperandPair) (n : ℕ) (x y : Fetch) → AreAlike x y → (t : Tokens) →
     after_fetch resolve n x t ≡ after_fetch resolve n y t
 tokens_alike resolve n (Here i) (Here j) same t = ap (λ (z : Item). after_fetch resolve n (Here z) t) same
-tokens_alike resolve n (Silent k m) (Silent l o) same t = refl
+tokens_alike resolve n (EndOfBlock k m) (EndOfBlock l o) same t = refl
 tokens_alike resolve n Outside Outside same t = refl
-tokens_alike resolve n (Here i) (Silent l o) same t = absurd same
+tokens_alike resolve n (Here i) (EndOfBlock l o) same t = absurd same
 tokens_alike resolve n (Here i) Outside same t = absurd same
-tokens_alike resolve n (Silent k m) (Here j) same t = absurd same
-tokens_alike resolve n (Silent k m) Outside same t = absurd same
+tokens_alike resolve n (EndOfBlock k m) (Here j) same t = absurd same
+tokens_alike resolve n (EndOfBlock k m) Outside same t = absurd same
 tokens_alike resolve n Outside (Here j) same t = absurd same
-tokens_alike resolve n Outside (Silent l o) same t = absurd same
+tokens_alike resolve n Outside (EndOfBlock l o) same t = absurd same
 
 module _ (blocks others : List Block) (resolve : OperandPair → Option OperandPair) (same : map contents_of blocks ≡ map contents_of others) where
   abbrev g : Program

@@ -35,7 +35,7 @@ use Rattle.mir_func.specs.declared.position.Origin.TheVariants.{Kept, Before}
 use Rattle.mir_func.specs.declared.position.Pos.{Pos}
 use Rattle.mir_func.specs.Exits.{row_exit}
 use Rattle.mir_func.specs.Function.{FramedFunction}
-use Rattle.mir_func.specs.Graph.{Here, Silent, below, block_start, fetch_in, index_of}
+use Rattle.mir_func.specs.Graph.{Here, EndOfBlock, below, block_start, fetch_in, index_of}
 use Rattle.mir_func.specs.Successors.{pos_in}
 use Rattle.sem_mir.specs.Align.{is_code, position_of}
 use Rattle.sem_machine.specs.Image.{CodeLine, Image, line_at, word_at}
@@ -619,13 +619,13 @@ module _ (l : Layout) (image : Image) (has : HasAllWords l) (is : IsImageOf l im
     no_size (Phi r n) q h = ap (λ (k : ItemKind). address_in l p + form_size (form_of (l.long p) k)) q
         ∙ (let z : address_in l p + 0 ≡ address_in l p = omega arith in z)
 
-  end_next : (p : Pos) (k n : ℕ) → fetched l.framed p ≡ Silent k n → address_in l (block_start (suc p.block)) ≡ address_in l p
+  end_next : (p : Pos) (k n : ℕ) → fetched l.framed p ≡ EndOfBlock k n → address_in l (block_start (suc p.block)) ≡ address_in l p
   end_next p k n e = by_blocks (drop p.block l.framed.blocks) refl e where
-    by_blocks : (bs : List Block) → drop p.block l.framed.blocks ≡ bs → fetch_in bs p.item ≡ Silent k n →
+    by_blocks : (bs : List Block) → drop p.block l.framed.blocks ≡ bs → fetch_in bs p.item ≡ EndOfBlock k n →
         address_in l (block_start (suc p.block)) ≡ address_in l p
     by_blocks [] d h = cc
     by_blocks (b ∷ rest) d h = address_end l p.block p.item b (Rattle.machine_steps_proof.proofs.Points.dropped l.framed.blocks p.block b rest d)
-        (Rattle.sem_mir.proofs.Reading.front_end b.items p.item b.silent rest k n h).0
+        (Rattle.sem_mir.proofs.Reading.front_end b.items p.item b.source_end rest k n h).0
 
   laid : IsLaidAt l.framed image
   laid = record {

@@ -9,7 +9,7 @@ use Rattle.mir_func.specs.declared.item.ItemKind.{ItemKind}
 use Rattle.mir_func.specs.declared.item.ItemKind.TheVariants.{Code, Mark, Phi}
 use Rattle.mir_func.specs.Exits.{exit_of, Leaves}
 use Rattle.mir_func.specs.Function.{FramedFunction}
-use Rattle.mir_func.specs.Graph.{Here, Silent, below, block_start, end_of, front, fetch_in, index_of}
+use Rattle.mir_func.specs.Graph.{Here, EndOfBlock, below, block_start, end_of, front, fetch_in, index_of}
 use Rattle.mir_func.specs.Sound.{AreApart, ids_of, Closes, LastCloses}
 use Rattle.mir_func.specs.SoundFrame.{body_of, NumberedAlike, IsFramed}
 use Rattle.sem_mir.specs.Align.{is_code}
@@ -69,7 +69,7 @@ module _ (f : FramedFunction) where
   pub data Settles : Pos → Pos → Type 0 where
     now : {p : Pos} → Settles p p
     past_item : {p q : Pos} (i : Item) → fetched f p ≡ Here i → is_code i.kind ≡ false → Settles (below p) q → Settles p q
-    past_end : {p q : Pos} (k n : ℕ) → fetched f p ≡ Silent k n → Settles (block_start (suc p.block)) q → Settles p q
+    past_end : {p q : Pos} (k n : ℕ) → fetched f p ≡ EndOfBlock k n → Settles (block_start (suc p.block)) q → Settles p q
 
   pub record Lands (p : Pos) : Type 0 where
     pub place : Pos
@@ -92,7 +92,7 @@ module _ (f : FramedFunction) where
   spot b k = record { block = b; item = k }
 
   module _ (b : ℕ) (block : Block) (rest : List Block) (found : drop b f.blocks ≡ block ∷ rest) (next : (rest ≡ [] → ⊥) → Lands (block_start (suc b))) where
-    fetch_at : (k : ℕ) → fetched f (spot b k) ≡ front (drop k block.items) block.silent rest
+    fetch_at : (k : ℕ) → fetched f (spot b k) ≡ front (drop k block.items) block.source_end rest
     fetch_at k = ap (λ (bs : List Block). fetch_in bs k) found
 
     items_land : (xs : List Item) (k : ℕ) → drop k block.items ≡ xs → (rest ≡ [] → Closes xs) → Lands (spot b k)
@@ -100,11 +100,11 @@ module _ (f : FramedFunction) where
       by_rest : (r : List Block) → rest ≡ r → Lands (spot b k)
       by_rest [] e = absurd (closes e)
       by_rest (c ∷ cs) e =
-          let end : fetched f (spot b k) ≡ Silent block.silent c.id =
-          fetch_at k ∙ ap (λ (is : List Item). front is block.silent rest) d ∙ ap (end_of block.silent) e in
-          lands_more (spot b k) (block_start (suc b)) (λ r s. past_end block.silent c.id end s) (next (λ z. (let bad : [] ≡ c ∷ cs = sym z ∙ e in cc)))
+          let end : fetched f (spot b k) ≡ EndOfBlock block.source_end c.id =
+          fetch_at k ∙ ap (λ (is : List Item). front is block.source_end rest) d ∙ ap (end_of block.source_end) e in
+          lands_more (spot b k) (block_start (suc b)) (λ r s. past_end block.source_end c.id end s) (next (λ z. (let bad : [] ≡ c ∷ cs = sym z ∙ e in cc)))
     items_land (x ∷ xs) k d closes =
-        let here : fetched f (spot b k) ≡ Here x = fetch_at k ∙ ap (λ (is : List Item). front is block.silent rest) d in
+        let here : fetched f (spot b k) ≡ Here x = fetch_at k ∙ ap (λ (is : List Item). front is block.source_end rest) d in
         elim (cases_Bool (is_code x.kind)) as (λ _. Lands (spot b k)) [
           | inl c ↦ record { place = spot b k; item = x; settles = now; stands = here; code = c }
           | inr c ↦
@@ -171,16 +171,16 @@ module _ (f : FramedFunction) where
         index_at (x ∷ bs) h b d (dropped (x ∷ bs) b d rest (drop_next (p ∷ x ∷ bs) b c (d ∷ rest) e))
 
     -- a block falls into the one with the next index
-    pub next_index : (p : Pos) (k n : ℕ) → fetched f p ≡ Silent k n → index_of (body_of f.blocks) n ≡ p.block
+    pub next_index : (p : Pos) (k n : ℕ) → fetched f p ≡ EndOfBlock k n → index_of (body_of f.blocks) n ≡ p.block
     next_index p k n e = by_blocks (drop p.block f.blocks) refl e where
-      by_end : (xs : List Item) (j s : ℕ) (bs : List Block) → front (drop j xs) s bs ≡ Silent k n → end_of s bs ≡ Silent k n
+      by_end : (xs : List Item) (j s : ℕ) (bs : List Block) → front (drop j xs) s bs ≡ EndOfBlock k n → end_of s bs ≡ EndOfBlock k n
       by_end xs j s bs h = (Rattle.sem_mir.proofs.Reading.front_end xs j s bs k n h).1
 
-      by_blocks : (bs : List Block) → drop p.block f.blocks ≡ bs → fetch_in bs p.item ≡ Silent k n → index_of (body_of f.blocks) n ≡ p.block
+      by_blocks : (bs : List Block) → drop p.block f.blocks ≡ bs → fetch_in bs p.item ≡ EndOfBlock k n → index_of (body_of f.blocks) n ≡ p.block
       by_blocks [] d h = cc
-      by_blocks (c ∷ []) d h = let z = by_end c.items p.item c.silent [] h in cc
+      by_blocks (c ∷ []) d h = let z = by_end c.items p.item c.source_end [] h in cc
       by_blocks (c ∷ g ∷ rest) d h =
-          let z = by_end c.items p.item c.silent (g ∷ rest) h in
+          let z = by_end c.items p.item c.source_end (g ∷ rest) h in
           let id : g.id ≡ n = cc in
           subst (λ (x : ℕ). index_of (body_of f.blocks) x ≡ p.block) id
           (index_of_next f.blocks refl framed.number framed.blocks_apart p.block c g rest d)

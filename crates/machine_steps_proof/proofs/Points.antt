@@ -12,7 +12,7 @@ use Rattle.mir_func.specs.declared.item.ItemKind.{ItemKind}
 use Rattle.mir_func.specs.declared.item.ItemKind.TheVariants.{Code}
 use Rattle.mir_func.specs.Exits.{exit_of, is_final}
 use Rattle.mir_func.specs.Function.{FramedFunction}
-use Rattle.mir_func.specs.Graph.{Here, Silent, below, block_start, end_of, front, fetch_in}
+use Rattle.mir_func.specs.Graph.{Here, EndOfBlock, below, block_start, end_of, front, fetch_in}
 use Rattle.mir_func.specs.Sound.{AllItems, LeavesPointer}
 use Rattle.mir_func.specs.SoundFrame.{adds_to_pointer, AreCode, prologue_code, epilogue_code, GivesBack, HasFrame, IsFramed}
 use Rattle.sem_mir.proofs.Reading.{front_item}
@@ -59,7 +59,7 @@ stands_at f p i e = by_blocks (drop p.block f.blocks) refl e where
     block = b;
     rest = rest;
     found = d;
-    at = front_item b.items p.item b.silent rest i e;
+    at = front_item b.items p.item b.source_end rest i e;
     member = got f.blocks p.block b (dropped f.blocks p.block b rest d);
   }
 
@@ -138,7 +138,7 @@ module _ (f : FramedFunction) where
   next_fetch : (p : Pos) (i : Item) (s : StandsAt f p i) → fetch_returns (fetched f (below p)) ≡ returns_if (slice_get s.block.items (suc p.item))
   next_fetch p i s =
       let k : p.item + 1 ≡ suc p.item = omega arith in
-      ap (λ (bs : List Block). fetch_returns (fetch_in bs (p.item + 1))) s.found ∙ front_returns s.block.items (p.item + 1) s.block.silent s.rest
+      ap (λ (bs : List Block). fetch_returns (fetch_in bs (p.item + 1))) s.found ∙ front_returns s.block.items (p.item + 1) s.block.source_end s.rest
       ∙ ap (λ (n : ℕ). returns_if (slice_get s.block.items n)) k
 
   -- below an item, where no return comes
@@ -269,7 +269,7 @@ module _ (f : FramedFunction) where
         by_block [] e = refl
         by_block (b ∷ rest) e =
             let back = subst (λ (n : ℕ). All (λ (b : Block). GivesBack (epilogue_code n f.saved) b.items) bs) (sym es) h.1 in
-            front_returns b.items 0 b.silent rest
+            front_returns b.items 0 b.source_end rest
             ∙ none_returns (slice_get b.items 0) (moves_of f.size bs back b (got bs n b (dropped bs n b rest e))).first
 
     start_by : (m : ℕ) → f.size ≡ m → HasFrame m f.saved f.blocks → (n : ℕ) → lowered_by f (block_start (suc n)) ≡ f.size
@@ -281,7 +281,7 @@ module _ (f : FramedFunction) where
     start_down = start_by f.size refl framed.frame
 
     end_of_frame : (blocks : List Block) → f.blocks ≡ blocks → (z : ℕ) → f.size ≡ suc z → HasFrame (suc z) f.saved blocks → (p : Pos) (k n : ℕ) →
-        fetched f p ≡ Silent k n → lowered_by f p ≡ f.size
+        fetched f p ≡ EndOfBlock k n → lowered_by f p ≡ f.size
     end_of_frame [] eb z es h p k n e = absurd h
     end_of_frame (pro ∷ bs) eb z es h p k n e = down p (left (nat_eq p.block 0 && nat_eq p.item 0) (fetch_returns (fetched f p))
         (not_start p (λ b i. at_start b i pro.items refl h.0)) (ap fetch_returns e))
@@ -291,14 +291,14 @@ module _ (f : FramedFunction) where
         at_start b i (x ∷ xs) ei code =
             let here : fetched f p ≡ Here x =
             ap (λ (n : ℕ). fetch_in (drop n f.blocks) p.item) b ∙ ap (λ (bs : List Block). fetch_in (drop 0 bs) p.item) eb
-            ∙ ap (λ (n : ℕ). front (drop n pro.items) pro.silent bs) i ∙ ap (λ (is : List Item). front (drop 0 is) pro.silent bs) ei in
-            let bad : Here x ≡ Silent k n = sym here ∙ e in
+            ∙ ap (λ (n : ℕ). front (drop n pro.items) pro.source_end bs) i ∙ ap (λ (is : List Item). front (drop 0 is) pro.source_end bs) ei in
+            let bad : Here x ≡ EndOfBlock k n = sym here ∙ e in
             cc
 
-    end_by : (m : ℕ) → f.size ≡ m → HasFrame m f.saved f.blocks → (p : Pos) (k n : ℕ) → fetched f p ≡ Silent k n → lowered_by f p ≡ f.size
+    end_by : (m : ℕ) → f.size ≡ m → HasFrame m f.saved f.blocks → (p : Pos) (k n : ℕ) → fetched f p ≡ EndOfBlock k n → lowered_by f p ≡ f.size
     end_by zero es h p k n e = no_frame p es ∙ sym es
     end_by (suc z) es h p k n e = end_of_frame f.blocks refl z es h p k n e
 
     -- and at a block's end
-    pub end_down : (p : Pos) (k n : ℕ) → fetched f p ≡ Silent k n → lowered_by f p ≡ f.size
+    pub end_down : (p : Pos) (k n : ℕ) → fetched f p ≡ EndOfBlock k n → lowered_by f p ≡ f.size
     end_down = end_by f.size refl framed.frame

@@ -8,7 +8,7 @@ use Rattle.mir_func.specs.declared.item.ItemKind.TheVariants.{Code, Mark, Phi}
 use Rattle.mir_func.specs.declared.variable.VarId.{VarId}
 use Rattle.mir_func.specs.Exits.{exit_of}
 use Rattle.mir_func.specs.Function.{FramedFunction}
-use Rattle.mir_func.specs.Graph.{Here, Silent, below, block_start, index_of}
+use Rattle.mir_func.specs.Graph.{Here, EndOfBlock, below, block_start, index_of}
 use Rattle.mir_func.specs.SoundFrame.{body_of, IsFramed}
 use Rattle.sem_mir.specs.Align.{is_code}
 use Rattle.sem_mir.specs.State.{Core, State, updated, content}
@@ -121,7 +121,7 @@ module _ (f : FramedFunction) (framed : IsFramed f) (resolve : OperandPair →
         passes i here plain d (ap (λ (k : ItemKind). do_item (framed_run f resolve image laid) k t.core) e)
         (record { entry = refl; area = refl; objects = refl; regs = refl; slots = refl; memory = refl; script = refl; events = refl }) (with_pairs pairs)
 
-  pub past_end : (k n : ℕ) → fetched f t.pos ≡ Silent k n → StaysLevel f resolve image laid t m (block_start (suc t.pos.block))
+  pub past_end : (k n : ℕ) → fetched f t.pos ≡ EndOfBlock k n → StaysLevel f resolve image laid t m (block_start (suc t.pos.block))
   past_end k n e =
       let to : Pos = block_start (suc t.pos.block) in
       let u : State = record { pos = to; core = t.core } in

@@ -17,7 +17,7 @@ use Rattle.mir_func.specs.declared.item.ItemKind.TheVariants.{Code, Mark, Phi}
 use Rattle.mir_func.specs.declared.position.Pos.{Pos}
 use Rattle.mir_func.specs.Exits.{row_exit, exit_of}
 use Rattle.mir_func.specs.Function.{FramedFunction}
-use Rattle.mir_func.specs.Graph.{Fetch, Here, Silent, Outside, Program, below, block_start, framed_program, RowEdge, KindEdge, FetchEdge}
+use Rattle.mir_func.specs.Graph.{Fetch, Here, EndOfBlock, Outside, Program, below, block_start, framed_program, RowEdge, KindEdge, FetchEdge}
 use Rattle.mir_func.specs.Sound.{SlotIn, SlotsIn}
 use Rattle.mir_func.specs.SoundFrame.{adds_to_pointer, slot_offsets, IsSlotOffset, IsFramed}
 use Rattle.sem_mir.specs.Token.{Token, Tokens, register_token, moved_tokens, sets_pointer, code_tokens, numbered_tokens, after_item, after_fetch}
@@ -151,7 +151,7 @@ module _ (f : FramedFunction) (framed : IsFramed f) (resolve : OperandPair → O
 
     by_fetch : (t.slots o ≡ Some k → IsSlotOffset f o) → (x : Fetch) → g.fetch p ≡ x → (after_fetch resolve n x t).slots o ≡ Some k → IsSlotOffset f o
     by_fetch before (Here i) here h = by_kind before i here i.kind refl (item_slots resolve n i.kind t o k h)
-    by_fetch before (Silent j m) here h = before h
+    by_fetch before (EndOfBlock j m) here h = before h
     by_fetch before Outside here h = before h
 
   goes_down : (p q : Pos) → lowered_by f (below p) ≡ f.size → LeadsOn g.enter p q → lowered_by f q ≡ f.size
@@ -177,5 +177,5 @@ module _ (f : FramedFunction) (framed : IsFramed f) (resolve : OperandPair → O
 
     by_fetch : (x : Fetch) → g.fetch p ≡ x → FetchEdge g.enter x p q → (after_fetch resolve n x t).slots o ≡ Some k → lowered_by f q ≡ f.size
     by_fetch (Here i) here way h = by_motion i (pointer_motion f framed p i here) way (item_slots resolve n i.kind t o k h)
-    by_fetch (Silent j m) here way h = ap (lowered_by f) way ∙ start_down f framed _
+    by_fetch (EndOfBlock j m) here way h = ap (lowered_by f) way ∙ start_down f framed _
     by_fetch Outside here way h = absurd way

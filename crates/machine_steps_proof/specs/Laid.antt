@@ -10,7 +10,7 @@ use Rattle.mir_func.specs.declared.position.Origin.TheVariants.{Before}
 use Rattle.mir_func.specs.declared.item.Item.{Item}
 use Rattle.mir_func.specs.declared.item.ItemKind.TheVariants.{Code}
 use Rattle.mir_func.specs.Function.{FramedFunction}
-use Rattle.mir_func.specs.Graph.{Fetch, Here, Silent, below, block_start, fetch_in, index_of}
+use Rattle.mir_func.specs.Graph.{Fetch, Here, EndOfBlock, below, block_start, fetch_in, index_of}
 use Rattle.mir_func.specs.Objects.{area_of}
 use Rattle.mir_func.specs.SoundFrame.{body_of}
 use Rattle.sem_mir.specs.Align.{is_code, position_of}
@@ -107,5 +107,5 @@ pub record IsLaidAt (f : FramedFunction) (image : Image) : Type 0 where
   pub area : image.area ≡ area_of f.objects
   -- debug items and the ends of blocks have no bytes
   pub debug : (p : Pos) (i : Item) → fetched f p ≡ Here i → is_code i.kind ≡ false → address (below p) ≡ address p
-  pub ends : (p : Pos) (k n : ℕ) → fetched f p ≡ Silent k n → address (block_start (suc p.block)) ≡ address p
+  pub ends : (p : Pos) (k n : ℕ) → fetched f p ≡ EndOfBlock k n → address (block_start (suc p.block)) ≡ address p
   pub code : (p : Pos) (i : Item) (c : Instruction) (k : Option ℕ) → fetched f p ≡ Here i → i.kind ≡ Code c k → HasRow f image address p i (row_of c)

@@ -3,7 +3,7 @@ use Rattle.std.specs.Prelude.{◌≡◌, ℕ, ◌-◌, Bool, false, cond, ◌&&�
 use Rattle.mir_func.specs.declared.position.Pos.{Pos}
 use Rattle.mir_func.specs.Exits.{exit_of, is_final}
 use Rattle.mir_func.specs.Function.{FramedFunction}
-use Rattle.mir_func.specs.Graph.{Fetch, Here, Silent, Outside}
+use Rattle.mir_func.specs.Graph.{Fetch, Here, EndOfBlock, Outside}
 use Rattle.sem_mir.specs.State.{Core}
 use Rattle.sem_mir.specs.Step.{read}
 use Rattle.machine_steps_proof.specs.Laid.{fetched}
@@ -11,7 +11,7 @@ use Rattle.machine_steps_proof.specs.Laid.{fetched}
 -- the item is a return
 abbrev pub fetch_returns : Fetch → Bool
 fetch_returns (Here i) = is_final (exit_of i.kind)
-fetch_returns (Silent k n) = false
+fetch_returns (EndOfBlock k n) = false
 fetch_returns Outside = false
 
 -- x2 has its value at entry: at the start of the prologue, and at a return

@@ -7,7 +7,7 @@ use Rattle.mir_func.specs.declared.exit.Exit.TheVariants.{Perhaps}
 use Rattle.mir_func.specs.Exits.{exit_of}
 use Rattle.mir_func.specs.Function.{FramedFunction}
 use Rattle.mir_func.specs.declared.position.Pos.{Pos}
-use Rattle.mir_func.specs.Graph.{Here, Silent, Program, below, block_start, framed_program}
+use Rattle.mir_func.specs.Graph.{Here, EndOfBlock, Program, below, block_start, framed_program}
 use Rattle.mir_func.specs.SoundFrame.{IsFramed}
 use Rattle.sem_mir.specs.Align.{is_code, position_of}
 use Rattle.sem_mir.specs.State.{State, IsInRange}
@@ -72,7 +72,7 @@ abbrev pub StaysBeside : Type 0
 StaysBeside = (f : FramedFunction) → IsFramed f → (resolve : OperandPair → Option OperandPair) (image : Image) (laid : IsLaidAt f image)
     (t : State) (m : Machine) → Level f resolve image laid t m →
     ((i : Item) → fetched f t.pos ≡ Here i → is_code i.kind ≡ false → StaysLevel f resolve image laid t m (below t.pos)) ×
-    ((k n : ℕ) → fetched f t.pos ≡ Silent k n → StaysLevel f resolve image laid t m (block_start (suc t.pos.block)))
+    ((k n : ℕ) → fetched f t.pos ≡ EndOfBlock k n → StaysLevel f resolve image laid t m (block_start (suc t.pos.block)))
 
 -- The start states match.
 abbrev pub StartsBeside : Type 0

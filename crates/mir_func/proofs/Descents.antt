@@ -7,7 +7,7 @@ use Rattle.mir_func.specs.declared.block.Block.{Block}
 use Rattle.mir_func.specs.declared.entry.OperandPair.{OperandPair}
 use Rattle.mir_func.specs.declared.item.ItemKind.{ItemKind}
 use Rattle.mir_func.specs.declared.item.ItemKind.TheVariants.{Code, Mark, Phi}
-use Rattle.mir_func.specs.Graph.{Fetch, Here, Silent, Outside, below, block_start}
+use Rattle.mir_func.specs.Graph.{Fetch, Here, EndOfBlock, Outside, below, block_start}
 use Rattle.mir_func.specs.Graph.{program_of, RowEdge, KindEdge, FetchEdge, Edge, Leads, stay, go}
 use Rattle.mir_func.specs.Successors.{pos_in, ComesDown, GoesTo}
 
@@ -29,7 +29,7 @@ kind_end (Phi x k) p q h = inr h
 
 fetch_end : (x : Fetch) (p q : Pos) → FetchEdge (λ n. n) x p q → IsEdgeEnd p q
 fetch_end (Here i) p q h = kind_end i.kind p q h
-fetch_end (Silent k m) p q h = inl (m, h)
+fetch_end (EndOfBlock k m) p q h = inl (m, h)
 fetch_end Outside p q h = absurd h
 
 module _ (sp : Bool) (blocks : List Block) (resolve : OperandPair → Option OperandPair) where

@@ -14,7 +14,7 @@ use Rattle.mir_func.specs.declared.item.ItemKind.TheVariants.{Code, Mark, Phi}
 use Rattle.mir_func.specs.declared.exit.Exit.{Exit}
 use Rattle.mir_func.specs.declared.exit.Exit.TheVariants.{Onward, Perhaps, Always, Final}
 use Rattle.mir_func.specs.Sound.{AreApart, ids_of}
-use Rattle.mir_func.specs.Graph.{Fetch, Here, Silent, Outside, below, block_start}
+use Rattle.mir_func.specs.Graph.{Fetch, Here, EndOfBlock, Outside, below, block_start}
 use Rattle.mir_func.specs.Graph.{end_of, front, fetch_in, from_block, program_of, RowEdge, KindEdge, FetchEdge}
 use Rattle.mir_func.specs.Exits.{row_exit, exit_of}
 use Rattle.mir_func.specs.Successors.{pos_in, GoesTo, ways_from, ways}
@@ -66,22 +66,22 @@ kind_out (Phi x k) p n = (λ e. not_start p n (sym e), λ h. absurd h)
 
 abbrev pub DownAt : Fetch → Type 0
 DownAt (Here i) = IsDown (exit_of i.kind)
-DownAt (Silent k m) = ⊥
+DownAt (EndOfBlock k m) = ⊥
 DownAt Outside = ⊥
 
 abbrev pub OutAt : Fetch → ℕ → Type 0
 OutAt (Here i) n = IsOut (exit_of i.kind) n
-OutAt (Silent k m) n = m ≡ n
+OutAt (EndOfBlock k m) n = m ≡ n
 OutAt Outside n = ⊥
 
 fetch_down : (x : Fetch) (p : Pos) → FetchEdge Stays x p (below p) ↔ DownAt x
 fetch_down (Here i) p = kind_down i.kind p
-fetch_down (Silent k m) p = (λ h. not_start p m h, λ h. absurd h)
+fetch_down (EndOfBlock k m) p = (λ h. not_start p m h, λ h. absurd h)
 fetch_down Outside p = (λ h. h, λ h. h)
 
 fetch_out : (x : Fetch) (p : Pos) (n : ℕ) → FetchEdge Stays x p (block_start n) ↔ OutAt x n
 fetch_out (Here i) p n = kind_out i.kind p n
-fetch_out (Silent k m) p n = (λ e. sym (ap (λ (q : Pos). q.block) e), λ e. ap block_start (sym e))
+fetch_out (EndOfBlock k m) p n = (λ e. sym (ap (λ (q : Pos). q.block) e), λ e. ap block_start (sym e))
 fetch_out Outside p n = (λ h. h, λ h. h)
 
 -- ---- ways down items
@@ -184,17 +184,17 @@ head_id-drop (b ∷ bs) (suc i) = head_id-drop bs i
 
 module _ (sp : Bool) (blocks : List Block) (resolve : OperandPair → Option OperandPair) (i : ℕ) (b : Block)
     (found : from_block blocks b.id ≡ b ∷ drop (suc i) blocks) where
-  fetched : (k : ℕ) → fetch_in (from_block blocks b.id) k ≡ at_index b.items b.silent (drop (suc i) blocks) k
+  fetched : (k : ℕ) → fetch_in (from_block blocks b.id) k ≡ at_index b.items b.source_end (drop (suc i) blocks) k
   fetched k = ap (λ (bs : List Block). fetch_in bs k) found
 
-  goes_from : (n : ℕ) → GoesTo (program_of sp blocks resolve) b.id n → Goes b.items b.silent (drop (suc i) blocks) n
+  goes_from : (n : ℕ) → GoesTo (program_of sp blocks resolve) b.id n → Goes b.items b.source_end (drop (suc i) blocks) n
   goes_from n (k, down, out) = (
     k,
     λ j l. subst DownAt (fetched j) ((fetch_down (fetch_in (from_block blocks b.id) j) (pos_in b.id j)).0 (down j l)),
     subst (λ (x : Fetch). OutAt x n) (fetched k) ((fetch_out (fetch_in (from_block blocks b.id) k) (pos_in b.id k) n).0 out),
   )
 
-  goes_to : (n : ℕ) → Goes b.items b.silent (drop (suc i) blocks) n → GoesTo (program_of sp blocks resolve) b.id n
+  goes_to : (n : ℕ) → Goes b.items b.source_end (drop (suc i) blocks) n → GoesTo (program_of sp blocks resolve) b.id n
   goes_to n (k, down, out) = (
     k,
     λ j l. (fetch_down (fetch_in (from_block blocks b.id) j) (pos_in b.id j)).1 (subst DownAt (sym (fetched j)) (down j l)),
@@ -208,9 +208,9 @@ ways_are : (blocks : List Block) (i : ℕ) (b : Block) → AreApart (ids_of bloc
 ways_are blocks i b apart e sp resolve n =
     let found = from_block-at blocks i b apart e in
     let next = head_id-drop blocks (suc i) in (
-      λ h. goes_to sp blocks resolve i b found n (way_to b.items b.silent (drop (suc i) blocks) n
+      λ h. goes_to sp blocks resolve i b found n (way_to b.items b.source_end (drop (suc i) blocks) n
           (subst (λ (o : Option ℕ). Contains (ways b.items o) n) (sym next) h)),
-      λ h. subst (λ (o : Option ℕ). Contains (ways b.items o) n) next (way_from b.items b.silent (drop (suc i) blocks) n
+      λ h. subst (λ (o : Option ℕ). Contains (ways b.items o) n) next (way_from b.items b.source_end (drop (suc i) blocks) n
           (goes_from sp blocks resolve i b found n h)),
     )
 

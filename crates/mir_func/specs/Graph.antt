@@ -13,7 +13,7 @@ use Rattle.mir_func.specs.SoundFrame.{body_of}
 pub data Fetch : Type 0 where
   Here : Item → Fetch
   -- a block's end: its silent index in the source, and the block that comes next
-  Silent : (index next : ℕ) → Fetch
+  EndOfBlock : (index next : ℕ) → Fetch
   Outside : Fetch
 
 -- a function as a program
@@ -35,19 +35,19 @@ abbrev pub block_start : ℕ → Pos
 block_start n = record { block = n; item = 0 }
 
 -- the end of a block with this silent index, before these blocks; the last block's end is outside
-abbrev pub end_of : (silent : ℕ) → List Block → Fetch
+abbrev pub end_of : (source_end : ℕ) → List Block → Fetch
 end_of k [] = Outside
-end_of k (b ∷ bs) = Silent k b.id
+end_of k (b ∷ bs) = EndOfBlock k b.id
 
 -- the first of the items, or the block's end if no item is left
-abbrev pub front : List Item → (silent : ℕ) → List Block → Fetch
+abbrev pub front : List Item → (source_end : ℕ) → List Block → Fetch
 front [] k bs = end_of k bs
 front (i ∷ is) k bs = Here i
 
 -- the item of this index in the first of the blocks, or that block's end
 abbrev pub fetch_in : List Block → ℕ → Fetch
 fetch_in [] n = Outside
-fetch_in (b ∷ bs) n = front (drop n b.items) b.silent bs
+fetch_in (b ∷ bs) n = front (drop n b.items) b.source_end bs
 
 -- the blocks from the one with this number on
 abbrev pub from_block : List Block → ℕ → List Block
@@ -94,7 +94,7 @@ KindEdge enter (Phi r k) p q = q ≡ below p
 -- the control-flow edges from what is at a position: from a block's end to the next block
 abbrev pub FetchEdge : (ℕ → ℕ) → Fetch → Pos → Pos → Type 0
 FetchEdge enter (Here i) p q = KindEdge enter i.kind p q
-FetchEdge enter (Silent k n) p q = q ≡ block_start (enter n)
+FetchEdge enter (EndOfBlock k n) p q = q ≡ block_start (enter n)
 FetchEdge enter Outside p q = ⊥
 
 -- there is a control-flow edge from one position to the other

@@ -168,8 +168,8 @@ NumbersOnce items = (i j : ℕ) (x y : Item) (k : ℕ) → slice_get items i ≡
 
 -- the origin is in the block: an item is kept at an index below the silent one, or was added before an index up to it
 abbrev pub OriginIn : Block → Origin → Type 0
-OriginIn b (Kept p) = (p.block ≡ b.id) × (p.item < b.silent)
-OriginIn b (Before p) = (p.block ≡ b.id) × (p.item ≤ b.silent)
+OriginIn b (Kept p) = (p.block ≡ b.id) × (p.item < b.source_end)
+OriginIn b (Before p) = (p.block ≡ b.id) × (p.item ≤ b.source_end)
 
 -- at most one item, and that is a jump
 abbrev pub IsJumpAtMost : List Item → Type 0

@@ -24,7 +24,7 @@ stripped_items items = filter_map stripped_item items
 
 -- a block with its code alone. Its silent index stays
 abbrev pub stripped_block : Block → Block
-stripped_block b = record { id = b.id; items = stripped_items b.items; silent = b.silent }
+stripped_block b = record { id = b.id; items = stripped_items b.items; source_end = b.source_end }
 
 -- each block with its code alone
 abbrev pub stripped_blocks : List Block → List Block

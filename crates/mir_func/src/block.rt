@@ -16,7 +16,7 @@ pub struct Block {
     pub items: Items,
     /// The index of the block's end in the source (its silent position): the number of items that were read.
     /// No pass changes it.
-    pub silent: u32,
+    pub source_end: u32,
 }
 
 /// The blocks of a function, in the order of the text.
@@ -30,7 +30,7 @@ impl Block {
         Ok(Block {
             id: self.id,
             items: copy_items(alloc, self.items.as_slice())?,
-            silent: self.silent,
+            source_end: self.source_end,
         })
     }
 }

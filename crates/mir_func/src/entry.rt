@@ -15,7 +15,7 @@ pub struct OperandPair {
 /// A substitution of debug instruction numbers: a reference to `src` has the value of `dst` (LLVM:
 /// `debugValueSubstitutions`).
 #[derive(Clone, Copy, Debug, PartialEq, Eq)]
-pub struct Entry {
+pub struct DebugSubstitution {
     /// The pair that is substituted.
     pub src: OperandPair,
     /// The pair that has the value.

@@ -25,7 +25,7 @@ pub enum Origin {
 /// A position in a function with its frame: the index of a block, where 0 is the prologue, and the index of an
 /// item in it.
 #[derive(Clone, Copy, Debug, PartialEq, Eq, PartialOrd, Ord)]
-pub struct Point {
+pub struct ProgramPoint {
     /// The block's index in the function.
     pub block: BlockIndex,
     /// The index of the item.

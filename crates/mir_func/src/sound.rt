@@ -275,8 +275,8 @@ fn is_origin_inside(b: &Block, origin: Origin) -> bool
     ensures { IsTrue result ↔ OriginIn b.now origin }
 {
     match origin {
-        Origin::Kept(p) => p.block == b.id && p.item < b.silent,
-        Origin::Before(p) => p.block == b.id && p.item <= b.silent,
+        Origin::Kept(p) => p.block == b.id && p.item < b.source_end,
+        Origin::Before(p) => p.block == b.id && p.item <= b.source_end,
     }
 }
 

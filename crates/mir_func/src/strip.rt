@@ -37,7 +37,7 @@ fn strip_block(alloc: Global, b: &Block) -> Result<Block, AllocError>
     Ok(Block {
         id: b.id,
         items: strip_items(alloc, b.items.as_slice())?,
-        silent: b.silent,
+        source_end: b.source_end,
     })
 }
 

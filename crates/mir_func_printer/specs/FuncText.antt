@@ -6,7 +6,7 @@ use Rattle.std.specs.Fmt.{decimal}
 use Rattle.mir_func.specs.Function.{Function}
 use Rattle.mir_func.specs.declared.object.Object.{Object}
 use Rattle.mir_func.specs.declared.entry.OperandPair.{OperandPair}
-use Rattle.mir_func.specs.declared.entry.Entry.{Entry}
+use Rattle.mir_func.specs.declared.entry.DebugSubstitution.{DebugSubstitution}
 use Rattle.mir_func.specs.declared.block.Block.{Block}
 use Rattle.mir_func.specs.declared.item.Item.{Item}
 use Rattle.mir_printer.specs.Spelling.{quoted_byte, item_text}
@@ -55,16 +55,16 @@ abbrev pub pair_text : List ℕ → List ℕ → OperandPair → List ℕ
 pair_text number operand p = number ++ decimal p.number ++ operand ++ decimal p.operand
 
 -- the line of a substitution
-unfoldable pub entry_line : Entry → List ℕ
+unfoldable pub entry_line : DebugSubstitution → List ℕ
 entry_line e = pair_text (codes "  - { srcinst: ") (codes ", srcop: ") e.src ++ pair_text (codes ", dstinst: ") (codes ", dstop: ") e.dst
     ++ codes ", subreg: " ++ decimal e.subreg ++ (codes " }" ++ 10 ∷ [])
 
 -- substitutions, after the line of their key
-unfoldable pub some_substitutions : List Entry → List ℕ
+unfoldable pub some_substitutions : List DebugSubstitution → List ℕ
 some_substitutions entries = codes "debugValueSubstitutions:" ++ 10 ∷ [] ++ flat_map entry_line entries
 
 -- the substitutions, unless there are none
-abbrev pub substitutions_text : List Entry → List ℕ
+abbrev pub substitutions_text : List DebugSubstitution → List ℕ
 substitutions_text entries = cond (is_nothing entries) [] (some_substitutions entries)
 
 -- the line of an item
@@ -76,6 +76,6 @@ abbrev pub block_text : Block → List ℕ
 block_text b = codes "  bb." ++ decimal b.id ++ (codes ":" ++ 10 ∷ []) ++ flat_map item_line b.items
 
 -- The text of a function and its substitutions.
-unfoldable pub func_text : Function → List Entry → List ℕ
+unfoldable pub func_text : Function → List DebugSubstitution → List ℕ
 func_text f entries = codes "---" ++ 10 ∷ [] ++ codes "name: " ++ name_text f.name ++ 10 ∷ [] ++ stack_text f.slots f.objects ++ substitutions_text entries
     ++ (codes "body: |" ++ 10 ∷ []) ++ flat_map block_text f.blocks ++ (codes "..." ++ 10 ∷ [])

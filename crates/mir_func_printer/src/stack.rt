@@ -13,7 +13,7 @@ ghost use Rattle.mir_func_printer.specs.FuncText.{
 };
 
 use base_ids::code::SlotId;
-use mir_func::entry::{Entry, OperandPair};
+use mir_func::entry::{DebugSubstitution, OperandPair};
 use mir_func::object::Object;
 use mir_printer::text::{Text, push_numbered, push_str};
 use std::alloc::AllocError;
@@ -80,7 +80,7 @@ fn push_pair(
 }
 
 /// Appends the line of a substitution.
-fn push_entry(text: &mut Text, entry: &Entry) -> Result<(), AllocError>
+fn push_entry(text: &mut Text, entry: &DebugSubstitution) -> Result<(), AllocError>
     ensures { OnOk result (text.new ≡ text.old ++ entry_line entry.now) }
 {
     push_pair(text, "  - { srcinst: ", ", srcop: ", entry.src)?;
@@ -89,7 +89,7 @@ fn push_entry(text: &mut Text, entry: &Entry) -> Result<(), AllocError>
     push_str(text, " }\n")
 }
 
-fn push_entries(text: &mut Text, entries: &[Entry]) -> Result<(), AllocError>
+fn push_entries(text: &mut Text, entries: &[DebugSubstitution]) -> Result<(), AllocError>
     ensures { OnOk result (text.new ≡ text.old ++ flat_map entry_line entries.now) }
 {
     for entry in entries {
@@ -99,7 +99,7 @@ fn push_entries(text: &mut Text, entries: &[Entry]) -> Result<(), AllocError>
 }
 
 /// Appends the substitutions, unless there are none.
-pub fn push_substitutions(text: &mut Text, entries: &[Entry]) -> Result<(), AllocError>
+pub fn push_substitutions(text: &mut Text, entries: &[DebugSubstitution]) -> Result<(), AllocError>
     ensures { OnOk result (text.new ≡ text.old ++ substitutions_text entries.now) }
 {
     if entries.is_empty() {
@@ -109,7 +109,7 @@ pub fn push_substitutions(text: &mut Text, entries: &[Entry]) -> Result<(), Allo
 }
 
 /// Appends the substitutions, of which there are some.
-fn push_some_substitutions(text: &mut Text, entries: &[Entry]) -> Result<(), AllocError>
+fn push_some_substitutions(text: &mut Text, entries: &[DebugSubstitution]) -> Result<(), AllocError>
     ensures { OnOk result (text.new ≡ text.old ++ some_substitutions entries.now) }
 {
     push_str(text, "debugValueSubstitutions:\n")?;

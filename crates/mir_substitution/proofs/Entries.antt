@@ -3,7 +3,7 @@ use Rattle.std.proofs.Common.{◌≡◌, List, [], ◌∷◌, ◌++◌, Option, 
 use Rattle.std.specs.Prelude.{nat_eq, is_some}
 use Rattle.std.proofs.lemmas.Bool.{cases_Bool, and_parts, and_from, eqb-true, eq-eqb}
 use Rattle.mir_func.specs.declared.entry.OperandPair.{OperandPair}
-use Rattle.mir_func.specs.declared.entry.Entry.{Entry}
+use Rattle.mir_func.specs.declared.entry.DebugSubstitution.{DebugSubstitution}
 use Rattle.mir_func.specs.Resolve.{is_pair, entry_of}
 
 pub is_pair-true : (p q : OperandPair) → is_pair p q ≡ true → p ≡ q
@@ -17,19 +17,19 @@ pub is_pair-same : (p : OperandPair) → is_pair p p ≡ true
 is_pair-same p = and_from _ _ (eq-eqb p.number p.number refl) (eq-eqb p.operand p.operand refl)
 
 -- what a pair's entry is, where an entry with another source stands before
-pub entry_of-later : (x : Entry) (xs : List Entry) (q : OperandPair) → is_pair x.src q ≡ false → entry_of (x ∷ xs) q ≡ entry_of xs q
+pub entry_of-later : (x : DebugSubstitution) (xs : List DebugSubstitution) (q : OperandPair) → is_pair x.src q ≡ false → entry_of (x ∷ xs) q ≡ entry_of xs q
 entry_of-later x xs q h = ap (λ (b : Bool). cond b (Some x) (entry_of xs q)) h
 
-pub entry_of-first : (x : Entry) (xs : List Entry) (q : OperandPair) → is_pair x.src q ≡ true → entry_of (x ∷ xs) q ≡ Some x
+pub entry_of-first : (x : DebugSubstitution) (xs : List DebugSubstitution) (q : OperandPair) → is_pair x.src q ≡ true → entry_of (x ∷ xs) q ≡ Some x
 entry_of-first x xs q h = ap (λ (b : Bool). cond b (Some x) (entry_of xs q)) h
 
 -- an entry whose source is new
-pub entry_of-push : (xs : List Entry) (e : Entry) (q : OperandPair) → entry_of xs e.src ≡ None →
+pub entry_of-push : (xs : List DebugSubstitution) (e : DebugSubstitution) (q : OperandPair) → entry_of xs e.src ≡ None →
     entry_of (xs ++ e ∷ []) q ≡ cond (is_pair e.src q) (Some e) (entry_of xs q)
 entry_of-push [] e q h = refl
 entry_of-push (x ∷ xs) e q h =
     elim (cases_Bool (is_pair x.src e.src)) [
-      | inl t ↦ (let w : ◌≡◌ {A = Option Entry} (Some x) None = sym (entry_of-first x xs e.src t) ∙ h in cc)
+      | inl t ↦ (let w : ◌≡◌ {A = Option DebugSubstitution} (Some x) None = sym (entry_of-first x xs e.src t) ∙ h in cc)
       | inr f ↦
           let later : entry_of xs e.src ≡ None = sym (entry_of-later x xs e.src f) ∙ h in
           let known = entry_of-push xs e q later in
@@ -40,18 +40,21 @@ entry_of-push (x ∷ xs) e q h =
                   let no : true ≡ false = sym (is_pair-same e.src) ∙ ap (λ (p : OperandPair). is_pair p e.src) (sym same) ∙ f in cc
               | inr u ↦ entry_of-first x (xs ++ e ∷ []) q t ∙ sym (entry_of-first x xs q t) ∙ sym (ap (λ (b : Bool). cond b (Some e) (entry_of (x ∷ xs) q)) u)
             ])
-            | inr g ↦ entry_of-later x (xs ++ e ∷ []) q g ∙ known ∙ sym (ap (λ (o : Option Entry). cond (is_pair e.src q) (Some e) o) (entry_of-later x xs q g))
+            | inr g ↦ entry_of-later x (xs ++ e ∷ []) q g ∙ known ∙ sym (ap (λ (o : Option DebugSubstitution). cond (is_pair e.src q) (Some e) o)
+                (entry_of-later x xs q g))
           ]
     ]
 
 -- an index with one more entry
-pub indexed-push : (xs ys : List Entry) (e : Entry) (m n : OperandPair → Option Entry) → ((q : OperandPair) → m q ≡ entry_of xs q) →
+pub indexed-push : (xs ys : List DebugSubstitution) (e : DebugSubstitution) (m n : OperandPair → Option DebugSubstitution) →
+    ((q : OperandPair) → m q ≡ entry_of xs q) →
     is_some (m e.src) ≡ false → ((q : OperandPair) → n q ≡ cond (is_pair e.src q) (Some e) (m q)) → ys ≡ xs ++ e ∷ [] → (q : OperandPair) → n q ≡ entry_of ys q
 indexed-push xs ys e m n known absent put more q =
     let new : entry_of xs e.src ≡ None = is_some-false (entry_of xs e.src) (ap is_some (sym (known e.src)) ∙ absent) in
-    put q ∙ ap (λ (o : Option Entry). cond (is_pair e.src q) (Some e) o) (known q) ∙ sym (entry_of-push xs e q new) ∙ ap (λ (zs : List Entry). entry_of zs q)
+    put q ∙ ap (λ (o : Option DebugSubstitution). cond (is_pair e.src q) (Some e) o) (known q) ∙ sym (entry_of-push xs e q new) ∙ ap (λ
+    (zs : List DebugSubstitution). entry_of zs q)
     (sym more)
   where
-    is_some-false : (o : Option Entry) → is_some o ≡ false → o ≡ None
+    is_some-false : (o : Option DebugSubstitution) → is_some o ≡ false → o ≡ None
     is_some-false None h = refl
     is_some-false (Some x) h = (let no : true ≡ false = h in cc)

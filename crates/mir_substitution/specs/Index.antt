@@ -4,7 +4,7 @@ use Rattle.std.specs.declared.hash.FoldHasher.{FoldHasher}
 use Rattle.std.specs.declared.hash.BuildHasherDefault.{BuildHasherDefault}
 use Rattle.std.specs.HashMap.{HashMap, get}
 use Rattle.mir_func.specs.declared.entry.OperandPair.{OperandPair}
-use Rattle.mir_func.specs.declared.entry.Entry.{Entry}
+use Rattle.mir_func.specs.declared.entry.DebugSubstitution.{DebugSubstitution}
 use Rattle.mir_func.specs.Resolve.{entry_of}
 
 -- the key of a pair in the index
@@ -16,5 +16,5 @@ abbrev pub is_key : ℕ × ℕ → ℕ × ℕ → Bool
 is_key p q = nat_eq p.0 q.0 && nat_eq p.1 q.1
 
 -- the index has each source's entry, and no other
-abbrev pub IsIndexed : List Entry → HashMap (ℕ × ℕ) Entry (BuildHasherDefault FoldHasher) → Type 0
+abbrev pub IsIndexed : List DebugSubstitution → HashMap (ℕ × ℕ) DebugSubstitution (BuildHasherDefault FoldHasher) → Type 0
 IsIndexed subs index = (q : OperandPair) → get is_key index (key_of q) ≡ entry_of subs q

@@ -5,7 +5,7 @@ ghost use Rattle.mir_func.specs.Resolve.{entry_of, resolve};
 ghost use Rattle.mir_substitution.specs.Added.{added};
 ghost use Rattle.mir_substitution.specs.Index.{key_of};
 
-use mir_func::entry::{Entry, OperandPair};
+use mir_func::entry::{DebugSubstitution, OperandPair};
 use std::alloc::{AllocError, Global};
 use std::collections::HashMap;
 use std::marker::Model;
@@ -14,16 +14,16 @@ use std::marker::Model;
 /// `debugValueSubstitutions`). No two have the same source. A contract sees them as the list of the entries.
 #[derive(Drop)]
 pub struct Substitutions {
-    entries: Vec<Entry>,
+    entries: Vec<DebugSubstitution>,
     /// The entry of each source.
-    index: HashMap<(u32, u32), Entry>,
+    index: HashMap<(u32, u32), DebugSubstitution>,
 }
 
 impl Model for Substitutions {
     ghost use Rattle.std.specs.Prelude.{List};
-    ghost use Rattle.mir_func.specs.declared.entry.Entry.{Entry};
+    ghost use Rattle.mir_func.specs.declared.entry.DebugSubstitution.{DebugSubstitution};
 
-    ghost Value = { List Entry };
+    ghost Value = { List DebugSubstitution };
 
     ghost use Rattle.mir_substitution.specs.Index.{IsIndexed};
 
@@ -44,7 +44,7 @@ impl Substitutions {
     }
 
     /// The entries, in the order in which they were added.
-    pub fn entries(&self) -> &[Entry]
+    pub fn entries(&self) -> &[DebugSubstitution]
         ensures { result.now ≡ self.now }
     {
         self.entries.as_slice()
@@ -52,7 +52,7 @@ impl Substitutions {
 
     /// Adds an entry at the end. An entry whose source has one already changes nothing, and neither does a call
     /// for which memory runs out.
-    pub fn add(&mut self, e: Entry) -> Result<(), AllocError>
+    pub fn add(&mut self, e: DebugSubstitution) -> Result<(), AllocError>
         ensures ok { OnOk result (self.new ≡ added self.old e) }
         ensures err { OnErr result (self.new ≡ self.old) }
     {
@@ -67,7 +67,7 @@ impl Substitutions {
     }
 
     /// The entry of a pair.
-    fn entry(&self, pair: &OperandPair) -> Option<Entry>
+    fn entry(&self, pair: &OperandPair) -> Option<DebugSubstitution>
         ensures { result ≡ entry_of self.now pair.now }
     {
         self.index.get(&key(pair)).copied()

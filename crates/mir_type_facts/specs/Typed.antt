@@ -5,7 +5,7 @@ use Rattle.rv64_instr.specs.declared.place.Place.TheVariants.{Register, Slot, Co
 use Rattle.rv64_instr.specs.Form.{has_form}
 use Rattle.rv64_instr.specs.Instruction.{Instruction}
 use Rattle.mir_func.specs.declared.block.Block.{Block}
-use Rattle.mir_func.specs.declared.entry.Entry.{Entry}
+use Rattle.mir_func.specs.declared.entry.DebugSubstitution.{DebugSubstitution}
 use Rattle.mir_func.specs.declared.entry.OperandPair.{OperandPair}
 use Rattle.mir_func.specs.declared.item.Item.{Item}
 use Rattle.mir_func.specs.declared.item.ItemKind.{ItemKind}
@@ -44,7 +44,7 @@ pub record IsTypedItem (i : Item) : Type 0 where
 -- a block of such items, whose number and silent index fit their types
 pub record IsTypedBlock (b : Block) : Type 0 where
   pub id : IsNumber b.id
-  pub silent : IsNumber b.silent
+  pub source_end : IsNumber b.source_end
   pub items : All IsTypedItem b.items
 
 -- a pair of debug instruction number and operand index that fit their types
@@ -53,7 +53,7 @@ pub record IsTypedPair (q : OperandPair) : Type 0 where
   pub operand : IsNumber q.operand
 
 -- an entry of `debugValueSubstitutions` whose pairs and subregister fit their types
-pub record IsTypedEntry (e : Entry) : Type 0 where
+pub record IsTypedEntry (e : DebugSubstitution) : Type 0 where
   pub src : IsTypedPair e.src
   pub dst : IsTypedPair e.dst
   pub subreg : IsNumber e.subreg

@@ -36,10 +36,10 @@ fn know_kind(kind: &ItemKind)
 
 /// The silent indices of blocks are numbers of 32 bits.
 pub fn know_silent(blocks: &[Block])
-    ensures { All (λ b. b.silent < 2 ^ 32) blocks.now }
+    ensures { All (λ b. b.source_end < 2 ^ 32) blocks.now }
 {
     for b in blocks {
-        know_number(b.silent);
+        know_number(b.source_end);
     }
 }
 

@@ -9,7 +9,7 @@ ghost use Rattle.mir_type_facts.specs.Typed.{IsTypedPlace, IsTypedPair, IsTypedE
 use base_ids::code::{BlockId, DebugNumber, ObjectId, OperandIndex, SlotId};
 use base_ids::metadata::NodeId;
 use mir_func::block::Block;
-use mir_func::entry::{Entry, OperandPair};
+use mir_func::entry::{DebugSubstitution, OperandPair};
 use mir_func::item::{Item, ItemKind};
 use mir_func::location::{InlineLoc, Loc};
 use mir_func::variable::{Fragment, MarkValue, VarId};
@@ -28,7 +28,7 @@ pub fn blocks_are_typed(blocks: &[Block])
 }
 
 /// All numbers in substitutions fit their types.
-pub fn entries_are_typed(entries: &[Entry])
+pub fn entries_are_typed(entries: &[DebugSubstitution])
     ensures { All IsTypedEntry entries.now }
 {
     for entry in entries {
@@ -36,7 +36,7 @@ pub fn entries_are_typed(entries: &[Entry])
     }
 }
 
-fn entry_is_typed(entry: &Entry)
+fn entry_is_typed(entry: &DebugSubstitution)
     ensures { IsTypedEntry entry.now }
 {
     pair_is_typed(&entry.src);
@@ -48,7 +48,7 @@ fn block_is_typed(block: &Block)
     ensures { IsTypedBlock block.now }
 {
     block_number(block.id);
-    plain_number(block.silent);
+    plain_number(block.source_end);
     items_are_typed(block.items.as_slice());
 }
 

@@ -10,11 +10,11 @@ use Rattle.pass_edits.specs.Edits.{AreEdited, AreBlocksEdited, no_items, stays, 
 use Rattle.pass_edits.specs.Edits.{next_block as and_edited}
 
 -- a block of these items, and the function with it between others
-abbrev pub block_of : (id silent : ℕ) → List Item → Block
-block_of id silent items = record { id = id; items = items; silent = silent }
+abbrev pub block_of : (id source_end : ℕ) → List Item → Block
+block_of id source_end items = record { id = id; items = items; source_end = source_end }
 
-abbrev pub with_block : Function → (above : List Block) → (id silent : ℕ) → List Item → (behind : List Block) → Function
-with_block f above id silent items behind = record f { blocks = above ++ block_of id silent items ∷ behind }
+abbrev pub with_block : Function → (above : List Block) → (id source_end : ℕ) → List Item → (behind : List Block) → Function
+with_block f above id source_end items behind = record f { blocks = above ++ block_of id source_end items ∷ behind }
 
 module _ (E : Edits) where
   -- items that stay at one stage
@@ -40,15 +40,17 @@ module _ (E : Edits) where
   stays_blocks empty (b ∷ bs) all =
       next_block refl refl (stays_items (E.entry b.id) b.items (empty b.id) (All-head AllStay b bs all)) (stays_blocks empty bs (All-tail AllStay b bs all))
 
-  between : {us vs : List Block} (fs gs : List Block) (id silent : ℕ) (items items' : List Item) → BlocksEdited E fs gs → Edited E (E.entry id) items items' →
-      BlocksEdited E us vs → BlocksEdited E (fs ++ block_of id silent items ∷ us) (gs ++ block_of id silent items' ∷ vs)
-  between fs gs id silent items items' no_blocks here behind = next_block refl refl here behind
-  between (a ∷ fs) (b ∷ gs) id silent items items' (next_block i s it more) here behind = next_block i s it
-      (between fs gs id silent items items' more here behind)
+  between : {us vs : List Block} (fs gs : List Block) (id source_end : ℕ) (items items' : List Item) → BlocksEdited E fs gs →
+      Edited E (E.entry id) items items' →
+      BlocksEdited E us vs → BlocksEdited E (fs ++ block_of id source_end items ∷ us) (gs ++ block_of id source_end items' ∷ vs)
+  between fs gs id source_end items items' no_blocks here behind = next_block refl refl here behind
+  between (a ∷ fs) (b ∷ gs) id source_end items items' (next_block i s it more) here behind = next_block i s it
+      (between fs gs id source_end items items' more here behind)
 
-  pub around : {us vs : List Block} (xs : List Block) (id silent : ℕ) (items items' : List Item) → BlocksEdited E xs xs → Edited E (E.entry id) items items' →
-      BlocksEdited E us vs → BlocksEdited E (xs ++ block_of id silent items ∷ us) (xs ++ block_of id silent items' ∷ vs)
-  around xs id silent items items' above here behind = between xs xs id silent items items' above here behind
+  pub around : {us vs : List Block} (xs : List Block) (id source_end : ℕ) (items items' : List Item) → BlocksEdited E xs xs →
+      Edited E (E.entry id) items items' →
+      BlocksEdited E us vs → BlocksEdited E (xs ++ block_of id source_end items ∷ us) (xs ++ block_of id source_end items' ∷ vs)
+  around xs id source_end items items' above here behind = between xs xs id source_end items items' above here behind
 
 -- ---- edits that keep a function sound
 
@@ -70,7 +72,7 @@ pub blocks_same : (bs : List Block) → AreBlocksEdited bs bs
 blocks_same [] = nothing_edited
 blocks_same (b ∷ bs) = and_edited refl refl (edited_same b.items) (blocks_same bs)
 
-pub edited_around : (xs : List Block) (id silent : ℕ) (items items' : List Item) (ys : List Block) → AreEdited items items' →
-    AreBlocksEdited (xs ++ block_of id silent items ∷ ys) (xs ++ block_of id silent items' ∷ ys)
-edited_around [] id silent items items' ys h = and_edited refl refl h (blocks_same ys)
-edited_around (x ∷ xs) id silent items items' ys h = and_edited refl refl (edited_same x.items) (edited_around xs id silent items items' ys h)
+pub edited_around : (xs : List Block) (id source_end : ℕ) (items items' : List Item) (ys : List Block) → AreEdited items items' →
+    AreBlocksEdited (xs ++ block_of id source_end items ∷ ys) (xs ++ block_of id source_end items' ∷ ys)
+edited_around [] id source_end items items' ys h = and_edited refl refl h (blocks_same ys)
+edited_around (x ∷ xs) id source_end items items' ys h = and_edited refl refl (edited_same x.items) (edited_around xs id source_end items items' ys h)

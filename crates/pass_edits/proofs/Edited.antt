@@ -1,7 +1,7 @@
 -- What followed a source loosely follows it loosely after its blocks are edited item by item.
 use Rattle.std.proofs.Common.{◌≡◌, ℕ, suc, List, [], ◌∷◌, length, get_or, All, None, true, false, refl, sym, ap, ◌∙◌, subst, arith}
 use Rattle.std.proofs.lemmas.List.Elements.{All-cons, All-head, All-tail}
-use Rattle.mir_func.specs.declared.entry.Entry.{Entry}
+use Rattle.mir_func.specs.declared.entry.DebugSubstitution.{DebugSubstitution}
 use Rattle.mir_func.specs.declared.position.Pos.{Pos}
 use Rattle.mir_func.specs.declared.position.Origin.{Origin}
 use Rattle.mir_func.specs.declared.block.Block.{Block}
@@ -14,7 +14,7 @@ use Rattle.mir_func.specs.Sound.{IsSound}
 use Rattle.mir_func.specs.Resolve.{resolve}
 use Rattle.mir_func.specs.Graph.{Here, Program, program_of}
 use Rattle.sem_mir.specs.State.{Core, State}
-use Rattle.sem_mir.specs.Align.{is_code, is_jump, moves_on, Count, ByItems, ByEnds, station_at, AnyOrigin, RunsAlong, since_of, waits_at}
+use Rattle.sem_mir.specs.Align.{is_code, is_jump, moves_on, Count, ByItems, ByEnds, sync_point_at, AnyOrigin, RunsMatch, since_of, waits_at}
 use Rattle.sem_mir.specs.Follow.{KindFits, MarkFits, InOrder, Among, none, same, left, first_of, OnRow, IsStart, IsEnd}
 use Rattle.sem_mir.specs.Follow.{EndIsKept, EndComesFrom}
 use Rattle.pass_trait.specs.Change.{change}
@@ -22,7 +22,7 @@ use Rattle.pass_salvage.proofs.Kin.{kin_fits, kin_marks, kin_goes, kin_end, kin_
 use Rattle.pass_salvage.proofs.Edits.{Edits, BlocksEdited, no_blocks, next_block, order_edited, item_back, item_on}
 use Rattle.pass_salvage.proofs.EditRuns.{Keeps, IsSteady, runs_edited}
 use Rattle.pass_salvage.proofs.EditFollows.{Allows, each_edited}
-use Rattle.pass_edits.specs.Loose.{LooseShape, KeepsLoosely}
+use Rattle.pass_edits.specs.WeakSimulation.{LooseShape, PreservesWeakSimulation}
 
 all_none : {A : Type 0} (P : A → Type 0) → All P []
 all_none P k d lt = absurd (omega (arith, lt))
@@ -32,35 +32,35 @@ end_is_code (Code i n) h = refl
 end_is_code (Mark v m) h = absurd h
 end_is_code (Phi p n) h = absurd h
 
-debug_fits : (src : Program) (k : ItemKind) (silent : ℕ) (o : Origin) → is_code k ≡ false → KindFits src k silent o
-debug_fits src (Code i n) silent o e = cc
-debug_fits src (Mark v m) silent o e = tt
-debug_fits src (Phi p n) silent o e = tt
+debug_fits : (src : Program) (k : ItemKind) (source_end : ℕ) (o : Origin) → is_code k ≡ false → KindFits src k source_end o
+debug_fits src (Code i n) source_end o e = cc
+debug_fits src (Mark v m) source_end o e = tt
+debug_fits src (Phi p n) source_end o e = tt
 
 module _ (E : Edits) where
   among_edited : {fs gs src : List Block} → BlocksEdited E fs gs → Among fs src → Among gs src
   among_edited no_blocks none = none
-  among_edited (next_block id silent items rest) (same e s more) = same (id ∙ e) (silent ∙ s) (among_edited rest more)
+  among_edited (next_block id source_end items rest) (same e s more) = same (id ∙ e) (source_end ∙ s) (among_edited rest more)
   among_edited b (left more) = left (among_edited b more)
 
   first_edited : (fs gs : List Block) → BlocksEdited E fs gs → first_of gs ≡ first_of fs
   first_edited fs gs no_blocks = refl
-  first_edited (a ∷ fs) (b ∷ gs) (next_block id silent items rest) = id
+  first_edited (a ∷ fs) (b ∷ gs) (next_block id source_end items rest) = id
 
   length_edited : (fs gs : List Block) → BlocksEdited E fs gs → length gs ≡ length fs
   length_edited fs gs no_blocks = refl
-  length_edited (a ∷ fs) (b ∷ gs) (next_block id silent items rest) = ap suc (length_edited fs gs rest)
+  length_edited (a ∷ fs) (b ∷ gs) (next_block id source_end items rest) = ap suc (length_edited fs gs rest)
 
   order_of : (fs gs : List Block) → BlocksEdited E fs gs → All (λ (b : Block). InOrder b.id 0 b.items) fs → All (λ (b : Block). InOrder b.id 0 b.items) gs
   order_of fs gs no_blocks h = all_none (λ (b : Block). InOrder b.id 0 b.items)
-  order_of (a ∷ fs) (b ∷ gs) (next_block id silent items rest) h =
+  order_of (a ∷ fs) (b ∷ gs) (next_block id source_end items rest) h =
       All-cons (λ (c : Block). InOrder c.id 0 c.items) b gs
       (subst (λ (n : ℕ). InOrder n 0 b.items) (sym id)
       (order_edited E a.id 0 0 a.items b.items refl items (All-head (λ (c : Block). InOrder c.id 0 c.items) a fs h)))
       (order_of fs gs rest (All-tail (λ (c : Block). InOrder c.id 0 c.items) a fs h))
 
 module _ (E : Edits) (Q : E.Stage → Core → Core → Type 0) (allows : Allows E) (old new : Function) (sound : IsSound old) (sound' : IsSound new)
-    (subs subs' : List Entry) (objects : new.objects ≡ old.objects) (edited : BlocksEdited E old.blocks new.blocks)
+    (subs subs' : List DebugSubstitution) (objects : new.objects ≡ old.objects) (edited : BlocksEdited E old.blocks new.blocks)
     (keeps : Keeps E Q (program_of false old.blocks (resolve subs)) (program_of false new.blocks (resolve subs')))
     (itself : (n : ℕ) (c : Core) → ((k o : ℕ) → c.pairs k o ≡ None) → Q (E.entry n) c c) where
   abbrev fp : Program
@@ -79,10 +79,10 @@ module _ (E : Edits) (Q : E.Stage → Core → Core → Type 0) (allows : Allows
           (λ k k' how. allows.no_goes k k' w.1 how (first_of src) w.3) in
           (at.0, at.1, at.3, kin_goes w.1.kind at.1.kind at.5 (first_of src) w.3));
       order = order_of E old.blocks new.blocks edited shape.order;
-      items = each_edited E (λ b i. KindFits srcp i.kind b.silent i.origin)
+      items = each_edited E (λ b i. KindFits srcp i.kind b.source_end i.origin)
           (λ a b x y s origin kin h. subst (λ (n : ℕ). KindFits srcp y.kind n y.origin) (sym s)
-          (subst (λ o. KindFits srcp y.kind a.silent o) origin (kin_fits srcp x.kind y.kind kin a.silent x.origin h)))
-          (λ k k' b x y how no_code. debug_fits srcp y.kind b.silent y.origin no_code) old.blocks new.blocks edited shape.items;
+          (subst (λ o. KindFits srcp y.kind a.source_end o) origin (kin_fits srcp x.kind y.kind kin a.source_end x.origin h)))
+          (λ k k' b x y how no_code. debug_fits srcp y.kind b.source_end y.origin no_code) old.blocks new.blocks edited shape.items;
       marks = each_edited E (λ b i. MarkFits i.kind i.origin)
           (λ a b x y s origin kin h. subst (λ o. MarkFits y.kind o) origin (kin_marks x.kind y.kind kin x.origin h))
           (λ k k' b x y how no_code. allows.marks k k' y how no_code) old.blocks new.blocks edited shape.marks;
@@ -95,14 +95,14 @@ module _ (E : Edits) (Q : E.Stage → Core → Core → Type 0) (allows : Allows
         let x : Item = get_or b.items j e in
         let fits = shape.items k d lt j e within in
         record {
-          moves = λ c c' n go. moves_after ct srcp fp x.kind x.origin b.silent counts fits c c' n go;
-          gone = λ s s' how. (let w = allows.kept s s' x how srcp b.silent fits in
+          moves = λ c c' n go. moves_after ct srcp fp x.kind x.origin b.source_end counts fits c c' n go;
+          gone = λ s s' how. (let w = allows.kept s s' x how srcp b.source_end fits in
               ap (λ o. since_of (waits_at (moves_on ct x.kind) o)) w.1);
         }
 
     runs_new : (ct : Count) (first : ℕ) (stack : List Object) → ((k : ItemKind) → moves_on ct k ≡ is_jump k) →
-        ((s : State) → IsStart stack first s → RunsAlong srcp fp (station_at ct fp) (AnyOrigin (station_at ct fp)) s s) →
-        (s : State) → IsStart stack first s → RunsAlong srcp gp (station_at ct gp) (AnyOrigin (station_at ct gp)) s s
+        ((s : State) → IsStart stack first s → RunsMatch srcp fp (sync_point_at ct fp) (AnyOrigin (sync_point_at ct fp)) s s) →
+        (s : State) → IsStart stack first s → RunsMatch srcp gp (sync_point_at ct gp) (AnyOrigin (sync_point_at ct gp)) s s
     runs_new ct first stack counts runs s start =
         runs_edited E Q old.blocks new.blocks edited (resolve subs) (resolve subs') ct counts srcp s keeps allows.empty (steady ct counts) sound.blocks_apart
         shape.order (order_of E old.blocks new.blocks edited shape.order) sound.origins sound'.origins (ap (λ (p : Pos). p.item) start.pos)
@@ -123,7 +123,7 @@ module _ (E : Edits) (Q : E.Stage → Core → Core → Type 0) (allows : Allows
         let r = only w.0 w.1 w.3 (kin_is_end w.1.kind j.kind w.5 end) in
         (r.0, r.1, r.2, sym w.4 ∙ r.3, kin_end r.1.kind w.1.kind j.kind w.5 r.4)
 
-  pub edited_loosely : KeepsLoosely (change old subs new subs')
+  pub edited_loosely : PreservesWeakSimulation (change old subs new subs')
   edited_loosely = record {
     follows = λ source fol. (let srcp : Program = program_of true source.function.blocks (resolve source.subs) in
         record {

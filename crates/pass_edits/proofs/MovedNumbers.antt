@@ -1,7 +1,7 @@
 -- A copy loses its number between two steps of a pass: to code that gave its value, or to a phi.
 use Rattle.std.proofs.Common.{◌≡◌, ℕ, List, [], ◌∷◌, ◌++◌, false, refl, ap}
 use Rattle.mir_func.specs.declared.entry.OperandPair.{OperandPair}
-use Rattle.mir_func.specs.declared.entry.Entry.{Entry}
+use Rattle.mir_func.specs.declared.entry.DebugSubstitution.{DebugSubstitution}
 use Rattle.mir_func.specs.declared.item.Item.{Item}
 use Rattle.mir_func.specs.Function.{Function}
 use Rattle.mir_func.specs.Resolve.{resolve}
@@ -32,7 +32,7 @@ number_to_code Free old new subs k n o s sound sound' objects none end apart rea
     old new sound sound' subs (subs ++ entry_for k n o ∷ []) objects edited (off_keeps fp gp refl refl k n o s Free apart real more)
     (λ m c h. off_itself fp gp refl refl k n o s Free apart real more c h)
 
-module _ (old new : Function) (subs : List Entry) (k s : ℕ) (real : s ≡ 2 → ⊥) where
+module _ (old new : Function) (subs : List DebugSubstitution) (k s : ℕ) (real : s ≡ 2 → ⊥) where
   abbrev fq : Program
   fq = program_of false old.blocks (resolve subs)
 

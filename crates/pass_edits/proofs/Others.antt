@@ -34,12 +34,12 @@ pub record Others (k : ℕ) (fs : List Block) (xs ys : List Item) (gs : List Blo
   pub down : AreUnlike k ys
   pub behind : BlocksUnlike k gs
 
-module _ (f : Function) (above : List Block) (id silent : ℕ) (behind : List Block) where
+module _ (f : Function) (above : List Block) (id source_end : ℕ) (behind : List Block) where
   abbrev pub fn : List Item → Function
-  fn items = with_block f above id silent items behind
+  fn items = with_block f above id source_end items behind
 
   pub all_around : (items : List Item) → items_of (fn items).blocks ≡ items_of above ++ (items ++ items_of behind)
-  all_around items = flat_map-append (λ (b : Block). b.items) above (block_of id silent items ∷ behind)
+  all_around items = flat_map-append (λ (b : Block). b.items) above (block_of id source_end items ∷ behind)
 
   pub around_one : (up : List Item) (x : Item) (down : List Item) →
       items_of (fn (up ++ x ∷ down)).blocks ≡ (items_of above ++ up) ++ x ∷ (down ++ items_of behind)
@@ -64,16 +64,16 @@ module _ (f : Function) (above : List Block) (id silent : ℕ) (behind : List Bl
   -- what holds of all items holds of the block's
   pub in_block : (P : Item → Type 0) (items : List Item) → AllItems P (fn items).blocks → All P items
   in_block P items h =
-      All-head (λ (b : Block). All P b.items) (block_of id silent items) behind
-      (all_second (λ (b : Block). All P b.items) above (block_of id silent items ∷ behind) h)
+      All-head (λ (b : Block). All P b.items) (block_of id source_end items) behind
+      (all_second (λ (b : Block). All P b.items) above (block_of id source_end items ∷ behind) h)
 
   pub at_item : (P : Item → Type 0) (up : List Item) (x : Item) (down : List Item) → AllItems P (fn (up ++ x ∷ down)).blocks → P x
   at_item P up x down h = All-head P x down (all_second P up (x ∷ down) (in_block P (up ++ x ∷ down) h))
 
   pub block_ends : (items : List Item) → IsSound (fn items) → EndsWell items
   block_ends items s =
-      All-head (λ (b : Block). EndsWell b.items) (block_of id silent items) behind
-      (all_second (λ (b : Block). EndsWell b.items) above (block_of id silent items ∷ behind) s.ends)
+      All-head (λ (b : Block). EndsWell b.items) (block_of id source_end items) behind
+      (all_second (λ (b : Block). EndsWell b.items) above (block_of id source_end items ∷ behind) s.ends)
 
   -- numbers stand once still
   pub once_around : (items items' : List Item) → HaveFewer items items' → NumbersOnce (items_of (fn items).blocks) → NumbersOnce (items_of (fn items').blocks)

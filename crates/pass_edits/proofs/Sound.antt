@@ -39,7 +39,7 @@ module _ (P : ItemKind → Type 0) (same : (k l : ItemKind) → SameButNumber k 
 
   each_block : (fs gs : List Block) → AreBlocksEdited fs gs → AllItems Q fs → AllItems Q gs
   each_block fs gs no_blocks h = h
-  each_block (a ∷ fs) (b ∷ gs) (next_block id silent items rest) h =
+  each_block (a ∷ fs) (b ∷ gs) (next_block id source_end items rest) h =
       All-cons (λ (c : Block). All Q c.items) b gs (each_item a.items b.items items (All-head (λ (c : Block). All Q c.items) a fs h))
       (each_block fs gs rest (All-tail (λ (c : Block). All Q c.items) a fs h))
 
@@ -69,30 +69,30 @@ before_in : (b : Block) (o : Origin) → OriginIn b o → OriginIn b (Before (po
 before_in b (Kept p) h = (h.0, (let lt = h.1 in omega (arith, lt)))
 before_in b (Before p) h = h
 
-origin_in : (a b : Block) (o : Origin) → b.id ≡ a.id → b.silent ≡ a.silent → OriginIn a o → OriginIn b o
-origin_in a b (Kept p) id silent h = (h.0 ∙ sym id, subst (λ (n : ℕ). p.item < n) (sym silent) h.1)
-origin_in a b (Before p) id silent h = (h.0 ∙ sym id, subst (λ (n : ℕ). p.item ≤ n) (sym silent) h.1)
+origin_in : (a b : Block) (o : Origin) → b.id ≡ a.id → b.source_end ≡ a.source_end → OriginIn a o → OriginIn b o
+origin_in a b (Kept p) id source_end h = (h.0 ∙ sym id, subst (λ (n : ℕ). p.item < n) (sym source_end) h.1)
+origin_in a b (Before p) id source_end h = (h.0 ∙ sym id, subst (λ (n : ℕ). p.item ≤ n) (sym source_end) h.1)
 
-origins_of : (a b : Block) (xs ys : List Item) → b.id ≡ a.id → b.silent ≡ a.silent → AreEdited xs ys → All (λ (i : Item). OriginIn a i.origin) xs →
+origins_of : (a b : Block) (xs ys : List Item) → b.id ≡ a.id → b.source_end ≡ a.source_end → AreEdited xs ys → All (λ (i : Item). OriginIn a i.origin) xs →
     All (λ (i : Item). OriginIn b i.origin) ys
-origins_of a b xs ys id silent no_items h = All-nil (λ (i : Item). OriginIn b i.origin)
-origins_of a b (x ∷ xs) (y ∷ ys) id silent (stays o e rest) h =
+origins_of a b xs ys id source_end no_items h = All-nil (λ (i : Item). OriginIn b i.origin)
+origins_of a b (x ∷ xs) (y ∷ ys) id source_end (stays o e rest) h =
     All-cons (λ (i : Item). OriginIn b i.origin) y ys
-    (subst (OriginIn b) (sym o) (origin_in a b x.origin id silent (All-head (λ (i : Item). OriginIn a i.origin) x xs h)))
-    (origins_of a b xs ys id silent rest (All-tail (λ (i : Item). OriginIn a i.origin) x xs h))
-origins_of a b (x ∷ xs) (z ∷ y ∷ ys) id silent (with_phi k s m o e rest) h =
-    let here : OriginIn b x.origin = origin_in a b x.origin id silent (All-head (λ (i : Item). OriginIn a i.origin) x xs h) in
+    (subst (OriginIn b) (sym o) (origin_in a b x.origin id source_end (All-head (λ (i : Item). OriginIn a i.origin) x xs h)))
+    (origins_of a b xs ys id source_end rest (All-tail (λ (i : Item). OriginIn a i.origin) x xs h))
+origins_of a b (x ∷ xs) (z ∷ y ∷ ys) id source_end (with_phi k s m o e rest) h =
+    let here : OriginIn b x.origin = origin_in a b x.origin id source_end (All-head (λ (i : Item). OriginIn a i.origin) x xs h) in
     All-cons (λ (i : Item). OriginIn b i.origin) (phi_before k s x.origin) (y ∷ ys) (before_in b x.origin here)
     (All-cons (λ (i : Item). OriginIn b i.origin) y ys (subst (OriginIn b) (sym o) here)
-    (origins_of a b xs ys id silent rest (All-tail (λ (i : Item). OriginIn a i.origin) x xs h)))
-origins_of a b (x ∷ xs) ys id silent (goes m rest) h = origins_of a b xs ys id silent rest (All-tail (λ (i : Item). OriginIn a i.origin) x xs h)
+    (origins_of a b xs ys id source_end rest (All-tail (λ (i : Item). OriginIn a i.origin) x xs h)))
+origins_of a b (x ∷ xs) ys id source_end (goes m rest) h = origins_of a b xs ys id source_end rest (All-tail (λ (i : Item). OriginIn a i.origin) x xs h)
 
 block_origins : (fs gs : List Block) → AreBlocksEdited fs gs → All (λ (b : Block). All (λ (i : Item). OriginIn b i.origin) b.items) fs →
     All (λ (b : Block). All (λ (i : Item). OriginIn b i.origin) b.items) gs
 block_origins fs gs no_blocks h = All-nil (λ (b : Block). All (λ (i : Item). OriginIn b i.origin) b.items)
-block_origins (a ∷ fs) (b ∷ gs) (next_block id silent items rest) h =
+block_origins (a ∷ fs) (b ∷ gs) (next_block id source_end items rest) h =
     All-cons (λ (c : Block). All (λ (i : Item). OriginIn c i.origin) c.items) b gs
-    (origins_of a b a.items b.items id silent items (All-head (λ (c : Block). All (λ (i : Item). OriginIn c i.origin) c.items) a fs h))
+    (origins_of a b a.items b.items id source_end items (All-head (λ (c : Block). All (λ (i : Item). OriginIn c i.origin) c.items) a fs h))
     (block_origins fs gs rest (All-tail (λ (c : Block). All (λ (i : Item). OriginIn c i.origin) c.items) a fs h))
 
 -- ---- ends of blocks
@@ -156,29 +156,29 @@ close_stay (x ∷ xs) ys (goes m rest) h = closes_move x xs ys m (close_stay xs 
 
 block_ends : (fs gs : List Block) → AreBlocksEdited fs gs → All (λ (b : Block). EndsWell b.items) fs → All (λ (b : Block). EndsWell b.items) gs
 block_ends fs gs no_blocks h = h
-block_ends (a ∷ fs) (b ∷ gs) (next_block id silent items rest) h =
+block_ends (a ∷ fs) (b ∷ gs) (next_block id source_end items rest) h =
     All-cons (λ (c : Block). EndsWell c.items) b gs (ends_stay a.items b.items items (All-head (λ (c : Block). EndsWell c.items) a fs h))
     (block_ends fs gs rest (All-tail (λ (c : Block). EndsWell c.items) a fs h))
 
 last_first : (b : Block) (us vs : List Block) (a : Block) → AreBlocksEdited us vs → (Closes a.items → Closes b.items) → (LastCloses us → LastCloses vs) →
     LastCloses (a ∷ us) → LastCloses (b ∷ vs)
 last_first b us vs a no_blocks here rec h = here h
-last_first b (u ∷ us) (v ∷ vs) a (next_block id silent items rest) here rec h = rec h
+last_first b (u ∷ us) (v ∷ vs) a (next_block id source_end items rest) here rec h = rec h
 
 last_stays : (fs gs : List Block) → AreBlocksEdited fs gs → LastCloses fs → LastCloses gs
 last_stays fs gs no_blocks h = h
-last_stays (a ∷ fs) (b ∷ gs) (next_block id silent items rest) h =
+last_stays (a ∷ fs) (b ∷ gs) (next_block id source_end items rest) h =
     last_first b fs gs a rest (close_stay a.items b.items items) (last_stays fs gs rest) h
 
 -- ---- the function
 
 ids_same : (fs gs : List Block) → AreBlocksEdited fs gs → ids_of gs ≡ ids_of fs
 ids_same fs gs no_blocks = refl
-ids_same (a ∷ fs) (b ∷ gs) (next_block id silent items rest) = let e = ids_same fs gs rest in λ i. id i ∷ e i
+ids_same (a ∷ fs) (b ∷ gs) (next_block id source_end items rest) = let e = ids_same fs gs rest in λ i. id i ∷ e i
 
 as_many : (fs gs : List Block) → AreBlocksEdited fs gs → length gs ≡ length fs
 as_many fs gs no_blocks = refl
-as_many (a ∷ fs) (b ∷ gs) (next_block id silent items rest) = ap suc (as_many fs gs rest)
+as_many (a ∷ fs) (b ∷ gs) (next_block id source_end items rest) = ap suc (as_many fs gs rest)
 
 pub edited_sound : EditsKeepSound
 edited_sound old new s slots objects edited once =

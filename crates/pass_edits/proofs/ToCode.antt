@@ -9,7 +9,7 @@ use Rattle.rv64_instr.specs.declared.place.Place.TheVariants.{Register}
 use Rattle.rv64_instr.specs.Instruction.{Instruction}
 use Rattle.rv64_instr.specs.Row.{Moves, row_of}
 use Rattle.rv64_instr.specs.Parts.{is_call}
-use Rattle.mir_func.specs.declared.entry.Entry.{Entry}
+use Rattle.mir_func.specs.declared.entry.DebugSubstitution.{DebugSubstitution}
 use Rattle.mir_func.specs.declared.position.Origin.{Origin}
 use Rattle.mir_func.specs.declared.location.Loc.{Loc}
 use Rattle.mir_func.specs.declared.block.Block.{Block}
@@ -49,13 +49,13 @@ use Rattle.pass_edits.proofs.Loose.{Step}
 
 -- ---- tests
 
-no_number : (x : Option Entry) → is_some x ≡ false → x ≡ None
+no_number : (x : Option DebugSubstitution) → is_some x ≡ false → x ≡ None
 no_number None e = refl
 no_number (Some y) e = cc
 
 -- ---- all numbers are less than the fresh one
 
-pub record AllUnder (b : ℕ) (fs : List Block) (xs : List Item) (x : ItemKind) (ys : List Item) (gs : List Block) (subs : List Entry) : Type 0 where
+pub record AllUnder (b : ℕ) (fs : List Block) (xs : List Item) (x : ItemKind) (ys : List Item) (gs : List Block) (subs : List DebugSubstitution) : Type 0 where
   pub above : BlocksUnder b fs
   pub up : AreUnder b xs
   pub here : KindUnder b x
@@ -63,10 +63,11 @@ pub record AllUnder (b : ℕ) (fs : List Block) (xs : List Item) (x : ItemKind) 
   pub behind : BlocksUnder b gs
   pub entries : All (EntryUnder b) subs
 
-module _ (f : Function) (above : List Block) (id silent : ℕ) (behind : List Block) (fresh k n o rd s : ℕ) (up : List Item) (j : Instruction) (own : Option ℕ)
-    (p : Origin) (q : Loc) (between : List Item) (i : Instruction) (po : Origin) (lo : Loc) (down : List Item) (subs : List Entry) where
+module _ (f : Function) (above : List Block) (id source_end : ℕ) (behind : List Block) (fresh k n o rd s : ℕ) (up : List Item) (j : Instruction)
+    (own : Option ℕ)
+    (p : Origin) (q : Loc) (between : List Item) (i : Instruction) (po : Origin) (lo : Loc) (down : List Item) (subs : List DebugSubstitution) where
   abbrev fn : List Item → Function
-  fn items = with_block f above id silent items behind
+  fn items = with_block f above id source_end items behind
 
   -- the code that gives the value, before and after, and the copy
   abbrev giver : Item
@@ -87,7 +88,7 @@ module _ (f : Function) (above : List Block) (id silent : ℕ) (behind : List Bl
   abbrev new : Function
   new = fn ((up ++ given ∷ between) ++ bare ∷ down)
 
-  abbrev subs' : List Entry
+  abbrev subs' : List DebugSubstitution
   subs' = subs ++ entry_for k n o ∷ []
 
   abbrev fp : Program
@@ -108,7 +109,7 @@ module _ (f : Function) (above : List Block) (id silent : ℕ) (behind : List Bl
       (asks : All (λ (x : Item). asks_for subs k x.kind ≡ false) between) (keeps_s : All (IsNoDefinition s) between)
       (under : AllUnder fresh above (up ++ giver ∷ between) (Code i (Some k)) down behind subs) where
     plain : IsPlain i rd s
-    plain = plain_copy i rd s row (at_item f above id silent behind (λ z. LeavesPointer z.kind) (up ++ giver ∷ between) copy down sound.pointer)
+    plain = plain_copy i rd s row (at_item f above id source_end behind (λ z. LeavesPointer z.kind) (up ++ giver ∷ between) copy down sound.pointer)
 
     abbrev U : Item → Type 0
     U x = KindUnder fresh x.kind
@@ -122,7 +123,7 @@ module _ (f : Function) (above : List Block) (id silent : ℕ) (behind : List Bl
     -- ---- nothing but the copy has its number
 
     of_copy : Others k above (up ++ giver ∷ between) down behind
-    of_copy = others_of f above id silent behind k (up ++ giver ∷ between) copy down sound.numbers refl
+    of_copy = others_of f above id source_end behind k (up ++ giver ∷ between) copy down sound.numbers refl
 
     -- ---- nothing but the code that gives the value has its number
 
@@ -130,7 +131,7 @@ module _ (f : Function) (above : List Block) (id silent : ℕ) (behind : List Bl
     moved = append_assoc up (giver ∷ between) (copy ∷ down)
 
     of_giver : Others n above up (between ++ copy ∷ down) behind
-    of_giver = by_own own refl number (λ m is. others_of f above id silent behind m up giver (between ++ copy ∷ down)
+    of_giver = by_own own refl number (λ m is. others_of f above id source_end behind m up giver (between ++ copy ∷ down)
         (subst (λ (xs : List Item). NumbersOnce (items_of (fn xs).blocks)) moved sound.numbers) is) where
           less : (xs : List Item) → fresh ≤ n → AreUnder fresh xs → AreUnlike n xs
           less xs le h y d lt = under_unlike fresh n le (get_or xs y d).kind (h y d lt)
@@ -214,7 +215,8 @@ module _ (f : Function) (above : List Block) (id silent : ℕ) (behind : List Bl
     block_outsiders bs a b u y d lt = outsiders (get_or bs y d).items (a y d lt) (b y d lt) (u y d lt)
 
     on : All (λ (x : Item). exit_of x.kind ≡ Onward) (up ++ giver ∷ between)
-    on = above_onward (up ++ giver ∷ between) copy down (suc rd, s, row) (block_ends f above id silent behind ((up ++ giver ∷ between) ++ copy ∷ down) sound)
+    on = above_onward (up ++ giver ∷ between) copy down (suc rd, s, row) (block_ends f above id source_end behind
+        ((up ++ giver ∷ between) ++ copy ∷ down) sound)
 
     on_rest : All (λ (x : Item). exit_of x.kind ≡ Onward) (giver ∷ between)
     on_rest = all_second (λ (x : Item). exit_of x.kind ≡ Onward) up (giver ∷ between) on
@@ -244,7 +246,7 @@ module _ (f : Function) (above : List Block) (id silent : ℕ) (behind : List Bl
     once_new = by_own own refl number where
       first : NumbersOnce (items_of (fn ((up ++ giver ∷ between) ++ bare ∷ down)).blocks)
       first =
-          once_around f above id silent behind ((up ++ giver ∷ between) ++ copy ∷ down) ((up ++ giver ∷ between) ++ bare ∷ down)
+          once_around f above id source_end behind ((up ++ giver ∷ between) ++ copy ∷ down) ((up ++ giver ∷ between) ++ bare ∷ down)
           (fewer_behind (up ++ giver ∷ between) (copy ∷ down) (bare ∷ down) (keeps no_other (fewer_same down))) sound.numbers
 
       own_kept : (m : ℕ) → own ≡ Some m → n ≡ m → HasNoOther giver given
@@ -255,7 +257,7 @@ module _ (f : Function) (above : List Block) (id silent : ℕ) (behind : List Bl
 
       by_own : (z : Option ℕ) → own ≡ z → n ≡ or_fresh fresh z → NumbersOnce (items_of new.blocks)
       by_own (Some m) is same =
-          once_around f above id silent behind ((up ++ giver ∷ between) ++ bare ∷ down) ((up ++ given ∷ between) ++ bare ∷ down)
+          once_around f above id source_end behind ((up ++ giver ∷ between) ++ bare ∷ down) ((up ++ given ∷ between) ++ bare ∷ down)
           (fewer_append (fewer_behind up (giver ∷ between) (given ∷ between) (keeps (own_kept m is same) (fewer_same between))) (fewer_same (bare ∷ down)))
           first
       by_own None is same =
@@ -268,14 +270,14 @@ module _ (f : Function) (above : List Block) (id silent : ℕ) (behind : List Bl
                 (items_of above ++ up) ++ x ∷ ((between ++ bare ∷ down) ++ items_of behind)
             shape x =
                 ap (λ (xs : List Item). items_of (fn xs).blocks) (append_assoc up (x ∷ between) (bare ∷ down)) ∙
-                around_one f above id silent behind up x (between ++ bare ∷ down)
+                around_one f above id source_end behind up x (between ++ bare ∷ down)
 
     -- ---- the step
 
     sound' : IsSound new
     sound' =
         edited_sound old new sound refl refl
-        (edited_around above id silent ((up ++ giver ∷ between) ++ copy ∷ down) ((up ++ given ∷ between) ++ bare ∷ down) behind
+        (edited_around above id source_end ((up ++ giver ∷ between) ++ copy ∷ down) ((up ++ given ∷ between) ++ bare ∷ down) behind
         (edited_append (edited_above up (giver ∷ between) (given ∷ between) (stays refl same_code (edited_same between)))
         (stays refl same_code (edited_same down)))) once_new
 
@@ -293,7 +295,7 @@ module _ (f : Function) (above : List Block) (id silent : ℕ) (behind : List Bl
     code_step = record {
       sound = sound';
       follows = number_to_code Free old new subs k n o s sound sound' refl none target_none apart plain.source
-          (around E above id silent ((up ++ giver ∷ between) ++ copy ∷ down) ((up ++ given ∷ between) ++ bare ∷ down)
+          (around E above id source_end ((up ++ giver ∷ between) ++ copy ∷ down) ((up ++ given ∷ between) ++ bare ∷ down)
           (stays_blocks E (λ m. tt) above (block_outsiders above of_copy.above of_giver.above under.above))
           (subst (λ (xs : List Item). Edited E Outside xs ((up ++ given ∷ between) ++ bare ∷ down)) (sym moved)
           (subst (λ (ys : List Item). Edited E Outside (up ++ giver ∷ (between ++ copy ∷ down)) ys) (sym (append_assoc up (given ∷ between) (bare ∷ down)))
@@ -306,22 +308,23 @@ module _ (f : Function) (above : List Block) (id silent : ℕ) (behind : List Bl
     }
 
 -- by the way that was chosen
-pub to_code : (f : Function) (above : List Block) (id silent : ℕ) (behind : List Block) (fresh k n o rd s d : ℕ) (done : List Item) (i : Instruction)
+pub to_code : (f : Function) (above : List Block) (id source_end : ℕ) (behind : List Block) (fresh k n o rd s d : ℕ) (done : List Item) (i : Instruction)
     (po : Origin)
-    (lo : Loc) (down : List Item) (subs : List Entry) → IsSound (with_block f above id silent (done ++ item (Code i (Some k)) po lo ∷ down) behind) →
+    (lo : Loc) (down : List Item) (subs : List DebugSubstitution) →
+    IsSound (with_block f above id source_end (done ++ item (Code i (Some k)) po lo ∷ down) behind) →
     row_of i ≡ Moves (suc rd) s → IsEntered [] subs fresh k s done d o n → AllUnder fresh above done (Code i (Some k)) down behind subs →
-    Step (with_block f above id silent (done ++ item (Code i (Some k)) po lo ∷ down) behind) subs
-    (with_block f above id silent (numbered_at d n done ++ item (Code i None) po lo ∷ down) behind) (subs ++ entry_for k n o ∷ [])
-to_code f above id silent behind fresh k n o rd s d done i po lo down subs sound row e under =
+    Step (with_block f above id source_end (done ++ item (Code i (Some k)) po lo ∷ down) behind) subs
+    (with_block f above id source_end (numbered_at d n done ++ item (Code i None) po lo ∷ down) behind) (subs ++ entry_for k n o ∷ [])
+to_code f above id source_end behind fresh k n o rd s d done i po lo down subs sound row e under =
     let giver : Item = item (Code e.i e.own) e.origin e.loc in
     let given : Item = item (Code e.i (Some n)) e.origin e.loc in
     let w = split_at done d n giver e.stands in
     let tests = last_two (nat_lt o (2 ^ 32)) (not (list_any (nat_eq d) [])) (not (has_entry subs e.own o))
     (not (list_any (λ x. asks_for subs k x.kind) (drop (suc d) done))) e.may in
-    let step : Step (with_block f above id silent ((w.above ++ giver ∷ w.behind) ++ item (Code i (Some k)) po lo ∷ down) behind) subs
-    (with_block f above id silent ((w.above ++ given ∷ w.behind) ++ item (Code i None) po lo ∷ down) behind) (subs ++ entry_for k n o ∷ []) =
-    code_step f above id silent behind fresh k n o rd s w.above e.i e.own e.origin e.loc w.behind i po lo down subs
-    (subst (λ (xs : List Item). IsSound (with_block f above id silent (xs ++ item (Code i (Some k)) po lo ∷ down) behind)) w.whole sound) row
+    let step : Step (with_block f above id source_end ((w.above ++ giver ∷ w.behind) ++ item (Code i (Some k)) po lo ∷ down) behind) subs
+    (with_block f above id source_end ((w.above ++ given ∷ w.behind) ++ item (Code i None) po lo ∷ down) behind) (subs ++ entry_for k n o ∷ []) =
+    code_step f above id source_end behind fresh k n o rd s w.above e.i e.own e.origin e.loc w.behind i po lo down subs
+    (subst (λ (xs : List Item). IsSound (with_block f above id source_end (xs ++ item (Code i (Some k)) po lo ∷ down) behind)) w.whole sound) row
     (no_number (entry_of subs (first_operand k)) e.none) e.number (first_defines (is_call (row_of e.i)) s e.i.operands o e.operand)
     (not_is (has_entry subs e.own o) tests.0)
     (subst (All (λ (x : Item). asks_for subs k x.kind ≡ false)) w.rest
@@ -335,7 +338,7 @@ to_code f above id silent behind fresh k n o rd s d done i po lo down subs sound
       behind = under.behind;
       entries = under.entries;
     }) in
-    subst (λ (xs : List Item). Step (with_block f above id silent (xs ++ item (Code i (Some k)) po lo ∷ down) behind) subs
-    (with_block f above id silent (numbered_at d n done ++ item (Code i None) po lo ∷ down) behind) (subs ++ entry_for k n o ∷ [])) (sym w.whole)
-    (subst (λ (ys : List Item). Step (with_block f above id silent ((w.above ++ giver ∷ w.behind) ++ item (Code i (Some k)) po lo ∷ down) behind) subs
-    (with_block f above id silent (ys ++ item (Code i None) po lo ∷ down) behind) (subs ++ entry_for k n o ∷ [])) (sym w.numbered) step)
+    subst (λ (xs : List Item). Step (with_block f above id source_end (xs ++ item (Code i (Some k)) po lo ∷ down) behind) subs
+    (with_block f above id source_end (numbered_at d n done ++ item (Code i None) po lo ∷ down) behind) (subs ++ entry_for k n o ∷ [])) (sym w.whole)
+    (subst (λ (ys : List Item). Step (with_block f above id source_end ((w.above ++ giver ∷ w.behind) ++ item (Code i (Some k)) po lo ∷ down) behind) subs
+    (with_block f above id source_end (ys ++ item (Code i None) po lo ∷ down) behind) (subs ++ entry_for k n o ∷ [])) (sym w.numbered) step)

@@ -3,7 +3,7 @@ use Rattle.std.proofs.Common.{◌≡◌, ℕ, suc, List, ◌∷◌, ◌++◌, Al
 use Rattle.std.proofs.lemmas.List.Elements.{All-weaker}
 use Rattle.rv64_instr.specs.Instruction.{Instruction}
 use Rattle.rv64_instr.specs.Row.{Moves, row_of}
-use Rattle.mir_func.specs.declared.entry.Entry.{Entry}
+use Rattle.mir_func.specs.declared.entry.DebugSubstitution.{DebugSubstitution}
 use Rattle.mir_func.specs.declared.position.Origin.{Origin}
 use Rattle.mir_func.specs.declared.location.Loc.{Loc}
 use Rattle.mir_func.specs.declared.block.Block.{Block}
@@ -26,11 +26,11 @@ use Rattle.pass_edits.proofs.Others.{BlocksUnlike, others_of, at_item, once_arou
 use Rattle.pass_edits.proofs.Copies.{plain_copy}
 use Rattle.pass_edits.proofs.Loose.{Step}
 
-module _ (f : Function) (above : List Block) (id silent : ℕ) (behind : List Block) where
+module _ (f : Function) (above : List Block) (id source_end : ℕ) (behind : List Block) where
   abbrev fn : List Item → Function
-  fn items = with_block f above id silent items behind
+  fn items = with_block f above id source_end items behind
 
-  pub to_phi : (k rd s : ℕ) (up : List Item) (i : Instruction) (o : Origin) (l : Loc) (down : List Item) (subs : List Entry) →
+  pub to_phi : (k rd s : ℕ) (up : List Item) (i : Instruction) (o : Origin) (l : Loc) (down : List Item) (subs : List DebugSubstitution) →
       IsSound (fn (up ++ item (Code i (Some k)) o l ∷ down)) → row_of i ≡ Moves (suc rd) s →
       Step (fn (up ++ item (Code i (Some k)) o l ∷ down)) subs (fn (up ++ phi_before k s o ∷ item (Code i None) o l ∷ down)) subs
   to_phi k rd s up i o l down subs sound row =
@@ -40,15 +40,15 @@ module _ (f : Function) (above : List Block) (id silent : ℕ) (behind : List Bl
       let new = fn (up ++ phi_before k s o ∷ y ∷ down) in
       let fp : Program = program_of false old.blocks (resolve subs) in
       let gp : Program = program_of false new.blocks (resolve subs) in
-      let plain = plain_copy i rd s row (at_item f above id silent behind (λ z. LeavesPointer z.kind) up x down sound.pointer) in
-      let far = others_of f above id silent behind k up x down sound.numbers refl in
+      let plain = plain_copy i rd s row (at_item f above id source_end behind (λ z. LeavesPointer z.kind) up x down sound.pointer) in
+      let far = others_of f above id source_end behind k up x down sound.numbers refl in
       let E : Edits = phi_edits fp gp refl refl (λ q. refl) k s plain.source in
       let other : HasNoOther x (phi_before k s o) = record { number = λ m e. e; code = λ m e. cc } in
       let sound' : IsSound new =
       edited_sound old new sound refl refl
-      (edited_around above id silent (up ++ x ∷ down) (up ++ phi_before k s o ∷ y ∷ down) behind
+      (edited_around above id source_end (up ++ x ∷ down) (up ++ phi_before k s o ∷ y ∷ down) behind
       (edited_above up (x ∷ down) (phi_before k s o ∷ y ∷ down) (with_phi k s (suc rd, s, row) refl same_code (edited_same down))))
-      (once_around f above id silent behind (up ++ x ∷ down) (up ++ phi_before k s o ∷ y ∷ down)
+      (once_around f above id source_end behind (up ++ x ∷ down) (up ++ phi_before k s o ∷ y ∷ down)
       (fewer_behind up (x ∷ down) (phi_before k s o ∷ y ∷ down) (keeps other (puts_none refl refl (fewer_same down)))) sound.numbers) in
       let all : (xs : List Item) → AreUnlike k xs → All (λ (z : Item). PhiPair fp gp refl refl (λ q. refl) k s plain.source Elsewhere Elsewhere z z) xs =
       λ xs h. All-weaker (λ (z : Item). IsUnlike k z.kind) (λ (z : Item). PhiPair fp gp refl refl (λ q. refl) k s plain.source Elsewhere Elsewhere z z)
@@ -60,7 +60,7 @@ module _ (f : Function) (above : List Block) (id silent : ℕ) (behind : List Bl
       record {
         sound = sound';
         follows = number_to_phi old new subs k s plain.source sound sound' refl
-            (around E above id silent (up ++ x ∷ down) (up ++ phi_before k s o ∷ y ∷ down) (stays_blocks E (λ n. tt) above (each above far.above))
+            (around E above id source_end (up ++ x ∷ down) (up ++ phi_before k s o ∷ y ∷ down) (stays_blocks E (λ n. tt) above (each above far.above))
             (stays_above E Elsewhere up (x ∷ down) (phi_before k s o ∷ y ∷ down) (all up far.up)
             (put refl refl puts (pair refl (code_kin (row_itself (row_of i))) (closes row plain.first plain.target)
             (stays_items E Elsewhere down tt (all down far.down)))))

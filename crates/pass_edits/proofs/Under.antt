@@ -5,7 +5,7 @@ use Rattle.std.specs.List.{flat_map}
 use Rattle.std.proofs.Math.Nat.{le-max_left, le-max_right, le_trans}
 use Rattle.std.proofs.lemmas.List.Elements.{All-nil, All-cons, All-head, All-tail, All-weaker}
 use Rattle.mir_func.specs.declared.entry.OperandPair.{OperandPair}
-use Rattle.mir_func.specs.declared.entry.Entry.{Entry}
+use Rattle.mir_func.specs.declared.entry.DebugSubstitution.{DebugSubstitution}
 use Rattle.mir_func.specs.declared.block.Block.{Block}
 use Rattle.mir_func.specs.declared.item.Item.{Item}
 use Rattle.mir_func.specs.declared.item.ItemKind.{ItemKind}
@@ -33,7 +33,7 @@ AreUnder b xs = All (λ (x : Item). KindUnder b x.kind) xs
 abbrev pub BlocksUnder : ℕ → List Block → Type 0
 BlocksUnder b bs = All (λ (c : Block). All (λ (x : Item). KindUnder b x.kind) c.items) bs
 
-abbrev pub EntryUnder : ℕ → Entry → Type 0
+abbrev pub EntryUnder : ℕ → DebugSubstitution → Type 0
 EntryUnder b e = (e.src.number < b) × (e.dst.number < b)
 
 -- ---- a greater bound
@@ -55,7 +55,7 @@ blocks_more b c le bs h =
     All-weaker (λ (a : Block). All (λ (x : Item). KindUnder b x.kind) a.items) (λ (a : Block). All (λ (x : Item). KindUnder c x.kind) a.items)
     (λ a k. items_more b c le a.items k) bs h
 
-pub entries_more : (b c : ℕ) → b ≤ c → (subs : List Entry) → All (EntryUnder b) subs → All (EntryUnder c) subs
+pub entries_more : (b c : ℕ) → b ≤ c → (subs : List DebugSubstitution) → All (EntryUnder b) subs → All (EntryUnder c) subs
 entries_more b c le subs h =
     All-weaker (EntryUnder b) (EntryUnder c) (λ e k. (let x = k.0 in omega (arith, le, x), let y = k.1 in omega (arith, le, y))) subs h
 
@@ -67,7 +67,7 @@ under_unlike b n le (Code i None) h j e same = cc
 under_unlike b n le (Mark v q) h j e same = cc
 under_unlike b n le (Phi p m) h j e same = let w : m ≡ j = cc in omega (arith, le, h, w, same)
 
-pub no_entry : (b n o : ℕ) → b ≤ n → (subs : List Entry) → All (EntryUnder b) subs → entry_of subs (record { number = n; operand = o }) ≡ None
+pub no_entry : (b n o : ℕ) → b ≤ n → (subs : List DebugSubstitution) → All (EntryUnder b) subs → entry_of subs (record { number = n; operand = o }) ≡ None
 no_entry b n o le [] h = refl
 no_entry b n o le (e ∷ es) h =
     let lt = (All-head (EntryUnder b) e es h).0 in
@@ -75,18 +75,20 @@ no_entry b n o le (e ∷ es) h =
     ap (λ (z : Bool). cond (z && nat_eq e.src.operand o) (Some e) (entry_of es (record { number = n; operand = o }))) far ∙
     no_entry b n o le es (All-tail (EntryUnder b) e es h)
 
-entry_under : (b : ℕ) (subs : List Entry) (q : OperandPair) (e : Entry) → All (EntryUnder b) subs → entry_of subs q ≡ Some e → EntryUnder b e
+entry_under : (b : ℕ) (subs : List DebugSubstitution) (q : OperandPair) (e : DebugSubstitution) → All (EntryUnder b) subs → entry_of subs q ≡ Some e →
+    EntryUnder b e
 entry_under b [] q e h is = cc
 entry_under b (x ∷ xs) q e h is = by_test (is_pair x.src q) is (entry_under b xs q e (All-tail (EntryUnder b) x xs h)) where
   by_test : (z : Bool) → cond z (Some x) (entry_of xs q) ≡ Some e → (entry_of xs q ≡ Some e → EntryUnder b e) → EntryUnder b e
   by_test true w rec = let same : x ≡ e = cc in subst (EntryUnder b) same (All-head (EntryUnder b) x xs h)
   by_test false w rec = rec w
 
-ends_under : (b : ℕ) (subs : List Entry) (q r : OperandPair) → All (EntryUnder b) subs → Ends subs q r → q.number < b → r.number < b
+ends_under : (b : ℕ) (subs : List DebugSubstitution) (q r : OperandPair) → All (EntryUnder b) subs → Ends subs q r → q.number < b → r.number < b
 ends_under b subs q r h (at none) lt = lt
 ends_under b subs q r h (by e has whole rest) lt = ends_under b subs e.dst r h rest (entry_under b subs q e h has).1
 
-pub resolve_under : (b : ℕ) (subs : List Entry) (q r : OperandPair) → All (EntryUnder b) subs → q.number < b → resolve subs q ≡ Some r → r.number < b
+pub resolve_under : (b : ℕ) (subs : List DebugSubstitution) (q r : OperandPair) → All (EntryUnder b) subs → q.number < b → resolve subs q ≡ Some r →
+    r.number < b
 resolve_under b subs q r h lt is = ends_under b subs q r h (resolve_ends subs q r is) lt
 
 -- ---- from the greatest number
@@ -120,11 +122,12 @@ blocks_under b (c ∷ bs) h =
     (all_first (λ (x : Item). KindUnder b x.kind) c.items (items_of bs) h)
     (blocks_under b bs (all_second (λ (x : Item). KindUnder b x.kind) c.items (items_of bs) h))
 
-pub entries_under : (b : ℕ) (subs : List Entry) → All (λ (n : ℕ). n < b) (flat_map (λ (e : Entry). e.src.number ∷ e.dst.number ∷ []) subs) →
+pub entries_under : (b : ℕ) (subs : List DebugSubstitution) →
+    All (λ (n : ℕ). n < b) (flat_map (λ (e : DebugSubstitution). e.src.number ∷ e.dst.number ∷ []) subs) →
     All (EntryUnder b) subs
 entries_under b [] h = All-nil (EntryUnder b)
 entries_under b (e ∷ es) h =
-    let more : List ℕ = flat_map (λ (x : Entry). x.src.number ∷ x.dst.number ∷ []) es in
+    let more : List ℕ = flat_map (λ (x : DebugSubstitution). x.src.number ∷ x.dst.number ∷ []) es in
     let later = All-tail (λ (n : ℕ). n < b) e.src.number (e.dst.number ∷ more) h in
     All-cons (EntryUnder b) e es (All-head (λ (n : ℕ). n < b) e.src.number (e.dst.number ∷ more) h, All-head (λ (n : ℕ). n < b) e.dst.number more later)
     (entries_under b es (All-tail (λ (n : ℕ). n < b) e.dst.number more later))

@@ -40,7 +40,7 @@ pub data AreEdited : List Item → List Item → Type 0 where
 -- the blocks of a function; their numbers and silent indices are unchanged
 pub data AreBlocksEdited : List Block → List Block → Type 0 where
   no_blocks : AreBlocksEdited [] []
-  next_block : {a b : Block} {fs gs : List Block} → b.id ≡ a.id → b.silent ≡ a.silent → AreEdited a.items b.items → AreBlocksEdited fs gs →
+  next_block : {a b : Block} {fs gs : List Block} → b.id ≡ a.id → b.source_end ≡ a.source_end → AreEdited a.items b.items → AreBlocksEdited fs gs →
       AreBlocksEdited (a ∷ fs) (b ∷ gs)
 
 -- a sound function stays sound under such edits, if its slots and stack objects are unchanged, and no number of code is

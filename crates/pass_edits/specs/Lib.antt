@@ -1,3 +1,3 @@
-pub mod Loose
+pub mod WeakSimulation
 pub mod NumberLaws
 pub mod Edits

@@ -42,7 +42,7 @@ module _ (f : Function) (l : LiveSets) (sets : AreLiveSets f l) (apart : AreApar
     by_blocks [] e w = absurd w
     by_blocks (c ∷ cs) e w =
         walk_is_live sp f.blocks resolve x (λ m. has_at_start l.slots l.blocks l.starts m x ≡ true) (λ m s. (sets.starts m x sp resolve).0 s) n 0 c.items
-        c.silent cs
+        c.source_end cs
         (λ j. let z : 0 + j ≡ j = omega arith in ap (fetch_in (from_block f.blocks n)) z ∙ ap (λ (bs : List Block). fetch_in bs j) e) w
 
   -- at a position
@@ -96,7 +96,7 @@ module _ (f : Function) (l : LiveSets) (sets : AreLiveSets f l) (apart : AreApar
   live_past_position x k i here sp resolve =
       let begins = from_block-at f.blocks b block apart at in
       let fetched : fetch_in (from_block f.blocks block.id) k ≡ Here i =
-      ap (λ (bs : List Block). fetch_in bs k) begins ∙ ap (λ (is : List Item). front is block.silent (drop (suc b) f.blocks)) here in
+      ap (λ (bs : List Block). fetch_in bs k) begins ∙ ap (λ (is : List Item). front is block.source_end (drop (suc b) f.blocks)) here in
       let p = pos_in block.id k in
       let one : k + 1 ≡ suc k = omega arith in
       let under : below p ≡ pos_in block.id (suc k) = ap (pos_in block.id) one in

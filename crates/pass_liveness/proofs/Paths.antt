@@ -11,7 +11,7 @@ use Rattle.mir_func.specs.declared.exit.Exit.{Exit}
 use Rattle.mir_func.specs.declared.exit.Exit.TheVariants.{Onward, Perhaps, Always, Final}
 use Rattle.mir_func.specs.declared.item.Item.{Item}
 use Rattle.mir_func.specs.declared.item.ItemKind.{ItemKind}
-use Rattle.mir_func.specs.Graph.{Program, Fetch, Here, Silent, Edge, FetchEdge, below, block_start, front, fetch_in, from_block, program_of}
+use Rattle.mir_func.specs.Graph.{Program, Fetch, Here, EndOfBlock, Edge, FetchEdge, below, block_start, front, fetch_in, from_block, program_of}
 use Rattle.mir_func.specs.Exits.{exit_of}
 use Rattle.mir_func.specs.Successors.{pos_in}
 use Rattle.mir_func.proofs.Ways.{IsDown, IsOut}
@@ -80,7 +80,7 @@ module _ (sp : Bool) (blocks : List Block) (resolve : OperandPair → Option Ope
       LiveFrom x S items (next_of bs) → Live (program_of sp blocks resolve) x (pos_in b k)
   walk_is_live S known b k [] s [] at h = absurd h
   walk_is_live S known b k [] s (c ∷ cs) at h =
-      let e : fetch_in (from_block blocks b) k ≡ Silent s c.id = ap (fetch_in (from_block blocks b)) (omega arith) ∙ at 0 in
+      let e : fetch_in (from_block blocks b) k ≡ EndOfBlock s c.id = ap (fetch_in (from_block blocks b)) (omega arith) ∙ at 0 in
       later (subst (λ (f : Fetch). Defines f x → ⊥) (sym e) (λ d. d))
       (subst (λ (f : Fetch). FetchEdge Stays f (pos_in b k) (block_start c.id)) (sym e) refl) (known c.id h)
   walk_is_live S known b k (i ∷ is) s bs at h =
@@ -106,7 +106,7 @@ module _ (sp : Bool) (blocks : List Block) (resolve : OperandPair → Option Ope
   used_in : (S : ℕ → Type 0) (fbs : List Block) (k : ℕ) → Uses (fetch_in fbs k) x → WalkedIn S fbs k
   used_in S [] k u = absurd u
   used_in S (b ∷ bs) k u = by_rest (drop k b.items) bs u where
-    by_rest : (items : List Item) (bs : List Block) → Uses (front items b.silent bs) x → LiveFrom x S items (next_of bs)
+    by_rest : (items : List Item) (bs : List Block) → Uses (front items b.source_end bs) x → LiveFrom x S items (next_of bs)
     by_rest [] [] u = absurd u
     by_rest [] (c ∷ cs) u = absurd u
     by_rest (i ∷ is) bs u = inl u
@@ -124,8 +124,8 @@ module _ (sp : Bool) (blocks : List Block) (resolve : OperandPair → Option Ope
       ((q ≡ below p) → WalkedIn S fbs (p.item + 1)) → ((n : ℕ) → q ≡ block_start n → S n) → WalkedIn S fbs p.item
   later_in S closed p q [] nd e down out = absurd e
   later_in S closed p q (b ∷ bs) nd e down out = by_rest (drop p.item b.items) bs refl nd e down where
-    by_rest : (items : List Item) (bs : List Block) → drop p.item b.items ≡ items → (Defines (front items b.silent bs) x → ⊥) →
-        FetchEdge Stays (front items b.silent bs) p q → ((q ≡ below p) → LiveFrom x S (drop (p.item + 1) b.items) (next_of bs)) →
+    by_rest : (items : List Item) (bs : List Block) → drop p.item b.items ≡ items → (Defines (front items b.source_end bs) x → ⊥) →
+        FetchEdge Stays (front items b.source_end bs) p q → ((q ≡ below p) → LiveFrom x S (drop (p.item + 1) b.items) (next_of bs)) →
         LiveFrom x S items (next_of bs)
     by_rest [] [] s nd e down = absurd e
     by_rest [] (c ∷ cs) s nd e down = out c.id e

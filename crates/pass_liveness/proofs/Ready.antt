@@ -16,7 +16,7 @@ use Rattle.pass_liveness.specs.Index.{index_in}
 use Rattle.pass_liveness.specs.Sets.{has}
 use Rattle.pass_liveness.specs.Walk.{live_from, live_across}
 use Rattle.pass_liveness.specs.Liveness.{LiveSets, AreLiveSets, DecidesIn, LivePast, LiveOut, has_at_start, set_at, items_at}
-use Rattle.pass_liveness.specs.Solving.{AreFound, Settled}
+use Rattle.pass_liveness.specs.Solving.{AreFound, Fixpoint}
 use Rattle.pass_liveness.proofs.Places.{has_nothing}
 use Rattle.pass_liveness.proofs.Blocks.{get_or_any, id_is, index_at, items_at_is}
 use Rattle.pass_liveness.proofs.Answers.{live_at_position, live_past_position, live_out_by}
@@ -163,7 +163,7 @@ module _ (f : Function) (l : LiveSets) (sets : AreLiveSets f l) (b : ℕ) (x : P
 -- ---- what was settled
 
 pub solved : (f : Function) (slots ids : List ℕ) (begun starts : List (List ℕ)) → slots ≡ f.slots → ids ≡ ids_of f.blocks → AreApart (ids_of f.blocks) →
-    length begun ≡ length f.blocks → ((slots : List ℕ) (b : ℕ) (x : Place) → has slots (get_or begun b []) x ≡ false) → Settled slots ids f.blocks begun
+    length begun ≡ length f.blocks → ((slots : List ℕ) (b : ℕ) (x : Place) → has slots (get_or begun b []) x ≡ false) → Fixpoint slots ids f.blocks begun
     starts →
     AreLiveSets f (record { slots = slots; blocks = ids; starts = starts })
 solved f slots ids begun starts same names apart long none s = record {

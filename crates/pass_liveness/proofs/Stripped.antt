@@ -90,7 +90,7 @@ module _ (sp tp : Bool) (blocks : List Block) (resolve other : OperandPair → O
         let begins : from_block (stripped_blocks blocks) n ≡ stripped_block c ∷ stripped_blocks cs = from_stripped blocks n ∙ ap stripped_blocks e in
         let walk = subst (λ (o : Option ℕ). LiveFrom x Bare (stripped_items c.items) o) (sym (next_stripped cs))
         (to_stripped_items Bare x (next_of cs) c.items w) in
-        walk_is_live tp (stripped_blocks blocks) other x Bare (λ m s. s) n 0 (stripped_items c.items) c.silent (stripped_blocks cs)
+        walk_is_live tp (stripped_blocks blocks) other x Bare (λ m s. s) n 0 (stripped_items c.items) c.source_end (stripped_blocks cs)
         (λ j. ap (fetch_in (from_block (stripped_blocks blocks) n)) (zero_on j) ∙ ap (λ (bs : List Block). fetch_in bs j) begins) walk
 
   closed_before : (n : ℕ) → WalkedIn tp (stripped_blocks blocks) other x Before (from_block (stripped_blocks blocks) n) 0 → Before n
@@ -101,7 +101,7 @@ module _ (sp tp : Bool) (blocks : List Block) (resolve other : OperandPair → O
         by_blocks (c ∷ cs) e w =
             let walk = from_stripped_items Before x (next_of cs) c.items
             (subst (λ (o : Option ℕ). LiveFrom x Before (stripped_items c.items) o) (next_stripped cs) w) in
-            walk_is_live sp blocks resolve x Before (λ m s. s) n 0 c.items c.silent cs
+            walk_is_live sp blocks resolve x Before (λ m s. s) n 0 c.items c.source_end cs
             (λ j. ap (fetch_in (from_block blocks n)) (zero_on j) ∙ ap (λ (bs : List Block). fetch_in bs j) e) walk
 
   -- at the start of a block

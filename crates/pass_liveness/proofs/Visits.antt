@@ -18,7 +18,7 @@ use Rattle.pass_liveness.specs.Index.{index_in}
 use Rattle.pass_liveness.specs.Sets.{has, has_bit, gap}
 use Rattle.pass_liveness.specs.Walk.{live_from}
 use Rattle.pass_liveness.specs.Liveness.{has_at_start, set_at}
-use Rattle.pass_liveness.specs.Solving.{AreFound, IsClosed, gap_of, Visited, Swept, Settled}
+use Rattle.pass_liveness.specs.Solving.{AreFound, IsClosed, gap_of, Visited, SweepStep, Fixpoint}
 use Rattle.pass_liveness.proofs.Indices.{index_is}
 use Rattle.pass_liveness.proofs.Places.{has_united, has_nothing}
 use Rattle.pass_liveness.proofs.Paths.{LiveFrom, WalkedIn, next_of, walk_is_live, live_is_walked}
@@ -44,9 +44,9 @@ walked_is_live slots ids blocks starts b block apart at found sp resolve k x h =
     let next : slice_get (ids_of blocks) (suc b) ≡ next_of (drop (suc b) blocks) = sym (next_of-drop blocks (suc b)) in
     let facts = (walk_facts x (has_at_start slots ids starts) (drop k block.items) (slice_get (ids_of blocks) (suc b))).0 h in
     walk_is_live sp blocks resolve x (λ n. has_at_start slots ids starts n x ≡ true) (λ n e. found sp resolve n x e) block.id k (drop k block.items)
-    block.silent
+    block.source_end
     (drop (suc b) blocks)
-    (λ j. ap (λ (bs : List Block). fetch_in bs (k + j)) begins ∙ ap (λ is. front is block.silent (drop (suc b) blocks)) (split block.items k j))
+    (λ j. ap (λ (bs : List Block). fetch_in bs (k + j)) begins ∙ ap (λ is. front is block.source_end (drop (suc b) blocks)) (split block.items k j))
     (subst (λ (o : Option ℕ). LiveFrom x (λ n. has_at_start slots ids starts n x ≡ true) (drop k block.items) o) next facts) where
       split : (xs : List Item) (k j : ℕ) → drop (k + j) xs ≡ drop j (drop k xs)
       split xs zero j = let e : 0 + j ≡ j = omega arith in ap (λ (n : ℕ). drop n xs) e
@@ -175,7 +175,7 @@ sweep_stays {slots} {ids} {blocks} {old} {mid} {order} {k} {grown} s {new} {more
 }
 
 pub sweep_ends : {slots ids : List ℕ} {blocks : List Block} {old new : List (List ℕ)} {order : List ℕ} {k : ℕ} {grown : Bool} →
-    Sweeping slots ids blocks old new order k grown → length order ≤ k → Swept slots ids blocks old new order grown
+    Sweeping slots ids blocks old new order k grown → length order ≤ k → SweepStep slots ids blocks old new order grown
 sweep_ends {slots} {ids} {blocks} {old} {new} {order} {k} {grown} s end = record {
   long = s.long;
   found = s.found;
@@ -201,12 +201,12 @@ pub settling_begins : (slots ids : List ℕ) (blocks : List Block) (old : List (
 settling_begins slots ids blocks old = record { long = refl; found = λ a n f. f }
 
 pub settling_goes_on : {slots ids : List ℕ} {blocks : List Block} {old mid new : List (List ℕ)} {order : List ℕ} {grown : Bool} →
-    Settling slots ids blocks old mid → Swept slots ids blocks mid new order grown → Settling slots ids blocks old new
+    Settling slots ids blocks old mid → SweepStep slots ids blocks mid new order grown → Settling slots ids blocks old new
 settling_goes_on s w = record { long = w.long ∙ s.long; found = λ a n f. w.found a n (s.found a n f) }
 
 pub settling_ends : {slots ids : List ℕ} {blocks : List Block} {old mid new : List (List ℕ)} {order : List ℕ} {grown : Bool} →
-    Settling slots ids blocks old mid → Swept slots ids blocks mid new order grown → grown ≡ false → ((b : ℕ) → b < length blocks → Contains order b) →
-    Settled slots ids blocks old new
+    Settling slots ids blocks old mid → SweepStep slots ids blocks mid new order grown → grown ≡ false → ((b : ℕ) → b < length blocks → Contains order b) →
+    Fixpoint slots ids blocks old new
 settling_ends s w g each = record { long = w.long ∙ s.long; found = λ a n f. w.found a n (s.found a n f); closed = λ b l. w.closed g b (each b l) }
 
 -- ---- what was found is all that is live

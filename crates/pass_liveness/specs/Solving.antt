@@ -39,7 +39,7 @@ pub record Visited (slots ids : List ℕ) (blocks : List Block) (old new : List 
   pub closed : grown ≡ false → IsClosed slots ids blocks new b
 
 -- the result of visiting some blocks, in order; `grown` is whether any set grew
-pub record Swept (slots ids : List ℕ) (blocks : List Block) (old new : List (List ℕ)) (order : List ℕ) (grown : Bool) : Type 0 where
+pub record SweepStep (slots ids : List ℕ) (blocks : List Block) (old new : List (List ℕ)) (order : List ℕ) (grown : Bool) : Type 0 where
   pub long : length new ≡ length old
   pub found : AreApart (ids_of blocks) → ids ≡ ids_of blocks → AreFound slots ids blocks old → AreFound slots ids blocks new
   pub fuller : grown ≡ true → gap_of new < gap_of old
@@ -47,7 +47,7 @@ pub record Swept (slots ids : List ℕ) (blocks : List Block) (old new : List (L
   pub closed : grown ≡ false → (b : ℕ) → Contains order b → IsClosed slots ids blocks new b
 
 -- the fixpoint: blocks were visited until no set grew
-pub record Settled (slots ids : List ℕ) (blocks : List Block) (old new : List (List ℕ)) : Type 0 where
+pub record Fixpoint (slots ids : List ℕ) (blocks : List Block) (old new : List (List ℕ)) : Type 0 where
   pub long : length new ≡ length old
   pub found : AreApart (ids_of blocks) → ids ≡ ids_of blocks → AreFound slots ids blocks old → AreFound slots ids blocks new
   pub closed : (b : ℕ) → b < length blocks → IsClosed slots ids blocks new b

@@ -12,7 +12,7 @@ ghost use Rattle.pass_liveness.specs.Walk.{live_before};
 ghost use Rattle.pass_liveness.specs.Liveness.{AreLiveSets, DecidesIn, LivePast, LiveOut, items_at};
 
 use crate::index::Index;
-use crate::names::Names;
+use crate::names::SlotAndBlockNumbers;
 use crate::set::PlaceSet;
 use base_ids::code::SlotId;
 use mir_func::block::Block;
@@ -26,7 +26,7 @@ use std::marker::Model;
 /// What is live at the starts of a function's blocks (LLVM: live-in lists, and live stack slots).
 #[derive(Drop)]
 pub struct Live {
-    names: Names,
+    names: SlotAndBlockNumbers,
     starts: Vec<PlaceSet>,
 }
 
@@ -125,13 +125,13 @@ impl Live {
 }
 
 /// The slots and the block numbers of a function, with their indices.
-pub fn names_of(alloc: Global, f: &Func) -> Result<Names, AllocError>
+pub fn names_of(alloc: Global, f: &Func) -> Result<SlotAndBlockNumbers, AllocError>
     ensures slots { IfOk result (λ n. n.slots ≡ f.now.slots) }
     ensures blocks { IfOk result (λ n. n.blocks ≡ ids_of f.now.blocks) }
 {
     let slots = slot_numbers(alloc, f.slots.as_slice())?;
     let blocks = block_numbers(alloc, f.blocks.as_slice())?;
-    Ok(Names {
+    Ok(SlotAndBlockNumbers {
         slots: Index::new(alloc, slots)?,
         blocks: Index::new(alloc, blocks)?,
     })

@@ -17,7 +17,7 @@ const REGISTERS: usize = 256;
 
 /// The slots and the block numbers of a function, with their indices.
 #[derive(Drop)]
-pub struct Names {
+pub struct SlotAndBlockNumbers {
     /// Its slots.
     pub slots: Index,
     /// Its blocks.
@@ -25,7 +25,7 @@ pub struct Names {
     ghost few: { length slots ≤ 256 },
 }
 
-impl Names {
+impl SlotAndBlockNumbers {
     /// The bit of a place; a constant has none.
     fn bit(&self, p: Place) -> Option<usize>
         ensures bit { result ≡ bit_of self.now.slots p }

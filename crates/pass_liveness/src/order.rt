@@ -2,14 +2,14 @@
 
 ghost use Rattle.std.specs.Prelude.{ℕ, ◌<◌, length, IfOk, All, Contains};
 
-use crate::names::Names;
+use crate::names::SlotAndBlockNumbers;
 use base_ids::code::BlockId;
 use mir_func::block::Block;
 use mir_func::func::Func;
 use mir_func::successors::Successors;
 use std::alloc::{AllocError, Global};
 
-impl Names {
+impl SlotAndBlockNumbers {
     /// The indices of a function's blocks, the reachable ones in post-order of a depth-first search from the first one:
     /// a block comes after its successors, except over back edges.
     pub fn order(&self, alloc: Global, f: &Func) -> Result<Vec<u32>, AllocError>

@@ -8,16 +8,16 @@ ghost use Rattle.mir_func.specs.Sound.{AllItems, SlotsIn, ids_of};
 ghost use Rattle.pass_liveness.specs.Sets.{has};
 ghost use Rattle.pass_liveness.specs.Walk.{live_across, live_from};
 ghost use Rattle.pass_liveness.specs.Liveness.{has_at_start, items_at};
-ghost use Rattle.pass_liveness.specs.Solving.{IsKnownBlock, Visited, Swept, Settled};
+ghost use Rattle.pass_liveness.specs.Solving.{IsKnownBlock, Visited, SweepStep, Fixpoint};
 
-use crate::names::Names;
+use crate::names::SlotAndBlockNumbers;
 use crate::set::PlaceSet;
 use base_ids::code::BlockId;
 use mir_func::block::Block;
 use mir_func::item::Item;
 use mir_func::successors::id_at;
 
-impl Names {
+impl SlotAndBlockNumbers {
     /// Adds to a block's set what is live at its start according to the sets of its successors, and returns whether it
     /// grew.
     fn visit(&self, blocks: &[Block], starts: &mut Vec<PlaceSet>, block: usize) -> bool
@@ -36,7 +36,7 @@ impl Names {
         requires slots { AllItems (λ i. SlotsIn self.now.slots i.kind) blocks.now }
         requires long { length starts.old.items ≡ length blocks.now }
         requires within { All (λ b. b < length blocks.now) order.now }
-        ensures { Swept self.now.slots self.now.blocks blocks.now starts.old.items starts.new.items order.now result }
+        ensures { SweepStep self.now.slots self.now.blocks blocks.now starts.old.items starts.new.items order.now result }
     {
         let mut grown = false;
         for block in order {
@@ -53,7 +53,7 @@ impl Names {
         requires long { length starts.old.items ≡ length blocks.now }
         requires within { All (λ b. b < length blocks.now) order.now }
         requires all { (b : ℕ) → b < length blocks.now → Contains order.now b }
-        ensures { Settled self.now.slots self.now.blocks blocks.now starts.old.items starts.new.items }
+        ensures { Fixpoint self.now.slots self.now.blocks blocks.now starts.old.items starts.new.items }
     {
         while self.sweep(blocks, starts, order) {}
     }

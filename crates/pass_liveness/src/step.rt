@@ -10,7 +10,7 @@ ghost use Rattle.pass_liveness.specs.Sets.{has};
 ghost use Rattle.pass_liveness.specs.Walk.{live_before};
 ghost use Rattle.pass_liveness.specs.Steps.{place_defined, reads_implicitly, is_among};
 
-use crate::names::Names;
+use crate::names::SlotAndBlockNumbers;
 use crate::set::PlaceSet;
 use mir_func::item::ItemKind;
 use rv64_instr::decoded::Decoded;
@@ -40,7 +40,7 @@ fn place_defined(decoded: &Decoded) -> Option<Place>
     }
 }
 
-impl Names {
+impl SlotAndBlockNumbers {
     /// The transfer step: from what is live after an item to what is live before it.
     pub fn step_up(&self, set: &mut PlaceSet, kind: &ItemKind)
         ensures { SlotsIn self.now.slots kind.now → (x : Place) →

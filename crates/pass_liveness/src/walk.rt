@@ -7,13 +7,13 @@ ghost use Rattle.pass_liveness.specs.Sets.{has};
 ghost use Rattle.pass_liveness.specs.Walk.{live_across, live_past, live_from};
 ghost use Rattle.pass_liveness.specs.Liveness.{has_at_start};
 
-use crate::names::Names;
+use crate::names::SlotAndBlockNumbers;
 use crate::set::PlaceSet;
 use base_ids::code::BlockId;
 use mir_func::exit::Exit;
 use mir_func::item::Item;
 
-impl Names {
+impl SlotAndBlockNumbers {
     /// Adds what is live at the start of the block with this number.
     pub fn unite_start(&self, set: &mut PlaceSet, starts: &[PlaceSet], n: BlockId)
         ensures { (x : Place) → has self.now.slots set.new x

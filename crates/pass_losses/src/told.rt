@@ -4,14 +4,14 @@ ghost use Rattle.std.specs.Prelude.{◌≡◌, ◌↔◌, Contains, true};
 ghost use Rattle.std.specs.List.{Any};
 ghost use Rattle.std.specs.List.Sorted.{IsStrictlySortedBy};
 ghost use Rattle.pass_trait.specs.Order.{IsInOrder};
-ghost use Rattle.pass_losses.specs.Told.{AreTold};
+ghost use Rattle.pass_losses.specs.Reported.{AreReported};
 
 use base_list::List;
 use pass_trait::loss::{Loss, Losses};
 
 /// The loss report of these losses: sorted, without duplicates. It takes no memory.
 pub fn told(lost: Losses) -> Losses
-    ensures { AreTold lost result }
+    ensures { AreReported lost result }
 {
     let mut losses = lost.into_vec();
     put_in_order(&mut losses);

@@ -102,7 +102,7 @@ module _ (rule : Rule) (c : Change) where
 
     pub blocks_shown : {xs ys : List Block} → ((i : Item) → Contains (items_of xs) i → WasThere i) → BlocksBecome rule c xs ys → All WasShown (items_of ys)
     blocks_shown there none = All-nil WasShown
-    blocks_shown there (stays {x} {y} {xs} {ys} ks items id silent are killed kill all rest) =
+    blocks_shown there (stays {x} {y} {xs} {ys} ks items id source_end are killed kill all rest) =
         All-append WasShown y.items (items_of ys)
         (All-same WasShown y.items (ks ++ items) are
         (All-append WasShown ks items (kills x.id ks killed) (all_shown (λ i is. there i (Contains-append_left x.items (items_of xs) i is)) all)))

@@ -13,12 +13,12 @@ use Rattle.mir_func.specs.declared.item.ItemKind.{ItemKind}
 use Rattle.mir_func.specs.declared.item.ItemKind.TheVariants.{Code, Mark, Phi}
 use Rattle.mir_func.specs.declared.position.Pos.{Pos}
 use Rattle.pass_trait.specs.Change.{Change}
-use Rattle.pass_salvage.specs.declared.way.Way.{Way}
-use Rattle.pass_salvage.specs.declared.way.Way.TheVariants.{HasEntry, GetsEntry, GetsPhi}
+use Rattle.pass_salvage.specs.declared.way.SalvageAction.{SalvageAction}
+use Rattle.pass_salvage.specs.declared.way.SalvageAction.TheVariants.{HasEntry, GetsEntry, GetsPhi}
 use Rattle.pass_salvage.specs.Way.{way}
 use Rattle.pass_salvage.specs.Salvage.{put_for}
-use Rattle.copyprop_block.specs.declared.copies.Fate.{Fate}
-use Rattle.copyprop_block.specs.declared.copies.Fate.TheVariants.{Stays, Goes, GoesWith}
+use Rattle.copyprop_block.specs.declared.copies.CopyAction.{CopyAction}
+use Rattle.copyprop_block.specs.declared.copies.CopyAction.TheVariants.{Stays, Goes, GoesWith}
 use Rattle.copyprop_block.specs.declared.roots.Root.{Root}
 use Rattle.copyprop_block.specs.Roots.{known_source}
 use Rattle.copyprop_block.specs.Copied.{SoFar, BlocksSoFar, renamed_item, goes_by, fate_of, next_item, at_block, next_block}
@@ -49,18 +49,18 @@ module _ (n : ℕ) where
       numbered_one l.now d l ls (λ e. numbered_line e n ls) (All-head HasReal l ls h) (All-tail HasReal l ls h)
       (λ e. numbered_all e ls (All-tail HasReal l ls h))
 
-above : (w : Way) (ls : List Line) → All HasReal ls → All HasReal (lines_above w ls)
+above : (w : SalvageAction) (ls : List Line) → All HasReal ls → All HasReal (lines_above w ls)
 above HasEntry ls h = h
 above (GetsEntry d o n) ls h = numbered_all n d ls h
 above GetsPhi ls h = h
 
-phi_real : (w : Way) (s : ℕ) (now : List Item) → 0 < s → HasReal (line now (phi_of w s))
+phi_real : (w : SalvageAction) (s : ℕ) (now : List Item) → 0 < s → HasReal (line now (phi_of w s))
 phi_real HasEntry s now real t e = cc
 phi_real (GetsEntry d o n) s now real t e = cc
 phi_real GetsPhi s now real t e = let same : s ≡ t = cc in subst (λ (z : ℕ). 0 < z) same real
 
 -- a copy that goes with its number copies another register than x0
-abbrev IsReal : Fate → Type 0
+abbrev IsReal : CopyAction → Type 0
 IsReal Stays = Unit {0}
 IsReal Goes = Unit {0}
 IsReal (GoesWith k s) = 0 < s
@@ -79,11 +79,11 @@ fate_real e (Code i n) = by_source e i n (known_source e (row_of i)) refl
 fate_real e (Mark v m) = tt
 fate_real e (Phi p n) = tt
 
-by_fate : (ls : List Line) (a : SoFar) (x : Item) (fate : Fate) → IsReal fate → All HasReal ls → All HasReal (lines_by_fate ls a x fate)
+by_fate : (ls : List Line) (a : SoFar) (x : Item) (fate : CopyAction) → IsReal fate → All HasReal ls → All HasReal (lines_by_fate ls a x fate)
 by_fate ls a x Stays real h = All-append HasReal ls (line (x ∷ []) None ∷ []) h (All-cons HasReal _ [] (no_phi (x ∷ [])) (All-nil HasReal))
 by_fate ls a x Goes real h = All-append HasReal ls (line [] None ∷ []) h (All-cons HasReal _ [] (no_phi []) (All-nil HasReal))
 by_fate ls a x (GoesWith k s) real h =
-    let w : Way = way [] a.subs a.fresh k s a.done in
+    let w : SalvageAction = way [] a.subs a.fresh k s a.done in
     All-append HasReal (lines_above w ls) (line (put_for w k s x.origin) (phi_of w s) ∷ []) (above w ls h)
     (All-cons HasReal _ [] (phi_real w s (put_for w k s x.origin) real) (All-nil HasReal))
 

@@ -13,8 +13,8 @@ use Rattle.mir_func.specs.declared.item.ItemKind.{ItemKind}
 use Rattle.mir_func.specs.declared.item.ItemKind.TheVariants.{Code, Mark, Phi}
 use Rattle.mir_func.specs.declared.position.Pos.{Pos}
 use Rattle.pass_trait.specs.Change.{Change}
-use Rattle.pass_salvage.specs.declared.way.Way.{Way}
-use Rattle.pass_salvage.specs.declared.way.Way.TheVariants.{HasEntry, GetsEntry, GetsPhi}
+use Rattle.pass_salvage.specs.declared.way.SalvageAction.{SalvageAction}
+use Rattle.pass_salvage.specs.declared.way.SalvageAction.TheVariants.{HasEntry, GetsEntry, GetsPhi}
 use Rattle.pass_salvage.specs.Way.{way}
 use Rattle.rv64_instr.proofs.Moves.{moves_by}
 use Rattle.dce_copies.specs.declared.off.Copied.{Copied}
@@ -48,7 +48,7 @@ numbered_real (Phi p k) = tt
 no_phi : (x : Item) → HasReal (line_of x)
 no_phi x s e = cc
 
-by_way : (w : Way) (c : Copied) (x : Item) → 0 < c.source → HasReal (line_by w c x)
+by_way : (w : SalvageAction) (c : Copied) (x : Item) → 0 < c.source → HasReal (line_by w c x)
 by_way HasEntry c x real s e = cc
 by_way (GetsEntry d o n) c x real s e = cc
 by_way GetsPhi c x real s e = let same : c.source ≡ s = cc in subst (λ (z : ℕ). 0 < z) same real

@@ -4,14 +4,14 @@ use Rattle.std.specs.Prelude.{IsTrue}
 use Rattle.std.proofs.Math.Nat.{mul-le-mul_left, le_trans}
 use Rattle.std.proofs.lemmas.Bool.{or_left, or_right, and_parts}
 use Rattle.std.proofs.lemmas.List.{append_assoc}
-use Rattle.mir_func.specs.declared.entry.Entry.{Entry}
+use Rattle.mir_func.specs.declared.entry.DebugSubstitution.{DebugSubstitution}
 use Rattle.mir_func.specs.Function.{Function}
 use Rattle.mir_func.specs.Limits.{MAX_BLOCKS, MAX_SLOTS}
 use Rattle.pass_trait.specs.Change.{Change, change}
 use Rattle.pass_trait.specs.declared.loss.Loss.{Loss}
-use Rattle.pass_trait.specs.Following.{KeepsFollowing}
+use Rattle.pass_trait.specs.Simulation.{PreservesSimulation}
 use Rattle.pass_trait.specs.Sizes.{greatest, greatest_number, most, item_count, code_count, KeepsSizes}
-use Rattle.pass_trait.specs.Steps.{Step, KeepsSteps}
+use Rattle.pass_trait.specs.Steps.{PassStep, KeepsSteps}
 use Rattle.pass_list.specs.declared.kind.PassKind.{PassKind}
 use Rattle.pass_manager.specs.Passes.{steps_of_pass, steps_of, passes_of, factor, count, most_after, numbers_after, slots_after, KeepsGrowth}
 use Rattle.pass_manager.specs.Shown.{KeepsShown}
@@ -19,11 +19,12 @@ use Rattle.pass_manager.specs.Told.{KeepsPasses}
 
 -- ---- steps
 
-pub steps_then : (steps more : List Step) (f : Function) (fs : List Entry) (g : Function) (gs : List Entry) (h : Function) (hs : List Entry)
+pub steps_then : (steps more : List PassStep) (f : Function) (fs : List DebugSubstitution) (g : Function) (gs : List DebugSubstitution) (h : Function)
+    (hs : List DebugSubstitution)
     (a b : List Loss) → KeepsSteps steps (change f fs g gs) a → KeepsSteps more (change g gs h hs) b → KeepsSteps (steps ++ more) (change f fs h hs) (a ++ b)
 steps_then [] more f fs g gs h hs a b (ef, es, ea) y =
     let P : Function → Type 0 = λ x. KeepsSteps more (change x gs h hs) b in
-    let S : List Entry → Type 0 = λ x. KeepsSteps more (change f x h hs) b in
+    let S : List DebugSubstitution → Type 0 = λ x. KeepsSteps more (change f x h hs) b in
     let L : List Loss → Type 0 = λ x. KeepsSteps more (change f fs h hs) (x ++ b) in
     subst L (sym ea) (subst S es (subst P ef y))
 steps_then (s ∷ steps) more f fs g gs h hs a b (m, ms, here, later, k, rest, e) y =
@@ -39,9 +40,10 @@ told_steps reserve (p ∷ ps) c told (g, gs, here, later, k, rest, e) =
 
 -- ---- following
 
-pub following_then : (asks keeps asks' keeps' : Bool) (f : Function) (fs : List Entry) (g : Function) (gs : List Entry) (h : Function) (hs : List Entry) →
-    (IsTrue asks' → IsTrue keeps) → KeepsFollowing asks keeps (change f fs g gs) → KeepsFollowing asks' keeps' (change g gs h hs) →
-    KeepsFollowing (asks || asks') (keeps && keeps') (change f fs h hs)
+pub following_then : (asks keeps asks' keeps' : Bool) (f : Function) (fs : List DebugSubstitution) (g : Function) (gs : List DebugSubstitution) (h : Function)
+    (hs : List DebugSubstitution) →
+    (IsTrue asks' → IsTrue keeps) → PreservesSimulation asks keeps (change f fs g gs) → PreservesSimulation asks' keeps' (change g gs h hs) →
+    PreservesSimulation (asks || asks') (keeps && keeps') (change f fs h hs)
 following_then asks keeps asks' keeps' f fs g gs h hs fit x y = record {
   follows = λ src fol ends. y.follows src (x.follows src fol (λ a. ends (or_left asks asks' a))) (λ a. x.ends (fit a) src fol (ends (or_right asks asks' a)));
   ends = λ k src fol ends. let both = and_parts keeps keeps' k in y.ends both.1 src (x.follows src fol (λ a. ends)) (x.ends both.0 src fol ends);
@@ -66,11 +68,12 @@ numbers_more (p ∷ ps) x y h =
     let rest = numbers_more ps (most (factor p) (count p) x) (most (factor p) (count p) y) m in
     omega (arith, here, rest)
 
-pub numbers_left : (p : PassKind) (ps : List PassKind) (f g : Function) (fs gs : List Entry) → KeepsSizes (factor p) (count p) (change f fs g gs) →
+pub numbers_left : (p : PassKind) (ps : List PassKind) (f g : Function) (fs gs : List DebugSubstitution) → KeepsSizes (factor p) (count p) (change f fs g gs) →
     numbers_after ps (item_count g) ≤ numbers_after ps (most (factor p) (count p) (item_count f))
 numbers_left p ps f g fs gs x = numbers_more ps (item_count g) (most (factor p) (count p) (item_count f)) x.items
 
-pub growth_then : (p : PassKind) (ps : List PassKind) (f : Function) (fs : List Entry) (g : Function) (gs : List Entry) (h : Function) (hs : List Entry) →
+pub growth_then : (p : PassKind) (ps : List PassKind) (f : Function) (fs : List DebugSubstitution) (g : Function) (gs : List DebugSubstitution) (h : Function)
+    (hs : List DebugSubstitution) →
     KeepsSizes (factor p) (count p) (change f fs g gs) → KeepsGrowth ps (change g gs h hs) → KeepsGrowth (p ∷ ps) (change f fs h hs)
 growth_then p ps f fs g gs h hs x y = record {
   items = le_trans y.items (after_more ps (item_count g) (most (factor p) (count p) (item_count f)) x.items);
@@ -95,13 +98,13 @@ shown_then f g h x y = record {
 
 -- ---- room
 
-pub later_numbers : (p : PassKind) (ps : List PassKind) (f g : Function) (fs gs : List Entry) → KeepsSizes (factor p) (count p) (change f fs g gs) →
+pub later_numbers : (p : PassKind) (ps : List PassKind) (f g : Function) (fs gs : List DebugSubstitution) → KeepsSizes (factor p) (count p) (change f fs g gs) →
     greatest_number f fs + numbers_after (p ∷ ps) (item_count f) < 2 ^ 31 → greatest_number g gs + numbers_after ps (item_count g) < 2 ^ 31
 later_numbers p ps f g fs gs x room =
     let left = numbers_left p ps f g fs gs x in
     let grown = x.numbers in
     omega (arith, left, grown, room)
 
-pub later_slots : (p : PassKind) (ps : List PassKind) (f g : Function) (fs gs : List Entry) → KeepsSizes (factor p) (count p) (change f fs g gs) →
+pub later_slots : (p : PassKind) (ps : List PassKind) (f g : Function) (fs gs : List DebugSubstitution) → KeepsSizes (factor p) (count p) (change f fs g gs) →
     greatest f.slots + MAX_SLOTS * slots_after (p ∷ ps) < 2 ^ 31 → greatest g.slots + MAX_SLOTS * slots_after ps < 2 ^ 31
 later_slots p ps f g fs gs x room = let grown = x.slots in omega (arith, grown, room)

@@ -1,11 +1,11 @@
 -- What a list of passes keeps, by its first and the rest.
 use Rattle.std.proofs.Common.{◌≡◌, ℕ, ◌+◌, ◌*◌, ◌<◌, ◌^◌, List, ◌∷◌, ◌++◌, sym, subst}
-use Rattle.mir_func.specs.declared.entry.Entry.{Entry}
+use Rattle.mir_func.specs.declared.entry.DebugSubstitution.{DebugSubstitution}
 use Rattle.mir_func.specs.Function.{Function}
 use Rattle.mir_func.specs.Limits.{MAX_SLOTS}
 use Rattle.pass_trait.specs.Change.{change}
 use Rattle.pass_trait.specs.declared.loss.Loss.{Loss}
-use Rattle.pass_trait.specs.Following.{KeepsFollowing}
+use Rattle.pass_trait.specs.Simulation.{PreservesSimulation}
 use Rattle.pass_trait.specs.Sizes.{greatest, greatest_number, item_count, KeepsSizes}
 use Rattle.pass_list.specs.declared.kind.PassKind.{PassKind}
 use Rattle.pass_manager.specs.Passes.{steps_of_pass, asks, keeps, factor, count}
@@ -13,8 +13,8 @@ use Rattle.pass_manager.specs.Passes.{passes_of, any_asks, all_keep, Fit, number
 use Rattle.pass_manager.specs.Told.{KeepsPass, KeepsPasses}
 use Rattle.pass_manager.proofs.Row.{following_then, growth_then, later_numbers, later_slots}
 
-module _ (passes : List PassKind) (p : PassKind) (ps : List PassKind) (is : passes ≡ p ∷ ps) (f : Function) (fs : List Entry) where
-  module _ (g : Function) (gs : List Entry) where
+module _ (passes : List PassKind) (p : PassKind) (ps : List PassKind) (is : passes ≡ p ∷ ps) (f : Function) (fs : List DebugSubstitution) where
+  module _ (g : Function) (gs : List DebugSubstitution) where
     pub then_numbers : KeepsSizes (factor p) (count p) (change f fs g gs) → greatest_number f fs + numbers_after passes (item_count f) < 2 ^ 31 →
         greatest_number g gs + numbers_after ps (item_count g) < 2 ^ 31
     then_numbers x room =
@@ -26,12 +26,12 @@ module _ (passes : List PassKind) (p : PassKind) (ps : List PassKind) (is : pass
     then_slots x room =
         later_slots p ps f g fs gs x (subst (λ (z : List PassKind). greatest f.slots + MAX_SLOTS * slots_after z < 2 ^ 31) is room)
 
-    module _ (h : Function) (hs : List Entry) where
-      pub all_follow : KeepsFollowing (asks p) (keeps p) (change f fs g gs) →
-          (Fit ps → KeepsFollowing (any_asks ps) (all_keep ps) (change g gs h hs)) →
-          Fit passes → KeepsFollowing (any_asks passes) (all_keep passes) (change f fs h hs)
+    module _ (h : Function) (hs : List DebugSubstitution) where
+      pub all_follow : PreservesSimulation (asks p) (keeps p) (change f fs g gs) →
+          (Fit ps → PreservesSimulation (any_asks ps) (all_keep ps) (change g gs h hs)) →
+          Fit passes → PreservesSimulation (any_asks passes) (all_keep passes) (change f fs h hs)
       all_follow x y =
-          subst (λ (z : List PassKind). Fit z → KeepsFollowing (any_asks z) (all_keep z) (change f fs h hs)) (sym is)
+          subst (λ (z : List PassKind). Fit z → PreservesSimulation (any_asks z) (all_keep z) (change f fs h hs)) (sym is)
           (λ fit. following_then (asks p) (keeps p) (any_asks ps) (all_keep ps) f fs g gs h hs fit.0 x (y fit.1))
 
       pub all_told : (reserve : List ℕ) (a b told : List Loss) → told ≡ a ++ b →

@@ -3,7 +3,7 @@ use Rattle.std.specs.Prelude.{ℕ, ◌+◌, ◌*◌, ◌≤◌, List, [], ◌∷
 use Rattle.mir_func.specs.Limits.{MAX_SLOTS}
 use Rattle.pass_trait.specs.Change.{Change}
 use Rattle.pass_trait.specs.Sizes.{greatest, greatest_number, item_count, code_count, call_count, IsPhysical, most}
-use Rattle.pass_trait.specs.Steps.{Step}
+use Rattle.pass_trait.specs.Steps.{PassStep}
 use Rattle.copyprop_proof.specs.Rule.{copy_step}
 use Rattle.dce_pass.specs.Steps.{dead_steps}
 use Rattle.fold_proof.specs.Debug.{fold_step}
@@ -16,7 +16,7 @@ use Rattle.spill_proof.specs.Step.{spill_step}
 -- ---- one pass: one line for each
 
 -- its steps; the reserve has the registers that may be spilled
-abbrev pub steps_of_pass : (reserve : List ℕ) → PassKind → List Step
+abbrev pub steps_of_pass : (reserve : List ℕ) → PassKind → List PassStep
 steps_of_pass reserve Copy = copy_step ∷ []
 steps_of_pass reserve Remat = remat_step ∷ []
 steps_of_pass reserve Spill = spill_step (reserve_of reserve) ∷ []
@@ -58,12 +58,12 @@ count Fold = 1
 -- ---- a list of passes
 
 -- the steps of all passes, in order
-abbrev pub steps_of : (reserve : List ℕ) → List PassKind → List Step
+abbrev pub steps_of : (reserve : List ℕ) → List PassKind → List PassStep
 steps_of reserve [] = []
 steps_of reserve (p ∷ ps) = steps_of_pass reserve p ++ steps_of reserve ps
 
 -- the steps of each pass
-abbrev pub passes_of : (reserve : List ℕ) → List PassKind → List (List Step)
+abbrev pub passes_of : (reserve : List ℕ) → List PassKind → List (List PassStep)
 passes_of reserve [] = []
 passes_of reserve (p ∷ ps) = steps_of_pass reserve p ∷ passes_of reserve ps
 

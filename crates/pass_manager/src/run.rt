@@ -3,7 +3,7 @@
 ghost use Rattle.std.specs.Prelude.{◌+◌, ◌*◌, ◌<◌, ◌^◌, IfOk, OnOk};
 ghost use Rattle.mir_func.specs.Limits.{MAX_SLOTS};
 ghost use Rattle.pass_trait.specs.Change.{change};
-ghost use Rattle.pass_trait.specs.Following.{KeepsFollowing};
+ghost use Rattle.pass_trait.specs.Simulation.{PreservesSimulation};
 ghost use Rattle.pass_trait.specs.Sizes.{greatest, greatest_number, item_count, KeepsSizes};
 ghost use Rattle.pass_trait.specs.Sizes.{most_numbers};
 ghost use Rattle.pass_trait.specs.Steps.{KeepsSteps};
@@ -40,7 +40,7 @@ pub fn run_passes(
     requires numbers { greatest_number f.old subs.old + numbers_after passes.now (item_count f.old) < 2 ^ 31 }
     requires slots { greatest f.old.slots + MAX_SLOTS * slots_after passes.now < 2 ^ 31 }
     ensures follows { OnOk result (Fit passes.now →
-        KeepsFollowing (any_asks passes.now) (all_keep passes.now) (change f.old subs.old f.new subs.new)) }
+        PreservesSimulation (any_asks passes.now) (all_keep passes.now) (change f.old subs.old f.new subs.new)) }
     ensures told { IfOk result (KeepsPasses (passes_of reserve.now passes.now) (change f.old subs.old f.new subs.new)) }
     ensures growth { OnOk result (KeepsGrowth passes.now (change f.old subs.old f.new subs.new)) }
     ensures shown { OnOk result (KeepsShown f.old f.new) }
@@ -68,7 +68,7 @@ fn run_pass(
     requires numbers { greatest_number f.old subs.old + most_numbers (factor pass) (count pass) f.old < 2 ^ 31 }
     requires slots { greatest f.old.slots + MAX_SLOTS * count pass < 2 ^ 31 }
     ensures follows { OnOk result
-        (KeepsFollowing (asks pass) (keeps pass) (change f.old subs.old f.new subs.new)) }
+        (PreservesSimulation (asks pass) (keeps pass) (change f.old subs.old f.new subs.new)) }
     ensures steps { IfOk result
         (KeepsSteps (steps_of_pass reserve.now pass) (change f.old subs.old f.new subs.new)) }
     ensures sizes { OnOk result (KeepsSizes (factor pass) (count pass) (change f.old subs.old f.new subs.new)) }

@@ -4,10 +4,10 @@ use Rattle.std.proofs.Common.{sym, ap, ◌∙◌, arith}
 use Rattle.std.specs.Prelude.{slice_get}
 use Rattle.std.proofs.lemmas.List.{take_all, length-drop}
 use Rattle.std.proofs.lemmas.Option.{slice_get-get_or, slice_get_within}
-use Rattle.mir_func.specs.declared.entry.Entry.{Entry}
+use Rattle.mir_func.specs.declared.entry.DebugSubstitution.{DebugSubstitution}
 use Rattle.mir_func.specs.declared.item.Item.{Item}
 use Rattle.mir_func.specs.declared.item.ItemKind.{ItemKind}
-use Rattle.pass_salvage.specs.declared.way.Way.TheVariants.{HasEntry, GetsEntry, GetsPhi}
+use Rattle.pass_salvage.specs.declared.way.SalvageAction.TheVariants.{HasEntry, GetsEntry, GetsPhi}
 use Rattle.mir_func.specs.declared.item.ItemKind.TheVariants.{Code, Mark, Phi}
 use Rattle.mir_func.specs.declared.position.Origin.{Origin}
 use Rattle.mir_func.specs.declared.location.Loc.{Loc}
@@ -17,7 +17,7 @@ use Rattle.rv64_instr.specs.Parts.{is_call}
 use Rattle.pass_trait.specs.Rule.{item}
 use Rattle.pass_salvage.specs.Way.{has_entry, or_fresh, last_definition, first_definition, may_stand, way_by, way_of_kind, way_at, way_from, way}
 
-module _ (removed : List ℕ) (subs : List Entry) (fresh k s : ℕ) (above : List Item) where
+module _ (removed : List ℕ) (subs : List DebugSubstitution) (fresh k s : ℕ) (above : List Item) where
   pub chosen_from : has_entry subs (Some k) 0 ≡ false → way removed subs fresh k s above ≡ way_from removed subs fresh k s above (last_definition s above)
   chosen_from e = ap (λ (z : Bool). cond z HasEntry (way_from removed subs fresh k s above (last_definition s above))) e
 
@@ -36,7 +36,7 @@ all_behind xs d =
     take_all (length xs - (d + 1)) (drop (d + 1) xs) (omega (arith, len)) ∙ ap (λ n. drop n xs) e
 
 -- what holds where the copy's pair gets an entry
-pub record IsEntered (removed : List ℕ) (subs : List Entry) (fresh k s : ℕ) (above : List Item) (d o n : ℕ) : Type 0 where
+pub record IsEntered (removed : List ℕ) (subs : List DebugSubstitution) (fresh k s : ℕ) (above : List Item) (d o n : ℕ) : Type 0 where
   pub i : Instruction
   pub own : Option ℕ
   pub origin : Origin
@@ -48,7 +48,7 @@ pub record IsEntered (removed : List ℕ) (subs : List Entry) (fresh k s : ℕ) 
   pub number : n ≡ or_fresh fresh own
   pub may : may_stand removed subs k d own o (drop (suc d) above) ≡ true
 
-module _ (removed : List ℕ) (subs : List Entry) (fresh k s : ℕ) (above : List Item) (d o n : ℕ) where
+module _ (removed : List ℕ) (subs : List DebugSubstitution) (fresh k s : ℕ) (above : List Item) (d o n : ℕ) where
   entered_by : (i : Instruction) (own : Option ℕ) (origin : Origin) (loc : Loc) (e : ℕ) → has_entry subs (Some k) 0 ≡ false → last_definition s above ≡ Some e →
       slice_get above e ≡ Some (item (Code i own) origin loc) → (p : Option ℕ) → first_definition (is_call (row_of i)) s i.operands ≡ p →
       way_by removed subs fresh k e own p (drop (suc e) above) ≡ GetsEntry d o n → IsEntered removed subs fresh k s above d o n

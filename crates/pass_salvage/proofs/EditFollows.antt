@@ -3,7 +3,7 @@ use Rattle.std.proofs.Common.{◌≡◌, ℕ, zero, suc, List, [], ◌∷◌, le
 use Rattle.std.proofs.Common.{true, false}
 use Rattle.std.proofs.Common.{refl, sym, ap, ◌∙◌, subst, arith}
 use Rattle.std.proofs.lemmas.List.Elements.{All-cons, All-head, All-tail}
-use Rattle.mir_func.specs.declared.entry.Entry.{Entry}
+use Rattle.mir_func.specs.declared.entry.DebugSubstitution.{DebugSubstitution}
 use Rattle.mir_func.specs.declared.object.Object.{Object}
 use Rattle.mir_func.specs.declared.position.Pos.{Pos}
 use Rattle.mir_func.specs.declared.position.Origin.{Origin}
@@ -18,12 +18,12 @@ use Rattle.mir_func.specs.Resolve.{resolve}
 use Rattle.rv64_instr.specs.Parts.{IsSlotStore}
 use Rattle.mir_func.specs.Graph.{Here, Program, KindEdge, below, program_of}
 use Rattle.sem_mir.specs.State.{Core, State}
-use Rattle.sem_mir.specs.Align.{is_code, is_jump, moves_on, Count, ByItems, ByEnds, station_at, AnyOrigin, RunsAlong, since_of, waits_at}
+use Rattle.sem_mir.specs.Align.{is_code, is_jump, moves_on, Count, ByItems, ByEnds, sync_point_at, AnyOrigin, RunsMatch, since_of, waits_at}
 use Rattle.sem_mir.specs.Follow.{KindFits, MarkFits, InOrder, Among, none, same, left, first_of, OnRow, GoesTo, Counts, Shape, IsStart, IsEnd}
 use Rattle.sem_mir.specs.Follow.{KindsEndAlike}
 use Rattle.sem_mir.specs.Follow.{EndIsKept, EndComesFrom, IsMetApart}
 use Rattle.pass_trait.specs.Change.{change}
-use Rattle.pass_trait.specs.Following.{KeepsFollowing}
+use Rattle.pass_trait.specs.Simulation.{PreservesSimulation}
 use Rattle.pass_salvage.proofs.Kin.{Kin, kin_fits, kin_marks, kin_goes, kin_end, kin_is_end, moves_after}
 use Rattle.pass_salvage.proofs.Edits.{Edits, Edited, over, pair, out, put, BlocksEdited, no_blocks, next_block, order_edited, item_back, item_on}
 use Rattle.pass_salvage.proofs.EditRuns.{Keeps, IsSteady, runs_edited}
@@ -40,29 +40,30 @@ end_is_code (Phi p n) h = absurd h
 module _ (E : Edits) where
   among_edited : {fs gs src : List Block} → BlocksEdited E fs gs → Among fs src → Among gs src
   among_edited no_blocks none = none
-  among_edited (next_block id silent items rest) (same e s more) = same (id ∙ e) (silent ∙ s) (among_edited rest more)
+  among_edited (next_block id source_end items rest) (same e s more) = same (id ∙ e) (source_end ∙ s) (among_edited rest more)
   among_edited b (left more) = left (among_edited b more)
 
   first_edited : (fs gs : List Block) → BlocksEdited E fs gs → first_of gs ≡ first_of fs
   first_edited fs gs no_blocks = refl
-  first_edited (a ∷ fs) (b ∷ gs) (next_block id silent items rest) = id
+  first_edited (a ∷ fs) (b ∷ gs) (next_block id source_end items rest) = id
 
   length_edited : (fs gs : List Block) → BlocksEdited E fs gs → length gs ≡ length fs
   length_edited fs gs no_blocks = refl
-  length_edited (a ∷ fs) (b ∷ gs) (next_block id silent items rest) = ap suc (length_edited fs gs rest)
+  length_edited (a ∷ fs) (b ∷ gs) (next_block id source_end items rest) = ap suc (length_edited fs gs rest)
 
   order_of : (fs gs : List Block) → BlocksEdited E fs gs → All (λ (b : Block). InOrder b.id 0 b.items) fs → All (λ (b : Block). InOrder b.id 0 b.items) gs
   order_of fs gs no_blocks h = all_none (λ (b : Block). InOrder b.id 0 b.items)
-  order_of (a ∷ fs) (b ∷ gs) (next_block id silent items rest) h =
+  order_of (a ∷ fs) (b ∷ gs) (next_block id source_end items rest) h =
       All-cons (λ (c : Block). InOrder c.id 0 c.items) b gs
       (subst (λ (n : ℕ). InOrder n 0 b.items) (sym id)
       (order_edited E a.id 0 0 a.items b.items refl items (All-head (λ (c : Block). InOrder c.id 0 c.items) a fs h)))
       (order_of fs gs rest (All-tail (λ (c : Block). InOrder c.id 0 c.items) a fs h))
 
   -- what holds of each item of f and hangs on its kind and origin, holds of each of g
-  module _ (P : Block → Item → Type 0) (pairs : (a b : Block) (x y : Item) → b.silent ≡ a.silent → x.origin ≡ y.origin → Kin x.kind y.kind → P a x → P b y)
+  module _ (P : Block → Item → Type 0) (pairs : (a b : Block)
+      (x y : Item) → b.source_end ≡ a.source_end → x.origin ≡ y.origin → Kin x.kind y.kind → P a x → P b y)
       (puts : (k k' : E.Stage) (b : Block) (x y : Item) → E.Put k k' y → is_code y.kind ≡ false → P b y) where
-    each_in : {k : E.Stage} (a b : Block) (xs ys : List Item) → b.silent ≡ a.silent → Edited E k xs ys → All (P a) xs → All (P b) ys
+    each_in : {k : E.Stage} (a b : Block) (xs ys : List Item) → b.source_end ≡ a.source_end → Edited E k xs ys → All (P a) xs → All (P b) ys
     each_in a b xs ys s (over done) h = all_none (P b)
     each_in a b (x ∷ xs) (y ∷ ys) s (pair origin kin how rest) h =
         All-cons (P b) y ys (pairs a b x y s origin kin (All-head (P a) x xs h)) (each_in a b xs ys s rest (All-tail (P a) x xs h))
@@ -72,8 +73,8 @@ module _ (E : Edits) where
 
     pub each_edited : (fs gs : List Block) → BlocksEdited E fs gs → All (λ (b : Block). All (P b) b.items) fs → All (λ (b : Block). All (P b) b.items) gs
     each_edited fs gs no_blocks h = all_none (λ (b : Block). All (P b) b.items)
-    each_edited (a ∷ fs) (b ∷ gs) (next_block id silent items rest) h =
-        All-cons (λ (c : Block). All (P c) c.items) b gs (each_in a b a.items b.items silent items (All-head (λ (c : Block). All (P c) c.items) a fs h))
+    each_edited (a ∷ fs) (b ∷ gs) (next_block id source_end items rest) h =
+        All-cons (λ (c : Block). All (P c) c.items) b gs (each_in a b a.items b.items source_end items (All-head (λ (c : Block). All (P c) c.items) a fs h))
         (each_edited fs gs rest (All-tail (λ (c : Block). All (P c) c.items) a fs h))
 
 -- the facts of lists that a change by such edits owes
@@ -83,17 +84,18 @@ pub record Allows (E : Edits) : Type 0 where
   pub falls : (k k' : E.Stage) (x : Item) → E.Out k k' x → (p q : Pos) → KindEdge (λ n. n) x.kind p q → q ≡ below p
   pub no_goes : (k k' : E.Stage) (x : Item) → E.Out k k' x → (n : ℕ) → OnRow (GoesTo n) x.kind → ⊥
   pub no_end : (k k' : E.Stage) (x : Item) → E.Out k k' x → (i : ItemKind) → KindsEndAlike i x.kind → ⊥
-  pub kept : (k k' : E.Stage) (x : Item) → E.Out k k' x → (src : Program) (silent : ℕ) → KindFits src x.kind silent x.origin → (p : Pos) × (x.origin ≡ Kept p)
+  pub kept : (k k' : E.Stage) (x : Item) → E.Out k k' x → (src : Program) (source_end : ℕ) → KindFits src x.kind source_end x.origin →
+      (p : Pos) × (x.origin ≡ Kept p)
   -- a mark that is put assigns nothing
   pub marks : (k k' : E.Stage) (y : Item) → E.Put k k' y → is_code y.kind ≡ false → MarkFits y.kind y.origin
 
-debug_fits : (src : Program) (k : ItemKind) (silent : ℕ) (o : Origin) → is_code k ≡ false → KindFits src k silent o
-debug_fits src (Code i n) silent o e = cc
-debug_fits src (Mark v m) silent o e = tt
-debug_fits src (Phi p n) silent o e = tt
+debug_fits : (src : Program) (k : ItemKind) (source_end : ℕ) (o : Origin) → is_code k ≡ false → KindFits src k source_end o
+debug_fits src (Code i n) source_end o e = cc
+debug_fits src (Mark v m) source_end o e = tt
+debug_fits src (Phi p n) source_end o e = tt
 
 module _ (E : Edits) (Q : E.Stage → Core → Core → Type 0) (allows : Allows E) (old new : Function) (sound : IsSound old) (sound' : IsSound new)
-    (subs subs' : List Entry) (objects : new.objects ≡ old.objects) (edited : BlocksEdited E old.blocks new.blocks)
+    (subs subs' : List DebugSubstitution) (objects : new.objects ≡ old.objects) (edited : BlocksEdited E old.blocks new.blocks)
     (keeps : Keeps E Q (program_of false old.blocks (resolve subs)) (program_of false new.blocks (resolve subs')))
     (itself : (n : ℕ) (c : Core) → ((k o : ℕ) → c.pairs k o ≡ None) → Q (E.entry n) c c) where
   abbrev fp : Program
@@ -104,13 +106,14 @@ module _ (E : Edits) (Q : E.Stage → Core → Core → Type 0) (allows : Allows
 
   -- a slot store at a block's end meets other code still
   abbrev pub StoresMeet : Type 0
-  StoresMeet = (b silent : ℕ) (p : Pos) (i : Item) → p.block ≡ b → gp.fetch p ≡ Here i → OnRow IsSlotStore i.kind →
-      i.origin ≡ Before (record { block = b; item = silent }) → (q : Pos) × (j : Item) × IsMetApart gp p silent q j
+  StoresMeet = (b source_end : ℕ) (p : Pos) (i : Item) → p.block ≡ b → gp.fetch p ≡ Here i → OnRow IsSlotStore i.kind →
+      i.origin ≡ Before (record { block = b; item = source_end }) → (q : Pos) × (j : Item) × IsMetApart gp p source_end q j
 
   module _ (src : List Block) (srcp : Program) (shape : Shape src old.blocks srcp fp)
       (meet : (b : Block) → Contains new.blocks b → (p : Pos) (i : Item) → p.block ≡ b.id →
-      gp.fetch p ≡ Here i → OnRow IsSlotStore i.kind → i.origin ≡ Before (record { block = b.id; item = b.silent }) → (q : Pos) × (j : Item) × IsMetApart gp p
-      b.silent q j) where
+      gp.fetch p ≡ Here i → OnRow IsSlotStore i.kind → i.origin ≡ Before (record { block = b.id; item = b.source_end }) →
+      (q : Pos) × (j : Item) × IsMetApart gp p
+      b.source_end q j) where
     pub shape_edited : Shape src new.blocks srcp gp
     shape_edited = record {
       among = among_edited E edited shape.among;
@@ -120,10 +123,10 @@ module _ (E : Edits) (Q : E.Stage → Core → Core → Type 0) (allows : Allows
           (λ k k' how. allows.no_goes k k' w.1 how (first_of src) w.3) in
           (at.0, at.1, at.3, kin_goes w.1.kind at.1.kind at.5 (first_of src) w.3));
       order = order_of E old.blocks new.blocks edited shape.order;
-      items = each_edited E (λ b i. KindFits srcp i.kind b.silent i.origin)
+      items = each_edited E (λ b i. KindFits srcp i.kind b.source_end i.origin)
           (λ a b x y s origin kin h. subst (λ (n : ℕ). KindFits srcp y.kind n y.origin) (sym s)
-          (subst (λ o. KindFits srcp y.kind a.silent o) origin (kin_fits srcp x.kind y.kind kin a.silent x.origin h)))
-          (λ k k' b x y how no_code. debug_fits srcp y.kind b.silent y.origin no_code) old.blocks new.blocks edited shape.items;
+          (subst (λ o. KindFits srcp y.kind a.source_end o) origin (kin_fits srcp x.kind y.kind kin a.source_end x.origin h)))
+          (λ k k' b x y how no_code. debug_fits srcp y.kind b.source_end y.origin no_code) old.blocks new.blocks edited shape.items;
       stores = meet;
       marks = each_edited E (λ b i. MarkFits i.kind i.origin)
           (λ a b x y s origin kin h. subst (λ o. MarkFits y.kind o) origin (kin_marks x.kind y.kind kin x.origin h))
@@ -137,14 +140,14 @@ module _ (E : Edits) (Q : E.Stage → Core → Core → Type 0) (allows : Allows
         let x : Item = get_or b.items j e in
         let fits = shape.items k d lt j e within in
         record {
-          moves = λ c c' n go. moves_after ct srcp fp x.kind x.origin b.silent counts fits c c' n go;
-          gone = λ s s' how. (let w = allows.kept s s' x how srcp b.silent fits in
+          moves = λ c c' n go. moves_after ct srcp fp x.kind x.origin b.source_end counts fits c c' n go;
+          gone = λ s s' how. (let w = allows.kept s s' x how srcp b.source_end fits in
               ap (λ o. since_of (waits_at (moves_on ct x.kind) o)) w.1);
         }
 
     pub runs_new : (ct : Count) (first : ℕ) (stack : List Object) → ((k : ItemKind) → moves_on ct k ≡ is_jump k) →
-        ((s : State) → IsStart stack first s → RunsAlong srcp fp (station_at ct fp) (AnyOrigin (station_at ct fp)) s s) →
-        (s : State) → IsStart stack first s → RunsAlong srcp gp (station_at ct gp) (AnyOrigin (station_at ct gp)) s s
+        ((s : State) → IsStart stack first s → RunsMatch srcp fp (sync_point_at ct fp) (AnyOrigin (sync_point_at ct fp)) s s) →
+        (s : State) → IsStart stack first s → RunsMatch srcp gp (sync_point_at ct gp) (AnyOrigin (sync_point_at ct gp)) s s
     runs_new ct first stack counts runs s start =
         runs_edited E Q old.blocks new.blocks edited (resolve subs) (resolve subs') ct counts srcp s keeps allows.empty (steady ct counts) sound.blocks_apart
         shape.order
@@ -169,7 +172,7 @@ module _ (E : Edits) (Q : E.Stage → Core → Core → Type 0) (allows : Allows
   -- where what slot stores meet stays and counts
   pub follows_edited : ((k k' : E.Stage) (x : Item) → E.Out k k' x → OnRow Counts x.kind → ⊥) →
       ((k k' : E.Stage) (x y : Item) → E.Pair k k' x y → OnRow Counts x.kind → OnRow Counts y.kind) →
-      KeepsFollowing false true (change old subs new subs')
+      PreservesSimulation false true (change old subs new subs')
   follows_edited gone counts = record {
     follows = λ source fol ends. (let srcp : Program = program_of true source.function.blocks (resolve source.subs) in
         record {
@@ -190,26 +193,27 @@ module _ (E : Edits) (Q : E.Stage → Core → Core → Type 0) (allows : Allows
               whole.runs;
         });
   } where
-    old_block : (b : Block) → Contains new.blocks b → (a : Block) × Contains old.blocks a × (a.id ≡ b.id) × (a.silent ≡ b.silent)
+    old_block : (b : Block) → Contains new.blocks b → (a : Block) × Contains old.blocks a × (a.id ≡ b.id) × (a.source_end ≡ b.source_end)
     old_block b h = by_blocks old.blocks new.blocks edited h where
-      by_blocks : (fs gs : List Block) → BlocksEdited E fs gs → Contains gs b → (a : Block) × Contains fs a × (a.id ≡ b.id) × (a.silent ≡ b.silent)
+      by_blocks : (fs gs : List Block) → BlocksEdited E fs gs → Contains gs b → (a : Block) × Contains fs a × (a.id ≡ b.id) × (a.source_end ≡ b.source_end)
       by_blocks fs gs no_blocks h = absurd (let lt = h.1 in omega (arith, lt))
-      by_blocks (a ∷ fs) (c ∷ gs) (next_block id silent items rest) (zero, lt, e) =
-          (a, (0, omega arith, refl), sym id ∙ ap (λ (z : Block). z.id) e, sym silent ∙ ap (λ (z : Block). z.silent) e)
-      by_blocks (a ∷ fs) (c ∷ gs) (next_block id silent items rest) (suc m, lt, e) =
+      by_blocks (a ∷ fs) (c ∷ gs) (next_block id source_end items rest) (zero, lt, e) =
+          (a, (0, omega arith, refl), sym id ∙ ap (λ (z : Block). z.id) e, sym source_end ∙ ap (λ (z : Block). z.source_end) e)
+      by_blocks (a ∷ fs) (c ∷ gs) (next_block id source_end items rest) (suc m, lt, e) =
           let r = by_blocks fs gs rest (m, omega (arith, lt), e) in
           let k = r.1 in
           let less = k.1 in
           (r.0, (suc k.0, omega (arith, less), k.2), r.2, r.3)
 
     meet : (srcp : Program) (src : List Block) → Shape src old.blocks srcp fp → (b : Block) → Contains new.blocks b → (p : Pos) (i : Item) → p.block ≡ b.id →
-        gp.fetch p ≡ Here i → OnRow IsSlotStore i.kind → i.origin ≡ Before (record { block = b.id; item = b.silent }) → (q : Pos) × (j : Item) × IsMetApart gp
-        p b.silent q j
+        gp.fetch p ≡ Here i → OnRow IsSlotStore i.kind → i.origin ≡ Before (record { block = b.id; item = b.source_end }) →
+        (q : Pos) × (j : Item) × IsMetApart gp
+        p b.source_end q j
     meet srcp src shape b member p i at here save o =
         let a = old_block b member in
         stores_on E old.blocks new.blocks edited (resolve subs) (resolve subs') allows.empty allows.falls gone counts
-        b.id b.silent
-        (λ q j at' here' save' o'. (let origin : j.origin ≡ Before (record { block = a.0.id; item = a.0.silent }) =
+        b.id b.source_end
+        (λ q j at' here' save' o'. (let origin : j.origin ≡ Before (record { block = a.0.id; item = a.0.source_end }) =
         o' ∙ (λ z. Before (record { block = sym a.2 z; item = sym a.3 z })) in
         let w = shape.stores a.0 a.1 q j (at' ∙ sym a.2) here' save' origin in
         subst (λ (n : ℕ). (r : Pos) × (t : Item) × IsMetApart fp q n r t) a.3 w))

@@ -8,7 +8,7 @@ use Rattle.mir_func.specs.declared.block.Block.{Block}
 use Rattle.mir_func.specs.declared.item.Item.{Item}
 use Rattle.mir_func.specs.declared.item.ItemKind.{ItemKind}
 use Rattle.mir_func.specs.declared.item.ItemKind.TheVariants.{Code, Mark, Phi}
-use Rattle.mir_func.specs.Graph.{Fetch, Here, Silent, Outside, Program, below, block_start, front, fetch_in, from_block, program_of, KindEdge}
+use Rattle.mir_func.specs.Graph.{Fetch, Here, EndOfBlock, Outside, Program, below, block_start, front, fetch_in, from_block, program_of, KindEdge}
 use Rattle.mir_func.specs.Graph.{FetchEdge, Edge, Leads, stay, go}
 use Rattle.rv64_instr.specs.Parts.{IsSlotStore}
 use Rattle.sem_mir.specs.Align.{position_of, is_code}
@@ -47,15 +47,17 @@ module _ (E : Edits) (fs gs : List Block) (edited : BlocksEdited E fs gs) (resol
     pub rest : Edited E stage (rest_of fs p) (rest_of gs p')
 
   -- past a block's items g ends where f does
-  end_on : (p p' : Pos) (j n : ℕ) → p'.block ≡ p.block → rest_of gs p' ≡ [] → f.fetch p ≡ Silent j n → g.fetch p' ≡ Silent j n
+  end_on : (p p' : Pos) (j n : ℕ) → p'.block ≡ p.block → rest_of gs p' ≡ [] → f.fetch p ≡ EndOfBlock j n → g.fetch p' ≡ EndOfBlock j n
   end_on p p' j n same none e =
       by_blocks (from_block fs p.block) (from_block gs p.block) (ap (from_block gs) same) (blocks_from E fs gs edited p.block) e where
-        by_blocks : (cs bs : List Block) → from_block gs p'.block ≡ bs → BlocksEdited E cs bs → fetch_in cs p.item ≡ Silent j n → g.fetch p' ≡ Silent j n
+        by_blocks : (cs bs : List Block) → from_block gs p'.block ≡ bs → BlocksEdited E cs bs → fetch_in cs p.item ≡ EndOfBlock j n →
+            g.fetch p' ≡ EndOfBlock j n
         by_blocks cs bs at no_blocks h = cc
-        by_blocks (a ∷ cs) (b ∷ bs) at (next_block id silent items rest) h =
-            let t = none_of_front (drop p.item a.items) a.silent cs j n h in
+        by_blocks (a ∷ cs) (b ∷ bs) at (next_block id source_end items rest) h =
+            let t = none_of_front (drop p.item a.items) a.source_end cs j n h in
             let r : drop p'.item b.items ≡ [] = ap (λ (z : List Block). rest_in z p'.item) (sym at) ∙ none in
-            ap (λ (z : List Block). fetch_in z p'.item) at ∙ ap (λ (z : List Item). front z b.silent bs) r ∙ ends_same E a.silent b.silent cs bs silent rest ∙
+            ap (λ (z : List Block). fetch_in z p'.item) at ∙ ap (λ
+            (z : List Item). front z b.source_end bs) r ∙ ends_same E a.source_end b.source_end cs bs source_end rest ∙
             t.1
 
   -- one step of f's path, and g's
@@ -65,8 +67,8 @@ module _ (E : Edits) (fs gs : List Block) (edited : BlocksEdited E fs gs) (resol
     by_fetch : (x : Fetch) → f.fetch p ≡ x → IsPastItems (f.fetch p) → FetchEdge (λ n. n) (f.fetch p) p q → (q' : Pos) × Leads g p' q' × Beside q q'
     by_fetch (Here i) at past e = absurd (subst IsPastItems at past)
     by_fetch Outside at past e = absurd (subst (λ (z : Fetch). FetchEdge (λ n. n) z p q) at e)
-    by_fetch (Silent j n) at past e =
-        let there : g.fetch p' ≡ Silent j n = end_on p p' j n same right at in
+    by_fetch (EndOfBlock j n) at past e =
+        let there : g.fetch p' ≡ EndOfBlock j n = end_on p p' j n same right at in
         let e' : q ≡ block_start n = subst (λ (z : Fetch). FetchEdge (λ n. n) z p q) at e in
         let edge : Edge g p' (block_start n) = subst (λ (z : Fetch). FetchEdge (λ n. n) z p' (block_start n)) (sym there) refl in (
           block_start n,
@@ -161,27 +163,27 @@ module _ (E : Edits) (fs gs : List Block) (edited : BlocksEdited E fs gs) (resol
   -- so what f met apart from a slot store, g meets, where what counts stays and counts
   pub stores_on : ((k k' : E.Stage) (x : Item) → E.Out k k' x → OnRow Counts x.kind → ⊥) →
       ((k k' : E.Stage) (x y : Item) → E.Pair k k' x y → OnRow Counts x.kind → OnRow Counts y.kind) →
-      (b : ℕ) (silent : ℕ) →
-      ((p : Pos) (i : Item) → p.block ≡ b → f.fetch p ≡ Here i → OnRow IsSlotStore i.kind → i.origin ≡ Before (record { block = b; item = silent }) →
-      (q : Pos) × (j : Item) × IsMetApart f p silent q j) →
-      (p : Pos) (i : Item) → p.block ≡ b → g.fetch p ≡ Here i → OnRow IsSlotStore i.kind → i.origin ≡ Before (record { block = b; item = silent }) →
-      (q : Pos) × (j : Item) × IsMetApart g p silent q j
-  stores_on gone counts b silent met p y same at save o = by_blocks (from_block fs p.block) (from_block gs p.block) refl refl
+      (b : ℕ) (source_end : ℕ) →
+      ((p : Pos) (i : Item) → p.block ≡ b → f.fetch p ≡ Here i → OnRow IsSlotStore i.kind → i.origin ≡ Before (record { block = b; item = source_end }) →
+      (q : Pos) × (j : Item) × IsMetApart f p source_end q j) →
+      (p : Pos) (i : Item) → p.block ≡ b → g.fetch p ≡ Here i → OnRow IsSlotStore i.kind → i.origin ≡ Before (record { block = b; item = source_end }) →
+      (q : Pos) × (j : Item) × IsMetApart g p source_end q j
+  stores_on gone counts b source_end met p y same at save o = by_blocks (from_block fs p.block) (from_block gs p.block) refl refl
       (blocks_from E fs gs edited p.block) at where
         by_blocks : (cs bs : List Block) → from_block fs p.block ≡ cs → from_block gs p.block ≡ bs → BlocksEdited E cs bs → fetch_in bs p.item ≡ Here y →
-            (q : Pos) × (j : Item) × IsMetApart g p silent q j
+            (q : Pos) × (j : Item) × IsMetApart g p source_end q j
         by_blocks cs bs atf atg no_blocks h = cc
         by_blocks (a ∷ cs) (c ∷ bs) atf atg (next_block id end items rest) h =
-            let t = first_of_front (drop p.item c.items) c.silent bs y h in
+            let t = first_of_front (drop p.item c.items) c.source_end bs y h in
             let s = comes_from E a.items c.items items p.item y t.0 t.1 (save_code y.kind save) in
             let pf : Pos = record { block = p.block; item = s.index } in
-            let here : f.fetch pf ≡ Here s.item = ap (λ (z : List Block). fetch_in z s.index) atf ∙ ap (λ (z : List Item). front z a.silent cs) s.at in
+            let here : f.fetch pf ≡ Here s.item = ap (λ (z : List Block). fetch_in z s.index) atf ∙ ap (λ (z : List Item). front z a.source_end cs) s.at in
             let w = met pf s.item same here (kin_save s.item.kind y.kind s.kin save) (s.origin ∙ o) in
             by_witness t.0 t.1 pf refl w.0 w.1 w.2 where
               by_witness : (more : List Item) (e : drop p.item c.items ≡ y ∷ more) (pf : Pos) →
                   pf ≡ record { block = p.block; item = (comes_from E a.items c.items items p.item y more e (save_code y.kind save)).index } → (q : Pos)
                   (j : Item) →
-                  IsMetApart f pf silent q j → (q : Pos) × (j : Item) × IsMetApart g p silent q j
+                  IsMetApart f pf source_end q j → (q : Pos) × (j : Item) × IsMetApart g p source_end q j
               by_witness more e pf is q j w = by_side w.3 where
                 stays : (k k' : E.Stage) → E.Out k k' j → ⊥
                 stays k k' how = gone k k' j how w.1
@@ -189,11 +191,11 @@ module _ (E : Edits) (fs gs : List Block) (edited : BlocksEdited E fs gs) (resol
                 block_is : pf.block ≡ p.block
                 block_is = ap (λ (z : Pos). z.block) is
 
-                by_side : ((q.block ≡ pf.block) × (q.item < pf.item)) ⊎ Leads f pf q → (q : Pos) × (j : Item) × IsMetApart g p silent q j
+                by_side : ((q.block ≡ pf.block) × (q.item < pf.item)) ⊎ Leads f pf q → (q : Pos) × (j : Item) × IsMetApart g p source_end q j
                 by_side (inl up) =
                     let in_block : from_block fs q.block ≡ a ∷ cs = ap (from_block fs) (up.0 ∙ block_is) ∙ atf in
                     let there : fetch_in (a ∷ cs) q.item ≡ Here j = sym (ap (λ (z : List Block). fetch_in z q.item) in_block) ∙ w.0 in
-                    let u = first_of_front (drop q.item a.items) a.silent cs j there in
+                    let u = first_of_front (drop q.item a.items) a.source_end cs j there in
                     let lt : q.item < (comes_from E a.items c.items items p.item y more e (save_code y.kind save)).index =
                     subst (λ (n : ℕ). q.item < n) (ap (λ (z : Pos). z.item) is) up.1 in
                     let r = above_on E a.items c.items items p.item y more e (save_code y.kind save) q.item j u.0 u.1 lt stays in
@@ -201,9 +203,9 @@ module _ (E : Edits) (fs gs : List Block) (edited : BlocksEdited E fs gs) (resol
                       q',
                       r.1,
                       (
-                        ap (λ (z : List Block). fetch_in z r.0) atg ∙ ap (λ (z : List Item). front z c.silent bs) r.4,
+                        ap (λ (z : List Block). fetch_in z r.0) atg ∙ ap (λ (z : List Item). front z c.source_end bs) r.4,
                         counts r.7.0 r.7.1 j r.1 r.7.2 w.1,
-                        (λ same'. w.2 (ap position_of r.5 ∙ same' ∙ ap (λ (n : ℕ). record { block = n; item = silent }) (sym block_is))),
+                        (λ same'. w.2 (ap position_of r.5 ∙ same' ∙ ap (λ (n : ℕ). record { block = n; item = source_end }) (sym block_is))),
                         inl (refl, r.3),
                       ),
                     )
@@ -224,7 +226,7 @@ module _ (E : Edits) (fs gs : List Block) (edited : BlocksEdited E fs gs) (resol
                       (
                         r.3,
                         counts r.6.0 r.6.1 j r.1 r.6.2 w.1,
-                        (λ same'. w.2 (ap position_of r.4 ∙ same' ∙ ap (λ (n : ℕ). record { block = n; item = silent }) (sym block_is))),
+                        (λ same'. w.2 (ap position_of r.4 ∙ same' ∙ ap (λ (n : ℕ). record { block = n; item = source_end }) (sym block_is))),
                         inr (leads_trans g on.1 r.2),
                       ),
                     )

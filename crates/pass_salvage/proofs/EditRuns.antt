@@ -12,12 +12,12 @@ use Rattle.mir_func.specs.Graph.{Program, block_start, from_block, index_of, pro
 use Rattle.sem_mir.specs.State.{Core, State}
 use Rattle.sem_mir.specs.Step.{Outcome, Falls, Goes, Gives, Traps, Asks, Breaks, do_item}
 use Rattle.sem_mir.specs.Effects.{EndAlike, FallsInto}
-use Rattle.sem_mir.specs.Align.{position_of, is_code, is_jump, Count, moves_on, end_station, station_of, station_at, IsOrigin, AnyOrigin}
-use Rattle.sem_mir.specs.Align.{RunsAlong, Station, After}
+use Rattle.sem_mir.specs.Align.{position_of, is_code, is_jump, Count, moves_on, end_sync_point, sync_point_of, sync_point_at, IsOrigin, AnyOrigin}
+use Rattle.sem_mir.specs.Align.{RunsMatch, SyncPoint, After}
 use Rattle.sem_mir.specs.Follow.{InOrder}
-use Rattle.sem_simulation.specs.Sides.{Sides, Relation, ShowsSame, OutcomesAlike, since_item}
+use Rattle.sem_simulation.specs.Sides.{Sides, MatchStates, ShowsSame, OutcomesAlike, since_item}
 use Rattle.sem_simulation.specs.InPlace.{FallsOrTraps, View, ended, both, taken, added, paired, InPlace}
-use Rattle.sem_simulation.proofs.Stations.{code_station, end_is_station, IsStationOf, of_item, of_end, station_is_of}
+use Rattle.sem_simulation.proofs.Stations.{code_sync_point, end_is_sync_point, IsSyncPointOf, of_item, of_end, sync_point_is_of}
 use Rattle.sem_simulation.proofs.Laid.{rest_in, rest_of, laid_out, in_order_at, one_end, from_home, from_within, from_before_end, falls_down}
 use Rattle.sem_simulation.proofs.InPlace.{in_place_follows}
 use Rattle.sem_mir.proofs.Reading.{found_in}
@@ -81,16 +81,16 @@ module _ (E : Edits) (Q : E.Stage → Core → Core → Type 0) where
       abbrev sides : Sides
       sides = record { old = record { program = f; rest = rf; start = s0 }; new = record { program = g; rest = rg; start = s0 } }
 
-      abbrev relation : Relation
-      relation = record {
+      abbrev match_states : MatchStates
+      match_states = record {
         Stage = E.Stage;
         entry = E.entry;
-        Rests = λ k b xs ys. Edited E k xs ys × All (IsSteady ct) xs;
-        Cores = λ k b xs ys c d. Q k c d;
+        MatchItems = λ k b xs ys. Edited E k xs ys × All (IsSteady ct) xs;
+        MatchCores = λ k b xs ys c d. Q k c d;
       }
 
       view_pair : (b : ℕ) (k k' : E.Stage) (x y : Item) (xs ys : List Item) → x.origin ≡ y.origin → Kin x.kind y.kind → E.Pair k k' x y → Edited E k' xs ys →
-          IsSteady ct x → All (IsSteady ct) xs → (z : Bool) → is_code x.kind ≡ z → View ct src sides relation b k (x ∷ xs) (y ∷ ys)
+          IsSteady ct x → All (IsSteady ct) xs → (z : Bool) → is_code x.kind ≡ z → View ct src sides match_states b k (x ∷ xs) (y ∷ ys)
       view_pair b k k' x y xs ys origin kin how rest s more true is =
           let is' : is_code y.kind ≡ true = sym (kin_code x.kind y.kind kin) ∙ is in
           both {k' = k'} is is' origin (counts x.kind ∙ kin_jump x.kind y.kind kin ∙ sym (counts y.kind)) (rest, more)
@@ -100,7 +100,7 @@ module _ (E : Edits) (Q : E.Stage → Core → Core → Type 0) where
           let is' : is_code y.kind ≡ false = sym (kin_code x.kind y.kind kin) ∙ is in
           paired {k' = k'} is is' (rest, more) (λ c d q. does_both (Q k') f g x y c d is is' (keeps.debug k k' x y how is is' c d q))
 
-      view : (k : E.Stage) (b : ℕ) (xs ys : List Item) → Edited E k xs ys × All (IsSteady ct) xs → View ct src sides relation b k xs ys
+      view : (k : E.Stage) (b : ℕ) (xs ys : List Item) → Edited E k xs ys × All (IsSteady ct) xs → View ct src sides match_states b k xs ys
       view k b xs ys (over done, steady) = ended
       view k b (x ∷ xs) (y ∷ ys) (pair {k' = l} origin kin how rest, steady) =
           view_pair b k l x y xs ys origin kin how rest (All-head (IsSteady ct) x xs steady) (All-tail (IsSteady ct) x xs steady) (is_code x.kind) refl
@@ -123,35 +123,37 @@ module _ (E : Edits) (Q : E.Stage → Core → Core → Type 0) where
               zero_of [] = refl
               zero_of (x ∷ xs) = refl
 
-      origin_from : (p : Pos) → IsOrigin (station_at ct g) p → IsOrigin (station_at ct f) p
-      origin_from p o = by_station (station_is_of ct g o.place o.station o.stands) where
-        by_station : IsStationOf ct g o.place o.station → IsOrigin (station_at ct f) p
-        by_station (of_item y at code st) =
+      origin_from : (p : Pos) → IsOrigin (sync_point_at ct g) p → IsOrigin (sync_point_at ct f) p
+      origin_from p o = by_sync_point (sync_point_is_of ct g o.place o.sync_point o.stands) where
+        by_sync_point : IsSyncPointOf ct g o.place o.sync_point → IsOrigin (sync_point_at ct f) p
+        by_sync_point (of_item y at code st) =
             let w = item_back E fs gs edited false resolve resolve' o.place y at code in
             let code' : is_code w.1.kind ≡ true = kin_code w.1.kind y.kind w.5 ∙ code in
             record {
               place = w.0;
-              station = station_of ct w.1;
-              stands = code_station ct f w.0 w.1 w.3 code';
-              from = ap position_of w.4 ∙ ap (λ (z : Station). z.pos) st ∙ o.from;
+              sync_point = sync_point_of ct w.1;
+              stands = code_sync_point ct f w.0 w.1 w.3 code';
+              from = ap position_of w.4 ∙ ap (λ (z : SyncPoint). z.pos) st ∙ o.from;
             }
-        by_station (of_end k n at ends st) =
+        by_sync_point (of_end k n at ends st) =
             let w = end_back E fs gs edited false resolve resolve' o.place k n at in
             record {
               place = w.0;
-              station = o.station;
-              stands = end_is_station ct f w.0 k n w.2 ∙ ap (λ (z : ℕ). end_station ct (record { block = z; item = k })) w.1 ∙
-                  ap (λ (z : Count). end_station z (record { block = o.place.block; item = k })) ends ∙ ap Some (sym st);
+              sync_point = o.sync_point;
+              stands = end_is_sync_point ct f w.0 k n w.2 ∙ ap (λ (z : ℕ). end_sync_point ct (record { block = z; item = k })) w.1 ∙
+                  ap (λ (z : Count). end_sync_point z (record { block = o.place.block; item = k })) ends ∙ ap Some (sym st);
               from = o.from;
             }
 
       pub runs_edited : All (λ (b : Block). All (IsSteady ct) b.items) fs → AreApart (ids_of fs) → All (λ (b : Block). InOrder b.id 0 b.items) fs →
           All (λ (b : Block). InOrder b.id 0 b.items) gs → All (λ (b : Block). All (λ (i : Item). OriginIn b i.origin) b.items) fs →
           All (λ (b : Block). All (λ (i : Item). OriginIn b i.origin) b.items) gs → s0.pos.item ≡ 0 → Q (E.entry s0.pos.block) s0.core s0.core →
-          RunsAlong src f (station_at ct f) (AnyOrigin (station_at ct f)) s0 s0 → RunsAlong src g (station_at ct g) (AnyOrigin (station_at ct g)) s0 s0
-      runs_edited steady apart ordered ordered' origins origins' first kin runs = in_place_follows relation ct src sides (index_of fs) in_place first refl kin
+          RunsMatch src f (sync_point_at ct f) (AnyOrigin (sync_point_at ct f)) s0 s0 →
+          RunsMatch src g (sync_point_at ct g) (AnyOrigin (sync_point_at ct g)) s0 s0
+      runs_edited steady apart ordered ordered' origins origins' first kin runs = in_place_follows match_states ct src sides
+          (index_of fs) in_place first refl kin
           runs where
-            in_place : InPlace ct src sides relation (index_of fs)
+            in_place : InPlace ct src sides match_states (index_of fs)
             in_place = record {
               laid_f = laid_out false fs resolve;
               laid_g = laid_out false gs resolve';

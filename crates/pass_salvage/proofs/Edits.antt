@@ -8,7 +8,7 @@ use Rattle.mir_func.specs.declared.position.Origin.{Origin}
 use Rattle.mir_func.specs.declared.position.Origin.TheVariants.{Kept, Before}
 use Rattle.mir_func.specs.declared.block.Block.{Block}
 use Rattle.mir_func.specs.declared.item.Item.{Item}
-use Rattle.mir_func.specs.Graph.{Here, Silent, Program, block_start, end_of, front, fetch_in, from_block, program_of}
+use Rattle.mir_func.specs.Graph.{Here, EndOfBlock, Program, block_start, end_of, front, fetch_in, from_block, program_of}
 use Rattle.sem_mir.specs.Align.{position_of, is_code}
 use Rattle.sem_mir.specs.Follow.{rank, next_rank, InOrder}
 use Rattle.sem_mir.proofs.Reading.{found_in}
@@ -36,7 +36,7 @@ pub data Edited (E : Edits) : E.Stage → List Item → List Item → Type 0 whe
 -- and the blocks
 pub data BlocksEdited (E : Edits) : List Block → List Block → Type 0 where
   no_blocks : BlocksEdited E [] []
-  next_block : {a b : Block} {fs gs : List Block} → b.id ≡ a.id → b.silent ≡ a.silent → Edited E (E.entry a.id) a.items b.items → BlocksEdited E fs gs →
+  next_block : {a b : Block} {fs gs : List Block} → b.id ≡ a.id → b.source_end ≡ a.source_end → Edited E (E.entry a.id) a.items b.items → BlocksEdited E fs gs →
       BlocksEdited E (a ∷ fs) (b ∷ gs)
 
 -- ---- lists
@@ -46,7 +46,7 @@ first_of_front [] k [] y e = cc
 first_of_front [] k (b ∷ bs) y e = cc
 first_of_front (x ∷ xs) k bs y e = let w : x ≡ y = cc in (xs, λ i. w i ∷ xs)
 
-pub none_of_front : (xs : List Item) (k : ℕ) (bs : List Block) (j n : ℕ) → front xs k bs ≡ Silent j n → (xs ≡ []) × (end_of k bs ≡ Silent j n)
+pub none_of_front : (xs : List Item) (k : ℕ) (bs : List Block) (j n : ℕ) → front xs k bs ≡ EndOfBlock j n → (xs ≡ []) × (end_of k bs ≡ EndOfBlock j n)
 none_of_front [] k bs j n e = (refl, e)
 none_of_front (x ∷ xs) k bs j n e = cc
 
@@ -230,17 +230,17 @@ module _ (E : Edits) where
 
   pub blocks_from : (fs gs : List Block) → BlocksEdited E fs gs → (n : ℕ) → BlocksEdited E (from_block fs n) (from_block gs n)
   blocks_from fs gs no_blocks n = no_blocks
-  blocks_from (a ∷ fs) (b ∷ gs) (next_block id silent items rest) n =
+  blocks_from (a ∷ fs) (b ∷ gs) (next_block id source_end items rest) n =
       subst (λ (z : ℕ). BlocksEdited E (from_block (a ∷ fs) n) (cond (nat_eq z n) (b ∷ gs) (from_block gs n))) (sym id)
       (by_test (nat_eq a.id n) (blocks_from fs gs rest n)) where
         by_test : (z : Bool) → BlocksEdited E (from_block fs n) (from_block gs n) →
             BlocksEdited E (cond z (a ∷ fs) (from_block fs n)) (cond z (b ∷ gs) (from_block gs n))
-        by_test true h = next_block id silent items rest
+        by_test true h = next_block id source_end items rest
         by_test false h = h
 
-  pub ends_same : (silent silent' : ℕ) (fs gs : List Block) → silent' ≡ silent → BlocksEdited E fs gs → end_of silent' gs ≡ end_of silent fs
-  ends_same silent silent' fs gs e no_blocks = refl
-  ends_same silent silent' (a ∷ fs) (b ∷ gs) e (next_block id s items rest) = λ i. Silent (e i) (id i)
+  pub ends_same : (source_end silent' : ℕ) (fs gs : List Block) → silent' ≡ source_end → BlocksEdited E fs gs → end_of silent' gs ≡ end_of source_end fs
+  ends_same source_end silent' fs gs e no_blocks = refl
+  ends_same source_end silent' (a ∷ fs) (b ∷ gs) e (next_block id s items rest) = λ i. EndOfBlock (e i) (id i)
 
   module _ (fs gs : List Block) (edited : BlocksEdited E fs gs) (sp : Bool) (resolve resolve' : OperandPair → Option OperandPair) where
     abbrev f : Program
@@ -255,13 +255,13 @@ module _ (E : Edits) where
       by_blocks : (cs bs : List Block) → from_block fs q.block ≡ cs → BlocksEdited E cs bs → fetch_in bs q.item ≡ Here y →
           (p : Pos) × (x : Item) × (p.block ≡ q.block) × (f.fetch p ≡ Here x) × (x.origin ≡ y.origin) × Kin x.kind y.kind
       by_blocks cs bs at no_blocks k = cc
-      by_blocks (a ∷ cs) (b ∷ bs) at (next_block id silent items rest) k =
-          let t = first_of_front (drop q.item b.items) b.silent bs y k in
+      by_blocks (a ∷ cs) (b ∷ bs) at (next_block id source_end items rest) k =
+          let t = first_of_front (drop q.item b.items) b.source_end bs y k in
           let s = comes_from a.items b.items items q.item y t.0 t.1 code in (
             record { block = q.block; item = s.index },
             s.item,
             refl,
-            ap (λ (z : List Block). fetch_in z s.index) at ∙ ap (λ (z : List Item). front z a.silent cs) s.at,
+            ap (λ (z : List Block). fetch_in z s.index) at ∙ ap (λ (z : List Item). front z a.source_end cs) s.at,
             s.origin,
             s.kin,
           )
@@ -272,49 +272,50 @@ module _ (E : Edits) where
       by_blocks : (cs bs : List Block) → from_block gs p.block ≡ bs → BlocksEdited E cs bs → fetch_in cs p.item ≡ Here x →
           (q : Pos) × (y : Item) × (q.block ≡ p.block) × (g.fetch q ≡ Here y) × (x.origin ≡ y.origin) × Kin x.kind y.kind
       by_blocks cs bs at no_blocks k = cc
-      by_blocks (a ∷ cs) (b ∷ bs) at (next_block id silent items rest) k =
-          let t = first_of_front (drop p.item a.items) a.silent cs x k in
+      by_blocks (a ∷ cs) (b ∷ bs) at (next_block id source_end items rest) k =
+          let t = first_of_front (drop p.item a.items) a.source_end cs x k in
           let s = goes_on a.items b.items items p.item x t.0 t.1 stays in (
             record { block = p.block; item = s.index },
             s.item,
             refl,
-            ap (λ (z : List Block). fetch_in z s.index) at ∙ ap (λ (z : List Item). front z b.silent bs) s.at,
+            ap (λ (z : List Block). fetch_in z s.index) at ∙ ap (λ (z : List Item). front z b.source_end bs) s.at,
             s.origin,
             s.kin,
           )
 
     -- a block's end is where it was
-    pub end_back : (q : Pos) (k n : ℕ) → g.fetch q ≡ Silent k n → (p : Pos) × (p.block ≡ q.block) × (f.fetch p ≡ Silent k n)
+    pub end_back : (q : Pos) (k n : ℕ) → g.fetch q ≡ EndOfBlock k n → (p : Pos) × (p.block ≡ q.block) × (f.fetch p ≡ EndOfBlock k n)
     end_back q k n e = by_blocks (from_block fs q.block) (from_block gs q.block) refl (blocks_from fs gs edited q.block) e where
-      by_blocks : (cs bs : List Block) → from_block fs q.block ≡ cs → BlocksEdited E cs bs → fetch_in bs q.item ≡ Silent k n →
-          (p : Pos) × (p.block ≡ q.block) × (f.fetch p ≡ Silent k n)
+      by_blocks : (cs bs : List Block) → from_block fs q.block ≡ cs → BlocksEdited E cs bs → fetch_in bs q.item ≡ EndOfBlock k n →
+          (p : Pos) × (p.block ≡ q.block) × (f.fetch p ≡ EndOfBlock k n)
       by_blocks cs bs at no_blocks h = cc
-      by_blocks (a ∷ cs) (b ∷ bs) at (next_block id silent items rest) h =
-          let t = none_of_front (drop q.item b.items) b.silent bs k n h in (
+      by_blocks (a ∷ cs) (b ∷ bs) at (next_block id source_end items rest) h =
+          let t = none_of_front (drop q.item b.items) b.source_end bs k n h in (
             record { block = q.block; item = length a.items },
             refl,
-            ap (λ (z : List Block). fetch_in z (length a.items)) at ∙ ap (λ (z : List Item). front z a.silent cs) (drop_all a.items) ∙
-                sym (ends_same a.silent b.silent cs bs silent rest) ∙ t.1,
+            ap (λ (z : List Block). fetch_in z (length a.items)) at ∙ ap (λ (z : List Item). front z a.source_end cs) (drop_all a.items) ∙
+                sym (ends_same a.source_end b.source_end cs bs source_end rest) ∙ t.1,
           )
 
     -- past the items of a block f stands where g does
-    pub end_there : (p q : Pos) (k n : ℕ) → p.block ≡ q.block → rest_of fs p ≡ [] → g.fetch q ≡ Silent k n → f.fetch p ≡ Silent k n
+    pub end_there : (p q : Pos) (k n : ℕ) → p.block ≡ q.block → rest_of fs p ≡ [] → g.fetch q ≡ EndOfBlock k n → f.fetch p ≡ EndOfBlock k n
     end_there p q k n same none' e =
         by_blocks (from_block fs q.block) (from_block gs q.block) (ap (from_block fs) same) (blocks_from fs gs edited q.block) e where
-          by_blocks : (cs bs : List Block) → from_block fs p.block ≡ cs → BlocksEdited E cs bs → fetch_in bs q.item ≡ Silent k n → f.fetch p ≡ Silent k n
+          by_blocks : (cs bs : List Block) → from_block fs p.block ≡ cs → BlocksEdited E cs bs → fetch_in bs q.item ≡ EndOfBlock k n →
+              f.fetch p ≡ EndOfBlock k n
           by_blocks cs bs at no_blocks h = cc
-          by_blocks (a ∷ cs) (b ∷ bs) at (next_block id silent items rest) h =
-              let t = none_of_front (drop q.item b.items) b.silent bs k n h in
+          by_blocks (a ∷ cs) (b ∷ bs) at (next_block id source_end items rest) h =
+              let t = none_of_front (drop q.item b.items) b.source_end bs k n h in
               let r : drop p.item a.items ≡ [] = ap (λ (z : List Block). rest_in z p.item) (sym at) ∙ none' in
-              ap (λ (z : List Block). fetch_in z p.item) at ∙ ap (λ (z : List Item). front z a.silent cs) r ∙ sym
-              (ends_same a.silent b.silent cs bs silent rest) ∙ t.1
+              ap (λ (z : List Block). fetch_in z p.item) at ∙ ap (λ (z : List Item). front z a.source_end cs) r ∙ sym
+              (ends_same a.source_end b.source_end cs bs source_end rest) ∙ t.1
 
     -- a block starts with what becomes of its items. Where there is no such block, nothing stands there
     pub starts_edited : ((n : ℕ) → E.IsOver (E.entry n)) → (n : ℕ) → Edited E (E.entry n) (rest_of fs (block_start n)) (rest_of gs (block_start n))
     starts_edited empty n = by_blocks (from_block fs n) (from_block gs n) refl (blocks_from fs gs edited n) where
       by_blocks : (cs bs : List Block) → from_block fs n ≡ cs → BlocksEdited E cs bs → Edited E (E.entry n) (rest_in cs 0) (rest_in bs 0)
       by_blocks cs bs at no_blocks = over (empty n)
-      by_blocks (a ∷ cs) (b ∷ bs) at (next_block id silent items rest) =
+      by_blocks (a ∷ cs) (b ∷ bs) at (next_block id source_end items rest) =
           let same : a.id ≡ n = (found_in fs n a cs at).1 in
           subst (λ (xs : List Item). Edited E (E.entry n) xs (drop 0 b.items)) (sym (drop_zero a.items))
           (subst (λ (ys : List Item). Edited E (E.entry n) a.items ys) (sym (drop_zero b.items))

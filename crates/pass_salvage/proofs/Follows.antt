@@ -1,7 +1,7 @@
 -- What followed a source follows it after a copy lost its number: to code that gave its value, or to a phi.
 use Rattle.std.proofs.Common.{◌≡◌, ℕ, List, [], ◌∷◌, ◌++◌, None, true, false, refl, ap}
 use Rattle.mir_func.specs.declared.entry.OperandPair.{OperandPair}
-use Rattle.mir_func.specs.declared.entry.Entry.{Entry}
+use Rattle.mir_func.specs.declared.entry.DebugSubstitution.{DebugSubstitution}
 use Rattle.mir_func.specs.declared.item.Item.{Item}
 use Rattle.mir_func.specs.Function.{Function}
 use Rattle.mir_func.specs.Sound.{IsSound}
@@ -9,7 +9,7 @@ use Rattle.mir_func.specs.Resolve.{entry_of, resolve}
 use Rattle.mir_func.specs.Graph.{Program, program_of}
 use Rattle.sem_mir.specs.Follow.{OnRow, Counts, MarkFits}
 use Rattle.pass_trait.specs.Change.{change}
-use Rattle.pass_trait.specs.Following.{KeepsFollowing}
+use Rattle.pass_trait.specs.Simulation.{PreservesSimulation}
 use Rattle.pass_trait.specs.Rule.{first_operand}
 use Rattle.pass_salvage.specs.Salvage.{entry_for}
 use Rattle.pass_salvage.proofs.Edits.{BlocksEdited}
@@ -20,10 +20,10 @@ use Rattle.pass_salvage.proofs.NumberPhi.{Spot, PhiPair, elsewhere, closes as cl
 
 -- ---- to code
 
-module _ (old new : Function) (sound : IsSound old) (sound' : IsSound new) (subs : List Entry) (k n o s : ℕ) (Free : ℕ → Type 0)
+module _ (old new : Function) (sound : IsSound old) (sound' : IsSound new) (subs : List DebugSubstitution) (k n o s : ℕ) (Free : ℕ → Type 0)
     (objects : new.objects ≡ old.objects) (none : entry_of subs (first_operand k) ≡ None) (end : entry_of subs (record { number = n; operand = o }) ≡ None)
     (apart : k ≡ n → ⊥) (real : s ≡ 2 → ⊥) where
-  abbrev subs' : List Entry
+  abbrev subs' : List DebugSubstitution
   subs' = subs ++ entry_for k n o ∷ []
 
   abbrev fp : Program
@@ -48,7 +48,8 @@ module _ (old new : Function) (sound : IsSound old) (sound' : IsSound new) (subs
     marks = λ a b y h. absurd h;
   }
 
-  pub number_off_follows : BlocksEdited (off_edits fp gp refl refl k n o s Free) old.blocks new.blocks → KeepsFollowing false true (change old subs new subs')
+  pub number_off_follows : BlocksEdited (off_edits fp gp refl refl k n o s Free) old.blocks new.blocks →
+      PreservesSimulation false true (change old subs new subs')
   number_off_follows edited =
       follows_edited (off_edits fp gp refl refl k n o s Free) (OffCores fp gp refl refl k n o s Free) off_allows old new sound sound' subs subs' objects edited
       (off_keeps fp gp refl refl k n o s Free apart real
@@ -58,7 +59,7 @@ module _ (old new : Function) (sound : IsSound old) (sound' : IsSound new) (subs
 
 -- ---- to a phi
 
-module _ (old new : Function) (sound : IsSound old) (sound' : IsSound new) (subs : List Entry) (k s : ℕ) (objects : new.objects ≡ old.objects)
+module _ (old new : Function) (sound : IsSound old) (sound' : IsSound new) (subs : List DebugSubstitution) (k s : ℕ) (objects : new.objects ≡ old.objects)
     (real : s ≡ 2 → ⊥) where
   abbrev fq : Program
   fq = program_of false old.blocks (resolve subs)
@@ -83,7 +84,7 @@ module _ (old new : Function) (sound : IsSound old) (sound' : IsSound new) (subs
     marks = λ a b y h no_code. phi_marks a b y h;
   }
 
-  pub number_phi_follows : BlocksEdited (phi_edits fq gq refl refl (λ q. refl) k s real) old.blocks new.blocks → KeepsFollowing false true
+  pub number_phi_follows : BlocksEdited (phi_edits fq gq refl refl (λ q. refl) k s real) old.blocks new.blocks → PreservesSimulation false true
       (change old subs new subs)
   number_phi_follows edited =
       follows_edited (phi_edits fq gq refl refl (λ q. refl) k s real) (PhiCores fq gq refl refl (λ q. refl) k s real) phi_allows old new sound sound' subs

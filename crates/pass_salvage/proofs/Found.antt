@@ -5,7 +5,7 @@ use Rattle.std.proofs.lemmas.List.{take_more, length-take-le, take-append-drop}
 use Rattle.rv64_instr.specs.declared.operand.Operand.{Operand}
 use Rattle.rv64_instr.specs.declared.place.Place.TheVariants.{Register}
 use Rattle.mir_func.specs.declared.entry.OperandPair.{OperandPair}
-use Rattle.mir_func.specs.declared.entry.Entry.{Entry}
+use Rattle.mir_func.specs.declared.entry.DebugSubstitution.{DebugSubstitution}
 use Rattle.mir_func.specs.declared.item.Item.{Item}
 use Rattle.mir_func.specs.Resolve.{entry_of, resolve, Ends, at, by}
 use Rattle.sem_mir.specs.Step.{defined}
@@ -79,18 +79,18 @@ first_found call s os i o lt e none is =
 -- ---- entries
 
 -- the end of a chain has no entry
-ends_none : (subs : List Entry) (q r : OperandPair) → Ends subs q r → entry_of subs r ≡ None
+ends_none : (subs : List DebugSubstitution) (q r : OperandPair) → Ends subs q r → entry_of subs r ≡ None
 ends_none subs q r (at e) = e
 ends_none subs q r (by {r = t} e has whole more) = ends_none subs e.dst r more
 
 -- a pair resolves to itself exactly where it has no entry
-pub has_none : (subs : List Entry) (n o : ℕ) → resolve subs (record { number = n; operand = o }) ≡ Some (record { number = n; operand = o }) →
+pub has_none : (subs : List DebugSubstitution) (n o : ℕ) → resolve subs (record { number = n; operand = o }) ≡ Some (record { number = n; operand = o }) →
     has_entry subs (Some n) o ≡ false
 has_none subs n o e = ap is_some (ends_none subs _ _ (resolve_ends subs _ _ e))
 
-pub has_some : (subs : List Entry) (n o : ℕ) →
+pub has_some : (subs : List DebugSubstitution) (n o : ℕ) →
     (resolve subs (record { number = n; operand = o }) ≡ Some (record { number = n; operand = o }) → ⊥) → has_entry subs (Some n) o ≡ true
 has_some subs n o ne = by_entry (entry_of subs (record { number = n; operand = o })) refl where
-  by_entry : (e : Option Entry) → entry_of subs (record { number = n; operand = o }) ≡ e → is_some e ≡ true
+  by_entry : (e : Option DebugSubstitution) → entry_of subs (record { number = n; operand = o }) ≡ e → is_some e ≡ true
   by_entry None e = absurd (ne (chain_end-none subs (length subs) _ e))
   by_entry (Some x) e = refl

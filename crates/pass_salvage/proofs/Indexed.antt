@@ -6,7 +6,7 @@ use Rattle.std.specs.HashMap.{get}
 use Rattle.std.proofs.lemmas.Bool.{cases_eq}
 use Rattle.rv64_instr.specs.declared.place.Place.TheVariants.{Register}
 use Rattle.mir_func.specs.declared.entry.OperandPair.{OperandPair}
-use Rattle.mir_func.specs.declared.entry.Entry.{Entry}
+use Rattle.mir_func.specs.declared.entry.DebugSubstitution.{DebugSubstitution}
 use Rattle.mir_func.specs.declared.item.Item.{Item}
 use Rattle.mir_func.specs.declared.item.ItemKind.{ItemKind}
 use Rattle.mir_func.specs.declared.item.ItemKind.TheVariants.{Code, Mark, Phi}
@@ -17,7 +17,7 @@ use Rattle.pass_trait.specs.Rule.{first_operand}
 use Rattle.mir_substitution.specs.Added.{added}
 use Rattle.mir_substitution.proofs.Entries.{is_pair-true, is_pair-same}
 use Rattle.pass_salvage.specs.declared.above.Above.{Above}
-use Rattle.pass_salvage.specs.declared.way.Way.TheVariants.{GetsEntry, GetsPhi}
+use Rattle.pass_salvage.specs.declared.way.SalvageAction.TheVariants.{GetsEntry, GetsPhi}
 use Rattle.pass_salvage.specs.Way.{further, last_definition, is_just, asks_for, has_entry, or_fresh, way_by}
 use Rattle.pass_salvage.specs.Salvage.{with_number, numbered_at, entry_for}
 use Rattle.pass_salvage.specs.Above.{last_question, IsIndexOf, is_past, later, moved, way_unless}
@@ -30,17 +30,17 @@ use Rattle.pass_salvage.proofs.Last.{last_more as one_more_item, last_within, an
 pub definition_within : (s : ℕ) (xs : List Item) (d : ℕ) → last_definition s xs ≡ Some d → d < length xs
 definition_within s = last_within (last_definition s) (λ (x : Item). defines (Register s) x.kind) refl (λ x xs. refl)
 
-pub question_more : (subs : List Entry) (k : ℕ) (xs : List Item) (x : Item) →
+pub question_more : (subs : List DebugSubstitution) (k : ℕ) (xs : List Item) (x : Item) →
     last_question subs k (xs ++ x ∷ []) ≡ cond (asks_for subs k x.kind) (Some (length xs)) (last_question subs k xs)
 question_more subs k = one_more_item (last_question subs k) (λ (x : Item). asks_for subs k x.kind) refl (λ x xs. refl)
 
-pub asked_past : (subs : List Entry) (k : ℕ) (xs : List Item) (d : ℕ) →
+pub asked_past : (subs : List DebugSubstitution) (k : ℕ) (xs : List Item) (d : ℕ) →
     list_any (λ (x : Item). asks_for subs k x.kind) (drop (suc d) xs) ≡ is_past d (last_question subs k xs)
 asked_past subs k = any_past (last_question subs k) (λ (x : Item). asks_for subs k x.kind) refl (λ x xs. refl)
 
 -- ---- one more item
 
-module _ (index index' : Above) (subs : List Entry) (xs : List Item) (x : Item) (h : IsIndexOf index subs xs) where
+module _ (index index' : Above) (subs : List DebugSubstitution) (xs : List Item) (x : Item) (h : IsIndexOf index subs xs) where
   pub pushed : ((s : ℕ) → get nat_eq index'.definitions s ≡ cond (defines (Register s) x.kind) (Some (length xs)) (get nat_eq index.definitions s)) →
       ((k : ℕ) → get nat_eq index'.questions k ≡ cond (asks_for subs k x.kind) (Some (length xs)) (get nat_eq index.questions k)) →
       IsIndexOf index' subs (xs ++ x ∷ [])
@@ -56,12 +56,13 @@ unseen s n (Code i m) = refl
 unseen s n (Mark v m) = refl
 unseen s n (Phi p m) = refl
 
-unasked : (subs : List Entry) (k n : ℕ) (kind : ItemKind) → asks_for subs k (with_number n kind) ≡ asks_for subs k kind
+unasked : (subs : List DebugSubstitution) (k n : ℕ) (kind : ItemKind) → asks_for subs k (with_number n kind) ≡ asks_for subs k kind
 unasked subs k n (Code i m) = refl
 unasked subs k n (Mark v m) = refl
 unasked subs k n (Phi p m) = refl
 
-pub index_numbered : (index : Above) (subs : List Entry) (xs : List Item) (d n : ℕ) → IsIndexOf index subs xs → IsIndexOf index subs (numbered_at d n xs)
+pub index_numbered : (index : Above) (subs : List DebugSubstitution) (xs : List Item) (d n : ℕ) → IsIndexOf index subs xs →
+    IsIndexOf index subs (numbered_at d n xs)
 index_numbered index subs xs d n h = record {
   definitions = λ s. h.definitions s ∙
       sym (last_numbered (last_definition s) (λ (x : Item). defines (Register s) x.kind) refl (λ x ys. refl) n (λ x. unseen s n x.kind) d xs);
@@ -91,15 +92,15 @@ none_after true b = refl
 none_after false true = refl
 none_after false false = refl
 
-module _ (subs : List Entry) (k n o : ℕ) (free : has_entry subs (Some k) 0 ≡ false) (end : has_entry subs (Some n) o ≡ false)
+module _ (subs : List DebugSubstitution) (k n o : ℕ) (free : has_entry subs (Some k) 0 ≡ false) (end : has_entry subs (Some n) o ≡ false)
     (apart : is_just (first_operand k) (Some (record { number = n; operand = o })) ≡ false) where
   abbrev pair : OperandPair
   pair = record { number = n; operand = o }
 
-  abbrev more : List Entry
+  abbrev more : List DebugSubstitution
   more = subs ++ entry_for k n o ∷ []
 
-  no_entry : (x : Option Entry) → is_some x ≡ false → x ≡ None
+  no_entry : (x : Option DebugSubstitution) → is_some x ≡ false → x ≡ None
   no_entry None e = refl
   no_entry (Some x) e = cc
 
@@ -281,7 +282,7 @@ bars true true false b = refl
 bars true false true b = refl
 bars true false false b = refl
 
-pub way_is : (removed : List ℕ) (subs : List Entry) (fresh k d : ℕ) (number operand : Option ℕ) (behind : List Item) →
+pub way_is : (removed : List ℕ) (subs : List DebugSubstitution) (fresh k d : ℕ) (number operand : Option ℕ) (behind : List Item) →
     way_by removed subs fresh k d number operand behind ≡
     way_unless (list_any (nat_eq d) removed || list_any (λ (x : Item). asks_for subs k x.kind) behind) subs fresh d number operand
 way_is removed subs fresh k d number None behind = refl
@@ -296,7 +297,8 @@ or_false true b e = cc
 or_false false b e = (refl, e)
 
 -- the index of the items once the entry is added, which no other meets
-pub index_added : (index index' : Above) (subs subs' : List Entry) (e : Entry) (k n o : ℕ) (met : Bool) (xs : List Item) → has_entry subs (Some k) 0 ≡ false →
+pub index_added : (index index' : Above) (subs subs' : List DebugSubstitution) (e : DebugSubstitution) (k n o : ℕ) (met : Bool) (xs : List Item) →
+    has_entry subs (Some k) 0 ≡ false →
     met ≡ (has_entry subs (Some n) o || is_just (first_operand k) (Some (record { number = n; operand = o }))) → met ≡ false → e ≡ entry_for k n o →
     subs' ≡ added subs e → index'.definitions ≡ index.definitions → ((q : ℕ) → get nat_eq index'.questions q ≡ moved (get nat_eq index.questions) k n o q) →
     IsIndexOf index subs xs → IsIndexOf index' subs' xs
@@ -304,4 +306,5 @@ index_added index index' subs subs' e k n o met xs free meets apart is made defi
     let both = or_false (has_entry subs (Some n) o) (is_just (first_operand k) (Some (record { number = n; operand = o }))) (sym meets ∙ apart) in
     let entries : subs' ≡ subs ++ entry_for k n o ∷ [] =
     made ∙ ap (added subs) is ∙ ap (λ (z : Bool). cond z subs (subs ++ entry_for k n o ∷ [])) free in
-    subst (λ (es : List Entry). IsIndexOf index' es xs) (sym entries) (index_substituted subs k n o free both.0 both.1 index index' xs definitions questions h)
+    subst (λ (es : List DebugSubstitution). IsIndexOf index' es xs) (sym entries)
+    (index_substituted subs k n o free both.0 both.1 index index' xs definitions questions h)

@@ -13,7 +13,7 @@ use Rattle.mir_func.specs.declared.variable.MarkValue.{MarkValue}
 use Rattle.mir_func.specs.declared.variable.MarkValue.TheVariants.{Nothing}
 use Rattle.rv64_instr.specs.declared.place.Place.{Place}
 use Rattle.mir_func.specs.declared.position.Pos.{Pos}
-use Rattle.mir_func.specs.Graph.{Program, Fetch, Here, Silent, Outside, RowEdge, KindEdge, below, block_start}
+use Rattle.mir_func.specs.Graph.{Program, Fetch, Here, EndOfBlock, Outside, RowEdge, KindEdge, below, block_start}
 use Rattle.sem_mir.specs.State.{Core}
 use Rattle.sem_mir.specs.Step.{Falls, Goes, Traps, act, does, slot_loaded, with_core, are_written, numbered, do_item}
 use Rattle.sem_mir.specs.Align.{is_code, is_jump, is_jump_row, waits_at, moves_on, Count, After, since_of}
@@ -27,7 +27,7 @@ GoesAlike EdgeOn p q p' = ((q ≡ below p) × EdgeOn p' (below p')) ⊎ ((t : �
 pub record RowKin (r s : Row) : Type 0 where
   pub class : class_of r ≡ class_of s
   pub jump : is_jump_row r ≡ is_jump_row s
-  pub may : (k silent : ℕ) → MayAdd r k silent → MayAdd s k silent
+  pub may : (k source_end : ℕ) → MayAdd r k source_end → MayAdd s k source_end
   pub goes : (n : ℕ) → GoesTo n r → GoesTo n s
   pub end : (t : Row) → SameEnd t r → SameEnd t s
   pub is_end : IsEnd s → IsEnd r
@@ -54,7 +54,7 @@ pub row_itself : (r : Row) → RowKin r r
 row_itself r = record {
   class = refl;
   jump = refl;
-  may = λ k silent h. h;
+  may = λ k source_end h. h;
   goes = λ n h. h;
   end = λ t h. h;
   is_end = λ h. h;
@@ -83,22 +83,22 @@ kin_jump k l (code_kin h) = h.jump
 kin_jump k l (mark_kin h) = refl
 kin_jump k l phi_kin = refl
 
-row_fits : (src : Program) (r s : Row) → RowKin r s → (silent : ℕ) (o : Origin) → RowFits src r silent o → RowFits src s silent o
-row_fits src r s h silent (Kept p) fits = by_fetch (src.fetch p) fits where
+row_fits : (src : Program) (r s : Row) → RowKin r s → (source_end : ℕ) (o : Origin) → RowFits src r source_end o → RowFits src s source_end o
+row_fits src r s h source_end (Kept p) fits = by_fetch (src.fetch p) fits where
   by_fetch : (x : Fetch) → HasClass r x → HasClass s x
   by_fetch (Here i) k = by_kind i.kind k where
     by_kind : (l : ItemKind) → ItemHasClass r l → ItemHasClass s l
     by_kind (Code c n) k = k ∙ h.class
     by_kind (Mark v m) k = k
     by_kind (Phi p n) k = k
-  by_fetch (Silent k n) x = x
+  by_fetch (EndOfBlock k n) x = x
   by_fetch Outside x = x
-row_fits src r s h silent (Before p) fits = h.may p.item silent fits
+row_fits src r s h source_end (Before p) fits = h.may p.item source_end fits
 
-pub kin_fits : (src : Program) (k l : ItemKind) → Kin k l → (silent : ℕ) (o : Origin) → KindFits src k silent o → KindFits src l silent o
-kin_fits src k l (code_kin {i} {j} h) silent o fits = row_fits src (row_of i) (row_of j) h silent o fits
-kin_fits src k l (mark_kin h) silent o fits = tt
-kin_fits src k l phi_kin silent o fits = tt
+pub kin_fits : (src : Program) (k l : ItemKind) → Kin k l → (source_end : ℕ) (o : Origin) → KindFits src k source_end o → KindFits src l source_end o
+kin_fits src k l (code_kin {i} {j} h) source_end o fits = row_fits src (row_of i) (row_of j) h source_end o fits
+kin_fits src k l (mark_kin h) source_end o fits = tt
+kin_fits src k l phi_kin source_end o fits = tt
 
 nothing_fits : (v : VarId) (o : Origin) → MarkFits (Mark v Nothing) o
 nothing_fits v o = tt
@@ -143,27 +143,27 @@ kin_edge k l phi_kin p q p' e = inl (e, refl)
 -- ---- where the source moves on
 
 -- added code goes elsewhere only if it is a jump
-added_goes : (r : Row) (item silent : ℕ) (k : Core → Core) (c c' : Core) (n : ℕ) → MayAdd r item silent → with_core k (act r c) ≡ Goes n c' →
+added_goes : (r : Row) (item source_end : ℕ) (k : Core → Core) (c c' : Core) (n : ℕ) → MayAdd r item source_end → with_core k (act r c) ≡ Goes n c' →
     is_jump_row r ≡ true
-added_goes (Fixes rd m) item silent k c c' n may e = unfold act in unfold does in cc
-added_goes (LoadsSlot rd m) item silent k c c' n may e = unfold act in unfold does in by_slot (c.slots m) e where
+added_goes (Fixes rd m) item source_end k c c' n may e = unfold act in unfold does in cc
+added_goes (LoadsSlot rd m) item source_end k c c' n may e = unfold act in unfold does in by_slot (c.slots m) e where
   by_slot : (v : Option ℕ) → with_core k (slot_loaded rd c v) ≡ Goes n c' → false ≡ true
   by_slot None e = cc
   by_slot (Some v) e = cc
-added_goes (StoresSlot rs m) item silent k c c' n may e = unfold act in unfold does in either (are_written c (rs ∷ [])) _ e where
+added_goes (StoresSlot rs m) item source_end k c c' n may e = unfold act in unfold does in either (are_written c (rs ∷ [])) _ e where
   either : (z : Bool) (x : Core) → with_core k (cond z (Falls x) Traps) ≡ Goes n c' → false ≡ true
   either true x e = cc
   either false x e = cc
-added_goes (Jumps t) item silent k c c' n may e = refl
-added_goes _ item silent k c c' n may e = absurd may
+added_goes (Jumps t) item source_end k c c' n may e = refl
+added_goes _ item source_end k c c' n may e = absurd may
 
 -- so code of a function that follows a source goes elsewhere only where the source moves on after it
-pub moves_after : (ct : Count) (src : Program) (f : Program) (k : ItemKind) (o : Origin) (silent : ℕ) → ((k : ItemKind) → moves_on ct k ≡ is_jump k) →
-    KindFits src k silent o →
+pub moves_after : (ct : Count) (src : Program) (f : Program) (k : ItemKind) (o : Origin) (source_end : ℕ) → ((k : ItemKind) → moves_on ct k ≡ is_jump k) →
+    KindFits src k source_end o →
     (c c' : Core) (n : ℕ) → do_item f k c ≡ Goes n c' → since_of (waits_at (moves_on ct k) o) ≡ After
-moves_after ct src f k (Kept p) silent counts fits c c' n e = refl
-moves_after ct src f (Code i m) (Before p) silent counts fits c c' n e =
-    let j : is_jump_row (row_of i) ≡ true = added_goes (row_of i) p.item silent (numbered f.sees_pointer (is_call (row_of i)) m i.operands) c c' n fits e in
+moves_after ct src f k (Kept p) source_end counts fits c c' n e = refl
+moves_after ct src f (Code i m) (Before p) source_end counts fits c c' n e =
+    let j : is_jump_row (row_of i) ≡ true = added_goes (row_of i) p.item source_end (numbered f.sees_pointer (is_call (row_of i)) m i.operands) c c' n fits e in
     ap (λ (z : Bool). since_of (waits_at z (Before p))) (counts (Code i m) ∙ j)
-moves_after ct src f (Mark v m) (Before p) silent counts fits c c' n e = cc
-moves_after ct src f (Phi q m) (Before p) silent counts fits c c' n e = cc
+moves_after ct src f (Mark v m) (Before p) source_end counts fits c c' n e = cc
+moves_after ct src f (Phi q m) (Before p) source_end counts fits c c' n e = cc

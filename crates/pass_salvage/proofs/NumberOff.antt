@@ -28,7 +28,7 @@ use Rattle.sem_mir.proofs.Places.{updated_same, updated_other}
 use Rattle.sem_simulation.specs.Sides.{OutcomesAlike}
 use Rattle.sem_simulation.proofs.Outcomes.{alike_of}
 use Rattle.pass_trait.specs.Rule.{item, first_operand}
-use Rattle.sem_agreement.specs.Alike.{HeldAlike, TellsNoMore, Alike, OrDefined, HeldAfter, NumbersHeld, Depends}
+use Rattle.sem_agreement.specs.Agreement.{AgreeOn, DebugLessDef, Alike, GenDefs, HeldAfter, NumbersHeld, Depends}
 use Rattle.sem_agreement.proofs.Outcomes.{TellsAs, alike_both, code_alike, leaves_place, leaves_pair, held_numbered}
 use Rattle.sem_agreement.proofs.Held.{held_fewer, held_itself, held_number, act_held}
 use Rattle.sem_agreement.proofs.Told.{tells_itself, tells_of, numbers_both, numbers_first, numbers_second}
@@ -112,7 +112,7 @@ module _ (f g : Program) (blind_f : f.sees_pointer ≡ false) (blind_g : g.sees_
   module _ (apart : k ≡ n → ⊥) (real : s ≡ 2 → ⊥) (resolves : ResolvesOff) where
     -- everything is held alike after what is the same in both
     all_after : (kind : ItemKind) (c d : Core) → Alike (HeldAfter Everywhere kind) Free c d → Alike Everywhere Free c d
-    all_after (Code i m) c d h = record { held = held_fewer (OrDefined Everywhere i) Everywhere (λ x u. inr tt) c d h.held; told = h.told }
+    all_after (Code i m) c d h = record { held = held_fewer (GenDefs Everywhere i) Everywhere (λ x u. inr tt) c d h.held; told = h.told }
     all_after (Mark v m) c d h = h
     all_after (Phi p m) c d h = h
 
@@ -200,11 +200,11 @@ module _ (f g : Program) (blind_f : f.sees_pointer ≡ false) (blind_g : g.sees_
             window = λ w e. r.1 ∙ h.window w (ap (λ (z : ℕ → Option ℕ). z o) (sym r.2.1) ∙ e);
           }
 
-    every : (i : Instruction) (c d : Core) → HeldAlike (OrDefined Everywhere i) c d → HeldAlike Everywhere c d
-    every i c d h = held_fewer (OrDefined Everywhere i) Everywhere (λ x u. inr tt) c d h
+    every : (i : Instruction) (c d : Core) → AgreeOn (GenDefs Everywhere i) c d → AgreeOn Everywhere c d
+    every i c d h = held_fewer (GenDefs Everywhere i) Everywhere (λ x u. inr tt) c d h
 
     -- the code that gives the value: what the other number's operand tells is what s holds
-    seen_as : (c d : Core) → HeldAlike Everywhere c d → (w : ℕ) → seen g.sees_pointer s d ≡ Some w → content c.regs s ≡ Some w
+    seen_as : (c d : Core) → AgreeOn Everywhere c d → (w : ℕ) → seen g.sees_pointer s d ≡ Some w → content c.regs s ≡ Some w
     seen_as c d h w e =
         let plain : seen false s d ≡ content d.regs s = ap (λ (z : Bool). cond z None (content d.regs s)) (ne_eqb s 2 real) in
         h.places (Register s) tt ∙ sym plain ∙ ap (λ (b : Bool). seen b s d) (sym blind_g) ∙ e
@@ -213,7 +213,7 @@ module _ (f g : Program) (blind_f : f.sees_pointer ≡ false) (blind_g : g.sees_
         defined (is_call (row_of i)) (slice_get i.operands o) ≡ Some s → OffCores Outside c d →
         EndAlike (OffCores Inside) (do_item f (Code i own) c) (do_item g (Code i (Some n)) d)
     opens_both i own c d how is h =
-        code_alike f g i i own (Some n) c d (HeldAlike (OrDefined Everywhere i)) (OffCores Inside) (act_held Everywhere i c d h.alike.held (λ x u. tt))
+        code_alike f g i i own (Some n) c d (AgreeOn (GenDefs Everywhere i)) (OffCores Inside) (act_held Everywhere i c d h.alike.held (λ x u. tt))
         by_core where
           call : Bool
           call = is_call (row_of i)
@@ -221,29 +221,29 @@ module _ (f g : Program) (blind_f : f.sees_pointer ≡ false) (blind_g : g.sees_
           given_is : (d' : Core) → given g.sees_pointer (defined (is_call (row_of i)) (slice_get i.operands o)) (d'.pairs n o) d' ≡ seen g.sees_pointer s d'
           given_is d' = ap (λ (x : Option ℕ). given g.sees_pointer x (d'.pairs n o) d') is
 
-          told_both : (c' d' : Core) → HeldAlike (OrDefined Everywhere i) c' d' → TellsNoMore Free c' d' →
+          told_both : (c' d' : Core) → AgreeOn (GenDefs Everywhere i) c' d' → DebugLessDef Free c' d' →
               ((own ≡ Some n) × (Free n → ⊥)) ⊎ ((own ≡ None) × Free n) →
-              TellsNoMore Free (numbered f.sees_pointer (is_call (row_of i)) own i.operands c')
+              DebugLessDef Free (numbered f.sees_pointer (is_call (row_of i)) own i.operands c')
               (numbered g.sees_pointer (is_call (row_of i)) (Some n) i.operands d')
           told_both c' d' r t (inl w) =
-              subst (λ (m : Option ℕ). TellsNoMore Free (numbered f.sees_pointer (is_call (row_of i)) m i.operands c')
+              subst (λ (m : Option ℕ). DebugLessDef Free (numbered f.sees_pointer (is_call (row_of i)) m i.operands c')
               (numbered g.sees_pointer (is_call (row_of i)) (Some n) i.operands d')) (sym w.0)
-              (subst (λ (b : Bool). TellsNoMore Free (numbered f.sees_pointer (is_call (row_of i)) (Some n) i.operands c')
+              (subst (λ (b : Bool). DebugLessDef Free (numbered f.sees_pointer (is_call (row_of i)) (Some n) i.operands c')
               (numbered b (is_call (row_of i)) (Some n) i.operands d')) (blind_f ∙ sym blind_g)
               (numbers_both Free f.sees_pointer (is_call (row_of i)) (Some n) i.operands c' d' t (λ m p r' e at. r.places (Register r') (inr tt))))
           told_both c' d' r t (inr w) =
-              subst (λ (m : Option ℕ). TellsNoMore Free (numbered f.sees_pointer (is_call (row_of i)) m i.operands c')
+              subst (λ (m : Option ℕ). DebugLessDef Free (numbered f.sees_pointer (is_call (row_of i)) m i.operands c')
               (numbered g.sees_pointer (is_call (row_of i)) (Some n) i.operands d')) (sym w.0)
               (numbers_second Free g.sees_pointer (is_call (row_of i)) (Some n) i.operands c' d' t
               (λ m e. (let same : n ≡ m = cc in subst Free same w.1)))
 
-          by_core : (c' d' : Core) → HeldAlike (OrDefined Everywhere i) c' d' → TellsAs c c' → TellsAs d d' →
+          by_core : (c' d' : Core) → AgreeOn (GenDefs Everywhere i) c' d' → TellsAs c c' → TellsAs d d' →
               OffCores Inside (numbered f.sees_pointer (is_call (row_of i)) own i.operands c')
               (numbered g.sees_pointer (is_call (row_of i)) (Some n) i.operands d')
           by_core c' d' r same same' =
               let c'' : Core = numbered f.sees_pointer (is_call (row_of i)) own i.operands c' in
               let d'' : Core = numbered g.sees_pointer (is_call (row_of i)) (Some n) i.operands d' in
-              let held : HeldAlike Everywhere c'' d'' =
+              let held : AgreeOn Everywhere c'' d'' =
               held_number Everywhere f.sees_pointer g.sees_pointer (is_call (row_of i)) (is_call (row_of i)) own (Some n) i.operands i.operands c' d'
               (every i c' d' r) in
               let value : ℕ → Option ℕ = λ p. given g.sees_pointer (defined (is_call (row_of i)) (slice_get i.operands p)) (d'.pairs n p) d' in
@@ -259,8 +259,8 @@ module _ (f g : Program) (blind_f : f.sees_pointer ≡ false) (blind_g : g.sees_
         OffCores Inside c d → EndAlike (OffCores Outside) (do_item f (Code i (Some k)) c) (do_item g (Code i None) d)
     closes_both i rd c d row first far h =
         code_alike f g i i (Some k) None c d
-        (λ c' d'. HeldAlike (OrDefined Everywhere i) c' d' × (held_in (Register (suc rd)) c' ≡ held_in (Register s) c) × Unit {0}) (OffCores Outside)
-        (alike_both (HeldAlike (OrDefined Everywhere i)) (λ e. held_in (Register (suc rd)) e ≡ held_in (Register s) c) (λ e. Unit {0}) (act (row_of i) c)
+        (λ c' d'. AgreeOn (GenDefs Everywhere i) c' d' × (held_in (Register (suc rd)) c' ≡ held_in (Register s) c) × Unit {0}) (OffCores Outside)
+        (alike_both (AgreeOn (GenDefs Everywhere i)) (λ e. held_in (Register (suc rd)) e ≡ held_in (Register s) c) (λ e. Unit {0}) (act (row_of i) c)
         (act (row_of i) d)
         (act_held Everywhere i c d h.alike.held (λ x u. tt)) (effects_hold.moves i (Register s) (Register (suc rd)) c (ap moved_by row) (ap set_by row))
         (always (act (row_of i) d))) by_core where
@@ -272,7 +272,7 @@ module _ (f g : Program) (blind_f : f.sees_pointer ≡ false) (blind_g : g.sees_
           always Asks = tt
           always Breaks = tt
 
-          by_core : (c' d' : Core) → HeldAlike (OrDefined Everywhere i) c' d' × (held_in (Register (suc rd)) c' ≡ held_in (Register s) c) × Unit {0} → TellsAs
+          by_core : (c' d' : Core) → AgreeOn (GenDefs Everywhere i) c' d' × (held_in (Register (suc rd)) c' ≡ held_in (Register s) c) × Unit {0} → TellsAs
               c c' →
               TellsAs d d' → OffCores Outside (numbered f.sees_pointer (is_call (row_of i)) (Some k) i.operands c')
               (numbered g.sees_pointer (is_call (row_of i)) None i.operands d')

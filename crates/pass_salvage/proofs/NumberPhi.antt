@@ -26,7 +26,7 @@ use Rattle.sem_mir.proofs.Places.{updated_same, updated_other}
 use Rattle.sem_simulation.specs.Sides.{OutcomesAlike, ShowsSame}
 use Rattle.sem_simulation.proofs.Outcomes.{alike_of}
 use Rattle.pass_trait.specs.Rule.{item}
-use Rattle.sem_agreement.specs.Alike.{HeldAlike, TellsNoMore, Alike, OrDefined, HeldAfter, NumbersHeld, Depends}
+use Rattle.sem_agreement.specs.Agreement.{AgreeOn, DebugLessDef, Alike, GenDefs, HeldAfter, NumbersHeld, Depends}
 use Rattle.sem_agreement.proofs.Outcomes.{TellsAs, alike_both, code_alike, leaves_pair}
 use Rattle.sem_agreement.proofs.Held.{held_fewer, held_itself, held_number, held_by, act_held}
 use Rattle.sem_agreement.proofs.Told.{tells_itself, tells_of}
@@ -86,7 +86,7 @@ module _ (f g : Program) (blind_f : f.sees_pointer ≡ false) (blind_g : g.sees_
   all_numbers i None = tt
   all_numbers i (Some m) = λ p r e. inr tt
 
-  pair_same : (q : OperandPair) (c d : Core) → TellsNoMore (FreeAt Elsewhere) c d → (v : ℕ) → pair_value (g.resolve q) d ≡ Some v →
+  pair_same : (q : OperandPair) (c d : Core) → DebugLessDef (FreeAt Elsewhere) c d → (v : ℕ) → pair_value (g.resolve q) d ≡ Some v →
       pair_value (f.resolve q) c ≡ Some v
   pair_same q c d t v e = by_pair (f.resolve q) (ap (λ (x : Option OperandPair). pair_value x d) (sym (resolves q)) ∙ e) where
     by_pair : (x : Option OperandPair) → pair_value x d ≡ Some v → pair_value x c ≡ Some v
@@ -103,7 +103,7 @@ module _ (f g : Program) (blind_f : f.sees_pointer ≡ false) (blind_g : g.sees_
   depends (Phi (Some x) m) c d h = tt
 
   all_after : (kind : ItemKind) (c d : Core) → Alike (HeldAfter Everywhere kind) (FreeAt Elsewhere) c d → Alike Everywhere (FreeAt Elsewhere) c d
-  all_after (Code i m) c d h = record { held = held_fewer (OrDefined Everywhere i) Everywhere (λ x u. inr tt) c d h.held; told = h.told }
+  all_after (Code i m) c d h = record { held = held_fewer (GenDefs Everywhere i) Everywhere (λ x u. inr tt) c d h.held; told = h.told }
   all_after (Mark v m) c d h = h
   all_after (Phi p m) c d h = h
 
@@ -140,8 +140,8 @@ module _ (f g : Program) (blind_f : f.sees_pointer ≡ false) (blind_g : g.sees_
       PhiCores Behind c d → EndAlike (PhiCores Elsewhere) (do_item f (Code i (Some k)) c) (do_item g (Code i None) d)
   close i rd c d row first far h =
       code_alike f g i i (Some k) None c d
-      (λ c' d'. HeldAlike (OrDefined Everywhere i) c' d' × (held_in (Register (suc rd)) c' ≡ held_in (Register s) c) × Unit {0}) (PhiCores Elsewhere)
-      (alike_both (HeldAlike (OrDefined Everywhere i)) (λ e. held_in (Register (suc rd)) e ≡ held_in (Register s) c) (λ e. Unit {0}) (act (row_of i) c)
+      (λ c' d'. AgreeOn (GenDefs Everywhere i) c' d' × (held_in (Register (suc rd)) c' ≡ held_in (Register s) c) × Unit {0}) (PhiCores Elsewhere)
+      (alike_both (AgreeOn (GenDefs Everywhere i)) (λ e. held_in (Register (suc rd)) e ≡ held_in (Register s) c) (λ e. Unit {0}) (act (row_of i) c)
       (act (row_of i) d)
       (act_held Everywhere i c d h.alike.held (λ x u. tt)) (effects_hold.moves i (Register s) (Register (suc rd)) c (ap moved_by row) (ap set_by row))
       (always (act (row_of i) d))) by_core where
@@ -157,7 +157,7 @@ module _ (f g : Program) (blind_f : f.sees_pointer ≡ false) (blind_g : g.sees_
         defines_it true = refl
         defines_it false = refl
 
-        by_core : (c' d' : Core) → HeldAlike (OrDefined Everywhere i) c' d' × (held_in (Register (suc rd)) c' ≡ held_in (Register s) c) × Unit {0} → TellsAs c
+        by_core : (c' d' : Core) → AgreeOn (GenDefs Everywhere i) c' d' × (held_in (Register (suc rd)) c' ≡ held_in (Register s) c) × Unit {0} → TellsAs c
             c' →
             TellsAs d d' → PhiCores Elsewhere (numbered f.sees_pointer (is_call (row_of i)) (Some k) i.operands c')
             (numbered g.sees_pointer (is_call (row_of i)) None i.operands d')
@@ -167,12 +167,12 @@ module _ (f g : Program) (blind_f : f.sees_pointer ≡ false) (blind_g : g.sees_
             ap (λ (x : Option Operand). given f.sees_pointer (defined (is_call (row_of i)) x) (c'.pairs k 0) c') first ∙
             ap (λ (x : Option ℕ). given f.sees_pointer x (c'.pairs k 0) c') (defines_it (is_call (row_of i))) ∙
             ap (λ (b : Bool). seen b (suc rd) c') blind_f ∙ ap (λ (z : Bool). cond z None (content c'.regs (suc rd))) (ne_eqb (suc rd) 2 far) in
-            let after : TellsNoMore (FreeAt Behind) c' d' = tells_of (FreeAt Behind) c d c' d' same same' h.alike.told in
+            let after : DebugLessDef (FreeAt Behind) c' d' = tells_of (FreeAt Behind) c d c' d' same same' h.alike.told in
             let rest : (p : ℕ) → d'.pairs k (suc p) ≡ None = λ p. ap (λ (z : ℕ → ℕ → Option ℕ). z k (suc p)) same'.0 ∙ h.rest p in
             record {
               alike = record {
                 held = held_number Everywhere f.sees_pointer g.sees_pointer (is_call (row_of i)) (is_call (row_of i)) (Some k) None i.operands i.operands c' d'
-                    (held_fewer (OrDefined Everywhere i) Everywhere (λ x u. inr tt) c' d' r.0);
+                    (held_fewer (GenDefs Everywhere i) Everywhere (λ x u. inr tt) c' d' r.0);
                 told = record {
                   pairs = λ m p no v e. by_number value here after rest m p v e (cases_eq m k);
                   marks = after.marks;
@@ -186,7 +186,7 @@ module _ (f g : Program) (blind_f : f.sees_pointer ≡ false) (blind_g : g.sees_
               by_operand value here rest zero v e = here ∙ r.1 ∙ h.told v (ap (λ (z : ℕ → ℕ → Option ℕ). z k 0) (sym same'.0) ∙ e)
               by_operand value here rest (suc p) v e = (let bad : ◌≡◌ {A = Option ℕ} None (Some v) = sym (rest p) ∙ e in cc)
 
-              by_number : (value : ℕ → Option ℕ) → value 0 ≡ content c'.regs (suc rd) → TellsNoMore (FreeAt Behind) c' d' →
+              by_number : (value : ℕ → Option ℕ) → value 0 ≡ content c'.regs (suc rd) → DebugLessDef (FreeAt Behind) c' d' →
                   ((p : ℕ) → d'.pairs k (suc p) ≡ None) →
                   (m p v : ℕ) → d'.pairs m p ≡ Some v → (m ≡ k) ⊎ (m ≡ k → ⊥) → updated k value c'.pairs m p ≡ Some v
               by_number value here after rest m p v e (inl is) =

@@ -1,14 +1,14 @@
 -- One substitution more, between two pairs that have none: what pairs resolve to.
 use Rattle.std.proofs.Common.{◌≡◌, ◌⊎◌, inl, inr, List, [], ◌∷◌, ◌++◌, Option, Some, None, Bool, true, false, cond, refl, sym, ap, ◌∙◌}
 use Rattle.mir_func.specs.declared.entry.OperandPair.{OperandPair}
-use Rattle.mir_func.specs.declared.entry.Entry.{Entry}
+use Rattle.mir_func.specs.declared.entry.DebugSubstitution.{DebugSubstitution}
 use Rattle.mir_func.specs.Resolve.{is_pair, entry_of, resolve, Ends, at, by}
 use Rattle.mir_substitution.proofs.Entries.{is_pair-true, is_pair-same, entry_of-push}
 use Rattle.mir_substitution.proofs.Chains.{resolve_ends, ends_resolve}
 
-module _ (subs : List Entry) (e : Entry) (whole : e.subreg ≡ 0) (free : entry_of subs e.src ≡ None) (end : entry_of subs e.dst ≡ None)
+module _ (subs : List DebugSubstitution) (e : DebugSubstitution) (whole : e.subreg ≡ 0) (free : entry_of subs e.src ≡ None) (end : entry_of subs e.dst ≡ None)
     (apart : e.src ≡ e.dst → ⊥) where
-  abbrev more : List Entry
+  abbrev more : List DebugSubstitution
   more = subs ++ e ∷ []
 
   -- the entry of a pair that is no source of the new one, and of that source
@@ -25,8 +25,8 @@ module _ (subs : List Entry) (e : Entry) (whole : e.subreg ≡ 0) (free : entry_
     by_test false t = refl
 
   -- a pair with an entry isn't the new one's source
-  has_other : (q : OperandPair) (x : Entry) → entry_of subs q ≡ Some x → is_pair e.src q ≡ false
-  has_other q x has = is_false e.src q (λ same. (let bad : ◌≡◌ {A = Option Entry} None (Some x) = sym free ∙ ap (entry_of subs) same ∙ has in cc))
+  has_other : (q : OperandPair) (x : DebugSubstitution) → entry_of subs q ≡ Some x → is_pair e.src q ≡ false
+  has_other q x has = is_false e.src q (λ same. (let bad : ◌≡◌ {A = Option DebugSubstitution} None (Some x) = sym free ∙ ap (entry_of subs) same ∙ has in cc))
 
   -- a chain that ended at the new one's source goes on to its target
   goes_further : (q r : OperandPair) → Ends subs q r → r ≡ e.src → Ends more q e.dst
@@ -44,7 +44,7 @@ module _ (subs : List Entry) (e : Entry) (whole : e.subreg ≡ 0) (free : entry_
   ended_before : (q r : OperandPair) → Ends more q r → (t : OperandPair) × Ends subs q t
   ended_before q r (at none) = by_test (is_pair e.src q) refl where
     by_test : (z : Bool) → is_pair e.src q ≡ z → (t : OperandPair) × Ends subs q t
-    by_test true is = (let bad : ◌≡◌ {A = Option Entry} (Some e) None = sym (entry_new q is) ∙ none in cc)
+    by_test true is = (let bad : ◌≡◌ {A = Option DebugSubstitution} (Some e) None = sym (entry_new q is) ∙ none in cc)
     by_test false other = (q, at (sym (entry_else q other) ∙ none))
   ended_before q r (by x has part rest) = by_test (is_pair e.src q) refl (ended_before x.dst r rest) where
     by_test : (z : Bool) → is_pair e.src q ≡ z → ((t : OperandPair) × Ends subs x.dst t) → (t : OperandPair) × Ends subs q t

@@ -4,8 +4,8 @@ use Rattle.std.specs.List.{remove}
 use Rattle.std.proofs.lemmas.List.{get_or-take, length-take-le, drop-set-lt, set_split}
 use Rattle.std.proofs.Math.Seq.{take-set-lt}
 use Rattle.mir_func.specs.declared.item.Item.{Item}
-use Rattle.pass_salvage.specs.declared.way.Way.{Way}
-use Rattle.pass_salvage.specs.declared.way.Way.TheVariants.{GetsEntry, GetsPhi}
+use Rattle.pass_salvage.specs.declared.way.SalvageAction.{SalvageAction}
+use Rattle.pass_salvage.specs.declared.way.SalvageAction.TheVariants.{GetsEntry, GetsPhi}
 use Rattle.pass_salvage.specs.Salvage.{with_number, numbered_at, phi_for, put_for, behind_after, items_after}
 
 -- the item with the number
@@ -27,7 +27,7 @@ get_or_same (y ∷ ys) (suc i) x lt = other ys i x (get_or ys i x) (omega (arith
   other (y ∷ ys) zero x z lt = refl
   other (y ∷ ys) (suc i) x z lt = other ys i x z (omega (arith, lt))
 
-behind_one : (w : Way) (k s : ℕ) (xs : List Item) (at : ℕ) (x : Item) → at < length xs → get_or xs at x ≡ x →
+behind_one : (w : SalvageAction) (k s : ℕ) (xs : List Item) (at : ℕ) (x : Item) → at < length xs → get_or xs at x ≡ x →
     behind_after w k s (drop at xs) ≡ put_for w k s x.origin ++ drop (suc at) xs
 behind_one w k s xs at x lt e = ap (behind_after w k s) (drop-cons xs at x lt ∙ ap (λ (y : Item). y ∷ drop (suc at) xs) e)
 

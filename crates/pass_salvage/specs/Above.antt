@@ -2,21 +2,21 @@
 -- number.
 use Rattle.std.specs.Prelude.{◌≡◌, ℕ, ◌^◌, List, [], ◌∷◌, Bool, false, cond, nat_eq, nat_lt, Option, Some, None, max, not, ◌&&◌}
 use Rattle.std.specs.HashMap.{get}
-use Rattle.mir_func.specs.declared.entry.Entry.{Entry}
+use Rattle.mir_func.specs.declared.entry.DebugSubstitution.{DebugSubstitution}
 use Rattle.mir_func.specs.declared.item.Item.{Item}
 use Rattle.pass_trait.specs.Rule.{first_operand}
 use Rattle.pass_salvage.specs.declared.above.Above.{Above}
-use Rattle.pass_salvage.specs.declared.way.Way.{Way}
-use Rattle.pass_salvage.specs.declared.way.Way.TheVariants.{GetsEntry, GetsPhi}
+use Rattle.pass_salvage.specs.declared.way.SalvageAction.{SalvageAction}
+use Rattle.pass_salvage.specs.declared.way.SalvageAction.TheVariants.{GetsEntry, GetsPhi}
 use Rattle.pass_salvage.specs.Way.{further, last_definition, asks_for, is_just, has_entry, or_fresh}
 
 -- the index of the last debug value of a pair that resolves to operand 0 of the number
-abbrev pub last_question : List Entry → (k : ℕ) → List Item → Option ℕ
+abbrev pub last_question : List DebugSubstitution → (k : ℕ) → List Item → Option ℕ
 last_question subs k [] = None
 last_question subs k (x ∷ xs) = further (last_question subs k xs) (asks_for subs k x.kind)
 
 -- the index maps each register and each number as these items do
-pub record IsIndexOf (index : Above) (subs : List Entry) (above : List Item) : Type 0 where
+pub record IsIndexOf (index : Above) (subs : List DebugSubstitution) (above : List Item) : Type 0 where
   pub definitions : (s : ℕ) → get nat_eq index.definitions s ≡ last_definition s above
   pub questions : (k : ℕ) → get nat_eq index.questions k ≡ last_question subs k above
 
@@ -38,6 +38,6 @@ moved f k n o q = cond (nat_eq q k) None (cond (is_just (first_operand q) (Some 
 
 -- the salvage by code at index d with this number, by this operand, unless it is barred, the operand's index is too
 -- large or the pair has a substitution
-abbrev pub way_unless : (barred : Bool) → List Entry → (fresh d : ℕ) → (number operand : Option ℕ) → Way
+abbrev pub way_unless : (barred : Bool) → List DebugSubstitution → (fresh d : ℕ) → (number operand : Option ℕ) → SalvageAction
 way_unless barred subs fresh d n None = GetsPhi
 way_unless barred subs fresh d n (Some o) = cond (nat_lt o (2 ^ 32) && not (has_entry subs n o) && not barred) (GetsEntry d o (or_fresh fresh n)) GetsPhi

@@ -2,7 +2,7 @@
 use Rattle.std.specs.Prelude.{ℕ, List, [], ◌∷◌}
 use Rattle.std.specs.List.{flat_map}
 use Rattle.mir_func.specs.declared.block.Block.{Block}
-use Rattle.mir_func.specs.declared.entry.Entry.{Entry}
+use Rattle.mir_func.specs.declared.entry.DebugSubstitution.{DebugSubstitution}
 use Rattle.mir_func.specs.declared.item.Item.{Item}
 use Rattle.mir_func.specs.Sound.{items_of}
 use Rattle.pass_trait.specs.Sizes.{numbers_of}
@@ -16,5 +16,5 @@ abbrev pub block_numbers : List Block → List ℕ
 block_numbers blocks = item_numbers (items_of blocks)
 
 -- those on both sides of the substitutions
-abbrev pub entry_numbers : List Entry → List ℕ
+abbrev pub entry_numbers : List DebugSubstitution → List ℕ
 entry_numbers entries = flat_map (λ e. e.src.number ∷ e.dst.number ∷ []) entries

@@ -2,13 +2,13 @@
 use Rattle.std.specs.Prelude.{ℕ, zero, suc, ◌+◌, List, [], ◌∷◌, ◌++◌, take, drop, cond, nat_eq, Some}
 use Rattle.rv64_instr.specs.declared.place.Place.TheVariants.{Register}
 use Rattle.mir_func.specs.declared.position.Origin.{Origin}
-use Rattle.mir_func.specs.declared.entry.Entry.{Entry}
+use Rattle.mir_func.specs.declared.entry.DebugSubstitution.{DebugSubstitution}
 use Rattle.mir_func.specs.declared.item.Item.{Item}
 use Rattle.mir_func.specs.declared.item.ItemKind.{ItemKind}
 use Rattle.mir_func.specs.declared.item.ItemKind.TheVariants.{Code, Mark, Phi}
 use Rattle.pass_trait.specs.Rule.{first_operand, item_before}
-use Rattle.pass_salvage.specs.declared.way.Way.{Way}
-use Rattle.pass_salvage.specs.declared.way.Way.TheVariants.{HasEntry, GetsEntry, GetsPhi}
+use Rattle.pass_salvage.specs.declared.way.SalvageAction.{SalvageAction}
+use Rattle.pass_salvage.specs.declared.way.SalvageAction.TheVariants.{HasEntry, GetsEntry, GetsPhi}
 
 -- the code with this number; debug items are unchanged
 abbrev pub with_number : (n : ℕ) → ItemKind → ItemKind
@@ -23,7 +23,7 @@ numbered_at zero n (x ∷ xs) = record x { kind = with_number n x.kind } ∷ xs
 numbered_at (suc d) n (x ∷ xs) = x ∷ numbered_at d n xs
 
 -- the items above the copy after the salvage
-abbrev pub above_after : Way → List Item → List Item
+abbrev pub above_after : SalvageAction → List Item → List Item
 above_after HasEntry above = above
 above_after (GetsEntry d o n) above = numbered_at d n above
 above_after GetsPhi above = above
@@ -33,32 +33,32 @@ abbrev pub phi_for : (k s : ℕ) → Origin → Item
 phi_for k s o = item_before (Phi (Some (Register s)) k) o
 
 -- what replaces a copy of s with number k and this origin: a DBG_PHI, or nothing
-abbrev pub put_for : Way → (k s : ℕ) → Origin → List Item
+abbrev pub put_for : SalvageAction → (k s : ℕ) → Origin → List Item
 put_for HasEntry k s o = []
 put_for (GetsEntry d p n) k s o = []
 put_for GetsPhi k s o = phi_for k s o ∷ []
 
 -- the substitution of operand 0 of number k by operand o of number n
-abbrev pub entry_for : (k n o : ℕ) → Entry
+abbrev pub entry_for : (k n o : ℕ) → DebugSubstitution
 entry_for k n o = record { src = first_operand k; dst = record { number = n; operand = o }; subreg = 0 }
 
 -- the substitutions that are added
-abbrev pub entries_for : Way → (k : ℕ) → List Entry
+abbrev pub entries_for : SalvageAction → (k : ℕ) → List DebugSubstitution
 entries_for HasEntry k = []
 entries_for (GetsEntry d o n) k = entry_for k n o ∷ []
 entries_for GetsPhi k = []
 
 -- the next fresh number after the salvage
-abbrev pub fresh_after : Way → (fresh : ℕ) → ℕ
+abbrev pub fresh_after : SalvageAction → (fresh : ℕ) → ℕ
 fresh_after HasEntry fresh = fresh
 fresh_after (GetsEntry d o n) fresh = cond (nat_eq n fresh) (fresh + 1) fresh
 fresh_after GetsPhi fresh = fresh
 
 -- what replaces the items from the copy on: the first of them is the copy
-abbrev pub behind_after : Way → (k s : ℕ) → List Item → List Item
+abbrev pub behind_after : SalvageAction → (k s : ℕ) → List Item → List Item
 behind_after w k s [] = []
 behind_after w k s (x ∷ xs) = put_for w k s x.origin ++ xs
 
 -- the items of a block after the salvage; the one at an index was a copy of s with number k
-abbrev pub items_after : Way → (at k s : ℕ) → List Item → List Item
+abbrev pub items_after : SalvageAction → (at k s : ℕ) → List Item → List Item
 items_after w at k s items = above_after w (take at items) ++ behind_after w k s (drop at items)

@@ -6,7 +6,7 @@ use Rattle.rv64_instr.specs.declared.place.Place.TheVariants.{Register}
 use Rattle.rv64_instr.specs.Row.{row_of}
 use Rattle.rv64_instr.specs.Parts.{is_call}
 use Rattle.mir_func.specs.declared.entry.OperandPair.{OperandPair}
-use Rattle.mir_func.specs.declared.entry.Entry.{Entry}
+use Rattle.mir_func.specs.declared.entry.DebugSubstitution.{DebugSubstitution}
 use Rattle.mir_func.specs.declared.item.Item.{Item}
 use Rattle.mir_func.specs.declared.item.ItemKind.{ItemKind}
 use Rattle.mir_func.specs.declared.item.ItemKind.TheVariants.{Code, Mark, Phi}
@@ -15,8 +15,8 @@ use Rattle.mir_func.specs.Resolve.{is_pair, entry_of, resolve}
 use Rattle.sem_mir.specs.Step.{defined}
 use Rattle.pass_trait.specs.Causes.{defines}
 use Rattle.pass_trait.specs.Rule.{first_operand}
-use Rattle.pass_salvage.specs.declared.way.Way.{Way}
-use Rattle.pass_salvage.specs.declared.way.Way.TheVariants.{HasEntry, GetsEntry, GetsPhi}
+use Rattle.pass_salvage.specs.declared.way.SalvageAction.{SalvageAction}
+use Rattle.pass_salvage.specs.declared.way.SalvageAction.TheVariants.{HasEntry, GetsEntry, GetsPhi}
 
 -- the index one further on if there is one, or 0 if this item counts
 abbrev pub further : Option ℕ → (here : Bool) → Option ℕ
@@ -51,7 +51,7 @@ is_just p (Some q) = is_pair p q
 is_just p None = false
 
 -- a debug value of a pair that resolves to operand 0 of this number
-abbrev pub asks_for : List Entry → (k : ℕ) → ItemKind → Bool
+abbrev pub asks_for : List DebugSubstitution → (k : ℕ) → ItemKind → Bool
 asks_for subs k (Mark v (Pair q)) = is_just (first_operand k) (resolve subs q)
 asks_for subs k (Mark v Nothing) = false
 asks_for subs k (Mark v (Constant n)) = false
@@ -60,7 +60,7 @@ asks_for subs k (Phi p n) = false
 asks_for subs k (Code i n) = false
 
 -- the pair of this number and operand has a substitution
-abbrev pub has_entry : List Entry → Option ℕ → (operand : ℕ) → Bool
+abbrev pub has_entry : List DebugSubstitution → Option ℕ → (operand : ℕ) → Bool
 has_entry subs (Some n) o = is_some (entry_of subs (record { number = n; operand = o }))
 has_entry subs None o = false
 
@@ -72,33 +72,33 @@ or_fresh fresh None = fresh
 -- Code at index d can replace the copy of number k in debug information, by this operand, if the operand's index fits in 32 bits,
 -- the code isn't removed itself, the pair of its number and the operand has no substitution, and no debug value between it and the
 -- copy refers to the copy's number
-abbrev pub may_stand : (removed : List ℕ) → List Entry → (k d : ℕ) → (number : Option ℕ) → (operand : ℕ) → (behind : List Item) → Bool
+abbrev pub may_stand : (removed : List ℕ) → List DebugSubstitution → (k d : ℕ) → (number : Option ℕ) → (operand : ℕ) → (behind : List Item) → Bool
 may_stand removed subs k d n o behind =
     nat_lt o (2 ^ 32) && not (list_any (nat_eq d) removed) && not (has_entry subs n o) && not (list_any (λ x. asks_for subs k x.kind) behind)
 
 -- the choice by the operand of the code at index d that defines s, if one does
-abbrev pub way_by : (removed : List ℕ) → List Entry → (fresh k d : ℕ) → (number operand : Option ℕ) → (behind : List Item) → Way
+abbrev pub way_by : (removed : List ℕ) → List DebugSubstitution → (fresh k d : ℕ) → (number operand : Option ℕ) → (behind : List Item) → SalvageAction
 way_by removed subs fresh k d n None behind = GetsPhi
 way_by removed subs fresh k d n (Some o) behind = cond (may_stand removed subs k d n o behind) (GetsEntry d o (or_fresh fresh n)) GetsPhi
 
 -- the choice by the item at index d, which defines s: its code may replace the copy, and otherwise the copy becomes a DBG_PHI
-abbrev pub way_of_kind : (removed : List ℕ) → List Entry → (fresh k s d : ℕ) → (above : List Item) → ItemKind → Way
+abbrev pub way_of_kind : (removed : List ℕ) → List DebugSubstitution → (fresh k s d : ℕ) → (above : List Item) → ItemKind → SalvageAction
 way_of_kind removed subs fresh k s d above (Code i n) =
     way_by removed subs fresh k d n (first_definition (is_call (row_of i)) s i.operands) (drop (suc d) above)
 way_of_kind removed subs fresh k s d above (Mark v m) = GetsPhi
 way_of_kind removed subs fresh k s d above (Phi p n) = GetsPhi
 
 -- the choice by the item at index d of the items above the copy
-abbrev pub way_at : (removed : List ℕ) → List Entry → (fresh k s d : ℕ) → (above : List Item) → Option Item → Way
+abbrev pub way_at : (removed : List ℕ) → List DebugSubstitution → (fresh k s d : ℕ) → (above : List Item) → Option Item → SalvageAction
 way_at removed subs fresh k s d above (Some x) = way_of_kind removed subs fresh k s d above x.kind
 way_at removed subs fresh k s d above None = GetsPhi
 
 -- the choice by the last definition of s above the copy, if there is one
-abbrev pub way_from : (removed : List ℕ) → List Entry → (fresh k s : ℕ) → (above : List Item) → Option ℕ → Way
+abbrev pub way_from : (removed : List ℕ) → List DebugSubstitution → (fresh k s : ℕ) → (above : List Item) → Option ℕ → SalvageAction
 way_from removed subs fresh k s above (Some d) = way_at removed subs fresh k s d above (slice_get above d)
 way_from removed subs fresh k s above None = GetsPhi
 
 -- How the number k of a removed copy of s is salvaged, below these items of its block; those at the indices in `removed` are
 -- removed too
-abbrev pub way : (removed : List ℕ) → List Entry → (fresh k s : ℕ) → (above : List Item) → Way
+abbrev pub way : (removed : List ℕ) → List DebugSubstitution → (fresh k s : ℕ) → (above : List Item) → SalvageAction
 way removed subs fresh k s above = cond (has_entry subs (Some k) 0) HasEntry (way_from removed subs fresh k s above (last_definition s above))

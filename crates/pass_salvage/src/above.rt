@@ -9,17 +9,17 @@ ghost use Rattle.rv64_instr.specs.Row.{Row};
 ghost use Rattle.rv64_instr.specs.Access.{sets};
 ghost use Rattle.rv64_instr.specs.Decoded.{Shows};
 ghost use Rattle.mir_func.specs.declared.item.Item.{Item};
-ghost use Rattle.mir_func.specs.declared.entry.Entry.{Entry};
+ghost use Rattle.mir_func.specs.declared.entry.DebugSubstitution.{DebugSubstitution};
 ghost use Rattle.rv64_instr.specs.declared.place.Place.TheVariants as place;
 ghost use Rattle.pass_trait.specs.Causes.{defines};
 ghost use Rattle.pass_trait.specs.Rule.{first_operand};
-ghost use Rattle.pass_salvage.specs.declared.way.Way.TheVariants as chosen;
+ghost use Rattle.pass_salvage.specs.declared.way.SalvageAction.TheVariants as chosen;
 ghost use Rattle.pass_salvage.specs.Way.{has_entry, asks_for, is_just, last_definition, way};
 ghost use Rattle.pass_salvage.specs.Salvage.{entry_for};
 ghost use Rattle.pass_salvage.specs.Above.{IsIndexOf, is_past, later, moved};
 
 use crate::salvage::entry_for;
-use crate::way::{Way, first_definition, has_entry, way_unless};
+use crate::way::{SalvageAction, first_definition, has_entry, way_unless};
 use base_ids::code::{DebugNumber, OperandIndex};
 use mir_func::entry::OperandPair;
 use mir_func::item::{Item, ItemKind};
@@ -43,7 +43,7 @@ pub struct Above {
 impl Above {
     /// The index of no items. It takes no memory.
     pub fn new(alloc: Global) -> Above
-        ensures { (subs : List Entry) → IsIndexOf result subs [] }
+        ensures { (subs : List DebugSubstitution) → IsIndexOf result subs [] }
     {
         Above {
             definitions: HashMap::new(alloc),
@@ -79,7 +79,7 @@ impl Above {
 
     /// Whether a debug value after the item at an index refers to the number.
     fn asks_behind(&self, number: DebugNumber, d: usize) -> bool
-        ensures { (subs : List Entry) (above : List Item) → IsIndexOf self.now subs above →
+        ensures { (subs : List DebugSubstitution) (above : List Item) → IsIndexOf self.now subs above →
             result ≡ list_any (λ x. asks_for subs number x.kind) (drop (suc d) above) }
     {
         is_past(d, find(&self.questions, number))
@@ -335,16 +335,16 @@ pub fn choose_way_by(
     number: DebugNumber,
     source: Reg,
     fresh: DebugNumber,
-) -> Way
+) -> SalvageAction
     requires { IsIndexOf index.now subs.now above.now }
     ensures chosen { result ≡ way [] subs.now fresh number source above.now }
     ensures within { (d o n : ℕ) → result ≡ chosen.GetsEntry d o n → d < length above.now }
 {
     if has_entry(subs, &Some(number), OperandIndex(0)) {
-        return Way::HasEntry;
+        return SalvageAction::HasEntry;
     }
     let Some(d) = find_definition(&index.definitions, above, source) else {
-        return Way::GetsPhi;
+        return SalvageAction::GetsPhi;
     };
     match &above[d].kind {
         ItemKind::Code(i, n) => {
@@ -352,7 +352,7 @@ pub fn choose_way_by(
             let operand = first_definition(i, source);
             way_unless(barred, subs, fresh, d, n, operand)
         }
-        ItemKind::Mark(_, _) => Way::GetsPhi,
-        ItemKind::Phi(_, _) => Way::GetsPhi,
+        ItemKind::Mark(_, _) => SalvageAction::GetsPhi,
+        ItemKind::Phi(_, _) => SalvageAction::GetsPhi,
     }
 }

@@ -5,7 +5,7 @@ ghost use Rattle.pass_trait.specs.Sizes.{greatest, numbers_of, greatest_number};
 ghost use Rattle.pass_salvage.specs.Fresh.{item_numbers, block_numbers, entry_numbers};
 
 use mir_func::block::Block;
-use mir_func::entry::Entry;
+use mir_func::entry::DebugSubstitution;
 use mir_func::func::Func;
 use mir_func::item::{Item, ItemKind};
 use mir_func::variable::MarkValue;
@@ -60,7 +60,7 @@ fn number_in(kind: &ItemKind) -> u32
 }
 
 /// The greatest number on both sides of substitutions, or 0.
-pub fn greatest_in_entries(entries: &[Entry]) -> u32
+pub fn greatest_in_entries(entries: &[DebugSubstitution]) -> u32
     ensures { result ≡ greatest (entry_numbers entries.now) }
 {
     let mut most: u32 = 0;

@@ -4,9 +4,9 @@ ghost use Rattle.std.specs.Prelude.{◌≡◌, ◌++◌, ◌<◌, ◌^◌, lengt
 ghost use Rattle.pass_salvage.specs.Way.{way};
 ghost use Rattle.pass_salvage.specs.Salvage.{with_number, entry_for, entries_for, fresh_after, phi_for, items_after};
 
-use crate::way::{Way, choose_way};
+use crate::way::{SalvageAction, choose_way};
 use base_ids::code::{DebugNumber, OperandIndex};
-use mir_func::entry::{Entry, OperandPair};
+use mir_func::entry::{DebugSubstitution, OperandPair};
 use mir_func::item::{Item, ItemKind};
 use mir_func::location::Loc;
 use mir_func::position::Origin;
@@ -39,10 +39,10 @@ pub fn salvage(
 {
     let above = &items[..at];
     match choose_way(above, subs, removed, number, source, DebugNumber(*fresh)) {
-        Way::HasEntry => {
+        SalvageAction::HasEntry => {
             items.remove(at);
         }
-        Way::GetsEntry(d, operand, standing) => {
+        SalvageAction::GetsEntry(d, operand, standing) => {
             subs.add(entry_for(number, standing, operand))?;
             give_number(&mut items[d], standing);
             items.remove(at);
@@ -50,16 +50,20 @@ pub fn salvage(
                 *fresh += 1;
             }
         }
-        Way::GetsPhi => put_phi(&mut items[at], number, source),
+        SalvageAction::GetsPhi => put_phi(&mut items[at], number, source),
     }
     Ok(())
 }
 
 /// The substitution of a number's operand 0 by an operand of another.
-pub fn entry_for(number: DebugNumber, standing: DebugNumber, operand: OperandIndex) -> Entry
+pub fn entry_for(
+    number: DebugNumber,
+    standing: DebugNumber,
+    operand: OperandIndex,
+) -> DebugSubstitution
     ensures { result ≡ entry_for number standing operand }
 {
-    Entry {
+    DebugSubstitution {
         src: OperandPair {
             number,
             operand: OperandIndex(0),

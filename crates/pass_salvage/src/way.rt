@@ -7,7 +7,7 @@ ghost use Rattle.rv64_instr.specs.Row.{row_of};
 ghost use Rattle.rv64_instr.specs.Parts.{is_call};
 ghost use Rattle.sem_mir.specs.Step.{defined};
 ghost use Rattle.pass_trait.specs.Causes.{defines};
-ghost use Rattle.pass_salvage.specs.declared.way.Way.TheVariants as chosen;
+ghost use Rattle.pass_salvage.specs.declared.way.SalvageAction.TheVariants as chosen;
 ghost use Rattle.pass_salvage.specs.Way.{last_definition, is_register, first_definition, asks_for, has_entry};
 ghost use Rattle.pass_salvage.specs.Way.{or_fresh, way_by, way};
 ghost use Rattle.pass_salvage.specs.Above.{way_unless};
@@ -24,7 +24,7 @@ use rv64_instr::reg::Reg;
 
 /// How the debug instruction number of a removed copy is salvaged (LLVM: salvaging of debug information).
 #[derive(Clone, Copy, Debug, PartialEq, Eq)]
-pub enum Way {
+pub enum SalvageAction {
     /// Nothing is needed: its pair has a substitution already.
     HasEntry,
     /// Its pair is substituted by an operand of the code at this index, which has this number or gets it.
@@ -42,15 +42,15 @@ pub fn choose_way(
     number: DebugNumber,
     source: Reg,
     fresh: DebugNumber,
-) -> Way
+) -> SalvageAction
     ensures chosen { result ≡ way removed.now subs.now fresh number source above.now }
     ensures within { (d o n : ℕ) → result ≡ chosen.GetsEntry d o n → d < length above.now }
 {
     if has_entry(subs, &Some(number), OperandIndex(0)) {
-        return Way::HasEntry;
+        return SalvageAction::HasEntry;
     }
     let Some(d) = last_definition(above, source) else {
-        return Way::GetsPhi;
+        return SalvageAction::GetsPhi;
     };
     match &above[d].kind {
         ItemKind::Code(i, n) => {
@@ -58,8 +58,8 @@ pub fn choose_way(
             let operand = first_definition(i, source);
             way_by(behind, subs, removed, number, fresh, d, n, operand)
         }
-        ItemKind::Mark(_, _) => Way::GetsPhi,
-        ItemKind::Phi(_, _) => Way::GetsPhi,
+        ItemKind::Mark(_, _) => SalvageAction::GetsPhi,
+        ItemKind::Phi(_, _) => SalvageAction::GetsPhi,
     }
 }
 
@@ -74,7 +74,7 @@ fn way_by(
     d: usize,
     own: &Option<DebugNumber>,
     operand: Option<usize>,
-) -> Way
+) -> SalvageAction
     ensures { result ≡ way_by removed.now subs.now fresh number d own.now operand behind.now }
 {
     let barred = is_barred(behind, subs, removed, number, d);
@@ -104,19 +104,19 @@ pub fn way_unless(
     d: usize,
     own: &Option<DebugNumber>,
     operand: Option<usize>,
-) -> Way
+) -> SalvageAction
     ensures { result ≡ way_unless barred subs.now fresh d own.now operand }
 {
     let Some(o) = operand else {
-        return Way::GetsPhi;
+        return SalvageAction::GetsPhi;
     };
     let Ok(index) = u32::try_from(o) else {
-        return Way::GetsPhi;
+        return SalvageAction::GetsPhi;
     };
     if may_stand(barred, subs, own, OperandIndex(index)) {
-        Way::GetsEntry(d, OperandIndex(index), or_fresh(own, fresh))
+        SalvageAction::GetsEntry(d, OperandIndex(index), or_fresh(own, fresh))
     } else {
-        Way::GetsPhi
+        SalvageAction::GetsPhi
     }
 }
 

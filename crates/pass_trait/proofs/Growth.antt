@@ -1,7 +1,7 @@
 -- The bounds of passes, one after another.
 use Rattle.std.proofs.Common.{◌≡◌, ℕ, ◌+◌, ◌*◌, ◌≤◌, sym, ◌∙◌, ap, subst, arith, List}
 use Rattle.std.proofs.Math.Nat.{mul-le-mul, mul-le-mul_left, mul-le-mul_right, mul-add, add-mul, mul_assoc, mul_comm, le_trans, le_refl}
-use Rattle.mir_func.specs.declared.entry.Entry.{Entry}
+use Rattle.mir_func.specs.declared.entry.DebugSubstitution.{DebugSubstitution}
 use Rattle.mir_func.specs.Function.{Function}
 use Rattle.mir_func.specs.Limits.{MAX_BLOCKS, MAX_SLOTS}
 use Rattle.pass_trait.specs.Change.{change}
@@ -56,7 +56,8 @@ pub slots_then : (m b n : ℕ) → 1 ≤ b → MAX_SLOTS * m + MAX_SLOTS * n ≤
 slots_then m b n hb = let k = le_times m b hb in omega (arith, k)
 
 -- the bounds of both
-pub sizes_then : (a m b n : ℕ) (f : Function) (fs : List Entry) (g : Function) (gs : List Entry) (h : Function) (hs : List Entry) → 1 ≤ a → 1 ≤ b →
+pub sizes_then : (a m b n : ℕ) (f : Function) (fs : List DebugSubstitution) (g : Function) (gs : List DebugSubstitution) (h : Function)
+    (hs : List DebugSubstitution) → 1 ≤ a → 1 ≤ b →
     KeepsSizes a m (change f fs g gs) → KeepsSizes b n (change g gs h hs) →
     KeepsSizes (a * b) (m * b + n) (change f fs h hs)
 sizes_then a m b n f fs g gs h hs ha hb x y = record {

@@ -59,7 +59,8 @@ module _ (busy : Bool) where
 
   blocks_stripped : (bs : List Block) → stripped_blocks (thinned_blocks busy bs) ≡ thinned_blocks busy (stripped_blocks bs)
   blocks_stripped [] = refl
-  blocks_stripped (b ∷ bs) = let e = items_stripped b.items in let es = blocks_stripped bs in λ i. record { id = b.id; items = e i; silent = b.silent } ∷ es i
+  blocks_stripped
+      (b ∷ bs) = let e = items_stripped b.items in let es = blocks_stripped bs in λ i. record { id = b.id; items = e i; source_end = b.source_end } ∷ es i
 
 pub stripped_thinned : (f : Function) → stripped (thinned f) ≡ thinned (stripped f)
 stripped_thinned f =

@@ -15,7 +15,7 @@ use Rattle.mir_func.specs.declared.location.Loc.{Loc}
 use Rattle.mir_func.specs.declared.variable.MarkValue.{MarkValue}
 use Rattle.mir_func.specs.declared.variable.MarkValue.TheVariants.{Nothing, Constant, At, Pair}
 use Rattle.mir_func.specs.declared.block.Block.{Block}
-use Rattle.mir_func.specs.declared.entry.Entry.{Entry}
+use Rattle.mir_func.specs.declared.entry.DebugSubstitution.{DebugSubstitution}
 use Rattle.mir_func.specs.declared.item.Item.{Item}
 use Rattle.mir_func.specs.declared.item.ItemKind.{ItemKind}
 use Rattle.mir_func.specs.declared.item.ItemKind.TheVariants.{Code, Mark, Phi}
@@ -198,7 +198,7 @@ place_stays c (Some (Register r)) = register_stays c r
 place_stays c (Some (Slot n)) = tt
 place_stays c (Some (Const z)) = tt
 
-module _ (f : Function) (sound : IsSound f) (subs : List Entry) where
+module _ (f : Function) (sound : IsSound f) (subs : List DebugSubstitution) where
   abbrev busy : Bool
   busy = has_added_saves f.blocks
 
@@ -207,7 +207,7 @@ module _ (f : Function) (sound : IsSound f) (subs : List Entry) where
 
   stands_in : (b : Block) → Contains f.blocks b → (n : ℕ) (x : Item) → slice_get b.items n ≡ Some x → StandsAt f (record { block = b.id; item = n }) x
   stands_in b member n x at = let w = found f.blocks sound.blocks_apart b member in
-      ap (λ (bs : List Block). fetch_in bs n) w.at ∙ item_front b.items n b.silent w.rest x at
+      ap (λ (bs : List Block). fetch_in bs n) w.at ∙ item_front b.items n b.source_end w.rest x at
 
   -- the block of what stands somewhere
   block_of : (at : Pos) (x : Item) → StandsAt f at x → (b : Block) × Contains f.blocks b × (slice_get b.items at.item ≡ Some x)
@@ -215,7 +215,7 @@ module _ (f : Function) (sound : IsSound f) (subs : List Entry) where
     by_blocks : (bs : List Block) → from_block f.blocks at.block ≡ bs → fetch_in bs at.item ≡ Here x →
         (b : Block) × Contains f.blocks b × (slice_get b.items at.item ≡ Some x)
     by_blocks [] e h = cc
-    by_blocks (b ∷ bs) e h = (b, (found_in f.blocks at.block b bs e).0, front_item b.items at.item b.silent bs x h)
+    by_blocks (b ∷ bs) e h = (b, (found_in f.blocks at.block b bs e).0, front_item b.items at.item b.source_end bs x h)
 
   among_all : (at : Pos) (x : Item) → StandsAt f at x → Contains (items_of f.blocks) x
   among_all at x stands = let w = block_of at x stands in of_flat (λ (b : Block). b.items) f.blocks w.0 x w.1 (of_get w.0.items at.item x w.2)

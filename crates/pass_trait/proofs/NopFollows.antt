@@ -14,7 +14,7 @@ use Rattle.mir_func.specs.declared.position.Pos.{Pos}
 use Rattle.mir_func.specs.declared.position.Origin.{Origin}
 use Rattle.mir_func.specs.declared.position.Origin.TheVariants.{Kept, Before}
 use Rattle.mir_func.specs.declared.block.Block.{Block}
-use Rattle.mir_func.specs.declared.entry.Entry.{Entry}
+use Rattle.mir_func.specs.declared.entry.DebugSubstitution.{DebugSubstitution}
 use Rattle.mir_func.specs.declared.item.Item.{Item}
 use Rattle.mir_func.specs.declared.item.ItemKind.{ItemKind}
 use Rattle.mir_func.specs.declared.item.ItemKind.TheVariants.{Code, Mark, Phi}
@@ -25,14 +25,14 @@ use Rattle.sem_mir.specs.Step.{Falls, Goes, Traps, act, does, slot_loaded, with_
 use Rattle.rv64_instr.specs.Parts.{is_call, IsSlotStore}
 use Rattle.mir_func.specs.Graph.{Here, Program, fetch_in, from_block, program_of}
 use Rattle.mir_func.specs.Resolve.{resolve}
-use Rattle.sem_mir.specs.Align.{is_jump, is_jump_row, waits_at, moves_on, Count, ByItems, ByEnds, station_at, AnyOrigin, RunsAlong, After, since_of}
+use Rattle.sem_mir.specs.Align.{is_jump, is_jump_row, waits_at, moves_on, Count, ByItems, ByEnds, sync_point_at, AnyOrigin, RunsMatch, After, since_of}
 use Rattle.sem_mir.specs.Follow.{MayAdd, KindFits, MarkFits, InOrder, next_rank, Among, none, same, left, first_of, OnRow, GoesTo, Shape, IsStart, SameEnd}
 use Rattle.sem_mir.specs.Follow.{IsEnd, KindsEndAlike, EndIsKept, EndComesFrom}
 use Rattle.sem_mir.proofs.Reading.{found_in, front_item, within_list}
 use Rattle.sem_simulation.proofs.Order.{rank_next}
 use Rattle.sem_mir.proofs.Told.{tells_itself}
 use Rattle.pass_trait.specs.Change.{change}
-use Rattle.pass_trait.specs.Following.{KeepsFollowing}
+use Rattle.pass_trait.specs.Simulation.{PreservesSimulation}
 use Rattle.pass_trait.specs.Nops.{is_nop_row, is_nop, is_save_row, is_added_save, has_added_saves, stays, thinned_blocks, thinned}
 use Rattle.pass_trait.proofs.Thinning.{thin, item_from, item_to}
 use Rattle.pass_trait.proofs.NopRuns.{IsGone, IsSteady, nops_run}
@@ -99,30 +99,30 @@ end_stays (Mark v m) l h = absurd h
 end_stays (Phi p m) l h = absurd h
 
 -- added code goes elsewhere only if it is a jump
-added_goes : (r : Row) (item silent : ℕ) (k : Core → Core) (c c' : Core) (n : ℕ) → MayAdd r item silent → with_core k (act r c) ≡ Goes n c' →
+added_goes : (r : Row) (item source_end : ℕ) (k : Core → Core) (c c' : Core) (n : ℕ) → MayAdd r item source_end → with_core k (act r c) ≡ Goes n c' →
     is_jump_row r ≡ true
-added_goes (Fixes rd m) item silent k c c' n may e = unfold act in unfold does in cc
-added_goes (LoadsSlot rd m) item silent k c c' n may e = unfold act in unfold does in by_slot (c.slots m) e where
+added_goes (Fixes rd m) item source_end k c c' n may e = unfold act in unfold does in cc
+added_goes (LoadsSlot rd m) item source_end k c c' n may e = unfold act in unfold does in by_slot (c.slots m) e where
   by_slot : (v : Option ℕ) → with_core k (slot_loaded rd c v) ≡ Goes n c' → false ≡ true
   by_slot None e = cc
   by_slot (Some v) e = cc
-added_goes (StoresSlot rs m) item silent k c c' n may e = unfold act in unfold does in either (are_written c (rs ∷ [])) _ e where
+added_goes (StoresSlot rs m) item source_end k c c' n may e = unfold act in unfold does in either (are_written c (rs ∷ [])) _ e where
   either : (z : Bool) (x : Core) → with_core k (cond z (Falls x) Traps) ≡ Goes n c' → false ≡ true
   either true x e = cc
   either false x e = cc
-added_goes (Jumps t) item silent k c c' n may e = refl
-added_goes _ item silent k c c' n may e = absurd may
+added_goes (Jumps t) item source_end k c c' n may e = refl
+added_goes _ item source_end k c c' n may e = absurd may
 
 -- so code of a function that follows a source goes elsewhere only where the source moves on after it
-moves_after : (ct : Count) (src : Program) (f : Program) (k : ItemKind) (o : Origin) (silent : ℕ) → ((k : ItemKind) → moves_on ct k ≡ is_jump k) →
-    KindFits src k silent o →
+moves_after : (ct : Count) (src : Program) (f : Program) (k : ItemKind) (o : Origin) (source_end : ℕ) → ((k : ItemKind) → moves_on ct k ≡ is_jump k) →
+    KindFits src k source_end o →
     (c c' : Core) (n : ℕ) → do_item f k c ≡ Goes n c' → since_of (waits_at (moves_on ct k) o) ≡ After
-moves_after ct src f k (Kept p) silent counts fits c c' n e = refl
-moves_after ct src f (Code i m) (Before p) silent counts fits c c' n e =
-    let j : is_jump_row (row_of i) ≡ true = added_goes (row_of i) p.item silent (numbered f.sees_pointer (is_call (row_of i)) m i.operands) c c' n fits e in
+moves_after ct src f k (Kept p) source_end counts fits c c' n e = refl
+moves_after ct src f (Code i m) (Before p) source_end counts fits c c' n e =
+    let j : is_jump_row (row_of i) ≡ true = added_goes (row_of i) p.item source_end (numbered f.sees_pointer (is_call (row_of i)) m i.operands) c c' n fits e in
     ap (λ (z : Bool). since_of (waits_at z (Before p))) (counts (Code i m) ∙ j)
-moves_after ct src f (Mark v m) (Before p) silent counts fits c c' n e = cc
-moves_after ct src f (Phi q m) (Before p) silent counts fits c c' n e = cc
+moves_after ct src f (Mark v m) (Before p) source_end counts fits c c' n e = cc
+moves_after ct src f (Phi q m) (Before p) source_end counts fits c c' n e = cc
 
 -- the number of what stays isn't gone
 own_number : (busy : Bool) (blocks : List Block) (resolve : OperandPair → Option OperandPair) → NumbersOnce (items_of blocks) → (x : Item) →
@@ -145,7 +145,7 @@ at_item P sp blocks resolve all p i e = by_blocks (from_block blocks p.block) re
   by_blocks : (bs : List Block) → from_block blocks p.block ≡ bs → fetch_in bs p.item ≡ Here i → P i
   by_blocks [] h e = cc
   by_blocks (b ∷ bs) h e =
-      let at = front_item b.items p.item b.silent bs i e in
+      let at = front_item b.items p.item b.source_end bs i e in
       subst P (get_or_from_slice_get b.items p.item i i at)
       (All-contains (λ (b : Block). All P b.items) blocks b all (found_in blocks p.block b bs h).0 p.item i (within_list b.items p.item i at))
 
@@ -182,7 +182,7 @@ keeps_all (x ∷ xs) = ap (λ (ys : List Item). x ∷ ys) (keeps_all xs)
 
 pub thins_none : (bs : List Block) → thinned_blocks true bs ≡ bs
 thins_none [] = refl
-thins_none (b ∷ bs) = let e = keeps_all b.items in let es = thins_none bs in λ i. record { id = b.id; items = e i; silent = b.silent } ∷ es i
+thins_none (b ∷ bs) = let e = keeps_all b.items in let es = thins_none bs in λ i. record { id = b.id; items = e i; source_end = b.source_end } ∷ es i
 
 -- for each item of each block that is left
 pub each_left : (keep : Item → Bool) (P : Block → Item → Type 0) (Q : Block → Item → Type 0) → ((b : Block) (i : Item) → P b i → Q (thin keep b) i) →
@@ -225,7 +225,7 @@ module _ (f : Function) (sound : IsSound f) (src : List Block) (srcp : Program) 
         let x : Item = get_or b.items j e in
         let member : Contains (items_of f.blocks) x = members f.blocks k d lt j e within in
         record {
-          moves = λ c c' n go. moves_after ct srcp fp x.kind x.origin b.silent counts (shape.items k d lt j e within) c c' n go;
+          moves = λ c c' n go. moves_after ct srcp fp x.kind x.origin b.source_end counts (shape.items k d lt j e within) c c' n go;
           own = λ stay n number gone. own_number false f.blocks resolve sound.numbers x member stay n number gone;
           gone = λ out n number. record { item = x; member = member; out = out; number = number };
         }
@@ -238,7 +238,8 @@ module _ (f : Function) (sound : IsSound f) (src : List Block) (srcp : Program) 
           let at = item_to keep false f.blocks resolve w.0 w.1 (stays_else false (is_nop w.1.kind) (going_stays w.1.kind (first_of src) w.3)) w.2 in
           (at.0, w.1, at.2, w.3));
       order = order_new;
-      items = each_left keep (λ b i. KindFits srcp i.kind b.silent i.origin) (λ b i. KindFits srcp i.kind b.silent i.origin) (λ b i h. h) f.blocks shape.items;
+      items = each_left keep (λ b i. KindFits srcp i.kind b.source_end i.origin) (λ b i. KindFits srcp i.kind b.source_end i.origin)
+          (λ b i h. h) f.blocks shape.items;
       stores = λ b member p i block at save o.
           (let w = item_from keep false f.blocks resolve p i at in
           let bad : false ≡ true = sym (at_item (λ (i : Item). is_added_save i.kind i.origin ≡ false) false f.blocks resolve
@@ -247,8 +248,8 @@ module _ (f : Function) (sound : IsSound f) (src : List Block) (srcp : Program) 
     }
 
     runs_new : (ct : Count) (objects : List Object) → ((k : ItemKind) → moves_on ct k ≡ is_jump k) →
-        ((s : State) → IsStart objects (first_of src) s → RunsAlong srcp fp (station_at ct fp) (AnyOrigin (station_at ct fp)) s s) →
-        (s : State) → IsStart objects (first_of src) s → RunsAlong srcp gp (station_at ct gp) (AnyOrigin (station_at ct gp)) s s
+        ((s : State) → IsStart objects (first_of src) s → RunsMatch srcp fp (sync_point_at ct fp) (AnyOrigin (sync_point_at ct fp)) s s) →
+        (s : State) → IsStart objects (first_of src) s → RunsMatch srcp gp (sync_point_at ct gp) (AnyOrigin (sync_point_at ct gp)) s s
     runs_new ct objects counts runs s start =
         nops_run false f.blocks resolve ct srcp s (steady ct counts) sound.blocks_apart shape.order order_new sound.origins origins_new
         (ap (λ (p : Pos). p.item) start.pos) (tells_itself s.core, λ k o gone. start.pairs k o) (runs s start)
@@ -265,8 +266,8 @@ module _ (f : Function) (sound : IsSound f) (src : List Block) (srcp : Program) 
     ends_only only q j at end = let w = item_from keep false f.blocks resolve q j at in only w.0 j w.2 end
 
 -- what the pass keeps where it takes out no-operations
-following_new : (f : Function) (subs : List Entry) → IsSound f → has_added_saves f.blocks ≡ false →
-    KeepsFollowing false true (change f subs (record f { blocks = thinned_blocks false f.blocks }) subs)
+following_new : (f : Function) (subs : List DebugSubstitution) → IsSound f → has_added_saves f.blocks ≡ false →
+    PreservesSimulation false true (change f subs (record f { blocks = thinned_blocks false f.blocks }) subs)
 following_new f subs sound none_added = record {
   follows = λ src fol ends.
       let srcp : Program = program_of true src.function.blocks (resolve src.subs) in
@@ -289,15 +290,15 @@ following_new f subs sound none_added = record {
       };
 }
 
-following_itself : (f : Function) (subs : List Entry) → KeepsFollowing false true (change f subs f subs)
+following_itself : (f : Function) (subs : List DebugSubstitution) → PreservesSimulation false true (change f subs f subs)
 following_itself f subs = record { follows = λ src fol ends. fol; ends = λ keeps src fol whole. whole }
 
-pub nops_follow : (f : Function) (subs : List Entry) → IsSound f →
-    KeepsFollowing false true (change f subs (thinned f) subs)
+pub nops_follow : (f : Function) (subs : List DebugSubstitution) → IsSound f →
+    PreservesSimulation false true (change f subs (thinned f) subs)
 nops_follow f subs sound = by_saves (has_added_saves f.blocks) refl where
   by_saves : (z : Bool) → has_added_saves f.blocks ≡ z →
-      KeepsFollowing false true (change f subs (record f { blocks = thinned_blocks z f.blocks }) subs)
-  by_saves true e = subst (λ (bs : List Block). KeepsFollowing false true
+      PreservesSimulation false true (change f subs (record f { blocks = thinned_blocks z f.blocks }) subs)
+  by_saves true e = subst (λ (bs : List Block). PreservesSimulation false true
       (change f subs (record f { blocks = bs }) subs)) (sym (thins_none f.blocks))
       (following_itself f subs)
   by_saves false e = following_new f subs sound e

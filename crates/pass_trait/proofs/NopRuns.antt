@@ -16,15 +16,15 @@ use Rattle.sem_mir.specs.State.{Core, State, updated}
 use Rattle.sem_mir.specs.Step.{Outcome, Falls, Goes, Gives, Traps, Asks, Breaks, act, does, with_core, numbered, given, defined, place_value, do_item}
 use Rattle.rv64_instr.specs.Parts.{is_call}
 use Rattle.mir_func.specs.Graph.{Program, block_start, from_block, index_of, program_of}
-use Rattle.sem_mir.specs.Align.{is_code, is_jump, is_jump_row, Count, end_station, station_at, IsOrigin, Since, After, AnyOrigin, RunsAlong}
+use Rattle.sem_mir.specs.Align.{is_code, is_jump, is_jump_row, Count, end_sync_point, sync_point_at, IsOrigin, Since, After, AnyOrigin, RunsMatch}
 use Rattle.sem_mir.specs.Follow.{InOrder}
-use Rattle.sem_simulation.specs.Sides.{Sides, Relation, since_item}
+use Rattle.sem_simulation.specs.Sides.{Sides, MatchStates, since_item}
 use Rattle.sem_simulation.specs.InPlace.{FallsOrTraps, DoAlike, View, ended, both, taken, paired, InPlace}
 use Rattle.sem_mir.proofs.Effects.{told_by, act_apart}
 use Rattle.sem_mir.specs.Effects.{EndAlike, OnCore}
 use Rattle.sem_mir.proofs.Places.{updated_other}
 use Rattle.sem_mir.proofs.Told.{TellsLess, SeesLess, item_less}
-use Rattle.sem_simulation.proofs.Stations.{moves_on_less, code_station, end_is_station, IsStationOf, of_item, of_end, station_is_of}
+use Rattle.sem_simulation.proofs.Stations.{moves_on_less, code_sync_point, end_is_sync_point, IsSyncPointOf, of_item, of_end, sync_point_is_of}
 use Rattle.sem_simulation.proofs.Laid.{rest_in, rest_of, laid_out, in_order_at, one_end, from_home, from_within, from_before_end, falls_down}
 use Rattle.sem_mir.proofs.Reading.{found_in}
 use Rattle.sem_simulation.proofs.InPlace.{in_place_follows}
@@ -75,8 +75,8 @@ module _ (busy : Bool) (blocks : List Block) (resolve : OperandPair → Option O
     pub number : code_number item.kind ≡ Some k
 
   -- g tells no more, and knows nothing of numbers that are gone
-  abbrev pub Kin : Core → Core → Type 0
-  Kin c d = TellsLess c d × ((k o : ℕ) → IsGone k → d.pairs k o ≡ None)
+  abbrev pub MatchCores : Core → Core → Type 0
+  MatchCores c d = TellsLess c d × ((k o : ℕ) → IsGone k → d.pairs k o ≡ None)
 
   sees_same : SeesLess f g
   sees_same = record { sees = λ r c v e. e; resolve = λ q. refl }
@@ -107,12 +107,13 @@ module _ (busy : Bool) (blocks : List Block) (resolve : OperandPair → Option O
   none_kept (Mark v m) d h far = h
   none_kept (Phi p n) d h far = none_after n (updated 0 (place_value p d) (d.pairs n)) d h (far n refl)
 
-  pub item_kin : (x : ItemKind) (c d : Core) → Kin c d → ((k : ℕ) → number_of x ≡ Some k → IsGone k → ⊥) → EndAlike Kin (do_item f x c) (do_item g x d)
+  pub item_kin : (x : ItemKind) (c d : Core) → MatchCores c d → ((k : ℕ) → number_of x ≡ Some k → IsGone k → ⊥) →
+      EndAlike MatchCores (do_item f x c) (do_item g x d)
   item_kin x c d h far = alike_and TellsLess HasNone (do_item f x c) (do_item g x d) (item_less f g sees_same x c d h.0) (none_kept x d h.1 far)
 
   -- a no-operation leaves all but the pairs of its number
-  pub nop_kin : (may : Type 0) (x : ItemKind) (c d : Core) → is_nop x ≡ true → Kin c d → ((k : ℕ) → code_number x ≡ Some k → IsGone k) →
-      FallsOrTraps may (λ e. Kin e d) (do_item f x c)
+  pub nop_kin : (may : Type 0) (x : ItemKind) (c d : Core) → is_nop x ≡ true → MatchCores c d → ((k : ℕ) → code_number x ≡ Some k → IsGone k) →
+      FallsOrTraps may (λ e. MatchCores e d) (do_item f x c)
   nop_kin may (Mark v m) c d e h gone = cc
   nop_kin may (Phi p n) c d e h gone = cc
   nop_kin may (Code i n) c d e h gone = by_row (row_of i) e where
@@ -120,13 +121,13 @@ module _ (busy : Bool) (blocks : List Block) (resolve : OperandPair → Option O
     by_pair k v q o w gone e (inl same) = let bad : None ≡ Some w = sym (h.1 k o gone) ∙ ap (λ (z : ℕ). d.pairs z o) (sym same) ∙ e in cc
     by_pair k v q o w gone e (inr ne) = ap (λ (z : ℕ → Option ℕ). z o) (updated_other k q v c.pairs ne) ∙ h.0.pairs q o w e
 
-    with_number : (call : Bool) (n : Option ℕ) → ((k : ℕ) → n ≡ Some k → IsGone k) → Kin (numbered false call n i.operands c) d
+    with_number : (call : Bool) (n : Option ℕ) → ((k : ℕ) → n ≡ Some k → IsGone k) → MatchCores (numbered false call n i.operands c) d
     with_number call None gone = h
     with_number call (Some k) gone =
         let v : ℕ → Option ℕ = λ o. given false (defined call (slice_get i.operands o)) (c.pairs k o) c in
         (record { same = h.0.same; pairs = λ q o w e. by_pair k v q o w (gone k refl) e (cases_eq q k); marks = h.0.marks }, h.1)
 
-    by_row : (r : Row) → is_nop_row r ≡ true → FallsOrTraps may (λ e. Kin e d) (with_core (numbered false (is_call r) n i.operands) (act r c))
+    by_row : (r : Row) → is_nop_row r ≡ true → FallsOrTraps may (λ e. MatchCores e d) (with_core (numbered false (is_call r) n i.operands) (act r c))
     by_row (Fixes zero m) e = unfold act in unfold does in with_number false n gone
     by_row _ e = cc
 
@@ -146,16 +147,16 @@ module _ (busy : Bool) (blocks : List Block) (resolve : OperandPair → Option O
     abbrev sides : Sides
     sides = record { old = record { program = f; rest = rf; start = s0 }; new = record { program = g; rest = rg; start = s0 } }
 
-    abbrev relation : Relation
-    relation = record {
+    abbrev match_states : MatchStates
+    match_states = record {
       Stage = Unit {0};
       entry = λ n. tt;
-      Rests = λ k b xs ys. (ys ≡ filter (stays busy) xs) × All (IsSteady ct) xs;
-      Cores = λ k b xs ys c d. Kin c d;
+      MatchItems = λ k b xs ys. (ys ≡ filter (stays busy) xs) × All (IsSteady ct) xs;
+      MatchCores = λ k b xs ys c d. MatchCores c d;
     }
 
-    alike_do : (b : ℕ) (xs ys : List Item) (m : Since) (o p : Outcome) → ((c' : Core) (n : ℕ) → o ≡ Goes n c' → m ≡ After) → EndAlike Kin o p →
-        DoAlike ct src sides relation b xs ys m tt o p
+    alike_do : (b : ℕ) (xs ys : List Item) (m : Since) (o p : Outcome) → ((c' : Core) (n : ℕ) → o ≡ Goes n c' → m ≡ After) → EndAlike MatchCores o p →
+        DoAlike ct src sides match_states b xs ys m tt o p
     alike_do b xs ys m (Falls c) (Falls d) go h = h
     alike_do b xs ys m (Goes j c) (Goes k d) go h = (h.0, (go c j refl, h.1))
     alike_do b xs ys m (Gives v) (Gives w) go h = h
@@ -164,16 +165,16 @@ module _ (busy : Bool) (blocks : List Block) (resolve : OperandPair → Option O
     alike_do b xs ys m Breaks Breaks go h = tt
     alike_do b xs ys m _ _ go h = absurd h
 
-    debug_falls : (x : ItemKind) → is_code x ≡ false → (c d : Core) → EndAlike Kin (do_item f x c) (do_item g x d) →
-        (e e' : Core) × (do_item f x c ≡ Falls e) × (do_item g x d ≡ Falls e') × Kin e e'
+    debug_falls : (x : ItemKind) → is_code x ≡ false → (c d : Core) → EndAlike MatchCores (do_item f x c) (do_item g x d) →
+        (e e' : Core) × (do_item f x c ≡ Falls e) × (do_item g x d ≡ Falls e') × MatchCores e e'
     debug_falls (Code i n) e c d h = cc
     debug_falls (Mark v m) e c d h = (_, _, refl, refl, h)
     debug_falls (Phi p n) e c d h = (_, _, refl, refl, h)
 
     view_at : (b : ℕ) (x : Item) (xs : List Item) → IsSteady ct x → All (IsSteady ct) xs → (z : Bool) → stays busy x ≡ z →
-        View ct src sides relation b tt (x ∷ xs) (cond z (x ∷ filter (stays busy) xs) (filter (stays busy) xs))
+        View ct src sides match_states b tt (x ∷ xs) (cond z (x ∷ filter (stays busy) xs) (filter (stays busy) xs))
     view_at b x xs s rest true k = by_code (is_code x.kind) refl where
-      by_code : (z : Bool) → is_code x.kind ≡ z → View ct src sides relation b tt (x ∷ xs) (x ∷ filter (stays busy) xs)
+      by_code : (z : Bool) → is_code x.kind ≡ z → View ct src sides match_states b tt (x ∷ xs) (x ∷ filter (stays busy) xs)
       by_code true code = both {k' = tt} code code refl refl (refl, rest)
           (λ c d h. alike_do b xs (filter (stays busy) xs) (since_item ct x) (do_item f x.kind c) (do_item g x.kind d) (λ c' n e. s.moves c c' n e)
           (item_kin x.kind c d h (s.own k)))
@@ -182,10 +183,10 @@ module _ (busy : Bool) (blocks : List Block) (resolve : OperandPair → Option O
         let nop : is_nop x.kind ≡ true = out_is busy (is_nop x.kind) k in
         taken {k' = tt} (nop_is_code x.kind nop) (moves_on_less ct x.kind (no_jump x.kind nop)) (refl, rest) (λ c d h. nop_kin _ x.kind c d nop h (s.gone k))
 
-    view : (k : Unit {0}) (b : ℕ) (xs ys : List Item) → relation.Rests k b xs ys → View ct src sides relation b tt xs ys
-    view k b [] ys (e, steady) = subst (View ct src sides relation b tt []) (sym e) ended
+    view : (k : Unit {0}) (b : ℕ) (xs ys : List Item) → match_states.MatchItems k b xs ys → View ct src sides match_states b tt xs ys
+    view k b [] ys (e, steady) = subst (View ct src sides match_states b tt []) (sym e) ended
     view k b (x ∷ xs) ys (e, steady) =
-        subst (View ct src sides relation b tt (x ∷ xs)) (sym e)
+        subst (View ct src sides match_states b tt (x ∷ xs)) (sym e)
         (view_at b x xs (All-head (IsSteady ct) x xs steady) (All-tail (IsSteady ct) x xs steady) (stays busy x) refl)
 
     rest_steady : All (λ (b : Block). All (IsSteady ct) b.items) blocks → (n : ℕ) → All (IsSteady ct) (rf (block_start n))
@@ -197,19 +198,19 @@ module _ (busy : Bool) (blocks : List Block) (resolve : OperandPair → Option O
       by_blocks (b ∷ bs) e = subst (All (IsSteady ct)) (sym (drop_zero b.items))
           (All-contains (λ (b : Block). All (IsSteady ct) b.items) blocks b h (found_in blocks n b bs e).0)
 
-    origin_from : (p : Pos) → IsOrigin (station_at ct g) p → IsOrigin (station_at ct f) p
-    origin_from p o = by_station (station_is_of ct g o.place o.station o.stands) where
-      by_station : IsStationOf ct g o.place o.station → IsOrigin (station_at ct f) p
-      by_station (of_item x at code st) =
+    origin_from : (p : Pos) → IsOrigin (sync_point_at ct g) p → IsOrigin (sync_point_at ct f) p
+    origin_from p o = by_sync_point (sync_point_is_of ct g o.place o.sync_point o.stands) where
+      by_sync_point : IsSyncPointOf ct g o.place o.sync_point → IsOrigin (sync_point_at ct f) p
+      by_sync_point (of_item x at code st) =
           let w = item_from (stays busy) false blocks resolve o.place x at in
-          record { place = w.0; station = o.station; stands = code_station ct f w.0 x w.2 code ∙ ap Some st; from = o.from }
-      by_station (of_end k n at ends st) =
+          record { place = w.0; sync_point = o.sync_point; stands = code_sync_point ct f w.0 x w.2 code ∙ ap Some st; from = o.from }
+      by_sync_point (of_end k n at ends st) =
           let w = end_from (stays busy) false blocks resolve o.place k n at in
           record {
             place = w.0;
-            station = o.station;
-            stands = end_is_station ct f w.0 k n w.2 ∙ ap (λ (z : ℕ). end_station ct (record { block = z; item = k })) w.1 ∙
-                ap (λ (z : Count). end_station z (record { block = o.place.block; item = k })) ends ∙ ap Some (sym st);
+            sync_point = o.sync_point;
+            stands = end_is_sync_point ct f w.0 k n w.2 ∙ ap (λ (z : ℕ). end_sync_point ct (record { block = z; item = k })) w.1 ∙
+                ap (λ (z : Count). end_sync_point z (record { block = o.place.block; item = k })) ends ∙ ap Some (sym st);
             from = o.from;
           }
 
@@ -218,11 +219,12 @@ module _ (busy : Bool) (blocks : List Block) (resolve : OperandPair → Option O
         All (λ (b : Block). InOrder b.id 0 b.items) (thinned_blocks busy blocks) →
         All (λ (b : Block). All (λ (i : Item). OriginIn b i.origin) b.items) blocks →
         All (λ (b : Block). All (λ (i : Item). OriginIn b i.origin) b.items) (thinned_blocks busy blocks) →
-        s0.pos.item ≡ 0 → Kin s0.core s0.core →
-        RunsAlong src f (station_at ct f) (AnyOrigin (station_at ct f)) s0 s0 → RunsAlong src g (station_at ct g) (AnyOrigin (station_at ct g)) s0 s0
+        s0.pos.item ≡ 0 → MatchCores s0.core s0.core →
+        RunsMatch src f (sync_point_at ct f) (AnyOrigin (sync_point_at ct f)) s0 s0 →
+        RunsMatch src g (sync_point_at ct g) (AnyOrigin (sync_point_at ct g)) s0 s0
     nops_run steady apart ordered ordered' origins origins' first kin runs =
-        in_place_follows relation ct src sides (index_of blocks) in_place first refl kin runs where
-          in_place : InPlace ct src sides relation (index_of blocks)
+        in_place_follows match_states ct src sides (index_of blocks) in_place first refl kin runs where
+          in_place : InPlace ct src sides match_states (index_of blocks)
           in_place = record {
             laid_f = laid_out false blocks resolve;
             laid_g = laid_out false (thinned_blocks busy blocks) resolve;

@@ -4,7 +4,7 @@ use Rattle.mir_func.specs.declared.entry.OperandPair.{OperandPair}
 use Rattle.mir_func.specs.declared.position.Pos.{Pos}
 use Rattle.mir_func.specs.declared.block.Block.{Block}
 use Rattle.mir_func.specs.declared.item.Item.{Item}
-use Rattle.mir_func.specs.Graph.{Here, Silent, Program, block_start, end_of, front, fetch_in, from_block, program_of}
+use Rattle.mir_func.specs.Graph.{Here, EndOfBlock, Program, block_start, end_of, front, fetch_in, from_block, program_of}
 use Rattle.sem_simulation.proofs.Laid.{rest_in, rest_of}
 
 -- the first of what is left from an index on
@@ -13,7 +13,7 @@ first_of_front [] k [] y e = cc
 first_of_front [] k (b ∷ bs) y e = cc
 first_of_front (x ∷ xs) k bs y e = let w : x ≡ y = cc in (xs, λ i. w i ∷ xs)
 
-none_of_front : (xs : List Item) (k : ℕ) (bs : List Block) (j n : ℕ) → front xs k bs ≡ Silent j n → (xs ≡ []) × (end_of k bs ≡ Silent j n)
+none_of_front : (xs : List Item) (k : ℕ) (bs : List Block) (j n : ℕ) → front xs k bs ≡ EndOfBlock j n → (xs ≡ []) × (end_of k bs ≡ EndOfBlock j n)
 none_of_front [] k bs j n e = (refl, e)
 none_of_front (x ∷ xs) k bs j n e = cc
 
@@ -27,7 +27,7 @@ drop_zero (x ∷ xs) = refl
 
 module _ (keep : Item → Bool) where
   abbrev pub thin : Block → Block
-  thin b = record { id = b.id; items = filter keep b.items; silent = b.silent }
+  thin b = record { id = b.id; items = filter keep b.items; source_end = b.source_end }
 
   pub from_thin : (bs : List Block) (n : ℕ) → from_block (map thin bs) n ≡ map thin (from_block bs n)
   from_thin [] n = refl
@@ -91,12 +91,12 @@ module _ (keep : Item → Bool) where
           (p : Pos) × (p.block ≡ q.block) × (f.fetch p ≡ Here y) × (keep y ≡ true)
       by_blocks [] h k = cc
       by_blocks (b ∷ bs) h k =
-          let t = first_of_front (drop q.item (filter keep b.items)) b.silent (map thin bs) y k in
+          let t = first_of_front (drop q.item (filter keep b.items)) b.source_end (map thin bs) y k in
           let s = left_from b.items q.item y t.0 t.1 in (
             record { block = q.block; item = s.0.index },
             refl,
             ap (λ (x : List Block). fetch_in x s.0.index) h ∙
-                ap (λ (x : List Item). front x b.silent bs) s.0.at,
+                ap (λ (x : List Item). front x b.source_end bs) s.0.at,
             s.1,
           )
 
@@ -105,39 +105,39 @@ module _ (keep : Item → Bool) where
       by_blocks : (bs : List Block) → from_block blocks p.block ≡ bs → fetch_in bs p.item ≡ Here x → (q : Pos) × (q.block ≡ p.block) × (g.fetch q ≡ Here x)
       by_blocks [] h e = cc
       by_blocks (b ∷ bs) h e =
-          let t = first_of_front (drop p.item b.items) b.silent bs x e in
+          let t = first_of_front (drop p.item b.items) b.source_end bs x e in
           let s = left_to b.items p.item x t.0 k t.1 in (
             record { block = p.block; item = s.index },
             refl,
             ap (λ (z : List Block). fetch_in z s.index) (from_thin blocks p.block ∙ ap (map thin) h) ∙
-                ap (λ (z : List Item). front z b.silent (map thin bs)) s.at,
+                ap (λ (z : List Item). front z b.source_end (map thin bs)) s.at,
           )
 
     -- a block's end is where it was
-    pub end_from : (q : Pos) (k n : ℕ) → g.fetch q ≡ Silent k n → (p : Pos) × (p.block ≡ q.block) × (f.fetch p ≡ Silent k n)
+    pub end_from : (q : Pos) (k n : ℕ) → g.fetch q ≡ EndOfBlock k n → (p : Pos) × (p.block ≡ q.block) × (f.fetch p ≡ EndOfBlock k n)
     end_from q k n e = by_blocks (from_block blocks q.block) refl (ap (λ (bs : List Block). fetch_in bs q.item) (sym (from_thin blocks q.block)) ∙ e) where
-      by_blocks : (bs : List Block) → from_block blocks q.block ≡ bs → fetch_in (map thin bs) q.item ≡ Silent k n →
-          (p : Pos) × (p.block ≡ q.block) × (f.fetch p ≡ Silent k n)
+      by_blocks : (bs : List Block) → from_block blocks q.block ≡ bs → fetch_in (map thin bs) q.item ≡ EndOfBlock k n →
+          (p : Pos) × (p.block ≡ q.block) × (f.fetch p ≡ EndOfBlock k n)
       by_blocks [] h e = cc
       by_blocks (b ∷ bs) h e =
-          let t = none_of_front (drop q.item (filter keep b.items)) b.silent (map thin bs) k n e in (
+          let t = none_of_front (drop q.item (filter keep b.items)) b.source_end (map thin bs) k n e in (
             record { block = q.block; item = length b.items },
             refl,
             ap (λ (x : List Block). fetch_in x (length b.items)) h ∙
-                ap (λ (x : List Item). front x b.silent bs) (drop_all b.items) ∙ sym (end_thin b.silent bs) ∙ t.1,
+                ap (λ (x : List Item). front x b.source_end bs) (drop_all b.items) ∙ sym (end_thin b.source_end bs) ∙ t.1,
           )
 
     -- past the items of a block f stands where g does
-    pub end_there : (p q : Pos) (k n : ℕ) → p.block ≡ q.block → rest_of blocks p ≡ [] → g.fetch q ≡ Silent k n → f.fetch p ≡ Silent k n
+    pub end_there : (p q : Pos) (k n : ℕ) → p.block ≡ q.block → rest_of blocks p ≡ [] → g.fetch q ≡ EndOfBlock k n → f.fetch p ≡ EndOfBlock k n
     end_there p q k n same none e = by_blocks (from_block blocks q.block) refl
         (ap (λ (bs : List Block). fetch_in bs q.item) (sym (from_thin blocks q.block)) ∙ e) where
-          by_blocks : (bs : List Block) → from_block blocks q.block ≡ bs → fetch_in (map thin bs) q.item ≡ Silent k n → f.fetch p ≡ Silent k n
+          by_blocks : (bs : List Block) → from_block blocks q.block ≡ bs → fetch_in (map thin bs) q.item ≡ EndOfBlock k n → f.fetch p ≡ EndOfBlock k n
           by_blocks [] h e = cc
           by_blocks (b ∷ bs) h e =
-              let t = none_of_front (drop q.item (filter keep b.items)) b.silent (map thin bs) k n e in
+              let t = none_of_front (drop q.item (filter keep b.items)) b.source_end (map thin bs) k n e in
               let at : from_block blocks p.block ≡ b ∷ bs = ap (from_block blocks) same ∙ h in
               let r : drop p.item b.items ≡ [] = ap (λ (x : List Block). rest_in x p.item) (sym at) ∙ none in
-              ap (λ (x : List Block). fetch_in x p.item) at ∙ ap (λ (x : List Item). front x b.silent bs) r ∙ sym (end_thin b.silent bs) ∙ t.1
+              ap (λ (x : List Block). fetch_in x p.item) at ∙ ap (λ (x : List Item). front x b.source_end bs) r ∙ sym (end_thin b.source_end bs) ∙ t.1
 
     -- a block starts with what passes of its items
     pub rest_thin : (n : ℕ) → rest_of (map thin blocks) (block_start n) ≡ filter keep (rest_of blocks (block_start n))

@@ -16,26 +16,26 @@ abbrev pub HasOneResult : CodeRule → Type 0
 HasOneResult R = (f g h : Function) → R f g → R f h → g ≡ h
 
 -- an origin with its position erased: only whether it is `Kept` or `Before`
-abbrev pub placeless_origin : Origin → Origin
-placeless_origin (Kept p) = Kept (record { block = 0; item = 0 })
-placeless_origin (Before p) = Before (record { block = 0; item = 0 })
+abbrev pub originless_origin : Origin → Origin
+originless_origin (Kept p) = Kept (record { block = 0; item = 0 })
+originless_origin (Before p) = Before (record { block = 0; item = 0 })
 
 -- an item with its position and debug location erased
-abbrev pub placeless_item : Item → Item
-placeless_item i = record { kind = i.kind; origin = placeless_origin i.origin; loc = Absent }
+abbrev pub originless_item : Item → Item
+originless_item i = record { kind = i.kind; origin = originless_origin i.origin; loc = Absent }
 
 -- a block with its items' positions and its silent index erased
-abbrev pub placeless_block : Block → Block
-placeless_block b = record { id = b.id; items = map placeless_item b.items; silent = 0 }
+abbrev pub originless_block : Block → Block
+originless_block b = record { id = b.id; items = map originless_item b.items; source_end = 0 }
 
 -- the function without positions, silent indices and debug locations, which depend on debug items
-abbrev pub placeless : Function → Function
-placeless f = record f { blocks = map placeless_block f.blocks }
+abbrev pub originless : Function → Function
+originless f = record f { blocks = map originless_block f.blocks }
 
 -- both have the same name, slots, objects, block numbers and items in order, each `Kept` in both or `Before` in both;
 -- only positions, silent indices and debug locations may differ
 abbrev pub AreAlike : Function → Function → Type 0
-AreAlike f g = placeless f ≡ placeless g
+AreAlike f g = originless f ≡ originless g
 
 -- the rule doesn't depend on positions, silent indices and debug locations, so debug items can't affect the code that
 -- it makes

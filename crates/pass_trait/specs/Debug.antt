@@ -17,7 +17,7 @@ use Rattle.mir_func.specs.declared.item.ItemKind.{ItemKind}
 use Rattle.mir_func.specs.declared.item.ItemKind.TheVariants.{Code, Mark, Phi}
 use Rattle.mir_func.specs.declared.block.Block.{Block}
 use Rattle.mir_func.specs.declared.entry.OperandPair.{OperandPair}
-use Rattle.mir_func.specs.declared.entry.Entry.{Entry}
+use Rattle.mir_func.specs.declared.entry.DebugSubstitution.{DebugSubstitution}
 use Rattle.mir_func.specs.Resolve.{entry_of, Ends}
 use Rattle.pass_trait.specs.declared.loss.Reason.{Reason}
 use Rattle.pass_trait.specs.declared.loss.Reason.TheVariants.{Removed, WrongPlace, Scratch, Bypassed, Unreachable, NoScratch, CallNamed, EntryLoop, NoSlot}
@@ -30,13 +30,13 @@ use Rattle.sem_mir.specs.Align.{is_code, is_jump}
 use Rattle.pass_trait.specs.Causes.{HasCause, IsFirstCause, IsFewer, IsRemoved}
 
 -- what a loss means for what is lost: it is deleted; or it stays and is undef; or it is a register that stays unspilled
-pub data Fate : Type 0 where
-  Gone : Fate
-  Silenced : Fate
-  Unspilled : Fate
+pub data LossEffect : Type 0 where
+  Gone : LossEffect
+  Silenced : LossEffect
+  Unspilled : LossEffect
 
 -- the kind of loss for each reason
-abbrev pub fate : Reason → Fate
+abbrev pub fate : Reason → LossEffect
 fate Removed = Gone
 fate WrongPlace = Silenced
 fate Scratch = Silenced
@@ -113,7 +113,7 @@ module _ (rule : Rule) (c : Change) where
         rule.loses c at (number_lost k why) → Becomes at (item (Code i n) o l) []
     -- a copy is removed. Either its number is substituted, or a DBG_PHI with its number replaces it, which is undef if the number is
     -- lost as `WrongPlace`
-    substituted : {i : Instruction} {n : Option ℕ} {o : Origin} {l : Loc} (k : ℕ) (e : Entry) → IsCopy (row_of i) → IsRemoved c o →
+    substituted : {i : Instruction} {n : Option ℕ} {o : Origin} {l : Loc} (k : ℕ) (e : DebugSubstitution) → IsCopy (row_of i) → IsRemoved c o →
         Has rule c at n k → entry_of c.new_subs (first_operand k) ≡ Some e → IsUnlost at (number_lost k) → Becomes at (item (Code i n) o l) []
     salvaged : {i : Instruction} {n : Option ℕ} {k : ℕ} {o : Origin} {l : Loc} {p : Place} → IsCopy (row_of i) → IsRemoved c o →
         Has rule c at n k → rule.salvages c at p → IsUnlost at (number_lost k) → Becomes at (item (Code i n) o l) (item_before (Phi (Some p) k) o ∷ [])
@@ -152,7 +152,7 @@ module _ (rule : Rule) (c : Change) where
   -- what the blocks become: a block is kept, with the declared kills at its start, or it is deleted with all its items
   pub data BlocksBecome : List Block → List Block → Type 0 where
     none : BlocksBecome [] []
-    stays : {x y : Block} {xs ys : List Block} (kills items : List Item) → y.id ≡ x.id → y.silent ≡ x.silent → y.items ≡ kills ++ items →
+    stays : {x y : Block} {xs ys : List Block} (kills items : List Item) → y.id ≡ x.id → y.source_end ≡ x.source_end → y.items ≡ kills ++ items →
         rule.kills c x.id kills → All (IsKillAt x.id) kills → BecomeAll x.id 0 x.items items → BlocksBecome xs ys → BlocksBecome (x ∷ xs) (y ∷ ys)
     goes : {x : Block} {xs ys : List Block} → BecomeAll x.id 0 x.items [] → BlocksBecome xs ys → BlocksBecome (x ∷ xs) ys
 
@@ -166,7 +166,7 @@ IsGivenOrLost c losses k = Contains (numbers_on c.new) k ⊎ ((why : Reason) × 
 
 -- an added substitution is for operand 0 of a number that no item has any more, without a subregister. The chain of substitutions from
 -- its destination ends at a pair whose number an item has, or is lost
-pub record IsFor (c : Change) (losses : List Loss) (e : Entry) : Type 0 where
+pub record IsFor (c : Change) (losses : List Loss) (e : DebugSubstitution) : Type 0 where
   pub whole : (e.src.operand ≡ 0) × (e.subreg ≡ 0)
   pub gone : Contains (numbers_on c.new) e.src.number → ⊥
   pub stands : (q : OperandPair) × Ends c.new_subs e.dst q × IsGivenOrLost c losses q.number
@@ -176,7 +176,7 @@ pub record IsFor (c : Change) (losses : List Loss) (e : Entry) : Type 0 where
 -- Registers are spilled into slots that are new to the function, and only virtual registers are renamed, to real ones
 pub record KeepsItems (rule : Rule) (c : Change) (losses : List Loss) : Type 0 where
   pub blocks : BlocksBecome rule c c.old.blocks c.new.blocks
-  pub subs : (more : List Entry) × (c.new_subs ≡ c.old_subs ++ more) × rule.substitutes c more × All (IsFor c losses) more
+  pub subs : (more : List DebugSubstitution) × (c.new_subs ≡ c.old_subs ++ more) × rule.substitutes c more × All (IsFor c losses) more
   pub said : All (IsLoss rule c) losses
   pub told : (loss : Loss) → IsLoss rule c loss → Contains losses loss
   pub ordered : IsInOrder losses

@@ -1,5 +1,5 @@
 pub mod Change
-pub mod Following
+pub mod Simulation
 pub mod Code
 pub mod Order
 pub mod Rule

@@ -14,7 +14,7 @@ use Rattle.mir_func.specs.Sound.{code_number}
 use Rattle.pass_trait.specs.declared.loss.Reason.TheVariants.{Removed}
 use Rattle.pass_trait.specs.Code.{CodeRule}
 use Rattle.pass_trait.specs.Rule.{Rule, number_lost, StandsAt}
-use Rattle.pass_trait.specs.Steps.{Step}
+use Rattle.pass_trait.specs.Steps.{PassStep}
 
 -- a no-operation (RISC-V Unprivileged ISA, RV32I, "NOP Instruction"): a constant definition of x0
 abbrev pub is_nop_row : Row → Bool
@@ -47,7 +47,7 @@ stays busy i = not (not busy && is_nop i.kind)
 
 -- the block without its no-operations, or unchanged if `busy`
 abbrev pub thinned_block : Bool → Block → Block
-thinned_block busy b = record { id = b.id; items = filter (stays busy) b.items; silent = b.silent }
+thinned_block busy b = record { id = b.id; items = filter (stays busy) b.items; source_end = b.source_end }
 
 -- the same for all blocks: if `busy`, all are unchanged
 abbrev pub thinned_blocks : Bool → List Block → List Block
@@ -82,7 +82,7 @@ nop_rule = record {
 }
 
 -- the pass's only step
-abbrev pub nop_step : Step
+abbrev pub nop_step : PassStep
 nop_step = record { code = IsThinned; debug = nop_rule }
 
 -- the number of a no-operation, if it has one

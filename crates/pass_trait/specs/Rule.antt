@@ -10,7 +10,7 @@ use Rattle.mir_func.specs.declared.location.Loc.TheVariants.{Absent}
 use Rattle.mir_func.specs.declared.item.Item.{Item}
 use Rattle.mir_func.specs.declared.item.ItemKind.{ItemKind}
 use Rattle.mir_func.specs.declared.entry.OperandPair.{OperandPair}
-use Rattle.mir_func.specs.declared.entry.Entry.{Entry}
+use Rattle.mir_func.specs.declared.entry.DebugSubstitution.{DebugSubstitution}
 use Rattle.mir_func.specs.Function.{Function}
 use Rattle.mir_func.specs.Sound.{items_of, number_of}
 use Rattle.mir_func.specs.Graph.{Here, fetch_in, from_block}
@@ -38,7 +38,7 @@ pub record Rule : Type 1 where
   -- the location that the DBG_PHI names which replaces a removed copy at a position
   pub salvages : Change → (place : Pos) → Place → Type 0
   -- the debug value substitutions that are added, in order
-  pub substitutes : Change → List Entry → Type 0
+  pub substitutes : Change → List DebugSubstitution → Type 0
   -- the kills (undef debug values and DBG_PHIs) that are added at the start of a block, in order
   pub kills : Change → (block : ℕ) → List Item → Type 0
 

@@ -6,7 +6,7 @@ use Rattle.mir_func.specs.declared.item.ItemKind.{ItemKind}
 use Rattle.mir_func.specs.declared.item.ItemKind.TheVariants.{Code, Mark, Phi}
 use Rattle.mir_func.specs.declared.variable.MarkValue.TheVariants.{Nothing, Constant, At, Pair}
 use Rattle.mir_func.specs.declared.block.Block.{Block}
-use Rattle.mir_func.specs.declared.entry.Entry.{Entry}
+use Rattle.mir_func.specs.declared.entry.DebugSubstitution.{DebugSubstitution}
 use Rattle.mir_func.specs.Function.{Function}
 use Rattle.mir_func.specs.Sound.{items_of, AllItems}
 use Rattle.mir_func.specs.SoundFrame.{HasPhysical}
@@ -31,11 +31,11 @@ numbers_of (Mark v (At r)) = []
 
 -- the debug instruction numbers of a function with its substitutions: of items, of debug values' operands, and on both sides of
 -- substitutions
-abbrev pub numbers_in : List Block → List Entry → List ℕ
+abbrev pub numbers_in : List Block → List DebugSubstitution → List ℕ
 numbers_in blocks subs = flat_map (λ i. numbers_of i.kind) (items_of blocks) ++ flat_map (λ e. e.src.number ∷ e.dst.number ∷ []) subs
 
 -- the greatest debug instruction number of the function and its substitutions: all greater ones are fresh
-abbrev pub greatest_number : Function → List Entry → ℕ
+abbrev pub greatest_number : Function → List DebugSubstitution → ℕ
 greatest_number f subs = greatest (numbers_in f.blocks subs)
 
 -- how many items a function has, debug items included

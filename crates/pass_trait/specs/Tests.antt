@@ -2,7 +2,7 @@
 use Rattle.std.specs.Prelude.{◌≡◌, ℕ, ◌<◌, List, map, length, cond, nat_eq, false}
 use Rattle.rv64_instr.specs.declared.place.Place.TheVariants.{Register}
 use Rattle.mir_func.specs.declared.position.Pos.{Pos}
-use Rattle.mir_func.specs.declared.entry.Entry.{Entry}
+use Rattle.mir_func.specs.declared.entry.DebugSubstitution.{DebugSubstitution}
 use Rattle.mir_func.specs.Function.{Function}
 use Rattle.pass_trait.specs.Change.{change}
 use Rattle.pass_trait.specs.Code.{CodeRule}
@@ -12,8 +12,8 @@ use Rattle.pass_trait.specs.Nops.{thinned_block, nop_rule}
 -- a wrong code rule: it depends on debug items. No-operations are removed only from blocks whose silent index equals their
 -- number of items
 abbrev pub IsWatching : CodeRule
-IsWatching f g = g ≡ record f { blocks = map (λ b. cond (nat_eq b.silent (length b.items)) (thinned_block false b) b) f.blocks }
+IsWatching f g = g ≡ record f { blocks = map (λ b. cond (nat_eq b.source_end (length b.items)) (thinned_block false b) b) f.blocks }
 
 -- under a change that changes nothing, no real register is wrong at any position
 abbrev pub NothingIsWrong : Type 0
-NothingIsWrong = (f : Function) (subs : List Entry) (r : ℕ) (at : Pos) → r < 32 → IsWrong nop_rule (change f subs f subs) (Register r) at → ⊥
+NothingIsWrong = (f : Function) (subs : List DebugSubstitution) (r : ℕ) (at : Pos) → r < 32 → IsWrong nop_rule (change f subs f subs) (Register r) at → ⊥

@@ -2,9 +2,9 @@
 ghost use Rattle.std.specs.Prelude.{◌≡◌, ℕ, ◌+◌, ◌*◌, ◌<◌, ◌≤◌, ◌^◌, List, Bool, IsTrue, IfOk, OnOk};
 ghost use Rattle.mir_func.specs.Limits.{MAX_SLOTS};
 ghost use Rattle.pass_trait.specs.Change.{change};
-ghost use Rattle.pass_trait.specs.Following.{KeepsFollowing};
+ghost use Rattle.pass_trait.specs.Simulation.{PreservesSimulation};
 ghost use Rattle.pass_trait.specs.Code.{HasOneResult, SeesCodeAlone};
-ghost use Rattle.pass_trait.specs.Steps.{Step, EachCode, KeepsSteps, MakeCodeAlone};
+ghost use Rattle.pass_trait.specs.Steps.{PassStep, EachCode, KeepsSteps, MakeCodeAlone};
 ghost use Rattle.pass_trait.specs.Sizes.{greatest, greatest_number, most_numbers, KeepsSizes};
 
 use crate::loss::Losses;
@@ -40,7 +40,7 @@ pub trait Pass {
     /// item, and how many times `MAX_SLOTS` slot numbers.
     ghost count: { ℕ };
     /// Its steps, each with a code rule and a debug rule; for a composed pass those of its parts, in order.
-    ghost steps: { Self → List Step };
+    ghost steps: { Self → List PassStep };
 
     /// Runs the pass and returns what it lost. After an error the function and its substitutions may only be dropped.
     fn run(
@@ -51,7 +51,7 @@ pub trait Pass {
     ) -> Result<Losses, AllocError>
         requires numbers { greatest_number f.old subs.old + most_numbers factor count f.old < 2 ^ 31 }
         requires slots { greatest f.old.slots + MAX_SLOTS * count < 2 ^ 31 }
-        ensures follows { OnOk result (IsTrue fits → KeepsFollowing asks keeps (change f.old subs.old f.new subs.new)) }
+        ensures follows { OnOk result (IsTrue fits → PreservesSimulation asks keeps (change f.old subs.old f.new subs.new)) }
         ensures steps { IfOk result (KeepsSteps (steps self.old) (change f.old subs.old f.new subs.new)) }
         ensures sizes { OnOk result (KeepsSizes factor count (change f.old subs.old f.new subs.new)) }
         ensures same { self.new ≡ self.old };

@@ -101,7 +101,7 @@ label_cause body n = if is_met n body.ids then Some DuplicateBlock else (if nat_
 
 -- the body with a new last block
 abbrev pub with_label : Body → ℕ → Body
-with_label body n = record body { before = blocks_of body; last = Some (record { id = n; items = []; silent = 0 }); ids = met n body.ids }
+with_label body n = record body { before = blocks_of body; last = Some (record { id = n; items = []; source_end = 0 }); ids = met n body.ids }
 
 -- ---- items
 
@@ -116,8 +116,8 @@ repeats body (Phi p k) = is_met k body.codes
 abbrev pub block_with : ItemKind → Loc → Block → Block
 block_with kind loc b = record {
   id = b.id;
-  items = b.items ++ record { kind = kind; origin = Kept (record { block = b.id; item = b.silent }); loc = loc } ∷ [];
-  silent = b.silent + 1;
+  items = b.items ++ record { kind = kind; origin = Kept (record { block = b.id; item = b.source_end }); loc = loc } ∷ [];
+  source_end = b.source_end + 1;
 }
 
 -- the body with the debug instruction number of an item recorded
@@ -161,7 +161,7 @@ with_item body kind loc entries = placed (with_facts body kind) kind loc entries
 
 -- the silent position of the last block is at most the number of items
 abbrev pub IsCounted : Body → Type 0
-IsCounted body = IfSome body.last (λ b. b.silent ≤ body.items)
+IsCounted body = IfSome body.last (λ b. b.source_end ≤ body.items)
 
 -- whether a limit is exceeded
 abbrev pub exceeds : Body → Bool

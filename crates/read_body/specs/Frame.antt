@@ -3,7 +3,7 @@ use Rattle.std.specs.Prelude.{ℕ, ◌+◌, ◌<◌, ◌≤◌, Bool, not, ◌||
 use Rattle.mir_func.specs.declared.object.Object.{Object}
 use Rattle.mir_func.specs.Objects.{up_to}
 use Rattle.read_declarations.specs.declared.stack.StackEntry.{StackEntry}
-use Rattle.read_body.specs.declared.frame.Laid.{Laid}
+use Rattle.read_body.specs.declared.frame.ObjectLayout.{ObjectLayout}
 use Rattle.read_body.specs.Met.{is_met, met}
 
 -- the limits of a stack entry
@@ -34,17 +34,17 @@ abbrev pub laid_at : ℕ → StackEntry → Object
 laid_at end e = record { id = e.id; size = e.size; align = e.align; offset = up_to e.align end }
 
 -- the objects with one more entry, if that is an object, placed after the end of those before it
-abbrev pub with_object : List ℕ → Laid → StackEntry → Laid
+abbrev pub with_object : List ℕ → ObjectLayout → StackEntry → ObjectLayout
 with_object named laid e =
     if is_object named e then record { objects = laid.objects ++ laid_at laid.end e ∷ []; end = up_to e.align laid.end + e.size } else laid
 
 -- the objects with those of further entries
-unfoldable pub objects_behind : List ℕ → Laid → List StackEntry → Laid
+unfoldable pub objects_behind : List ℕ → ObjectLayout → List StackEntry → ObjectLayout
 objects_behind named laid [] = laid
 objects_behind named laid (e ∷ es) = objects_behind named (with_object named laid e) es
 
 -- the stack objects among stack entries, in declared order, placed from offset 0
-abbrev pub objects_of : List ℕ → List StackEntry → Laid
+abbrev pub objects_of : List ℕ → List StackEntry → ObjectLayout
 objects_of named es = objects_behind named (record { objects = []; end = 0 }) es
 
 -- a set of numbers with that of an entry, if the entry is an object

@@ -26,7 +26,7 @@ ghost use Rattle.read_body.specs.Body.{
 };
 
 use crate::limits::{MAX_CONSTANTS, MAX_ITEMS, MAX_NUMBERS, MAX_VARIABLES};
-use crate::met::Met;
+use crate::met::FirstUseOrder;
 use crate::variables::{Variables, meet};
 use base_ids::code::{BlockId, DebugNumber, SlotId};
 use base_list::List;
@@ -55,15 +55,15 @@ pub struct Body {
     /// How many items it has.
     pub items: usize,
     /// The numbers of its blocks.
-    pub ids: Met,
+    pub ids: FirstUseOrder,
     /// The debug instruction numbers of its instructions.
-    pub codes: Met,
+    pub codes: FirstUseOrder,
     /// The debug instruction numbers of all its items.
-    pub numbers: Met,
+    pub numbers: FirstUseOrder,
     /// The constants of its debug values and of its instructions that set a register to one, as 64 bits.
-    pub constants: Met,
+    pub constants: FirstUseOrder,
     /// The stack entries that its instructions name as stack objects.
-    pub objects: Met,
+    pub objects: FirstUseOrder,
     /// The variables, and fragments of variables, of its debug values.
     pub variables: Variables,
 }
@@ -114,11 +114,11 @@ impl Body {
             last: None,
             entries: List::new(alloc),
             items: 0,
-            ids: Met::new(alloc),
-            codes: Met::new(alloc),
-            numbers: Met::new(alloc),
-            constants: Met::new(alloc),
-            objects: Met::new(alloc),
+            ids: FirstUseOrder::new(alloc),
+            codes: FirstUseOrder::new(alloc),
+            numbers: FirstUseOrder::new(alloc),
+            constants: FirstUseOrder::new(alloc),
+            objects: FirstUseOrder::new(alloc),
             variables: List::new(alloc),
         }
     }
@@ -147,7 +147,7 @@ impl Body {
         self.last = Some(Block {
             id,
             items: List::new(alloc),
-            silent: 0,
+            source_end: 0,
         });
         Ok(())
     }
@@ -239,10 +239,10 @@ impl Body {
         if let Some(mut block) = self.last.take() {
             let origin = Origin::Kept(Pos {
                 block: block.id,
-                item: block.silent,
+                item: block.source_end,
             });
             block.items.push(Item { kind, origin, loc })?;
-            block.silent += 1;
+            block.source_end += 1;
             self.last = Some(block);
         }
         Ok(())

@@ -4,14 +4,14 @@ ghost use Rattle.std.specs.Prelude.{◌≡◌};
 ghost use Rattle.mir_func.specs.declared.exit.Exit.{Exit};
 ghost use Rattle.read_body.specs.Closing.{goes_to_one_of, item_goes_to, block_goes_to, blocks_go_to, all_met};
 
-use crate::met::Met;
+use crate::met::FirstUseOrder;
 use base_ids::code::SlotId;
 use mir_func::block::Block;
 use mir_func::exit::Exit;
 use mir_func::item::Item;
 
 /// Whether the branch target of an exit, if it has one, is one of these blocks.
-fn goes_to_one_of(ids: &Met, exit: Exit) -> bool
+fn goes_to_one_of(ids: &FirstUseOrder, exit: Exit) -> bool
     ensures { result ≡ goes_to_one_of ids.now exit }
 {
     match exit {
@@ -20,13 +20,13 @@ fn goes_to_one_of(ids: &Met, exit: Exit) -> bool
     }
 }
 
-fn item_goes_to(ids: &Met, item: &Item) -> bool
+fn item_goes_to(ids: &FirstUseOrder, item: &Item) -> bool
     ensures { result ≡ item_goes_to ids.now item.now }
 {
     goes_to_one_of(ids, item.kind.exit())
 }
 
-fn block_goes_to(ids: &Met, block: &Block) -> bool
+fn block_goes_to(ids: &FirstUseOrder, block: &Block) -> bool
     ensures { result ≡ block_goes_to ids.now block.now }
 {
     block
@@ -37,14 +37,14 @@ fn block_goes_to(ids: &Met, block: &Block) -> bool
 }
 
 /// Whether each branch target in these blocks is one of these blocks.
-pub fn blocks_go_to(ids: &Met, blocks: &[Block]) -> bool
+pub fn blocks_go_to(ids: &FirstUseOrder, blocks: &[Block]) -> bool
     ensures { result ≡ blocks_go_to ids.now blocks.now }
 {
     blocks.iter().all(|block| block_goes_to(ids, block))
 }
 
 /// Whether each stack entry that is named is declared.
-pub fn all_met(declared: &Met, named: &[SlotId]) -> bool
+pub fn all_met(declared: &FirstUseOrder, named: &[SlotId]) -> bool
     ensures { result ≡ all_met declared.now named.now }
 {
     named.iter().all(|id| declared.has(u64::from(id.number())))

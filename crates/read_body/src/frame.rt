@@ -13,7 +13,7 @@ ghost use Rattle.read_body.specs.Frame.{
   ids_of_objects,
 };
 
-use crate::met::Met;
+use crate::met::FirstUseOrder;
 use base_ids::code::ObjectId;
 use base_list::List;
 use mir_func::func::SlotIds;
@@ -25,14 +25,18 @@ use std::alloc::{AllocError, Global};
 const SLOT_SIZE: u32 = 8;
 
 /// Whether a stack entry is an object: its size isn't that of a spill slot, or code names it as an object.
-fn is_object(named: &Met, entry: &StackEntry) -> bool
+fn is_object(named: &FirstUseOrder, entry: &StackEntry) -> bool
     ensures { result ≡ is_object named.now entry.now }
 {
     entry.size != SLOT_SIZE || named.has(u64::from(entry.id.number()))
 }
 
 /// Appends a stack entry, if it is a spill slot.
-fn add_slot(slots: &mut SlotIds, named: &Met, entry: &StackEntry) -> Result<(), AllocError>
+fn add_slot(
+    slots: &mut SlotIds,
+    named: &FirstUseOrder,
+    entry: &StackEntry,
+) -> Result<(), AllocError>
     ensures { OnOk result (slots.new ≡ with_slot named.now slots.old entry.now) }
 {
     if is_object(named, entry) {
@@ -42,7 +46,11 @@ fn add_slot(slots: &mut SlotIds, named: &Met, entry: &StackEntry) -> Result<(), 
 }
 
 /// The spill slots among stack entries, where `named` are those that code names as objects.
-pub fn slots(alloc: Global, named: &Met, entries: &[StackEntry]) -> Result<SlotIds, AllocError>
+pub fn slots(
+    alloc: Global,
+    named: &FirstUseOrder,
+    entries: &[StackEntry],
+) -> Result<SlotIds, AllocError>
     ensures { IfOk result (λ slots. slots ≡ slots_of named.now entries.now) }
 {
     let mut slots = List::new(alloc);
@@ -54,7 +62,7 @@ pub fn slots(alloc: Global, named: &Met, entries: &[StackEntry]) -> Result<SlotI
 
 /// Stack objects with their offsets.
 #[derive(Drop)]
-pub struct Laid {
+pub struct ObjectLayout {
     /// The objects.
     pub objects: Objects,
     /// The end of the last one, in bytes.
@@ -63,7 +71,7 @@ pub struct Laid {
 
 /// Places a stack entry, if it is an object, after those before it, at the least multiple of its alignment that isn't
 /// below their end.
-fn lay(laid: &mut Laid, named: &Met, entry: &StackEntry) -> Result<(), AllocError>
+fn lay(laid: &mut ObjectLayout, named: &FirstUseOrder, entry: &StackEntry) -> Result<(), AllocError>
     requires each { IsStackEntry entry.now }
     requires room { laid.old.end < 2 ^ 40 }
     ensures laid { OnOk result (laid.new ≡ with_object named.now laid.old entry.now) }
@@ -83,12 +91,16 @@ fn lay(laid: &mut Laid, named: &Met, entry: &StackEntry) -> Result<(), AllocErro
 }
 
 /// The stack objects among stack entries, in declared order.
-pub fn objects(alloc: Global, named: &Met, entries: &[StackEntry]) -> Result<Laid, AllocError>
+pub fn objects(
+    alloc: Global,
+    named: &FirstUseOrder,
+    entries: &[StackEntry],
+) -> Result<ObjectLayout, AllocError>
     requires few { length entries.now ≤ MAX_SLOTS }
     requires each { All IsStackEntry entries.now }
     ensures { IfOk result (λ laid. laid ≡ objects_of named.now entries.now) }
 {
-    let mut laid = Laid {
+    let mut laid = ObjectLayout {
         objects: List::new(alloc),
         end: 0,
     };
@@ -99,7 +111,11 @@ pub fn objects(alloc: Global, named: &Met, entries: &[StackEntry]) -> Result<Lai
 }
 
 /// Inserts the number of a stack entry, if it is an object.
-fn meet_object(ids: &mut Met, named: &Met, entry: &StackEntry) -> Result<(), AllocError>
+fn meet_object(
+    ids: &mut FirstUseOrder,
+    named: &FirstUseOrder,
+    entry: &StackEntry,
+) -> Result<(), AllocError>
     ensures { OnOk result (ids.new ≡ with_id named.now ids.old entry.now) }
 {
     if !is_object(named, entry) {
@@ -109,10 +125,14 @@ fn meet_object(ids: &mut Met, named: &Met, entry: &StackEntry) -> Result<(), All
 }
 
 /// The set of the numbers of the objects among stack entries.
-pub fn object_ids(alloc: Global, named: &Met, entries: &[StackEntry]) -> Result<Met, AllocError>
+pub fn object_ids(
+    alloc: Global,
+    named: &FirstUseOrder,
+    entries: &[StackEntry],
+) -> Result<FirstUseOrder, AllocError>
     ensures { IfOk result (λ ids. ids ≡ ids_of_objects named.now entries.now) }
 {
-    let mut ids = Met::new(alloc);
+    let mut ids = FirstUseOrder::new(alloc);
     for entry in entries {
         meet_object(&mut ids, named, entry)?;
     }

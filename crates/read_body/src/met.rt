@@ -9,12 +9,12 @@ use std::marker::Model;
 
 /// A set of numbers. A contract sees it as their list, in the order of first insertion.
 #[derive(Drop)]
-pub struct Met {
+pub struct FirstUseOrder {
     list: Vec<u64>,
     set: BTreeSet<u64>,
 }
 
-impl Model for Met {
+impl Model for FirstUseOrder {
     ghost use Rattle.std.specs.Prelude.{List, ℕ};
     ghost use Rattle.read_body.specs.Met.{HasAll};
 
@@ -25,12 +25,12 @@ impl Model for Met {
     ghost invariant = { λ m. HasAll m.set m.list.items };
 }
 
-impl Met {
+impl FirstUseOrder {
     /// The empty set. It takes no memory.
-    pub fn new(alloc: Global) -> Met
+    pub fn new(alloc: Global) -> FirstUseOrder
         ensures { result ≡ [] }
     {
-        Met {
+        FirstUseOrder {
             list: Vec::new(alloc),
             set: BTreeSet::new(alloc),
         }

@@ -5,7 +5,7 @@ use Rattle.read_lexer.specs.declared.line.Line.{Line}
 use Rattle.read_lexer.specs.Line.{tokens_of}
 use Rattle.read_lexer.specs.Comment.{before_comment}
 use Rattle.read_refusal.specs.declared.kind.RefusalKind.{RefusalKind}
-use Rattle.read_declarations.specs.declared.stream.Piece.{Piece}
+use Rattle.read_declarations.specs.declared.stream.YamlToken.{YamlToken}
 use Rattle.read_declarations.specs.declared.stream.LineTokens.{LineTokens}
 use Rattle.read_declarations.specs.declared.stream.TokenStream.{TokenStream}
 use Rattle.read_declarations.specs.Stream.{line_tokens_of, piece_of, before_lines, with_line, stream_from, stream_of}
@@ -14,7 +14,7 @@ use Rattle.read_declarations.specs.Stream.{line_tokens_of, piece_of, before_line
 abbrev pub read_of : Line → LineTokens
 read_of line = line_tokens_of (before_comment line.text) (tokens_of (before_comment line.text))
 
-module _ (lines : List Line) (at : ℕ) (here : Line) (ps : List Piece) where
+module _ (lines : List Line) (at : ℕ) (here : Line) (ps : List YamlToken) where
   -- the tokens behind a line
   abbrev others : TokenStream
   others = stream_from (at + 1) (drop (at + 1) lines)
@@ -43,7 +43,7 @@ module _ (lines : List Line) (at : ℕ) (here : Line) (ps : List Piece) where
       → before_lines (ps ++ map (piece_of at here.number) (read_of here).tokens) 0 None others ≡ stream_of lines
   goes_on lt is read fault =
       let ts = map (piece_of at here.number) (read_of here).tokens in
-      ap (λ (x : List Piece). record { pieces = x; fault = others.fault }) (append_assoc ps ts others.pieces)
+      ap (λ (x : List YamlToken). record { pieces = x; fault = others.fault }) (append_assoc ps ts others.pieces)
       ∙ ap (λ (f : Option RefusalKind). before_lines ps 0 None (before_lines ts here.number f others)) (sym fault)
       ∙ at_line lt is read
 
@@ -52,5 +52,5 @@ module _ (lines : List Line) (at : ℕ) (here : Line) (ps : List Piece) where
       → record { pieces = ps; fault = None } ≡ stream_of lines
   unfolding stream_from
   all_read all read =
-      ap (λ (x : List Piece). record { pieces = x; fault = None }) (sym (append-nil ps))
+      ap (λ (x : List YamlToken). record { pieces = x; fault = None }) (sym (append-nil ps))
       ∙ ap (λ (r : List Line). before_lines ps 0 None (stream_from at r)) (sym (drop_all at lines all)) ∙ read

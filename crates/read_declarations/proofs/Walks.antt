@@ -3,21 +3,21 @@ use Rattle.std.proofs.Common.{◌≡◌, ℕ, ◌+◌, ◌<◌, ◌≤◌, Bool,
 use Rattle.std.proofs.lemmas.List.{drop_more, drop_all}
 use Rattle.std.specs.Str.{bytes_eq}
 use Rattle.read_lexer.specs.declared.line.Line.{Line}
-use Rattle.read_declarations.specs.declared.stream.Piece.{Piece}
-use Rattle.read_declarations.specs.declared.entry.Field.{Field}
+use Rattle.read_declarations.specs.declared.stream.YamlToken.{YamlToken}
+use Rattle.read_declarations.specs.declared.entry.MappingField.{MappingField}
 use Rattle.read_declarations.specs.declared.entry.OpenList.{OpenList}
 use Rattle.read_declarations.specs.Stream.{text_at}
 use Rattle.read_declarations.specs.Entry.{fits_at, line_at, behind, ended, bad_line, entries_from, entries_of}
 use Rattle.read_declarations.specs.Field.{value_at}
 use Rattle.read_lexer.specs.declared.parts.Token.{Token}
 use Rattle.read_declarations.specs.Name.{is_single_at, are_single}
-use Rattle.read_declarations.specs.declared.entry.Entry.{Entry}
+use Rattle.read_declarations.specs.declared.entry.MappingEntry.{MappingEntry}
 use Rattle.read_declarations.specs.declared.stack.StackRead.{StackRead}
 use Rattle.read_declarations.specs.declared.substitutions.SubstitutionsRead.{SubstitutionsRead}
 use Rattle.read_declarations.specs.Stack.{stack_entry_of, judged, stack_behind, stack_of}
 use Rattle.read_declarations.specs.Substitutions.{substitution_of, substituted, substitutions_behind, substitutions_of}
 
-module _ (lines : List Line) (key : List ℕ) (fs : List Field) (i : ℕ) (d : Field) where
+module _ (lines : List Line) (key : List ℕ) (fs : List MappingField) (i : ℕ) (d : MappingField) where
   at_field : (same : Bool) → i < length fs → value_at lines key (drop i fs) ≡ value_at lines key fs →
       bytes_eq (text_at lines (get_or fs i d).key) key ≡ same →
       cond same (Some (get_or fs i d).value) (value_at lines key (drop (i + 1) fs)) ≡ value_at lines key fs
@@ -38,8 +38,8 @@ module _ (lines : List Line) (key : List ℕ) (fs : List Field) (i : ℕ) (d : F
   unfolding value_at
   nowhere all read = ap (value_at lines key) (sym (drop_all i fs all)) ∙ read
 
-module _ (lines : List Line) (cut : Bool) (ps : List Piece) (i : ℕ) (d : Piece) (so_far : OpenList) where
-  abbrev here : Piece
+module _ (lines : List Line) (cut : Bool) (ps : List YamlToken) (i : ℕ) (d : YamlToken) (so_far : OpenList) where
+  abbrev here : YamlToken
   here = get_or ps i d
 
   at_piece : (fits : Bool) → i < length ps → entries_from lines cut so_far (drop i ps) ≡ entries_of lines cut ps →
@@ -64,12 +64,12 @@ module _ (lines : List Line) (cut : Bool) (ps : List Piece) (i : ℕ) (d : Piece
   unfolding entries_from
   none_left all read = ap (entries_from lines cut so_far) (sym (drop_all i ps all)) ∙ read
 
-module _ (lines : List Line) (es : List Entry) (i : ℕ) (here : Entry) where
+module _ (lines : List Line) (es : List MappingEntry) (i : ℕ) (here : MappingEntry) where
   pub stack_more : (read next : StackRead) → i < length es → here ≡ get_or es i here → stack_behind lines read (drop i es) ≡ stack_of lines
       → next ≡ judged read here.line (stack_entry_of lines here.fields) → stack_behind lines next (drop (i + 1) es) ≡ stack_of lines
   unfolding stack_behind
   stack_more read next lt is so_far more =
-      let parts : drop i es ≡ here ∷ drop (i + 1) es = drop_more es i here lt ∙ ap (λ (x : Entry). x ∷ drop (i + 1) es) (sym is) in
+      let parts : drop i es ≡ here ∷ drop (i + 1) es = drop_more es i here lt ∙ ap (λ (x : MappingEntry). x ∷ drop (i + 1) es) (sym is) in
       ap (λ (r : StackRead). stack_behind lines r (drop (i + 1) es)) more ∙ ap (stack_behind lines read) (sym parts) ∙ so_far
 
   pub stack_whole : (read : StackRead) → length es ≤ i → stack_behind lines read (drop i es) ≡ stack_of lines → read ≡ stack_of lines
@@ -81,7 +81,7 @@ module _ (lines : List Line) (es : List Entry) (i : ℕ) (here : Entry) where
       → next ≡ substituted read here.line (substitution_of lines here.fields) → substitutions_behind lines next (drop (i + 1) es) ≡ substitutions_of lines
   unfolding substitutions_behind
   substitutions_more read next lt is so_far more =
-      let parts : drop i es ≡ here ∷ drop (i + 1) es = drop_more es i here lt ∙ ap (λ (x : Entry). x ∷ drop (i + 1) es) (sym is) in
+      let parts : drop i es ≡ here ∷ drop (i + 1) es = drop_more es i here lt ∙ ap (λ (x : MappingEntry). x ∷ drop (i + 1) es) (sym is) in
       ap (λ (r : SubstitutionsRead). substitutions_behind lines r (drop (i + 1) es)) more ∙ ap (substitutions_behind lines read) (sym parts) ∙ so_far
 
   pub substitutions_whole : (read : SubstitutionsRead) → length es ≤ i → substitutions_behind lines read (drop i es) ≡ substitutions_of lines

@@ -8,14 +8,14 @@ use Rattle.read_refusal.specs.First.{earlier}
 use Rattle.read_declarations.specs.declared.declarations.Declarations.{Declarations}
 use Rattle.read_declarations.specs.declared.declarations.DeclarationError.{DeclarationError}
 use Rattle.read_declarations.specs.declared.declarations.DeclarationError.TheVariants as errors
-use Rattle.read_declarations.specs.declared.entry.Entry.{Entry}
+use Rattle.read_declarations.specs.declared.entry.MappingEntry.{MappingEntry}
 use Rattle.read_declarations.specs.List.{list_of}
 use Rattle.read_declarations.specs.Name.{name_of}
 use Rattle.read_declarations.specs.Stack.{stack_of}
 use Rattle.read_declarations.specs.Substitutions.{substitutions_of}
 
 -- No entry of `fixedStack` is supported: the first one is refused as a stack object. The result is the earlier of that and `refused`.
-abbrev pub fixed_entries : Option Refusal → List Entry → Option Refusal
+abbrev pub fixed_entries : Option Refusal → List MappingEntry → Option Refusal
 fixed_entries refused [] = refused
 fixed_entries refused (e ∷ es) = earlier refused (Some (record { line = e.line; kind = StackObject }))
 

@@ -11,24 +11,24 @@ use Rattle.read_lexer.specs.declared.line.Line.{Line}
 use Rattle.read_metadata.specs.Token.{is_byte, is_word, is_integer, is_text}
 use Rattle.read_refusal.specs.declared.first.Refusal.{Refusal}
 use Rattle.read_refusal.specs.declared.kind.RefusalKind.TheVariants.{BadLine}
-use Rattle.read_declarations.specs.declared.stream.Piece.{Piece}
-use Rattle.read_declarations.specs.declared.entry.Field.{Field}
-use Rattle.read_declarations.specs.declared.entry.Place.{Place}
-use Rattle.read_declarations.specs.declared.entry.Place.TheVariants.{Outside, Dash, Key, Colon, Value, Next}
+use Rattle.read_declarations.specs.declared.stream.YamlToken.{YamlToken}
+use Rattle.read_declarations.specs.declared.entry.MappingField.{MappingField}
+use Rattle.read_declarations.specs.declared.entry.ParserState.{ParserState}
+use Rattle.read_declarations.specs.declared.entry.ParserState.TheVariants.{Outside, Dash, Key, Colon, Value, Next}
 use Rattle.read_declarations.specs.declared.entry.OpenList.{OpenList}
 use Rattle.read_declarations.specs.declared.entry.Listing.{Listing}
 use Rattle.read_declarations.specs.Stream.{text_at}
 
 -- whether a token is this byte alone
-abbrev pub is_mark : ℕ → Piece → Bool
+abbrev pub is_mark : ℕ → YamlToken → Bool
 is_mark byte p = is_byte byte p.token
 
 -- a value: a word, an integer or a text
-abbrev pub is_value : Piece → Bool
+abbrev pub is_value : YamlToken → Bool
 is_value p = is_word p.token || (is_integer p.token || is_text p.token)
 
 -- whether one of these fields has the same key
-abbrev pub has_key : List Line → List Field → Piece → Bool
+abbrev pub has_key : List Line → List MappingField → YamlToken → Bool
 has_key lines fields key = list_any (λ f. bytes_eq (text_at lines f.key) (text_at lines key)) fields
 
 -- whether a set of texts has this one
@@ -36,11 +36,11 @@ abbrev pub has_text : BTreeSet (Bor (List ℕ)) → List ℕ → Bool
 has_text keys t = contains_by (λ k. slice_cmp nat_cmp t k.now) keys
 
 -- a set contains the keys of these fields and no others
-abbrev pub AreKeys : List Line → BTreeSet (Bor (List ℕ)) → List Field → Type 0
+abbrev pub AreKeys : List Line → BTreeSet (Bor (List ℕ)) → List MappingField → Type 0
 AreKeys lines keys fields = (t : List ℕ) → has_text keys t ≡ list_any (λ f. bytes_eq (text_at lines f.key) t) fields
 
 -- if the set `keys` contains the keys of `fields` and no others, then `new` contains those of `others` and no more
-abbrev pub KeepsKeys : BTreeSet (Bor (List ℕ)) → List Field → BTreeSet (Bor (List ℕ)) → List Field → Type 0
+abbrev pub KeepsKeys : BTreeSet (Bor (List ℕ)) → List MappingField → BTreeSet (Bor (List ℕ)) → List MappingField → Type 0
 KeepsKeys keys fields new others = (lines : List Line) → AreKeys lines keys fields → AreKeys lines new others
 
 -- the refusal of a line that has no accepted form
@@ -49,7 +49,7 @@ bad_line line = record { line = line; kind = BadLine }
 
 -- Whether a token may come next at each place: an entry is `-` and fields in braces, separated by `,`; a field is a word, `:` and a value; and no key
 -- occurs twice in an entry.
-abbrev pub fits_at : List Line → List Field → Place → Piece → Bool
+abbrev pub fits_at : List Line → List MappingField → ParserState → YamlToken → Bool
 fits_at lines fields Outside p = is_mark 45 p
 fits_at lines fields Dash p = is_mark 123 p
 fits_at lines fields Key p = is_word p.token
@@ -58,7 +58,7 @@ fits_at lines fields (Value key) p = is_value p && not (has_key lines fields key
 fits_at lines fields Next p = is_mark 44 p || is_mark 125 p
 
 -- the first line of the entry that a token belongs to, where `line` is that of the open entry
-abbrev pub line_at : ℕ → Place → Piece → ℕ
+abbrev pub line_at : ℕ → ParserState → YamlToken → ℕ
 line_at line Outside p = p.line
 line_at line Dash p = line
 line_at line Key p = line
@@ -71,17 +71,17 @@ abbrev pub nothing_read : OpenList
 nothing_read = record { entries = []; place = Outside; line = 0; fields = [] }
 
 -- after a value `,` is followed by a key, and `}` ends the entry
-abbrev pub behind_value : OpenList → Piece → OpenList
+abbrev pub behind_value : OpenList → YamlToken → OpenList
 behind_value so_far p =
     if is_mark 44 p then record so_far { place = Key }
     else record { entries = so_far.entries ++ record { line = so_far.line; fields = so_far.fields } ∷ []; place = Outside; line = so_far.line; fields = [] }
 
 -- the state after one more field
-abbrev pub with_field : OpenList → Piece → Piece → OpenList
+abbrev pub with_field : OpenList → YamlToken → YamlToken → OpenList
 with_field so_far key value = record so_far { place = Next; fields = so_far.fields ++ record { key = key; value = value } ∷ [] }
 
 -- the state after a token that may come next
-abbrev pub behind : OpenList → Place → Piece → OpenList
+abbrev pub behind : OpenList → ParserState → YamlToken → OpenList
 behind so_far Outside p = record so_far { place = Dash; line = p.line }
 behind so_far Dash p = record so_far { place = Key }
 behind so_far Key p = record so_far { place = Colon p }
@@ -94,7 +94,7 @@ abbrev pub left_open : Bool → ℕ → Option Refusal
 left_open cut line = if cut then None else Some (bad_line line)
 
 -- the refusal where the tokens end: an entry has to be closed by then, unless a fault cut the tokens off
-abbrev pub refused_at_end : Bool → ℕ → Place → Option Refusal
+abbrev pub refused_at_end : Bool → ℕ → ParserState → Option Refusal
 refused_at_end cut line Outside = None
 refused_at_end cut line Dash = left_open cut line
 refused_at_end cut line Key = left_open cut line
@@ -107,12 +107,12 @@ abbrev pub ended : Bool → OpenList → Listing
 ended cut so_far = record { entries = so_far.entries; refused = refused_at_end cut so_far.line so_far.place }
 
 -- The entries of a list up to the first token that can't come next; that token's entry is refused at its first line.
-unfoldable pub entries_from : List Line → Bool → OpenList → List Piece → Listing
+unfoldable pub entries_from : List Line → Bool → OpenList → List YamlToken → Listing
 entries_from lines cut so_far [] = ended cut so_far
 entries_from lines cut so_far (p ∷ ps) =
     if fits_at lines so_far.fields so_far.place p then entries_from lines cut (behind so_far so_far.place p) ps
     else record { entries = so_far.entries; refused = Some (bad_line (line_at so_far.line so_far.place p)) }
 
 -- the list of entries in these tokens
-abbrev pub entries_of : List Line → Bool → List Piece → Listing
+abbrev pub entries_of : List Line → Bool → List YamlToken → Listing
 entries_of lines cut ps = entries_from lines cut nothing_read ps

@@ -5,41 +5,41 @@ use Rattle.read_lexer.specs.declared.line.Line.{Line}
 use Rattle.read_metadata.specs.Number.{integer_of}
 use Rattle.read_metadata.specs.Text.{inside_quotes}
 use Rattle.read_metadata.specs.Token.{is_integer, is_text}
-use Rattle.read_declarations.specs.declared.stream.Piece.{Piece}
-use Rattle.read_declarations.specs.declared.entry.Field.{Field}
+use Rattle.read_declarations.specs.declared.stream.YamlToken.{YamlToken}
+use Rattle.read_declarations.specs.declared.entry.MappingField.{MappingField}
 use Rattle.read_declarations.specs.Stream.{text_at}
 
 -- the value of the field with a key
-unfoldable pub value_at : List Line → List ℕ → List Field → Option Piece
+unfoldable pub value_at : List Line → List ℕ → List MappingField → Option YamlToken
 value_at lines key [] = None
 value_at lines key (f ∷ fs) = if bytes_eq (text_at lines f.key) key then Some f.value else value_at lines key fs
 
 -- the number that a value spells: an integer from 0 to 2^30 - 1
-abbrev pub number_of : List Line → Piece → Option ℕ
+abbrev pub number_of : List Line → YamlToken → Option ℕ
 number_of lines value = if is_integer value.token then integer_of (text_at lines value) else None
 
 -- the number that a value spells, or `missing` if there is no value
-abbrev pub number_in : List Line → Option ℕ → Option Piece → Option ℕ
+abbrev pub number_in : List Line → Option ℕ → Option YamlToken → Option ℕ
 number_in lines missing None = missing
 number_in lines missing (Some value) = number_of lines value
 
 -- the number of the field with this key, if there is such a field and it spells a number
-abbrev pub needed : List Line → List ℕ → List Field → Option ℕ
+abbrev pub needed : List Line → List ℕ → List MappingField → Option ℕ
 needed lines key fields = number_in lines None (value_at lines key fields)
 
 -- the number of the field with this key, or `missing` if there is no such field
-abbrev pub given : List Line → List ℕ → ℕ → List Field → Option ℕ
+abbrev pub given : List Line → List ℕ → ℕ → List MappingField → Option ℕ
 given lines key missing fields = number_in lines (Some missing) (value_at lines key fields)
 
 -- the text of a value, without its quotes if it has them
-abbrev pub plain : List Line → Piece → List ℕ
+abbrev pub plain : List Line → YamlToken → List ℕ
 plain lines value = if is_text value.token then inside_quotes (text_at lines value) else text_at lines value
 
 -- whether there is a value and its text, without quotes, is this
-abbrev pub says : List Line → List ℕ → Option Piece → Bool
+abbrev pub says : List Line → List ℕ → Option YamlToken → Bool
 says lines text None = false
 says lines text (Some value) = bytes_eq (plain lines value) text
 
 -- `type: variable-sized`
-abbrev pub is_variable_sized : List Line → List Field → Bool
+abbrev pub is_variable_sized : List Line → List MappingField → Bool
 is_variable_sized lines fields = says lines (codes "variable-sized") (value_at lines (codes "type") fields)

@@ -3,22 +3,22 @@ use Rattle.std.specs.Prelude.{Bool, ◌&&◌, ◌==◌, if◌then◌else◌, is_
 use Rattle.read_lexer.specs.declared.line.Line.{Line}
 use Rattle.read_refusal.specs.declared.first.Refusal.{Refusal}
 use Rattle.read_refusal.specs.First.{earlier}
-use Rattle.read_declarations.specs.declared.stream.Piece.{Piece}
+use Rattle.read_declarations.specs.declared.stream.YamlToken.{YamlToken}
 use Rattle.read_declarations.specs.declared.entry.Listing.{Listing}
 use Rattle.read_declarations.specs.Stream.{stream_of}
 use Rattle.read_declarations.specs.Entry.{is_mark, bad_line, entries_of}
 
 -- whether two tokens are `[` and `]` on the key's own line
-abbrev pub is_empty_list : Piece → Piece → Bool
+abbrev pub is_empty_list : YamlToken → YamlToken → Bool
 is_empty_list a b = is_mark 91 a && (is_mark 93 b && (a.at == 0 && b.at == 0))
 
 -- no token may follow `[]`
-abbrev pub behind_empty : List Piece → Option Refusal
+abbrev pub behind_empty : List YamlToken → Option Refusal
 behind_empty [] = None
 behind_empty (p ∷ ps) = Some (bad_line p.line)
 
 -- the list in the tokens after a key
-unfoldable pub list_in : List Line → Bool → List Piece → Listing
+unfoldable pub list_in : List Line → Bool → List YamlToken → Listing
 list_in lines cut [] = entries_of lines cut []
 list_in lines cut (a ∷ []) = entries_of lines cut (a ∷ [])
 list_in lines cut (a ∷ b ∷ ps) = if is_empty_list a b then record { entries = []; refused = behind_empty ps } else entries_of lines cut (a ∷ b ∷ ps)

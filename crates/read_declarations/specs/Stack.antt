@@ -10,8 +10,8 @@ use Rattle.read_refusal.specs.declared.first.Refusal.{Refusal}
 use Rattle.read_refusal.specs.First.{earlier}
 use Rattle.read_refusal.specs.declared.kind.RefusalKind.{RefusalKind}
 use Rattle.read_refusal.specs.declared.kind.RefusalKind.TheVariants.{BadLine, StackObject, TooMany}
-use Rattle.read_declarations.specs.declared.entry.Field.{Field}
-use Rattle.read_declarations.specs.declared.entry.Entry.{Entry}
+use Rattle.read_declarations.specs.declared.entry.MappingField.{MappingField}
+use Rattle.read_declarations.specs.declared.entry.MappingEntry.{MappingEntry}
 use Rattle.read_declarations.specs.declared.stack.StackEntry.{StackEntry}
 use Rattle.read_declarations.specs.declared.stack.StackRead.{StackRead}
 use Rattle.read_declarations.specs.Field.{value_at, needed, given, is_variable_sized}
@@ -37,7 +37,7 @@ unsized (Some id) = Err StackObject
 unsized None = Err BadLine
 
 -- The stack entry with these fields, judged by itself: `id` and `size` are required, and `alignment` is 1 by default.
-abbrev pub stack_entry_of : List Line → List Field → Result StackEntry RefusalKind
+abbrev pub stack_entry_of : List Line → List MappingField → Result StackEntry RefusalKind
 stack_entry_of lines fields =
     if is_variable_sized lines fields && is_none (value_at lines (codes "size") fields) then unsized (needed lines (codes "id") fields)
     else entry_with (is_variable_sized lines fields) (needed lines (codes "id") fields) (needed lines (codes "size") fields)
@@ -69,7 +69,7 @@ judged read line (Ok e) = record {
 }
 
 -- the entries and the first refusal after further entries
-unfoldable pub stack_behind : List Line → StackRead → List Entry → StackRead
+unfoldable pub stack_behind : List Line → StackRead → List MappingEntry → StackRead
 stack_behind lines read [] = read
 stack_behind lines read (e ∷ es) = stack_behind lines (judged read e.line (stack_entry_of lines e.fields)) es
 

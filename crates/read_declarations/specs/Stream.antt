@@ -9,7 +9,7 @@ use Rattle.read_lexer.specs.Comment.{before_comment}
 use Rattle.read_metadata.specs.Token.{text_of}
 use Rattle.read_refusal.specs.declared.kind.RefusalKind.{RefusalKind}
 use Rattle.read_refusal.specs.declared.kind.RefusalKind.TheVariants.{BadByte, UnclosedString}
-use Rattle.read_declarations.specs.declared.stream.Piece.{Piece}
+use Rattle.read_declarations.specs.declared.stream.YamlToken.{YamlToken}
 use Rattle.read_declarations.specs.declared.stream.LineTokens.{LineTokens}
 use Rattle.read_declarations.specs.declared.stream.TokenStream.{TokenStream}
 
@@ -42,11 +42,11 @@ line_tokens_of text (Ok ts) = record { tokens = ts; fault = None }
 line_tokens_of text (Err e) = record { tokens = tokens_up_to (before_fault text e) (tokens_of (before_fault text e)); fault = Some (kind_of e) }
 
 -- a token of the line with index `at` and number `line`
-abbrev pub piece_of : ℕ → ℕ → Token → Piece
+abbrev pub piece_of : ℕ → ℕ → Token → YamlToken
 piece_of at line token = record { at = at; line = line; token = token }
 
 -- the tokens of a line before those of the lines after it, which are dropped if the line has a fault
-abbrev pub before_lines : List Piece → ℕ → Option RefusalKind → TokenStream → TokenStream
+abbrev pub before_lines : List YamlToken → ℕ → Option RefusalKind → TokenStream → TokenStream
 before_lines pieces line None others = record { pieces = pieces ++ others.pieces; fault = others.fault }
 before_lines pieces line (Some kind) others = record { pieces = pieces; fault = Some (record { line = line; kind = kind }) }
 
@@ -70,5 +70,5 @@ text_in None token = []
 text_in (Some line) token = text_of line.text token
 
 -- the bytes of a token of a key's lines
-abbrev pub text_at : List Line → Piece → List ℕ
+abbrev pub text_at : List Line → YamlToken → List ℕ
 text_at lines piece = text_in (slice_get lines piece.at) piece.token

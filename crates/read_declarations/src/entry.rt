@@ -19,7 +19,7 @@ ghost use Rattle.read_declarations.specs.Entry.{
   entries_of,
 };
 
-use crate::stream::{Piece, text_at};
+use crate::stream::{YamlToken, text_at};
 use base_list::List;
 use read_lexer::line::Line;
 use read_metadata::token::{is_byte, is_integer, is_text, is_word};
@@ -30,28 +30,28 @@ use std::collections::BTreeSet;
 
 /// A field of an entry: the key, a word, and the value, one token.
 #[derive(Clone, Copy, Debug)]
-pub struct Field {
-    pub key: Piece,
-    pub value: Piece,
+pub struct MappingField {
+    pub key: YamlToken,
+    pub value: YamlToken,
 }
 
 /// Fields of an entry, in order.
-pub type Fields = List<Field>;
+pub type Fields = List<MappingField>;
 
 /// An entry of a list.
 #[derive(Debug, Drop)]
-pub struct Entry {
+pub struct MappingEntry {
     /// The number of its first line.
     pub line: u32,
     pub fields: Fields,
 }
 
 /// Entries of a list, in order.
-pub type Entries = List<Entry>;
+pub type Entries = List<MappingEntry>;
 
 /// Which part of an entry comes next.
 #[derive(Clone, Copy, Debug)]
-pub enum Place {
+pub enum ParserState {
     /// Outside entries.
     Outside,
     /// After an entry's `-`.
@@ -59,9 +59,9 @@ pub enum Place {
     /// At a key.
     Key,
     /// After a key.
-    Colon(Piece),
+    Colon(YamlToken),
     /// After a key and its colon.
-    Value(Piece),
+    Value(YamlToken),
     /// After a value.
     Next,
 }
@@ -70,7 +70,7 @@ pub enum Place {
 #[derive(Debug, Drop)]
 pub struct OpenList {
     pub entries: Entries,
-    pub place: Place,
+    pub place: ParserState,
     /// The number of the first line of the open entry.
     pub line: u32,
     /// The fields of the open entry.
@@ -85,21 +85,21 @@ pub struct Listing {
 }
 
 /// Whether a token is this byte alone.
-pub fn is_mark(byte: u8, piece: Piece) -> bool
+pub fn is_mark(byte: u8, piece: YamlToken) -> bool
     ensures { result ≡ is_mark byte piece }
 {
     is_byte(byte, piece.token)
 }
 
 /// Whether a token may be a field's value.
-fn is_value(piece: Piece) -> bool
+fn is_value(piece: YamlToken) -> bool
     ensures { result ≡ is_value piece }
 {
     is_word(piece.token) || is_integer(piece.token) || is_text(piece.token)
 }
 
 /// Whether a set contains the text of a key.
-fn has_key(lines: &[Line], keys: &BTreeSet<&[u8]>, key: Piece) -> bool
+fn has_key(lines: &[Line], keys: &BTreeSet<&[u8]>, key: YamlToken) -> bool
     ensures { result ≡ has_text keys.now (text_at lines.now key) }
 {
     keys.contains(text_at(lines, key))
@@ -122,33 +122,33 @@ impl OpenList {
     {
         OpenList {
             entries: List::new(alloc),
-            place: Place::Outside,
+            place: ParserState::Outside,
             line: 0,
             fields: List::new(alloc),
         }
     }
 
     /// Whether a token may come next. The set has the keys of the open entry.
-    fn fits(&self, lines: &[Line], keys: &BTreeSet<&[u8]>, piece: Piece) -> bool
+    fn fits(&self, lines: &[Line], keys: &BTreeSet<&[u8]>, piece: YamlToken) -> bool
         requires { AreKeys lines.now keys.now self.now.fields }
         ensures { result ≡ fits_at lines.now self.now.fields self.now.place piece }
     {
         match self.place {
-            Place::Outside => is_mark(b'-', piece),
-            Place::Dash => is_mark(b'{', piece),
-            Place::Key => is_word(piece.token),
-            Place::Colon(_) => is_mark(b':', piece),
-            Place::Value(key) => is_value(piece) && !has_key(lines, keys, key),
-            Place::Next => is_mark(b',', piece) || is_mark(b'}', piece),
+            ParserState::Outside => is_mark(b'-', piece),
+            ParserState::Dash => is_mark(b'{', piece),
+            ParserState::Key => is_word(piece.token),
+            ParserState::Colon(_) => is_mark(b':', piece),
+            ParserState::Value(key) => is_value(piece) && !has_key(lines, keys, key),
+            ParserState::Next => is_mark(b',', piece) || is_mark(b'}', piece),
         }
     }
 
     /// The first line of the entry that a token belongs to.
-    fn line_at(&self, piece: Piece) -> u32
+    fn line_at(&self, piece: YamlToken) -> u32
         ensures { result ≡ line_at self.now.line self.now.place piece }
     {
         match self.place {
-            Place::Outside => piece.line,
+            ParserState::Outside => piece.line,
             _ => self.line,
         }
     }
@@ -159,36 +159,36 @@ impl OpenList {
         alloc: Global,
         lines: &'a [Line],
         keys: &mut BTreeSet<&'a [u8]>,
-        piece: Piece,
+        piece: YamlToken,
     ) -> Result<(), AllocError>
         requires { AreKeys lines.now keys.old self.old.fields }
         ensures list { OnOk result (self.new ≡ behind self.old self.old.place piece) }
         ensures keys { OnOk result (AreKeys lines.now keys.new self.new.fields) }
     {
         match self.place {
-            Place::Outside => {
+            ParserState::Outside => {
                 self.line = piece.line;
-                self.place = Place::Dash;
+                self.place = ParserState::Dash;
                 Ok(())
             }
-            Place::Dash => {
-                self.place = Place::Key;
+            ParserState::Dash => {
+                self.place = ParserState::Key;
                 Ok(())
             }
-            Place::Key => {
-                self.place = Place::Colon(piece);
+            ParserState::Key => {
+                self.place = ParserState::Colon(piece);
                 Ok(())
             }
-            Place::Colon(key) => {
-                self.place = Place::Value(key);
+            ParserState::Colon(key) => {
+                self.place = ParserState::Value(key);
                 Ok(())
             }
-            Place::Value(key) => {
-                self.place = Place::Next;
+            ParserState::Value(key) => {
+                self.place = ParserState::Next;
                 keys.insert(text_at(lines, key))?;
-                self.fields.push(Field { key, value: piece })
+                self.fields.push(MappingField { key, value: piece })
             }
-            Place::Next => self.take_behind_value(alloc, keys, piece),
+            ParserState::Next => self.take_behind_value(alloc, keys, piece),
         }
     }
 
@@ -197,19 +197,19 @@ impl OpenList {
         &mut self,
         alloc: Global,
         keys: &mut BTreeSet<&[u8]>,
-        piece: Piece,
+        piece: YamlToken,
     ) -> Result<(), AllocError>
         ensures list { OnOk result (self.new ≡ behind_value self.old piece) }
         ensures keys { OnOk result (KeepsKeys keys.old self.old.fields keys.new self.new.fields) }
     {
         if is_mark(b',', piece) {
-            self.place = Place::Key;
+            self.place = ParserState::Key;
             return Ok(());
         }
         let fields = std::mem::replace(&mut self.fields, List::new(alloc));
         keys.clear();
-        self.place = Place::Outside;
-        self.entries.push(Entry {
+        self.place = ParserState::Outside;
+        self.entries.push(MappingEntry {
             line: self.line,
             fields,
         })
@@ -220,7 +220,7 @@ impl OpenList {
         ensures { result ≡ ended is_cut self }
     {
         let refused = match self.place {
-            Place::Outside => None,
+            ParserState::Outside => None,
             _ if is_cut => None,
             _ => Some(bad_line(self.line)),
         };
@@ -235,7 +235,7 @@ impl OpenList {
 pub fn entries(
     alloc: Global,
     lines: &[Line],
-    pieces: &[Piece],
+    pieces: &[YamlToken],
     is_cut: bool,
 ) -> Result<Listing, AllocError>
     ensures { IfOk result (λ read. read ≡ entries_of lines.now is_cut pieces.now) }

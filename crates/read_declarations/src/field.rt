@@ -3,15 +3,15 @@
 ghost use Rattle.std.specs.Prelude.{◌≡◌};
 ghost use Rattle.read_declarations.specs.Field.{value_at, number_of, needed, given, is_variable_sized};
 
-use crate::entry::Field;
-use crate::stream::{Piece, text_at};
+use crate::entry::MappingField;
+use crate::stream::{YamlToken, text_at};
 use read_lexer::line::Line;
 use read_metadata::number::integer;
 use read_metadata::text::inside_quotes;
 use read_metadata::token::{is_integer, is_text};
 
 /// The value of the field with a key.
-pub fn value_at(lines: &[Line], fields: &[Field], key: &[u8]) -> Option<Piece>
+pub fn value_at(lines: &[Line], fields: &[MappingField], key: &[u8]) -> Option<YamlToken>
     ensures { result ≡ value_at lines.now key.now fields.now }
 {
     for field in fields {
@@ -23,7 +23,7 @@ pub fn value_at(lines: &[Line], fields: &[Field], key: &[u8]) -> Option<Piece>
 }
 
 /// The number that a value spells, from 0 to 2^30 - 1.
-fn number_of(lines: &[Line], value: Piece) -> Option<u32>
+fn number_of(lines: &[Line], value: YamlToken) -> Option<u32>
     ensures { result ≡ number_of lines.now value }
 {
     if is_integer(value.token) {
@@ -34,7 +34,7 @@ fn number_of(lines: &[Line], value: Piece) -> Option<u32>
 }
 
 /// The number of the field with this key; `None` if the field is missing or spells no such number.
-pub fn needed(lines: &[Line], fields: &[Field], key: &[u8]) -> Option<u32>
+pub fn needed(lines: &[Line], fields: &[MappingField], key: &[u8]) -> Option<u32>
     ensures { result ≡ needed lines.now key.now fields.now }
 {
     number_of(lines, value_at(lines, fields, key)?)
@@ -42,7 +42,7 @@ pub fn needed(lines: &[Line], fields: &[Field], key: &[u8]) -> Option<u32>
 
 /// The number of the field with this key, or `missing` if there is no such field; `None` if the field spells no such
 /// number.
-pub fn given(lines: &[Line], fields: &[Field], key: &[u8], missing: u32) -> Option<u32>
+pub fn given(lines: &[Line], fields: &[MappingField], key: &[u8], missing: u32) -> Option<u32>
     ensures { result ≡ given lines.now key.now missing fields.now }
 {
     match value_at(lines, fields, key) {
@@ -52,7 +52,7 @@ pub fn given(lines: &[Line], fields: &[Field], key: &[u8], missing: u32) -> Opti
 }
 
 /// Whether an entry has the field `type: variable-sized`.
-pub fn is_variable_sized(lines: &[Line], fields: &[Field]) -> bool
+pub fn is_variable_sized(lines: &[Line], fields: &[MappingField]) -> bool
     ensures { result ≡ is_variable_sized lines.now fields.now }
 {
     match value_at(lines, fields, b"type") {

@@ -4,21 +4,21 @@ ghost use Rattle.std.specs.Prelude.{◌≡◌, drop, IfOk};
 ghost use Rattle.read_declarations.specs.List.{is_empty_list, behind_empty, list_in, list_of};
 
 use crate::entry::{Listing, bad_line, entries, is_mark};
-use crate::stream::{Piece, stream};
+use crate::stream::{YamlToken, stream};
 use base_list::List;
 use read_lexer::line::Line;
 use read_refusal::first::{Refusal, earlier};
 use std::alloc::{AllocError, Global};
 
 /// Whether two tokens are `[` and `]` on the key's own line.
-fn is_empty_list(opening: Piece, closing: Piece) -> bool
+fn is_empty_list(opening: YamlToken, closing: YamlToken) -> bool
     ensures { result ≡ is_empty_list opening closing }
 {
     is_mark(b'[', opening) && is_mark(b']', closing) && opening.at == 0 && closing.at == 0
 }
 
 /// The refusal of the first token after `[]`, if there is one.
-fn behind_empty(rest: &[Piece]) -> Option<Refusal>
+fn behind_empty(rest: &[YamlToken]) -> Option<Refusal>
     ensures { result ≡ behind_empty rest.now }
 {
     match rest {
@@ -32,7 +32,7 @@ fn behind_empty(rest: &[Piece]) -> Option<Refusal>
 fn list_in(
     alloc: Global,
     lines: &[Line],
-    pieces: &[Piece],
+    pieces: &[YamlToken],
     is_cut: bool,
 ) -> Result<Listing, AllocError>
     ensures { IfOk result (λ read. read ≡ list_in lines.now is_cut pieces.now) }
@@ -47,7 +47,7 @@ fn list_in(
 }
 
 /// The tokens after a key and its colon.
-fn behind_key(pieces: &[Piece]) -> &[Piece]
+fn behind_key(pieces: &[YamlToken]) -> &[YamlToken]
     ensures { result.now ≡ drop 2 pieces.now }
 {
     if pieces.len() < 2 { &[] } else { &pieces[2..] }

@@ -13,7 +13,7 @@ ghost use Rattle.read_declarations.specs.Stack.{
   stack_of,
 };
 
-use crate::entry::Field;
+use crate::entry::MappingField;
 use crate::field::{given, is_variable_sized, needed, value_at};
 use crate::list::list;
 use base_ids::code::SlotId;
@@ -89,7 +89,7 @@ fn entry_with(
 }
 
 /// The stack entry with these fields, judged by itself.
-fn stack_entry(lines: &[Line], fields: &[Field]) -> Result<StackEntry, RefusalKind>
+fn stack_entry(lines: &[Line], fields: &[MappingField]) -> Result<StackEntry, RefusalKind>
     ensures { result ≡ stack_entry_of lines.now fields.now }
 {
     let is_variable = is_variable_sized(lines, fields);

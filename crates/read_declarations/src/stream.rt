@@ -24,7 +24,7 @@ use std::alloc::{AllocError, Global};
 
 /// A token of a key's lines.
 #[derive(Clone, Copy, Debug)]
-pub struct Piece {
+pub struct YamlToken {
     /// The index of its line among the key's lines.
     pub at: usize,
     /// The number of its line in the text, counted from 1.
@@ -34,7 +34,7 @@ pub struct Piece {
 }
 
 /// Tokens of a key's lines, in order.
-pub type Pieces = List<Piece>;
+pub type Pieces = List<YamlToken>;
 
 /// The tokens of a line up to its first fault, and that fault.
 #[derive(Debug, Drop)]
@@ -112,7 +112,7 @@ fn push_pieces(
     ensures { OnOk result (pieces.new ≡ pieces.old ++ map (piece_of at line) tokens.now) }
 {
     for token in tokens {
-        pieces.push(Piece {
+        pieces.push(YamlToken {
             at,
             line,
             token: *token,
@@ -144,7 +144,7 @@ pub fn stream(alloc: Global, lines: &[Line]) -> Result<TokenStream, AllocError>
 }
 
 /// The bytes of a token of a key's lines.
-pub fn text_at(lines: &[Line], piece: Piece) -> &[u8]
+pub fn text_at(lines: &[Line], piece: YamlToken) -> &[u8]
     ensures { result.now ≡ text_at lines.now piece }
 {
     match lines.get(piece.at) {

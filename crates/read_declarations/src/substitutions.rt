@@ -3,11 +3,11 @@
 ghost use Rattle.std.specs.Prelude.{◌≡◌, IfOk, OnOk};
 ghost use Rattle.read_declarations.specs.Substitutions.{pair_of, substitution_of, substituted, substitutions_of};
 
-use crate::entry::{Field, bad_line};
+use crate::entry::{MappingField, bad_line};
 use crate::field::{given, needed};
 use crate::list::list;
 use base_ids::code::{DebugNumber, OperandIndex};
-use mir_func::entry::{Entry, OperandPair};
+use mir_func::entry::{DebugSubstitution, OperandPair};
 use mir_substitution::substitutions::Substitutions;
 use read_lexer::line::Line;
 use read_refusal::first::{Refusal, earlier};
@@ -34,7 +34,7 @@ fn pair(number: Option<u32>, operand: Option<u32>) -> Option<OperandPair>
 }
 
 /// The substitution with these fields, if all of them could be read.
-fn substitution_in(lines: &[Line], fields: &[Field]) -> Option<Entry>
+fn substitution_in(lines: &[Line], fields: &[MappingField]) -> Option<DebugSubstitution>
     ensures { result ≡ substitution_of lines.now fields.now }
 {
     let src = pair(
@@ -47,13 +47,17 @@ fn substitution_in(lines: &[Line], fields: &[Field]) -> Option<Entry>
     );
     let subreg = given(lines, fields, b"subreg", 0);
     match (src, dst, subreg) {
-        (Some(src), Some(dst), Some(subreg)) => Some(Entry { src, dst, subreg }),
+        (Some(src), Some(dst), Some(subreg)) => Some(DebugSubstitution { src, dst, subreg }),
         _ => None,
     }
 }
 
 /// Judges one more entry.
-fn judge(read: &mut SubstitutionsRead, line: u32, entry: Option<Entry>) -> Result<(), AllocError>
+fn judge(
+    read: &mut SubstitutionsRead,
+    line: u32,
+    entry: Option<DebugSubstitution>,
+) -> Result<(), AllocError>
     ensures { OnOk result (read.new ≡ substituted read.old line entry) }
 {
     match entry {

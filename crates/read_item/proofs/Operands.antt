@@ -5,7 +5,7 @@ use Rattle.std.proofs.lemmas.List.{drop_all}
 use Rattle.rv64_instr.specs.declared.operand.Operand.{Operand}
 use Rattle.read_line.specs.declared.form.RegisterForm.{RegisterForm}
 use Rattle.read_line.specs.declared.form.OperandForm.{OperandForm}
-use Rattle.read_item.specs.declared.place.Place.{Place}
+use Rattle.read_item.specs.declared.place.OperandKind.{OperandKind}
 use Rattle.read_item.specs.Place.{front, behind}
 use Rattle.read_item.specs.Code.{before, append_to, definition, definitions, operand_at, placed}
 
@@ -43,20 +43,20 @@ definitions-end xs rs i whole h all =
     ap (λ (zs : List Operand). Some zs) (sym (append-nil xs)) ∙ (ap (λ (zs : List RegisterForm). append_to xs (definitions zs)) (sym (drop_all i rs h)) ∙ all)
 
 -- what is left, by its first
-placed-front : (ps : List Place) (os : List OperandForm) (i : ℕ) (o : OperandForm) → i < length os → o ≡ get_or os i o
+placed-front : (ps : List OperandKind) (os : List OperandForm) (i : ℕ) (o : OperandForm) → i < length os → o ≡ get_or os i o
     → placed ps (drop i os) ≡ before (operand_at (front ps) o) (placed (behind ps) (drop (i + 1) os))
 unfolding placed
 placed-front ps os i o h is =
     let parts : drop i os ≡ o ∷ drop (i + 1) os = drop-cons os i o h ∙ rw (add-one, ← is) refl in
     ap (placed ps) parts
 
-pub placed-none : (xs : List Operand) (ps : List Place) (os : List OperandForm) (i : ℕ) (o : OperandForm) (whole : Option (List Operand)) → i < length os
+pub placed-none : (xs : List Operand) (ps : List OperandKind) (os : List OperandForm) (i : ℕ) (o : OperandForm) (whole : Option (List Operand)) → i < length os
     → o ≡ get_or os i o → None ≡ operand_at (front ps) o → append_to xs (placed ps (drop i os)) ≡ whole → None ≡ whole
 placed-none xs ps os i o whole h is none all =
     ap (λ (d : Option Operand). append_to xs (before d (placed (behind ps) (drop (i + 1) os)))) none ∙
     (ap (append_to xs) (sym (placed-front ps os i o h is)) ∙ all)
 
-pub placed-some : (xs : List Operand) (ps : List Place) (os : List OperandForm) (i : ℕ) (o : OperandForm) (x : Operand) (whole : Option (List Operand))
+pub placed-some : (xs : List Operand) (ps : List OperandKind) (os : List OperandForm) (i : ℕ) (o : OperandForm) (x : Operand) (whole : Option (List Operand))
     → i < length os → o ≡ get_or os i o → Some x ≡ operand_at (front ps) o → append_to xs (placed ps (drop i os)) ≡ whole
     → append_to (xs ++ x ∷ []) (placed (behind ps) (drop (i + 1) os)) ≡ whole
 placed-some xs ps os i o x whole h is some all =
@@ -64,7 +64,7 @@ placed-some xs ps os i o x whole h is some all =
     (ap (λ (d : Option Operand). append_to xs (before d (placed (behind ps) (drop (i + 1) os)))) some ∙
     (ap (append_to xs) (sym (placed-front ps os i o h is)) ∙ all))
 
-pub placed-end : (xs : List Operand) (ps : List Place) (os : List OperandForm) (i : ℕ) (whole : Option (List Operand)) → length os ≤ i
+pub placed-end : (xs : List Operand) (ps : List OperandKind) (os : List OperandForm) (i : ℕ) (whole : Option (List Operand)) → length os ≤ i
     → append_to xs (placed ps (drop i os)) ≡ whole → Some xs ≡ whole
 unfolding placed
 placed-end xs ps os i whole h all =

@@ -19,8 +19,8 @@ use Rattle.read_line.specs.declared.form.RegisterForm.{RegisterForm}
 use Rattle.read_line.specs.declared.form.OperandForm.{OperandForm}
 use Rattle.read_line.specs.declared.form.OperandForm.TheVariants as form
 use Rattle.read_line.specs.declared.form.ItemForm.{ItemForm}
-use Rattle.read_item.specs.declared.place.Place.{Place}
-use Rattle.read_item.specs.declared.place.Place.TheVariants as place
+use Rattle.read_item.specs.declared.place.OperandKind.{OperandKind}
+use Rattle.read_item.specs.declared.place.OperandKind.TheVariants as place
 use Rattle.read_item.specs.Place.{places, front, behind}
 
 -- how many operands a line may have, counting the registers before the `=` and implicit ones
@@ -62,7 +62,7 @@ used flag (Some r) = Some (named flag r)
 
 -- `%stack.N` at an operand position. At a position that takes none it counts as an operand that fits, since it has a check of its own; at an implicit
 -- position it is none
-abbrev pub stack_operand : Place → ℕ → Option Operand
+abbrev pub stack_operand : OperandKind → ℕ → Option Operand
 stack_operand place.Object n = Some (operand.Object n)
 stack_operand place.Slot n = Some (operand.Slot n)
 stack_operand place.Register n = Some (operand.Use STAND_IN)
@@ -78,7 +78,7 @@ number_operand None = None
 number_operand (Some i) = Some (operand.Imm i)
 
 -- the instruction operand for an operand of the line at a position; none if it can't be one in code
-abbrev pub operand_at : Place → OperandForm → Option Operand
+abbrev pub operand_at : OperandKind → OperandForm → Option Operand
 operand_at p (form.Register r) = used r.flag (number_of r.name)
 operand_at p (form.Integer i) = number_operand i
 operand_at p (form.Slot n) = stack_operand p n
@@ -122,7 +122,7 @@ definitions [] = Some []
 definitions (r ∷ rs) = before (definition r) (definitions rs)
 
 -- the operands after the opcode, each at its position, if each exists
-unfoldable pub placed : List Place → List OperandForm → Option (List Operand)
+unfoldable pub placed : List OperandKind → List OperandForm → Option (List Operand)
 placed ps [] = Some []
 placed ps (o ∷ os) = before (operand_at (front ps) o) (placed (behind ps) os)
 
@@ -138,7 +138,7 @@ names_slot (Store op) (rs ∷ address ∷ number ∷ rest) = is_whole_slot (stor
 names_slot _ _ = false
 
 -- the positions of the line's operands after the opcode
-abbrev pub places_of : Op → ItemForm → List Place
+abbrev pub places_of : Op → ItemForm → List OperandKind
 places_of op line = places op (names_slot op line.operands)
 
 -- the operands of the instruction, defs first, if each exists
@@ -179,13 +179,13 @@ is_stack (form.Slot n) = true
 is_stack _ = false
 
 -- whether a position is one of an address, where `%stack.N` is allowed
-abbrev pub is_address : Place → Bool
+abbrev pub is_address : OperandKind → Bool
 is_address place.Object = true
 is_address place.Slot = true
 is_address _ = false
 
 -- whether an operand is `%stack.N` at a position that takes none
-abbrev pub is_misplaced : Place × OperandForm → Bool
+abbrev pub is_misplaced : OperandKind × OperandForm → Bool
 is_misplaced at = is_stack at.1 && not (is_address at.0)
 
 -- whether the line has too many operands

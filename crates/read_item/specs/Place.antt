@@ -4,15 +4,15 @@ use Rattle.rv64_instr.specs.declared.op.Op.{Op}
 use Rattle.rv64_instr.specs.declared.op.ImmediateOp.{ImmediateOp}
 use Rattle.rv64_instr.specs.declared.op.Op.TheVariants.{Registers, Immediate, Lui, Branch, Load, Store, Copy, PseudoBr, PseudoCall, PseudoRet}
 use Rattle.rv64_instr.specs.declared.op.ImmediateOp.TheVariants.{Addi, Slti, Sltiu, Xori, Ori, Andi, Slli, Srli, Srai, Addiw, Slliw, Srliw, Sraiw}
-use Rattle.read_item.specs.declared.place.Place.{Place}
-use Rattle.read_item.specs.declared.place.Place.TheVariants.{Register, Object, Slot, Number, Block, Symbol, Mask, Implicit}
+use Rattle.read_item.specs.declared.place.OperandKind.{OperandKind}
+use Rattle.read_item.specs.declared.place.OperandKind.TheVariants.{Register, Object, Slot, Number, Block, Symbol, Mask, Implicit}
 
 -- the position of an address: a register, or `%stack.N` as a spill slot or as a stack object
-abbrev pub address : (slot : Bool) → Place
+abbrev pub address : (slot : Bool) → OperandKind
 address slot = if slot then Slot else Object
 
 -- the position of the first source of an instruction with an immediate: only `ADDI` takes a stack object there, to compute an address in it
-abbrev pub base : ImmediateOp → Place
+abbrev pub base : ImmediateOp → OperandKind
 base Addi = Object
 base Slti = Register
 base Sltiu = Register
@@ -28,7 +28,7 @@ base Srliw = Register
 base Sraiw = Register
 
 -- the positions after the opcode, without implicit operands. `slot` is whether `%stack.N` in an address is a spill slot
-abbrev pub places : Op → (slot : Bool) → List Place
+abbrev pub places : Op → (slot : Bool) → List OperandKind
 places (Registers op) slot = Register ∷ Register ∷ []
 places (Immediate op) slot = base op ∷ Number ∷ []
 places Lui slot = Number ∷ []
@@ -41,11 +41,11 @@ places PseudoCall slot = Symbol ∷ Mask ∷ []
 places PseudoRet slot = []
 
 -- the first position; after the last come implicit registers only
-abbrev pub front : List Place → Place
+abbrev pub front : List OperandKind → OperandKind
 front [] = Implicit
 front (p ∷ ps) = p
 
 -- the positions after the first
-abbrev pub behind : List Place → List Place
+abbrev pub behind : List OperandKind → List OperandKind
 behind [] = []
 behind (p ∷ ps) = ps

@@ -18,7 +18,7 @@ ghost use Rattle.read_item.specs.Code.{
 
 use crate::judged::JudgeError;
 use crate::operand::{operands_of, places_of};
-use crate::place::Place;
+use crate::place::OperandKind;
 use read_line::form::{ItemForm, OperandForm, RegisterForm};
 use read_refusal::kind::RefusalKind;
 use read_token::lexeme::{Flag, RegisterName};
@@ -109,12 +109,12 @@ fn names_pointer(line: &ItemForm) -> bool
 }
 
 /// Whether an operand is `%stack.N` at a position that takes none.
-fn is_misplaced(place: Place, form: &OperandForm) -> bool
+fn is_misplaced(place: OperandKind, form: &OperandForm) -> bool
     ensures { result ≡ is_misplaced (place, form.now) }
 {
     match form {
         OperandForm::Slot(_) => match place {
-            Place::Object | Place::Slot => false,
+            OperandKind::Object | OperandKind::Slot => false,
             _ => true,
         },
         _ => false,

@@ -17,7 +17,7 @@ ghost use Rattle.read_item.specs.Code.{
   places_of,
 };
 
-use crate::place::{Place, behind, front, places};
+use crate::place::{OperandKind, behind, front, places};
 use base_ids::code::{BlockId, ObjectId, SlotId};
 use read_line::form::{ItemForm, OperandForm, RegisterForm};
 use read_token::lexeme::{Flag, RegisterName};
@@ -51,25 +51,25 @@ fn named(flag: Flag, register: Reg) -> Operand
 }
 
 /// `%stack.N` at an operand position; at one that takes none, an operand that fits.
-fn stack_operand(alloc: Global, place: Place, entry: SlotId) -> Option<Operand>
+fn stack_operand(alloc: Global, place: OperandKind, entry: SlotId) -> Option<Operand>
     ensures { result ≡ stack_operand place entry }
 {
     match place {
-        Place::Object => Some(Operand::Object(ObjectId(entry.number()))),
-        Place::Slot => Some(Operand::Slot(entry)),
-        Place::Register => Some(Operand::Use(physical(10)?)),
-        Place::Number => Some(Operand::Imm(0)),
-        Place::Block => Some(Operand::Block(BlockId(0))),
-        Place::Symbol => Some(Operand::Symbol(Name::new(alloc))),
-        Place::Mask => Some(Operand::Mask),
-        Place::Implicit => None,
+        OperandKind::Object => Some(Operand::Object(ObjectId(entry.number()))),
+        OperandKind::Slot => Some(Operand::Slot(entry)),
+        OperandKind::Register => Some(Operand::Use(physical(10)?)),
+        OperandKind::Number => Some(Operand::Imm(0)),
+        OperandKind::Block => Some(Operand::Block(BlockId(0))),
+        OperandKind::Symbol => Some(Operand::Symbol(Name::new(alloc))),
+        OperandKind::Mask => Some(Operand::Mask),
+        OperandKind::Implicit => None,
     }
 }
 
 /// The instruction operand for an operand of the line at a position; `None` if it can't be one in code.
 fn operand_at(
     alloc: Global,
-    place: Place,
+    place: OperandKind,
     form: &OperandForm,
 ) -> Result<Option<Operand>, AllocError>
     ensures { IfOk result (λ operand. operand ≡ operand_at place form.now) }
@@ -119,7 +119,7 @@ fn definitions(alloc: Global, registers: &[RegisterForm]) -> Result<Option<Opera
 fn placed(
     alloc: Global,
     first: Operands,
-    places: &[Place],
+    places: &[OperandKind],
     forms: &[OperandForm],
 ) -> Result<Option<Operands>, AllocError>
     ensures { IfOk result (λ operands. operands ≡ append_to first (placed places.now forms.now)) }
@@ -164,7 +164,7 @@ fn names_slot(op: Op, forms: &[OperandForm]) -> bool
 }
 
 /// The positions of the line's operands after the opcode.
-pub fn places_of(op: Op, line: &ItemForm) -> &'static [Place]
+pub fn places_of(op: Op, line: &ItemForm) -> &'static [OperandKind]
     ensures { result.now ≡ places_of op line.now }
 {
     places(op, names_slot(op, line.operands.as_slice()))

@@ -7,7 +7,7 @@ use rv64_instr::op::{ImmediateOp, Op};
 
 /// What kind of operand a position takes.
 #[derive(Clone, Copy, Debug, PartialEq, Eq)]
-pub enum Place {
+pub enum OperandKind {
     /// A register that is read.
     Register,
     /// A register, or a stack object.
@@ -26,33 +26,45 @@ pub enum Place {
     Implicit,
 }
 
-const PAIR: [Place; 2] = [Place::Register, Place::Register];
+const PAIR: [OperandKind; 2] = [OperandKind::Register, OperandKind::Register];
 
-const NUMBERED: [Place; 2] = [Place::Register, Place::Number];
+const NUMBERED: [OperandKind; 2] = [OperandKind::Register, OperandKind::Number];
 
-const OBJECT: [Place; 2] = [Place::Object, Place::Number];
+const OBJECT: [OperandKind; 2] = [OperandKind::Object, OperandKind::Number];
 
-const SLOT: [Place; 2] = [Place::Slot, Place::Number];
+const SLOT: [OperandKind; 2] = [OperandKind::Slot, OperandKind::Number];
 
-const UPPER: [Place; 1] = [Place::Number];
+const UPPER: [OperandKind; 1] = [OperandKind::Number];
 
-const BRANCH: [Place; 3] = [Place::Register, Place::Register, Place::Block];
+const BRANCH: [OperandKind; 3] = [
+    OperandKind::Register,
+    OperandKind::Register,
+    OperandKind::Block,
+];
 
-const OBJECT_STORE: [Place; 3] = [Place::Register, Place::Object, Place::Number];
+const OBJECT_STORE: [OperandKind; 3] = [
+    OperandKind::Register,
+    OperandKind::Object,
+    OperandKind::Number,
+];
 
-const SLOT_STORE: [Place; 3] = [Place::Register, Place::Slot, Place::Number];
+const SLOT_STORE: [OperandKind; 3] = [
+    OperandKind::Register,
+    OperandKind::Slot,
+    OperandKind::Number,
+];
 
-const COPY: [Place; 1] = [Place::Register];
+const COPY: [OperandKind; 1] = [OperandKind::Register];
 
-const JUMP: [Place; 1] = [Place::Block];
+const JUMP: [OperandKind; 1] = [OperandKind::Block];
 
-const CALL: [Place; 2] = [Place::Symbol, Place::Mask];
+const CALL: [OperandKind; 2] = [OperandKind::Symbol, OperandKind::Mask];
 
-const RETURN: [Place; 0] = [];
+const RETURN: [OperandKind; 0] = [];
 
 /// The positions of an opcode's operands after the opcode, without implicit operands. `slot` is whether `%stack.N` in
 /// an address is a spill slot.
-pub fn places(op: Op, slot: bool) -> &'static [Place]
+pub fn places(op: Op, slot: bool) -> &'static [OperandKind]
     ensures { result.now ≡ places op slot }
 {
     match op {
@@ -73,17 +85,17 @@ pub fn places(op: Op, slot: bool) -> &'static [Place]
 }
 
 /// The first position; after the last come implicit registers only.
-pub fn front(places: &[Place]) -> Place
+pub fn front(places: &[OperandKind]) -> OperandKind
     ensures { result ≡ front places.now }
 {
     match places {
         [place, ..] => *place,
-        [] => Place::Implicit,
+        [] => OperandKind::Implicit,
     }
 }
 
 /// The positions after the first.
-pub fn behind(places: &[Place]) -> &[Place]
+pub fn behind(places: &[OperandKind]) -> &[OperandKind]
     ensures { result.now ≡ behind places.now }
 {
     match places {

@@ -15,8 +15,8 @@ use Rattle.read_token.specs.Sentence.{lexemes_of}
 use Rattle.read_line.specs.declared.form.BodyLine.{BodyLine}
 use Rattle.read_line.specs.declared.form.BodyLine.TheVariants.{Passed, Label, Item}
 use Rattle.read_line.specs.declared.form.ItemForm.{ItemForm}
-use Rattle.read_line.specs.declared.form.LineError.{LineError}
-use Rattle.read_line.specs.declared.form.LineError.TheVariants.{BadByte, UnclosedString, BadLine, Memory}
+use Rattle.read_line.specs.declared.form.FormError.{FormError}
+use Rattle.read_line.specs.declared.form.FormError.TheVariants.{BadByte, UnclosedString, BadLine, Memory}
 use Rattle.read_line.specs.Bracket.{behind_bracket}
 use Rattle.read_line.specs.Item.{item_of}
 
@@ -42,35 +42,35 @@ is_colon (lexemes.Colon ∷ []) = true
 is_colon ts = false
 
 -- a label with this number, if the rest of the line is a colon
-abbrev pub labelled : ℕ → Option (List Lexeme) → Result BodyLine LineError
+abbrev pub labelled : ℕ → Option (List Lexeme) → Result BodyLine FormError
 labelled n None = Err BadLine
 labelled n (Some rest) = if is_colon rest then Ok (label_of n) else Err BadLine
 
 -- an item, if there is one
-abbrev pub as_item : Option ItemForm → Result BodyLine LineError
+abbrev pub as_item : Option ItemForm → Result BodyLine FormError
 as_item None = Err BadLine
 as_item (Some item) = Ok (Item item)
 
 -- The parsed line of these lexemes. `bb.N` and a bracket or a colon begin a label.
-unfoldable pub sentence_of : List ℕ → List Lexeme → Result BodyLine LineError
+unfoldable pub sentence_of : List ℕ → List Lexeme → Result BodyLine FormError
 sentence_of line [] = Ok Passed
 sentence_of line (lexemes.Word (words.Block n) t ∷ lexemes.Colon ∷ ts) = labelled n (Some (lexemes.Colon ∷ ts))
 sentence_of line (lexemes.Word (words.Block n) t ∷ lexemes.Open ∷ ts) = labelled n (behind_bracket 0 ts)
 sentence_of line ts = as_item (item_of line ts)
 
 -- the parsed line of these tokens, or the lexical fault
-abbrev pub line_of_tokens : List ℕ → Result (List Token) LexError → Result BodyLine LineError
+abbrev pub line_of_tokens : List ℕ → Result (List Token) LexError → Result BodyLine FormError
 line_of_tokens line (Ok ts) = sentence_of line (lexemes_of line ts)
 line_of_tokens line (Err (lex.BadByte at)) = Err BadByte
 line_of_tokens line (Err (lex.UnclosedString at)) = Err UnclosedString
 line_of_tokens line (Err lex.Memory) = Err Memory
 
 -- A line of a function's body, parsed, or why it has no form.
-unfoldable pub body_line_of : List ℕ → Result BodyLine LineError
+unfoldable pub body_line_of : List ℕ → Result BodyLine FormError
 body_line_of text = if is_listing text then Ok Passed else line_of_tokens (code_of text) (tokens_of (code_of text))
 
 -- What a call returns is this result, unless memory ran out.
-abbrev pub Says : Result BodyLine LineError → Result BodyLine LineError → Type 0
+abbrev pub Says : Result BodyLine FormError → Result BodyLine FormError → Type 0
 Says (Ok x) read = read ≡ Ok x
 Says (Err Memory) read = Unit {0}
 Says (Err BadByte) read = read ≡ Err BadByte

@@ -15,7 +15,7 @@ ghost use Rattle.read_line.specs.Body.{
   Says,
 };
 
-use crate::form::{BodyLine, LineError};
+use crate::form::{BodyLine, FormError};
 use crate::front::behind_bracket;
 use crate::item::item;
 use base_ids::code::BlockId;
@@ -64,18 +64,18 @@ fn label(block: BlockId) -> BodyLine
 }
 
 /// A label with this number, if the rest of the line is a colon.
-fn labelled(block: BlockId, rest: &[Lexeme]) -> Result<BodyLine, LineError>
+fn labelled(block: BlockId, rest: &[Lexeme]) -> Result<BodyLine, FormError>
     ensures { result ≡ labelled block (Some rest.now) }
 {
     match rest {
         [Lexeme::Colon] => Ok(label(block)),
-        _ => Err(LineError::BadLine),
+        _ => Err(FormError::BadLine),
     }
 }
 
 /// The parsed line of these lexemes.
 #[tactic(auto, unfolding(crate::specs::Body::sentence_of))]
-fn sentence(alloc: Global, line: &[u8], lexemes: &[Lexeme]) -> Result<BodyLine, LineError>
+fn sentence(alloc: Global, line: &[u8], lexemes: &[Lexeme]) -> Result<BodyLine, FormError>
     ensures { Says result (sentence_of line.now lexemes.now) }
 {
     match lexemes {
@@ -87,11 +87,11 @@ fn sentence(alloc: Global, line: &[u8], lexemes: &[Lexeme]) -> Result<BodyLine, 
             rest,
         ) {
             Some(behind) => labelled(*block, behind),
-            None => Err(LineError::BadLine),
+            None => Err(FormError::BadLine),
         },
         _ => match item(alloc, line, lexemes)? {
             Some(item) => Ok(BodyLine::Item(item)),
-            None => Err(LineError::BadLine),
+            None => Err(FormError::BadLine),
         },
     }
 }
@@ -99,7 +99,7 @@ fn sentence(alloc: Global, line: &[u8], lexemes: &[Lexeme]) -> Result<BodyLine, 
 /// A line of a function's body, parsed. The errors are `BadByte` and `UnclosedString` for a lexical fault, `BadLine`
 /// for lexemes that are no line, and `Memory`.
 #[tactic(auto, unfolding(crate::specs::Body::body_line_of))]
-pub fn body_line(alloc: Global, text: &[u8]) -> Result<BodyLine, LineError>
+pub fn body_line(alloc: Global, text: &[u8]) -> Result<BodyLine, FormError>
     ensures { Says result (body_line_of text.now) }
 {
     if is_listing(text) {
@@ -111,8 +111,8 @@ pub fn body_line(alloc: Global, text: &[u8]) -> Result<BodyLine, LineError>
             let lexemes = lexemes(alloc, line, tokens.as_slice())?;
             sentence(alloc, line, lexemes.as_slice())
         }
-        Err(LexError::BadByte(_)) => Err(LineError::BadByte),
-        Err(LexError::UnclosedString(_)) => Err(LineError::UnclosedString),
-        Err(LexError::Memory) => Err(LineError::Memory),
+        Err(LexError::BadByte(_)) => Err(FormError::BadByte),
+        Err(LexError::UnclosedString(_)) => Err(FormError::UnclosedString),
+        Err(LexError::Memory) => Err(FormError::Memory),
     }
 }

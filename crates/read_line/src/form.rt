@@ -96,7 +96,7 @@ pub enum BodyLine {
 
 /// Why a line couldn't be parsed.
 #[derive(Clone, Copy, Debug, PartialEq, Eq, Drop, Error)]
-pub enum LineError {
+pub enum FormError {
     /// A byte begins no token.
     #[error("a byte begins no token")]
     BadByte,
@@ -111,13 +111,13 @@ pub enum LineError {
     Memory,
 }
 
-impl From<AllocError> for LineError {
+impl From<AllocError> for FormError {
     ghost use Rattle.std.specs.Prelude.{◌≡◌};
-    ghost use Rattle.read_line.specs.declared.form.LineError.TheVariants.{Memory};
+    ghost use Rattle.read_line.specs.declared.form.FormError.TheVariants.{Memory};
 
     ghost from_gives = { λ _ e. e ≡ Memory };
 
-    fn from(_e: AllocError) -> LineError {
-        LineError::Memory
+    fn from(_e: AllocError) -> FormError {
+        FormError::Memory
     }
 }

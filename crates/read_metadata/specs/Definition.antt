@@ -5,8 +5,8 @@ use Rattle.std.specs.Prelude.{Option, Some, None}
 use Rattle.std.specs.List.{prefix_len, starts_with}
 use Rattle.std.specs.Char.{is_ascii_digit}
 use Rattle.read_lexer.specs.Bytes.{is_blank, is_symbol_byte}
-use Rattle.read_metadata.specs.declared.definition.Sought.{Sought}
-use Rattle.read_metadata.specs.declared.definition.Sought.TheVariants.{Symbol, Attachment}
+use Rattle.read_metadata.specs.declared.definition.SearchedName.{SearchedName}
+use Rattle.read_metadata.specs.declared.definition.SearchedName.TheVariants.{Symbol, Attachment}
 use Rattle.read_metadata.specs.Number.{spelled}
 use Rattle.read_metadata.specs.Text.{unescaped, inside_quotes}
 
@@ -73,7 +73,7 @@ abbrev pub from_attachment : List ℕ → List ℕ
 from_attachment line = from_first is_attachment false line
 
 -- whether the text begins with what is searched for
-abbrev pub is_sought : Sought → List ℕ → Bool
+abbrev pub is_sought : SearchedName → List ℕ → Bool
 is_sought Symbol = is_symbol
 is_sought Attachment = is_attachment
 

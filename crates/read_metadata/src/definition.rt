@@ -95,7 +95,7 @@ fn attachment(text: &[u8]) -> Option<&[u8]>
 
 /// What is searched for on a line.
 #[derive(Clone, Copy)]
-enum Sought {
+enum SearchedName {
     /// A symbol.
     Symbol,
     /// A subprogram: `!dbg`, and a node's number.
@@ -103,24 +103,24 @@ enum Sought {
 }
 
 /// Whether the text begins with what is searched for.
-fn is_sought(sought: Sought, text: &[u8]) -> bool
+fn is_sought(sought: SearchedName, text: &[u8]) -> bool
     ensures { result ≡ is_sought sought text.now }
 {
     match sought {
-        Sought::Symbol => symbol_len(text).is_some(),
-        Sought::Attachment => attachment(text).is_some(),
+        SearchedName::Symbol => symbol_len(text).is_some(),
+        SearchedName::Attachment => attachment(text).is_some(),
     }
 }
 
 /// Whether the text begins with what is searched for, outside quotes.
-fn is_outside(sought: Sought, quoted: bool, text: &[u8]) -> bool
+fn is_outside(sought: SearchedName, quoted: bool, text: &[u8]) -> bool
     ensures { result ≡ is_outside (is_sought sought) quoted text.now }
 {
     !quoted && is_sought(sought, text)
 }
 
 /// A line from the first index outside quotes at which it begins with what is searched for; empty if there is none.
-fn from_first(sought: Sought, line: &[u8]) -> &[u8]
+fn from_first(sought: SearchedName, line: &[u8]) -> &[u8]
     ensures { result.now ≡ from_first (is_sought sought) false line.now }
 {
     let mut quoted = false;
@@ -151,11 +151,11 @@ pub fn definition_of_line(alloc: Global, line: &[u8]) -> Result<Option<(Name, No
     if !line.starts_with(b"define") {
         return Ok(None);
     }
-    let symbol = from_first(Sought::Symbol, line);
+    let symbol = from_first(SearchedName::Symbol, line);
     let Some(len) = symbol_len(symbol) else {
         return Ok(None);
     };
-    let Some(digits) = attachment(from_first(Sought::Attachment, &symbol[len..])) else {
+    let Some(digits) = attachment(from_first(SearchedName::Attachment, &symbol[len..])) else {
         return Ok(None);
     };
     let Some(number) = spelled(10, digits) else {

@@ -24,7 +24,7 @@ use Rattle.mir_func.specs.Limits.{MAX_BLOCKS}
 use Rattle.read_line.specs.declared.form.BodyLine.{BodyLine}
 use Rattle.read_line.specs.declared.form.BodyLine.TheVariants as lines
 use Rattle.read_line.specs.declared.form.ItemForm.{ItemForm}
-use Rattle.read_line.specs.declared.form.LineError.{LineError}
+use Rattle.read_line.specs.declared.form.FormError.{FormError}
 use Rattle.read_line.specs.Body.{body_line_of}
 use Rattle.read_item.specs.declared.judged.Judged.{Judged}
 use Rattle.read_item.specs.declared.judged.Judged.TheVariants as judged_as
@@ -202,7 +202,7 @@ unless_ok (Some kind) body next e = absurd cc
 -- a block as it is read, whose items keep what every item keeps that was judged
 pub record IsReadBlock (P : ItemKind → Loc → Type 0) (b : Block) : Type 0 where
   pub items : (k : ℕ) (i : Item) → slice_get b.items k ≡ Some i → i.origin ≡ Kept (record { block = b.id; item = k })
-  pub silent : b.silent ≡ length b.items
+  pub source_end : b.source_end ≡ length b.items
   pub each : All (λ i. P i.kind i.loc) b.items
 
 pub record IsReadBody (P : ItemKind → Loc → Type 0) (body : Body) : Type 0 where
@@ -235,13 +235,13 @@ module _ (P : ItemKind → Loc → Type 0) where
   block_more b kind loc p is = record {
     items = λ k i e. elim (push_read b.items item k i e) [
       | inl h ↦ is.items k i h
-      | inr h ↦ ap (λ (x : Item). x.origin) (sym h.1) ∙ ap (λ (n : ℕ). Kept (record { block = b.id; item = n })) (is.silent ∙ sym h.0)
+      | inr h ↦ ap (λ (x : Item). x.origin) (sym h.1) ∙ ap (λ (n : ℕ). Kept (record { block = b.id; item = n })) (is.source_end ∙ sym h.0)
     ];
-    silent = ap (λ (n : ℕ). n + 1) is.silent ∙ sym (length-append b.items (item ∷ []));
+    source_end = ap (λ (n : ℕ). n + 1) is.source_end ∙ sym (length-append b.items (item ∷ []));
     each = All-push (λ i. P i.kind i.loc) b.items item is.each p;
   } where
     item : Item
-    item = record { kind = kind; origin = Kept (record { block = b.id; item = b.silent }); loc = loc }
+    item = record { kind = kind; origin = Kept (record { block = b.id; item = b.source_end }); loc = loc }
 
   ids_push : (bs : List Block) (b : Block) → ids_of (bs ++ b ∷ []) ≡ ids_of bs ++ b.id ∷ []
   ids_push bs b = map-append (λ (x : Block). x.id) bs (b ∷ [])
@@ -256,7 +256,7 @@ module _ (P : ItemKind → Loc → Type 0) where
   label_reads body n none is = record {
     blocks = All-push (IsReadBlock P) (blocks_of body) block is.blocks (record {
       items = λ k i e. absurd cc;
-      silent = refl;
+      source_end = refl;
       each = All-nil
           (λ i. P i.kind i.loc);
     });
@@ -271,7 +271,7 @@ module _ (P : ItemKind → Loc → Type 0) where
     once = subst NumbersOnce (sym same_items) is.once;
   } where
     block : Block
-    block = record { id = n; items = []; silent = 0 }
+    block = record { id = n; items = []; source_end = 0 }
 
     same_items : items_of (blocks_of body ++ block ∷ []) ≡ items_of (blocks_of body)
     same_items = flat_map-append (λ (x : Block). x.items) (blocks_of body) (block ∷ []) ∙ append-nil (items_of (blocks_of body))
@@ -330,7 +330,7 @@ module _ (P : ItemKind → Loc → Type 0) where
     more = block_with kind loc b
 
     item : Item
-    item = record { kind = kind; origin = Kept (record { block = b.id; item = b.silent }); loc = loc }
+    item = record { kind = kind; origin = Kept (record { block = b.id; item = b.source_end }); loc = loc }
 
     same : SameBlocks (with_facts body kind) body
     same = facts_apart body kind
@@ -434,7 +434,7 @@ item_line_grows : (meta : Maps) (body next : Body) (form : ItemForm) (last : Opt
 item_line_grows meta body next form None e = absurd cc
 item_line_grows meta body next form (Some b) e = judged_grows body next form.number (judged meta form) e
 
-said_grows : (meta : Maps) (body next : Body) (read : Result BodyLine LineError) → line_said meta body read ≡ Ok next → Grows body next
+said_grows : (meta : Maps) (body next : Body) (read : Result BodyLine FormError) → line_said meta body read ≡ Ok next → Grows body next
 said_grows meta body next (Ok lines.Passed) e = let same : body ≡ next = cc in subst (Grows body) same (grows_not body body refl refl)
 said_grows meta body next (Ok (lines.Label None)) e = absurd cc
 said_grows meta body next (Ok (lines.Label (Some n))) e =
@@ -495,7 +495,7 @@ module _ (meta : Maps) (end : Body) where
   item_line_reads body next text form says None last e grown reads = absurd cc
   item_line_reads body next text form says (Some b) last e grown reads = judged_reads body next b text form last says (judged meta form) refl e grown reads
 
-  said_reads : (body next : Body) (text : List ℕ) (read : Result BodyLine LineError) → body_line_of text ≡ read → line_said meta body read ≡ Ok next →
+  said_reads : (body next : Body) (text : List ℕ) (read : Result BodyLine FormError) → body_line_of text ≡ read → line_said meta body read ≡ Ok next →
       Grows next end → Reads body → Reads next
   said_reads body next text (Ok lines.Passed) says e grown reads = let same : body ≡ next = cc in subst Reads same reads
   said_reads body next text (Ok (lines.Label None)) says e grown reads = absurd cc

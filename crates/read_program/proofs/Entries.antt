@@ -7,7 +7,7 @@ use Rattle.std.proofs.lemmas.List.Folds.{list_any-append}
 use Rattle.mir_func.specs.declared.object.Object.{Object}
 use Rattle.mir_func.specs.Objects.{object_of}
 use Rattle.read_declarations.specs.declared.stack.StackEntry.{StackEntry}
-use Rattle.read_body.specs.declared.frame.Laid.{Laid}
+use Rattle.read_body.specs.declared.frame.ObjectLayout.{ObjectLayout}
 use Rattle.read_body.specs.Met.{is_met, met}
 use Rattle.read_body.specs.Closing.{all_met}
 use Rattle.read_body.specs.Frame.{is_object, laid_at, with_object, objects_behind, objects_of, with_id, ids_behind as object_ids_behind, ids_of_objects}
@@ -101,7 +101,7 @@ met_is n m ns = elim (cases_Bool (is_met m ns)) [
   absorbed false other there = alone (is_met n ns)
 
 module _ (named : List ℕ) (n : ℕ) where
-  laid_step : (b : Bool) (e : StackEntry) (laid : Laid) (ids : List ℕ) (o : Object) (end : ℕ) → o.id ≡ e.id →
+  laid_step : (b : Bool) (e : StackEntry) (laid : ObjectLayout) (ids : List ℕ) (o : Object) (end : ℕ) → o.id ≡ e.id →
       is_met n ids ≡ is_some (object_of laid.objects n) →
       is_met n (cond b (met e.id ids) ids) ≡ is_some (object_of (cond b (record { objects = laid.objects ++ o ∷ []; end = end }) laid).objects n)
   laid_step true e laid ids o end same so_far =
@@ -109,7 +109,7 @@ module _ (named : List ℕ) (n : ℕ) where
       ∙ sym (object_push laid.objects o n ∙ ap (λ (k : ℕ). is_some (object_of laid.objects n) || eqb k n) same)
   laid_step false e laid ids o end same so_far = so_far
 
-  laid_behind : (es : List StackEntry) (laid : Laid) (ids : List ℕ) → is_met n ids ≡ is_some (object_of laid.objects n) →
+  laid_behind : (es : List StackEntry) (laid : ObjectLayout) (ids : List ℕ) → is_met n ids ≡ is_some (object_of laid.objects n) →
       is_met n (object_ids_behind named ids es) ≡ is_some (object_of (objects_behind named laid es).objects n)
   unfolding object_ids_behind objects_behind
   laid_behind [] laid ids so_far = so_far

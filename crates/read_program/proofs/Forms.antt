@@ -24,8 +24,8 @@ use Rattle.read_line.specs.declared.form.BodyLine.TheVariants.{Passed, Label, It
 use Rattle.read_line.specs.declared.form.Expression.{Expression}
 use Rattle.read_line.specs.declared.form.Expression.TheVariants as expressions
 use Rattle.read_line.specs.declared.form.ItemForm.{ItemForm}
-use Rattle.read_line.specs.declared.form.LineError.{LineError}
-use Rattle.read_line.specs.declared.form.LineError.TheVariants.{BadLine}
+use Rattle.read_line.specs.declared.form.FormError.{FormError}
+use Rattle.read_line.specs.declared.form.FormError.TheVariants.{BadLine}
 use Rattle.read_line.specs.declared.form.OperandForm.{OperandForm}
 use Rattle.read_line.specs.declared.form.OperandForm.TheVariants as operands
 use Rattle.read_line.specs.declared.form.RegisterForm.{RegisterForm}
@@ -366,20 +366,20 @@ as_item_some : (item : Option ItemForm) (form : ItemForm) → as_item item ≡ O
 as_item_some None form e = absurd cc
 as_item_some (Some item) form e = cc
 
-if_ok : {A : Type 0} (b : Bool) (x y z : Result A LineError) → cond b x y ≡ z → (x ≡ z → ⊥) → y ≡ z
+if_ok : {A : Type 0} (b : Bool) (x y z : Result A FormError) → cond b x y ≡ z → (x ≡ z → ⊥) → y ≡ z
 if_ok true x y z e not_x = absurd (not_x e)
 if_ok false x y z e not_x = e
 
-label_no_item : (n : ℕ) (form : ItemForm) → ◌≡◌ {A = Result BodyLine LineError} (Ok (label_of n)) (Ok (Item form)) → ⊥
+label_no_item : (n : ℕ) (form : ItemForm) → ◌≡◌ {A = Result BodyLine FormError} (Ok (label_of n)) (Ok (Item form)) → ⊥
 label_no_item n form e = by (ltb n 1073741824) e where
-  by : (b : Bool) → ◌≡◌ {A = Result BodyLine LineError} (Ok (cond b (Label (Some n)) (Label None))) (Ok (Item form)) → ⊥
+  by : (b : Bool) → ◌≡◌ {A = Result BodyLine FormError} (Ok (cond b (Label (Some n)) (Label None))) (Ok (Item form)) → ⊥
   by true e = cc
   by false e = cc
 
 labelled_no_item : (n : ℕ) (rest : Option (List Lexeme)) (form : ItemForm) → labelled n rest ≡ Ok (Item form) → ⊥
 labelled_no_item n None form e = cc
 labelled_no_item n (Some rest) form e =
-    let no_colon : ◌≡◌ {A = Result BodyLine LineError} (Err BadLine) (Ok (Item form)) = if_ok (is_colon rest) (Ok (label_of n)) (Err BadLine) (Ok
+    let no_colon : ◌≡◌ {A = Result BodyLine FormError} (Err BadLine) (Ok (Item form)) = if_ok (is_colon rest) (Ok (label_of n)) (Err BadLine) (Ok
     (Item form)) e (label_no_item n form) in cc
 
 sentence_fits : (line : List ℕ) (ts : List Lexeme) (form : ItemForm) → sentence_of line ts ≡ Ok (Item form) → AllFit ts → ItemFits form
@@ -400,5 +400,5 @@ pub line_fits : (text : List ℕ) (form : ItemForm) → body_line_of text ≡ Ok
 unfolding body_line_of
 line_fits text form e = tokens_fit (code_of text) (tokens_of (code_of text)) form
     (if_ok (is_listing text) (Ok Passed) (line_of_tokens (code_of text) (tokens_of (code_of text))) (Ok (Item form)) e passed_no_item) where
-      passed_no_item : ◌≡◌ {A = Result BodyLine LineError} (Ok Passed) (Ok (Item form)) → ⊥
+      passed_no_item : ◌≡◌ {A = Result BodyLine FormError} (Ok Passed) (Ok (Item form)) → ⊥
       passed_no_item e = cc

@@ -12,7 +12,7 @@ use Rattle.mir_func.specs.Objects.{ALIGNMENTS, up_to, AreLaidFrom, end_from}
 use Rattle.mir_func.specs.Sound.{AreApart, IsSoundObject}
 use Rattle.read_declarations.specs.declared.stack.StackEntry.{StackEntry}
 use Rattle.read_declarations.specs.Stack.{is_alignment}
-use Rattle.read_body.specs.declared.frame.Laid.{Laid}
+use Rattle.read_body.specs.declared.frame.ObjectLayout.{ObjectLayout}
 use Rattle.read_body.specs.Met.{is_met, met}
 use Rattle.read_body.specs.Frame.{is_object, with_slot, slots_behind, slots_of, laid_at, with_object, objects_behind, objects_of, with_id}
 use Rattle.read_body.specs.Frame.{ids_behind as object_ids_behind}
@@ -94,7 +94,7 @@ module _ (named : List ℕ) where
   abbrev object_numbers : List Object → List ℕ
   object_numbers os = map (λ (o : Object). o.id) os
 
-  objects_chosen : (laid : Laid) (es : List StackEntry) → object_numbers (objects_behind named laid es).objects ≡ chosen (is_object named)
+  objects_chosen : (laid : ObjectLayout) (es : List StackEntry) → object_numbers (objects_behind named laid es).objects ≡ chosen (is_object named)
       (object_numbers laid.objects) es
   unfolding objects_behind
   objects_chosen laid [] = refl
@@ -165,7 +165,7 @@ module _ (named : List ℕ) where
 
 -- ---- objects are laid one behind the other
 
-record IsLaid (laid : Laid) : Type 0 where
+record IsLaid (laid : ObjectLayout) : Type 0 where
   each : All IsSoundObject laid.objects
   laid_from : AreLaidFrom 0 laid.objects
   end_is : laid.end ≡ end_from 0 laid.objects
@@ -189,7 +189,7 @@ alignment align is = met_contains ALIGNMENTS align (by (eqb align 1) (eqb align 
   by false false false false false is = is
 
 module _ (named : List ℕ) where
-  laid_more : (laid : Laid) (e : StackEntry) → IsReadEntry e → IsLaid laid → IsLaid (with_object named laid e)
+  laid_more : (laid : ObjectLayout) (e : StackEntry) → IsReadEntry e → IsLaid laid → IsLaid (with_object named laid e)
   laid_more laid e entry is = by (is_object named e) where
     o : Object
     o = laid_at laid.end e
@@ -202,13 +202,13 @@ module _ (named : List ℕ) where
     }
     by false = is
 
-  laid_behind : (laid : Laid) (es : List StackEntry) → All IsReadEntry es → IsLaid laid → IsLaid (objects_behind named laid es)
+  laid_behind : (laid : ObjectLayout) (es : List StackEntry) → All IsReadEntry es → IsLaid laid → IsLaid (objects_behind named laid es)
   unfolding objects_behind
   laid_behind laid [] all is = is
   laid_behind laid (e ∷ es) all is =
       laid_behind (with_object named laid e) es (All-tail IsReadEntry e es all) (laid_more laid e (All-head IsReadEntry e es all) is)
 
-  abbrev none_laid : Laid
+  abbrev none_laid : ObjectLayout
   none_laid = record { objects = []; end = 0 }
 
   all_laid : (es : List StackEntry) → All IsReadEntry es → IsLaid (objects_of named es)

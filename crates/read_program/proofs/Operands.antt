@@ -19,8 +19,8 @@ use Rattle.read_line.specs.declared.form.OperandForm.{OperandForm}
 use Rattle.read_line.specs.declared.form.OperandForm.TheVariants as form
 use Rattle.read_line.specs.declared.form.RegisterForm.{RegisterForm}
 use Rattle.read_line.specs.Exceeds.{is_beyond, operand_exceeds}
-use Rattle.read_item.specs.declared.place.Place.{Place}
-use Rattle.read_item.specs.declared.place.Place.TheVariants as place
+use Rattle.read_item.specs.declared.place.OperandKind.{OperandKind}
+use Rattle.read_item.specs.declared.place.OperandKind.TheVariants as place
 use Rattle.read_item.specs.Place.{front, behind}
 use Rattle.read_item.specs.Code.{number_of, used, stack_operand, number_operand, operand_at, before, joined, set_by, definition, definitions, placed, places_of}
 use Rattle.read_item.specs.Code.{operands_of, is_named, is_pointer, is_pointer_operand}
@@ -92,7 +92,7 @@ reads entries o x e is = let same : x ≡ o = cc in subst (IsReadOperand entries
 pub within_limit : (n : ℕ) → is_beyond n ≡ false → n ≤ MAX_NUMBER
 within_limit n e = let below = leb-false BEYOND n e in omega (arith, below)
 
-stack_reads : (entries : List ℕ) (p : Place) (n : ℕ) (o : Operand) → n ≤ MAX_NUMBER → is_met n entries ≡ true → stack_operand p n ≡ Some o →
+stack_reads : (entries : List ℕ) (p : OperandKind) (n : ℕ) (o : Operand) → n ≤ MAX_NUMBER → is_met n entries ≡ true → stack_operand p n ≡ Some o →
     IsReadOperand entries o
 stack_reads entries place.Object n o small met e = reads entries o (Object n) e (record { limited = small; pointer = tt; named = met })
 stack_reads entries place.Slot n o small met e = reads entries o (Slot n) e (record { limited = small; pointer = tt; named = met })
@@ -112,7 +112,7 @@ number_reads : (entries : List ℕ) (i : Option ℤ) (o : Operand) → IntegerFi
 number_reads entries None o fits e = absurd cc
 number_reads entries (Some i) o fits e = reads entries o (Imm i) e (record { limited = fits; pointer = tt; named = tt })
 
-operand_reads : (entries : List ℕ) (p : Place) (f : OperandForm) (o : Operand) → IsReadForm entries f → operand_at p f ≡ Some o → IsReadOperand entries o
+operand_reads : (entries : List ℕ) (p : OperandKind) (f : OperandForm) (o : Operand) → IsReadForm entries f → operand_at p f ≡ Some o → IsReadOperand entries o
 operand_reads entries p (form.Register r) o is e = used_reads entries r.flag r.name (number_of r.name) refl o is.fits is.pointer e
 operand_reads entries p (form.Integer i) o is e = number_reads entries i o is.fits e
 operand_reads entries p (form.Slot n) o is e = stack_reads entries p n o (within_limit n is.within) (is.named n refl) e
@@ -143,7 +143,7 @@ definitions_read entries (r ∷ rs) xs fits others e =
     before_reads entries (definition r) (definitions rs) xs e (λ x is. set_reads entries r.flag r.name (number_of r.name) refl x fits.0 parts.0 is)
     (λ ys is. definitions_read entries rs ys fits.1 parts.1 is)
 
-placed_read : (entries : List ℕ) (ps : List Place) (os : List OperandForm) (xs : List Operand) → AllOf (IsReadForm entries) os → placed ps os ≡ Some xs →
+placed_read : (entries : List ℕ) (ps : List OperandKind) (os : List OperandForm) (xs : List Operand) → AllOf (IsReadForm entries) os → placed ps os ≡ Some xs →
     All (IsReadOperand entries) xs
 unfolding placed
 placed_read entries ps [] xs is e = let none : List Operand = [] in let same : none ≡ xs = cc in subst (All (IsReadOperand entries)) same (All-nil

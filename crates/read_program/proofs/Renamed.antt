@@ -44,7 +44,7 @@ module _ (P Q : ItemKind → Loc → Type 0) (ids : List ℕ) (each : (k : ItemK
   block_kept : (b : Block) → IsReadBlock P b → IsReadBlock Q (block_as ids b)
   block_kept b is = record {
     items = λ k i e. found k i (slice_get b.items k) refl (sym (slice_get-map (item_as ids) b.items k) ∙ e);
-    silent = is.silent ∙ sym (length-map b.items (item_as ids));
+    source_end = is.source_end ∙ sym (length-map b.items (item_as ids));
     each = All-map (λ i. Q i.kind i.loc) (item_as ids) b.items
         (All-weaker (λ i. P i.kind i.loc) (λ i. Q (kind_as ids i.kind) i.loc) (λ i p. each i.kind i.loc p) b.items is.each);
   } where

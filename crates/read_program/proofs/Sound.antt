@@ -316,7 +316,7 @@ once_as named bs once = subst NumbersOnce (sym (items_map named bs)) (λ i j x y
 
 pub origins_in : (P : ItemKind → Loc → Type 0) (b : Block) → IsReadBlock P b → All (λ i. OriginIn b i.origin) b.items
 origins_in P b is = λ k d lt.
-    subst (OriginIn b) (sym (is.items k _ (slice_get-get_or b.items k d lt))) (refl, subst (λ (n : ℕ). k < n) (sym is.silent) lt)
+    subst (OriginIn b) (sym (is.items k _ (slice_get-get_or b.items k d lt))) (refl, subst (λ (n : ℕ). k < n) (sym is.source_end) lt)
 
 -- ---- branches of blocks
 

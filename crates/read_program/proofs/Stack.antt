@@ -18,11 +18,11 @@ use Rattle.mir_func.specs.Limits.{MAX_SLOTS}
 use Rattle.base_ids.specs.Limits.{MAX_NUMBER}
 use Rattle.read_lexer.specs.declared.line.Line.{Line}
 use Rattle.read_declarations.specs.declared.declarations.Declarations.{Declarations}
-use Rattle.read_declarations.specs.declared.entry.Entry.{Entry}
-use Rattle.read_declarations.specs.declared.entry.Field.{Field}
+use Rattle.read_declarations.specs.declared.entry.MappingEntry.{MappingEntry}
+use Rattle.read_declarations.specs.declared.entry.MappingField.{MappingField}
 use Rattle.read_declarations.specs.declared.stack.StackEntry.{StackEntry}
 use Rattle.read_declarations.specs.declared.stack.StackRead.{StackRead}
-use Rattle.read_declarations.specs.declared.stream.Piece.{Piece}
+use Rattle.read_declarations.specs.declared.stream.YamlToken.{YamlToken}
 use Rattle.read_declarations.specs.Declarations.{fixed_refusal, refusal_of, declared_of, checked, declarations_of}
 use Rattle.read_declarations.specs.Field.{value_at, number_in, needed, given, is_variable_sized}
 use Rattle.read_declarations.specs.List.{list_of}
@@ -69,7 +69,7 @@ integer_small : (text : List ℕ) (n : ℕ) → integer_of text ≡ Some n → n
 integer_small [] n e = spelled_small 10 [] n e
 integer_small (a ∷ bs) n e = one_of (eqb a 45) (zero_alone (spelled 10 bs)) (unsigned_of a bs) n e (zero_small (spelled 10 bs) n) (unsigned_small a bs n)
 
-needed_small : (lines : List Line) (o : Option Piece) (n : ℕ) → number_in lines None o ≡ Some n → n ≤ MAX_NUMBER
+needed_small : (lines : List Line) (o : Option YamlToken) (n : ℕ) → number_in lines None o ≡ Some n → n ≤ MAX_NUMBER
 needed_small lines None n e = absurd cc
 needed_small lines (Some value) n e =
     one_of (is_integer value.token) (integer_of (text_at lines value)) None n e (integer_small (text_at lines value) n) (λ f. absurd cc)
@@ -96,7 +96,7 @@ unsized_none : (id : Option ℕ) (e : StackEntry) → unsized id ≡ Ok e → �
 unsized_none (Some id) e made = cc
 unsized_none None e made = cc
 
-entry_reads_by : (b : Bool) (lines : List Line) (fields : List Field) (e : StackEntry) →
+entry_reads_by : (b : Bool) (lines : List Line) (fields : List MappingField) (e : StackEntry) →
     cond b (unsized (needed lines (codes "id") fields)) (entry_with (is_variable_sized lines fields) (needed lines (codes "id") fields)
     (needed lines (codes "size") fields) (given lines (codes "alignment") 1 fields)) ≡ Ok e → IsReadEntry e
 entry_reads_by true lines fields e made = absurd (unsized_none (needed lines (codes "id") fields) e made)
@@ -105,7 +105,7 @@ entry_reads_by false lines fields e made =
     (codes "alignment") 1 fields) e
     (λ n f. needed_small lines (value_at lines (codes "size") fields) n f) made
 
-entry_reads : (lines : List Line) (fields : List Field) (e : StackEntry) → stack_entry_of lines fields ≡ Ok e → IsReadEntry e
+entry_reads : (lines : List Line) (fields : List MappingField) (e : StackEntry) → stack_entry_of lines fields ≡ Ok e → IsReadEntry e
 entry_reads lines fields e made = entry_reads_by (is_variable_sized lines fields && is_none (value_at lines (codes "size") fields)) lines fields e made
 
 -- ---- refusals
@@ -151,7 +151,7 @@ one_more read line (Ok e) each is none =
       parts.0,
     )
 
-refused_before : (lines : List Line) (read : StackRead) (es : List Entry) → (stack_behind lines read es).refused ≡ None → read.refused ≡ None
+refused_before : (lines : List Line) (read : StackRead) (es : List MappingEntry) → (stack_behind lines read es).refused ≡ None → read.refused ≡ None
 unfolding stack_behind
 refused_before lines read [] none = none
 refused_before lines read (e ∷ es) none =
@@ -160,7 +160,7 @@ refused_before lines read (e ∷ es) none =
       before (Ok x) f = (earlier_none read.refused _ f).0
       before (Err kind) f = (earlier_none read.refused _ f).0
 
-stack_reads : (lines : List Line) (read : StackRead) (es : List Entry) → IsReadStack read.entries → (stack_behind lines read es).refused ≡ None →
+stack_reads : (lines : List Line) (read : StackRead) (es : List MappingEntry) → IsReadStack read.entries → (stack_behind lines read es).refused ≡ None →
     IsReadStack (stack_behind lines read es).entries
 unfolding stack_behind
 stack_reads lines read [] is none = is

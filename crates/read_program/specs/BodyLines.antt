@@ -10,8 +10,8 @@ use Rattle.mir_func.specs.declared.block.Block.{Block}
 use Rattle.read_line.specs.declared.form.BodyLine.{BodyLine}
 use Rattle.read_line.specs.declared.form.BodyLine.TheVariants.{Passed, Label, Item}
 use Rattle.read_line.specs.declared.form.ItemForm.{ItemForm}
-use Rattle.read_line.specs.declared.form.LineError.{LineError}
-use Rattle.read_line.specs.declared.form.LineError.TheVariants.{BadByte, UnclosedString, BadLine, Memory}
+use Rattle.read_line.specs.declared.form.FormError.{FormError}
+use Rattle.read_line.specs.declared.form.FormError.TheVariants.{BadByte, UnclosedString, BadLine, Memory}
 use Rattle.read_line.specs.Body.{body_line_of}
 use Rattle.read_item.specs.declared.judged.Judged.{Judged}
 use Rattle.read_item.specs.declared.judged.Judged.TheVariants as judged_as
@@ -41,14 +41,14 @@ item_said meta body None form = Err kinds.BadLine
 item_said meta body (Some b) form = judged_said body form.number (judged meta form)
 
 -- the refusal of a line that has no accepted form. Want of memory, which is no fault of the line, is mapped to BadLine
-abbrev pub kind_of : LineError → RefusalKind
+abbrev pub kind_of : FormError → RefusalKind
 kind_of BadByte = kinds.BadByte
 kind_of UnclosedString = kinds.UnclosedString
 kind_of BadLine = kinds.BadLine
 kind_of Memory = kinds.BadLine
 
 -- the body after a parsed line, or the line's refusal
-abbrev pub line_said : Maps → Body → Result BodyLine LineError → Result Body RefusalKind
+abbrev pub line_said : Maps → Body → Result BodyLine FormError → Result Body RefusalKind
 line_said meta body (Ok Passed) = Ok body
 line_said meta body (Ok (Label n)) = label_said body n
 line_said meta body (Ok (Item form)) = item_said meta body body.last form

@@ -64,7 +64,7 @@ item_as ids i = record { kind = kind_as ids i.kind; origin = i.origin; loc = i.l
 
 -- a block
 abbrev pub block_as : List ℕ → Block → Block
-block_as ids b = record { id = b.id; items = map (item_as ids) b.items; silent = b.silent }
+block_as ids b = record { id = b.id; items = map (item_as ids) b.items; source_end = b.source_end }
 
 -- the blocks of a function
 abbrev pub blocks_as : List ℕ → List Block → List Block

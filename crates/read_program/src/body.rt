@@ -11,7 +11,7 @@ use read_item::judge::judge;
 use read_item::judged::{JudgeError, Judged};
 use read_lexer::line::Line;
 use read_line::body::body_line;
-use read_line::form::{BodyLine, ItemForm, LineError};
+use read_line::form::{BodyLine, FormError, ItemForm};
 use read_metadata::metadata::Metadata;
 use read_refusal::first::Refusal;
 use read_refusal::kind::RefusalKind;
@@ -69,10 +69,10 @@ fn take_line(alloc: Global, body: &mut Body, text: &[u8], meta: &Metadata) -> Ta
         Ok(BodyLine::Passed) => Ok(None),
         Ok(BodyLine::Label(label)) => take_label(alloc, body, label),
         Ok(BodyLine::Item(form)) => take_item(alloc, body, &form, meta),
-        Err(LineError::BadByte) => Ok(Some(RefusalKind::BadByte)),
-        Err(LineError::UnclosedString) => Ok(Some(RefusalKind::UnclosedString)),
-        Err(LineError::BadLine) => Ok(Some(RefusalKind::BadLine)),
-        Err(LineError::Memory) => Err(AllocError),
+        Err(FormError::BadByte) => Ok(Some(RefusalKind::BadByte)),
+        Err(FormError::UnclosedString) => Ok(Some(RefusalKind::UnclosedString)),
+        Err(FormError::BadLine) => Ok(Some(RefusalKind::BadLine)),
+        Err(FormError::Memory) => Err(AllocError),
     }
 }
 

@@ -19,7 +19,7 @@ use mir_substitution::substitutions::Substitutions;
 use read_body::body::Body;
 use read_body::closing::{all_met, blocks_go_to};
 use read_body::frame::{object_ids, objects, slots};
-use read_body::met::Met;
+use read_body::met::FirstUseOrder;
 use read_declarations::declarations::Declarations;
 use read_declarations::stack::StackEntry;
 use read_refusal::first::Refusal;
@@ -45,10 +45,10 @@ pub struct Parts {
 }
 
 /// The set of the numbers of these stack entries.
-fn entry_ids(alloc: Global, entries: &[StackEntry]) -> Result<Met, AllocError>
+fn entry_ids(alloc: Global, entries: &[StackEntry]) -> Result<FirstUseOrder, AllocError>
     ensures { IfOk result (λ ids. ids ≡ entry_ids entries.now) }
 {
-    let mut ids = Met::new(alloc);
+    let mut ids = FirstUseOrder::new(alloc);
     for entry in entries {
         ids.meet(u64::from(entry.id.number()))?;
     }
@@ -69,7 +69,7 @@ fn and_last(mut before: Blocks, last: Option<Block>) -> Result<Blocks, AllocErro
 /// objects. `None` if an access is outside its object.
 fn parts_of(
     alloc: Global,
-    named: &Met,
+    named: &FirstUseOrder,
     entries: &[StackEntry],
     blocks: &[Block],
 ) -> Result<Option<Parts>, AllocError>

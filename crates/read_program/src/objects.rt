@@ -25,7 +25,7 @@ use base_list::List;
 use mir_func::block::{Block, Blocks};
 use mir_func::item::{Item, ItemKind, Items};
 use mir_func::object::Object;
-use read_body::met::Met;
+use read_body::met::FirstUseOrder;
 use rv64_instr::arithmetic::{load_width, store_width};
 use rv64_instr::decoded::{Base, Decoded};
 use rv64_instr::instr::Instr;
@@ -34,7 +34,7 @@ use rv64_instr::place::Place;
 use std::alloc::{AllocError, Global};
 
 /// An operand: a spill slot becomes a stack object if its entry is one.
-fn operand_as(ids: &Met, operand: &Operand) -> Result<Operand, AllocError>
+fn operand_as(ids: &FirstUseOrder, operand: &Operand) -> Result<Operand, AllocError>
     ensures { IfOk result (λ o. o ≡ operand_as ids.now operand.now) }
 {
     match operand {
@@ -45,7 +45,11 @@ fn operand_as(ids: &Met, operand: &Operand) -> Result<Operand, AllocError>
     }
 }
 
-fn operands_as(alloc: Global, ids: &Met, operands: &[Operand]) -> Result<Operands, AllocError>
+fn operands_as(
+    alloc: Global,
+    ids: &FirstUseOrder,
+    operands: &[Operand],
+) -> Result<Operands, AllocError>
     ensures { IfOk result (λ os. os ≡ operands_as ids.now operands.now) }
 {
     let mut renamed = Operands::new(alloc);
@@ -56,7 +60,7 @@ fn operands_as(alloc: Global, ids: &Met, operands: &[Operand]) -> Result<Operand
 }
 
 /// An instruction: its slots become objects, if the opcode takes them so; else it is left as it is.
-fn instr_as(alloc: Global, ids: &Met, instr: &Instr) -> Result<Instr, AllocError>
+fn instr_as(alloc: Global, ids: &FirstUseOrder, instr: &Instr) -> Result<Instr, AllocError>
     ensures { IfOk result (λ i. i ≡ instr_as ids.now instr.now) }
 {
     let operands = operands_as(alloc, ids, instr.operands.as_slice())?;
@@ -67,7 +71,7 @@ fn instr_as(alloc: Global, ids: &Met, instr: &Instr) -> Result<Instr, AllocError
 }
 
 /// Whether a location is a slot whose entry is a stack object.
-fn is_object(ids: &Met, place: &Place) -> bool
+fn is_object(ids: &FirstUseOrder, place: &Place) -> bool
     ensures { result ≡ is_object ids.now place.now }
 {
     match place {
@@ -77,7 +81,7 @@ fn is_object(ids: &Met, place: &Place) -> bool
 }
 
 /// The location of a DBG_PHI: none if it is a stack object.
-fn place_as(ids: &Met, place: Option<Place>) -> Option<Place>
+fn place_as(ids: &FirstUseOrder, place: Option<Place>) -> Option<Place>
     ensures { result ≡ place_as ids.now place }
 {
     match place {
@@ -92,7 +96,7 @@ fn place_as(ids: &Met, place: Option<Place>) -> Option<Place>
     }
 }
 
-fn kind_as(alloc: Global, ids: &Met, kind: &ItemKind) -> Result<ItemKind, AllocError>
+fn kind_as(alloc: Global, ids: &FirstUseOrder, kind: &ItemKind) -> Result<ItemKind, AllocError>
     ensures { IfOk result (λ k. k ≡ kind_as ids.now kind.now) }
 {
     match kind {
@@ -104,7 +108,7 @@ fn kind_as(alloc: Global, ids: &Met, kind: &ItemKind) -> Result<ItemKind, AllocE
     }
 }
 
-fn item_as(alloc: Global, ids: &Met, item: &Item) -> Result<Item, AllocError>
+fn item_as(alloc: Global, ids: &FirstUseOrder, item: &Item) -> Result<Item, AllocError>
     ensures { IfOk result (λ i. i ≡ item_as ids.now item.now) }
 {
     Ok(Item {
@@ -114,7 +118,7 @@ fn item_as(alloc: Global, ids: &Met, item: &Item) -> Result<Item, AllocError>
     })
 }
 
-fn items_as(alloc: Global, ids: &Met, items: &[Item]) -> Result<Items, AllocError>
+fn items_as(alloc: Global, ids: &FirstUseOrder, items: &[Item]) -> Result<Items, AllocError>
     ensures { IfOk result (λ all. all ≡ map (item_as ids.now) items.now) }
 {
     let mut renamed = List::new(alloc);
@@ -124,18 +128,18 @@ fn items_as(alloc: Global, ids: &Met, items: &[Item]) -> Result<Items, AllocErro
     Ok(renamed)
 }
 
-fn block_as(alloc: Global, ids: &Met, block: &Block) -> Result<Block, AllocError>
+fn block_as(alloc: Global, ids: &FirstUseOrder, block: &Block) -> Result<Block, AllocError>
     ensures { IfOk result (λ b. b ≡ block_as ids.now block.now) }
 {
     Ok(Block {
         id: block.id,
         items: items_as(alloc, ids, block.items.as_slice())?,
-        silent: block.silent,
+        source_end: block.source_end,
     })
 }
 
 /// The blocks of a function.
-pub fn blocks_as(alloc: Global, ids: &Met, blocks: &[Block]) -> Result<Blocks, AllocError>
+pub fn blocks_as(alloc: Global, ids: &FirstUseOrder, blocks: &[Block]) -> Result<Blocks, AllocError>
     ensures { IfOk result (λ all. all ≡ blocks_as ids.now blocks.now) }
 {
     let mut renamed = List::new(alloc);

@@ -23,8 +23,8 @@ use Rattle.base_ids.specs.Limits.{MAX_NUMBER}
 use Rattle.read_line.specs.declared.form.BodyLine.{BodyLine}
 use Rattle.read_line.specs.declared.form.BodyLine.TheVariants as lines
 use Rattle.read_line.specs.declared.form.ItemForm.{ItemForm}
-use Rattle.read_line.specs.declared.form.LineError.{LineError}
-use Rattle.read_line.specs.declared.form.LineError.TheVariants as errors
+use Rattle.read_line.specs.declared.form.FormError.{FormError}
+use Rattle.read_line.specs.declared.form.FormError.TheVariants as errors
 use Rattle.read_line.specs.Body.{is_listing, code_of, label_of, is_colon, labelled, as_item, sentence_of, line_of_tokens, body_line_of}
 use Rattle.read_line.specs.Bracket.{behind_bracket}
 use Rattle.read_line.specs.Item.{item_of}
@@ -43,14 +43,14 @@ use Rattle.read_proof.proofs.Nodes.{Small}
 -- ---- labels
 
 -- the number of a label is within the limit
-abbrev HasSmallLabel : Result BodyLine LineError → Type 0
+abbrev HasSmallLabel : Result BodyLine FormError → Type 0
 HasSmallLabel (Ok (lines.Label (Some n))) = n ≤ MAX_NUMBER
 HasSmallLabel (Ok (lines.Label None)) = Unit {0}
 HasSmallLabel (Ok lines.Passed) = Unit {0}
 HasSmallLabel (Ok (lines.Item form)) = Unit {0}
 HasSmallLabel (Err e) = Unit {0}
 
-either : (b : Bool) (x y : Result BodyLine LineError) → HasSmallLabel x → HasSmallLabel y → HasSmallLabel (cond b x y)
+either : (b : Bool) (x y : Result BodyLine FormError) → HasSmallLabel x → HasSmallLabel y → HasSmallLabel (cond b x y)
 either true x y p q = p
 either false x y p q = q
 
@@ -113,7 +113,7 @@ item_small : (meta : Maps) (body next : Body) (form : ItemForm) (last : Option B
 item_small meta body next form None e small = absurd cc
 item_small meta body next form (Some b) e small = judged_small body next form.number (judged meta form) e small
 
-said_small : (meta : Maps) (body next : Body) (read : Result BodyLine LineError) → HasSmallLabel read → line_said meta body read ≡ Ok next → HasSmallIds body →
+said_small : (meta : Maps) (body next : Body) (read : Result BodyLine FormError) → HasSmallLabel read → line_said meta body read ≡ Ok next → HasSmallIds body →
     HasSmallIds next
 said_small meta body next (Ok lines.Passed) label e small = let same : body ≡ next = cc in subst HasSmallIds same small
 said_small meta body next (Ok (lines.Label None)) label e small = absurd cc

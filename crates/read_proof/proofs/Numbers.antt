@@ -9,18 +9,18 @@ use Rattle.read_refusal.specs.declared.kind.RefusalKind.TheVariants.{StackObject
 use Rattle.read_metadata.specs.Number.{integer_of}
 use Rattle.read_metadata.specs.Token.{is_integer}
 use Rattle.read_documents.specs.declared.parts.FunctionDocument.{FunctionDocument}
-use Rattle.mir_func.specs.declared.entry.Entry as func
+use Rattle.mir_func.specs.declared.entry.DebugSubstitution as func
 use Rattle.mir_func.specs.declared.entry.OperandPair.{OperandPair}
 use Rattle.mir_func.specs.declared.object.Object.{Object}
 use Rattle.mir_func.specs.Resolve.{entry_of}
 use Rattle.base_ids.specs.Limits.{MAX_NUMBER}
 use Rattle.read_lexer.specs.declared.line.Line.{Line}
 use Rattle.read_declarations.specs.declared.declarations.Declarations.{Declarations}
-use Rattle.read_declarations.specs.declared.entry.Entry.{Entry}
-use Rattle.read_declarations.specs.declared.entry.Field.{Field}
+use Rattle.read_declarations.specs.declared.entry.MappingEntry.{MappingEntry}
+use Rattle.read_declarations.specs.declared.entry.MappingField.{MappingField}
 use Rattle.read_declarations.specs.declared.stack.StackEntry.{StackEntry}
 use Rattle.read_declarations.specs.declared.stack.StackRead.{StackRead}
-use Rattle.read_declarations.specs.declared.stream.Piece.{Piece}
+use Rattle.read_declarations.specs.declared.stream.YamlToken.{YamlToken}
 use Rattle.read_declarations.specs.declared.substitutions.SubstitutionsRead.{SubstitutionsRead}
 use Rattle.read_declarations.specs.Declarations.{refusal_of, declared_of, checked, declarations_of}
 use Rattle.read_declarations.specs.Field.{value_at, number_in, needed, given, is_variable_sized}
@@ -28,19 +28,19 @@ use Rattle.read_declarations.specs.List.{list_of}
 use Rattle.read_declarations.specs.Stack.{is_alignment, entry_with, unsized, stack_entry_of, judged, stack_behind}
 use Rattle.read_declarations.specs.Stream.{text_at}
 use Rattle.read_declarations.specs.Substitutions.{pair_of, substitution_with, substitution_of, substituted, substitutions_behind}
-use Rattle.read_body.specs.declared.frame.Laid.{Laid}
+use Rattle.read_body.specs.declared.frame.ObjectLayout.{ObjectLayout}
 use Rattle.read_body.specs.Frame.{is_object, with_slot, slots_behind, slots_of, laid_at, with_object, objects_behind, objects_of}
 use Rattle.read_proof.specs.Read.{PairIsLimited, EntryIsLimited}
 use Rattle.read_proof.proofs.Nodes.{Small, one_of, integer_small}
 
 -- ---- fields
 
-number_small : (lines : List Line) (missing : Option ℕ) (value : Option Piece) → IfSome missing Small → IfSome (number_in lines missing value) Small
+number_small : (lines : List Line) (missing : Option ℕ) (value : Option YamlToken) → IfSome missing Small → IfSome (number_in lines missing value) Small
 number_small lines missing None small = small
 number_small lines missing (Some value) small =
     one_of Small (is_integer value.token) (integer_of (text_at lines value)) None (integer_small (text_at lines value)) tt
 
-needed_small : (lines : List Line) (key : List ℕ) (fields : List Field) → IfSome (needed lines key fields) Small
+needed_small : (lines : List Line) (key : List ℕ) (fields : List MappingField) → IfSome (needed lines key fields) Small
 needed_small lines key fields = number_small lines None (value_at lines key fields) tt
 
 -- ---- stack entries
@@ -68,7 +68,7 @@ unsized_small : (id : Option ℕ) → IfRead (unsized id)
 unsized_small (Some id) = tt
 unsized_small None = tt
 
-entry_small : (lines : List Line) (fields : List Field) → IfRead (stack_entry_of lines fields)
+entry_small : (lines : List Line) (fields : List MappingField) → IfRead (stack_entry_of lines fields)
 entry_small lines fields =
     either (is_variable_sized lines fields && is_none (value_at lines (codes "size") fields)) (unsized (needed lines (codes "id") fields))
     (entry_with (is_variable_sized lines fields) (needed lines (codes "id") fields) (needed lines (codes "size") fields) (given lines (codes "alignment") 1
@@ -82,7 +82,8 @@ one_more : (read : StackRead) (line : ℕ) (r : Result StackEntry RefusalKind) �
 one_more read line (Err kind) small all = all
 one_more read line (Ok e) small all = All-push HasSmallId read.entries e all small
 
-stack_small : (lines : List Line) (read : StackRead) (es : List Entry) → All HasSmallId read.entries → All HasSmallId (stack_behind lines read es).entries
+stack_small : (lines : List Line) (read : StackRead) (es : List MappingEntry) → All HasSmallId read.entries →
+    All HasSmallId (stack_behind lines read es).entries
 unfolding stack_behind
 stack_small lines read [] all = all
 stack_small lines read (e ∷ es) all = stack_small lines (judged read e.line (stack_entry_of lines e.fields)) es
@@ -105,7 +106,7 @@ substitution_small (Some src) (Some dst) None s d r = tt
 substitution_small (Some src) None subreg s d r = tt
 substitution_small None dst subreg s d r = tt
 
-fields_small : (lines : List Line) (fields : List Field) → IfSome (substitution_of lines fields) EntryIsLimited
+fields_small : (lines : List Line) (fields : List MappingField) → IfSome (substitution_of lines fields) EntryIsLimited
 fields_small lines fields =
     substitution_small (pair_of (needed lines (codes "srcinst") fields) (needed lines (codes "srcop") fields))
     (pair_of (needed lines (codes "dstinst") fields) (needed lines (codes "dstop") fields)) (given lines (codes "subreg") 0 fields)
@@ -115,17 +116,17 @@ fields_small lines fields =
     (needed_small lines (codes "dstop") fields))
     (number_small lines (Some 0) (value_at lines (codes "subreg") fields) (omega arith))
 
-added_small : (b : Bool) (subs : List func.Entry) (e : func.Entry) → All EntryIsLimited subs → EntryIsLimited e → All EntryIsLimited
+added_small : (b : Bool) (subs : List func.DebugSubstitution) (e : func.DebugSubstitution) → All EntryIsLimited subs → EntryIsLimited e → All EntryIsLimited
     (cond b subs (subs ++ e ∷ []))
 added_small true subs e all is = all
 added_small false subs e all is = All-push EntryIsLimited subs e all is
 
-substituted_small : (read : SubstitutionsRead) (line : ℕ) (e : Option func.Entry) → IfSome e EntryIsLimited → All EntryIsLimited read.entries →
+substituted_small : (read : SubstitutionsRead) (line : ℕ) (e : Option func.DebugSubstitution) → IfSome e EntryIsLimited → All EntryIsLimited read.entries →
     All EntryIsLimited (substituted read line e).entries
 substituted_small read line (Some e) is all = added_small (is_some (entry_of read.entries e.src)) read.entries e all is
 substituted_small read line None is all = all
 
-substitutions_small : (lines : List Line) (read : SubstitutionsRead) (es : List Entry) → All EntryIsLimited read.entries →
+substitutions_small : (lines : List Line) (read : SubstitutionsRead) (es : List MappingEntry) → All EntryIsLimited read.entries →
     All EntryIsLimited (substitutions_behind lines read es).entries
 unfolding substitutions_behind
 substitutions_small lines read [] all = all
@@ -157,12 +158,12 @@ declares_small doc d e = checked_small (refusal_of doc) (declared_of doc) d e (d
 abbrev IsSmall : Object → Type 0
 IsSmall o = o.id ≤ MAX_NUMBER
 
-object_more : (b : Bool) (laid : Laid) (o : Object) (end : ℕ) → IsSmall o → All IsSmall laid.objects →
+object_more : (b : Bool) (laid : ObjectLayout) (o : Object) (end : ℕ) → IsSmall o → All IsSmall laid.objects →
     All IsSmall (cond b (record { objects = laid.objects ++ o ∷ []; end = end }) laid).objects
 object_more true laid o end small all = All-push IsSmall laid.objects o all small
 object_more false laid o end small all = all
 
-objects_more : (named : List ℕ) (laid : Laid) (es : List StackEntry) → All HasSmallId es → All IsSmall laid.objects →
+objects_more : (named : List ℕ) (laid : ObjectLayout) (es : List StackEntry) → All HasSmallId es → All IsSmall laid.objects →
     All IsSmall (objects_behind named laid es).objects
 unfolding objects_behind
 objects_more named laid [] small all = all

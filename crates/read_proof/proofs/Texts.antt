@@ -17,7 +17,7 @@ use Rattle.read_lexer.specs.declared.line.Line.{Line}
 use Rattle.read_documents.specs.declared.parts.FunctionDocument.{FunctionDocument}
 use Rattle.read_documents.specs.Documents.{documents_of}
 use Rattle.mir_func.specs.declared.block.Block.{Block}
-use Rattle.mir_func.specs.declared.entry.Entry.{Entry}
+use Rattle.mir_func.specs.declared.entry.DebugSubstitution.{DebugSubstitution}
 use Rattle.mir_func.specs.declared.item.Item.{Item}
 use Rattle.mir_func.specs.declared.item.ItemKind.{ItemKind}
 use Rattle.mir_func.specs.declared.location.Loc.{Loc}
@@ -82,7 +82,7 @@ module _ (meta : Maps) (d : Declarations) (body : Body) (all : (n : ℕ) → is_
     read = record {
       apart = subst AreApart (sym (ids_as ids (blocks_of body))) is.apart;
       items = All-weaker (IsReadBlock Kept) _ (λ b r. r.items) blocks kept;
-      silent = All-weaker (IsReadBlock Kept) _ (λ b r. r.silent) blocks kept;
+      source_end = All-weaker (IsReadBlock Kept) _ (λ b r. r.source_end) blocks kept;
     };
     form = each (λ i. HasForm i.kind) (λ i k. k.form);
     physical = each (λ i. HasPhysical i.kind) (λ i k. physical i.kind k.limited);
@@ -117,7 +117,7 @@ parts_read meta doc (Ok d) (Ok body) p said is closes =
       function = subst (IsReadFunction meta) (sym closes.1)
           (function_reads meta d body (declared_if_met (entry_ids d.stack) body.entries met) (body_reads meta doc.body body is)
           (sound_if_ends_well meta doc d body said is closes.0 closes.3) (ids_small meta doc.body body is) declares);
-      substitutions = subst (λ (subs : List Entry). All EntryIsLimited subs) (sym closes.2) declares.substitutions;
+      substitutions = subst (λ (subs : List DebugSubstitution). All EntryIsLimited subs) (sym closes.2) declares.substitutions;
     }
 parts_read meta doc (Err r) (Ok body) p said is closes = absurd closes
 parts_read meta doc (Ok d) (Err s) p said is closes = absurd closes

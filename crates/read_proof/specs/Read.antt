@@ -2,7 +2,7 @@
 use Rattle.std.specs.Prelude.{ℕ, ◌≤◌, is_some, IfSome, List, All, length, Ok}
 use Rattle.read_metadata.specs.Maps.{Maps}
 use Rattle.read_metadata.specs.Metadata.{location_at}
-use Rattle.mir_func.specs.declared.entry.Entry.{Entry}
+use Rattle.mir_func.specs.declared.entry.DebugSubstitution.{DebugSubstitution}
 use Rattle.mir_func.specs.declared.entry.OperandPair.{OperandPair}
 use Rattle.mir_func.specs.Function.{Function}
 use Rattle.mir_func.specs.Objects.{object_of}
@@ -29,7 +29,7 @@ abbrev pub PairIsLimited : OperandPair → Type 0
 PairIsLimited q = (q.number ≤ MAX_NUMBER) × (q.operand ≤ MAX_NUMBER)
 
 -- the numbers of a substitution are within the limit: those of its source and destination pairs, and its subregister index
-pub record EntryIsLimited (e : Entry) : Type 0 where
+pub record EntryIsLimited (e : DebugSubstitution) : Type 0 where
   pub src : PairIsLimited e.src
   pub dst : PairIsLimited e.dst
   pub subreg : e.subreg ≤ MAX_NUMBER

@@ -6,7 +6,7 @@ use Rattle.std.proofs.lemmas.List.{map-append}
 use Rattle.mir_func.specs.declared.object.Object.{Object}
 use Rattle.mir_func.specs.Sound.{AreApart}
 use Rattle.read_declarations.specs.declared.stack.StackEntry.{StackEntry}
-use Rattle.read_body.specs.declared.frame.Laid.{Laid}
+use Rattle.read_body.specs.declared.frame.ObjectLayout.{ObjectLayout}
 use Rattle.read_body.specs.Frame.{is_object, with_slot, slots_behind, laid_at, with_object, objects_behind}
 use Rattle.read_body.specs.Met.{is_met}
 use Rattle.read_program.proofs.Lists.{found, met_at}
@@ -69,7 +69,7 @@ abbrev AreFree : List ℕ → List StackEntry → Type 0
 AreFree ns es = (n : ℕ) → is_met n (numbers es) ≡ true → is_met n ns ≡ false
 
 module _ (named : List ℕ) where
-  pub once_behind : (ss : List ℕ) (laid : Laid) (es : List StackEntry) → Once (ss ++ object_numbers laid.objects) →
+  pub once_behind : (ss : List ℕ) (laid : ObjectLayout) (es : List StackEntry) → Once (ss ++ object_numbers laid.objects) →
       AreFree (ss ++ object_numbers laid.objects) es → Once (numbers es) →
       Once (slots_behind named ss es ++ object_numbers (objects_behind named laid es).objects)
   unfolding slots_behind objects_behind
@@ -87,7 +87,7 @@ module _ (named : List ℕ) where
       or_later true f = refl
       or_later false f = f
 
-    more : Laid
+    more : ObjectLayout
     more = record { objects = laid.objects ++ laid_at laid.end e ∷ []; end = (laid_at laid.end e).offset + e.size }
 
     pushed : ss ++ object_numbers more.objects ≡ (ss ++ object_numbers laid.objects) ++ e.id ∷ []

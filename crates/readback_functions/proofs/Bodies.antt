@@ -171,7 +171,7 @@ module _ (ids : List ℕ) where
       blocks_read (b ∷ bs) all =
           let here = read_left b.id 0 b.items (All-head (λ (x : Block). All Knows x.items) b bs all) in
           let rest = blocks_read bs (All-tail (λ (x : Block). All Knows x.items) b bs all) in
-          λ i. record { id = b.id; items = here i; silent = length (left b.items) } ∷ rest i
+          λ i. record { id = b.id; items = here i; source_end = length (left b.items) } ∷ rest i
 
 -- ---- accesses
 

@@ -10,7 +10,7 @@ use Rattle.base_ids.specs.Limits.{MAX_NUMBER}
 use Rattle.mir_func.specs.declared.object.Object.{Object}
 use Rattle.mir_func.specs.Objects.{up_to, AreLaidFrom, object_of}
 use Rattle.read_declarations.specs.declared.stack.StackEntry.{StackEntry}
-use Rattle.read_body.specs.declared.frame.Laid.{Laid}
+use Rattle.read_body.specs.declared.frame.ObjectLayout.{ObjectLayout}
 use Rattle.read_body.specs.Frame.{is_object, with_slot, slots_behind, slots_of, laid_at, with_object, objects_behind, objects_of}
 use Rattle.read_body.specs.Frame.{ids_of_objects}
 use Rattle.read_body.specs.Met.{is_met, met}
@@ -47,7 +47,7 @@ module _ (named : List ℕ) where
         by true is = slots
         by false is = All-push IsSlot ss e.id slots (unmet (eqb e.size 8) (is_met e.id named) is, (All-head IsEntry e es all).id)
 
-  objects_are : (laid : Laid) (es : List StackEntry) → All IsEntry es → All IsObject laid.objects → All IsObject (objects_behind named laid es).objects
+  objects_are : (laid : ObjectLayout) (es : List StackEntry) → All IsEntry es → All IsObject laid.objects → All IsObject (objects_behind named laid es).objects
   unfolding objects_behind
   objects_are laid [] all objects = objects
   objects_are laid (e ∷ es) all objects = objects_are (with_object named laid e) es (All-tail IsEntry e es all) (by (is_object named e) refl) where
@@ -77,10 +77,10 @@ module _ (again : List ℕ) where
       ap (λ (b : Bool). slots_behind again (cond b ss (ss ++ m ∷ [])) (entries_read ms os)) (All-head (IsSlot again) m ms slots).0
       ∙ (slots_again (ss ++ m ∷ []) ms os (All-tail (IsSlot again) m ms slots) objects ∙ append_assoc ss (m ∷ []) ms)
 
-  abbrev laid_more : Laid → Object → Laid
+  abbrev laid_more : ObjectLayout → Object → ObjectLayout
   laid_more laid o = record { objects = laid.objects ++ o ∷ []; end = o.offset + o.size }
 
-  objects_laid_again : (laid : Laid) (os : List Object) → All (IsObject again) os → AreLaidFrom laid.end os →
+  objects_laid_again : (laid : ObjectLayout) (os : List Object) → All (IsObject again) os → AreLaidFrom laid.end os →
       (objects_behind again laid (map object_entry os)).objects ≡ laid.objects ++ os
   unfolding objects_behind
   objects_laid_again laid [] all from = sym (append-nil laid.objects)
@@ -98,7 +98,7 @@ module _ (again : List ℕ) where
       place : up_to o.align laid.end ≡ o.offset
       place = sym from.0
 
-  objects_again : (laid : Laid) (ms : List ℕ) (os : List Object) → All (IsSlot again) ms → All (IsObject again) os → AreLaidFrom laid.end os →
+  objects_again : (laid : ObjectLayout) (ms : List ℕ) (os : List Object) → All (IsSlot again) ms → All (IsObject again) os → AreLaidFrom laid.end os →
       (objects_behind again laid (entries_read ms os)).objects ≡ laid.objects ++ os
   unfolding objects_behind
   objects_again laid [] os slots objects from = objects_laid_again laid os objects from

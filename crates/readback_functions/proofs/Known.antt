@@ -25,7 +25,7 @@ use Rattle.mir_func.specs.Variables.{is_same_node, are_same_bytes, is_same}
 use Rattle.read_line.specs.declared.form.BodyLine.{BodyLine}
 use Rattle.read_line.specs.declared.form.BodyLine.TheVariants as lines
 use Rattle.read_line.specs.declared.form.ItemForm.{ItemForm}
-use Rattle.read_line.specs.declared.form.LineError.{LineError}
+use Rattle.read_line.specs.declared.form.FormError.{FormError}
 use Rattle.read_line.specs.Body.{body_line_of}
 use Rattle.read_item.specs.declared.judged.Judged.{Judged}
 use Rattle.read_item.specs.declared.judged.Judged.TheVariants as judged_as
@@ -47,11 +47,11 @@ use Rattle.readback_functions.specs.Known.{names, IsOfLine, IsKnown, BodiesAreKn
 
 items_labelled : (body : Body) (n : ℕ) → items_of (blocks_of (with_label body n)) ≡ items_of (blocks_of body)
 items_labelled body n =
-    flat_map-append (λ (b : Block). b.items) (blocks_of body) (record { id = n; items = []; silent = 0 } ∷ []) ∙ append-nil (items_of (blocks_of body))
+    flat_map-append (λ (b : Block). b.items) (blocks_of body) (record { id = n; items = []; source_end = 0 } ∷ []) ∙ append-nil (items_of (blocks_of body))
 
 -- the item that a block gets
 abbrev item_in : Block → ItemKind → Loc → Item
-item_in b kind loc = record { kind = kind; origin = Kept (record { block = b.id; item = b.silent }); loc = loc }
+item_in b kind loc = record { kind = kind; origin = Kept (record { block = b.id; item = b.source_end }); loc = loc }
 
 items_more : (body : Body) (b : Block) (kind : ItemKind) (loc : Loc) (entries : List ℕ) → body.last ≡ Some b →
     items_of (blocks_of (with_item body kind loc entries)) ≡ items_of (blocks_of body) ++ item_in b kind loc ∷ []
@@ -287,7 +287,7 @@ module _ (meta : Maps) (texts : List (List ℕ)) where
   item_line_known body next text form there says None last e known = absurd cc
   item_line_known body next text form there says (Some b) last e known = judged_known body next b text form there last says (judged meta form) refl e known
 
-  said_known : (body next : Body) (text : List ℕ) → Contains texts text → (read : Result BodyLine LineError) → body_line_of text ≡ read →
+  said_known : (body next : Body) (text : List ℕ) → Contains texts text → (read : Result BodyLine FormError) → body_line_of text ≡ read →
       line_said meta body read ≡ Ok next → Known body → Known next
   said_known body next text there (Ok lines.Passed) says e known = let same : body ≡ next = cc in subst Known same known
   said_known body next text there (Ok (lines.Label None)) says e known = absurd cc

@@ -9,12 +9,12 @@ use Rattle.read_lexer.specs.declared.line.Line.{Line}
 use Rattle.read_lexer.specs.declared.parts.Token.{Token}
 use Rattle.read_lexer.specs.Comment.{before}
 use Rattle.read_lexer.specs.Line.{tokens_of}
-use Rattle.read_declarations.specs.declared.stream.Piece as stream
+use Rattle.read_declarations.specs.declared.stream.YamlToken as stream
 use Rattle.read_declarations.specs.declared.stream.TokenStream.{TokenStream}
-use Rattle.read_declarations.specs.declared.entry.Field.{Field}
-use Rattle.read_declarations.specs.declared.entry.Entry.{Entry}
+use Rattle.read_declarations.specs.declared.entry.MappingField.{MappingField}
+use Rattle.read_declarations.specs.declared.entry.MappingEntry.{MappingEntry}
 use Rattle.read_declarations.specs.declared.entry.OpenList.{OpenList}
-use Rattle.read_declarations.specs.declared.entry.Place.TheVariants.{Outside}
+use Rattle.read_declarations.specs.declared.entry.ParserState.TheVariants.{Outside}
 use Rattle.read_declarations.specs.Entry.{entries_from, entries_of}
 use Rattle.read_declarations.specs.List.{list_in, with_fault, list_of}
 use Rattle.read_declarations.specs.Stream.{line_tokens_of, piece_of, with_line, stream_from}
@@ -35,11 +35,11 @@ AreLexedLines [] = Unit {0}
 AreLexedLines (ps ∷ pss) = IsLexedLine ps × AreLexedLines pss
 
 -- the tokens of a line at an index
-abbrev pub pieces_at : ℕ → ℕ → List Piece → List stream.Piece
+abbrev pub pieces_at : ℕ → ℕ → List Piece → List stream.YamlToken
 pieces_at at n ps = map (piece_of at n) (tokens_at 0 ps)
 
 -- the tokens of lines, the first of which has an index and a number
-abbrev pub all_pieces : ℕ → ℕ → List (List Piece) → List stream.Piece
+abbrev pub all_pieces : ℕ → ℕ → List (List Piece) → List stream.YamlToken
 all_pieces at n [] = []
 all_pieces at n (ps ∷ pss) = pieces_at at n ps ++ all_pieces (at + 1) (n + 1) pss
 
@@ -56,21 +56,21 @@ stream_is at n (ps ∷ pss) all =
 -- ---- entries
 
 -- before an entry
-abbrev pub outside : List Entry → ℕ → OpenList
+abbrev pub outside : List MappingEntry → ℕ → OpenList
 outside es line = record { entries = es; place = Outside; line = line; fields = [] }
 
 -- a line stands at an index of lines, and is of pieces
 pub record Stands (lines : List Line) (at n : ℕ) (ps : List Piece) : Type 0 where
   pub there : slice_get lines at ≡ Some (record { number = n; text = spelled ps })
 
-module _ {E : Type 0} (Means : List Line → List Field → E → Type 0) where
+module _ {E : Type 0} (Means : List Line → List MappingField → E → Type 0) where
   -- a line is an entry that means this
   pub record IsEntryLine (ps : List Piece) (e : E) : Type 0 where
     pub lexed : IsLexedLine ps
-    pub opens : (lines : List Line) (cut : Bool) (at n : ℕ) (rest : List stream.Piece) →
+    pub opens : (lines : List Line) (cut : Bool) (at n : ℕ) (rest : List stream.YamlToken) →
         list_in lines cut (pieces_at at n ps ++ rest) ≡ entries_of lines cut (pieces_at at n ps ++ rest)
-    pub fields : (at n : ℕ) → List Field
-    pub read : (lines : List Line) (at n : ℕ) → Stands lines at n ps → (cut : Bool) (es : List Entry) (last : ℕ) (rest : List stream.Piece) →
+    pub fields : (at n : ℕ) → List MappingField
+    pub read : (lines : List Line) (at n : ℕ) → Stands lines at n ps → (cut : Bool) (es : List MappingEntry) (last : ℕ) (rest : List stream.YamlToken) →
         entries_from lines cut (outside es last) (pieces_at at n ps ++ rest)
         ≡ entries_from lines cut (outside (es ++ record { line = n; fields = fields at n } ∷ []) n) rest
     pub means : (lines : List Line) (at n : ℕ) → Stands lines at n ps → Means lines (fields at n) e
@@ -88,7 +88,7 @@ module _ {E : Type 0} (Means : List Line → List Field → E → Type 0) where
   all_lexed (ps ∷ pss) (e ∷ es) all = (all.0.lexed, all_lexed pss es all.1)
 
   -- entries mean these
-  abbrev pub AllMean : List Line → List Entry → List E → Type 0
+  abbrev pub AllMean : List Line → List MappingEntry → List E → Type 0
   AllMean lines [] [] = Unit {0}
   AllMean lines [] (e ∷ es) = ⊥
   AllMean lines (x ∷ xs) [] = ⊥
@@ -99,24 +99,24 @@ module _ {E : Type 0} (Means : List Line → List Field → E → Type 0) where
   seam (x ∷ front) line rest = seam front line rest
 
   -- what entries are read from an index on
-  record AreRead (lines : List Line) (cut : Bool) (before : List Entry) (last : ℕ) (pieces : List stream.Piece) (es : List E) : Type 0 where
-    entries : List Entry
+  record AreRead (lines : List Line) (cut : Bool) (before : List MappingEntry) (last : ℕ) (pieces : List stream.YamlToken) (es : List E) : Type 0 where
+    entries : List MappingEntry
     are : entries_from lines cut (outside before last) pieces ≡ record { entries = before ++ entries; refused = None }
     mean : AllMean lines entries es
 
-  entries_are : (lines front : List Line) (cut : Bool) (before : List Entry) (last at n : ℕ) (pss : List (List Piece)) (es : List E) →
+  entries_are : (lines front : List Line) (cut : Bool) (before : List MappingEntry) (last at n : ℕ) (pss : List (List Piece)) (es : List E) →
       lines ≡ front ++ lines_from n (map spelled pss) → at ≡ length front → AreEntryLines pss es → AreRead lines cut before last (all_pieces at n pss) es
   unfolding entries_from
   entries_are lines front cut before last at n [] [] whole place all = record {
     entries = [];
-    are = ap (λ (l : List Entry). record { entries = l; refused = None }) (sym (append-nil before));
+    are = ap (λ (l : List MappingEntry). record { entries = l; refused = None }) (sym (append-nil before));
     mean = tt;
   }
   entries_are lines front cut before last at n [] (e ∷ es) whole place all = absurd all
   entries_are lines front cut before last at n (ps ∷ pss) [] whole place all = absurd all
   entries_are lines front cut before last at n (ps ∷ pss) (e ∷ es) whole place all =
       let line : Line = record { number = n; text = spelled ps } in
-      let entry : Entry = record { line = n; fields = all.0.fields at n } in
+      let entry : MappingEntry = record { line = n; fields = all.0.fields at n } in
       let stands : Stands lines at n ps = record {
         there = (λ i. slice_get (whole i) (place i)) ∙ seam front line (lines_from (n + 1) (map spelled pss));
       } in
@@ -125,7 +125,7 @@ module _ {E : Type 0} (Means : List Line → List Field → E → Type 0) where
       record {
         entries = entry ∷ rest.entries;
         are = all.0.read lines at n stands cut before last (all_pieces (at + 1) (n + 1) pss)
-            ∙ (rest.are ∙ ap (λ (l : List Entry). record { entries = l; refused = None }) (append_assoc before (entry ∷ []) rest.entries));
+            ∙ (rest.are ∙ ap (λ (l : List MappingEntry). record { entries = l; refused = None }) (append_assoc before (entry ∷ []) rest.entries));
         mean = (all.0.means lines at n stands, rest.mean);
       }
 
@@ -139,7 +139,7 @@ module _ {E : Type 0} (Means : List Line → List Field → E → Type 0) where
 
   -- a key's line has two tokens, and behind it stand entries
   pub record IsListed (lines : List Line) (es : List E) : Type 0 where
-    pub entries : List Entry
+    pub entries : List MappingEntry
     pub are : list_of lines ≡ record { entries = entries; refused = None }
     pub mean : AllMean lines entries es
 

@@ -17,8 +17,8 @@ use Rattle.read_line.specs.declared.form.OperandForm.TheVariants as form
 use Rattle.read_line.specs.declared.form.RegisterForm.{RegisterForm}
 use Rattle.read_item.specs.declared.judged.Judged.TheVariants as judged_as
 use Rattle.read_item.specs.declared.judged.JudgedItem.{JudgedItem}
-use Rattle.read_item.specs.declared.place.Place.{Place}
-use Rattle.read_item.specs.declared.place.Place.TheVariants as place
+use Rattle.read_item.specs.declared.place.OperandKind.{OperandKind}
+use Rattle.read_item.specs.declared.place.OperandKind.TheVariants as place
 use Rattle.read_item.specs.Code.{number_of, used, stack_operand, number_operand, operand_at, before, joined, set_by, definition, definitions, placed, places_of}
 use Rattle.read_item.specs.Code.{operands_of}
 use Rattle.read_item.specs.Judge.{judged}
@@ -42,7 +42,7 @@ used_is flags.Plain (Some r) x e = is_named (Use r) x e tt
 used_is flags.Implicit (Some r) x e = is_named (ImplicitUse r) x e tt
 used_is flags.ImplicitDef (Some r) x e = is_named (ImplicitDef r) x e tt
 
-stack_is : (p : Place) (n : ℕ) (x : Operand) → stack_operand p n ≡ Some x → NameIsBytes x
+stack_is : (p : OperandKind) (n : ℕ) (x : Operand) → stack_operand p n ≡ Some x → NameIsBytes x
 stack_is place.Object n x e = is_named (Object n) x e tt
 stack_is place.Slot n x e = is_named (Slot n) x e tt
 stack_is place.Register n x e = is_named (Use 10) x e tt
@@ -56,7 +56,7 @@ number_is : (i : Option ℤ) (x : Operand) → number_operand i ≡ Some x → N
 number_is None x e = absurd cc
 number_is (Some i) x e = is_named (Imm i) x e tt
 
-operand_is : (p : Place) (o : OperandForm) (x : Operand) → FormBytes o → operand_at p o ≡ Some x → NameIsBytes x
+operand_is : (p : OperandKind) (o : OperandForm) (x : Operand) → FormBytes o → operand_at p o ≡ Some x → NameIsBytes x
 operand_is p (form.Register r) x is e = used_is r.flag (number_of r.name) x e
 operand_is p (form.Integer i) x is e = number_is i x e
 operand_is p (form.Slot n) x is e = stack_is p n x e
@@ -91,7 +91,7 @@ definitions_are [] xs e = none_are xs e
 definitions_are (r ∷ rs) xs e =
     before_are (definition r) (definitions rs) xs e (λ x is. set_is r.flag (number_of r.name) x is) (λ ys is. definitions_are rs ys is)
 
-placed_are : (ps : List Place) (os : List OperandForm) (xs : List Operand) → AllOf FormBytes os → placed ps os ≡ Some xs → All NameIsBytes xs
+placed_are : (ps : List OperandKind) (os : List OperandForm) (xs : List Operand) → AllOf FormBytes os → placed ps os ≡ Some xs → All NameIsBytes xs
 unfolding placed
 placed_are ps [] xs is e = none_are xs e
 placed_are ps (o ∷ os) xs is e =

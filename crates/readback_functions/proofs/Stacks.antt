@@ -25,9 +25,9 @@ use Rattle.mir_func.specs.Sound.{AreApart}
 use Rattle.mir_func.specs.Limits.{MAX_SLOTS}
 use Rattle.read_refusal.specs.declared.kind.RefusalKind.{RefusalKind}
 use Rattle.read_refusal.specs.declared.kind.RefusalKind.TheVariants.{StackObject, TooMany}
-use Rattle.read_declarations.specs.declared.stream.Piece as stream
-use Rattle.read_declarations.specs.declared.entry.Field.{Field}
-use Rattle.read_declarations.specs.declared.entry.Entry.{Entry}
+use Rattle.read_declarations.specs.declared.stream.YamlToken as stream
+use Rattle.read_declarations.specs.declared.entry.MappingField.{MappingField}
+use Rattle.read_declarations.specs.declared.entry.MappingEntry.{MappingEntry}
 use Rattle.read_declarations.specs.declared.entry.Listing.{Listing}
 use Rattle.read_declarations.specs.declared.stack.StackEntry.{StackEntry}
 use Rattle.read_declarations.specs.declared.stack.StackRead.{StackRead}
@@ -154,14 +154,14 @@ object_reads o id size align =
 
 -- ---- what an entry says
 
-abbrev Means : List Line → List Field → StackEntry → Type 0
+abbrev Means : List Line → List MappingField → StackEntry → Type 0
 Means lines fields e = stack_entry_of lines fields ≡ Ok e
 
 text_found : (lines : List Line) (at n : ℕ) (ps : List Piece) (t : Token) (text : List ℕ) → Stands lines at n ps → text_of (spelled ps) t ≡ text →
     text_at lines (piece_of at n t) ≡ text
 text_found lines at n ps t text stands is = ap (λ (o : Option Line). text_in o t) stands.there ∙ is
 
-says_entry : (lines : List Line) (fields : List Field) (id size align : ℕ) → value_at lines (codes "type") fields ≡ None →
+says_entry : (lines : List Line) (fields : List MappingField) (id size align : ℕ) → value_at lines (codes "type") fields ≡ None →
     needed lines (codes "id") fields ≡ Some id → needed lines (codes "size") fields ≡ Some size → given lines (codes "alignment") 1 fields ≡ Some align →
     is_alignment align ≡ true → stack_entry_of lines fields ≡ Ok (record { id = id; size = size; align = align })
 says_entry lines fields id size align sized a b c aligned =
@@ -173,7 +173,7 @@ says_entry lines fields id size align sized a b c aligned =
     entry is = ap (λ (t : Bool). cond (not t) (Err StackObject) (Ok (record { id = id; size = size; align = align }))) is
 
 -- the pieces of a field whose key's token is at a place
-abbrev field_at : ℕ → ℕ → Token → Token → Field
+abbrev field_at : ℕ → ℕ → Token → Token → MappingField
 field_at at n key value = record { key = piece_of at n key; value = piece_of at n value }
 
 module _ (m : ℕ) (small : m ≤ MAX_NUMBER) where
@@ -192,7 +192,7 @@ module _ (m : ℕ) (small : m ≤ MAX_NUMBER) where
   abbrev slot_size_value : Token
   slot_size_value = token_of (10 + length (decimal m) + 0 + 1 + 1 + 4 + 0 + 1) (piece 1 class.Integer (decimal 8))
 
-  abbrev slot_fields : ℕ → ℕ → List Field
+  abbrev slot_fields : ℕ → ℕ → List MappingField
   slot_fields at n = field_at at n slot_id slot_id_value ∷ field_at at n slot_size slot_size_value ∷ []
 
   record SlotTexts (lines : List Line) (at n : ℕ) : Type 0 where
@@ -211,7 +211,7 @@ module _ (m : ℕ) (small : m ≤ MAX_NUMBER) where
         size_value = text_found lines at n slot_line_pieces slot_size_value (decimal 8) stands ts.1.1.1.1.1.1.1.1.0;
       }
 
-  slot_read : (lines : List Line) (at n : ℕ) → SlotTexts lines at n → (cut : Bool) (es : List Entry) (last : ℕ) (rest : List stream.Piece) →
+  slot_read : (lines : List Line) (at n : ℕ) → SlotTexts lines at n → (cut : Bool) (es : List MappingEntry) (last : ℕ) (rest : List stream.YamlToken) →
       entries_from lines cut (outside es last) (pieces_at at n slot_line_pieces ++ rest)
       ≡ entries_from lines cut (outside (es ++ record { line = n; fields = slot_fields at n } ∷ []) n) rest
   unfolding entries_from
@@ -268,7 +268,7 @@ module _ (o : Object) (is : IsEntry (object_entry o)) where
   abbrev align_value : Token
   align_value = token_of (size_place + 1 + length (decimal o.size) + 0 + 1 + 1 + 9 + 0 + 1) (piece 1 class.Integer (decimal o.align))
 
-  abbrev object_fields : ℕ → ℕ → List Field
+  abbrev object_fields : ℕ → ℕ → List MappingField
   object_fields at n = field_at at n id_key id_value ∷ field_at at n size_key size_value ∷ field_at at n align_key align_value ∷ []
 
   record ObjectTexts (lines : List Line) (at n : ℕ) : Type 0 where
@@ -291,7 +291,7 @@ module _ (o : Object) (is : IsEntry (object_entry o)) where
         align_is = text_found lines at n object_line_pieces align_value (decimal o.align) stands ts.1.1.1.1.1.1.1.1.1.1.1.1.0;
       }
 
-  object_read : (lines : List Line) (at n : ℕ) → ObjectTexts lines at n → (cut : Bool) (es : List Entry) (last : ℕ) (rest : List stream.Piece) →
+  object_read : (lines : List Line) (at n : ℕ) → ObjectTexts lines at n → (cut : Bool) (es : List MappingEntry) (last : ℕ) (rest : List stream.YamlToken) →
       entries_from lines cut (outside es last) (pieces_at at n object_line_pieces ++ rest)
       ≡ entries_from lines cut (outside (es ++ record { line = n; fields = object_fields at n } ∷ []) n) rest
   unfolding entries_from
@@ -418,7 +418,7 @@ not_twice before id rest apart = by (has_id before id) refl where
       let same = apart at.place (length before) id at.is (seam_id before id rest) in
       absurd (let w = at.within in omega (arith, w, same))
 
-judged_all : (lines : List Line) (before : List StackEntry) (entries : List Entry) (es : List StackEntry) → AllMean Means lines entries es →
+judged_all : (lines : List Line) (before : List StackEntry) (entries : List MappingEntry) (es : List StackEntry) → AllMean Means lines entries es →
     AreApart (ids_of_entries before ++ ids_of_entries es) → length before + length es ≤ MAX_SLOTS →
     stack_behind lines (record { entries = before; refused = None }) entries ≡ record { entries = before ++ es; refused = None }
 unfolding stack_behind

@@ -28,7 +28,7 @@ placed_items block index (i ∷ is) = placed_item block index i ∷ placed_items
 
 -- a block with the positions of its own items as origins, and its end as silent position
 abbrev pub placed_block : Block → Block
-placed_block b = record { id = b.id; items = placed_items b.id 0 b.items; silent = length b.items }
+placed_block b = record { id = b.id; items = placed_items b.id 0 b.items; source_end = length b.items }
 
 -- a function with the positions of its own items as origins and silent positions
 abbrev pub placed : Function → Function

@@ -10,8 +10,8 @@ use Rattle.read_token.specs.declared.lexeme.Flag.TheVariants.{Plain, Implicit, I
 use Rattle.read_line.specs.declared.form.OperandForm.{OperandForm}
 use Rattle.read_line.specs.declared.form.OperandForm.TheVariants as form
 use Rattle.read_line.specs.declared.form.RegisterForm.{RegisterForm}
-use Rattle.read_item.specs.declared.place.Place.{Place}
-use Rattle.read_item.specs.declared.place.Place.TheVariants as place
+use Rattle.read_item.specs.declared.place.OperandKind.{OperandKind}
+use Rattle.read_item.specs.declared.place.OperandKind.TheVariants as place
 use Rattle.read_item.specs.Code.{number_of, used, stack_operand, number_operand, operand_at, before, joined, set_by, definition, definitions, placed}
 use Rattle.read_item.specs.Code.{is_whole_slot, is_misplaced}
 use Rattle.read_item.specs.Place.{address, front, behind}
@@ -91,7 +91,7 @@ no_set_number : (i : Option ℤ) (rd : ℕ) → number_operand i ≡ Some (Def r
 no_set_number None rd e = cc
 no_set_number (Some i) rd e = cc
 
-no_set_stack : (p : Place) (n rd : ℕ) → stack_operand p n ≡ Some (Def rd) → ⊥
+no_set_stack : (p : OperandKind) (n rd : ℕ) → stack_operand p n ≡ Some (Def rd) → ⊥
 no_set_stack place.Object n rd e = cc
 no_set_stack place.Slot n rd e = cc
 no_set_stack place.Register n rd e = cc
@@ -101,7 +101,7 @@ no_set_stack place.Symbol n rd e = cc
 no_set_stack place.Mask n rd e = cc
 no_set_stack place.Implicit n rd e = cc
 
-no_set : (p : Place) (f : OperandForm) (rd : ℕ) → operand_at p f ≡ Some (Def rd) → ⊥
+no_set : (p : OperandKind) (f : OperandForm) (rd : ℕ) → operand_at p f ≡ Some (Def rd) → ⊥
 no_set p (form.Register r) rd e = no_set_used r.flag (number_of r.name) rd e
 no_set p (form.Integer i) rd e = no_set_number i rd e
 no_set p (form.Slot n) rd e = no_set_stack p n rd e
@@ -129,12 +129,12 @@ uses_of_store (d ∷ ds) (y ∷ ys) zs rs xs e all =
     absurd (no_use_set d.flag (number_of d.name) rs (p.first ∙ ap (λ (o : Operand). Some o) same))
 
 -- what is read in a place isn't set
-first_set : (ps : List Place) (us : List OperandForm) (rd : ℕ) (xs : List Operand) → placed ps us ≡ Some (Def rd ∷ xs) → ⊥
+first_set : (ps : List OperandKind) (us : List OperandForm) (rd : ℕ) (xs : List Operand) → placed ps us ≡ Some (Def rd ∷ xs) → ⊥
 unfolding placed
 first_set ps [] rd xs e = cc
 first_set ps (u ∷ us) rd xs e = no_set (front ps) u rd (parts (operand_at (front ps) u) (placed (behind ps) us) (Def rd) xs e).first
 
-pub uses_of_load : (ds : List RegisterForm) (ps : List Place) (us : List OperandForm) (ys zs : List Operand) (rd n : ℕ) (xs : List Operand) →
+pub uses_of_load : (ds : List RegisterForm) (ps : List OperandKind) (us : List OperandForm) (ys zs : List Operand) (rd n : ℕ) (xs : List Operand) →
     definitions ds ≡ Some ys → placed ps us ≡ Some zs → ys ++ zs ≡ Def rd ∷ Object n ∷ xs → zs ≡ Object n ∷ xs
 unfolding definitions
 uses_of_load ds ps us [] zs rd n xs e read all = absurd (first_set ps us rd (Object n ∷ xs) (read ∙ ap (λ (l : List Operand). Some l) all))

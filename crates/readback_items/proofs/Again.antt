@@ -15,7 +15,7 @@ use Rattle.rv64_instr.specs.Form.{fits_branch, fits_load, fits_store, fits_copy,
 use Rattle.std.specs.Prelude.{pos}
 use Rattle.read_line.specs.declared.form.ItemForm.{ItemForm}
 use Rattle.read_line.specs.declared.form.OperandForm.{OperandForm}
-use Rattle.read_item.specs.declared.place.Place.TheVariants as place
+use Rattle.read_item.specs.declared.place.OperandKind.TheVariants as place
 use Rattle.read_item.specs.Code.{definitions, placed, names_slot, places_of, operands_of, is_misplaced, operand_at}
 use Rattle.read_item.specs.Place.{address}
 use Rattle.read_program.specs.Objects.{operand_as, operands_as}

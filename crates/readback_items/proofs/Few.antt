@@ -8,7 +8,7 @@ use Rattle.rv64_instr.specs.Instruction.{Instruction}
 use Rattle.read_line.specs.declared.form.ItemForm.{ItemForm}
 use Rattle.read_line.specs.declared.form.OperandForm.{OperandForm}
 use Rattle.read_line.specs.declared.form.RegisterForm.{RegisterForm}
-use Rattle.read_item.specs.declared.place.Place.{Place}
+use Rattle.read_item.specs.declared.place.OperandKind.{OperandKind}
 use Rattle.read_item.specs.Code.{MAX_OPERANDS, operand_at, before, joined, definition, definitions, placed, places_of, operands_of}
 use Rattle.read_item.specs.Place.{front, behind}
 use Rattle.read_program.proofs.Judged.{IsCodeLine}
@@ -30,7 +30,7 @@ sets_counted [] xs e = let none : List Operand = [] in let same : none ≡ xs = 
 sets_counted (r ∷ rs) xs e =
     let more = longer_by (definition r) (definitions rs) xs e in more.longer ∙ ap suc (sets_counted rs more.behind more.is)
 
-uses_counted : (ps : List Place) (os : List OperandForm) (xs : List Operand) → placed ps os ≡ Some xs → length xs ≡ length os
+uses_counted : (ps : List OperandKind) (os : List OperandForm) (xs : List Operand) → placed ps os ≡ Some xs → length xs ≡ length os
 unfolding placed
 uses_counted ps [] xs e = let none : List Operand = [] in let same : none ≡ xs = cc in ap length (sym same)
 uses_counted ps (o ∷ os) xs e =

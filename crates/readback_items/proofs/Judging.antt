@@ -19,7 +19,7 @@ use Rattle.mir_func.specs.declared.position.Origin.{Origin}
 use Rattle.read_line.specs.declared.form.BodyLine.{BodyLine}
 use Rattle.read_line.specs.declared.form.BodyLine.TheVariants.{Item as OfItem}
 use Rattle.read_line.specs.declared.form.ItemForm.{ItemForm}
-use Rattle.read_line.specs.declared.form.LineError.{LineError}
+use Rattle.read_line.specs.declared.form.FormError.{FormError}
 use Rattle.read_item.specs.declared.judged.Judged.TheVariants as judged_as
 use Rattle.read_item.specs.declared.opcode.Opcode.{Opcode}
 use Rattle.read_item.specs.declared.opcode.Opcode.TheVariants as opcodes
@@ -111,7 +111,7 @@ module _ (i : Instruction) (number : Option ℕ) (loc : Loc) (is : IsCode i) whe
 
 -- ---- debug items
 
-same_form : (a b : ItemForm) → ◌≡◌ {A = Result BodyLine LineError} (Ok (OfItem a)) (Ok (OfItem b)) → a ≡ b
+same_form : (a b : ItemForm) → ◌≡◌ {A = Result BodyLine FormError} (Ok (OfItem a)) (Ok (OfItem b)) → a ≡ b
 same_form a b e = cc
 
 debug_judged : (meta : Maps) (i : Item) → IsWritable i → IsDebug meta i.loc i.kind →

@@ -23,7 +23,7 @@ use Rattle.readback_items.proofs.Steps.{with_read, with_items, with_block, with_
 
 -- a block behind more items
 abbrev pub grown : Block → List Item → Block
-grown b items = record { id = b.id; items = b.items ++ items_from b.id b.silent items; silent = b.silent + length items }
+grown b items = record { id = b.id; items = b.items ++ items_from b.id b.source_end items; source_end = b.source_end + length items }
 
 pub record Made (body next : Body) (b : Block) (items : List Item) : Type 0 where
   pub before : next.before ≡ body.before
@@ -50,15 +50,15 @@ made_none body b last = record {
   objects = λ n. or_end (is_met n body.objects);
 } where
   same : b ≡ grown b []
-  same i = record { id = b.id; items = sym (append-nil b.items) i; silent = (let e : b.silent ≡ b.silent + 0 = omega arith in e) i }
+  same i = record { id = b.id; items = sym (append-nil b.items) i; source_end = (let e : b.source_end ≡ b.source_end + 0 = omega arith in e) i }
 
 -- one item and others
 grown_more : (b : Block) (x : Item) (xs : List Item) → grown (block_with (judged_kind x.kind) x.loc b) xs ≡ grown b (x ∷ xs)
 unfolding items_from
 grown_more b x xs i = record {
   id = b.id;
-  items = append_assoc b.items (item_at b.id b.silent x ∷ []) (items_from b.id (b.silent + 1) xs) i;
-  silent = (let e : (b.silent + 1) + length xs ≡ b.silent + length (x ∷ xs) = omega arith in e) i;
+  items = append_assoc b.items (item_at b.id b.source_end x ∷ []) (items_from b.id (b.source_end + 1) xs) i;
+  source_end = (let e : (b.source_end + 1) + length xs ≡ b.source_end + length (x ∷ xs) = omega arith in e) i;
 }
 
 pub items_made : (body : Body) (b : Block) (items : List Item) → body.last ≡ Some b → Made body (with_items body items) b items
@@ -96,14 +96,14 @@ new_label body n none = met_new n body.ids
     (no_label_cause (is_met n body.ids) (leb MAX_BLOCKS (length body.ids)) kinds.DuplicateBlock kinds.TooMany none)
 
 begun : ℕ → Block
-begun n = record { id = n; items = []; silent = 0 }
+begun n = record { id = n; items = []; source_end = 0 }
 
 whole_block : (b : Block) → grown (begun b.id) b.items ≡ judged_block b
 unfolding begun
 whole_block b i = record {
   id = b.id;
   items = items_from b.id 0 b.items;
-  silent = (let e : 0 + length b.items ≡ length b.items = omega arith in e) i;
+  source_end = (let e : 0 + length b.items ≡ length b.items = omega arith in e) i;
 }
 
 pub block_made : (body : Body) (b : Block) → label_cause body b.id ≡ None → AllMade body (with_block body b) (b ∷ [])

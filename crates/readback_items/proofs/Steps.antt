@@ -104,7 +104,7 @@ module _ (meta : Maps) where
   blocks_read body (b ∷ bs) (l ∷ ls) small all fit texts =
       let here : l.text ≡ label_line b.id = cc in
       let behind : texts_of ls ≡ map item_line b.items ++ body_lines bs = cc in
-      let g = items_read (with_label body b.id) (record { id = b.id; items = []; silent = 0 }) b.items ls (body_lines bs) refl
+      let g = items_read (with_label body b.id) (record { id = b.id; items = []; source_end = 0 }) b.items ls (body_lines bs) refl
       (All-head (λ (x : Block). All (IsReadableItem meta) x.items) b bs all) fit.1 behind in
       line_read body (with_label body b.id) l ls (label_line b.id) here
       (label_read body b.id (All-head (λ (x : Block). x.id ≤ MAX_NUMBER) b bs small) fit.0)

@@ -60,7 +60,7 @@ items_from block index (i ∷ is) = item_at block index i ∷ items_from block (
 
 -- the block that the lines of a block are judged as: its items are counted from 0, and its silent position is after the last
 abbrev pub judged_block : Block → Block
-judged_block b = record { id = b.id; items = items_from b.id 0 b.items; silent = length b.items }
+judged_block b = record { id = b.id; items = items_from b.id 0 b.items; source_end = length b.items }
 
 -- the numbers of the `%stack.N` on the line of an item
 abbrev pub entries_named : Item → List ℕ

@@ -8,7 +8,7 @@ use Rattle.mir_func.specs.declared.position.Pos.{Pos}
 use Rattle.mir_func.specs.declared.variable.MarkValue.{MarkValue}
 use Rattle.mir_func.specs.declared.variable.MarkValue.TheVariants.{Nothing, Constant, At, Pair}
 use Rattle.mir_func.specs.declared.block.Block.{Block}
-use Rattle.mir_func.specs.declared.entry.Entry.{Entry}
+use Rattle.mir_func.specs.declared.entry.DebugSubstitution.{DebugSubstitution}
 use Rattle.mir_func.specs.declared.item.Item.{Item}
 use Rattle.mir_func.specs.declared.item.ItemKind.{ItemKind}
 use Rattle.mir_func.specs.declared.item.ItemKind.TheVariants.{Code, Mark, Phi}
@@ -59,7 +59,7 @@ module _ (c : Change) where
       block_stays [] (set_items nothing_known b.items) refl refl refl refl (all_none (IsKillAt remat_rule c b.id))
       (become_all b.id 0 nothing_known b.items) (blocks_become bs)
 
-pub remat_steps : (f : Function) → IsSound f → (subs : List Entry) →
+pub remat_steps : (f : Function) → IsSound f → (subs : List DebugSubstitution) →
     KeepsSteps (remat_step ∷ []) (record { old = f; old_subs = subs; new = rematerialized f; new_subs = subs }) []
 remat_steps f sound subs =
     let c : Change = record { old = f; old_subs = subs; new = rematerialized f; new_subs = subs } in

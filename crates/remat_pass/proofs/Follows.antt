@@ -2,7 +2,7 @@
 use Rattle.std.proofs.Common.{◌≡◌, List, [], ◌∷◌, All, true, false, refl, sym, ap, subst}
 use Rattle.std.proofs.lemmas.List.Elements.{All-head, All-tail}
 use Rattle.rv64_instr.specs.Row.{row_of}
-use Rattle.mir_func.specs.declared.entry.Entry.{Entry}
+use Rattle.mir_func.specs.declared.entry.DebugSubstitution.{DebugSubstitution}
 use Rattle.mir_func.specs.declared.block.Block.{Block}
 use Rattle.mir_func.specs.declared.item.Item.{Item}
 use Rattle.mir_func.specs.declared.item.ItemKind.{ItemKind}
@@ -18,7 +18,7 @@ use Rattle.sem_mir.specs.Follow.{OnRow, Counts}
 use Rattle.sem_mir.proofs.Told.{TellsLess, SeesLess, tells_itself, item_less}
 use Rattle.sem_simulation.specs.Sides.{OutcomesAlike}
 use Rattle.pass_trait.specs.Change.{change}
-use Rattle.pass_trait.specs.Following.{KeepsFollowing}
+use Rattle.pass_trait.specs.Simulation.{PreservesSimulation}
 use Rattle.pass_salvage.proofs.Edits.{Edits, Edited, over, pair, BlocksEdited, no_blocks, next_block}
 use Rattle.pass_salvage.proofs.EditRuns.{Keeps}
 use Rattle.pass_salvage.proofs.EditFollows.{Allows, follows_edited}
@@ -137,8 +137,8 @@ counts_in known (Code i n) h =
 counts_in known (Mark v m) h = h
 counts_in known (Phi p n) h = h
 
-pub rematerialized_follows : (f : Function) (subs : List Entry) → IsSound f → IsSound (rematerialized f) → AllItems (λ i. HasForm i.kind) f.blocks →
-    KeepsFollowing false true (change f subs (rematerialized f) subs)
+pub rematerialized_follows : (f : Function) (subs : List DebugSubstitution) → IsSound f → IsSound (rematerialized f) → AllItems (λ i. HasForm i.kind) f.blocks →
+    PreservesSimulation false true (change f subs (rematerialized f) subs)
 rematerialized_follows f subs sound sound' forms =
     let less : SeesLess (program_of false f.blocks (resolve subs)) (program_of false (set_blocks f.blocks) (resolve subs)) =
     record { sees = λ r c v e. e; resolve = λ q. refl } in

@@ -62,7 +62,7 @@ item_back (x ∷ xs) (z ∷ ys) (next m rest) (suc n) y e = item_back xs ys rest
 
 pub all_items_set : (fs gs : List Block) → AreBlocksSet fs gs → AreItemsSet (items_of fs) (items_of gs)
 all_items_set fs gs no_blocks = none
-all_items_set (a ∷ fs) (b ∷ gs) (next_block id silent items rest) = append_set a.items b.items (items_of fs) (items_of gs) items (all_items_set fs gs rest)
+all_items_set (a ∷ fs) (b ∷ gs) (next_block id source_end items rest) = append_set a.items b.items (items_of fs) (items_of gs) items (all_items_set fs gs rest)
 
 pub blocks_set : (bs : List Block) → AreBlocksSet bs (set_blocks bs)
 blocks_set [] = no_blocks
@@ -81,13 +81,13 @@ blocks_done (b ∷ bs) (suc n) = next_block refl refl (items_set nothing_known b
 
 -- and the next one is done in part
 pub block_in_part : (bs : List Block) (n : ℕ) → n < length bs → (b made : Block) → b ≡ get_or (map set_block (take n bs) ++ drop n bs) n b →
-    made.id ≡ b.id → made.silent ≡ b.silent → AreItemsSet b.items made.items → AreBlocksSet bs (set (map set_block (take n bs) ++ drop n bs) n made)
-block_in_part [] n lt b made is id silent items = absurd (omega (arith, lt))
-block_in_part (a ∷ bs) zero lt b made is id silent items =
-    next_block (id ∙ ap (λ (c : Block). c.id) is) (silent ∙ ap (λ (c : Block). c.silent) is)
+    made.id ≡ b.id → made.source_end ≡ b.source_end → AreItemsSet b.items made.items → AreBlocksSet bs (set (map set_block (take n bs) ++ drop n bs) n made)
+block_in_part [] n lt b made is id source_end items = absurd (omega (arith, lt))
+block_in_part (a ∷ bs) zero lt b made is id source_end items =
+    next_block (id ∙ ap (λ (c : Block). c.id) is) (source_end ∙ ap (λ (c : Block). c.source_end) is)
     (subst (λ (c : Block). AreItemsSet c.items made.items) is items) (blocks_kept bs)
-block_in_part (a ∷ bs) (suc n) lt b made is id silent items =
-    next_block refl refl (items_set nothing_known a.items) (block_in_part bs n (omega (arith, lt)) b made is id silent items)
+block_in_part (a ∷ bs) (suc n) lt b made is id source_end items =
+    next_block refl refl (items_set nothing_known a.items) (block_in_part bs n (omega (arith, lt)) b made is id source_end items)
 
 -- ---- what a loop over mutable items leaves
 
@@ -97,7 +97,7 @@ items_long (x ∷ xs) (y ∷ ys) (next m rest) = ap suc (items_long xs ys rest)
 
 blocks_long : (fs gs : List Block) → AreBlocksSet fs gs → length gs ≡ length fs
 blocks_long fs gs no_blocks = refl
-blocks_long (a ∷ fs) (b ∷ gs) (next_block id silent items rest) = ap suc (blocks_long fs gs rest)
+blocks_long (a ∷ fs) (b ∷ gs) (next_block id source_end items rest) = ap suc (blocks_long fs gs rest)
 
 -- a list as long as the one that it was written over
 written_over : {A : Type 0} (xs ys : List A) (n : ℕ) → length ys ≡ length xs → length xs ≤ n → take n (ys ++ drop (length ys) xs) ≡ ys

@@ -84,7 +84,7 @@ moves_kin : (rd rs rd' m : ℕ) → RowKin (Moves rd rs) (Fixes rd' m)
 moves_kin rd rs rd' m = record {
   class = refl;
   jump = refl;
-  may = λ k silent h. absurd h;
+  may = λ k source_end h. absurd h;
   goes = λ n h. absurd h;
   end = no_end_moves rd rs rd' m;
   is_end = λ h. absurd h;
@@ -96,7 +96,7 @@ loads_kin : (rd s rd' m : ℕ) → RowKin (LoadsSlot rd s) (Fixes rd' m)
 loads_kin rd s rd' m = record {
   class = refl;
   jump = refl;
-  may = λ k silent h. h;
+  may = λ k source_end h. h;
   goes = λ n h. absurd h;
   end = no_end_loads rd s rd' m;
   is_end = λ h. absurd h;

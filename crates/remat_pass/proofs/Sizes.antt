@@ -4,7 +4,7 @@ use Rattle.std.specs.List.{flat_map}
 use Rattle.std.proofs.lemmas.List.Sums.{sum_by-cons}
 use Rattle.rv64_instr.specs.Row.{row_of}
 use Rattle.rv64_instr.specs.Parts.{is_call}
-use Rattle.mir_func.specs.declared.entry.Entry.{Entry}
+use Rattle.mir_func.specs.declared.entry.DebugSubstitution.{DebugSubstitution}
 use Rattle.mir_func.specs.declared.item.Item.{Item}
 use Rattle.mir_func.specs.declared.item.ItemKind.{ItemKind}
 use Rattle.mir_func.specs.declared.item.ItemKind.TheVariants.{Code, Mark, Phi}
@@ -72,7 +72,7 @@ as_many n m e = omega (arith, e)
 le_more : (n m k : ℕ) → n ≡ m → n ≤ m + k
 le_more n m k e = omega (arith, e)
 
-pub sizes_rematerialized : (count : ℕ) (f : Function) (subs : List Entry) → KeepsSizes 1 count (change f subs (rematerialized f) subs)
+pub sizes_rematerialized : (count : ℕ) (f : Function) (subs : List DebugSubstitution) → KeepsSizes 1 count (change f subs (rematerialized f) subs)
 sizes_rematerialized count f subs =
     let xs : List Item = items_of f.blocks in
     let ys : List Item = items_of (set_blocks f.blocks) in

@@ -64,9 +64,9 @@ pointer_kept known (Code i n) h =
 pointer_kept known (Mark v m) h = h
 pointer_kept known (Phi p n) h = h
 
-origin_in : (a b : Block) (o : Origin) → b.id ≡ a.id → b.silent ≡ a.silent → OriginIn a o → OriginIn b o
-origin_in a b (Kept p) id silent h = (h.0 ∙ sym id, subst (λ (n : ℕ). p.item < n) (sym silent) h.1)
-origin_in a b (Before p) id silent h = (h.0 ∙ sym id, subst (λ (n : ℕ). p.item ≤ n) (sym silent) h.1)
+origin_in : (a b : Block) (o : Origin) → b.id ≡ a.id → b.source_end ≡ a.source_end → OriginIn a o → OriginIn b o
+origin_in a b (Kept p) id source_end h = (h.0 ∙ sym id, subst (λ (n : ℕ). p.item < n) (sym source_end) h.1)
+origin_in a b (Before p) id source_end h = (h.0 ∙ sym id, subst (λ (n : ℕ). p.item ≤ n) (sym source_end) h.1)
 
 -- ---- ends
 
@@ -100,8 +100,8 @@ closes_set (x ∷ z ∷ xs) (y ∷ w ∷ ys) (next m (next k rest)) h = closes_s
 
 last_set : (fs gs : List Block) → AreBlocksSet fs gs → LastCloses fs → LastCloses gs
 last_set fs gs no_blocks h = absurd h
-last_set (a ∷ fs) (b ∷ gs) (next_block id silent items no_blocks) h = closes_set a.items b.items items h
-last_set (a ∷ c ∷ fs) (b ∷ d ∷ gs) (next_block id silent items (next_block id' silent' items' rest)) h =
+last_set (a ∷ fs) (b ∷ gs) (next_block id source_end items no_blocks) h = closes_set a.items b.items items h
+last_set (a ∷ c ∷ fs) (b ∷ d ∷ gs) (next_block id source_end items (next_block id' silent' items' rest)) h =
     last_set (c ∷ fs) (d ∷ gs) (next_block id' silent' items' rest) h
 
 -- ---- blocks
@@ -110,39 +110,39 @@ all_none : {A : Type 0} (P : A → Type 0) → All P []
 all_none P k d lt = absurd (omega (arith, lt))
 
 -- what holds of each item of each block, and so of it with a constant set
-module _ (P Q : Block → Item → Type 0) (stays : (a b : Block) (x y : Item) → b.id ≡ a.id → b.silent ≡ a.silent → MayBeSet x y → P a x → Q b y) where
-  each_in : (a b : Block) → b.id ≡ a.id → b.silent ≡ a.silent → (xs ys : List Item) → AreItemsSet xs ys → All (P a) xs → All (Q b) ys
-  each_in a b id silent xs ys none h = all_none (Q b)
-  each_in a b id silent (x ∷ xs) (y ∷ ys) (next m rest) h =
-      All-cons (Q b) y ys (stays a b x y id silent m (All-head (P a) x xs h)) (each_in a b id silent xs ys rest (All-tail (P a) x xs h))
+module _ (P Q : Block → Item → Type 0) (stays : (a b : Block) (x y : Item) → b.id ≡ a.id → b.source_end ≡ a.source_end → MayBeSet x y → P a x → Q b y) where
+  each_in : (a b : Block) → b.id ≡ a.id → b.source_end ≡ a.source_end → (xs ys : List Item) → AreItemsSet xs ys → All (P a) xs → All (Q b) ys
+  each_in a b id source_end xs ys none h = all_none (Q b)
+  each_in a b id source_end (x ∷ xs) (y ∷ ys) (next m rest) h =
+      All-cons (Q b) y ys (stays a b x y id source_end m (All-head (P a) x xs h)) (each_in a b id source_end xs ys rest (All-tail (P a) x xs h))
 
   pub each_set : (fs gs : List Block) → AreBlocksSet fs gs → All (λ (b : Block). All (P b) b.items) fs → All (λ (b : Block). All (Q b) b.items) gs
   each_set fs gs no_blocks h = all_none (λ (b : Block). All (Q b) b.items)
-  each_set (a ∷ fs) (b ∷ gs) (next_block id silent items rest) h =
-      All-cons (λ (c : Block). All (Q c) c.items) b gs (each_in a b id silent a.items b.items items (All-head (λ (c : Block). All (P c) c.items) a fs h))
+  each_set (a ∷ fs) (b ∷ gs) (next_block id source_end items rest) h =
+      All-cons (λ (c : Block). All (Q c) c.items) b gs (each_in a b id source_end a.items b.items items (All-head (λ (c : Block). All (P c) c.items) a fs h))
       (each_set fs gs rest (All-tail (λ (c : Block). All (P c) c.items) a fs h))
 
 pub kinds_set : (P Q : ItemKind → Type 0) → ((k : ItemKind) → P k → Q k) → ((known : Known) (k : ItemKind) → P k → Q (set_in known k)) → (fs gs : List Block) →
     AreBlocksSet fs gs → All (λ (b : Block). All (λ (i : Item). P i.kind) b.items) fs → All (λ (b : Block). All (λ (i : Item). Q i.kind) b.items) gs
 kinds_set P Q same set fs gs r h =
-    each_set (λ b i. P i.kind) (λ b i. Q i.kind) (λ a b x y id silent m k. (elim m [
+    each_set (λ b i. P i.kind) (λ b i. Q i.kind) (λ a b x y id source_end m k. (elim m [
       | inl e ↦ subst (λ (i : Item). Q i.kind) (sym e) (same x.kind k)
       | inr w ↦ subst (λ (i : Item). Q i.kind) (sym w.1) (set w.0 x.kind k)
     ])) fs gs r h
 
 ends_all : (fs gs : List Block) → AreBlocksSet fs gs → All (λ (b : Block). EndsWell b.items) fs → All (λ (b : Block). EndsWell b.items) gs
 ends_all fs gs no_blocks h = all_none (λ (b : Block). EndsWell b.items)
-ends_all (a ∷ fs) (b ∷ gs) (next_block id silent items rest) h =
+ends_all (a ∷ fs) (b ∷ gs) (next_block id source_end items rest) h =
     All-cons (λ (c : Block). EndsWell c.items) b gs (ends_set a.items b.items items (All-head (λ (c : Block). EndsWell c.items) a fs h))
     (ends_all fs gs rest (All-tail (λ (c : Block). EndsWell c.items) a fs h))
 
 ids_set : (fs gs : List Block) → AreBlocksSet fs gs → ids_of gs ≡ ids_of fs
 ids_set fs gs no_blocks = refl
-ids_set (a ∷ fs) (b ∷ gs) (next_block id silent items rest) = let e = ids_set fs gs rest in λ t. id t ∷ e t
+ids_set (a ∷ fs) (b ∷ gs) (next_block id source_end items rest) = let e = ids_set fs gs rest in λ t. id t ∷ e t
 
 length_set : (fs gs : List Block) → AreBlocksSet fs gs → length gs ≡ length fs
 length_set fs gs no_blocks = refl
-length_set (a ∷ fs) (b ∷ gs) (next_block id silent items rest) = ap suc (length_set fs gs rest)
+length_set (a ∷ fs) (b ∷ gs) (next_block id source_end items rest) = ap suc (length_set fs gs rest)
 
 once_set : (xs ys : List Item) → AreItemsSet xs ys → NumbersOnce xs → NumbersOnce ys
 once_set xs ys r once i j x y k atx cx aty ny =
@@ -168,7 +168,7 @@ sound_set f bs r s =
       pointer = kinds_set LeavesPointer LeavesPointer (λ k h. h) pointer_kept f.blocks bs r s.pointer;
       numbers = once_set (items_of f.blocks) (items_of bs) (all_items_set f.blocks bs r) s.numbers;
       origins = each_set (λ b i. OriginIn b i.origin) (λ b i. OriginIn b i.origin)
-          (λ a b x y id silent m h. subst (OriginIn b) (sym (origin_kept x y m)) (origin_in a b x.origin id silent h)) f.blocks bs r s.origins;
+          (λ a b x y id source_end m h. subst (OriginIn b) (sym (origin_kept x y m)) (origin_in a b x.origin id source_end h)) f.blocks bs r s.origins;
       ends = ends_all f.blocks bs r s.ends;
       last = last_set f.blocks bs r s.last;
     }

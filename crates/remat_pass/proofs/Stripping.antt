@@ -31,7 +31,7 @@ blocks_stripped [] = refl
 blocks_stripped (b ∷ bs) =
     let e = items_stripped b.items nothing_known in
     let es = blocks_stripped bs in
-    λ i. record { id = b.id; items = e i; silent = b.silent } ∷ es i
+    λ i. record { id = b.id; items = e i; source_end = b.source_end } ∷ es i
 
 pub rematerialized_stripped : (f : Function) → stripped (rematerialized f) ≡ rematerialized (stripped f)
 rematerialized_stripped f = let e = blocks_stripped f.blocks in λ i. record { name = f.name; slots = f.slots; objects = f.objects; blocks = e i }

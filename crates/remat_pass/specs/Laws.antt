@@ -4,7 +4,7 @@ use Rattle.std.proofs.Common.{◌≡◌, List, [], ◌∷◌, map, refl, ap}
 use Rattle.mir_func.specs.declared.item.Item.{Item}
 use Rattle.mir_func.specs.declared.block.Block.{Block}
 use Rattle.mir_func.specs.Function.{Function}
-use Rattle.pass_trait.specs.Code.{HasOneResult, SeesCodeAlone, placeless_item, placeless_block, placeless}
+use Rattle.pass_trait.specs.Code.{HasOneResult, SeesCodeAlone, originless_item, originless_block, originless}
 use Rattle.pass_trait.specs.Laws.{one_of, same_of}
 use Rattle.remat_pass.specs.Known.{Known, nothing_known, known_past}
 use Rattle.remat_pass.specs.Remat.{set_in, set_items, set_blocks, rematerialized, IsRematerialized}
@@ -13,21 +13,21 @@ use Rattle.remat_pass.specs.Remat.{set_in, set_items, set_blocks, rematerialized
 pub one_rematerialized : HasOneResult IsRematerialized
 one_rematerialized = one_of rematerialized
 
-items_placeless : (known : Known) (xs : List Item) → map placeless_item (set_items known xs) ≡ set_items known (map placeless_item xs)
-items_placeless known [] = refl
-items_placeless known (x ∷ xs) =
-    ap (λ (ys : List Item). placeless_item (record x { kind = set_in known x.kind }) ∷ ys) (items_placeless (known_past (set_in known x.kind) known) xs)
+items_originless : (known : Known) (xs : List Item) → map originless_item (set_items known xs) ≡ set_items known (map originless_item xs)
+items_originless known [] = refl
+items_originless known (x ∷ xs) =
+    ap (λ (ys : List Item). originless_item (record x { kind = set_in known x.kind }) ∷ ys) (items_originless (known_past (set_in known x.kind) known) xs)
 
-blocks_placeless : (bs : List Block) → map placeless_block (set_blocks bs) ≡ set_blocks (map placeless_block bs)
-blocks_placeless [] = refl
-blocks_placeless (b ∷ bs) =
-    let e = items_placeless nothing_known b.items in
-    let es = blocks_placeless bs in
-    λ i. record { id = b.id; items = e i; silent = 0 } ∷ es i
+blocks_originless : (bs : List Block) → map originless_block (set_blocks bs) ≡ set_blocks (map originless_block bs)
+blocks_originless [] = refl
+blocks_originless (b ∷ bs) =
+    let e = items_originless nothing_known b.items in
+    let es = blocks_originless bs in
+    λ i. record { id = b.id; items = e i; source_end = 0 } ∷ es i
 
-rematerialized_placeless : (f : Function) → placeless (rematerialized f) ≡ rematerialized (placeless f)
-rematerialized_placeless f = let e = blocks_placeless f.blocks in λ i. record f { blocks = e i }
+rematerialized_originless : (f : Function) → originless (rematerialized f) ≡ rematerialized (originless f)
+rematerialized_originless f = let e = blocks_originless f.blocks in λ i. record f { blocks = e i }
 
 -- the rule doesn't depend on positions
 pub same_rematerialized : SeesCodeAlone IsRematerialized
-same_rematerialized = same_of rematerialized rematerialized_placeless
+same_rematerialized = same_of rematerialized rematerialized_originless

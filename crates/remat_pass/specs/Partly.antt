@@ -17,5 +17,5 @@ pub data AreItemsSet : List Item → List Item → Type 0 where
 -- blocks in order, with such items; their numbers and silent indices are unchanged
 pub data AreBlocksSet : List Block → List Block → Type 0 where
   no_blocks : AreBlocksSet [] []
-  next_block : {a b : Block} {fs gs : List Block} → b.id ≡ a.id → b.silent ≡ a.silent → AreItemsSet a.items b.items → AreBlocksSet fs gs →
+  next_block : {a b : Block} {fs gs : List Block} → b.id ≡ a.id → b.source_end ≡ a.source_end → AreItemsSet a.items b.items → AreBlocksSet fs gs →
       AreBlocksSet (a ∷ fs) (b ∷ gs)

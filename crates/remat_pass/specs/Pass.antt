@@ -1,7 +1,7 @@
 -- The pass's step.
 use Rattle.std.specs.Prelude.{◌≡◌, []}
 use Rattle.pass_trait.specs.Rule.{Rule}
-use Rattle.pass_trait.specs.Steps.{Step}
+use Rattle.pass_trait.specs.Steps.{PassStep}
 use Rattle.remat_pass.specs.Remat.{IsRematerialized}
 
 -- the debug rule: debug items are unchanged
@@ -18,5 +18,5 @@ remat_rule = record {
 }
 
 -- the pass's only step
-abbrev pub remat_step : Step
+abbrev pub remat_step : PassStep
 remat_step = record { code = IsRematerialized; debug = remat_rule }

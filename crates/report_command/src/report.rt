@@ -13,7 +13,7 @@ use mir_printer::text::Text;
 use pass_trait::loss::Losses;
 use report_function::debugify_print::print_report;
 use report_function::make::make_report;
-use report_function::report::Names;
+use report_function::report::VariableNames;
 use std::alloc::{AllocError, Global};
 
 /// The reports of the functions of a compiled program, one after the other.
@@ -81,10 +81,10 @@ fn one_report(
 }
 
 /// The names of variables.
-fn names_of(alloc: Global, variables: &[ListedVariable]) -> Result<Names, AllocError>
+fn names_of(alloc: Global, variables: &[ListedVariable]) -> Result<VariableNames, AllocError>
     ensures { IfOk result (λ names. names ≡ map (λ v. v.name) variables.now) }
 {
-    let mut names = Names::new(alloc);
+    let mut names = VariableNames::new(alloc);
     for variable in variables {
         names.push(variable.name.copy()?)?;
     }

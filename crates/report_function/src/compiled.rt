@@ -1,6 +1,6 @@
 //! What is reported of one function of a program.
 
-use crate::report::Names;
+use crate::report::VariableNames;
 use dwarf_loclists::range::RangeLists;
 use emit_code::code::Code;
 use pass_trait::loss::Losses;
@@ -11,7 +11,7 @@ pub struct Compiled {
     /// Its machine code, with the function with its frame.
     pub code: Code,
     /// The names of its variables, in the order of their lists.
-    pub names: Names,
+    pub names: VariableNames,
     /// Their location lists.
     pub lists: RangeLists,
     /// What passes lost, in the order of the passes.

@@ -5,7 +5,7 @@ ghost use Rattle.dwarf_loclists.specs.Ranges.{Ascend};
 ghost use Rattle.report_function.specs.Report.{cover_of, covers_of, report_of};
 
 use crate::covers::covered;
-use crate::report::{Cover, Covers, Names, Report};
+use crate::report::{Cover, Covers, Report, VariableNames};
 use dwarf_loclists::range::Ranges;
 use emit_code::code::Code;
 use pass_trait::loss::Losses;
@@ -17,7 +17,7 @@ use std::alloc::{AllocError, Global};
 pub fn make_report(
     alloc: Global,
     code: &Code,
-    names: &Names,
+    names: &VariableNames,
     lists: &[Ranges],
     losses: &Losses,
 ) -> Result<Report, AllocError>

@@ -17,7 +17,7 @@ pub struct Cover {
 pub type Covers = List<Cover>;
 
 /// Names of variables, in the order of their location lists.
-pub type Names = List<Name>;
+pub type VariableNames = List<Name>;
 
 /// The report on a function.
 #[derive(Debug, Drop)]

@@ -11,7 +11,7 @@ use Rattle.dwarf_loclists.specs.declared.range.Location.TheVariants.{Whole, Part
 use Rattle.dwarf_loclists.specs.declared.range.Range.{Range}
 use Rattle.dwarf_loclists.specs.Grammar.{IsSection}
 use Rattle.dwarf_loclists.specs.Ranges.{location_in}
-use Rattle.pass_trait.specs.Steps.{Step}
+use Rattle.pass_trait.specs.Steps.{PassStep}
 use Rattle.mir_func.specs.declared.variable.VarId.{VarId}
 use Rattle.mir_func.specs.Function.{Function}
 use Rattle.mir_func.specs.Graph.{Program as Graph, program_of}
@@ -85,7 +85,7 @@ TellsSource source image f lists = (s0 : State) → StartsAt source.function s0 
 -- The text is that of a run of the first function with a name. There is an output, compiled of what steps of passes made of the program. The text is
 -- that of the machine's run on the function's image in this output, with the variables by their location lists in the output, and the values of
 -- variables are the source's.
-pub record IsRunOfProgram (steps : List Step) (p : Program) (name : List ℕ) (limit : ℕ) (arguments values text : List ℕ) : Type 0 where
+pub record IsRunOfProgram (steps : List PassStep) (p : Program) (name : List ℕ) (limit : ℕ) (arguments values text : List ℕ) : Type 0 where
   pub number : ℕ
   pub read : IsFirstRead name p.functions number
   pub output : Output

@@ -32,7 +32,7 @@ pub struct CallEvent {
 
 /// The reply to a call.
 #[derive(Clone, Copy, Debug)]
-pub struct Answer {
+pub struct CallResult {
     /// The new contents of the caller-saved registers x1, x5 to x7, x10 to x17 and x28 to x31, in this order
     /// (RISC-V ELF psABI, "Integer Register Convention").
     pub regs: [u64; 16],

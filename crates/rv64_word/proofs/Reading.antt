@@ -9,8 +9,8 @@ use Rattle.std.proofs.lemmas.Bool.{lt-ltb, le-ltb, leb-true, eqb-true}
 use Rattle.std.proofs.lemmas.Bool.Decides.{nat_tests}
 use Rattle.rv64_instr.specs.Arithmetic.{word}
 use Rattle.rv64_instr.specs.Form.{is_within}
-use Rattle.rv64_word.specs.declared.format.Field.{Field}
-use Rattle.rv64_word.specs.declared.format.Field.TheVariants.{Opcode, Rd, Funct3, Rs1, Rs2, Funct7, Imm}
+use Rattle.rv64_word.specs.declared.format.EncodingField.{EncodingField}
+use Rattle.rv64_word.specs.declared.format.EncodingField.TheVariants.{Opcode, Rd, Funct3, Rs1, Rs2, Funct7, Imm}
 use Rattle.rv64_word.specs.declared.format.Slice.{Slice}
 use Rattle.rv64_word.specs.declared.format.Format.{Format}
 use Rattle.rv64_word.specs.declared.format.Format.TheVariants.{Register, Immediate, Shift, WordShift, Store, Branch, Upper, Jump}
@@ -24,7 +24,7 @@ moved_up : (a b p q f : ℕ) → (a * p + b) * q + f ≡ a * (p * q) + ((0 * p +
 moved_up a b p q f = omega arith
 
 -- slices behind a number move it up by their bits
-pub fold_shift : (v : Field → ℕ) (slices : List Slice) (a : ℕ) → fold (joined v) a slices ≡ a * 2 ^ width_of slices + fold (joined v) 0 slices
+pub fold_shift : (v : EncodingField → ℕ) (slices : List Slice) (a : ℕ) → fold (joined v) a slices ≡ a * 2 ^ width_of slices + fold (joined v) 0 slices
 fold_shift v [] a = omega arith
 fold_shift v (s ∷ rest) a =
     let b = bits_of s (v s.field) in
@@ -34,7 +34,7 @@ fold_shift v (s ∷ rest) a =
     left ∙ moved_up a b (2 ^ s.width) (2 ^ width_of rest) (fold (joined v) 0 rest) ∙ rw (wide, pow-add, ← right) refl
 
 -- a slice of what was spelled
-pub at_slice : (v : Field → ℕ) (before : ℕ) (s : Slice) (rest : List Slice) →
+pub at_slice : (v : EncodingField → ℕ) (before : ℕ) (s : Slice) (rest : List Slice) →
     fold (joined v) before (s ∷ rest) / 2 ^ width_of rest % 2 ^ s.width ≡ bits_of s (v s.field)
 at_slice v before s rest =
     let low : fold (joined v) 0 rest < 2 ^ width_of rest = rw zero-add at (fold_below v rest 0 0 (omega arith)) in
@@ -42,11 +42,11 @@ at_slice v before s rest =
     (mod_low before s.width (bits_of s (v s.field)) (bits_below s (v s.field)))
 
 -- the bits of a field that slices spell
-abbrev pub collected : List Slice → Field → (Field → ℕ) → ℕ
+abbrev pub collected : List Slice → EncodingField → (EncodingField → ℕ) → ℕ
 collected [] field v = 0
 collected (s ∷ rest) field v = cond (same_field s.field field) (bits_of s (v s.field) * 2 ^ s.low) 0 + collected rest field v
 
-pub shown-fold : (v : Field → ℕ) (slices : List Slice) (before : ℕ) (field : Field) →
+pub shown-fold : (v : EncodingField → ℕ) (slices : List Slice) (before : ℕ) (field : EncodingField) →
     shown slices field (fold (joined v) before slices) ≡ collected slices field v
 shown-fold v [] before field = refl
 shown-fold v (s ∷ rest) before field = rw (at_slice v before s rest, shown-fold v rest (joined v before s) field) refl
@@ -146,7 +146,7 @@ pub fields_back : (format : Format) (m : MachineOp) → IsTrue (fits format m) �
 fields_back format m h = fitting_back format m (fitting format m h)
 
 -- what a word that was spelled has of opcode, funct3 and funct7
-abbrev pub CodesOf : Format → (Field → ℕ) → ℕ → Type 0
+abbrev pub CodesOf : Format → (EncodingField → ℕ) → ℕ → Type 0
 CodesOf Register v w = (w / 4096 % 8 ≡ v Funct3 % 8) × (w / 33554432 ≡ v Funct7 % 128)
 CodesOf WordShift v w = (w / 4096 % 8 ≡ v Funct3 % 8) × (w / 33554432 ≡ v Funct7 % 128)
 CodesOf Shift v w = (w / 4096 % 8 ≡ v Funct3 % 8) × (w / 33554432 / 2 ≡ v Funct7 / 2 % 64)
@@ -155,15 +155,15 @@ CodesOf Store v w = w / 4096 % 8 ≡ v Funct3 % 8
 CodesOf Branch v w = w / 4096 % 8 ≡ v Funct3 % 8
 CodesOf _ v w = Unit {0}
 
-pub spelled_below : (format : Format) (v : Field → ℕ) → spelled (slices_of format) v < 2 ^ 32
+pub spelled_below : (format : Format) (v : EncodingField → ℕ) → spelled (slices_of format) v < 2 ^ 32
 spelled_below format v = rw (width_is format) at (rw zero-add at (fold_below v (slices_of format) 0 0 (omega arith)))
 
-at_place : (v : Field → ℕ) (front : List Slice) (s : Slice) (rest : List Slice) →
+at_place : (v : EncodingField → ℕ) (front : List Slice) (s : Slice) (rest : List Slice) →
     spelled (front ++ s ∷ rest) v / 2 ^ width_of rest % 2 ^ s.width ≡ bits_of s (v s.field)
 at_place v front s rest = rw (fold-append (joined v) 0 front (s ∷ rest)) (at_slice v (fold (joined v) 0 front) s rest)
 
 -- the parts of a word, for each format
-pub codes : (format : Format) (v : Field → ℕ) → (spelled (slices_of format) v % 128 ≡ v Opcode % 128) × CodesOf format v (spelled (slices_of format) v)
+pub codes : (format : Format) (v : EncodingField → ℕ) → (spelled (slices_of format) v % 128 ≡ v Opcode % 128) × CodesOf format v (spelled (slices_of format) v)
 codes Register v =
     let bottom = at_place v (bits Funct7 6 0 ∷ bits Rs2 4 0 ∷ bits Rs1 4 0 ∷ bits Funct3 2 0 ∷ bits Rd 4 0 ∷ []) (bits Opcode 6 0) ([]) in
     let middle = at_place v (bits Funct7 6 0 ∷ bits Rs2 4 0 ∷ bits Rs1 4 0 ∷ []) (bits Funct3 2 0) (bits Rd 4 0 ∷ bits Opcode 6 0 ∷ []) in

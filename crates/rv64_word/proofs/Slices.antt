@@ -4,32 +4,32 @@ use Rattle.std.proofs.Common.{◌∙◌, arith, add-zero}
 use Rattle.std.specs.Prelude.{fold}
 use Rattle.std.proofs.lemmas.Nat.{pow_pos, pow-add, mod_below, mul-add-lt, shl_whole, or_shifted}
 use Rattle.std.proofs.lemmas.List.Sums.{fold_more, sum_by-cons, sum_by_more, sum_by-take-le, sum_by-drop_more, sum_by-take-drop}
-use Rattle.rv64_word.specs.declared.format.Field.{Field}
+use Rattle.rv64_word.specs.declared.format.EncodingField.{EncodingField}
 use Rattle.rv64_word.specs.declared.format.Slice.{Slice}
 use Rattle.rv64_word.specs.declared.format.Format.{Format}
 use Rattle.rv64_word.specs.declared.format.Format.TheVariants.{Register, Immediate, Shift, WordShift, Store, Branch, Upper, Jump}
-use Rattle.rv64_word.specs.declared.format.Field.TheVariants.{Opcode, Rd, Funct3, Rs1, Rs2, Funct7, Imm}
+use Rattle.rv64_word.specs.declared.format.EncodingField.TheVariants.{Opcode, Rd, Funct3, Rs1, Rs2, Funct7, Imm}
 use Rattle.rv64_word.specs.Format.{bits, slices_of, bits_of, spelled, width_of, same_field, shown}
 
 pub bits_below : (s : Slice) (value : ℕ) → bits_of s value < 2 ^ s.width
 bits_below s value = mod_below _ _ (pow_pos s.width)
 
 -- one more slice behind a number
-abbrev pub joined : (Field → ℕ) → ℕ → Slice → ℕ
+abbrev pub joined : (EncodingField → ℕ) → ℕ → Slice → ℕ
 joined value word s = word * 2 ^ s.width + bits_of s (value s.field)
 
-joined_below : (value : Field → ℕ) (word j : ℕ) (s : Slice) → word < 2 ^ j → joined value word s < 2 ^ (j + s.width)
+joined_below : (value : EncodingField → ℕ) (word j : ℕ) (s : Slice) → word < 2 ^ j → joined value word s < 2 ^ (j + s.width)
 joined_below value word j s h =
     rw (pow-add 2 j s.width) (omega (arith, mul-add-lt word (2 ^ s.width) (bits_of s (value s.field)) (2 ^ j) h (bits_below s (value s.field))))
 
-pub fold_below : (value : Field → ℕ) (slices : List Slice) (word j : ℕ) → word < 2 ^ j → fold (joined value) word slices < 2 ^ (j + width_of slices)
+pub fold_below : (value : EncodingField → ℕ) (slices : List Slice) (word j : ℕ) → word < 2 ^ j → fold (joined value) word slices < 2 ^ (j + width_of slices)
 fold_below value [] word j h = rw (add-zero j) h
 fold_below value (s ∷ rest) word j h =
     let e : j + width_of (s ∷ rest) ≡ (j + s.width) + width_of rest = omega (arith, sum_by-cons (λ (s : Slice). s.width) s rest) in
     rw e (fold_below value rest (joined value word s) (j + s.width) (joined_below value word j s h))
 
 -- the encoder's step: a shift, and the next slice's bits below
-pub spelled_more : (value : Field → ℕ) (slices : List Slice) (i : ℕ) (d : Slice) (word : ℕ) → width_of slices ≤ 32 → i < length slices →
+pub spelled_more : (value : EncodingField → ℕ) (slices : List Slice) (i : ℕ) (d : Slice) (word : ℕ) → width_of slices ≤ 32 → i < length slices →
     word ≡ spelled (take i slices) value →
     bit_or ((word * 2 ^ (get_or slices i d).width) % 2 ^ 32) (bits_of (get_or slices i d) (value (get_or slices i d).field))
     ≡ spelled (take (i + 1) slices) value
@@ -54,7 +54,7 @@ width_is Upper = refl
 width_is Jump = refl
 
 -- the decoder's step: the bits below the slice are those of the slices behind it
-pub shown_more : (slices : List Slice) (i : ℕ) (d : Slice) (field : Field) (word : ℕ) → i < length slices →
+pub shown_more : (slices : List Slice) (i : ℕ) (d : Slice) (field : EncodingField) (word : ℕ) → i < length slices →
     shown (drop i slices) field word
     ≡ cond (same_field (get_or slices i d).field field)
     (word / 2 ^ width_of (drop (i + 1) slices) % 2 ^ (get_or slices i d).width * 2 ^ (get_or slices i d).low) 0

@@ -6,8 +6,8 @@ use Rattle.std.proofs.lemmas.List.Sums.{sum_by-cons}
 use Rattle.std.proofs.lemmas.Bool.{le-leb, ltb-true, ltb-false}
 use Rattle.rv64_instr.specs.Arithmetic.{word}
 use Rattle.rv64_instr.specs.Form.{is_within}
-use Rattle.rv64_word.specs.declared.format.Field.{Field}
-use Rattle.rv64_word.specs.declared.format.Field.TheVariants.{Rd, Rs1, Rs2, Imm}
+use Rattle.rv64_word.specs.declared.format.EncodingField.{EncodingField}
+use Rattle.rv64_word.specs.declared.format.EncodingField.TheVariants.{Rd, Rs1, Rs2, Imm}
 use Rattle.rv64_word.specs.declared.format.Slice.{Slice}
 use Rattle.rv64_word.specs.declared.format.Format.{Format}
 use Rattle.rv64_word.specs.declared.format.Format.TheVariants.{Register, Immediate, Shift, WordShift, Store, Branch, Upper, Jump}
@@ -26,11 +26,11 @@ and_true true h = refl
 and_true false h = h
 
 -- each slice of the values is the word's
-abbrev pub Agree : List Slice → (Field → ℕ) → ℕ → Type 0
+abbrev pub Agree : List Slice → (EncodingField → ℕ) → ℕ → Type 0
 Agree [] v w = Unit {0}
 Agree (s ∷ rest) v w = (bits_of s (v s.field) ≡ w / 2 ^ width_of rest % 2 ^ s.width) × Agree rest v w
 
-spelled_back : (slices : List Slice) (v : Field → ℕ) (w : ℕ) → Agree slices v w → spelled slices v ≡ w % 2 ^ width_of slices
+spelled_back : (slices : List Slice) (v : EncodingField → ℕ) (w : ℕ) → Agree slices v w → spelled slices v ≡ w % 2 ^ width_of slices
 spelled_back [] v w h = omega arith
 spelled_back (s ∷ rest) v w (here, later) =
     let wide : width_of (s ∷ rest) ≡ s.width + width_of rest = sum_by-cons (λ (x : Slice). x.width) s rest in

@@ -1,14 +1,14 @@
 -- The formats of words, one table for encoding and decoding (RISC-V Unprivileged ISA, RV32I, "Base Instruction Formats"
 -- and "Immediate Encoding Variants"; RV64I, "Integer Register-Immediate Instructions" for the shifts).
 use Rattle.std.specs.Prelude.{ℕ, suc, ◌+◌, ◌-◌, ◌*◌, ◌/◌, ◌%◌, ◌^◌, ℤ, pos, ◌-ℤ◌, Bool, true, false, cond, if◌then◌else◌, nat_lt, List, [], ◌∷◌, fold, sum_by}
-use Rattle.rv64_word.specs.declared.format.Field.{Field}
-use Rattle.rv64_word.specs.declared.format.Field.TheVariants.{Opcode, Rd, Funct3, Rs1, Rs2, Funct7, Imm}
+use Rattle.rv64_word.specs.declared.format.EncodingField.{EncodingField}
+use Rattle.rv64_word.specs.declared.format.EncodingField.TheVariants.{Opcode, Rd, Funct3, Rs1, Rs2, Funct7, Imm}
 use Rattle.rv64_word.specs.declared.format.Slice.{Slice}
 use Rattle.rv64_word.specs.declared.format.Format.{Format}
 use Rattle.rv64_word.specs.declared.format.Format.TheVariants.{Register, Immediate, Shift, WordShift, Store, Branch, Upper, Jump}
 
 -- the bits of a field from `high` down to `low`, both included
-abbrev pub bits : Field → (high low : ℕ) → Slice
+abbrev pub bits : EncodingField → (high low : ℕ) → Slice
 bits field high low = record { field = field; low = low; width = suc high - low }
 
 -- the slices of a format's words, from bit 31 down to bit 0
@@ -27,7 +27,7 @@ abbrev pub bits_of : Slice → ℕ → ℕ
 bits_of s value = value / 2 ^ s.low % 2 ^ s.width
 
 -- the number that slices encode, the first one highest, by the value of each field
-abbrev pub spelled : List Slice → (Field → ℕ) → ℕ
+abbrev pub spelled : List Slice → (EncodingField → ℕ) → ℕ
 spelled slices value = fold (λ word s. word * 2 ^ s.width + bits_of s (value s.field)) 0 slices
 
 -- how many bits slices have
@@ -35,7 +35,7 @@ abbrev pub width_of : List Slice → ℕ
 width_of slices = sum_by (λ s. s.width) slices
 
 -- the two are one field
-abbrev pub same_field : Field → Field → Bool
+abbrev pub same_field : EncodingField → EncodingField → Bool
 same_field Opcode Opcode = true
 same_field Rd Rd = true
 same_field Funct3 Funct3 = true
@@ -46,7 +46,7 @@ same_field Imm Imm = true
 same_field _ _ = false
 
 -- the value of a field in a word of these slices
-abbrev pub shown : List Slice → Field → ℕ → ℕ
+abbrev pub shown : List Slice → EncodingField → ℕ → ℕ
 shown [] field word = 0
 shown (s ∷ rest) field word = cond (same_field s.field field) (word / 2 ^ width_of rest % 2 ^ s.width * 2 ^ s.low) 0 + shown rest field word
 

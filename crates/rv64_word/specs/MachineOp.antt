@@ -2,8 +2,8 @@
 use Rattle.std.specs.Prelude.{ℕ, ◌%◌, ℤ, pos, negsuc, Bool, ◌&&◌, nat_lt, nat_eq}
 use Rattle.rv64_instr.specs.Arithmetic.{word}
 use Rattle.rv64_instr.specs.Form.{is_within}
-use Rattle.rv64_word.specs.declared.format.Field.{Field}
-use Rattle.rv64_word.specs.declared.format.Field.TheVariants.{Opcode, Rd, Funct3, Rs1, Rs2, Funct7, Imm}
+use Rattle.rv64_word.specs.declared.format.EncodingField.{EncodingField}
+use Rattle.rv64_word.specs.declared.format.EncodingField.TheVariants.{Opcode, Rd, Funct3, Rs1, Rs2, Funct7, Imm}
 use Rattle.rv64_word.specs.declared.format.Format.{Format}
 use Rattle.rv64_word.specs.declared.format.Format.TheVariants.{Register, Immediate, Shift, WordShift, Store, Branch, Upper, Jump}
 use Rattle.rv64_word.specs.declared.machine_op.MachineOp.{MachineOp}
@@ -12,7 +12,7 @@ use Rattle.rv64_word.specs.Format.{slices_of, spelled, shown, number_of}
 use Rattle.rv64_word.specs.Operation.{encoding_of}
 
 -- the value of a field, the immediate in two's complement
-abbrev pub value_of : MachineOp → Field → ℕ
+abbrev pub value_of : MachineOp → EncodingField → ℕ
 value_of m Opcode = (encoding_of m.op).opcode
 value_of m Rd = m.rd
 value_of m Funct3 = (encoding_of m.op).funct3

@@ -5,7 +5,7 @@ ghost use Rattle.rv64_word.specs.Format.{slices_of, bits_of, same_field, shown, 
 
 /// A field of a machine operation in its word.
 #[derive(Clone, Copy, Debug, PartialEq, Eq)]
-pub enum Field {
+pub enum EncodingField {
     /// The opcode, seven bits.
     Opcode,
     /// The register that is set.
@@ -26,7 +26,7 @@ pub enum Field {
 #[derive(Clone, Copy, Debug, PartialEq, Eq)]
 pub struct Slice {
     /// The field.
-    pub field: Field,
+    pub field: EncodingField,
     /// The number of the field's lowest bit in the slice.
     pub low: u32,
     /// How many bits the slice has.
@@ -59,7 +59,7 @@ pub enum Format {
 macro_rules! bits {
     ($field:ident, $high:literal, $low:literal) => {
         Slice {
-            field: Field::$field,
+            field: EncodingField::$field,
             low: $low,
             width: $high - $low + 1,
         }
@@ -151,7 +151,7 @@ impl Format {
     }
 
     /// The value of a field in a word of the format, or 0 if the format lacks the field.
-    pub fn read(self, field: Field, word: u32) -> u32
+    pub fn read(self, field: EncodingField, word: u32) -> u32
         ensures { result ≡ shown (slices_of self) field word }
     {
         let mut value = 0;
@@ -200,7 +200,7 @@ impl Slice {
     }
 }
 
-fn is_same(a: Field, b: Field) -> bool
+fn is_same(a: EncodingField, b: EncodingField) -> bool
     ensures { result ≡ same_field a b }
 {
     a == b

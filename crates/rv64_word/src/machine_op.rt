@@ -5,7 +5,7 @@ ghost use Rattle.rv64_instr.specs.Form.{is_within};
 ghost use Rattle.rv64_word.specs.Decoded.{decoded};
 ghost use Rattle.rv64_word.specs.MachineOp.{value_of, word_of, is_encodable, read_as, is_register, is_even};
 
-use crate::format::{Field, Format};
+use crate::format::{EncodingField, Format};
 use crate::opcodes::operation;
 use crate::word_op::WordOp;
 
@@ -63,10 +63,10 @@ impl MachineOp {
         let format = op.encoding().format;
         MachineOp {
             op,
-            rd: format.read(Field::Rd, word),
-            rs1: format.read(Field::Rs1, word),
-            rs2: format.read(Field::Rs2, word),
-            imm: format.number(format.read(Field::Imm, word)),
+            rd: format.read(EncodingField::Rd, word),
+            rs1: format.read(EncodingField::Rs1, word),
+            rs2: format.read(EncodingField::Rs2, word),
+            imm: format.number(format.read(EncodingField::Imm, word)),
         }
     }
 
@@ -83,17 +83,17 @@ impl MachineOp {
     }
 
     /// The value of a field, the immediate in two's complement.
-    fn value(&self, field: Field) -> u64
+    fn value(&self, field: EncodingField) -> u64
         ensures { result ≡ value_of self.now field }
     {
         match field {
-            Field::Opcode => u64::from(self.op.encoding().opcode),
-            Field::Rd => u64::from(self.rd),
-            Field::Funct3 => u64::from(self.op.encoding().funct3),
-            Field::Rs1 => u64::from(self.rs1),
-            Field::Rs2 => u64::from(self.rs2),
-            Field::Funct7 => u64::from(self.op.encoding().funct7),
-            Field::Imm => self.imm.cast_unsigned(),
+            EncodingField::Opcode => u64::from(self.op.encoding().opcode),
+            EncodingField::Rd => u64::from(self.rd),
+            EncodingField::Funct3 => u64::from(self.op.encoding().funct3),
+            EncodingField::Rs1 => u64::from(self.rs1),
+            EncodingField::Rs2 => u64::from(self.rs2),
+            EncodingField::Funct7 => u64::from(self.op.encoding().funct7),
+            EncodingField::Imm => self.imm.cast_unsigned(),
         }
     }
 

@@ -22,7 +22,7 @@ use Rattle.dwarf_loclists.specs.declared.range.Part.{Part}
 use Rattle.dwarf_loclists.specs.declared.range.Range.{Range}
 use Rattle.dwarf_loclists.specs.Grammar.{LocationAt}
 use Rattle.dwarf_loclists.specs.Ranges.{Ascend, ArePlaces, location_in}
-use Rattle.pass_trait.specs.Steps.{Step}
+use Rattle.pass_trait.specs.Steps.{PassStep}
 use Rattle.frame_rule.specs.Rule.{framed_of}
 use Rattle.gen_program.specs.Program.{generated_program}
 use Rattle.gen_program.specs.Laws.{MarksWhole}
@@ -323,10 +323,10 @@ module _ (number count : ℕ) (p : Program) (same : p ≡ generated_program numb
   pub all_counted : count ≤ 512 → All (λ (f : Parsed). AreCounted f.func.blocks) p.functions
   all_counted few = subst (λ (x : Program). All (λ (f : Parsed). AreCounted f.func.blocks) x.functions) (sym same) (is_counted number count few)
 
-  pub frame_of : (steps : List Step) → HasLargeFrame steps p.functions → HasLargeFrame steps (generated_program number count).functions
+  pub frame_of : (steps : List PassStep) → HasLargeFrame steps p.functions → HasLargeFrame steps (generated_program number count).functions
   frame_of steps large = subst (λ (x : Program). HasLargeFrame steps x.functions) same large
 
-  pub section_of : (steps : List Step) → HasLargeSection steps p → HasLargeSection steps (generated_program number count)
+  pub section_of : (steps : List PassStep) → HasLargeSection steps p → HasLargeSection steps (generated_program number count)
   section_of steps large = subst (λ (x : Program). HasLargeSection steps x) same large
 
   module _ (some : 1 ≤ count) (few : count ≤ 512) (reserve : List ℕ) (passes : List PassKind) (c : Compilation) (is : IsCompilationOf reserve passes p c) where

@@ -7,7 +7,7 @@ use Rattle.rv64_instr.specs.Instruction.{Instruction}
 use Rattle.rv64_instr.specs.Parts.{is_call}
 use Rattle.rv64_instr.specs.Row.{Row, Fixes, Moves, Sets, Addresses, Loads, Stores, LoadsSlot, StoresSlot, Branches, Jumps, Calls, Returns, Unfit, row_of}
 use Rattle.rv64_instr.specs.Row.{add_row}
-use Rattle.emit_code.specs.declared.code.Entry.{Entry}
+use Rattle.emit_code.specs.declared.code.EncodedInstruction.{EncodedInstruction}
 use Rattle.emit_code.specs.Laid.{LaidCode, IsCodeOf, IsOfItem, is_call_kind}
 use Rattle.emit_code.specs.Rule.{entries_of}
 use Rattle.emit_code.proofs.Stand.{items_stand}
@@ -27,7 +27,7 @@ use Rattle.mir_func.specs.declared.position.Origin.{Origin}
 use Rattle.mir_func.specs.declared.position.Origin.TheVariants.{Kept, Before}
 use Rattle.mir_func.specs.Exits.{exit_of, is_final}
 use Rattle.mir_func.specs.Function.{Function, FramedFunction}
-use Rattle.mir_func.specs.Graph.{Fetch, Here, Silent, Outside, Program, block_start, program_of}
+use Rattle.mir_func.specs.Graph.{Fetch, Here, EndOfBlock, Outside, Program, block_start, program_of}
 use Rattle.mir_func.specs.Sound.{AllItems}
 use Rattle.mir_func.specs.SoundFrame.{adds_to_pointer, saves, restores, prologue_code, epilogue_code}
 use Rattle.sem_mir.specs.Follow.{class_of, Call, MayAdd, ItemHasClass, HasClass, RowFits, KindFits, Shape}
@@ -60,9 +60,9 @@ of_class : (r q : Row) → IsMildRow r → class_of r ≡ class_of q → is_call
 of_class r (Calls name args) m e = absurd (not_call r m e)
 of_class r _ m e = refl
 
-may_add : (q : Row) (item silent : ℕ) → MayAdd q item silent → is_call q ≡ false
-may_add (Calls name args) item silent m = absurd m
-may_add _ item silent m = refl
+may_add : (q : Row) (item source_end : ℕ) → MayAdd q item source_end → is_call q ≡ false
+may_add (Calls name args) item source_end m = absurd m
+may_add _ item source_end m = refl
 
 module _ (source : List Block) (mild : AllItems (λ i. IsMild i.kind) source) (resolve : OperandPair → Option OperandPair) where
   abbrev src : Program
@@ -73,24 +73,24 @@ module _ (source : List Block) (mild : AllItems (λ i. IsMild i.kind) source) (r
   of_kind q (Mark v x) m h = absurd h
   of_kind q (Phi p k) m h = absurd h
 
-  row_fits : (q : Row) (silent : ℕ) (o : Origin) → RowFits src q silent o → is_call q ≡ false
-  row_fits q silent (Kept p) h = by_fetch (src.fetch p) refl h where
+  row_fits : (q : Row) (source_end : ℕ) (o : Origin) → RowFits src q source_end o → is_call q ≡ false
+  row_fits q source_end (Kept p) h = by_fetch (src.fetch p) refl h where
     by_fetch : (x : Fetch) → src.fetch p ≡ x → HasClass q x → is_call q ≡ false
     by_fetch (Here i) e f = of_kind q i.kind (fetched (λ j. IsMild j.kind) source p.block p.item i e mild) f
-    by_fetch (Silent k n) e f = absurd f
+    by_fetch (EndOfBlock k n) e f = absurd f
     by_fetch Outside e f = absurd f
-  row_fits q silent (Before p) h = may_add q p.item silent h
+  row_fits q source_end (Before p) h = may_add q p.item source_end h
 
-  kind_fits : (kind : ItemKind) (silent : ℕ) (o : Origin) → KindFits src kind silent o → is_call_kind kind ≡ false
-  kind_fits (Code c k) silent o h = row_fits (row_of c) silent o h
-  kind_fits (Mark v m) silent o h = refl
-  kind_fits (Phi p k) silent o h = refl
+  kind_fits : (kind : ItemKind) (source_end : ℕ) (o : Origin) → KindFits src kind source_end o → is_call_kind kind ≡ false
+  kind_fits (Code c k) source_end o h = row_fits (row_of c) source_end o h
+  kind_fits (Mark v m) source_end o h = refl
+  kind_fits (Phi p k) source_end o h = refl
 
   -- so what follows the source calls nothing
   passed_calls_nothing : (f : List Block) (fp : Program) → Shape source f src fp → AllItems CallsNothing f
   passed_calls_nothing f fp shape =
-      All-weaker (λ (b : Block). All (λ i. KindFits src i.kind b.silent i.origin) b.items) (λ (b : Block). All CallsNothing b.items)
-      (λ b h. All-weaker (λ (i : Item). KindFits src i.kind b.silent i.origin) CallsNothing (λ i k. kind_fits i.kind b.silent i.origin k) b.items h) f
+      All-weaker (λ (b : Block). All (λ i. KindFits src i.kind b.source_end i.origin) b.items) (λ (b : Block). All CallsNothing b.items)
+      (λ b h. All-weaker (λ (i : Item). KindFits src i.kind b.source_end i.origin) CallsNothing (λ i k. kind_fits i.kind b.source_end i.origin k) b.items h) f
       shape.items
 
 -- ---- frames
@@ -172,7 +172,7 @@ module _ (f : Function) where
 
 -- ---- machine code
 
-entry_nothing : (f : FramedFunction) → AllItems CallsNothing f.blocks → (e : Entry) → IsOfItem f e → e.call ≡ false
+entry_nothing : (f : FramedFunction) → AllItems CallsNothing f.blocks → (e : EncodedInstruction) → IsOfItem f e → e.call ≡ false
 entry_nothing f h e is =
     is.call
     ∙ item_in CallsNothing (drop e.point.block f.blocks) e.point.item is.item is.stands
@@ -185,5 +185,5 @@ code_calls_nothing source f resolve fp mild shape base c coded =
     framed_nothing f f.blocks (passed_calls_nothing source.blocks mild resolve f.blocks fp shape) in
     let stand : All (IsOfItem (framed_of f)) (entries_of coded.layout) =
     subst (λ (g : FramedFunction). All (IsOfItem g) (entries_of coded.layout)) coded.of (items_stand coded.layout) in
-    let P : Entry → Type 0 = λ e. e.call ≡ false in
+    let P : EncodedInstruction → Type 0 = λ e. e.call ≡ false in
     subst (All P) (sym coded.entries) (All-weaker (IsOfItem (framed_of f)) P (entry_nothing (framed_of f) framed) (entries_of coded.layout) stand)

@@ -11,8 +11,8 @@ use Rattle.rv64_instr.specs.declared.operand.Operand.{Operand}
 use Rattle.mir_func.specs.declared.item.ItemKind.{ItemKind}
 use Rattle.mir_func.specs.declared.item.ItemKind.TheVariants.{Code, Mark, Phi}
 use Rattle.mir_func.specs.declared.position.Pos.{Pos}
-use Rattle.mir_func.specs.Graph.{Fetch, Here, Silent, Outside, Program, below, block_start}
-use Rattle.sem_mir.specs.Align.{Arrives, here, onward, First, Aligns, Since, Start, Same, After}
+use Rattle.mir_func.specs.Graph.{Fetch, Here, EndOfBlock, Outside, Program, below, block_start}
+use Rattle.sem_mir.specs.Align.{Arrives, here, onward, First, MatchesNext, Since, Start, Same, After}
 use Rattle.sem_mir.specs.Effects.{OnCore}
 use Rattle.sem_mir.specs.State.{Core, Reply, State, spelled, low_bytes}
 use Rattle.sem_mir.specs.Step.{Outcome, Falls, Goes, Gives, Traps, Asks, Breaks, read, address_at, is_fault, set_register, answered, slot_loaded, saved}
@@ -79,7 +79,7 @@ item_leaves g (Phi p k) c e = e
 
 fetch_leaves : (g : Program) (f : Fetch) (c : Core) → NoneLeft c → OnCore NoneLeft (do_fetch g f c)
 fetch_leaves g (Here i) c e = item_leaves g i.kind c e
-fetch_leaves g (Silent k n) c e = e
+fetch_leaves g (EndOfBlock k n) c e = e
 fetch_leaves g Outside c e = tt
 
 went_leaves : (enter : ℕ → ℕ) (p : Pos) (x : Outcome) (t : State) → OnCore NoneLeft x → moved enter p x ≡ Went t → NoneLeft t.core
@@ -122,7 +122,7 @@ item_answered (Phi p k) script e = tt
 
 step_answered : (f : Fetch) (script : List Reply) → script ≡ [] → IsStepAnswered f None script
 step_answered (Here i) script e = item_answered i.kind script e
-step_answered (Silent k n) script e = tt
+step_answered (EndOfBlock k n) script e = tt
 step_answered Outside script e = tt
 
 -- a step that goes on
@@ -201,7 +201,7 @@ halts_there src p made first k now r way below ne stops steps = λ s at.
       whole = omega (arith, below)
 
 -- what arrives is aligned
-since_then : (src : Program) (p : Pos) (since : Since) {s t : State} → (since ≡ After → ⊥) → Arrives src (First p) p s t → Aligns src (First p) p since s t
+since_then : (src : Program) (p : Pos) (since : Since) {s t : State} → (since ≡ After → ⊥) → Arrives src (First p) p s t → MatchesNext src (First p) p since s t
 since_then src p Start ne a = a
 since_then src p Same ne (here e) = inl (e, refl)
 since_then src p Same ne (onward {u = u} free go rest) = inr (free, (u, go, rest))
@@ -216,7 +216,7 @@ pub aligns_after : (src : Program) (p : Pos) (old k new : Concrete) → Steps sr
 aligns_after src p old k new steps arrive = λ s since at is.
     let g = steps_on src old k steps s at in
     let a = arrive g.0 g.2 in
-    (a.0, subst (λ (w : Since). Aligns src (First p) p w s a.0) (sym is) (g.0, g.1, a.1), a.2)
+    (a.0, subst (λ (w : Since). MatchesNext src (First p) p w s a.0) (sym is) (g.0, g.1, a.1), a.2)
 
 -- what misses is missed by the next alignment
 misses_since : (src : Program) (p : Pos) (since : Since) (s : State) → (since ≡ After → ⊥) → Misses src p MAX_SOURCE_STEPS s → MissesNext src p since s

@@ -5,14 +5,14 @@ use Rattle.mir_func.specs.declared.position.Pos.{Pos}
 use Rattle.mir_func.specs.declared.position.Origin.{Origin}
 use Rattle.mir_func.specs.declared.position.Origin.TheVariants.{Kept, Before}
 use Rattle.mir_func.specs.declared.variable.VarId.{VarId}
-use Rattle.sem_mir.specs.Align.{position_of, First, Aligns, Since, After, Same, waits_at, since_of}
+use Rattle.sem_mir.specs.Align.{position_of, First, MatchesNext, Since, After, Same, waits_at, since_of}
 use Rattle.sem_mir.specs.State.{State}
 use Rattle.sem_interpreter.specs.StandsFor.{Concrete, StandsFor as StandsForSource}
 use Rattle.dwarf_loclists.specs.declared.range.Range.{Range}
 use Rattle.sem_machine.specs.Headline.{AlignsWith}
 use Rattle.sem_machine.specs.Image.{Image}
 use Rattle.sem_machine.specs.Machine.{Machine}
-use Rattle.emit_code.specs.declared.code.Entry.{Entry}
+use Rattle.emit_code.specs.declared.code.EncodedInstruction.{EncodedInstruction}
 use Rattle.emit_code.specs.Laid.{LaidCode}
 use Rattle.sim_machine.specs.declared.ending.Stepped.TheVariants.{Went, Stopped}
 use Rattle.sim_machine.specs.declared.ending.Stop.TheVariants.{Returned, Left, BadWord}
@@ -22,7 +22,7 @@ use Rattle.sem_machine.specs.MachineStep.{Stepped, IsWell}
 use Rattle.sim_machine.specs.Shown.{ShowsCode, entry_at}
 use Rattle.sim_machine.proofs.Stepping.{LineAt, line_some, line_none}
 use Rattle.selftest_count.specs.declared.counts.Counts.{Counts}
-use Rattle.selftest_count.specs.declared.turn.Turn.TheVariants.{Went as TurnWent, Returned as TurnReturned}
+use Rattle.selftest_count.specs.declared.turn.StepOutcome.TheVariants.{Went as TurnWent, Returned as TurnReturned}
 use Rattle.selftest_count.specs.Apart.{MissesNext, IsApart, at_no_line, at_call, source_misses, stops_badly, GoesApart}
 use Rattle.selftest_count.specs.Counts.{read_at, known_in, counted, Counted, after_step, AreCounts, returns}
 use Rattle.selftest_count.specs.steps.Beside.{IsAt, IsSince, is_kept, Meets, MeetsNot, MissesNextSo, Beside, LeadsApart, Leads}
@@ -63,13 +63,13 @@ no_entry src c moved h k none = λ image m s since shows stands at moves.
     at_no_line (line_none c.framed c.entries image.lines m.counter shows.lines (ap (entry_at c.entries) stands.counter ∙ none))
 
 -- a call site
-pub call_entry : (src : Program) (c : LaidCode) (moved : Bool) (h : Hart) (k : Concrete) (e : Entry) → entry_at c.entries h.counter ≡ Some e →
+pub call_entry : (src : Program) (c : LaidCode) (moved : Bool) (h : Hart) (k : Concrete) (e : EncodedInstruction) → entry_at c.entries h.counter ≡ Some e →
     e.call ≡ true → MeetsNot src c moved h k
 call_entry src c moved h k e found call = λ image m s since shows stands at moves.
     at_call e (ap (entry_at c.entries) stands.counter ∙ found) call
 
 -- the source doesn't come to the line
-pub misses_entry : (src : Program) (c : LaidCode) (moved : Bool) (h : Hart) (k : Concrete) (e : Entry) → entry_at c.entries h.counter ≡ Some e →
+pub misses_entry : (src : Program) (c : LaidCode) (moved : Bool) (h : Hart) (k : Concrete) (e : EncodedInstruction) → entry_at c.entries h.counter ≡ Some e →
     MissesNextSo src moved (position_of e.origin) k → MeetsNot src c moved h k
 misses_entry src c moved h k e found missed = λ image m s since shows stands at moves.
     let l = line_some c.framed c.entries image.lines m.counter e shows.lines (ap (entry_at c.entries) stands.counter ∙ found) in
@@ -77,7 +77,7 @@ misses_entry src c moved h k e found missed = λ image m s since shows stands at
     source_misses l.line l.stands (subst (λ (p : Pos). MissesNext src p since s) (sym same) (missed s since at moves))
 
 module _ (src : Program) (c : LaidCode) (lists : List (List Range)) (parts : List VarId) (n n' : Counts) (h h' : Hart) (k k' : Concrete) (moved moved' : Bool)
-    (e : Entry) (reads known : ℕ) (meets : Meets src c moved h k k' e) (read : reads ≡ read_at lists h.counter)
+    (e : EncodedInstruction) (reads known : ℕ) (meets : Meets src c moved h k k' e) (read : reads ≡ read_at lists h.counter)
     (knows : (s : State) → StandsForSource k' s → known ≡ known_in parts s) (counts : n' ≡ more n reads known) (kept : moved' ≡ is_kept e.origin) where
   -- where both meet
   record Met (image : Image) (m0 : Machine) (s0 : State) (b : Beside src image lists parts m0 s0 n h k moved) : Type 0 where
@@ -99,7 +99,7 @@ module _ (src : Program) (c : LaidCode) (lists : List (List Range)) (parts : Lis
         line = l;
         no_call = ap (found_call c.framed) here ∙ meets.no_call;
         to = a.0;
-        aligned = subst (λ (p : Pos). Aligns src (First p) p b.since b.state a.0) (sym same) a.1;
+        aligned = subst (λ (p : Pos). MatchesNext src (First p) p b.since b.state a.0) (sym same) a.1;
         at = a.2;
         counted_so = counts ∙ ap (λ (r : ℕ). more n r known) reads_there
             ∙ ap (λ (x : ℕ). more n (read_at lists b.machine.counter) x) (knows a.0 a.2.stands);

@@ -10,7 +10,7 @@ use Rattle.dwarf_loclists.specs.declared.range.Range.{Range}
 use Rattle.sem_machine.specs.Image.{CodeLine, Image, line_at}
 use Rattle.sem_machine.specs.Machine.{Machine}
 use Rattle.sem_machine.specs.MachineStep.{machine_step, IsWell}
-use Rattle.emit_code.specs.declared.code.Entry.{Entry}
+use Rattle.emit_code.specs.declared.code.EncodedInstruction.{EncodedInstruction}
 use Rattle.emit_code.specs.Laid.{LaidCode}
 use Rattle.sim_machine.specs.Shown.{entry_at}
 use Rattle.selftest_count.specs.declared.counts.Counts.{Counts}
@@ -40,7 +40,7 @@ MissesNext src p After s = Halts src s ⊎ ((u : State) × (step src s ≡ Went 
 -- doesn't come to the line's origin, or the machine's next step leaves the code or meets a word that encodes no machine operation.
 pub data IsApart (src : Program) (image : Image) (c : LaidCode) (m : Machine) (s : State) (since : Since) : Type 0 where
   at_no_line : line_at image.lines m.counter ≡ None → IsApart src image c m s since
-  at_call : (e : Entry) → entry_at c.entries m.counter ≡ Some e → e.call ≡ true → IsApart src image c m s since
+  at_call : (e : EncodedInstruction) → entry_at c.entries m.counter ≡ Some e → e.call ≡ true → IsApart src image c m s since
   source_misses : (l : CodeLine) → line_at image.lines m.counter ≡ Some l → MissesNext src (position_of l.origin) since s → IsApart src image c m s since
   stops_badly : (IsWell (machine_step image m) → ⊥) → IsApart src image c m s since
 

@@ -10,7 +10,7 @@ ghost use Rattle.selftest_count.specs.steps.Beside.{CountsFrom, ApartFrom};
 ghost use Rattle.selftest_count.specs.steps.Bounds.{CanBeRead};
 
 use crate::counts::Counts;
-use crate::turn::{Turn, make_turn};
+use crate::turn::{StepOutcome, make_turn};
 use dwarf_loclists::range::{RangeLists, Ranges};
 use emit_code::code::Code;
 use mir_func::func::Func;
@@ -18,7 +18,7 @@ use mir_func::variable::VarId;
 use mir_substitution::substitutions::Substitutions;
 use rv64_instr::start::Values;
 use sem_interpreter::state::SourceState;
-use sim_machine::machine::Machine;
+use sim_machine::machine::MachineSimulator;
 use sim_start::answers::ValueAnswers;
 use sim_start::start::start_with;
 use std::alloc::{AllocError, Global};
@@ -47,7 +47,7 @@ pub fn count_run(
     let answers = ValueAnswers {
         values: Values::new(alloc),
     };
-    let mut machine = Machine::new(alloc, code, &start, answers)?;
+    let mut machine = MachineSimulator::new(alloc, code, &start, answers)?;
     let mut state = SourceState::new(alloc, source, &start)?;
     count_steps(
         &mut machine,
@@ -62,7 +62,7 @@ pub fn count_run(
 
 /// Makes at most `limit` steps of both runs from their current states, and counts them.
 fn count_steps(
-    machine: &mut Machine<ValueAnswers>,
+    machine: &mut MachineSimulator<ValueAnswers>,
     state: &mut SourceState,
     source: &Func,
     subs: &Substitutions,
@@ -91,9 +91,9 @@ fn count_steps(
             lists,
             parts,
         )? {
-            Turn::Went => {}
-            Turn::Returned => return Ok(Some(counts)),
-            Turn::Apart => return Ok(None),
+            StepOutcome::Went => {}
+            StepOutcome::Returned => return Ok(Some(counts)),
+            StepOutcome::Apart => return Ok(None),
         }
     }
     Ok(Some(counts))

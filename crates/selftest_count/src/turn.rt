@@ -11,7 +11,7 @@ use crate::known::known;
 use crate::read::reads;
 use crate::source::align;
 use dwarf_loclists::range::Ranges;
-use emit_code::code::Entry;
+use emit_code::code::EncodedInstruction;
 use mir_func::func::Func;
 use mir_func::position::Origin;
 use mir_func::variable::VarId;
@@ -19,13 +19,13 @@ use mir_substitution::substitutions::Substitutions;
 use sem_interpreter::state::SourceState;
 use sem_mir::align::position_of;
 use sim_machine::ending::{Stepped, Stop};
-use sim_machine::machine::Machine;
+use sim_machine::machine::MachineSimulator;
 use sim_start::answers::ValueAnswers;
 use std::alloc::AllocError;
 
 /// The result of a step of both runs.
 #[derive(Clone, Copy, Debug, PartialEq, Eq)]
-pub enum Turn {
+pub enum StepOutcome {
     /// Both continue.
     Went,
     /// The machine returns.
@@ -36,7 +36,7 @@ pub enum Turn {
 
 /// Makes one step of both runs, and counts it.
 pub fn make_turn(
-    machine: &mut Machine<ValueAnswers>,
+    machine: &mut MachineSimulator<ValueAnswers>,
     state: &mut SourceState,
     moved: &mut bool,
     counts: &mut Counts,
@@ -44,7 +44,7 @@ pub fn make_turn(
     subs: &Substitutions,
     lists: &[Ranges],
     parts: &[VarId],
-) -> Result<Turn, AllocError>
+) -> Result<StepOutcome, AllocError>
     requires counted { AreCounted f.now.blocks }
     requires at { IsPosition f.now.blocks state.old.pos }
     requires readable { All CanBeRead lists.now }
@@ -53,20 +53,20 @@ pub fn make_turn(
     ensures code { machine.new.code ≡ machine.old.code }
     ensures at { IsPosition f.now.blocks state.new.pos }
     ensures bounded { AreBounded counts.new }
-    ensures steps { IfOk result (λ t. t ≡ Turn.Went → counts.new.steps ≡ counts.old.steps + 1) }
+    ensures steps { IfOk result (λ t. t ≡ StepOutcome.Went → counts.new.steps ≡ counts.old.steps + 1) }
     ensures leads { IfOk result (λ t. Leads (source_of f.now.blocks subs.now) machine.old.code lists.now parts.now t
         counts.old counts.new machine.old.hart machine.new.hart state.old state.new moved.old moved.new) }
 {
     match meet(machine, state, f, subs, *moved)? {
-        None => Ok(Turn::Apart),
+        None => Ok(StepOutcome::Apart),
         Some(entry) => {
             counts.count(reads(lists, machine.counter()), known(state, parts));
             *moved = is_kept(&entry.origin);
             match machine.step()? {
-                Stepped::Went => Ok(Turn::Went),
-                Stepped::Stopped(Stop::Returned) => Ok(Turn::Returned),
-                Stepped::Stopped(Stop::Left) => Ok(Turn::Apart),
-                Stepped::Stopped(Stop::BadWord(_)) => Ok(Turn::Apart),
+                Stepped::Went => Ok(StepOutcome::Went),
+                Stepped::Stopped(Stop::Returned) => Ok(StepOutcome::Returned),
+                Stepped::Stopped(Stop::Left) => Ok(StepOutcome::Apart),
+                Stepped::Stopped(Stop::BadWord(_)) => Ok(StepOutcome::Apart),
             }
         }
     }
@@ -74,12 +74,12 @@ pub fn make_turn(
 
 /// The entry at the machine's program counter, if it isn't a call site and the source comes to its origin.
 fn meet(
-    machine: &Machine<ValueAnswers>,
+    machine: &MachineSimulator<ValueAnswers>,
     state: &mut SourceState,
     f: &Func,
     subs: &Substitutions,
     moved: bool,
-) -> Result<Option<Entry>, AllocError>
+) -> Result<Option<EncodedInstruction>, AllocError>
     requires counted { AreCounted f.now.blocks }
     requires at { IsPosition f.now.blocks state.old.pos }
     ensures meets { IfOk result (λ o. IfSome o (λ e. Meets (source_of f.now.blocks subs.now) machine.now.code moved

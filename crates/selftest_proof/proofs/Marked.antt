@@ -14,10 +14,10 @@ use Rattle.mir_func.specs.declared.item.ItemKind.{ItemKind}
 use Rattle.mir_func.specs.declared.item.ItemKind.TheVariants.{Code, Mark, Phi}
 use Rattle.mir_func.specs.declared.position.Pos.{Pos}
 use Rattle.mir_func.specs.declared.variable.VarId.{VarId}
-use Rattle.mir_func.specs.Graph.{Fetch, Here, Silent, Outside, Program, end_of, front, fetch_in, from_block, program_of}
+use Rattle.mir_func.specs.Graph.{Fetch, Here, EndOfBlock, Outside, Program, end_of, front, fetch_in, from_block, program_of}
 use Rattle.mir_func.specs.Sound.{AllItems}
 use Rattle.mir_func.specs.Variables.{is_same, overlaps}
-use Rattle.sem_mir.specs.Align.{Arrives, here, onward, First, Aligns, Since, Start, Same, After}
+use Rattle.sem_mir.specs.Align.{Arrives, here, onward, First, MatchesNext, Since, Start, Same, After}
 use Rattle.sem_mir.specs.Effects.{OnCore}
 use Rattle.sem_mir.specs.State.{Core, Reply, State, assigned, writes_frame}
 use Rattle.sem_mir.specs.Step.{Went, Outcome, Falls, Goes, Gives, Traps, Asks, Breaks, moved, read, address_at, is_fault, answered, slot_loaded, does}
@@ -126,7 +126,7 @@ front_item Q (x ∷ items) k bs i e h = let same : x ≡ i = cc in subst Q same 
 item_in : (Q : Item → Type 0) (bs : List Block) (n : ℕ) (i : Item) → fetch_in bs n ≡ Here i → AllItems Q bs → Q i
 item_in Q [] n i e h = absurd cc
 item_in Q (b ∷ bs) n i e h =
-    front_item Q (drop n b.items) b.silent bs i e (All-drop Q n b.items (All-head (λ (x : Block). All Q x.items) b bs h))
+    front_item Q (drop n b.items) b.source_end bs i e (All-drop Q n b.items (All-head (λ (x : Block). All Q x.items) b bs h))
 
 -- what holds of all items holds of the one at a position
 pub fetched : (Q : Item → Type 0) (bs : List Block) (b n : ℕ) (i : Item) → fetch_in (from_block bs b) n ≡ Here i → AllItems Q bs → Q i
@@ -141,7 +141,7 @@ module _ (blocks : List Block) (resolve : OperandPair → Option OperandPair) (p
 
   fetch_keeps : (p : Pos) (x : Fetch) (c : Core) → src.fetch p ≡ x → MarksAmong parts c → OnCore (MarksAmong parts) (do_fetch src x c)
   fetch_keeps p (Here i) c e h = item_keeps parts src i.kind c (fetched (λ j. MarksPartOf parts j.kind) blocks p.block p.item i e marked) h
-  fetch_keeps p (Silent k n) c e h = h
+  fetch_keeps p (EndOfBlock k n) c e h = h
   fetch_keeps p Outside c e h = tt
 
   step_among : (s t : State) → step src s ≡ Went t → AreAmong parts s → AreAmong parts t
@@ -152,7 +152,7 @@ module _ (blocks : List Block) (resolve : OperandPair → Option OperandPair) (p
   arrives_among A p (here e) h = h
   arrives_among A p (onward {s = s} {u = u} ne go rest) h = arrives_among A p rest (step_among s u go h)
 
-  pub aligns_among : (p : Pos) (since : Since) (s t : State) → Aligns src (First p) p since s t → AreAmong parts s → AreAmong parts t
+  pub aligns_among : (p : Pos) (since : Since) (s t : State) → MatchesNext src (First p) p since s t → AreAmong parts s → AreAmong parts t
   aligns_among p Start s t a h = arrives_among (First p) p a h
   aligns_among p Same s t (inl a) h = subst (AreAmong parts) a.1 h
   aligns_among p Same s t (inr (ne, (u, go, rest))) h = arrives_among (First p) p rest (step_among s u go h)

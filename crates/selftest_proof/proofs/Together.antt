@@ -8,7 +8,7 @@ use Rattle.mir_func.specs.declared.position.Pos.{Pos}
 use Rattle.mir_func.specs.declared.variable.VarId.{VarId}
 use Rattle.mir_func.specs.Function.{Function}
 use Rattle.mir_func.specs.Graph.{Program, program_of}
-use Rattle.sem_mir.specs.Align.{position_of, Arrives, here, onward, First, Aligns, Fails, fails_here, fails_on, FailsBefore, Since, Start, Same, After}
+use Rattle.sem_mir.specs.Align.{position_of, Arrives, here, onward, First, MatchesNext, Fails, fails_here, fails_on, FailsBefore, Since, Start, Same, After}
 use Rattle.sem_mir.specs.State.{State}
 use Rattle.sem_mir.specs.Step.{Next, Went, Faulted, after, step, run}
 use Rattle.sem_mir.proofs.Alignment.{went_once, arrives_in}
@@ -18,7 +18,7 @@ use Rattle.sem_machine.specs.Headline.{Headline, StartsAt, MachineAlong, at_star
 use Rattle.sem_machine.specs.Image.{CodeLine, Image}
 use Rattle.sem_machine.specs.Machine.{Machine, machine_start}
 use Rattle.sem_machine.specs.MachineStep.{machine_step, does_at, Comes, there, steps, IsWell, Leaves}
-use Rattle.emit_code.specs.declared.code.Entry.{Entry}
+use Rattle.emit_code.specs.declared.code.EncodedInstruction.{EncodedInstruction}
 use Rattle.emit_code.specs.Laid.{LaidCode}
 use Rattle.sim_machine.specs.Shown.{entry_at}
 use Rattle.selftest_count.specs.declared.counts.Counts.{Counts}
@@ -31,10 +31,11 @@ use Rattle.selftest_proof.specs.Together.{HasNoFault, HasNoCall, RunsLongFrom, R
 use Rattle.selftest_proof.proofs.Start.{starts_at, begins_run}
 
 -- no entry of the code is a call
-no_call_at : (es : List Entry) (a : ℕ) (e : Entry) → All (λ (x : Entry). x.call ≡ false) es → entry_at es a ≡ Some e → e.call ≡ false
+no_call_at : (es : List EncodedInstruction) (a : ℕ) (e : EncodedInstruction) → All (λ (x : EncodedInstruction). x.call ≡ false) es → entry_at es a ≡ Some e →
+    e.call ≡ false
 no_call_at [] a e h f = absurd cc
 no_call_at (x ∷ es) a e h f = by_test (nat_eq x.address a) f (λ later. no_call_at es a e (All-tail P x es h) later) where
-  P : Entry → Type 0
+  P : EncodedInstruction → Type 0
   P y = y.call ≡ false
 
   by_test : (t : Bool) → cond t (Some x) (entry_at es a) ≡ Some e → (entry_at es a ≡ Some e → e.call ≡ false) → e.call ≡ false
@@ -57,7 +58,7 @@ module _ (src : Program) where
   reaches_step : (s t u : State) → step src s ≡ Went u → Reaches u t → Reaches s t
   reaches_step s t u go a = (suc a.0, run_steps src a.0 s u go ∙ a.1)
 
-  aligns_reaches : (p : Pos) (since : Since) (s t : State) → Aligns src (First p) p since s t → Reaches s t
+  aligns_reaches : (p : Pos) (since : Since) (s t : State) → MatchesNext src (First p) p since s t → Reaches s t
   aligns_reaches p Start s t a = arrives_in src (First p) p a
   aligns_reaches p Same s t (inl a) = (0, ap Went a.1)
   aligns_reaches p Same s t (inr (ne, (u, go, rest))) = reaches_step s t u go (arrives_in src (First p) p rest)
@@ -104,7 +105,7 @@ module _ (src : Program) where
   enough_there : MAX_SOURCE_STEPS ≤ MAX_SOURCE_STEPS
   enough_there = lit≤ tt
 
-  misses_next_long : (p : Pos) (since : Since) (s t : State) → MissesNext src p since s → Aligns src (First p) p since s t → MakesMany s
+  misses_next_long : (p : Pos) (since : Since) (s t : State) → MissesNext src p since s → MatchesNext src (First p) p since s t → MakesMany s
   misses_next_long p Start s t m a = many p MAX_SOURCE_STEPS s t enough_there m a
   misses_next_long p Same s t m (inl a) = many p MAX_SOURCE_STEPS s s enough_there m (here a.0)
   misses_next_long p Same s t m (inr (ne, (u, go, rest))) = many p MAX_SOURCE_STEPS s t enough_there m (onward ne go rest)

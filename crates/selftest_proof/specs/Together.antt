@@ -10,7 +10,7 @@ use Rattle.sem_mir.specs.Step.{Went, Faulted, run}
 use Rattle.dwarf_loclists.specs.declared.range.Range.{Range}
 use Rattle.sem_machine.specs.Headline.{Headline}
 use Rattle.sem_machine.specs.Image.{Image}
-use Rattle.emit_code.specs.declared.code.Entry.{Entry}
+use Rattle.emit_code.specs.declared.code.EncodedInstruction.{EncodedInstruction}
 use Rattle.emit_code.specs.Laid.{LaidCode}
 use Rattle.sim_machine.specs.Shown.{ShowsCode}
 use Rattle.selftest_count.specs.Apart.{MAX_SOURCE_STEPS}
@@ -22,7 +22,7 @@ HasNoFault source resolve = (s : State) → BeginsSource source s → (n : ℕ) 
 
 -- the code has no call sites
 abbrev pub HasNoCall : LaidCode → Type 0
-HasNoCall c = All (λ (e : Entry). e.call ≡ false) c.entries
+HasNoCall c = All (λ (e : EncodedInstruction). e.call ≡ false) c.entries
 
 -- the source's run from a state makes at least 2^64 - 1 steps
 pub record RunsLongFrom (source : Function) (resolve : OperandPair → Option OperandPair) (s : State) : Type 0 where

@@ -12,7 +12,7 @@ use Rattle.sem_mir.specs.Effects.{held_in, EndAlike, FallsInto, SameWorld, AreHe
 use Rattle.sem_mir.proofs.Effects.{told_by}
 use Rattle.sem_mir.proofs.Outcomes.{alike_weaker}
 use Rattle.sem_mir.proofs.Parts.{effects_hold}
-use Rattle.sem_agreement.specs.Alike.{HeldAlike, OrDefined, ButDefined}
+use Rattle.sem_agreement.specs.Agreement.{AgreeOn, GenDefs, KillDefs}
 use Rattle.sem_agreement.proofs.Outcomes.{TellsAs, act_tells, falls_both, falls_weaker, on_all, on_given, held_told, held_numbered}
 
 -- ---- the world
@@ -36,19 +36,19 @@ world_on c d e h k = record {
 
 -- ---- cores held alike
 
-pub held_itself : (Held : Place → Type 0) (c : Core) → HeldAlike Held c c
+pub held_itself : (Held : Place → Type 0) (c : Core) → AgreeOn Held c c
 held_itself Held c = record { world = same_world c; places = λ x h. refl }
 
-pub held_on : (Held : Place → Type 0) (c d e : Core) → HeldAlike Held c d → HeldAlike Held d e → HeldAlike Held c e
+pub held_on : (Held : Place → Type 0) (c d e : Core) → AgreeOn Held c d → AgreeOn Held d e → AgreeOn Held c e
 held_on Held c d e h k = record { world = world_on c d e h.world k.world; places = λ x p. h.places x p ∙ k.places x p }
 
 -- fewer places
-pub held_fewer : (Held Less : Place → Type 0) → ((x : Place) → Less x → Held x) → (c d : Core) → HeldAlike Held c d → HeldAlike Less c d
+pub held_fewer : (Held Less : Place → Type 0) → ((x : Place) → Less x → Held x) → (c d : Core) → AgreeOn Held c d → AgreeOn Less c d
 held_fewer Held Less f c d h = record { world = h.world; places = λ x p. h.places x (f x p) }
 
 -- what is told is no matter
-pub held_by : (Held : Place → Type 0) (c d : Core) (p q : ℕ → ℕ → Option ℕ) (m n : List (VarId × Option ℕ)) → HeldAlike Held c d →
-    HeldAlike Held (told_by p m c) (told_by q n d)
+pub held_by : (Held : Place → Type 0) (c d : Core) (p q : ℕ → ℕ → Option ℕ) (m n : List (VarId × Option ℕ)) → AgreeOn Held c d →
+    AgreeOn Held (told_by p m c) (told_by q n d)
 held_by Held c d p q m n h = record {
   world = record {
     entry = h.world.entry;
@@ -63,7 +63,7 @@ held_by Held c d p q m n h = record {
 
 -- nor are numbers
 pub held_number : (Held : Place → Type 0) (sp sp' call call' : Bool) (n n' : Option ℕ) (os os' : List Operand) (c d : Core) →
-    HeldAlike Held c d → HeldAlike Held (numbered sp call n os c) (numbered sp' call' n' os' d)
+    AgreeOn Held c d → AgreeOn Held (numbered sp call n os c) (numbered sp' call' n' os' d)
 held_number Held sp sp' call call' n n' os os' c d h = record {
   world = world_on _ _ _ (world_back _ _ (kept sp call n os c)) (world_on _ _ _ h.world (kept sp' call' n' os' d));
   places = λ x k. held_numbered x sp call n os c ∙ h.places x k ∙ sym (held_numbered x sp' call' n' os' d);
@@ -75,12 +75,12 @@ held_number Held sp sp' call call' n n' os os' c d h = record {
 -- ---- code
 
 -- code of both whose uses are held alike does alike, and then what it defines is held alike too
-pub act_held : (Held : Place → Type 0) (i : Instruction) (c d : Core) → HeldAlike Held c d → ((x : Place) → uses_of i x ≡ true → Held x) →
-    EndAlike (HeldAlike (OrDefined Held i)) (act (row_of i) c) (act (row_of i) d)
+pub act_held : (Held : Place → Type 0) (i : Instruction) (c d : Core) → AgreeOn Held c d → ((x : Place) → uses_of i x ≡ true → Held x) →
+    EndAlike (AgreeOn (GenDefs Held i)) (act (row_of i) c) (act (row_of i) d)
 act_held Held i c d h uses =
-    alike_weaker (AreHeldAlike i c d) (HeldAlike (OrDefined Held i)) by_core (act (row_of i) c) (act (row_of i) d)
+    alike_weaker (AreHeldAlike i c d) (AgreeOn (GenDefs Held i)) by_core (act (row_of i) c) (act (row_of i) d)
     (effects_hold.uses i c d h.world (λ x u. h.places x (uses x u))) where
-      by_core : (c' d' : Core) → AreHeldAlike i c d c' d' → HeldAlike (OrDefined Held i) c' d'
+      by_core : (c' d' : Core) → AreHeldAlike i c d c' d' → AgreeOn (GenDefs Held i) c' d'
       by_core c' d' r = record {
         world = r.0;
         places = λ x k. r.1 x (elim k as (λ _. (defines_of (row_of i) x ≡ true) ⊎ (held_in x c ≡ held_in x d)) [
@@ -101,13 +101,13 @@ act_stays i c pure = falls_weaker _ (StaysBut i c) (λ e h. (h.0.0, h.0.1, h.1))
     (act_tells (row_of i) c))
 
 -- so for the first, and for the second
-pub act_first : (Held : Place → Type 0) (i : Instruction) (c d : Core) → is_pure (row_of i) ≡ true → HeldAlike Held c d →
-    FallsInto (λ e. HeldAlike (ButDefined Held i) e d × TellsAs c e) (act (row_of i) c)
-act_first Held i c d pure h = falls_weaker (StaysBut i c) (λ e. HeldAlike (ButDefined Held i) e d × TellsAs c e)
+pub act_first : (Held : Place → Type 0) (i : Instruction) (c d : Core) → is_pure (row_of i) ≡ true → AgreeOn Held c d →
+    FallsInto (λ e. AgreeOn (KillDefs Held i) e d × TellsAs c e) (act (row_of i) c)
+act_first Held i c d pure h = falls_weaker (StaysBut i c) (λ e. AgreeOn (KillDefs Held i) e d × TellsAs c e)
     (λ e s. (record { world = world_on e c d (world_back c e s.0) h.world; places = λ x p. s.1 x p.0 ∙ h.places x p.1 }, s.2)) (act (row_of i) c)
     (act_stays i c pure)
 
-pub act_second : (Held : Place → Type 0) (i : Instruction) (c d : Core) → is_pure (row_of i) ≡ true → HeldAlike Held c d →
-    FallsInto (λ e. HeldAlike (ButDefined Held i) c e × TellsAs d e) (act (row_of i) d)
-act_second Held i c d pure h = falls_weaker (StaysBut i d) (λ e. HeldAlike (ButDefined Held i) c e × TellsAs d e)
+pub act_second : (Held : Place → Type 0) (i : Instruction) (c d : Core) → is_pure (row_of i) ≡ true → AgreeOn Held c d →
+    FallsInto (λ e. AgreeOn (KillDefs Held i) c e × TellsAs d e) (act (row_of i) d)
+act_second Held i c d pure h = falls_weaker (StaysBut i d) (λ e. AgreeOn (KillDefs Held i) c e × TellsAs d e)
     (λ e s. (record { world = world_on c d e h.world s.0; places = λ x p. h.places x p.1 ∙ sym (s.1 x p.0) }, s.2)) (act (row_of i) d) (act_stays i d pure)

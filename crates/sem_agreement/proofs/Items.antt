@@ -15,7 +15,7 @@ use Rattle.sem_mir.specs.State.{Core, updated}
 use Rattle.sem_mir.specs.Step.{act, numbered, seen, defined, place_value, mark_value, part_of, do_item}
 use Rattle.sem_mir.specs.Effects.{held_in, EndAlike, FallsInto}
 use Rattle.sem_mir.proofs.Told.{Below}
-use Rattle.sem_agreement.specs.Alike.{HeldAlike, TellsNoMore, Alike, OrDefined, ButDefined, HeldAfter, NumbersHeld, ValueHeld, PlaceHeld, Depends}
+use Rattle.sem_agreement.specs.Agreement.{AgreeOn, DebugLessDef, Alike, GenDefs, KillDefs, HeldAfter, NumbersHeld, ValueHeld, PlaceHeld, Depends}
 use Rattle.sem_agreement.specs.Laws.{ItemsAreAlike}
 use Rattle.sem_agreement.proofs.Outcomes.{TellsAs, code_alike, falls_with}
 use Rattle.sem_agreement.proofs.Held.{held_by, held_number, act_held, act_first, act_second}
@@ -26,7 +26,7 @@ module _ (Held : Place → Type 0) (Free : ℕ → Type 0) where
   -- ---- code
 
   -- the registers that a number sees
-  numbers_seen : (i : Instruction) (n : Option ℕ) → NumbersHeld Held i n → (c d : Core) → HeldAlike (OrDefined Held i) c d → (k o r : ℕ) → n ≡ Some k →
+  numbers_seen : (i : Instruction) (n : Option ℕ) → NumbersHeld Held i n → (c d : Core) → AgreeOn (GenDefs Held i) c d → (k o r : ℕ) → n ≡ Some k →
       defined (is_call (row_of i)) (slice_get i.operands o) ≡ Some r → held_in (Register r) c ≡ held_in (Register r) d
   numbers_seen i None has c d h k o r e at = cc
   numbers_seen i (Some m) has c d h k o r e at = h.places (Register r) (has o r at)
@@ -34,12 +34,12 @@ module _ (Held : Place → Type 0) (Free : ℕ → Type 0) where
   -- code of both
   pub code_both : (f g : Program) (i : Instruction) (n : Option ℕ) (c d : Core) → f.sees_pointer ≡ g.sees_pointer → Alike Held Free c d →
       ((x : Place) → uses_of i x ≡ true → Held x) → NumbersHeld Held i n →
-      EndAlike (Alike (OrDefined Held i) Free) (do_item f (Code i n) c) (do_item g (Code i n) d)
+      EndAlike (Alike (GenDefs Held i) Free) (do_item f (Code i n) c) (do_item g (Code i n) d)
   code_both f g i n c d sees h uses numbers =
-      code_alike f g i i n n c d (HeldAlike (OrDefined Held i)) (Alike (OrDefined Held i) Free) (act_held Held i c d h.held uses)
+      code_alike f g i i n n c d (AgreeOn (GenDefs Held i)) (Alike (GenDefs Held i) Free) (act_held Held i c d h.held uses)
       (λ c' d' r same same'. record {
-        held = held_number (OrDefined Held i) f.sees_pointer g.sees_pointer (is_call (row_of i)) (is_call (row_of i)) n n i.operands i.operands c' d' r;
-        told = subst (λ (sp : Bool). TellsNoMore Free (numbered f.sees_pointer (is_call (row_of i)) n i.operands c')
+        held = held_number (GenDefs Held i) f.sees_pointer g.sees_pointer (is_call (row_of i)) (is_call (row_of i)) n n i.operands i.operands c' d' r;
+        told = subst (λ (sp : Bool). DebugLessDef Free (numbered f.sees_pointer (is_call (row_of i)) n i.operands c')
             (numbered sp (is_call (row_of i)) n i.operands d')) sees
             (numbers_both Free f.sees_pointer (is_call (row_of i)) n i.operands c' d' (tells_of Free c d c' d' same same' h.told)
             (numbers_seen i n numbers c' d' r));
@@ -47,22 +47,22 @@ module _ (Held : Place → Type 0) (Free : ℕ → Type 0) where
 
   -- pure code of the first alone, and of the second alone
   pub code_first : (f : Program) (i : Instruction) (n : Option ℕ) (c d : Core) → is_pure (row_of i) ≡ true → Alike Held Free c d →
-      ((k : ℕ) → n ≡ Some k → (Free k → ⊥) → (o : ℕ) → d.pairs k o ≡ None) → FallsInto (λ e. Alike (ButDefined Held i) Free e d) (do_item f (Code i n) c)
+      ((k : ℕ) → n ≡ Some k → (Free k → ⊥) → (o : ℕ) → d.pairs k o ≡ None) → FallsInto (λ e. Alike (KillDefs Held i) Free e d) (do_item f (Code i n) c)
   code_first f i n c d pure h none =
-      falls_with (λ e. HeldAlike (ButDefined Held i) e d × TellsAs c e) (λ e. Alike (ButDefined Held i) Free e d)
+      falls_with (λ e. AgreeOn (KillDefs Held i) e d × TellsAs c e) (λ e. Alike (KillDefs Held i) Free e d)
       (numbered f.sees_pointer (is_call (row_of i)) n i.operands)
       (λ e r. record {
-        held = held_number (ButDefined Held i) f.sees_pointer false (is_call (row_of i)) false n None i.operands i.operands e d r.0;
+        held = held_number (KillDefs Held i) f.sees_pointer false (is_call (row_of i)) false n None i.operands i.operands e d r.0;
         told = numbers_first Free f.sees_pointer (is_call (row_of i)) n i.operands e d (tells_of Free c d e d r.1 (refl, refl) h.told) none;
       }) (act (row_of i) c) (act_first Held i c d pure h.held)
 
   pub code_second : (g : Program) (i : Instruction) (n : Option ℕ) (c d : Core) → is_pure (row_of i) ≡ true → Alike Held Free c d →
-      ((k : ℕ) → n ≡ Some k → Free k) → FallsInto (λ e. Alike (ButDefined Held i) Free c e) (do_item g (Code i n) d)
+      ((k : ℕ) → n ≡ Some k → Free k) → FallsInto (λ e. Alike (KillDefs Held i) Free c e) (do_item g (Code i n) d)
   code_second g i n c d pure h free =
-      falls_with (λ e. HeldAlike (ButDefined Held i) c e × TellsAs d e) (λ e. Alike (ButDefined Held i) Free c e)
+      falls_with (λ e. AgreeOn (KillDefs Held i) c e × TellsAs d e) (λ e. Alike (KillDefs Held i) Free c e)
       (numbered g.sees_pointer (is_call (row_of i)) n i.operands)
       (λ e r. record {
-        held = held_number (ButDefined Held i) false g.sees_pointer false (is_call (row_of i)) None n i.operands i.operands c e r.0;
+        held = held_number (KillDefs Held i) false g.sees_pointer false (is_call (row_of i)) None n i.operands i.operands c e r.0;
         told = numbers_second Free g.sees_pointer (is_call (row_of i)) n i.operands c e (tells_of Free c d c e (refl, refl) r.1 h.told) free;
       }) (act (row_of i) d) (act_second Held i c d pure h.held)
 
@@ -87,7 +87,7 @@ module _ (Held : Place → Type 0) (Free : ℕ → Type 0) where
     told = record { pairs = h.told.pairs; marks = marks_second Free c d h.told v };
   }
 
-  pub value_less : (f g : Program) (m : MarkValue) (c d : Core) → f.sees_pointer ≡ g.sees_pointer → HeldAlike Held c d → ValueHeld f g Held m c d →
+  pub value_less : (f g : Program) (m : MarkValue) (c d : Core) → f.sees_pointer ≡ g.sees_pointer → AgreeOn Held c d → ValueHeld f g Held m c d →
       Below (mark_value f m c) (mark_value g m d)
   value_less f g Nothing c d sees h has v e = e
   value_less f g (Constant z) c d sees h has v e = e
@@ -123,7 +123,7 @@ module _ (Held : Place → Type 0) (Free : ℕ → Type 0) where
     told = record { pairs = pairs_second Free c d h.told n _ (λ o far. absurd (far free)); marks = h.told.marks };
   }
 
-  pub place_same : (p : Option Place) (c d : Core) → HeldAlike Held c d → PlaceHeld Held p → place_value p c ≡ place_value p d
+  pub place_same : (p : Option Place) (c d : Core) → AgreeOn Held c d → PlaceHeld Held p → place_value p c ≡ place_value p d
   place_same None c d h has = refl
   place_same (Some (Register r)) c d h has = seen_held false r c d (h.places (Register r) has)
   place_same (Some (Slot n)) c d h has = h.places (Slot n) has

@@ -6,28 +6,28 @@ use Rattle.mir_func.specs.Variables.{is_same, overlaps}
 use Rattle.sem_mir.specs.State.{Core, updated, assigned, content}
 use Rattle.sem_mir.specs.Step.{seen, defined, given, numbered, part_of}
 use Rattle.sem_mir.proofs.Told.{Below}
-use Rattle.sem_agreement.specs.Alike.{TellsNoMore}
+use Rattle.sem_agreement.specs.Agreement.{DebugLessDef}
 use Rattle.sem_agreement.proofs.Outcomes.{TellsAs}
 
-pub tells_itself : (Free : ℕ → Type 0) (c : Core) → TellsNoMore Free c c
+pub tells_itself : (Free : ℕ → Type 0) (c : Core) → DebugLessDef Free c c
 tells_itself Free c = record { pairs = λ k o far v e. e; marks = λ w v e. e }
 
-pub tells_on : (Free : ℕ → Type 0) (c d e : Core) → TellsNoMore Free c d → TellsNoMore Free d e → TellsNoMore Free c e
+pub tells_on : (Free : ℕ → Type 0) (c d e : Core) → DebugLessDef Free c d → DebugLessDef Free d e → DebugLessDef Free c e
 tells_on Free c d e h k =
     record { pairs = λ n o far v p. h.pairs n o far v (k.pairs n o far v p); marks = λ w v p. h.marks w v (k.marks w v p) }
 
 -- more numbers are free
-pub tells_freer : (Free More : ℕ → Type 0) → ((k : ℕ) → Free k → More k) → (c d : Core) → TellsNoMore Free c d → TellsNoMore More c d
+pub tells_freer : (Free More : ℕ → Type 0) → ((k : ℕ) → Free k → More k) → (c d : Core) → DebugLessDef Free c d → DebugLessDef More c d
 tells_freer Free More f c d h = record { pairs = λ k o far. h.pairs k o (λ free. far (f k free)); marks = h.marks }
 
 -- it hangs on pairs and marks alone
-pub tells_of : (Free : ℕ → Type 0) (c d c' d' : Core) → TellsAs c c' → TellsAs d d' → TellsNoMore Free c d → TellsNoMore Free c' d'
+pub tells_of : (Free : ℕ → Type 0) (c d c' d' : Core) → TellsAs c c' → TellsAs d d' → DebugLessDef Free c d → DebugLessDef Free c' d'
 tells_of Free c d c' d' same same' h = record {
   pairs = λ k o far v e. ap (λ (z : ℕ → ℕ → Option ℕ). z k o) same.0 ∙ h.pairs k o far v (ap (λ (z : ℕ → ℕ → Option ℕ). z k o) (sym same'.0) ∙ e);
   marks = λ w v e. ap (assigned w) same.1 ∙ h.marks w v (ap (assigned w) (sym same'.1) ∙ e);
 }
 
-module _ (Free : ℕ → Type 0) (c d : Core) (h : TellsNoMore Free c d) where
+module _ (Free : ℕ → Type 0) (c d : Core) (h : DebugLessDef Free c d) where
   -- new values of one number in both, in the first alone, and in the second alone
   pub pairs_both : (k : ℕ) (a b : ℕ → Option ℕ) → ((o : ℕ) → (Free k → ⊥) → Below (a o) (b o)) → (n o : ℕ) → (Free n → ⊥) →
       Below (updated k a c.pairs n o) (updated k b d.pairs n o)
@@ -88,9 +88,9 @@ given_less sp None a b c d k same v e = k v e
 given_less sp (Some r) a b c d k same v e = seen_held sp r c d (same r refl) ∙ e
 
 -- code with the same number in both: what it gives by the operands
-pub numbers_both : (Free : ℕ → Type 0) (sp call : Bool) (n : Option ℕ) (os : List Operand) (c d : Core) → TellsNoMore Free c d →
+pub numbers_both : (Free : ℕ → Type 0) (sp call : Bool) (n : Option ℕ) (os : List Operand) (c d : Core) → DebugLessDef Free c d →
     ((k o r : ℕ) → n ≡ Some k → defined call (slice_get os o) ≡ Some r → content c.regs r ≡ content d.regs r) →
-    TellsNoMore Free (numbered sp call n os c) (numbered sp call n os d)
+    DebugLessDef Free (numbered sp call n os c) (numbered sp call n os d)
 numbers_both Free sp call None os c d h same = h
 numbers_both Free sp call (Some k) os c d h same = record {
   pairs = pairs_both Free c d h k (λ o. given sp (defined call (slice_get os o)) (c.pairs k o) c)
@@ -100,10 +100,10 @@ numbers_both Free sp call (Some k) os c d h same = record {
 }
 
 -- the same with operands of two kinds: each gives no more in the second
-pub numbers_apart : (Free : ℕ → Type 0) (sp sp' call call' : Bool) (n : Option ℕ) (os os' : List Operand) (c d : Core) → TellsNoMore Free c d →
+pub numbers_apart : (Free : ℕ → Type 0) (sp sp' call call' : Bool) (n : Option ℕ) (os os' : List Operand) (c d : Core) → DebugLessDef Free c d →
     ((k o : ℕ) → n ≡ Some k → (Free k → ⊥) →
     Below (given sp (defined call (slice_get os o)) (c.pairs k o) c) (given sp' (defined call' (slice_get os' o)) (d.pairs k o) d)) →
-    TellsNoMore Free (numbered sp call n os c) (numbered sp' call' n os' d)
+    DebugLessDef Free (numbered sp call n os c) (numbered sp' call' n os' d)
 numbers_apart Free sp sp' call call' None os os' c d h below = h
 numbers_apart Free sp sp' call call' (Some k) os os' c d h below = record {
   pairs = pairs_both Free c d h k (λ o. given sp (defined call (slice_get os o)) (c.pairs k o) c)
@@ -112,8 +112,8 @@ numbers_apart Free sp sp' call call' (Some k) os os' c d h below = record {
 }
 
 -- a number in the first alone, which the second doesn't tell
-pub numbers_first : (Free : ℕ → Type 0) (sp call : Bool) (n : Option ℕ) (os : List Operand) (c d : Core) → TellsNoMore Free c d →
-    ((k : ℕ) → n ≡ Some k → (Free k → ⊥) → (o : ℕ) → d.pairs k o ≡ None) → TellsNoMore Free (numbered sp call n os c) d
+pub numbers_first : (Free : ℕ → Type 0) (sp call : Bool) (n : Option ℕ) (os : List Operand) (c d : Core) → DebugLessDef Free c d →
+    ((k : ℕ) → n ≡ Some k → (Free k → ⊥) → (o : ℕ) → d.pairs k o ≡ None) → DebugLessDef Free (numbered sp call n os c) d
 numbers_first Free sp call None os c d h none = h
 numbers_first Free sp call (Some k) os c d h none = record {
   pairs = pairs_first Free c d h k (λ o. given sp (defined call (slice_get os o)) (c.pairs k o) c) (λ o far. none k refl far o);
@@ -121,8 +121,8 @@ numbers_first Free sp call (Some k) os c d h none = record {
 }
 
 -- a free number in the second alone
-pub numbers_second : (Free : ℕ → Type 0) (sp call : Bool) (n : Option ℕ) (os : List Operand) (c d : Core) → TellsNoMore Free c d →
-    ((k : ℕ) → n ≡ Some k → Free k) → TellsNoMore Free c (numbered sp call n os d)
+pub numbers_second : (Free : ℕ → Type 0) (sp call : Bool) (n : Option ℕ) (os : List Operand) (c d : Core) → DebugLessDef Free c d →
+    ((k : ℕ) → n ≡ Some k → Free k) → DebugLessDef Free c (numbered sp call n os d)
 numbers_second Free sp call None os c d h free = h
 numbers_second Free sp call (Some k) os c d h free = record {
   pairs = pairs_second Free c d h k (λ o. given sp (defined call (slice_get os o)) (d.pairs k o) d) (λ o far. absurd (far (free k refl)));

@@ -16,7 +16,7 @@ use Rattle.sem_mir.specs.Align.{is_code}
 use Rattle.sem_mir.specs.Effects.{EndAlike, FallsInto}
 use Rattle.sem_simulation.specs.InPlace.{FallsOrTraps}
 use Rattle.sem_simulation.specs.Sides.{ShowsSame, Does, DoBoth}
-use Rattle.sem_agreement.specs.Alike.{Alike}
+use Rattle.sem_agreement.specs.Agreement.{Alike}
 
 -- a debug item of each
 pub does_both : (R : Core → Core → Type 0) (f g : Program) (x y : Item) (c d : Core) → is_code x.kind ≡ false → is_code y.kind ≡ false →

@@ -13,7 +13,7 @@ use Rattle.mir_func.specs.Graph.{Program}
 use Rattle.sem_mir.specs.State.{Core}
 use Rattle.sem_mir.specs.Step.{do_item}
 use Rattle.sem_mir.specs.Effects.{EndAlike, FallsInto}
-use Rattle.sem_agreement.specs.Alike.{Alike, Depends, HeldAfter, ButDefined}
+use Rattle.sem_agreement.specs.Agreement.{Alike, Depends, HeldAfter, KillDefs}
 
 -- the laws of items of two programs, from cores that agree
 pub record ItemsAreAlike (Held : Place → Type 0) (Free : ℕ → Type 0) : Type 0 where
@@ -29,7 +29,7 @@ pub record ItemsAreAlike (Held : Place → Type 0) (Free : ℕ → Type 0) : Typ
   -- what it defines
   pub alone : (f : Program) (i : Instruction) (n : Option ℕ) (c d : Core) → is_pure (row_of i) ≡ true →
       Alike Held Free c d → ((k : ℕ) → n ≡ Some k → (Free k → ⊥) → (o : ℕ) → d.pairs k o ≡ None) →
-      FallsInto (λ e. Alike (ButDefined Held i) Free e d) (do_item f (Code i n) c)
+      FallsInto (λ e. Alike (KillDefs Held i) Free e d) (do_item f (Code i n) c)
   -- a phi of the second alone, with a free number
   pub free_phi : (g : Program) (p : Option Place) (n : ℕ) (c d : Core) → Free n → Alike Held Free c d →
       FallsInto (λ e. Alike Held Free c e) (do_item g (Phi p n) d)

@@ -4,14 +4,14 @@ use Rattle.std.specs.Prelude.{slice_index_or}
 use Rattle.std.specs.Map.{lookup}
 use Rattle.rv64_instr.specs.Row.{Row, Calls, row_of}
 use Rattle.rv64_instr.specs.Access.{caller_saved}
-use Rattle.rv64_instr.specs.declared.start.Answer.{Answer}
+use Rattle.rv64_instr.specs.declared.start.CallResult.{CallResult}
 use Rattle.mir_func.specs.declared.position.Pos.{Pos}
 use Rattle.mir_func.specs.declared.item.ItemKind.{ItemKind}
 use Rattle.mir_func.specs.declared.item.ItemKind.TheVariants.{Code, Mark, Phi}
 use Rattle.sem_mir.specs.State.{Called, Core, Event, Reply, content, put_all, written, writes_frame}
 use Rattle.sem_mir.specs.Step as step
 use Rattle.sem_mir.specs.Step.{moved, with_core, are_written, act, does, answered, read, do_item, do_fetch}
-use Rattle.mir_func.specs.Graph.{Fetch, Here, Silent, Outside, Program}
+use Rattle.mir_func.specs.Graph.{Fetch, Here, EndOfBlock, Outside, Program}
 use Rattle.sem_interpreter.specs.declared.state.SourceStep.{SourceStep}
 use Rattle.sem_interpreter.specs.declared.state.SourceStep.TheVariants.{Went, Returned, Faulted, Waits}
 use Rattle.sem_interpreter.specs.Acts.{IsNext, IsAnswered, reply_of}
@@ -59,29 +59,29 @@ a_state c z script events = record {
 -- ---- a return
 
 -- a script that agrees with an answer
-abbrev script_for : Option Answer → List Reply
+abbrev script_for : Option CallResult → List Reply
 script_for None = []
 script_for (Some a) = reply_of a ∷ []
 
-next_for : (answer : Option Answer) → IsNext answer (script_for answer)
+next_for : (answer : Option CallResult) → IsNext answer (script_for answer)
 next_for None = refl
 next_for (Some a) = ([], refl)
 
-row_for : (r : Row) (answer : Option Answer) → IsAnswered r answer (script_for answer)
+row_for : (r : Row) (answer : Option CallResult) → IsAnswered r answer (script_for answer)
 row_for (Calls name args) answer = next_for answer
 row_for _ answer = tt
 
-step_for : (x : Fetch) (answer : Option Answer) → IsStepAnswered x answer (script_for answer)
+step_for : (x : Fetch) (answer : Option CallResult) → IsStepAnswered x answer (script_for answer)
 step_for (Here i) answer = by_kind i.kind where
   by_kind : (k : ItemKind) → IsItemAnswered k answer (script_for answer)
   by_kind (Code c n) = row_for (row_of c) answer
   by_kind (Mark v m) = tt
   by_kind (Phi p n) = tt
-step_for (Silent k n) answer = tt
+step_for (EndOfBlock k n) answer = tt
 step_for Outside answer = tt
 
 -- a call returns from no run
-call_goes_on : (enter : ℕ → ℕ) (p : Pos) (f : Core → Core) (name args : List ℕ) (s : Core) (results : List ℕ) (other : Option Answer) →
+call_goes_on : (enter : ℕ → ℕ) (p : Pos) (f : Core → Core) (name args : List ℕ) (s : Core) (results : List ℕ) (other : Option CallResult) →
     moved enter p (with_core f (act (Calls name args) s)) ≡ step.Returned results → IsAnswered (Calls name args) other s.script
 unfolding act does
 call_goes_on enter p f name args s results other e = by_test (are_written s args) e where
@@ -101,21 +101,21 @@ call_goes_on enter p f name args s results other e = by_test (are_written s args
   by_test true e = by_script (map (read s) args) s.script e
   by_test false e = cc
 
-row_again : (enter : ℕ → ℕ) (p : Pos) (f : Core → Core) (r : Row) (s : Core) (results : List ℕ) (other : Option Answer) →
+row_again : (enter : ℕ → ℕ) (p : Pos) (f : Core → Core) (r : Row) (s : Core) (results : List ℕ) (other : Option CallResult) →
     moved enter p (with_core f (act r s)) ≡ step.Returned results → IsAnswered r other s.script
 row_again enter p f (Calls name args) s results other e = call_goes_on enter p f name args s results other e
 row_again enter p f _ s results other e = tt
 
-kind_again : (g : Program) (p : Pos) (k : ItemKind) (s : Core) (results : List ℕ) (other : Option Answer) →
+kind_again : (g : Program) (p : Pos) (k : ItemKind) (s : Core) (results : List ℕ) (other : Option CallResult) →
     moved g.enter p (do_item g k s) ≡ step.Returned results → IsItemAnswered k other s.script
 kind_again g p (Code c n) s results other e = row_again g.enter p _ (row_of c) s results other e
 kind_again g p (Mark v m) s results other e = tt
 kind_again g p (Phi q n) s results other e = tt
 
-fetch_again : (g : Program) (p : Pos) (x : Fetch) (s : Core) (results : List ℕ) (other : Option Answer) →
+fetch_again : (g : Program) (p : Pos) (x : Fetch) (s : Core) (results : List ℕ) (other : Option CallResult) →
     moved g.enter p (do_fetch g x s) ≡ step.Returned results → IsStepAnswered x other s.script
 fetch_again g p (Here i) s results other e = kind_again g p i.kind s results other e
-fetch_again g p (Silent k n) s results other e = tt
+fetch_again g p (EndOfBlock k n) s results other e = tt
 fetch_again g p Outside s results other e = tt
 
 only_returned : (r : SourceStep) (new : Concrete) (n : step.Next) (results : List ℕ) → n ≡ step.Returned results → IsStep r new n → r ≡ Returned

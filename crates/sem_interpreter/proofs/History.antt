@@ -2,9 +2,9 @@
 use Rattle.std.proofs.Common.{◌≡◌, ℕ, List, [], ◌∷◌, Option, Some, Bool, true, false, cond, ◌&&◌, nat_eq, refl, sym, ap, ◌∙◌, subst, inl, inr}
 use Rattle.std.specs.Map.{lookup}
 use Rattle.std.proofs.lemmas.Bool.{cases_eq, eq-eqb, ne_eqb, and_left, and_right}
-use Rattle.rv64_instr.specs.declared.start.Answer.{Answer}
+use Rattle.rv64_instr.specs.declared.start.CallResult.{CallResult}
 use Rattle.rv64_instr.specs.declared.place.Place.{Place}
-use Rattle.mir_func.specs.declared.entry.Entry.{Entry}
+use Rattle.mir_func.specs.declared.entry.DebugSubstitution.{DebugSubstitution}
 use Rattle.mir_func.specs.declared.variable.VarId.{VarId}
 use Rattle.mir_func.specs.declared.variable.MarkValue.{MarkValue}
 use Rattle.mir_func.specs.declared.item.ItemKind.TheVariants.{Mark, Phi}
@@ -17,7 +17,7 @@ use Rattle.sem_interpreter.specs.declared.machine.Outcome.TheVariants.{Falls}
 use Rattle.sem_interpreter.specs.Assigned.{MarksHold}
 use Rattle.sem_interpreter.specs.StandsFor.{Concrete, flat, pair_eq, PairsHold, Holds, DoesItem}
 
-pub mark_does : (subs : List Entry) (v : VarId) (m : MarkValue) (answer : Option Answer) (old : Concrete)
+pub mark_does : (subs : List DebugSubstitution) (v : VarId) (m : MarkValue) (answer : Option CallResult) (old : Concrete)
     (fs : List ((ℕ × Option ℕ) × List (Option Bytes × Option ℕ))) (x : Option ℕ) →
     ((s : Core) → Holds old s → x ≡ part_of v (mark_value (program_of true [] (resolve subs)) m s)) →
     ((marks : List (VarId × Option ℕ)) → MarksHold old.assigned marks → MarksHold fs ((v, x) ∷ marks)) →
@@ -70,7 +70,8 @@ pairs_put es fs f k o x holds put l p =
           ∙ sym (ap flat (put (l, p) ∙ ap (λ (b : Bool). cond b (Some x) (lookup (pair_eq (l, p)) es)) other))
     ]
 
-pub phi_does : (subs : List Entry) (p : Option Place) (k : ℕ) (answer : Option Answer) (old : Concrete) (fs : List ((ℕ × ℕ) × Option ℕ)) (x : Option ℕ) →
+pub phi_does : (subs : List DebugSubstitution) (p : Option Place) (k : ℕ) (answer : Option CallResult) (old : Concrete) (fs : List ((ℕ × ℕ) × Option ℕ))
+    (x : Option ℕ) →
     ((s : Core) → Holds old s → x ≡ place_value p s) →
     ((q : ℕ × ℕ) → lookup (pair_eq q) fs ≡ cond (pair_eq (k, 0) q) (Some x) (lookup (pair_eq q) old.pairs)) →
     DoesItem subs (Phi p k) answer Falls old (record old { pairs = fs })

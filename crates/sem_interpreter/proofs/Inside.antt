@@ -15,7 +15,7 @@ use Rattle.mir_func.specs.Sound.{IsSound, TargetIn, TargetsIn, AllItems, ids_of,
 use Rattle.mir_func.specs.declared.exit.Exit.{Exit}
 use Rattle.mir_func.specs.declared.exit.Exit.TheVariants.{Onward}
 use Rattle.mir_func.specs.Exits.{Leaves, row_exit, exit_of}
-use Rattle.mir_func.specs.Graph.{Here, Silent, Outside, below, block_start, fetch_in, front, from_block, FetchEdge, KindEdge, RowEdge}
+use Rattle.mir_func.specs.Graph.{Here, EndOfBlock, Outside, below, block_start, fetch_in, front, from_block, FetchEdge, KindEdge, RowEdge}
 use Rattle.sem_mir.proofs.Places.{contains_head, contains_tail}
 use Rattle.sem_interpreter.specs.declared.state.SourceStep.{SourceStep}
 use Rattle.sem_interpreter.specs.declared.state.SourceStep.TheVariants.{Went, Returned, Faulted, Waits}
@@ -27,9 +27,9 @@ use Rattle.sem_interpreter.specs.Steps.{GoesAlong}
 pub start_inside : (b : Block) (bs : List Block) → LastCloses (b ∷ bs) → fetch_in (b ∷ bs) 0 ≡ Outside → ⊥
 start_inside b bs closes = inside b.items bs (λ e. subst (λ (cs : List Block). LastCloses (b ∷ cs)) e closes)
   where
-    inside : (is : List Item) (cs : List Block) → (cs ≡ [] → Closes is) → front is b.silent cs ≡ Outside → ⊥
+    inside : (is : List Item) (cs : List Block) → (cs ≡ [] → Closes is) → front is b.source_end cs ≡ Outside → ⊥
     inside (i ∷ is) cs h e = (let no : Here i ≡ Outside = e in cc)
-    inside [] (c ∷ cs) h e = (let no : Silent b.silent c.id ≡ Outside = e in cc)
+    inside [] (c ∷ cs) h e = (let no : EndOfBlock b.source_end c.id ≡ Outside = e in cc)
     inside [] [] h e = h refl
 
 pub block_inside : (blocks : List Block) (n : ℕ) → LastCloses blocks → Contains (ids_of blocks) n → IsPosition blocks (block_start n)
@@ -71,11 +71,11 @@ pub below_inside : (b : Block) (bs : List Block) (n : ℕ) (it : Item) → LastC
     fetch_in (b ∷ bs) (n + 1) ≡ Outside → ⊥
 below_inside b [] n it closes here stays out =
     let next : n + 1 ≡ suc n = omega arith in
-    stays (closes_last b.items n b.silent it closes here (sym (ap (λ (x : ℕ). fetch_in (b ∷ []) x) next) ∙ out))
+    stays (closes_last b.items n b.source_end it closes here (sym (ap (λ (x : ℕ). fetch_in (b ∷ []) x) next) ∙ out))
 below_inside b (c ∷ cs) n it closes here stays out = more (drop (n + 1) b.items) out
   where
-    more : (items : List Item) → front items b.silent (c ∷ cs) ≡ Outside → ⊥
-    more [] out = (let no : Silent b.silent c.id ≡ Outside = out in cc)
+    more : (items : List Item) → front items b.source_end (c ∷ cs) ≡ Outside → ⊥
+    more [] out = (let no : EndOfBlock b.source_end c.id ≡ Outside = out in cc)
     more (x ∷ xs) out = (let no : Here x ≡ Outside = out in cc)
 
 -- ---- edges
@@ -118,7 +118,7 @@ item_all P items n k bs it all here = at_head (drop n items) (All-drop P n items
         let same : x ≡ it = cc in
         subst P same (all 0 x (omega arith))
     at_head [] all here = elim bs as (λ z. front [] k z ≡ Here it →
-        P it) [ [] ↦ (λ e. (let no : Outside ≡ Here it = e in cc)) | b ∷ rest ↦ (λ e. (let no : Silent k b.id ≡ Here it = e in cc)) ] here
+        P it) [ [] ↦ (λ e. (let no : Outside ≡ Here it = e in cc)) | b ∷ rest ↦ (λ e. (let no : EndOfBlock k b.id ≡ Here it = e in cc)) ] here
 
 -- ---- the whole function
 -- the block after a block that is there is there too
@@ -148,10 +148,10 @@ edge_inside f sound p q (b ∷ bs) from closes targets edge = by_items (drop p.i
         (λ out. below_inside b cs p.item x closes here stays (sym (ap (λ zs. fetch_in zs (p.item + 1)) from) ∙ out))
 
     by_items : (xs : List Item) (cs : List Block) → from_block f.blocks p.block ≡ b ∷ cs → LastCloses (b ∷ cs) → drop p.item b.items ≡ xs →
-        FetchEdge (λ n. n) (front xs b.silent cs) p q → IsPosition f.blocks q
+        FetchEdge (λ n. n) (front xs b.source_end cs) p q → IsPosition f.blocks q
     by_items (x ∷ xs) cs from closes is edge =
-        let here : fetch_in (b ∷ cs) p.item ≡ Here x = ap (λ zs. front zs b.silent cs) is in
-        let target = item_all (λ i. TargetsIn (ids_of f.blocks) i.kind) b.items p.item b.silent cs x (targets 0 b (omega arith)) here in
+        let here : fetch_in (b ∷ cs) p.item ≡ Here x = ap (λ zs. front zs b.source_end cs) is in
+        let target = item_all (λ i. TargetsIn (ids_of f.blocks) i.kind) b.items p.item b.source_end cs x (targets 0 b (omega arith)) here in
         at_leads x cs from closes here (kind_leads (ids_of f.blocks) x.kind p q target edge)
     by_items [] [] from closes is edge = absurd edge
     by_items [] (c ∷ cs) from closes is edge =

@@ -7,7 +7,7 @@ use Rattle.rv64_instr.specs.declared.op.RegisterOp.{RegisterOp}
 use Rattle.rv64_instr.specs.declared.op.BranchOp.{BranchOp}
 use Rattle.rv64_instr.specs.declared.op.LoadOp.{LoadOp}
 use Rattle.rv64_instr.specs.declared.op.StoreOp.{StoreOp}
-use Rattle.rv64_instr.specs.declared.start.Answer.{Answer}
+use Rattle.rv64_instr.specs.declared.start.CallResult.{CallResult}
 use Rattle.rv64_instr.specs.Row.{Row, Fixes, Moves, Sets, Addresses, Loads, Stores, LoadsSlot, StoresSlot, Branches, Jumps, Calls, Returns, row_of}
 use Rattle.rv64_instr.specs.Row.{implicit_uses}
 use Rattle.rv64_instr.specs.declared.decoded.Base.{Base}
@@ -23,7 +23,7 @@ use Rattle.sem_mir.specs.State.{Core, Reply, Called, content, put, put_all, upda
 use Rattle.sem_mir.specs.Step as step
 use Rattle.sem_mir.specs.Step.{act, does, are_written, read, or_zero, input_value, object_address, address_at, is_fault, set_register, loaded}
 use Rattle.sem_mir.specs.Step.{put_in_memory, saved, slot_loaded, answered}
-use Rattle.sem_interpreter.specs.declared.machine.Machine.{Machine}
+use Rattle.sem_interpreter.specs.declared.machine.InterpreterState.{InterpreterState}
 use Rattle.sem_interpreter.specs.declared.machine.Outcome.TheVariants.{Falls, Goes, Returns as Ended, Faults, Waits}
 use Rattle.sem_interpreter.specs.Held.{MemoryHolds, number_in, some_writes}
 use Rattle.sem_interpreter.specs.Places.{RegistersHold, SlotsHold}
@@ -55,14 +55,14 @@ unwritten_more s a rs k = ap (λ (b : Bool). is_some (content s.regs a) && b) k 
     nothing false = refl
 
 -- what a register holds, from what is kept
-held : (m : Machine) (s : Core) (r : ℕ) (o : Option ℕ) → MachineHolds m s → o ≡ slice_index_or m.registers r None → content s.regs r ≡ o
+held : (m : InterpreterState) (s : Core) (r : ℕ) (o : Option ℕ) → MachineHolds m s → o ≡ slice_index_or m.registers r None → content s.regs r ≡ o
 held m s r o h e = h.registers r ∙ sym e
 
 -- ---- how a row ends, with the places that are kept
-pub faults : (m : Machine) (r : Row) → ((s : Core) → MachineHolds m s → act r s ≡ step.Traps) → (answer : Option Answer) → Acts r answer Faults m m
+pub faults : (m : InterpreterState) (r : Row) → ((s : Core) → MachineHolds m s → act r s ≡ step.Traps) → (answer : Option CallResult) → Acts r answer Faults m m
 faults m r h answer = record { ends = λ s holds script. h s holds; stays = refl; leads = tt }
 
-moved_set : (old : Machine) (kept : List (Option ℕ)) (rd v : ℕ) (s : Core) →
+moved_set : (old : InterpreterState) (kept : List (Option ℕ)) (rd v : ℕ) (s : Core) →
     ((f : ℕ → Option ℕ) → RegistersHold old.registers f → RegistersHold kept (put rd v f)) → MachineHolds old s →
     Moved (record old { registers = kept }) s (set_register rd v s)
 moved_set old kept rd v s writes holds = record {
@@ -78,9 +78,9 @@ moved_set old kept rd v s writes holds = record {
   marks = refl;
 }
 
-pub sets_so : (old : Machine) (kept : List (Option ℕ)) (r : Row) (rd v : ℕ) → Leads r Falls →
+pub sets_so : (old : InterpreterState) (kept : List (Option ℕ)) (r : Row) (rd v : ℕ) → Leads r Falls →
     ((f : ℕ → Option ℕ) → RegistersHold old.registers f → RegistersHold kept (put rd v f)) →
-    ((s : Core) → MachineHolds old s → act r s ≡ step.Falls (set_register rd v s)) → (answer : Option Answer) →
+    ((s : Core) → MachineHolds old s → act r s ≡ step.Falls (set_register rd v s)) → (answer : Option CallResult) →
     Acts r answer Falls old (record old { registers = kept })
 sets_so old kept r rd v leads writes goes answer = record {
   ends = λ s holds script. (set_register rd v s, goes s holds, moved_set old kept rd v s writes holds);
@@ -88,7 +88,7 @@ sets_so old kept r rd v leads writes goes answer = record {
   leads = leads;
 }
 
-unmoved : (m : Machine) (s : Core) → MachineHolds m s → Moved m s s
+unmoved : (m : InterpreterState) (s : Core) → MachineHolds m s → Moved m s s
 unmoved m s holds = record { machine = holds; pairs = refl; marks = refl }
 
 -- code that goes to no block leads on below
@@ -104,18 +104,19 @@ pub fixes_so : (rd n : ℕ) (s : Core) → act (Fixes rd n) s ≡ step.Falls (se
 unfolding act does
 fixes_so rd n s = refl
 
-pub moves_so : (m : Machine) (rd rs v : ℕ) → Some v ≡ slice_index_or m.registers rs None → (s : Core) → MachineHolds m s →
+pub moves_so : (m : InterpreterState) (rd rs v : ℕ) → Some v ≡ slice_index_or m.registers rs None → (s : Core) → MachineHolds m s →
     act (Moves rd rs) s ≡ step.Falls (set_register rd v s)
 unfolding does
 moves_so m rd rs v e s holds =
     let h = held m s rs (Some v) holds e in
     act_written (Moves rd rs) s (written_one s rs v h) ∙ ap (λ (o : Option ℕ). step.Falls (set_register rd (or_zero o) s)) h
 
-pub moves_faults : (m : Machine) (rd rs : ℕ) → None ≡ slice_index_or m.registers rs None → (s : Core) → MachineHolds m s → act (Moves rd rs) s ≡ step.Traps
+pub moves_faults : (m : InterpreterState) (rd rs : ℕ) → None ≡ slice_index_or m.registers rs None → (s : Core) → MachineHolds m s →
+    act (Moves rd rs) s ≡ step.Traps
 moves_faults m rd rs e s holds = act_unwritten (Moves rd rs) s (unwritten_first s rs [] (held m s rs None holds e))
 
 -- ---- operations
-pub sets_does : (m : Machine) (rd a x y : ℕ) (op : RegisterOp) (b : Input) → Some x ≡ slice_index_or m.registers a None →
+pub sets_does : (m : InterpreterState) (rd a x y : ℕ) (op : RegisterOp) (b : Input) → Some x ≡ slice_index_or m.registers a None →
     ((s : Core) → MachineHolds m s → InputHolds s b (Some y)) → (s : Core) → MachineHolds m s →
     act (Sets rd op a b) s ≡ step.Falls (set_register rd (computed op x y) s)
 unfolding does
@@ -126,20 +127,22 @@ sets_does m rd a x y op b e second s holds =
     ap (λ (o : Option ℕ). step.Falls (set_register rd (computed op (or_zero o) (input_value s b)) s)) h ∙
     ap (λ (z : ℕ). step.Falls (set_register rd (computed op x z) s)) k.1
 
-pub sets_faults_first : (m : Machine) (rd a : ℕ) (op : RegisterOp) (b : Input) → None ≡ slice_index_or m.registers a None → (s : Core) → MachineHolds m s →
+pub sets_faults_first : (m : InterpreterState) (rd a : ℕ) (op : RegisterOp) (b : Input) → None ≡ slice_index_or m.registers a None → (s : Core) →
+    MachineHolds m s →
     act (Sets rd op a b) s ≡ step.Traps
 sets_faults_first m rd a op b e s holds = act_unwritten (Sets rd op a b) s (unwritten_first s a (input_reads b) (held m s a None holds e))
 
-pub sets_faults_second : (m : Machine) (rd a : ℕ) (op : RegisterOp) (b : Input) → ((s : Core) → MachineHolds m s → InputHolds s b None) → (s : Core) →
+pub sets_faults_second : (m : InterpreterState) (rd a : ℕ) (op : RegisterOp) (b : Input) → ((s : Core) → MachineHolds m s → InputHolds s b None) → (s : Core) →
     MachineHolds m s → act (Sets rd op a b) s ≡ step.Traps
 sets_faults_second m rd a op b second s holds = act_unwritten (Sets rd op a b) s (unwritten_more s a (input_reads b) (second s holds))
 
-pub input_content : (m : Machine) (r : ℕ) (o : Option ℕ) → o ≡ slice_index_or m.registers r None → (s : Core) → MachineHolds m s → InputHolds s (Content r) o
+pub input_content : (m : InterpreterState) (r : ℕ) (o : Option ℕ) → o ≡ slice_index_or m.registers r None → (s : Core) → MachineHolds m s →
+    InputHolds s (Content r) o
 input_content m r None e s holds = unwritten_first s r [] (held m s r None holds e)
 input_content m r (Some v) e s holds = let h = held m s r (Some v) holds e in (written_one s r v h, ap or_zero h)
 
 -- ---- addresses
-pub object_address_is : (m : Machine) (n : ℕ) (s : Core) → MachineHolds m s →
+pub object_address_is : (m : InterpreterState) (n : ℕ) (s : Core) → MachineHolds m s →
     ((m.entry + (2 ^ 64 - m.area)) % 2 ^ 64 + number_in m.objects n) % 2 ^ 64 ≡ object_address s n
 object_address_is m n s holds =
     let e = holds.entry in
@@ -155,11 +158,11 @@ pub addresses_so : (rd n offset v : ℕ) (s : Core) → v ≡ address_at s (Obje
 unfolding act does
 addresses_so rd n offset v s e = ap (λ (x : ℕ). step.Falls (set_register rd x s)) (sym e)
 
-pub pointed_at : (m : Machine) (r b offset : ℕ) → Some b ≡ slice_index_or m.registers r None → (s : Core) → MachineHolds m s →
+pub pointed_at : (m : InterpreterState) (r b offset : ℕ) → Some b ≡ slice_index_or m.registers r None → (s : Core) → MachineHolds m s →
     AddressHolds s (PointedBy r) offset (Some ((b + offset) % 2 ^ 64))
 pointed_at m r b offset e s holds = let h = held m s r (Some b) holds e in (written_one s r b h, ap (λ (o : Option ℕ). (or_zero o + offset) % 2 ^ 64) h)
 
-pub pointed_nowhere : (m : Machine) (r offset : ℕ) → None ≡ slice_index_or m.registers r None → (s : Core) → MachineHolds m s →
+pub pointed_nowhere : (m : InterpreterState) (r offset : ℕ) → None ≡ slice_index_or m.registers r None → (s : Core) → MachineHolds m s →
     AddressHolds s (PointedBy r) offset None
 pointed_nowhere m r offset e s holds = unwritten_first s r [] (held m s r None holds e)
 
@@ -167,8 +170,8 @@ pub object_at : (n offset v : ℕ) (s : Core) → v ≡ object_address s n → A
 object_at n offset v s e = (refl, ap (λ (x : ℕ). (x + offset) % 2 ^ 64) (sym e))
 
 -- ---- loads and stores
-pub loads_so : (m new : Machine) (o : Outcome) (rd a offset : ℕ) (op : LoadOp) (base : Base) →
-    ((s : Core) → MachineHolds m s → AddressHolds s base offset (Some a)) → Does (loaded rd op base a) o m new → (answer : Option Answer) →
+pub loads_so : (m new : InterpreterState) (o : Outcome) (rd a offset : ℕ) (op : LoadOp) (base : Base) →
+    ((s : Core) → MachineHolds m s → AddressHolds s base offset (Some a)) → Does (loaded rd op base a) o m new → (answer : Option CallResult) →
     Acts (Loads rd op base offset) answer o m new
 unfolding does
 loads_so m new o rd a offset op base at h answer = record {
@@ -180,12 +183,12 @@ loads_so m new o rd a offset op base at h answer = record {
   leads = leads_below (Loads rd op base offset) o (λ p. refl) h.leads;
 }
 
-pub loads_faults : (m : Machine) (rd offset : ℕ) (op : LoadOp) (base : Base) → ((s : Core) → MachineHolds m s → AddressHolds s base offset None) →
+pub loads_faults : (m : InterpreterState) (rd offset : ℕ) (op : LoadOp) (base : Base) → ((s : Core) → MachineHolds m s → AddressHolds s base offset None) →
     (s : Core) → MachineHolds m s → act (Loads rd op base offset) s ≡ step.Traps
 loads_faults m rd offset op base at s holds = act_unwritten (Loads rd op base offset) s (at s holds)
 
-pub stores_so : (m new : Machine) (o : Outcome) (rs v a offset : ℕ) (op : StoreOp) (base : Base) → Some v ≡ slice_index_or m.registers rs None →
-    ((s : Core) → MachineHolds m s → AddressHolds s base offset (Some a)) → Does (put_in_memory op base a v) o m new → (answer : Option Answer) →
+pub stores_so : (m new : InterpreterState) (o : Outcome) (rs v a offset : ℕ) (op : StoreOp) (base : Base) → Some v ≡ slice_index_or m.registers rs None →
+    ((s : Core) → MachineHolds m s → AddressHolds s base offset (Some a)) → Does (put_in_memory op base a v) o m new → (answer : Option CallResult) →
     Acts (Stores op rs base offset) answer o m new
 unfolding does
 stores_so m new o rs v a offset op base e at h answer = record {
@@ -199,28 +202,29 @@ stores_so m new o rs v a offset op base e at h answer = record {
   leads = leads_below (Stores op rs base offset) o (λ p. refl) h.leads;
 }
 
-pub stores_faults_first : (m : Machine) (rs offset : ℕ) (op : StoreOp) (base : Base) → None ≡ slice_index_or m.registers rs None → (s : Core) →
+pub stores_faults_first : (m : InterpreterState) (rs offset : ℕ) (op : StoreOp) (base : Base) → None ≡ slice_index_or m.registers rs None → (s : Core) →
     MachineHolds m s → act (Stores op rs base offset) s ≡ step.Traps
 stores_faults_first m rs offset op base e s holds =
     act_unwritten (Stores op rs base offset) s (unwritten_first s rs (base_reads base) (held m s rs None holds e))
 
-pub stores_faults_second : (m : Machine) (rs offset : ℕ) (op : StoreOp) (base : Base) → ((s : Core) → MachineHolds m s → AddressHolds s base offset None) →
+pub stores_faults_second : (m : InterpreterState) (rs offset : ℕ) (op : StoreOp) (base : Base) →
+    ((s : Core) → MachineHolds m s → AddressHolds s base offset None) →
     (s : Core) → MachineHolds m s → act (Stores op rs base offset) s ≡ step.Traps
 stores_faults_second m rs offset op base at s holds = act_unwritten (Stores op rs base offset) s (unwritten_more s rs (base_reads base) (at s holds))
 
 -- ---- slots
-pub slot_loads_so : (m : Machine) (rd n v : ℕ) → Some v ≡ Rattle.std.specs.Map.lookup (Rattle.std.specs.Prelude.nat_eq n) m.slots → (s : Core) →
+pub slot_loads_so : (m : InterpreterState) (rd n v : ℕ) → Some v ≡ Rattle.std.specs.Map.lookup (Rattle.std.specs.Prelude.nat_eq n) m.slots → (s : Core) →
     MachineHolds m s → act (LoadsSlot rd n) s ≡ step.Falls (set_register rd v s)
 unfolding act does
 slot_loads_so m rd n v e s holds = ap (slot_loaded rd s) (holds.slots n ∙ sym e)
 
-pub slot_loads_faults : (m : Machine) (rd n : ℕ) → None ≡ Rattle.std.specs.Map.lookup (Rattle.std.specs.Prelude.nat_eq n) m.slots → (s : Core) →
+pub slot_loads_faults : (m : InterpreterState) (rd n : ℕ) → None ≡ Rattle.std.specs.Map.lookup (Rattle.std.specs.Prelude.nat_eq n) m.slots → (s : Core) →
     MachineHolds m s → act (LoadsSlot rd n) s ≡ step.Traps
 unfolding act does
 slot_loads_faults m rd n e s holds = ap (slot_loaded rd s) (holds.slots n ∙ sym e)
 
-pub slot_stores_so : (old : Machine) (kept : List (ℕ × ℕ)) (rs n v : ℕ) → Some v ≡ slice_index_or old.registers rs None →
-    ((f : ℕ → Option ℕ) → SlotsHold old.slots f → SlotsHold kept (updated n (Some v) f)) → (answer : Option Answer) →
+pub slot_stores_so : (old : InterpreterState) (kept : List (ℕ × ℕ)) (rs n v : ℕ) → Some v ≡ slice_index_or old.registers rs None →
+    ((f : ℕ → Option ℕ) → SlotsHold old.slots f → SlotsHold kept (updated n (Some v) f)) → (answer : Option CallResult) →
     Acts (StoresSlot rs n) answer Falls old (record old { slots = kept })
 unfolding does
 slot_stores_so old kept rs n v e writes answer = record {
@@ -246,12 +250,13 @@ slot_stores_so old kept rs n v e writes answer = record {
   leads = λ p. refl;
 }
 
-pub slot_stores_faults : (m : Machine) (rs n : ℕ) → None ≡ slice_index_or m.registers rs None → (s : Core) → MachineHolds m s →
+pub slot_stores_faults : (m : InterpreterState) (rs n : ℕ) → None ≡ slice_index_or m.registers rs None → (s : Core) → MachineHolds m s →
     act (StoresSlot rs n) s ≡ step.Traps
 slot_stores_faults m rs n e s holds = act_unwritten (StoresSlot rs n) s (unwritten_first s rs [] (held m s rs None holds e))
 
 -- ---- branches
-branches_act : (m : Machine) (a b x y target : ℕ) (op : BranchOp) → Some x ≡ slice_index_or m.registers a None → Some y ≡ slice_index_or m.registers b None →
+branches_act : (m : InterpreterState) (a b x y target : ℕ) (op : BranchOp) → Some x ≡ slice_index_or m.registers a None →
+    Some y ≡ slice_index_or m.registers b None →
     (s : Core) → MachineHolds m s → act (Branches op a b target) s ≡ cond (taken op x y) (step.Goes target s) (step.Falls s)
 unfolding does
 branches_act m a b x y target op e f s holds =
@@ -261,8 +266,8 @@ branches_act m a b x y target op e f s holds =
     ap (λ (o : Option ℕ). cond (taken op (or_zero o) (or_zero (content s.regs b))) (step.Goes target s) (step.Falls s)) j ∙
     ap (λ (o : Option ℕ). cond (taken op x (or_zero o)) (step.Goes target s) (step.Falls s)) k
 
-pub branches_goes : (m : Machine) (a b x y target : ℕ) (op : BranchOp) → Some x ≡ slice_index_or m.registers a None →
-    Some y ≡ slice_index_or m.registers b None → taken op x y ≡ true → (answer : Option Answer) → Acts (Branches op a b target) answer (Goes target) m m
+pub branches_goes : (m : InterpreterState) (a b x y target : ℕ) (op : BranchOp) → Some x ≡ slice_index_or m.registers a None →
+    Some y ≡ slice_index_or m.registers b None → taken op x y ≡ true → (answer : Option CallResult) → Acts (Branches op a b target) answer (Goes target) m m
 branches_goes m a b x y target op e f t answer = record {
   ends = λ s holds script. (
     s,
@@ -274,8 +279,8 @@ branches_goes m a b x y target op e f t answer = record {
   leads = λ p. inl refl;
 }
 
-pub branches_falls : (m : Machine) (a b x y target : ℕ) (op : BranchOp) → Some x ≡ slice_index_or m.registers a None →
-    Some y ≡ slice_index_or m.registers b None → taken op x y ≡ false → (answer : Option Answer) → Acts (Branches op a b target) answer Falls m m
+pub branches_falls : (m : InterpreterState) (a b x y target : ℕ) (op : BranchOp) → Some x ≡ slice_index_or m.registers a None →
+    Some y ≡ slice_index_or m.registers b None → taken op x y ≡ false → (answer : Option CallResult) → Acts (Branches op a b target) answer Falls m m
 branches_falls m a b x y target op e f t answer = record {
   ends = λ s holds script. (
     s,
@@ -287,34 +292,37 @@ branches_falls m a b x y target op e f t answer = record {
   leads = λ p. inr refl;
 }
 
-pub branches_faults_first : (m : Machine) (a b target : ℕ) (op : BranchOp) → None ≡ slice_index_or m.registers a None → (s : Core) → MachineHolds m s →
+pub branches_faults_first : (m : InterpreterState) (a b target : ℕ) (op : BranchOp) → None ≡ slice_index_or m.registers a None → (s : Core) → MachineHolds m s →
     act (Branches op a b target) s ≡ step.Traps
 branches_faults_first m a b target op e s holds = act_unwritten (Branches op a b target) s (unwritten_first s a (b ∷ []) (held m s a None holds e))
 
-pub branches_faults_second : (m : Machine) (a b target : ℕ) (op : BranchOp) → None ≡ slice_index_or m.registers b None → (s : Core) → MachineHolds m s →
+pub branches_faults_second : (m : InterpreterState) (a b target : ℕ) (op : BranchOp) → None ≡ slice_index_or m.registers b None → (s : Core) →
+    MachineHolds m s →
     act (Branches op a b target) s ≡ step.Traps
 branches_faults_second m a b target op e s holds =
     act_unwritten (Branches op a b target) s (unwritten_more s a (b ∷ []) (unwritten_first s b [] (held m s b None holds e)))
 
-pub jumps_so : (m : Machine) (target : ℕ) (answer : Option Answer) → Acts (Jumps target) answer (Goes target) m m
+pub jumps_so : (m : InterpreterState) (target : ℕ) (answer : Option CallResult) → Acts (Jumps target) answer (Goes target) m m
 unfolding act does
 jumps_so m target answer = record { ends = λ s holds script. (s, refl, unmoved m s holds); stays = tt; leads = λ p. refl }
 
 -- ---- calls and returns
-pub returns_so : (m : Machine) (results : List ℕ) → ((s : Core) → MachineHolds m s → true ≡ are_written s results) → (answer : Option Answer) →
+pub returns_so : (m : InterpreterState) (results : List ℕ) → ((s : Core) → MachineHolds m s → true ≡ are_written s results) → (answer : Option CallResult) →
     Acts (Returns results) answer Ended m m
 unfolding does
 returns_so m results h answer = record { ends = λ s holds script. (_, act_written (Returns results) s (sym (h s holds))); stays = refl; leads = tt }
 
-pub returns_faults : (m : Machine) (results : List ℕ) → ((s : Core) → MachineHolds m s → false ≡ are_written s results) → (s : Core) → MachineHolds m s →
+pub returns_faults : (m : InterpreterState) (results : List ℕ) → ((s : Core) → MachineHolds m s → false ≡ are_written s results) → (s : Core) →
+    MachineHolds m s →
     act (Returns results) s ≡ step.Traps
 returns_faults m results h s holds = act_unwritten (Returns results) s (sym (h s holds))
 
-pub calls_faults : (m : Machine) (name args : List ℕ) → ((s : Core) → MachineHolds m s → false ≡ are_written s args) → (s : Core) → MachineHolds m s →
+pub calls_faults : (m : InterpreterState) (name args : List ℕ) → ((s : Core) → MachineHolds m s → false ≡ are_written s args) → (s : Core) → MachineHolds m s →
     act (Calls name args) s ≡ step.Traps
 calls_faults m name args h s holds = act_unwritten (Calls name args) s (sym (h s holds))
 
-pub calls_waits : (m : Machine) (name args : List ℕ) → ((s : Core) → MachineHolds m s → true ≡ are_written s args) → Acts (Calls name args) None Waits m m
+pub calls_waits : (m : InterpreterState) (name args : List ℕ) → ((s : Core) → MachineHolds m s → true ≡ are_written s args) →
+    Acts (Calls name args) None Waits m m
 unfolding does
 calls_waits m name args h = record {
   ends = λ s holds script. act_written (Calls name args) s (sym (h s holds)) ∙ ap (answered name (Rattle.std.specs.Prelude.map (read s) args) s) script;
@@ -322,7 +330,7 @@ calls_waits m name args h = record {
   leads = tt;
 }
 
-pub calls_takes : (m new : Machine) (o : Outcome) (name args : List ℕ) (a : Answer) → ((s : Core) → MachineHolds m s → true ≡ are_written s args) →
+pub calls_takes : (m new : InterpreterState) (o : Outcome) (name args : List ℕ) (a : CallResult) → ((s : Core) → MachineHolds m s → true ≡ are_written s args) →
     Takes a o m new → Acts (Calls name args) (Some a) o m new
 unfolding does
 calls_takes m new o name args a h took = record {
@@ -339,11 +347,11 @@ spelled_alike : (f g : ℕ → ℕ) → ((a : ℕ) → f a ≡ g a) → (a n : �
 spelled_alike f g h a zero = refl
 spelled_alike f g h a (suc n) = λ i. h (a % 2 ^ 64) i + 256 * spelled_alike f g h (a + 1) n i
 
-pub pointed_fault : (m : Machine) (r a n : ℕ) (b : Bool) → b ≡ touches_frame m.entry m.area a n → (s : Core) → MachineHolds m s →
+pub pointed_fault : (m : InterpreterState) (r a n : ℕ) (b : Bool) → b ≡ touches_frame m.entry m.area a n → (s : Core) → MachineHolds m s →
     b ≡ is_fault (PointedBy r) s a n
 pointed_fault m r a n b e s holds = e ∙ sym (λ i. touches_frame (holds.entry i) (holds.area i) a n)
 
-pub loaded_faults : (m : Machine) (rd a : ℕ) (op : LoadOp) (base : Base) → ((s : Core) → MachineHolds m s → true ≡ is_fault base s a (load_width op)) →
+pub loaded_faults : (m : InterpreterState) (rd a : ℕ) (op : LoadOp) (base : Base) → ((s : Core) → MachineHolds m s → true ≡ is_fault base s a (load_width op)) →
     Does (loaded rd op base a) Faults m m
 loaded_faults m rd a op base e = record {
   ends = λ s holds. ap (λ (b : Bool). cond b step.Traps (step.Falls (set_register rd (extended op (spelled s.memory a (load_width op))) s))) (sym (e s holds));
@@ -351,7 +359,7 @@ loaded_faults m rd a op base e = record {
   leads = tt;
 }
 
-pub loaded_falls : (old : Machine) (kept : List (Option ℕ)) (rd a v : ℕ) (op : LoadOp) (base : Base) →
+pub loaded_falls : (old : InterpreterState) (kept : List (Option ℕ)) (rd a v : ℕ) (op : LoadOp) (base : Base) →
     ((s : Core) → MachineHolds old s → false ≡ is_fault base s a (load_width op)) →
     v ≡ extended op (spelled (number_in old.memory) a (load_width op)) →
     ((f : ℕ → Option ℕ) → RegistersHold old.registers f → RegistersHold kept (put rd v f)) →
@@ -368,7 +376,7 @@ loaded_falls old kept rd a v op base e is writes = record {
   leads = tt;
 }
 
-pub put_faults : (m : Machine) (v a : ℕ) (op : StoreOp) (base : Base) → ((s : Core) → MachineHolds m s → true ≡ is_fault base s a (store_width op)) →
+pub put_faults : (m : InterpreterState) (v a : ℕ) (op : StoreOp) (base : Base) → ((s : Core) → MachineHolds m s → true ≡ is_fault base s a (store_width op)) →
     Does (put_in_memory op base a v) Faults m m
 put_faults m v a op base e = record {
   ends = λ s holds. ap (λ (b : Bool). cond b step.Traps (step.Falls (saved a (low_bytes (store_width op) v) s))) (sym (e s holds));
@@ -376,7 +384,7 @@ put_faults m v a op base e = record {
   leads = tt;
 }
 
-pub put_falls : (old : Machine) (kept : List (ℕ × ℕ)) (v a : ℕ) (op : StoreOp) (base : Base) →
+pub put_falls : (old : InterpreterState) (kept : List (ℕ × ℕ)) (v a : ℕ) (op : StoreOp) (base : Base) →
     ((s : Core) → MachineHolds old s → false ≡ is_fault base s a (store_width op)) →
     ((f : ℕ → ℕ) → MemoryHolds old.memory f → MemoryHolds kept (stored f a (low_bytes (store_width op) v))) →
     Does (put_in_memory op base a v) Falls old (record old { memory = kept })
@@ -401,7 +409,7 @@ put_falls old kept v a op base e writes = record {
   leads = tt;
 }
 
-taken_core : (name args : List ℕ) (s : Core) (a : Answer) (rest : List Reply) → Core
+taken_core : (name args : List ℕ) (s : Core) (a : CallResult) (rest : List Reply) → Core
 taken_core name args s a rest = record s {
   regs = put_all caller_saved a.regs s.regs;
   memory = written s.memory
@@ -410,19 +418,19 @@ taken_core name args s a rest = record s {
   events = Called name args ∷ s.events;
 }
 
-answered_by : (name args : List ℕ) (s : Core) (a : Answer) (rest : List Reply) (b : Bool) → writes_frame s.entry s.area (some_writes a.writes) ≡ b →
+answered_by : (name args : List ℕ) (s : Core) (a : CallResult) (rest : List Reply) (b : Bool) → writes_frame s.entry s.area (some_writes a.writes) ≡ b →
     answered name args s (reply_of a ∷ rest) ≡ cond b step.Traps (step.Falls (taken_core name args s a rest))
 unfolding taken_core
 answered_by name args s a rest b h = ap (λ (x : Bool). cond x step.Traps (step.Falls (taken_core name args s a rest))) h
 
-pub takes_faults : (m : Machine) (a : Answer) → true ≡ writes_frame m.entry m.area (some_writes a.writes) → Takes a Faults m m
+pub takes_faults : (m : InterpreterState) (a : CallResult) → true ≡ writes_frame m.entry m.area (some_writes a.writes) → Takes a Faults m m
 takes_faults m a e = record {
   ends = λ name args rest s holds. answered_by name args s a rest true ((λ i. writes_frame (holds.entry i) (holds.area i) (some_writes a.writes)) ∙ sym e);
   stays = refl;
   leads = tt;
 }
 
-pub takes_falls : (old : Machine) (regs : List (Option ℕ)) (bytes : List (ℕ × ℕ)) (a : Answer) →
+pub takes_falls : (old : InterpreterState) (regs : List (Option ℕ)) (bytes : List (ℕ × ℕ)) (a : CallResult) →
     false ≡ writes_frame old.entry old.area (some_writes a.writes) →
     ((f : ℕ → Option ℕ) → RegistersHold old.registers f → RegistersHold regs (put_all caller_saved a.regs f)) →
     ((f : ℕ → ℕ) → MemoryHolds old.memory f → MemoryHolds bytes (written f (some_writes a.writes))) →
@@ -450,26 +458,27 @@ takes_falls old regs bytes a e registers memory = record {
 }
 
 -- ---- the same under a result that may lack memory
-pub stores_ok : (m new : Machine) (rs v a offset : ℕ) (op : StoreOp) (base : Base) → Some v ≡ slice_index_or m.registers rs None →
+pub stores_ok : (m new : InterpreterState) (rs v a offset : ℕ) (op : StoreOp) (base : Base) → Some v ≡ slice_index_or m.registers rs None →
     ((s : Core) → MachineHolds m s → AddressHolds s base offset (Some a)) → (r : Result Outcome AllocError) →
-    IfOk r (λ o. Does (put_in_memory op base a v) o m new) → IfOk r (λ o. (answer : Option Answer) → Acts (Stores op rs base offset) answer o m new)
+    IfOk r (λ o. Does (put_in_memory op base a v) o m new) → IfOk r (λ o. (answer : Option CallResult) → Acts (Stores op rs base offset) answer o m new)
 stores_ok m new rs v a offset op base e at (Ok o) h = stores_so m new o rs v a offset op base e at h
 stores_ok m new rs v a offset op base e at (Err x) h = h
 
-pub calls_ok : (m new : Machine) (args : List ℕ) (a : Answer) → ((s : Core) → MachineHolds m s → true ≡ are_written s args) →
+pub calls_ok : (m new : InterpreterState) (args : List ℕ) (a : CallResult) → ((s : Core) → MachineHolds m s → true ≡ are_written s args) →
     (r : Result Outcome AllocError) → IfOk r (λ o. Takes a o m new) → IfOk r (λ o. (name : List ℕ) → Acts (Calls name args) (Some a) o m new)
 calls_ok m new args a h (Ok o) took = λ name. calls_takes m new o name args a h took
 calls_ok m new args a h (Err x) took = took
 
-pub at_row : (r q : Row) (answer : Option Answer) (o : Outcome) (m new : Machine) → r ≡ q → Acts q answer o m new → Acts r answer o m new
+pub at_row : (r q : Row) (answer : Option CallResult) (o : Outcome) (m new : InterpreterState) → r ≡ q → Acts q answer o m new → Acts r answer o m new
 at_row r q answer o m new e h = subst (λ (x : Row). Acts x answer o m new) (sym e) h
 
-pub at_row_ok : (r q : Row) (answer : Option Answer) (m new : Machine) → r ≡ q → (x : Result Outcome AllocError) →
-    IfOk x (λ o. (a : Option Answer) → Acts q a o m new) → IfOk x (λ o. Acts r answer o m new)
+pub at_row_ok : (r q : Row) (answer : Option CallResult) (m new : InterpreterState) → r ≡ q → (x : Result Outcome AllocError) →
+    IfOk x (λ o. (a : Option CallResult) → Acts q a o m new) → IfOk x (λ o. Acts r answer o m new)
 at_row_ok r q answer m new e (Ok o) h = at_row r q answer o m new e (h answer)
 at_row_ok r q answer m new e (Err x) h = h
 
-pub at_call_ok : (i : Instruction) (operands : List Operand) (name args : List ℕ) (answer : Option Answer) (m new : Machine) → operands ≡ i.operands →
+pub at_call_ok : (i : Instruction) (operands : List Operand) (name args : List ℕ) (answer : Option CallResult) (m new : InterpreterState) →
+    operands ≡ i.operands →
     row_of i ≡ Calls name args → (x : Result Outcome AllocError) → IfOk x (λ o. (n : List ℕ) → Acts (Calls n (implicit_uses operands)) answer o m new) →
     IfOk x (λ o. Acts (row_of i) answer o m new)
 at_call_ok i operands name args answer m new w e (Ok o) h =
@@ -477,7 +486,7 @@ at_call_ok i operands name args answer m new w e (Ok o) h =
     at_row (row_of i) (Calls name (implicit_uses operands)) answer o m new (e ∙ ap (λ (xs : List ℕ). Calls name xs) same) (h name)
 at_call_ok i operands name args answer m new w e (Err x) h = h
 
-pub at_return : (i : Instruction) (operands : List Operand) (results : List ℕ) (answer : Option Answer) (o : Outcome) (m new : Machine) →
+pub at_return : (i : Instruction) (operands : List Operand) (results : List ℕ) (answer : Option CallResult) (o : Outcome) (m new : InterpreterState) →
     operands ≡ i.operands → row_of i ≡ Returns results → Acts (Returns (implicit_uses operands)) answer o m new → Acts (row_of i) answer o m new
 at_return i operands results answer o m new w e h =
     let same : results ≡ implicit_uses operands = subst (λ (r : Row). AreImplicit i.operands r) e (implicit i) ∙ sym (ap implicit_uses w) in

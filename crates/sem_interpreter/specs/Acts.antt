@@ -4,7 +4,7 @@ use Rattle.rv64_instr.specs.Access.{input_reads, base_reads}
 use Rattle.rv64_instr.specs.Row.{Row, Calls}
 use Rattle.rv64_instr.specs.declared.decoded.Base.{Base}
 use Rattle.rv64_instr.specs.declared.decoded.Input.{Input}
-use Rattle.rv64_instr.specs.declared.start.Answer.{Answer}
+use Rattle.rv64_instr.specs.declared.start.CallResult.{CallResult}
 use Rattle.rv64_instr.specs.declared.start.Start.{Start}
 use Rattle.mir_func.specs.declared.object.Object.{Object}
 use Rattle.mir_func.specs.declared.position.Pos.{Pos}
@@ -13,14 +13,14 @@ use Rattle.sem_mir.specs.State.{Core, Reply, written}
 use Rattle.sem_mir.specs.Step as step
 use Rattle.sem_mir.specs.Step.{act, address_at, answered, are_written, input_value}
 use Rattle.mir_func.specs.Graph.{below, block_start, RowEdge}
-use Rattle.sem_interpreter.specs.declared.machine.Machine.{Machine}
+use Rattle.sem_interpreter.specs.declared.machine.InterpreterState.{InterpreterState}
 use Rattle.sem_interpreter.specs.declared.machine.Outcome.{Outcome}
 use Rattle.sem_interpreter.specs.declared.machine.Outcome.TheVariants.{Falls, Goes, Returns as Ended, Faults, Waits}
 use Rattle.sem_interpreter.specs.Held.{MemoryHolds, some_writes}
 use Rattle.sem_interpreter.specs.Places.{ObjectsHold, RegistersHold, SlotsHold, starting_registers}
 
 -- the core has the stack objects, registers, slots and memory of the interpreter's machine
-pub record MachineHolds (m : Machine) (s : Core) : Type 0 where
+pub record MachineHolds (m : InterpreterState) (s : Core) : Type 0 where
   pub entry : s.entry ≡ m.entry
   pub area : s.area ≡ m.area
   pub objects : ObjectsHold m.objects s.objects
@@ -29,7 +29,7 @@ pub record MachineHolds (m : Machine) (s : Core) : Type 0 where
   pub memory : MemoryHolds m.memory s.memory
 
 -- the interpreter's machine at the start of a run of a function with these stack objects
-pub record StartsMachine (stack : List Object) (start : Start) (m : Machine) : Type 0 where
+pub record StartsMachine (stack : List Object) (start : Start) (m : InterpreterState) : Type 0 where
   pub entry : m.entry ≡ slice_index start.regs 2
   pub area : m.area ≡ area_of stack
   pub objects : ObjectsHold m.objects (offset_of stack)
@@ -38,27 +38,27 @@ pub record StartsMachine (stack : List Object) (start : Start) (m : Machine) : T
   pub memory : MemoryHolds m.memory (written (λ _. 0) start.memory)
 
 -- the reply of the definitions for an answer
-abbrev pub reply_of : Answer → Reply
+abbrev pub reply_of : CallResult → Reply
 reply_of a = record { regs = a.regs; writes = some_writes a.writes }
 
 -- the script's next reply is that of this answer, or there is none
-abbrev pub IsNext : Option Answer → List Reply → Type 0
+abbrev pub IsNext : Option CallResult → List Reply → Type 0
 IsNext None script = script ≡ []
 IsNext (Some a) script = (rest : List Reply) × (script ≡ reply_of a ∷ rest)
 
 -- at a call the script agrees with the answer that is passed in. At other code it is arbitrary
-abbrev pub IsAnswered : Row → Option Answer → List Reply → Type 0
+abbrev pub IsAnswered : Row → Option CallResult → List Reply → Type 0
 IsAnswered (Calls name args) answer script = IsNext answer script
 IsAnswered _ answer script = Unit {0}
 
 -- the core c has the machine `now`, and the pairs and assignments of the core s
-pub record Moved (now : Machine) (s c : Core) : Type 0 where
+pub record Moved (now : InterpreterState) (s c : Core) : Type 0 where
   pub machine : MachineHolds now c
   pub pairs : c.pairs ≡ s.pairs
   pub marks : c.marks ≡ s.marks
 
 -- the outcome is the definition's, and its core has the machine `now`
-abbrev pub EndsSo : Outcome → Machine → Core → step.Outcome → Type 0
+abbrev pub EndsSo : Outcome → InterpreterState → Core → step.Outcome → Type 0
 EndsSo Falls now s x = (c : Core) × (x ≡ step.Falls c) × Moved now s c
 EndsSo (Goes n) now s x = (c : Core) × (x ≡ step.Goes n c) × Moved now s c
 EndsSo Ended now s x = (results : List ℕ) × (x ≡ step.Gives results)
@@ -66,7 +66,7 @@ EndsSo Faults now s x = x ≡ step.Traps
 EndsSo Waits now s x = x ≡ step.Asks
 
 -- an outcome that ends the run, faults or waits changes nothing
-abbrev pub Stays : Outcome → Machine → Machine → Type 0
+abbrev pub Stays : Outcome → InterpreterState → InterpreterState → Type 0
 Stays Falls old new = Unit {0}
 Stays (Goes n) old new = Unit {0}
 Stays Ended old new = new ≡ old
@@ -87,19 +87,19 @@ GoesNowhere (Goes n) = ⊥
 GoesNowhere _ = Unit {0}
 
 -- code of this row takes the machine from old to new, with this outcome, as the definition does
-pub record Acts (r : Row) (answer : Option Answer) (o : Outcome) (old new : Machine) : Type 0 where
+pub record Acts (r : Row) (answer : Option CallResult) (o : Outcome) (old new : InterpreterState) : Type 0 where
   pub ends : (s : Core) → MachineHolds old s → IsAnswered r answer s.script → EndsSo o new s (act r s)
   pub stays : Stays o old new
   pub leads : Leads r o
 
 -- the same for a part of what code of a row does
-pub record Does (f : Core → step.Outcome) (o : Outcome) (old new : Machine) : Type 0 where
+pub record Does (f : Core → step.Outcome) (o : Outcome) (old new : InterpreterState) : Type 0 where
   pub ends : (s : Core) → MachineHolds old s → EndsSo o new s (f s)
   pub stays : Stays o old new
   pub leads : GoesNowhere o
 
 -- the same for a call with this answer
-pub record Takes (a : Answer) (o : Outcome) (old new : Machine) : Type 0 where
+pub record Takes (a : CallResult) (o : Outcome) (old new : InterpreterState) : Type 0 where
   pub ends : (name args : List ℕ) (rest : List Reply) (s : Core) → MachineHolds old s → EndsSo o new s (answered name args s (reply_of a ∷ rest))
   pub stays : Stays o old new
   pub leads : GoesNowhere o

@@ -2,11 +2,11 @@
 use Rattle.std.specs.Prelude.{◌≡◌, ◌<◌, ◌^◌, ℕ, List, [], length, All, Option, Some, None, Bool, true, ◌&&◌, nat_eq, slice_index}
 use Rattle.std.specs.Map.{lookup}
 use Rattle.rv64_instr.specs.Row.{row_of}
-use Rattle.rv64_instr.specs.declared.start.Answer.{Answer}
+use Rattle.rv64_instr.specs.declared.start.CallResult.{CallResult}
 use Rattle.rv64_instr.specs.declared.start.Start.{Start}
 use Rattle.mir_func.specs.declared.position.Pos.{Pos}
 use Rattle.mir_func.specs.declared.block.Block.{Block}
-use Rattle.mir_func.specs.declared.entry.Entry.{Entry}
+use Rattle.mir_func.specs.declared.entry.DebugSubstitution.{DebugSubstitution}
 use Rattle.mir_func.specs.declared.item.ItemKind.{ItemKind}
 use Rattle.mir_func.specs.declared.item.ItemKind.TheVariants.{Code, Mark, Phi}
 use Rattle.mir_func.specs.declared.object.Object.{Object}
@@ -15,10 +15,10 @@ use Rattle.mir_func.specs.Parts.{Bytes}
 use Rattle.sem_mir.specs.State.{Core, State, Reply, content, written}
 use Rattle.sem_mir.specs.Step as step
 use Rattle.sem_mir.specs.Step.{do_item}
-use Rattle.mir_func.specs.Graph.{Fetch, Here, Silent, Outside, below, block_start, program_of, fetch_in, from_block, KindEdge}
+use Rattle.mir_func.specs.Graph.{Fetch, Here, EndOfBlock, Outside, below, block_start, program_of, fetch_in, from_block, KindEdge}
 use Rattle.sem_mir.specs.Follow.{first_of}
 use Rattle.mir_func.specs.Resolve.{resolve}
-use Rattle.sem_interpreter.specs.declared.machine.Machine.{Machine}
+use Rattle.sem_interpreter.specs.declared.machine.InterpreterState.{InterpreterState}
 use Rattle.sem_interpreter.specs.declared.machine.Outcome.{Outcome}
 use Rattle.sem_interpreter.specs.declared.machine.Outcome.TheVariants.{Falls, Goes, Returns as Ended, Faults, Waits}
 use Rattle.sem_interpreter.specs.Places.{starting_registers}
@@ -29,7 +29,7 @@ use Rattle.sem_interpreter.specs.Assigned.{MarksHold}
 -- its node and the node that it is inlined at, the assignments to its parts
 pub record Concrete : Type 0 where
   pub pos : Pos
-  pub machine : Machine
+  pub machine : InterpreterState
   pub pairs : List ((ℕ × ℕ) × Option ℕ)
   pub assigned : List ((ℕ × Option ℕ) × List (Option Bytes × Option ℕ))
 
@@ -70,15 +70,15 @@ pub record Starts (stack : List Object) (blocks : List Block) (start : Start) (s
   pub marks : s.core.marks ≡ []
 
 -- at a call the script agrees with the answer that is passed in. At any other item it is arbitrary
-abbrev pub IsItemAnswered : ItemKind → Option Answer → List Reply → Type 0
+abbrev pub IsItemAnswered : ItemKind → Option CallResult → List Reply → Type 0
 IsItemAnswered (Code i k) answer script = IsAnswered (row_of i) answer script
 IsItemAnswered (Mark v m) answer script = Unit {0}
 IsItemAnswered (Phi p k) answer script = Unit {0}
 
 -- the same for what is at a position: at a block's end the script is arbitrary
-abbrev pub IsStepAnswered : Fetch → Option Answer → List Reply → Type 0
+abbrev pub IsStepAnswered : Fetch → Option CallResult → List Reply → Type 0
 IsStepAnswered (Here i) answer script = IsItemAnswered i.kind answer script
-IsStepAnswered (Silent k n) answer script = Unit {0}
+IsStepAnswered (EndOfBlock k n) answer script = Unit {0}
 IsStepAnswered Outside answer script = Unit {0}
 
 -- the outcome is the definition's, and the new state represents its core
@@ -106,7 +106,7 @@ ItemLeads kind Faults = Unit {0}
 ItemLeads kind Waits = Unit {0}
 
 -- the item takes the interpreter from the old state to the new one, with this outcome, as the definition does
-pub record DoesItem (subs : List Entry) (kind : ItemKind) (answer : Option Answer) (o : Outcome) (old new : Concrete) : Type 0 where
+pub record DoesItem (subs : List DebugSubstitution) (kind : ItemKind) (answer : Option CallResult) (o : Outcome) (old new : Concrete) : Type 0 where
   pub ends : (s : Core) → Holds old s → IsItemAnswered kind answer s.script → EndsItem o new (do_item (program_of true [] (resolve subs)) kind s)
   pub stays : StaysAll o old new
   pub leads : ItemLeads kind o
@@ -116,6 +116,6 @@ pub record DoesItem (subs : List Entry) (kind : ItemKind) (answer : Option Answe
 abbrev pub IsPosition : List Block → Pos → Type 0
 IsPosition blocks p = fetch_in (from_block blocks p.block) p.item ≡ Outside → ⊥
 
--- each block has fewer items than a position can count. In a function that was read this is so: `silent`, of 32 bits, is their number
+-- each block has fewer items than a position can count. In a function that was read this is so: `source_end`, of 32 bits, is their number
 abbrev pub AreCounted : List Block → Type 0
 AreCounted blocks = All (λ b. length b.items < 2 ^ 32) blocks

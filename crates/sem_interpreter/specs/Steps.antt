@@ -1,8 +1,8 @@
 -- The interpreter's steps, as steps of the definition.
 use Rattle.std.specs.Prelude.{◌≡◌, ℕ, List, [], Option, true}
-use Rattle.rv64_instr.specs.declared.start.Answer.{Answer}
+use Rattle.rv64_instr.specs.declared.start.CallResult.{CallResult}
 use Rattle.mir_func.specs.declared.block.Block.{Block}
-use Rattle.mir_func.specs.declared.entry.Entry.{Entry}
+use Rattle.mir_func.specs.declared.entry.DebugSubstitution.{DebugSubstitution}
 use Rattle.sem_mir.specs.State.{Event, Reply, State}
 use Rattle.sem_mir.specs.Step as step
 use Rattle.sem_mir.specs.Step.{Next, do_fetch, moved}
@@ -23,12 +23,12 @@ IsStep Faulted now n = n ≡ step.Faulted
 IsStep Waits now n = n ≡ step.Waits
 
 -- the function as a source program, whose debug items see the content of x2
-abbrev pub source_of : List Block → List Entry → Program
+abbrev pub source_of : List Block → List DebugSubstitution → Program
 source_of blocks subs = program_of true blocks (resolve subs)
 
 -- from each state that `old` represents, with a script that agrees with the answer at a call, a step of the source has
 -- this result
-abbrev pub Steps : Program → Option Answer → SourceStep → Concrete → Concrete → Type 0
+abbrev pub Steps : Program → Option CallResult → SourceStep → Concrete → Concrete → Type 0
 Steps g answer r old new = (s : State) → StandsFor old s → IsStepAnswered (g.fetch s.pos) answer s.core.script → IsStep r new (step.step g s)
 
 -- a step that doesn't go on changes nothing
@@ -39,7 +39,7 @@ ChangesOnlyByGoing Faulted old new = new ≡ old
 ChangesOnlyByGoing Waits old new = new ≡ old
 
 -- the same by what is at the position
-abbrev pub StepsFrom : Fetch → List Entry → Option Answer → SourceStep → Concrete → Concrete → Type 0
+abbrev pub StepsFrom : Fetch → List DebugSubstitution → Option CallResult → SourceStep → Concrete → Concrete → Type 0
 StepsFrom here subs answer r old new = (s : State) → StandsFor old s → IsStepAnswered here answer s.core.script →
     IsStep r new (moved (λ n. n) s.pos (do_fetch (source_of [] subs) here s.core))
 
@@ -75,6 +75,6 @@ pub record IsState (c : Concrete) (script : List Reply) (events : List Event) : 
 
 -- after a step that returned and changed nothing, each later step returns too, whatever answer it gets
 abbrev pub ReturnsAgain : Type 0
-ReturnsAgain = (g : Program) (answer other : Option Answer) (r : SourceStep) (kept new : Concrete) →
+ReturnsAgain = (g : Program) (answer other : Option CallResult) (r : SourceStep) (kept new : Concrete) →
     ((script : List Reply) (events : List Event) → IsState kept script events) →
     Steps g answer Returned kept kept → Steps g other r kept new → r ≡ Returned

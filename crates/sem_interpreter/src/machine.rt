@@ -4,7 +4,7 @@ ghost use Rattle.std.specs.Prelude.{◌≡◌, ◌≤◌, ℕ, List, All, IfOk, 
 ghost use Rattle.std.specs.Option.{option_copied};
 ghost use Rattle.rv64_instr.specs.Row as row;
 ghost use Rattle.rv64_instr.specs.Row.{row_of, implicit_uses};
-ghost use Rattle.rv64_instr.specs.declared.start.Answer.{Answer};
+ghost use Rattle.rv64_instr.specs.declared.start.CallResult.{CallResult};
 ghost use Rattle.mir_func.specs.Limits.{MAX_SLOTS};
 ghost use Rattle.mir_func.specs.Objects.{AreLaidFrom};
 ghost use Rattle.mir_func.specs.Sound.{IsSoundObject};
@@ -25,12 +25,12 @@ use rv64_instr::instr::Instr;
 use rv64_instr::op::{BranchOp, LoadOp, RegisterOp, StoreOp};
 use rv64_instr::operand::Operand;
 use rv64_instr::reg::Reg;
-use rv64_instr::start::{Answer, Start};
+use rv64_instr::start::{CallResult, Start};
 use std::alloc::{AllocError, Global};
 
 /// What code reads and writes: registers, frame slots and memory, and the offsets of stack objects.
 #[derive(Drop)]
-pub struct Machine {
+pub struct InterpreterState {
     /// The stack pointer at entry.
     pub entry: u64,
     /// How many bytes right below it the stack objects take.
@@ -57,15 +57,19 @@ pub enum Outcome {
     Waits,
 }
 
-impl Machine {
+impl InterpreterState {
     /// The machine at the start of a run of a function with these stack objects.
-    pub fn new(alloc: Global, stack: &[Object], start: &Start) -> Result<Machine, AllocError>
+    pub fn new(
+        alloc: Global,
+        stack: &[Object],
+        start: &Start,
+    ) -> Result<InterpreterState, AllocError>
         requires few { length stack.now ≤ MAX_SLOTS }
         requires each { All IsSoundObject stack.now }
         requires laid { AreLaidFrom 0 stack.now }
         ensures { IfOk result (λ made. StartsMachine stack.now start.now made) }
     {
-        Ok(Machine {
+        Ok(InterpreterState {
             entry: start.regs[2],
             area: objects::area(stack),
             objects: Offsets::new(alloc, stack)?,
@@ -77,7 +81,7 @@ impl Machine {
 
     /// Executes an instruction. If it doesn't go on, as a call without an answer, or if memory runs out, nothing
     /// changes.
-    pub fn act(&mut self, i: &Instr, answer: Option<&Answer>) -> Result<Outcome, AllocError>
+    pub fn act(&mut self, i: &Instr, answer: Option<&CallResult>) -> Result<Outcome, AllocError>
         ensures ok { IfOk result (λ o. Acts (row_of i.now) (option_copied answer.entry) o self.old self.new) }
         ensures err { OnErr result (self.new ≡ self.old) }
     {
@@ -98,14 +102,14 @@ impl Machine {
     }
 
     fn set(&mut self, rd: Reg, n: u64) -> Outcome
-        ensures { (answer : Option Answer) → Acts (row.Fixes rd n) answer result self.old self.new }
+        ensures { (answer : Option CallResult) → Acts (row.Fixes rd n) answer result self.old self.new }
     {
         self.registers.write(rd, n);
         Outcome::Falls
     }
 
     fn copy(&mut self, rd: Reg, rs: Reg) -> Outcome
-        ensures { (answer : Option Answer) → Acts (row.Moves rd rs) answer result self.old self.new }
+        ensures { (answer : Option CallResult) → Acts (row.Moves rd rs) answer result self.old self.new }
     {
         match self.registers.read(rs) {
             Some(value) => {
@@ -117,7 +121,7 @@ impl Machine {
     }
 
     fn compute(&mut self, rd: Reg, op: RegisterOp, a: Reg, b: Input) -> Outcome
-        ensures { (answer : Option Answer)
+        ensures { (answer : Option CallResult)
             → Acts (row.Sets rd op a b) answer result self.old self.new }
     {
         let Some(x) = self.registers.read(a) else {
@@ -141,7 +145,7 @@ impl Machine {
     }
 
     fn address_of(&mut self, rd: Reg, n: ObjectId, offset: u64) -> Outcome
-        ensures { (answer : Option Answer) → Acts (row.Addresses rd n offset) answer result self.old self.new }
+        ensures { (answer : Option CallResult) → Acts (row.Addresses rd n offset) answer result self.old self.new }
     {
         let address = self.object_address(n).wrapping_add(offset);
         self.registers.write(rd, address);
@@ -181,7 +185,7 @@ impl Machine {
     }
 
     fn load(&mut self, rd: Reg, op: LoadOp, base: Base, offset: u64) -> Outcome
-        ensures { (answer : Option Answer)
+        ensures { (answer : Option CallResult)
             → Acts (row.Loads rd op base offset) answer result self.old self.new }
     {
         match self.address(&base, offset) {
@@ -209,7 +213,7 @@ impl Machine {
         base: Base,
         offset: u64,
     ) -> Result<Outcome, AllocError>
-        ensures ok { IfOk result (λ o. (answer : Option Answer)
+        ensures ok { IfOk result (λ o. (answer : Option CallResult)
             → Acts (row.Stores op rs base offset) answer o self.old self.new) }
         ensures err { OnErr result (self.new ≡ self.old) }
     {
@@ -241,7 +245,7 @@ impl Machine {
     }
 
     fn load_slot(&mut self, rd: Reg, slot: SlotId) -> Outcome
-        ensures { (answer : Option Answer) → Acts (row.LoadsSlot rd slot) answer result self.old self.new }
+        ensures { (answer : Option CallResult) → Acts (row.LoadsSlot rd slot) answer result self.old self.new }
     {
         match self.slots.read(slot) {
             Some(value) => {
@@ -253,7 +257,7 @@ impl Machine {
     }
 
     fn store_slot(&mut self, rs: Reg, slot: SlotId) -> Result<Outcome, AllocError>
-        ensures ok { IfOk result (λ o. (answer : Option Answer)
+        ensures ok { IfOk result (λ o. (answer : Option CallResult)
             → Acts (row.StoresSlot rs slot) answer o self.old self.new) }
         ensures err { OnErr result (self.new ≡ self.old) }
     {
@@ -267,7 +271,7 @@ impl Machine {
     }
 
     fn branch(&self, op: BranchOp, a: Reg, b: Reg, target: BlockId) -> Outcome
-        ensures { (answer : Option Answer) → Acts (row.Branches op a b target) answer result self.now self.now }
+        ensures { (answer : Option CallResult) → Acts (row.Branches op a b target) answer result self.now self.now }
     {
         let Some(x) = self.registers.read(a) else {
             return Outcome::Faults;
@@ -282,7 +286,11 @@ impl Machine {
         }
     }
 
-    fn call(&mut self, operands: &[Operand], answer: Option<&Answer>) -> Result<Outcome, AllocError>
+    fn call(
+        &mut self,
+        operands: &[Operand],
+        answer: Option<&CallResult>,
+    ) -> Result<Outcome, AllocError>
         ensures ok { IfOk result (λ o. (name : List ℕ) → Acts (row.Calls name (implicit_uses operands.now))
             (option_copied answer.entry) o self.old self.new) }
         ensures err { OnErr result (self.new ≡ self.old) }
@@ -297,7 +305,7 @@ impl Machine {
     }
 
     /// The effect of a call's answer.
-    fn take(&mut self, answer: &Answer) -> Result<Outcome, AllocError>
+    fn take(&mut self, answer: &CallResult) -> Result<Outcome, AllocError>
         ensures ok { IfOk result (λ o. Takes answer.now o self.old self.new) }
         ensures err { OnErr result (self.new ≡ self.old) }
     {
@@ -310,7 +318,7 @@ impl Machine {
     }
 
     fn finish(&self, operands: &[Operand]) -> Outcome
-        ensures { (answer : Option Answer)
+        ensures { (answer : Option CallResult)
             → Acts (row.Returns (implicit_uses operands.now)) answer result self.now self.now }
     {
         if self.are_written(operands) {

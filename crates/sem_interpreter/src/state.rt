@@ -3,8 +3,8 @@
 ghost use Rattle.std.specs.Prelude.{◌≡◌, ◌<◌, ◌+◌, ◌^◌, ◌↔◌, true, [], length};
 ghost use Rattle.std.specs.Prelude.{List, Option, Some, None, IfOk, OnErr, IsTrue};
 ghost use Rattle.std.specs.Option.{option_copied};
-ghost use Rattle.rv64_instr.specs.declared.start.Answer.{Answer};
-ghost use Rattle.mir_func.specs.declared.entry.Entry.{Entry};
+ghost use Rattle.rv64_instr.specs.declared.start.CallResult.{CallResult};
+ghost use Rattle.mir_func.specs.declared.entry.DebugSubstitution.{DebugSubstitution};
 ghost use Rattle.sem_mir.specs.State.{Core, Event, Reply, State, assigned};
 ghost use Rattle.sem_mir.specs.Step as step;
 ghost use Rattle.mir_func.specs.Graph.{Outside, program_of, fetch_in};
@@ -17,7 +17,7 @@ ghost use Rattle.rv64_instr.specs.Parts.{is_call};
 
 use crate::assignments::{Assignments, part_of};
 use crate::blocks;
-use crate::machine::{Machine, Outcome};
+use crate::machine::{InterpreterState, Outcome};
 use crate::pairs::{self, Pairs};
 use base_ids::code::{BlockId, DebugNumber};
 use indexmap::IndexMap;
@@ -31,7 +31,7 @@ use mir_substitution::substitutions::Substitutions;
 use rv64_instr::instr::Instr;
 use rv64_instr::parts::is_call;
 use rv64_instr::place::Place;
-use rv64_instr::start::{Answer, Start};
+use rv64_instr::start::{CallResult, Start};
 use std::alloc::{AllocError, Global};
 use std::marker::Model;
 
@@ -52,7 +52,7 @@ pub enum SourceStep {
 #[derive(Drop)]
 pub struct SourceState {
     pos: Pos,
-    machine: Machine,
+    machine: InterpreterState,
     /// The last value of each pair of a debug instruction number and an operand's index.
     pairs: Pairs,
     /// The last assignment to each part of a variable.
@@ -81,7 +81,7 @@ impl SourceState {
                 block: first(f.blocks.as_slice()),
                 item: 0,
             },
-            machine: Machine::new(alloc, f.objects.as_slice(), start)?,
+            machine: InterpreterState::new(alloc, f.objects.as_slice(), start)?,
             pairs: IndexMap::new(alloc),
             assigned: Assignments::new(alloc),
             probable: blocks::places(alloc, f.blocks.as_slice())?,
@@ -123,7 +123,7 @@ impl SourceState {
         &mut self,
         f: &Func,
         subs: &Substitutions,
-        answer: Option<&Answer>,
+        answer: Option<&CallResult>,
     ) -> Result<SourceStep, AllocError>
         requires counted { AreCounted f.now.blocks }
         requires at { IsPosition f.now.blocks self.old.pos }
@@ -145,7 +145,7 @@ impl SourceState {
         &mut self,
         blocks: &[Block],
         subs: &Substitutions,
-        answer: Option<&Answer>,
+        answer: Option<&CallResult>,
     ) -> Result<SourceStep, AllocError>
         requires some { 0 < length blocks.now }
         requires counted { AreCounted blocks.now }
@@ -196,7 +196,7 @@ impl SourceState {
         &mut self,
         kind: &ItemKind,
         subs: &Substitutions,
-        answer: Option<&Answer>,
+        answer: Option<&CallResult>,
     ) -> Result<Outcome, AllocError>
         ensures ok { IfOk result (λ o. DoesItem subs.now kind.now (option_copied answer.entry) o self.old self.new) }
         ensures err { OnErr result (self.new ≡ self.old) }
@@ -212,9 +212,9 @@ impl SourceState {
         &mut self,
         i: &Instr,
         k: Option<DebugNumber>,
-        answer: Option<&Answer>,
+        answer: Option<&CallResult>,
     ) -> Result<Outcome, AllocError>
-        ensures ok { IfOk result (λ o. (subs : List Entry)
+        ensures ok { IfOk result (λ o. (subs : List DebugSubstitution)
             → DoesItem subs (ItemKind.Code i.now k) (option_copied answer.entry) o self.old self.new) }
         ensures err { OnErr result (self.new ≡ self.old) }
     {
@@ -225,8 +225,8 @@ impl SourceState {
     }
 
     /// Executes code without a number.
-    fn do_plain(&mut self, i: &Instr, answer: Option<&Answer>) -> Result<Outcome, AllocError>
-        ensures ok { IfOk result (λ o. (subs : List Entry)
+    fn do_plain(&mut self, i: &Instr, answer: Option<&CallResult>) -> Result<Outcome, AllocError>
+        ensures ok { IfOk result (λ o. (subs : List DebugSubstitution)
             → DoesItem subs (ItemKind.Code i.now None) (option_copied answer.entry) o self.old self.new) }
         ensures err { OnErr result (self.new ≡ self.old) }
     {
@@ -239,9 +239,9 @@ impl SourceState {
         &mut self,
         i: &Instr,
         k: DebugNumber,
-        answer: Option<&Answer>,
+        answer: Option<&CallResult>,
     ) -> Result<Outcome, AllocError>
-        ensures ok { IfOk result (λ o. (subs : List Entry)
+        ensures ok { IfOk result (λ o. (subs : List DebugSubstitution)
             → DoesItem subs (ItemKind.Code i.now (Some k)) (option_copied answer.entry) o self.old self.new) }
         ensures err { OnErr result (self.new ≡ self.old) }
     {
@@ -265,7 +265,7 @@ impl SourceState {
 
     /// Executes a mark.
     fn mark(&mut self, v: &VarId, m: MarkValue, subs: &Substitutions) -> Result<Outcome, AllocError>
-        ensures ok { IfOk result (λ o. (answer : Option Answer)
+        ensures ok { IfOk result (λ o. (answer : Option CallResult)
             → DoesItem subs.now (ItemKind.Mark v.now m) answer o self.old self.new) }
         ensures err { OnErr result (self.new ≡ self.old) }
     {
@@ -305,7 +305,7 @@ impl SourceState {
 
     /// Executes a phi.
     fn phi(&mut self, place: Option<Place>, k: DebugNumber) -> Result<Outcome, AllocError>
-        ensures ok { IfOk result (λ o. (subs : List Entry) (answer : Option Answer)
+        ensures ok { IfOk result (λ o. (subs : List DebugSubstitution) (answer : Option CallResult)
             → DoesItem subs (ItemKind.Phi place k) answer o self.old self.new) }
         ensures err { OnErr result (self.new ≡ self.old) }
     {

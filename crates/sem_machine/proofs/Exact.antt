@@ -12,7 +12,7 @@ use Rattle.mir_func.specs.declared.block.Block.{Block}
 use Rattle.mir_func.specs.declared.item.Item.{Item}
 use Rattle.mir_func.specs.declared.item.ItemKind.{ItemKind}
 use Rattle.mir_func.specs.declared.item.ItemKind.TheVariants.{Code}
-use Rattle.mir_func.specs.Graph.{Fetch, Here, Silent, Program, below, block_start, front, framed_program, Edge, RowEdge, KindEdge, FetchEdge}
+use Rattle.mir_func.specs.Graph.{Fetch, Here, EndOfBlock, Program, below, block_start, front, framed_program, Edge, RowEdge, KindEdge, FetchEdge}
 use Rattle.sem_mir.specs.Align.{is_code}
 use Rattle.sem_mir.specs.Token.{Tokens, after_item, after_fetch, entry_tokens, variable_token, place_token, Path, begin, onward, SitsIn, IsWanted}
 use Rattle.sem_mir.specs.Token.{NoneIsWanted}
@@ -76,7 +76,7 @@ module _ (prologue block : Block) (resolve : OperandPair → Option OperandPair)
 
   -- from each item control goes to the one below alone
   goes_below : {n : ℕ} {items : List Item} {words : List ℕ} → IsStraight block.id n items words → (j : ℕ) (p q : Pos) →
-      FetchEdge g.enter (front (drop j items) block.silent []) p q → q ≡ below p
+      FetchEdge g.enter (front (drop j items) block.source_end []) p q → q ≡ below p
   goes_below (returns {i = i} {c = c} {k = k} kind own row physical) zero p q e =
       let by_kind : KindEdge g.enter (Code c k) p q = subst (λ (x : ItemKind). KindEdge g.enter x p q) kind e in
       absurd (subst (λ (x : Row). RowEdge g.enter x p q) row by_kind)
@@ -95,7 +95,7 @@ module _ (prologue block : Block) (resolve : OperandPair → Option OperandPair)
   goes_below (marks {v = v} {m = m} kind rest) zero p q e = subst (λ (x : ItemKind). KindEdge g.enter x p q) kind e
   goes_below (marks kind rest) (suc j) p q e = goes_below rest j p q e
 
-  fetch_spot : (n : ℕ) → g.fetch (spot n) ≡ front (drop n block.items) block.silent []
+  fetch_spot : (n : ℕ) → g.fetch (spot n) ≡ front (drop n block.items) block.source_end []
   fetch_spot n = refl
 
   below_spot : (n : ℕ) → below (spot n) ≡ spot (suc n)
@@ -107,16 +107,17 @@ module _ (prologue block : Block) (resolve : OperandPair → Option OperandPair)
   walked (suc n) = after_fetch resolve (suc n) (g.fetch (spot n)) (walked n)
 
   module _ {words : List ℕ} (empty : prologue.items ≡ []) (straight : IsStraight block.id 0 block.items words) where
-    fetch_start : g.fetch start ≡ Silent prologue.silent block.id
-    fetch_start = ap (λ (xs : List Item). front (drop 0 xs) prologue.silent (block ∷ [])) empty
+    fetch_start : g.fetch start ≡ EndOfBlock prologue.source_end block.id
+    fetch_start = ap (λ (xs : List Item). front (drop 0 xs) prologue.source_end (block ∷ [])) empty
 
     entered : g.enter block.id ≡ 1
     entered = ap (λ (b : Bool). suc (cond b 0 1)) (eq-eqb block.id block.id refl)
 
     edge_in : (q : Pos) → Edge g start q → q ≡ spot 0
     edge_in q e =
-        let silent : FetchEdge g.enter (Silent prologue.silent block.id) start q = subst (λ (x : Fetch). FetchEdge g.enter x start q) fetch_start e in
-        silent ∙ ap block_start entered
+        let source_end : FetchEdge g.enter (EndOfBlock prologue.source_end block.id) start q = subst (λ
+        (x : Fetch). FetchEdge g.enter x start q) fetch_start e in
+        source_end ∙ ap block_start entered
 
     edge_down : (n : ℕ) (q : Pos) → Edge g (spot n) q → q ≡ spot (suc n)
     edge_down n q e = goes_below straight n (spot n) q (subst (λ (x : Fetch). FetchEdge g.enter x (spot n) q) (fetch_spot n) e) ∙ below_spot n
@@ -185,7 +186,7 @@ module _ (prologue block : Block) (resolve : OperandPair → Option OperandPair)
         (onward begin (subst (λ (x : Fetch). FetchEdge g.enter x start (spot 0)) (sym fetch_start) (sym (ap block_start entered))))
 
     fetch_here : (n : ℕ) (i : Item) (items : List Item) → drop n block.items ≡ i ∷ items → g.fetch (spot n) ≡ Here i
-    fetch_here n i items rest = fetch_spot n ∙ ap (λ (xs : List Item). front xs block.silent []) rest
+    fetch_here n i items rest = fetch_spot n ∙ ap (λ (xs : List Item). front xs block.source_end []) rest
 
     path_on : (n : ℕ) (i : Item) (items : List Item) (t : Tokens) → drop n block.items ≡ i ∷ items → KindEdge g.enter i.kind (spot n) (spot (suc n)) →
         Path g start (suc n) (spot n) t →

@@ -25,7 +25,7 @@ use Rattle.rv64_instr.specs.Parts.{is_call}
 use Rattle.mir_func.specs.Graph.{Fetch, Here, Program, below, front, fetch_in, program_of}
 use Rattle.sem_mir.specs.Step as source
 use Rattle.sem_mir.specs.Follow.{IsStart}
-use Rattle.sem_mir.specs.Align.{is_code, waits_at, since_of, Since, Start, Same, After, First, Arrives, here, onward, Aligns, Tells}
+use Rattle.sem_mir.specs.Align.{is_code, waits_at, since_of, Since, Start, Same, After, First, Arrives, here, onward, MatchesNext, Tells}
 use Rattle.sem_mir.specs.Token.{Tokens, after_item, after_fetch, entry_tokens}
 use Rattle.sem_mir.proofs.Alignment.{aligns_once}
 use Rattle.sem_mir.proofs.Outcomes.{step_item}
@@ -69,7 +69,7 @@ module _ (block : Block) (resolve : OperandPair → Option OperandPair) (image :
   fetch_here : (u : State) (n : ℕ) (i : Item) (items : List Item) → u.pos ≡ spot n → drop n block.items ≡ i ∷ items → src.fetch u.pos ≡ Here i
   fetch_here u n i items at rest =
       ap src.fetch at ∙ ap (λ (b : Bool). fetch_in (cond b (block ∷ []) []) n) (eq-eqb block.id block.id refl)
-      ∙ ap (λ (xs : List Item). front xs block.silent []) rest
+      ∙ ap (λ (xs : List Item). front xs block.source_end []) rest
 
   spot_below : (p : Pos) (n : ℕ) → p ≡ spot n → below p ≡ spot (suc n)
   spot_below p n e = let k : n + 1 ≡ suc n = omega arith in ap below e ∙ ap spot k
@@ -297,7 +297,7 @@ module _ (block : Block) (resolve : OperandPair → Option OperandPair) (image :
     stands : Stands m state index address tokens items text lines
     way : OnTheWay since s state
 
-  aligned_by : (since : Since) (s u t : State) (p : Pos) → OnTheWay since s u → Arrives src (First p) p u t → Aligns src (First p) p since s t
+  aligned_by : (since : Since) (s u t : State) (p : Pos) → OnTheWay since s u → Arrives src (First p) p u t → MatchesNext src (First p) p since s t
   aligned_by Start s u t p e a = subst (λ (x : State). Arrives src (First p) p x t) (sym e) a
   aligned_by Same s u t p e a = absurd e
   aligned_by After s u t p e a = (u, e, a)

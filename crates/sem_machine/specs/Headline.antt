@@ -11,14 +11,14 @@ use Rattle.sem_mir.specs.State.{State}
 use Rattle.sem_mir.specs.Step.{Returned, step}
 use Rattle.mir_func.specs.Graph.{Program, program_of}
 use Rattle.sem_mir.specs.Follow.{first_of, IsStart}
-use Rattle.sem_mir.specs.Align.{position_of, waits_at, since_of, Since, Start, First, Aligns, FailsBefore, Tells}
+use Rattle.sem_mir.specs.Align.{position_of, waits_at, since_of, Since, Start, First, MatchesNext, FailsBefore, Tells}
 use Rattle.sem_machine.specs.Image.{CodeLine, Image, line_at}
 use Rattle.sem_machine.specs.Machine.{Machine, register, place_content, machine_start}
 use Rattle.sem_machine.specs.MachineStep.{Continues, Ends, machine_step, Comes, IsWell}
 
 -- the source's run leads from s to t, its next state that matches a line: its first state at the position of the line's origin
 abbrev pub AlignsWith : Program → CodeLine → Since → State → State → Type 0
-AlignsWith src l since s t = Aligns src (First (position_of l.origin)) (position_of l.origin) since s t
+AlignsWith src l since s t = MatchesNext src (First (position_of l.origin)) (position_of l.origin) since s t
 
 -- the source stops on a frame fault before it reaches that state
 abbrev pub FailsBeforeLine : Program → CodeLine → Since → State → Type 0

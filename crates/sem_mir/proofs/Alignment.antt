@@ -4,7 +4,7 @@ use Rattle.mir_func.specs.declared.position.Pos.{Pos}
 use Rattle.sem_mir.specs.State.{State}
 use Rattle.sem_mir.specs.Step.{Went, Faulted, step, run}
 use Rattle.mir_func.specs.Graph.{Program}
-use Rattle.sem_mir.specs.Align.{Arrives, here, onward, ArrivesLater, Since, Start, Same, After, Aligns, Fails, fails_here, fails_on, FailsLater}
+use Rattle.sem_mir.specs.Align.{Arrives, here, onward, ArrivesLater, Since, Start, Same, After, MatchesNext, Fails, fails_here, fails_on, FailsLater}
 use Rattle.sem_mir.specs.Align.{FailsBefore}
 use Rattle.sem_mir.proofs.Runs.{run_steps}
 
@@ -23,7 +23,7 @@ module _ (src : Program) (Stops : Pos → Type 0) (p : Pos) where
   arrives_at (onward ne go rest) = arrives_at rest
 
   -- the aligned state stands at the position
-  pub aligns_at : (m : Since) (s t : State) → Aligns src Stops p m s t → t.pos ≡ p
+  pub aligns_at : (m : Since) (s t : State) → MatchesNext src Stops p m s t → t.pos ≡ p
   aligns_at Start s t a = arrives_at a
   aligns_at Same s t (inl a) = ap (λ (x : State). x.pos) (sym a.1) ∙ a.0
   aligns_at Same s t (inr (ne, (u, go, rest))) = arrives_at rest
@@ -42,7 +42,7 @@ module _ (src : Program) (Stops : Pos → Type 0) (p : Pos) where
     arrives_later_once s t t' (u, go, rest) (u', go', rest') = arrives_once rest (went_once src s u u' go go') rest'
 
     -- so the aligned state is unique
-    pub aligns_once : (m : Since) (s t t' : State) → Aligns src Stops p m s t → Aligns src Stops p m s t' → t ≡ t'
+    pub aligns_once : (m : Since) (s t t' : State) → MatchesNext src Stops p m s t → MatchesNext src Stops p m s t' → t ≡ t'
     aligns_once Start s t t' a b = arrives_once a refl b
     aligns_once Same s t t' (inl a) (inl b) = sym a.1 ∙ b.1
     aligns_once Same s t t' (inl a) (inr b) = absurd (b.0 a.0)
@@ -63,7 +63,7 @@ module _ (src : Program) (Stops : Pos → Type 0) (p : Pos) where
     later_not_fails s t (u, go, rest) (inr (u', go', more)) = arrives_not_fails rest (went_once src s u u' go go') more
 
     -- so where there is an aligned state, the source doesn't fail before it
-    pub aligns_not_fails : (m : Since) (s t : State) → Aligns src Stops p m s t → FailsBefore src Stops p m s → ⊥
+    pub aligns_not_fails : (m : Since) (s t : State) → MatchesNext src Stops p m s t → FailsBefore src Stops p m s → ⊥
     aligns_not_fails Start s t a f = arrives_not_fails a refl f
     aligns_not_fails Same s t (inl a) f = f.0 a.0
     aligns_not_fails Same s t (inr a) f = later_not_fails s t a.1 f.1
@@ -75,7 +75,7 @@ module _ (src : Program) (More Fewer : Pos → Type 0) (fewer : (q : Pos) → Fe
   arrives_fewer (here e) = here e
   arrives_fewer (onward {s = s} ne go rest) = onward (λ b. ne (fewer s.pos b)) go (arrives_fewer rest)
 
-  pub aligns_fewer : (m : Since) (s t : State) → Aligns src More p m s t → Aligns src Fewer p m s t
+  pub aligns_fewer : (m : Since) (s t : State) → MatchesNext src More p m s t → MatchesNext src Fewer p m s t
   aligns_fewer Start s t a = arrives_fewer a
   aligns_fewer Same s t (inl a) = inl a
   aligns_fewer Same s t (inr (ne, (u, go, rest))) = inr (ne, (u, go, arrives_fewer rest))

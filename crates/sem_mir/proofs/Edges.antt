@@ -11,7 +11,7 @@ use Rattle.sem_mir.specs.Step.{Went, Outcome, Falls, Goes, Gives, Traps, Asks, B
 use Rattle.sem_mir.specs.Step.{answered, slot_loaded, does, act, are_written, numbered, with_core, mark_value, place_value, do_item, do_fetch, step}
 use Rattle.rv64_instr.specs.Parts.{is_call}
 use Rattle.sem_mir.proofs.Outcomes.{after_reply}
-use Rattle.mir_func.specs.Graph.{Program, Fetch, Here, Silent, Outside, below, block_start, Edge, FetchEdge, KindEdge, RowEdge, Leads, stay, go}
+use Rattle.mir_func.specs.Graph.{Program, Fetch, Here, EndOfBlock, Outside, below, block_start, Edge, FetchEdge, KindEdge, RowEdge, Leads, stay, go}
 
 -- where an outcome leads, an edge of the row leads too
 abbrev pub Allows : (ℕ → ℕ) → Row → Pos → Outcome → Type 0
@@ -80,7 +80,7 @@ fetch_edge g (Here i) p c u e = by_kind i.kind e where
       (act_allows g.enter p (row_of j) c) e
   by_kind (Mark v m) e = falls_below g.enter p (record c { marks = (v, part_of v (mark_value g m c)) ∷ c.marks }) u e
   by_kind (Phi q n) e = falls_below g.enter p (record c { pairs = updated n (updated 0 (place_value q c) (c.pairs n)) c.pairs }) u e
-fetch_edge g (Silent k n) p c u e = goes_to_start g.enter p n c u e
+fetch_edge g (EndOfBlock k n) p c u e = goes_to_start g.enter p n c u e
 fetch_edge g Outside p c u e = cc
 
 pub step_edge : (g : Program) (s u : State) → step g s ≡ Went u → Edge g s.pos u.pos

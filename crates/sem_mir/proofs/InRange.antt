@@ -36,7 +36,7 @@ use Rattle.sem_mir.specs.Step.{Next, Went, Returned, Faulted, Waits, Lost, Outco
 use Rattle.sem_mir.specs.Step.{base_value, address_at, is_fault, part_of, set_register, answered, slot_loaded, saved, does, are_written, act, seen}
 use Rattle.sem_mir.specs.Step.{defined, given, numbered, with_core, place_value, pair_value, mark_value, do_item, do_fetch, moved, step, after, run}
 use Rattle.rv64_instr.specs.Parts.{is_call}
-use Rattle.mir_func.specs.Graph.{Program, Fetch, Here, Silent, Outside, below, block_start}
+use Rattle.mir_func.specs.Graph.{Program, Fetch, Here, EndOfBlock, Outside, below, block_start}
 use Rattle.sem_mir.specs.Follow.{IsStart}
 use Rattle.sem_mir.specs.Effects.{OnCore}
 use Rattle.sem_mir.proofs.Outcomes.{after_reply, on_either}
@@ -320,7 +320,7 @@ item_in_range g (Phi p n) c h = with_pairs c _ h (row_updated c h n (updated 0 (
 
 fetched_in_range : (g : Program) (x : Fetch) (c : Core) → IsInRange c → OnCore IsInRange (do_fetch g x c)
 fetched_in_range g (Here i) c h = item_in_range g i.kind c h
-fetched_in_range g (Silent k n) c h = h
+fetched_in_range g (EndOfBlock k n) c h = h
 fetched_in_range g Outside c h = tt
 
 moved_in_range : (enter : ℕ → ℕ) (p : Pos) (x : Outcome) (t : State) → OnCore IsInRange x → moved enter p x ≡ Went t → IsInRange t.core

@@ -5,7 +5,7 @@ use Rattle.mir_func.specs.declared.item.Item.{Item}
 use Rattle.rv64_instr.specs.Access.{caller_saved}
 use Rattle.sem_mir.specs.State.{State, Core, Reply, Called, put_all, written}
 use Rattle.sem_mir.specs.Step.{Went, Returned, Faulted, Outcome, Falls, Goes, Gives, Traps, Asks, Breaks, moved, with_core, do_item, do_fetch, step}
-use Rattle.mir_func.specs.Graph.{Program, Fetch, Here, Silent, below, block_start}
+use Rattle.mir_func.specs.Graph.{Program, Fetch, Here, EndOfBlock, below, block_start}
 use Rattle.sem_mir.specs.Effects.{OnCore, EndAlike}
 
 -- the core after a call that is answered
@@ -102,5 +102,5 @@ pub step_item : (g : Program) (s : State) (i : Item) (x : Outcome) → g.fetch s
 step_item g s i x f e = ap (λ (z : Fetch). moved g.enter s.pos (do_fetch g z s.core)) f ∙ ap (moved g.enter s.pos) e
 
 -- a step past a block's end
-pub step_end : (g : Program) (s : State) (k n : ℕ) → g.fetch s.pos ≡ Silent k n → step g s ≡ Went (record { pos = block_start (g.enter n); core = s.core })
+pub step_end : (g : Program) (s : State) (k n : ℕ) → g.fetch s.pos ≡ EndOfBlock k n → step g s ≡ Went (record { pos = block_start (g.enter n); core = s.core })
 step_end g s k n f = ap (λ (z : Fetch). moved g.enter s.pos (do_fetch g z s.core)) f

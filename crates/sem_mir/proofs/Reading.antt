@@ -16,9 +16,9 @@ use Rattle.mir_func.specs.declared.item.ItemKind.TheVariants.{Code, Mark, Phi}
 use Rattle.mir_func.specs.declared.variable.MarkValue.TheVariants.{Nothing, Constant, At, Pair}
 use Rattle.mir_func.specs.Sound.{AreApart, ids_of}
 use Rattle.sem_mir.specs.State.{State, Core, content}
-use Rattle.mir_func.specs.Graph.{Program, Fetch, Here, Silent, Outside, below, block_start, end_of, front, fetch_in, from_block, program_of, FetchEdge}
+use Rattle.mir_func.specs.Graph.{Program, Fetch, Here, EndOfBlock, Outside, below, block_start, end_of, front, fetch_in, from_block, program_of, FetchEdge}
 use Rattle.mir_func.specs.Graph.{KindEdge, RowEdge}
-use Rattle.sem_mir.specs.Align.{Count, ByItems, ByEnds, station_at, AnyOrigin, RunsAlong}
+use Rattle.sem_mir.specs.Align.{Count, ByItems, ByEnds, sync_point_at, AnyOrigin, RunsMatch}
 use Rattle.sem_mir.specs.Follow.{IsWithin, IsSource, IsRead, Among, none, same, first_of, OnRow, GoesTo, IsEnd, SameEnd, KindsEndAlike}
 use Rattle.sem_mir.specs.Follow.{InOrder, rank, next_rank, HasClass, KindFits, MarkFits, Shape, IsStart}
 use Rattle.sem_mir.specs.Follow.{Follows, HasWholeEnds}
@@ -75,7 +75,8 @@ item_front [] n k bs i e = cc
 item_front (j ∷ is) zero k bs i e = let w : j ≡ i = cc in ap Here w
 item_front (j ∷ is) (suc n) k bs i e = item_front is n k bs i e
 
-pub front_end : (is : List Item) (n k : ℕ) (bs : List Block) (j m : ℕ) → front (drop n is) k bs ≡ Silent j m → (length is ≤ n) × (end_of k bs ≡ Silent j m)
+pub front_end : (is : List Item) (n k : ℕ) (bs : List Block) (j m : ℕ) → front (drop n is) k bs ≡ EndOfBlock j m →
+    (length is ≤ n) × (end_of k bs ≡ EndOfBlock j m)
 front_end [] zero k bs j m e = (omega arith, e)
 front_end [] (suc n) k bs j m e = (omega arith, e)
 front_end (i ∷ is) zero k bs j m e = cc
@@ -87,7 +88,7 @@ end_front [] (suc n) k bs le = refl
 end_front (i ∷ is) zero k bs le = absurd (omega (arith, le))
 end_front (i ∷ is) (suc n) k bs le = end_front is n k bs (omega (arith, le))
 
-pub end_index : (k : ℕ) (bs : List Block) (j m : ℕ) → end_of k bs ≡ Silent j m → k ≡ j
+pub end_index : (k : ℕ) (bs : List Block) (j m : ℕ) → end_of k bs ≡ EndOfBlock j m → k ≡ j
 end_index k [] j m e = cc
 end_index k (b ∷ bs) j m e = cc
 
@@ -178,7 +179,7 @@ module _ (blocks : List Block) (read : IsRead blocks) where
       found : from_block blocks p.block ≡ block ∷ rest
       member : Contains blocks block
       id : block.id ≡ p.block
-      silent : block.silent ≡ length block.items
+      source_end : block.source_end ≡ length block.items
 
     stands_in : (p : Pos) (x : List Block) → from_block blocks p.block ≡ x → (fetch_in x p.item ≡ Outside) ⊎ Stands p
     stands_in p [] e = inl refl
@@ -190,28 +191,28 @@ module _ (blocks : List Block) (read : IsRead blocks) where
           found = e;
           member = f.0;
           id = f.1;
-          silent = All-contains (λ (c : Block). c.silent ≡ length c.items) blocks b read.silent f.0;
+          source_end = All-contains (λ (c : Block). c.source_end ≡ length c.items) blocks b read.source_end f.0;
         })
 
     stands : (p : Pos) → (program.fetch p ≡ Outside) ⊎ Stands p
     stands p = elim (stands_in p (from_block blocks p.block) refl) as (λ z. (program.fetch p ≡ Outside) ⊎ Stands p) [ inl e ↦ inl e | inr s ↦ inr s ]
 
-    fetch_at : (p : Pos) (s : Stands p) (n : ℕ) → program.fetch (record { block = p.block; item = n }) ≡ front (drop n s.block.items) s.block.silent s.rest
+    fetch_at : (p : Pos) (s : Stands p) (n : ℕ) → program.fetch (record { block = p.block; item = n }) ≡ front (drop n s.block.items) s.block.source_end s.rest
     fetch_at p s n = ap (λ (x : List Block). fetch_in x n) s.found
 
     here_at : (p : Pos) (i : Item) → program.fetch p ≡ Here i → (s : Stands p) × (slice_get s.block.items p.item ≡ Some i)
     here_at p i e = elim (stands p) as (λ z. (s : Stands p) × (slice_get s.block.items p.item ≡ Some i)) [
       | inl o ↦ (let bad : Outside ≡ Here i = sym o ∙ e in cc)
-      | inr s ↦ (s, front_item s.block.items p.item s.block.silent s.rest i (sym (fetch_at p s p.item) ∙ e))
+      | inr s ↦ (s, front_item s.block.items p.item s.block.source_end s.rest i (sym (fetch_at p s p.item) ∙ e))
     ]
 
-    end_at : (p : Pos) (k n : ℕ) → program.fetch p ≡ Silent k n →
-        (s : Stands p) × (length s.block.items ≤ p.item) × (k ≡ length s.block.items) × (end_of s.block.silent s.rest ≡ Silent k n)
-    end_at p k n e = elim (stands p) as (λ z. (s : Stands p) × (length s.block.items ≤ p.item) × (k ≡ length s.block.items) × (end_of s.block.silent
-        s.rest ≡ Silent k n)) [
-          | inl o ↦ (let bad : Outside ≡ Silent k n = sym o ∙ e in cc)
-          | inr s ↦ (let h = front_end s.block.items p.item s.block.silent s.rest k n (sym (fetch_at p s p.item) ∙ e) in
-              (s, h.0, sym (end_index s.block.silent s.rest k n h.1) ∙ s.silent, h.1))
+    end_at : (p : Pos) (k n : ℕ) → program.fetch p ≡ EndOfBlock k n →
+        (s : Stands p) × (length s.block.items ≤ p.item) × (k ≡ length s.block.items) × (end_of s.block.source_end s.rest ≡ EndOfBlock k n)
+    end_at p k n e = elim (stands p) as (λ z. (s : Stands p) × (length s.block.items ≤ p.item) × (k ≡ length s.block.items) × (end_of s.block.source_end
+        s.rest ≡ EndOfBlock k n)) [
+          | inl o ↦ (let bad : Outside ≡ EndOfBlock k n = sym o ∙ e in cc)
+          | inr s ↦ (let h = front_end s.block.items p.item s.block.source_end s.rest k n (sym (fetch_at p s p.item) ∙ e) in
+              (s, h.0, sym (end_index s.block.source_end s.rest k n h.1) ∙ s.source_end, h.1))
         ]
 
     same_block : (p : Pos) (s t : Stands p) → s.block ≡ t.block
@@ -225,7 +226,7 @@ module _ (blocks : List Block) (read : IsRead blocks) where
           ∙ ap (λ (n : ℕ). Kept (record { block = n; item = p.item })) h.0.id;
       ends = λ p k n e.
           let h = end_at p k n e in
-          fetch_at p h.0 k ∙ end_front h.0.block.items k h.0.block.silent h.0.rest (let z = h.2 in omega (arith, z)) ∙ h.3;
+          fetch_at p h.0 k ∙ end_front h.0.block.items k h.0.block.source_end h.0.rest (let z = h.2 in omega (arith, z)) ∙ h.3;
       starts = λ m k n e. let h = end_at (block_start m) k n e in (let a = h.1 in let b = h.2 in omega (arith, a, b));
       falls = λ p i e k n f.
           let a = here_at p i e in
@@ -243,7 +244,7 @@ module _ (blocks : List Block) (read : IsRead blocks) where
     abbrev fp : Program
     fp = program_of false blocks resolve
 
-    not_first : (q : Pos) (k n : ℕ) → src.fetch q ≡ Silent k n → n ≡ first_of blocks → ⊥
+    not_first : (q : Pos) (k n : ℕ) → src.fetch q ≡ EndOfBlock k n → n ≡ first_of blocks → ⊥
     not_first q k n e at =
         let h = end_at true resolve q k n e in
         by_rest h.0.rest refl h.3 where
@@ -252,7 +253,7 @@ module _ (blocks : List Block) (read : IsRead blocks) where
           by_first (b ∷ bs) i m ap' e f = let z : suc i ≡ zero = ap' (suc i) zero m e (ap Some (sym f)) in omega (arith, z)
 
           by_rest : (rest : List Block) → (end_at true resolve q k n e).0.rest ≡ rest →
-              end_of (end_at true resolve q k n e).0.block.silent rest ≡ Silent k n → ⊥
+              end_of (end_at true resolve q k n e).0.block.source_end rest ≡ EndOfBlock k n → ⊥
           by_rest [] r h = cc
           by_rest (c ∷ cs) r h =
               let cn : c.id ≡ n = cc in
@@ -260,10 +261,10 @@ module _ (blocks : List Block) (read : IsRead blocks) where
               let nb = next_block blocks q.block s.block c cs (s.found ∙ (λ i. s.block ∷ r i)) in
               by_first blocks nb.0 n read.apart (nb.1 ∙ ap Some cn) at
 
-    kind_fits : (i : Item) (k : ItemKind) → i.kind ≡ k → (p : Pos) (silent : ℕ) → src.fetch p ≡ Here i → KindFits src k silent (Kept p)
-    kind_fits i (Mark v m) e p silent f = tt
-    kind_fits i (Phi x m) e p silent f = tt
-    kind_fits i (Code c m) e p silent f = subst (HasClass (row_of c)) (sym f) (subst (Rattle.sem_mir.specs.Follow.ItemHasClass (row_of c)) (sym e) refl)
+    kind_fits : (i : Item) (k : ItemKind) → i.kind ≡ k → (p : Pos) (source_end : ℕ) → src.fetch p ≡ Here i → KindFits src k source_end (Kept p)
+    kind_fits i (Mark v m) e p source_end f = tt
+    kind_fits i (Phi x m) e p source_end f = tt
+    kind_fits i (Code c m) e p source_end f = subst (HasClass (row_of c)) (sym f) (subst (Rattle.sem_mir.specs.Follow.ItemHasClass (row_of c)) (sym e) refl)
 
     kept_fits : (k : ItemKind) (p : Pos) → MarkFits k (Kept p)
     kept_fits (Code c n) p = tt
@@ -276,14 +277,14 @@ module _ (blocks : List Block) (read : IsRead blocks) where
     item_kept : (b : Block) → Contains blocks b → (i : Item) → (c : Contains b.items i) → i.origin ≡ Kept (record { block = b.id; item = c.0 })
     item_kept b m i (k, lt, e) = All-contains OwnItems blocks b read.items m k i (index_of b.items k i lt e)
 
-    item_fits : (b : Block) → Contains blocks b → (i : Item) → Contains b.items i → KindFits src i.kind b.silent i.origin
+    item_fits : (b : Block) → Contains blocks b → (i : Item) → Contains b.items i → KindFits src i.kind b.source_end i.origin
     item_fits b m i (k, lt, e) =
         let g = index_of b.items k i lt e in
         let o = All-contains OwnItems blocks b read.items m k i g in
         let f = found blocks read.apart b m in
         let at : src.fetch (record { block = b.id; item = k }) ≡ Here i = ap (λ (x : List Block). fetch_in x k) f.at ∙
-        item_front b.items k b.silent f.rest i g in
-        subst (KindFits src i.kind b.silent) (sym o) (kind_fits i i.kind refl (record { block = b.id; item = k }) b.silent at)
+        item_front b.items k b.source_end f.rest i g in
+        subst (KindFits src i.kind b.source_end) (sym o) (kind_fits i i.kind refl (record { block = b.id; item = k }) b.source_end at)
 
     shape : Shape blocks blocks src fp
     shape = record {
@@ -293,10 +294,10 @@ module _ (blocks : List Block) (read : IsRead blocks) where
       order = All-weaker OwnItems (λ (b : Block). InOrder b.id 0 b.items)
           (λ b own. in_order b.id 0 b.items (λ j i h. own j i h ∙ ap (λ (n : ℕ). Kept (record { block = b.id; item = n })) (let z : j ≡ 0 + j =
           omega arith in z))) blocks read.items;
-      items = All-weaker (Contains blocks) (λ (b : Block). All (λ i. KindFits src i.kind b.silent i.origin) b.items)
-          (λ b m. All-weaker (Contains b.items) (λ (i : Item). KindFits src i.kind b.silent i.origin) (item_fits b m) b.items (All-contains_itself b.items))
+      items = All-weaker (Contains blocks) (λ (b : Block). All (λ i. KindFits src i.kind b.source_end i.origin) b.items)
+          (λ b m. All-weaker (Contains b.items) (λ (i : Item). KindFits src i.kind b.source_end i.origin) (item_fits b m) b.items (All-contains_itself b.items))
           blocks (All-contains_itself blocks);
-      stores = λ b m p i pb f s o. (let bad : Kept p ≡ Before (record { block = b.id; item = b.silent }) =
+      stores = λ b m p i pb f s o. (let bad : Kept p ≡ Before (record { block = b.id; item = b.source_end }) =
           sym ((is_source false resolve).items p i f) ∙ o in cc);
       marks = All-weaker (Contains blocks) (λ (b : Block). All (λ i. MarkFits i.kind i.origin) b.items)
           (λ b m. All-weaker (Contains b.items) (λ (i : Item). MarkFits i.kind i.origin) (λ i c. subst (MarkFits i.kind) (sym (item_kept b m i c))
@@ -305,7 +306,7 @@ module _ (blocks : List Block) (read : IsRead blocks) where
       by_edge : (q : Pos) (x : Fetch) → src.fetch q ≡ x → FetchEdge (λ n. n) x q (block_start (first_of blocks)) →
           (p : Pos) × (i : Item) × (fp.fetch p ≡ Here i) × OnRow (GoesTo (first_of blocks)) i.kind
       by_edge q (Here i) f e = (q, i, f, back_edge i.kind q (first_of blocks) e)
-      by_edge q (Silent k n) f e = absurd (not_first q k n f (ap (λ (p : Pos). p.block) (sym e)))
+      by_edge q (EndOfBlock k n) f e = absurd (not_first q k n f (ap (λ (p : Pos). p.block) (sym e)))
       by_edge q Outside f e = absurd e
 
     sees_less : SeesLess src fp
@@ -315,7 +316,7 @@ module _ (blocks : List Block) (read : IsRead blocks) where
       by_register r c v false e = e
 
     runs : (c : Count) (objects : List Object) (s : State) → IsStart objects (first_of blocks) s →
-        RunsAlong src fp (station_at c fp) (AnyOrigin (station_at c fp)) s s
+        RunsMatch src fp (sync_point_at c fp) (AnyOrigin (sync_point_at c fp)) s s
     runs c objects s st =
         let own = is_source false resolve in
         in_step_any fp own c src (Beside src fp sees_less)

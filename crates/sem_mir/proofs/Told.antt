@@ -15,7 +15,7 @@ use Rattle.mir_func.specs.Variables.{is_same, overlaps}
 use Rattle.sem_mir.specs.Step.{Went, Outcome, Falls, Goes, Gives, Traps, Asks, Breaks, moved, with_core, act, seen, defined, given, numbered, place_value}
 use Rattle.sem_mir.specs.Step.{pair_value, mark_value, part_of, do_item, do_fetch, step}
 use Rattle.rv64_instr.specs.Parts.{is_call}
-use Rattle.mir_func.specs.Graph.{Program, Fetch, Here, Silent, Outside}
+use Rattle.mir_func.specs.Graph.{Program, Fetch, Here, EndOfBlock, Outside}
 use Rattle.sem_mir.specs.Align.{Agrees}
 use Rattle.sem_mir.specs.Effects.{EndAlike}
 use Rattle.sem_mir.proofs.Outcomes.{alike_went, alike_returns, alike_faults}
@@ -154,7 +154,7 @@ module _ (g h : Program) (less : SeesLess g h) where
 
   fetch_less : (x : Fetch) (c d : Core) → TellsLess c d → EndAlike TellsLess (do_fetch g x c) (do_fetch h x d)
   fetch_less (Here i) c d t = item_less i.kind c d t
-  fetch_less (Silent k n) c d t = (refl, t)
+  fetch_less (EndOfBlock k n) c d t = (refl, t)
   fetch_less Outside c d t = tt
 
   -- g and h have the same items: then from one position they step alike

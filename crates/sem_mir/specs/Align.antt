@@ -10,7 +10,7 @@ use Rattle.mir_func.specs.declared.item.ItemKind.{ItemKind}
 use Rattle.mir_func.specs.declared.item.ItemKind.TheVariants.{Code, Mark, Phi}
 use Rattle.sem_mir.specs.State.{State, assigned}
 use Rattle.sem_mir.specs.Step.{Went, Returned, Faulted, step}
-use Rattle.mir_func.specs.Graph.{Fetch, Here, Silent, Outside, Program}
+use Rattle.mir_func.specs.Graph.{Fetch, Here, EndOfBlock, Outside, Program}
 
 -- the position of the source that an item is kept from, or was added before
 abbrev pub position_of : Origin → Pos
@@ -35,7 +35,7 @@ is_jump _ = false
 
 -- an observation point of f: its origin, a position of the source, and whether the source may still be at that position
 -- at f's next observation point
-pub record Station : Type 0 where
+pub record SyncPoint : Type 0 where
   pub pos : Pos
   pub waits : Bool
 
@@ -64,36 +64,36 @@ waits_at true (Before p) = false
 waits_at false (Before p) = true
 
 -- the station of an item that is one
-abbrev pub station_of : Count → Item → Station
-station_of c i = record { pos = position_of i.origin; waits = waits_at (moves_on c i.kind) i.origin }
+abbrev pub sync_point_of : Count → Item → SyncPoint
+sync_point_of c i = record { pos = position_of i.origin; waits = waits_at (moves_on c i.kind) i.origin }
 
 -- the station of an item: instructions are stations, debug items aren't
-abbrev pub item_station : Count → (code : Bool) → Item → Option Station
-item_station c true i = Some (station_of c i)
-item_station c false i = None
+abbrev pub item_sync_point : Count → (code : Bool) → Item → Option SyncPoint
+item_sync_point c true i = Some (sync_point_of c i)
+item_sync_point c false i = None
 
 -- the station of a block's end, if ends count. The source doesn't wait there
-abbrev pub end_station : Count → Pos → Option Station
-end_station ByEnds p = Some (record { pos = p; waits = false })
-end_station ByItems p = None
-end_station ByWords p = None
+abbrev pub end_sync_point : Count → Pos → Option SyncPoint
+end_sync_point ByEnds p = Some (record { pos = p; waits = false })
+end_sync_point ByItems p = None
+end_sync_point ByWords p = None
 
 -- the station of what is at a position of a block; the origin of the block's end is the silent position
-abbrev pub fetch_station : Count → (block : ℕ) → Fetch → Option Station
-fetch_station c b (Here i) = item_station c (is_code i.kind) i
-fetch_station c b (Silent k n) = end_station c (record { block = b; item = k })
-fetch_station c b Outside = None
+abbrev pub fetch_sync_point : Count → (block : ℕ) → Fetch → Option SyncPoint
+fetch_sync_point c b (Here i) = item_sync_point c (is_code i.kind) i
+fetch_sync_point c b (EndOfBlock k n) = end_sync_point c (record { block = b; item = k })
+fetch_sync_point c b Outside = None
 
 -- the station at a position of f, if there is one
-abbrev pub station_at : Count → Program → Pos → Option Station
-station_at c f p = fetch_station c p.block (f.fetch p)
+abbrev pub sync_point_at : Count → Program → Pos → Option SyncPoint
+sync_point_at c f p = fetch_sync_point c p.block (f.fetch p)
 
 -- p is the origin of some station
-pub record IsOrigin (stations : Pos → Option Station) (p : Pos) : Type 0 where
+pub record IsOrigin (sync_points : Pos → Option SyncPoint) (p : Pos) : Type 0 where
   pub place : Pos
-  pub station : Station
-  pub stands : stations place ≡ Some station
-  pub from : station.pos ≡ p
+  pub sync_point : SyncPoint
+  pub stands : sync_points place ≡ Some sync_point
+  pub from : sync_point.pos ≡ p
 
 -- the source's run from the first state reaches the second, which is at position p, and no state before it is at a
 -- position in Stops
@@ -118,27 +118,28 @@ since_of true = Same
 since_of false = After
 
 -- the source's run leads from s to t, its next matching state, which is at position p
-abbrev pub Aligns : Program → (Pos → Type 0) → Pos → Since → State → State → Type 0
-Aligns src Stops p Start s t = Arrives src Stops p s t
-Aligns src Stops p Same s t = ((s.pos ≡ p) × (s ≡ t)) ⊎ ((s.pos ≡ p → ⊥) × ArrivesLater src Stops p s t)
-Aligns src Stops p After s t = ArrivesLater src Stops p s t
+abbrev pub MatchesNext : Program → (Pos → Type 0) → Pos → Since → State → State → Type 0
+MatchesNext src Stops p Start s t = Arrives src Stops p s t
+MatchesNext src Stops p Same s t = ((s.pos ≡ p) × (s ≡ t)) ⊎ ((s.pos ≡ p → ⊥) × ArrivesLater src Stops p s t)
+MatchesNext src Stops p After s t = ArrivesLater src Stops p s t
 
 -- the positions q that the source may not pass before it matches at p: p itself, so that the first arrival counts
 abbrev pub First : Pos → Pos → Type 0
 First p q = q ≡ p
 
 -- the positions q that the source may not pass before it matches at any p: each origin of a station
-abbrev pub AnyOrigin : (Pos → Option Station) → Pos → Pos → Type 0
-AnyOrigin stations p q = IsOrigin stations q
+abbrev pub AnyOrigin : (Pos → Option SyncPoint) → Pos → Pos → Type 0
+AnyOrigin sync_points p q = IsOrigin sync_points q
 
 -- a run of f from f0 to t, matched with the source's run from s0: s is the source's last matched state, and Since says
 -- where the search for the next one begins
-pub data Along (src f : Program) (stations : Pos → Option Station) (Stops : Pos → Pos → Type 0) (s0 f0 : State) : State → State → Since → Type 0 where
-  begin : Along src f stations Stops s0 f0 f0 s0 Start
-  other : {t s t' : State} {m : Since} → Along src f stations Stops s0 f0 t s m → stations t.pos ≡ None → step f t ≡ Went t' →
-      Along src f stations Stops s0 f0 t' s m
-  met : {t s s' t' : State} {m : Since} (i : Station) → Along src f stations Stops s0 f0 t s m → stations t.pos ≡ Some i →
-      Aligns src (Stops i.pos) i.pos m s s' → step f t ≡ Went t' → Along src f stations Stops s0 f0 t' s' (since_of i.waits)
+pub data MatchedUpTo (src f : Program) (sync_points : Pos → Option SyncPoint) (Stops : Pos → Pos → Type 0) (s0 f0 : State) : State → State → Since →
+    Type 0 where
+  begin : MatchedUpTo src f sync_points Stops s0 f0 f0 s0 Start
+  other : {t s t' : State} {m : Since} → MatchedUpTo src f sync_points Stops s0 f0 t s m → sync_points t.pos ≡ None → step f t ≡ Went t' →
+      MatchedUpTo src f sync_points Stops s0 f0 t' s m
+  met : {t s s' t' : State} {m : Since} (i : SyncPoint) → MatchedUpTo src f sync_points Stops s0 f0 t s m → sync_points t.pos ≡ Some i →
+      MatchesNext src (Stops i.pos) i.pos m s s' → step f t ≡ Went t' → MatchedUpTo src f sync_points Stops s0 f0 t' s' (since_of i.waits)
 
 -- the source's run stops on a frame fault, and none of its states, not even the last, is at a position in Stops
 pub data Fails (src : Program) (Stops : Pos → Type 0) : State → Type 0 where
@@ -169,7 +170,7 @@ pub record Agrees (src f : Program) (t s : State) : Type 0 where
 
 -- f's run from f0 refines the source's from s0: at each station that f reaches, the source has a matching state that
 -- agrees, or stops on a frame fault before it
-abbrev pub RunsAlong : Program → Program → (Pos → Option Station) → (Pos → Pos → Type 0) → State → State → Type 0
-RunsAlong src f stations Stops s0 f0 =
-    (t s : State) (m : Since) (i : Station) → Along src f stations Stops s0 f0 t s m → stations t.pos ≡ Some i →
-    ((s' : State) × Aligns src (Stops i.pos) i.pos m s s' × Agrees src f t s') ⊎ FailsBefore src (Stops i.pos) i.pos m s
+abbrev pub RunsMatch : Program → Program → (Pos → Option SyncPoint) → (Pos → Pos → Type 0) → State → State → Type 0
+RunsMatch src f sync_points Stops s0 f0 =
+    (t s : State) (m : Since) (i : SyncPoint) → MatchedUpTo src f sync_points Stops s0 f0 t s m → sync_points t.pos ≡ Some i →
+    ((s' : State) × MatchesNext src (Stops i.pos) i.pos m s s' × Agrees src f t s') ⊎ FailsBefore src (Stops i.pos) i.pos m s

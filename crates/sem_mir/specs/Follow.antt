@@ -16,8 +16,8 @@ use Rattle.mir_func.specs.declared.item.ItemKind.TheVariants.{Code, Mark, Phi}
 use Rattle.mir_func.specs.declared.variable.MarkValue.TheVariants.{Nothing}
 use Rattle.mir_func.specs.Sound.{AreApart, ids_of}
 use Rattle.sem_mir.specs.State.{IsReply, State, content}
-use Rattle.mir_func.specs.Graph.{Fetch, Here, Silent, Program, below, block_start, program_of, Edge, Leads}
-use Rattle.sem_mir.specs.Align.{position_of, ByItems, ByEnds, station_at, AnyOrigin, RunsAlong}
+use Rattle.mir_func.specs.Graph.{Fetch, Here, EndOfBlock, Program, below, block_start, program_of, Edge, Leads}
+use Rattle.sem_mir.specs.Align.{position_of, ByItems, ByEnds, sync_point_at, AnyOrigin, RunsMatch}
 
 -- classes of instructions. A kept instruction keeps its class
 pub data Class : Type 0 where
@@ -44,22 +44,22 @@ class_of (LoadsSlot rd n) = Plain
 class_of (StoresSlot rs n) = Plain
 class_of Unfit = Odd
 
--- code that may be added before position `item` of a block that ends at index `silent`: slot loads and constant definitions before
+-- code that may be added before position `item` of a block that ends at index `source_end`: slot loads and constant definitions before
 -- its end, slot stores anywhere, and unconditional branches at its end
-abbrev pub MayAdd : Row → (item silent : ℕ) → Type 0
-MayAdd (LoadsSlot rd n) k silent = k < silent
-MayAdd (Fixes rd n) k silent = k < silent
-MayAdd (StoresSlot rs n) k silent = Unit {0}
-MayAdd (Jumps target) k silent = k ≡ silent
-MayAdd (Moves rd rs) k silent = ⊥
-MayAdd (Sets rd op a b) k silent = ⊥
-MayAdd (Addresses rd n offset) k silent = ⊥
-MayAdd (Loads rd op base offset) k silent = ⊥
-MayAdd (Stores op rs base offset) k silent = ⊥
-MayAdd (Branches op a b target) k silent = ⊥
-MayAdd (Calls name args) k silent = ⊥
-MayAdd (Returns results) k silent = ⊥
-MayAdd Unfit k silent = ⊥
+abbrev pub MayAdd : Row → (item source_end : ℕ) → Type 0
+MayAdd (LoadsSlot rd n) k source_end = k < source_end
+MayAdd (Fixes rd n) k source_end = k < source_end
+MayAdd (StoresSlot rs n) k source_end = Unit {0}
+MayAdd (Jumps target) k source_end = k ≡ source_end
+MayAdd (Moves rd rs) k source_end = ⊥
+MayAdd (Sets rd op a b) k source_end = ⊥
+MayAdd (Addresses rd n offset) k source_end = ⊥
+MayAdd (Loads rd op base offset) k source_end = ⊥
+MayAdd (Stores op rs base offset) k source_end = ⊥
+MayAdd (Branches op a b target) k source_end = ⊥
+MayAdd (Calls name args) k source_end = ⊥
+MayAdd (Returns results) k source_end = ⊥
+MayAdd Unfit k source_end = ⊥
 
 -- the item is code of the row's class
 abbrev pub ItemHasClass : Row → ItemKind → Type 0
@@ -72,15 +72,15 @@ HasClass r (Here i) = ItemHasClass r i.kind
 HasClass r _ = ⊥
 
 -- code of this row may have this origin: kept code keeps its class, and added code is of a kind that may be added
-abbrev pub RowFits : Program → Row → (silent : ℕ) → Origin → Type 0
-RowFits src r silent (Kept p) = HasClass r (src.fetch p)
-RowFits src r silent (Before p) = MayAdd r p.item silent
+abbrev pub RowFits : Program → Row → (source_end : ℕ) → Origin → Type 0
+RowFits src r source_end (Kept p) = HasClass r (src.fetch p)
+RowFits src r source_end (Before p) = MayAdd r p.item source_end
 
 -- an item may have this origin. Debug items may have any
-abbrev pub KindFits : Program → ItemKind → (silent : ℕ) → Origin → Type 0
-KindFits src (Code c k) silent o = RowFits src (row_of c) silent o
-KindFits src (Mark v m) silent o = Unit {0}
-KindFits src (Phi p k) silent o = Unit {0}
+abbrev pub KindFits : Program → ItemKind → (source_end : ℕ) → Origin → Type 0
+KindFits src (Code c k) source_end o = RowFits src (row_of c) source_end o
+KindFits src (Mark v m) source_end o = Unit {0}
+KindFits src (Phi p k) source_end o = Unit {0}
 
 -- an added debug value is undef
 abbrev pub MarkFits : ItemKind → Origin → Type 0
@@ -107,7 +107,7 @@ InOrder b n (x ∷ xs) = ((position_of x.origin).block ≡ b) × (n ≤ rank x.o
 -- f's blocks are some of the source's, in the source's order, with the same numbers and silent indices
 pub data Among : List Block → List Block → Type 0 where
   none : {bs : List Block} → Among [] bs
-  same : {a b : Block} {rest bs : List Block} → a.id ≡ b.id → a.silent ≡ b.silent → Among rest bs → Among (a ∷ rest) (b ∷ bs)
+  same : {a b : Block} {rest bs : List Block} → a.id ≡ b.id → a.source_end ≡ b.source_end → Among rest bs → Among (a ∷ rest) (b ∷ bs)
   left : {b : Block} {rest bs : List Block} → Among rest bs → Among rest (b ∷ bs)
 
 -- the number of the entry block, or 0 if there are no blocks
@@ -154,7 +154,7 @@ Counts Unfit = Unit {0}
 
 -- the item at q is code other than a branch or a copy of a register to itself, its origin isn't the end of p's block, and it is
 -- earlier in p's block or reachable from p
-abbrev pub IsMetApart : Program → (p : Pos) → (silent : ℕ) → (q : Pos) → Item → Type 0
+abbrev pub IsMetApart : Program → (p : Pos) → (source_end : ℕ) → (q : Pos) → Item → Type 0
 IsMetApart f p k q j = (f.fetch q ≡ Here j) × OnRow Counts j.kind × (position_of j.origin ≡ record { block = p.block; item = k } → ⊥) ×
     (((q.block ≡ p.block) × (q.item < p.item)) ⊎ Leads f p q)
 
@@ -166,11 +166,11 @@ pub record Shape (src f : List Block) (srcp fp : Program) : Type 0 where
   pub back : (q : Pos) → Leads srcp (block_start (first_of src)) q → Edge srcp q (block_start (first_of src)) →
       (p : Pos) × (i : Item) × (fp.fetch p ≡ Here i) × OnRow (GoesTo (first_of src)) i.kind
   pub order : All (λ b. InOrder b.id 0 b.items) f
-  pub items : All (λ b. All (λ i. KindFits srcp i.kind b.silent i.origin) b.items) f
+  pub items : All (λ b. All (λ i. KindFits srcp i.kind b.source_end i.origin) b.items) f
   -- a slot store that is added before a block's end has other code earlier in the block or reachable from it: so a cycle of jumps
   -- alone stores to no slot
   pub stores : (b : Block) → Contains f b → (p : Pos) (i : Item) → p.block ≡ b.id → fp.fetch p ≡ Here i → OnRow IsSlotStore i.kind →
-      i.origin ≡ Before (record { block = b.id; item = b.silent }) → (q : Pos) × (j : Item) × IsMetApart fp p b.silent q j
+      i.origin ≡ Before (record { block = b.id; item = b.source_end }) → (q : Pos) × (j : Item) × IsMetApart fp p b.source_end q j
   -- between code that is added before a position and what is kept there no variable gets a value
   pub marks : All (λ b. All (λ i. MarkFits i.kind i.origin) b.items) f
 
@@ -196,8 +196,8 @@ pub record IsStart (stack : List Object) (first : ℕ) (s : State) : Type 0 wher
 -- points
 pub record Follows (objects : List Object) (src f : List Block) (subs fsubs : OperandPair → Option OperandPair) : Type 0 where
   pub shape : Shape src f (program_of true src subs) (program_of false f fsubs)
-  pub runs : (s : State) → IsStart objects (first_of src) s → RunsAlong (program_of true src subs) (program_of false f fsubs)
-      (station_at ByItems (program_of false f fsubs)) (AnyOrigin (station_at ByItems (program_of false f fsubs))) s s
+  pub runs : (s : State) → IsStart objects (first_of src) s → RunsMatch (program_of true src subs) (program_of false f fsubs)
+      (sync_point_at ByItems (program_of false f fsubs)) (AnyOrigin (sync_point_at ByItems (program_of false f fsubs))) s s
 
 -- the same terminator up to its registers
 abbrev pub SameEnd : Row → Row → Type 0
@@ -241,18 +241,18 @@ pub record HasWholeEnds (objects : List Object) (src f : List Block) (subs fsubs
   pub blocks : length f ≡ length src
   pub kept : (p : Pos) (i : Item) → (program_of true src subs).fetch p ≡ Here i → OnRow IsEnd i.kind → EndIsKept (program_of false f fsubs) p i
   pub only : (q : Pos) (j : Item) → (program_of false f fsubs).fetch q ≡ Here j → OnRow IsEnd j.kind → EndComesFrom (program_of true src subs) j
-  pub runs : (s : State) → IsStart objects (first_of src) s → RunsAlong (program_of true src subs) (program_of false f fsubs)
-      (station_at ByEnds (program_of false f fsubs)) (AnyOrigin (station_at ByEnds (program_of false f fsubs))) s s
+  pub runs : (s : State) → IsStart objects (first_of src) s → RunsMatch (program_of true src subs) (program_of false f fsubs)
+      (sync_point_at ByEnds (program_of false f fsubs)) (AnyOrigin (sync_point_at ByEnds (program_of false f fsubs))) s s
 
 -- the position isn't past its block's end
 abbrev pub IsWithin : Program → Pos → Type 0
-IsWithin src p = (k n : ℕ) → src.fetch p ≡ Silent k n → p.item ≡ k
+IsWithin src p = (k n : ℕ) → src.fetch p ≡ EndOfBlock k n → p.item ≡ k
 
 -- a source program: the origin of each item is its own position, a block's end is at its silent index, and no position that a branch
 -- or a fall-through reaches is past its block's end
 pub record IsSource (src : Program) : Type 0 where
   pub items : (p : Pos) (i : Item) → src.fetch p ≡ Here i → i.origin ≡ Kept p
-  pub ends : (p : Pos) (k n : ℕ) → src.fetch p ≡ Silent k n → src.fetch (record { block = p.block; item = k }) ≡ Silent k n
+  pub ends : (p : Pos) (k n : ℕ) → src.fetch p ≡ EndOfBlock k n → src.fetch (record { block = p.block; item = k }) ≡ EndOfBlock k n
   pub starts : (n : ℕ) → IsWithin src (block_start n)
   pub falls : (p : Pos) (i : Item) → src.fetch p ≡ Here i → IsWithin src (below p)
 
@@ -260,4 +260,4 @@ pub record IsSource (src : Program) : Type 0 where
 pub record IsRead (blocks : List Block) : Type 0 where
   pub apart : AreApart (ids_of blocks)
   pub items : All (λ b. (k : ℕ) (i : Item) → slice_get b.items k ≡ Some i → i.origin ≡ Kept (record { block = b.id; item = k })) blocks
-  pub silent : All (λ b. b.silent ≡ length b.items) blocks
+  pub source_end : All (λ b. b.source_end ≡ length b.items) blocks

@@ -23,7 +23,7 @@ use Rattle.mir_func.specs.declared.variable.MarkValue.TheVariants.{Nothing, Cons
 use Rattle.mir_func.specs.declared.item.ItemKind.{ItemKind}
 use Rattle.mir_func.specs.declared.item.ItemKind.TheVariants.{Code, Mark, Phi}
 use Rattle.mir_func.specs.Variables.{part_value}
-use Rattle.mir_func.specs.Graph.{Fetch, Here, Silent, Outside, Program, below, block_start}
+use Rattle.mir_func.specs.Graph.{Fetch, Here, EndOfBlock, Outside, Program, below, block_start}
 use Rattle.sem_mir.specs.State.{Called, Wrote, Reply, Core, State, updated, content, put, put_all, spelled, low_bytes, stored, written, touches_frame}
 use Rattle.sem_mir.specs.State.{writes_frame}
 
@@ -193,7 +193,7 @@ do_item g (Phi p k) s = Falls (record s { pairs = updated k (updated 0 (place_va
 -- the outcome of what is at a position. From a block's end control goes to the next block
 abbrev pub do_fetch : Program → Fetch → Core → Outcome
 do_fetch g (Here i) s = do_item g i.kind s
-do_fetch g (Silent k n) s = Goes n s
+do_fetch g (EndOfBlock k n) s = Goes n s
 do_fetch g Outside s = Breaks
 
 -- the result of a step: the next state, a return, a frame fault, a call without a reply, or an invalid

@@ -17,7 +17,7 @@ use Rattle.mir_func.specs.declared.item.ItemKind.{ItemKind}
 use Rattle.mir_func.specs.declared.item.ItemKind.TheVariants.{Code, Mark, Phi}
 use Rattle.sem_mir.specs.State.{updated, assigned}
 use Rattle.sem_mir.specs.Step.{defined}
-use Rattle.mir_func.specs.Graph.{Fetch, Here, Silent, Outside, Program, Edge}
+use Rattle.mir_func.specs.Graph.{Fetch, Here, EndOfBlock, Outside, Program, Edge}
 
 -- a value number along one path (LLVM: `ValueIDNum`): a register's content at entry, what the item at an index of the
 -- path wrote to a register, or a constant modulo 2^64
@@ -112,7 +112,7 @@ after_item resolve n (Phi p k) t = record t { pairs = updated k (updated 0 (plac
 -- the tokens after what is at an index of the path. A block's end leaves them as they are
 abbrev pub after_fetch : (OperandPair → Option OperandPair) → (index : ℕ) → Fetch → Tokens → Tokens
 after_fetch resolve n (Here i) t = after_item resolve n i.kind t
-after_fetch resolve n (Silent k m) t = t
+after_fetch resolve n (EndOfBlock k m) t = t
 after_fetch resolve n Outside t = t
 
 -- at entry each physical register but x2 has a token of its own, and nothing else has one

@@ -18,7 +18,7 @@ use Rattle.mir_func.specs.Variables.{is_same, overlaps}
 use Rattle.sem_mir.specs.Step.{Outcome, Falls, Goes, Gives, Traps, Asks, Breaks, read, answered, slot_loaded, does, are_written, act, with_core, numbered}
 use Rattle.sem_mir.specs.Step.{do_item}
 use Rattle.rv64_instr.specs.Parts.{is_call}
-use Rattle.mir_func.specs.Graph.{Program, Fetch, Here, Silent, Outside}
+use Rattle.mir_func.specs.Graph.{Program, Fetch, Here, EndOfBlock, Outside}
 use Rattle.sem_mir.specs.Align.{position_of, Count, Since}
 use Rattle.sem_mir.specs.Follow.{class_of, Return, MayAdd, ItemHasClass, HasClass, KindFits, MarkFits, rank, next_rank, InOrder, IsStart, OnRow}
 use Rattle.sem_simulation.specs.Sides.{since_item}
@@ -39,20 +39,20 @@ silent_either d true x y a b = a
 silent_either d false x y a b = b
 
 -- code that may be added before a position that isn't its block's end
-added_silent : (r : Row) (k silent : ℕ) → MayAdd r k silent → k < silent → (d : Core) → IsSilent d (does r d)
+added_silent : (r : Row) (k source_end : ℕ) → MayAdd r k source_end → k < source_end → (d : Core) → IsSilent d (does r d)
 unfolding does
-added_silent (Fixes rd n) k silent may lt d = (refl, refl)
-added_silent (StoresSlot rs n) k silent may lt d = (refl, refl)
-added_silent (LoadsSlot rd n) k silent may lt d = by_slot (d.slots n) where
+added_silent (Fixes rd n) k source_end may lt d = (refl, refl)
+added_silent (StoresSlot rs n) k source_end may lt d = (refl, refl)
+added_silent (LoadsSlot rd n) k source_end may lt d = by_slot (d.slots n) where
   by_slot : (x : Option ℕ) → IsSilent d (slot_loaded rd d x)
   by_slot None = tt
   by_slot (Some v) = (refl, refl)
-added_silent (Jumps t) k silent may lt d = absurd (omega (arith, may, lt))
-added_silent _ k silent may lt d = absurd may
+added_silent (Jumps t) k source_end may lt d = absurd (omega (arith, may, lt))
+added_silent _ k source_end may lt d = absurd may
 
-act_silent : (r : Row) (k silent : ℕ) → MayAdd r k silent → k < silent → (d : Core) → IsSilent d (act r d)
+act_silent : (r : Row) (k source_end : ℕ) → MayAdd r k source_end → k < source_end → (d : Core) → IsSilent d (act r d)
 unfolding act
-act_silent r k silent may lt d = silent_either d (are_written d (reads r)) (does r d) Traps (added_silent r k silent may lt d) tt
+act_silent r k source_end may lt d = silent_either d (are_written d (reads r)) (does r d) Traps (added_silent r k source_end may lt d) tt
 
 code_shows : (sp call : Bool) (os : _) (m : Since) (d : Core) (o : Outcome) (n : Option ℕ) → IsSilent d o →
     ShowsNoMore m d (with_core (numbered sp call n os) o)
@@ -108,22 +108,22 @@ tells_nothing v w x ms true over e = cc
 tells_nothing v w x ms false true e = cc
 tells_nothing v w x ms false false e = e
 
-module _ (count : Count) (src g : Program) (s0 : State) (p : Pos) (silent : ℕ) (inner : p.item < silent) where
+module _ (count : Count) (src g : Program) (s0 : State) (p : Pos) (source_end : ℕ) (inner : p.item < source_end) where
   -- what is added before p shows no more
-  added_shows : (q : Pos) (k : ItemKind) → q.item ≡ p.item → KindFits src k silent (Before q) → MarkFits k (Before q) → (m : Since) (d : Core) →
+  added_shows : (q : Pos) (k : ItemKind) → q.item ≡ p.item → KindFits src k source_end (Before q) → MarkFits k (Before q) → (m : Since) (d : Core) →
       ShowsNoMore m d (do_item g k d)
   added_shows q (Code c n) at fits mark m d = code_shows g.sees_pointer (is_call (row_of c)) c.operands m d (act (row_of c) d) n
-      (act_silent (row_of c) q.item silent fits (omega (arith, at, inner)) d)
+      (act_silent (row_of c) q.item source_end fits (omega (arith, at, inner)) d)
   added_shows q (Mark v Nothing) at fits mark m d = record { events = refl; told = λ w x k. tells_nothing v w x d.marks (is_same w v) (overlaps w v) k }
   added_shows q (Mark v (Constant c)) at fits mark m d = absurd mark
   added_shows q (Mark v (At r)) at fits mark m d = absurd mark
   added_shows q (Mark v (Pair o)) at fits mark m d = absurd mark
   added_shows q (Phi l n) at fits mark m d = record { events = refl; told = λ w x k. k }
 
-  module _ (ends : (e : Pos) (k n : ℕ) → e.block ≡ p.block → g.fetch e ≡ Silent k n → p.item < k)
+  module _ (ends : (e : Pos) (k n : ℕ) → e.block ≡ p.block → g.fetch e ≡ EndOfBlock k n → p.item < k)
       (no_return : (i : Item) → src.fetch p ≡ Here i → ItemHasClass (Returns []) i.kind → ⊥) where
     -- what is kept of p doesn't return, where the source has no return
-    kept_stays : (k : ItemKind) → KindFits src k silent (Kept p) → (d : Core) (v : List ℕ) → do_item g k d ≡ Gives v → ⊥
+    kept_stays : (k : ItemKind) → KindFits src k source_end (Kept p) → (d : Core) (v : List ℕ) → do_item g k d ≡ Gives v → ⊥
     kept_stays (Code c n) fits d v e = by_fetch (src.fetch p) refl fits where
       is_return : class_of (row_of c) ≡ Return
       is_return = gives_of (class_of (row_of c) ≡ Return) (numbered g.sees_pointer (is_call (row_of c)) n c.operands) (act (row_of c) d) v
@@ -136,12 +136,12 @@ module _ (count : Count) (src g : Program) (s0 : State) (p : Pos) (silent : ℕ)
 
       by_fetch : (x : Fetch) → src.fetch p ≡ x → HasClass (row_of c) x → ⊥
       by_fetch (Here i) f h = no_return i f (by_kind i.kind h)
-      by_fetch (Silent i r) f h = h
+      by_fetch (EndOfBlock i r) f h = h
       by_fetch Outside f h = h
     kept_stays (Mark x m) fits d v e = cc
     kept_stays (Phi l r) fits d v e = cc
 
-    idle_item : (y : Item) → (position_of y.origin).block ≡ p.block → 2 * p.item ≤ rank y.origin → KindFits src y.kind silent y.origin →
+    idle_item : (y : Item) → (position_of y.origin).block ≡ p.block → 2 * p.item ≤ rank y.origin → KindFits src y.kind source_end y.origin →
         MarkFits y.kind y.origin → IsIdleAt count g p y
     idle_item y home low fits mark le = by_origin y.origin refl where
       by_origin : (o : Origin) → y.origin ≡ o → ((d : Core) → ShowsNoMore (since_item count y) d (do_item g y.kind d)) ⊎ IsNoReturn g p y
@@ -150,20 +150,20 @@ module _ (count : Count) (src g : Program) (s0 : State) (p : Pos) (silent : ℕ)
           (let a = subst (λ (o : Origin). 2 * p.item ≤ rank o) e low in let b = subst (λ (o : Origin). (position_of o).item ≤ p.item) e le in
           omega (arith, a, b)) in
           let kept : y.origin ≡ Kept p = e ∙ ap Kept at in
-          inr (record { kept = kept; stays = kept_stays y.kind (subst (KindFits src y.kind silent) kept fits); inner = ends })
+          inr (record { kept = kept; stays = kept_stays y.kind (subst (KindFits src y.kind source_end) kept fits); inner = ends })
       by_origin (Before q) e =
           let at : q.item ≡ p.item =
           (let a = subst (λ (o : Origin). 2 * p.item ≤ rank o) e low in let b = subst (λ (o : Origin). (position_of o).item ≤ p.item) e le in
           omega (arith, a, b)) in
-          inl (added_shows q y.kind at (subst (KindFits src y.kind silent) e fits) (subst (MarkFits y.kind) e mark) (since_item count y))
+          inl (added_shows q y.kind at (subst (KindFits src y.kind source_end) e fits) (subst (MarkFits y.kind) e mark) (since_item count y))
 
-    idle_items : (ys : List Item) (n : ℕ) → InOrder p.block n ys → 2 * p.item ≤ n → All (λ y. KindFits src y.kind silent y.origin) ys →
+    idle_items : (ys : List Item) (n : ℕ) → InOrder p.block n ys → 2 * p.item ≤ n → All (λ y. KindFits src y.kind source_end y.origin) ys →
         All (λ y. MarkFits y.kind y.origin) ys → All (IsIdleAt count g p) ys
     idle_items [] n ord le fits marks = All-nil (IsIdleAt count g p)
     idle_items (y ∷ ys) n ord le fits marks =
         let k = ord.1 in
         let low : 2 * p.item ≤ rank y.origin = omega (arith, le, k) in
-        let F : Item → Type 0 = λ z. KindFits src z.kind silent z.origin in
+        let F : Item → Type 0 = λ z. KindFits src z.kind source_end z.origin in
         let M : Item → Type 0 = λ z. MarkFits z.kind z.origin in
         All-cons (IsIdleAt count g p) y ys (idle_item y ord.0 low (All-head F y ys fits) (All-head M y ys marks))
         (idle_items ys (next_rank y.origin) ord.2 (rank_next y.origin (2 * p.item) low) (All-tail F y ys fits) (All-tail M y ys marks))
@@ -172,9 +172,9 @@ module _ (count : Count) (src g : Program) (s0 : State) (p : Pos) (silent : ℕ)
 -- the source, stands in order from p on, and p isn't its block's end
 pub idles_ahead : (count : Count) (src g : Program) (stack : List stack_object.Object) (first : ℕ) (s0 : State) → IsStart stack first s0 →
     ((q : Pos) (i : Item) → src.fetch q ≡ Here i → ItemHasClass (Returns []) i.kind → OnRow HasPhysicalResults i.kind) →
-    (p : Pos) (silent : ℕ) → p.item < silent → ((e : Pos) (k n : ℕ) → e.block ≡ p.block → g.fetch e ≡ Silent k n → k ≡ silent) →
-    (ys : List Item) (n : ℕ) → InOrder p.block n ys → 2 * p.item ≤ n → All (λ y. KindFits src y.kind silent y.origin) ys →
+    (p : Pos) (source_end : ℕ) → p.item < source_end → ((e : Pos) (k n : ℕ) → e.block ≡ p.block → g.fetch e ≡ EndOfBlock k n → k ≡ source_end) →
+    (ys : List Item) (n : ℕ) → InOrder p.block n ys → 2 * p.item ≤ n → All (λ y. KindFits src y.kind source_end y.origin) ys →
     All (λ y. MarkFits y.kind y.origin) ys → FaultsAt src s0 p → All (IsIdleAt count g p) ys
-idles_ahead count src g stack first s0 start physical p silent inner ends ys n ord le fits marks fa =
-    idle_items count src g s0 p silent inner (λ e k m eb fe. let h = ends e k m eb fe in omega (arith, inner, h))
+idles_ahead count src g stack first s0 start physical p source_end inner ends ys n ord le fits marks fa =
+    idle_items count src g s0 p source_end inner (λ e k m eb fe. let h = ends e k m eb fe in omega (arith, inner, h))
     (λ i fi c. returns_never_fault src stack first s0 start p i fi (physical p i fi c) fa) ys n ord le fits marks

@@ -8,8 +8,8 @@ use Rattle.mir_func.specs.declared.position.Origin.TheVariants.{Kept, Before}
 use Rattle.mir_func.specs.declared.item.Item.{Item}
 use Rattle.sem_mir.specs.State.{State, Core}
 use Rattle.sem_mir.specs.Step.{Faulted, Outcome, Falls, Goes, Gives, Traps, Asks, Breaks, do_item, step}
-use Rattle.mir_func.specs.Graph.{Here, Silent, below, block_start}
-use Rattle.sem_mir.specs.Align.{position_of, is_code, Station, moves_on, waits_at, station_of, IsOrigin, Since, Same, After, since_of}
+use Rattle.mir_func.specs.Graph.{Here, EndOfBlock, below, block_start}
+use Rattle.sem_mir.specs.Align.{position_of, is_code, SyncPoint, moves_on, waits_at, sync_point_of, IsOrigin, Since, Same, After, since_of}
 use Rattle.sem_mir.specs.Follow.{rank, next_rank, InOrder}
 use Rattle.sem_simulation.specs.Sides.{ShowsSame, since_item}
 use Rattle.sem_simulation.specs.Refinement.{waiting, Walk, there, on, past, IsDoomed, faults, later, later_past, Passes, FaultsAt, Lingers, IsStuck, doomed}
@@ -19,14 +19,14 @@ use Rattle.sem_simulation.specs.InPlace.{FallsOrTraps, IsIdleAt, MayTrap, ended,
 use Rattle.sem_mir.proofs.Outcomes.{step_item}
 use Rattle.sem_simulation.proofs.Order.{cases_pos, rank_high, rank_next, same_pos, IsDone, done_more, waits_after, waits_until, done_code, IsNoLater, IsFrom}
 use Rattle.sem_simulation.proofs.Order.{IsUntil, from_less, until_more, may_pass}
-use Rattle.sem_simulation.proofs.Between.{Change, fs, gs, Seen, IsNext, first_from, next_station}
+use Rattle.sem_simulation.proofs.Between.{Change, fs, gs, Seen, IsNext, first_from, next_sync_point}
 use Rattle.sem_simulation.proofs.Idle.{lingers_past, shows_idle}
-use Rattle.sem_simulation.proofs.Stations.{code_station, debug_station, IsStationOf, of_item, of_end, station_is_of, not_past_items}
+use Rattle.sem_simulation.proofs.Stations.{code_sync_point, debug_sync_point, IsSyncPointOf, of_item, of_end, sync_point_is_of, not_past_items}
 
 module _ (change : Change) where
-  open change use {count, src, sides, relation, place, facts}
+  open change use {count, src, sides, match_states, place, facts}
   open sides use {old.{program as f, rest as rest_f, start as s0}, new.{program as g, rest as rest_g, start as g0}}
-  open relation use {Stage, entry, Rests, Cores}
+  open match_states use {Stage, entry, MatchItems, MatchCores}
 
   -- f stands at v beside g at t; it was at u right after the station that both met last
   pub record Beside (last0 : Option Pos) (t u : State) : Type 0 where
@@ -38,21 +38,21 @@ module _ (change : Change) where
     pub m : ℕ
     pub block : t.pos.block ≡ v.pos.block
     pub stage : Stage
-    pub static : Rests stage v.pos.block (rest_f v.pos) (rest_g t.pos)
-    pub dynamic : Cores stage v.pos.block (rest_f v.pos) (rest_g t.pos) v.core t.core
+    pub static : MatchItems stage v.pos.block (rest_f v.pos) (rest_g t.pos)
+    pub dynamic : MatchCores stage v.pos.block (rest_f v.pos) (rest_g t.pos) v.core t.core
     pub order_f : InOrder v.pos.block n (rest_f v.pos)
     pub order_g : InOrder v.pos.block m (rest_g t.pos)
     pub known : (q : Pos) → last ≡ Some q → IsUntil place v.pos.block n q
     pub done : (k : ℕ) (i : Item) → k < t.pos.item → g.fetch (record { block = v.pos.block; item = k }) ≡ Here i → is_code i.kind ≡ true →
         IsDone n last (position_of i.origin)
-    pub high : (e : Pos) (k l : ℕ) → e.block ≡ v.pos.block → g.fetch e ≡ Silent k l → n ≤ 2 * k
+    pub high : (e : Pos) (k l : ℕ) → e.block ≡ v.pos.block → g.fetch e ≡ EndOfBlock k l → n ≤ 2 * k
     pub walks : (p : Pos) → IsNext change v.pos.block n (rest_g t.pos) p → (w : State) → Walk f (fs change) (gs change) p last v w →
         Walk f (fs change) (gs change) p last0 u w
     pub dooms : (p : Pos) → IsNext change v.pos.block n (rest_g t.pos) p → IsDoomed f (fs change) (gs change) p last v →
         IsDoomed f (fs change) (gs change) p last0 u
 
   -- both at the start of a block
-  pub at_start : (last0 last : Option Pos) (u : State) (b : ℕ) (c d : Core) → Cores (entry b) b (rest_f (block_start b)) (rest_g (block_start b)) c d →
+  pub at_start : (last0 last : Option Pos) (u : State) (b : ℕ) (c d : Core) → MatchCores (entry b) b (rest_f (block_start b)) (rest_g (block_start b)) c d →
       ((q : Pos) → last ≡ Some q → IsUntil place b 0 q) →
       ((p : Pos) → IsNext change b 0 (rest_g (block_start b)) p → (w : State) →
       Walk f (fs change) (gs change) p last (record { pos = block_start b; core = c }) w → Walk f (fs change) (gs change) p last0 u w) →
@@ -77,11 +77,11 @@ module _ (change : Change) where
   }
 
   pub static_at : (last0 : Option Pos) (t u : State) (r : Beside last0 t u) (xs ys : List Item) → rest_f r.v.pos ≡ xs → rest_g t.pos ≡ ys →
-      Rests r.stage r.v.pos.block xs ys
+      MatchItems r.stage r.v.pos.block xs ys
   static_at last0 t u r xs ys ef eg = rw (sym ef, sym eg) r.static
 
   pub dynamic_at : (last0 : Option Pos) (t u : State) (r : Beside last0 t u) (xs ys : List Item) → rest_f r.v.pos ≡ xs → rest_g t.pos ≡ ys →
-      Cores r.stage r.v.pos.block xs ys r.v.core t.core
+      MatchCores r.stage r.v.pos.block xs ys r.v.core t.core
   dynamic_at last0 t u r xs ys ef eg = rw (sym ef, sym eg) r.dynamic
 
   -- p is no later than code that stands further on in g's block
@@ -111,7 +111,7 @@ module _ (change : Change) where
   lacks : (last0 : Option Pos) (t u : State) (r : Beside last0 t u) (x : Item) (p : Pos) → (position_of x.origin).block ≡ r.v.pos.block → r.n ≤ rank x.origin →
       IsNext change r.v.pos.block (next_rank x.origin) (rest_g t.pos) p →
       (p ≡ position_of x.origin → ⊥) → (r.last ≡ Some (position_of x.origin) → ⊥) → IsOrigin (gs change) (position_of x.origin) → ⊥
-  lacks last0 t u r x p home low next ne far o = by_station (station_is_of count g o.place o.station o.stands) where
+  lacks last0 t u r x p home low next ne far o = by_sync_point (sync_point_is_of count g o.place o.sync_point o.stands) where
     b : ℕ
     b = r.v.pos.block
 
@@ -143,16 +143,16 @@ module _ (change : Change) where
               there_is (position_of j.origin).item i a.0 (let h = rank_high j.origin in let z = a.1 in omega (arith, h, z))
         ]
 
-    by_station : IsStationOf count g o.place o.station → ⊥
-    by_station (of_item j fj cj sj) = by_item j fj cj (ap (λ (z : Station). z.pos) sj ∙ o.from)
-    by_station (of_end k n fe ce se) =
-        let from : record { block = o.place.block; item = k } ≡ position_of x.origin = ap (λ (z : Station). z.pos) (sym se) ∙ o.from in
+    by_sync_point : IsSyncPointOf count g o.place o.sync_point → ⊥
+    by_sync_point (of_item j fj cj sj) = by_item j fj cj (ap (λ (z : SyncPoint). z.pos) sj ∙ o.from)
+    by_sync_point (of_end k n fe ce se) =
+        let from : record { block = o.place.block; item = k } ≡ position_of x.origin = ap (λ (z : SyncPoint). z.pos) (sym se) ∙ o.from in
         let a = next.2 o.place k n ce (ap (λ (z : Pos). z.block) from ∙ home) fe in
         there_is k (ap (λ (z : Pos). z.item) from) a.0 (let z = a.1 in omega (arith, z))
 
   -- f alone goes past an item
   goes_f : (last0 : Option Pos) (t u : State) (r : Beside last0 t u) (k' : Stage) (x : Item) (xs : List Item) (e : Core) (l : Option Pos) →
-      rest_f r.v.pos ≡ x ∷ xs → Rests k' r.v.pos.block xs (rest_g t.pos) → Cores k' r.v.pos.block xs (rest_g t.pos) e t.core →
+      rest_f r.v.pos ≡ x ∷ xs → MatchItems k' r.v.pos.block xs (rest_g t.pos) → MatchCores k' r.v.pos.block xs (rest_g t.pos) e t.core →
       ((q : Pos) → l ≡ Some q → IsUntil place r.v.pos.block (next_rank x.origin) q) →
       ((q : Pos) → q.block ≡ r.v.pos.block → IsDone r.n r.last q → IsDone (next_rank x.origin) l q) →
       ((p : Pos) → IsNext change r.v.pos.block (next_rank x.origin) (rest_g t.pos) p → (w : State) →
@@ -184,41 +184,42 @@ module _ (change : Change) where
       }
 
   passes_debug : (last0 : Option Pos) (t u : State) (r : Beside last0 t u) (k' : Stage) (x : Item) (xs ys : List Item) → rest_f r.v.pos ≡ x ∷ xs →
-      rest_g t.pos ≡ ys → is_code x.kind ≡ false → Rests k' r.v.pos.block xs ys → (e : Core) → do_item f x.kind r.v.core ≡ Falls e →
-      Cores k' r.v.pos.block xs ys e t.core → Beside last0 t u
+      rest_g t.pos ≡ ys → is_code x.kind ≡ false → MatchItems k' r.v.pos.block xs ys → (e : Core) → do_item f x.kind r.v.core ≡ Falls e →
+      MatchCores k' r.v.pos.block xs ys e t.core → Beside last0 t u
   passes_debug last0 t u r k' x xs ys ef eg c s e o q =
       let b = r.v.pos.block in
       let fx = (facts.laid_f.cons r.v.pos x xs ef).0 in
       let le = rank_next x.origin r.n (subst (InOrder b r.n) ef r.order_f).1 in
       let st = step_item f r.v x (Falls e) fx o in
-      let none = debug_station count f r.v.pos x fx c in
-      goes_f last0 t u r k' x xs e r.last ef (subst (Rests k' b xs) (sym eg) s) (subst (λ (z : List Item). Cores k' b xs z e t.core) (sym eg) q)
+      let none = debug_sync_point count f r.v.pos x fx c in
+      goes_f last0 t u r k' x xs e r.last ef (subst (MatchItems k' b xs) (sym eg) s) (subst (λ (z : List Item). MatchCores k' b xs z e t.core) (sym eg) q)
       (λ p k. until_more place b r.n (next_rank x.origin) p le (r.known p k))
       (λ p k h. done_more r.n (next_rank x.origin) r.last p le h) (λ p next w j. on none st j) (λ p next d. later none st d)
 
   passes_code : (last0 : Option Pos) (t u : State) (r : Beside last0 t u) (k' : Stage) (x : Item) (xs ys : List Item) → rest_f r.v.pos ≡ x ∷ xs →
-      rest_g t.pos ≡ ys → is_code x.kind ≡ true → moves_on count x.kind ≡ false → Rests k' r.v.pos.block xs ys → (e : Core) →
-      do_item f x.kind r.v.core ≡ Falls e → Cores k' r.v.pos.block xs ys e t.core → Beside last0 t u
+      rest_g t.pos ≡ ys → is_code x.kind ≡ true → moves_on count x.kind ≡ false → MatchItems k' r.v.pos.block xs ys → (e : Core) →
+      do_item f x.kind r.v.core ≡ Falls e → MatchCores k' r.v.pos.block xs ys e t.core → Beside last0 t u
   passes_code last0 t u r k' x xs ys ef eg c stays s e o q =
       let b = r.v.pos.block in
       let fx = (facts.laid_f.cons r.v.pos x xs ef).0 in
       let ord = subst (InOrder b r.n) ef r.order_f in
       let st = step_item f r.v x (Falls e) fx o in
       let since : since_item count x ≡ since_of (waits_at false x.origin) = ap (λ (z : Bool). since_of (waits_at z x.origin)) stays in
-      goes_f last0 t u r k' x xs e (waits_after x.origin) ef (subst (Rests k' b xs) (sym eg) s) (subst (λ (z : List Item). Cores k' b xs z e t.core) (sym eg) q)
+      goes_f last0 t u r k' x xs e (waits_after x.origin) ef (subst (MatchItems k' b xs) (sym eg) s) (subst (λ (z : List Item). MatchCores k' b xs z e t.core)
+      (sym eg) q)
       (waits_until place b x.origin ord.0)
       (done_code place b r.n r.last x.origin ord.0 ord.1 r.known)
-      (λ p next w j. past (station_of count x) (code_station count f r.v.pos x fx c)
+      (λ p next w j. past (sync_point_of count x) (code_sync_point count f r.v.pos x fx c)
       (may_pass place (gs change) count b r.n r.last x p ord.0 ord.1 r.known next.0 stays (lacks last0 t u r x p ord.0 ord.1 next)) st
       (subst (λ (z : Since). Walk f (fs change) (gs change) p (waiting z (position_of x.origin)) (record { pos = below r.v.pos; core = e }) w) (sym since) j))
-      (λ p next d. later_past (station_of count x) (code_station count f r.v.pos x fx c)
+      (λ p next d. later_past (sync_point_of count x) (code_sync_point count f r.v.pos x fx c)
       (may_pass place (gs change) count b r.n r.last x p ord.0 ord.1 r.known next.0 stays (lacks last0 t u r x p ord.0 ord.1 next)) st
       (subst (λ (z : Since). IsDoomed f (fs change) (gs change) p (waiting z (position_of x.origin)) (record { pos = below r.v.pos; core = e })) (sym since) d))
 
   -- where f's code that is taken out traps, f is stuck on the way to g's next station
   stuck_here : (last0 : Option Pos) (t u : State) (r : Beside last0 t u) (k' : Stage) (x : Item) (xs ys : List Item) → rest_f r.v.pos ≡ x ∷ xs →
-      rest_g t.pos ≡ ys → is_code x.kind ≡ true → moves_on count x.kind ≡ false → Rests k' r.v.pos.block xs ys →
-      Cores r.stage r.v.pos.block (x ∷ xs) ys r.v.core t.core → MayTrap count src sides relation x ys → step f r.v ≡ Faulted → {X : Type 0} → X ⊎
+      rest_g t.pos ≡ ys → is_code x.kind ≡ true → moves_on count x.kind ≡ false → MatchItems k' r.v.pos.block xs ys →
+      MatchCores r.stage r.v.pos.block (x ∷ xs) ys r.v.core t.core → MayTrap count src sides match_states x ys → step f r.v ≡ Faulted → {X : Type 0} → X ⊎
       IsStuckFrom src f g s0 (fs change) (gs change) last0 t u
   stuck_here last0 t u r k' x xs ys ef eg c stay s dy may st = inr (record { on_the_way = stuck }) where
     b : ℕ
@@ -247,7 +248,7 @@ module _ (change : Change) where
               ap place (ap (λ (z : Pos). z.block) (sym at) ∙ ap (λ (z : Origin). (position_of z).block) e ∙ ord.0) in omega (arith, k, y))
         ]
 
-    stuck : (t1 : State) (i : Station) → Passes g (gs change) t t1 → gs change t1.pos ≡ Some i → IsStuck src f g s0 (fs change) (gs change) last0 t1 u i
+    stuck : (t1 : State) (i : SyncPoint) → Passes g (gs change) t t1 → gs change t1.pos ≡ Some i → IsStuck src f g s0 (fs change) (gs change) last0 t1 u i
     stuck t1 i w si = elim (cases_pos p i.pos)
         as (λ _. IsStuck src f g s0 (fs change) (gs change) last0 t1 u i) [
           | inl at ↦
@@ -262,7 +263,7 @@ module _ (change : Change) where
           next =
               let first = first_from change (length xs + length ys) r.v.pos.block (next_rank x.origin) k' xs ys (facts.view k' r.v.pos.block xs ys s) ord.2
               (omega arith) in
-              let next0 = next_station change i w si r.v.pos.block (next_rank x.origin) r.m ys r.block eg first ord_g
+              let next0 = next_sync_point change i w si r.v.pos.block (next_rank x.origin) r.m ys r.block eg first ord_g
               (λ e k l eb fe. facts.within_f r.v.pos e x k l fx fe (sym eb)) in
               subst (λ (z : List Item). IsNext change r.v.pos.block (next_rank x.origin) z i.pos) (sym eg) next0
 
@@ -272,7 +273,7 @@ module _ (change : Change) where
           elsewhere : (p ≡ i.pos → ⊥) → IsStuck src f g s0 (fs change) (gs change) last0 t1 u i
           elsewhere ne =
               doomed (r.dooms i.pos earlier
-              (faults (station_of count x) (code_station count f r.v.pos x fx c)
+              (faults (sync_point_of count x) (code_sync_point count f r.v.pos x fx c)
               (may_pass place (gs change) count r.v.pos.block r.n r.last x i.pos ord.0 ord.1 r.known next.0 stay
               (lacks last0 t u r x i.pos ord.0 ord.1 next)) ne st))
 
@@ -283,8 +284,8 @@ module _ (change : Change) where
           at_p at idle =
               halted r.v (r.walks i.pos earlier r.v there)
               (record {
-                station = station_of count x;
-                stands = code_station count f r.v.pos x fx c;
+                sync_point = sync_point_of count x;
+                stands = code_sync_point count f r.v.pos x fx c;
                 pos = at;
                 faults = st;
                 idles = λ fa t2 j l ej jp.
@@ -336,8 +337,8 @@ module _ (change : Change) where
       (subst (λ (z : Stage). Seen change r.v.pos.block z rest ys) (sym e.2) (facts.view k' r.v.pos.block rest ys s))) (omega (arith, le)))
       (do_item f x.kind r.v.core) refl (h r.v.core t.core (dynamic_at last0 t u r xs ys ef eg)) where
         by_outcome : ((r2 : Beside last0 t u) → (rest_f r2.v.pos ≡ rest) × (r2.v.pos.block ≡ r.v.pos.block) × (r2.stage ≡ k') → Catches last0 t u) →
-            (o : Outcome) → do_item f x.kind r.v.core ≡ o → FallsOrTraps (MayTrap count src sides relation x ys)
-            (λ e. Cores k' r.v.pos.block rest ys e t.core) o → Catches last0 t u
+            (o : Outcome) → do_item f x.kind r.v.core ≡ o → FallsOrTraps (MayTrap count src sides match_states x ys)
+            (λ e. MatchCores k' r.v.pos.block rest ys e t.core) o → Catches last0 t u
         by_outcome more (Falls e) is q = more (passes_code last0 t u r k' x rest ys ef eg c j s e is q) ((facts.laid_f.cons r.v.pos x rest ef).1, refl, refl)
         by_outcome more Traps is q =
             let fx = (facts.laid_f.cons r.v.pos x rest ef).0 in

@@ -7,8 +7,8 @@ use Rattle.mir_func.specs.declared.position.Origin.TheVariants.{Kept}
 use Rattle.mir_func.specs.declared.item.Item.{Item}
 use Rattle.sem_mir.specs.State.{State, Core}
 use Rattle.sem_mir.specs.Step.{Went, Returned, Faulted, Waits, Lost, Outcome, Falls, Goes, Gives, Traps, Asks, Breaks, moved, do_item, step}
-use Rattle.mir_func.specs.Graph.{Program, Here, Silent, below, block_start}
-use Rattle.sem_mir.specs.Align.{position_of, is_code, Station, moves_on, waits_at, Since, Same, After, since_of}
+use Rattle.mir_func.specs.Graph.{Program, Here, EndOfBlock, below, block_start}
+use Rattle.sem_mir.specs.Align.{position_of, is_code, SyncPoint, moves_on, waits_at, Since, Same, After, since_of}
 use Rattle.sem_mir.specs.Follow.{next_rank, InOrder}
 use Rattle.sem_simulation.specs.Sides.{ShowsSame, since_item}
 use Rattle.sem_simulation.specs.Refinement.{Passes, still, pass, Lingers, stays, goes_by, waits_by}
@@ -16,13 +16,13 @@ use Rattle.sem_simulation.specs.InPlace.{ShowsNoMore, IsNoReturn, IsIdleAt}
 use Rattle.sem_mir.proofs.Alignment.{went_once}
 use Rattle.sem_mir.proofs.Outcomes.{step_item, step_end}
 use Rattle.sem_simulation.proofs.Order.{rank_high, rank_low, rank_next}
-use Rattle.sem_simulation.proofs.Stations.{debug_falls, IsStationOf, of_item, of_end, station_is_of, not_past_items}
+use Rattle.sem_simulation.proofs.Stations.{debug_falls, IsSyncPointOf, of_item, of_end, sync_point_is_of, not_past_items}
 use Rattle.std.proofs.lemmas.List.Elements.{All-head, All-tail}
 use Rattle.sem_simulation.proofs.Outcomes.{returns_gives}
 use Rattle.sem_simulation.proofs.Between.{Change, gs, IsBetween, down, over, steps_between}
 
 -- what passes no station lingers anywhere
-pub lingers_past : (g : Program) (gs : Pos → Option Station) (p : Pos) {t u v : State} → Passes g gs t u → Lingers g gs p u v → Lingers g gs p t v
+pub lingers_past : (g : Program) (gs : Pos → Option SyncPoint) (p : Pos) {t u v : State} → Passes g gs t u → Lingers g gs p u v → Lingers g gs p t v
 lingers_past g gs p still l = l
 lingers_past g gs p (pass none go rest) l = goes_by none go (lingers_past g gs p rest l)
 
@@ -53,51 +53,52 @@ no_more_gives_not m d Asks v h e = cc
 no_more_gives_not m d Breaks v h e = cc
 
 module _ (change : Change) where
-  open change use {count, src, sides, relation, place, facts}
+  open change use {count, src, sides, match_states, place, facts}
   open sides use {old.{program as f, rest as rest_f, start as s0}, new.{program as g, rest as rest_g, start as g0}}
-  open relation use {Stage, entry, Rests, Cores}
+  open match_states use {Stage, entry, MatchItems, MatchCores}
 
   -- a station comes from its own block
-  station_home : (q : Pos) (i : Station) → gs change q ≡ Some i → i.pos.block ≡ q.block
-  station_home q i e = by_station (station_is_of count g q i e) where
-    by_station : IsStationOf count g q i → i.pos.block ≡ q.block
-    by_station (of_item y fy cy iy) = ap (λ (z : Station). z.pos.block) (sym iy) ∙ facts.home q y fy
-    by_station (of_end k n fe ce ie) = ap (λ (z : Station). z.pos.block) ie
+  sync_point_home : (q : Pos) (i : SyncPoint) → gs change q ≡ Some i → i.pos.block ≡ q.block
+  sync_point_home q i e = by_sync_point (sync_point_is_of count g q i e) where
+    by_sync_point : IsSyncPointOf count g q i → i.pos.block ≡ q.block
+    by_sync_point (of_item y fy cy iy) = ap (λ (z : SyncPoint). z.pos.block) (sym iy) ∙ facts.home q y fy
+    by_sync_point (of_end k n fe ce ie) = ap (λ (z : SyncPoint). z.pos.block) ie
 
   module _ (p : Pos) (b : ℕ) (pb : p.block ≡ b) where
     -- g, further down, doesn't come to p
-    not_further : {t t2 : State} → Lingers g (gs change) p t t2 → place b < place t.pos.block → (i : Station) → gs change t2.pos ≡ Some i → i.pos ≡ p → ⊥
-    not_further (stays {t = t}) lt i e at = let k : place t.pos.block ≡ place b = ap place (sym (station_home t.pos i e) ∙ ap (λ (z : Pos). z.block) at ∙ pb) in
+    not_further : {t t2 : State} → Lingers g (gs change) p t t2 → place b < place t.pos.block → (i : SyncPoint) → gs change t2.pos ≡ Some i → i.pos ≡ p → ⊥
+    not_further (stays {t = t}) lt i e at = let k : place t.pos.block ≡ place b = ap place (sym (sync_point_home t.pos i e) ∙ ap (λ
+        (z : Pos). z.block) at ∙ pb) in
         omega (arith, lt, k)
     not_further (waits_by {t = t} j ej jp w go rest) lt i e at = let k : place t.pos.block ≡ place b =
-        ap place (sym (station_home t.pos j ej) ∙ ap (λ (z : Pos). z.block) jp ∙ pb) in omega (arith, lt, k)
+        ap place (sym (sync_point_home t.pos j ej) ∙ ap (λ (z : Pos). z.block) jp ∙ pb) in omega (arith, lt, k)
     not_further (goes_by {t = t} {u = u} none go rest) lt i e at = not_further rest (by_step (steps_between change t u none go)) i e at where
       by_step : IsBetween change t u → place b < place u.pos.block
       by_step (down y ys eg c to) = let k : place u.pos.block ≡ place t.pos.block = ap (λ (z : Pos). place z.block) to in omega (arith, k, lt)
       by_step (over k n eg ne more to) = let l : place u.pos.block ≡ place n = ap (λ (z : Pos). place z.block) to in omega (arith, l, more, lt)
 
     -- nor where all that it has ahead in the block comes from later positions
-    module _ (ends : (e : Pos) (k n : ℕ) → e.block ≡ p.block → g.fetch e ≡ Silent k n → p.item < k) where
-      not_here : (q : Pos) (i : Station) → IsStationOf count g q i → q.block ≡ b → (ys : List Item) → rest_g q ≡ ys → (m : ℕ) → InOrder b m ys →
+    module _ (ends : (e : Pos) (k n : ℕ) → e.block ≡ p.block → g.fetch e ≡ EndOfBlock k n → p.item < k) where
+      not_here : (q : Pos) (i : SyncPoint) → IsSyncPointOf count g q i → q.block ≡ b → (ys : List Item) → rest_g q ≡ ys → (m : ℕ) → InOrder b m ys →
           2 * p.item + 2 ≤ m → i.pos ≡ p → ⊥
       not_here q i (of_end k n fe ce ie) qb ys eg m ord le at =
           let lt = ends q k n (qb ∙ sym pb) fe in
-          let e : k ≡ p.item = ap (λ (z : Station). z.pos.item) (sym ie) ∙ ap (λ (z : Pos). z.item) at in
+          let e : k ≡ p.item = ap (λ (z : SyncPoint). z.pos.item) (sym ie) ∙ ap (λ (z : Pos). z.item) at in
           omega (arith, lt, e)
       not_here q i (of_item y fy cy iy) qb [] eg m ord le at = not_past_items (g.fetch q) y (facts.laid_g.nil q eg).0 fy
       not_here q i (of_item y fy cy iy) qb (z ∷ zs) eg m ord le at =
           let w : Here z ≡ Here y = sym (facts.laid_g.cons q z zs eg).0 ∙ fy in
           let zy : z ≡ y = cc in
-          let e : (position_of z.origin).item ≡ p.item = ap (λ (k : Item). (position_of k.origin).item) zy ∙ ap (λ (k : Station). k.pos.item) iy ∙
+          let e : (position_of z.origin).item ≡ p.item = ap (λ (k : Item). (position_of k.origin).item) zy ∙ ap (λ (k : SyncPoint). k.pos.item) iy ∙
           ap (λ (k : Pos). k.item) at in
           let low = ord.1 in
           let high = rank_high z.origin in
           omega (arith, le, low, high, e)
 
       not_later : {t t2 : State} → Lingers g (gs change) p t t2 → t.pos.block ≡ b → (ys : List Item) → rest_g t.pos ≡ ys → (m : ℕ) → InOrder b m ys →
-          2 * p.item + 2 ≤ m → (i : Station) → gs change t2.pos ≡ Some i → i.pos ≡ p → ⊥
-      not_later (stays {t = t}) tb ys eg m ord le i e at = not_here t.pos i (station_is_of count g t.pos i e) tb ys eg m ord le at
-      not_later (waits_by {t = t} j ej jp w go rest) tb ys eg m ord le i e at = not_here t.pos j (station_is_of count g t.pos j ej) tb ys eg m ord le jp
+          2 * p.item + 2 ≤ m → (i : SyncPoint) → gs change t2.pos ≡ Some i → i.pos ≡ p → ⊥
+      not_later (stays {t = t}) tb ys eg m ord le i e at = not_here t.pos i (sync_point_is_of count g t.pos i e) tb ys eg m ord le at
+      not_later (waits_by {t = t} j ej jp w go rest) tb ys eg m ord le i e at = not_here t.pos j (sync_point_is_of count g t.pos j ej) tb ys eg m ord le jp
       not_later (goes_by {t = t} {u = u} none go rest) tb [] eg m ord le i e at = by_step (steps_between change t u none go) where
         by_step : IsBetween change t u → ⊥
         by_step (down y ys eg' c to) = let bad : [] ≡ y ∷ ys = sym eg ∙ eg' in cc
@@ -123,7 +124,7 @@ module _ (change : Change) where
         IsNoReturn g p y
     idle_item y h at = let k : (position_of y.origin).item ≡ p.item = ap (λ (z : Pos). z.item) at in h (omega (arith, k))
 
-    no_return : (t : State) (i : Station) → IsStationOf count g t.pos i → (ys : List Item) → rest_g t.pos ≡ ys → Idle ys → i.pos ≡ p → (v : List ℕ) →
+    no_return : (t : State) (i : SyncPoint) → IsSyncPointOf count g t.pos i → (ys : List Item) → rest_g t.pos ≡ ys → Idle ys → i.pos ≡ p → (v : List ℕ) →
         step g t ≡ Returned v → ⊥
     no_return t i (of_end k n fe ce ie) ys eg idle at v h = let bad : Went (record { pos = block_start (g.enter n); core = t.core }) ≡ Returned v =
         sym (step_end g t k n fe) ∙ h in cc
@@ -133,23 +134,23 @@ module _ (change : Change) where
         let w : Here z ≡ Here y = sym fz ∙ fy in
         let zy : z ≡ y = cc in
         let gives = returns_gives g.enter t.pos (do_item g z.kind t.core) v (sym (step_item g t z (do_item g z.kind t.core) fz refl) ∙ h) in
-        elim (idle_item z (All-head (IsIdleAt count g p) z zs idle) (ap (λ (k : Item). position_of k.origin) zy ∙ ap (λ (k : Station). k.pos) iy ∙ at))
+        elim (idle_item z (All-head (IsIdleAt count g p) z zs idle) (ap (λ (k : Item). position_of k.origin) zy ∙ ap (λ (k : SyncPoint). k.pos) iy ∙ at))
         as (λ _. ⊥) [
           | inl q ↦ no_more_gives_not (since_item count z) t.core (do_item g z.kind t.core) v (q t.core) gives
           | inr q ↦ q.stays t.core v gives
         ]
 
     -- past code of g at which the source waits
-    past_code : (t u : State) (i : Station) → IsStationOf count g t.pos i → (ys : List Item) → rest_g t.pos ≡ ys → Idle ys → i.pos ≡ p →
+    past_code : (t u : State) (i : SyncPoint) → IsSyncPointOf count g t.pos i → (ys : List Item) → rest_g t.pos ≡ ys → Idle ys → i.pos ≡ p →
         since_of i.waits ≡ Same → step g t ≡ Went u → (y : Item) × (zs : List Item) × (ys ≡ y ∷ zs) × (u.pos ≡ below t.pos) × ShowsSame t.core u.core
-    past_code t u i (of_end k n fe ce ie) ys eg idle at w go = let bad : After ≡ Same = ap (λ (z : Station). since_of z.waits) (sym ie) ∙ w in cc
+    past_code t u i (of_end k n fe ce ie) ys eg idle at w go = let bad : After ≡ Same = ap (λ (z : SyncPoint). since_of z.waits) (sym ie) ∙ w in cc
     past_code t u i (of_item y fy cy iy) [] eg idle at w go = absurd (not_past_items (g.fetch t.pos) y (facts.laid_g.nil t.pos eg).0 fy)
     past_code t u i (of_item y fy cy iy) (z ∷ zs) eg idle at w go =
         let fz = (facts.laid_g.cons t.pos z zs eg).0 in
         let e : Here z ≡ Here y = sym fz ∙ fy in
         let zy : z ≡ y = cc in
-        let same : since_item count z ≡ Same = ap (λ (k : Item). since_item count k) zy ∙ ap (λ (k : Station). since_of k.waits) iy ∙ w in
-        elim (idle_item z (All-head (IsIdleAt count g p) z zs idle) (ap (λ (k : Item). position_of k.origin) zy ∙ ap (λ (k : Station). k.pos) iy ∙ at))
+        let same : since_item count z ≡ Same = ap (λ (k : Item). since_item count k) zy ∙ ap (λ (k : SyncPoint). since_of k.waits) iy ∙ w in
+        elim (idle_item z (All-head (IsIdleAt count g p) z zs idle) (ap (λ (k : Item). position_of k.origin) zy ∙ ap (λ (k : SyncPoint). k.pos) iy ∙ at))
         as (λ _. (y : Item) × (ts : List Item) × (z ∷ zs ≡ y ∷ ts) × (u.pos ≡ below t.pos) × ShowsSame t.core u.core) [
           | inl q ↦
               let k = goes_idle g t u (since_item count z) (do_item g z.kind t.core) (step_item g t z (do_item g z.kind t.core) fz refl) (q t.core)
@@ -170,10 +171,10 @@ module _ (change : Change) where
         (q t.core) (λ n e o af. let bad : Falls d.0 ≡ Goes n e = sym d.1 ∙ o in cc) go).1
 
     pub shows_idle : {t t2 : State} → Lingers g (gs change) p t t2 → t.pos.block ≡ b → (ys : List Item) → rest_g t.pos ≡ ys → (m : ℕ) → InOrder b m ys →
-        Idle ys → (i : Station) → gs change t2.pos ≡ Some i → i.pos ≡ p → Shown t t2
-    shows_idle (stays {t = t}) tb ys eg m ord idle i e at = (same_shown t.core, no_return t i (station_is_of count g t.pos i e) ys eg idle at)
+        Idle ys → (i : SyncPoint) → gs change t2.pos ≡ Some i → i.pos ≡ p → Shown t t2
+    shows_idle (stays {t = t}) tb ys eg m ord idle i e at = (same_shown t.core, no_return t i (sync_point_is_of count g t.pos i e) ys eg idle at)
     shows_idle (waits_by {t = t} {u = u} {v = t2} j ej jp w go rest) tb ys eg m ord idle i e at =
-        let k = past_code t u j (station_is_of count g t.pos j ej) ys eg idle jp w go in
+        let k = past_code t u j (sync_point_is_of count g t.pos j ej) ys eg idle jp w go in
         let ord2 = subst (InOrder b m) k.2 ord in
         let idle2 = subst Idle k.2 idle in
         let r = shows_idle rest (ap (λ (z : Pos). z.block) k.3 ∙ tb) k.1 (ap rest_g k.3 ∙ (facts.laid_g.cons t.pos k.0 k.1 (eg ∙ k.2)).1)

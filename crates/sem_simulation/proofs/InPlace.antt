@@ -5,11 +5,11 @@ use Rattle.mir_func.specs.declared.position.Origin.{Origin}
 use Rattle.mir_func.specs.declared.item.Item.{Item}
 use Rattle.sem_mir.specs.State.{State, Core}
 use Rattle.sem_mir.specs.Step.{Went, Returned, Faulted, Lost, Outcome, Falls, Goes, Gives, Traps, Asks, Breaks, moved, do_item, do_fetch, step}
-use Rattle.mir_func.specs.Graph.{Fetch, Here, Silent, Outside, below, block_start}
-use Rattle.sem_mir.specs.Align.{position_of, is_code, Station, Count, moves_on, waits_at, station_of, end_station, Since, After, since_of, AnyOrigin}
-use Rattle.sem_mir.specs.Align.{RunsAlong}
+use Rattle.mir_func.specs.Graph.{Fetch, Here, EndOfBlock, Outside, below, block_start}
+use Rattle.sem_mir.specs.Align.{position_of, is_code, SyncPoint, Count, moves_on, waits_at, sync_point_of, end_sync_point, Since, After, since_of, AnyOrigin}
+use Rattle.sem_mir.specs.Align.{RunsMatch}
 use Rattle.sem_mir.specs.Follow.{rank, next_rank, InOrder}
-use Rattle.sem_simulation.specs.Sides.{Relation, IsPastItems, since_item}
+use Rattle.sem_simulation.specs.Sides.{MatchStates, IsPastItems, since_item}
 use Rattle.sem_simulation.specs.Refinement.{waiting, Walk, there, on, later, still, IsStuck, IsStuckFrom, Meets, Refines}
 use Rattle.sem_simulation.specs.InPlace.{DoAlike, ended, both, taken, passed, added, paired, InPlaceFollows}
 use Rattle.sem_mir.proofs.Alignment.{went_once}
@@ -21,17 +21,18 @@ use Rattle.sem_simulation.proofs.Order.{no_later, from_less, until_more, until_n
 use Rattle.sem_simulation.proofs.Outcomes.{both_return, both_fault, alike_gives, alike_traps}
 use Rattle.sem_simulation.proofs.Between.{Change, fs, gs, Seen, IsNext}
 use Rattle.sem_simulation.proofs.Beside.{Beside, at_start, dynamic_at, static_at, IsReady, ready}
-use Rattle.sem_simulation.proofs.Stations.{not_code, code_station, debug_station, end_is_station, code_is_some, code_is, debug_is_none, IsStationOf, of_item}
-use Rattle.sem_simulation.proofs.Stations.{of_end, station_is_of, no_end_stations, not_by_ends, not_past_items, falls_stays}
+use Rattle.sem_simulation.proofs.Stations.{not_code, code_sync_point, debug_sync_point, end_is_sync_point, code_is_some, code_is, debug_is_none, IsSyncPointOf}
+use Rattle.sem_simulation.proofs.Stations.{of_item}
+use Rattle.sem_simulation.proofs.Stations.{of_end, sync_point_is_of, no_end_sync_points, not_by_ends, not_past_items, falls_stays}
 
 module _ (change : Change) where
-  open change use {count, src, sides, relation, place, facts}
+  open change use {count, src, sides, match_states, place, facts}
   open sides use {old.{program as f, rest as rest_f, start as s0}, new.{program as g, rest as rest_g, start as g0}}
-  open relation use {Stage, entry, Rests, Cores}
+  open match_states use {Stage, entry, MatchItems, MatchCores}
 
   -- a debug item of g alone
   goes_g : (last0 : Option Pos) (t u : State) (r : Beside change last0 t u) (k' : Stage) (y : Item) (ys : List Item) → rest_g t.pos ≡ y ∷ ys →
-      is_code y.kind ≡ false → Rests k' r.v.pos.block (rest_f r.v.pos) ys → (e : Core) → Cores k' r.v.pos.block (rest_f r.v.pos) ys r.v.core e →
+      is_code y.kind ≡ false → MatchItems k' r.v.pos.block (rest_f r.v.pos) ys → (e : Core) → MatchCores k' r.v.pos.block (rest_f r.v.pos) ys r.v.core e →
       Beside change last0 (record { pos = below t.pos; core = e }) u
   goes_g last0 t u r k' y ys eg c s e q =
       let b = r.v.pos.block in
@@ -57,8 +58,8 @@ module _ (change : Change) where
 
   -- a debug item of each
   goes_both : (last0 : Option Pos) (t u : State) (r : Beside change last0 t u) (k' : Stage) (x y : Item) (xs ys : List Item) → rest_f r.v.pos ≡ x ∷ xs →
-      rest_g t.pos ≡ y ∷ ys → is_code x.kind ≡ false → is_code y.kind ≡ false → Rests k' r.v.pos.block xs ys → (e e' : Core) →
-      do_item f x.kind r.v.core ≡ Falls e → Cores k' r.v.pos.block xs ys e e' → Beside change last0 (record { pos = below t.pos; core = e' }) u
+      rest_g t.pos ≡ y ∷ ys → is_code x.kind ≡ false → is_code y.kind ≡ false → MatchItems k' r.v.pos.block xs ys → (e e' : Core) →
+      do_item f x.kind r.v.core ≡ Falls e → MatchCores k' r.v.pos.block xs ys e e' → Beside change last0 (record { pos = below t.pos; core = e' }) u
   goes_both last0 t u r k' x y xs ys ef eg cx cy s e e' o q =
       let b = r.v.pos.block in
       let fe = facts.laid_f.cons r.v.pos x xs ef in
@@ -66,7 +67,7 @@ module _ (change : Change) where
       let ord = subst (InOrder b r.n) ef r.order_f in
       let le = rank_next x.origin r.n ord.1 in
       let st = step_item f r.v x (Falls e) fe.0 o in
-      let none = debug_station count f r.v.pos x fe.0 cx in
+      let none = debug_sync_point count f r.v.pos x fe.0 cx in
       record {
         v = record { pos = below r.v.pos; core = e };
         last = r.last;
@@ -100,15 +101,15 @@ module _ (change : Change) where
   goes_end last0 t u r ef eg (Here i) fe none h t' st = absurd h
   goes_end last0 t u r ef eg Outside fe none h t' st = let bad : Lost ≡ Went t' = sym (ap (λ (z : Fetch). moved g.enter t.pos (do_fetch g z t.core)) fe) ∙ st in
       cc
-  goes_end last0 t u r ef eg (Silent k n) fe none h t' st =
+  goes_end last0 t u r ef eg (EndOfBlock k n) fe none h t' st =
       let b = r.v.pos.block in
       let onward = facts.onward r.v.pos t.pos k n (sym r.block) ef eg fe in
       let go : step g t ≡ Went (record { pos = block_start n; core = t.core }) = step_end g t k n fe ∙
       ap (λ (z : ℕ). Went (record { pos = block_start z; core = t.core })) (facts.enter_g n) in
       let go_f : step f r.v ≡ Went (record { pos = block_start n; core = r.v.core }) = step_end f r.v k n onward.0 ∙
       ap (λ (z : ℕ). Went (record { pos = block_start z; core = r.v.core })) (facts.enter_f n) in
-      let no_end = sym (end_is_station count g t.pos k n fe) ∙ none in
-      let none_f : fs change r.v.pos ≡ None = end_is_station count f r.v.pos k n onward.0 ∙ no_end_stations count _ _ no_end in
+      let no_end = sym (end_is_sync_point count g t.pos k n fe) ∙ none in
+      let none_f : fs change r.v.pos ≡ None = end_is_sync_point count f r.v.pos k n onward.0 ∙ no_end_sync_points count _ _ no_end in
       let made = at_start change last0 r.last u n r.v.core t.core
       (facts.ends r.stage r.v.pos k n r.v.core t.core ef onward.0 (static_at change last0 t u r [] [] ef eg) (dynamic_at change last0 t u r [] [] ef eg))
       (λ q h. until_next place b n r.n q onward.1 (r.known q h))
@@ -130,8 +131,8 @@ module _ (change : Change) where
       let b = r.v.pos.block in
       let d = h r.v.core t.core (dynamic_at change last0 t u r xs ys ef eg) in
       let go = step_item g t y (Falls d.0) (facts.laid_g.cons t.pos y ts eg).0 d.1 in
-      let made = goes_g last0 t u r k' y ts eg cy (subst (λ (z : List Item). Rests k' b z ts) (sym ef) s) d.0
-      (subst (λ (z : List Item). Cores k' b z ts r.v.core d.0) (sym ef) d.2) in
+      let made = goes_g last0 t u r k' y ts eg cy (subst (λ (z : List Item). MatchItems k' b z ts) (sym ef) s) d.0
+      (subst (λ (z : List Item). MatchCores k' b z ts r.v.core d.0) (sym ef) d.2) in
       subst (λ (z : State). Beside change last0 z u) (went_once g t (record { pos = below t.pos; core = d.0 }) t' go st) made
   between_at last0 t u r xs ys ef eg (paired {k' = k'} {x = x} {y = y} {xs = rest} {ys = ts} cx cy s h) rd none t' st =
       let d = h r.v.core t.core (dynamic_at change last0 t u r xs ys ef eg) in
@@ -149,9 +150,9 @@ module _ (change : Change) where
 
   -- beside each other again after code of both; nothing lies between
   goes_on : (last0 : Option Pos) (t u : State) (r : Beside change last0 t u) (k' : Stage) (x y : Item) (xs ys : List Item) → rest_f r.v.pos ≡ x ∷ xs →
-      rest_g t.pos ≡ y ∷ ys → x.origin ≡ y.origin → since_item count x ≡ since_item count y → Rests k' r.v.pos.block xs ys →
+      rest_g t.pos ≡ y ∷ ys → x.origin ≡ y.origin → since_item count x ≡ since_item count y → MatchItems k' r.v.pos.block xs ys →
       (a c : Outcome) → ((d : Core) → c ≡ Falls d → moves_on count y.kind ≡ false) →
-      DoAlike count src sides relation r.v.pos.block xs ys (since_item count x) k' a c → (t' : State) → moved g.enter t.pos c ≡ Went t' →
+      DoAlike count src sides match_states r.v.pos.block xs ys (since_item count x) k' a c → (t' : State) → moved g.enter t.pos c ≡ Went t' →
       (w' : State) × (moved f.enter r.v.pos a ≡ Went w') × Beside change (waiting (since_item count y) (position_of y.origin)) t' w'
   goes_on last0 t u r k' x y xs ys ef eg o sy s (Falls e) (Falls e') stays al t' st =
       let b = r.v.pos.block in
@@ -206,18 +207,18 @@ module _ (change : Change) where
   goes_on last0 t u r k' x y xs ys ef eg o sy s Breaks Breaks stays al t' st = cc
   goes_on last0 t u r k' x y xs ys ef eg o sy s _ _ stays al t' st = absurd al
 
-  abbrev Meeting : Option Pos → State → State → Station → Type 0
+  abbrev Meeting : Option Pos → State → State → SyncPoint → Type 0
   Meeting last0 t u i = (w : State) × Walk f (fs change) (gs change) i.pos last0 u w × Meets f g (fs change) (Beside change) t w i
 
   -- both at a block's end that is a station
-  meets_end : (last0 : Option Pos) (t u : State) (r : Beside change last0 t u) → rest_f r.v.pos ≡ [] → rest_g t.pos ≡ [] → (i : Station) →
-      IsStationOf count g t.pos i → Meeting last0 t u i
+  meets_end : (last0 : Option Pos) (t u : State) (r : Beside change last0 t u) → rest_f r.v.pos ≡ [] → rest_g t.pos ≡ [] → (i : SyncPoint) →
+      IsSyncPointOf count g t.pos i → Meeting last0 t u i
   meets_end last0 t u r ef eg i (of_item x fx cx ix) = absurd (not_past_items (g.fetch t.pos) x (facts.laid_g.nil t.pos eg).0 fx)
   meets_end last0 t u r ef eg i (of_end k n fe ce ie) =
       let b = r.v.pos.block in
       let onward = facts.onward r.v.pos t.pos k n (sym r.block) ef eg fe in
       let p : Pos = record { block = b; item = k } in
-      let end : Station = record { pos = p; waits = false } in
+      let end : SyncPoint = record { pos = p; waits = false } in
       let is : i ≡ end = ie ∙ ap (λ (z : ℕ). record { pos = record { block = z; item = k }; waits = false }) r.block in
       let t1 : State = record { pos = block_start n; core = t.core } in
       let v1 : State = record { pos = block_start n; core = r.v.core } in
@@ -229,8 +230,8 @@ module _ (change : Change) where
       (facts.ends r.stage r.v.pos k n r.v.core t.core ef onward.0 (static_at change last0 t u r [] [] ef eg) (dynamic_at change last0 t u r [] [] ef eg))
       (λ q h. cc) (λ q ok w j. j) (λ p next d. d) in
       let made : Meets f g (fs change) (Beside change) t r.v end = record {
-        station = end;
-        stands = end_is_station count f r.v.pos k n onward.0 ∙ ap (λ (z : Count). end_station z p) ce;
+        sync_point = end;
+        stands = end_is_sync_point count f r.v.pos k n onward.0 ∙ ap (λ (z : Count). end_sync_point z p) ce;
         pos = refl;
         since = refl;
         events = shows.events;
@@ -244,14 +245,14 @@ module _ (change : Change) where
         subst (IsNoLater b p) (sym eg) tt,
         λ q k' n' ce' qb fq. (refl, let h = facts.one_end t.pos q k n k' n' fe fq (r.block ∙ sym qb) in omega (arith, h)),
       ) in
-      subst (λ (z : Station). Meeting last0 t u z) (sym is) (r.v, r.walks p ok r.v there, made)
+      subst (λ (z : SyncPoint). Meeting last0 t u z) (sym is) (r.v, r.walks p ok r.v there, made)
 
   -- both at code of one origin
   meets_code : (last0 : Option Pos) (t u : State) (r : Beside change last0 t u) (k' : Stage) (x y : Item) (xs ys : List Item) → rest_f r.v.pos ≡ x ∷ xs →
       rest_g t.pos ≡ y ∷ ys → is_code x.kind ≡ true → is_code y.kind ≡ true → x.origin ≡ y.origin → moves_on count x.kind ≡ moves_on count y.kind →
-      Rests k' r.v.pos.block xs ys →
-      DoAlike count src sides relation r.v.pos.block xs ys (since_item count x) k' (do_item f x.kind r.v.core) (do_item g y.kind t.core) →
-      Meeting last0 t u (station_of count y)
+      MatchItems k' r.v.pos.block xs ys →
+      DoAlike count src sides match_states r.v.pos.block xs ys (since_item count x) k' (do_item f x.kind r.v.core) (do_item g y.kind t.core) →
+      Meeting last0 t u (sync_point_of count y)
   meets_code last0 t u r k' x y xs ys ef eg cx cy o j s al =
       let b = r.v.pos.block in
       let fe = facts.laid_f.cons r.v.pos x xs ef in
@@ -271,9 +272,9 @@ module _ (change : Change) where
       (let k = rank_high x.origin in let l = ord.1 in omega (arith, k, l)) in
       let ahead_ok : IsNoLater b p (rest_g t.pos) = subst (IsNoLater b p) (sym eg)
       ((λ z. (ord_g.0, low)), no_later b (next_rank y.origin) p ys ord_g.0 (rank_next y.origin (2 * p.item) low) ord_g.2) in
-      let made : Meets f g (fs change) (Beside change) t r.v (station_of count y) = record {
-        station = station_of count x;
-        stands = code_station count f r.v.pos x fe.0 cx;
+      let made : Meets f g (fs change) (Beside change) t r.v (sync_point_of count y) = record {
+        sync_point = sync_point_of count x;
+        stands = code_sync_point count f r.v.pos x fe.0 cx;
         pos = ap position_of o;
         since = since;
         events = shows.events;
@@ -286,8 +287,8 @@ module _ (change : Change) where
       (r.v, r.walks p (inl (ord_g.0, here), ahead_ok, λ q k n ce qb fq. (ord_g.0, facts.within t.pos q y k n ge.0 fq (r.block ∙ sym qb))) r.v there, made)
 
   meets_at_view : (last0 : Option Pos) (t u : State) (r : Beside change last0 t u) (xs ys : List Item) → rest_f r.v.pos ≡ xs → rest_g t.pos ≡ ys →
-      (w : Seen change r.v.pos.block r.stage xs ys) → IsReady change w → (i : Station) → gs change t.pos ≡ Some i → Meeting last0 t u i
-  meets_at_view last0 t u r xs ys ef eg ended rd i e = meets_end last0 t u r ef eg i (station_is_of count g t.pos i e)
+      (w : Seen change r.v.pos.block r.stage xs ys) → IsReady change w → (i : SyncPoint) → gs change t.pos ≡ Some i → Meeting last0 t u i
+  meets_at_view last0 t u r xs ys ef eg ended rd i e = meets_end last0 t u r ef eg i (sync_point_is_of count g t.pos i e)
   meets_at_view last0 t u r xs ys ef eg (taken c j s h) rd i e = absurd rd
   meets_at_view last0 t u r xs ys ef eg (passed c s h) rd i e = absurd rd
   meets_at_view last0 t u r xs ys ef eg (added {y = y} {ys = ts} cy s h) rd i e =
@@ -295,10 +296,10 @@ module _ (change : Change) where
   meets_at_view last0 t u r xs ys ef eg (paired {x = x} {y = y} {xs = rest} {ys = ts} cx cy s h) rd i e =
       absurd (debug_is_none count g t.pos y i e (facts.laid_g.cons t.pos y ts eg).0 cy)
   meets_at_view last0 t u r xs ys ef eg (both {k' = k'} {x = x} {y = y} {xs = rest} {ys = ts} cx cy o j s h) rd i e =
-      subst (λ (z : Station). Meeting last0 t u z) (code_is count g t.pos y i e (facts.laid_g.cons t.pos y ts eg).0 cy)
+      subst (λ (z : SyncPoint). Meeting last0 t u z) (code_is count g t.pos y i e (facts.laid_g.cons t.pos y ts eg).0 cy)
       (meets_code last0 t u r k' x y rest ts ef eg cx cy o j s (h r.v.core t.core (dynamic_at change last0 t u r xs ys ef eg)))
 
-  meets : (last0 : Option Pos) (t u : State) (i : Station) → Beside change last0 t u → gs change t.pos ≡ Some i → Meeting last0 t u i ⊎
+  meets : (last0 : Option Pos) (t u : State) (i : SyncPoint) → Beside change last0 t u → gs change t.pos ≡ Some i → Meeting last0 t u i ⊎
       IsStuck src f g s0 (fs change) (gs change) last0 t u i
   meets last0 t u i r e =
       elim (ready change last0 t u r) as (λ z. Meeting last0 t u i ⊎ IsStuck src f g s0 (fs change) (gs change) last0 t u i) [
@@ -309,14 +310,14 @@ module _ (change : Change) where
   refines : Refines src f g s0 (fs change) (gs change) (Beside change)
   refines = record { origins = facts.origins; between = between; meets = meets }
 
-  pub changed_in_place : s0.pos.item ≡ 0 → g0.pos ≡ s0.pos → Cores (entry s0.pos.block) s0.pos.block (rest_f s0.pos) (rest_g g0.pos) s0.core g0.core →
-      RunsAlong src f (fs change) (AnyOrigin (fs change)) s0 s0 → RunsAlong src g (gs change) (AnyOrigin (gs change)) s0 g0
+  pub changed_in_place : s0.pos.item ≡ 0 → g0.pos ≡ s0.pos → MatchCores (entry s0.pos.block) s0.pos.block (rest_f s0.pos) (rest_g g0.pos) s0.core g0.core →
+      RunsMatch src f (fs change) (AnyOrigin (fs change)) s0 s0 → RunsMatch src g (gs change) (AnyOrigin (gs change)) s0 g0
   changed_in_place z same q follows =
       let b = s0.pos.block in
       let at : s0.pos ≡ block_start b = same_pos s0.pos (block_start b) refl z in
       let at_g : g0.pos ≡ block_start b = same ∙ at in
-      let q1 = subst (λ (p : Pos). Cores (entry b) b (rest_f p) (rest_g g0.pos) s0.core g0.core) at q in
-      let q0 = subst (λ (p : Pos). Cores (entry b) b (rest_f (block_start b)) (rest_g p) s0.core g0.core) at_g q1 in
+      let q1 = subst (λ (p : Pos). MatchCores (entry b) b (rest_f p) (rest_g g0.pos) s0.core g0.core) at q in
+      let q0 = subst (λ (p : Pos). MatchCores (entry b) b (rest_f (block_start b)) (rest_g p) s0.core g0.core) at_g q1 in
       let s1 : State = record { pos = block_start b; core = s0.core } in
       let g1 : State = record { pos = block_start b; core = g0.core } in
       let made : Beside change None g1 s1 = at_start change None None s1 b s0.core g0.core q0 (λ p h. cc) (λ p next w j. j) (λ p next d. d) in
@@ -325,6 +326,6 @@ module _ (change : Change) where
       still_follows src f g (fs change) (gs change) (Beside change) s0 s0 g0 follows refines
       (subst (λ (y : State). Beside change None y s0) is_g (subst (λ (y : State). Beside change None g1 y) is made))
 
-pub in_place_follows : (relation : Relation) → InPlaceFollows relation
-in_place_follows relation count src sides place facts z same q follows =
-    changed_in_place (record { count = count; src = src; sides = sides; relation = relation; place = place; facts = facts }) z same q follows
+pub in_place_follows : (match_states : MatchStates) → InPlaceFollows match_states
+in_place_follows match_states count src sides place facts z same q follows =
+    changed_in_place (record { count = count; src = src; sides = sides; match_states = match_states; place = place; facts = facts }) z same q follows

@@ -5,16 +5,17 @@ use Rattle.mir_func.specs.declared.item.Item.{Item}
 use Rattle.sem_mir.specs.State.{State, Core}
 use Rattle.sem_mir.specs.Step.{Went, Falls, do_item, step}
 use Rattle.mir_func.specs.Graph.{Program, below, block_start}
-use Rattle.sem_mir.specs.Align.{position_of, is_code, Station, Count, station_at, IsOrigin, Since, Start, Same, After, Aligns, AnyOrigin, Along, other}
-use Rattle.sem_mir.specs.Align.{FailsBefore, RunsAlong}
+use Rattle.sem_mir.specs.Align.{position_of, is_code, SyncPoint, Count, sync_point_at, IsOrigin, Since, Start, Same, After, MatchesNext, AnyOrigin, MatchedUpTo}
+use Rattle.sem_mir.specs.Align.{other}
+use Rattle.sem_mir.specs.Align.{FailsBefore, RunsMatch}
 use Rattle.sem_simulation.specs.Sides.{Sides, since_item, ShowsSame}
 use Rattle.sem_simulation.specs.Added.{Standing, Opening, Level, Ahead, Owing, MayCome, IsPlain, MayStand, IsQuiet, View, ended, both, before, opening}
 use Rattle.sem_simulation.specs.Added.{entering}
-use Rattle.sem_simulation.specs.Added.{behind, passed, added, paired, Adds, AddedRelation, IsFree}
+use Rattle.sem_simulation.specs.Added.{behind, passed, added, paired, Adds, AddedMatchStates, IsFree}
 use Rattle.sem_mir.proofs.Alignment.{aligns_at, aligns_once, aligns_not_fails}
 use Rattle.sem_mir.proofs.Edges.{step_edge}
 use Rattle.sem_mir.proofs.Outcomes.{step_item}
-use Rattle.sem_simulation.proofs.Stations.{debug_station}
+use Rattle.sem_simulation.proofs.Stations.{debug_sync_point}
 use Rattle.sem_simulation.proofs.Stops.{later_more, fails_later_more, arrives_free, fails_free, aligns_waiting, fails_waiting, aligns_below, fails_below}
 
 -- an addition of code to what follows
@@ -22,37 +23,37 @@ pub record Addition : Type 1 where
   pub count : Count
   pub src : Program
   pub sides : Sides
-  pub relation : AddedRelation
-  pub facts : Adds count src sides relation
-  pub follows : RunsAlong src sides.old.program (station_at count sides.old.program)
-      (AnyOrigin (station_at count sides.old.program)) sides.old.start sides.old.start
+  pub match_states : AddedMatchStates
+  pub facts : Adds count src sides match_states
+  pub follows : RunsMatch src sides.old.program (sync_point_at count sides.old.program)
+      (AnyOrigin (sync_point_at count sides.old.program)) sides.old.start sides.old.start
 
 module _ (addition : Addition) where
-  open addition use {count, src, sides, relation, facts, follows}
+  open addition use {count, src, sides, match_states, facts, follows}
   open sides use {old.{program as f, rest as rest_f, start as s0}, new.{program as g, rest as rest_g, start as g0}}
-  open relation use {relation.{Stage, entry, Rests, Cores}, standing, Stops, Extra, Reach}
+  open match_states use {match_states.{Stage, entry, MatchItems, MatchCores}, standing, Stops, Extra, Reach}
 
-  abbrev pub fs : Pos → Option Station
-  fs p = station_at count f p
+  abbrev pub fs : Pos → Option SyncPoint
+  fs p = sync_point_at count f p
 
-  abbrev pub gs : Pos → Option Station
-  gs p = station_at count g p
+  abbrev pub gs : Pos → Option SyncPoint
+  gs p = sync_point_at count g p
 
   abbrev pub OriginOfF : Pos → Type 0
   OriginOfF p = IsOrigin fs p
 
   abbrev pub Seen : ℕ → Stage → List Item → List Item → Type 0
-  Seen b k xs ys = View count src sides relation b k xs ys
+  Seen b k xs ys = View count src sides match_states b k xs ys
 
   abbrev pub Stands : Standing → Item → Type 0
-  Stands st x = MayStand count src sides relation st x
+  Stands st x = MayStand count src sides match_states st x
 
   abbrev pub AlongF : State → State → Since → Type 0
-  AlongF v s m = Along src f fs (AnyOrigin fs) s0 s0 v s m
+  AlongF v s m = MatchedUpTo src f fs (AnyOrigin fs) s0 s0 v s m
 
   -- what comes next for f, aligned at sf, comes next for g, aligned at s; and so do faults
   pub record JoinsAt (p : Pos) (mf : Since) (sf : State) (m : Since) (s : State) : Type 0 where
-    pub next : (x : State) → Aligns src OriginOfF p mf sf x → Aligns src (Stops p) p m s x
+    pub next : (x : State) → MatchesNext src OriginOfF p mf sf x → MatchesNext src (Stops p) p m s x
     pub fails : FailsBefore src OriginOfF p mf sf → FailsBefore src (Stops p) p m s
 
   abbrev pub Joins : Standing → Since → State → Since → State → Type 0
@@ -63,7 +64,7 @@ module _ (addition : Addition) where
       Joins Level m s m s
   join_after s r clear Start ns p may op = absurd (ns refl)
   join_after s r clear Same ns p may op = record {
-    next = λ x a. elim a as (λ _. Aligns src (Stops p) p Same s x) [
+    next = λ x a. elim a as (λ _. MatchesNext src (Stops p) p Same s x) [
       | inl e ↦ inl e
       | inr e ↦
           inr (e.0, later_more src fs gs Stops Extra Reach s0.pos facts.more p op s x r clear e.1)
@@ -81,21 +82,21 @@ module _ (addition : Addition) where
   join_code Level x m s r ns im at st p may op = join_after s r (λ u go h. st s u at go h) m ns p may op
   join_code (Ahead q) x Start s r ns im at st p may op = absurd (ns refl)
   join_code (Ahead q) x Same s r ns im at st p may op = record {
-    next = λ y a. elim a as (λ _. Aligns src (Stops p) p Same s y) [ inl e ↦ inl e | inr e ↦ absurd (e.0 (at ∙ st.0 ∙ sym may)) ];
+    next = λ y a. elim a as (λ _. MatchesNext src (Stops p) p Same s y) [ inl e ↦ inl e | inr e ↦ absurd (e.0 (at ∙ st.0 ∙ sym may)) ];
     fails = λ z. absurd (z.0 (at ∙ st.0 ∙ sym may));
   }
   join_code (Ahead q) x After s r ns im at st p may op = let bad : After ≡ Same = sym im ∙ st.1 in cc
   join_code (Owing q) x m s r ns im at st p may op = absurd may
 
   -- where g is ahead, at what f comes to next
-  pub join_ahead : (p : Pos) (mf : Since) (sf s : State) → Aligns src OriginOfF p mf sf s → Joins (Ahead p) mf sf Same s
+  pub join_ahead : (p : Pos) (mf : Since) (sf s : State) → MatchesNext src OriginOfF p mf sf s → Joins (Ahead p) mf sf Same s
   join_ahead p mf sf s al q may op =
       let oq : OriginOfF p = subst OriginOfF may op in
       record {
         next = λ x a. inl (
           aligns_at src OriginOfF p mf sf s al ∙
               sym may,
-          aligns_once src OriginOfF p oq mf sf s x al (subst (λ (z : Pos). Aligns src OriginOfF z mf sf x) may a),
+          aligns_once src OriginOfF p oq mf sf s x al (subst (λ (z : Pos). MatchesNext src OriginOfF z mf sf x) may a),
         );
         fails = λ z. absurd (aligns_not_fails src OriginOfF p oq mf sf s al (subst (λ (y : Pos). FailsBefore src OriginOfF y mf sf) may z));
       }
@@ -113,7 +114,7 @@ module _ (addition : Addition) where
     fails = λ z. fails_waiting src fs gs Stops Extra Reach s0.pos facts.more p op s0 r z;
   }
 
-  pub join_free : IsFree count src sides relation → Reach s0.pos → Joins Level Start s0 Start s0
+  pub join_free : IsFree count src sides match_states → Reach s0.pos → Joins Level Start s0 Start s0
   join_free free r p may op = record {
     next = λ x a. arrives_free src fs gs Stops Extra Reach s0.pos facts.more p op s0 x r (free p op) a;
     fails = λ z. fails_free src fs gs Stops Extra Reach s0.pos facts.more p op s0 r (free p op) z;
@@ -177,16 +178,16 @@ module _ (addition : Addition) where
     pub home : AtHome (standing k) t.pos.block v.pos.block
     pub reach : Reach s.pos
     pub reach_f : Reach sf.pos
-    pub static : Rests k v.pos.block (rest_f v.pos) (rest_g t.pos)
-    pub dynamic : Cores k v.pos.block (rest_f v.pos) (rest_g t.pos) v.core t.core
+    pub static : MatchItems k v.pos.block (rest_f v.pos) (rest_g t.pos)
+    pub dynamic : MatchCores k v.pos.block (rest_f v.pos) (rest_g t.pos) v.core t.core
     pub joins : Joins (standing k) mf sf m s
     pub owed : Owed (standing k) v mf sf m s
 
   pub dynamic_at : (t s : State) (m : Since) (r : Now t s m) (xs ys : List Item) → rest_f r.v.pos ≡ xs → rest_g t.pos ≡ ys →
-      Cores r.k r.v.pos.block xs ys r.v.core t.core
+      MatchCores r.k r.v.pos.block xs ys r.v.core t.core
   dynamic_at t s m r xs ys ef eg = rw (sym ef, sym eg) r.dynamic
 
-  pub static_at : (t s : State) (m : Since) (r : Now t s m) (xs ys : List Item) → rest_f r.v.pos ≡ xs → rest_g t.pos ≡ ys → Rests r.k r.v.pos.block xs ys
+  pub static_at : (t s : State) (m : Since) (r : Now t s m) (xs ys : List Item) → rest_f r.v.pos ≡ xs → rest_g t.pos ≡ ys → MatchItems r.k r.v.pos.block xs ys
   static_at t s m r xs ys ef eg = rw (sym ef, sym eg) r.static
 
   pub shown : (t s : State) (m : Since) (r : Now t s m) → ShowsSame r.v.core t.core
@@ -197,8 +198,8 @@ module _ (addition : Addition) where
 
   -- g and f further on, the alignments as they were
   pub moves_to : (t s : State) (m : Since) (r : Now t s m) (k' : Stage) → IsQuiet (standing r.k) → standing k' ≡ standing r.k → (t' w : State) →
-      AlongF w r.sf r.mf → AtHome (standing r.k) t'.pos.block w.pos.block → Rests k' w.pos.block (rest_f w.pos) (rest_g t'.pos) →
-      Cores k' w.pos.block (rest_f w.pos) (rest_g t'.pos) w.core t'.core → Now t' s m
+      AlongF w r.sf r.mf → AtHome (standing r.k) t'.pos.block w.pos.block → MatchItems k' w.pos.block (rest_f w.pos) (rest_g t'.pos) →
+      MatchCores k' w.pos.block (rest_f w.pos) (rest_g t'.pos) w.core t'.core → Now t' s m
   moves_to t s m r k' q same t' w al home st dy = record {
     v = w;
     sf = r.sf;
@@ -216,7 +217,7 @@ module _ (addition : Addition) where
 
   -- g past an item of its own, with the source then aligned at s'
   pub past_g : (t s : State) (m : Since) (r : Now t s m) (k' : Stage) (y : Item) (xs ys : List Item) → rest_f r.v.pos ≡ xs → rest_g t.pos ≡ y ∷ ys →
-      (e : Core) → Rests k' r.v.pos.block xs ys → Cores k' r.v.pos.block xs ys r.v.core e → (s' : State) (m' : Since) →
+      (e : Core) → MatchItems k' r.v.pos.block xs ys → MatchCores k' r.v.pos.block xs ys r.v.core e → (s' : State) (m' : Since) →
       AtHome (standing k') t.pos.block r.v.pos.block → Reach s'.pos → Joins (standing k') r.mf r.sf m' s' → Owed (standing k') r.v r.mf r.sf m' s' →
       Now (record { pos = below t.pos; core = e }) s' m'
   past_g t s m r k' y xs ys ef eg e st dy s' m' home reach joins owed =
@@ -239,7 +240,7 @@ module _ (addition : Addition) where
   -- level at the start of block n, to which f has gone from u
   pub in_block : (t1 s : State) (m : Since) (u : State) (n : ℕ) (c : Core) (sf : State) (mf : Since) →
       step f u ≡ Went (record { pos = block_start n; core = c }) → t1.pos ≡ block_start (g.enter n) → AlongF (record { pos = block_start n; core = c }) sf mf →
-      Reach s.pos → Reach sf.pos → Cores (entry n) n (rest_f (block_start n)) (rest_g (block_start (g.enter n))) c t1.core →
+      Reach s.pos → Reach sf.pos → MatchCores (entry n) n (rest_f (block_start n)) (rest_g (block_start (g.enter n))) c t1.core →
       Joins Level mf sf m s → Now t1 s m
   in_block t1 s m u n c sf mf go at al reach reach_f q joins =
       let v : State = record { pos = block_start n; core = c } in
@@ -253,8 +254,8 @@ module _ (addition : Addition) where
         home = subst (λ (z : Standing). AtHome z t1.pos.block n) level (ap (λ (z : Pos). z.block) at);
         reach = reach;
         reach_f = reach_f;
-        static = subst (λ (z : Pos). Rests (entry n) n (rest_f (block_start n)) (rest_g z)) (sym at) (facts.starts u.pos n (step_edge f u v go));
-        dynamic = subst (λ (z : Pos). Cores (entry n) n (rest_f (block_start n)) (rest_g z) c t1.core) (sym at) q;
+        static = subst (λ (z : Pos). MatchItems (entry n) n (rest_f (block_start n)) (rest_g z)) (sym at) (facts.starts u.pos n (step_edge f u v go));
+        dynamic = subst (λ (z : Pos). MatchCores (entry n) n (rest_f (block_start n)) (rest_g z) c t1.core) (sym at) q;
         joins = subst (λ (z : Standing). Joins z mf sf m s) level joins;
         owed = subst (λ (z : Standing). Owed z v mf sf m s) level tt;
       }
@@ -274,13 +275,14 @@ module _ (addition : Addition) where
 
   -- f passes a debug item alone
   passes : (t s : State) (m : Since) (r : Now t s m) (k' : Stage) (x : Item) (xs ys : List Item) → rest_f r.v.pos ≡ x ∷ xs → rest_g t.pos ≡ ys →
-      IsQuiet (standing r.k) → standing k' ≡ standing r.k → is_code x.kind ≡ false → Rests k' r.v.pos.block xs ys → (e : Core) →
-      do_item f x.kind r.v.core ≡ Falls e → Cores k' r.v.pos.block xs ys e t.core → Now t s m
+      IsQuiet (standing r.k) → standing k' ≡ standing r.k → is_code x.kind ≡ false → MatchItems k' r.v.pos.block xs ys → (e : Core) →
+      do_item f x.kind r.v.core ≡ Falls e → MatchCores k' r.v.pos.block xs ys e t.core → Now t s m
   passes t s m r k' x xs ys ef eg q same c st e o dy =
       let fe = facts.laid_f.cons r.v.pos x xs ef in
       moves_to t s m r k' q same t (record { pos = below r.v.pos; core = e })
-      (other r.along (debug_station count f r.v.pos x fe.0 c) (step_item f r.v x (Falls e) fe.0 o)) r.home
-      (rw fe.1 (subst (Rests k' r.v.pos.block xs) (sym eg) st)) (rw fe.1 (subst (λ (z : List Item). Cores k' r.v.pos.block xs z e t.core) (sym eg) dy))
+      (other r.along (debug_sync_point count f r.v.pos x fe.0 c) (step_item f r.v x (Falls e) fe.0 o)) r.home
+      (rw fe.1 (subst (MatchItems k' r.v.pos.block xs) (sym eg) st)) (rw fe.1 (subst (λ (z : List Item). MatchCores k' r.v.pos.block xs z e t.core)
+      (sym eg) dy))
 
   stands : (t s : State) (m : Since) (r : Now t s m) (xs ys : List Item) → rest_f r.v.pos ≡ xs → rest_g t.pos ≡ ys →
       (w : Seen r.v.pos.block r.k xs ys) → IsReady w → Ready t s m

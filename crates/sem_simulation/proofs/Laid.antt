@@ -9,7 +9,7 @@ use Rattle.mir_func.specs.declared.position.Origin.TheVariants.{Kept, Before}
 use Rattle.mir_func.specs.declared.block.Block.{Block}
 use Rattle.mir_func.specs.declared.item.Item.{Item}
 use Rattle.mir_func.specs.Sound.{AreApart, ids_of, OriginIn}
-use Rattle.mir_func.specs.Graph.{Program, Here, Silent, block_start, end_of, front, fetch_in, from_block, index_of, program_of, framed_program}
+use Rattle.mir_func.specs.Graph.{Program, Here, EndOfBlock, block_start, end_of, front, fetch_in, from_block, index_of, program_of, framed_program}
 use Rattle.sem_mir.specs.Align.{position_of}
 use Rattle.sem_mir.specs.Follow.{next_rank, InOrder}
 use Rattle.sem_mir.proofs.Reading.{found_in, front_item, front_end, end_index, within_list, next_block, apart_tail}
@@ -42,12 +42,15 @@ end_is_past k (b ∷ bs) = tt
 cons_in : (bs : List Block) (n : ℕ) (x : Item) (xs : List Item) → rest_in bs n ≡ x ∷ xs → (fetch_in bs n ≡ Here x) × (rest_in bs (n + 1) ≡ xs)
 cons_in [] n x xs e = cc
 cons_in (b ∷ bs) n x xs e = let k : n + 1 ≡ suc n = omega arith in
-    (ap (λ (z : List Item). front z b.silent bs) e, ap (λ (m : ℕ). drop m b.items) k ∙ drop_one b.items n x xs e)
+    (ap (λ (z : List Item). front z b.source_end bs) e, ap (λ (m : ℕ). drop m b.items) k ∙ drop_one b.items n x xs e)
 
 nil_in : (bs : List Block) (n : ℕ) → rest_in bs n ≡ [] → IsPastItems (fetch_in bs n) × (rest_in bs (n + 1) ≡ [])
 nil_in [] n e = (tt, refl)
-nil_in (b ∷ bs) n e = let k : n + 1 ≡ suc n = omega arith in
-    (subst (λ (z : List Item). IsPastItems (front z b.silent bs)) (sym e) (end_is_past b.silent bs), ap (λ (m : ℕ). drop m b.items) k ∙ drop_none b.items n e)
+nil_in (b ∷ bs) n e = let k : n + 1 ≡ suc n = omega arith in (
+  subst (λ (z : List Item). IsPastItems (front z b.source_end bs)) (sym e) (end_is_past b.source_end bs),
+  ap (λ
+      (m : ℕ). drop m b.items) k ∙ drop_none b.items n e,
+)
 
 pub laid_out : (sp : Bool) (blocks : List Block) (resolve : OperandPair → Option OperandPair) → Laid (program_of sp blocks resolve) (rest_of blocks)
 laid_out sp blocks resolve = record {
@@ -81,11 +84,11 @@ origin_block : (b : Block) (o : Origin) → OriginIn b o → (position_of o).blo
 origin_block b (Kept p) h = h.0
 origin_block b (Before p) h = h.0
 
-origin_within : (b : Block) (o : Origin) → OriginIn b o → (position_of o).item ≤ b.silent
+origin_within : (b : Block) (o : Origin) → OriginIn b o → (position_of o).item ≤ b.source_end
 origin_within b (Kept p) h = let k = h.1 in omega (arith, k)
 origin_within b (Before p) h = h.1
 
-origin_next : (b : Block) (o : Origin) → OriginIn b o → next_rank o ≤ 2 * b.silent
+origin_next : (b : Block) (o : Origin) → OriginIn b o → next_rank o ≤ 2 * b.source_end
 origin_next b (Kept p) h = let k = h.1 in omega (arith, k)
 origin_next b (Before p) h = let k = h.1 in omega (arith, k)
 
@@ -99,18 +102,19 @@ module _ (sp : Bool) (blocks : List Block) (resolve : OperandPair → Option Ope
     by_blocks [] f e = cc
     by_blocks (b ∷ rest) f e =
         let k = found_in blocks p.block b rest f in
-        let at = front_item b.items p.item b.silent rest i e in
+        let at = front_item b.items p.item b.source_end rest i e in
         (record { block = b; rest = rest; found = f; member = k.0; id = k.1 }, (p.item, within_list b.items p.item i at, contains_at b.items p.item i at))
 
-  end_in : (p : Pos) (k n : ℕ) → g.fetch p ≡ Silent k n → (s : IsIn blocks p) × (s.block.silent ≡ k) × (end_of s.block.silent s.rest ≡ Silent k n)
+  end_in : (p : Pos) (k n : ℕ) → g.fetch p ≡ EndOfBlock k n →
+      (s : IsIn blocks p) × (s.block.source_end ≡ k) × (end_of s.block.source_end s.rest ≡ EndOfBlock k n)
   end_in p k n e = by_blocks (from_block blocks p.block) refl e where
-    by_blocks : (x : List Block) → from_block blocks p.block ≡ x → fetch_in x p.item ≡ Silent k n →
-        (s : IsIn blocks p) × (s.block.silent ≡ k) × (end_of s.block.silent s.rest ≡ Silent k n)
+    by_blocks : (x : List Block) → from_block blocks p.block ≡ x → fetch_in x p.item ≡ EndOfBlock k n →
+        (s : IsIn blocks p) × (s.block.source_end ≡ k) × (end_of s.block.source_end s.rest ≡ EndOfBlock k n)
     by_blocks [] f e = cc
     by_blocks (b ∷ rest) f e =
         let h = found_in blocks p.block b rest f in
-        let z = front_end b.items p.item b.silent rest k n e in
-        (record { block = b; rest = rest; found = f; member = h.0; id = h.1 }, end_index b.silent rest k n z.1, z.1)
+        let z = front_end b.items p.item b.source_end rest k n e in
+        (record { block = b; rest = rest; found = f; member = h.0; id = h.1 }, end_index b.source_end rest k n z.1, z.1)
 
   same_block : (p q : Pos) → p.block ≡ q.block → (s : IsIn blocks p) (t : IsIn blocks q) → s.block ≡ t.block
   same_block p q e s t = let w : s.block ∷ s.rest ≡ t.block ∷ t.rest = sym s.found ∙ ap (from_block blocks) e ∙ t.found in cc
@@ -126,11 +130,11 @@ module _ (sp : Bool) (blocks : List Block) (resolve : OperandPair → Option Ope
         (subst (λ (m : ℕ). InOrder m 0 b.items) h.1 (All-contains (λ (c : Block). InOrder c.id 0 c.items) blocks b ord h.0))
 
   -- a block has one end
-  pub one_end : (p q : Pos) (k n k' n' : ℕ) → g.fetch p ≡ Silent k n → g.fetch q ≡ Silent k' n' → p.block ≡ q.block → k ≡ k'
+  pub one_end : (p q : Pos) (k n k' n' : ℕ) → g.fetch p ≡ EndOfBlock k n → g.fetch q ≡ EndOfBlock k' n' → p.block ≡ q.block → k ≡ k'
   one_end p q k n k' n' e f b =
       let s = end_in p k n e in
       let t = end_in q k' n' f in
-      sym s.1 ∙ ap (λ (c : Block). c.silent) (same_block p q b s.0 t.0) ∙ t.1
+      sym s.1 ∙ ap (λ (c : Block). c.source_end) (same_block p q b s.0 t.0) ∙ t.1
 
   module _ (origins : All (λ (b : Block). All (λ (i : Item). OriginIn b i.origin) b.items) blocks) where
     origin_at : (p : Pos) (i : Item) (e : g.fetch p ≡ Here i) → OriginIn (item_in p i e).0.block i.origin
@@ -143,16 +147,16 @@ module _ (sp : Bool) (blocks : List Block) (resolve : OperandPair → Option Ope
     pub from_home : (p : Pos) (i : Item) → g.fetch p ≡ Here i → (position_of i.origin).block ≡ p.block
     from_home p i e = origin_block (item_in p i e).0.block i.origin (origin_at p i e) ∙ (item_in p i e).0.id
 
-    pub from_within : (p q : Pos) (i : Item) (k n : ℕ) → g.fetch p ≡ Here i → g.fetch q ≡ Silent k n → p.block ≡ q.block → (position_of i.origin).item ≤ k
+    pub from_within : (p q : Pos) (i : Item) (k n : ℕ) → g.fetch p ≡ Here i → g.fetch q ≡ EndOfBlock k n → p.block ≡ q.block → (position_of i.origin).item ≤ k
     from_within p q i k n e f b =
         let t = end_in q k n f in
-        subst (λ (m : ℕ). (position_of i.origin).item ≤ m) (ap (λ (c : Block). c.silent) (same_block p q b (item_in p i e).0 t.0) ∙ t.1)
+        subst (λ (m : ℕ). (position_of i.origin).item ≤ m) (ap (λ (c : Block). c.source_end) (same_block p q b (item_in p i e).0 t.0) ∙ t.1)
         (origin_within (item_in p i e).0.block i.origin (origin_at p i e))
 
-    pub from_before_end : (p q : Pos) (i : Item) (k n : ℕ) → g.fetch p ≡ Here i → g.fetch q ≡ Silent k n → p.block ≡ q.block → next_rank i.origin ≤ 2 * k
+    pub from_before_end : (p q : Pos) (i : Item) (k n : ℕ) → g.fetch p ≡ Here i → g.fetch q ≡ EndOfBlock k n → p.block ≡ q.block → next_rank i.origin ≤ 2 * k
     from_before_end p q i k n e f b =
         let t = end_in q k n f in
-        subst (λ (m : ℕ). next_rank i.origin ≤ 2 * m) (ap (λ (c : Block). c.silent) (same_block p q b (item_in p i e).0 t.0) ∙ t.1)
+        subst (λ (m : ℕ). next_rank i.origin ≤ 2 * m) (ap (λ (c : Block). c.source_end) (same_block p q b (item_in p i e).0 t.0) ∙ t.1)
         (origin_next (item_in p i e).0.block i.origin (origin_at p i e))
 
 index_next : (bs : List Block) → AreApart (ids_of bs) → (m : ℕ) (b c : Block) (rest : List Block) → from_block bs m ≡ b ∷ c ∷ rest →
@@ -174,9 +178,9 @@ index_next (a ∷ cs) h m b c rest e = by_test (nat_eq a.id m) refl e (next_bloc
 
 -- where block numbers differ, a block falls into one further down in the text
 pub falls_down : (sp : Bool) (blocks : List Block) (resolve : OperandPair → Option OperandPair) → AreApart (ids_of blocks) → (p : Pos) (k n : ℕ) →
-    (program_of sp blocks resolve).fetch p ≡ Silent k n → index_of blocks p.block < index_of blocks n
+    (program_of sp blocks resolve).fetch p ≡ EndOfBlock k n → index_of blocks p.block < index_of blocks n
 falls_down sp blocks resolve apart p k n e = let s = end_in sp blocks resolve p k n e in by_rest s.0.block s.0.rest s.0.found s.2 where
-  by_rest : (b : Block) (rest : List Block) → from_block blocks p.block ≡ b ∷ rest → end_of b.silent rest ≡ Silent k n →
+  by_rest : (b : Block) (rest : List Block) → from_block blocks p.block ≡ b ∷ rest → end_of b.source_end rest ≡ EndOfBlock k n →
       index_of blocks p.block < index_of blocks n
   by_rest b [] f h = cc
   by_rest b (c ∷ rest) f h = let cn : c.id ≡ n = cc in

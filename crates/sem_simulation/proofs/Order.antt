@@ -6,7 +6,7 @@ use Rattle.mir_func.specs.declared.position.Origin.{Origin}
 use Rattle.mir_func.specs.declared.position.Origin.TheVariants.{Kept, Before}
 use Rattle.mir_func.specs.declared.item.Item.{Item}
 use Rattle.mir_func.specs.Graph.{Program, Here}
-use Rattle.sem_mir.specs.Align.{position_of, is_code, Count, moves_on, waits_at, Station, station_of, IsOrigin, Same, since_of}
+use Rattle.sem_mir.specs.Align.{position_of, is_code, Count, moves_on, waits_at, SyncPoint, sync_point_of, IsOrigin, Same, since_of}
 use Rattle.sem_mir.specs.Follow.{rank, next_rank, InOrder}
 use Rattle.sem_simulation.specs.Refinement.{waiting, MayPass, gone, early, late}
 
@@ -137,7 +137,7 @@ module _ (place : ℕ → ℕ) where
   from_next b c n p lt (inr x) = inr (omega (arith, x, lt))
 
   -- code of f that doesn't jump may be passed on the way to p further on, if g has nothing from its position
-  module _ (gs : Pos → Option Station) (count : Count) (b n : ℕ) (last : Option Pos) (j : Item) (p : Pos) (home : (position_of j.origin).block ≡ b)
+  module _ (gs : Pos → Option SyncPoint) (count : Count) (b n : ℕ) (last : Option Pos) (j : Item) (p : Pos) (home : (position_of j.origin).block ≡ b)
       (low : n ≤ rank j.origin) (known : (q : Pos) → last ≡ Some q → IsUntil b n q) (from : IsFrom b (next_rank j.origin) p) where
     waits_there : (o : Origin) → o ≡ j.origin → p ≡ position_of o → since_of (waits_at false o) ≡ Same
     waits_there (Before q) e at = refl
@@ -173,12 +173,12 @@ module _ (place : ℕ → ℕ) where
 
     pub may_pass : moves_on count j.kind ≡ false →
         ((p ≡ position_of j.origin → ⊥) → (last ≡ Some (position_of j.origin) → ⊥) → IsOrigin gs (position_of j.origin) → ⊥) →
-        MayPass gs p last (station_of count j)
+        MayPass gs p last (sync_point_of count j)
     may_pass stays lacks =
-        elim (cases_pos p (position_of j.origin)) as (λ z. MayPass gs p last (station_of count j)) [
+        elim (cases_pos p (position_of j.origin)) as (λ z. MayPass gs p last (sync_point_of count j)) [
           | inl e ↦ early (sym e) (ap (λ (z : Bool). since_of (waits_at z j.origin)) stays ∙ waits_there j.origin refl e)
           | inr ne ↦
-              elim (cases_waiting last (position_of j.origin)) as (λ z. MayPass gs p last (station_of count j)) [
+              elim (cases_waiting last (position_of j.origin)) as (λ z. MayPass gs p last (sync_point_of count j)) [
                 | inl e ↦ late e (λ h. ne (sym h))
                 | inr far ↦ gone (lacks ne far) (not_waiting ne)
               ]

@@ -7,32 +7,32 @@ use Rattle.mir_func.specs.declared.position.Origin.{Origin}
 use Rattle.mir_func.specs.declared.item.Item.{Item}
 use Rattle.sem_mir.specs.State.{State, Core}
 use Rattle.sem_mir.specs.Step.{Went, Returned, Faulted, Lost, Outcome, Falls, Goes, Gives, Traps, Asks, Breaks, moved, do_item, do_fetch, step}
-use Rattle.mir_func.specs.Graph.{Program, Fetch, Here, Silent, Outside, below, block_start, FetchEdge}
-use Rattle.sem_mir.specs.Align.{position_of, is_code, Station, ByItems, ByEnds, moves_on, waits_at, station_of, Since, After, since_of, AnyOrigin}
-use Rattle.sem_mir.specs.Align.{RunsAlong}
+use Rattle.mir_func.specs.Graph.{Program, Fetch, Here, EndOfBlock, Outside, below, block_start, FetchEdge}
+use Rattle.sem_mir.specs.Align.{position_of, is_code, SyncPoint, ByItems, ByEnds, moves_on, waits_at, sync_point_of, Since, After, since_of, AnyOrigin}
+use Rattle.sem_mir.specs.Align.{RunsMatch}
 use Rattle.sem_mir.specs.Follow.{rank, next_rank, InOrder}
 use Rattle.sem_simulation.specs.Sides.{since_item, ShowsSame}
 use Rattle.sem_simulation.specs.Refinement.{waiting, Walk, there, on, IsDoomed, later, Passes, still, pass, Meets}
-use Rattle.sem_simulation.specs.Rewired.{RewiredRelation, DoAlike, View, both, added, paired, closes, ended, RewiredFollows}
+use Rattle.sem_simulation.specs.Rewired.{RewiredMatchStates, DoAlike, View, both, added, paired, closes, ended, RewiredFollows}
 use Rattle.sem_mir.proofs.Alignment.{went_once}
 use Rattle.sem_mir.proofs.Edges.{step_edge}
 use Rattle.sem_mir.proofs.Outcomes.{step_item}
 use Rattle.sem_simulation.proofs.Refinement.{IsDoomedFrom, refines_or_doomed, still_follows}
 use Rattle.sem_simulation.proofs.Order.{done_next, rank_next, same_pos, IsDone, done_more, waits_after, done_self, waits_until, done_code, IsUntil, until_more}
 use Rattle.sem_simulation.proofs.Order.{until_here}
-use Rattle.sem_simulation.proofs.Stations.{not_code, debug_below, code_station, debug_station, end_is_station, code_is_some, code_is, debug_is_none}
-use Rattle.sem_simulation.proofs.Stations.{IsStationOf}
-use Rattle.sem_simulation.proofs.Stations.{of_item, of_end, station_is_of, not_past_items, falls_stays}
+use Rattle.sem_simulation.proofs.Stations.{not_code, debug_below, code_sync_point, debug_sync_point, end_is_sync_point, code_is_some, code_is, debug_is_none}
+use Rattle.sem_simulation.proofs.Stations.{IsSyncPointOf}
+use Rattle.sem_simulation.proofs.Stations.{of_item, of_end, sync_point_is_of, not_past_items, falls_stays}
 use Rattle.sem_simulation.proofs.Outcomes.{both_return, both_fault}
 use Rattle.sem_simulation.proofs.Bypassed.{Rewiring, fs, gs, To, AllDone, ends_f, ends_g, leaves, not_waiting, reaches}
 
 module _ (rewiring : Rewiring) where
-  open rewiring use {sides, place, relation, facts}
+  open rewiring use {sides, place, match_states, facts}
   open sides use {old.{program as f, rest as rest_f, start as s0}, new.{program as g, rest as rest_g, start as g0}}
-  open relation use {relation.{Stage, entry, Rests, Cores}, Has, Ways}
+  open match_states use {match_states.{Stage, entry, MatchItems, MatchCores}, Has, Ways}
 
   abbrev Seen : ℕ → Stage → List Item → List Item → Type 0
-  Seen b k xs ys = View sides place relation b k xs ys
+  Seen b k xs ys = View sides place match_states b k xs ys
 
   -- f stands at v beside g at t in one block; it was at u right after the station that both met last
   record Within (last0 : Option Pos) (t u : State) : Type 0 where
@@ -41,13 +41,13 @@ module _ (rewiring : Rewiring) where
     n : ℕ
     block : t.pos.block ≡ v.pos.block
     k : Stage
-    static : Rests k v.pos.block (rest_f v.pos) (rest_g t.pos)
-    dynamic : Cores k v.pos.block (rest_f v.pos) (rest_g t.pos) v.core t.core
+    static : MatchItems k v.pos.block (rest_f v.pos) (rest_g t.pos)
+    dynamic : MatchCores k v.pos.block (rest_f v.pos) (rest_g t.pos) v.core t.core
     order_f : InOrder v.pos.block n (rest_f v.pos)
     known : (q : Pos) → last ≡ Some q → IsUntil place v.pos.block n q
     done : (j : ℕ) (i : Item) → j < t.pos.item → g.fetch (record { block = v.pos.block; item = j }) ≡ Here i → is_code i.kind ≡ true →
         IsDone n last (position_of i.origin)
-    high : (q : Pos) (j l : ℕ) → q.block ≡ v.pos.block → f.fetch q ≡ Silent j l → n ≤ 2 * j
+    high : (q : Pos) (j l : ℕ) → q.block ≡ v.pos.block → f.fetch q ≡ EndOfBlock j l → n ≤ 2 * j
     walks : (p : Pos) → place v.pos.block ≤ place p.block → (w : State) → Walk f (fs rewiring) (gs rewiring) p last v w →
         Walk f (fs rewiring) (gs rewiring) p last0 u w
     dooms : (p : Pos) → place v.pos.block ≤ place p.block → IsDoomed f (fs rewiring) (gs rewiring) p last v → IsDoomed f (fs rewiring) (gs rewiring) p last0 u
@@ -59,7 +59,7 @@ module _ (rewiring : Rewiring) where
     k : ℕ
     has : Has e
     over : rest_g t.pos ≡ []
-    falls : g.fetch t.pos ≡ Silent k e
+    falls : g.fetch t.pos ≡ EndOfBlock k e
     carried : Ways e c t.core
     walks : (p : Pos) (w : State) → Walk f (fs rewiring) (gs rewiring) p None (record { pos = block_start e; core = c }) w →
         Walk f (fs rewiring) (gs rewiring) p last0 u w
@@ -70,11 +70,11 @@ module _ (rewiring : Rewiring) where
   Beside last0 t u = Within last0 t u ⊎ AtDoor last0 t u ⊎ IsDoomedFrom f g (fs rewiring) (gs rewiring) last0 t u
 
   dynamic_at : (last0 : Option Pos) (t u : State) (r : Within last0 t u) (xs ys : List Item) → rest_f r.v.pos ≡ xs → rest_g t.pos ≡ ys →
-      Cores r.k r.v.pos.block xs ys r.v.core t.core
+      MatchCores r.k r.v.pos.block xs ys r.v.core t.core
   dynamic_at last0 t u r xs ys ef eg = rw (sym ef, sym eg) r.dynamic
 
   -- both at the start of a block that g has
-  at_start : (last0 : Option Pos) (u : State) (e : ℕ) (c d : Core) → Has e → Cores (entry e) e (rest_f (block_start e)) (rest_g (block_start e)) c d →
+  at_start : (last0 : Option Pos) (u : State) (e : ℕ) (c d : Core) → Has e → MatchCores (entry e) e (rest_f (block_start e)) (rest_g (block_start e)) c d →
       ((p : Pos) → place e ≤ place p.block → (w : State) → Walk f (fs rewiring) (gs rewiring) p None (record { pos = block_start e; core = c }) w →
       Walk f (fs rewiring) (gs rewiring) p last0 u w) →
       ((p : Pos) → place e ≤ place p.block → IsDoomed f (fs rewiring) (gs rewiring) p None (record { pos = block_start e; core = c }) →
@@ -106,11 +106,11 @@ module _ (rewiring : Rewiring) where
   all_done : (b n : ℕ) (last : Option Pos) (t : Pos) → t.block ≡ b → rest_g t ≡ [] →
       ((j : ℕ) (i : Item) → j < t.item → g.fetch (record { block = b; item = j }) ≡ Here i → is_code i.kind ≡ true → IsDone n last (position_of i.origin)) →
       AllDone rewiring b n last
-  all_done b n last t tb eg done q o qb = by_station (station_is_of ByItems g o.place o.station o.stands) where
-    by_station : IsStationOf ByItems g o.place o.station → IsDone n last q
-    by_station (of_end k m fe ce ie) = cc
-    by_station (of_item i fi ci si) =
-        let from : position_of i.origin ≡ q = ap (λ (z : Station). z.pos) si ∙ o.from in
+  all_done b n last t tb eg done q o qb = by_sync_point (sync_point_is_of ByItems g o.place o.sync_point o.stands) where
+    by_sync_point : IsSyncPointOf ByItems g o.place o.sync_point → IsDone n last q
+    by_sync_point (of_end k m fe ce ie) = cc
+    by_sync_point (of_item i fi ci si) =
+        let from : position_of i.origin ≡ q = ap (λ (z : SyncPoint). z.pos) si ∙ o.from in
         let home : o.place.block ≡ b = sym (facts.home o.place i fi) ∙ ap (λ (z : Pos). z.block) from ∙ qb in
         elim (cases_lt o.place.item t.item) as (λ z. IsDone n last q) [
           | inl lt ↦ subst (IsDone n last) from
@@ -141,26 +141,27 @@ module _ (rewiring : Rewiring) where
               let at = debug_below g y.kind c t.pos t'.pos (subst (λ (z : Fetch). FetchEdge g.enter z t.pos t'.pos) e (step_edge g t t' go)) in
               let k : place t'.pos.block ≡ place t.pos.block = ap (λ (z : Pos). place z.block) at in omega (arith, k)
         ]
-    by_fetch (Silent k n) e =
+    by_fetch (EndOfBlock k n) e =
         let lt = facts.onward t.pos k n e in
         let z : place t'.pos.block ≡ place n = ap (λ (q : State). place q.pos.block)
         (went_once g t t' (record { pos = block_start n; core = t.core }) go (ends_g rewiring t k n e)) in
         omega (arith, lt, z)
     by_fetch Outside e = let bad : Lost ≡ Went t' = sym (ap (λ (z : Fetch). moved g.enter t.pos (do_fetch g z t.core)) e) ∙ go in cc
 
-  later_station : {t t1 : State} (i : Station) → Passes g (gs rewiring) t t1 → gs rewiring t1.pos ≡ Some i → place t.pos.block ≤ place i.pos.block
-  later_station i (still {t = t}) e = by_station (station_is_of ByItems g t.pos i e) where
-    by_station : IsStationOf ByItems g t.pos i → place t.pos.block ≤ place i.pos.block
-    by_station (of_item y fy cy iy) =
-        let k : place i.pos.block ≡ place t.pos.block = ap (λ (z : Station). place z.pos.block) (sym iy) ∙ ap place (facts.home t.pos y fy) in omega (arith, k)
-    by_station (of_end k n fe ce ie) = cc
-  later_station i (pass {t = t} {u = u} none go rest) e = le_trans (goes_down t u none go) (later_station i rest e)
+  later_sync_point : {t t1 : State} (i : SyncPoint) → Passes g (gs rewiring) t t1 → gs rewiring t1.pos ≡ Some i → place t.pos.block ≤ place i.pos.block
+  later_sync_point i (still {t = t}) e = by_sync_point (sync_point_is_of ByItems g t.pos i e) where
+    by_sync_point : IsSyncPointOf ByItems g t.pos i → place t.pos.block ≤ place i.pos.block
+    by_sync_point (of_item y fy cy iy) =
+        let k : place i.pos.block ≡ place t.pos.block = ap (λ (z : SyncPoint). place z.pos.block) (sym iy) ∙ ap place (facts.home t.pos y fy) in omega
+        (arith, k)
+    by_sync_point (of_end k n fe ce ie) = cc
+  later_sync_point i (pass {t = t} {u = u} none go rest) e = le_trans (goes_down t u none go) (later_sync_point i rest e)
 
-  past_end : (t t' t1 : State) (i : Station) → gs rewiring t.pos ≡ None → step g t ≡ Went t' → Passes g (gs rewiring) t t1 → gs rewiring t1.pos ≡ Some i →
+  past_end : (t t' t1 : State) (i : SyncPoint) → gs rewiring t.pos ≡ None → step g t ≡ Went t' → Passes g (gs rewiring) t t1 → gs rewiring t1.pos ≡ Some i →
       place t'.pos.block ≤ place i.pos.block
   past_end t t' t1 i none go still e = let bad : None ≡ Some i = sym none ∙ e in cc
   past_end t t' t1 i none go (pass {u = u} ne st rest) e =
-      subst (λ (z : State). place z.pos.block ≤ place i.pos.block) (went_once g t u t' st go) (later_station i rest e)
+      subst (λ (z : State). place z.pos.block ≤ place i.pos.block) (went_once g t u t' st go) (later_sync_point i rest e)
 
   -- between stations
   between_at : (last0 : Option Pos) (t u : State) (r : Within last0 t u) (xs ys : List Item) → rest_f r.v.pos ≡ xs → rest_g t.pos ≡ ys →
@@ -181,8 +182,8 @@ module _ (rewiring : Rewiring) where
         n = r.n;
         block = r.block;
         k = k';
-        static = rw ge.1 (subst (λ (z : List Item). Rests k' b z ts) (sym ef) s);
-        dynamic = rw ge.1 (subst (λ (z : List Item). Cores k' b z ts r.v.core d.0) (sym ef) d.2);
+        static = rw ge.1 (subst (λ (z : List Item). MatchItems k' b z ts) (sym ef) s);
+        dynamic = rw ge.1 (subst (λ (z : List Item). MatchCores k' b z ts r.v.core d.0) (sym ef) d.2);
         order_f = r.order_f;
         known = r.known;
         done = done_next g facts.home t.pos b r.n r.n r.last r.last y (sym r.block) ge.0 (λ q qb z. z) (λ c. not_code y cy c) r.done;
@@ -198,7 +199,7 @@ module _ (rewiring : Rewiring) where
       let ord = subst (InOrder b r.n) ef r.order_f in
       let le = rank_next x.origin r.n ord.1 in
       let d = h r.v.core t.core (dynamic_at last0 t u r xs ys ef eg) in
-      let none_f = debug_station ByEnds f r.v.pos x fe.0 cx in
+      let none_f = debug_sync_point ByEnds f r.v.pos x fe.0 cx in
       let go_f = step_item f r.v x (Falls d.0) fe.0 d.2 in
       let t1 : State = record { pos = below t.pos; core = d.1 } in
       let made : Within last0 t1 u = record {
@@ -237,7 +238,7 @@ module _ (rewiring : Rewiring) where
               (let z = past_end t t' t2 i none go w2 e2 in let y : place t'.pos.block ≡ place e =
               ap (λ (q : State). place q.pos.block) (went_once g t t' t1 go (ends_g rewiring t fl.0 e fl.1)) in omega (arith, z, y)) in
               r.dooms i.pos (omega (arith, lt, le))
-              (w i.pos (record { place = t2.pos; station = i; stands = e2; from = refl }) (not_until b r.n r.last i.pos e r.known lt le));
+              (w i.pos (record { place = t2.pos; sync_point = i; stands = e2; from = refl }) (not_until b r.n r.last i.pos e r.known lt le));
         })
       ]
 
@@ -253,11 +254,11 @@ module _ (rewiring : Rewiring) where
       inl (inl (subst (λ (z : State). Within last0 z u) (went_once g t t1 t' (ends_g rewiring t r.k r.e r.falls) st) made))
 
   -- where g's outcome is a return or a trap, so is f's
-  gives_too : (b : ℕ) (xs ys : List Item) (m : Since) (x : Outcome) (v : List ℕ) → DoAlike sides place relation b xs ys m x (Gives v) → x ≡ Gives v
+  gives_too : (b : ℕ) (xs ys : List Item) (m : Since) (x : Outcome) (v : List ℕ) → DoAlike sides place match_states b xs ys m x (Gives v) → x ≡ Gives v
   gives_too b xs ys m (Gives w) v h = ap Gives h
   gives_too b xs ys m _ v h = absurd h
 
-  traps_too : (b : ℕ) (xs ys : List Item) (m : Since) (x : Outcome) → DoAlike sides place relation b xs ys m x Traps → x ≡ Traps
+  traps_too : (b : ℕ) (xs ys : List Item) (m : Since) (x : Outcome) → DoAlike sides place match_states b xs ys m x Traps → x ≡ Traps
   traps_too b xs ys m Traps h = refl
   traps_too b xs ys m _ h = absurd h
 
@@ -269,7 +270,7 @@ module _ (rewiring : Rewiring) where
   goes_on : (last0 : Option Pos) (t u : State) (r : Within last0 t u) (x y : Item) (xs ys : List Item) → rest_f r.v.pos ≡ x ∷ xs → rest_g t.pos ≡ y ∷ ys →
       x.origin ≡ y.origin → since_item ByEnds x ≡ since_item ByItems y → (a c : Outcome) →
       ((d : Core) → c ≡ Falls d → moves_on ByItems y.kind ≡ false) → ((d : Core) → a ≡ Falls d → moves_on ByEnds x.kind ≡ false) →
-      DoAlike sides place relation r.v.pos.block xs ys (since_item ByEnds x) a c → (t' : State) → moved g.enter t.pos c ≡ Went t' → Onward r.v y a t'
+      DoAlike sides place match_states r.v.pos.block xs ys (since_item ByEnds x) a c → (t' : State) → moved g.enter t.pos c ≡ Went t' → Onward r.v y a t'
   goes_on last0 t u r x y xs ys ef eg o sy (Falls e) (Falls e') stays stays_f al t' st =
       let b = r.v.pos.block in
       let fe = facts.laid_f.cons r.v.pos x xs ef in
@@ -354,7 +355,10 @@ module _ (rewiring : Rewiring) where
           w1,
           refl,
           inr (inr (subst (λ (z : Since). IsDoomedFrom f g (fs rewiring) (gs rewiring) (waiting z (position_of y.origin)) t' w1) (sym after)
-              (record { on_the_way = λ t2 i w2 e2. w i.pos (record { place = t2.pos; station = i; stands = e2; from = refl }) (not_waiting rewiring i.pos) }))),
+              (record {
+                on_the_way = λ t2 i w2 e2. w i.pos (record { place = t2.pos; sync_point = i; stands = e2; from = refl })
+                    (not_waiting rewiring i.pos);
+              }))),
         )
       ]
   goes_on last0 t u r x y xs ys ef eg o sy (Goes n e) (Falls e') stays stays_f al t' st =
@@ -395,7 +399,7 @@ module _ (rewiring : Rewiring) where
   goes_on last0 t u r x y xs ys ef eg o sy Breaks Breaks stays stays_f al t' st = cc
   goes_on last0 t u r x y xs ys ef eg o sy _ _ stays stays_f al t' st = absurd al
 
-  abbrev Meeting : Option Pos → State → State → Station → Type 0
+  abbrev Meeting : Option Pos → State → State → SyncPoint → Type 0
   Meeting last0 t u i = (w : State) × Walk f (fs rewiring) (gs rewiring) i.pos last0 u w × Meets f g (fs rewiring) Beside t w i
 
   abbrev GoesOn : State → State → Item → Type 0
@@ -404,8 +408,8 @@ module _ (rewiring : Rewiring) where
 
   meets_both : (last0 : Option Pos) (t u : State) (r : Within last0 t u) (x y : Item) (xs ys : List Item) → rest_f r.v.pos ≡ x ∷ xs → rest_g t.pos ≡ y ∷ ys →
       is_code x.kind ≡ true → x.origin ≡ y.origin → since_item ByEnds x ≡ since_item ByItems y → ShowsSame r.v.core t.core →
-      DoAlike sides place relation r.v.pos.block xs ys (since_item ByEnds x) (do_item f x.kind r.v.core) (do_item g y.kind t.core) →
-      Meeting last0 t u (station_of ByItems y)
+      DoAlike sides place match_states r.v.pos.block xs ys (since_item ByEnds x) (do_item f x.kind r.v.core) (do_item g y.kind t.core) →
+      Meeting last0 t u (sync_point_of ByItems y)
   meets_both last0 t u r x y xs ys ef eg cx o sy sh al =
       let b = r.v.pos.block in
       let fe = facts.laid_f.cons r.v.pos x xs ef in
@@ -415,18 +419,18 @@ module _ (rewiring : Rewiring) where
       let m = since_item ByEnds x in
       let go_f = step_item f r.v x a fe.0 refl in
       let go = step_item g t y c ge.0 refl in
-      let sx = code_station ByEnds f r.v.pos x fe.0 cx in
+      let sx = code_sync_point ByEnds f r.v.pos x fe.0 cx in
       let home : (position_of y.origin).block ≡ b = ap (λ (z : Origin). (position_of z).block) (sym o) ∙ (subst (InOrder b r.n) ef r.order_f).0 in
       let near : place b ≤ place (position_of y.origin).block = (let k : place (position_of y.origin).block ≡ place b = ap place home in omega (arith, k)) in
-      let made : Meets f g (fs rewiring) Beside t r.v (station_of ByItems y) = record {
-        station = station_of ByEnds x;
+      let made : Meets f g (fs rewiring) Beside t r.v (sync_point_of ByItems y) = record {
+        sync_point = sync_point_of ByEnds x;
         stands = sx;
         pos = ap position_of o;
         since = sy;
         events = sh.events;
         told = sh.told;
-        returns = both_return f g r.v t a c go_f go (λ v e. gives_too b xs ys m a v (subst (DoAlike sides place relation b xs ys m a) e al));
-        faults = both_fault f g r.v t a c go_f go (λ e. traps_too b xs ys m a (subst (DoAlike sides place relation b xs ys m a) e al));
+        returns = both_return f g r.v t a c go_f go (λ v e. gives_too b xs ys m a v (subst (DoAlike sides place match_states b xs ys m a) e al));
+        faults = both_fault f g r.v t a c go_f go (λ e. traps_too b xs ys m a (subst (DoAlike sides place match_states b xs ys m a) e al));
         goes = λ t' h. elim (goes_on last0 t u r x y xs ys ef eg o sy a c (λ d e. falls_stays ByItems g y.kind t.core d e)
             (λ d e. falls_stays ByEnds f x.kind r.v.core d e) al t' (sym go ∙ h)) as (λ _. GoesOn t' r.v y) [
               | inl z ↦ inl (z.0, go_f ∙ z.1, z.2)
@@ -437,9 +441,9 @@ module _ (rewiring : Rewiring) where
 
   -- at a new jump of g
   meets_jump : (last0 : Option Pos) (t u : State) (r : Within last0 t u) (y : Item) (ys : List Item) (k n e : ℕ) → rest_g t.pos ≡ y ∷ ys →
-      position_of y.origin ≡ record { block = r.v.pos.block; item = k } → since_item ByItems y ≡ After → f.fetch r.v.pos ≡ Silent k n → Has e →
+      position_of y.origin ≡ record { block = r.v.pos.block; item = k } → since_item ByItems y ≡ After → f.fetch r.v.pos ≡ EndOfBlock k n → Has e →
       To rewiring e (block_start n) → ShowsSame r.v.core t.core →
-      (d : Core) → do_item g y.kind t.core ≡ Goes e d → Ways e r.v.core d → Meeting last0 t u (station_of ByItems y)
+      (d : Core) → do_item g y.kind t.core ≡ Goes e d → Ways e r.v.core d → Meeting last0 t u (sync_point_of ByItems y)
   meets_jump last0 t u r y ys k n e eg o af fx has to sh d goes gg =
       let b = r.v.pos.block in
       let ge = facts.laid_g.cons t.pos y ys eg in
@@ -452,9 +456,9 @@ module _ (rewiring : Rewiring) where
       inl (at_start None w1 e l.c d has (facts.arrives e l.c d has l.carried) (λ p le w q. l.walks p w tt q) (λ p le w. l.dooms p tt w)) in
       let near : place b ≤ place (position_of y.origin).block =
       (let q : place (position_of y.origin).block ≡ place b = ap (λ (z : Pos). place z.block) o in omega (arith, q)) in
-      let made : Meets f g (fs rewiring) Beside t r.v (station_of ByItems y) = record {
-        station = record { pos = record { block = b; item = k }; waits = false };
-        stands = end_is_station ByEnds f r.v.pos k n fx;
+      let made : Meets f g (fs rewiring) Beside t r.v (sync_point_of ByItems y) = record {
+        sync_point = record { pos = record { block = b; item = k }; waits = false };
+        stands = end_is_sync_point ByEnds f r.v.pos k n fx;
         pos = sym o;
         since = sym af;
         events = sh.events;
@@ -470,39 +474,39 @@ module _ (rewiring : Rewiring) where
       } in
       (r.v, r.walks (position_of y.origin) near r.v there, made)
 
-  no_end_station : {P : Type 0} (t : State) (i : Station) → rest_g t.pos ≡ [] → IsStationOf ByItems g t.pos i → P
-  no_end_station t i eg (of_item x fx cx ix) = absurd (not_past_items (g.fetch t.pos) x (facts.laid_g.nil t.pos eg).0 fx)
-  no_end_station t i eg (of_end k n fe ce ie) = cc
+  no_end_sync_point : {P : Type 0} (t : State) (i : SyncPoint) → rest_g t.pos ≡ [] → IsSyncPointOf ByItems g t.pos i → P
+  no_end_sync_point t i eg (of_item x fx cx ix) = absurd (not_past_items (g.fetch t.pos) x (facts.laid_g.nil t.pos eg).0 fx)
+  no_end_sync_point t i eg (of_end k n fe ce ie) = cc
 
   meets_at_view : (last0 : Option Pos) (t u : State) (r : Within last0 t u) (xs ys : List Item) → rest_f r.v.pos ≡ xs → rest_g t.pos ≡ ys →
-      Seen r.v.pos.block r.k xs ys → (i : Station) → gs rewiring t.pos ≡ Some i → Meeting last0 t u i ⊎ IsDoomed f (fs rewiring) (gs rewiring) i.pos last0 u
+      Seen r.v.pos.block r.k xs ys → (i : SyncPoint) → gs rewiring t.pos ≡ Some i → Meeting last0 t u i ⊎ IsDoomed f (fs rewiring) (gs rewiring) i.pos last0 u
   meets_at_view last0 t u r xs ys ef eg (added {y = y} {ys = ts} cy s h) i e =
       absurd (debug_is_none ByItems g t.pos y i e (facts.laid_g.cons t.pos y ts eg).0 cy)
   meets_at_view last0 t u r xs ys ef eg (paired {x = x} {y = y} {xs = rest} {ys = ts} cx cy s h) i e =
       absurd (debug_is_none ByItems g t.pos y i e (facts.laid_g.cons t.pos y ts eg).0 cy)
-  meets_at_view last0 t u r xs ys ef eg (ended n has falls rest h) i e = no_end_station t i eg (station_is_of ByItems g t.pos i e)
+  meets_at_view last0 t u r xs ys ef eg (ended n has falls rest h) i e = no_end_sync_point t i eg (sync_point_is_of ByItems g t.pos i e)
   meets_at_view last0 t u r xs ys ef eg (both {x = x} {y = y} {xs = rest} {ys = ts} cx cy o sy sh h) i e =
       let q = dynamic_at last0 t u r xs ys ef eg in
-      subst (λ (z : Station). Meeting last0 t u z ⊎ IsDoomed f (fs rewiring) (gs rewiring) z.pos last0 u)
+      subst (λ (z : SyncPoint). Meeting last0 t u z ⊎ IsDoomed f (fs rewiring) (gs rewiring) z.pos last0 u)
       (code_is ByItems g t.pos y i e (facts.laid_g.cons t.pos y ts eg).0 cy)
       (inl (meets_both last0 t u r x y rest ts ef eg cx o sy (sh r.v.core t.core q) (h r.v.core t.core q)))
   meets_at_view last0 t u r xs ys ef eg (closes {y = y} {ys = ts} k n to cy o af sh at has way h) i e =
       let q = dynamic_at last0 t u r xs ys ef eg in
       let d = h r.v.core t.core q in
-      subst (λ (z : Station). Meeting last0 t u z ⊎ IsDoomed f (fs rewiring) (gs rewiring) z.pos last0 u)
+      subst (λ (z : SyncPoint). Meeting last0 t u z ⊎ IsDoomed f (fs rewiring) (gs rewiring) z.pos last0 u)
       (code_is ByItems g t.pos y i e (facts.laid_g.cons t.pos y ts eg).0 cy)
       (inl (meets_jump last0 t u r y ts k n to eg o af (at r.v.pos refl ef) has way (sh r.v.core t.core q) d.0 d.1 d.2))
 
-  meets : (last0 : Option Pos) (t u : State) (i : Station) → Beside last0 t u → gs rewiring t.pos ≡ Some i → Meeting last0 t u i ⊎
+  meets : (last0 : Option Pos) (t u : State) (i : SyncPoint) → Beside last0 t u → gs rewiring t.pos ≡ Some i → Meeting last0 t u i ⊎
       IsDoomed f (fs rewiring) (gs rewiring) i.pos last0 u
   meets last0 t u i (inl r) e = meets_at_view last0 t u r (rest_f r.v.pos) (rest_g t.pos) refl refl
       (facts.view r.k r.v.pos.block (rest_f r.v.pos) (rest_g t.pos) r.static) i e
   meets last0 t u i (inr (inr w)) e = inr (w.on_the_way t i still e)
-  meets last0 t u i (inr (inl r)) e = no_end_station t i r.over (station_is_of ByItems g t.pos i e)
+  meets last0 t u i (inr (inl r)) e = no_end_sync_point t i r.over (sync_point_is_of ByItems g t.pos i e)
 
   pub rewired_runs_along : (src : Program) (b : ℕ) → s0.pos ≡ block_start b → g0.pos ≡ block_start b → Has b →
-      Cores (entry b) b (rest_f (block_start b)) (rest_g (block_start b)) s0.core g0.core →
-      RunsAlong src f (fs rewiring) (AnyOrigin (fs rewiring)) s0 s0 → RunsAlong src g (gs rewiring) (AnyOrigin (gs rewiring)) s0 g0
+      MatchCores (entry b) b (rest_f (block_start b)) (rest_g (block_start b)) s0.core g0.core →
+      RunsMatch src f (fs rewiring) (AnyOrigin (fs rewiring)) s0 s0 → RunsMatch src g (gs rewiring) (AnyOrigin (gs rewiring)) s0 g0
   rewired_runs_along src b at at_g has q follows =
       let s1 : State = record { pos = block_start b; core = s0.core } in
       let g1 : State = record { pos = block_start b; core = g0.core } in
@@ -513,6 +517,6 @@ module _ (rewiring : Rewiring) where
       (refines_or_doomed src f g s0 (fs rewiring) (gs rewiring) Beside facts.origins between meets)
       (inl (subst (λ (z : State). Within None z s0) is_g (subst (λ (z : State). Within None g1 z) is made)))
 
-pub rewired_follows : (relation : RewiredRelation) → RewiredFollows relation
-rewired_follows relation src sides place b facts at at_g has q follows =
-    rewired_runs_along (record { sides = sides; place = place; relation = relation; facts = facts }) src b at at_g has q follows
+pub rewired_follows : (match_states : RewiredMatchStates) → RewiredFollows match_states
+rewired_follows match_states src sides place b facts at at_g has q follows =
+    rewired_runs_along (record { sides = sides; place = place; match_states = match_states; facts = facts }) src b at at_g has q follows

@@ -4,7 +4,7 @@ use Rattle.mir_func.specs.declared.position.Pos.{Pos}
 use Rattle.sem_mir.specs.State.{State}
 use Rattle.sem_mir.specs.Step.{Went, Faulted, step}
 use Rattle.mir_func.specs.Graph.{Program, Here, block_start, Edge, Leads}
-use Rattle.sem_mir.specs.Align.{Station, IsOrigin, Arrives, here, onward, ArrivesLater, Since, Start, Same, After, Aligns, Fails, fails_here, fails_on}
+use Rattle.sem_mir.specs.Align.{SyncPoint, IsOrigin, Arrives, here, onward, ArrivesLater, Since, Start, Same, After, MatchesNext, Fails, fails_here, fails_on}
 use Rattle.sem_mir.specs.Align.{FailsLater, FailsBefore}
 use Rattle.mir_func.specs.declared.block.Block.{Block}
 use Rattle.mir_func.specs.declared.item.Item.{Item}
@@ -20,13 +20,13 @@ module _ (src : Program) (Reach : Pos → Type 0) (on : (s u : State) → Reach 
   arrives_reaches r (here e) = r
   arrives_reaches r (onward {s = s} {u = u} ne go rest) = arrives_reaches (on s u r go) rest
 
-  pub aligns_reaches : (m : Since) (s t : State) → Reach s.pos → Aligns src A p m s t → Reach t.pos
+  pub aligns_reaches : (m : Since) (s t : State) → Reach s.pos → MatchesNext src A p m s t → Reach t.pos
   aligns_reaches Start s t r a = arrives_reaches r a
   aligns_reaches Same s t r (inl a) = subst (λ (z : State). Reach z.pos) a.1 r
   aligns_reaches Same s t r (inr (ne, (u, go, rest))) = arrives_reaches (on s u r go) rest
   aligns_reaches After s t r (u, go, rest) = arrives_reaches (on s u r go) rest
 
-module _ (src : Program) (fs gs : Pos → Option Station) (Stops : Pos → Pos → Type 0) (X Reach : Pos → Type 0) (home : Pos)
+module _ (src : Program) (fs gs : Pos → Option SyncPoint) (Stops : Pos → Pos → Type 0) (X Reach : Pos → Type 0) (home : Pos)
     (more : StopsMore src fs gs Stops X Reach home) (p : Pos) (op : IsOrigin fs p) where
   abbrev O : Pos → Type 0
   O q = IsOrigin fs q
@@ -74,8 +74,8 @@ module _ (src : Program) (fs gs : Pos → Option Station) (Stops : Pos → Pos �
   fails_free s r free (fails_on {u = u} ne go rest) = fails_on (λ z. ne (free z)) go (fails_more (step_clear s u r ne go) (more.on s u r go) rest)
 
   -- g waits at s, and what f comes to from there comes next
-  pub aligns_waiting : (s x : State) → Reach s.pos → Arrives src O p s x → Aligns src (Stops p) p Same s x
-  aligns_waiting s x r a = elim (cases_pos s.pos p) as (λ z. Aligns src (Stops p) p Same s x) [
+  pub aligns_waiting : (s x : State) → Reach s.pos → Arrives src O p s x → MatchesNext src (Stops p) p Same s x
+  aligns_waiting s x r a = elim (cases_pos s.pos p) as (λ z. MatchesNext src (Stops p) p Same s x) [
     | inl at ↦ inl (at, arrives_once src O p op (here at) refl a)
     | inr ne ↦ inr (ne, from_there s x r ne a)
   ] where
@@ -84,7 +84,7 @@ module _ (src : Program) (fs gs : Pos → Option Station) (Stops : Pos → Pos �
     from_there s x r ne (onward {u = u} nf go rest) = (u, go, arrives_more (step_clear s u r nf go) (more.on s u r go) rest)
 
   -- or one step further on
-  pub aligns_below : (s s1 x : State) → Reach s.pos → step src s ≡ Went s1 → ArrivesLater src O p s x → Aligns src (Stops p) p Same s1 x
+  pub aligns_below : (s s1 x : State) → Reach s.pos → step src s ≡ Went s1 → ArrivesLater src O p s x → MatchesNext src (Stops p) p Same s1 x
   aligns_below s s1 x r go (u, go', rest) = aligns_waiting s1 x (more.on s s1 r go)
       (subst (λ (y : State). Arrives src O p y x) (went_once src s u s1 go' go) rest)
 

@@ -10,13 +10,13 @@ use Rattle.mir_func.specs.declared.item.ItemKind.TheVariants.{Code, Mark, Phi}
 use Rattle.sem_mir.specs.State.{State, Core, updated}
 use Rattle.sem_mir.specs.Step.{part_of, Went, Outcome, Falls, Goes, moved, act, does, with_core, numbered, mark_value, place_value, do_item, do_fetch, step}
 use Rattle.rv64_instr.specs.Parts.{is_call, IsSlotStore}
-use Rattle.mir_func.specs.Graph.{Program, Fetch, Here, Silent, Outside, below, block_start, Edge, FetchEdge, KindEdge, RowEdge, Leads, stay, go as by_edge}
-use Rattle.sem_mir.specs.Align.{position_of, is_code, is_jump, is_jump_row, Station, ByItems, station_of, item_station, fetch_station, station_at}
+use Rattle.mir_func.specs.Graph.{Program, Fetch, Here, EndOfBlock, Outside, below, block_start, Edge, FetchEdge, KindEdge, RowEdge, Leads, stay, go as by_edge}
+use Rattle.sem_mir.specs.Align.{position_of, is_code, is_jump, is_jump_row, SyncPoint, ByItems, sync_point_of, item_sync_point, fetch_sync_point, sync_point_at}
 use Rattle.sem_mir.specs.Follow.{OnRow}
 use Rattle.sem_simulation.specs.Words.{SameCode, IsAddedJump, HasPlainTurns}
 use Rattle.sem_mir.proofs.Edges.{falls_below, goes_to_start}
 use Rattle.sem_simulation.proofs.Order.{same_pos}
-use Rattle.sem_simulation.proofs.Stations.{code_station, IsStationOf, of_item, of_end, station_is_of}
+use Rattle.sem_simulation.proofs.Stations.{code_sync_point, IsSyncPointOf, of_item, of_end, sync_point_is_of}
 
 pub same_code : (c : Core) → SameCode c c
 same_code c = record { entry = refl; area = refl; objects = refl; regs = refl; slots = refl; memory = refl; script = refl; events = refl }
@@ -48,13 +48,13 @@ numbered_code sp call (Some k) os c = record {
 }
 
 module _ (g : Program) where
-  abbrev gs : Pos → Option Station
-  gs p = station_at ByItems g p
+  abbrev gs : Pos → Option SyncPoint
+  gs p = sync_point_at ByItems g p
 
   -- where control goes from what is no station
   abbrev pub next_from : Pos → Fetch → Pos
   next_from p (Here i) = below p
-  next_from p (Silent k n) = block_start (g.enter n)
+  next_from p (EndOfBlock k n) = block_start (g.enter n)
   next_from p Outside = p
 
   fall_code : (p : Pos) (c d : Core) (t : State) → SameCode d c → moved g.enter p (Falls d) ≡ Went t → SameCode t.core c × (t.pos ≡ below p)
@@ -64,7 +64,7 @@ module _ (g : Program) where
     falls_below g.enter p d t e,
   )
 
-  kind_code : (k : ItemKind) (i : Item) → item_station ByItems (is_code k) i ≡ None → (p : Pos) (c : Core) (t : State) →
+  kind_code : (k : ItemKind) (i : Item) → item_sync_point ByItems (is_code k) i ≡ None → (p : Pos) (c : Core) (t : State) →
       moved g.enter p (do_item g k c) ≡ Went t → SameCode t.core c × (t.pos ≡ below p)
   kind_code (Code j n) i e p c t go = cc
   kind_code (Mark v m) i e p c t go = fall_code p c (record c { marks = (v, part_of v (mark_value g m c)) ∷ c.marks }) t
@@ -72,10 +72,10 @@ module _ (g : Program) where
   kind_code (Phi q n) i e p c t go = fall_code p c (record c { pairs = updated n (updated 0 (place_value q c) (c.pairs n)) c.pairs }) t
       (record { entry = refl; area = refl; objects = refl; regs = refl; slots = refl; memory = refl; script = refl; events = refl }) go
 
-  fetch_code : (x : Fetch) (b : ℕ) → fetch_station ByItems b x ≡ None → (p : Pos) (c : Core) (t : State) → moved g.enter p (do_fetch g x c) ≡ Went t →
+  fetch_code : (x : Fetch) (b : ℕ) → fetch_sync_point ByItems b x ≡ None → (p : Pos) (c : Core) (t : State) → moved g.enter p (do_fetch g x c) ≡ Went t →
       SameCode t.core c × (t.pos ≡ next_from p x)
   fetch_code (Here i) b e p c t go = kind_code i.kind i e p c t go
-  fetch_code (Silent k n) b e p c t go = (
+  fetch_code (EndOfBlock k n) b e p c t go = (
     let made : State = record { pos = block_start (g.enter n); core = c } in let w : made ≡ t = cc in
         subst (λ (z : State). SameCode z.core c) w (same_code c),
     goes_to_start g.enter p n c t go,
@@ -100,7 +100,7 @@ module _ (g : Program) where
   passes_code (on {t = t} {u = u} {v = v} ne st q) = code_trans v.core u.core t.core (passes_code q) (quiet_step t u ne st).0
 
   -- from one position it comes to one station
-  pub passes_to_one : {t u t' u' : State} (i i' : Station) → Passes t u → Passes t' u' → t.pos ≡ t'.pos → gs u.pos ≡ Some i → gs u'.pos ≡ Some i' →
+  pub passes_to_one : {t u t' u' : State} (i i' : SyncPoint) → Passes t u → Passes t' u' → t.pos ≡ t'.pos → gs u.pos ≡ Some i → gs u'.pos ≡ Some i' →
       u.pos ≡ u'.pos
   passes_to_one i i' still still e a a' = e
   passes_to_one i i' (still {t = t}) (on {t = t'} ne st q) e a a' = let bad : None ≡ Some i = sym ne ∙ ap gs (sym e) ∙ a in cc
@@ -158,13 +158,13 @@ module _ (g : Program) where
   on_first still = refl
   on_first (on ne st q) = inl refl
 
-  one_edge : (x : Fetch) (b : ℕ) → fetch_station ByItems b x ≡ None → (p q : Pos) → FetchEdge g.enter x p q → q ≡ next_from p x
+  one_edge : (x : Fetch) (b : ℕ) → fetch_sync_point ByItems b x ≡ None → (p q : Pos) → FetchEdge g.enter x p q → q ≡ next_from p x
   one_edge (Here i) b e p q k = by_kind i.kind e k where
-    by_kind : (k : ItemKind) → item_station ByItems (is_code k) i ≡ None → KindEdge g.enter k p q → q ≡ below p
+    by_kind : (k : ItemKind) → item_sync_point ByItems (is_code k) i ≡ None → KindEdge g.enter k p q → q ≡ below p
     by_kind (Code c n) e k = cc
     by_kind (Mark v m) e k = k
     by_kind (Phi r n) e k = k
-  one_edge (Silent j n) b e p q k = k
+  one_edge (EndOfBlock j n) b e p q k = k
   one_edge Outside b e p q k = absurd k
 
   on_edge : {u v : State} (w : Passes u v) (p q : Pos) → IsOn w p → Edge g p q → IsOn w q ⊎ (p ≡ v.pos)
@@ -174,10 +174,10 @@ module _ (g : Program) where
       inl (inr (subst (IsOn w) ((quiet_step u n ne st).1 ∙ sym a) (on_first w)))
   on_edge (on {v = v} ne st w) p q (inr h) k = elim (on_edge w p q h k) as (λ _. IsOn (on ne st w) q ⊎ (p ≡ v.pos)) [ inl z ↦ inl (inr z) | inr z ↦ inr z ]
 
-  on_station : {u v : State} (w : Passes u v) (p : Pos) (i : Station) → IsOn w p → gs p ≡ Some i → p ≡ v.pos
-  on_station still p i h e = h
-  on_station (on {t = t} ne st w) p i (inl h) e = let bad : None ≡ Some i = sym ne ∙ ap gs (sym h) ∙ e in cc
-  on_station (on ne st w) p i (inr h) e = on_station w p i h e
+  on_sync_point : {u v : State} (w : Passes u v) (p : Pos) (i : SyncPoint) → IsOn w p → gs p ≡ Some i → p ≡ v.pos
+  on_sync_point still p i h e = h
+  on_sync_point (on {t = t} ne st w) p i (inl h) e = let bad : None ≡ Some i = sym ne ∙ ap gs (sym h) ∙ e in cc
+  on_sync_point (on ne st w) p i (inr h) e = on_sync_point w p i h e
 
   -- nothing above in the block is a station
   abbrev IsQuietAbove : Pos → Type 0
@@ -191,7 +191,7 @@ module _ (g : Program) where
         | inl l ↦ h r (rb ∙ eb) l
         | inr ge ↦ ap gs (same_pos r p (rb ∙ eb) (omega (arith, lt, ei, ge))) ∙ ne
       ]
-  quiet_next p q (Silent k n) ne h e r rb lt = let ei : q.item ≡ 0 = ap (λ (z : Pos). z.item) e in absurd (omega (arith, lt, ei))
+  quiet_next p q (EndOfBlock k n) ne h e r rb lt = let ei : q.item ≡ 0 = ap (λ (z : Pos). z.item) e in absurd (omega (arith, lt, ei))
   quiet_next p q Outside ne h e r rb lt = h r (rb ∙ ap (λ (z : Pos). z.block) e)
       (let ei : q.item ≡ p.item = ap (λ (z : Pos). z.item) e in omega (arith, ei, lt))
 
@@ -225,7 +225,7 @@ module _ (g : Program) where
         k ∙ sym (goes_to_start g.enter p t d u st1)
     by_row _ e k st = cc
 
-  module _ (Inner : Pos → Type 0) (facts : HasPlainTurns g Inner) (t u v : State) (x : Item) (i : Station) (ft : g.fetch t.pos ≡ Here x) (jx : IsAddedJump x)
+  module _ (Inner : Pos → Type 0) (facts : HasPlainTurns g Inner) (t u v : State) (x : Item) (i : SyncPoint) (ft : g.fetch t.pos ≡ Here x) (jx : IsAddedJump x)
       (st : step g t ≡ Went u) (w : Passes u v) (sv : gs v.pos ≡ Some i) (at : i.pos ≡ position_of x.origin) where
     inner_all : {a b : State} → Inner a.pos → Passes a b → Inner b.pos
     inner_all h still = h
@@ -249,11 +249,11 @@ module _ (g : Program) where
       block : v.pos.block ≡ t.pos.block
 
     at_end : AtEnd
-    at_end = by_station (station_is_of ByItems g v.pos i sv) where
-      by_station : IsStationOf ByItems g v.pos i → AtEnd
-      by_station (of_end k n fe ce ie) = cc
-      by_station (of_item y fy cy iy) =
-          let p : position_of y.origin ≡ position_of x.origin = ap (λ (z : Station). z.pos) iy ∙ at in
+    at_end = by_sync_point (sync_point_is_of ByItems g v.pos i sv) where
+      by_sync_point : IsSyncPointOf ByItems g v.pos i → AtEnd
+      by_sync_point (of_end k n fe ce ie) = cc
+      by_sync_point (of_item y fy cy iy) =
+          let p : position_of y.origin ≡ position_of x.origin = ap (λ (z : SyncPoint). z.pos) iy ∙ at in
           record {
             y = y;
             fetch = fy;
@@ -283,7 +283,7 @@ module _ (g : Program) where
               let kj = subst (λ (z : Fetch). FetchEdge g.enter z p q) j.1 k in
               let down : q ≡ below p = elim (cases_Bool (is_code j.0.kind)) as (λ _. q ≡ below p) [
                 | inl cj ↦
-                    elim (facts.silent t.pos p x j.0 pb ft jx j.1 cj (between_at p j.0 j.1 pb lo hi)) as (λ _. q ≡ below p) [
+                    elim (facts.source_end t.pos p x j.0 pb ft jx j.1 cj (between_at p j.0 j.1 pb lo hi)) as (λ _. q ≡ below p) [
                       | inl s ↦ save_below j.0.kind s p q kj
                       | inr jj ↦ absurd (facts.last p t.pos j.0 x j.1 jj ft pb less)
                     ]
@@ -314,14 +314,14 @@ module _ (g : Program) where
         ((r.block ≡ v.pos.block) × (r.item < v.pos.item)) ⊎ Leads g v.pos r → ⊥
     no_store lt r k fk ck ne (inl h) =
         let top : u.pos.item ≡ 0 = ap (λ (z : Pos). z.item) lands.1 in
-        let bad : None ≡ Some (station_of ByItems k) = sym (quiet_passes w (λ q qb lt2. absurd (omega (arith, lt2, top))) r h.0 h.1) ∙
-        code_station ByItems g r k fk ck in
+        let bad : None ≡ Some (sync_point_of ByItems k) = sym (quiet_passes w (λ q qb lt2. absurd (omega (arith, lt2, top))) r h.0 h.1) ∙
+        code_sync_point ByItems g r k fk ck in
         cc
     no_store lt r k fk ck ne (inr h) =
         elim (stays_in lt h (inl (at_end.block, omega arith, omega (arith, lt)))) as (λ _. ⊥) [
           | inl z ↦ ne (between_at r k fk z.0 z.1 z.2)
           | inr z ↦
-              let e = on_station w r (station_of ByItems k) z (code_station ByItems g r k fk ck) in
+              let e = on_sync_point w r (sync_point_of ByItems k) z (code_sync_point ByItems g r k fk ck) in
               let fy : Here k ≡ Here at_end.y = sym fk ∙ ap g.fetch e ∙ at_end.fetch in
               let ky : k ≡ at_end.y = cc in
               ne (ap (λ (q : Item). position_of q.origin) ky ∙ at_end.pos)
@@ -331,7 +331,7 @@ module _ (g : Program) where
     pub comes_back : v.pos ≡ t.pos
     comes_back =
         elim (cases_lt v.pos.item t.pos.item) as (λ _. v.pos ≡ t.pos) [
-          | inl lt ↦ absurd (elim (facts.silent t.pos v.pos x at_end.y at_end.block ft jx at_end.fetch at_end.code at_end.pos) as (λ _. ⊥) [
+          | inl lt ↦ absurd (elim (facts.source_end t.pos v.pos x at_end.y at_end.block ft jx at_end.fetch at_end.code at_end.pos) as (λ _. ⊥) [
             | inl s ↦ (let z = facts.stores t.pos v.pos x at_end.y at_end.block ft jx at_end.fetch s at_end.pos in no_store lt z.0 z.1 z.2 z.3 z.4 z.5)
             | inr j ↦ facts.last v.pos t.pos at_end.y x at_end.fetch j ft at_end.block lt
           ])

@@ -26,7 +26,7 @@ use Rattle.sem_mir.specs.State.{Reply, Core, State, content, put, put_all, write
 use Rattle.sem_mir.specs.Step.{Went, Outcome, Falls, Goes, Gives, Traps, Asks, Breaks, moved, read, set_register, answered, slot_loaded, does, are_written}
 use Rattle.sem_mir.specs.Step.{act, with_core, numbered, do_item, do_fetch, step}
 use Rattle.rv64_instr.specs.Parts.{is_call}
-use Rattle.mir_func.specs.Graph.{Program, Fetch, Here, Silent, Outside}
+use Rattle.mir_func.specs.Graph.{Program, Fetch, Here, EndOfBlock, Outside}
 use Rattle.sem_mir.specs.Align.{Arrives, here, onward}
 use Rattle.sem_mir.specs.Follow.{class_of, Return, IsStart, OnRow}
 use Rattle.sem_simulation.specs.Refinement.{FaultsAt}
@@ -104,7 +104,7 @@ went_written : (g : Program) (s u : State) → step g s ≡ Went u → StaysWrit
 went_written g s u go = by_outcome (do_fetch g (g.fetch s.pos) s.core) (by_fetch (g.fetch s.pos)) go where
   by_fetch : (x : Fetch) → OnCore (StaysWritten s.core) (do_fetch g x s.core)
   by_fetch (Here i) = item_written g i.kind s.core
-  by_fetch (Silent k n) = λ r v e. (v, e)
+  by_fetch (EndOfBlock k n) = λ r v e. (v, e)
   by_fetch Outside = tt
 
   by_outcome : (o : Outcome) → OnCore (StaysWritten s.core) o → moved g.enter s.pos o ≡ Went u → StaysWritten s.core u.core

@@ -4,9 +4,9 @@ use Rattle.mir_func.specs.declared.position.Pos.{Pos}
 use Rattle.mir_func.specs.declared.item.Item.{Item}
 use Rattle.sem_mir.specs.State.{Core, State}
 use Rattle.sem_mir.specs.Step.{Outcome, Falls, Traps, Went, Faulted, do_item, step}
-use Rattle.mir_func.specs.Graph.{Silent, Program, Edge, below, block_start}
-use Rattle.sem_mir.specs.Align.{position_of, is_code, Station, Count, ByEnds, station_at, IsOrigin, Since, Same, After, AnyOrigin, RunsAlong}
-use Rattle.sem_simulation.specs.Sides.{Sides, Relation, Laid, since_item, ShowsSame, Does, DoBoth, OutcomesAlike}
+use Rattle.mir_func.specs.Graph.{EndOfBlock, Program, Edge, below, block_start}
+use Rattle.sem_mir.specs.Align.{position_of, is_code, SyncPoint, Count, ByEnds, sync_point_at, IsOrigin, Since, Same, After, AnyOrigin, RunsMatch}
+use Rattle.sem_simulation.specs.Sides.{Sides, MatchStates, Laid, since_item, ShowsSame, Does, DoBoth, OutcomesAlike}
 
 -- where g is relative to f: in code added at the start; level with f; ahead of f, in code added before f's next code at a
 -- position; or after f's code at a position, with a store still to come that was added for it
@@ -36,7 +36,7 @@ IsNeverBack src Reach home = (s u : State) → Reach s.pos → step src s ≡ We
 
 -- the positions that the source may not pass before it matches g: those with stations of f; the positions Extra right below
 -- those; and its start, to which it never comes back. Reach is closed under the source's steps
-pub record StopsMore (src : Program) (fs gs : Pos → Option Station) (Stops : Pos → Pos → Type 0) (Extra Reach : Pos → Type 0)
+pub record StopsMore (src : Program) (fs gs : Pos → Option SyncPoint) (Stops : Pos → Pos → Type 0) (Extra Reach : Pos → Type 0)
     (home : Pos) : Type 0 where
   pub stops : (p q : Pos) → IsOrigin fs p → Stops p q → IsOrigin fs q ⊎ Extra q ⊎ ((q ≡ home) × IsNeverBack src Reach home)
   pub own : (p : Pos) → IsOrigin gs p → Stops p p
@@ -51,16 +51,16 @@ IsPlain src p = (s : State) → s.pos ≡ p →
 
 -- the matching relation: each stage has a standing; Stops p has the positions that the source may not pass before it matches
 -- at p; Extra has positions of added code alone; and Reach has the positions that the source may reach
-pub record AddedRelation : Type 1 where
-  pub relation : Relation
-  pub standing : relation.Stage → Standing
+pub record AddedMatchStates : Type 1 where
+  pub match_states : MatchStates
+  pub standing : match_states.Stage → Standing
   pub Stops : Pos → Pos → Type 0
   pub Extra : Pos → Type 0
   pub Reach : Pos → Type 0
 
-module _ (count : Count) (src : Program) (sides : Sides) (relation : AddedRelation) where
+module _ (count : Count) (src : Program) (sides : Sides) (match_states : AddedMatchStates) where
   open sides use {old.{program as f, rest as rest_f, start as s0}, new.{program as g, rest as rest_g, start as g0}}
-  open relation use {relation.{Stage, entry, Rests, Cores}, standing, Stops, Extra, Reach}
+  open match_states use {match_states.{Stage, entry, MatchItems, MatchCores}, standing, Stops, Extra, Reach}
 
   -- the first position of block n in g
   abbrev pub start_in_g : ℕ → Pos
@@ -69,7 +69,7 @@ module _ (count : Count) (src : Program) (sides : Sides) (relation : AddedRelati
   -- the standings that g may have after code of both
   abbrev pub MayStand : Standing → Item → Type 0
   MayStand Opening x = ⊥
-  MayStand Level x = (s u : State) → s.pos ≡ position_of x.origin → step src s ≡ Went u → Extra u.pos → IsOrigin (station_at count f) u.pos
+  MayStand Level x = (s u : State) → s.pos ≡ position_of x.origin → step src s ≡ Went u → Extra u.pos → IsOrigin (sync_point_at count f) u.pos
   MayStand (Ahead p) x = (position_of x.origin ≡ p) × (since_item count x ≡ Same)
   MayStand (Owing p) x =
       (position_of x.origin ≡ p) × (since_item count x ≡ After) × IsPlain src p ×
@@ -79,8 +79,8 @@ module _ (count : Count) (src : Program) (sides : Sides) (relation : AddedRelati
   -- f, and the source must leave the position
   abbrev pub DoAlike : (b : ℕ) → List Item → List Item → Since → Stage → Outcome → Outcome → Type 0
   DoAlike b xs ys m k x y =
-      OutcomesAlike (Cores k b xs ys)
-      (λ i c d. (m ≡ After) × (standing k ≡ Level) × Cores (entry i) i (rest_f (block_start i)) (rest_g (start_in_g i)) c d) x y
+      OutcomesAlike (MatchCores k b xs ys)
+      (λ i c d. (m ≡ After) × (standing k ≡ Level) × MatchCores (entry i) i (rest_f (block_start i)) (rest_g (start_in_g i)) c d) x y
 
   -- the standings that g may have after code added at the start: the same, or level with f
   abbrev pub MayOpen : Standing → Type 0
@@ -91,11 +91,11 @@ module _ (count : Count) (src : Program) (sides : Sides) (relation : AddedRelati
 
   -- the block at which g starts falls through to f's first block
   abbrev pub LeadsIn : Type 0
-  LeadsIn = (q : Pos) (j n : ℕ) → q.block ≡ g0.pos.block → rest_g q ≡ [] → g.fetch q ≡ Silent j n → n ≡ s0.pos.block
+  LeadsIn = (q : Pos) (j n : ℕ) → q.block ≡ g0.pos.block → rest_g q ≡ [] → g.fetch q ≡ EndOfBlock j n → n ≡ s0.pos.block
 
   -- if the source may not pass its start before it matches some station of f, f has a station with that position
   abbrev pub IsFree : Type 0
-  IsFree = (p : Pos) → IsOrigin (station_at count f) p → Stops p s0.pos → IsOrigin (station_at count f) s0.pos
+  IsFree = (p : Pos) → IsOrigin (sync_point_at count f) p → Stops p s0.pos → IsOrigin (sync_point_at count f) s0.pos
 
   -- how the rests of a block begin: both are empty; with code of both; with code of g before f's, which may trap if f's
   -- does; with code of g at the start, or the end of a block of such code; with code of g after f's; or with a debug item of
@@ -104,63 +104,63 @@ module _ (count : Count) (src : Program) (sides : Sides) (relation : AddedRelati
     ended : {k : Stage} → standing k ≡ Level → View b k [] []
     both : {k k' : Stage} {x y : Item} {xs ys : List Item} → MayCome (standing k) (position_of x.origin) →
         is_code x.kind ≡ true → is_code y.kind ≡ true → x.origin ≡ y.origin → since_item count x ≡ since_item count y →
-        MayStand (standing k') x → Rests k' b xs ys →
-        ((c d : Core) → Cores k b (x ∷ xs) (y ∷ ys) c d → DoAlike b xs ys (since_item count x) k' (do_item f x.kind c) (do_item g y.kind d)) →
+        MayStand (standing k') x → MatchItems k' b xs ys →
+        ((c d : Core) → MatchCores k b (x ∷ xs) (y ∷ ys) c d → DoAlike b xs ys (since_item count x) k' (do_item f x.kind c) (do_item g y.kind d)) →
         View b k (x ∷ xs) (y ∷ ys)
     before : {k k' : Stage} {x y : Item} {xs ys : List Item} → MayCome (standing k) (position_of x.origin) →
         is_code x.kind ≡ true → is_code y.kind ≡ true → position_of y.origin ≡ position_of x.origin → since_item count y ≡ Same →
-        standing k' ≡ Ahead (position_of x.origin) → Rests k' b (x ∷ xs) ys →
-        ((c d : Core) → Cores k b (x ∷ xs) (y ∷ ys) c d →
-        Does g y d (λ e. Cores k' b (x ∷ xs) ys c e) ⊎ ((do_item g y.kind d ≡ Traps) × (do_item f x.kind c ≡ Traps))) →
+        standing k' ≡ Ahead (position_of x.origin) → MatchItems k' b (x ∷ xs) ys →
+        ((c d : Core) → MatchCores k b (x ∷ xs) (y ∷ ys) c d →
+        Does g y d (λ e. MatchCores k' b (x ∷ xs) ys c e) ⊎ ((do_item g y.kind d ≡ Traps) × (do_item f x.kind c ≡ Traps))) →
         View b k (x ∷ xs) (y ∷ ys)
     opening : {k k' : Stage} {y : Item} {xs ys : List Item} → standing k ≡ Opening → is_code y.kind ≡ true → position_of y.origin ≡ s0.pos →
-        since_item count y ≡ Same → MayOpen (standing k') → Rests k' b xs ys →
-        ((c d : Core) → Cores k b xs (y ∷ ys) c d → Does g y d (λ e. Cores k' b xs ys c e)) → View b k xs (y ∷ ys)
+        since_item count y ≡ Same → MayOpen (standing k') → MatchItems k' b xs ys →
+        ((c d : Core) → MatchCores k b xs (y ∷ ys) c d → Does g y d (λ e. MatchCores k' b xs ys c e)) → View b k xs (y ∷ ys)
     entering : {k k' : Stage} {xs : List Item} → standing k ≡ Opening → (count ≡ ByEnds → ⊥) → standing k' ≡ Level →
-        Rests k' b xs (rest_g (start_in_g b)) → ((c d : Core) → Cores k b xs [] c d → Cores k' b xs (rest_g (start_in_g b)) c d) →
+        MatchItems k' b xs (rest_g (start_in_g b)) → ((c d : Core) → MatchCores k b xs [] c d → MatchCores k' b xs (rest_g (start_in_g b)) c d) →
         IsFree → LeadsIn → View b k xs []
     behind : {k k' : Stage} {p : Pos} {y : Item} {xs ys : List Item} → standing k ≡ Owing p → is_code y.kind ≡ true →
-        position_of y.origin ≡ below p → since_item count y ≡ Same → standing k' ≡ Level → Rests k' b xs ys →
-        ((c d : Core) → Cores k b xs (y ∷ ys) c d → Does g y d (λ e. Cores k' b xs ys c e)) → View b k xs (y ∷ ys)
+        position_of y.origin ≡ below p → since_item count y ≡ Same → standing k' ≡ Level → MatchItems k' b xs ys →
+        ((c d : Core) → MatchCores k b xs (y ∷ ys) c d → Does g y d (λ e. MatchCores k' b xs ys c e)) → View b k xs (y ∷ ys)
     passed : {k k' : Stage} {x : Item} {xs ys : List Item} → IsQuiet (standing k) → standing k' ≡ standing k → is_code x.kind ≡ false →
-        Rests k' b xs ys → ((c d : Core) → Cores k b (x ∷ xs) ys c d → Does f x c (λ e. Cores k' b xs ys e d)) → View b k (x ∷ xs) ys
+        MatchItems k' b xs ys → ((c d : Core) → MatchCores k b (x ∷ xs) ys c d → Does f x c (λ e. MatchCores k' b xs ys e d)) → View b k (x ∷ xs) ys
     added : {k k' : Stage} {y : Item} {xs ys : List Item} → IsQuiet (standing k) → standing k' ≡ standing k → is_code y.kind ≡ false →
-        Rests k' b xs ys → ((c d : Core) → Cores k b xs (y ∷ ys) c d → Does g y d (λ e. Cores k' b xs ys c e)) → View b k xs (y ∷ ys)
+        MatchItems k' b xs ys → ((c d : Core) → MatchCores k b xs (y ∷ ys) c d → Does g y d (λ e. MatchCores k' b xs ys c e)) → View b k xs (y ∷ ys)
     paired : {k k' : Stage} {x y : Item} {xs ys : List Item} → IsQuiet (standing k) → standing k' ≡ standing k →
-        is_code x.kind ≡ false → is_code y.kind ≡ false → Rests k' b xs ys →
-        ((c d : Core) → Cores k b (x ∷ xs) (y ∷ ys) c d → DoBoth f g x y c d (λ e e'. Cores k' b xs ys e e')) → View b k (x ∷ xs) (y ∷ ys)
+        is_code x.kind ≡ false → is_code y.kind ≡ false → MatchItems k' b xs ys →
+        ((c d : Core) → MatchCores k b (x ∷ xs) (y ∷ ys) c d → DoBoth f g x y c d (λ e e'. MatchCores k' b xs ys e e')) → View b k (x ∷ xs) (y ∷ ys)
 
   pub record Adds : Type 0 where
-    pub more : StopsMore src (station_at count f) (station_at count g) Stops Extra Reach s0.pos
+    pub more : StopsMore src (sync_point_at count f) (sync_point_at count g) Stops Extra Reach s0.pos
     pub laid_f : Laid f rest_f
     pub laid_g : Laid g rest_g
     pub enter_f : (n : ℕ) → f.enter n ≡ n
-    pub view : (k : Stage) (b : ℕ) (xs ys : List Item) → Rests k b xs ys → View b k xs ys
+    pub view : (k : Stage) (b : ℕ) (xs ys : List Item) → MatchItems k b xs ys → View b k xs ys
     -- at the start of a block that f enters
     pub entry_level : (n : ℕ) → standing (entry n) ≡ Level
-    pub starts : (p : Pos) (n : ℕ) → Edge f p (block_start n) → Rests (entry n) n (rest_f (block_start n)) (rest_g (start_in_g n))
+    pub starts : (p : Pos) (n : ℕ) → Edge f p (block_start n) → MatchItems (entry n) n (rest_f (block_start n)) (rest_g (start_in_g n))
     pub onward : (p q : Pos) (k n : ℕ) → q.block ≡ g.enter p.block → rest_f p ≡ [] → rest_g q ≡ [] →
-        g.fetch q ≡ Silent k n → f.fetch p ≡ Silent k n
+        g.fetch q ≡ EndOfBlock k n → f.fetch p ≡ EndOfBlock k n
     -- if block ends are stations, g has f's blocks
     pub same_blocks : count ≡ ByEnds → (n : ℕ) → g.enter n ≡ n
-    pub end_stands : (p : Pos) (k n : ℕ) → count ≡ ByEnds → f.fetch p ≡ Silent k n → (s u : State) →
-        s.pos ≡ record { block = p.block; item = k } → step src s ≡ Went u → Extra u.pos → IsOrigin (station_at count f) u.pos
+    pub end_stands : (p : Pos) (k n : ℕ) → count ≡ ByEnds → f.fetch p ≡ EndOfBlock k n → (s u : State) →
+        s.pos ≡ record { block = p.block; item = k } → step src s ≡ Went u → Extra u.pos → IsOrigin (sync_point_at count f) u.pos
     -- at the end of a block of f that falls through to block n
-    pub ends : (k : Stage) (p : Pos) (j n : ℕ) (c d : Core) → standing k ≡ Level → rest_f p ≡ [] → f.fetch p ≡ Silent j n →
-        Rests k p.block [] [] → Cores k p.block [] [] c d → Cores (entry n) n (rest_f (block_start n)) (rest_g (start_in_g n)) c d
-    pub shows : (k : Stage) (b : ℕ) (xs ys : List Item) (c d : Core) → Cores k b xs ys c d → ShowsSame c d
+    pub ends : (k : Stage) (p : Pos) (j n : ℕ) (c d : Core) → standing k ≡ Level → rest_f p ≡ [] → f.fetch p ≡ EndOfBlock j n →
+        MatchItems k p.block [] [] → MatchCores k p.block [] [] c d → MatchCores (entry n) n (rest_f (block_start n)) (rest_g (start_in_g n)) c d
+    pub shows : (k : Stage) (b : ℕ) (xs ys : List Item) (c d : Core) → MatchCores k b xs ys c d → ShowsSame c d
 
   -- the start of the runs: g is in its added code, or level with f at the start of a block
   pub data Begins : Type 0 where
-    opens : (k : Stage) → standing k ≡ Opening → Rests k s0.pos.block (rest_f s0.pos) (rest_g g0.pos) →
-        Cores k s0.pos.block (rest_f s0.pos) (rest_g g0.pos) s0.core g0.core → Begins
-    level : (k : Stage) → standing k ≡ Level → g0.pos.block ≡ g.enter s0.pos.block → Rests k s0.pos.block (rest_f s0.pos) (rest_g g0.pos) →
-        Cores k s0.pos.block (rest_f s0.pos) (rest_g g0.pos) s0.core g0.core → IsFree → Begins
+    opens : (k : Stage) → standing k ≡ Opening → MatchItems k s0.pos.block (rest_f s0.pos) (rest_g g0.pos) →
+        MatchCores k s0.pos.block (rest_f s0.pos) (rest_g g0.pos) s0.core g0.core → Begins
+    level : (k : Stage) → standing k ≡ Level → g0.pos.block ≡ g.enter s0.pos.block → MatchItems k s0.pos.block (rest_f s0.pos) (rest_g g0.pos) →
+        MatchCores k s0.pos.block (rest_f s0.pos) (rest_g g0.pos) s0.core g0.core → IsFree → Begins
 
 -- If f's run refines the source's, and g is f with code added, g's run refines the source's, with the positions Stops.
-abbrev pub AddedFollows : AddedRelation → Type 0
-AddedFollows relation = (count : Count) (src : Program) (sides : Sides) →
+abbrev pub AddedFollows : AddedMatchStates → Type 0
+AddedFollows match_states = (count : Count) (src : Program) (sides : Sides) →
     let f = sides.old in let g = sides.new in
-    Adds count src sides relation → relation.Reach f.start.pos → Begins count src sides relation →
-    RunsAlong src f.program (station_at count f.program) (AnyOrigin (station_at count f.program)) f.start f.start →
-    RunsAlong src g.program (station_at count g.program) relation.Stops f.start g.start
+    Adds count src sides match_states → match_states.Reach f.start.pos → Begins count src sides match_states →
+    RunsMatch src f.program (sync_point_at count f.program) (AnyOrigin (sync_point_at count f.program)) f.start f.start →
+    RunsMatch src g.program (sync_point_at count g.program) match_states.Stops f.start g.start

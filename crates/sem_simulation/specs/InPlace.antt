@@ -6,11 +6,11 @@ use Rattle.mir_func.specs.declared.position.Origin.TheVariants.{Kept}
 use Rattle.mir_func.specs.declared.item.Item.{Item}
 use Rattle.sem_mir.specs.State.{Core}
 use Rattle.sem_mir.specs.Step.{Outcome, Falls, Goes, Gives, Traps, do_item}
-use Rattle.mir_func.specs.Graph.{Here, Silent, Program, block_start}
-use Rattle.sem_mir.specs.Align.{position_of, is_code, Count, moves_on, station_at, IsOrigin, Since, After, AnyOrigin, RunsAlong}
+use Rattle.mir_func.specs.Graph.{Here, EndOfBlock, Program, block_start}
+use Rattle.sem_mir.specs.Align.{position_of, is_code, Count, moves_on, sync_point_at, IsOrigin, Since, After, AnyOrigin, RunsMatch}
 use Rattle.sem_mir.specs.Follow.{next_rank, InOrder}
 use Rattle.sem_simulation.specs.Refinement.{FaultsAt}
-use Rattle.sem_simulation.specs.Sides.{Sides, Relation, Laid, since_item, ShowsSame, Does, DoBoth, OutcomesAlike}
+use Rattle.sem_simulation.specs.Sides.{Sides, MatchStates, Laid, since_item, ShowsSame, Does, DoBoth, OutcomesAlike}
 
 -- the outcome is a fall-through with a core that satisfies P, or a trap if that is allowed
 abbrev pub FallsOrTraps : (may : Type 0) → (Core → Type 0) → Outcome → Type 0
@@ -30,7 +30,7 @@ ShowsNoMore m d _ = Unit {0}
 pub record IsNoReturn (g : Program) (p : Pos) (y : Item) : Type 0 where
   pub kept : y.origin ≡ Kept p
   pub stays : (d : Core) (v : List ℕ) → do_item g y.kind d ≡ Gives v → ⊥
-  pub inner : (e : Pos) (k n : ℕ) → e.block ≡ p.block → g.fetch e ≡ Silent k n → p.item < k
+  pub inner : (e : Pos) (k n : ℕ) → e.block ≡ p.block → g.fetch e ≡ EndOfBlock k n → p.item < k
 
 -- g may still run the item if the source stops at p: its position is after p, it adds no event and no value, or it is kept
 -- from p and never returns
@@ -38,15 +38,15 @@ abbrev pub IsIdleAt : Count → Program → Pos → Item → Type 0
 IsIdleAt count g p y = (position_of y.origin).item ≤ p.item →
     ((d : Core) → ShowsNoMore (since_item count y) d (do_item g y.kind d)) ⊎ IsNoReturn g p y
 
-module _ (count : Count) (src : Program) (sides : Sides) (relation : Relation) where
+module _ (count : Count) (src : Program) (sides : Sides) (match_states : MatchStates) where
   open sides use {old.{program as f, rest as rest_f, start as s0}, new.{program as g, rest as rest_g}}
-  open relation use {Stage, entry, Rests, Cores}
+  open match_states use {Stage, entry, MatchItems, MatchCores}
 
   -- the outcomes of f's and g's code of one origin are the same, with related cores; if they go to a block, the source
   -- must leave the position
   abbrev pub DoAlike : (b : ℕ) → List Item → List Item → Since → Stage → Outcome → Outcome → Type 0
   DoAlike b xs ys m k x y =
-      OutcomesAlike (Cores k b xs ys) (λ i c d. (m ≡ After) × Cores (entry i) i (rest_f (block_start i)) (rest_g (block_start i)) c d) x y
+      OutcomesAlike (MatchCores k b xs ys) (λ i c d. (m ≡ After) × MatchCores (entry i) i (rest_f (block_start i)) (rest_g (block_start i)) c d) x y
 
   -- code of f alone may trap if the source must leave its position, or if g may still run its rest when the source stops
   -- there
@@ -59,18 +59,18 @@ module _ (count : Count) (src : Program) (sides : Sides) (relation : Relation) w
   pub data View (b : ℕ) : Stage → List Item → List Item → Type 0 where
     ended : {k : Stage} → View b k [] []
     both : {k k' : Stage} {x y : Item} {xs ys : List Item} → is_code x.kind ≡ true → is_code y.kind ≡ true → x.origin ≡ y.origin →
-        moves_on count x.kind ≡ moves_on count y.kind → Rests k' b xs ys →
-        ((c d : Core) → Cores k b (x ∷ xs) (y ∷ ys) c d → DoAlike b xs ys (since_item count x) k' (do_item f x.kind c) (do_item g y.kind d)) →
+        moves_on count x.kind ≡ moves_on count y.kind → MatchItems k' b xs ys →
+        ((c d : Core) → MatchCores k b (x ∷ xs) (y ∷ ys) c d → DoAlike b xs ys (since_item count x) k' (do_item f x.kind c) (do_item g y.kind d)) →
         View b k (x ∷ xs) (y ∷ ys)
-    taken : {k k' : Stage} {x : Item} {xs ys : List Item} → is_code x.kind ≡ true → moves_on count x.kind ≡ false → Rests k' b xs ys →
-        ((c d : Core) → Cores k b (x ∷ xs) ys c d → FallsOrTraps (MayTrap x ys) (λ e. Cores k' b xs ys e d) (do_item f x.kind c)) →
+    taken : {k k' : Stage} {x : Item} {xs ys : List Item} → is_code x.kind ≡ true → moves_on count x.kind ≡ false → MatchItems k' b xs ys →
+        ((c d : Core) → MatchCores k b (x ∷ xs) ys c d → FallsOrTraps (MayTrap x ys) (λ e. MatchCores k' b xs ys e d) (do_item f x.kind c)) →
         View b k (x ∷ xs) ys
-    passed : {k k' : Stage} {x : Item} {xs ys : List Item} → is_code x.kind ≡ false → Rests k' b xs ys →
-        ((c d : Core) → Cores k b (x ∷ xs) ys c d → Does f x c (λ e. Cores k' b xs ys e d)) → View b k (x ∷ xs) ys
-    added : {k k' : Stage} {y : Item} {xs ys : List Item} → is_code y.kind ≡ false → Rests k' b xs ys →
-        ((c d : Core) → Cores k b xs (y ∷ ys) c d → Does g y d (λ e. Cores k' b xs ys c e)) → View b k xs (y ∷ ys)
-    paired : {k k' : Stage} {x y : Item} {xs ys : List Item} → is_code x.kind ≡ false → is_code y.kind ≡ false → Rests k' b xs ys →
-        ((c d : Core) → Cores k b (x ∷ xs) (y ∷ ys) c d → DoBoth f g x y c d (λ e e'. Cores k' b xs ys e e')) → View b k (x ∷ xs) (y ∷ ys)
+    passed : {k k' : Stage} {x : Item} {xs ys : List Item} → is_code x.kind ≡ false → MatchItems k' b xs ys →
+        ((c d : Core) → MatchCores k b (x ∷ xs) ys c d → Does f x c (λ e. MatchCores k' b xs ys e d)) → View b k (x ∷ xs) ys
+    added : {k k' : Stage} {y : Item} {xs ys : List Item} → is_code y.kind ≡ false → MatchItems k' b xs ys →
+        ((c d : Core) → MatchCores k b xs (y ∷ ys) c d → Does g y d (λ e. MatchCores k' b xs ys c e)) → View b k xs (y ∷ ys)
+    paired : {k k' : Stage} {x y : Item} {xs ys : List Item} → is_code x.kind ≡ false → is_code y.kind ≡ false → MatchItems k' b xs ys →
+        ((c d : Core) → MatchCores k b (x ∷ xs) (y ∷ ys) c d → DoBoth f g x y c d (λ e e'. MatchCores k' b xs ys e e')) → View b k (x ∷ xs) (y ∷ ys)
 
   -- place n is the place of block n in the text
   pub record InPlace (place : ℕ → ℕ) : Type 0 where
@@ -78,31 +78,31 @@ module _ (count : Count) (src : Program) (sides : Sides) (relation : Relation) w
     pub laid_g : Laid g rest_g
     pub enter_f : (n : ℕ) → f.enter n ≡ n
     pub enter_g : (n : ℕ) → g.enter n ≡ n
-    pub view : (k : Stage) (b : ℕ) (xs ys : List Item) → Rests k b xs ys → View b k xs ys
-    pub starts : (n : ℕ) → Rests (entry n) n (rest_f (block_start n)) (rest_g (block_start n))
+    pub view : (k : Stage) (b : ℕ) (xs ys : List Item) → MatchItems k b xs ys → View b k xs ys
+    pub starts : (n : ℕ) → MatchItems (entry n) n (rest_f (block_start n)) (rest_g (block_start n))
     pub order_f : (n : ℕ) → InOrder n 0 (rest_f (block_start n))
     pub order_g : (n : ℕ) → InOrder n 0 (rest_g (block_start n))
     -- the positions of g's items are in their own block, and not after its end; nor are those of f's
     pub home : (q : Pos) (i : Item) → g.fetch q ≡ Here i → (position_of i.origin).block ≡ q.block
-    pub within : (q e : Pos) (i : Item) (k n : ℕ) → g.fetch q ≡ Here i → g.fetch e ≡ Silent k n → q.block ≡ e.block →
+    pub within : (q e : Pos) (i : Item) (k n : ℕ) → g.fetch q ≡ Here i → g.fetch e ≡ EndOfBlock k n → q.block ≡ e.block →
         (position_of i.origin).item ≤ k
-    pub within_f : (q e : Pos) (x : Item) (k n : ℕ) → f.fetch q ≡ Here x → g.fetch e ≡ Silent k n → q.block ≡ e.block →
+    pub within_f : (q e : Pos) (x : Item) (k n : ℕ) → f.fetch q ≡ Here x → g.fetch e ≡ EndOfBlock k n → q.block ≡ e.block →
         next_rank x.origin ≤ 2 * k
-    pub one_end : (q e : Pos) (k n k' n' : ℕ) → g.fetch q ≡ Silent k n → g.fetch e ≡ Silent k' n' → q.block ≡ e.block → k ≡ k'
-    pub origins : (p : Pos) → IsOrigin (station_at count g) p → IsOrigin (station_at count f) p
+    pub one_end : (q e : Pos) (k n k' n' : ℕ) → g.fetch q ≡ EndOfBlock k n → g.fetch e ≡ EndOfBlock k' n' → q.block ≡ e.block → k ≡ k'
+    pub origins : (p : Pos) → IsOrigin (sync_point_at count g) p → IsOrigin (sync_point_at count f) p
     -- if both blocks end, f's end is g's, and the next block is further down
-    pub onward : (p q : Pos) (k n : ℕ) → p.block ≡ q.block → rest_f p ≡ [] → rest_g q ≡ [] → g.fetch q ≡ Silent k n →
-        (f.fetch p ≡ Silent k n) × (place p.block < place n)
+    pub onward : (p q : Pos) (k n : ℕ) → p.block ≡ q.block → rest_f p ≡ [] → rest_g q ≡ [] → g.fetch q ≡ EndOfBlock k n →
+        (f.fetch p ≡ EndOfBlock k n) × (place p.block < place n)
     -- at the end of a block of f that falls through to block n
-    pub ends : (k : Stage) (p : Pos) (j n : ℕ) (c d : Core) → rest_f p ≡ [] → f.fetch p ≡ Silent j n → Rests k p.block [] [] →
-        Cores k p.block [] [] c d → Cores (entry n) n (rest_f (block_start n)) (rest_g (block_start n)) c d
-    pub shows : (k : Stage) (b : ℕ) (xs ys : List Item) (c d : Core) → Cores k b xs ys c d → ShowsSame c d
+    pub ends : (k : Stage) (p : Pos) (j n : ℕ) (c d : Core) → rest_f p ≡ [] → f.fetch p ≡ EndOfBlock j n → MatchItems k p.block [] [] →
+        MatchCores k p.block [] [] c d → MatchCores (entry n) n (rest_f (block_start n)) (rest_g (block_start n)) c d
+    pub shows : (k : Stage) (b : ℕ) (xs ys : List Item) (c d : Core) → MatchCores k b xs ys c d → ShowsSame c d
 
 -- If f's run refines the source's, and g is f changed in place, g's run refines the source's at the same kind of stations.
-abbrev pub InPlaceFollows : Relation → Type 0
-InPlaceFollows relation = (count : Count) (src : Program) (sides : Sides) (place : ℕ → ℕ) →
+abbrev pub InPlaceFollows : MatchStates → Type 0
+InPlaceFollows match_states = (count : Count) (src : Program) (sides : Sides) (place : ℕ → ℕ) →
     let f = sides.old in let g = sides.new in let b = f.start.pos.block in
-    InPlace count src sides relation place → f.start.pos.item ≡ 0 → g.start.pos ≡ f.start.pos →
-    relation.Cores (relation.entry b) b (f.rest f.start.pos) (g.rest g.start.pos) f.start.core g.start.core →
-    RunsAlong src f.program (station_at count f.program) (AnyOrigin (station_at count f.program)) f.start f.start →
-    RunsAlong src g.program (station_at count g.program) (AnyOrigin (station_at count g.program)) f.start g.start
+    InPlace count src sides match_states place → f.start.pos.item ≡ 0 → g.start.pos ≡ f.start.pos →
+    match_states.MatchCores (match_states.entry b) b (f.rest f.start.pos) (g.rest g.start.pos) f.start.core g.start.core →
+    RunsMatch src f.program (sync_point_at count f.program) (AnyOrigin (sync_point_at count f.program)) f.start f.start →
+    RunsMatch src g.program (sync_point_at count g.program) (AnyOrigin (sync_point_at count g.program)) f.start g.start

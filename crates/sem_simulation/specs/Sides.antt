@@ -6,8 +6,8 @@ use Rattle.mir_func.specs.declared.variable.VarId.{VarId}
 use Rattle.mir_func.specs.declared.item.Item.{Item}
 use Rattle.sem_mir.specs.State.{Core, State, assigned}
 use Rattle.sem_mir.specs.Step.{Outcome, Falls, Goes, Gives, Traps, Asks, Breaks, do_item}
-use Rattle.mir_func.specs.Graph.{Fetch, Here, Silent, Outside, Program, below}
-use Rattle.sem_mir.specs.Align.{Count, station_of, Since, since_of}
+use Rattle.mir_func.specs.Graph.{Fetch, Here, EndOfBlock, Outside, Program, below}
+use Rattle.sem_mir.specs.Align.{Count, sync_point_of, Since, since_of}
 
 -- a program, the items from each position to its block's end, and its start state
 pub record Side : Type 0 where
@@ -22,16 +22,16 @@ pub record Sides : Type 0 where
 
 -- the matching relation. A stage is what is known of the rests of a block, and entry n is the stage at the start of block
 -- n; Rests k b xs ys relates the rest of f's block b with g's, and Cores k b xs ys the cores of both at these rests
-pub record Relation : Type 1 where
+pub record MatchStates : Type 1 where
   pub Stage : Type 0
   pub entry : ℕ → Stage
-  pub Rests : Stage → ℕ → List Item → List Item → Type 0
-  pub Cores : Stage → ℕ → List Item → List Item → Core → Core → Type 0
+  pub MatchItems : Stage → ℕ → List Item → List Item → Type 0
+  pub MatchCores : Stage → ℕ → List Item → List Item → Core → Core → Type 0
 
 -- no item is at the position: it is a block's end, if anything
 abbrev pub IsPastItems : Fetch → Type 0
 IsPastItems (Here i) = ⊥
-IsPastItems (Silent k n) = Unit {0}
+IsPastItems (EndOfBlock k n) = Unit {0}
 IsPastItems Outside = Unit {0}
 
 -- rest p is the list of the items from position p to its block's end
@@ -41,7 +41,7 @@ pub record Laid (g : Program) (rest : Pos → List Item) : Type 0 where
 
 -- where the search for the next matching state begins after the item
 abbrev pub since_item : Count → Item → Since
-since_item count x = since_of (station_of count x).waits
+since_item count x = since_of (sync_point_of count x).waits
 
 -- d has the events of c, and no values of variables but those of c
 pub record ShowsSame (c d : Core) : Type 0 where

@@ -5,8 +5,9 @@ use Rattle.mir_func.specs.declared.item.Item.{Item}
 use Rattle.sem_mir.specs.State.{Core, State}
 use Rattle.sem_mir.specs.Step.{Went, step}
 use Rattle.mir_func.specs.Graph.{Here, Program, Leads}
-use Rattle.sem_mir.specs.Align.{position_of, is_code, is_jump, waits_at, Station, ByItems, ByWords, station_at, Since, Aligns, First, Along, FailsBefore}
-use Rattle.sem_mir.specs.Align.{Agrees, RunsAlong}
+use Rattle.sem_mir.specs.Align.{position_of, is_code, is_jump, waits_at, SyncPoint, ByItems, ByWords, sync_point_at, Since, MatchesNext, First, MatchedUpTo}
+use Rattle.sem_mir.specs.Align.{FailsBefore}
+use Rattle.sem_mir.specs.Align.{Agrees, RunsMatch}
 use Rattle.sem_mir.specs.Follow.{OnRow}
 use Rattle.rv64_instr.specs.Parts.{IsSlotStore}
 
@@ -27,18 +28,19 @@ pub record Shown (src g : Program) (s0 g0 t s : State) : Type 0 where
   pub first : State
   pub from : State
   pub m : Since
-  pub i : Station
-  pub along : Along src g (station_at ByItems g) First s0 g0 first from m
-  pub stands : station_at ByItems g first.pos ≡ Some i
-  pub aligns : Aligns src (First i.pos) i.pos m from s
+  pub i : SyncPoint
+  pub along : MatchedUpTo src g (sync_point_at ByItems g) First s0 g0 first from m
+  pub stands : sync_point_at ByItems g first.pos ≡ Some i
+  pub aligns : MatchesNext src (First i.pos) i.pos m from s
   pub pos : first.pos ≡ t.pos
   pub code : SameCode t.core first.core
   pub agrees : Agrees src g first s
 
 -- at each word that g reaches, the source has a matching state that is shown so, or stops on a frame fault before it
 abbrev pub RunsByWords : Program → Program → State → State → Type 0
-RunsByWords src g s0 g0 = (t s : State) (m : Since) (i : Station) → Along src g (station_at ByWords g) First s0 g0 t s m → station_at ByWords g t.pos ≡ Some i →
-    ((s' : State) × Aligns src (First i.pos) i.pos m s s' × Shown src g s0 g0 t s') ⊎ FailsBefore src (First i.pos) i.pos m s
+RunsByWords src g s0 g0 = (t s : State) (m : Since) (i : SyncPoint) → MatchedUpTo src g (sync_point_at ByWords g) First s0 g0 t s m →
+    sync_point_at ByWords g t.pos ≡ Some i →
+    ((s' : State) × MatchesNext src (First i.pos) i.pos m s s' × Shown src g s0 g0 t s') ⊎ FailsBefore src (First i.pos) i.pos m s
 
 -- an unconditional branch that was added before a position
 abbrev pub IsAddedJump : Item → Type 0
@@ -58,7 +60,7 @@ pub record HasPlainTurns (g : Program) (Inner : Pos → Type 0) : Type 0 where
   pub order : (p q : Pos) (i j : Item) → g.fetch p ≡ Here i → g.fetch q ≡ Here j → p.block ≡ q.block → p.item ≤ q.item →
       ((position_of i.origin).block ≡ (position_of j.origin).block) × ((position_of i.origin).item ≤ (position_of j.origin).item)
   -- in the block of an added jump, each instruction whose origin has the jump's position is a slot store or a jump
-  pub silent : (p q : Pos) (i j : Item) → q.block ≡ p.block → g.fetch p ≡ Here i → IsAddedJump i → g.fetch q ≡ Here j → is_code j.kind ≡ true →
+  pub source_end : (p q : Pos) (i j : Item) → q.block ≡ p.block → g.fetch p ≡ Here i → IsAddedJump i → g.fetch q ≡ Here j → is_code j.kind ≡ true →
       position_of j.origin ≡ position_of i.origin → OnRow IsSlotStore j.kind ⊎ (is_jump j.kind ≡ true)
   -- and for each such store there is code with another position, earlier in its block or reachable from it
   pub stores : (p q : Pos) (i j : Item) → q.block ≡ p.block → g.fetch p ≡ Here i → IsAddedJump i → g.fetch q ≡ Here j → OnRow IsSlotStore j.kind →
@@ -68,4 +70,4 @@ pub record HasPlainTurns (g : Program) (Inner : Pos → Type 0) : Type 0 where
 
 -- If g's run refines the source's at instructions, by the first arrival at a position, it does so at words.
 abbrev pub WordsFollow : (Inner : Pos → Type 0) → Type 0
-WordsFollow Inner = (src g : Program) (s0 g0 : State) → RunsAlong src g (station_at ByItems g) First s0 g0 → HasPlainTurns g Inner → RunsByWords src g s0 g0
+WordsFollow Inner = (src g : Program) (s0 g0 : State) → RunsMatch src g (sync_point_at ByItems g) First s0 g0 → HasPlainTurns g Inner → RunsByWords src g s0 g0

@@ -5,11 +5,11 @@ ghost use Rattle.std.specs.Prelude.{Option};
 ghost use Rattle.mir_func.specs.declared.position.Pos.{Pos};
 ghost use Rattle.sem_mir.specs.State.{State};
 ghost use Rattle.sem_simulation.specs.Refinement.{RefinementFollows};
-ghost use Rattle.sem_simulation.specs.Sides.{Relation};
+ghost use Rattle.sem_simulation.specs.Sides.{MatchStates};
 ghost use Rattle.sem_simulation.specs.Words.{WordsFollow};
-ghost use Rattle.sem_simulation.specs.Added.{AddedRelation, AddedFollows};
+ghost use Rattle.sem_simulation.specs.Added.{AddedMatchStates, AddedFollows};
 ghost use Rattle.sem_simulation.specs.InPlace.{InPlaceFollows};
-ghost use Rattle.sem_simulation.specs.Rewired.{RewiredRelation, RewiredFollows};
+ghost use Rattle.sem_simulation.specs.Rewired.{RewiredMatchStates, RewiredFollows};
 
 /// A relation of two runs' states.
 pub trait Refinement {
@@ -37,35 +37,35 @@ pub fn words_follow<I: Inside>()
 /// Added code: before code and after it, and at the start of the function.
 pub trait CodeAddition {
     /// The matching relation of the runs without the code and with it.
-    ghost relation: { AddedRelation };
+    ghost match_states: { AddedMatchStates };
 }
 
 /// If a program's run refines the source's, so does that of the program with added code, with instructions or block
 /// ends too as stations.
 pub fn added_follows<A: CodeAddition>()
-    ensures { AddedFollows A.relation }
+    ensures { AddedFollows A.match_states }
 {}
 
 /// A change of blocks in place, by a pass that keeps, rewrites and deletes code.
 pub trait BlockChange {
     /// The matching relation of the runs before and after the change.
-    ghost relation: { Relation };
+    ghost match_states: { MatchStates };
 }
 
 /// If a program's run refines the source's, so does that of the program changed in place, with instructions or block
 /// ends too as stations.
 pub fn in_place_follows<C: BlockChange>()
-    ensures { InPlaceFollows C.relation }
+    ensures { InPlaceFollows C.match_states }
 {}
 
 /// Bypassed blocks and rewritten block ends.
 pub trait Rewiring {
     /// The matching relation of the runs before and after the change.
-    ghost relation: { RewiredRelation };
+    ghost match_states: { RewiredMatchStates };
 }
 
 /// If a program's run refines the source's with block ends as stations, that of the rewired program does with
 /// instructions as stations.
 pub fn rewired_follows<W: Rewiring>()
-    ensures { RewiredFollows W.relation }
+    ensures { RewiredFollows W.match_states }
 {}

@@ -20,7 +20,7 @@ use Rattle.mir_func.specs.Variables.{is_same, overlaps}
 use Rattle.sem_mir.specs.Step.{Outcome, Falls, Goes, Gives, Traps, Asks, Breaks, Went, moved, act, seen, defined, given, numbered, with_core}
 use Rattle.sem_mir.specs.Step.{place_value, pair_value, mark_value, part_of, do_item, do_fetch, step, or_zero}
 use Rattle.rv64_instr.specs.Parts.{is_call}
-use Rattle.mir_func.specs.Graph.{Fetch, Here, Silent, Outside, Program, below, block_start}
+use Rattle.mir_func.specs.Graph.{Fetch, Here, EndOfBlock, Outside, Program, below, block_start}
 use Rattle.sem_mir.specs.Token.{Token, Entry, Made, Fixed, Tokens, register_token, code_tokens, given_token, numbered_tokens, place_token}
 use Rattle.sem_mir.specs.Token.{pair_token, mark_token, after_item, after_fetch, entry_tokens}
 use Rattle.sem_mir.proofs.Assignments.{same_is}
@@ -259,7 +259,7 @@ went_on enter p Breaks u e = absurd (cc)
 fetch_names : (V : Token → ℕ) (n : ℕ) (g : Program) (x : Fetch) (t : Tokens) (c c' : Core) → AreOld n t → Good V t c → GoesOn (do_fetch g x c) c' →
     Renamed n V (after_fetch g.resolve n x t) c'
 fetch_names V n g (Here i) t c c' o good e = item_names V n g i.kind t c c' o good e
-fetch_names V n g (Silent k m) t c c' o good e = subst (λ (z : Core). Renamed n V t z) e (renamed_same n V t c o good)
+fetch_names V n g (EndOfBlock k m) t c c' o good e = subst (λ (z : Core). Renamed n V t z) e (renamed_same n V t c o good)
 fetch_names V n g Outside t c c' o good e = absurd e
 
 -- one step

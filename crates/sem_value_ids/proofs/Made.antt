@@ -14,7 +14,7 @@ use Rattle.mir_func.specs.declared.variable.MarkValue.TheVariants.{Nothing, Cons
 use Rattle.mir_func.specs.declared.item.ItemKind.{ItemKind}
 use Rattle.mir_func.specs.declared.item.ItemKind.TheVariants.{Code, Mark, Phi}
 use Rattle.mir_func.specs.Variables.{is_same, overlaps}
-use Rattle.mir_func.specs.Graph.{Fetch, Here, Silent, Outside, Program}
+use Rattle.mir_func.specs.Graph.{Fetch, Here, EndOfBlock, Outside, Program}
 use Rattle.sem_mir.specs.Step.{defined}
 use Rattle.sem_mir.specs.Token.{Token, Entry, Tokens, entry_tokens, sets_pointer, after_fetch, Path, begin, onward}
 use Rattle.sem_value_ids.specs.Pullback.{Tracked, InRegister, InSlot, OfPair, OfVariable, OfNumber, token_of, Back, Was, New, Nameless, token_back}
@@ -125,7 +125,7 @@ fetch_is_old : (g : Program) (n : ℕ) (x : Fetch) (t : Tokens) → ((y : Tracke
 fetch_is_old g n (Here i) t old y =
     subst (λ (z : Option Token). IsOld (suc n) z) (sym (tokens_pull_back g.resolve n (i ∷ []) t y))
     (back_is_old n t (back g.resolve 0 i.kind y) (at_item g.resolve 0 i.kind y) old)
-fetch_is_old g n (Silent k m) t old y = old_later n (token_of y t) (old y)
+fetch_is_old g n (EndOfBlock k m) t old y = old_later n (token_of y t) (old y)
 fetch_is_old g n Outside t old y = old_later n (token_of y t) (old y)
 
 pub path_is_old : {g : Program} {start : Pos} {n : ℕ} {p : Pos} {t : Tokens} → Path g start n p t → (x : Tracked) → IsOld n (token_of x t)

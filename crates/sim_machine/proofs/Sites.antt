@@ -11,7 +11,7 @@ use Rattle.std.proofs.lemmas.List.Elements.{All-head, All-tail}
 use Rattle.std.proofs.lemmas.List.Concat.{flat_map-cons}
 use Rattle.std.proofs.lemmas.List.{drop_all}
 use Rattle.std.proofs.lemmas.Bool.{eqb-true, eq-eqb, ne_eqb}
-use Rattle.emit_code.specs.declared.code.Entry.{Entry}
+use Rattle.emit_code.specs.declared.code.EncodedInstruction.{EncodedInstruction}
 use Rattle.rv64_instr.specs.Instruction.{Instruction}
 use Rattle.rv64_instr.specs.Parts.{is_call}
 use Rattle.rv64_instr.specs.Row.{Row, Calls, row_of}
@@ -34,13 +34,14 @@ four_or_eight true = omega arith
 four_or_eight false = omega arith
 
 -- the entry of an index begins nowhere before the first
-pub stand_above : (a : ℕ) (es : List Entry) (end : ℕ) → StandFrom a es end → (i : ℕ) (d : Entry) → i < length es → a ≤ (get_or es i d).address
+pub stand_above : (a : ℕ) (es : List EncodedInstruction) (end : ℕ) → StandFrom a es end → (i : ℕ) (d : EncodedInstruction) → i < length es →
+    a ≤ (get_or es i d).address
 stand_above a [] end s i d l = absurd (omega arith)
 stand_above a (e ∷ es) end s zero d l = omega (arith, s.0)
 stand_above a (e ∷ es) end s (suc i) d l = let up = stand_above (a + e.size) es end s.2 i d (omega arith) in omega arith
 
 -- the entry of an index is the one at its address
-pub entry_here : (a : ℕ) (es : List Entry) (end : ℕ) → StandFrom a es end → (i : ℕ) (d : Entry) (address : ℕ) → i < length es →
+pub entry_here : (a : ℕ) (es : List EncodedInstruction) (end : ℕ) → StandFrom a es end → (i : ℕ) (d : EncodedInstruction) (address : ℕ) → i < length es →
     (get_or es i d).address ≡ address → entry_at es address ≡ Some (get_or es i d)
 entry_here a [] end s i d address l e = absurd (omega arith)
 entry_here a (x ∷ es) end s zero d address l e = ap (λ (t : Bool). cond t (Some x) (entry_at es address)) (eq-eqb x.address address e)
@@ -52,54 +53,57 @@ entry_here a (x ∷ es) end s (suc i) d address l e =
     ∙ entry_here (a + x.size) es end s.2 i d address (omega arith) e
 
 -- the same of a list that is these entries
-pub entry_found : (a end : ℕ) (es xs ys : List Entry) (i : ℕ) (e : Entry) (address : ℕ) → StandFrom a es end → xs ≡ es → es ≡ ys → i < length xs →
+pub entry_found : (a end : ℕ) (es xs ys : List EncodedInstruction) (i : ℕ) (e : EncodedInstruction) (address : ℕ) → StandFrom a es end → xs ≡ es → es ≡ ys →
+    i < length xs →
     e ≡ get_or xs i e → e.address ≡ address → entry_at ys address ≡ Some e
 entry_found a end es xs ys i e address s p q l is at =
-    let stand = subst (λ (zs : List Entry). StandFrom a zs end) (sym p) s in
-    sym (ap (λ (zs : List Entry). entry_at zs address) (p ∙ q))
-    ∙ (entry_here a xs end stand i e address l (ap (λ (x : Entry). x.address) (sym is) ∙ at) ∙ ap (λ (x : Entry). Some x) (sym is))
+    let stand = subst (λ (zs : List EncodedInstruction). StandFrom a zs end) (sym p) s in
+    sym (ap (λ (zs : List EncodedInstruction). entry_at zs address) (p ∙ q))
+    ∙ (entry_here a xs end stand i e address l (ap (λ (x : EncodedInstruction). x.address) (sym is) ∙ at) ∙ ap (λ (x : EncodedInstruction). Some x) (sym is))
 
 -- a search goes past an entry
-pub search_turn : (es : List Entry) (i : ℕ) (e : Entry) (address : ℕ) → i < length es → e ≡ get_or es i e → e.address ≢ address →
+pub search_turn : (es : List EncodedInstruction) (i : ℕ) (e : EncodedInstruction) (address : ℕ) → i < length es → e ≡ get_or es i e → e.address ≢ address →
     entry_at (drop (i + 1) es) address ≡ entry_at (drop i es) address
 search_turn es i e address l is other =
     let next : i + 1 ≡ suc i = omega arith in
-    let here : drop i es ≡ e ∷ drop (suc i) es = drop-cons es i e l ∙ ap (λ (x : Entry). x ∷ drop (suc i) es) (sym is) in
+    let here : drop i es ≡ e ∷ drop (suc i) es = drop-cons es i e l ∙ ap (λ (x : EncodedInstruction). x ∷ drop (suc i) es) (sym is) in
     ap (λ (n : ℕ). entry_at (drop n es) address) next
     ∙ (sym (ap (λ (t : Bool). cond t (Some e) (entry_at (drop (suc i) es) address)) (ne_eqb e.address address other))
-    ∙ sym (ap (λ (xs : List Entry). entry_at xs address) here))
+    ∙ sym (ap (λ (xs : List EncodedInstruction). entry_at xs address) here))
 
-pub search_here : (es : List Entry) (i : ℕ) (e : Entry) (address : ℕ) → i < length es → e ≡ get_or es i e → e.address ≡ address →
+pub search_here : (es : List EncodedInstruction) (i : ℕ) (e : EncodedInstruction) (address : ℕ) → i < length es → e ≡ get_or es i e → e.address ≡ address →
     entry_at (drop i es) address ≡ Some e
 search_here es i e address l is same =
-    let here : drop i es ≡ e ∷ drop (suc i) es = drop-cons es i e l ∙ ap (λ (x : Entry). x ∷ drop (suc i) es) (sym is) in
-    ap (λ (xs : List Entry). entry_at xs address) here
+    let here : drop i es ≡ e ∷ drop (suc i) es = drop-cons es i e l ∙ ap (λ (x : EncodedInstruction). x ∷ drop (suc i) es) (sym is) in
+    ap (λ (xs : List EncodedInstruction). entry_at xs address) here
     ∙ ap (λ (t : Bool). cond t (Some e) (entry_at (drop (suc i) es) address)) (eq-eqb e.address address same)
 
-pub search_end : (es : List Entry) (i address : ℕ) → length es ≤ i → entry_at (drop i es) address ≡ None
-search_end es i address l = ap (λ (xs : List Entry). entry_at xs address) (drop_all i es l)
+pub search_end : (es : List EncodedInstruction) (i address : ℕ) → length es ≤ i → entry_at (drop i es) address ≡ None
+search_end es i address l = ap (λ (xs : List EncodedInstruction). entry_at xs address) (drop_all i es l)
 
 -- ---- what stands at an entry
 
-pub entry_holds : (P : Entry → Type 0) (es : List Entry) (address : ℕ) (e : Entry) → All P es → entry_at es address ≡ Some e → P e
+pub entry_holds : (P : EncodedInstruction → Type 0) (es : List EncodedInstruction) (address : ℕ) (e : EncodedInstruction) → All P es →
+    entry_at es address ≡ Some e → P e
 entry_holds P [] address e h s = absurd cc
 entry_holds P (x ∷ es) address e h s = by_test (nat_eq x.address address) s (λ q. entry_holds P es address e (All-tail P x es h) q) where
   by_test : (t : Bool) → cond t (Some x) (entry_at es address) ≡ Some e → (entry_at es address ≡ Some e → P e) → P e
   by_test true q later = let same : x ≡ e = cc in subst P same (All-head P x es h)
   by_test false q later = later q
 
-reaches : (b : ℕ) (rest : List Entry) (end : ℕ) → StandFrom b rest end → b ≤ end
+reaches : (b : ℕ) (rest : List EncodedInstruction) (end : ℕ) → StandFrom b rest end → b ≤ end
 reaches b [] end q = omega arith
 reaches b (y ∷ rest) end q = let r = reaches (b + y.size) rest end q.2 in omega arith
 
 -- a place of so many words behind the first
-pub record IsPlace (a end address : ℕ) (e : Entry) : Type 0 where
+pub record IsPlace (a end address : ℕ) (e : EncodedInstruction) : Type 0 where
   pub words : ℕ
   pub at : address ≡ a + 4 * words
   pub begins : e.address ≡ address
   pub fits : address + 4 ≤ end
 
-pub entry_place : (a : ℕ) (es : List Entry) (end address : ℕ) (e : Entry) → StandFrom a es end → entry_at es address ≡ Some e → IsPlace a end address e
+pub entry_place : (a : ℕ) (es : List EncodedInstruction) (end address : ℕ) (e : EncodedInstruction) → StandFrom a es end → entry_at es address ≡ Some e →
+    IsPlace a end address e
 entry_place a [] end address e h s = absurd cc
 entry_place a (x ∷ es) end address e h s = by_test (nat_eq x.address address) refl s (λ r. entry_place (a + x.size) es end address e h.2 r) where
   multiple : (b : Bool) → (n : ℕ) × (cond b 8 4 ≡ 4 * n)
@@ -111,7 +115,7 @@ entry_place a (x ∷ es) end address e h s = by_test (nat_eq x.address address) 
   by_test true q r later =
       let same : x ≡ e = cc in
       let here : x.address ≡ address = eqb-true x.address address q in
-      let begins : e.address ≡ address = ap (λ (y : Entry). y.address) (sym same) ∙ here in
+      let begins : e.address ≡ address = ap (λ (y : EncodedInstruction). y.address) (sym same) ∙ here in
       let bytes : 4 ≤ x.size = subst (λ (n : ℕ). 4 ≤ n) (sym h.1) (four_or_eight x.call) in
       let more = reaches (a + x.size) es end h.2 in
       record { words = 0; at = omega (arith, here, h.0); begins = begins; fits = omega (arith, here, h.0, bytes, more) }
@@ -158,16 +162,16 @@ kind_apart (Code i k) e = call_apart (row_of i) e
 kind_apart (Mark v m) e = refl
 kind_apart (Phi p k) e = refl
 
-pub no_call : (f : FramedFunction) (e : Entry) → IsOfItem f e → e.call ≡ false → entry_call f e ≡ None
+pub no_call : (f : FramedFunction) (e : EncodedInstruction) → IsOfItem f e → e.call ≡ false → entry_call f e ≡ None
 no_call f e h c = ap fetch_call h.stands ∙ kind_apart h.item.kind (sym h.call ∙ c)
 
-pub record CallSite (f : FramedFunction) (e : Entry) : Type 0 where
+pub record CallSite (f : FramedFunction) (e : EncodedInstruction) : Type 0 where
   pub code : Instruction
   pub at : instruction_in f e.point ≡ Some code
   pub calls : is_call (row_of code) ≡ true
   pub same : entry_call f e ≡ call_of (row_of code)
 
-pub call_site : (f : FramedFunction) (e : Entry) → IsOfItem f e → e.call ≡ true → CallSite f e
+pub call_site : (f : FramedFunction) (e : EncodedInstruction) → IsOfItem f e → e.call ≡ true → CallSite f e
 call_site f e h c = by_kind h.item.kind refl where
   by_kind : (k : ItemKind) → h.item.kind ≡ k → CallSite f e
   by_kind (Code i n) q = record {
@@ -184,16 +188,17 @@ pub none_behind : (blocks : List Block) (b n : ℕ) (block : Block) → b < leng
 none_behind blocks b n block l e le =
     let here : drop b blocks ≡ block ∷ drop (suc b) blocks = drop-cons blocks b block l ∙ ap (λ (x : Block). x ∷ drop (suc b) blocks) (sym e) in
     ap (λ (bs : List Block). fetch_instruction (fetch_in bs n)) here
-    ∙ (ap (λ (is : List Item). fetch_instruction (front is block.silent (drop (suc b) blocks))) (drop_all n block.items le) ∙ ends (drop (suc b) blocks)) where
-      ends : (bs : List Block) → fetch_instruction (end_of block.silent bs) ≡ None
+    ∙ (ap (λ (is : List Item). fetch_instruction (front is block.source_end (drop (suc b) blocks))) (drop_all n block.items le) ∙ ends (drop
+    (suc b) blocks)) where
+      ends : (bs : List Block) → fetch_instruction (end_of block.source_end bs) ≡ None
       ends [] = refl
       ends (x ∷ bs) = refl
 
 -- the same at an entry that is found
-pub site_at : (c : LaidCode) (e : Entry) → IsCode c → entry_at c.entries e.address ≡ Some e → e.call ≡ true → CallSite c.framed e
+pub site_at : (c : LaidCode) (e : EncodedInstruction) → IsCode c → entry_at c.entries e.address ≡ Some e → e.call ≡ true → CallSite c.framed e
 site_at c e code found call = call_site c.framed e (entry_holds (IsOfItem c.framed) c.entries e.address e code.items found) call
 
-pub no_call_at : (c : LaidCode) (e : Entry) → IsCode c → entry_at c.entries e.address ≡ Some e → e.call ≡ false → entry_call c.framed e ≡ None
+pub no_call_at : (c : LaidCode) (e : EncodedInstruction) → IsCode c → entry_at c.entries e.address ≡ Some e → e.call ≡ false → entry_call c.framed e ≡ None
 no_call_at c e code found call = no_call c.framed e (entry_holds (IsOfItem c.framed) c.entries e.address e code.items found) call
 
 -- the word of an entry
@@ -203,17 +208,17 @@ pub record IsWordPlace (c : LaidCode) (address : ℕ) : Type 0 where
   pub within : index < length c.words
   pub low : address < 2 ^ 63
 
-pub word_place : (c : LaidCode) (e : Entry) (address : ℕ) → IsCode c → entry_at c.entries address ≡ Some e → IsWordPlace c address
+pub word_place : (c : LaidCode) (e : EncodedInstruction) (address : ℕ) → IsCode c → entry_at c.entries address ≡ Some e → IsWordPlace c address
 word_place c e address code found =
     let p = entry_place c.base c.entries (c.base + 4 * length c.words) address e code.stand found in
     record { index = p.words; at = p.at; within = omega (arith, p.at, p.fits); low = omega (arith, p.fits, code.low, code.few) }
 
 -- the entry at an address begins there
-pub begins_at : (c : LaidCode) (e : Entry) (address : ℕ) → IsCode c → entry_at c.entries address ≡ Some e → e.address ≡ address
+pub begins_at : (c : LaidCode) (e : EncodedInstruction) (address : ℕ) → IsCode c → entry_at c.entries address ≡ Some e → e.address ≡ address
 begins_at c e address code found = (entry_place c.base c.entries (c.base + 4 * length c.words) address e code.stand found).begins
 
 -- and within the code
-pub begins_within : (c : LaidCode) (o : Option Entry) (address : ℕ) → IsCode c → o ≡ entry_at c.entries address →
+pub begins_within : (c : LaidCode) (o : Option EncodedInstruction) (address : ℕ) → IsCode c → o ≡ entry_at c.entries address →
     IfSome o (λ e. e.address < c.base + 4 * length c.words)
 begins_within c None address code found = tt
 begins_within c (Some e) address code found =
@@ -222,7 +227,7 @@ begins_within c (Some e) address code found =
     omega (arith, p.at, p.within, b)
 
 -- and one that is no call site makes no call
-pub makes_no_call : (c : LaidCode) (o : Option Entry) (address : ℕ) → IsCode c → o ≡ entry_at c.entries address →
+pub makes_no_call : (c : LaidCode) (o : Option EncodedInstruction) (address : ℕ) → IsCode c → o ≡ entry_at c.entries address →
     IfSome o (λ e. e.call ≡ false → entry_call c.framed e ≡ None)
 makes_no_call c None address code found = tt
 makes_no_call c (Some e) address code found = λ plain.

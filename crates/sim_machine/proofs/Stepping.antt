@@ -7,7 +7,7 @@ use Rattle.rv64_word.specs.declared.machine_op.MachineOp.{MachineOp}
 use Rattle.rv64_word.specs.Decoded.{decoded}
 use Rattle.rv64_word.specs.MachineRow.{machine_row}
 use Rattle.mir_func.specs.Function.{FramedFunction}
-use Rattle.emit_code.specs.declared.code.Entry.{Entry}
+use Rattle.emit_code.specs.declared.code.EncodedInstruction.{EncodedInstruction}
 use Rattle.emit_code.specs.Laid.{LaidCode}
 use Rattle.sem_machine.specs.Image.{CodeLine, Image, line_at, word_at}
 use Rattle.sem_machine.specs.Machine.{Machine, register}
@@ -27,7 +27,8 @@ use Rattle.sim_machine.specs.Shown.{IsLineOf, AreLinesOf, ShowsCode, entry_at, e
 
 -- ---- lines
 
-pub line_none : (f : FramedFunction) (es : List Entry) (ls : List CodeLine) (a : ℕ) → AreLinesOf f es ls → entry_at es a ≡ None → line_at ls a ≡ None
+pub line_none : (f : FramedFunction) (es : List EncodedInstruction) (ls : List CodeLine) (a : ℕ) → AreLinesOf f es ls → entry_at es a ≡ None →
+    line_at ls a ≡ None
 line_none f [] [] a h e = refl
 line_none f [] (l ∷ ls) a h e = absurd h
 line_none f (x ∷ es) [] a h e = absurd h
@@ -38,12 +39,13 @@ line_none f (x ∷ es) (l ∷ ls) a h e = by_test (nat_eq x.address a) (ap (λ (
   by_test false q r later = ap (λ (t : Bool). cond t (Some l) (line_at ls a)) q ∙ later r
 
 -- the line of an entry
-pub record LineAt (f : FramedFunction) (e : Entry) (ls : List CodeLine) (a : ℕ) : Type 0 where
+pub record LineAt (f : FramedFunction) (e : EncodedInstruction) (ls : List CodeLine) (a : ℕ) : Type 0 where
   pub line : CodeLine
   pub stands : line_at ls a ≡ Some line
   pub is : IsLineOf f e line
 
-pub line_some : (f : FramedFunction) (es : List Entry) (ls : List CodeLine) (a : ℕ) (e : Entry) → AreLinesOf f es ls → entry_at es a ≡ Some e → LineAt f e ls a
+pub line_some : (f : FramedFunction) (es : List EncodedInstruction) (ls : List CodeLine) (a : ℕ) (e : EncodedInstruction) → AreLinesOf f es ls →
+    entry_at es a ≡ Some e → LineAt f e ls a
 line_some f [] [] a e h s = absurd cc
 line_some f [] (l ∷ ls) a e h s = absurd h
 line_some f (x ∷ es) [] a e h s = absurd h
@@ -51,7 +53,7 @@ line_some f (x ∷ es) (l ∷ ls) a e h s = by_test (nat_eq x.address a) (ap (λ
   by_test : (t : Bool) → nat_eq l.address a ≡ t → cond t (Some x) (entry_at es a) ≡ Some e → (entry_at es a ≡ Some e → LineAt f e ls a) → LineAt f e (l ∷ ls) a
   by_test true q r later =
       let same : x ≡ e = cc in
-      record { line = l; stands = ap (λ (t : Bool). cond t (Some l) (line_at ls a)) q; is = subst (λ (y : Entry). IsLineOf f y l) same h.0 }
+      record { line = l; stands = ap (λ (t : Bool). cond t (Some l) (line_at ls a)) q; is = subst (λ (y : EncodedInstruction). IsLineOf f y l) same h.0 }
   by_test false q r later =
       let p = later r in record { line = p.line; stands = ap (λ (t : Bool). cond t (Some l) (line_at ls a)) q ∙ p.stands; is = p.is }
 
@@ -66,7 +68,7 @@ pub record WordStep (image : Image) (s : Machine) (w : ℕ) : Type 0 where
   pub results : List ℕ
   pub is : machine_step image s ≡ cond (nat_eq w return_word) (Ends results) (does_operation (decoded w) s)
 
-pub word_step : (c : LaidCode) (image : Image) (s : Machine) (e : Entry) (w : ℕ) → ShowsCode c image → entry_at c.entries s.counter ≡ Some e →
+pub word_step : (c : LaidCode) (image : Image) (s : Machine) (e : EncodedInstruction) (w : ℕ) → ShowsCode c image → entry_at c.entries s.counter ≡ Some e →
     entry_call c.framed e ≡ None → word_at image.text s.counter ≡ Some w → WordStep image s w
 word_step c image s e w shows found none word =
     let l = line_some c.framed c.entries image.lines s.counter e shows.lines found in
@@ -76,7 +78,8 @@ word_step c image s e w shows found none word =
           ∙ (ap (λ (o : Option (List ℕ × List ℕ)). does_line image l.line o s) (l.is.call ∙ none) ∙ ap (λ (o : Option ℕ). does_word l.line o s) word);
     }
 
-pub call_step : (c : LaidCode) (image : Image) (s : Machine) (e : Entry) (name args : List ℕ) → ShowsCode c image → entry_at c.entries s.counter ≡ Some e →
+pub call_step : (c : LaidCode) (image : Image) (s : Machine) (e : EncodedInstruction) (name args : List ℕ) → ShowsCode c image →
+    entry_at c.entries s.counter ≡ Some e →
     entry_call c.framed e ≡ Some (name, args) → machine_step image s ≡ answered name (map (register s) args) s s.script
 call_step c image s e name args shows found some =
     let l = line_some c.framed c.entries image.lines s.counter e shows.lines found in
@@ -94,24 +97,25 @@ other_step image s w o h ne d =
 -- ---- as they are kept
 
 -- the entry at the counter
-pub found_at : (c : LaidCode) (h : Hart) (s : Machine) (o : Option Entry) → StandsFor h s → entry_at c.entries h.counter ≡ o → entry_at c.entries s.counter ≡ o
+pub found_at : (c : LaidCode) (h : Hart) (s : Machine) (o : Option EncodedInstruction) → StandsFor h s → entry_at c.entries h.counter ≡ o →
+    entry_at c.entries s.counter ≡ o
 found_at c h s o stands e = ap (entry_at c.entries) stands.counter ∙ e
 
-pub word_step_at : (c : LaidCode) (image : Image) (h : Hart) (s : Machine) (e : Entry) (w : ℕ) → ShowsCode c image → StandsFor h s →
+pub word_step_at : (c : LaidCode) (image : Image) (h : Hart) (s : Machine) (e : EncodedInstruction) (w : ℕ) → ShowsCode c image → StandsFor h s →
     entry_at c.entries h.counter ≡ Some e → e.address ≡ h.counter → word_at image.text e.address ≡ Some w → call_at c s.counter ≡ None → WordStep image s w
 word_step_at c image h s e w shows stands found at word none =
     let here = found_at c h s (Some e) stands found in
     word_step c image s e w shows here (sym (ap (found_call c.framed) here) ∙ none)
     (ap (word_at image.text) (stands.counter ∙ sym at) ∙ word)
 
-pub call_step_at : (c : LaidCode) (image : Image) (h : Hart) (s : Machine) (e : Entry) (name args : List ℕ) → ShowsCode c image → StandsFor h s →
+pub call_step_at : (c : LaidCode) (image : Image) (h : Hart) (s : Machine) (e : EncodedInstruction) (name args : List ℕ) → ShowsCode c image → StandsFor h s →
     entry_at c.entries h.counter ≡ Some e → call_at c s.counter ≡ Some (name, args) → machine_step image s ≡ answered name (map (register s) args) s s.script
 call_step_at c image h s e name args shows stands found some =
     let here = found_at c h s (Some e) stands found in
     call_step c image s e name args shows here (sym (ap (found_call c.framed) here) ∙ some)
 
 -- the call of an entry that is none, and of one that is
-pub entry_call_at : (c : LaidCode) (h : Hart) (s : Machine) (o : Option Entry) → StandsFor h s → entry_at c.entries h.counter ≡ o →
+pub entry_call_at : (c : LaidCode) (h : Hart) (s : Machine) (o : Option EncodedInstruction) → StandsFor h s → entry_at c.entries h.counter ≡ o →
     call_at c s.counter ≡ found_call c.framed o
 entry_call_at c h s o stands e = ap (found_call c.framed) (found_at c h s o stands e)
 
@@ -148,7 +152,8 @@ calls_left gives c h e = record {
 }
 
 -- an entry that is no call makes none
-pub calls_word : (gives : CallEvent → Reply → Type 0) (c : LaidCode) (r : Ended) (h new : Hart) (e : Entry) → entry_at c.entries h.counter ≡ Some e →
+pub calls_word : (gives : CallEvent → Reply → Type 0) (c : LaidCode) (r : Ended) (h new : Hart) (e : EncodedInstruction) →
+    entry_at c.entries h.counter ≡ Some e →
     entry_call c.framed e ≡ None → CallsOn gives c r h new
 calls_word gives c r h new e found none = record {
   reply = no_reply;
@@ -157,7 +162,7 @@ calls_word gives c r h new e found none = record {
       absurd cc);
 }
 
-pub calls_word_if : {E : Type 0} (result : Result Ended E) (gives : CallEvent → Reply → Type 0) (c : LaidCode) (h new : Hart) (e : Entry) →
+pub calls_word_if : {E : Type 0} (result : Result Ended E) (gives : CallEvent → Reply → Type 0) (c : LaidCode) (h new : Hart) (e : EncodedInstruction) →
     entry_at c.entries h.counter ≡ Some e → entry_call c.framed e ≡ None → IfOk result (λ r. CallsOn gives c r h new)
 calls_word_if (Ok r) gives c h new e found none = calls_word gives c r h new e found none
 calls_word_if (Err x) gives c h new e found none = tt
@@ -167,12 +172,12 @@ calls_some (Calls name args) c e = cc
 calls_some _ c e = cc
 
 -- a call site makes a call
-pub steps_call : (c : LaidCode) (r : Ended) (h new : Hart) (e : Entry) (i : Instruction) → entry_at c.entries h.counter ≡ Some e →
+pub steps_call : (c : LaidCode) (r : Ended) (h new : Hart) (e : EncodedInstruction) (i : Instruction) → entry_at c.entries h.counter ≡ Some e →
     entry_call c.framed e ≡ call_of (row_of i) → is_call (row_of i) ≡ true → StepsOn c r h new
 steps_call c r h new e i found same call image s shows stands none =
     absurd (calls_some (row_of i) call (sym same ∙ (sym (entry_call_at c h s (Some e) stands found) ∙ none)))
 
-pub call_made : (gives : CallEvent → Reply → Type 0) (c : LaidCode) (h new : Hart) (e : Entry) (i : Instruction) (event : CallEvent) (r : Reply) →
+pub call_made : (gives : CallEvent → Reply → Type 0) (c : LaidCode) (h new : Hart) (e : EncodedInstruction) (i : Instruction) (event : CallEvent) (r : Reply) →
     entry_at c.entries h.counter ≡ Some e → entry_call c.framed e ≡ call_of (row_of i) →
     ((s : Machine) (name args : List ℕ) → StandsFor h s → call_of (row_of i) ≡ Some (name, args) → event ≡ event_of name args s) → gives event r →
     writes_frame h.entry h.area r.writes ≡ false →
@@ -193,5 +198,6 @@ call_made gives c h new e i event r found same shown given apart takes = record 
 }
 
 -- the entry at the counter begins at its address
-pub at_address : (c : LaidCode) (h : Hart) (e : Entry) → entry_at c.entries h.counter ≡ Some e → e.address ≡ h.counter → entry_at c.entries e.address ≡ Some e
+pub at_address : (c : LaidCode) (h : Hart) (e : EncodedInstruction) → entry_at c.entries h.counter ≡ Some e → e.address ≡ h.counter →
+    entry_at c.entries e.address ≡ Some e
 at_address c h e found at = ap (entry_at c.entries) at ∙ found

@@ -1,7 +1,7 @@
 -- Calls of the machine and their answers.
 use Rattle.std.specs.Prelude.{ℕ, ◌+◌, ◌%◌, ◌^◌, List, ◌∷◌, map}
 use Rattle.rv64_instr.specs.Access.{caller_saved}
-use Rattle.rv64_instr.specs.declared.start.Answer.{Answer}
+use Rattle.rv64_instr.specs.declared.start.CallResult.{CallResult}
 use Rattle.rv64_instr.specs.declared.start.CallEvent.{CallEvent}
 use Rattle.sem_mir.specs.State.{Reply, Called, written}
 use Rattle.sem_machine.specs.Machine.{Machine, register, set_all_in}
@@ -14,7 +14,7 @@ abbrev pub event_of : (name args : List ℕ) → Machine → CallEvent
 event_of name args s = record { name = name; args = map (register s) args; number = (calls_in s.events + 1) % 2 ^ 64 }
 
 -- the answer as an element of a script
-abbrev pub reply_of : Answer → Reply
+abbrev pub reply_of : CallResult → Reply
 reply_of a = record { regs = a.regs; writes = some_writes a.writes }
 
 -- the machine after a call with this answer, with the rest of the script

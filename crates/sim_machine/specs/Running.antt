@@ -6,7 +6,7 @@ use Rattle.sem_machine.specs.Image.{Image, word_at}
 use Rattle.sem_machine.specs.Machine.{Machine}
 use Rattle.sem_machine.specs.MachineStep as step
 use Rattle.sem_machine.specs.MachineStep.{machine_step, Ends, Leaves}
-use Rattle.emit_code.specs.declared.code.Entry.{Entry}
+use Rattle.emit_code.specs.declared.code.EncodedInstruction.{EncodedInstruction}
 use Rattle.emit_code.specs.Laid.{LaidCode}
 use Rattle.mir_func.specs.Function.{FramedFunction}
 use Rattle.sim_machine.specs.declared.hart.Hart.{Hart}
@@ -36,7 +36,7 @@ StaysIf Went old new = Unit {0}
 StaysIf (Stopped stop) old new = new ≡ old
 
 -- the call of an entry, if it is a call site
-abbrev pub found_call : FramedFunction → Option Entry → Option (List ℕ × List ℕ)
+abbrev pub found_call : FramedFunction → Option EncodedInstruction → Option (List ℕ × List ℕ)
 found_call f None = None
 found_call f (Some e) = entry_call f e
 

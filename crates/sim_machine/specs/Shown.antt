@@ -6,11 +6,11 @@ use Rattle.rv64_instr.specs.Row.{row_of}
 use Rattle.mir_func.specs.declared.item.ItemKind.{ItemKind}
 use Rattle.mir_func.specs.declared.item.ItemKind.TheVariants.{Code, Mark, Phi}
 use Rattle.mir_func.specs.Function.{FramedFunction}
-use Rattle.mir_func.specs.Graph.{Fetch, Here, Silent, Outside, fetch_in}
+use Rattle.mir_func.specs.Graph.{Fetch, Here, EndOfBlock, Outside, fetch_in}
 use Rattle.mir_func.specs.Objects.{area_of}
 use Rattle.sem_machine.specs.Image.{CodeLine, Image}
 use Rattle.sem_machine.specs.MachineStep.{call_of}
-use Rattle.emit_code.specs.declared.code.Entry.{Entry}
+use Rattle.emit_code.specs.declared.code.EncodedInstruction.{EncodedInstruction}
 use Rattle.emit_code.specs.Laid.{LaidCode}
 
 -- the call of an item, if it is one
@@ -22,21 +22,21 @@ kind_call (Phi p k) = None
 -- the call of the item at a point; none at the end of a block or outside
 abbrev pub fetch_call : Fetch → Option (List ℕ × List ℕ)
 fetch_call (Here i) = kind_call i.kind
-fetch_call (Silent k n) = None
+fetch_call (EndOfBlock k n) = None
 fetch_call Outside = None
 
 -- the call of an entry's item, if it is one
-abbrev pub entry_call : FramedFunction → Entry → Option (List ℕ × List ℕ)
+abbrev pub entry_call : FramedFunction → EncodedInstruction → Option (List ℕ × List ℕ)
 entry_call f e = fetch_call (fetch_in (drop e.point.block f.blocks) e.point.item)
 
 -- A code line is that of an entry: the same address and origin, and the same call if the entry's item is one, or else none.
-pub record IsLineOf (f : FramedFunction) (e : Entry) (l : CodeLine) : Type 0 where
+pub record IsLineOf (f : FramedFunction) (e : EncodedInstruction) (l : CodeLine) : Type 0 where
   pub address : l.address ≡ e.address
   pub origin : l.origin ≡ e.origin
   pub call : call_of (row_of l.instruction) ≡ entry_call f e
 
 -- the code lines are those of the entries, one for each
-abbrev pub AreLinesOf : FramedFunction → List Entry → List CodeLine → Type 0
+abbrev pub AreLinesOf : FramedFunction → List EncodedInstruction → List CodeLine → Type 0
 AreLinesOf f [] [] = Unit {0}
 AreLinesOf f [] (l ∷ ls) = ⊥
 AreLinesOf f (e ∷ es) [] = ⊥
@@ -51,6 +51,6 @@ pub record ShowsCode (c : LaidCode) (image : Image) : Type 0 where
   pub lines : AreLinesOf c.framed c.entries image.lines
 
 -- the first entry that begins at an address
-abbrev pub entry_at : List Entry → (address : ℕ) → Option Entry
+abbrev pub entry_at : List EncodedInstruction → (address : ℕ) → Option EncodedInstruction
 entry_at [] a = None
 entry_at (e ∷ es) a = cond (nat_eq e.address a) (Some e) (entry_at es a)

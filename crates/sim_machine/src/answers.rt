@@ -5,7 +5,7 @@ ghost use Rattle.rv64_instr.specs.declared.start.CallEvent.{CallEvent};
 ghost use Rattle.sem_mir.specs.State.{Reply, writes_frame};
 ghost use Rattle.sim_machine.specs.Calls.{reply_of};
 
-use rv64_instr::start::{Answer, CallEvent};
+use rv64_instr::start::{CallEvent, CallResult};
 
 /// Determines the results and the memory writes of every call of a run.
 pub trait CallAnswers {
@@ -17,7 +17,7 @@ pub trait CallAnswers {
     ghost spares: { Self → (entry area : ℕ) → Type 0 };
 
     /// The answer to a call.
-    fn answer(&self, call: &CallEvent) -> Answer
+    fn answer(&self, call: &CallEvent) -> CallResult
         ensures given { gives self.now call.now (reply_of result) }
         ensures spared { (entry area : ℕ) → spares self.now entry area
             → writes_frame entry area (reply_of result).writes ≡ false };

@@ -15,7 +15,7 @@ use crate::hart::Hart;
 use rv64_instr::instr::Instr;
 use rv64_instr::operand::Operand;
 use rv64_instr::parts::CALLER_SAVED;
-use rv64_instr::start::{Answer, CallEvent, Values};
+use rv64_instr::start::{CallEvent, CallResult, Values};
 use std::alloc::{AllocError, Global};
 
 /// The number of bytes of a call site.
@@ -58,7 +58,7 @@ impl Hart {
 
     /// Applies the effects of an answer, and advances the program counter past the call site. If memory runs out
     /// nothing changes.
-    pub fn take(&mut self, answer: &Answer) -> Result<(), AllocError>
+    pub fn take(&mut self, answer: &CallResult) -> Result<(), AllocError>
         requires { self.old.counter < 2 ^ 63 }
         ensures ok { OnOk result ((s : Machine) (name args : List ℕ) (rest : List Reply) → StandsFor self.old s
             → StandsFor self.new (after_call name args (reply_of answer.now) rest s)) }

@@ -13,7 +13,7 @@ use crate::ending::{Stepped, Stop};
 use crate::hart::Hart;
 use crate::site::{Places, call_at, find, places};
 use crate::word::run_word;
-use emit_code::code::{Code, Entry};
+use emit_code::code::{Code, EncodedInstruction};
 use emit_code::objects::ObjectOffsets;
 use rv64_instr::reg::Reg;
 use rv64_instr::start::Start;
@@ -23,7 +23,7 @@ use std::marker::Model;
 
 /// A simulator that runs code, with the answers to its calls.
 #[derive(Drop)]
-pub struct Machine<'a, A: CallAnswers> {
+pub struct MachineSimulator<'a, A: CallAnswers> {
     code: &'a Code,
     answers: A,
     hart: Hart,
@@ -31,7 +31,7 @@ pub struct Machine<'a, A: CallAnswers> {
     probable: Places,
 }
 
-impl<'a, A: CallAnswers> Model for Machine<'a, A> {
+impl<'a, A: CallAnswers> Model for MachineSimulator<'a, A> {
     ghost use Rattle.sim_machine.specs.Machines.{Running};
 
     ghost Value = { Running A };
@@ -41,7 +41,7 @@ impl<'a, A: CallAnswers> Model for Machine<'a, A> {
     ghost invariant = { λ m. A.spares m.answers m.hart.entry m.hart.area };
 }
 
-impl<'a, A: CallAnswers + Drop> Machine<'a, A> {
+impl<'a, A: CallAnswers + Drop> MachineSimulator<'a, A> {
     ghost use Rattle.sim_machine.specs.Running.{StepsOn, CallsOn, StaysIf};
 
     /// The simulator at the start of the code. x0 reads 0, whatever its initial content. The answers to calls write no
@@ -51,14 +51,14 @@ impl<'a, A: CallAnswers + Drop> Machine<'a, A> {
         code: &'a Code,
         start: &Start,
         answers: A,
-    ) -> Result<Machine<'a, A>, AllocError>
+    ) -> Result<MachineSimulator<'a, A>, AllocError>
         requires { A.spares answers (slice_index start.now.regs 2) (area_of code.now.framed.objects) }
         ensures code { IfOk result (λ m. m.code ≡ code.now) }
         ensures answers { IfOk result (λ m. m.answers ≡ answers) }
         ensures stands { IfOk result (λ m. (s : State) → StartsCode code.now start.now s → StandsFor m.hart s) }
     {
         let hart = starting_hart(alloc, code, start)?;
-        Ok(Machine {
+        Ok(MachineSimulator {
             code,
             answers,
             hart,
@@ -81,7 +81,7 @@ impl<'a, A: CallAnswers + Drop> Machine<'a, A> {
     }
 
     /// The entry that begins at the program counter, or `None`.
-    pub fn entry(&self) -> Option<Entry>
+    pub fn entry(&self) -> Option<EncodedInstruction>
         ensures found { result ≡ entry_at self.now.code.entries self.now.hart.counter }
         ensures begins { IfSome result (λ e. e.address ≡ self.now.hart.counter) }
         ensures within { IfSome result (λ e. e.address < self.now.code.base + 4 * length self.now.code.words) }
@@ -122,7 +122,7 @@ impl<'a, A: CallAnswers + Drop> Machine<'a, A> {
     }
 
     /// Makes the call of the call site at the program counter.
-    fn call(&mut self, entry: &Entry) -> Result<Stepped, AllocError>
+    fn call(&mut self, entry: &EncodedInstruction) -> Result<Stepped, AllocError>
         requires stands { entry_at self.old.code.entries self.old.hart.counter ≡ Some entry.now }
         requires at { entry.now.address ≡ self.old.hart.counter }
         requires call { entry.now.call ≡ true }

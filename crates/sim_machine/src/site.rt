@@ -9,10 +9,10 @@ ghost use Rattle.sem_machine.specs.MachineStep.{call_of};
 ghost use Rattle.sim_machine.specs.Shown.{ShowsCode, entry_at, entry_call};
 ghost use Rattle.sim_machine.specs.steps.Sites.{instruction_in};
 
-use emit_code::code::{Code, Entry};
+use emit_code::code::{Code, EncodedInstruction};
 use mir_func::framed::Framed;
 use mir_func::item::ItemKind;
-use mir_func::position::Point;
+use mir_func::position::ProgramPoint;
 use rv64_instr::instr::Instr;
 use std::alloc::{AllocError, Global};
 
@@ -35,7 +35,7 @@ pub fn places(alloc: Global, code: &Code) -> Result<Places, AllocError> {
 }
 
 /// The entry that begins at an address. It is searched for only if it isn't at its probable index.
-pub fn find(probable: &Places, code: &Code, address: u64) -> Option<Entry>
+pub fn find(probable: &Places, code: &Code, address: u64) -> Option<EncodedInstruction>
     ensures found { result ≡ entry_at code.now.entries address }
     ensures begins { IfSome result (λ e. e.address ≡ address) }
     ensures within { IfSome result (λ e. e.address < code.now.base + 4 * length code.now.words) }
@@ -49,7 +49,7 @@ pub fn find(probable: &Places, code: &Code, address: u64) -> Option<Entry>
 }
 
 /// The entry at the probable index, if it begins at the address.
-fn probable_entry(probable: &Places, code: &Code, address: u64) -> Option<Entry>
+fn probable_entry(probable: &Places, code: &Code, address: u64) -> Option<EncodedInstruction>
     ensures found { IfSome result (λ e. entry_at code.now.entries address ≡ Some e) }
     ensures begins { IfSome result (λ e. e.address ≡ address) }
 {
@@ -70,7 +70,7 @@ fn probable_entry(probable: &Places, code: &Code, address: u64) -> Option<Entry>
     None
 }
 
-fn search(entries: &[Entry], address: u64) -> Option<Entry>
+fn search(entries: &[EncodedInstruction], address: u64) -> Option<EncodedInstruction>
     ensures found { result ≡ entry_at entries.now address }
     ensures begins { IfSome result (λ e. e.address ≡ address) }
 {
@@ -83,7 +83,7 @@ fn search(entries: &[Entry], address: u64) -> Option<Entry>
 }
 
 /// The instruction at a point.
-pub fn instruction_at<'a>(framed: &'a Framed, point: &Point) -> Option<&'a Instr>
+pub fn instruction_at<'a>(framed: &'a Framed, point: &ProgramPoint) -> Option<&'a Instr>
     ensures { MatchOption result (instruction_in framed.now point.now ≡ None)
         (λ i. instruction_in framed.now point.now ≡ Some i.now) }
 {
@@ -101,7 +101,7 @@ pub fn instruction_at<'a>(framed: &'a Framed, point: &Point) -> Option<&'a Instr
 }
 
 /// The instruction of a call site.
-pub fn call_at<'a>(code: &'a Code, entry: &Entry) -> &'a Instr
+pub fn call_at<'a>(code: &'a Code, entry: &EncodedInstruction) -> &'a Instr
     requires stands { entry_at code.now.entries entry.now.address ≡ Some entry.now }
     requires call { entry.now.call ≡ true }
     ensures calls { is_call (row_of result.now) ≡ true }
@@ -115,7 +115,7 @@ pub fn call_at<'a>(code: &'a Code, entry: &Entry) -> &'a Instr
 }
 
 /// The word of an entry that isn't a call.
-pub fn word_of(code: &Code, entry: &Entry) -> u32
+pub fn word_of(code: &Code, entry: &EncodedInstruction) -> u32
     requires { entry_at code.now.entries entry.now.address ≡ Some entry.now }
     ensures word { (image : Image) → ShowsCode code.now image → word_at image.text entry.now.address ≡ Some result }
     ensures low { entry.now.address < 2 ^ 63 }

@@ -12,7 +12,7 @@ ghost use Rattle.sim_machine.specs.Values.{VariableIs, PartIs};
 
 use crate::answers::CallAnswers;
 use crate::hart::Hart;
-use crate::machine::Machine;
+use crate::machine::MachineSimulator;
 use dwarf_loclists::fault::ListFault;
 use dwarf_loclists::reader::{piece_at, place_at};
 use rv64_instr::place::Place;
@@ -28,7 +28,7 @@ pub struct PartValue {
     pub value: u64,
 }
 
-impl<'a, A: CallAnswers + Drop> Machine<'a, A> {
+impl<'a, A: CallAnswers + Drop> MachineSimulator<'a, A> {
     /// The value of the whole variable by list k, from 0, of the section `.debug_loclists` at the program counter:
     /// `None` if the list has no simple location there. It takes no memory.
     pub fn read_variable(&self, lists: &[u8], k: u32) -> Result<Option<u64>, ListFault>

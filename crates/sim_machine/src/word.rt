@@ -8,7 +8,7 @@ ghost use Rattle.sim_machine.specs.Running.{StepsOn, StaysIf};
 use crate::ending::{Stepped, Stop};
 use crate::hart::Hart;
 use crate::site::word_of;
-use emit_code::code::{Code, Entry};
+use emit_code::code::{Code, EncodedInstruction};
 use rv64_word::machine_op::decode;
 use std::alloc::AllocError;
 
@@ -16,7 +16,11 @@ use std::alloc::AllocError;
 const RETURN: u32 = 0x0000_8067;
 
 /// Executes the word of the entry at the program counter.
-pub fn run_word(hart: &mut Hart, code: &Code, entry: &Entry) -> Result<Stepped, AllocError>
+pub fn run_word(
+    hart: &mut Hart,
+    code: &Code,
+    entry: &EncodedInstruction,
+) -> Result<Stepped, AllocError>
     requires stands { entry_at code.now.entries hart.old.counter ≡ Some entry.now }
     requires at { entry.now.address ≡ hart.old.counter }
     requires word { entry.now.call ≡ false }

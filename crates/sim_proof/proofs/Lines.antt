@@ -12,7 +12,7 @@ use Rattle.mir_func.specs.Graph.{Fetch, Here, fetch_in}
 use Rattle.mir_func.specs.Successors.{pos_in}
 use Rattle.sem_machine.specs.Image.{CodeLine}
 use Rattle.sem_machine.specs.MachineStep.{call_of}
-use Rattle.emit_code.specs.declared.code.Entry.{Entry}
+use Rattle.emit_code.specs.declared.code.EncodedInstruction.{EncodedInstruction}
 use Rattle.emit_code.specs.Listed.{Line, form_lines, kind_lines, lines_at, lines_of}
 use Rattle.emit_code.specs.Rule.{Layout, Form, Nothing, OneWord, CallSite, LongBranch, row_form, form_of, form_entries, address_in, Site, sites_of, entries_at}
 use Rattle.emit_code.specs.Rule.{entries_of}
@@ -28,7 +28,8 @@ map_append : (xs ys : List Line) → map code_line (xs ++ ys) ≡ map code_line 
 map_append [] ys = refl
 map_append (x ∷ xs) ys = ap (λ (zs : List CodeLine). code_line x ∷ zs) (map_append xs ys)
 
-lines_append : (f : FramedFunction) (es : List Entry) (ls : List CodeLine) (es' : List Entry) (ls' : List CodeLine) → AreLinesOf f es ls → AreLinesOf f es'
+lines_append : (f : FramedFunction) (es : List EncodedInstruction) (ls : List CodeLine) (es' : List EncodedInstruction) (ls' : List CodeLine) →
+    AreLinesOf f es ls → AreLinesOf f es'
     ls' →
     AreLinesOf f (es ++ es') (ls ++ ls')
 lines_append f [] [] es' ls' h h' = h'

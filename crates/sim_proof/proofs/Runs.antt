@@ -8,7 +8,7 @@ use Rattle.sem_mir.specs.State.{Reply}
 use Rattle.sem_machine.specs.Image.{CodeLine, Image, word_at}
 use Rattle.sem_machine.specs.Machine.{Machine, register}
 use Rattle.sem_machine.specs.MachineStep.{Continues, Leaves, there, steps, machine_step, does_at, does_line}
-use Rattle.emit_code.specs.declared.code.Entry.{Entry}
+use Rattle.emit_code.specs.declared.code.EncodedInstruction.{EncodedInstruction}
 use Rattle.emit_code.specs.Laid.{LaidCode}
 use Rattle.sim_machine.specs.declared.ending.Stepped.TheVariants.{Went}
 use Rattle.sim_machine.specs.declared.hart.Hart.{Hart}
@@ -27,7 +27,7 @@ no_leaving u e = cc
 pub plain_keeps : (c : LaidCode) (image : Image) (s u : Machine) → ShowsCode c image → call_at c s.counter ≡ None → machine_step image s ≡ Continues u →
     Keeps s u
 plain_keeps c image s u shows none e = by_entry (entry_at c.entries s.counter) refl where
-  by_entry : (o : Option Entry) → entry_at c.entries s.counter ≡ o → Keeps s u
+  by_entry : (o : Option EncodedInstruction) → entry_at c.entries s.counter ≡ o → Keeps s u
   by_entry None q = absurd (no_leaving u (sym (left_step c image s shows q) ∙ e))
   by_entry (Some x) q =
       let l = line_some c.framed c.entries image.lines s.counter x shows.lines q in
@@ -44,7 +44,7 @@ call_keeps c image s u name args r rest shows some script e = by_entry (entry_at
   no_call : ◌≡◌ {A = Option (List ℕ × List ℕ)} None (Some (name, args)) → ⊥
   no_call q = cc
 
-  by_entry : (o : Option Entry) → entry_at c.entries s.counter ≡ o → Takes rest s u
+  by_entry : (o : Option EncodedInstruction) → entry_at c.entries s.counter ≡ o → Takes rest s u
   by_entry None q = absurd (no_call (sym (ap (found_call c.framed) q) ∙ some))
   by_entry (Some x) q =
       let call : entry_call c.framed x ≡ Some (name, args) = sym (ap (found_call c.framed) q) ∙ some in

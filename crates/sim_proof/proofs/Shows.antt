@@ -5,7 +5,7 @@ use Rattle.std.specs.Int.{w32, to_le_bytes}
 use Rattle.mir_func.specs.Function.{FramedFunction}
 use Rattle.mir_func.specs.Objects.{area_of}
 use Rattle.sem_machine.specs.Image.{CodeLine}
-use Rattle.emit_code.specs.declared.code.Entry.{Entry}
+use Rattle.emit_code.specs.declared.code.EncodedInstruction.{EncodedInstruction}
 use Rattle.emit_code.specs.Listed.{lines_of}
 use Rattle.emit_code.specs.Rule.{entries_of}
 use Rattle.machine_steps_proof.specs.Images.{code_line}
@@ -24,6 +24,6 @@ images_show_code f base c is image laid =
       more = laid.more;
       text = ap (λ (n : ℕ). drop n image.text) from ∙ laid.text ∙ ap (λ (ws : List ℕ). flat_map (to_le_bytes w32) ws ++ laid.more) (sym is.words);
       lines = subst (λ (ls : List CodeLine). AreLinesOf c.framed c.entries ls) (sym laid.lines)
-          (subst (λ (es : List Entry). AreLinesOf c.framed es (map code_line (lines_of l))) (sym is.entries)
+          (subst (λ (es : List EncodedInstruction). AreLinesOf c.framed es (map code_line (lines_of l))) (sym is.entries)
           (subst (λ (g : FramedFunction). AreLinesOf g (entries_of l) (map code_line (lines_of l))) (sym same) (lines_beside l)));
     }

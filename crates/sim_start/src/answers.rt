@@ -4,7 +4,7 @@ ghost use Rattle.std.specs.Prelude.{◌≡◌, map};
 ghost use Rattle.rv64_instr.specs.Access.{caller_saved};
 ghost use Rattle.sim_start.specs.Asked.{call_value, call_register, reply_to};
 
-use rv64_instr::start::{Answer, CallEvent, Values};
+use rv64_instr::start::{CallEvent, CallResult, Values};
 use sim_machine::answers::CallAnswers;
 
 /// The answer to the n-th call, from 1, sets x10 to the n-th value, or to n if there is none, and each other
@@ -20,8 +20,8 @@ impl CallAnswers for ValueAnswers {
 
     ghost spares = { λ _ _ _. Unit {0} };
 
-    fn answer(&self, call: &CallEvent) -> Answer {
-        Answer {
+    fn answer(&self, call: &CallEvent) -> CallResult {
+        CallResult {
             regs: registers(value(self.values.as_slice(), call.number)),
             writes: [None; 8],
         }

@@ -8,7 +8,7 @@ use Rattle.mir_func.specs.declared.position.Origin.{Origin}
 use Rattle.sem_mir.specs.State.{Reply, Event}
 use Rattle.sem_machine.specs.Image.{CodeLine, Image}
 use Rattle.sem_machine.specs.Machine.{Machine}
-use Rattle.emit_code.specs.declared.code.Entry.{Entry}
+use Rattle.emit_code.specs.declared.code.EncodedInstruction.{EncodedInstruction}
 use Rattle.emit_code.specs.Laid.{LaidCode}
 use Rattle.sim_machine.specs.declared.ending.Stepped.TheVariants.{Went, Stopped}
 use Rattle.sim_machine.specs.declared.ending.Stop.{Stop}
@@ -31,7 +31,7 @@ use Rattle.sim_trace.specs.steps.Printed as printed
 line_same : (c : LaidCode) (image : Image) (n : ℕ) (variables : List Variable) (s : Machine) → ShowsCode c image →
     line_at_entry n (entry_at c.entries s.counter) variables s ≡ line_before image n variables s
 line_same c image n variables s shows = by_entry (entry_at c.entries s.counter) refl where
-  by_entry : (o : Option Entry) → entry_at c.entries s.counter ≡ o → line_at_entry n o variables s ≡ line_before image n variables s
+  by_entry : (o : Option EncodedInstruction) → entry_at c.entries s.counter ≡ o → line_at_entry n o variables s ≡ line_before image n variables s
   by_entry None e = ap (λ (l : Option CodeLine). line_at_code n l variables s) (sym (line_none c.framed c.entries image.lines s.counter shows.lines e))
   by_entry (Some x) e =
       let l = line_some c.framed c.entries image.lines s.counter x shows.lines e in

@@ -8,7 +8,7 @@ ghost use Rattle.sim_trace.specs.steps.Readable.{IsReadable};
 
 use crate::value::push_variables;
 use crate::variable::Variable;
-use emit_code::code::Entry;
+use emit_code::code::EncodedInstruction;
 use listing_text::hex::push_address;
 use listing_text::line::push_origin;
 use mir_func::position::Origin;
@@ -20,7 +20,7 @@ use std::alloc::AllocError;
 pub fn push_line(
     text: &mut Text,
     number: u32,
-    entry: &Entry,
+    entry: &EncodedInstruction,
     hart: &Hart,
     variables: &[Variable],
 ) -> Result<(), AllocError>

@@ -17,7 +17,7 @@ use rv64_instr::start::Start;
 use sim_machine::answers::CallAnswers;
 use sim_machine::ending::{Stepped, Stop};
 use sim_machine::hart::Hart;
-use sim_machine::machine::Machine;
+use sim_machine::machine::MachineSimulator;
 use std::alloc::{AllocError, Global};
 
 /// The text of a run of code from a start, for at most `limit` steps: before each step a line with its number, the
@@ -37,7 +37,7 @@ pub fn print_run<A: CallAnswers + Drop>(
     requires readable { All (λ v. Ascend v.ranges × ArePlaces v.ranges) variables.now }
     ensures { IfOk result (IsTextOfRun (A.gives answers) code.now start.now variables.now limit) }
 {
-    let mut machine = Machine::new(alloc, code, start, answers)?;
+    let mut machine = MachineSimulator::new(alloc, code, start, answers)?;
     let mut text = Text::new(alloc);
     print_steps(&mut text, &mut machine, variables.as_slice(), limit)?;
     Ok(text)
@@ -46,7 +46,7 @@ pub fn print_run<A: CallAnswers + Drop>(
 /// Appends the lines of at most `limit` steps.
 fn print_steps<A: CallAnswers + Drop>(
     text: &mut Text,
-    machine: &mut Machine<A>,
+    machine: &mut MachineSimulator<A>,
     variables: &[Variable],
     limit: u32,
 ) -> Result<(), AllocError>
@@ -68,7 +68,7 @@ fn print_steps<A: CallAnswers + Drop>(
 /// Prints a line and makes the step.
 fn print_step<A: CallAnswers + Drop>(
     text: &mut Text,
-    machine: &mut Machine<A>,
+    machine: &mut MachineSimulator<A>,
     variables: &[Variable],
     number: u32,
 ) -> Result<Stepped, AllocError>
@@ -86,7 +86,7 @@ fn print_step<A: CallAnswers + Drop>(
 /// Appends the line of the next step, unless no entry begins at the program counter.
 fn push_line_before<A: CallAnswers + Drop>(
     text: &mut Text,
-    machine: &Machine<A>,
+    machine: &MachineSimulator<A>,
     variables: &[Variable],
     number: u32,
 ) -> Result<(), AllocError>

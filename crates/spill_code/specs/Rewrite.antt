@@ -22,18 +22,18 @@ use Rattle.mir_func.specs.declared.item.ItemKind.TheVariants.{Code, Mark, Phi}
 use Rattle.mir_func.specs.declared.block.Block.{Block}
 use Rattle.mir_func.specs.Graph.{below, block_start}
 use Rattle.sem_mir.specs.Align.{position_of}
-use Rattle.spill_code.specs.declared.spilling.Home.{Home}
+use Rattle.spill_code.specs.declared.spilling.SlotAssignment.{SlotAssignment}
 use Rattle.spill_code.specs.declared.spilling.Spilling.{Spilling}
 
 -- the slot of a spilled register; none if it isn't spilled
-abbrev pub slot_of : List Home → ℕ → Option ℕ
+abbrev pub slot_of : List SlotAssignment → ℕ → Option ℕ
 slot_of [] r = None
 slot_of (h ∷ homes) r = cond (nat_eq h.register r) (Some h.slot) (slot_of homes r)
 
 -- ---- which slots code reads and sets
 
 -- the slot of the register that an explicit use reads, if it is spilled
-abbrev pub slot_used : List Home → Operand → Option ℕ
+abbrev pub slot_used : List SlotAssignment → Operand → Option ℕ
 slot_used homes (Use r) = slot_of homes r
 slot_used homes (Def r) = None
 slot_used homes (ImplicitDef r) = None
@@ -46,7 +46,7 @@ slot_used homes (Symbol name) = None
 slot_used homes Mask = None
 
 -- the slot of the register that an explicit definition sets, if it is spilled
-abbrev pub slot_defined : List Home → Operand → Option ℕ
+abbrev pub slot_defined : List SlotAssignment → Operand → Option ℕ
 slot_defined homes (Def r) = slot_of homes r
 slot_defined homes (Use r) = None
 slot_defined homes (ImplicitDef r) = None
@@ -69,17 +69,17 @@ unless_is slot None = None
 unless_is slot (Some n) = cond (nat_eq slot n) None (Some n)
 
 -- the slot of the first spilled register that operands read
-abbrev pub first_used : List Home → List Operand → Option ℕ
+abbrev pub first_used : List SlotAssignment → List Operand → Option ℕ
 first_used homes [] = None
 first_used homes (o ∷ os) = or_else (slot_used homes o) (first_used homes os)
 
 -- the first such slot other than this one
-abbrev pub other_used : List Home → (slot : ℕ) → List Operand → Option ℕ
+abbrev pub other_used : List SlotAssignment → (slot : ℕ) → List Operand → Option ℕ
 other_used homes slot [] = None
 other_used homes slot (o ∷ os) = or_else (unless_is slot (slot_used homes o)) (other_used homes slot os)
 
 -- the slot of the first spilled register that operands set
-abbrev pub first_defined : List Home → List Operand → Option ℕ
+abbrev pub first_defined : List SlotAssignment → List Operand → Option ℕ
 first_defined homes [] = None
 first_defined homes (o ∷ os) = or_else (slot_defined homes o) (first_defined homes os)
 
@@ -173,7 +173,7 @@ place_in r None = Register r
 place_in r (Some n) = Slot n
 
 -- the location of a DBG_PHI after spilling: the slot in place of a spilled register
-abbrev pub spilled_place : List Home → Option Place → Option Place
+abbrev pub spilled_place : List SlotAssignment → Option Place → Option Place
 spilled_place homes None = None
 spilled_place homes (Some (Register r)) = Some (place_in r (slot_of homes r))
 spilled_place homes (Some (Slot n)) = Some (Slot n)
@@ -195,17 +195,17 @@ spilled_items s items = flat_map (spilled_item s) items
 
 -- a block with its spill code; its number and its silent index are unchanged
 abbrev pub spilled_block : Spilling → Block → Block
-spilled_block s b = record { id = b.id; items = spilled_items s b.items; silent = b.silent }
+spilled_block s b = record { id = b.id; items = spilled_items s b.items; source_end = b.source_end }
 
 -- the stores at the start of the first block, of spilled registers that are live into the function
-abbrev pub entry_stores : (block : ℕ) → List Home → List Item
+abbrev pub entry_stores : (block : ℕ) → List SlotAssignment → List Item
 entry_stores block entry = map (λ h. added (block_start block) (store h.register h.slot)) entry
 
 -- the first block: it begins with the stores of the registers that are live into it
-abbrev pub first_block : Spilling → (entry : List Home) → Block → Block
-first_block s entry b = record { id = b.id; items = entry_stores b.id entry ++ spilled_items s b.items; silent = b.silent }
+abbrev pub first_block : Spilling → (entry : List SlotAssignment) → Block → Block
+first_block s entry b = record { id = b.id; items = entry_stores b.id entry ++ spilled_items s b.items; source_end = b.source_end }
 
 -- the function's blocks with their spill code
-abbrev pub spilled_blocks : Spilling → (entry : List Home) → List Block → List Block
+abbrev pub spilled_blocks : Spilling → (entry : List SlotAssignment) → List Block → List Block
 spilled_blocks s entry [] = []
 spilled_blocks s entry (b ∷ bs) = first_block s entry b ∷ map (spilled_block s) bs

@@ -4,7 +4,7 @@ ghost use Rattle.std.specs.Prelude.{◌≡◌, ◌++◌, Some, IfOk, OnOk};
 ghost use Rattle.spill_code.specs.Rewrite.{load, store, added, loads, stores, two_loads, loads_before, entry_stores};
 
 use crate::operands::{first_used, other_used};
-use crate::spilling::{Home, Spilling};
+use crate::spilling::{SlotAssignment, Spilling};
 use base_ids::code::{BlockId, SlotId};
 use mir_func::item::{Item, ItemKind, Items};
 use mir_func::location::Loc;
@@ -119,7 +119,7 @@ fn push_both(
 pub fn push_entry(
     alloc: Global,
     block: BlockId,
-    entry: &[Home],
+    entry: &[SlotAssignment],
     items: &mut Items,
 ) -> Result<(), AllocError>
     ensures { OnOk result (items.new ≡ items.old ++ entry_stores block entry.now) }

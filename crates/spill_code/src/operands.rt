@@ -4,7 +4,7 @@ ghost use Rattle.std.specs.Prelude.{◌≡◌, IfOk, map};
 ghost use Rattle.spill_code.specs.Rewrite.{slot_used, slot_defined, unless_is, first_used, other_used, first_defined};
 ghost use Rattle.spill_code.specs.Rewrite.{use_now, def_now, renamed_operand, spilled_code};
 
-use crate::spilling::{Home, Spilling, slot_of};
+use crate::spilling::{SlotAssignment, Spilling, slot_of};
 use base_ids::code::SlotId;
 use rv64_instr::instr::Instr;
 use rv64_instr::operand::{Operand, Operands};
@@ -12,7 +12,7 @@ use rv64_instr::reg::Reg;
 use std::alloc::{AllocError, Global};
 
 /// The slot of the first spilled register that operands read.
-pub fn first_used(homes: &[Home], operands: &[Operand]) -> Option<SlotId>
+pub fn first_used(homes: &[SlotAssignment], operands: &[Operand]) -> Option<SlotId>
     ensures { result ≡ first_used homes.now operands.now }
 {
     for operand in operands {
@@ -24,7 +24,7 @@ pub fn first_used(homes: &[Home], operands: &[Operand]) -> Option<SlotId>
 }
 
 /// The first such slot other than this one.
-pub fn other_used(homes: &[Home], slot: SlotId, operands: &[Operand]) -> Option<SlotId>
+pub fn other_used(homes: &[SlotAssignment], slot: SlotId, operands: &[Operand]) -> Option<SlotId>
     ensures { result ≡ other_used homes.now slot operands.now }
 {
     for operand in operands {
@@ -36,7 +36,7 @@ pub fn other_used(homes: &[Home], slot: SlotId, operands: &[Operand]) -> Option<
 }
 
 /// The slot of the first spilled register that operands set.
-pub fn first_defined(homes: &[Home], operands: &[Operand]) -> Option<SlotId>
+pub fn first_defined(homes: &[SlotAssignment], operands: &[Operand]) -> Option<SlotId>
     ensures { result ≡ first_defined homes.now operands.now }
 {
     for operand in operands {
@@ -47,7 +47,7 @@ pub fn first_defined(homes: &[Home], operands: &[Operand]) -> Option<SlotId>
     None
 }
 
-fn slot_used(homes: &[Home], operand: &Operand) -> Option<SlotId>
+fn slot_used(homes: &[SlotAssignment], operand: &Operand) -> Option<SlotId>
     ensures { result ≡ slot_used homes.now operand.now }
 {
     match operand {
@@ -64,7 +64,7 @@ fn slot_used(homes: &[Home], operand: &Operand) -> Option<SlotId>
     }
 }
 
-fn slot_defined(homes: &[Home], operand: &Operand) -> Option<SlotId>
+fn slot_defined(homes: &[SlotAssignment], operand: &Operand) -> Option<SlotId>
     ensures { result ≡ slot_defined homes.now operand.now }
 {
     match operand {

@@ -10,7 +10,7 @@ ghost use Rattle.spill_code.specs.Room.{HasRoom, HaveRoom};
 
 use crate::added::{push_entry, push_loads, push_store};
 use crate::operands::{first_defined, spilled_code};
-use crate::spilling::{Home, Spilling, slot_of};
+use crate::spilling::{SlotAssignment, Spilling, slot_of};
 use base_ids::code::DebugNumber;
 use mir_func::block::{Block, Blocks};
 use mir_func::item::{Item, ItemKind, Items};
@@ -27,7 +27,7 @@ use std::alloc::{AllocError, Global};
 pub fn spilled_blocks(
     alloc: Global,
     s: &Spilling,
-    entry: &[Home],
+    entry: &[SlotAssignment],
     blocks: &[Block],
 ) -> Result<Blocks, AllocError>
     requires { HaveRoom s.now blocks.now }
@@ -41,7 +41,12 @@ pub fn spilled_blocks(
     Ok(made)
 }
 
-fn first_block(alloc: Global, s: &Spilling, entry: &[Home], b: &Block) -> Result<Block, AllocError>
+fn first_block(
+    alloc: Global,
+    s: &Spilling,
+    entry: &[SlotAssignment],
+    b: &Block,
+) -> Result<Block, AllocError>
     requires { All (HasRoom s.now) b.now.items }
     ensures { IfOk result (λ made. made ≡ first_block s.now entry.now b.now) }
 {
@@ -51,7 +56,7 @@ fn first_block(alloc: Global, s: &Spilling, entry: &[Home], b: &Block) -> Result
     Ok(Block {
         id: b.id,
         items,
-        silent: b.silent,
+        source_end: b.source_end,
     })
 }
 
@@ -79,7 +84,7 @@ fn spilled_block(alloc: Global, s: &Spilling, b: &Block) -> Result<Block, AllocE
     Ok(Block {
         id: b.id,
         items,
-        silent: b.silent,
+        source_end: b.source_end,
     })
 }
 
@@ -155,7 +160,7 @@ fn below(p: Pos) -> Pos
 }
 
 /// The location, or the slot of its register if that is spilled.
-fn spilled_place(homes: &[Home], place: Option<Place>) -> Option<Place>
+fn spilled_place(homes: &[SlotAssignment], place: Option<Place>) -> Option<Place>
     ensures { result ≡ spilled_place homes.now place }
 {
     match place {
@@ -164,7 +169,7 @@ fn spilled_place(homes: &[Home], place: Option<Place>) -> Option<Place>
     }
 }
 
-fn place_now(homes: &[Home], place: Place) -> Place
+fn place_now(homes: &[SlotAssignment], place: Place) -> Place
     ensures { Some result ≡ spilled_place homes.now (Some place) }
 {
     match place {
@@ -173,7 +178,7 @@ fn place_now(homes: &[Home], place: Place) -> Place
     }
 }
 
-fn place_of(homes: &[Home], r: Reg) -> Place
+fn place_of(homes: &[SlotAssignment], r: Reg) -> Place
     ensures { result ≡ place_in r (slot_of homes.now r) }
 {
     match slot_of(homes, r) {

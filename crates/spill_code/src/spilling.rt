@@ -9,7 +9,7 @@ use rv64_instr::reg::Reg;
 
 /// A spilled register and the slot in which it lives (LLVM: the stack slot of a spilled register).
 #[derive(Clone, Copy, Debug, PartialEq, Eq)]
-pub struct Home {
+pub struct SlotAssignment {
     /// The register.
     pub register: Reg,
     /// The slot.
@@ -17,7 +17,7 @@ pub struct Home {
 }
 
 /// The spilled registers with their slots, by ascending registers.
-pub type Homes = List<Home>;
+pub type SlotAssignments = List<SlotAssignment>;
 
 /// The scratch registers, and the slots of spilled registers.
 #[derive(Debug, Drop)]
@@ -27,11 +27,11 @@ pub struct Spilling {
     /// The scratch register for another slot that it reads.
     pub second: Reg,
     /// The slots of spilled registers.
-    pub homes: Homes,
+    pub homes: SlotAssignments,
 }
 
 /// The slot of a register, if it is spilled.
-pub fn slot_of(homes: &[Home], register: Reg) -> Option<SlotId>
+pub fn slot_of(homes: &[SlotAssignment], register: Reg) -> Option<SlotId>
     ensures { result ≡ slot_of homes.now register }
 {
     for home in homes {

@@ -68,7 +68,8 @@ module _ (s : Spilling) where
     pub each_block : (k : ℕ) (bs : List Block) → AllItems (λ i. P i.kind i.origin) bs → AllItems (λ i. P i.kind i.origin) (blocks_asked s k bs)
     each_block k [] h = All-nil (λ (b : Block). All (λ (i : Item). P i.kind i.origin) b.items)
     each_block k (b ∷ bs) h =
-        All-cons (λ (b : Block). All (λ (i : Item). P i.kind i.origin) b.items) (record { id = b.id; items = items_asked s k b.items; silent = b.silent })
+        All-cons (λ (b : Block). All (λ (i : Item). P i.kind i.origin) b.items)
+        (record { id = b.id; items = items_asked s k b.items; source_end = b.source_end })
         (blocks_asked s (number_behind s.homes k b.items) bs)
         (each_item P passes k b.items (All-head (λ (b : Block). All (λ (i : Item). P i.kind i.origin) b.items) b bs h))
         (each_block (number_behind s.homes k b.items) bs (All-tail (λ (b : Block). All (λ (i : Item). P i.kind i.origin) b.items) b bs h))
@@ -94,7 +95,7 @@ module _ (s : Spilling) where
   origins_pass : (b : Block) → Passes (λ kind o. OriginIn b o)
   origins_pass b = record { marks = λ v m m' o h. h; phis = λ p n o h. h; puts = λ v m r n o h. before_in b o h }
 
-  same_home : (b : Block) (ys : List Item) (o : Origin) → OriginIn b o → OriginIn (record { id = b.id; items = ys; silent = b.silent }) o
+  same_home : (b : Block) (ys : List Item) (o : Origin) → OriginIn b o → OriginIn (record { id = b.id; items = ys; source_end = b.source_end }) o
   same_home b ys (Kept p) h = h
   same_home b ys (Before p) h = h
 
@@ -106,9 +107,10 @@ module _ (s : Spilling) where
       All (λ (b : Block). All (λ (i : Item). OriginIn b i.origin) b.items) (blocks_asked s k bs)
   origins_asked k [] h = All-nil (λ (b : Block). All (λ (i : Item). OriginIn b i.origin) b.items)
   origins_asked k (b ∷ bs) h =
-      All-cons (λ (b : Block). All (λ (i : Item). OriginIn b i.origin) b.items) (record { id = b.id; items = items_asked s k b.items; silent = b.silent })
+      All-cons (λ (b : Block). All (λ (i : Item). OriginIn b i.origin) b.items)
+      (record { id = b.id; items = items_asked s k b.items; source_end = b.source_end })
       (blocks_asked s (number_behind s.homes k b.items) bs)
-      (all_weaker (λ i. OriginIn b i.origin) (λ i. OriginIn (record { id = b.id; items = items_asked s k b.items; silent = b.silent }) i.origin)
+      (all_weaker (λ i. OriginIn b i.origin) (λ i. OriginIn (record { id = b.id; items = items_asked s k b.items; source_end = b.source_end }) i.origin)
       (λ x inside. same_home b (items_asked s k b.items) x.origin inside) (items_asked s k b.items)
       (each_item (λ kind o. OriginIn b o) (origins_pass b) k b.items (All-head (λ (b : Block). All (λ (i : Item). OriginIn b i.origin) b.items) b bs h)))
       (origins_asked (number_behind s.homes k b.items) bs (All-tail (λ (b : Block). All (λ (i : Item). OriginIn b i.origin) b.items) b bs h))

@@ -45,7 +45,7 @@ module _ (Fresh : ℕ → Type 0) where
   -- and the blocks, with more at their starts
   pub data BlocksGrow : List Block → List Block → Type 0 where
     no_blocks : BlocksGrow [] []
-    next_block : {a b : Block} {fs gs : List Block} (first ys : List Item) → b.id ≡ a.id → b.silent ≡ a.silent → All IsExtra first → Grown a.items ys →
+    next_block : {a b : Block} {fs gs : List Block} (first ys : List Item) → b.id ≡ a.id → b.source_end ≡ a.source_end → All IsExtra first → Grown a.items ys →
         b.items ≡ first ++ ys → BlocksGrow fs gs → BlocksGrow (a ∷ fs) (b ∷ gs)
 
   grown_none : (zs : List Item) → Grown [] zs → zs ≡ []
@@ -127,11 +127,11 @@ module _ (Fresh : ℕ → Type 0) where
 
   last_grown : (fs gs : List Block) → BlocksGrow fs gs → LastCloses fs → LastCloses gs
   last_grown fs gs no_blocks h = h
-  last_grown (a ∷ []) (b ∷ []) (next_block first ys id silent es items e no_blocks) h =
+  last_grown (a ∷ []) (b ∷ []) (next_block first ys id source_end es items e no_blocks) h =
       subst Closes (sym e) (closes_behind first ys (closes_grown a.items ys items h))
-  last_grown (a ∷ c ∷ fs) (b ∷ d ∷ gs) (next_block first ys id silent es items e rest) h = last_grown (c ∷ fs) (d ∷ gs) rest h
-  last_grown (a ∷ []) (b ∷ d ∷ gs) (next_block first ys id silent es items e rest) h = elim rest [ ]
-  last_grown (a ∷ c ∷ fs) (b ∷ []) (next_block first ys id silent es items e rest) h = elim rest [ ]
+  last_grown (a ∷ c ∷ fs) (b ∷ d ∷ gs) (next_block first ys id source_end es items e rest) h = last_grown (c ∷ fs) (d ∷ gs) rest h
+  last_grown (a ∷ []) (b ∷ d ∷ gs) (next_block first ys id source_end es items e rest) h = elim rest [ ]
+  last_grown (a ∷ c ∷ fs) (b ∷ []) (next_block first ys id source_end es items e rest) h = elim rest [ ]
 
   -- ---- numbers
 
@@ -151,7 +151,7 @@ module _ (Fresh : ℕ → Type 0) where
 
   all_codes_grown : (fs gs : List Block) → BlocksGrow fs gs → codes_of (items_of gs) ≡ codes_of (items_of fs)
   all_codes_grown fs gs no_blocks = refl
-  all_codes_grown (a ∷ fs) (b ∷ gs) (next_block first ys id silent es items e rest) =
+  all_codes_grown (a ∷ fs) (b ∷ gs) (next_block first ys id source_end es items e rest) =
       ap codes_of (flat_map-cons (λ (c : Block). c.items) b gs) ∙ ap (λ (z : List Item). codes_of (z ++ items_of gs)) e ∙
       ap codes_of (append_assoc first ys (items_of gs)) ∙ codes_behind first (ys ++ items_of gs) es ∙
       codes_grown a.items ys items (items_of fs) (items_of gs) (all_codes_grown fs gs rest) ∙
@@ -188,7 +188,7 @@ module _ (Fresh : ℕ → Type 0) where
 
     all_phis_grown : (fs gs : List Block) → BlocksGrow fs gs → All Off (items_of fs) → All Off (items_of gs)
     all_phis_grown fs gs no_blocks h = h
-    all_phis_grown (a ∷ fs) (b ∷ gs) (next_block first ys id silent es items e rest) h =
+    all_phis_grown (a ∷ fs) (b ∷ gs) (next_block first ys id source_end es items e rest) h =
         let split : All Off (a.items ++ items_of fs) = subst (All Off) (flat_map-cons (λ (c : Block). c.items) a fs) h in
         subst (All Off) (sym (flat_map-cons (λ (c : Block). c.items) b gs))
         (All-append Off b.items (items_of gs) (subst (All Off) (sym e) (All-append Off first ys (extra_off first es)
@@ -220,15 +220,15 @@ module _ (Fresh : ℕ → Type 0) where
 
   pub ids_grown : (fs gs : List Block) → BlocksGrow fs gs → ids_of gs ≡ ids_of fs
   ids_grown fs gs no_blocks = refl
-  ids_grown (a ∷ fs) (b ∷ gs) (next_block first ys id silent es items e rest) = let more = ids_grown fs gs rest in λ i. id i ∷ more i
+  ids_grown (a ∷ fs) (b ∷ gs) (next_block first ys id source_end es items e rest) = let more = ids_grown fs gs rest in λ i. id i ∷ more i
 
   length_grown : (fs gs : List Block) → BlocksGrow fs gs → length gs ≡ length fs
   length_grown fs gs no_blocks = refl
-  length_grown (a ∷ fs) (b ∷ gs) (next_block first ys id silent es items e rest) = ap suc (length_grown fs gs rest)
+  length_grown (a ∷ fs) (b ∷ gs) (next_block first ys id source_end es items e rest) = ap suc (length_grown fs gs rest)
 
   all_ends_grown : (fs gs : List Block) → BlocksGrow fs gs → All (λ (b : Block). EndsWell b.items) fs → All (λ (b : Block). EndsWell b.items) gs
   all_ends_grown fs gs no_blocks h = h
-  all_ends_grown (a ∷ fs) (b ∷ gs) (next_block first ys id silent es items e rest) h =
+  all_ends_grown (a ∷ fs) (b ∷ gs) (next_block first ys id source_end es items e rest) h =
       All-cons (λ (b : Block). EndsWell b.items) b gs
       (subst EndsWell (sym e) (ends_behind first ys es (ends_grown a.items ys items (All-head (λ (b : Block). EndsWell b.items) a fs h))))
       (all_ends_grown fs gs rest (All-tail (λ (b : Block). EndsWell b.items) a fs h))

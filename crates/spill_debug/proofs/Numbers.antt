@@ -6,11 +6,11 @@ use Rattle.mir_func.specs.declared.block.Block.{Block}
 use Rattle.mir_func.specs.declared.item.Item.{Item}
 use Rattle.mir_func.specs.declared.item.ItemKind.{ItemKind}
 use Rattle.mir_func.specs.declared.item.ItemKind.TheVariants.{Code, Mark, Phi}
-use Rattle.spill_code.specs.declared.spilling.Home.{Home}
+use Rattle.spill_code.specs.declared.spilling.SlotAssignment.{SlotAssignment}
 use Rattle.spill_code.specs.Rewrite.{slot_of}
 use Rattle.spill_debug.specs.Asked.{number_past, next_number, number_behind, number_beyond}
 
-module _ (homes : List Home) where
+module _ (homes : List SlotAssignment) where
   past_up : (k : ℕ) (home : Option ℕ) → k ≤ number_past k home
   past_up k None = omega arith
   past_up k (Some n) = omega arith

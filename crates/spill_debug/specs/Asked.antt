@@ -13,7 +13,7 @@ use Rattle.mir_func.specs.declared.item.ItemKind.TheVariants.{Code, Mark, Phi}
 use Rattle.mir_func.specs.declared.block.Block.{Block}
 use Rattle.mir_func.specs.Function.{Function}
 use Rattle.pass_trait.specs.Rule.{item, item_before, first_operand}
-use Rattle.spill_code.specs.declared.spilling.Home.{Home}
+use Rattle.spill_code.specs.declared.spilling.SlotAssignment.{SlotAssignment}
 use Rattle.spill_code.specs.declared.spilling.Spilling.{Spilling}
 use Rattle.spill_code.specs.Rewrite.{slot_of}
 
@@ -62,7 +62,7 @@ number_past k None = k
 number_past k (Some n) = k + 1
 
 -- the next fresh number after an item
-abbrev pub next_number : List Home → (k : ℕ) → ItemKind → ℕ
+abbrev pub next_number : List SlotAssignment → (k : ℕ) → ItemKind → ℕ
 next_number homes k (Mark v (At r)) = number_past k (slot_of homes r)
 next_number homes k (Mark v Nothing) = k
 next_number homes k (Mark v (Constant n)) = k
@@ -71,7 +71,7 @@ next_number homes k (Code i n) = k
 next_number homes k (Phi p n) = k
 
 -- the next fresh number after items
-abbrev pub number_behind : List Home → (k : ℕ) → List Item → ℕ
+abbrev pub number_behind : List SlotAssignment → (k : ℕ) → List Item → ℕ
 number_behind homes k [] = k
 number_behind homes k (x ∷ xs) = number_behind homes (next_number homes k x.kind) xs
 
@@ -81,7 +81,7 @@ items_asked s k [] = []
 items_asked s k (x ∷ xs) = kind_asked s k x.kind x.origin x.loc ++ items_asked s (next_number s.homes k x.kind) xs
 
 -- the next fresh number after blocks
-abbrev pub number_beyond : List Home → (k : ℕ) → List Block → ℕ
+abbrev pub number_beyond : List SlotAssignment → (k : ℕ) → List Block → ℕ
 number_beyond homes k [] = k
 number_beyond homes k (b ∷ bs) = number_beyond homes (number_behind homes k b.items) bs
 
@@ -89,7 +89,7 @@ number_beyond homes k (b ∷ bs) = number_beyond homes (number_behind homes k b.
 abbrev pub blocks_asked : Spilling → (k : ℕ) → List Block → List Block
 blocks_asked s k [] = []
 blocks_asked s k (b ∷ bs) =
-    record { id = b.id; items = items_asked s k b.items; silent = b.silent } ∷ blocks_asked s (number_behind s.homes k b.items) bs
+    record { id = b.id; items = items_asked s k b.items; source_end = b.source_end } ∷ blocks_asked s (number_behind s.homes k b.items) bs
 
 -- the function, rewritten, with fresh numbers from k on
 abbrev pub asked : Spilling → (k : ℕ) → Function → Function

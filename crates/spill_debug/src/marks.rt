@@ -44,7 +44,7 @@ fn block_asked(alloc: Global, s: &Spilling, fresh: &mut u32, b: &Block) -> Resul
     ensures made { IfOk result (λ made. made ≡ record {
       id = b.now.id;
       items = items_asked s.now fresh.old b.now.items;
-      silent = b.now.silent;
+      source_end = b.now.source_end;
     }) }
     ensures fresh { OnOk result (fresh.new ≡ number_behind s.now.homes fresh.old b.now.items) }
 {
@@ -53,7 +53,7 @@ fn block_asked(alloc: Global, s: &Spilling, fresh: &mut u32, b: &Block) -> Resul
     Ok(Block {
         id: b.id,
         items,
-        silent: b.silent,
+        source_end: b.source_end,
     })
 }
 

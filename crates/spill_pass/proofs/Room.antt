@@ -11,7 +11,7 @@ use Rattle.mir_func.specs.declared.position.Origin.{Origin}
 use Rattle.mir_func.specs.Graph.{below}
 use Rattle.mir_func.specs.Sound.{OriginIn}
 use Rattle.sem_mir.specs.Align.{position_of}
-use Rattle.spill_code.specs.declared.spilling.Home.{Home}
+use Rattle.spill_code.specs.declared.spilling.SlotAssignment.{SlotAssignment}
 use Rattle.spill_code.specs.declared.spilling.Spilling.{Spilling}
 use Rattle.spill_code.specs.Rewrite.{first_defined, spilled_code, added, store, stores, loads_before, kind_items, spilled_item, spilled_items, spilled_block}
 use Rattle.spill_code.specs.Rewrite.{entry_stores, first_block, spilled_blocks}
@@ -27,7 +27,7 @@ all_right P [] ys h = h
 all_right P (x ∷ xs) ys h = all_right P xs ys (All-tail P x (xs ++ ys) h)
 
 abbrev IsSmall : Block → Type 0
-IsSmall b = b.silent < 2 ^ 32
+IsSmall b = b.source_end < 2 ^ 32
 
 abbrev Inside : Block → Item → Type 0
 Inside b i = OriginIn b i.origin
@@ -36,11 +36,11 @@ abbrev AllInside : Block → Type 0
 AllInside b = All (Inside b) b.items
 
 -- marks that ask by phis change no silent index
-pub silent_asked : (s : Spilling) (k : ℕ) (bs : List Block) → All (λ (b : Block). b.silent < 2 ^ 32) bs →
-    All (λ (b : Block). b.silent < 2 ^ 32) (blocks_asked s k bs)
+pub silent_asked : (s : Spilling) (k : ℕ) (bs : List Block) → All (λ (b : Block). b.source_end < 2 ^ 32) bs →
+    All (λ (b : Block). b.source_end < 2 ^ 32) (blocks_asked s k bs)
 silent_asked s k [] h = All-nil IsSmall
 silent_asked s k (b ∷ bs) h =
-    All-cons IsSmall (record { id = b.id; items = items_asked s k b.items; silent = b.silent })
+    All-cons IsSmall (record { id = b.id; items = items_asked s k b.items; source_end = b.source_end })
     (blocks_asked s (number_behind s.homes k b.items) bs) (All-head IsSmall b bs h)
     (silent_asked s (number_behind s.homes k b.items) bs (All-tail IsSmall b bs h))
 
@@ -76,7 +76,7 @@ module _ (s : Spilling) where
       (items_room (spilled_block s b) (All-head IsSmall b bs small) b.items (All-head AllInside (spilled_block s b) (map (spilled_block s) bs) h))
       (others_room bs (All-tail IsSmall b bs small) (All-tail AllInside (spilled_block s b) (map (spilled_block s) bs) h))
 
-  pub have_room : (entry : List Home) (bs : List Block) → All (λ (b : Block). b.silent < 2 ^ 32) bs →
+  pub have_room : (entry : List SlotAssignment) (bs : List Block) → All (λ (b : Block). b.source_end < 2 ^ 32) bs →
       All (λ (b : Block). All (λ (i : Item). OriginIn b i.origin) b.items) (spilled_blocks s entry bs) → HaveRoom s bs
   have_room entry [] small h = All-nil BlockHasRoom
   have_room entry (b ∷ bs) small h =

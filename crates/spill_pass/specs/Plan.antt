@@ -10,10 +10,10 @@ use Rattle.spill_select.specs.Incoming.{is_among}
 use Rattle.spill_select.specs.Left.{registers_left}
 use Rattle.spill_rule.specs.Choice.{spilling_of}
 use Rattle.spill_rule.specs.Rule.{Decides}
-use Rattle.spill_pass.specs.declared.plan.Plan.{Plan}
+use Rattle.spill_pass.specs.declared.plan.SpillPlan.{SpillPlan}
 
 -- it has the registers that are live into the function, and the rest is what the rule chooses
-pub record IsPlan (reserve : List ℕ) (f : Function) (p : Plan) : Type 0 where
+pub record IsPlan (reserve : List ℕ) (f : Function) (p : SpillPlan) : Type 0 where
   pub decides : Decides reserve f (is_among p.incoming)
   pub spilling : p.spilling ≡ spilling_of reserve (is_among p.incoming) f
   pub left : p.left ≡ registers_left reserve (is_among p.incoming) f

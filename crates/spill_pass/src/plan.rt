@@ -16,7 +16,7 @@ use mir_func::func::{Func, SlotIds};
 use pass_trait::loss::Losses;
 use rv64_instr::reg::{Reg, Registers};
 use spill_code::rewrite::spilled_blocks;
-use spill_code::spilling::{Home, Spilling};
+use spill_code::spilling::{SlotAssignment, Spilling};
 use spill_debug::lost::scratch_losses;
 use spill_debug::marks::blocks_asked;
 use spill_select::choice::{choose, entry_of};
@@ -26,7 +26,7 @@ use std::alloc::{AllocError, Global};
 
 /// The plan of spilling a function.
 #[derive(Drop)]
-pub struct Plan {
+pub struct SpillPlan {
     /// The registers of the reserve that are live into the function.
     pub incoming: Registers,
     /// The scratch registers, and the slots of spilled registers.
@@ -36,7 +36,7 @@ pub struct Plan {
 }
 
 /// Plans the spilling of a function from a reserve.
-pub fn plan_for(alloc: Global, reserve: &[Reg], f: &Func) -> Result<Plan, AllocError>
+pub fn plan_for(alloc: Global, reserve: &[Reg], f: &Func) -> Result<SpillPlan, AllocError>
     requires { greatest f.now.slots + MAX_SLOTS < 2 ^ 31 }
     ensures { IfOk result (IsPlan reserve.now f.now) }
 {
@@ -44,7 +44,7 @@ pub fn plan_for(alloc: Global, reserve: &[Reg], f: &Func) -> Result<Plan, AllocE
     let spilling = choose(alloc, reserve, incoming.as_slice(), f)?;
     let homes = spilling.homes.as_slice();
     let left = registers_left(alloc, reserve, incoming.as_slice(), homes, f)?;
-    Ok(Plan {
+    Ok(SpillPlan {
         incoming,
         spilling,
         left,
@@ -52,7 +52,7 @@ pub fn plan_for(alloc: Global, reserve: &[Reg], f: &Func) -> Result<Plan, AllocE
 }
 
 /// The losses of the blocks and the registers that aren't spilled: first the losses to scratch registers, in order.
-pub fn losses_of(alloc: Global, plan: &Plan, blocks: &[Block]) -> Result<Losses, AllocError>
+pub fn losses_of(alloc: Global, plan: &SpillPlan, blocks: &[Block]) -> Result<Losses, AllocError>
     ensures { IfOk result (AreAllLosses plan.now.spilling blocks.now plan.now.left) }
 {
     let mut losses = scratch_losses(alloc, &plan.spilling, blocks)?;
@@ -63,7 +63,7 @@ pub fn losses_of(alloc: Global, plan: &Plan, blocks: &[Block]) -> Result<Losses,
 /// The blocks with registers spilled, in which debug values of spilled registers refer to DBG_PHIs with fresh numbers.
 pub fn blocks_in_slots(
     alloc: Global,
-    plan: &Plan,
+    plan: &SpillPlan,
     fresh: u32,
     blocks: &[Block],
 ) -> Result<Blocks, AllocError>
@@ -83,7 +83,11 @@ pub fn blocks_in_slots(
 }
 
 /// The slots, and then those of the spilled registers.
-pub fn slots_with(alloc: Global, slots: &[SlotId], homes: &[Home]) -> Result<SlotIds, AllocError>
+pub fn slots_with(
+    alloc: Global,
+    slots: &[SlotId],
+    homes: &[SlotAssignment],
+) -> Result<SlotIds, AllocError>
     ensures { IfOk result (λ made. made ≡ slots.now ++ map (λ h. h.slot) homes.now) }
 {
     let mut made = SlotIds::from_slice(alloc, slots)?;

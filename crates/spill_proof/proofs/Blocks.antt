@@ -5,7 +5,7 @@ use Rattle.std.proofs.lemmas.Grind.{flat_map-append}
 use Rattle.rv64_instr.specs.declared.place.Place.{Place}
 use Rattle.rv64_instr.specs.declared.place.Place.TheVariants.{Register, Slot, Const}
 use Rattle.mir_func.specs.declared.block.Block.{Block}
-use Rattle.mir_func.specs.declared.entry.Entry.{Entry}
+use Rattle.mir_func.specs.declared.entry.DebugSubstitution.{DebugSubstitution}
 use Rattle.mir_func.specs.declared.item.Item.{Item}
 use Rattle.mir_func.specs.declared.item.ItemKind.{ItemKind}
 use Rattle.mir_func.specs.declared.item.ItemKind.TheVariants.{Code, Mark, Phi}
@@ -21,7 +21,7 @@ use Rattle.pass_trait.specs.Debug.{BecomeAll, over, next, added as code_added, B
 use Rattle.pass_trait.specs.Change.{Change, change}
 use Rattle.pass_trait.specs.Rule.{Rule, item}
 use Rattle.pass_trait.specs.Sizes.{greatest_number}
-use Rattle.spill_code.specs.declared.spilling.Home.{Home}
+use Rattle.spill_code.specs.declared.spilling.SlotAssignment.{SlotAssignment}
 use Rattle.spill_code.specs.declared.spilling.Spilling.{Spilling}
 use Rattle.spill_code.specs.Rewrite.{slot_of, spilled_item, spilled_items, spilled_block, entry_stores, spilled_blocks}
 use Rattle.spill_debug.specs.Asked.{kind_asked, next_number, number_behind, items_asked, blocks_asked}
@@ -34,7 +34,7 @@ use Rattle.spill_proof.proofs.Agree.{homes_same}
 use Rattle.spill_proof.proofs.Places.{IsLeftOf, at_first, further, stands, number_is, drop_next, number_next}
 use Rattle.spill_proof.proofs.Items.{register_stays, kind_all}
 
-module _ (reserve : List ℕ) (live : ℕ → Bool) (f : Function) (subs : List Entry) (new : Function) (decides : Decides reserve f live) where
+module _ (reserve : List ℕ) (live : ℕ → Bool) (f : Function) (subs : List DebugSubstitution) (new : Function) (decides : Decides reserve f live) where
   abbrev c : Change
   c = change f subs new subs
 
@@ -44,7 +44,7 @@ module _ (reserve : List ℕ) (live : ℕ → Bool) (f : Function) (subs : List 
   abbrev s : Spilling
   s = spilling_of reserve live f
 
-  abbrev homes : List Home
+  abbrev homes : List SlotAssignment
   homes = homes_of reserve live f
 
   abbrev first : ℕ
@@ -84,11 +84,11 @@ module _ (reserve : List ℕ) (live : ℕ → Bool) (f : Function) (subs : List 
         (items_all m b bs h 0 b.items (drop_none b.items) m (take_none m b.items))
         (others_become (number_behind homes m b.items) bs (further homes first f.blocks m b bs h))
 
-    add_entry : (b : ℕ) (entry : List Home) (xs ys : List Item) → BecomeAll rule c b 0 xs ys → BecomeAll rule c b 0 xs (entry_stores b entry ++ ys)
+    add_entry : (b : ℕ) (entry : List SlotAssignment) (xs ys : List Item) → BecomeAll rule c b 0 xs ys → BecomeAll rule c b 0 xs (entry_stores b entry ++ ys)
     add_entry b [] xs ys h = h
     add_entry b (e ∷ es) xs ys h = code_added (add_entry b es xs ys h)
 
-    spilled_become : (entry : List Home) (bs : List Block) → Left first bs → BlocksBecome rule c bs (spilled_blocks s entry (blocks_asked s first bs))
+    spilled_become : (entry : List SlotAssignment) (bs : List Block) → Left first bs → BlocksBecome rule c bs (spilled_blocks s entry (blocks_asked s first bs))
     spilled_become entry [] h = none
     spilled_become entry (b ∷ bs) h =
         block_stays [] (entry_stores b.id entry ++ spilled_items s (items_asked s first b.items)) refl refl refl refl (All-nil (IsKillAt rule c b.id))
@@ -103,7 +103,7 @@ module _ (reserve : List ℕ) (live : ℕ → Bool) (f : Function) (subs : List 
     nothing_lost at loss (live', h) = h.some (homes_same reserve f live' live h.decides decides ∙ empty)
 
     nothing_numbered : (at : Pos) (n : ℕ) → rule.numbers c at n → ⊥
-    nothing_numbered at n (live', h) = no_home h.item.kind (subst (λ (hs : List Home). AsksForHome hs h.item.kind)
+    nothing_numbered at n (live', h) = no_home h.item.kind (subst (λ (hs : List SlotAssignment). AsksForHome hs h.item.kind)
         (homes_same reserve f live' live h.decides decides ∙ empty) h.asks) where
           no_home : (x : ItemKind) → AsksForHome [] x → ⊥
           no_home (Mark v (At r)) (slot, e) = cc
@@ -114,7 +114,7 @@ module _ (reserve : List ℕ) (live : ℕ → Bool) (f : Function) (subs : List 
           no_home (Phi p k) h = h
 
     no_slot : (r : ℕ) → slot_of homes r ≡ None
-    no_slot r = ap (λ (hs : List Home). slot_of hs r) empty
+    no_slot r = ap (λ (hs : List SlotAssignment). slot_of hs r) empty
 
     value_stays : (m : MarkValue) → ValueStays rule c m
     value_stays Nothing = tt
@@ -153,7 +153,7 @@ items_become reserve live f subs sound decides = by_homes (homes_of reserve live
   made : Function
   made = spilled_by (spilling_of reserve live f) (entry_of live (homes_of reserve live f)) k f
 
-  by_homes : (hs : List Home) → homes_of reserve live f ≡ hs → BlocksBecome (spill_debug reserve) (change f subs now subs) f.blocks
+  by_homes : (hs : List SlotAssignment) → homes_of reserve live f ≡ hs → BlocksBecome (spill_debug reserve) (change f subs now subs) f.blocks
       (where_spilled hs f made).blocks
   by_homes [] e = blocks_stay reserve live f subs now decides e f.blocks
   by_homes (h ∷ hs) e =

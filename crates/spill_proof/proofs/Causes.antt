@@ -4,7 +4,7 @@ use Rattle.std.proofs.Common.{Bool, true, false, cond, ◌&&◌, ◌||◌, nat_e
 use Rattle.std.proofs.lemmas.Bool.{cases_lt, and_parts}
 use Rattle.std.proofs.lemmas.Option.{slice_get-get_or}
 use Rattle.rv64_instr.specs.declared.place.Place.TheVariants.{Register, Slot, Const}
-use Rattle.mir_func.specs.declared.entry.Entry.{Entry}
+use Rattle.mir_func.specs.declared.entry.DebugSubstitution.{DebugSubstitution}
 use Rattle.mir_func.specs.declared.item.Item.{Item}
 use Rattle.mir_func.specs.declared.item.ItemKind.{ItemKind}
 use Rattle.mir_func.specs.declared.item.ItemKind.TheVariants.{Code, Mark, Phi}
@@ -18,7 +18,7 @@ use Rattle.pass_trait.specs.declared.loss.Reason.TheVariants.{NoScratch, CallNam
 use Rattle.pass_trait.specs.Causes.{is_named, scratch_of, AsksFor, IsLostWith, HasNewSlot, HasCause, taken_as_scratch}
 use Rattle.pass_trait.specs.Change.{Change}
 use Rattle.pass_trait.specs.Rule.{StandsAt}
-use Rattle.spill_code.specs.declared.spilling.Home.{Home}
+use Rattle.spill_code.specs.declared.spilling.SlotAssignment.{SlotAssignment}
 use Rattle.spill_code.specs.declared.spilling.Spilling.{Spilling}
 use Rattle.spill_code.specs.Rewrite.{slot_of}
 use Rattle.spill_debug.specs.Asked.{is_scratch}
@@ -40,12 +40,13 @@ in_left : (xs ys : List ℕ) (n : ℕ) → Contains ys n → Contains (xs ++ ys)
 in_left [] ys n k = k
 in_left (x ∷ xs) ys n k = let w = in_left xs ys n k in (suc w.0, (let lt = w.1 in omega (arith, lt)), w.2)
 
-home_slot : (m : ℕ) (rs : List ℕ) (r n : ℕ) → slot_of (homes_from m rs) r ≡ Some n → Contains (map (λ (h : Home). h.slot) (homes_from m rs)) n × (m ≤ n)
+home_slot : (m : ℕ) (rs : List ℕ) (r n : ℕ) → slot_of (homes_from m rs) r ≡ Some n →
+    Contains (map (λ (h : SlotAssignment). h.slot) (homes_from m rs)) n × (m ≤ n)
 home_slot m [] r n e = (let bad : ◌≡◌ {A = Option ℕ} None (Some n) = e in cc)
 home_slot m (q ∷ rs) r n e = by_test (nat_eq q r) e (home_slot (m + 1) rs r n) where
   by_test : (z : Bool) → cond z (Some m) (slot_of (homes_from (m + 1) rs) r) ≡ Some n →
-      (slot_of (homes_from (m + 1) rs) r ≡ Some n → Contains (map (λ (h : Home). h.slot) (homes_from (m + 1) rs)) n × (m + 1 ≤ n)) →
-      Contains (map (λ (h : Home). h.slot) (homes_from m (q ∷ rs))) n × (m ≤ n)
+      (slot_of (homes_from (m + 1) rs) r ≡ Some n → Contains (map (λ (h : SlotAssignment). h.slot) (homes_from (m + 1) rs)) n × (m + 1 ≤ n)) →
+      Contains (map (λ (h : SlotAssignment). h.slot) (homes_from m (q ∷ rs))) n × (m ≤ n)
   by_test true is more = let same : m ≡ n = cc in ((0, omega arith, same), omega (arith, same))
   by_test false is more = let w = more is in let k = w.0 in ((suc k.0, (let lt = k.1 in omega (arith, lt)), k.2), (let le = w.1 in omega (arith, le)))
 
@@ -53,19 +54,19 @@ below : (ns : List ℕ) (n : ℕ) → Contains ns n → n < next_slot ns
 below ns n (k, lt, e) = below_next ns k n (slice_get-get_or ns k n lt ∙ ap Some e)
 
 module _ (reserve : List ℕ) (live : ℕ → Bool) (k : ℕ) (f : Function) where
-  abbrev homes : List Home
+  abbrev homes : List SlotAssignment
   homes = homes_of reserve live f
 
   abbrev s : Spilling
   s = spilling_of reserve live f
 
   no_home : (r n : ℕ) → homes ≡ [] → slot_of homes r ≡ Some n → ⊥
-  no_home r n none e = (let bad : ◌≡◌ {A = Option ℕ} None (Some n) = sym (ap (λ (hs : List Home). slot_of hs r) none) ∙ e in cc)
+  no_home r n none e = (let bad : ◌≡◌ {A = Option ℕ} None (Some n) = sym (ap (λ (hs : List SlotAssignment). slot_of hs r) none) ∙ e in cc)
 
-  slots_by : (hs : List Home) → homes ≡ hs → (n : ℕ) → (homes ≡ [] → ⊥) → Contains (map (λ (h : Home). h.slot) homes) n →
+  slots_by : (hs : List SlotAssignment) → homes ≡ hs → (n : ℕ) → (homes ≡ [] → ⊥) → Contains (map (λ (h : SlotAssignment). h.slot) homes) n →
       Contains (where_spilled hs f (spilled_by s (entry_of live homes) k f)).slots n
   slots_by [] e n some c = absurd (some e)
-  slots_by (h ∷ hs) e n some c = in_left f.slots (map (λ (h : Home). h.slot) homes) n c
+  slots_by (h ∷ hs) e n some c = in_left f.slots (map (λ (h : SlotAssignment). h.slot) homes) n c
 
   new_slot : (r n : ℕ) → slot_of homes r ≡ Some n → Contains (whole reserve live k f).slots n × (Contains f.slots n → ⊥)
   new_slot r n e =
@@ -119,7 +120,7 @@ module _ (reserve : List ℕ) (live : ℕ → Bool) (k : ℕ) (f : Function) whe
   silent_scratch r None e = e
   silent_scratch r (Some n) e = cc
 
-  module _ (subs : List Entry) where
+  module _ (subs : List DebugSubstitution) where
     abbrev c : Change
     c = spilling_of_all reserve live k f subs
 
@@ -136,16 +137,16 @@ module _ (reserve : List ℕ) (live : ℕ → Bool) (k : ℕ) (f : Function) whe
     cause_by : (some : homes ≡ [] → ⊥) (at : Pos) (i : Item) (kind : ItemKind) (loss : Loss) → i.kind ≡ kind → StandsAt f at i → LosesScratch s kind i.origin
         loss →
         HasCause (spill_debug reserve) c at loss
-    cause_by some at i (Mark v (At r)) loss is there (silent, e) =
+    cause_by some at i (Mark v (At r)) loss is there (source_end, e) =
         subst (HasCause (spill_debug reserve) c at) (sym e)
         (taken_as_scratch {i = i} {r = r} {what = lost.Mark (position_of i.origin)} there
         (subst (λ (x : ItemKind). IsLostWith x i.origin (lost.Mark (position_of i.origin))) (sym is) refl)
-        (subst (AsksFor (Register r)) (sym is) refl) (in_scratch some r (silent_scratch r (slot_of homes r) silent)) (some_slot some))
-    cause_by some at i (Phi (Some (Register r)) n) loss is there (silent, e) =
+        (subst (AsksFor (Register r)) (sym is) refl) (in_scratch some r (silent_scratch r (slot_of homes r) source_end)) (some_slot some))
+    cause_by some at i (Phi (Some (Register r)) n) loss is there (source_end, e) =
         subst (HasCause (spill_debug reserve) c at) (sym e)
         (taken_as_scratch {i = i} {r = r} {what = lost.Number n} there
         (subst (λ (x : ItemKind). IsLostWith x i.origin (lost.Number n)) (sym is) refl)
-        (subst (AsksFor (Register r)) (sym is) refl) (in_scratch some r silent) (some_slot some))
+        (subst (AsksFor (Register r)) (sym is) refl) (in_scratch some r source_end) (some_slot some))
     cause_by some at i (Mark v Nothing) loss is there h = absurd h
     cause_by some at i (Mark v (Constant z)) loss is there h = absurd h
     cause_by some at i (Mark v (Pair q)) loss is there h = absurd h
@@ -171,4 +172,4 @@ losses_have_causes reserve live k f subs decides at loss (live', h) =
 
 pub new_slots_are_new : NewSlotsAreNew
 new_slots_are_new reserve live k f subs decides r slot (live', d, e) =
-    new_slot reserve live k f r slot (ap (λ (hs : List Home). slot_of hs r) (sym (homes_same reserve f live' live d decides)) ∙ e)
+    new_slot reserve live k f r slot (ap (λ (hs : List SlotAssignment). slot_of hs r) (sym (homes_same reserve f live' live d decides)) ∙ e)

@@ -24,7 +24,7 @@ use Rattle.mir_func.specs.Graph.{below, block_start}
 use Rattle.sem_mir.specs.Align.{position_of, is_code}
 use Rattle.pass_trait.specs.Rule.{item, item_before, first_operand}
 use Rattle.pass_trait.specs.Sizes.{calls}
-use Rattle.spill_code.specs.declared.spilling.Home.{Home}
+use Rattle.spill_code.specs.declared.spilling.SlotAssignment.{SlotAssignment}
 use Rattle.spill_code.specs.declared.spilling.Spilling.{Spilling}
 use Rattle.spill_code.specs.Rewrite.{slot_of, first_used, other_used, first_defined, use_now, def_now, spilled_code, load, store, added, loads}
 use Rattle.spill_code.specs.Rewrite.{stores, two_loads, code_items}
@@ -211,10 +211,10 @@ module _ (s : Spilling) where
 
   -- ---- the stores at the start
 
-  pub long_entry : (b : ℕ) (entry : List Home) → length (entry_stores b entry) ≡ length entry
-  long_entry b entry = length-map entry (λ (h : Home). added (block_start b) (store h.register h.slot))
+  pub long_entry : (b : ℕ) (entry : List SlotAssignment) → length (entry_stores b entry) ≡ length entry
+  long_entry b entry = length-map entry (λ (h : SlotAssignment). added (block_start b) (store h.register h.slot))
 
-  pub no_calls_entry : (b : ℕ) (entry : List Home) → call_count (entry_stores b entry) ≡ 0
+  pub no_calls_entry : (b : ℕ) (entry : List SlotAssignment) → call_count (entry_stores b entry) ≡ 0
   no_calls_entry b [] = refl
   no_calls_entry b (h ∷ hs) =
       fails calls no_call_mark no_call_phi (added (block_start b) (store h.register h.slot)) (entry_stores b hs) refl ∙ no_calls_entry b hs

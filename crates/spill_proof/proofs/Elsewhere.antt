@@ -83,7 +83,7 @@ module _ (s : Spilling) (apart : (r n : ℕ) → slot_of s.homes r ≡ Some n �
   pub asks_elsewhere : (k : ℕ) (bs : List Block) → AllItems Each (blocks_asked s k bs)
   asks_elsewhere k [] = All-nil (λ (b : Block). All Each b.items)
   asks_elsewhere k (b ∷ bs) =
-      All-cons (λ (c : Block). All Each c.items) (record { id = b.id; items = items_asked s k b.items; silent = b.silent })
+      All-cons (λ (c : Block). All Each c.items) (record { id = b.id; items = items_asked s k b.items; source_end = b.source_end })
       (blocks_asked s (number_behind s.homes k b.items) bs) (items k b.items) (asks_elsewhere (number_behind s.homes k b.items) bs)
 
 pub forms_asked : (s : Spilling) (k : ℕ) (bs : List Block) → AllItems (λ i. HasForm i.kind) bs → AllItems (λ i. HasForm i.kind) (blocks_asked s k bs)

@@ -6,7 +6,7 @@ use Rattle.std.proofs.lemmas.List.Elements.{All-cons, All-head, All-tail}
 use Rattle.std.specs.Prelude.{IsTrue}
 use Rattle.rv64_instr.specs.Parts.{IsSlotStore}
 use Rattle.mir_func.specs.declared.block.Block.{Block}
-use Rattle.mir_func.specs.declared.entry.Entry.{Entry}
+use Rattle.mir_func.specs.declared.entry.DebugSubstitution.{DebugSubstitution}
 use Rattle.mir_func.specs.declared.item.Item.{Item}
 use Rattle.mir_func.specs.declared.item.ItemKind.{ItemKind}
 use Rattle.mir_func.specs.declared.item.ItemKind.TheVariants.{Mark}
@@ -25,7 +25,7 @@ use Rattle.sem_mir.specs.Follow.{Shape, Follows}
 use Rattle.sem_mir.specs.Follow.{IsEnd, EndIsKept, HasWholeEnds}
 use Rattle.sem_mir.specs.Follow.Among.{same as still}
 use Rattle.pass_trait.specs.Change.{change}
-use Rattle.pass_trait.specs.Following.{KeepsFollowing}
+use Rattle.pass_trait.specs.Simulation.{PreservesSimulation}
 use Rattle.pass_trait.specs.Rule.{item, first_operand}
 use Rattle.spill_debug.specs.Asked.{blocks_asked, asked}
 use Rattle.spill_debug.specs.Laws.{AreBelow}
@@ -41,16 +41,16 @@ use Rattle.spill_proof.proofs.Steps.{runs_on}
 module _ (least : ℕ) where
   among_on : {fs gs src : List Block} → BlocksReask least fs gs → Among fs src → Among gs src
   among_on over none = none
-  among_on (further id silent items rest) (still e s more) = still (id ∙ e) (silent ∙ s) (among_on rest more)
+  among_on (further id source_end items rest) (still e s more) = still (id ∙ e) (source_end ∙ s) (among_on rest more)
   among_on b (left more) = left (among_on b more)
 
   first_on : (fs gs : List Block) → BlocksReask least fs gs → first_of gs ≡ first_of fs
   first_on fs gs over = refl
-  first_on (a ∷ fs) (b ∷ gs) (further id silent items rest) = id
+  first_on (a ∷ fs) (b ∷ gs) (further id source_end items rest) = id
 
   length_on : (fs gs : List Block) → BlocksReask least fs gs → length gs ≡ length fs
   length_on fs gs over = refl
-  length_on (a ∷ fs) (b ∷ gs) (further id silent items rest) = ap suc (length_on fs gs rest)
+  length_on (a ∷ fs) (b ∷ gs) (further id source_end items rest) = ap suc (length_on fs gs rest)
 
   order_in : (b n : ℕ) (xs ys : List Item) → Reasks least xs ys → InOrder b n xs → InOrder b n ys
   order_in b n xs ys no_items h = h
@@ -60,7 +60,7 @@ module _ (least : ℕ) where
 
   order_on : (fs gs : List Block) → BlocksReask least fs gs → All (λ (b : Block). InOrder b.id 0 b.items) fs → All (λ (b : Block). InOrder b.id 0 b.items) gs
   order_on fs gs over h = h
-  order_on (a ∷ fs) (b ∷ gs) (further id silent items rest) h =
+  order_on (a ∷ fs) (b ∷ gs) (further id source_end items rest) h =
       All-cons (λ (c : Block). InOrder c.id 0 c.items) b gs
       (subst (λ (n : ℕ). InOrder n 0 b.items) (sym id) (order_in a.id 0 a.items b.items items (All-head (λ (c : Block). InOrder c.id 0 c.items) a fs h)))
       (order_on fs gs rest (All-tail (λ (c : Block). InOrder c.id 0 c.items) a fs h))
@@ -79,30 +79,31 @@ module _ (least : ℕ) where
         All-cons (Each n) x (w ∷ ys) (All-head (Each n) x (z ∷ xs) h)
         (All-cons (Each n) w ys (marks n v r k o (All-head (Each n) z xs later)) (each_in n xs ys rest (All-tail (Each n) z xs later)))
 
-    each_on : (fs gs : List Block) → BlocksReask least fs gs → All (λ (b : Block). All (Each b.silent) b.items) fs → All
-        (λ (b : Block). All (Each b.silent) b.items) gs
+    each_on : (fs gs : List Block) → BlocksReask least fs gs → All (λ (b : Block). All (Each b.source_end) b.items) fs → All
+        (λ (b : Block). All (Each b.source_end) b.items) gs
     each_on fs gs over h = h
-    each_on (a ∷ fs) (b ∷ gs) (further id silent items rest) h =
-        All-cons (λ (c : Block). All (Each c.silent) c.items) b gs
-        (subst (λ (n : ℕ). All (Each n) b.items) (sym silent) (each_in a.silent a.items b.items items
-        (All-head (λ (c : Block). All (Each c.silent) c.items) a fs h)))
-        (each_on fs gs rest (All-tail (λ (c : Block). All (Each c.silent) c.items) a fs h))
+    each_on (a ∷ fs) (b ∷ gs) (further id source_end items rest) h =
+        All-cons (λ (c : Block). All (Each c.source_end) c.items) b gs
+        (subst (λ (n : ℕ). All (Each n) b.items) (sym source_end) (each_in a.source_end a.items b.items items
+        (All-head (λ (c : Block). All (Each c.source_end) c.items) a fs h)))
+        (each_on fs gs rest (All-tail (λ (c : Block). All (Each c.source_end) c.items) a fs h))
 
   mark_fits : (n : ℕ) (v : VarId) (r k : ℕ) (o : Origin) → MarkFits (Mark v (At r)) o → MarkFits (Mark v (Pair (first_operand k))) o
   mark_fits n v r k (Kept p) h = tt
   mark_fits n v r k (Before p) h = absurd h
 
-  old_block : (fs gs : List Block) → BlocksReask least fs gs → (b : Block) → Contains gs b → (a : Block) × Contains fs a × (a.id ≡ b.id) × (a.silent ≡ b.silent)
+  old_block : (fs gs : List Block) → BlocksReask least fs gs → (b : Block) → Contains gs b →
+      (a : Block) × Contains fs a × (a.id ≡ b.id) × (a.source_end ≡ b.source_end)
   old_block fs gs over b h = absurd (let lt = h.1 in omega (arith, lt))
-  old_block (a ∷ fs) (c ∷ gs) (further id silent items rest) b (zero, lt, e) =
-      (a, (0, omega arith, refl), sym id ∙ ap (λ (z : Block). z.id) e, sym silent ∙ ap (λ (z : Block). z.silent) e)
-  old_block (a ∷ fs) (c ∷ gs) (further id silent items rest) b (suc m, lt, e) =
+  old_block (a ∷ fs) (c ∷ gs) (further id source_end items rest) b (zero, lt, e) =
+      (a, (0, omega arith, refl), sym id ∙ ap (λ (z : Block). z.id) e, sym source_end ∙ ap (λ (z : Block). z.source_end) e)
+  old_block (a ∷ fs) (c ∷ gs) (further id source_end items rest) b (suc m, lt, e) =
       let r = old_block fs gs rest b (m, omega (arith, lt), e) in
       let k = r.1 in
       let less = k.1 in
       (r.0, (suc k.0, omega (arith, less), k.2), r.2, r.3)
 
-  module _ (fs gs : List Block) (rel : BlocksReask least fs gs) (subs : List Entry) (low : LowEntries least subs) where
+  module _ (fs gs : List Block) (rel : BlocksReask least fs gs) (subs : List DebugSubstitution) (low : LowEntries least subs) where
     abbrev fp : Program
     fp = program_of false fs (resolve subs)
 
@@ -128,19 +129,20 @@ module _ (least : ℕ) where
         marks = each_on (λ n kind o. MarkFits kind o) mark_fits fs gs rel shape.marks;
       } where
         stores_on : (b : Block) → Contains gs b → (p : Pos) (i : Item) → p.block ≡ b.id → gp.fetch p ≡ Here i → OnRow IsSlotStore i.kind →
-            i.origin ≡ Before (record { block = b.id; item = b.silent }) → (q : Pos) × (j : Item) × IsMetApart gp p b.silent q j
+            i.origin ≡ Before (record { block = b.id; item = b.source_end }) → (q : Pos) × (j : Item) × IsMetApart gp p b.source_end q j
         stores_on b member p i home at save o =
             let a = old_block fs gs rel b member in
-            let origin : i.origin ≡ Before (record { block = a.0.id; item = a.0.silent }) = o ∙
+            let origin : i.origin ≡ Before (record { block = a.0.id; item = a.0.source_end }) = o ∙
             (λ z. Before (record { block = sym a.2 z; item = sym a.3 z })) in
             let w = shape.stores a.0 a.1 p i (home ∙ sym a.2) (code_back least fs gs rel (resolve subs) p i at (on_code IsSlotStore i.kind save)) save origin in
-            let met : IsMetApart fp p b.silent w.0 w.1 = subst (λ (n : ℕ). IsMetApart fp p n w.0 w.1) a.3 w.2 in
-            (w.0, w.1, met_on p b.silent w.0 w.1 met)
+            let met : IsMetApart fp p b.source_end w.0 w.1 = subst (λ (n : ℕ). IsMetApart fp p n w.0 w.1) a.3 w.2 in
+            (w.0, w.1, met_on p b.source_end w.0 w.1 met)
 
       kept_on : (p : Pos) (i : Item) → EndIsKept fp p i → EndIsKept gp p i
       kept_on p i (q, j, at, origin, ends) = (q, j, code_on least fs gs rel (resolve subs) q j at (end_code i.kind j.kind ends), origin, ends)
 
-    pub keeps_on : (old new : Function) → old.blocks ≡ fs → new.blocks ≡ gs → new.objects ≡ old.objects → KeepsFollowing false true (change old subs new subs)
+    pub keeps_on : (old new : Function) → old.blocks ≡ fs → new.blocks ≡ gs → new.objects ≡ old.objects →
+        PreservesSimulation false true (change old subs new subs)
     keeps_on old new is is' objects = record {
       follows = λ source fol ends. (let srcp : Program = program_of true source.function.blocks (resolve source.subs) in
           let h = subst (λ (bs : List Block). Follows source.function.objects source.function.blocks bs (resolve source.subs) (resolve subs)) is fol.follows in
@@ -166,8 +168,9 @@ no_false : IsTrue false → ⊥
 no_false e = cc
 
 -- one after the other
-pub both : (c d e : Function) (subs : List Entry) → KeepsFollowing false true (change c subs d subs) → KeepsFollowing false true (change d subs e subs) →
-    KeepsFollowing false true (change c subs e subs)
+pub both : (c d e : Function) (subs : List DebugSubstitution) → PreservesSimulation false true (change c subs d subs) →
+    PreservesSimulation false true (change d subs e subs) →
+    PreservesSimulation false true (change c subs e subs)
 both c d e subs h k = record {
   follows = λ src fol ends. k.follows src (h.follows src fol (λ none. absurd (no_false none))) (λ none. absurd (no_false none));
   ends = λ keeps src fol whole. k.ends keeps src (h.follows src fol (λ none. absurd (no_false none))) (h.ends keeps src fol whole);

@@ -6,7 +6,7 @@ use Rattle.rv64_instr.specs.declared.operand.Operand.{Operand}
 use Rattle.rv64_instr.specs.declared.place.Place.{Place}
 use Rattle.rv64_instr.specs.declared.place.Place.TheVariants.{Register, Slot, Const}
 use Rattle.rv64_instr.specs.Instruction.{Instruction}
-use Rattle.mir_func.specs.declared.entry.Entry.{Entry}
+use Rattle.mir_func.specs.declared.entry.DebugSubstitution.{DebugSubstitution}
 use Rattle.mir_func.specs.declared.item.Item.{Item}
 use Rattle.mir_func.specs.declared.item.ItemKind.{ItemKind}
 use Rattle.mir_func.specs.declared.item.ItemKind.TheVariants.{Code, Mark, Phi}
@@ -27,7 +27,7 @@ use Rattle.pass_trait.specs.Debug.{mark_spilled, phi_spilled}
 use Rattle.pass_trait.specs.Debug.{BecomeAll, next, added as code_added}
 use Rattle.pass_trait.specs.Rule.{Rule, item, item_before, first_operand, number_lost, mark_lost, StandsAt}
 use Rattle.pass_trait.specs.Sizes.{greatest_number}
-use Rattle.spill_code.specs.declared.spilling.Home.{Home}
+use Rattle.spill_code.specs.declared.spilling.SlotAssignment.{SlotAssignment}
 use Rattle.spill_code.specs.declared.spilling.Spilling.{Spilling}
 use Rattle.spill_code.specs.Rewrite.{slot_of, first_used, other_used, first_defined, spilled_code, loads, two_loads, stores, code_items, place_in}
 use Rattle.spill_code.specs.Rewrite.{spilled_place, spilled_item, spilled_items}
@@ -39,7 +39,7 @@ use Rattle.spill_rule.specs.Rule.{Decides}
 use Rattle.spill_proof.specs.Step.{AsksForHome, number_at, spill_debug}
 use Rattle.spill_proof.proofs.Agree.{homes_same}
 
-module _ (reserve : List ℕ) (live : ℕ → Bool) (f : Function) (subs : List Entry) (new : Function) (decides : Decides reserve f live) where
+module _ (reserve : List ℕ) (live : ℕ → Bool) (f : Function) (subs : List DebugSubstitution) (new : Function) (decides : Decides reserve f live) where
   abbrev pub c : Change
   c = change f subs new subs
 
@@ -49,7 +49,7 @@ module _ (reserve : List ℕ) (live : ℕ → Bool) (f : Function) (subs : List 
   abbrev pub s : Spilling
   s = spilling_of reserve live f
 
-  abbrev homes : List Home
+  abbrev homes : List SlotAssignment
   homes = homes_of reserve live f
 
   same_choice : (live' : ℕ → Bool) → Decides reserve f live' → spilling_of reserve live' f ≡ s
@@ -72,13 +72,13 @@ module _ (reserve : List ℕ) (live : ℕ → Bool) (f : Function) (subs : List 
   no_number : (at : Pos) (x : ItemKind) (o : Origin) (l : Loc) → StandsAt f at (item x o l) → (AsksForHome homes x → ⊥) → (n : ℕ) → rule.numbers c at n → ⊥
   no_number at x o l there none n (live', h) =
       let is : h.item ≡ item x o l = same_item at h.item (item x o l) h.stands there in
-      none (subst (λ (hs : List Home). AsksForHome hs x) (homes_same reserve f live' live h.decides decides)
+      none (subst (λ (hs : List SlotAssignment). AsksForHome hs x) (homes_same reserve f live' live h.decides decides)
       (subst (λ (i : Item). AsksForHome (homes_of reserve live' f) i.kind) is h.asks))
 
   pub register_stays : (r : ℕ) → slot_of homes r ≡ None → RegisterStays rule c r
   register_stays r none = (
     λ slot (live', d, e). (let bad : ◌≡◌ {A = Option ℕ} None (Some slot) = sym none ∙
-        ap (λ (hs : List Home). slot_of hs r) (sym (homes_same reserve f live' live d decides)) ∙ e in cc),
+        ap (λ (hs : List SlotAssignment). slot_of hs r) (sym (homes_same reserve f live' live d decides)) ∙ e in cc),
     λ now h. h,
   )
 

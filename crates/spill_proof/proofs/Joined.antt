@@ -1,13 +1,13 @@
 -- Marks that ask by phis, and then registers in slots.
 use Rattle.std.proofs.Common.{◌≡◌, ℕ, List, [], ◌∷◌, Option, None, Bool, true, false, refl, sym, ap, ◌∙◌, subst}
-use Rattle.mir_func.specs.declared.entry.Entry.{Entry}
+use Rattle.mir_func.specs.declared.entry.DebugSubstitution.{DebugSubstitution}
 use Rattle.mir_func.specs.declared.entry.OperandPair.{OperandPair}
 use Rattle.mir_func.specs.Function.{Function}
 use Rattle.mir_func.specs.Resolve.{resolve}
 use Rattle.mir_func.specs.Sound.{AllItems, IsSound}
 use Rattle.pass_trait.specs.Change.{change}
-use Rattle.pass_trait.specs.Following.{KeepsFollowing}
-use Rattle.spill_code.specs.declared.spilling.Home.{Home}
+use Rattle.pass_trait.specs.Simulation.{PreservesSimulation}
+use Rattle.spill_code.specs.declared.spilling.SlotAssignment.{SlotAssignment}
 use Rattle.spill_code.specs.declared.spilling.Spilling.{Spilling}
 use Rattle.spill_debug.specs.Asked.{asked}
 use Rattle.spill_debug.proofs.AskedSound.{asked_is_sound}
@@ -27,7 +27,7 @@ use Rattle.spill_proof.proofs.Chosen.{no_scratch}
 use Rattle.spill_proof.proofs.Elsewhere.{asks_elsewhere, forms_asked}
 use Rattle.spill_proof.proofs.Slots.{slots_apart, few_slots}
 
-module _ (reserve : List ℕ) (live : ℕ → Bool) (k : ℕ) (f : Function) (subs : List Entry) (may : MayBeSpilled reserve live k f subs) where
+module _ (reserve : List ℕ) (live : ℕ → Bool) (k : ℕ) (f : Function) (subs : List DebugSubstitution) (may : MayBeSpilled reserve live k f subs) where
   abbrev s : Spilling
   s = spilling_of reserve live f
 
@@ -50,7 +50,7 @@ module _ (reserve : List ℕ) (live : ℕ → Bool) (k : ℕ) (f : Function) (su
         (asks_elsewhere s (no_scratch reserve live f may.real) k f.blocks))
         (λ none. some (ap (λ (t : Spilling). t.homes) (sym same) ∙ none)))
 
-  spilled_keeps : (homes_of reserve live f ≡ [] → ⊥) → KeepsFollowing false true (change g subs (spilled_by s (entry_of live s.homes) k f) subs)
+  spilled_keeps : (homes_of reserve live f ≡ [] → ⊥) → PreservesSimulation false true (change g subs (spilled_by s (entry_of live s.homes) k f) subs)
   spilled_keeps some = record {
     follows = λ source fol ends. record {
       objects = fol.objects;
@@ -61,17 +61,17 @@ module _ (reserve : List ℕ) (live : ℕ → Bool) (k : ℕ) (f : Function) (su
         (entry_of live s.homes) sound (may_spill some (resolve subs)) fol.follows).1 whole;
   }
 
-  stays : KeepsFollowing false true (change f subs f subs)
+  stays : PreservesSimulation false true (change f subs f subs)
   stays = record { follows = λ source fol ends. fol; ends = λ keeps source fol whole. whole }
 
-  follows_by : (hs : List Home) → homes_of reserve live f ≡ hs →
-      KeepsFollowing false true (change f subs (where_spilled hs f (spilled_by s (entry_of live s.homes) k f)) subs)
+  follows_by : (hs : List SlotAssignment) → homes_of reserve live f ≡ hs →
+      PreservesSimulation false true (change f subs (where_spilled hs f (spilled_by s (entry_of live s.homes) k f)) subs)
   follows_by [] e = stays
   follows_by (h ∷ hs) e =
       both f g (spilled_by s (entry_of live s.homes) k f) subs (asked_follows s k f subs may.sound may.fresh)
       (spilled_keeps (λ none. (let bad : h ∷ hs ≡ [] = sym e ∙ none in cc)))
 
-  sound_by : (hs : List Home) → homes_of reserve live f ≡ hs → IsSound (where_spilled hs f (spilled_by s (entry_of live s.homes) k f))
+  sound_by : (hs : List SlotAssignment) → homes_of reserve live f ≡ hs → IsSound (where_spilled hs f (spilled_by s (entry_of live s.homes) k f))
   sound_by [] e = may.sound
   sound_by (h ∷ hs) e =
       spilled_is_sound s (entry_of live s.homes) g (λ q. None) sound (may_spill (λ none. (let bad : h ∷ hs ≡ [] = sym e ∙ none in cc)) (λ q. None))

@@ -1,13 +1,13 @@
 -- What spilling keeps, put together.
 use Rattle.std.proofs.Common.{ℕ, zero, suc, ◌+◌, List, [], ◌∷◌, ◌++◌, Bool, true, false, refl, sym, subst, arith, append-nil}
 use Rattle.std.proofs.lemmas.List.Elements.{All-nil}
-use Rattle.mir_func.specs.declared.entry.Entry.{Entry}
+use Rattle.mir_func.specs.declared.entry.DebugSubstitution.{DebugSubstitution}
 use Rattle.mir_func.specs.Function.{Function}
 use Rattle.mir_func.specs.Sound.{AllItems, IsSound, HasForm}
 use Rattle.pass_trait.specs.declared.loss.Loss.{Loss}
 use Rattle.pass_trait.specs.Change.{Change, change}
 use Rattle.pass_trait.specs.Debug.{IsFor, KeepsItems}
-use Rattle.pass_trait.specs.Following.{KeepsFollowing}
+use Rattle.pass_trait.specs.Simulation.{PreservesSimulation}
 use Rattle.pass_trait.specs.Sizes.{greatest_number, KeepsSizes}
 use Rattle.pass_trait.specs.Steps.{KeepsSteps}
 use Rattle.spill_select.specs.Left.{registers_left}
@@ -27,7 +27,7 @@ use Rattle.spill_proof.proofs.Blocks.{items_become}
 use Rattle.spill_proof.specs.Causes.{IsAscending}
 use Rattle.spill_proof.proofs.Causes.{losses_have_causes, new_slots_are_new}
 use Rattle.spill_proof.proofs.Left.{left_have_first_causes}
-use Rattle.spill_proof.specs.Kept.{AreTaken, IsReserve, SpilledKeepsFollowing, SpilledKeepsSteps, SpilledKeepsSizes}
+use Rattle.spill_proof.specs.Kept.{AreTaken, IsReserve, SpilledPreservesSimulation, SpilledKeepsSteps, SpilledKeepsSizes}
 use Rattle.spill_proof.proofs.Losses.{said, told, ordered}
 
 -- in ascending order no register stands twice
@@ -39,7 +39,7 @@ distinct (r ∷ rs) up = (
 )
 
 -- a function of code in form may be spilled
-pub may_be : (reserve : List ℕ) (live : ℕ → Bool) (f : Function) (subs : List Entry) → IsReserve reserve → IsSound f →
+pub may_be : (reserve : List ℕ) (live : ℕ → Bool) (f : Function) (subs : List DebugSubstitution) → IsReserve reserve → IsSound f →
     AllItems (λ i. HasForm i.kind) f.blocks → Decides reserve f live → MayBeSpilled reserve live (greatest_number f subs + 1) f subs
 may_be reserve live f subs keeps sound forms decides = record {
   sound = sound;
@@ -51,7 +51,7 @@ may_be reserve live f subs keeps sound forms decides = record {
   fresh = omega arith;
 }
 
-module _ (reserve : List ℕ) (live : ℕ → Bool) (f : Function) (subs : List Entry) (keeps : IsReserve reserve) (sound : IsSound f)
+module _ (reserve : List ℕ) (live : ℕ → Bool) (f : Function) (subs : List DebugSubstitution) (keeps : IsReserve reserve) (sound : IsSound f)
     (decides : Decides reserve f live) where
   abbrev k : ℕ
   k = greatest_number f subs + 1
@@ -93,9 +93,9 @@ module _ (reserve : List ℕ) (live : ℕ → Bool) (f : Function) (subs : List 
     sym (append-nil (scratch ++ registers_left reserve live f)),
   )
 
-pub keeps_following : SpilledKeepsFollowing
+pub keeps_following : SpilledPreservesSimulation
 keeps_following reserve f subs new losses keeps sound forms h =
-    subst (λ (g : Function). KeepsFollowing false true (change f subs g subs)) (sym h.made)
+    subst (λ (g : Function). PreservesSimulation false true (change f subs g subs)) (sym h.made)
     (joined_follows reserve h.live (greatest_number f subs + 1) f subs (may_be reserve h.live f subs keeps sound forms h.decides))
 
 pub keeps_steps : SpilledKeepsSteps

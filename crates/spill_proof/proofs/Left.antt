@@ -8,7 +8,7 @@ use Rattle.rv64_instr.specs.declared.place.Place.TheVariants.{Register}
 use Rattle.rv64_instr.specs.Parts.{is_call}
 use Rattle.rv64_instr.specs.Row.{Row, Branches, Jumps, row_of}
 use Rattle.mir_func.specs.declared.block.Block.{Block}
-use Rattle.mir_func.specs.declared.entry.Entry.{Entry}
+use Rattle.mir_func.specs.declared.entry.DebugSubstitution.{DebugSubstitution}
 use Rattle.mir_func.specs.declared.entry.OperandPair.{OperandPair}
 use Rattle.mir_func.specs.declared.item.Item.{Item}
 use Rattle.mir_func.specs.declared.item.ItemKind.{ItemKind}
@@ -31,7 +31,7 @@ use Rattle.pass_trait.specs.Change.{Change}
 use Rattle.pass_trait.specs.Order.{reason_rank}
 use Rattle.pass_trait.specs.Rule.{Rule}
 use Rattle.pass_trait.specs.Sizes.{calls}
-use Rattle.spill_code.specs.declared.spilling.Home.{Home}
+use Rattle.spill_code.specs.declared.spilling.SlotAssignment.{SlotAssignment}
 use Rattle.spill_code.specs.Rewrite.{slot_of}
 use Rattle.spill_rule.specs.Choice.{is_added, binds, is_bound, row_goes, goes, is_looped, lacks_scratch, reason_of, is_free, candidates, room, chosen}
 use Rattle.spill_rule.specs.Choice.{next_slot}
@@ -168,7 +168,7 @@ same_reasons reserve live live' f decides decides' r inside =
     let homes_are = homes_same reserve f live live' decides decides' in
     λ i. cond (is_named f r) (or_no_slot (first_reason (lacks_scratch f) (is_bound f r) (e i && is_looped f)) (slot_of (homes_are i) r)) None
 
-module _ (reserve : List ℕ) (live : ℕ → Bool) (k : ℕ) (f : Function) (subs : List Entry) (up : IsAscending reserve) (sound : IsSound f)
+module _ (reserve : List ℕ) (live : ℕ → Bool) (k : ℕ) (f : Function) (subs : List DebugSubstitution) (up : IsAscending reserve) (sound : IsSound f)
     (decides : Decides reserve f live) where
   abbrev c : Change
   c = spilling_of_all reserve live k f subs
@@ -176,11 +176,11 @@ module _ (reserve : List ℕ) (live : ℕ → Bool) (k : ℕ) (f : Function) (su
   abbrev rule : Rule
   rule = spill_debug reserve
 
-  abbrev homes : List Home
+  abbrev homes : List SlotAssignment
   homes = homes_of reserve live f
 
   abbrev new_slots : List ℕ
-  new_slots = map (λ (h : Home). h.slot) homes
+  new_slots = map (λ (h : SlotAssignment). h.slot) homes
 
   abbrev Holds : Reason → ℕ → Type 0
   Holds why r = Prevents rule c why r
@@ -232,12 +232,14 @@ module _ (reserve : List ℕ) (live : ℕ → Bool) (k : ℕ) (f : Function) (su
   candidate r in_reserve named free = keeps (λ (r : ℕ). is_named f r && is_free (reason_of f live r)) reserve r in_reserve
       (and_from (is_named f r) (is_free (reason_of f live r)) named (ap is_free free))
 
-  slots_by : (hs : List Home) → homes ≡ hs → length (where_spilled hs f (spilled_by (spilling_of reserve live f) (entry_of live homes) k f)).slots ≡
+  slots_by : (hs : List SlotAssignment) → homes ≡ hs → length (where_spilled hs f (spilled_by (spilling_of reserve live f) (entry_of live homes) k f)).slots ≡
       length f.slots + length new_slots
-  slots_by [] e = (let none : length new_slots ≡ 0 = ap (λ (hs : List Home). length (map (λ (h : Home). h.slot) hs)) e in omega (arith, none))
+  slots_by [] e = (let none : length new_slots ≡ 0 = ap (λ (hs : List SlotAssignment). length (map (λ (h : SlotAssignment). h.slot) hs)) e in omega
+      (arith, none))
   slots_by (h ∷ hs) e = length-append f.slots new_slots
 
-  objects_by : (hs : List Home) → length (where_spilled hs f (spilled_by (spilling_of reserve live f) (entry_of live homes) k f)).objects ≡ length f.objects
+  objects_by : (hs : List SlotAssignment) →
+      length (where_spilled hs f (spilled_by (spilling_of reserve live f) (entry_of live homes) k f)).objects ≡ length f.objects
   objects_by [] = refl
   objects_by (h ∷ hs) = refl
 
@@ -254,7 +256,7 @@ module _ (reserve : List ℕ) (live : ℕ → Bool) (k : ℕ) (f : Function) (su
             taken_before (room f) (candidates reserve live f)
             (AllPairs-filter (λ (r s : ℕ). r < s) (λ (r : ℕ). is_named f r && is_free (reason_of f live r)) reserve up) r s there left
             (homed (next_slot f.slots) (chosen reserve live f) s slot
-            (ap (λ (hs : List Home). slot_of hs s) (sym (homes_same reserve f live' live d decides)) ∙ e)),
+            (ap (λ (hs : List SlotAssignment). slot_of hs s) (sym (homes_same reserve f live' live d decides)) ∙ e)),
       )
 
   -- ---- the first that applies

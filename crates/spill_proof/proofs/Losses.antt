@@ -6,7 +6,7 @@ use Rattle.std.specs.List.{filter_map, cons_option}
 use Rattle.std.proofs.lemmas.List.Elements.{All-nil, All-cons, All-contains, Contains-append_cases, Contains-append_left, Contains-append_right}
 use Rattle.std.proofs.lemmas.List.Kept.{AllPairs-cons}
 use Rattle.rv64_instr.specs.declared.place.Place.TheVariants.{Register, Slot, Const}
-use Rattle.mir_func.specs.declared.entry.Entry.{Entry}
+use Rattle.mir_func.specs.declared.entry.DebugSubstitution.{DebugSubstitution}
 use Rattle.mir_func.specs.declared.item.Item.{Item}
 use Rattle.mir_func.specs.declared.item.ItemKind.{ItemKind}
 use Rattle.mir_func.specs.declared.item.ItemKind.TheVariants.{Code, Mark, Phi}
@@ -21,7 +21,7 @@ use Rattle.pass_trait.specs.Change.{Change, change}
 use Rattle.pass_trait.specs.Debug.{IsLoss}
 use Rattle.pass_trait.specs.Order.{LossComesBefore, IsInOrder}
 use Rattle.pass_trait.specs.Rule.{Rule, register_lost}
-use Rattle.spill_code.specs.declared.spilling.Home.{Home}
+use Rattle.spill_code.specs.declared.spilling.SlotAssignment.{SlotAssignment}
 use Rattle.spill_code.specs.declared.spilling.Spilling.{Spilling}
 use Rattle.spill_debug.specs.Lost.{LosesScratch, AreScratchLosses}
 use Rattle.spill_select.specs.Left.{why_left, loss_for, registers_left}
@@ -132,7 +132,8 @@ before_registers s (Phi (Some (Slot n)) k) o loss r z h = absurd h
 before_registers s (Phi (Some (Const n)) k) o loss r z h = absurd h
 before_registers s (Code i k) o loss r z h = absurd h
 
-module _ (reserve : List ℕ) (live : ℕ → Bool) (f : Function) (subs : List Entry) (new : Function) (decides : Decides reserve f live) (sound : IsSound f)
+module _ (reserve : List ℕ) (live : ℕ → Bool) (f : Function) (subs : List DebugSubstitution) (new : Function) (decides : Decides reserve f live)
+    (sound : IsSound f)
     (scratch : List Loss) where
   abbrev c : Change
   c = change f subs new subs
@@ -140,7 +141,7 @@ module _ (reserve : List ℕ) (live : ℕ → Bool) (f : Function) (subs : List 
   abbrev rule : Rule
   rule = spill_debug reserve
 
-  abbrev homes : List Home
+  abbrev homes : List SlotAssignment
   homes = homes_of reserve live f
 
   abbrev s : Spilling
@@ -150,21 +151,21 @@ module _ (reserve : List ℕ) (live : ℕ → Bool) (f : Function) (subs : List 
   why r = why_left f live homes r
 
   -- what is lost to scratch registers, by whether some register is spilled
-  none_taken : (hs : List Home) → AreTaken hs s f.blocks scratch → hs ≡ [] → scratch ≡ []
+  none_taken : (hs : List SlotAssignment) → AreTaken hs s f.blocks scratch → hs ≡ [] → scratch ≡ []
   none_taken [] taken e = taken
   none_taken (h ∷ hs) taken e = cc
 
-  all_taken : (hs : List Home) → AreTaken hs s f.blocks scratch → (hs ≡ [] → ⊥) → AreScratchLosses s f.blocks scratch
+  all_taken : (hs : List SlotAssignment) → AreTaken hs s f.blocks scratch → (hs ≡ [] → ⊥) → AreScratchLosses s f.blocks scratch
   all_taken [] taken some = absurd (some refl)
   all_taken (h ∷ hs) taken some = taken.1
 
-  taken_ordered : (hs : List Home) → AreTaken hs s f.blocks scratch → IsInOrder scratch
+  taken_ordered : (hs : List SlotAssignment) → AreTaken hs s f.blocks scratch → IsInOrder scratch
   taken_ordered [] taken = subst IsInOrder (sym taken) (λ i j d lt within. absurd (omega (arith, within)))
   taken_ordered (h ∷ hs) taken = taken.0
 
   module _ (taken : AreTaken homes s f.blocks scratch) where
     -- each of them is of an item, and some register is spilled
-    taken_from : (hs : List Home) → homes ≡ hs → (loss : Loss) → Contains scratch loss →
+    taken_from : (hs : List SlotAssignment) → homes ≡ hs → (loss : Loss) → Contains scratch loss →
         (homes ≡ [] → ⊥) × ((i : Item) × Contains (items_of f.blocks) i × LosesScratch s i.kind i.origin loss)
     taken_from [] e loss k = absurd (none_in scratch loss (none_taken homes taken e) k)
     taken_from (h ∷ hs) e loss k =

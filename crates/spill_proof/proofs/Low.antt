@@ -6,7 +6,7 @@ use Rattle.std.proofs.lemmas.List.Concat.{flat_map-cons}
 use Rattle.std.proofs.lemmas.List.Elements.{All-nil, All-cons}
 use Rattle.std.proofs.lemmas.Grind.{flat_map-append}
 use Rattle.mir_func.specs.declared.block.Block.{Block}
-use Rattle.mir_func.specs.declared.entry.Entry.{Entry}
+use Rattle.mir_func.specs.declared.entry.DebugSubstitution.{DebugSubstitution}
 use Rattle.mir_func.specs.declared.entry.OperandPair.{OperandPair}
 use Rattle.mir_func.specs.declared.item.Item.{Item}
 use Rattle.mir_func.specs.declared.item.ItemKind.{ItemKind}
@@ -29,7 +29,7 @@ Low k (Mark v Nothing) = Unit {0}
 Low k (Mark v (Constant n)) = Unit {0}
 Low k (Mark v (At r)) = Unit {0}
 
-abbrev pub LowEntries : ℕ → List Entry → Type 0
+abbrev pub LowEntries : ℕ → List DebugSubstitution → Type 0
 LowEntries k [] = Unit {0}
 LowEntries k (e ∷ es) = (e.src.number < k) × (e.dst.number < k) × LowEntries k es
 
@@ -78,10 +78,10 @@ module _ (k : ℕ) where
       let both = both_below (flat_map nums b.items) (flat_map nums (items_of bs)) k (subst (λ (ns : List ℕ). greatest ns < k) split lt) in
       All-cons (λ (c : Block). All (λ (i : Item). Low k i.kind) c.items) b bs (low_items b.items both.0) (low_blocks bs both.1)
 
-  abbrev sides : Entry → List ℕ
+  abbrev sides : DebugSubstitution → List ℕ
   sides e = e.src.number ∷ e.dst.number ∷ []
 
-  low_entries : (es : List Entry) → greatest (flat_map sides es) < k → LowEntries k es
+  low_entries : (es : List DebugSubstitution) → greatest (flat_map sides es) < k → LowEntries k es
   low_entries [] lt = tt
   low_entries (e ∷ es) lt =
       let both = both_below (sides e) (flat_map sides es) k (subst (λ (ns : List ℕ). greatest ns < k) (flat_map-cons sides e es) lt) in
@@ -89,33 +89,39 @@ module _ (k : ℕ) where
       (left_below e.src.number (greatest (e.dst.number ∷ [])) k both.0, left_below e.dst.number 0 k rest, low_entries es both.1)
 
   -- of a function with its substitutions
-  pub low_function : (f : Function) (subs : List Entry) → greatest_number f subs < k → AllItems (λ i. Low k i.kind) f.blocks × LowEntries k subs
+  pub low_function : (f : Function) (subs : List DebugSubstitution) → greatest_number f subs < k → AllItems (λ i. Low k i.kind) f.blocks × LowEntries k subs
   low_function f subs lt =
       let both = both_below (flat_map nums (items_of f.blocks)) (flat_map sides subs) k lt in
       (low_blocks f.blocks both.0, low_entries subs both.1)
 
   -- what a pair resolves to has such a number
-  entry_low : (es : List Entry) (q : OperandPair) (e : Entry) → LowEntries k es → entry_of es q ≡ Some e → (q.number < k) × (e.dst.number < k)
+  entry_low : (es : List DebugSubstitution) (q : OperandPair) (e : DebugSubstitution) → LowEntries k es → entry_of es q ≡ Some e →
+      (q.number < k) × (e.dst.number < k)
   entry_low [] q e low is = cc
   entry_low (x ∷ es) q e low is = by_test (is_pair x.src q) refl is (λ h. entry_low es q e low.2 h) where
     by_test : (z : Bool) → is_pair x.src q ≡ z → cond z (Some x) (entry_of es q) ≡ Some e → (entry_of es q ≡ Some e → (q.number < k) × (e.dst.number < k)) →
         (q.number < k) × (e.dst.number < k)
-    by_test true h is more = let w : x ≡ e = cc in (subst (λ (n : ℕ). n < k) (same_number x.src q h) low.0, subst (λ (z : Entry). z.dst.number < k) w low.1)
+    by_test true h is more = let w : x ≡ e = cc in (
+      subst (λ (n : ℕ). n < k) (same_number x.src q h) low.0,
+      subst (λ
+          (z : DebugSubstitution). z.dst.number < k) w low.1,
+    )
     by_test false h is more = more is
 
-  end_low : (subs : List Entry) → LowEntries k subs → (q r : OperandPair) → q.number < k → Ends subs q r → r.number < k
+  end_low : (subs : List DebugSubstitution) → LowEntries k subs → (q r : OperandPair) → q.number < k → Ends subs q r → r.number < k
   end_low subs low q r lt (at none) = lt
   end_low subs low q r lt (by e has whole rest) = end_low subs low e.dst r (entry_low subs q e low has).1 rest
 
-  pub resolve_low : (subs : List Entry) → LowEntries k subs → (q r : OperandPair) → q.number < k → resolve subs q ≡ Some r → r.number < k
+  pub resolve_low : (subs : List DebugSubstitution) → LowEntries k subs → (q r : OperandPair) → q.number < k → resolve subs q ≡ Some r → r.number < k
   resolve_low subs low q r lt is = end_low subs low q r lt (resolve_ends subs q r is)
 
   -- and a pair with number k or above resolves to itself
-  no_entry : (subs : List Entry) → LowEntries k subs → (q : OperandPair) → (q.number < k → ⊥) → (x : Option Entry) → entry_of subs q ≡ x → x ≡ None
+  no_entry : (subs : List DebugSubstitution) → LowEntries k subs → (q : OperandPair) → (q.number < k → ⊥) → (x : Option DebugSubstitution) →
+      entry_of subs q ≡ x → x ≡ None
   no_entry subs low q far None is = refl
   no_entry subs low q far (Some e) is = absurd (far (entry_low subs q e low is).0)
 
-  pub resolve_high : (subs : List Entry) → LowEntries k subs → (q : OperandPair) → (q.number < k → ⊥) → resolve subs q ≡ Some q
+  pub resolve_high : (subs : List DebugSubstitution) → LowEntries k subs → (q : OperandPair) → (q.number < k → ⊥) → resolve subs q ≡ Some q
   resolve_high subs low q far = ends_resolve subs q q (at (no_entry subs low q far (entry_of subs q) refl))
 
 -- a number of an item is below

@@ -3,7 +3,7 @@ use Rattle.std.proofs.Common.{◌≡◌, ℕ, List, [], ◌∷◌, ◌++◌, map
 use Rattle.mir_func.specs.declared.block.Block.{Block}
 use Rattle.mir_func.specs.Function.{Function}
 use Rattle.mir_func.specs.Strip.{stripped_blocks, stripped}
-use Rattle.spill_code.specs.declared.spilling.Home.{Home}
+use Rattle.spill_code.specs.declared.spilling.SlotAssignment.{SlotAssignment}
 use Rattle.spill_code.specs.declared.spilling.Spilling.{Spilling}
 use Rattle.spill_code.specs.Rewrite.{spilled_blocks}
 use Rattle.spill_debug.specs.Asked.{blocks_asked}
@@ -20,7 +20,7 @@ module _ (reserve : List ℕ) (live : ℕ → Bool) (k : ℕ) (f : Function) whe
 
   -- what the rule makes of bare code, by the choice for the whole function
   abbrev made : Spilling → List Block → Function
-  made t bs = record f { slots = f.slots ++ map (λ (h : Home). h.slot) t.homes; blocks = spilled_blocks t (entry_of live t.homes) bs }
+  made t bs = record f { slots = f.slots ++ map (λ (h : SlotAssignment). h.slot) t.homes; blocks = spilled_blocks t (entry_of live t.homes) bs }
 
   by_choice : spilled reserve live (stripped f) ≡ made s (stripped_blocks f.blocks)
   by_choice = ap (λ (t : Spilling). made t (stripped_blocks f.blocks)) (choice_is_bare reserve live f)
@@ -30,16 +30,16 @@ module _ (reserve : List ℕ) (live : ℕ → Bool) (k : ℕ) (f : Function) whe
 
   code_spilled : stripped (spilled_by s (entry_of live s.homes) k f) ≡ spilled reserve live (stripped f)
   code_spilled =
-      ap (λ (bs : List Block). record f { slots = f.slots ++ map (λ (h : Home). h.slot) s.homes; blocks = bs })
+      ap (λ (bs : List Block). record f { slots = f.slots ++ map (λ (h : SlotAssignment). h.slot) s.homes; blocks = bs })
       (spilled_is_stripped s (entry_of live s.homes) (blocks_asked s k f.blocks) ∙ ap (spilled_blocks s (entry_of live s.homes)) bare_asked) ∙ sym by_choice
 
   -- where nothing is spilled
   code_stays : homes_of reserve live f ≡ [] → stripped f ≡ spilled reserve live (stripped f)
   code_stays none =
-      sym (by_choice ∙ ap (λ (hs : List Home). made (record { first = s.first; second = s.second; homes = hs }) (stripped_blocks f.blocks)) none ∙
+      sym (by_choice ∙ ap (λ (hs : List SlotAssignment). made (record { first = s.first; second = s.second; homes = hs }) (stripped_blocks f.blocks)) none ∙
       (λ i. record f { slots = append-nil f.slots i; blocks = blocks_same s.first s.second (stripped_blocks f.blocks) i }))
 
-  code_by : (hs : List Home) → homes_of reserve live f ≡ hs →
+  code_by : (hs : List SlotAssignment) → homes_of reserve live f ≡ hs →
       stripped (where_spilled hs f (spilled_by s (entry_of live s.homes) k f)) ≡ spilled reserve live (stripped f)
   code_by [] e = code_stays e
   code_by (h ∷ hs) e = code_spilled

@@ -6,7 +6,7 @@ use Rattle.std.proofs.lemmas.Grind.{flat_map-append}
 use Rattle.mir_func.specs.declared.block.Block.{Block}
 use Rattle.mir_func.specs.declared.item.Item.{Item}
 use Rattle.mir_func.specs.Sound.{items_of}
-use Rattle.spill_code.specs.declared.spilling.Home.{Home}
+use Rattle.spill_code.specs.declared.spilling.SlotAssignment.{SlotAssignment}
 use Rattle.spill_code.specs.declared.spilling.Spilling.{Spilling}
 use Rattle.spill_code.specs.Rewrite.{spilled_item, spilled_items, spilled_block, entry_stores, spilled_blocks}
 use Rattle.spill_debug.specs.Asked.{kind_asked, next_number, number_behind, items_asked, blocks_asked}
@@ -37,20 +37,20 @@ module _ (s : Spilling) (m w : List Item → ℕ) (mm : IsMeasure m) (ww : IsMea
   others_bound k (b ∷ bs) =
       let here : List Item = spilled_items s (items_asked s k b.items) in
       let rest : List Block = map (spilled_block s) (blocks_asked s (number_behind s.homes k b.items) bs) in
-      let first : Block = record { id = b.id; items = here; silent = b.silent } in
+      let first : Block = record { id = b.id; items = here; source_end = b.source_end } in
       sum_le (m here) (m (items_of rest)) (w b.items) (w (items_of bs)) (m (items_of (first ∷ rest))) (w (items_of (b ∷ bs)))
       (ap m (flat_map-cons inside first rest) ∙ mm.more here (items_of rest)) (ap w (flat_map-cons inside b bs) ∙ ww.more b.items (items_of bs))
       (items_bound k b.items) (others_bound (number_behind s.homes k b.items) bs)
 
   -- with so much for the stores at the start
-  pub blocks_bound : (k most : ℕ) (entry : List Home) (bs : List Block) → ((b : ℕ) → m (entry_stores b entry) ≤ most) →
+  pub blocks_bound : (k most : ℕ) (entry : List SlotAssignment) (bs : List Block) → ((b : ℕ) → m (entry_stores b entry) ≤ most) →
       m (items_of (spilled_blocks s entry (blocks_asked s k bs))) ≤ most + w (items_of bs)
   blocks_bound k most entry [] few = let e = mm.none in omega (arith, e)
   blocks_bound k most entry (b ∷ bs) few =
       let stores : List Item = entry_stores b.id entry in
       let here : List Item = spilled_items s (items_asked s k b.items) in
       let rest : List Block = map (spilled_block s) (blocks_asked s (number_behind s.homes k b.items) bs) in
-      let first : Block = record { id = b.id; items = stores ++ here; silent = b.silent } in
+      let first : Block = record { id = b.id; items = stores ++ here; source_end = b.source_end } in
       let total : m (items_of (first ∷ rest)) ≡ m (stores ++ here) + m (items_of rest) =
       ap m (flat_map-cons inside first rest) ∙ mm.more (stores ++ here) (items_of rest) in
       let both : m (stores ++ here) ≡ m stores + m here = mm.more stores here in

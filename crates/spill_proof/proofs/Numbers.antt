@@ -23,7 +23,7 @@ use Rattle.sem_mir.specs.Align.{position_of}
 use Rattle.pass_trait.specs.Rule.{item, item_before, first_operand}
 use Rattle.pass_trait.specs.Sizes.{greatest, numbers_of}
 use Rattle.pass_salvage.proofs.Greatest.{greatest_append}
-use Rattle.spill_code.specs.declared.spilling.Home.{Home}
+use Rattle.spill_code.specs.declared.spilling.SlotAssignment.{SlotAssignment}
 use Rattle.spill_code.specs.declared.spilling.Spilling.{Spilling}
 use Rattle.spill_code.specs.Rewrite.{slot_of, first_used, other_used, first_defined, spilled_code, load, store, added, loads, stores, two_loads}
 use Rattle.spill_code.specs.Rewrite.{code_items, spilled_place}
@@ -115,7 +115,7 @@ module _ (s : Spilling) where
   no_stores p r None = refl
   no_stores p r (Some n) = refl
 
-  pub no_entry : (b : ℕ) (entry : List Home) → top (entry_stores b entry) ≡ 0
+  pub no_entry : (b : ℕ) (entry : List SlotAssignment) → top (entry_stores b entry) ≡ 0
   no_entry b [] = refl
   no_entry b (h ∷ hs) = top_cons (added (block_start b) (store h.register h.slot)) (entry_stores b hs) ∙ zero_max (top (entry_stores b hs)) ∙ no_entry b hs
 
@@ -203,12 +203,12 @@ module _ (s : Spilling) where
       let next : ℕ = number_behind s.homes k b.items in
       let here : List Item = spilled_items s (items_asked s k b.items) in
       let rest : List Block = map (spilled_block s) (blocks_asked s next bs) in
-      let first : Block = record { id = b.id; items = here; silent = b.silent } in
+      let first : Block = record { id = b.id; items = here; source_end = b.source_end } in
       both_within (top here) (top (items_of rest)) (top b.items) (top (items_of bs)) (top (items_of (first ∷ rest))) (top (items_of (b ∷ bs))) next
       (number_beyond s.homes next bs) (top_items k b.items) (top_others next bs) (ap top (flat_map-cons inside first rest) ∙ top_append here (items_of rest))
       (ap top (flat_map-cons inside b bs) ∙ top_append b.items (items_of bs)) (up_beyond next bs)
 
-  pub top_blocks : (k : ℕ) (entry : List Home) (bs : List Block) →
+  pub top_blocks : (k : ℕ) (entry : List SlotAssignment) (bs : List Block) →
       IsWithin (top (items_of (spilled_blocks s entry (blocks_asked s k bs)))) (top (items_of bs)) (number_beyond s.homes k bs)
   top_blocks k entry [] = omega arith
   top_blocks k entry (b ∷ bs) =
@@ -216,7 +216,7 @@ module _ (s : Spilling) where
       let stores : List Item = entry_stores b.id entry in
       let here : List Item = spilled_items s (items_asked s k b.items) in
       let rest : List Block = map (spilled_block s) (blocks_asked s next bs) in
-      let first : Block = record { id = b.id; items = stores ++ here; silent = b.silent } in
+      let first : Block = record { id = b.id; items = stores ++ here; source_end = b.source_end } in
       both_within (top here) (top (items_of rest)) (top b.items) (top (items_of bs)) (top (items_of (first ∷ rest))) (top (items_of (b ∷ bs))) next
       (number_beyond s.homes next bs) (top_items k b.items) (top_others next bs)
       (ap top (flat_map-cons inside first rest) ∙ top_append (stores ++ here) (items_of rest) ∙

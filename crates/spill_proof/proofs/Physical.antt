@@ -23,7 +23,7 @@ use Rattle.mir_func.specs.Sound.{AllItems}
 use Rattle.mir_func.specs.SoundFrame.{IsPhysical, HasPhysical}
 use Rattle.sem_mir.specs.Align.{position_of}
 use Rattle.pass_trait.specs.Rule.{item, item_before, first_operand}
-use Rattle.spill_code.specs.declared.spilling.Home.{Home}
+use Rattle.spill_code.specs.declared.spilling.SlotAssignment.{SlotAssignment}
 use Rattle.spill_code.specs.declared.spilling.Spilling.{Spilling}
 use Rattle.spill_code.specs.Rewrite.{slot_of, first_used, other_used, first_defined, stand_in, use_now, set_in, def_now, renamed_operand}
 use Rattle.spill_code.specs.Rewrite.{spilled_code, load, store, added}
@@ -158,23 +158,23 @@ module _ (s : Spilling) (first : s.first < 32) (second : s.second < 32) where
   real_others (b ∷ bs) h =
       All-cons Inside (spilled_block s b) (map (spilled_block s) bs) (real_items b.items (All-head Inside b bs h)) (real_others bs (All-tail Inside b bs h))
 
-  real_entry : (b : ℕ) (entry : List Home) → All (λ (h : Home). h.register < 32) entry → All Each (entry_stores b entry)
+  real_entry : (b : ℕ) (entry : List SlotAssignment) → All (λ (h : SlotAssignment). h.register < 32) entry → All Each (entry_stores b entry)
   real_entry b [] h = All-nil Each
   real_entry b (e ∷ es) h =
       All-cons Each (added (block_start b) (store e.register e.slot)) (entry_stores b es)
-      (real_store (block_start b) e.register e.slot (All-head (λ (h : Home). h.register < 32) e es h))
-      (real_entry b es (All-tail (λ (h : Home). h.register < 32) e es h))
+      (real_store (block_start b) e.register e.slot (All-head (λ (h : SlotAssignment). h.register < 32) e es h))
+      (real_entry b es (All-tail (λ (h : SlotAssignment). h.register < 32) e es h))
 
-  pub real_blocks : (entry : List Home) → All (λ (h : Home). h.register < 32) entry → (bs : List Block) → AllItems Each bs → AllItems Each
+  pub real_blocks : (entry : List SlotAssignment) → All (λ (h : SlotAssignment). h.register < 32) entry → (bs : List Block) → AllItems Each bs → AllItems Each
       (spilled_blocks s entry bs)
   real_blocks entry low [] h = All-nil Inside
   real_blocks entry low (b ∷ bs) h =
-      All-cons Inside (record { id = b.id; items = entry_stores b.id entry ++ spilled_items s b.items; silent = b.silent }) (map (spilled_block s) bs)
+      All-cons Inside (record { id = b.id; items = entry_stores b.id entry ++ spilled_items s b.items; source_end = b.source_end }) (map (spilled_block s) bs)
       (All-append Each (entry_stores b.id entry) (spilled_items s b.items) (real_entry b.id entry low) (real_items b.items (All-head Inside b bs h)))
       (real_others bs (All-tail Inside b bs h))
 
   pub real_all_asked : (k : ℕ) (bs : List Block) → AllItems Each bs → AllItems Each (blocks_asked s k bs)
   real_all_asked k [] h = All-nil Inside
   real_all_asked k (b ∷ bs) h =
-      All-cons Inside (record { id = b.id; items = items_asked s k b.items; silent = b.silent }) (blocks_asked s (number_behind s.homes k b.items) bs)
+      All-cons Inside (record { id = b.id; items = items_asked s k b.items; source_end = b.source_end }) (blocks_asked s (number_behind s.homes k b.items) bs)
       (real_asked k b.items (All-head Inside b bs h)) (real_all_asked (number_behind s.homes k b.items) bs (All-tail Inside b bs h))

@@ -7,17 +7,17 @@ use Rattle.mir_func.specs.declared.item.Item.{Item}
 use Rattle.mir_func.specs.declared.position.Pos.{Pos}
 use Rattle.mir_func.specs.Graph.{Here, front, fetch_in, from_block}
 use Rattle.mir_func.specs.Sound.{AreApart, ids_of}
-use Rattle.spill_code.specs.declared.spilling.Home.{Home}
+use Rattle.spill_code.specs.declared.spilling.SlotAssignment.{SlotAssignment}
 use Rattle.spill_debug.specs.Asked.{next_number, number_behind}
 use Rattle.spill_proof.specs.Step.{number_at}
 
 -- the blocks that are left, of all: what stands in them, and which number comes next there
-pub record IsLeftOf (homes : List Home) (first : ℕ) (all : List Block) (k : ℕ) (bs : List Block) : Type 0 where
+pub record IsLeftOf (homes : List SlotAssignment) (first : ℕ) (all : List Block) (k : ℕ) (bs : List Block) : Type 0 where
   pub apart : AreApart (ids_of bs)
   pub from : (n : ℕ) → Contains (ids_of bs) n → from_block all n ≡ from_block bs n
   pub number : (at : Pos) → Contains (ids_of bs) at.block → number_at homes first all at ≡ number_at homes k bs at
 
-pub at_first : (homes : List Home) (first : ℕ) (all : List Block) → AreApart (ids_of all) → IsLeftOf homes first all first all
+pub at_first : (homes : List SlotAssignment) (first : ℕ) (all : List Block) → AreApart (ids_of all) → IsLeftOf homes first all first all
 at_first homes first all apart = record { apart = apart; from = λ n k. refl; number = λ at k. refl }
 
 -- no later block has the number of the first
@@ -31,7 +31,7 @@ other b bs apart n (i, lt, e) is =
 apart_later : (b : Block) (bs : List Block) → AreApart (ids_of (b ∷ bs)) → AreApart (ids_of bs)
 apart_later b bs apart i j n e k = (let same : suc i ≡ suc j = apart (suc i) (suc j) n e k in omega (arith, same))
 
-pub further : (homes : List Home) (first : ℕ) (all : List Block) (k : ℕ) (b : Block) (bs : List Block) → IsLeftOf homes first all k (b ∷ bs) →
+pub further : (homes : List SlotAssignment) (first : ℕ) (all : List Block) (k : ℕ) (b : Block) (bs : List Block) → IsLeftOf homes first all k (b ∷ bs) →
     IsLeftOf homes first all (number_behind homes k b.items) bs
 further homes first all k b bs h = record {
   apart = apart_later b bs h.apart;
@@ -43,7 +43,7 @@ further homes first all k b bs h = record {
   later : (n : ℕ) → Contains (ids_of bs) n → Contains (ids_of (b ∷ bs)) n
   later n (i, lt, e) = (suc i, omega (arith, lt), e)
 
-module _ (homes : List Home) (first : ℕ) (all : List Block) (k : ℕ) (b : Block) (bs : List Block) (h : IsLeftOf homes first all k (b ∷ bs)) where
+module _ (homes : List SlotAssignment) (first : ℕ) (all : List Block) (k : ℕ) (b : Block) (bs : List Block) (h : IsLeftOf homes first all k (b ∷ bs)) where
   here : Contains (ids_of (b ∷ bs)) b.id
   here = (0, omega arith, refl)
 
@@ -52,7 +52,7 @@ module _ (homes : List Home) (first : ℕ) (all : List Block) (k : ℕ) (b : Blo
 
   -- the items that are left of the block stand there
   pub stands : (n : ℕ) (x : Item) (xs : List Item) → drop n b.items ≡ x ∷ xs → fetch_in (from_block all b.id) n ≡ Here x
-  stands n x xs e = ap (λ (cs : List Block). fetch_in cs n) begins ∙ ap (λ (ys : List Item). front ys b.silent bs) e
+  stands n x xs e = ap (λ (cs : List Block). fetch_in cs n) begins ∙ ap (λ (ys : List Item). front ys b.source_end bs) e
 
   pub number_is : (n : ℕ) → number_at homes first all (record { block = b.id; item = n }) ≡ number_behind homes k (take n b.items)
   number_is n = h.number (record { block = b.id; item = n }) here ∙
@@ -69,7 +69,7 @@ drop_next (y ∷ ys) zero x xs e = drop_none ys ∙ cc where
   drop_none (z ∷ zs) = refl
 drop_next (y ∷ ys) (suc n) x xs e = drop_next ys n x xs e
 
-pub number_next : (homes : List Home) (k : ℕ) (ys : List Item) (n : ℕ) (x : Item) (xs : List Item) → drop n ys ≡ x ∷ xs →
+pub number_next : (homes : List SlotAssignment) (k : ℕ) (ys : List Item) (n : ℕ) (x : Item) (xs : List Item) → drop n ys ≡ x ∷ xs →
     number_behind homes k (take (suc n) ys) ≡ next_number homes (number_behind homes k (take n ys)) x.kind
 number_next homes k [] zero x xs e = cc
 number_next homes k [] (suc n) x xs e = cc

@@ -42,7 +42,7 @@ module _ (s : Spilling) where
 
   abbrev pub blocks_put : (k : ℕ) → List Block → List Block
   blocks_put k [] = []
-  blocks_put k (b ∷ bs) = record { id = b.id; items = items_put k b.items; silent = b.silent } ∷ blocks_put (number_behind s.homes k b.items) bs
+  blocks_put k (b ∷ bs) = record { id = b.id; items = items_put k b.items; source_end = b.source_end } ∷ blocks_put (number_behind s.homes k b.items) bs
 
   abbrev pub with_phis : (k : ℕ) → Function → Function
   with_phis k f = record f { blocks = blocks_put k f.blocks }
@@ -74,10 +74,10 @@ module _ (s : Spilling) (least : ℕ) where
   stays : (kind : ItemKind) (o : Origin) (l : Loc) (xs ys : List Item) → Low least kind → Rest xs ys → Rest (item kind o l ∷ xs) (item kind o l ∷ ys)
   stays kind o l xs ys low rest = pair {k' = tt} refl (kin_itself kind) (same low) rest
 
-  silent : (v : VarId) (r : ℕ) (z : Bool) (o : Origin) (l : Loc) (xs ys : List Item) → Rest xs ys →
+  source_end : (v : VarId) (r : ℕ) (z : Bool) (o : Origin) (l : Loc) (xs ys : List Item) → Rest xs ys →
       Rest (item (Mark v (At r)) o l ∷ xs) (item (Mark v (cond z Nothing (At r))) o l ∷ ys)
-  silent v r true o l xs ys rest = pair {k' = tt} refl (mark_kin (inr refl)) silent_mark rest
-  silent v r false o l xs ys rest = stays (Mark v (At r)) o l xs ys tt rest
+  source_end v r true o l xs ys rest = pair {k' = tt} refl (mark_kin (inr refl)) silent_mark rest
+  source_end v r false o l xs ys rest = stays (Mark v (At r)) o l xs ys tt rest
 
   phi_silent : (p : Place) (n : ℕ) (z : Bool) (o : Origin) (l : Loc) (xs ys : List Item) → Low least (Phi (Some p) n) → Rest xs ys →
       Rest (item (Phi (Some p) n) o l ∷ xs) (item (Phi (cond z None (Some p)) n) o l ∷ ys)
@@ -86,7 +86,7 @@ module _ (s : Spilling) (least : ℕ) where
 
   mark_edited : (k : ℕ) → least ≤ k → (v : VarId) (r : ℕ) (home : Option ℕ) (o : Origin) (l : Loc) (xs ys : List Item) → Rest xs ys →
       Rest (item (Mark v (At r)) o l ∷ xs) (mark_put s k v r home o l ++ ys)
-  mark_edited k le v r None o l xs ys rest = silent v r (is_scratch s r) o l xs ys rest
+  mark_edited k le v r None o l xs ys rest = source_end v r (is_scratch s r) o l xs ys rest
   mark_edited k le v r (Some n) o l xs ys rest = put {k' = tt} refl refl (puts o le) (stays (Mark v (At r)) o l xs ys tt rest)
 
   kind_edited : (k : ℕ) → least ≤ k → (kind : ItemKind) (o : Origin) (l : Loc) (xs ys : List Item) → Low least kind → Rest xs ys →

@@ -14,7 +14,7 @@ use Rattle.mir_func.specs.declared.position.Origin.{Origin}
 use Rattle.mir_func.specs.declared.position.Pos.{Pos}
 use Rattle.mir_func.specs.declared.variable.MarkValue.TheVariants.{At, Pair}
 use Rattle.mir_func.specs.declared.variable.VarId.{VarId}
-use Rattle.mir_func.specs.Graph.{Program, Fetch, Here, Silent, Outside, below, block_start, end_of, front, fetch_in, from_block, program_of}
+use Rattle.mir_func.specs.Graph.{Program, Fetch, Here, EndOfBlock, Outside, below, block_start, end_of, front, fetch_in, from_block, program_of}
 use Rattle.mir_func.specs.Graph.{FetchEdge, Leads, stay, go}
 use Rattle.sem_mir.specs.Align.{is_code}
 use Rattle.sem_mir.specs.Follow.{OnRow, KindsEndAlike}
@@ -47,12 +47,12 @@ pub record IsAbove (least : ℕ) (x : Fetch) (r : ℕ) (q : OperandPair) : Type 
 module _ (least : ℕ) where
   end_same : (k k' : ℕ) (fs gs : List Block) → k' ≡ k → BlocksReask least fs gs → end_of k' gs ≡ end_of k fs
   end_same k k' fs gs e over = refl
-  end_same k k' (a ∷ fs) (b ∷ gs) e (further id silent items rest) = λ i. Silent (e i) (id i)
+  end_same k k' (a ∷ fs) (b ∷ gs) e (further id source_end items rest) = λ i. EndOfBlock (e i) (id i)
 
-  module _ (k k' : ℕ) (fs gs : List Block) (silent : k' ≡ k) (rest : BlocksReask least fs gs) where
+  module _ (k k' : ℕ) (fs gs : List Block) (source_end : k' ≡ k) (rest : BlocksReask least fs gs) where
     front_like : (xs ys : List Item) → Reasks least xs ys → (n : ℕ) → FetchLike (front (drop n xs) k fs) (front (drop n ys) k' gs)
-    front_like xs ys no_items zero = alike (end_same k k' fs gs silent rest)
-    front_like xs ys no_items (suc n) = alike (end_same k k' fs gs silent rest)
+    front_like xs ys no_items zero = alike (end_same k k' fs gs source_end rest)
+    front_like xs ys no_items (suc n) = alike (end_same k k' fs gs source_end rest)
     front_like (x ∷ xs) (y ∷ ys) (same more) zero = alike refl
     front_like (x ∷ xs) (y ∷ ys) (same more) (suc n) = front_like xs ys more n
     front_like (x ∷ z ∷ xs) (y ∷ w ∷ ys) (asks le more) zero = alike refl
@@ -60,7 +60,7 @@ module _ (least : ℕ) where
     front_like (x ∷ z ∷ xs) (y ∷ w ∷ ys) (asks le more) (suc (suc n)) = front_like xs ys more n
 
     start_like : (xs ys : List Item) → Reasks least xs ys → front ys k' gs ≡ front xs k fs
-    start_like xs ys no_items = end_same k k' fs gs silent rest
+    start_like xs ys no_items = end_same k k' fs gs source_end rest
     start_like (x ∷ xs) (y ∷ ys) (same more) = refl
     start_like (x ∷ z ∷ xs) (y ∷ w ∷ ys) (asks le more) = refl
 
@@ -104,23 +104,23 @@ module _ (least : ℕ) where
 
   blocks_from : (fs gs : List Block) → BlocksReask least fs gs → (n : ℕ) → BlocksReask least (from_block fs n) (from_block gs n)
   blocks_from fs gs over n = over
-  blocks_from (a ∷ fs) (b ∷ gs) (further id silent items rest) n =
+  blocks_from (a ∷ fs) (b ∷ gs) (further id source_end items rest) n =
       subst (λ (z : ℕ). BlocksReask least (from_block (a ∷ fs) n) (cond (nat_eq z n) (b ∷ gs) (from_block gs n))) (sym id)
       (by_test (nat_eq a.id n) (blocks_from fs gs rest n)) where
         by_test : (z : Bool) → BlocksReask least (from_block fs n) (from_block gs n) →
             BlocksReask least (cond z (a ∷ fs) (from_block fs n)) (cond z (b ∷ gs) (from_block gs n))
-        by_test true h = further id silent items rest
+        by_test true h = further id source_end items rest
         by_test false h = h
 
   fetch_in_like : (fs gs : List Block) → BlocksReask least fs gs → (n : ℕ) → FetchLike (fetch_in fs n) (fetch_in gs n)
   fetch_in_like fs gs over n = alike refl
-  fetch_in_like (a ∷ fs) (b ∷ gs) (further id silent items rest) n = front_like a.silent b.silent fs gs silent rest a.items b.items items n
+  fetch_in_like (a ∷ fs) (b ∷ gs) (further id source_end items rest) n = front_like a.source_end b.source_end fs gs source_end rest a.items b.items items n
 
   start_in : (fs gs : List Block) → BlocksReask least fs gs → fetch_in gs 0 ≡ fetch_in fs 0
   start_in fs gs over = refl
-  start_in (a ∷ fs) (b ∷ gs) (further id silent items rest) =
-      ap (λ (ys : List Item). front ys b.silent gs) (drop_none b.items) ∙ start_like a.silent b.silent fs gs silent rest a.items b.items items ∙
-      ap (λ (xs : List Item). front xs a.silent fs) (sym (drop_none a.items)) where
+  start_in (a ∷ fs) (b ∷ gs) (further id source_end items rest) =
+      ap (λ (ys : List Item). front ys b.source_end gs) (drop_none b.items) ∙ start_like a.source_end b.source_end fs gs source_end rest a.items b.items items ∙
+      ap (λ (xs : List Item). front xs a.source_end fs) (sym (drop_none a.items)) where
         drop_none : (xs : List Item) → drop 0 xs ≡ xs
         drop_none [] = refl
         drop_none (x ∷ xs) = refl
@@ -128,8 +128,8 @@ module _ (least : ℕ) where
   above_at : (fs gs : List Block) → BlocksReask least fs gs → (n : ℕ) (v w : VarId) (r : ℕ) (q : OperandPair) (o o' : Origin) (l l' : Loc) →
       fetch_in fs (suc n) ≡ Here (item (Mark v (At r)) o l) → fetch_in gs (suc n) ≡ Here (item (Mark w (Pair q)) o' l') → IsAbove least (fetch_in fs n) r q
   above_at fs gs over n v w r q o o' l l' h e = cc
-  above_at (a ∷ fs) (b ∷ gs) (further id silent items rest) n v w r q o o' l l' h e =
-      above_in a.silent b.silent fs gs silent rest a.items b.items items n v w r q o o' l l' h e
+  above_at (a ∷ fs) (b ∷ gs) (further id source_end items rest) n v w r q o o' l l' h e =
+      above_in a.source_end b.source_end fs gs source_end rest a.items b.items items n v w r q o o' l l' h e
 
   module _ (fs gs : List Block) (rel : BlocksReask least fs gs) (resolve : OperandPair → Option OperandPair) where
     abbrev pub fp : Program

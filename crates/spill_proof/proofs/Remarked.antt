@@ -34,7 +34,7 @@ module _ (least : ℕ) where
   -- and the blocks
   pub data BlocksReask : List Block → List Block → Type 0 where
     over : BlocksReask [] []
-    further : {a b : Block} {fs gs : List Block} → b.id ≡ a.id → b.silent ≡ a.silent → Reasks a.items b.items → BlocksReask fs gs → BlocksReask (a ∷ fs)
+    further : {a b : Block} {fs gs : List Block} → b.id ≡ a.id → b.source_end ≡ a.source_end → Reasks a.items b.items → BlocksReask fs gs → BlocksReask (a ∷ fs)
         (b ∷ gs)
 
   module _ (s : Spilling) where
@@ -86,8 +86,8 @@ module _ (least : ℕ) where
 
   blocks_grow : (fs gs : List Block) → BlocksReask fs gs → BlocksGrow NoNumber gs fs
   blocks_grow fs gs over = no_blocks
-  blocks_grow (a ∷ fs) (b ∷ gs) (further id silent items rest) =
-      next_block [] a.items (sym id) (sym silent) no_extra (items_grow a.items b.items items) refl (blocks_grow fs gs rest)
+  blocks_grow (a ∷ fs) (b ∷ gs) (further id source_end items rest) =
+      next_block [] a.items (sym id) (sym source_end) no_extra (items_grow a.items b.items items) refl (blocks_grow fs gs rest)
 
   -- what holds of each item, whatever a mark asks for
   module _ (P : ItemKind → Origin → Type 0) (marks : (v : VarId) (m m' : MarkValue) (o : Origin) → P (Mark v m) o → P (Mark v m') o) where
@@ -108,14 +108,14 @@ module _ (least : ℕ) where
 
     back_blocks : (fs gs : List Block) → BlocksReask fs gs → AllItems Every gs → AllItems Every fs
     back_blocks fs gs over h = h
-    back_blocks (a ∷ fs) (b ∷ gs) (further id silent items rest) h =
+    back_blocks (a ∷ fs) (b ∷ gs) (further id source_end items rest) h =
         All-cons (λ (c : Block). All Every c.items) a fs
         (back_items (λ kind o. P kind) (λ v m m' o k. marks v m') a.items b.items items (All-head (λ (c : Block). All Every c.items) b gs h))
         (back_blocks fs gs rest (All-tail (λ (c : Block). All Every c.items) b gs h))
 
-  same_home : (a b : Block) → b.id ≡ a.id → b.silent ≡ a.silent → (o : Origin) → OriginIn b o → OriginIn a o
-  same_home a b id silent (Kept p) h = (h.0 ∙ id, subst (λ (n : ℕ). p.item < n) silent h.1)
-  same_home a b id silent (Before p) h = (h.0 ∙ id, subst (λ (n : ℕ). p.item ≤ n) silent h.1)
+  same_home : (a b : Block) → b.id ≡ a.id → b.source_end ≡ a.source_end → (o : Origin) → OriginIn b o → OriginIn a o
+  same_home a b id source_end (Kept p) h = (h.0 ∙ id, subst (λ (n : ℕ). p.item < n) source_end h.1)
+  same_home a b id source_end (Before p) h = (h.0 ∙ id, subst (λ (n : ℕ). p.item ≤ n) source_end h.1)
 
   all_weaker : (P Q : Item → Type 0) → ((x : Item) → P x → Q x) → (xs : List Item) → All P xs → All Q xs
   all_weaker P Q f [] h = All-nil Q
@@ -124,9 +124,9 @@ module _ (least : ℕ) where
   back_origins : (fs gs : List Block) → BlocksReask fs gs → All (λ (b : Block). All (λ (i : Item). OriginIn b i.origin) b.items) gs →
       All (λ (b : Block). All (λ (i : Item). OriginIn b i.origin) b.items) fs
   back_origins fs gs over h = h
-  back_origins (a ∷ fs) (b ∷ gs) (further id silent items rest) h =
+  back_origins (a ∷ fs) (b ∷ gs) (further id source_end items rest) h =
       All-cons (λ (c : Block). All (λ (i : Item). OriginIn c i.origin) c.items) a fs
-      (all_weaker (λ i. OriginIn b i.origin) (λ i. OriginIn a i.origin) (λ x inside. same_home a b id silent x.origin inside) a.items
+      (all_weaker (λ i. OriginIn b i.origin) (λ i. OriginIn a i.origin) (λ x inside. same_home a b id source_end x.origin inside) a.items
       (back_items (λ kind o. OriginIn b o) (λ v m m' o k. k) a.items b.items items
       (All-head (λ (c : Block). All (λ (i : Item). OriginIn c i.origin) c.items) b gs h)))
       (back_origins fs gs rest (All-tail (λ (c : Block). All (λ (i : Item). OriginIn c i.origin) c.items) b gs h))

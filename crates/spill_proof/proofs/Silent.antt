@@ -1,7 +1,7 @@
 -- What follows a source follows it with phis of fresh numbers, where scratch registers tell nothing.
 use Rattle.std.proofs.Common.{◌≡◌, inr, ℕ, ◌<◌, ◌≤◌, List, Option, Some, None, true, false, refl, sym, ap, ◌∙◌, arith}
 use Rattle.rv64_instr.specs.Instruction.{Instruction}
-use Rattle.mir_func.specs.declared.entry.Entry.{Entry}
+use Rattle.mir_func.specs.declared.entry.DebugSubstitution.{DebugSubstitution}
 use Rattle.mir_func.specs.declared.entry.OperandPair.{OperandPair}
 use Rattle.mir_func.specs.declared.item.Item.{Item}
 use Rattle.mir_func.specs.declared.item.ItemKind.{ItemKind}
@@ -19,8 +19,8 @@ use Rattle.sem_mir.proofs.Outcomes.{alike_weaker}
 use Rattle.sem_simulation.specs.Sides.{OutcomesAlike}
 use Rattle.sem_simulation.proofs.Outcomes.{alike_of}
 use Rattle.pass_trait.specs.Change.{change}
-use Rattle.pass_trait.specs.Following.{KeepsFollowing}
-use Rattle.sem_agreement.specs.Alike.{Alike, TellsNoMore, HeldAfter, OrDefined, NumbersHeld, Depends}
+use Rattle.pass_trait.specs.Simulation.{PreservesSimulation}
+use Rattle.sem_agreement.specs.Agreement.{Alike, DebugLessDef, HeldAfter, GenDefs, NumbersHeld, Depends}
 use Rattle.sem_agreement.proofs.Held.{held_fewer, held_itself}
 use Rattle.sem_agreement.proofs.Told.{tells_itself}
 use Rattle.sem_agreement.proofs.Items.{item_both, mark_both, phi_both, phi_second}
@@ -37,8 +37,8 @@ module _ (least : ℕ) where
   abbrev IsFree : ℕ → Type 0
   IsFree n = least ≤ n
 
-  abbrev Cores : Core → Core → Type 0
-  Cores c d = Alike Everywhere IsFree c d
+  abbrev MatchCores : Core → Core → Type 0
+  MatchCores c d = Alike Everywhere IsFree c d
 
   module _ (f g : Program) (blind_f : f.sees_pointer ≡ false) (blind_g : g.sees_pointer ≡ false) (resolves : (q : OperandPair) → g.resolve q ≡ f.resolve q)
       (low : (q r : OperandPair) → q.number < least → f.resolve q ≡ Some r → r.number < least) where
@@ -49,14 +49,14 @@ module _ (least : ℕ) where
     not_free : (n : ℕ) → n < least → IsFree n → ⊥
     not_free n lt le = omega (arith, lt, le)
 
-    pair_same : (q : OperandPair) (c d : Core) → q.number < least → TellsNoMore IsFree c d → (v : ℕ) → pair_value (g.resolve q) d ≡ Some v →
+    pair_same : (q : OperandPair) (c d : Core) → q.number < least → DebugLessDef IsFree c d → (v : ℕ) → pair_value (g.resolve q) d ≡ Some v →
         pair_value (f.resolve q) c ≡ Some v
     pair_same q c d lt t v e = by_pair (f.resolve q) refl (ap (λ (x : Option OperandPair). pair_value x d) (sym (resolves q)) ∙ e) where
       by_pair : (x : Option OperandPair) → f.resolve q ≡ x → pair_value x d ≡ Some v → pair_value x c ≡ Some v
       by_pair None is e = cc
       by_pair (Some r) is e = t.pairs r.number r.operand (not_free r.number (low q r lt is)) v e
 
-    depends : (kind : ItemKind) (c d : Core) → Low least kind → Cores c d → Depends f g Everywhere kind c d
+    depends : (kind : ItemKind) (c d : Core) → Low least kind → MatchCores c d → Depends f g Everywhere kind c d
     depends (Code i m) c d lt h = (λ x u. tt, all_numbers i m)
     depends (Mark v Nothing) c d lt h = tt
     depends (Mark v (Constant z)) c d lt h = tt
@@ -65,29 +65,30 @@ module _ (least : ℕ) where
     depends (Phi None m) c d lt h = tt
     depends (Phi (Some x) m) c d lt h = tt
 
-    all_after : (kind : ItemKind) (c d : Core) → Alike (HeldAfter Everywhere kind) IsFree c d → Cores c d
-    all_after (Code i m) c d h = record { held = held_fewer (OrDefined Everywhere i) Everywhere (λ x u. inr tt) c d h.held; told = h.told }
+    all_after : (kind : ItemKind) (c d : Core) → Alike (HeldAfter Everywhere kind) IsFree c d → MatchCores c d
+    all_after (Code i m) c d h = record { held = held_fewer (GenDefs Everywhere i) Everywhere (λ x u. inr tt) c d h.held; told = h.told }
     all_after (Mark v m) c d h = h
     all_after (Phi p m) c d h = h
 
-    item_same : (kind : ItemKind) (c d : Core) → Low least kind → Cores c d → EndAlike Cores (do_item f kind c) (do_item g kind d)
+    item_same : (kind : ItemKind) (c d : Core) → Low least kind → MatchCores c d → EndAlike MatchCores (do_item f kind c) (do_item g kind d)
     item_same kind c d lt h =
-        alike_weaker (Alike (HeldAfter Everywhere kind) IsFree) Cores (all_after kind) (do_item f kind c) (do_item g kind d)
+        alike_weaker (Alike (HeldAfter Everywhere kind) IsFree) MatchCores (all_after kind) (do_item f kind c) (do_item g kind d)
         (item_both Everywhere IsFree f g kind c d (blind_f ∙ sym blind_g) h (depends kind c d lt h))
 
-    item_put : (x y : Item) → IsPut least x y → (c d : Core) → Cores c d → EndAlike Cores (do_item f x.kind c) (do_item g y.kind d)
+    item_put : (x y : Item) → IsPut least x y → (c d : Core) → MatchCores c d → EndAlike MatchCores (do_item f x.kind c) (do_item g y.kind d)
     item_put x y (same lt) c d h = item_same x.kind c d lt h
     item_put x y (silent_mark {v} {r}) c d h = mark_both Everywhere IsFree f g v (At r) Nothing c d h (λ w e. cc)
     item_put x y (silent_phi {p} {n}) c d h = phi_both Everywhere IsFree f g (Some p) None n c d h (λ far w e. cc)
 
-    code_put : (x y : Item) → IsPut least x y → (c d : Core) → Cores c d → OutcomesAlike Cores (λ t. Cores) (do_item f x.kind c) (do_item g y.kind d)
-    code_put x y how c d h = alike_of Cores (λ t. Cores) Cores (do_item f x.kind c) (do_item g y.kind d) (λ e e' r. r) (λ t e e' go r. r)
+    code_put : (x y : Item) → IsPut least x y → (c d : Core) → MatchCores c d →
+        OutcomesAlike MatchCores (λ t. MatchCores) (do_item f x.kind c) (do_item g y.kind d)
+    code_put x y how c d h = alike_of MatchCores (λ t. MatchCores) MatchCores (do_item f x.kind c) (do_item g y.kind d) (λ e e' r. r) (λ t e e' go r. r)
         (item_put x y how c d h)
 
-    phi_put : (y : Item) → IsPhi least y → (c d : Core) → Cores c d → FallsInto (λ e. Cores c e) (do_item g y.kind d)
+    phi_put : (y : Item) → IsPhi least y → (c d : Core) → MatchCores c d → FallsInto (λ e. MatchCores c e) (do_item g y.kind d)
     phi_put y (puts {p} {k} o le) c d h = phi_second Everywhere IsFree g p k c d le h
 
-    put_keeps : Keeps (put_edits least) (λ k. Cores) f g
+    put_keeps : Keeps (put_edits least) (λ k. MatchCores) f g
     put_keeps = record {
       code = λ k k' x y how code code' c d h. code_put x y how c d h;
       debug = λ k k' x y how none none' c d h. item_put x y how c d h;
@@ -117,11 +118,12 @@ module _ (least : ℕ) where
   put_counts x y silent_mark h = absurd h
   put_counts x y silent_phi h = absurd h
 
-  pub phis_follow : (s : Spilling) (f : Function) (subs : List Entry) → IsSound f → IsSound (with_phis s least f) → AllItems (λ i. Low least i.kind) f.blocks →
-      LowEntries least subs → KeepsFollowing false true (change f subs (with_phis s least f) subs)
+  pub phis_follow : (s : Spilling) (f : Function) (subs : List DebugSubstitution) → IsSound f → IsSound (with_phis s least f) →
+      AllItems (λ i. Low least i.kind) f.blocks →
+      LowEntries least subs → PreservesSimulation false true (change f subs (with_phis s least f) subs)
   phis_follow s f subs sound sound' low entries =
       let fp : Program = program_of false f.blocks (resolve subs) in
       let gp : Program = program_of false (with_phis s least f).blocks (resolve subs) in
-      follows_edited (put_edits least) (λ k. Cores) put_allows f (with_phis s least f) sound sound' subs subs refl
+      follows_edited (put_edits least) (λ k. MatchCores) put_allows f (with_phis s least f) sound sound' subs subs refl
       (blocks_edited s least least (omega arith) f.blocks low) (put_keeps fp gp refl refl (λ q. refl) (resolve_low least subs entries))
       (λ m c none. record { held = held_itself Everywhere c; told = tells_itself IsFree c }) (λ a b x h. absurd h) (λ a b x y how h. put_counts x y how h)

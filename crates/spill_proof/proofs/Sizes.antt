@@ -6,7 +6,7 @@ use Rattle.std.proofs.lemmas.List.{length-map}
 use Rattle.std.specs.List.{flat_map}
 use Rattle.std.proofs.lemmas.List.Elements.{All-nil, All-cons, All-filter}
 use Rattle.std.proofs.lemmas.List.Sums.{count_by-le-length}
-use Rattle.mir_func.specs.declared.entry.Entry.{Entry}
+use Rattle.mir_func.specs.declared.entry.DebugSubstitution.{DebugSubstitution}
 use Rattle.mir_func.specs.declared.item.Item.{Item}
 use Rattle.mir_func.specs.Function.{Function}
 use Rattle.mir_func.specs.Limits.{MAX_BLOCKS, MAX_SLOTS}
@@ -16,7 +16,7 @@ use Rattle.pass_trait.specs.Causes.{is_named, scratch_of}
 use Rattle.pass_trait.specs.Change.{change}
 use Rattle.pass_trait.specs.Sizes.{greatest, greatest_number, most_numbers, calls, KeepsSizes}
 use Rattle.pass_salvage.proofs.Greatest.{greatest_append}
-use Rattle.spill_code.specs.declared.spilling.Home.{Home}
+use Rattle.spill_code.specs.declared.spilling.SlotAssignment.{SlotAssignment}
 use Rattle.spill_code.specs.declared.spilling.Spilling.{Spilling}
 use Rattle.spill_code.specs.Rewrite.{entry_stores, spilled_blocks}
 use Rattle.spill_debug.specs.Asked.{blocks_asked, number_beyond}
@@ -58,22 +58,22 @@ low_scratch f r k =
     let free : List ℕ = filter (λ (q : ℕ). not (is_named f q)) CANDIDATES in
     low_candidate r (kept_by (λ q. not (is_named f q)) CANDIDATES r (in_take 2 free r k)).0
 
-low_homes : (m : ℕ) (rs : List ℕ) → ((r : ℕ) → Contains rs r → r < 32) → All (λ (h : Home). h.register < 32) (homes_from m rs)
-low_homes m [] low = All-nil (λ (h : Home). h.register < 32)
+low_homes : (m : ℕ) (rs : List ℕ) → ((r : ℕ) → Contains rs r → r < 32) → All (λ (h : SlotAssignment). h.register < 32) (homes_from m rs)
+low_homes m [] low = All-nil (λ (h : SlotAssignment). h.register < 32)
 low_homes m (r ∷ rs) low =
-    All-cons (λ (h : Home). h.register < 32) (record { register = r; slot = m }) (homes_from (m + 1) rs) (low r (0, omega arith, refl))
+    All-cons (λ (h : SlotAssignment). h.register < 32) (record { register = r; slot = m }) (homes_from (m + 1) rs) (low r (0, omega arith, refl))
     (low_homes (m + 1) rs (λ q k. low q (suc k.0, (let lt = k.1 in omega (arith, lt)), k.2)))
 
 -- ---- homes
 
-fewer : (p : Home → Bool) (hs : List Home) → length (filter p hs) ≤ length hs
+fewer : (p : SlotAssignment → Bool) (hs : List SlotAssignment) → length (filter p hs) ≤ length hs
 fewer p [] = omega arith
 fewer p (h ∷ hs) = by_test (p h) (fewer p hs) where
   by_test : (z : Bool) → length (filter p hs) ≤ length hs → length (cond z (h ∷ filter p hs) (filter p hs)) ≤ suc (length hs)
   by_test true le = omega (arith, le)
   by_test false le = omega (arith, le)
 
-slots_top : (m : ℕ) (rs : List ℕ) → greatest (map (λ (h : Home). h.slot) (homes_from m rs)) < max 1 (m + length rs)
+slots_top : (m : ℕ) (rs : List ℕ) → greatest (map (λ (h : SlotAssignment). h.slot) (homes_from m rs)) < max 1 (m + length rs)
 slots_top m [] = omega arith
 slots_top m (r ∷ rs) = let h = slots_top (m + 1) rs in omega (arith, h)
 
@@ -117,11 +117,11 @@ once a b le = omega (arith, le)
 none_more : (a b : ℕ) → a ≤ 0 + b → a ≤ b
 none_more a b le = omega (arith, le)
 
-module _ (reserve : List ℕ) (live : ℕ → Bool) (f : Function) (subs : List Entry) (real : (r : ℕ) → Contains reserve r → IsReservable r) where
+module _ (reserve : List ℕ) (live : ℕ → Bool) (f : Function) (subs : List DebugSubstitution) (real : (r : ℕ) → Contains reserve r → IsReservable r) where
   abbrev s : Spilling
   s = spilling_of reserve live f
 
-  abbrev entry : List Home
+  abbrev entry : List SlotAssignment
   entry = entry_of live (homes_of reserve live f)
 
   abbrev k : ℕ
@@ -135,7 +135,7 @@ module _ (reserve : List ℕ) (live : ℕ → Bool) (f : Function) (subs : List 
 
   few_homes : length (homes_of reserve live f) ≤ MAX_SLOTS
   few_homes = few_of (length f.slots + length f.objects) (length (candidates reserve live f)) (length (homes_of reserve live f))
-      (sym (length-map (homes_of reserve live f) (λ (h : Home). h.slot)) ∙ how_many reserve live f)
+      (sym (length-map (homes_of reserve live f) (λ (h : SlotAssignment). h.slot)) ∙ how_many reserve live f)
 
   few_entry : length entry ≤ MAX_SLOTS
   few_entry = le_on (length entry) (length (homes_of reserve live f)) MAX_SLOTS (fewer (λ h. live h.register) (homes_of reserve live f)) few_homes
@@ -144,8 +144,8 @@ module _ (reserve : List ℕ) (live : ℕ → Bool) (f : Function) (subs : List 
   chosen_real r c = reservable_real r (real r
       (kept_by (λ r. is_named f r && is_free (reason_of f live r)) reserve r (in_take (room f) (candidates reserve live f) r c)).0)
 
-  entry_real : All (λ (h : Home). h.register < 32) entry
-  entry_real = All-filter (λ (h : Home). live h.register) (λ (h : Home). h.register < 32) (homes_of reserve live f)
+  entry_real : All (λ (h : SlotAssignment). h.register < 32) entry
+  entry_real = All-filter (λ (h : SlotAssignment). live h.register) (λ (h : SlotAssignment). h.register < 32) (homes_of reserve live f)
       (low_homes (next_slot f.slots) (chosen reserve live f) chosen_real)
 
   items_most : length ys ≤ MAX_SLOTS + 4 * length xs
@@ -170,7 +170,7 @@ module _ (reserve : List ℕ) (live : ℕ → Bool) (f : Function) (subs : List 
       (λ n x. once _ _ (call_kind s n x.kind x.origin x.loc)) k 0 entry f.blocks (λ b. none_le _ _ (no_calls_entry s b entry)))
 
   abbrev entries : List ℕ
-  entries = flat_map (λ (e : Entry). e.src.number ∷ e.dst.number ∷ []) subs
+  entries = flat_map (λ (e : DebugSubstitution). e.src.number ∷ e.dst.number ∷ []) subs
 
   numbers_most : greatest (nums ys ++ entries) ≤ greatest (nums xs ++ entries) + most_numbers 4 1 f
   numbers_most =
@@ -181,10 +181,11 @@ module _ (reserve : List ℕ) (live : ℕ → Bool) (f : Function) (subs : List 
       subst (λ (n : ℕ). n ≤ greatest (nums xs ++ entries) + most_numbers 4 1 f) (sym now)
       (subst (λ (n : ℕ). max (top ys) (greatest entries) ≤ n + most_numbers 4 1 f) (sym old) h)
 
-  slots_most : greatest (f.slots ++ map (λ (h : Home). h.slot) (homes_of reserve live f)) ≤ greatest f.slots + MAX_SLOTS * 1
+  slots_most : greatest (f.slots ++ map (λ (h : SlotAssignment). h.slot) (homes_of reserve live f)) ≤ greatest f.slots + MAX_SLOTS * 1
   slots_most =
-      subst (λ (n : ℕ). n ≤ greatest f.slots + MAX_SLOTS * 1) (sym (greatest_append f.slots (map (λ (h : Home). h.slot) (homes_of reserve live f))))
-      (more_slots (greatest f.slots) (greatest (map (λ (h : Home). h.slot) (homes_of reserve live f))) (next_slot f.slots) (length (chosen reserve live f))
+      subst (λ (n : ℕ). n ≤ greatest f.slots + MAX_SLOTS * 1) (sym (greatest_append f.slots (map (λ (h : SlotAssignment). h.slot) (homes_of reserve live f))))
+      (more_slots (greatest f.slots) (greatest (map (λ (h : SlotAssignment). h.slot) (homes_of reserve live f))) (next_slot f.slots) (length
+      (chosen reserve live f))
       (slots_top (next_slot f.slots) (chosen reserve live f)) (next_most f.slots)
       (subst (λ (n : ℕ). n ≤ MAX_SLOTS) (long_homes (next_slot f.slots) (chosen reserve live f)) few_homes))
 
@@ -210,7 +211,7 @@ module _ (reserve : List ℕ) (live : ℕ → Bool) (f : Function) (subs : List 
     slots = omega arith;
   }
 
-  sizes_by : (hs : List Home) → KeepsSizes 4 1 (change f subs (where_spilled hs f (spilled_by s entry k f)) subs)
+  sizes_by : (hs : List SlotAssignment) → KeepsSizes 4 1 (change f subs (where_spilled hs f (spilled_by s entry k f)) subs)
   sizes_by [] = same_sizes
   sizes_by (h ∷ hs) = spilled_sizes
 

@@ -7,11 +7,11 @@ use Rattle.mir_func.specs.Function.{Function}
 use Rattle.mir_func.specs.Limits.{MAX_SLOTS}
 use Rattle.mir_func.specs.Sound.{AreApart}
 use Rattle.pass_trait.specs.Sizes.{greatest}
-use Rattle.spill_code.specs.declared.spilling.Home.{Home}
+use Rattle.spill_code.specs.declared.spilling.SlotAssignment.{SlotAssignment}
 use Rattle.spill_rule.specs.Choice.{room, chosen, candidates, next_slot, homes_from, homes_of, spilling_of}
 use Rattle.spill_proof.specs.Sound.{slots_now}
 
-abbrev slot : Home → ℕ
+abbrev slot : SlotAssignment → ℕ
 slot h = h.slot
 
 pub at_home : (m : ℕ) (rs : List ℕ) (i n : ℕ) → slice_get (map slot (homes_from m rs)) i ≡ Some n → n ≡ m + i

@@ -38,7 +38,7 @@ use Rattle.mir_func.specs.Sound.{AreApart, AllItems, ids_of, number_of, code_num
 use Rattle.mir_func.specs.Sound.{BaseHasBytes, ObjectIn, ObjectsIn, IsNotPointer, LeavesPointer, IsSound}
 use Rattle.sem_mir.specs.Align.{position_of}
 use Rattle.pass_trait.specs.Rule.{item}
-use Rattle.spill_code.specs.declared.spilling.Home.{Home}
+use Rattle.spill_code.specs.declared.spilling.SlotAssignment.{SlotAssignment}
 use Rattle.spill_code.specs.declared.spilling.Spilling.{Spilling}
 use Rattle.spill_code.specs.Rewrite.{slot_of, stand_in, use_now, set_in, def_now, renamed_operand, first_used, other_used, first_defined}
 use Rattle.spill_code.specs.Rewrite.{spilled_code, load, store, added, loads}
@@ -114,18 +114,18 @@ two_in (x ∷ xs) (suc k, lt, e) = or_right (nat_eq x 2) (list_any_two xs) (two_
 no_pointer_saved : Contains caller_saved 2 → ⊥
 no_pointer_saved k = let bad : false ≡ true = two_in caller_saved k in cc
 
-home_in : (hs : List Home) (r n : ℕ) → slot_of hs r ≡ Some n → Contains (map (λ (h : Home). h.slot) hs) n
+home_in : (hs : List SlotAssignment) (r n : ℕ) → slot_of hs r ≡ Some n → Contains (map (λ (h : SlotAssignment). h.slot) hs) n
 home_in [] r n e = cc
 home_in (h ∷ hs) r n e = by_test (λ k. home_in hs r n k) (nat_eq h.register r) e where
-  by_test : (slot_of hs r ≡ Some n → Contains (map (λ (g : Home). g.slot) hs) n) → (z : Bool) → cond z (Some h.slot) (slot_of hs r) ≡ Some n →
-      Contains (map (λ (g : Home). g.slot) (h ∷ hs)) n
+  by_test : (slot_of hs r ≡ Some n → Contains (map (λ (g : SlotAssignment). g.slot) hs) n) → (z : Bool) → cond z (Some h.slot) (slot_of hs r) ≡ Some n →
+      Contains (map (λ (g : SlotAssignment). g.slot) (h ∷ hs)) n
   by_test later true e = let same : h.slot ≡ n = cc in (0, omega arith, same)
   by_test later false e = let w = later e in (suc w.0, (let lt = w.1 in omega (arith, lt)), w.2)
 
 abbrev NoFresh : ℕ → Type 0
 NoFresh n = ⊥
 
-module _ (s : Spilling) (entry : List Home) (f : Function) (resolve : OperandPair → Option OperandPair) (sound : IsSound f)
+module _ (s : Spilling) (entry : List SlotAssignment) (f : Function) (resolve : OperandPair → Option OperandPair) (sound : IsSound f)
     (may : MaySpill s entry f resolve) where
   abbrev homes : AreHomes s f.slots
   homes = may.homes
@@ -137,7 +137,7 @@ module _ (s : Spilling) (entry : List Home) (f : Function) (resolve : OperandPai
   renames i = row_renamed (use_now s (first_used s.homes i.operands)) (def_now s) (keeps_zero s f.slots homes (first_used s.homes i.operands)) i
 
   home_slot_in : (r n : ℕ) → slot_of s.homes r ≡ Some n → Contains now n
-  home_slot_in r n e = Contains-append_right f.slots (map (λ (h : Home). h.slot) s.homes) n (home_in s.homes r n e)
+  home_slot_in r n e = Contains-append_right f.slots (map (λ (h : SlotAssignment). h.slot) s.homes) n (home_in s.homes r n e)
 
   -- ---- what is added
 
@@ -164,7 +164,7 @@ module _ (s : Spilling) (entry : List Home) (f : Function) (resolve : OperandPai
   stores_extra p r None = no_extra
   stores_extra p r (Some n) = All-cons (IsExtra NoFresh) (added p (store r n)) [] (store_extra p r n) no_extra
 
-  entry_extra : (b : ℕ) (hs : List Home) → All (IsExtra NoFresh) (entry_stores b hs)
+  entry_extra : (b : ℕ) (hs : List SlotAssignment) → All (IsExtra NoFresh) (entry_stores b hs)
   entry_extra b [] = no_extra
   entry_extra b (h ∷ hs) =
       All-cons (IsExtra NoFresh) (added (block_start b) (store h.register h.slot)) (entry_stores b hs) (store_extra (block_start b) h.register h.slot)
@@ -313,7 +313,8 @@ module _ (s : Spilling) (entry : List Home) (f : Function) (resolve : OperandPai
         (each_kind b x.kind x.origin x.loc (All-head FitsItem x xs fits) (All-head (λ i. OriginIn b i.origin) x xs inside) (All-head (Was b) x xs was))
         (each_item b xs (All-tail FitsItem x xs fits) (All-tail (λ i. OriginIn b i.origin) x xs inside) (All-tail (Was b) x xs was)))
 
-    each_entry : (b : Block) (hs : List Home) → ((h : Home) → Contains hs h → slot_of s.homes h.register ≡ Some h.slot) → All (Is b) (entry_stores b.id hs)
+    each_entry : (b : Block) (hs : List SlotAssignment) → ((h : SlotAssignment) → Contains hs h → slot_of s.homes h.register ≡ Some h.slot) →
+        All (Is b) (entry_stores b.id hs)
     each_entry b [] stored = All-nil (Is b)
     each_entry b (h ∷ hs) stored =
         All-cons (Is b) (added (block_start b.id) (store h.register h.slot)) (entry_stores b.id hs)
@@ -322,7 +323,7 @@ module _ (s : Spilling) (entry : List Home) (f : Function) (resolve : OperandPai
 
   -- of blocks that differ in their items alone
   abbrev IsSteady : (Block → ItemKind → Origin → Type 0) → Type 0
-  IsSteady Q = (b : Block) (ys : List Item) (kind : ItemKind) (o : Origin) → Q b kind o → Q (record { id = b.id; items = ys; silent = b.silent }) kind o
+  IsSteady Q = (b : Block) (ys : List Item) (kind : ItemKind) (o : Origin) → Q b kind o → Q (record { id = b.id; items = ys; source_end = b.source_end }) kind o
 
   all_weaker : (A B : Item → Type 0) → ((x : Item) → A x → B x) → (xs : List Item) → All A xs → All B xs
   all_weaker A B g [] h = All-nil B
@@ -332,8 +333,8 @@ module _ (s : Spilling) (entry : List Home) (f : Function) (resolve : OperandPai
     abbrev Now : Block → Type 0
     Now b = All (λ i. Q b i.kind i.origin) b.items
 
-    moved : (b : Block) (ys : List Item) → All (λ i. Q b i.kind i.origin) ys → Now (record { id = b.id; items = ys; silent = b.silent })
-    moved b ys h = all_weaker (λ i. Q b i.kind i.origin) (λ i. Q (record { id = b.id; items = ys; silent = b.silent }) i.kind i.origin)
+    moved : (b : Block) (ys : List Item) → All (λ i. Q b i.kind i.origin) ys → Now (record { id = b.id; items = ys; source_end = b.source_end })
+    moved b ys h = all_weaker (λ i. Q b i.kind i.origin) (λ i. Q (record { id = b.id; items = ys; source_end = b.source_end }) i.kind i.origin)
         (λ x k. steady b ys x.kind x.origin k) ys h
 
     each_other : (bs : List Block) → AllItems FitsItem bs → All (λ (b : Block). All (λ (i : Item). OriginIn b i.origin) b.items) bs →
@@ -377,7 +378,7 @@ module _ (s : Spilling) (entry : List Home) (f : Function) (resolve : OperandPai
 
   place_now : (p : Option Place) → PlaceIn f.slots p → PlaceIn now (spilled_place s.homes p)
   place_now None h = tt
-  place_now (Some (Slot n)) h = Contains-append_left f.slots (map (λ (g : Home). g.slot) s.homes) n h
+  place_now (Some (Slot n)) h = Contains-append_left f.slots (map (λ (g : SlotAssignment). g.slot) s.homes) n h
   place_now (Some (Const z)) h = tt
   place_now (Some (Register r)) h = by_home (slot_of s.homes r) refl where
     by_home : (z : Option ℕ) → slot_of s.homes r ≡ z → PlaceIn now (Some (place_in r z))
@@ -388,7 +389,7 @@ module _ (s : Spilling) (entry : List Home) (f : Function) (resolve : OperandPai
   slots_pass = record {
     code = λ b i n o fits inside h. subst (SlotIn now) (sym (renames i))
         (slot_renamed (use_now s (first_used s.homes i.operands)) (def_now s) now (row_of i)
-        (slot_more f.slots (map (λ (g : Home). g.slot) s.homes) (row_of i) h));
+        (slot_more f.slots (map (λ (g : SlotAssignment). g.slot) s.homes) (row_of i) h));
     before = λ b r q m o which is inside. home_slot_in q m is;
     behind = λ b q m p is inside. home_slot_in q m is;
     start = λ b q m is. home_slot_in q m is;

@@ -64,4 +64,4 @@ standing f apart i h =
     let k = w.2 in
     let v = found f.blocks apart w.0 w.1 in
     let at : slice_get w.0.items k.0 ≡ Some i = slice_get-get_or w.0.items k.0 i k.1 ∙ ap Some k.2 in
-    (record { block = w.0.id; item = k.0 }, ap (λ (bs : List Block). fetch_in bs k.0) v.at ∙ item_front w.0.items k.0 w.0.silent v.rest i at)
+    (record { block = w.0.id; item = k.0 }, ap (λ (bs : List Block). fetch_in bs k.0) v.at ∙ item_front w.0.items k.0 w.0.source_end v.rest i at)

@@ -1,7 +1,7 @@
 -- Runs of a function whose marks ask for the numbers of phis right before them are those of the function whose marks ask for the registers.
 use Rattle.std.proofs.Common.{◌≡◌, ◌⊎◌, inl, inr, ℕ, ◌<◌, List, ◌∷◌, Option, Some, true, false, refl, sym, ap, ◌∙◌, subst, arith}
 use Rattle.mir_func.specs.declared.block.Block.{Block}
-use Rattle.mir_func.specs.declared.entry.Entry.{Entry}
+use Rattle.mir_func.specs.declared.entry.DebugSubstitution.{DebugSubstitution}
 use Rattle.mir_func.specs.declared.entry.OperandPair.{OperandPair}
 use Rattle.mir_func.specs.declared.item.ItemKind.{ItemKind}
 use Rattle.mir_func.specs.declared.item.ItemKind.TheVariants.{Code, Mark, Phi}
@@ -10,20 +10,20 @@ use Rattle.mir_func.specs.declared.position.Origin.{Origin}
 use Rattle.mir_func.specs.declared.position.Pos.{Pos}
 use Rattle.mir_func.specs.declared.variable.MarkValue.TheVariants.{Nothing, Constant, At, Pair}
 use Rattle.mir_func.specs.declared.variable.VarId.{VarId}
-use Rattle.mir_func.specs.Graph.{Program, Fetch, Here, Silent, Outside, below, block_start, program_of}
+use Rattle.mir_func.specs.Graph.{Program, Fetch, Here, EndOfBlock, Outside, below, block_start, program_of}
 use Rattle.mir_func.specs.Resolve.{resolve}
 use Rattle.sem_mir.specs.State.{Core, State, updated}
 use Rattle.sem_mir.specs.Step.{Outcome, Falls, Goes, Gives, Traps, Asks, Breaks, Went, seen, pair_value, part_of}
 use Rattle.sem_mir.specs.Step.{do_item, do_fetch, moved, step}
-use Rattle.sem_mir.specs.Align.{Station, Count, station_at, fetch_station, AnyOrigin, Along, begin, other, met, Agrees, Since, Aligns}
-use Rattle.sem_mir.specs.Align.{FailsBefore, RunsAlong}
+use Rattle.sem_mir.specs.Align.{SyncPoint, Count, sync_point_at, fetch_sync_point, AnyOrigin, MatchedUpTo, begin, other, met, Agrees, Since, MatchesNext}
+use Rattle.sem_mir.specs.Align.{FailsBefore, RunsMatch}
 use Rattle.sem_mir.proofs.Places.{updated_same}
 use Rattle.pass_trait.specs.Rule.{item, first_operand}
 use Rattle.spill_proof.proofs.Low.{LowEntries, resolve_high}
 use Rattle.spill_proof.proofs.Remarked.{BlocksReask}
 use Rattle.spill_proof.proofs.Reasked.{FetchLike, alike, mark_asks, has_register_mark, IsAbove, fetch_like, start_same, stands_above}
 
-module _ (least : ℕ) (fs gs : List Block) (rel : BlocksReask least fs gs) (subs : List Entry) (low : LowEntries least subs) where
+module _ (least : ℕ) (fs gs : List Block) (rel : BlocksReask least fs gs) (subs : List DebugSubstitution) (low : LowEntries least subs) where
   abbrev fp : Program
   fp = program_of false fs (resolve subs)
 
@@ -44,7 +44,7 @@ module _ (least : ℕ) (fs gs : List Block) (rel : BlocksReask least fs gs) (sub
     by_kind (Mark v (At r)) = refl
     by_kind (Mark v (Pair q)) = refl
     by_kind (Phi p n) = refl
-  do_same (Silent k n) c = refl
+  do_same (EndOfBlock k n) c = refl
   do_same Outside c = refl
 
   step_same : (t : State) → IsReady t → step gp t ≡ step fp t
@@ -96,17 +96,17 @@ module _ (least : ℕ) (fs gs : List Block) (rel : BlocksReask least fs gs) (sub
 
   -- ---- along the source
 
-  station_same : (ct : Count) (p : Pos) → station_at ct gp p ≡ station_at ct fp p
-  station_same ct p = by_fetch (fp.fetch p) (gp.fetch p) (fetch_like least fs gs rel (resolve subs) p) where
-    by_fetch : (x y : Fetch) → FetchLike x y → fetch_station ct p.block y ≡ fetch_station ct p.block x
-    by_fetch x y (alike e) = ap (fetch_station ct p.block) e
+  sync_point_same : (ct : Count) (p : Pos) → sync_point_at ct gp p ≡ sync_point_at ct fp p
+  sync_point_same ct p = by_fetch (fp.fetch p) (gp.fetch p) (fetch_like least fs gs rel (resolve subs) p) where
+    by_fetch : (x y : Fetch) → FetchLike x y → fetch_sync_point ct p.block y ≡ fetch_sync_point ct p.block x
+    by_fetch x y (alike e) = ap (fetch_sync_point ct p.block) e
     by_fetch x y mark_asks = refl
 
-  stations_same : (ct : Count) → station_at ct gp ≡ station_at ct fp
-  stations_same ct i = λ p. station_same ct p i
+  sync_points_same : (ct : Count) → sync_point_at ct gp ≡ sync_point_at ct fp
+  sync_points_same ct i = λ p. sync_point_same ct p i
 
-  module _ (src : Program) (stations : Pos → Option Station) (Stops : Pos → Pos → Type 0) (s0 : State) (ready : IsReady s0) where
-    along_same : {t s : State} {m : Since} → Along src gp stations Stops s0 s0 t s m → Along src fp stations Stops s0 s0 t s m × IsReady t
+  module _ (src : Program) (sync_points : Pos → Option SyncPoint) (Stops : Pos → Pos → Type 0) (s0 : State) (ready : IsReady s0) where
+    along_same : {t s : State} {m : Since} → MatchedUpTo src gp sync_points Stops s0 s0 t s m → MatchedUpTo src fp sync_points Stops s0 s0 t s m × IsReady t
     along_same begin = (begin, ready)
     along_same {t = t'} (other {t = t} a none goes) =
         let w = along_same a in
@@ -125,20 +125,21 @@ module _ (least : ℕ) (fs gs : List Block) (rel : BlocksReask least fs gs) (sub
       faults = λ e. a.faults (sym (step_same t r) ∙ e);
     }
 
-    runs_same : RunsAlong src fp stations Stops s0 s0 → RunsAlong src gp stations Stops s0 s0
+    runs_same : RunsMatch src fp sync_points Stops s0 s0 → RunsMatch src gp sync_points Stops s0 s0
     runs_same runs t s m i along stands = by_runs (runs t s m i w.0 stands) where
-      w : Along src fp stations Stops s0 s0 t s m × IsReady t
+      w : MatchedUpTo src fp sync_points Stops s0 s0 t s m × IsReady t
       w = along_same along
 
-      by_runs : ((s' : State) × Aligns src (Stops i.pos) i.pos m s s' × Agrees src fp t s') ⊎ FailsBefore src (Stops i.pos) i.pos m s →
-          ((s' : State) × Aligns src (Stops i.pos) i.pos m s s' × Agrees src gp t s') ⊎ FailsBefore src (Stops i.pos) i.pos m s
+      by_runs : ((s' : State) × MatchesNext src (Stops i.pos) i.pos m s s' × Agrees src fp t s') ⊎ FailsBefore src (Stops i.pos) i.pos m s →
+          ((s' : State) × MatchesNext src (Stops i.pos) i.pos m s s' × Agrees src gp t s') ⊎ FailsBefore src (Stops i.pos) i.pos m s
       by_runs (inl (s', aligned, a)) = inl (s', aligned, agrees t s' w.1 a)
       by_runs (inr fails) = inr fails
 
   -- from the start of a block
   pub runs_on : (ct : Count) (src : Program) (n : ℕ) (s : State) → s.pos ≡ block_start n →
-      RunsAlong src fp (station_at ct fp) (AnyOrigin (station_at ct fp)) s s → RunsAlong src gp (station_at ct gp) (AnyOrigin (station_at ct gp)) s s
+      RunsMatch src fp (sync_point_at ct fp) (AnyOrigin (sync_point_at ct fp)) s s →
+      RunsMatch src gp (sync_point_at ct gp) (AnyOrigin (sync_point_at ct gp)) s s
   runs_on ct src n s starts runs =
       let ready : IsReady s = subst IsReady (λ i. record { pos = sym starts i; core = s.core }) (ready_start n s.core) in
-      subst (λ (st : Pos → Option Station). RunsAlong src gp st (AnyOrigin st) s s) (sym (stations_same ct))
-      (runs_same src (station_at ct fp) (AnyOrigin (station_at ct fp)) s ready runs)
+      subst (λ (st : Pos → Option SyncPoint). RunsMatch src gp st (AnyOrigin st) s s) (sym (sync_points_same ct))
+      (runs_same src (sync_point_at ct fp) (AnyOrigin (sync_point_at ct fp)) s ready runs)

@@ -17,7 +17,7 @@ use Rattle.mir_func.specs.Graph.{below}
 use Rattle.mir_func.specs.Strip.{stripped_item, stripped_items, stripped_blocks}
 use Rattle.sem_mir.specs.Align.{position_of}
 use Rattle.pass_trait.specs.Rule.{item}
-use Rattle.spill_code.specs.declared.spilling.Home.{Home}
+use Rattle.spill_code.specs.declared.spilling.SlotAssignment.{SlotAssignment}
 use Rattle.spill_code.specs.declared.spilling.Spilling.{Spilling}
 use Rattle.spill_code.specs.Rewrite.{slot_of, first_used, other_used, first_defined, spilled_code, load, store, added, loads, stores, two_loads}
 use Rattle.spill_code.specs.Rewrite.{code_items, kind_items}
@@ -52,7 +52,7 @@ module _ (s : Spilling) where
   blocks_bare k (b ∷ bs) =
       let e = items_bare k b.items in
       let es = blocks_bare (number_behind s.homes k b.items) bs in
-      λ i. record { id = b.id; items = e i; silent = b.silent } ∷ es i
+      λ i. record { id = b.id; items = e i; source_end = b.source_end } ∷ es i
 
   -- ---- registers in slots
 
@@ -93,18 +93,19 @@ module _ (s : Spilling) where
   others_bare : (bs : List Block) → stripped_blocks (map (spilled_block s) bs) ≡ map (spilled_block s) (stripped_blocks bs)
   others_bare [] = refl
   others_bare (b ∷ bs) =
-      let e = spilled_bare b.items in let es = others_bare bs in λ i. record { id = b.id; items = e i; silent = b.silent } ∷ es i
+      let e = spilled_bare b.items in let es = others_bare bs in λ i. record { id = b.id; items = e i; source_end = b.source_end } ∷ es i
 
-  entry_bare : (b : ℕ) (hs : List Home) (ys : List Item) → stripped_items (entry_stores b hs ++ ys) ≡ entry_stores b hs ++ stripped_items ys
+  entry_bare : (b : ℕ) (hs : List SlotAssignment) (ys : List Item) → stripped_items (entry_stores b hs ++ ys) ≡ entry_stores b hs ++ stripped_items ys
   entry_bare b [] ys = refl
   entry_bare b (h ∷ hs) ys = ap (λ (xs : List Item). added (record { block = b; item = 0 }) (store h.register h.slot) ∷ xs) (entry_bare b hs ys)
 
-  spilled_blocks_bare : (entry : List Home) (bs : List Block) → stripped_blocks (spilled_blocks s entry bs) ≡ spilled_blocks s entry (stripped_blocks bs)
+  spilled_blocks_bare : (entry : List SlotAssignment) (bs : List Block) →
+      stripped_blocks (spilled_blocks s entry bs) ≡ spilled_blocks s entry (stripped_blocks bs)
   spilled_blocks_bare entry [] = refl
   spilled_blocks_bare entry (b ∷ bs) =
       let e = entry_bare b.id entry (spilled_items s b.items) ∙ ap (λ (xs : List Item). entry_stores b.id entry ++ xs) (spilled_bare b.items) in
       let es = others_bare bs in
-      λ i. record { id = b.id; items = e i; silent = b.silent } ∷ es i
+      λ i. record { id = b.id; items = e i; source_end = b.source_end } ∷ es i
 
 pub asked_is_stripped : AskedIsStripped
 asked_is_stripped s k f = let e = blocks_bare s k f.blocks in λ i. record { name = f.name; slots = f.slots; objects = f.objects; blocks = e i }

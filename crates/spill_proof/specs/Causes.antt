@@ -1,6 +1,6 @@
 -- The causes of the losses of spilling.
 use Rattle.std.specs.Prelude.{ℕ, ◌<◌, List, AllPairs, Contains, Bool}
-use Rattle.mir_func.specs.declared.entry.Entry.{Entry}
+use Rattle.mir_func.specs.declared.entry.DebugSubstitution.{DebugSubstitution}
 use Rattle.mir_func.specs.declared.position.Pos.{Pos}
 use Rattle.mir_func.specs.Function.{Function}
 use Rattle.mir_func.specs.Sound.{IsSound}
@@ -13,18 +13,19 @@ use Rattle.spill_proof.specs.Whole.{whole}
 use Rattle.spill_proof.specs.Step.{spill_debug}
 
 -- spilling as a change of a function
-abbrev pub spilling_of_all : (reserve : List ℕ) (live : ℕ → Bool) (k : ℕ) → Function → List Entry → Change
+abbrev pub spilling_of_all : (reserve : List ℕ) (live : ℕ → Bool) (k : ℕ) → Function → List DebugSubstitution → Change
 spilling_of_all reserve live k f subs = change f subs (whole reserve live k f) subs
 
 -- each loss of an item has its cause: it is a debug value or DBG_PHI of a scratch register, and some register is
 -- spilled
 abbrev pub LossesHaveCauses : Type 0
-LossesHaveCauses = (reserve : List ℕ) (live : ℕ → Bool) (k : ℕ) (f : Function) (subs : List Entry) → Decides reserve f live → (at : Pos) (loss : Loss) →
+LossesHaveCauses = (reserve : List ℕ) (live : ℕ → Bool) (k : ℕ) (f : Function) (subs : List DebugSubstitution) → Decides reserve f live →
+    (at : Pos) (loss : Loss) →
     (spill_debug reserve).loses (spilling_of_all reserve live k f subs) at loss → HasCause (spill_debug reserve) (spilling_of_all reserve live k f subs) at loss
 
 -- each spilled register has a slot that the function has now, and hadn't before
 abbrev pub NewSlotsAreNew : Type 0
-NewSlotsAreNew = (reserve : List ℕ) (live : ℕ → Bool) (k : ℕ) (f : Function) (subs : List Entry) → Decides reserve f live → (r slot : ℕ) →
+NewSlotsAreNew = (reserve : List ℕ) (live : ℕ → Bool) (k : ℕ) (f : Function) (subs : List DebugSubstitution) → Decides reserve f live → (r slot : ℕ) →
     (spill_debug reserve).spills (spilling_of_all reserve live k f subs) r slot →
     Contains (whole reserve live k f).slots slot × (Contains f.slots slot → ⊥)
 
@@ -34,6 +35,6 @@ IsAscending registers = AllPairs (λ r s. r < s) registers
 
 -- each register of an ascending reserve that isn't spilled has the first reason that applies
 abbrev pub LeftHaveFirstCauses : Type 0
-LeftHaveFirstCauses = (reserve : List ℕ) (live : ℕ → Bool) (k : ℕ) (f : Function) (subs : List Entry) → IsAscending reserve → IsSound f →
+LeftHaveFirstCauses = (reserve : List ℕ) (live : ℕ → Bool) (k : ℕ) (f : Function) (subs : List DebugSubstitution) → IsAscending reserve → IsSound f →
     Decides reserve f live → (r : ℕ) (why : Reason) → (spill_debug reserve).leaves (spilling_of_all reserve live k f subs) r why →
     IsFirstCause (spill_debug reserve) (spilling_of_all reserve live k f subs) r why

@@ -1,10 +1,10 @@
 -- The laws of spilling as a whole.
 use Rattle.std.specs.Prelude.{ℕ, ◌<◌, List, Contains, Bool, true, false}
-use Rattle.mir_func.specs.declared.entry.Entry.{Entry}
+use Rattle.mir_func.specs.declared.entry.DebugSubstitution.{DebugSubstitution}
 use Rattle.mir_func.specs.Function.{Function}
 use Rattle.mir_func.specs.Sound.{AllItems, IsSound, HasForm}
 use Rattle.pass_trait.specs.Change.{change}
-use Rattle.pass_trait.specs.Following.{KeepsFollowing}
+use Rattle.pass_trait.specs.Simulation.{PreservesSimulation}
 use Rattle.pass_trait.specs.Sizes.{greatest_number}
 use Rattle.spill_debug.specs.Asked.{asked}
 use Rattle.spill_rule.specs.Choice.{spilling_of}
@@ -14,7 +14,7 @@ use Rattle.spill_proof.specs.Whole.{whole}
 
 -- The hypotheses of spilling: a sound function whose code has the required forms, a reserve of distinct registers that may be spilled, a
 -- test of which of them are live into the function with its debug values rewritten, and fresh numbers from k on
-pub record MayBeSpilled (reserve : List ℕ) (live : ℕ → Bool) (k : ℕ) (f : Function) (subs : List Entry) : Type 0 where
+pub record MayBeSpilled (reserve : List ℕ) (live : ℕ → Bool) (k : ℕ) (f : Function) (subs : List DebugSubstitution) : Type 0 where
   pub sound : IsSound f
   pub forms : AllItems (λ i. HasForm i.kind) f.blocks
   pub real : (r : ℕ) → Contains reserve r → IsReservable r
@@ -24,10 +24,10 @@ pub record MayBeSpilled (reserve : List ℕ) (live : ℕ → Bool) (k : ℕ) (f 
 
 -- spilling preserves the simulation, and keeps matched block ends matched
 abbrev pub JoinedFollows : Type 0
-JoinedFollows = (reserve : List ℕ) (live : ℕ → Bool) (k : ℕ) (f : Function) (subs : List Entry) → MayBeSpilled reserve live k f subs →
-    KeepsFollowing false true (change f subs (whole reserve live k f) subs)
+JoinedFollows = (reserve : List ℕ) (live : ℕ → Bool) (k : ℕ) (f : Function) (subs : List DebugSubstitution) → MayBeSpilled reserve live k f subs →
+    PreservesSimulation false true (change f subs (whole reserve live k f) subs)
 
 -- and keeps the function sound
 abbrev pub JoinedIsSound : Type 0
-JoinedIsSound = (reserve : List ℕ) (live : ℕ → Bool) (k : ℕ) (f : Function) (subs : List Entry) → MayBeSpilled reserve live k f subs →
+JoinedIsSound = (reserve : List ℕ) (live : ℕ → Bool) (k : ℕ) (f : Function) (subs : List DebugSubstitution) → MayBeSpilled reserve live k f subs →
     IsSound (whole reserve live k f)

@@ -11,8 +11,8 @@ use Rattle.pass_trait.specs.declared.loss.Loss.{Loss}
 use Rattle.pass_trait.specs.declared.loss.Reason.{Reason}
 use Rattle.pass_trait.specs.Rule.{Rule, StandsAt}
 use Rattle.pass_trait.specs.Sizes.{greatest_number}
-use Rattle.pass_trait.specs.Steps.{Step}
-use Rattle.spill_code.specs.declared.spilling.Home.{Home}
+use Rattle.pass_trait.specs.Steps.{PassStep}
+use Rattle.spill_code.specs.declared.spilling.SlotAssignment.{SlotAssignment}
 use Rattle.spill_code.specs.Rewrite.{slot_of}
 use Rattle.spill_debug.specs.Asked.{number_behind}
 use Rattle.spill_debug.specs.Lost.{LosesScratch}
@@ -21,7 +21,7 @@ use Rattle.spill_rule.specs.Rule.{Decides, IsSpilled}
 use Rattle.spill_select.specs.Left.{why_left}
 
 -- a debug value of a spilled register
-abbrev pub AsksForHome : List Home → ItemKind → Type 0
+abbrev pub AsksForHome : List SlotAssignment → ItemKind → Type 0
 AsksForHome homes (Mark v (At r)) = (slot : ℕ) × (slot_of homes r ≡ Some slot)
 AsksForHome homes (Mark v Nothing) = ⊥
 AsksForHome homes (Mark v (Constant n)) = ⊥
@@ -30,7 +30,7 @@ AsksForHome homes (Code i k) = ⊥
 AsksForHome homes (Phi p k) = ⊥
 
 -- the next fresh number at a position, if the first one is k
-abbrev pub number_at : List Home → (k : ℕ) → List Block → (at : Pos) → ℕ
+abbrev pub number_at : List SlotAssignment → (k : ℕ) → List Block → (at : Pos) → ℕ
 number_at homes k [] at = k
 number_at homes k (b ∷ bs) at =
     cond (nat_eq b.id at.block) (number_behind homes k (take at.item b.items)) (number_at homes (number_behind homes k b.items) bs at)
@@ -73,5 +73,5 @@ spill_debug reserve = record {
 }
 
 -- the pass's only step
-abbrev pub spill_step : (reserve : List ℕ) → Step
+abbrev pub spill_step : (reserve : List ℕ) → PassStep
 spill_step reserve = record { code = IsSpilled reserve; debug = spill_debug reserve }

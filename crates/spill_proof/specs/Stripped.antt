@@ -3,7 +3,7 @@ use Rattle.std.specs.Prelude.{◌≡◌, ℕ, List}
 use Rattle.mir_func.specs.declared.block.Block.{Block}
 use Rattle.mir_func.specs.Function.{Function}
 use Rattle.mir_func.specs.Strip.{stripped_blocks, stripped}
-use Rattle.spill_code.specs.declared.spilling.Home.{Home}
+use Rattle.spill_code.specs.declared.spilling.SlotAssignment.{SlotAssignment}
 use Rattle.spill_code.specs.declared.spilling.Spilling.{Spilling}
 use Rattle.spill_code.specs.Rewrite.{spilled_blocks}
 use Rattle.spill_debug.specs.Asked.{asked}
@@ -14,5 +14,5 @@ AskedIsStripped = (s : Spilling) (k : ℕ) (f : Function) → stripped (asked s 
 
 -- stripping debug items commutes with spilling
 abbrev pub SpilledIsStripped : Type 0
-SpilledIsStripped = (s : Spilling) (entry : List Home) (blocks : List Block) →
+SpilledIsStripped = (s : Spilling) (entry : List SlotAssignment) (blocks : List Block) →
     stripped_blocks (spilled_blocks s entry blocks) ≡ spilled_blocks s entry (stripped_blocks blocks)

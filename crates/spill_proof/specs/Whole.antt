@@ -1,7 +1,7 @@
 -- A function after spilling.
 use Rattle.std.specs.Prelude.{ℕ, List, [], ◌∷◌, Bool}
 use Rattle.mir_func.specs.Function.{Function}
-use Rattle.spill_code.specs.declared.spilling.Home.{Home}
+use Rattle.spill_code.specs.declared.spilling.SlotAssignment.{SlotAssignment}
 use Rattle.spill_code.specs.declared.spilling.Spilling.{Spilling}
 use Rattle.spill_code.specs.Rewrite.{spilled_blocks}
 use Rattle.spill_debug.specs.Asked.{blocks_asked}
@@ -9,11 +9,11 @@ use Rattle.spill_proof.specs.Sound.{slots_now}
 use Rattle.spill_rule.specs.Choice.{homes_of, spilling_of, entry_of}
 
 -- the function with these registers spilled, and with debug values of them rewritten, with fresh numbers from k on
-abbrev pub spilled_by : Spilling → (entry : List Home) → (k : ℕ) → Function → Function
+abbrev pub spilled_by : Spilling → (entry : List SlotAssignment) → (k : ℕ) → Function → Function
 spilled_by s entry k f = record f { slots = slots_now s f; blocks = spilled_blocks s entry (blocks_asked s k f.blocks) }
 
 -- the function is unchanged if nothing is spilled; then there are no scratch registers
-abbrev pub where_spilled : List Home → (stays now : Function) → Function
+abbrev pub where_spilled : List SlotAssignment → (stays now : Function) → Function
 where_spilled [] f g = f
 where_spilled (h ∷ hs) f g = g
 

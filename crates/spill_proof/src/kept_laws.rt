@@ -1,10 +1,10 @@
 //! The laws of spilling as a step: each is the contract of a function with an empty body.
 
-ghost use Rattle.spill_proof.specs.Kept.{SpilledKeepsFollowing, SpilledKeepsSteps, SpilledKeepsSizes};
+ghost use Rattle.spill_proof.specs.Kept.{SpilledPreservesSimulation, SpilledKeepsSteps, SpilledKeepsSizes};
 
 /// Spilling preserves the simulation, and keeps matched block ends matched.
 pub fn spilled_keeps_following()
-    ensures { SpilledKeepsFollowing }
+    ensures { SpilledPreservesSimulation }
 {}
 
 /// Spilling is a run of its one step, with all its losses.

@@ -39,7 +39,7 @@ use Rattle.sem_mir.specs.Live.{Live, used, later}
 use Rattle.pass_trait.specs.declared.loss.Reason.TheVariants.{NoScratch, CallNamed, EntryLoop}
 use Rattle.pass_trait.specs.Causes.{is_of_register, names, is_named, scratch_of}
 use Rattle.pass_trait.specs.Sizes.{greatest, calls}
-use Rattle.spill_code.specs.declared.spilling.Home.{Home}
+use Rattle.spill_code.specs.declared.spilling.SlotAssignment.{SlotAssignment}
 use Rattle.spill_code.specs.declared.spilling.Spilling.{Spilling}
 use Rattle.spill_code.specs.Rewrite.{slot_of}
 use Rattle.spill_simulation.specs.MaySpill.{uses_in, defs_in, implicits_in, IsNoScratch, FitsCode, Fits, AreHomes}
@@ -122,13 +122,13 @@ home_own m (a ∷ rs) q r n e f = by_tests (nat_eq a q) (nat_eq a r) refl refl e
   by_tests false false x y e f more = more e f
 
 -- each home is found by its register, where registers differ; here: by a register, some home
-home_there : (m : ℕ) (rs : List ℕ) (r n : ℕ) → slot_of (homes_from m rs) r ≡ Some n → (h : Home) × Contains (homes_from m rs) h × (h.register ≡ r) ×
+home_there : (m : ℕ) (rs : List ℕ) (r n : ℕ) → slot_of (homes_from m rs) r ≡ Some n → (h : SlotAssignment) × Contains (homes_from m rs) h × (h.register ≡ r) ×
     (h.slot ≡ n)
 home_there m [] r n e = cc
 home_there m (a ∷ rs) r n e = by_test (nat_eq a r) refl e (λ k. home_there (m + 1) rs r n k) where
   by_test : (z : Bool) → nat_eq a r ≡ z → cond z (Some m) (slot_of (homes_from (m + 1) rs) r) ≡ Some n →
-      (slot_of (homes_from (m + 1) rs) r ≡ Some n → (h : Home) × Contains (homes_from (m + 1) rs) h × (h.register ≡ r) × (h.slot ≡ n)) →
-      (h : Home) × Contains (homes_from m (a ∷ rs)) h × (h.register ≡ r) × (h.slot ≡ n)
+      (slot_of (homes_from (m + 1) rs) r ≡ Some n → (h : SlotAssignment) × Contains (homes_from (m + 1) rs) h × (h.register ≡ r) × (h.slot ≡ n)) →
+      (h : SlotAssignment) × Contains (homes_from m (a ∷ rs)) h × (h.register ≡ r) × (h.slot ≡ n)
   by_test true z e more = (record { register = a; slot = m }, head_in _ _, eqb-true a r z, cc)
   by_test false z e more = let w = more e in (w.0, tail_in _ w.0 _ w.1, w.2, w.3)
 
@@ -173,34 +173,39 @@ result_in (_ ∷ os) r e k = cc
 
 -- ---- more of lists
 
-kept_home : (p : ℕ → Bool) (hs : List Home) (h : Home) → Contains (filter (λ (x : Home). p x.register) hs) h → Contains hs h × (p h.register ≡ true)
+kept_home : (p : ℕ → Bool) (hs : List SlotAssignment) (h : SlotAssignment) → Contains (filter (λ (x : SlotAssignment). p x.register) hs) h →
+    Contains hs h × (p h.register ≡ true)
 kept_home p [] h (k, lt, e) = absurd (omega (arith, lt))
 kept_home p (y ∷ ys) h k = by_test (p y.register) refl k (λ j. kept_home p ys h j) where
   later : Contains ys h × (p h.register ≡ true) → Contains (y ∷ ys) h × (p h.register ≡ true)
   later (k, e) = (tail_in y h ys k, e)
 
-  by_test : (z : Bool) → p y.register ≡ z → Contains (cond z (y ∷ filter (λ (x : Home). p x.register) ys) (filter (λ (x : Home). p x.register) ys)) h →
-      (Contains (filter (λ (x : Home). p x.register) ys) h → Contains ys h × (p h.register ≡ true)) → Contains (y ∷ ys) h × (p h.register ≡ true)
-  by_test true z (zero, lt, e) more = ((0, omega arith, e), subst (λ (x : Home). p x.register ≡ true) e z)
+  by_test : (z : Bool) → p y.register ≡ z →
+      Contains (cond z (y ∷ filter (λ (x : SlotAssignment). p x.register) ys) (filter (λ (x : SlotAssignment). p x.register) ys)) h →
+      (Contains (filter (λ (x : SlotAssignment). p x.register) ys) h → Contains ys h × (p h.register ≡ true)) → Contains (y ∷ ys) h × (p h.register ≡ true)
+  by_test true z (zero, lt, e) more = ((0, omega arith, e), subst (λ (x : SlotAssignment). p x.register ≡ true) e z)
   by_test true z (suc k, lt, e) more = later (more (k, omega (arith, lt), e))
   by_test false z k more = later (more k)
 
-keeps_home : (p : ℕ → Bool) (hs : List Home) (h : Home) → Contains hs h → p h.register ≡ true → Contains (filter (λ (x : Home). p x.register) hs) h
+keeps_home : (p : ℕ → Bool) (hs : List SlotAssignment) (h : SlotAssignment) → Contains hs h → p h.register ≡ true →
+    Contains (filter (λ (x : SlotAssignment). p x.register) hs) h
 keeps_home p [] h (k, lt, e) t = absurd (omega (arith, lt))
 keeps_home p (y ∷ ys) h (zero, lt, e) t =
-    let here : p y.register ≡ true = ap (λ (x : Home). p x.register) e ∙ t in
-    subst (λ (z : Bool). Contains (cond z (y ∷ filter (λ (x : Home). p x.register) ys) (filter (λ (x : Home). p x.register) ys)) h) (sym here)
+    let here : p y.register ≡ true = ap (λ (x : SlotAssignment). p x.register) e ∙ t in
+    subst (λ (z : Bool). Contains (cond z (y ∷ filter (λ (x : SlotAssignment). p x.register) ys) (filter (λ (x : SlotAssignment). p x.register) ys)) h)
+    (sym here)
     (0, omega arith, e)
 keeps_home p (y ∷ ys) h (suc k, lt, e) t = by_test (p y.register) (keeps_home p ys h (k, omega (arith, lt), e) t) where
-  by_test : (z : Bool) → Contains (filter (λ (x : Home). p x.register) ys) h →
-      Contains (cond z (y ∷ filter (λ (x : Home). p x.register) ys) (filter (λ (x : Home). p x.register) ys)) h
+  by_test : (z : Bool) → Contains (filter (λ (x : SlotAssignment). p x.register) ys) h →
+      Contains (cond z (y ∷ filter (λ (x : SlotAssignment). p x.register) ys) (filter (λ (x : SlotAssignment). p x.register) ys)) h
   by_test true more = tail_in y h _ more
   by_test false more = more
 
-no_home : (p : ℕ → Bool) (hs : List Home) → ((h : Home) → Contains hs h → p h.register ≡ false) → filter (λ (x : Home). p x.register) hs ≡ []
+no_home : (p : ℕ → Bool) (hs : List SlotAssignment) → ((h : SlotAssignment) → Contains hs h → p h.register ≡ false) →
+    filter (λ (x : SlotAssignment). p x.register) hs ≡ []
 no_home p [] h = refl
 no_home p (y ∷ ys) h =
-    ap (λ (z : Bool). cond z (y ∷ filter (λ (x : Home). p x.register) ys) (filter (λ (x : Home). p x.register) ys)) (h y (head_in y ys)) ∙
+    ap (λ (z : Bool). cond z (y ∷ filter (λ (x : SlotAssignment). p x.register) ys) (filter (λ (x : SlotAssignment). p x.register) ys)) (h y (head_in y ys)) ∙
     no_home p ys (λ x k. h x (tail_in y x ys k))
 
 distinct_filter : (p : ℕ → Bool) (xs : List ℕ) → AreDistinct xs → AreDistinct (filter p xs)
@@ -216,16 +221,16 @@ distinct_take zero (x ∷ xs) h = tt
 distinct_take (suc n) [] h = tt
 distinct_take (suc n) (x ∷ xs) h = (λ k. h.0 (from_take n xs x k), distinct_take n xs h.1)
 
-home_register : (m : ℕ) (rs : List ℕ) (h : Home) → Contains (homes_from m rs) h → Contains rs h.register
+home_register : (m : ℕ) (rs : List ℕ) (h : SlotAssignment) → Contains (homes_from m rs) h → Contains rs h.register
 home_register m [] h (k, lt, e) = absurd (omega (arith, lt))
-home_register m (r ∷ rs) h (zero, lt, e) = (0, omega arith, ap (λ (z : Home). z.register) e)
+home_register m (r ∷ rs) h (zero, lt, e) = (0, omega arith, ap (λ (z : SlotAssignment). z.register) e)
 home_register m (r ∷ rs) h (suc k, lt, e) = tail_in r h.register rs (home_register (m + 1) rs h (k, omega (arith, lt), e))
 
-home_slot : (m : ℕ) (rs : List ℕ) → AreDistinct rs → (h : Home) → Contains (homes_from m rs) h → slot_of (homes_from m rs) h.register ≡ Some h.slot
+home_slot : (m : ℕ) (rs : List ℕ) → AreDistinct rs → (h : SlotAssignment) → Contains (homes_from m rs) h → slot_of (homes_from m rs) h.register ≡ Some h.slot
 home_slot m [] d h (k, lt, e) = absurd (omega (arith, lt))
 home_slot m (r ∷ rs) d h (zero, lt, e) =
-    let reg : r ≡ h.register = ap (λ (z : Home). z.register) e in
-    ap (λ (t : Bool). cond t (Some m) (slot_of (homes_from (m + 1) rs) h.register)) (eq-eqb r h.register reg) ∙ ap (λ (z : Home). Some z.slot) e
+    let reg : r ≡ h.register = ap (λ (z : SlotAssignment). z.register) e in
+    ap (λ (t : Bool). cond t (Some m) (slot_of (homes_from (m + 1) rs) h.register)) (eq-eqb r h.register reg) ∙ ap (λ (z : SlotAssignment). Some z.slot) e
 home_slot m (r ∷ rs) d h (suc k, lt, e) =
     let inside : Contains (homes_from (m + 1) rs) h = (k, omega (arith, lt), e) in
     let ne : r ≡ h.register → ⊥ = λ z. d.0 (subst (λ (x : ℕ). Contains rs x) (sym z) (home_register (m + 1) rs h inside)) in
@@ -297,10 +302,10 @@ module _ (reserve : List ℕ) (live : ℕ → Bool) (f : Function) (resolve : Op
   abbrev s : Spilling
   s = spilling_of reserve live f
 
-  abbrev hs : List Home
+  abbrev hs : List SlotAssignment
   hs = homes_of reserve live f
 
-  abbrev entry : List Home
+  abbrev entry : List SlotAssignment
   entry = entry_of live hs
 
   -- what holds of each register that is spilled

@@ -12,7 +12,7 @@ use Rattle.mir_func.specs.declared.item.ItemKind.{ItemKind}
 use Rattle.mir_func.specs.declared.item.ItemKind.TheVariants.{Code, Mark, Phi}
 use Rattle.mir_func.specs.declared.position.Origin.{Origin}
 use Rattle.mir_func.specs.declared.location.Loc.{Loc}
-use Rattle.spill_code.specs.declared.spilling.Home.{Home}
+use Rattle.spill_code.specs.declared.spilling.SlotAssignment.{SlotAssignment}
 use Rattle.spill_code.specs.declared.spilling.Spilling.{Spilling}
 use Rattle.spill_code.specs.Rewrite.{first_used, first_defined, use_now, def_now, renamed_operand, spilled_code, two_loads, stores, kind_items}
 use Rattle.spill_code.specs.Rewrite.{spilled_place, spilled_item, spilled_items, spilled_block, spilled_blocks}
@@ -74,16 +74,16 @@ module _ (a b : ℕ) where
   others_same : (bs : List Block) → map (spilled_block s) bs ≡ bs
   others_same [] = refl
   others_same (c ∷ bs) =
-      let e = items_same c.items in let es = others_same bs in λ i. record { id = c.id; items = e i; silent = c.silent } ∷ es i
+      let e = items_same c.items in let es = others_same bs in λ i. record { id = c.id; items = e i; source_end = c.source_end } ∷ es i
 
   pub blocks_same : (bs : List Block) → spilled_blocks s [] bs ≡ bs
   blocks_same [] = refl
   blocks_same (c ∷ bs) =
-      let e = items_same c.items in let es = others_same bs in λ i. record { id = c.id; items = e i; silent = c.silent } ∷ es i
+      let e = items_same c.items in let es = others_same bs in λ i. record { id = c.id; items = e i; source_end = c.source_end } ∷ es i
 
 pub rule_follows : RuleFollows
 rule_follows objects src subs fsubs reserve live f sound forms real distinct decides asks follows = by_homes (homes_of reserve live f) refl where
-  by_homes : (hs : List Home) → homes_of reserve live f ≡ hs →
+  by_homes : (hs : List SlotAssignment) → homes_of reserve live f ≡ hs →
       Follows objects src (spilled_blocks (spilling_of reserve live f) (entry_of live (homes_of reserve live f)) f.blocks) subs fsubs ×
       (HasWholeEnds objects src f.blocks subs fsubs →
       HasWholeEnds objects src (spilled_blocks (spilling_of reserve live f) (entry_of live (homes_of reserve live f)) f.blocks) subs fsubs)
@@ -91,7 +91,7 @@ rule_follows objects src subs fsubs reserve live f sound forms real distinct dec
       let first = (spilling_of reserve live f).first in
       let second = (spilling_of reserve live f).second in
       let same : spilled_blocks (spilling_of reserve live f) (entry_of live (homes_of reserve live f)) f.blocks ≡ f.blocks =
-      ap (λ (hs : List Home). spilled_blocks (record { first = first; second = second; homes = hs }) (entry_of live hs) f.blocks) e ∙
+      ap (λ (hs : List SlotAssignment). spilled_blocks (record { first = first; second = second; homes = hs }) (entry_of live hs) f.blocks) e ∙
       blocks_same first second f.blocks in (
         subst (λ (bs : List Block). Follows objects src bs subs fsubs) (sym same) follows,
         λ whole. subst (λ (bs : List Block). HasWholeEnds objects src bs subs fsubs) (sym same) whole,

@@ -17,7 +17,7 @@ use Rattle.pass_trait.specs.declared.loss.Reason.{Reason}
 use Rattle.pass_trait.specs.declared.loss.Reason.TheVariants.{NoScratch, CallNamed, EntryLoop}
 use Rattle.pass_trait.specs.Causes.{names, is_named, scratch_of}
 use Rattle.pass_trait.specs.Sizes.{greatest, calls}
-use Rattle.spill_code.specs.declared.spilling.Home.{Home}
+use Rattle.spill_code.specs.declared.spilling.SlotAssignment.{SlotAssignment}
 use Rattle.spill_code.specs.declared.spilling.Spilling.{Spilling}
 use Rattle.spill_code.specs.Rewrite.{spilled_blocks}
 
@@ -96,12 +96,12 @@ next_slot [] = 0
 next_slot (n ∷ ns) = greatest (n ∷ ns) + 1
 
 -- the registers, each with a slot of its own, numbered upwards from `slot`
-abbrev pub homes_from : (slot : ℕ) → List ℕ → List Home
+abbrev pub homes_from : (slot : ℕ) → List ℕ → List SlotAssignment
 homes_from n [] = []
 homes_from n (r ∷ rs) = record { register = r; slot = n } ∷ homes_from (n + 1) rs
 
 -- the spilled registers, each with a new slot above all slots of the function
-abbrev pub homes_of : (reserve : List ℕ) (live : ℕ → Bool) → Function → List Home
+abbrev pub homes_of : (reserve : List ℕ) (live : ℕ → Bool) → Function → List SlotAssignment
 homes_of reserve live f = homes_from (next_slot f.slots) (chosen reserve live f)
 
 -- the first scratch register, or 0 if there is none; nothing is spilled without two
@@ -123,7 +123,7 @@ spilling_of reserve live f = record {
 }
 
 -- the spilled registers that are stored at the function's start: those that are live into it
-abbrev pub entry_of : (live : ℕ → Bool) → List Home → List Home
+abbrev pub entry_of : (live : ℕ → Bool) → List SlotAssignment → List SlotAssignment
 entry_of live homes = filter (λ h. live h.register) homes
 
 -- the function with the chosen registers spilled

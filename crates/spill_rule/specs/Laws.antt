@@ -22,7 +22,7 @@ use Rattle.mir_func.specs.declared.item.Item.{Item}
 use Rattle.mir_func.specs.declared.item.ItemKind.{ItemKind}
 use Rattle.mir_func.specs.declared.item.ItemKind.TheVariants.{Code, Mark, Phi}
 use Rattle.mir_func.specs.Function.{Function}
-use Rattle.mir_func.specs.Graph.{Program, Fetch, Here, Silent, Outside, below, block_start, end_of, front, fetch_in, from_block, program_of, FetchEdge}
+use Rattle.mir_func.specs.Graph.{Program, Fetch, Here, EndOfBlock, Outside, below, block_start, end_of, front, fetch_in, from_block, program_of, FetchEdge}
 use Rattle.mir_func.specs.Sound.{items_of}
 use Rattle.sem_mir.specs.Align.{position_of}
 use Rattle.sem_mir.specs.Follow.{first_of}
@@ -30,8 +30,8 @@ use Rattle.sem_mir.specs.Live.{Live, used, later, Uses, Defines}
 use Rattle.pass_trait.specs.declared.loss.Reason.TheVariants.{NoScratch, CallNamed, EntryLoop}
 use Rattle.pass_trait.specs.Causes.{names, is_named, scratch_of}
 use Rattle.pass_trait.specs.Sizes.{calls}
-use Rattle.pass_trait.specs.Code.{HasOneResult, SeesCodeAlone, placeless_origin, placeless_item, placeless_block, placeless}
-use Rattle.spill_code.specs.declared.spilling.Home.{Home}
+use Rattle.pass_trait.specs.Code.{HasOneResult, SeesCodeAlone, originless_origin, originless_item, originless_block, originless}
+use Rattle.spill_code.specs.declared.spilling.SlotAssignment.{SlotAssignment}
 use Rattle.spill_code.specs.declared.spilling.Spilling.{Spilling}
 use Rattle.spill_code.specs.Rewrite.{added, load, loads, two_loads, stores, first_used, other_used, first_defined, spilled_code, code_items, kind_items}
 use Rattle.spill_code.specs.Rewrite.{spilled_place, spilled_item, spilled_items, spilled_block, entry_stores, spilled_blocks}
@@ -50,8 +50,8 @@ filter_same p q (x ∷ xs) h =
     let rest = filter_same p q xs (λ y k. h y (suc k.0, (let lt = k.1 in omega (arith, lt)), k.2)) in
     λ i. cond (here i) (x ∷ rest i) (rest i)
 
-filter_homes : (p q : ℕ → Bool) (xs : List Home) → ((h : Home) → Contains xs h → p h.register ≡ q h.register) →
-    filter (λ (h : Home). p h.register) xs ≡ filter (λ (h : Home). q h.register) xs
+filter_homes : (p q : ℕ → Bool) (xs : List SlotAssignment) → ((h : SlotAssignment) → Contains xs h → p h.register ≡ q h.register) →
+    filter (λ (h : SlotAssignment). p h.register) xs ≡ filter (λ (h : SlotAssignment). q h.register) xs
 filter_homes p q [] h = refl
 filter_homes p q (x ∷ xs) h =
     let here = h x (0, omega arith, refl) in
@@ -76,9 +76,9 @@ from_take (suc n) [] x k = k
 from_take (suc n) (y ∷ ys) x (zero, lt, e) = (0, omega arith, e)
 from_take (suc n) (y ∷ ys) x (suc k, lt, e) = let w = from_take n ys x (k, omega (arith, lt), e) in let lt' = w.1 in (suc w.0, omega (arith, lt'), w.2)
 
-from_homes : (n : ℕ) (rs : List ℕ) (h : Home) → Contains (homes_from n rs) h → Contains rs h.register
+from_homes : (n : ℕ) (rs : List ℕ) (h : SlotAssignment) → Contains (homes_from n rs) h → Contains rs h.register
 from_homes n [] h (k, lt, e) = absurd (omega (arith, lt))
-from_homes n (r ∷ rs) h (zero, lt, e) = (0, omega arith, ap (λ (z : Home). z.register) e)
+from_homes n (r ∷ rs) h (zero, lt, e) = (0, omega arith, ap (λ (z : SlotAssignment). z.register) e)
 from_homes n (r ∷ rs) h (suc k, lt, e) =
     let w = from_homes (n + 1) rs h (k, omega (arith, lt), e) in let lt' = w.1 in (suc w.0, omega (arith, lt'), w.2)
 
@@ -105,7 +105,7 @@ module _ (reserve : List ℕ) (f : Function) (live live' : ℕ → Bool) (agree 
       let hs = homes_same in
       let es = entry_same in
       λ i. record f {
-        slots = f.slots ++ map (λ (h : Home). h.slot) (hs i);
+        slots = f.slots ++ map (λ (h : SlotAssignment). h.slot) (hs i);
         blocks = spilled_blocks (record { first = first_scratch (scratch_of f); second = second_scratch (scratch_of f); homes = hs i }) (es i) f.blocks;
       }
 
@@ -123,72 +123,72 @@ one_spilled reserve f g h (live, decides, e) (live', decides', e') =
 
 -- ---- liveness doesn't depend on positions
 
-abbrev placeless_fetch : Fetch → Fetch
-placeless_fetch (Here i) = Here (placeless_item i)
-placeless_fetch (Silent k n) = Silent 0 n
-placeless_fetch Outside = Outside
+abbrev originless_fetch : Fetch → Fetch
+originless_fetch (Here i) = Here (originless_item i)
+originless_fetch (EndOfBlock k n) = EndOfBlock 0 n
+originless_fetch Outside = Outside
 
-end_placeless : (k : ℕ) (bs : List Block) → end_of 0 (map placeless_block bs) ≡ placeless_fetch (end_of k bs)
-end_placeless k [] = refl
-end_placeless k (b ∷ bs) = refl
+end_originless : (k : ℕ) (bs : List Block) → end_of 0 (map originless_block bs) ≡ originless_fetch (end_of k bs)
+end_originless k [] = refl
+end_originless k (b ∷ bs) = refl
 
-front_placeless : (xs : List Item) (n k : ℕ) (bs : List Block) →
-    front (drop n (map placeless_item xs)) 0 (map placeless_block bs) ≡ placeless_fetch (front (drop n xs) k bs)
-front_placeless [] zero k bs = end_placeless k bs
-front_placeless [] (suc n) k bs = end_placeless k bs
-front_placeless (x ∷ xs) zero k bs = refl
-front_placeless (x ∷ xs) (suc n) k bs = front_placeless xs n k bs
+front_originless : (xs : List Item) (n k : ℕ) (bs : List Block) →
+    front (drop n (map originless_item xs)) 0 (map originless_block bs) ≡ originless_fetch (front (drop n xs) k bs)
+front_originless [] zero k bs = end_originless k bs
+front_originless [] (suc n) k bs = end_originless k bs
+front_originless (x ∷ xs) zero k bs = refl
+front_originless (x ∷ xs) (suc n) k bs = front_originless xs n k bs
 
-from_placeless : (bs : List Block) (n : ℕ) → from_block (map placeless_block bs) n ≡ map placeless_block (from_block bs n)
-from_placeless [] n = refl
-from_placeless (b ∷ bs) n = by_test (nat_eq b.id n) (from_placeless bs n) where
-  by_test : (z : Bool) → from_block (map placeless_block bs) n ≡ map placeless_block (from_block bs n) →
-      cond z (placeless_block b ∷ map placeless_block bs) (from_block (map placeless_block bs) n) ≡ map placeless_block (cond z (b ∷ bs) (from_block bs n))
+from_originless : (bs : List Block) (n : ℕ) → from_block (map originless_block bs) n ≡ map originless_block (from_block bs n)
+from_originless [] n = refl
+from_originless (b ∷ bs) n = by_test (nat_eq b.id n) (from_originless bs n) where
+  by_test : (z : Bool) → from_block (map originless_block bs) n ≡ map originless_block (from_block bs n) →
+      cond z (originless_block b ∷ map originless_block bs) (from_block (map originless_block bs) n) ≡ map originless_block (cond z (b ∷ bs) (from_block bs n))
   by_test true more = refl
   by_test false more = more
 
-fetch_placeless : (bs : List Block) (n : ℕ) → fetch_in (map placeless_block bs) n ≡ placeless_fetch (fetch_in bs n)
-fetch_placeless [] n = refl
-fetch_placeless (b ∷ bs) n = front_placeless b.items n b.silent bs
+fetch_originless : (bs : List Block) (n : ℕ) → fetch_in (map originless_block bs) n ≡ originless_fetch (fetch_in bs n)
+fetch_originless [] n = refl
+fetch_originless (b ∷ bs) n = front_originless b.items n b.source_end bs
 
 module _ (blocks : List Block) (resolve : OperandPair → Option OperandPair) where
   abbrev with_places : Program
   with_places = program_of false blocks resolve
 
   abbrev without : Program
-  without = program_of false (map placeless_block blocks) resolve
+  without = program_of false (map originless_block blocks) resolve
 
-  at : (p : Pos) → without.fetch p ≡ placeless_fetch (with_places.fetch p)
-  at p = ap (λ (bs : List Block). fetch_in bs p.item) (from_placeless blocks p.block) ∙ fetch_placeless (from_block blocks p.block) p.item
+  at : (p : Pos) → without.fetch p ≡ originless_fetch (with_places.fetch p)
+  at p = ap (λ (bs : List Block). fetch_in bs p.item) (from_originless blocks p.block) ∙ fetch_originless (from_block blocks p.block) p.item
 
-  uses_to : (x : Fetch) (y : Place) → Uses x y → Uses (placeless_fetch x) y
+  uses_to : (x : Fetch) (y : Place) → Uses x y → Uses (originless_fetch x) y
   uses_to (Here i) y h = h
-  uses_to (Silent k n) y h = h
+  uses_to (EndOfBlock k n) y h = h
   uses_to Outside y h = h
 
-  uses_from : (x : Fetch) (y : Place) → Uses (placeless_fetch x) y → Uses x y
+  uses_from : (x : Fetch) (y : Place) → Uses (originless_fetch x) y → Uses x y
   uses_from (Here i) y h = h
-  uses_from (Silent k n) y h = h
+  uses_from (EndOfBlock k n) y h = h
   uses_from Outside y h = h
 
-  defines_to : (x : Fetch) (y : Place) → Defines x y → Defines (placeless_fetch x) y
+  defines_to : (x : Fetch) (y : Place) → Defines x y → Defines (originless_fetch x) y
   defines_to (Here i) y h = h
-  defines_to (Silent k n) y h = h
+  defines_to (EndOfBlock k n) y h = h
   defines_to Outside y h = h
 
-  defines_from : (x : Fetch) (y : Place) → Defines (placeless_fetch x) y → Defines x y
+  defines_from : (x : Fetch) (y : Place) → Defines (originless_fetch x) y → Defines x y
   defines_from (Here i) y h = h
-  defines_from (Silent k n) y h = h
+  defines_from (EndOfBlock k n) y h = h
   defines_from Outside y h = h
 
-  edge_to : (x : Fetch) (p q : Pos) → FetchEdge (λ n. n) x p q → FetchEdge (λ n. n) (placeless_fetch x) p q
+  edge_to : (x : Fetch) (p q : Pos) → FetchEdge (λ n. n) x p q → FetchEdge (λ n. n) (originless_fetch x) p q
   edge_to (Here i) p q h = h
-  edge_to (Silent k n) p q h = h
+  edge_to (EndOfBlock k n) p q h = h
   edge_to Outside p q h = h
 
-  edge_from : (x : Fetch) (p q : Pos) → FetchEdge (λ n. n) (placeless_fetch x) p q → FetchEdge (λ n. n) x p q
+  edge_from : (x : Fetch) (p q : Pos) → FetchEdge (λ n. n) (originless_fetch x) p q → FetchEdge (λ n. n) x p q
   edge_from (Here i) p q h = h
-  edge_from (Silent k n) p q h = h
+  edge_from (EndOfBlock k n) p q h = h
   edge_from Outside p q h = h
 
   live_to : (x : Place) {p : Pos} → Live with_places x p → Live without x p
@@ -203,158 +203,160 @@ module _ (blocks : List Block) (resolve : OperandPair → Option OperandPair) wh
       (λ d. none (subst (λ (z : Fetch). Defines z x) (sym (at p)) (defines_to (with_places.fetch p) x d)))
       (edge_from (with_places.fetch p) p q (subst (λ (z : Fetch). FetchEdge (λ n. n) z p q) (at p) edge)) (live_from x more)
 
-first_placeless : (bs : List Block) → first_of (map placeless_block bs) ≡ first_of bs
-first_placeless [] = refl
-first_placeless (b ∷ bs) = refl
+first_originless : (bs : List Block) → first_of (map originless_block bs) ≡ first_of bs
+first_originless [] = refl
+first_originless (b ∷ bs) = refl
 
-live_in_to : (f : Function) (r : ℕ) → IsLiveIn f r → IsLiveIn (placeless f) r
+live_in_to : (f : Function) (r : ℕ) → IsLiveIn f r → IsLiveIn (originless f) r
 live_in_to f r h =
-    subst (λ (n : ℕ). Live (program_of false (placeless f).blocks (λ q. None)) (Register r) (block_start n)) (sym (first_placeless f.blocks))
+    subst (λ (n : ℕ). Live (program_of false (originless f).blocks (λ q. None)) (Register r) (block_start n)) (sym (first_originless f.blocks))
     (live_to f.blocks (λ q. None) (Register r) h)
 
-live_in_from : (f : Function) (r : ℕ) → IsLiveIn (placeless f) r → IsLiveIn f r
+live_in_from : (f : Function) (r : ℕ) → IsLiveIn (originless f) r → IsLiveIn f r
 live_in_from f r h =
     live_from f.blocks (λ q. None) (Register r)
-    (subst (λ (n : ℕ). Live (program_of false (placeless f).blocks (λ q. None)) (Register r) (block_start n)) (first_placeless f.blocks) h)
+    (subst (λ (n : ℕ). Live (program_of false (originless f).blocks (λ q. None)) (Register r) (block_start n)) (first_originless f.blocks) h)
 
 -- ---- nor does the choice
 
-any_placeless_in : (test : Item → Bool) → ((i : Item) → test (placeless_item i) ≡ test i) → (xs : List Item) →
-    list_any test (map placeless_item xs) ≡ list_any test xs
-any_placeless_in test same [] = refl
-any_placeless_in test same (x ∷ xs) = let e = same x in let es = any_placeless_in test same xs in λ i. e i || es i
+any_originless_in : (test : Item → Bool) → ((i : Item) → test (originless_item i) ≡ test i) → (xs : List Item) →
+    list_any test (map originless_item xs) ≡ list_any test xs
+any_originless_in test same [] = refl
+any_originless_in test same (x ∷ xs) = let e = same x in let es = any_originless_in test same xs in λ i. e i || es i
 
-any_placeless : (test : Item → Bool) → ((i : Item) → test (placeless_item i) ≡ test i) → (bs : List Block) →
-    list_any test (items_of (map placeless_block bs)) ≡ list_any test (items_of bs)
-any_placeless test same [] = refl
-any_placeless test same (b ∷ bs) =
-    let e = any_placeless_in test same b.items in
-    let es = any_placeless test same bs in
-    ap (list_any test) (flat_map-cons (λ (c : Block). c.items) (placeless_block b) (map placeless_block bs)) ∙
-    list_any-append test (map placeless_item b.items) (items_of (map placeless_block bs)) ∙ (λ i. e i || es i) ∙
+any_originless : (test : Item → Bool) → ((i : Item) → test (originless_item i) ≡ test i) → (bs : List Block) →
+    list_any test (items_of (map originless_block bs)) ≡ list_any test (items_of bs)
+any_originless test same [] = refl
+any_originless test same (b ∷ bs) =
+    let e = any_originless_in test same b.items in
+    let es = any_originless test same bs in
+    ap (list_any test) (flat_map-cons (λ (c : Block). c.items) (originless_block b) (map originless_block bs)) ∙
+    list_any-append test (map originless_item b.items) (items_of (map originless_block bs)) ∙ (λ i. e i || es i) ∙
     sym (list_any-append test b.items (items_of bs)) ∙ ap (list_any test) (sym (flat_map-cons (λ (c : Block). c.items) b bs))
 
-added_placeless : (o : Origin) → is_added (placeless_origin o) ≡ is_added o
-added_placeless (Kept p) = refl
-added_placeless (Before p) = refl
+added_originless : (o : Origin) → is_added (originless_origin o) ≡ is_added o
+added_originless (Kept p) = refl
+added_originless (Before p) = refl
 
 module _ (f : Function) where
-  named_same : (r : ℕ) → is_named (placeless f) r ≡ is_named f r
-  named_same r = any_placeless (λ i. names r i.kind) (λ i. refl) f.blocks
+  named_same : (r : ℕ) → is_named (originless f) r ≡ is_named f r
+  named_same r = any_originless (λ i. names r i.kind) (λ i. refl) f.blocks
 
-  bound_same : (r : ℕ) → is_bound (placeless f) r ≡ is_bound f r
-  bound_same r = any_placeless (binds r) (λ i. (let e = added_placeless i.origin in λ j. names r i.kind && (calls i.kind || e j))) f.blocks
+  bound_same : (r : ℕ) → is_bound (originless f) r ≡ is_bound f r
+  bound_same r = any_originless (binds r) (λ i. (let e = added_originless i.origin in λ j. names r i.kind && (calls i.kind || e j))) f.blocks
 
-  looped_same : is_looped (placeless f) ≡ is_looped f
+  looped_same : is_looped (originless f) ≡ is_looped f
   looped_same =
-      ap (λ (n : ℕ). list_any (λ (i : Item). goes n i.kind) (items_of (placeless f).blocks)) (first_placeless f.blocks) ∙
-      any_placeless (λ i. goes (first_of f.blocks) i.kind) (λ i. refl) f.blocks
+      ap (λ (n : ℕ). list_any (λ (i : Item). goes n i.kind) (items_of (originless f).blocks)) (first_originless f.blocks) ∙
+      any_originless (λ i. goes (first_of f.blocks) i.kind) (λ i. refl) f.blocks
 
-  scratch_same : scratch_of (placeless f) ≡ scratch_of f
+  scratch_same : scratch_of (originless f) ≡ scratch_of f
   scratch_same i = take 2 (filter (λ (r : ℕ). not (named_same r i)) (5 ∷ 6 ∷ 7 ∷ 28 ∷ 29 ∷ 30 ∷ 31 ∷ []))
 
   module _ (reserve : List ℕ) (live : ℕ → Bool) where
-    candidates_placeless : candidates reserve live (placeless f) ≡ candidates reserve live f
-    candidates_placeless i =
+    candidates_originless : candidates reserve live (originless f) ≡ candidates reserve live f
+    candidates_originless i =
         filter (λ (r : ℕ). named_same r i && is_free (cond (nat_lt (length (scratch_same i)) 2) (Some NoScratch) (cond (bound_same r i) (Some CallNamed)
         (cond (live r && looped_same i) (Some EntryLoop) None)))) reserve
 
-    homes_placeless : homes_of reserve live (placeless f) ≡ homes_of reserve live f
-    homes_placeless i = homes_from (next_slot f.slots) (take (room f) (candidates_placeless i))
+    homes_originless : homes_of reserve live (originless f) ≡ homes_of reserve live f
+    homes_originless i = homes_from (next_slot f.slots) (take (room f) (candidates_originless i))
 
-    spilling_placeless : spilling_of reserve live (placeless f) ≡ spilling_of reserve live f
-    spilling_placeless i = record {
+    spilling_originless : spilling_of reserve live (originless f) ≡ spilling_of reserve live f
+    spilling_originless i = record {
       first = first_scratch (scratch_same i);
       second = second_scratch (scratch_same i);
-      homes = homes_placeless i;
+      homes = homes_originless i;
     }
 
 -- ---- nor does the spilled code
 
 module _ (s : Spilling) where
-  loads_placeless : (p q : Pos) (r : ℕ) (z : Option ℕ) → map placeless_item (loads p r z) ≡ map placeless_item (loads q r z)
-  loads_placeless p q r None = refl
-  loads_placeless p q r (Some n) = refl
+  loads_originless : (p q : Pos) (r : ℕ) (z : Option ℕ) → map originless_item (loads p r z) ≡ map originless_item (loads q r z)
+  loads_originless p q r None = refl
+  loads_originless p q r (Some n) = refl
 
-  two_placeless : (p q : Pos) (os : List Operand) (z : Option ℕ) → map placeless_item (two_loads s p os z) ≡ map placeless_item (two_loads s q os z)
-  two_placeless p q os None = refl
-  two_placeless p q os (Some n) =
-      ap (λ (xs : List Item). placeless_item (added p (load s.first n)) ∷ xs) (loads_placeless p q s.second (other_used s.homes n os))
+  two_originless : (p q : Pos) (os : List Operand) (z : Option ℕ) → map originless_item (two_loads s p os z) ≡ map originless_item (two_loads s q os z)
+  two_originless p q os None = refl
+  two_originless p q os (Some n) =
+      ap (λ (xs : List Item). originless_item (added p (load s.first n)) ∷ xs) (loads_originless p q s.second (other_used s.homes n os))
 
-  stores_placeless : (p q : Pos) (r : ℕ) (z : Option ℕ) → map placeless_item (stores p r z) ≡ map placeless_item (stores q r z)
-  stores_placeless p q r None = refl
-  stores_placeless p q r (Some n) = refl
+  stores_originless : (p q : Pos) (r : ℕ) (z : Option ℕ) → map originless_item (stores p r z) ≡ map originless_item (stores q r z)
+  stores_originless p q r None = refl
+  stores_originless p q r (Some n) = refl
 
-  twice_placeless : (o : Origin) → placeless_origin (placeless_origin o) ≡ placeless_origin o
-  twice_placeless (Kept p) = refl
-  twice_placeless (Before p) = refl
+  twice_originless : (o : Origin) → originless_origin (originless_origin o) ≡ originless_origin o
+  twice_originless (Kept p) = refl
+  twice_originless (Before p) = refl
 
-  code_placeless : (i : Instruction) (k : Option ℕ) (o o' : Origin) (l l' : Loc) → placeless_origin o ≡ placeless_origin o' →
-      map placeless_item (code_items s i k o l) ≡ map placeless_item (code_items s i k o' l')
-  code_placeless i k o o' l l' e =
-      map-append placeless_item (two_loads s (position_of o) i.operands (first_used s.homes i.operands)) _ ∙
-      (λ j. two_placeless (position_of o) (position_of o') i.operands (first_used s.homes i.operands) j ++
+  code_originless : (i : Instruction) (k : Option ℕ) (o o' : Origin) (l l' : Loc) → originless_origin o ≡ originless_origin o' →
+      map originless_item (code_items s i k o l) ≡ map originless_item (code_items s i k o' l')
+  code_originless i k o o' l l' e =
+      map-append originless_item (two_loads s (position_of o) i.operands (first_used s.homes i.operands)) _ ∙
+      (λ j. two_originless (position_of o) (position_of o') i.operands (first_used s.homes i.operands) j ++
       (record { kind = Code (spilled_code s i) k; origin = e j; loc = Absent } ∷
-      stores_placeless (below (position_of o)) (below (position_of o')) s.first (first_defined s.homes i.operands) j)) ∙
-      sym (map-append placeless_item (two_loads s (position_of o') i.operands (first_used s.homes i.operands)) _)
+      stores_originless (below (position_of o)) (below (position_of o')) s.first (first_defined s.homes i.operands) j)) ∙
+      sym (map-append originless_item (two_loads s (position_of o') i.operands (first_used s.homes i.operands)) _)
 
-  item_placeless : (x : Item) → map placeless_item (spilled_item s (placeless_item x)) ≡ map placeless_item (spilled_item s x)
-  item_placeless x = by_kind x.kind where
-    by_kind : (k : ItemKind) → map placeless_item (kind_items s k (placeless_origin x.origin) Absent) ≡ map placeless_item (kind_items s k x.origin x.loc)
-    by_kind (Code i n) = code_placeless i n (placeless_origin x.origin) x.origin Absent x.loc (twice_placeless x.origin)
-    by_kind (Mark v m) = ap (λ (o : Origin). record { kind = Mark v m; origin = o; loc = Absent } ∷ []) (twice_placeless x.origin)
-    by_kind (Phi p n) = ap (λ (o : Origin). record { kind = Phi (spilled_place s.homes p) n; origin = o; loc = Absent } ∷ []) (twice_placeless x.origin)
+  item_originless : (x : Item) → map originless_item (spilled_item s (originless_item x)) ≡ map originless_item (spilled_item s x)
+  item_originless x = by_kind x.kind where
+    by_kind : (k : ItemKind) → map originless_item (kind_items s k (originless_origin x.origin) Absent) ≡ map originless_item (kind_items s k x.origin x.loc)
+    by_kind (Code i n) = code_originless i n (originless_origin x.origin) x.origin Absent x.loc (twice_originless x.origin)
+    by_kind (Mark v m) = ap (λ (o : Origin). record { kind = Mark v m; origin = o; loc = Absent } ∷ []) (twice_originless x.origin)
+    by_kind (Phi p n) = ap (λ (o : Origin). record { kind = Phi (spilled_place s.homes p) n; origin = o; loc = Absent } ∷ []) (twice_originless x.origin)
 
-  items_placeless : (xs : List Item) → map placeless_item (spilled_items s (map placeless_item xs)) ≡ map placeless_item (spilled_items s xs)
-  items_placeless [] = refl
-  items_placeless (x ∷ xs) =
-      let e = item_placeless x in
-      let es = items_placeless xs in
-      ap (map placeless_item) (flat_map-cons (spilled_item s) (placeless_item x) (map placeless_item xs)) ∙
-      map-append placeless_item (spilled_item s (placeless_item x)) (spilled_items s (map placeless_item xs)) ∙ (λ i. e i ++ es i) ∙
-      sym (map-append placeless_item (spilled_item s x) (spilled_items s xs)) ∙ ap (map placeless_item) (sym (flat_map-cons (spilled_item s) x xs))
+  items_originless : (xs : List Item) → map originless_item (spilled_items s (map originless_item xs)) ≡ map originless_item (spilled_items s xs)
+  items_originless [] = refl
+  items_originless (x ∷ xs) =
+      let e = item_originless x in
+      let es = items_originless xs in
+      ap (map originless_item) (flat_map-cons (spilled_item s) (originless_item x) (map originless_item xs)) ∙
+      map-append originless_item (spilled_item s (originless_item x)) (spilled_items s (map originless_item xs)) ∙ (λ i. e i ++ es i) ∙
+      sym (map-append originless_item (spilled_item s x) (spilled_items s xs)) ∙ ap (map originless_item) (sym (flat_map-cons (spilled_item s) x xs))
 
-  others_placeless : (bs : List Block) → map placeless_block (map (spilled_block s) (map placeless_block bs)) ≡ map placeless_block (map (spilled_block s) bs)
-  others_placeless [] = refl
-  others_placeless (b ∷ bs) =
-      let e = items_placeless b.items in
-      let es = others_placeless bs in
-      λ i. record { id = b.id; items = e i; silent = 0 } ∷ es i
+  others_originless : (bs : List Block) →
+      map originless_block (map (spilled_block s) (map originless_block bs)) ≡ map originless_block (map (spilled_block s) bs)
+  others_originless [] = refl
+  others_originless (b ∷ bs) =
+      let e = items_originless b.items in
+      let es = others_originless bs in
+      λ i. record { id = b.id; items = e i; source_end = 0 } ∷ es i
 
-  blocks_placeless : (entry : List Home) (bs : List Block) →
-      map placeless_block (spilled_blocks s entry (map placeless_block bs)) ≡ map placeless_block (spilled_blocks s entry bs)
-  blocks_placeless entry [] = refl
-  blocks_placeless entry (b ∷ bs) =
-      let e = items_placeless b.items in
-      let es = others_placeless bs in
-      let is : map placeless_item (entry_stores b.id entry ++ spilled_items s (map placeless_item b.items)) ≡
-      map placeless_item (entry_stores b.id entry ++ spilled_items s b.items) =
-      map-append placeless_item (entry_stores b.id entry) (spilled_items s (map placeless_item b.items)) ∙
-      ap (λ (xs : List Item). map placeless_item (entry_stores b.id entry) ++ xs) e ∙
-      sym (map-append placeless_item (entry_stores b.id entry) (spilled_items s b.items)) in
-      λ i. record { id = b.id; items = is i; silent = 0 } ∷ es i
+  blocks_originless : (entry : List SlotAssignment) (bs : List Block) →
+      map originless_block (spilled_blocks s entry (map originless_block bs)) ≡ map originless_block (spilled_blocks s entry bs)
+  blocks_originless entry [] = refl
+  blocks_originless entry (b ∷ bs) =
+      let e = items_originless b.items in
+      let es = others_originless bs in
+      let is : map originless_item (entry_stores b.id entry ++ spilled_items s (map originless_item b.items)) ≡
+      map originless_item (entry_stores b.id entry ++ spilled_items s b.items) =
+      map-append originless_item (entry_stores b.id entry) (spilled_items s (map originless_item b.items)) ∙
+      ap (λ (xs : List Item). map originless_item (entry_stores b.id entry) ++ xs) e ∙
+      sym (map-append originless_item (entry_stores b.id entry) (spilled_items s b.items)) in
+      λ i. record { id = b.id; items = is i; source_end = 0 } ∷ es i
 
-spilled_placeless : (reserve : List ℕ) (live : ℕ → Bool) (f : Function) → placeless (spilled reserve live (placeless f)) ≡ placeless (spilled reserve live f)
-spilled_placeless reserve live f =
-    let hs = homes_placeless f reserve live in
-    let ss = spilling_placeless f reserve live in
-    let first : placeless (spilled reserve live (placeless f)) ≡ placeless (record f {
-      slots = f.slots ++ map (λ (h : Home). h.slot) (homes_of reserve live f);
-      blocks = spilled_blocks (spilling_of reserve live f) (entry_of live (homes_of reserve live f)) (map placeless_block f.blocks);
+spilled_originless : (reserve : List ℕ) (live : ℕ → Bool) (f : Function) →
+    originless (spilled reserve live (originless f)) ≡ originless (spilled reserve live f)
+spilled_originless reserve live f =
+    let hs = homes_originless f reserve live in
+    let ss = spilling_originless f reserve live in
+    let first : originless (spilled reserve live (originless f)) ≡ originless (record f {
+      slots = f.slots ++ map (λ (h : SlotAssignment). h.slot) (homes_of reserve live f);
+      blocks = spilled_blocks (spilling_of reserve live f) (entry_of live (homes_of reserve live f)) (map originless_block f.blocks);
     }) = λ i. record f {
-      slots = f.slots ++ map (λ (h : Home). h.slot) (hs i);
-      blocks = map placeless_block (spilled_blocks (ss i) (entry_of live (hs i)) (map placeless_block f.blocks));
+      slots = f.slots ++ map (λ (h : SlotAssignment). h.slot) (hs i);
+      blocks = map originless_block (spilled_blocks (ss i) (entry_of live (hs i)) (map originless_block f.blocks));
     } in
     first ∙ (λ i. record f {
-      slots = f.slots ++ map (λ (h : Home). h.slot) (homes_of reserve live f);
-      blocks = blocks_placeless (spilling_of reserve live f) (entry_of live (homes_of reserve live f)) f.blocks i;
+      slots = f.slots ++ map (λ (h : SlotAssignment). h.slot) (homes_of reserve live f);
+      blocks = blocks_originless (spilling_of reserve live f) (entry_of live (homes_of reserve live f)) f.blocks i;
     })
 
 -- the rule doesn't depend on positions
 pub same_spilled : (reserve : List ℕ) → SeesCodeAlone (IsSpilled reserve)
 same_spilled reserve f f' g g' alike (live, decides, e) (live', decides', e') =
-    ap placeless e ∙ sym (spilled_placeless reserve live f) ∙ ap placeless (spilled_same reserve (placeless f) live live' agree) ∙
-    ap (λ (h : Function). placeless (spilled reserve live' h)) alike ∙ spilled_placeless reserve live' f' ∙ sym (ap placeless e') where
+    ap originless e ∙ sym (spilled_originless reserve live f) ∙ ap originless (spilled_same reserve (originless f) live live' agree) ∙
+    ap (λ (h : Function). originless (spilled reserve live' h)) alike ∙ spilled_originless reserve live' f' ∙ sym (ap originless e') where
       to : (r : ℕ) → IsLiveIn f r → IsLiveIn f' r
       to r h = live_in_from f' r (subst (λ (z : Function). IsLiveIn z r) alike (live_in_to f r h))
 

@@ -7,7 +7,7 @@ use Rattle.pass_trait.specs.declared.loss.Reason.{Reason}
 use Rattle.pass_trait.specs.declared.loss.Reason.TheVariants.{NoScratch, CallNamed, EntryLoop, NoSlot}
 use Rattle.pass_trait.specs.Causes.{is_named}
 use Rattle.pass_trait.specs.Rule.{register_lost}
-use Rattle.spill_code.specs.declared.spilling.Home.{Home}
+use Rattle.spill_code.specs.declared.spilling.SlotAssignment.{SlotAssignment}
 use Rattle.spill_code.specs.Rewrite.{slot_of}
 use Rattle.spill_rule.specs.Choice.{reason_of, homes_of}
 
@@ -22,7 +22,7 @@ or_no_slot None None = Some NoSlot
 or_no_slot None (Some n) = None
 
 -- why a register isn't spilled, if code names it
-abbrev pub why_left : Function → (live : ℕ → Bool) → List Home → ℕ → Option Reason
+abbrev pub why_left : Function → (live : ℕ → Bool) → List SlotAssignment → ℕ → Option Reason
 why_left f live homes r = cond (is_named f r) (or_no_slot (reason_of f live r) (slot_of homes r)) None
 
 -- the loss of a register that isn't spilled, if there is a reason

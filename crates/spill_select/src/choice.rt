@@ -17,7 +17,7 @@ use mir_func::func::Func;
 use mir_func::limits::MAX_SLOTS;
 use pass_trait::loss::Reason;
 use rv64_instr::reg::{Reg, Registers};
-use spill_code::spilling::{Home, Homes, Spilling};
+use spill_code::spilling::{SlotAssignment, SlotAssignments, Spilling};
 use spill_rule::named::{is_bound, is_looped, is_named};
 use std::alloc::{AllocError, Global};
 
@@ -152,14 +152,14 @@ fn greater(a: u32, b: u32) -> u32
 }
 
 /// The registers, each with a slot of its own, numbered upwards from `slot`.
-fn homes_from(alloc: Global, slot: u32, registers: &[Reg]) -> Result<Homes, AllocError>
+fn homes_from(alloc: Global, slot: u32, registers: &[Reg]) -> Result<SlotAssignments, AllocError>
     requires { slot + length registers.now < 2 ^ 32 }
     ensures { IfOk result (λ homes. homes ≡ homes_from slot registers.now) }
 {
-    let mut homes = Homes::new(alloc);
+    let mut homes = SlotAssignments::new(alloc);
     let mut slot = slot;
     for r in registers {
-        homes.push(Home {
+        homes.push(SlotAssignment {
             register: *r,
             slot: SlotId(slot),
         })?;
@@ -169,15 +169,19 @@ fn homes_from(alloc: Global, slot: u32, registers: &[Reg]) -> Result<Homes, Allo
 }
 
 /// The spilled registers that are live into the function.
-pub fn entry_of(alloc: Global, incoming: &[Reg], homes: &[Home]) -> Result<Homes, AllocError>
+pub fn entry_of(
+    alloc: Global,
+    incoming: &[Reg],
+    homes: &[SlotAssignment],
+) -> Result<SlotAssignments, AllocError>
     ensures { IfOk result (λ entry. entry ≡ entry_of (is_among incoming.now) homes.now) }
 {
-    let mut entry = Homes::from_slice(alloc, homes)?;
+    let mut entry = SlotAssignments::from_slice(alloc, homes)?;
     keep_incoming(incoming, &mut entry.items);
     Ok(entry)
 }
 
-fn keep_incoming(incoming: &[Reg], homes: &mut Vec<Home>)
+fn keep_incoming(incoming: &[Reg], homes: &mut Vec<SlotAssignment>)
     ensures { homes.new.items ≡ entry_of (is_among incoming.now) homes.old.items }
 {
     homes.retain(|h| is_among(incoming, h.register));

@@ -11,7 +11,7 @@ use crate::choice::{Facts, lacks_scratch, reason_of};
 use mir_func::func::Func;
 use pass_trait::loss::{Loss, Losses, Lost, Reason};
 use rv64_instr::reg::Reg;
-use spill_code::spilling::{Home, slot_of};
+use spill_code::spilling::{SlotAssignment, slot_of};
 use spill_rule::named::{is_looped, is_named};
 use std::alloc::{AllocError, Global};
 
@@ -21,7 +21,7 @@ pub fn registers_left(
     alloc: Global,
     reserve: &[Reg],
     incoming: &[Reg],
-    homes: &[Home],
+    homes: &[SlotAssignment],
     f: &Func,
 ) -> Result<Losses, AllocError>
     requires { homes.now ≡ homes_of reserve.now (is_among incoming.now) f.now }
@@ -44,7 +44,13 @@ pub fn registers_left(
 }
 
 /// Why a register isn't spilled, if code names it.
-fn why_left(f: &Func, facts: &Facts, incoming: &[Reg], homes: &[Home], r: Reg) -> Option<Reason>
+fn why_left(
+    f: &Func,
+    facts: &Facts,
+    incoming: &[Reg],
+    homes: &[SlotAssignment],
+    r: Reg,
+) -> Option<Reason>
     ensures { result ≡ cond (is_named f.now r)
         (or_no_slot (first_reason facts.now.lacks_scratch (is_bound f.now r)
         (is_among incoming.now r && facts.now.is_looped))
@@ -60,7 +66,7 @@ fn why_left(f: &Func, facts: &Facts, incoming: &[Reg], homes: &[Home], r: Reg) -
 }
 
 /// That there was no slot for a register, if it has none.
-fn no_slot(homes: &[Home], r: Reg) -> Option<Reason>
+fn no_slot(homes: &[SlotAssignment], r: Reg) -> Option<Reason>
     ensures { result ≡ or_no_slot None (slot_of homes.now r) }
 {
     match slot_of(homes, r) {

@@ -18,21 +18,21 @@ use Rattle.rv64_instr.specs.Access.{reads, sets}
 use Rattle.rv64_instr.specs.Parts.{has_implicit_uses}
 use Rattle.sem_mir.specs.Step.{defined}
 use Rattle.sem_mir.proofs.Places.{contains_head, contains_tail}
-use Rattle.spill_code.specs.declared.spilling.Home.{Home}
+use Rattle.spill_code.specs.declared.spilling.SlotAssignment.{SlotAssignment}
 use Rattle.spill_code.specs.Rewrite.{slot_of, or_else, unless_is, first_used, other_used, first_defined}
 use Rattle.spill_simulation.specs.MaySpill.{uses_in, defs_in}
 
 -- ---- slots by the registers that are used and set
 
-abbrev pub first_of : List Home → List ℕ → Option ℕ
+abbrev pub first_of : List SlotAssignment → List ℕ → Option ℕ
 first_of homes [] = None
 first_of homes (r ∷ rs) = or_else (slot_of homes r) (first_of homes rs)
 
-abbrev pub other_of : List Home → ℕ → List ℕ → Option ℕ
+abbrev pub other_of : List SlotAssignment → ℕ → List ℕ → Option ℕ
 other_of homes n [] = None
 other_of homes n (r ∷ rs) = or_else (unless_is n (slot_of homes r)) (other_of homes n rs)
 
-module _ (homes : List Home) where
+module _ (homes : List SlotAssignment) where
   pub used_is : (os : List Operand) → first_used homes os ≡ first_of homes (uses_in os)
   used_is [] = refl
   used_is (Use r ∷ os) = ap (or_else (slot_of homes r)) (used_is os)

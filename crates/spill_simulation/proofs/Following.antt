@@ -19,16 +19,16 @@ use Rattle.mir_func.specs.declared.item.Item.{Item}
 use Rattle.mir_func.specs.declared.item.ItemKind.{ItemKind}
 use Rattle.mir_func.specs.declared.item.ItemKind.TheVariants.{Code, Mark, Phi}
 use Rattle.mir_func.specs.Function.{Function}
-use Rattle.mir_func.specs.Graph.{Program, Fetch, Here, Silent, Outside, below, block_start, index_of, program_of, Edge, FetchEdge, KindEdge, RowEdge, Leads}
+use Rattle.mir_func.specs.Graph.{Program, Fetch, Here, EndOfBlock, Outside, below, block_start, index_of, program_of, Edge, FetchEdge, KindEdge, RowEdge, Leads}
 use Rattle.mir_func.specs.Sound.{AreApart, ids_of, LastCloses, IsSound}
-use Rattle.sem_mir.specs.Align.{is_jump, Count, ByItems, ByEnds, moves_on, station_at, AnyOrigin, RunsAlong}
+use Rattle.sem_mir.specs.Align.{is_jump, Count, ByItems, ByEnds, moves_on, sync_point_at, AnyOrigin, RunsMatch}
 use Rattle.sem_mir.specs.Follow.{KindFits, MarkFits, InOrder, first_of, OnRow, GoesTo, Shape, IsStart, IsEnd, SameEnd, KindsEndAlike}
 use Rattle.sem_mir.specs.Follow.{EndIsKept, EndComesFrom}
 use Rattle.sem_mir.specs.State.{State, content}
 use Rattle.sem_mir.proofs.Edges.{step_edge}
 use Rattle.sem_simulation.specs.Added.{IsNeverBack}
 use Rattle.sem_simulation.proofs.Laid.{falls_down}
-use Rattle.spill_code.specs.declared.spilling.Home.{Home}
+use Rattle.spill_code.specs.declared.spilling.SlotAssignment.{SlotAssignment}
 use Rattle.spill_code.specs.declared.spilling.Spilling.{Spilling}
 use Rattle.spill_code.specs.Rewrite.{use_now, def_now, first_used, spilled_code, kind_items, spilled_items}
 use Rattle.spill_code.specs.Rewrite.{spilled_place, spilled_block, entry_stores, spilled_blocks}
@@ -47,14 +47,14 @@ use Rattle.spill_simulation.proofs.Views.{IsGood}
 both_all : {A : Type 0} (P Q : A → Type 0) (xs : List A) → All P xs → All Q xs → All (λ x. P x × Q x) xs
 both_all P Q xs p q k d lt = (p k d lt, q k d lt)
 
-ids_same : (s : Spilling) (entry : List Home) (bs : List Block) → ids_of (spilled_blocks s entry bs) ≡ ids_of bs
+ids_same : (s : Spilling) (entry : List SlotAssignment) (bs : List Block) → ids_of (spilled_blocks s entry bs) ≡ ids_of bs
 ids_same s entry [] = refl
 ids_same s entry (b ∷ bs) = ap (λ (ns : List ℕ). b.id ∷ ns) (others bs) where
   others : (cs : List Block) → ids_of (map (spilled_block s) cs) ≡ ids_of cs
   others [] = refl
   others (c ∷ cs) = ap (λ (ns : List ℕ). c.id ∷ ns) (others cs)
 
-length_same : (s : Spilling) (entry : List Home) (bs : List Block) → length (spilled_blocks s entry bs) ≡ length bs
+length_same : (s : Spilling) (entry : List SlotAssignment) (bs : List Block) → length (spilled_blocks s entry bs) ≡ length bs
 length_same s entry [] = refl
 length_same s entry (b ∷ bs) = let e = length-map bs (spilled_block s) in omega (arith, e)
 
@@ -83,7 +83,7 @@ first_index : (bs : List Block) → LastCloses bs → index_of bs (first_of bs) 
 first_index [] h = absurd h
 first_index (b ∷ bs) h = ap (λ (t : Bool). cond t 0 (suc (index_of bs b.id))) (eq-eqb b.id b.id refl)
 
-module _ (objects : List Object) (src : List Block) (f : Function) (subs fsubs : OperandPair → Option OperandPair) (s : Spilling) (entry : List Home)
+module _ (objects : List Object) (src : List Block) (f : Function) (subs fsubs : OperandPair → Option OperandPair) (s : Spilling) (entry : List SlotAssignment)
     (sound : IsSound f)
     (may : MaySpill s entry f fsubs) (shape : Shape src f.blocks (program_of true src subs) (program_of false f.blocks fsubs)) where
   abbrev srcp : Program
@@ -119,18 +119,18 @@ module _ (objects : List Object) (src : List Block) (f : Function) (subs fsubs :
       (both_all (λ (b : Block). All (IsGood s f.slots homes entry f.blocks fsubs srcp b) b.items) (λ (b : Block). InOrder b.id 0 b.items) f.blocks goods
       shape.order)
 
-  kinds_new : All (λ (b : Block). All (λ (i : Item). KindFits srcp i.kind b.silent i.origin) b.items) new
+  kinds_new : All (λ (b : Block). All (λ (i : Item). KindFits srcp i.kind b.source_end i.origin) b.items) new
   kinds_new =
       each_block s f.slots homes entry f.blocks fsubs srcp (λ b. All (IsGood s f.slots homes entry f.blocks fsubs srcp b) b.items)
-      (λ b. All (λ (i : Item). KindFits srcp i.kind b.silent i.origin) b.items) (λ b h. items_of b h)
-      (λ b h. All-append (λ (i : Item). KindFits srcp i.kind b.silent i.origin) (entry_stores b.id entry) (spilled_items s b.items)
-      (each_entry s f.slots homes entry f.blocks fsubs srcp (λ i. KindFits srcp i.kind b.silent i.origin) b.id entry (λ h. tt)) (items_of b h)) f.blocks
+      (λ b. All (λ (i : Item). KindFits srcp i.kind b.source_end i.origin) b.items) (λ b h. items_of b h)
+      (λ b h. All-append (λ (i : Item). KindFits srcp i.kind b.source_end i.origin) (entry_stores b.id entry) (spilled_items s b.items)
+      (each_entry s f.slots homes entry f.blocks fsubs srcp (λ i. KindFits srcp i.kind b.source_end i.origin) b.id entry (λ h. tt)) (items_of b h)) f.blocks
       goods where
         items_of : (b : Block) → All (IsGood s f.slots homes entry f.blocks fsubs srcp b) b.items →
-            All (λ (i : Item). KindFits srcp i.kind b.silent i.origin) (spilled_items s b.items)
+            All (λ (i : Item). KindFits srcp i.kind b.source_end i.origin) (spilled_items s b.items)
         items_of b h =
             each_item s f.slots homes entry f.blocks fsubs srcp (IsGood s f.slots homes entry f.blocks fsubs srcp b)
-            (λ i. KindFits srcp i.kind b.silent i.origin) (λ x good. kinds_item s f.slots homes entry f.blocks fsubs srcp b x good) b.items h
+            (λ i. KindFits srcp i.kind b.source_end i.origin) (λ x good. kinds_item s f.slots homes entry f.blocks fsubs srcp b x good) b.items h
 
   marks_new : All (λ (b : Block). All (λ (i : Item). MarkFits i.kind i.origin) b.items) new
   marks_new =
@@ -222,7 +222,7 @@ module _ (objects : List Object) (src : List Block) (f : Function) (subs fsubs :
 
     by_fetch : (x : Fetch) → fp.fetch p ≡ x → FetchEdge (λ n. n) x p (block_start (first_of f.blocks)) → ⊥
     by_fetch (Here i) at e = by_kind i i.kind refl at e
-    by_fetch (Silent k m) at e =
+    by_fetch (EndOfBlock k m) at e =
         let down = falls_down false f.blocks fsubs sound.blocks_apart p k m at in
         let same : m ≡ first_of f.blocks = sym (ap (λ (q : Pos). q.block) e) in
         let zero_index : index_of f.blocks m ≡ 0 = ap (index_of f.blocks) same ∙ first_index f.blocks sound.last in
@@ -245,8 +245,8 @@ module _ (objects : List Object) (src : List Block) (f : Function) (subs fsubs :
   ]
 
   runs_new : (count : Count) → ((k : ItemKind) → moves_on count k ≡ is_jump k) →
-      ((s0 : State) → IsStart objects (first_of src) s0 → RunsAlong srcp fp (station_at count fp) (AnyOrigin (station_at count fp)) s0 s0) →
-      (s0 : State) → IsStart objects (first_of src) s0 → RunsAlong srcp gp (station_at count gp) (AnyOrigin (station_at count gp)) s0 s0
+      ((s0 : State) → IsStart objects (first_of src) s0 → RunsMatch srcp fp (sync_point_at count fp) (AnyOrigin (sync_point_at count fp)) s0 s0) →
+      (s0 : State) → IsStart objects (first_of src) s0 → RunsMatch srcp gp (sync_point_at count gp) (AnyOrigin (sync_point_at count gp)) s0 s0
   runs_new count counts runs s0 start = by_blocks f.blocks refl sound.last where
     at : s0.pos ≡ block_start (first_of f.blocks)
     at = start.pos ∙ ap block_start (sym shape.first)
@@ -254,7 +254,7 @@ module _ (objects : List Object) (src : List Block) (f : Function) (subs fsubs :
     written : (r : ℕ) → r < 32 → IsSome (content s0.core.regs r)
     written r lt = subst IsSome (sym (start.regs r lt).1) refl
 
-    by_blocks : (bs : List Block) → f.blocks ≡ bs → LastCloses bs → RunsAlong srcp gp (station_at count gp) (AnyOrigin (station_at count gp)) s0 s0
+    by_blocks : (bs : List Block) → f.blocks ≡ bs → LastCloses bs → RunsMatch srcp gp (sync_point_at count gp) (AnyOrigin (sync_point_at count gp)) s0 s0
     by_blocks [] e closes = absurd closes
     by_blocks (b ∷ more) e closes =
         spilled_runs s f.slots homes entry f.blocks fsubs count counts srcp s0 goods shape.order at (never_back s0 start.pos) free start.slots written may.all
@@ -296,7 +296,7 @@ module _ (objects : List Object) (src : List Block) (f : Function) (subs fsubs :
   only_new : ((q : Pos) (j : Item) → fp.fetch q ≡ Here j → OnRow IsEnd j.kind → EndComesFrom srcp j) → (q : Pos) (j : Item) → gp.fetch q ≡ Here j →
       OnRow IsEnd j.kind → EndComesFrom srcp j
   only_new only q j at end = by_place (lies_at s entry f.blocks fsubs q j at) where
-    store_ends : (n : ℕ) (hs : List Home) (y : Item) → Contains (entry_stores n hs) y → OnRow IsEnd y.kind → ⊥
+    store_ends : (n : ℕ) (hs : List SlotAssignment) (y : Item) → Contains (entry_stores n hs) y → OnRow IsEnd y.kind → ⊥
     store_ends n [] y (k, lt, e) h = omega (arith, lt)
     store_ends n (a ∷ hs) y (zero, lt, e) h = subst (λ (z : Item). OnRow IsEnd z.kind) (sym e) h
     store_ends n (a ∷ hs) y (suc k, lt, e) h = store_ends n hs y (k, omega (arith, lt), e) h

@@ -14,7 +14,7 @@ use Rattle.mir_func.specs.declared.block.Block.{Block}
 use Rattle.mir_func.specs.declared.item.Item.{Item}
 use Rattle.mir_func.specs.declared.item.ItemKind.{ItemKind}
 use Rattle.mir_func.specs.declared.item.ItemKind.TheVariants.{Code, Mark, Phi}
-use Rattle.mir_func.specs.Graph.{Program, Fetch, Here, Silent, Outside, below, block_start}
+use Rattle.mir_func.specs.Graph.{Program, Fetch, Here, EndOfBlock, Outside, below, block_start}
 use Rattle.mir_func.specs.Graph.{end_of, front, fetch_in, from_block, program_of, Edge, FetchEdge, KindEdge}
 use Rattle.mir_func.specs.Graph.{RowEdge, Leads, stay, go}
 use Rattle.sem_mir.specs.Align.{position_of}
@@ -23,7 +23,7 @@ use Rattle.sem_mir.proofs.Edges.{leads_trans}
 use Rattle.sem_mir.proofs.Reading.{found_in, front_item}
 use Rattle.sem_simulation.proofs.Laid.{rest_in, rest_of, laid_out}
 use Rattle.sem_simulation.proofs.Stations.{not_past_items}
-use Rattle.spill_code.specs.declared.spilling.Home.{Home}
+use Rattle.spill_code.specs.declared.spilling.SlotAssignment.{SlotAssignment}
 use Rattle.spill_code.specs.declared.spilling.Spilling.{Spilling}
 use Rattle.spill_code.specs.Rewrite.{use_now, def_now, first_used, other_used, first_defined, spilled_code, loads, two_loads}
 use Rattle.spill_code.specs.Rewrite.{stores, kind_items, spilled_place, spilled_item, spilled_items, entry_stores, spilled_blocks}
@@ -56,7 +56,7 @@ abbrev pub FallThrough : List Item → Type 0
 FallThrough [] = Unit {0}
 FallThrough (y ∷ ys) = ((q : Pos) → KindEdge (λ n. n) y.kind q (below q)) × FallThrough ys
 
-module _ (s : Spilling) (entry : List Home) (blocks : List Block) (resolve : OperandPair → Option OperandPair) where
+module _ (s : Spilling) (entry : List SlotAssignment) (blocks : List Block) (resolve : OperandPair → Option OperandPair) where
   abbrev f : Program
   f = program_of false blocks resolve
 
@@ -92,7 +92,7 @@ module _ (s : Spilling) (entry : List Home) (blocks : List Block) (resolve : Ope
   stores_fall p r None = tt
   stores_fall p r (Some n) = (λ q. refl, tt)
 
-  pub entry_falls : (b : ℕ) (hs : List Home) → FallThrough (entry_stores b hs)
+  pub entry_falls : (b : ℕ) (hs : List SlotAssignment) → FallThrough (entry_stores b hs)
   entry_falls b [] = tt
   entry_falls b (h ∷ hs) = (λ q. refl, entry_falls b hs)
 
@@ -162,22 +162,22 @@ module _ (s : Spilling) (entry : List Home) (blocks : List Block) (resolve : Ope
       record { place = w.0; block = w.1 ∙ c.block; at = k.0; rest = k.1; way = w.3 }
 
   -- an end of a block
-  end_to_g : (p q : Pos) (k n : ℕ) → q.block ≡ p.block → rg q ≡ [] → f.fetch p ≡ Silent k n → g.fetch q ≡ Silent k n
+  end_to_g : (p q : Pos) (k n : ℕ) → q.block ≡ p.block → rg q ≡ [] → f.fetch p ≡ EndOfBlock k n → g.fetch q ≡ EndOfBlock k n
   end_to_g p q k n same none e =
       let w = end_at blocks resolve p k n e in
       let i = in_g s entry blocks q.block w.0 w.1 (ap (from_block blocks) same ∙ w.2) in
       let none' : drop q.item (i.first ++ spilled_items s w.0.items) ≡ [] = sym (ap (λ (bs : List Block). rest_in bs q.item) i.at) ∙ none in
-      ap (λ (bs : List Block). fetch_in bs q.item) i.at ∙ ap (λ (z : List Item). front z w.0.silent (others s entry w.1)) none' ∙
-      end_others s entry w.0.silent w.1 ∙ w.3
+      ap (λ (bs : List Block). fetch_in bs q.item) i.at ∙ ap (λ (z : List Item). front z w.0.source_end (others s entry w.1)) none' ∙
+      end_others s entry w.0.source_end w.1 ∙ w.3
 
   -- what is past all items has no items
-  rest_end : (p : Pos) (k n : ℕ) → f.fetch p ≡ Silent k n → rf p ≡ []
+  rest_end : (p : Pos) (k n : ℕ) → f.fetch p ≡ EndOfBlock k n → rf p ≡ []
   rest_end p k n e = by_rest (rf p) refl where
     by_rest : (xs : List Item) → rf p ≡ xs → xs ≡ []
     by_rest [] h = refl
-    by_rest (y ∷ ys) h = let bad : Here y ≡ Silent k n = sym ((laid_out false blocks resolve).cons p y ys h).0 ∙ e in cc
+    by_rest (y ∷ ys) h = let bad : Here y ≡ EndOfBlock k n = sym ((laid_out false blocks resolve).cons p y ys h).0 ∙ e in cc
 
-  pub next_of_end : (j : ℕ) (bs : List Block) (k n : ℕ) → end_of j bs ≡ Silent k n → (c : Block) × (rest : List Block) × (bs ≡ c ∷ rest) × (c.id ≡ n)
+  pub next_of_end : (j : ℕ) (bs : List Block) (k n : ℕ) → end_of j bs ≡ EndOfBlock k n → (c : Block) × (rest : List Block) × (bs ≡ c ∷ rest) × (c.id ≡ n)
   next_of_end j [] k n e = cc
   next_of_end j (c ∷ rest) k n e = (c, rest, refl, cc)
 
@@ -235,7 +235,7 @@ module _ (s : Spilling) (entry : List Home) (blocks : List Block) (resolve : Ope
 
       by_fetch : (z : Fetch) → f.fetch p ≡ z → FetchEdge (λ n. n) z p p' → (q' : Pos) × Chunk p' q' × Leads g q q'
       by_fetch (Here x) e edge' = by_item x x.kind refl e edge'
-      by_fetch (Silent k n) e edge' =
+      by_fetch (EndOfBlock k n) e edge' =
           let none : rg q ≡ [] = c.rest ∙ ap (spilled_items s) (rest_end p k n e) in
           let at = end_to_g p q k n c.block none e in
           to_start n q edge' stay (subst (λ (z : Fetch). FetchEdge (λ n. n) z q (block_start n)) (sym at) refl)
@@ -342,11 +342,11 @@ module _ (s : Spilling) (entry : List Home) (blocks : List Block) (resolve : Ope
         let bad : fetch_in [] q.item ≡ Here y = sym (ap (λ (x : List Block). fetch_in x q.item) (none_in_g s entry blocks q.block found)) ∙ e in cc
     by_blocks (b ∷ rest) found =
         let i = in_g s entry blocks q.block b rest found in
-        let here : front (drop q.item (i.first ++ spilled_items s b.items)) b.silent (others s entry rest) ≡ Here y =
+        let here : front (drop q.item (i.first ++ spilled_items s b.items)) b.source_end (others s entry rest) ≡ Here y =
         sym (ap (λ (x : List Block). fetch_in x q.item) i.at) ∙ e in
         by_split b rest found (found_in blocks q.block b rest found).1 i.first i.at i.which
         (split_at i.first (spilled_items s b.items) q.item y
-        (front_item (i.first ++ spilled_items s b.items) q.item b.silent (others s entry rest) y here))
+        (front_item (i.first ++ spilled_items s b.items) q.item b.source_end (others s entry rest) y here))
 
   -- and each of what stands for an item is somewhere in the item's block
   pub to_g : (p : Pos) (x y : Item) (k : ℕ) → f.fetch p ≡ Here x → slice_get (spilled_item s x) k ≡ Some y →

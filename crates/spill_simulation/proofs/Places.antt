@@ -13,13 +13,13 @@ use Rattle.mir_func.specs.declared.position.Origin.{Origin}
 use Rattle.mir_func.specs.declared.position.Origin.TheVariants.{Kept, Before}
 use Rattle.mir_func.specs.declared.block.Block.{Block}
 use Rattle.mir_func.specs.declared.item.Item.{Item}
-use Rattle.mir_func.specs.Graph.{Here, Silent, block_start, end_of, front, fetch_in, from_block, program_of}
+use Rattle.mir_func.specs.Graph.{Here, EndOfBlock, block_start, end_of, front, fetch_in, from_block, program_of}
 use Rattle.sem_mir.specs.Align.{position_of, is_code}
 use Rattle.sem_mir.specs.Follow.{rank, next_rank, InOrder, first_of}
 use Rattle.sem_mir.proofs.Reading.{found_in, front_item, item_front, front_end, within_list}
 use Rattle.sem_simulation.proofs.Laid.{rest_in, rest_of}
 use Rattle.sem_simulation.proofs.Order.{rank_next, same_pos}
-use Rattle.spill_code.specs.declared.spilling.Home.{Home}
+use Rattle.spill_code.specs.declared.spilling.SlotAssignment.{SlotAssignment}
 use Rattle.spill_code.specs.declared.spilling.Spilling.{Spilling}
 use Rattle.spill_code.specs.Rewrite.{spilled_item, spilled_items, spilled_block, entry_stores, first_block, spilled_blocks}
 
@@ -118,11 +118,11 @@ stands_at sp blocks resolve q i e = by_blocks (from_block blocks q.block) refl e
   by_blocks [] f e = cc
   by_blocks (b ∷ rest) f e =
       let k = found_in blocks q.block b rest f in
-      record { block = b; rest = rest; found = f; member = k.0; id = k.1; at = front_item b.items q.item b.silent rest i e }
+      record { block = b; rest = rest; found = f; member = k.0; id = k.1; at = front_item b.items q.item b.source_end rest i e }
 
 pub fetched : (sp : Bool) (blocks : List Block) (resolve : OperandPair → Option OperandPair) (q : Pos) (b : Block) (rest : List Block) (i : Item) →
     from_block blocks q.block ≡ b ∷ rest → slice_get b.items q.item ≡ Some i → (program_of sp blocks resolve).fetch q ≡ Here i
-fetched sp blocks resolve q b rest i f e = ap (λ (x : List Block). fetch_in x q.item) f ∙ item_front b.items q.item b.silent rest i e
+fetched sp blocks resolve q b rest i f e = ap (λ (x : List Block). fetch_in x q.item) f ∙ item_front b.items q.item b.source_end rest i e
 
 -- what holds of each item of each block holds of it
 pub holds_at : (P : Block → Item → Type 0) (blocks : List Block) → All (λ (b : Block). All (P b) b.items) blocks → (q : Pos) (i : Item)
@@ -137,7 +137,7 @@ same_stands blocks p q i j v w e = let z : v.block ∷ v.rest ≡ w.block ∷ w.
 
 -- ---- items of the function with spilled registers
 
-module _ (s : Spilling) (entry : List Home) where
+module _ (s : Spilling) (entry : List SlotAssignment) where
   abbrev pub others : List Block → List Block
   others bs = map (spilled_block s) bs
 
@@ -151,7 +151,7 @@ module _ (s : Spilling) (entry : List Home) where
 
   -- the block with the items that stand before the others
   abbrev pub with_first : List Item → Block → Block
-  with_first first b = record { id = b.id; items = first ++ spilled_items s b.items; silent = b.silent }
+  with_first first b = record { id = b.id; items = first ++ spilled_items s b.items; source_end = b.source_end }
 
   pub record InG (bs : List Block) (n : ℕ) (b : Block) (rest : List Block) : Type 0 where
     pub first : List Item
@@ -224,11 +224,11 @@ module _ (s : Spilling) (entry : List Home) where
     by_blocks [] f = let bad : fetch_in [] q.item ≡ Here y = sym (ap (λ (x : List Block). fetch_in x q.item) (none_in_g bs q.block f)) ∙ e in cc
     by_blocks (b ∷ rest) f =
         let g = in_g bs q.block b rest f in
-        let at : front (drop q.item (g.first ++ spilled_items s b.items)) b.silent (others rest) ≡ Here y =
+        let at : front (drop q.item (g.first ++ spilled_items s b.items)) b.source_end (others rest) ≡ Here y =
         sym (ap (λ (x : List Block). fetch_in x q.item) g.at) ∙ e in
         by_which b rest f g.first g.which
         (Contains-append_cases g.first (spilled_items s b.items) y (contains_at (g.first ++ spilled_items s b.items) q.item y
-        (front_item (g.first ++ spilled_items s b.items) q.item b.silent (others rest) y at)))
+        (front_item (g.first ++ spilled_items s b.items) q.item b.source_end (others rest) y at)))
 
   pub end_others : (k : ℕ) (bs : List Block) → end_of k (others bs) ≡ end_of k bs
   end_others k [] = refl
@@ -236,24 +236,24 @@ module _ (s : Spilling) (entry : List Home) where
 
   -- an end of a block is one of the function, and of each position past the items
   pub end_in_f : (bs : List Block) (resolve : OperandPair → Option OperandPair) (q : Pos) (k n : ℕ) →
-      (program_of false (spilled_blocks s entry bs) resolve).fetch q ≡ Silent k n →
-      (b : Block) × (rest : List Block) × (from_block bs q.block ≡ b ∷ rest) × (end_of b.silent rest ≡ Silent k n)
+      (program_of false (spilled_blocks s entry bs) resolve).fetch q ≡ EndOfBlock k n →
+      (b : Block) × (rest : List Block) × (from_block bs q.block ≡ b ∷ rest) × (end_of b.source_end rest ≡ EndOfBlock k n)
   end_in_f bs resolve q k n e = by_blocks (from_block bs q.block) refl where
     by_blocks : (x : List Block) → from_block bs q.block ≡ x →
-        (b : Block) × (rest : List Block) × (from_block bs q.block ≡ b ∷ rest) × (end_of b.silent rest ≡ Silent k n)
-    by_blocks [] f = let bad : fetch_in [] q.item ≡ Silent k n = sym (ap (λ (x : List Block). fetch_in x q.item) (none_in_g bs q.block f)) ∙ e in cc
+        (b : Block) × (rest : List Block) × (from_block bs q.block ≡ b ∷ rest) × (end_of b.source_end rest ≡ EndOfBlock k n)
+    by_blocks [] f = let bad : fetch_in [] q.item ≡ EndOfBlock k n = sym (ap (λ (x : List Block). fetch_in x q.item) (none_in_g bs q.block f)) ∙ e in cc
     by_blocks (b ∷ rest) f =
         let g = in_g bs q.block b rest f in
-        let at : front (drop q.item (g.first ++ spilled_items s b.items)) b.silent (others rest) ≡ Silent k n =
+        let at : front (drop q.item (g.first ++ spilled_items s b.items)) b.source_end (others rest) ≡ EndOfBlock k n =
         sym (ap (λ (x : List Block). fetch_in x q.item) g.at) ∙ e in
-        let end = front_end (g.first ++ spilled_items s b.items) q.item b.silent (others rest) k n at in
-        (b, rest, f, sym (end_others b.silent rest) ∙ end.1)
+        let end = front_end (g.first ++ spilled_items s b.items) q.item b.source_end (others rest) k n at in
+        (b, rest, f, sym (end_others b.source_end rest) ∙ end.1)
 
   pub end_past : (bs : List Block) (resolve : OperandPair → Option OperandPair) (p : Pos) (b : Block) (rest : List Block) (k n : ℕ) →
-      from_block bs p.block ≡ b ∷ rest → rest_of bs p ≡ [] → end_of b.silent rest ≡ Silent k n → (program_of false bs resolve).fetch p ≡ Silent k n
+      from_block bs p.block ≡ b ∷ rest → rest_of bs p ≡ [] → end_of b.source_end rest ≡ EndOfBlock k n → (program_of false bs resolve).fetch p ≡ EndOfBlock k n
   end_past bs resolve p b rest k n f none e =
       let none' : drop p.item b.items ≡ [] = sym (ap (λ (x : List Block). rest_in x p.item) f) ∙ none in
-      ap (λ (x : List Block). fetch_in x p.item) f ∙ ap (λ (x : List Item). front x b.silent rest) none' ∙ e
+      ap (λ (x : List Block). fetch_in x p.item) f ∙ ap (λ (x : List Item). front x b.source_end rest) none' ∙ e
 
   -- a place at the end of the block
   pub past_items : (b : Block) → drop (length b.items) b.items ≡ []
@@ -283,7 +283,7 @@ module _ (s : Spilling) (entry : List Home) where
         ap (spilled_items s) (sym (drop_zero b.items)) ∙ sym (ap (λ (x : List Block). spilled_items s (rest_in x 0)) f)
 
 -- the first block begins with the stores of registers that come in with a value
-pub first_start : (s : Spilling) (entry : List Home) (b : Block) (bs : List Block) →
+pub first_start : (s : Spilling) (entry : List SlotAssignment) (b : Block) (bs : List Block) →
     rest_of (spilled_blocks s entry (b ∷ bs)) (block_start b.id) ≡ entry_stores b.id entry ++ spilled_items s (rest_of (b ∷ bs) (block_start b.id))
 first_start s entry b bs =
     let same : nat_eq b.id b.id ≡ true = eq-eqb b.id b.id refl in
@@ -296,10 +296,10 @@ first_start s entry b bs =
       drop_none (x ∷ xs) = refl
 
 -- the end of a block, from where it stands
-pub end_at : (bs : List Block) (resolve : OperandPair → Option OperandPair) (q : Pos) (k n : ℕ) → (program_of false bs resolve).fetch q ≡ Silent k n →
-    (b : Block) × (rest : List Block) × (from_block bs q.block ≡ b ∷ rest) × (end_of b.silent rest ≡ Silent k n)
+pub end_at : (bs : List Block) (resolve : OperandPair → Option OperandPair) (q : Pos) (k n : ℕ) → (program_of false bs resolve).fetch q ≡ EndOfBlock k n →
+    (b : Block) × (rest : List Block) × (from_block bs q.block ≡ b ∷ rest) × (end_of b.source_end rest ≡ EndOfBlock k n)
 end_at bs resolve q k n e = by_blocks (from_block bs q.block) refl e where
-  by_blocks : (x : List Block) → from_block bs q.block ≡ x → fetch_in x q.item ≡ Silent k n →
-      (b : Block) × (rest : List Block) × (from_block bs q.block ≡ b ∷ rest) × (end_of b.silent rest ≡ Silent k n)
+  by_blocks : (x : List Block) → from_block bs q.block ≡ x → fetch_in x q.item ≡ EndOfBlock k n →
+      (b : Block) × (rest : List Block) × (from_block bs q.block ≡ b ∷ rest) × (end_of b.source_end rest ≡ EndOfBlock k n)
   by_blocks [] f e = cc
-  by_blocks (b ∷ rest) f e = (b, rest, f, (front_end b.items q.item b.silent rest k n e).1)
+  by_blocks (b ∷ rest) f e = (b, rest, f, (front_end b.items q.item b.source_end rest k n e).1)

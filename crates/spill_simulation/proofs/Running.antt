@@ -13,21 +13,21 @@ use Rattle.mir_func.specs.declared.block.Block.{Block}
 use Rattle.mir_func.specs.declared.item.Item.{Item}
 use Rattle.mir_func.specs.declared.item.ItemKind.{ItemKind}
 use Rattle.mir_func.specs.declared.item.ItemKind.TheVariants.{Code, Mark, Phi}
-use Rattle.mir_func.specs.Graph.{Program, Fetch, Here, Silent, below, block_start, end_of, from_block, Edge, FetchEdge, Leads, stay}
+use Rattle.mir_func.specs.Graph.{Program, Fetch, Here, EndOfBlock, below, block_start, end_of, from_block, Edge, FetchEdge, Leads, stay}
 use Rattle.mir_func.specs.Sound.{OriginIn}
-use Rattle.sem_mir.specs.Align.{position_of, is_code, is_jump, Count, ByEnds, Station}
-use Rattle.sem_mir.specs.Align.{station_of, end_station, moves_on, station_at, IsOrigin, AnyOrigin, RunsAlong}
+use Rattle.sem_mir.specs.Align.{position_of, is_code, is_jump, Count, ByEnds, SyncPoint}
+use Rattle.sem_mir.specs.Align.{sync_point_of, end_sync_point, moves_on, sync_point_at, IsOrigin, AnyOrigin, RunsMatch}
 use Rattle.sem_mir.specs.Follow.{InOrder, first_of}
 use Rattle.sem_mir.specs.Live.{Live, later, Defines}
 use Rattle.sem_mir.specs.State.{Core, State, content}
 use Rattle.sem_mir.specs.Step.{Went, step}
 use Rattle.sem_mir.proofs.Edges.{step_edge, step_from_before, leads_on}
-use Rattle.sem_simulation.specs.Added.{AddedRelation, Level, IsNeverBack, Adds, Begins, opens, level}
+use Rattle.sem_simulation.specs.Added.{AddedMatchStates, Level, IsNeverBack, Adds, Begins, opens, level}
 use Rattle.sem_simulation.specs.Sides.{Sides, ShowsSame}
 use Rattle.sem_simulation.proofs.Added.{added_follows}
 use Rattle.sem_simulation.proofs.Laid.{rest_in, rest_of, laid_out}
-use Rattle.sem_simulation.proofs.Stations.{code_station, end_is_station, IsStationOf, of_item, of_end, station_is_of}
-use Rattle.spill_code.specs.declared.spilling.Home.{Home}
+use Rattle.sem_simulation.proofs.Stations.{code_sync_point, end_is_sync_point, IsSyncPointOf, of_item, of_end, sync_point_is_of}
+use Rattle.spill_code.specs.declared.spilling.SlotAssignment.{SlotAssignment}
 use Rattle.spill_code.specs.declared.spilling.Spilling.{Spilling}
 use Rattle.spill_code.specs.Rewrite.{slot_of, loads, two_loads, stores, first_used, other_used, first_defined, spilled_code, code_items, spilled_item}
 use Rattle.spill_code.specs.Rewrite.{spilled_items, entry_stores, spilled_blocks}
@@ -40,9 +40,9 @@ use Rattle.spill_simulation.proofs.Places.{start_in_g}
 use Rattle.spill_simulation.proofs.Places.{first_start}
 use Rattle.spill_simulation.proofs.Views.{Stage, Opened, Evenly, Early, Half, Ready, Owes, stands, f as old_program, g as new_program, rf as old_rest}
 use Rattle.spill_simulation.proofs.Views.{rg as new_rest}
-use Rattle.spill_simulation.proofs.Views.{at, Alive, SpillsDef, Extra, Rests, Cores, IsGood, sides as both_sides, framing as framed, view}
+use Rattle.spill_simulation.proofs.Views.{at, Alive, SpillsDef, Extra, MatchItems, MatchCores, IsGood, sides as both_sides, match_states as framed, view}
 
-module _ (s : Spilling) (slots : List ℕ) (homes : AreHomes s slots) (entry : List Home) (blocks : List Block)
+module _ (s : Spilling) (slots : List ℕ) (homes : AreHomes s slots) (entry : List SlotAssignment) (blocks : List Block)
     (resolve : OperandPair → Option OperandPair) (count : Count) (counts : (k : ItemKind) → moves_on count k ≡ is_jump k) (src : Program) (s0 : State)
     (goods : All (λ (b : Block). All (IsGood s slots homes entry blocks resolve src b) b.items) blocks)
     (order : All (λ (b : Block). InOrder b.id 0 b.items) blocks) (start : s0.pos ≡ block_start (first_of blocks)) where
@@ -58,17 +58,17 @@ module _ (s : Spilling) (slots : List ℕ) (homes : AreHomes s slots) (entry : L
   abbrev rg : Pos → List Item
   rg = new_rest s slots homes entry blocks resolve
 
-  abbrev framing : AddedRelation
-  framing = framed s slots homes entry blocks resolve count counts src s0 goods order
+  abbrev match_states : AddedMatchStates
+  match_states = framed s slots homes entry blocks resolve count counts src s0 goods order
 
   abbrev sides : Sides
   sides = both_sides s slots homes entry blocks resolve count counts src s0 goods order
 
-  abbrev fs : Pos → Option Station
-  fs = station_at count f
+  abbrev fs : Pos → Option SyncPoint
+  fs = sync_point_at count f
 
-  abbrev gs : Pos → Option Station
-  gs = station_at count g
+  abbrev gs : Pos → Option SyncPoint
+  gs = sync_point_at count g
 
   abbrev IsExtra : Pos → Type 0
   IsExtra = Extra s slots homes entry blocks resolve
@@ -108,7 +108,7 @@ module _ (s : Spilling) (slots : List ℕ) (homes : AreHomes s slots) (entry : L
 
   -- an origin of an item of the first
   origin_of : (w : Pos) (x : Item) → f.fetch w ≡ Here x → is_code x.kind ≡ true → (q : Pos) → position_of x.origin ≡ q → IsOrigin fs q
-  origin_of w x e code q is = record { place = w; station = station_of count x; stands = code_station count f w x e code; from = is }
+  origin_of w x e code q is = record { place = w; sync_point = sync_point_of count x; stands = code_sync_point count f w x e code; from = is }
 
   -- a kept item with a spilled definition
   kept_of : (w : Pos) (ins : Instruction) (num : Option ℕ) (o : Origin) (l : Loc) (n : ℕ) → f.fetch w ≡ Here
@@ -128,14 +128,14 @@ module _ (s : Spilling) (slots : List ℕ) (homes : AreHomes s slots) (entry : L
         let bad : None ≡ Some n = sym none ∙ d.2 in
         cc
 
-  entry_from : (b : ℕ) (hs : List Home) (y : Item) → Contains (entry_stores b hs) y → (position_of y.origin ≡ block_start b) × (hs ≡ [] → ⊥)
+  entry_from : (b : ℕ) (hs : List SlotAssignment) (y : Item) → Contains (entry_stores b hs) y → (position_of y.origin ≡ block_start b) × (hs ≡ [] → ⊥)
   entry_from b [] y (k, lt, e) = absurd (omega (arith, lt))
   entry_from b (h ∷ hs) y (zero, lt, e) = (sym (ap (λ (i : Item). position_of i.origin) e), λ z. cc)
   entry_from b (h ∷ hs) y (suc k, lt, e) = ((entry_from b hs y (k, omega (arith, lt), e)).0, λ z. cc)
 
   -- a place of the second: one of the first, right below a spilled definition, or the start with its stores
   where_from : (q : Pos) → IsOrigin gs q → IsOrigin fs q ⊎ IsExtra q ⊎ ((q ≡ s0.pos) × (entry ≡ [] → ⊥))
-  where_from q o = by_station (station_is_of count g o.place o.station o.stands) where
+  where_from q o = by_sync_point (sync_point_is_of count g o.place o.sync_point o.stands) where
     by_kind : (w : Pos) (x : Item) (k : ItemKind) → x.kind ≡ k → f.fetch w ≡ Here x → (y : Item) → is_code y.kind ≡ true → position_of y.origin ≡ q →
         Contains (spilled_item s x) y → IsOrigin fs q ⊎ IsExtra q ⊎ ((q ≡ s0.pos) × (entry ≡ [] → ⊥))
     by_kind w x (Code ins num) is e y code from h =
@@ -181,25 +181,26 @@ module _ (s : Spilling) (slots : List ℕ) (homes : AreHomes s slots) (entry : L
         let k = entry_from o.place.block entry y h in
         inr (inr (sym from ∙ k.0 ∙ ap block_start first ∙ sym start, k.1))
 
-    by_end : (k n : ℕ) → g.fetch o.place ≡ Silent k n → count ≡ ByEnds →
-        o.station ≡ record { pos = record { block = o.place.block; item = k }; waits = false } → IsOrigin fs q
+    by_end : (k n : ℕ) → g.fetch o.place ≡ EndOfBlock k n → count ≡ ByEnds →
+        o.sync_point ≡ record { pos = record { block = o.place.block; item = k }; waits = false } → IsOrigin fs q
     by_end k n at ends st =
         let w = end_in_f s entry blocks resolve o.place k n at in
         let b = w.0 in
         let p : Pos = record { block = o.place.block; item = length b.items } in
         let none : rf p ≡ [] = ap (λ (bs : List Block). rest_in bs (length b.items)) w.2 ∙ past_items s entry b in
-        let there : f.fetch p ≡ Silent k n = end_past s entry blocks resolve p b w.1 k n w.2 none w.3 in
+        let there : f.fetch p ≡ EndOfBlock k n = end_past s entry blocks resolve p b w.1 k n w.2 none w.3 in
         record {
           place = p;
-          station = o.station;
-          stands = end_is_station count f p k n there ∙ ap (λ (z : Count). end_station z (record { block = o.place.block; item = k })) ends ∙ ap Some (sym st);
+          sync_point = o.sync_point;
+          stands = end_is_sync_point count f p k n there ∙ ap (λ (z : Count). end_sync_point z (record { block = o.place.block; item = k })) ends ∙ ap Some
+              (sym st);
           from = o.from;
         }
 
-    by_station : IsStationOf count g o.place o.station → IsOrigin fs q ⊎ IsExtra q ⊎ ((q ≡ s0.pos) × (entry ≡ [] → ⊥))
-    by_station (of_item y at code st) =
-        by_piece y code (ap (λ (z : Station). z.pos) st ∙ o.from) (comes_from s entry blocks resolve o.place y at)
-    by_station (of_end k n at ends st) = inl (by_end k n at ends st)
+    by_sync_point : IsSyncPointOf count g o.place o.sync_point → IsOrigin fs q ⊎ IsExtra q ⊎ ((q ≡ s0.pos) × (entry ≡ [] → ⊥))
+    by_sync_point (of_item y at code st) =
+        by_piece y code (ap (λ (z : SyncPoint). z.pos) st ∙ o.from) (comes_from s entry blocks resolve o.place y at)
+    by_sync_point (of_end k n at ends st) = inl (by_end k n at ends st)
 
   -- what stops the source
   never_back : (entry ≡ []) ⊎ IsNeverBack src (λ p. Leads src s0.pos p) s0.pos → (entry ≡ [] → ⊥) → IsNeverBack src (λ p. Leads src s0.pos p) s0.pos
@@ -232,18 +233,18 @@ module _ (s : Spilling) (slots : List ℕ) (homes : AreHomes s slots) (entry : L
           (ap position_of e.kept ∙ ap (λ (b : ℕ). record { block = b; item = e.pos.item }) (sym (ap (λ (q : Pos). q.block) e.under))),
     )
 
-    starts : (p : Pos) (n : ℕ) → Edge f p (block_start n) → Rests s slots homes entry blocks resolve (Evenly 0) n (rf (block_start n)) (rg (block_start n))
+    starts : (p : Pos) (n : ℕ) → Edge f p (block_start n) → MatchItems s slots homes entry blocks resolve (Evenly 0) n (rf (block_start n)) (rg (block_start n))
     starts p n edge = (refl, start_in_g s entry blocks n (λ e. none e free)) where
       none : n ≡ first_of blocks → (entry ≡ []) ⊎ ((p : Pos) → Edge f p (block_start (first_of blocks)) → ⊥) → entry ≡ []
       none e (inl k) = k
       none e (inr out) = absurd (out p (subst (λ (m : ℕ). Edge f p (block_start m)) e edge))
 
-    onward : (p q : Pos) (k n : ℕ) → q.block ≡ p.block → rf p ≡ [] → rg q ≡ [] → g.fetch q ≡ Silent k n → f.fetch p ≡ Silent k n
+    onward : (p q : Pos) (k n : ℕ) → q.block ≡ p.block → rf p ≡ [] → rg q ≡ [] → g.fetch q ≡ EndOfBlock k n → f.fetch p ≡ EndOfBlock k n
     onward p q k n same none none' at =
         let w = end_in_f s entry blocks resolve q k n at in
         end_past s entry blocks resolve p w.0 w.1 k n (ap (from_block blocks) (sym same) ∙ w.2) none w.3
 
-    end_stands : (p : Pos) (k n : ℕ) → count ≡ ByEnds → f.fetch p ≡ Silent k n → (st u : State) → st.pos ≡ record { block = p.block; item = k } →
+    end_stands : (p : Pos) (k n : ℕ) → count ≡ ByEnds → f.fetch p ≡ EndOfBlock k n → (st u : State) → st.pos ≡ record { block = p.block; item = k } →
         step src st ≡ Went u → IsExtra u.pos → IsOrigin fs u.pos
     end_stands p k n ends at st u from went e =
         let before : st.pos ≡ e.pos = step_from_before src st u e.pos.block e.pos.item went e.under in
@@ -255,21 +256,21 @@ module _ (s : Spilling) (slots : List ℕ) (homes : AreHomes s slots) (entry : L
         let id : e.place.block ≡ p.block = sym v.id ∙ sym inside.0 ∙ ap (λ (q : Pos). q.block) here in
         let same : w.0 ∷ w.1 ≡ v.block ∷ v.rest = sym w.2 ∙ ap (from_block blocks) (sym id) ∙ v.found in
         let one : w.0 ≡ v.block = cc in
-        let silent : v.block.silent ≡ k = ap (λ (b : Block). b.silent) (sym one) ∙ end_silent w.0.silent w.1 k n w.3 in
+        let source_end : v.block.source_end ≡ k = ap (λ (b : Block). b.source_end) (sym one) ∙ end_silent w.0.source_end w.1 k n w.3 in
         let lt = inside.1 in
         let item : e.pos.item ≡ k = ap (λ (q : Pos). q.item) here in
-        absurd (omega (arith, lt, item, silent)) where
-          end_silent : (j : ℕ) (bs : List Block) (k n : ℕ) → end_of j bs ≡ Silent k n → j ≡ k
+        absurd (omega (arith, lt, item, source_end)) where
+          end_silent : (j : ℕ) (bs : List Block) (k n : ℕ) → end_of j bs ≡ EndOfBlock k n → j ≡ k
           end_silent j [] k n e = cc
           end_silent j (b ∷ bs) k n e = cc
 
-    ends : (k : Stage) (p : Pos) (j n : ℕ) (c d : Core) → stands k ≡ Level → rf p ≡ [] → f.fetch p ≡ Silent j n →
-        Rests s slots homes entry blocks resolve k p.block [] [] → Cores s slots homes entry blocks resolve k p.block [] [] c d →
-        Cores s slots homes entry blocks resolve (Evenly 0) n (rf (block_start n)) (rg (block_start n)) c d
+    ends : (k : Stage) (p : Pos) (j n : ℕ) (c d : Core) → stands k ≡ Level → rf p ≡ [] → f.fetch p ≡ EndOfBlock j n →
+        MatchItems s slots homes entry blocks resolve k p.block [] [] → MatchCores s slots homes entry blocks resolve k p.block [] [] c d →
+        MatchCores s slots homes entry blocks resolve (Evenly 0) n (rf (block_start n)) (rg (block_start n)) c d
     ends (Evenly i) p j n c d even none at rests near =
         let w = end_at blocks resolve p j n at in
         let here : Pos = record { block = p.block; item = i } in
-        let there : f.fetch here ≡ Silent j n = end_past s entry blocks resolve here w.0 w.1 j n w.2 rests.0 w.3 in
+        let there : f.fetch here ≡ EndOfBlock j n = end_past s entry blocks resolve here w.0 w.1 j n w.2 rests.0 w.3 in
         near_on s slots homes resolve (Alive s slots homes entry blocks resolve p.block i) (λ _. ⊥) (Alive s slots homes entry blocks resolve n 0) (λ _. ⊥) c
         d near
         (λ r m e out. (
@@ -286,7 +287,7 @@ module _ (s : Spilling) (slots : List ℕ) (homes : AreHomes s slots) (entry : L
     shows_near : (A O : ℕ → Type 0) (c d : Core) → Near s slots A O c d → ShowsSame c d
     shows_near A O c d near = record { events = sym near.world.events; told = λ v x e. near.marks v x e }
 
-    shows : (k : Stage) (b : ℕ) (xs ys : List Item) (c d : Core) → Cores s slots homes entry blocks resolve k b xs ys c d → ShowsSame c d
+    shows : (k : Stage) (b : ℕ) (xs ys : List Item) (c d : Core) → MatchCores s slots homes entry blocks resolve k b xs ys c d → ShowsSame c d
     shows (Opened h hs) b xs ys c d k = shows_near _ _ c d k.near
     shows (Evenly i) b xs ys c d k = shows_near _ _ c d k
     shows (Early i q) b xs ys c d k = shows_near _ _ c d k
@@ -294,7 +295,7 @@ module _ (s : Spilling) (slots : List ℕ) (homes : AreHomes s slots) (entry : L
     shows (Ready i q) b xs ys c d k = shows_near _ _ c d k.0
     shows (Owes i q r n) b xs ys c d k = shows_near _ _ c d k.0
 
-    adds : Adds count src sides framing
+    adds : Adds count src sides match_states
     adds = record {
       more = record {
         stops = stops;
@@ -318,9 +319,10 @@ module _ (s : Spilling) (slots : List ℕ) (homes : AreHomes s slots) (entry : L
     -- no spilled register is live at the start but those that are stored, and the slots are unwritten
     module _ (cold : (n : ℕ) → s0.core.slots n ≡ None) (warm : (r : ℕ) → r < 32 → IsSome (content s0.core.regs r))
         (lives : (r n : ℕ) → slot_of s.homes r ≡ Some n → Live f (Register r) (block_start (first_of blocks)) →
-        (h : Home) × Contains entry h × (h.register ≡ r)) (stored : (h : Home) → Contains entry h → slot_of s.homes h.register ≡ Some h.slot) where
-      near_start : (hs : List Home) → ((h : Home) → Contains entry h → Contains hs h) →
-          Near s slots (Alive s slots homes entry blocks resolve s0.pos.block 0) (λ q. (h : Home) × Contains hs h × (h.register ≡ q)) s0.core s0.core
+        (h : SlotAssignment) × Contains entry h × (h.register ≡ r)) (stored : (h : SlotAssignment) → Contains entry h →
+        slot_of s.homes h.register ≡ Some h.slot) where
+      near_start : (hs : List SlotAssignment) → ((h : SlotAssignment) → Contains entry h → Contains hs h) →
+          Near s slots (Alive s slots homes entry blocks resolve s0.pos.block 0) (λ q. (h : SlotAssignment) × Contains hs h × (h.register ≡ q)) s0.core s0.core
       near_start hs all = record {
         world = record { entry = refl; area = refl; objects = refl; memory = refl; script = refl; events = refl };
         regs = λ r h. refl;
@@ -363,28 +365,33 @@ module _ (s : Spilling) (slots : List ℕ) (homes : AreHomes s slots) (entry : L
               ]
             ]
 
-        begins : Begins count src sides framing
+        begins : Begins count src sides match_states
         begins = by_entry entry refl where
-          by_entry : (hs : List Home) → entry ≡ hs → Begins count src sides framing
+          by_entry : (hs : List SlotAssignment) → entry ≡ hs → Begins count src sides match_states
           by_entry [] e =
-              level (Evenly 0) refl refl (sym at_start, rest_at ∙ ap (λ (hs : List Home). entry_stores s0.pos.block hs ++ spilled_items s (rf s0.pos)) e)
-              (near_on s slots homes resolve (Alive s slots homes entry blocks resolve s0.pos.block 0) (λ q. (h : Home) × Contains entry h × (h.register ≡ q))
+              level (Evenly 0) refl refl (
+                sym at_start,
+                rest_at ∙ ap (λ (hs : List SlotAssignment). entry_stores s0.pos.block hs ++ spilled_items s
+                    (rf s0.pos)) e,
+              )
+              (near_on s slots homes resolve (Alive s slots homes entry blocks resolve s0.pos.block 0) (λ q. (h : SlotAssignment) × Contains entry h ×
+              (h.register ≡ q))
               (Alive s slots homes entry blocks resolve s0.pos.block 0) (λ _. ⊥) s0.core s0.core (near_start entry (λ h k. k))
-              (λ r n z out. (λ owed. (let k = subst (λ (hs : List Home). Contains hs owed.0) e owed.1 in let lt = k.1 in omega (arith, lt)), λ z. z)))
+              (λ r n z out. (λ owed. (let k = subst (λ (hs : List SlotAssignment). Contains hs owed.0) e owed.1 in let lt = k.1 in omega (arith, lt)), λ z. z)))
               (all_stops e)
           by_entry (h ∷ hs) e =
               opens (Opened h hs) refl (
                 at_block,
                 sym at_start,
-                rest_at ∙ ap (λ (js : List Home). entry_stores s0.pos.block js ++ spilled_items s (rf s0.pos)) e,
-                λ j k. stored j (subst (λ (js : List Home). Contains js j) (sym e) k),
+                rest_at ∙ ap (λ (js : List SlotAssignment). entry_stores s0.pos.block js ++ spilled_items s (rf s0.pos)) e,
+                λ j k. stored j (subst (λ (js : List SlotAssignment). Contains js j) (sym e) k),
               )
               (record {
-                near = near_start (h ∷ hs) (λ j k. subst (λ (js : List Home). Contains js j) e k);
+                near = near_start (h ∷ hs) (λ j k. subst (λ (js : List SlotAssignment). Contains js j) e k);
                 regs = λ r. refl;
                 written = warm;
               })
 
         -- it runs along where the function does
-        pub spilled_runs : RunsAlong src f fs (AnyOrigin fs) s0 s0 → RunsAlong src g gs (AnyOrigin gs) s0 s0
-        spilled_runs runs = added_follows framing count src sides adds stay begins runs
+        pub spilled_runs : RunsMatch src f fs (AnyOrigin fs) s0 s0 → RunsMatch src g gs (AnyOrigin gs) s0 s0
+        spilled_runs runs = added_follows match_states count src sides adds stay begins runs

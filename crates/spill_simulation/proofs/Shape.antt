@@ -21,7 +21,7 @@ use Rattle.sem_mir.specs.Align.{position_of}
 use Rattle.sem_mir.specs.Follow.{class_of, MayAdd, HasClass, ItemHasClass, RowFits, KindFits, MarkFits, rank, next_rank, InOrder, Among, none, same, left}
 use Rattle.sem_mir.specs.Follow.{first_of, GoesTo}
 use Rattle.sem_simulation.proofs.Order.{rank_low}
-use Rattle.spill_code.specs.declared.spilling.Home.{Home}
+use Rattle.spill_code.specs.declared.spilling.SlotAssignment.{SlotAssignment}
 use Rattle.spill_code.specs.declared.spilling.Spilling.{Spilling}
 use Rattle.spill_code.specs.Rewrite.{use_now, def_now, first_used, other_used, first_defined, spilled_code, load, store, added, loads}
 use Rattle.spill_code.specs.Rewrite.{two_loads, stores, code_items, kind_items, spilled_item}
@@ -36,12 +36,12 @@ class_renamed : (u d : ℕ → ℕ) (r : Row) → class_of (renamed_row u d r) �
 class_renamed u d (Jumps t) = refl
 class_renamed u d _ = refl
 
-may_renamed : (u d : ℕ → ℕ) (r : Row) (k silent : ℕ) → MayAdd r k silent → MayAdd (renamed_row u d r) k silent
-may_renamed u d (Fixes rd n) k silent h = h
-may_renamed u d (LoadsSlot rd n) k silent h = h
-may_renamed u d (StoresSlot rs n) k silent h = h
-may_renamed u d (Jumps t) k silent h = h
-may_renamed u d _ k silent h = absurd h
+may_renamed : (u d : ℕ → ℕ) (r : Row) (k source_end : ℕ) → MayAdd r k source_end → MayAdd (renamed_row u d r) k source_end
+may_renamed u d (Fixes rd n) k source_end h = h
+may_renamed u d (LoadsSlot rd n) k source_end h = h
+may_renamed u d (StoresSlot rs n) k source_end h = h
+may_renamed u d (Jumps t) k source_end h = h
+may_renamed u d _ k source_end h = absurd h
 
 pub goes_renamed : (u d : ℕ → ℕ) (r : Row) (n : ℕ) → GoesTo n r → GoesTo n (renamed_row u d r)
 goes_renamed u d (Branches op a b t) n h = h
@@ -135,7 +135,7 @@ module _ (s : Spilling) (slots : List ℕ) (homes : AreHomes s slots) where
                   (λ j lo. at_main j (low_rank j lo)),
             )
 
-  module _ (entry : List Home) (blocks : List Block) (resolve : OperandPair → Option OperandPair) (srcp : Program) where
+  module _ (entry : List SlotAssignment) (blocks : List Block) (resolve : OperandPair → Option OperandPair) (srcp : Program) where
     pub order_items : (c : Block) (b n : ℕ) (xs : List Item) → All (IsGood s slots homes entry blocks resolve srcp c) xs → IsEven n → InOrder b n xs →
         InOrder b n (spilled_items s xs)
     order_items c b n [] goods even h = tt
@@ -149,7 +149,7 @@ module _ (s : Spilling) (slots : List ℕ) (homes : AreHomes s slots) where
           by_kind (Mark v m) fits more = (h.0, h.1, more)
           by_kind (Phi p m) fits more = (h.0, h.1, more)
 
-    pub order_entry : (b : ℕ) (hs : List Home) (ys : List Item) → InOrder b 0 ys → InOrder b 0 (entry_stores b hs ++ ys)
+    pub order_entry : (b : ℕ) (hs : List SlotAssignment) (ys : List Item) → InOrder b 0 ys → InOrder b 0 (entry_stores b hs ++ ys)
     order_entry b [] ys h = h
     order_entry b (e ∷ hs) ys h = (refl, omega arith, order_entry b hs ys h)
 
@@ -167,7 +167,8 @@ module _ (s : Spilling) (slots : List ℕ) (homes : AreHomes s slots) where
         subst (All Q) (sym (flat_map-cons (spilled_item s) x xs))
         (All-append Q (spilled_item s x) (spilled_items s xs) (step x (All-head P x xs h)) (each_item P Q step xs (All-tail P x xs h)))
 
-    pub each_entry : (Q : Item → Type 0) (b : ℕ) (hs : List Home) → ((h : Home) → Q (added (block_start b) (store h.register h.slot))) → All Q
+    pub each_entry : (Q : Item → Type 0) (b : ℕ) (hs : List SlotAssignment) → ((h : SlotAssignment) → Q (added (block_start b) (store h.register h.slot))) →
+        All Q
         (entry_stores b hs)
     each_entry Q b [] q = All-nil Q
     each_entry Q b (h ∷ hs) q = All-cons Q (added (block_start b) (store h.register h.slot)) (entry_stores b hs) (q h) (each_entry Q b hs q)
@@ -197,29 +198,29 @@ module _ (s : Spilling) (slots : List ℕ) (homes : AreHomes s slots) where
     renames i =
         row_renamed (use_now s (first_used s.homes i.operands)) (def_now s) (keeps_zero s slots homes (first_used s.homes i.operands)) i
 
-    row_fits : (i : Instruction) (silent : ℕ) (o : Origin) → RowFits srcp (row_of i) silent o → RowFits srcp (row_of (spilled_code s i)) silent o
-    row_fits i silent (Kept p) h =
+    row_fits : (i : Instruction) (source_end : ℕ) (o : Origin) → RowFits srcp (row_of i) source_end o → RowFits srcp (row_of (spilled_code s i)) source_end o
+    row_fits i source_end (Kept p) h =
         has_class (row_of i) (row_of (spilled_code s i)) (srcp.fetch p)
         (ap class_of (renames i) ∙ class_renamed (use_now s (first_used s.homes i.operands)) (def_now s) (row_of i)) h
-    row_fits i silent (Before p) h =
-        subst (λ (r : Row). MayAdd r p.item silent) (sym (renames i))
-        (may_renamed (use_now s (first_used s.homes i.operands)) (def_now s) (row_of i) p.item silent h)
+    row_fits i source_end (Before p) h =
+        subst (λ (r : Row). MayAdd r p.item source_end) (sym (renames i))
+        (may_renamed (use_now s (first_used s.homes i.operands)) (def_now s) (row_of i) p.item source_end h)
 
     pub kinds_item : (b : Block) (x : Item) → IsGood s slots homes entry blocks resolve srcp b x →
-        All (λ (i : Item). KindFits srcp i.kind b.silent i.origin) (spilled_item s x)
+        All (λ (i : Item). KindFits srcp i.kind b.source_end i.origin) (spilled_item s x)
     kinds_item b x good = by_kind x.kind good.fits good.kind where
-      inner : (o : Origin) → OriginIn b o → (q : Pos) × (o ≡ Kept q) → (position_of o).item < b.silent
-      inner o h (q, e) = let k = (subst (OriginIn b) e h).1 in subst (λ (z : Origin). (position_of z).item < b.silent) (sym e) k
+      inner : (o : Origin) → OriginIn b o → (q : Pos) × (o ≡ Kept q) → (position_of o).item < b.source_end
+      inner o h (q, e) = let k = (subst (OriginIn b) e h).1 in subst (λ (z : Origin). (position_of z).item < b.source_end) (sym e) k
 
-      by_kind : (k : ItemKind) → Fits s k x.origin → KindFits srcp k b.silent x.origin →
-          All (λ (i : Item). KindFits srcp i.kind b.silent i.origin) (kind_items s k x.origin x.loc)
+      by_kind : (k : ItemKind) → Fits s k x.origin → KindFits srcp k b.source_end x.origin →
+          All (λ (i : Item). KindFits srcp i.kind b.source_end i.origin) (kind_items s k x.origin x.loc)
       by_kind (Code i n) fits kind =
-          each_code (λ (j : Item). KindFits srcp j.kind b.silent j.origin) i n x.origin x.loc
-          (λ m r e k. inner x.origin good.inside (kept_use i x.origin fits m e)) (row_fits i b.silent x.origin kind) (λ m. tt)
-      by_kind (Mark v m) fits kind = All-cons (λ (i : Item). KindFits srcp i.kind b.silent i.origin) _ [] tt (All-nil (λ (i : Item). KindFits srcp i.kind
-          b.silent i.origin))
-      by_kind (Phi p n) fits kind = All-cons (λ (i : Item). KindFits srcp i.kind b.silent i.origin) _ [] tt (All-nil (λ (i : Item). KindFits srcp i.kind
-          b.silent i.origin))
+          each_code (λ (j : Item). KindFits srcp j.kind b.source_end j.origin) i n x.origin x.loc
+          (λ m r e k. inner x.origin good.inside (kept_use i x.origin fits m e)) (row_fits i b.source_end x.origin kind) (λ m. tt)
+      by_kind (Mark v m) fits kind = All-cons (λ (i : Item). KindFits srcp i.kind b.source_end i.origin) _ [] tt (All-nil (λ (i : Item). KindFits srcp i.kind
+          b.source_end i.origin))
+      by_kind (Phi p n) fits kind = All-cons (λ (i : Item). KindFits srcp i.kind b.source_end i.origin) _ [] tt (All-nil (λ (i : Item). KindFits srcp i.kind
+          b.source_end i.origin))
 
     abbrev MarkIs : Item → Type 0
     MarkIs i = MarkFits i.kind i.origin

@@ -18,7 +18,7 @@ use Rattle.mir_func.specs.declared.block.Block.{Block}
 use Rattle.mir_func.specs.declared.item.Item.{Item}
 use Rattle.mir_func.specs.declared.item.ItemKind.{ItemKind}
 use Rattle.mir_func.specs.declared.item.ItemKind.TheVariants.{Code, Mark, Phi}
-use Rattle.mir_func.specs.Graph.{Program, Fetch, Here, Silent, Outside, below, block_start, from_block, program_of, FetchEdge, RowEdge, Leads, stay}
+use Rattle.mir_func.specs.Graph.{Program, Fetch, Here, EndOfBlock, Outside, below, block_start, from_block, program_of, FetchEdge, RowEdge, Leads, stay}
 use Rattle.mir_func.specs.Sound.{AreApart, OriginIn, ids_of, TargetsIn, TargetIn}
 use Rattle.sem_mir.specs.Align.{position_of}
 use Rattle.sem_mir.specs.Follow.{rank, next_rank, InOrder, first_of, OnRow, Counts, IsMetApart, Shape}
@@ -27,7 +27,7 @@ use Rattle.sem_mir.proofs.Edges.{leads_trans}
 use Rattle.sem_mir.proofs.Reading.{found, next_block}
 use Rattle.sem_simulation.proofs.Laid.{rest_of, laid_out}
 use Rattle.sem_simulation.proofs.Order.{rank_high, same_pos}
-use Rattle.spill_code.specs.declared.spilling.Home.{Home}
+use Rattle.spill_code.specs.declared.spilling.SlotAssignment.{SlotAssignment}
 use Rattle.spill_code.specs.declared.spilling.Spilling.{Spilling}
 use Rattle.spill_code.specs.Rewrite.{slot_of, use_now, def_now, first_used, other_used, first_defined}
 use Rattle.spill_code.specs.Rewrite.{spilled_code, load, store, added, loads, two_loads, stores}
@@ -57,7 +57,7 @@ drop_none : (xs : List Item) → drop 0 xs ≡ xs
 drop_none [] = refl
 drop_none (x ∷ xs) = refl
 
-module _ (s : Spilling) (slots : List ℕ) (homes : AreHomes s slots) (entry : List Home) (blocks : List Block)
+module _ (s : Spilling) (slots : List ℕ) (homes : AreHomes s slots) (entry : List SlotAssignment) (blocks : List Block)
     (resolve : OperandPair → Option OperandPair) (srcp : Program)
     (goods : All (λ (b : Block). All (IsGood s slots homes entry blocks resolve srcp b) b.items) blocks)
     (targets : All (λ (b : Block). All (λ (i : Item). TargetsIn (ids_of blocks) i.kind) b.items) blocks) where
@@ -111,9 +111,9 @@ module _ (s : Spilling) (slots : List ℕ) (homes : AreHomes s slots) (entry : L
     by_fetch : (x : Fetch) → f.fetch p ≡ x → FetchEdge (λ n. n) x p (block_start n) → Contains (ids_of blocks) n
     by_fetch (Here i) at e = by_kind i.kind
         (holds_at (λ b i. TargetsIn (ids_of blocks) i.kind) blocks targets p i (stands_at false blocks resolve p i at)) e
-    by_fetch (Silent k m) at e =
+    by_fetch (EndOfBlock k m) at e =
         let w = end_at blocks resolve p k m at in
-        let c = next_of_end s entry blocks resolve w.0.silent w.1 k m w.3 in
+        let c = next_of_end s entry blocks resolve w.0.source_end w.1 k m w.3 in
         let i = next_block blocks p.block w.0 c.0 c.1 (w.2 ∙ ap (λ (z : List Block). w.0 ∷ z) c.2) in
         let same : c.0.id ≡ n = c.3 ∙ sym (ap (λ (q : Pos). q.block) e) in
         subst (λ (z : ℕ). Contains (ids_of blocks) z) same (contains_at (ids_of blocks) (suc i.0) c.0.id i.1)
@@ -135,14 +135,16 @@ module _ (s : Spilling) (slots : List ℕ) (homes : AreHomes s slots) (entry : L
     by_origin b (Before p) h = h.0
 
   -- each block of the one has the silent index of the other's
-  silent_of : AreApart (ids_of new) → (b : Block) → Contains new b → (c : Block) (rest : List Block) → from_block blocks b.id ≡ c ∷ rest → c.silent ≡ b.silent
+  silent_of : AreApart (ids_of new) → (b : Block) → Contains new b → (c : Block) (rest : List Block) → from_block blocks b.id ≡ c ∷ rest →
+      c.source_end ≡ b.source_end
   silent_of apart b member c rest e =
       let w = found new apart b member in
       let i = in_g s entry blocks b.id c rest e in
-      let same : b ∷ w.rest ≡ record { id = c.id; items = i.first ++ spilled_items s c.items; silent = c.silent } ∷ map (spilled_block s) rest = sym w.at ∙
+      let same : b ∷ w.rest ≡ record { id = c.id; items = i.first ++ spilled_items s c.items; source_end = c.source_end } ∷ map
+      (spilled_block s) rest = sym w.at ∙
       i.at in
-      let one : b ≡ record { id = c.id; items = i.first ++ spilled_items s c.items; silent = c.silent } = cc in
-      sym (ap (λ (z : Block). z.silent) one)
+      let one : b ≡ record { id = c.id; items = i.first ++ spilled_items s c.items; source_end = c.source_end } = cc in
+      sym (ap (λ (z : Block). z.source_end) one)
 
   -- ---- code that counts is met
 
@@ -272,27 +274,31 @@ module _ (s : Spilling) (slots : List ℕ) (homes : AreHomes s slots) (entry : L
       by_row Unfit h = h
 
     module _ (src : List Block) (shape : Shape src blocks srcp f)
-        (stored : (h : Home) → Contains entry h → slot_of s.homes h.register ≡ Some h.slot)
-        (lives : (h : Home) → Contains entry h → Live f (Register h.register) (block_start (first_of blocks))) where
+        (stored : (h : SlotAssignment) → Contains entry h → slot_of s.homes h.register ≡ Some h.slot)
+        (lives : (h : SlotAssignment) → Contains entry h → Live f (Register h.register) (block_start (first_of blocks))) where
       -- the position of an item isn't past its block's end; that of kept code isn't at it
       inside_of : (w : Pos) (x : Item) (b : Block) → f.fetch w ≡ Here x → Contains new b → w.block ≡ b.id →
-          ((position_of x.origin).item ≤ b.silent) × ((q : Pos) → x.origin ≡ Kept q → q.item < b.silent) × ((position_of x.origin).block ≡ b.id)
+          ((position_of x.origin).item ≤ b.source_end) × ((q : Pos) → x.origin ≡ Kept q → q.item < b.source_end) × ((position_of x.origin).block ≡ b.id)
       inside_of w x b e member same =
           let v = stands_at false blocks resolve w x e in
-          let silent : v.block.silent ≡ b.silent = silent_of apart' b member v.block v.rest (ap (from_block blocks) (sym same) ∙ v.found) in
+          let source_end : v.block.source_end ≡ b.source_end = silent_of apart' b member v.block v.rest (ap (from_block blocks) (sym same) ∙ v.found) in
           let id : v.block.id ≡ b.id = v.id ∙ same in
-          by_origin x.origin refl v.block (good_at w x v).inside silent id where
-            by_origin : (o : Origin) → x.origin ≡ o → (c : Block) → OriginIn c o → c.silent ≡ b.silent → c.id ≡ b.id →
-                ((position_of o).item ≤ b.silent) × ((q : Pos) → o ≡ Kept q → q.item < b.silent) × ((position_of o).block ≡ b.id)
-            by_origin (Kept p) k c h silent id =
-                let lt = h.1 in
-                (omega (arith, lt, silent), λ q z. (let pq : p ≡ q = cc in subst (λ (y : Pos). y.item < b.silent) pq (omega (arith, lt, silent))), h.0 ∙ id)
-            by_origin (Before p) k c h silent id = let le = h.1 in (omega (arith, le, silent), λ q z. cc, h.0 ∙ id)
+          by_origin x.origin refl v.block (good_at w x v).inside source_end id where
+            by_origin : (o : Origin) → x.origin ≡ o → (c : Block) → OriginIn c o → c.source_end ≡ b.source_end → c.id ≡ b.id →
+                ((position_of o).item ≤ b.source_end) × ((q : Pos) → o ≡ Kept q → q.item < b.source_end) × ((position_of o).block ≡ b.id)
+            by_origin (Kept p) k c h source_end id =
+                let lt = h.1 in (
+                  omega (arith, lt, source_end),
+                  λ q z. (let pq : p ≡ q = cc in subst (λ (y : Pos). y.item < b.source_end) pq (omega
+                      (arith, lt, source_end))),
+                  h.0 ∙ id,
+                )
+            by_origin (Before p) k c h source_end id = let le = h.1 in (omega (arith, le, source_end), λ q z. cc, h.0 ∙ id)
 
       abbrev MetFor : Block → Pos → Type 0
-      MetFor b p = (q : Pos) × (j : Item) × IsMetApart g p b.silent q j
+      MetFor b p = (q : Pos) × (j : Item) × IsMetApart g p b.source_end q j
 
-      entry_member : (n : ℕ) (hs : List Home) (y : Item) → Contains (entry_stores n hs) y → (h : Home) × Contains hs h
+      entry_member : (n : ℕ) (hs : List SlotAssignment) (y : Item) → Contains (entry_stores n hs) y → (h : SlotAssignment) × Contains hs h
       entry_member n [] y (k, lt, e) = absurd (omega (arith, lt))
       entry_member n (h ∷ hs) y k = (h, (0, omega arith, refl))
 
@@ -301,7 +307,8 @@ module _ (s : Spilling) (slots : List ℕ) (homes : AreHomes s slots) (entry : L
           from_block blocks p.block ≡ c ∷ rest → p.block ≡ first_of blocks → FallThrough ys → Contains (entry_stores p.block entry) i →
           rg p ≡ ys ++ spilled_items s (rf (block_start p.block)) → MetFor b p
       met_entry b p i ys c rest member same found first falls stands here = by_home (entry_member p.block entry i stands) where
-        by_use : (h : Home) → Contains entry h → (w : Pos) × Leads f (block_start (first_of blocks)) w × Uses (f.fetch w) (Register h.register) → MetFor b p
+        by_use : (h : SlotAssignment) → Contains entry h → (w : Pos) × Leads f (block_start (first_of blocks)) w × Uses (f.fetch w) (Register h.register) →
+            MetFor b p
         by_use h k (w, way, uses) = by_fetch (f.fetch w) refl uses where
           to_start : (q0 : Pos) × Chunk s entry blocks resolve (block_start p.block) q0 × Leads g p q0
           to_start =
@@ -324,11 +331,11 @@ module _ (s : Spilling) (slots : List ℕ) (homes : AreHomes s slots) (entry : L
                 (
                   m.at,
                   m.counts,
-                  λ z. (let at_end : kept.0 ≡ record { block = p.block; item = b.silent } = sym (ap position_of kept.1) ∙ sym m.pos ∙ z in
+                  λ z. (let at_end : kept.0 ≡ record { block = p.block; item = b.source_end } = sym (ap position_of kept.1) ∙ sym m.pos ∙ z in
                       let home : w.block ≡ b.id = sym (home_at w x e) ∙ ap (λ (q : Pos). q.block) (ap position_of kept.1) ∙ ap (λ (q : Pos). q.block) at_end ∙
                       same in
                       let lt = (inside_of w x b e member home).1 kept.0 kept.1 in
-                      let item : kept.0.item ≡ b.silent = ap (λ (q : Pos). q.item) at_end in
+                      let item : kept.0.item ≡ b.source_end = ap (λ (q : Pos). q.item) at_end in
                       omega (arith, lt, item)),
                   inr (leads_trans g start.2 (leads_trans g path.2 m.way)),
                 ),
@@ -340,37 +347,38 @@ module _ (s : Spilling) (slots : List ℕ) (homes : AreHomes s slots) (entry : L
           by_fetch (Here x) e u = by_code x x.kind refl e u
           by_fetch _ e u = absurd u
 
-        by_home : (h : Home) × Contains entry h → MetFor b p
+        by_home : (h : SlotAssignment) × Contains entry h → MetFor b p
         by_home (h, k) = by_use h k (live_use (lives h k))
 
       -- a store behind a definition: the definition, or its load
       met_store : (b : Block) (p : Pos) (i : Item) (w : Pos) (ins : Instruction) (num : Option ℕ) (o : Origin) (l : Loc) (n : ℕ) → Contains new b →
           p.block ≡ b.id → w.block ≡ p.block → g.fetch p ≡ Here i → f.fetch w ≡ Here (record { kind = Code ins num; origin = o; loc = l }) →
-          first_defined s.homes ins.operands ≡ Some n → i.origin ≡ Before (record { block = b.id; item = b.silent }) →
-          below (position_of o) ≡ record { block = b.id; item = b.silent } → MetFor b p
+          first_defined s.homes ins.operands ≡ Some n → i.origin ≡ Before (record { block = b.id; item = b.source_end }) →
+          below (position_of o) ≡ record { block = b.id; item = b.source_end } → MetFor b p
       met_store b p i w ins num o l n member home same at e some is end =
           let x : Item = record { kind = Code ins num; origin = o; loc = l } in
           let piece = piece_of s slots homes ins num o l (fits_at w ins num o l e) (inr (n, some)) in
           let q = to_g s entry blocks resolve w x piece.item piece.index e piece.at in
-          let next : (position_of o).item + 1 ≡ b.silent = ap (λ (z : Pos). z.item) end in
-          let item : (position_of piece.item.origin).item + 1 ≡ b.silent = ap (λ (z : Pos). z.item + 1) piece.pos ∙ next in
-          let lt : (position_of piece.item.origin).item < b.silent = omega (arith, item) in
-          let is' : i.origin ≡ Before (record { block = p.block; item = b.silent }) =
-          is ∙ ap (λ (m : ℕ). Before (record { block = m; item = b.silent })) (sym home) in (
+          let next : (position_of o).item + 1 ≡ b.source_end = ap (λ (z : Pos). z.item) end in
+          let item : (position_of piece.item.origin).item + 1 ≡ b.source_end = ap (λ (z : Pos). z.item + 1) piece.pos ∙ next in
+          let lt : (position_of piece.item.origin).item < b.source_end = omega (arith, item) in
+          let is' : i.origin ≡ Before (record { block = p.block; item = b.source_end }) =
+          is ∙ ap (λ (m : ℕ). Before (record { block = m; item = b.source_end })) (sym home) in (
             q.0,
             piece.item,
             (
               q.2,
               piece.counts,
-              λ z. (let k : (position_of piece.item.origin).item ≡ b.silent = ap (λ (y : Pos). y.item) z in omega (arith, k, lt)),
-              inl (q.1 ∙ same, earlier p q.0 i piece.item b.silent at q.2 (q.1 ∙ same) is' lt),
+              λ z. (let k : (position_of piece.item.origin).item ≡ b.source_end = ap (λ (y : Pos). y.item) z in omega (arith, k, lt)),
+              inl (q.1 ∙ same, earlier p q.0 i piece.item b.source_end at q.2 (q.1 ∙ same) is' lt),
             ),
           )
 
       -- a slot store of the function: what is met there
       met_main : (b : Block) (p : Pos) (i : Item) (w : Pos) (ins : Instruction) (num : Option ℕ) (o : Origin) (l : Loc) → Contains new b →
           p.block ≡ b.id → w.block ≡ p.block → g.fetch p ≡ Here i → f.fetch w ≡ Here (record { kind = Code ins num; origin = o; loc = l }) →
-          Chunk s entry blocks resolve w p → IsSlotStore (row_of ins) → i.origin ≡ o → i.origin ≡ Before (record { block = b.id; item = b.silent }) → MetFor b p
+          Chunk s entry blocks resolve w p → IsSlotStore (row_of ins) → i.origin ≡ o → i.origin ≡ Before (record { block = b.id; item = b.source_end }) →
+          MetFor b p
       met_main b p i w ins num o l member home same at e chunk slot origin is =
           by_met (shape.stores v.block v.member w x (sym v.id) e slot there_is) where
             x : Item
@@ -382,17 +390,17 @@ module _ (s : Spilling) (slots : List ℕ) (homes : AreHomes s slots) (entry : L
             id : v.block.id ≡ b.id
             id = v.id ∙ same ∙ home
 
-            silent : v.block.silent ≡ b.silent
-            silent = silent_of apart' b member v.block v.rest (ap (from_block blocks) (sym home ∙ sym same) ∙ v.found)
+            source_end : v.block.source_end ≡ b.source_end
+            source_end = silent_of apart' b member v.block v.rest (ap (from_block blocks) (sym home ∙ sym same) ∙ v.found)
 
-            there_is : o ≡ Before (record { block = v.block.id; item = v.block.silent })
-            there_is = sym origin ∙ is ∙ (λ i. Before (record { block = sym id i; item = sym silent i }))
+            there_is : o ≡ Before (record { block = v.block.id; item = v.block.source_end })
+            there_is = sym origin ∙ is ∙ (λ i. Before (record { block = sym id i; item = sym source_end i }))
 
-            is' : i.origin ≡ Before (record { block = p.block; item = b.silent })
-            is' = is ∙ ap (λ (m : ℕ). Before (record { block = m; item = b.silent })) (sym home)
+            is' : i.origin ≡ Before (record { block = p.block; item = b.source_end })
+            is' = is ∙ ap (λ (m : ℕ). Before (record { block = m; item = b.source_end })) (sym home)
 
             by_kind : (q : Pos) (j : Item) (k : ItemKind) → j.kind ≡ k → f.fetch q ≡ Here j → OnRow Counts k →
-                (position_of j.origin ≡ record { block = w.block; item = v.block.silent } → ⊥) →
+                (position_of j.origin ≡ record { block = w.block; item = v.block.source_end } → ⊥) →
                 ((q.block ≡ w.block) × (q.item < w.item)) ⊎ Leads f w q → MetFor b p
             by_kind q j (Mark a m) z at' counts far way = absurd counts
             by_kind q j (Phi a m) z at' counts far way = absurd counts
@@ -402,18 +410,18 @@ module _ (s : Spilling) (slots : List ℕ) (homes : AreHomes s slots) (entry : L
                 let t = to_g s entry blocks resolve q (record { kind = Code ins' num'; origin = j.origin; loc = j.loc }) piece.item piece.index at'' piece.at in
                 let within = inside_of q j b at' member (block ∙ same ∙ home) in
                 let le = within.0 in
-                let ne : (position_of j.origin).item ≡ b.silent → ⊥ =
-                λ k. far (same_pos (position_of j.origin) (record { block = w.block; item = v.block.silent }) (within.2 ∙ sym (same ∙ home))
-                (k ∙ sym silent)) in
-                let lower : (position_of j.origin).item < b.silent = omega (arith, le, ne) in
-                let lt' : (position_of piece.item.origin).item < b.silent = subst (λ (z : Pos). z.item < b.silent) (sym piece.pos) lower in (
+                let ne : (position_of j.origin).item ≡ b.source_end → ⊥ =
+                λ k. far (same_pos (position_of j.origin) (record { block = w.block; item = v.block.source_end }) (within.2 ∙ sym (same ∙ home))
+                (k ∙ sym source_end)) in
+                let lower : (position_of j.origin).item < b.source_end = omega (arith, le, ne) in
+                let lt' : (position_of piece.item.origin).item < b.source_end = subst (λ (z : Pos). z.item < b.source_end) (sym piece.pos) lower in (
                   t.0,
                   piece.item,
                   (
                     t.2,
                     piece.counts,
-                    λ k. (let k' : (position_of piece.item.origin).item ≡ b.silent = ap (λ (y : Pos). y.item) k in omega (arith, k', lt')),
-                    inl (t.1 ∙ block ∙ same, earlier p t.0 i piece.item b.silent at t.2 (t.1 ∙ block ∙ same) is' lt'),
+                    λ k. (let k' : (position_of piece.item.origin).item ≡ b.source_end = ap (λ (y : Pos). y.item) k in omega (arith, k', lt')),
+                    inl (t.1 ∙ block ∙ same, earlier p t.0 i piece.item b.source_end at t.2 (t.1 ∙ block ∙ same) is' lt'),
                   ),
                 )
             by_kind q j (Code ins' num') z at' counts far (inr way) =
@@ -425,39 +433,39 @@ module _ (s : Spilling) (slots : List ℕ) (homes : AreHomes s slots) (entry : L
                   (
                     m.at,
                     m.counts,
-                    λ k. far (sym m.pos ∙ k ∙ (λ i. record { block = sym same i; item = sym silent i })),
+                    λ k. far (sym m.pos ∙ k ∙ (λ i. record { block = sym same i; item = sym source_end i })),
                     inr (leads_trans g path.2 m.way),
                   ),
                 )
 
-            by_met : (q : Pos) × (j : Item) × IsMetApart f w v.block.silent q j → MetFor b p
+            by_met : (q : Pos) × (j : Item) × IsMetApart f w v.block.source_end q j → MetFor b p
             by_met (q, j, (at', counts, far, way)) = by_kind q j j.kind refl at' counts far way
 
       pub stores_new : (b : Block) → Contains new b → (p : Pos) (i : Item) → p.block ≡ b.id → g.fetch p ≡ Here i → OnRow IsSlotStore i.kind →
-          i.origin ≡ Before (record { block = b.id; item = b.silent }) → MetFor b p
+          i.origin ≡ Before (record { block = b.id; item = b.source_end }) → MetFor b p
       stores_new b member p i home at slot is = by_place (lies_at s entry blocks resolve p i at) where
         by_part : (w : Pos) (ins : Instruction) (num : Option ℕ) (o : Origin) (l : Loc) (k : ℕ) → w.block ≡ p.block →
             f.fetch w ≡ Here (record { kind = Code ins num; origin = o; loc = l }) →
             rg p ≡ drop k (code_items s ins num o l) ++ spilled_items s (rf (below w)) → Part ins num o l k i → MetFor b p
         by_part w ins num o l k same e here (is_load r n y) = absurd (subst (λ (z : Item). OnRow IsSlotStore z.kind) y slot)
         by_part w ins num o l k same e here (is_store n some y) =
-            let end : below (position_of o) ≡ record { block = b.id; item = b.silent } =
+            let end : below (position_of o) ≡ record { block = b.id; item = b.source_end } =
             sym (ap (λ (z : Item). position_of z.origin) y) ∙ ap position_of is in
             met_store b p i w ins num o l n member home same at e some is end
         by_part w ins num o l k same e here (is_main y first) =
             let origin : i.origin ≡ o = ap (λ (z : Item). z.origin) y in
             let slot' : IsSlotStore (row_of ins) = spilled_stores ins (subst (λ (z : Item). OnRow IsSlotStore z.kind) y slot) in
             met_main b p i w ins num o l member home same at e (chunk (sym origin ∙ is)) slot' origin is where
-              no_use : o ≡ Before (record { block = b.id; item = b.silent }) → first_used s.homes ins.operands ≡ None
+              no_use : o ≡ Before (record { block = b.id; item = b.source_end }) → first_used s.homes ins.operands ≡ None
               no_use k = by_slot (first_used s.homes ins.operands) refl where
                 by_slot : (z : Option ℕ) → first_used s.homes ins.operands ≡ z → z ≡ None
                 by_slot None z = refl
                 by_slot (Some n) z =
                     let q = kept_use s slots homes ins o (fits_at w ins num o l e) n z in
-                    let bad : Kept q.0 ≡ Before (record { block = b.id; item = b.silent }) = sym q.1 ∙ k in
+                    let bad : Kept q.0 ≡ Before (record { block = b.id; item = b.source_end }) = sym q.1 ∙ k in
                     cc
 
-              chunk : o ≡ Before (record { block = b.id; item = b.silent }) → Chunk s entry blocks resolve w p
+              chunk : o ≡ Before (record { block = b.id; item = b.source_end }) → Chunk s entry blocks resolve w p
               chunk z =
                   let zero_k = first (no_use z) in
                   let x : Item = record { kind = Code ins num; origin = o; loc = l } in

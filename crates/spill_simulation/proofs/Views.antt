@@ -24,7 +24,7 @@ use Rattle.mir_func.specs.declared.item.ItemKind.{ItemKind}
 use Rattle.mir_func.specs.declared.item.ItemKind.TheVariants.{Code, Mark, Phi}
 use Rattle.mir_func.specs.Graph.{Program, Here, below, block_start, program_of, Edge, Leads}
 use Rattle.mir_func.specs.Sound.{SlotIn, SlotsIn, OriginIn}
-use Rattle.sem_mir.specs.Align.{position_of, is_code, is_jump, is_jump_row, Count, moves_on, waits_at, station_at, IsOrigin, Since, Same, After, since_of}
+use Rattle.sem_mir.specs.Align.{position_of, is_code, is_jump, is_jump_row, Count, moves_on, waits_at, sync_point_at, IsOrigin, Since, Same, After, since_of}
 use Rattle.sem_mir.specs.Effects.{EndAlike}
 use Rattle.sem_mir.specs.Follow.{Plain, class_of, first_of, MayAdd, KindFits, RowFits, HasClass, InOrder, next_rank, rank}
 use Rattle.sem_mir.specs.Live.{Live}
@@ -34,12 +34,12 @@ use Rattle.sem_mir.proofs.Edges.{step_from_before}
 use Rattle.sem_mir.proofs.Implicit.{implicit}
 use Rattle.sem_mir.proofs.Places.{put_same, put_other, contains_head, contains_tail}
 use Rattle.sem_simulation.specs.Added.{Standing, IsPlain, IsQuiet, Opening, Level, Ahead, Owing, MayStand}
-use Rattle.sem_simulation.specs.Added.{MayCome, AddedRelation, View, ended, both, before, opening, behind, paired}
+use Rattle.sem_simulation.specs.Added.{MayCome, AddedMatchStates, View, ended, both, before, opening, behind, paired}
 use Rattle.sem_simulation.specs.Sides.{Sides, since_item, Does, OutcomesAlike}
 use Rattle.sem_simulation.proofs.Laid.{rest_in, rest_of, laid_out}
 use Rattle.sem_simulation.proofs.Order.{cases_waiting}
 use Rattle.sem_simulation.proofs.Stations.{moves_on_less}
-use Rattle.spill_code.specs.declared.spilling.Home.{Home}
+use Rattle.spill_code.specs.declared.spilling.SlotAssignment.{SlotAssignment}
 use Rattle.spill_code.specs.declared.spilling.Spilling.{Spilling}
 use Rattle.spill_code.specs.Rewrite.{slot_of, or_else, set_in, use_now, def_now, first_used, other_used}
 use Rattle.spill_code.specs.Rewrite.{first_defined, spilled_code, load, store, added, loads, stores, two_loads}
@@ -59,7 +59,7 @@ use Rattle.spill_simulation.proofs.Steps.{quiet_goes, source_plain, jump_renamed
 -- the stages: at the start, with stores to come; level at an index of the block; ahead at a position; with a second load to come; with all
 -- loads done; and with a store owed
 pub data Stage : Type 0 where
-  Opened : Home → List Home → Stage
+  Opened : SlotAssignment → List SlotAssignment → Stage
   Evenly : (index : ℕ) → Stage
   Early : (index : ℕ) → Pos → Stage
   Half : (index : ℕ) → Pos → (slot : ℕ) → Stage
@@ -110,7 +110,7 @@ get_drop (x ∷ xs) (suc n) m y e =
     let z : suc n + m ≡ suc (n + m) = omega arith in
     get_drop xs n m y (subst (λ (k : ℕ). slice_get (x ∷ xs) k ≡ Some y) z e)
 
-pub none_of : (homes : List Home) (rs : List ℕ) (r : ℕ) → first_among homes rs ≡ None → Contains rs r → slot_of homes r ≡ None
+pub none_of : (homes : List SlotAssignment) (rs : List ℕ) (r : ℕ) → first_among homes rs ≡ None → Contains rs r → slot_of homes r ≡ None
 none_of homes [] r e k = absurd (none_in r k)
 none_of homes (q ∷ rs) r e (zero, lt, z) = by_slot (slot_of homes q) refl e where
   by_slot : (x : Option ℕ) → slot_of homes q ≡ x → or_else x (first_among homes rs) ≡ None → slot_of homes r ≡ None
@@ -121,7 +121,7 @@ none_of homes (q ∷ rs) r e (suc k, lt, z) = by_slot (slot_of homes q) e (λ w.
   by_slot None e more = more e
   by_slot (Some n) e more = cc
 
-module _ (s : Spilling) (slots : List ℕ) (homes : AreHomes s slots) (entry : List Home) (blocks : List Block)
+module _ (s : Spilling) (slots : List ℕ) (homes : AreHomes s slots) (entry : List SlotAssignment) (blocks : List Block)
     (resolve : OperandPair → Option OperandPair) where
   abbrev pub f : Program
   f = program_of false blocks resolve
@@ -179,39 +179,39 @@ module _ (s : Spilling) (slots : List ℕ) (homes : AreHomes s slots) (entry : L
     pub stands : rf (at b i) ≡ xs
     pub pos : position_of o ≡ p
 
-  abbrev pub AreLive : List Home → Type 0
-  AreLive hs = (h : Home) → Contains hs h → slot_of s.homes h.register ≡ Some h.slot
+  abbrev pub AreLive : List SlotAssignment → Type 0
+  AreLive hs = (h : SlotAssignment) → Contains hs h → slot_of s.homes h.register ≡ Some h.slot
 
-  abbrev pub Rests : Stage → ℕ → List Item → List Item → Type 0
-  Rests (Opened h hs) b xs ys = (b ≡ first_of blocks) × (rf (block_start b) ≡ xs) × (ys ≡ entry_stores b (h ∷ hs) ++ spilled_items s xs) × AreLive (h ∷ hs)
-  Rests (Evenly i) b xs ys = (rf (at b i) ≡ xs) × (ys ≡ spilled_items s xs)
-  Rests (Early i p) b xs ys = (rf (at b i) ≡ xs) × (ys ≡ spilled_items s xs) × (next_code xs ≡ Some p)
-  Rests (Half i p n) b xs ys = (w : AtCode b i p xs) × (ys ≡ added (position_of w.o) (load s.second n) ∷ tail w.ins w.num w.o w.l w.rest) ×
+  abbrev pub MatchItems : Stage → ℕ → List Item → List Item → Type 0
+  MatchItems (Opened h hs) b xs ys = (b ≡ first_of blocks) × (rf (block_start b) ≡ xs) × (ys ≡ entry_stores b (h ∷ hs) ++ spilled_items s xs) × AreLive (h ∷ hs)
+  MatchItems (Evenly i) b xs ys = (rf (at b i) ≡ xs) × (ys ≡ spilled_items s xs)
+  MatchItems (Early i p) b xs ys = (rf (at b i) ≡ xs) × (ys ≡ spilled_items s xs) × (next_code xs ≡ Some p)
+  MatchItems (Half i p n) b xs ys = (w : AtCode b i p xs) × (ys ≡ added (position_of w.o) (load s.second n) ∷ tail w.ins w.num w.o w.l w.rest) ×
       ((m : ℕ) × (first_used s.homes w.ins.operands ≡ Some m) × (other_used s.homes m w.ins.operands ≡ Some n))
-  Rests (Ready i p) b xs ys = (w : AtCode b i p xs) × (ys ≡ tail w.ins w.num w.o w.l w.rest)
-  Rests (Owes i p r n) b xs ys = (rf (at b i) ≡ xs) × (ys ≡ added (below p) (store s.first n) ∷ spilled_items s xs) × (slot_of s.homes r ≡ Some n)
+  MatchItems (Ready i p) b xs ys = (w : AtCode b i p xs) × (ys ≡ tail w.ins w.num w.o w.l w.rest)
+  MatchItems (Owes i p r n) b xs ys = (rf (at b i) ≡ xs) × (ys ≡ added (below p) (store s.first n) ∷ spilled_items s xs) × (slot_of s.homes r ≡ Some n)
 
   -- at the start no register differs yet, and some slots are owed
-  pub record Begun (b : ℕ) (hs : List Home) (c d : Core) : Type 0 where
-    pub near : Near s slots (Alive b 0) (λ q. (h : Home) × Contains hs h × (h.register ≡ q)) c d
+  pub record Begun (b : ℕ) (hs : List SlotAssignment) (c d : Core) : Type 0 where
+    pub near : Near s slots (Alive b 0) (λ q. (h : SlotAssignment) × Contains hs h × (h.register ≡ q)) c d
     pub regs : (r : ℕ) → content c.regs r ≡ content d.regs r
     pub written : (r : ℕ) → r < 32 → IsSome (content c.regs r)
 
-  abbrev pub Cores : Stage → ℕ → List Item → List Item → Core → Core → Type 0
-  Cores (Opened h hs) b xs ys c d = Begun b (h ∷ hs) c d
-  Cores (Evenly i) b xs ys c d = Near s slots (Alive b i) (λ _. ⊥) c d
-  Cores (Early i p) b xs ys c d = Near s slots (Alive b i) (λ _. ⊥) c d
-  Cores (Half i p n) b xs ys c d = Near s slots (Alive b i) (λ _. ⊥) c d × OnHead (λ ins. LoadedFirst s slots homes resolve ins c d) xs
-  Cores (Ready i p) b xs ys c d = Near s slots (Alive b i) (λ _. ⊥) c d ×
+  abbrev pub MatchCores : Stage → ℕ → List Item → List Item → Core → Core → Type 0
+  MatchCores (Opened h hs) b xs ys c d = Begun b (h ∷ hs) c d
+  MatchCores (Evenly i) b xs ys c d = Near s slots (Alive b i) (λ _. ⊥) c d
+  MatchCores (Early i p) b xs ys c d = Near s slots (Alive b i) (λ _. ⊥) c d
+  MatchCores (Half i p n) b xs ys c d = Near s slots (Alive b i) (λ _. ⊥) c d × OnHead (λ ins. LoadedFirst s slots homes resolve ins c d) xs
+  MatchCores (Ready i p) b xs ys c d = Near s slots (Alive b i) (λ _. ⊥) c d ×
       OnHead (λ ins. LoadedFirst s slots homes resolve ins c d × LoadedSecond s slots homes resolve ins c d) xs
-  Cores (Owes i p r n) b xs ys c d =
+  MatchCores (Owes i p r n) b xs ys c d =
       Near s slots (Alive b i) (λ q. q ≡ r) c d × (content c.regs r ≡ content d.regs s.first) × IsSome (content c.regs r)
 
   -- what each item of the function keeps
   pub record IsGood (src : Program) (b : Block) (x : Item) : Type 0 where
     pub fits : Fits s x.kind x.origin
     pub held : SlotsIn slots x.kind
-    pub kind : KindFits src x.kind b.silent x.origin
+    pub kind : KindFits src x.kind b.source_end x.origin
     pub inside : OriginIn b x.origin
 
   module _ (count : Count) (counts : (k : ItemKind) → moves_on count k ≡ is_jump k) (src : Program) (s0 : State)
@@ -222,17 +222,17 @@ module _ (s : Spilling) (slots : List ℕ) (homes : AreHomes s slots) (entry : L
     abbrev pub Reach : Pos → Type 0
     Reach p = Leads src s0.pos p
 
-    abbrev pub framing : AddedRelation
-    framing = record {
-      relation = record { Stage = Stage; entry = λ n. Evenly 0; Rests = Rests; Cores = Cores };
+    abbrev pub match_states : AddedMatchStates
+    match_states = record {
+      match_states = record { Stage = Stage; entry = λ n. Evenly 0; MatchItems = MatchItems; MatchCores = MatchCores };
       standing = stands;
-      Stops = λ p q. IsOrigin (station_at count g) q;
+      Stops = λ p q. IsOrigin (sync_point_at count g) q;
       Extra = Extra;
       Reach = Reach;
     }
 
     abbrev pub Seen : ℕ → Stage → List Item → List Item → Type 0
-    Seen b k xs ys = View count src sides framing b k xs ys
+    Seen b k xs ys = View count src sides match_states b k xs ys
 
     good_at : (q : Pos) (x : Item) (w : Stands blocks q x) → IsGood src w.block x
     good_at q x w = holds_at (IsGood src) blocks goods q x w
@@ -255,7 +255,7 @@ module _ (s : Spilling) (slots : List ℕ) (homes : AreHomes s slots) (entry : L
     abbrev IsClear : Item → Type 0
     IsClear x = (w : Pos) (y : Item) → f.fetch w ≡ Here y → y.origin ≡ Kept (position_of x.origin) → SpillsDef y.kind → ⊥
 
-    may_level : (x : Item) → IsClear x → MayStand count src sides framing Level x
+    may_level : (x : Item) → IsClear x → MayStand count src sides match_states Level x
     may_level x clear st u from went extra =
         let back : st.pos ≡ extra.pos = step_from_before src st u extra.pos.block extra.pos.item went extra.under in
         let z : extra.pos ≡ position_of x.origin = sym back ∙ from in
@@ -319,24 +319,24 @@ module _ (s : Spilling) (slots : List ℕ) (homes : AreHomes s slots) (entry : L
                 ]
               ]
 
-    jump_at_end : (k : ItemKind) (p : Pos) (silent : ℕ) → KindFits src k silent (Before p) → is_jump k ≡ true → p.item ≡ silent
-    jump_at_end (Code i n) p silent h j = by_row (row_of i) h j where
-      by_row : (r : Row) → MayAdd r p.item silent → is_jump_row r ≡ true → p.item ≡ silent
+    jump_at_end : (k : ItemKind) (p : Pos) (source_end : ℕ) → KindFits src k source_end (Before p) → is_jump k ≡ true → p.item ≡ source_end
+    jump_at_end (Code i n) p source_end h j = by_row (row_of i) h j where
+      by_row : (r : Row) → MayAdd r p.item source_end → is_jump_row r ≡ true → p.item ≡ source_end
       by_row (Jumps t) h j = h
       by_row _ h j = cc
-    jump_at_end (Mark v m) p silent h j = cc
-    jump_at_end (Phi q n) p silent h j = cc
+    jump_at_end (Mark v m) p source_end h j = cc
+    jump_at_end (Phi q n) p source_end h j = cc
 
     clear_jump : (q : Pos) (x : Item) (p : Pos) → f.fetch q ≡ Here x → x.origin ≡ Before p → is_jump x.kind ≡ true → IsClear x
     clear_jump q x p e k j w y e' k' defines =
         let v = stands_at false blocks resolve q x e in
         let v' = stands_at false blocks resolve w y e' in
         let b = same_stands blocks q w x y v v' (met q w x y e e' k') in
-        let end = jump_at_end x.kind p v.block.silent (subst (KindFits src x.kind v.block.silent) k (good_at q x v).kind) j in
+        let end = jump_at_end x.kind p v.block.source_end (subst (KindFits src x.kind v.block.source_end) k (good_at q x v).kind) j in
         let inside : OriginIn v'.block (Kept p) =
         subst (OriginIn v'.block) (k' ∙ ap (λ (z : Origin). Kept (position_of z)) k) (good_at w y v').inside in
         let lt = inside.1 in
-        let same : v.block.silent ≡ v'.block.silent = ap (λ (z : Block). z.silent) b in
+        let same : v.block.source_end ≡ v'.block.source_end = ap (λ (z : Block). z.source_end) b in
         omega (arith, lt, same, end)
 
     -- ---- code
@@ -440,12 +440,12 @@ module _ (s : Spilling) (slots : List ℕ) (homes : AreHomes s slots) (entry : L
           near_on s slots homes resolve (LiveAt q) (λ r. Contains (sets (row_of ins)) r) (LiveAt q) (λ _. ⊥) c' d' (near_owing q edge c d c' d' h p)
           (λ r n e out. (none_set none r n e, λ z. z))
 
-      added_plain : (r : Row) (k silent : ℕ) → MayAdd r k silent → (class_of r ≡ Plain) ⊎ (is_jump_row r ≡ true)
-      added_plain (LoadsSlot rd n) k silent m = inl refl
-      added_plain (Fixes rd n) k silent m = inl refl
-      added_plain (StoresSlot rs n) k silent m = inl refl
-      added_plain (Jumps t) k silent m = inr refl
-      added_plain _ k silent m = absurd m
+      added_plain : (r : Row) (k source_end : ℕ) → MayAdd r k source_end → (class_of r ≡ Plain) ⊎ (is_jump_row r ≡ true)
+      added_plain (LoadsSlot rd n) k source_end m = inl refl
+      added_plain (Fixes rd n) k source_end m = inl refl
+      added_plain (StoresSlot rs n) k source_end m = inl refl
+      added_plain (Jumps t) k source_end m = inr refl
+      added_plain _ k source_end m = absurd m
 
       -- code goes elsewhere only where the source moves on after it
       moves : (c c' : Core) (n : ℕ) → do_item f (Code ins num) c ≡ Goes n c' → since_item count x ≡ After
@@ -453,7 +453,7 @@ module _ (s : Spilling) (slots : List ℕ) (homes : AreHomes s slots) (entry : L
         by_origin : (z : Origin) → o ≡ z → since_item count x ≡ After
         by_origin (Kept q) e = ap (λ (z : Origin). since_of (waits_at (moves_on count (Code ins num)) z)) e
         by_origin (Before q) e =
-            elim (added_plain (row_of ins) q.item placed.block.silent (subst (RowFits src (row_of ins) placed.block.silent) e good.kind))
+            elim (added_plain (row_of ins) q.item placed.block.source_end (subst (RowFits src (row_of ins) placed.block.source_end) e good.kind))
             as (λ _. since_item count x ≡ After) [
               | inl plain ↦ absurd (quiet_goes c c' n (do_item f (Code ins num) c) (plain_quiet f ins num c plain) went)
               | inr jump ↦
@@ -469,16 +469,16 @@ module _ (s : Spilling) (slots : List ℕ) (homes : AreHomes s slots) (entry : L
           ap (λ (t : Bool). since_of (waits_at t o)) (counts (Code ins num) ∙ sym same ∙ sym (counts (Code (spilled_code s ins) num)))
 
       -- code that sets nothing spilled
-      after_view : (k k' : Stage) → MayCome (stands k) p → ((ys : List Item) (c d : Core) → Cores k b (x ∷ rest) ys c d → IsLoaded c d) →
+      after_view : (k k' : Stage) → MayCome (stands k) p → ((ys : List Item) (c d : Core) → MatchCores k b (x ∷ rest) ys c d → IsLoaded c d) →
           first_defined s.homes ins.operands ≡ None →
-          ((ys : List Item) (c d : Core) → Near s slots (Alive b (i + 1)) (λ _. ⊥) c d → Cores k' b rest ys c d) →
+          ((ys : List Item) (c d : Core) → Near s slots (Alive b (i + 1)) (λ _. ⊥) c d → MatchCores k' b rest ys c d) →
           ((c c' : Core) (n : ℕ) → do_item f (Code ins num) c ≡ Goes n c' → stands k' ≡ Level) →
-          MayStand count src sides framing (stands k') x → Rests k' b rest (spilled_items s rest) →
+          MayStand count src sides match_states (stands k') x → MatchItems k' b rest (spilled_items s rest) →
           Seen b k (x ∷ rest) (main ins num o l ∷ spilled_items s rest)
       after_view k k' come loaded none falls goes may rests =
           both {k' = k'} come refl refl refl since_same may rests
-          (λ c d h. outcomes_of (Cores k' b rest (spilled_items s rest))
-          (λ j c' d'. (since_item count x ≡ After) × (stands k' ≡ Level) × Cores (Evenly 0) j (rf (block_start j)) (rg (block_start j)) c' d')
+          (λ c d h. outcomes_of (MatchCores k' b rest (spilled_items s rest))
+          (λ j c' d'. (since_item count x ≡ After) × (stands k' ≡ Level) × MatchCores (Evenly 0) j (rf (block_start j)) (rg (block_start j)) c' d')
           (HasPassed c d) (do_item f (Code ins num) c) (do_item g (Code (spilled_code s ins) num) d)
           (passed c d (loaded (main ins num o l ∷ spilled_items s rest) c d h))
           (λ c' d' fell r. falls (spilled_items s rest) c' d'
@@ -489,7 +489,7 @@ module _ (s : Spilling) (slots : List ℕ) (homes : AreHomes s slots) (entry : L
             near_next none (block_start n) (goes_edge f (at b i) x stood c n c' went) c d c' d' (loaded _ c d h) r,
           )))
 
-      plain_view : (k : Stage) → MayCome (stands k) p → ((ys : List Item) (c d : Core) → Cores k b (x ∷ rest) ys c d → IsLoaded c d) →
+      plain_view : (k : Stage) → MayCome (stands k) p → ((ys : List Item) (c d : Core) → MatchCores k b (x ∷ rest) ys c d → IsLoaded c d) →
           first_defined s.homes ins.operands ≡ None → Seen b k (x ∷ rest) (main ins num o l ∷ spilled_items s rest)
       plain_view k come loaded none = by_origin o refl where
         evenly : IsClear x → Seen b k (x ∷ rest) (main ins num o l ∷ spilled_items s rest)
@@ -521,7 +521,7 @@ module _ (s : Spilling) (slots : List ℕ) (homes : AreHomes s slots) (entry : L
         by_origin (Before q) e = by_jump q e (is_jump_row (row_of ins)) refl
 
       -- code that sets a spilled register: its store is owed
-      owing_view : (k : Stage) → MayCome (stands k) p → ((ys : List Item) (c d : Core) → Cores k b (x ∷ rest) ys c d → IsLoaded c d) →
+      owing_view : (k : Stage) → MayCome (stands k) p → ((ys : List Item) (c d : Core) → MatchCores k b (x ∷ rest) ys c d → IsLoaded c d) →
           (n : ℕ) → first_defined s.homes ins.operands ≡ Some n →
           Seen b k (x ∷ rest) (main ins num o l ∷ added (below p) (store s.first n) ∷ spilled_items s rest)
       owing_view k come loaded n some = by_register (first_from s.homes (defs_in ins.operands) n (sym (defined_is s.homes ins.operands) ∙ some)) where
@@ -531,8 +531,8 @@ module _ (s : Spilling) (slots : List ℕ) (homes : AreHomes s slots) (entry : L
             both {k' = Owes (i + 1) p r n} come refl refl refl since_same
             (refl, after, source, λ c e fell. quiet_falls c e (do_item f (Code ins num) c) (plain_quiet f ins num c plain) fell)
             (next, refl, home)
-            (λ c d h. outcomes_of (Cores (Owes (i + 1) p r n) b rest (added (below p) (store s.first n) ∷ spilled_items s rest))
-            (λ j c' d'. (since_item count x ≡ After) × (Owing p ≡ Level) × Cores (Evenly 0) j (rf (block_start j)) (rg (block_start j)) c' d')
+            (λ c d h. outcomes_of (MatchCores (Owes (i + 1) p r n) b rest (added (below p) (store s.first n) ∷ spilled_items s rest))
+            (λ j c' d'. (since_item count x ≡ After) × (Owing p ≡ Level) × MatchCores (Evenly 0) j (rf (block_start j)) (rg (block_start j)) c' d')
             (HasPassed c d) (do_item f (Code ins num) c) (do_item g (Code (spilled_code s ins) num) d)
             (passed c d (loaded _ c d h))
             (λ c' d' fell q. (
@@ -567,9 +567,9 @@ module _ (s : Spilling) (slots : List ℕ) (homes : AreHomes s slots) (entry : L
               source : IsPlain src p
               source = source_plain src p (row_of ins) plain
                   (subst (λ (q : Pos). HasClass (row_of ins) (src.fetch q)) (sym (ap position_of is_kept.1))
-                  (subst (RowFits src (row_of ins) placed.block.silent) is_kept.1 good.kind))
+                  (subst (RowFits src (row_of ins) placed.block.source_end) is_kept.1 good.kind))
 
-      tail_view : (k : Stage) → MayCome (stands k) p → ((ys : List Item) (c d : Core) → Cores k b (x ∷ rest) ys c d → IsLoaded c d) →
+      tail_view : (k : Stage) → MayCome (stands k) p → ((ys : List Item) (c d : Core) → MatchCores k b (x ∷ rest) ys c d → IsLoaded c d) →
           Seen b k (x ∷ rest) (tail ins num o l rest)
       tail_view k come loaded = by_slot (first_defined s.homes ins.operands) refl where
         by_slot : (z : Option ℕ) → first_defined s.homes ins.operands ≡ z →
@@ -603,7 +603,7 @@ module _ (s : Spilling) (slots : List ℕ) (homes : AreHomes s slots) (entry : L
           ap (content c.regs) qr ∙ e ∙ sym (put_same s.first v d.regs (λ z. no_zero_saved (subst (λ (k : ℕ). Contains caller_saved k) z homes.first)))
 
       ready_of : (k : Stage) (h : MayCome (stands k) p) (n : ℕ) → first_used s.homes ins.operands ≡ Some n → other_used s.homes n ins.operands ≡ None →
-          ((ys : List Item) (c d : Core) → Cores k b (x ∷ rest) ys c d → Near s slots (Alive b i) (λ _. ⊥) c d) →
+          ((ys : List Item) (c d : Core) → MatchCores k b (x ∷ rest) ys c d → Near s slots (Alive b i) (λ _. ⊥) c d) →
           Seen b k (x ∷ rest) (added p (load s.first n) ∷ tail ins num o l rest)
       ready_of k come n is none near = by_register (first_from s.homes (uses_in ins.operands) n (sym (used_is s.homes ins.operands) ∙ is)) where
         by_register : (r : ℕ) × Contains (uses_in ins.operands) r × (slot_of s.homes r ≡ Some n) →
@@ -622,7 +622,7 @@ module _ (s : Spilling) (slots : List ℕ) (homes : AreHomes s slots) (entry : L
             )))
 
       half_of : (k : Stage) (h : MayCome (stands k) p) (n m : ℕ) → first_used s.homes ins.operands ≡ Some n → other_used s.homes n ins.operands ≡ Some m →
-          ((ys : List Item) (c d : Core) → Cores k b (x ∷ rest) ys c d → Near s slots (Alive b i) (λ _. ⊥) c d) →
+          ((ys : List Item) (c d : Core) → MatchCores k b (x ∷ rest) ys c d → Near s slots (Alive b i) (λ _. ⊥) c d) →
           Seen b k (x ∷ rest) (added p (load s.first n) ∷ added p (load s.second m) ∷ tail ins num o l rest)
       half_of k come n m is other near = by_register (first_from s.homes (uses_in ins.operands) n (sym (used_is s.homes ins.operands) ∙ is)) where
         by_register : (r : ℕ) × Contains (uses_in ins.operands) r × (slot_of s.homes r ≡ Some n) →
@@ -638,7 +638,7 @@ module _ (s : Spilling) (slots : List ℕ) (homes : AreHomes s slots) (entry : L
 
       -- the second load
       second_of : (k : Stage) (h : MayCome (stands k) p) (n m : ℕ) → first_used s.homes ins.operands ≡ Some n → other_used s.homes n ins.operands ≡ Some m →
-          ((ys : List Item) (c d : Core) → Cores k b (x ∷ rest) ys c d →
+          ((ys : List Item) (c d : Core) → MatchCores k b (x ∷ rest) ys c d →
           Near s slots (Alive b i) (λ _. ⊥) c d × LoadedFirst s slots homes resolve ins c d) →
           Seen b k (x ∷ rest) (added p (load s.second m) ∷ tail ins num o l rest)
       second_of k come n m is other near = by_register (other_from s.homes n (uses_in ins.operands) m (sym (other_is s.homes n ins.operands) ∙ other)) where
@@ -666,7 +666,7 @@ module _ (s : Spilling) (slots : List ℕ) (homes : AreHomes s slots) (entry : L
       behind_loads = main ins num o l ∷ stores (below p) s.first (first_defined s.homes ins.operands)
 
       code_view : (k : Stage) → MayCome (stands k) p →
-          ((ys : List Item) (c d : Core) → Cores k b (x ∷ rest) ys c d → Near s slots (Alive b i) (λ _. ⊥) c d) →
+          ((ys : List Item) (c d : Core) → MatchCores k b (x ∷ rest) ys c d → Near s slots (Alive b i) (λ _. ⊥) c d) →
           Seen b k (x ∷ rest) (code_items s ins num o l ++ spilled_items s rest)
       code_view k come near = by_first (first_used s.homes ins.operands) refl where
         by_other : (n : ℕ) → first_used s.homes ins.operands ≡ Some n → (z : Option ℕ) → other_used s.homes n ins.operands ≡ z →
@@ -710,9 +710,9 @@ module _ (s : Spilling) (slots : List ℕ) (homes : AreHomes s slots) (entry : L
 
     -- the same standing, one index further
     debug_view : (b i : ℕ) (k k' : Stage) (x : Item) (rest : List Item) → rf (at b i) ≡ x ∷ rest → is_code x.kind ≡ false → IsQuiet (stands k) →
-        stands k' ≡ stands k → Rests k' b rest (spilled_items s rest) →
-        ((ys : List Item) (c d : Core) → Cores k b (x ∷ rest) ys c d → Near s slots (Alive b i) (λ _. ⊥) c d) →
-        ((ys : List Item) (c d : Core) → Near s slots (Alive b (i + 1)) (λ _. ⊥) c d → Cores k' b rest ys c d) →
+        stands k' ≡ stands k → MatchItems k' b rest (spilled_items s rest) →
+        ((ys : List Item) (c d : Core) → MatchCores k b (x ∷ rest) ys c d → Near s slots (Alive b i) (λ _. ⊥) c d) →
+        ((ys : List Item) (c d : Core) → Near s slots (Alive b (i + 1)) (λ _. ⊥) c d → MatchCores k' b rest ys c d) →
         Seen b k (x ∷ rest) (spilled_item s x ++ spilled_items s rest)
     debug_view b i k k' x rest here z quiet same rests near nears = by_kind x.kind refl where
       by_kind : (y : ItemKind) → x.kind ≡ y → Seen b k (x ∷ rest) (kind_items s y x.origin x.loc ++ spilled_items s rest)
@@ -782,26 +782,27 @@ module _ (s : Spilling) (slots : List ℕ) (homes : AreHomes s slots) (entry : L
           near_store s slots homes resolve (Alive b i) (λ q. q ≡ r) (λ _. ⊥) r n v.0 c d home v.1 (λ q out ne same. ne same) h.0,
         )))
 
-    begun_store : (b : ℕ) (h : Home) (hs : List Home) (c d : Core) → slot_of s.homes h.register ≡ Some h.slot → Begun b (h ∷ hs) c d →
+    begun_store : (b : ℕ) (h : SlotAssignment) (hs : List SlotAssignment) (c d : Core) → slot_of s.homes h.register ≡ Some h.slot → Begun b (h ∷ hs) c d →
         (e : Core) × (do_item g (Code (store h.register h.slot) None) d ≡ Falls e) × Begun b hs c e
     begun_store b h hs c d home begun =
         let v = some_is (content c.regs h.register) (begun.written h.register (homes.real h.register h.slot home)) in (
           record d { slots = updated h.slot (Some v.0) d.slots },
           store_does s slots homes resolve g h.register h.slot v.0 d (sym (begun.regs h.register) ∙ v.1),
           record {
-            near = near_store s slots homes resolve (Alive b 0) (λ q. (j : Home) × Contains (h ∷ hs) j × (j.register ≡ q))
-                (λ q. (j : Home) × Contains hs j × (j.register ≡ q)) h.register h.slot v.0 c d home v.1 owes begun.near;
+            near = near_store s slots homes resolve (Alive b 0) (λ q. (j : SlotAssignment) × Contains (h ∷ hs) j × (j.register ≡ q))
+                (λ q. (j : SlotAssignment) × Contains hs j × (j.register ≡ q)) h.register h.slot v.0 c d home v.1 owes begun.near;
             regs = begun.regs;
             written = begun.written;
           },
         ) where
-          owes : (q : ℕ) → ((j : Home) × Contains hs j × (j.register ≡ q) → ⊥) → (q ≡ h.register → ⊥) →
-              (j : Home) × Contains (h ∷ hs) j × (j.register ≡ q) → ⊥
-          owes q out ne (j, (zero, lt, e), is) = ne (sym (ap (λ (z : Home). z.register) e ∙ is))
+          owes : (q : ℕ) → ((j : SlotAssignment) × Contains hs j × (j.register ≡ q) → ⊥) → (q ≡ h.register → ⊥) →
+              (j : SlotAssignment) × Contains (h ∷ hs) j × (j.register ≡ q) → ⊥
+          owes q out ne (j, (zero, lt, e), is) = ne (sym (ap (λ (z : SlotAssignment). z.register) e ∙ is))
           owes q out ne (j, (suc k, lt, e), is) = out (j, (k, omega (arith, lt), e), is)
 
     module _ (start : s0.pos ≡ block_start (first_of blocks)) where
-      opened_view : (b : ℕ) (h : Home) (hs : List Home) (xs : List Item) → b ≡ first_of blocks → rf (block_start b) ≡ xs → AreLive (h ∷ hs) →
+      opened_view : (b : ℕ) (h : SlotAssignment) (hs : List SlotAssignment) (xs : List Item) → b ≡ first_of blocks → rf (block_start b) ≡ xs →
+          AreLive (h ∷ hs) →
           Seen b (Opened h hs) xs (added (block_start b) (store h.register h.slot) ∷ (entry_stores b hs ++ spilled_items s xs))
       opened_view b h [] xs first here live =
           opening {k' = Evenly 0} {y = added (block_start b) (store h.register h.slot)} refl refl (ap block_start first ∙ sym start)
@@ -809,7 +810,7 @@ module _ (s : Spilling) (slots : List ℕ) (homes : AreHomes s slots) (entry : L
           (λ c d k. (let w = begun_store b h [] c d (live h (contains_head h [])) k in (
             w.0,
             w.1,
-            near_on s slots homes resolve (Alive b 0) (λ q. (j : Home) × Contains [] j × (j.register ≡ q)) (Alive b 0) (λ _. ⊥) c w.0 w.2.near
+            near_on s slots homes resolve (Alive b 0) (λ q. (j : SlotAssignment) × Contains [] j × (j.register ≡ q)) (Alive b 0) (λ _. ⊥) c w.0 w.2.near
                 (λ r n e out. (λ owed. (let lt = owed.1.1 in omega (arith, lt)), λ z. z)),
           )))
       opened_view b h (h' ∷ hs) xs first here live =
@@ -817,7 +818,7 @@ module _ (s : Spilling) (slots : List ℕ) (homes : AreHomes s slots) (entry : L
           (store_since (block_start b) h.register h.slot) tt (first, here, refl, λ j k. live j (contains_tail h j (h' ∷ hs) k))
           (λ c d k. begun_store b h (h' ∷ hs) c d (live h (contains_head h (h' ∷ hs))) k)
 
-      pub view : (k : Stage) (b : ℕ) (xs ys : List Item) → Rests k b xs ys → Seen b k xs ys
+      pub view : (k : Stage) (b : ℕ) (xs ys : List Item) → MatchItems k b xs ys → Seen b k xs ys
       view (Opened h hs) b xs ys w = subst (Seen b (Opened h hs) xs) (sym w.2) (opened_view b h hs xs w.0 w.1 w.3)
       view (Evenly i) b xs ys w = subst (Seen b (Evenly i) xs) (sym w.1) (evenly_view b i xs w.0)
       view (Early i p) b xs ys w = subst (Seen b (Early i p) xs) (sym w.1) (early_view b i p xs w.0 w.2)

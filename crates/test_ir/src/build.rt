@@ -8,7 +8,7 @@ use base_ids::code::{BlockId, DebugNumber, ObjectId, OperandIndex, SlotId};
 use base_ids::metadata::NodeId;
 use base_list::List;
 use mir_func::block::{Block, Blocks};
-use mir_func::entry::{Entry, OperandPair};
+use mir_func::entry::{DebugSubstitution, OperandPair};
 use mir_func::func::{Func, FuncError, SlotIds};
 use mir_func::item::{Item, ItemKind, Items};
 use mir_func::location::Loc;
@@ -32,8 +32,8 @@ pub fn pair(number: u32, operand: u32) -> OperandPair {
 }
 
 /// The entry by which one number's operand 0 stands for another's.
-pub fn entry(src: u32, dst: u32, subreg: u32) -> Entry {
-    Entry {
+pub fn entry(src: u32, dst: u32, subreg: u32) -> DebugSubstitution {
+    DebugSubstitution {
         src: pair(src, 0),
         dst: pair(dst, 0),
         subreg,
@@ -166,13 +166,19 @@ fn add_blocks(alloc: Global, text: &str, blocks: &mut Blocks) -> Option<()> {
     let mut words = head.split_whitespace();
     let first = number(words.next())?;
     let last = number(words.next()).unwrap_or(first);
-    let silent = number(words.next());
+    let source_end = number(words.next());
     for n in first..last.saturating_add(1) {
         let id = BlockId(n);
         let items = items(alloc, id, text)?;
         let count = u32::try_from(items.len()).ok()?;
-        let silent = silent.unwrap_or(count);
-        blocks.push(Block { id, items, silent }).ok()?;
+        let source_end = source_end.unwrap_or(count);
+        blocks
+            .push(Block {
+                id,
+                items,
+                source_end,
+            })
+            .ok()?;
     }
     Some(())
 }

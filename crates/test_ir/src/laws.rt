@@ -93,7 +93,7 @@ fn sample_blocks(alloc: Global) -> Option<Blocks>
         .push(Block {
             id: BlockId(0),
             items: sample_items(alloc)?,
-            silent: 2,
+            source_end: 2,
         })
         .ok()?;
     Some(blocks)

@@ -8,7 +8,7 @@ use base_list::List;
 use mir_func::func::Func;
 use mir_func::position::Pos;
 use mir_substitution::substitutions::Substitutions;
-use rv64_instr::start::{Answer, Start};
+use rv64_instr::start::{CallResult, Start};
 use sem_interpreter::state::{SourceState, SourceStep};
 use std::alloc::Global;
 use std::process::Abort;
@@ -51,13 +51,13 @@ fn start(alloc: Global, x10: u64) -> Option<Start> {
 }
 
 /// An answer: the sixteen registers get 101 to 116, and the last byte that is written is given.
-fn answer(last: (u64, u8)) -> Answer {
+fn answer(last: (u64, u8)) -> CallResult {
     let mut regs = [0; 16];
     for i in 0..16 {
         regs[i] = 101 + i as u64;
     }
     let first = Some((16, 1));
-    Answer {
+    CallResult {
         regs,
         writes: [first, None, None, None, None, None, None, Some(last)],
     }
@@ -87,7 +87,7 @@ fn steps(
     state: &mut SourceState,
     f: &Func,
     subs: &Substitutions,
-    answer: Option<&Answer>,
+    answer: Option<&CallResult>,
     times: u32,
     wanted: SourceStep,
 ) -> Option<()>
@@ -117,7 +117,7 @@ fn look(
     state: &mut SourceState,
     f: &Func,
     subs: &Substitutions,
-    given: &Answer,
+    given: &CallResult,
     line: &str,
 ) -> Option<()>
     requires counted { AreCounted f.now.blocks }
@@ -144,7 +144,7 @@ fn looks_on(
     state: &mut SourceState,
     f: &Func,
     subs: &Substitutions,
-    given: &Answer,
+    given: &CallResult,
     looks: &str,
 ) -> Option<()>
     requires counted { AreCounted f.now.blocks }

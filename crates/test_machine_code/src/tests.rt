@@ -5,10 +5,10 @@ use emit_code::code::{Code, Words};
 use emit_function::code::code_of;
 use read_program::program::read_program;
 use rv64_instr::reg::physical;
-use rv64_instr::start::{Answer, CallEvent, Cells, Start};
+use rv64_instr::start::{CallEvent, CallResult, Cells, Start};
 use sim_machine::answers::CallAnswers;
 use sim_machine::ending::{Stepped, Stop};
-use sim_machine::machine::Machine;
+use sim_machine::machine::MachineSimulator;
 use std::alloc::Global;
 use std::test::Fail;
 
@@ -49,10 +49,10 @@ impl CallAnswers for Odd {
 
     ghost spares = { λ _ _ _. Unit {0} };
 
-    fn answer(&self, call: &CallEvent) -> Answer {
+    fn answer(&self, call: &CallEvent) -> CallResult {
         let mut regs = [9u64; 16];
         regs[4] = call.number.wrapping_mul(2).wrapping_add(3);
-        Answer {
+        CallResult {
             regs,
             writes: [None; 8],
         }
@@ -79,7 +79,7 @@ fn with_word(alloc: Global, code: Code, word: u32) -> Result<Code, Fail> {
 }
 
 /// A machine at the start of a code, where x1 is 4294967296, x2 is 1048576, x10 is 2 and every other register is 7.
-fn machine<'a>(alloc: Global, code: &'a Code) -> Result<Machine<'a, Odd>, Fail> {
+fn machine<'a>(alloc: Global, code: &'a Code) -> Result<MachineSimulator<'a, Odd>, Fail> {
     let mut regs = [7u64; 32];
     regs[1] = 4_294_967_296;
     regs[2] = 1_048_576;
@@ -88,11 +88,11 @@ fn machine<'a>(alloc: Global, code: &'a Code) -> Result<Machine<'a, Odd>, Fail> 
         regs,
         memory: Cells::new(alloc),
     };
-    Ok(Machine::new(alloc, code, &start, Odd)?)
+    Ok(MachineSimulator::new(alloc, code, &start, Odd)?)
 }
 
 /// The content of a register.
-fn register(machine: &Machine<Odd>, n: u32) -> Option<u64> {
+fn register(machine: &MachineSimulator<Odd>, n: u32) -> Option<u64> {
     match physical(n) {
         Some(r) => Some(machine.register(r)),
         None => None,
@@ -100,7 +100,7 @@ fn register(machine: &Machine<Odd>, n: u32) -> Option<u64> {
 }
 
 /// Whether a number of steps are made, none of which stops.
-fn goes_on(machine: &mut Machine<Odd>, steps: u32) -> bool {
+fn goes_on(machine: &mut MachineSimulator<Odd>, steps: u32) -> bool {
     for _ in 0..steps {
         if !matches!(machine.step(), Ok(Stepped::Went)) {
             return false;
@@ -110,7 +110,7 @@ fn goes_on(machine: &mut Machine<Odd>, steps: u32) -> bool {
 }
 
 /// Whether two lists give these values where the machine stands.
-fn give(machine: &Machine<Odd>, lists: &[u8], n: Option<u64>, s: Option<u64>) -> bool {
+fn give(machine: &MachineSimulator<Odd>, lists: &[u8], n: Option<u64>, s: Option<u64>) -> bool {
     let Ok(count) = list_count(lists) else {
         return false;
     };
@@ -127,12 +127,12 @@ fn give(machine: &Machine<Odd>, lists: &[u8], n: Option<u64>, s: Option<u64>) ->
 }
 
 /// Whether the machine stands at an address, where two lists give these values.
-fn stands(machine: &Machine<Odd>, address: u64, n: Option<u64>, s: Option<u64>) -> bool {
+fn stands(machine: &MachineSimulator<Odd>, address: u64, n: Option<u64>, s: Option<u64>) -> bool {
     machine.counter() == address && give(machine, &LISTS, n, s)
 }
 
 /// Whether the next step returns, with 12 in x10 and what was saved in x8, x9, x1 and x2.
-fn returns(machine: &mut Machine<Odd>) -> bool {
+fn returns(machine: &mut MachineSimulator<Odd>) -> bool {
     matches!(machine.step(), Ok(Stepped::Stopped(Stop::Returned)))
         && machine.counter() == 0x44
         && register(machine, 0) == Some(0)

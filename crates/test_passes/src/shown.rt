@@ -1,7 +1,7 @@
 //! Text of items with their origins, of substitutions and of losses, a line for each.
 
 use mir_func::block::Block;
-use mir_func::entry::Entry;
+use mir_func::entry::DebugSubstitution;
 use mir_func::item::Item;
 use mir_func::position::{Origin, Pos};
 use mir_printer::item::push_item;
@@ -47,7 +47,7 @@ pub fn push_losses(text: &mut Text, losses: &[Loss]) -> Result<(), AllocError> {
 }
 
 /// Appends substitutions, a line for each.
-pub fn push_entries(text: &mut Text, entries: &[Entry]) -> Result<(), AllocError> {
+pub fn push_entries(text: &mut Text, entries: &[DebugSubstitution]) -> Result<(), AllocError> {
     for e in entries {
         push_numbered(text, "", e.src.number.number())?;
         push_numbered(text, " is ", e.dst.number.number())?;

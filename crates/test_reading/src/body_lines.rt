@@ -2,7 +2,7 @@
 
 use mir_func::location::Loc;
 use read_line::body::body_line;
-use read_line::form::{BodyLine, Expression, ItemForm, LineError, OperandForm, RegisterForm};
+use read_line::form::{BodyLine, Expression, FormError, ItemForm, OperandForm, RegisterForm};
 use read_token::lexeme::{BEYOND, Flag, RegisterName};
 use std::alloc::{AllocError, Global};
 use std::test::Fail;
@@ -315,10 +315,10 @@ fn described(alloc: Global, line: &str) -> Result<String, AllocError> {
         Ok(BodyLine::Label(Some(n))) => push_numbered(alloc, &mut text, "label ", n.number())?,
         Ok(BodyLine::Label(None)) => text.push_str("label beyond")?,
         Ok(BodyLine::Item(item)) => push_item(alloc, &mut text, &item)?,
-        Err(LineError::BadByte) => text.push_str("BadByte")?,
-        Err(LineError::UnclosedString) => text.push_str("UnclosedString")?,
-        Err(LineError::BadLine) => text.push_str("BadLine")?,
-        Err(LineError::Memory) => return Err(AllocError),
+        Err(FormError::BadByte) => text.push_str("BadByte")?,
+        Err(FormError::UnclosedString) => text.push_str("UnclosedString")?,
+        Err(FormError::BadLine) => text.push_str("BadLine")?,
+        Err(FormError::Memory) => return Err(AllocError),
     }
     Ok(text)
 }

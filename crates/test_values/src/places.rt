@@ -13,7 +13,7 @@ use std::collections::HashMap;
 use std::test::Fail;
 use value_solver::entry::{Bits, BlockEntry, Numbers};
 use value_solver::tracked::Tracked;
-use value_tracker::held::{Held, PLACES};
+use value_tracker::held::{LocationTracker, PLACES};
 use value_tracker::index::{index_of, number_class};
 use value_tracker::pass::Block;
 use value_tracker::start::settle;
@@ -28,7 +28,7 @@ fn copy(alloc: Global, to: u32, from: u32, number: u32) -> Result<ItemKind, Fail
 }
 
 /// The classes past an item.
-fn pass(held: &mut Held, block: &Block, kind: &ItemKind) -> Result<(), Fail> {
+fn pass(held: &mut LocationTracker, block: &Block, kind: &ItemKind) -> Result<(), Fail> {
     if held.places.len() != PLACES || held.parts.len() != block.variables.len() {
         return Err(Fail::from("another number of places or parts"));
     }
@@ -51,9 +51,9 @@ fn class_of(alloc: Global, number: u64) -> Result<usize, Fail> {
 }
 
 /// All places have class 5, but x10 has 6, and three parts have classes of their own.
-fn held(alloc: Global) -> Result<Held, Fail> {
+fn held(alloc: Global) -> Result<LocationTracker, Fail> {
     let x10 = register(10)?;
-    let mut held = Held {
+    let mut held = LocationTracker {
         places: vec![in alloc; 5; PLACES]?,
         pairs: HashMap::new(alloc),
         parts: vec![in alloc; 1, 2, 3]?,

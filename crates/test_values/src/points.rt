@@ -13,7 +13,7 @@ use std::alloc::Global;
 use std::test::Fail;
 use value_live_ins::values::{MachineValues, solve, solve_asking};
 use value_queries::machine::{holds as holds_pair, kept, same};
-use value_queries::point::{Point, point_at};
+use value_queries::point::{QueryPoint, point_at};
 use value_queries::variable::{first_place, holds};
 
 /// Variable 4 is in x10, which is copied to x12; variable 5 is the sum in x13, which is copied to x14.

@@ -5,7 +5,7 @@ use Rattle.std.proofs.lemmas.List.Elements.{All-head, All-tail}
 use Rattle.theorem_invariance.specs.Compiled.{functions_of}
 use Rattle.theorem_invariance.proofs.Compiled.{same_text}
 use Rattle.pass_trait.specs.Change.{change}
-use Rattle.pass_trait.specs.Steps.{Step, MakeCodeAlone}
+use Rattle.pass_trait.specs.Steps.{PassStep, MakeCodeAlone}
 use Rattle.invariance_code.specs.Alike.{HaveAlikeCode}
 use Rattle.read_metadata.specs.Maps.{Maps}
 use Rattle.read_program.specs.declared.closing.Parsed.{Parsed}
@@ -15,7 +15,7 @@ use Rattle.compile_program.specs.Program.{ArePassed, steps_of, IsMadeBy, source_
 use Rattle.theorem_invariance.specs.Text.{OneByOne}
 use Rattle.theorem_invariance.specs.OutputAlone.{AreReadAlike, OutputsOfAlikeCode}
 
-module _ (steps : List Step) (alone : MakeCodeAlone steps) (meta meta' : Maps) where
+module _ (steps : List PassStep) (alone : MakeCodeAlone steps) (meta meta' : Maps) where
   one_alike : (f g : Parsed) (s t : PassedFunction) → s.source ≡ source_of f → t.source ≡ source_of g → AreReadAlike f g → IsMadeBy steps s → IsMadeBy steps t →
       HaveAlikeCode s.function t.function
   one_alike f g s t from_f from_g alike made made' =

@@ -1,6 +1,6 @@
 -- Functions after the same passes, from functions that may differ in their debug items.
 use Rattle.std.specs.Prelude.{◌≡◌, ℕ, List}
-use Rattle.mir_func.specs.declared.entry.Entry.{Entry}
+use Rattle.mir_func.specs.declared.entry.DebugSubstitution.{DebugSubstitution}
 use Rattle.mir_func.specs.Function.{Function}
 use Rattle.mir_func.specs.Strip.{stripped}
 use Rattle.emit_code.specs.Rule.{Layout}
@@ -16,8 +16,8 @@ use Rattle.invariance_code.specs.Alone.{AreCodedAlike, AreCodedSame}
 -- The list of passes made the second function of the first, with some substitutions before and after, and with some losses. `reserve` is the
 -- registers that may be spilled.
 pub record IsPassed (reserve : List ℕ) (passes : List PassKind) (f g : Function) : Type 0 where
-  pub old_subs : List Entry
-  pub new_subs : List Entry
+  pub old_subs : List DebugSubstitution
+  pub new_subs : List DebugSubstitution
   pub losses : List Loss
   pub kept : KeepsSteps (steps_of reserve passes) (change f old_subs g new_subs) losses
 

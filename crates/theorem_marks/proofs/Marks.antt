@@ -21,9 +21,9 @@ use Rattle.pass_trait.specs.Debug.{IsLoss, Becomes, BecomeAll, BlocksBecome, ove
 use Rattle.pass_trait.specs.Debug.{mark_stays, phi_stays, code_stays, code_numbered, code_unnumbered, jump_stays, code_goes, idle_goes, number_goes}
 use Rattle.pass_trait.specs.Debug.{substituted, salvaged, salvaged_wrong, mark_silenced, phi_silenced, mark_goes, phi_goes, mark_spilled, phi_spilled}
 use Rattle.pass_trait.specs.Debug.{mark_renamed, phi_renamed}
-use Rattle.pass_trait.specs.Steps.{Step, KeepsStep, KeepsSteps}
+use Rattle.pass_trait.specs.Steps.{PassStep, KeepsStep, KeepsSteps}
 use Rattle.pass_manager.specs.Told.{KeepsPass, KeepsPasses}
-use Rattle.theorem_marks.specs.Stand.{IsUntold}
+use Rattle.theorem_marks.specs.Stand.{IsNotDropped}
 
 module _ (p : Pos) (v : VarId) where
   -- an item is the mark
@@ -55,7 +55,7 @@ module _ (p : Pos) (v : VarId) where
   no_code : (i : Instruction) (k : Option ℕ) (o : Origin) (l : Loc) {A : Type 0} → IsMark (item (Code i k) o l) → A
   no_code i k o l h = let e : Code i k ≡ Mark v h.marks.0 = h.marks.1 in absurd cc
 
-  module _ (rule : Rule) (c : Change) (lost : List Loss) (told : (loss : Loss) → IsLoss rule c loss → Contains lost loss) (untold : IsUntold lost p) where
+  module _ (rule : Rule) (c : Change) (lost : List Loss) (told : (loss : Loss) → IsLoss rule c loss → Contains lost loss) (untold : IsNotDropped lost p) where
     -- its loss would be told
     not_lost : {A : Type 0} (at : Pos) (o : Origin) (why : Reason) → o ≡ Kept p → rule.loses c at (mark_lost o why) → A
     not_lost at o why e loses = absurd (untold why (subst (λ (q : Origin). Contains lost (mark_lost q why)) e (told (mark_lost o why) (inl (at, loses)))))
@@ -100,7 +100,7 @@ module _ (p : Pos) (v : VarId) where
 
     blocks_become : {xs ys : List Block} → BlocksBecome rule c xs ys → (b : Block) → Contains xs b → HasMark b.items → HaveMark ys
     blocks_become none b (k, lt, e) h = absurd (omega (arith, lt))
-    blocks_become (stays {x} {y} {xs} {ys} kills items id silent are killed kill all rest) b at h = elim (Contains-append_cases (x ∷ []) xs b at) [
+    blocks_become (stays {x} {y} {xs} {ys} kills items id source_end are killed kill all rest) b at h = elim (Contains-append_cases (x ∷ []) xs b at) [
       | inl here ↦ (let same : x ≡ b = alone x b here in
           record {
             block = y;
@@ -124,30 +124,32 @@ module _ (p : Pos) (v : VarId) where
 
   -- ---- steps and passes
 
-  untold_left : (xs ys : List Loss) → IsUntold (xs ++ ys) p → IsUntold xs p
+  untold_left : (xs ys : List Loss) → IsNotDropped (xs ++ ys) p → IsNotDropped xs p
   untold_left xs ys h why at = h why (Contains-append_left xs ys (mark_lost (Kept p) why) at)
 
-  untold_right : (xs ys : List Loss) → IsUntold (xs ++ ys) p → IsUntold ys p
+  untold_right : (xs ys : List Loss) → IsNotDropped (xs ++ ys) p → IsNotDropped ys p
   untold_right xs ys h why at = h why (Contains-append_right xs ys (mark_lost (Kept p) why) at)
 
-  step_keeps : (step : Step) (c : Change) (lost : List Loss) → KeepsStep step c lost → IsUntold lost p → HaveMark c.old.blocks → HaveMark c.new.blocks
+  step_keeps : (step : PassStep) (c : Change) (lost : List Loss) → KeepsStep step c lost → IsNotDropped lost p → HaveMark c.old.blocks → HaveMark c.new.blocks
   step_keeps step c lost k untold h = blocks_become step.debug c lost k.items.told untold k.items.blocks h.block h.among h.mark
 
-  steps_keep : (steps : List Step) (c : Change) (lost : List Loss) → KeepsSteps steps c lost → IsUntold lost p → HaveMark c.old.blocks → HaveMark c.new.blocks
+  steps_keep : (steps : List PassStep) (c : Change) (lost : List Loss) → KeepsSteps steps c lost → IsNotDropped lost p → HaveMark c.old.blocks →
+      HaveMark c.new.blocks
   steps_keep [] c lost (same, subs, nothing) untold h = subst (λ (f : Function). HaveMark f.blocks) (sym same) h
   steps_keep (step ∷ steps) c lost (f, subs, here, later, one, more, are) untold h =
-      let all : IsUntold (here ++ later) p = subst (λ (ls : List Loss). IsUntold ls p) are untold in
+      let all : IsNotDropped (here ++ later) p = subst (λ (ls : List Loss). IsNotDropped ls p) are untold in
       steps_keep steps (record c { old = f; old_subs = subs }) later more (untold_right here later all)
       (step_keeps step (record c { new = f; new_subs = subs }) here one (untold_left here later all) h)
 
-  pass_keeps : (steps : List Step) (c : Change) (told : List Loss) → KeepsPass steps c told → IsUntold told p → HaveMark c.old.blocks → HaveMark c.new.blocks
+  pass_keeps : (steps : List PassStep) (c : Change) (told : List Loss) → KeepsPass steps c told → IsNotDropped told p → HaveMark c.old.blocks →
+      HaveMark c.new.blocks
   pass_keeps steps c told k untold h =
       steps_keep steps c k.lost k.kept (λ why at. untold why ((k.are_told.same (mark_lost (Kept p) why)).1 at)) h
 
-  pub passes_keep : (passes : List (List Step)) (c : Change) (told : List Loss) → KeepsPasses passes c told → IsUntold told p → HaveMark c.old.blocks →
+  pub passes_keep : (passes : List (List PassStep)) (c : Change) (told : List Loss) → KeepsPasses passes c told → IsNotDropped told p → HaveMark c.old.blocks →
       HaveMark c.new.blocks
   passes_keep [] c told (same, subs, nothing) untold h = subst (λ (f : Function). HaveMark f.blocks) (sym same) h
   passes_keep (steps ∷ passes) c told (f, subs, here, later, one, more, are) untold h =
-      let all : IsUntold (here ++ later) p = subst (λ (ls : List Loss). IsUntold ls p) are untold in
+      let all : IsNotDropped (here ++ later) p = subst (λ (ls : List Loss). IsNotDropped ls p) are untold in
       passes_keep passes (record c { old = f; old_subs = subs }) later more (untold_right here later all)
       (pass_keeps steps (record c { new = f; new_subs = subs }) here one (untold_left here later all) h)

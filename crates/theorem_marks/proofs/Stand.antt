@@ -25,7 +25,7 @@ use Rattle.read_program.specs.declared.closing.Parsed.{Parsed}
 use Rattle.compile_theorem.specs.Source.{PassedFunction}
 use Rattle.pass_list.specs.declared.kind.PassKind.{PassKind}
 use Rattle.compile_program.specs.Program.{ArePassed, AreMadeLosing, passes_of}
-use Rattle.theorem_marks.specs.Stand.{StandsBetween, MarksStand, AllStand, CompiledMarksStand}
+use Rattle.theorem_marks.specs.Stand.{KeepsDebugValue, MarksStand, AllStand, CompiledMarksStand}
 use Rattle.theorem_marks.proofs.Marks.{IsMark, HaveMark, passes_keep}
 use Rattle.theorem_marks.proofs.Order.{at_least, kept_later}
 
@@ -46,7 +46,7 @@ read_mark f read at i v m stands is = by_blocks (from_block f.blocks at.block) r
   by_blocks [] g e = cc
   by_blocks (b ∷ bs) g e =
       let w = found_in f.blocks at.block b bs g in
-      let there : slice_get b.items at.item ≡ Some i = front_item b.items at.item b.silent bs i e in
+      let there : slice_get b.items at.item ≡ Some i = front_item b.items at.item b.source_end bs i e in
       let own : i.origin ≡ Kept (record { block = b.id; item = at.item }) = All-contains
       (λ (c : Block). (k : ℕ) (j : Item) → slice_get c.items k ≡ Some j → j.origin ≡ Kept (record { block = c.id; item = k })) f.blocks b read.items w.0
       at.item i there in
@@ -77,7 +77,7 @@ which (suc j) (suc k) = elim (which j k) [
 ]
 
 -- the mark where it stands now
-stands_now : (f : Function) → All (λ (b : Block). InOrder b.id 0 b.items) f.blocks → (p : Pos) (v : VarId) → HaveMark p v f.blocks → StandsBetween f p v
+stands_now : (f : Function) → All (λ (b : Block). InOrder b.id 0 b.items) f.blocks → (p : Pos) (v : VarId) → HaveMark p v f.blocks → KeepsDebugValue f p v
 stands_now f order p v h =
     let b : Block = h.block in
     let mark : Item = h.mark.0 in

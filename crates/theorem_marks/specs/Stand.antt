@@ -19,12 +19,12 @@ use Rattle.compile_program.specs.declared.compile.Compilation.{Compilation}
 use Rattle.compile_program.specs.Program.{IsCompilationOf, IsMadeLosing}
 
 -- no loss of the debug value at this source position is reported
-abbrev pub IsUntold : (told : List Loss) → Pos → Type 0
-IsUntold told p = (why : Reason) → Contains told (mark_lost (Kept p) why) → ⊥
+abbrev pub IsNotDropped : (told : List Loss) → Pos → Type 0
+IsNotDropped told p = (why : Reason) → Contains told (mark_lost (Kept p) why) → ⊥
 
 -- A debug value of the variable v, with the source position p as its origin, is in the function, in the block of p. Each kept code item of this block
 -- has its origin in the same block, and is before the debug value exactly if its origin is before p.
-pub record StandsBetween (f : Function) (p : Pos) (v : VarId) : Type 0 where
+pub record KeepsDebugValue (f : Function) (p : Pos) (v : VarId) : Type 0 where
   pub block : Block
   pub among : Contains f.blocks block
   pub number : block.id ≡ p.block
@@ -38,8 +38,8 @@ pub record StandsBetween (f : Function) (p : Pos) (v : VarId) : Type 0 where
 
 -- Each debug value of the source that isn't reported lost is in the passed function like this.
 abbrev pub MarksStandIn : PassedFunction → (told : List Loss) → Type 0
-MarksStandIn p told = (at : Pos) (i : Item) (v : VarId) (m : MarkValue) → StandsAt p.source.function at i → i.kind ≡ Mark v m → IsUntold told at →
-    StandsBetween p.function at v
+MarksStandIn p told = (at : Pos) (i : Item) (v : VarId) (m : MarkValue) → StandsAt p.source.function at i → i.kind ≡ Mark v m → IsNotDropped told at →
+    KeepsDebugValue p.function at v
 
 -- This holds for whatever passes make of a function that was read.
 abbrev pub MarksStand : Type 0

@@ -179,9 +179,9 @@ module _ (ids entries : List ℕ) where
         let here = items_again b.id 0 b.items
         (λ j i e. is.items j i e ∙ ap (λ (n : ℕ). Kept (record { block = b.id; item = n })) (let m : j ≡ 0 + j = omega arith in m))
         (All-head (λ (x : Block). All Knows x.items) b bs all) in
-        let size : length (map (item_as ids) b.items) ≡ b.silent = length-map b.items (item_as ids) ∙ sym is.silent in
+        let size : length (map (item_as ids) b.items) ≡ b.source_end = length-map b.items (item_as ids) ∙ sym is.source_end in
         let rest = blocks_again R bs (All-tail (IsReadBlock R) b bs read) (All-tail (λ (x : Block). All Knows x.items) b bs all) in
-        λ j. record { id = b.id; items = here j; silent = size j } ∷ rest j
+        λ j. record { id = b.id; items = here j; source_end = size j } ∷ rest j
 
   -- ---- how many
 

@@ -14,12 +14,12 @@ use Rattle.read_lexer.specs.Bytes.{is_blank, is_word_start, is_word_byte}
 use Rattle.read_lexer.specs.Front.{token, token_at}
 use Rattle.read_metadata.specs.Number.{within_limit, value_behind, spelled as spelt, integer_of, unsigned_of}
 use Rattle.read_metadata.specs.Token.{is_word, text_of}
-use Rattle.read_declarations.specs.declared.stream.Piece as stream
-use Rattle.read_declarations.specs.declared.entry.Field.{Field}
-use Rattle.read_declarations.specs.declared.entry.Entry.{Entry}
+use Rattle.read_declarations.specs.declared.stream.YamlToken as stream
+use Rattle.read_declarations.specs.declared.entry.MappingField.{MappingField}
+use Rattle.read_declarations.specs.declared.entry.MappingEntry.{MappingEntry}
 use Rattle.read_declarations.specs.declared.entry.OpenList.{OpenList}
-use Rattle.read_declarations.specs.declared.entry.Place.{Place}
-use Rattle.read_declarations.specs.declared.entry.Place.TheVariants.{Outside, Key, Next}
+use Rattle.read_declarations.specs.declared.entry.ParserState.{ParserState}
+use Rattle.read_declarations.specs.declared.entry.ParserState.TheVariants.{Outside, Key, Next}
 use Rattle.read_declarations.specs.Entry.{is_mark, is_value, has_key, entries_from}
 use Rattle.read_declarations.specs.Stream.{piece_of, text_in, text_at}
 use Rattle.readback_items.proofs.Cuts.{is_safe, AllPass, safe_passes, decimal_safe, semicolon_mark, semicolon_colon}
@@ -113,16 +113,16 @@ field_reads first bytes k ps small start visible word safe ends is = record {
 -- ---- steps
 
 -- a list of entries, one of which is open
-abbrev pub opened : List Entry → Place → ℕ → List Field → OpenList
+abbrev pub opened : List MappingEntry → ParserState → ℕ → List MappingField → OpenList
 opened es place line fields = record { entries = es; place = place; line = line; fields = fields }
 
-module _ (lines : List Line) (cut : Bool) (es : List Entry) where
-  pub open_step : (last : ℕ) (a b : stream.Piece) (rest : List stream.Piece) → is_mark 45 a ≡ true → is_mark 123 b ≡ true →
+module _ (lines : List Line) (cut : Bool) (es : List MappingEntry) where
+  pub open_step : (last : ℕ) (a b : stream.YamlToken) (rest : List stream.YamlToken) → is_mark 45 a ≡ true → is_mark 123 b ≡ true →
       entries_from lines cut (opened es Outside last []) (a ∷ b ∷ rest) ≡ entries_from lines cut (opened es Key a.line []) rest
   unfolding entries_from
   open_step last a b rest dash brace = cond-true (is_mark 45 a) _ _ dash ∙ cond-true (is_mark 123 b) _ _ brace
 
-  pub field_step : (n : ℕ) (fields : List Field) (key colon value : stream.Piece) (rest : List stream.Piece) → is_word key.token ≡ true →
+  pub field_step : (n : ℕ) (fields : List MappingField) (key colon value : stream.YamlToken) (rest : List stream.YamlToken) → is_word key.token ≡ true →
       is_mark 58 colon ≡ true → (is_value value && not (has_key lines fields key)) ≡ true →
       entries_from lines cut (opened es Key n fields) (key ∷ colon ∷ value ∷ rest)
       ≡ entries_from lines cut (opened es Next n (fields ++ record { key = key; value = value } ∷ [])) rest
@@ -131,14 +131,15 @@ module _ (lines : List Line) (cut : Bool) (es : List Entry) where
       cond-true (is_word key.token) _ _ word
       ∙ (cond-true (is_mark 58 colon) _ _ colons ∙ cond-true (is_value value && not (has_key lines fields key)) _ _ new)
 
-  pub comma_step : (n : ℕ) (fields : List Field) (comma : stream.Piece) (rest : List stream.Piece) → is_mark 44 comma ≡ true →
+  pub comma_step : (n : ℕ) (fields : List MappingField) (comma : stream.YamlToken) (rest : List stream.YamlToken) → is_mark 44 comma ≡ true →
       entries_from lines cut (opened es Next n fields) (comma ∷ rest) ≡ entries_from lines cut (opened es Key n fields) rest
   unfolding entries_from
   comma_step n fields comma rest is =
       cond-true (is_mark 44 comma || is_mark 125 comma) _ _ (ap (λ (t : Bool). t || is_mark 125 comma) is)
       ∙ ap (λ (o : OpenList). entries_from lines cut o rest) (cond-true (is_mark 44 comma) _ _ is)
 
-  pub close_step : (n : ℕ) (fields : List Field) (brace : stream.Piece) (rest : List stream.Piece) → is_mark 44 brace ≡ false → is_mark 125 brace ≡ true →
+  pub close_step : (n : ℕ) (fields : List MappingField) (brace : stream.YamlToken) (rest : List stream.YamlToken) → is_mark 44 brace ≡ false →
+      is_mark 125 brace ≡ true →
       entries_from lines cut (opened es Next n fields) (brace ∷ rest)
       ≡ entries_from lines cut (opened (es ++ record { line = n; fields = fields } ∷ []) Outside n []) rest
   unfolding entries_from

@@ -11,12 +11,12 @@ use Rattle.read_lexer.specs.declared.parts.Token.{Token}
 use Rattle.read_lexer.specs.Comment.{before}
 use Rattle.read_lexer.specs.Front.{token_at}
 use Rattle.read_metadata.specs.Number.{integer_of}
-use Rattle.mir_func.specs.declared.entry.Entry as func
-use Rattle.read_declarations.specs.declared.stream.Piece as stream
-use Rattle.read_declarations.specs.declared.entry.Field.{Field}
-use Rattle.read_declarations.specs.declared.entry.Entry.{Entry}
+use Rattle.mir_func.specs.declared.entry.DebugSubstitution as func
+use Rattle.read_declarations.specs.declared.stream.YamlToken as stream
+use Rattle.read_declarations.specs.declared.entry.MappingField.{MappingField}
+use Rattle.read_declarations.specs.declared.entry.MappingEntry.{MappingEntry}
 use Rattle.read_declarations.specs.declared.entry.Listing.{Listing}
-use Rattle.read_declarations.specs.declared.entry.Place.TheVariants.{Outside, Key}
+use Rattle.read_declarations.specs.declared.entry.ParserState.TheVariants.{Outside, Key}
 use Rattle.read_declarations.specs.Entry.{has_key, entries_from}
 use Rattle.read_declarations.specs.Field.{value_at, number_in, needed, given}
 use Rattle.read_declarations.specs.List.{list_in}
@@ -37,11 +37,11 @@ use Rattle.theorem_print_read_back.proofs.Fields.{close_step, text_found}
 
 -- ---- what an entry says
 
-abbrev Means : List Line → List Field → func.Entry → Type 0
+abbrev Means : List Line → List MappingField → func.DebugSubstitution → Type 0
 Means lines fields e = substitution_of lines fields ≡ Some e
 
 -- the pieces of a field whose key's token is at a place
-abbrev field_at : ℕ → ℕ → Token → Token → Field
+abbrev field_at : ℕ → ℕ → Token → Token → MappingField
 field_at at n key value = record { key = piece_of at n key; value = piece_of at n value }
 
 -- numbers that are read make a substitution
@@ -55,22 +55,22 @@ said a b c d f v w x y z p q r s t = λ i. substitution_with (pair_of (p i) (q i
 abbrev behind_subreg : List Piece
 behind_subreg = mark 1 125 ∷ []
 
-abbrev behind_dstop : func.Entry → List Piece
+abbrev behind_dstop : func.DebugSubstitution → List Piece
 behind_dstop e = mark 0 44 ∷ field (codes "subreg") e.subreg behind_subreg
 
-abbrev behind_dstinst : func.Entry → List Piece
+abbrev behind_dstinst : func.DebugSubstitution → List Piece
 behind_dstinst e = mark 0 44 ∷ field (codes "dstop") e.dst.operand (behind_dstop e)
 
-abbrev behind_srcop : func.Entry → List Piece
+abbrev behind_srcop : func.DebugSubstitution → List Piece
 behind_srcop e = mark 0 44 ∷ field (codes "dstinst") e.dst.number (behind_dstinst e)
 
-abbrev behind_srcinst : func.Entry → List Piece
+abbrev behind_srcinst : func.DebugSubstitution → List Piece
 behind_srcinst e = mark 0 44 ∷ field (codes "srcop") e.src.operand (behind_srcop e)
 
-abbrev entry_pieces : func.Entry → List Piece
+abbrev entry_pieces : func.DebugSubstitution → List Piece
 entry_pieces e = mark 2 45 ∷ mark 1 123 ∷ field (codes "srcinst") e.src.number (behind_srcinst e)
 
-entry_reads : (e : func.Entry) → EntryIsLimited e → IsRead (entry_pieces e)
+entry_reads : (e : func.DebugSubstitution) → EntryIsLimited e → IsRead (entry_pieces e)
 entry_reads e is =
     open_reads (field (codes "srcinst") e.src.number (behind_srcinst e))
     (field_reads 115 (codes "rcinst") e.src.number (behind_srcinst e) is.src.0 refl refl refl refl refl
@@ -85,7 +85,7 @@ entry_reads e is =
 
 -- ---- its fields
 
-module _ (e : func.Entry) (is : EntryIsLimited e) where
+module _ (e : func.DebugSubstitution) (is : EntryIsLimited e) where
   abbrev pieces : List Piece
   pieces = entry_pieces e
 
@@ -143,7 +143,7 @@ module _ (e : func.Entry) (is : EntryIsLimited e) where
   abbrev subreg_value : Token
   subreg_value = token_of subreg_value_at (piece 1 class.Integer (decimal e.subreg))
 
-  abbrev fields : ℕ → ℕ → List Field
+  abbrev fields : ℕ → ℕ → List MappingField
   fields at n =
       field_at at n srcinst srcinst_value ∷ field_at at n srcop srcop_value ∷ field_at at n dstinst dstinst_value ∷ field_at at n dstop dstop_value ∷
       field_at at n subreg subreg_value ∷ []
@@ -178,25 +178,25 @@ module _ (e : func.Entry) (is : EntryIsLimited e) where
 
   module _ (lines : List Line) (at n : ℕ) (ts : Texts lines at n) where
     -- the pieces of a token behind a key, and behind a value
-    abbrev colon_at : ℕ → stream.Piece
+    abbrev colon_at : ℕ → stream.YamlToken
     colon_at place = piece_of at n (token_of place (mark 0 58))
 
-    abbrev comma_at : ℕ → stream.Piece
+    abbrev comma_at : ℕ → stream.YamlToken
     comma_at place = piece_of at n (token_of place (mark 0 44))
 
-    abbrev one : Field
+    abbrev one : MappingField
     one = field_at at n srcinst srcinst_value
 
-    abbrev two : Field
+    abbrev two : MappingField
     two = field_at at n srcop srcop_value
 
-    abbrev three : Field
+    abbrev three : MappingField
     three = field_at at n dstinst dstinst_value
 
-    abbrev four : Field
+    abbrev four : MappingField
     four = field_at at n dstop dstop_value
 
-    abbrev five : Field
+    abbrev five : MappingField
     five = field_at at n subreg subreg_value
 
     new_two : not (has_key lines (one ∷ []) two.key) ≡ true
@@ -213,23 +213,23 @@ module _ (e : func.Entry) (is : EntryIsLimited e) where
     new_five = λ i. not (bytes_eq (ts.srcinst_is i) (ts.subreg_is i) || (bytes_eq (ts.srcop_is i) (ts.subreg_is i)
         || (bytes_eq (ts.dstinst_is i) (ts.subreg_is i) || (bytes_eq (ts.dstop_is i) (ts.subreg_is i) || false))))
 
-    module _ (cut : Bool) (es : List Entry) (rest : List stream.Piece) where
-      abbrev closing : List stream.Piece
+    module _ (cut : Bool) (es : List MappingEntry) (rest : List stream.YamlToken) where
+      abbrev closing : List stream.YamlToken
       closing = piece_of at n (token_of (subreg_value_at + 1 + length (decimal e.subreg)) (mark 1 125)) ∷ rest
 
-      abbrev from_five : List stream.Piece
+      abbrev from_five : List stream.YamlToken
       from_five = five.key ∷ colon_at (subreg_at + 1 + 6) ∷ five.value ∷ closing
 
-      abbrev from_four : List stream.Piece
+      abbrev from_four : List stream.YamlToken
       from_four = four.key ∷ colon_at (dstop_at + 1 + 5) ∷ four.value ∷ comma_at (dstop_value_at + 1 + length (decimal e.dst.operand)) ∷ from_five
 
-      abbrev from_three : List stream.Piece
+      abbrev from_three : List stream.YamlToken
       from_three = three.key ∷ colon_at (dstinst_at + 1 + 7) ∷ three.value ∷ comma_at (dstinst_value_at + 1 + length (decimal e.dst.number)) ∷ from_four
 
-      abbrev from_two : List stream.Piece
+      abbrev from_two : List stream.YamlToken
       from_two = two.key ∷ colon_at (srcop_at + 1 + 5) ∷ two.value ∷ comma_at (srcop_value_at + 1 + length (decimal e.src.operand)) ∷ from_three
 
-      abbrev from_one : List stream.Piece
+      abbrev from_one : List stream.YamlToken
       from_one = one.key ∷ colon_at 13 ∷ one.value ∷ comma_at (15 + length (decimal e.src.number)) ∷ from_two
 
       step_five : entries_from lines cut (opened es Key n (one ∷ two ∷ three ∷ four ∷ [])) from_five
@@ -264,7 +264,7 @@ module _ (e : func.Entry) (is : EntryIsLimited e) where
           field_step lines cut es n [] one.key (colon_at 13) one.value (comma ∷ from_two) refl refl refl
           ∙ comma_step lines cut es n (one ∷ []) comma from_two refl
 
-    entry_read : (cut : Bool) (es : List Entry) (last : ℕ) (rest : List stream.Piece) →
+    entry_read : (cut : Bool) (es : List MappingEntry) (last : ℕ) (rest : List stream.YamlToken) →
         entries_from lines cut (outside es last) (pieces_at at n pieces ++ rest)
         ≡ entries_from lines cut (outside (es ++ record { line = n; fields = fields at n } ∷ []) n) rest
     entry_read cut es last rest =
@@ -272,7 +272,7 @@ module _ (e : func.Entry) (is : EntryIsLimited e) where
         ∙ (step_one cut es rest ∙ (step_two cut es rest ∙ (step_three cut es rest ∙ (step_four cut es rest ∙ step_five cut es rest))))
 
     -- the value of a key, by the texts of all keys
-    abbrev found : (key one two three four five : List ℕ) → Option stream.Piece
+    abbrev found : (key one two three four five : List ℕ) → Option stream.YamlToken
     found key one two three four five =
         cond (bytes_eq one key) (Some (piece_of at n srcinst_value)) (cond (bytes_eq two key) (Some (piece_of at n srcop_value))
         (cond (bytes_eq three key) (Some (piece_of at n dstinst_value)) (cond (bytes_eq four key) (Some (piece_of at n dstop_value))
@@ -306,11 +306,11 @@ module _ (e : func.Entry) (is : EntryIsLimited e) where
 
 -- ---- all lines
 
-all_entries : (es : List func.Entry) → All EntryIsLimited es → AreEntryLines Means (map entry_pieces es) es
+all_entries : (es : List func.DebugSubstitution) → All EntryIsLimited es → AreEntryLines Means (map entry_pieces es) es
 all_entries [] all = tt
 all_entries (e ∷ es) all = (entry_is e (All-head EntryIsLimited e es all), all_entries es (All-tail EntryIsLimited e es all))
 
-spelled_lines : (es : List func.Entry) → map spelled (map entry_pieces es) ≡ map entry_line es
+spelled_lines : (es : List func.DebugSubstitution) → map spelled (map entry_pieces es) ≡ map entry_line es
 spelled_lines [] = refl
 spelled_lines (e ∷ es) = ap (λ (l : List (List ℕ)). entry_line e ∷ l) (spelled_lines es)
 
@@ -321,19 +321,20 @@ key_reads = record {
   passes = (safe_passes (59 ∷ []) semicolon_mark (codes "debugValueSubstitutions") (58 ∷ []) refl, (refl, tt));
 }
 
-all_taken : (lines : List Line) (front : List func.Entry) (entries : List Entry) (es : List func.Entry) → AllMean Means lines entries es → AreNew front es →
+all_taken : (lines : List Line) (front : List func.DebugSubstitution) (entries : List MappingEntry) (es : List func.DebugSubstitution) →
+    AllMean Means lines entries es → AreNew front es →
     substitutions_behind lines (record { entries = front; refused = None }) entries ≡ record { entries = front ++ es; refused = None }
 unfolding substitutions_behind
-all_taken lines front [] [] all new = ap (λ (l : List func.Entry). record { entries = l; refused = None }) (sym (append-nil front))
+all_taken lines front [] [] all new = ap (λ (l : List func.DebugSubstitution). record { entries = l; refused = None }) (sym (append-nil front))
 all_taken lines front [] (e ∷ es) all new = absurd all
 all_taken lines front (x ∷ xs) [] all new = absurd all
 all_taken lines front (x ∷ xs) (e ∷ es) all new =
-    ap (λ (o : Option func.Entry). substitutions_behind lines (substituted (record { entries = front; refused = None }) x.line o) xs) all.0
+    ap (λ (o : Option func.DebugSubstitution). substitutions_behind lines (substituted (record { entries = front; refused = None }) x.line o) xs) all.0
     ∙ (ap (λ (t : Bool). substitutions_behind lines (record { entries = cond t front (front ++ e ∷ []); refused = None }) xs) new.0
     ∙ (all_taken lines (front ++ e ∷ []) xs es all.1 new.1
-    ∙ ap (λ (l : List func.Entry). record { entries = l; refused = None }) (append_assoc front (e ∷ []) es)))
+    ∙ ap (λ (l : List func.DebugSubstitution). record { entries = l; refused = None }) (append_assoc front (e ∷ []) es)))
 
-some_read : (n : ℕ) (es : List func.Entry) → All EntryIsLimited es → AreNew [] es →
+some_read : (n : ℕ) (es : List func.DebugSubstitution) → All EntryIsLimited es → AreNew [] es →
     substitutions_of (lines_from n (codes "debugValueSubstitutions:" ∷ map entry_line es)) ≡ record { entries = es; refused = None }
 some_read n es all new =
     let pss = map entry_pieces es in

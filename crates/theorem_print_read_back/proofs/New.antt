@@ -5,35 +5,36 @@ use Rattle.std.specs.Prelude.{is_some}
 use Rattle.read_refusal.specs.declared.first.Refusal.{Refusal}
 use Rattle.read_lexer.specs.declared.line.Line.{Line}
 use Rattle.read_documents.specs.declared.parts.FunctionDocument.{FunctionDocument}
-use Rattle.mir_func.specs.declared.entry.Entry as func
+use Rattle.mir_func.specs.declared.entry.DebugSubstitution as func
 use Rattle.mir_func.specs.Resolve.{entry_of}
 use Rattle.mir_substitution.specs.Added.{added}
 use Rattle.read_declarations.specs.declared.declarations.Declarations.{Declarations}
-use Rattle.read_declarations.specs.declared.entry.Entry.{Entry}
+use Rattle.read_declarations.specs.declared.entry.MappingEntry.{MappingEntry}
 use Rattle.read_declarations.specs.declared.substitutions.SubstitutionsRead.{SubstitutionsRead}
 use Rattle.read_declarations.specs.Declarations.{refusal_of, declared_of, checked, declarations_of}
 use Rattle.read_declarations.specs.List.{list_of}
 use Rattle.read_declarations.specs.Substitutions.{substitution_of, substituted, substitutions_behind}
 use Rattle.theorem_print_read_back.specs.Substitutions.{AreNew}
 
-pushed : (front es : List func.Entry) (e : func.Entry) → AreNew front es → is_some (entry_of (front ++ es) e.src) ≡ false → AreNew front (es ++ e ∷ [])
-pushed front [] e new none = (ap (λ (l : List func.Entry). is_some (entry_of l e.src)) (sym (append-nil front)) ∙ none, tt)
+pushed : (front es : List func.DebugSubstitution) (e : func.DebugSubstitution) → AreNew front es → is_some (entry_of (front ++ es) e.src) ≡ false →
+    AreNew front (es ++ e ∷ [])
+pushed front [] e new none = (ap (λ (l : List func.DebugSubstitution). is_some (entry_of l e.src)) (sym (append-nil front)) ∙ none, tt)
 pushed front (x ∷ es) e new none = (
   new.0,
-  pushed (front ++ x ∷ []) es e new.1 (ap (λ (l : List func.Entry). is_some (entry_of l e.src)) (append_assoc front (x ∷ []) es) ∙ none),
+  pushed (front ++ x ∷ []) es e new.1 (ap (λ (l : List func.DebugSubstitution). is_some (entry_of l e.src)) (append_assoc front (x ∷ []) es) ∙ none),
 )
 
-added_new : (es : List func.Entry) (e : func.Entry) → AreNew [] es → AreNew [] (added es e)
+added_new : (es : List func.DebugSubstitution) (e : func.DebugSubstitution) → AreNew [] es → AreNew [] (added es e)
 added_new es e new = by (is_some (entry_of es e.src)) refl where
   by : (b : Bool) → is_some (entry_of es e.src) ≡ b → AreNew [] (cond b es (es ++ e ∷ []))
   by true there = new
   by false none = pushed [] es e new none
 
-one_new : (read : SubstitutionsRead) (line : ℕ) (e : Option func.Entry) → AreNew [] read.entries → AreNew [] (substituted read line e).entries
+one_new : (read : SubstitutionsRead) (line : ℕ) (e : Option func.DebugSubstitution) → AreNew [] read.entries → AreNew [] (substituted read line e).entries
 one_new read line None new = new
 one_new read line (Some e) new = added_new read.entries e new
 
-all_new : (lines : List Line) (read : SubstitutionsRead) (entries : List Entry) → AreNew [] read.entries →
+all_new : (lines : List Line) (read : SubstitutionsRead) (entries : List MappingEntry) → AreNew [] read.entries →
     AreNew [] (substitutions_behind lines read entries).entries
 unfolding substitutions_behind
 all_new lines read [] new = new

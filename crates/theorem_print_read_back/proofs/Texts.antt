@@ -8,7 +8,7 @@ use Rattle.base_ids.specs.Limits.{MAX_NUMBER}
 use Rattle.read_documents.specs.declared.key.Key.TheVariants.{DebugValueSubstitutions}
 use Rattle.read_documents.specs.Key.{heading}
 use Rattle.mir_func.specs.declared.block.Block.{Block}
-use Rattle.mir_func.specs.declared.entry.Entry.{Entry}
+use Rattle.mir_func.specs.declared.entry.DebugSubstitution.{DebugSubstitution}
 use Rattle.mir_func.specs.Function.{Function}
 use Rattle.mir_func.specs.Sound.{items_of}
 use Rattle.mir_func_printer.specs.FuncText.{stack_text, entry_line as entry_text, some_substitutions, substitutions_text, block_text}
@@ -26,7 +26,7 @@ use Rattle.readback_functions.proofs.FunctionDocuments.{stack_printed, stack_sec
 use Rattle.readback_strip.proofs.Lines.{fed_both, stack_fed, blocks_fed}
 
 -- the document of a function and its substitutions
-abbrev pub document_of : Function → List Entry → Document
+abbrev pub document_of : Function → List DebugSubstitution → Document
 document_of f es = record {
   name = name_line f.name;
   stack = stack_lines f.slots f.objects;
@@ -36,7 +36,7 @@ document_of f es = record {
 
 -- ---- substitutions
 
-entry_shows : (e : Entry) → EntryIsLimited e → Shows (entry_line e)
+entry_shows : (e : DebugSubstitution) → EntryIsLimited e → Shows (entry_line e)
 entry_shows e is =
     let close : Shows (codes " }") = record { printed = refl; ends = λ so_far. refl } in
     let subreg = shows_behind (decimal e.subreg) (codes " }") (number_shows e.subreg is.subreg).printed close in
@@ -46,23 +46,24 @@ entry_shows e is =
     let srcinst = shows_behind (decimal e.src.number) _ (number_shows e.src.number is.src.0).printed (shows_behind (codes ", srcop: ") _ refl srcop) in
     shows_behind (codes "  - { srcinst: ") _ refl srcinst
 
-entries_printed : (es : List Entry) → All EntryIsLimited es → All IsLine (map entry_line es)
+entries_printed : (es : List DebugSubstitution) → All EntryIsLimited es → All IsLine (map entry_line es)
 entries_printed es all = All-map IsLine entry_line es
     (All-weaker EntryIsLimited (λ e. IsLine (entry_line e)) (λ e is. line_of (entry_line e) (entry_shows e is)) es all)
 
-substitutions_printed : (es : List Entry) → All EntryIsLimited es → All IsLine (substitution_lines es)
+substitutions_printed : (es : List DebugSubstitution) → All EntryIsLimited es → All IsLine (substitution_lines es)
 substitutions_printed [] all = All-nil IsLine
 substitutions_printed (e ∷ es) all =
     All-cons IsLine (codes "debugValueSubstitutions:") (map entry_line (e ∷ es)) (record { printed = refl; ends = refl }) (entries_printed (e ∷ es) all)
 
-substitutions_section : (es : List Entry) → IsSection DebugValueSubstitutions (substitution_lines es)
+substitutions_section : (es : List DebugSubstitution) → IsSection DebugValueSubstitutions (substitution_lines es)
 unfolding heading
 substitutions_section [] = tt
 substitutions_section (e ∷ es) = (refl, All-map IsIndented entry_line (e ∷ es) (λ k d lt. (_, refl)))
 
 -- ---- the document
 
-pub document_is : (f : Function) (es : List Entry) → All (λ b. b < 256) f.name → All IsEntry (entries_read f.slots f.objects) → All EntryIsLimited es →
+pub document_is : (f : Function) (es : List DebugSubstitution) → All (λ b. b < 256) f.name → All IsEntry (entries_read f.slots f.objects) →
+    All EntryIsLimited es →
     All (λ (b : Block). b.id ≤ MAX_NUMBER) f.blocks → All IsWritable (items_of f.blocks) → IsDocument (document_of f es)
 document_is f es bytes entries small ids items =
     let end = body_lines f.blocks ++ codes "..." ∷ [] in
@@ -88,17 +89,17 @@ pairs_regrouped : (a b c d e f g h i j k l : List ℕ) → (a ++ (b ++ (c ++ (d 
     ≡ (a ++ b ++ c ++ d) ++ (e ++ f ++ g ++ h) ++ i ++ j ++ (k ++ l)
 pairs_regrouped a b c d e f g h i j k l = simp append_assoc
 
-entry_fed : (e : Entry) → fed (entry_line e) ≡ entry_text e
+entry_fed : (e : DebugSubstitution) → fed (entry_line e) ≡ entry_text e
 unfolding entry_text
 entry_fed e =
     pairs_regrouped (codes "  - { srcinst: ") (decimal e.src.number) (codes ", srcop: ") (decimal e.src.operand) (codes ", dstinst: ") (decimal e.dst.number)
     (codes ", dstop: ") (decimal e.dst.operand) (codes ", subreg: ") (decimal e.subreg) (codes " }") (10 ∷ [])
 
-entries_fed : (es : List Entry) → text_of_lines (map entry_line es) ≡ flat_map entry_text es
+entries_fed : (es : List DebugSubstitution) → text_of_lines (map entry_line es) ≡ flat_map entry_text es
 entries_fed [] = refl
 entries_fed (e ∷ es) = λ i. entry_fed e i ++ entries_fed es i
 
-substitutions_fed : (es : List Entry) → text_of_lines (substitution_lines es) ≡ substitutions_text es
+substitutions_fed : (es : List DebugSubstitution) → text_of_lines (substitution_lines es) ≡ substitutions_text es
 unfolding some_substitutions
 substitutions_fed [] = refl
 substitutions_fed (e ∷ es) = ap (λ (l : List ℕ). codes "debugValueSubstitutions:" ++ 10 ∷ [] ++ l) (entries_fed (e ∷ es))
@@ -106,7 +107,7 @@ substitutions_fed (e ∷ es) = ap (λ (l : List ℕ). codes "debugValueSubstitut
 regrouped : (a b c d e f g h : List ℕ) → a ++ ((b ++ c) ++ (d ++ (e ++ (f ++ (g ++ h))))) ≡ a ++ b ++ c ++ d ++ e ++ f ++ g ++ h
 regrouped a b c d e f g h = simp append_assoc
 
-pub function_fed : (f : Function) (es : List Entry) → text_of_lines (document_lines (document_of f es)) ≡ func_text f es
+pub function_fed : (f : Function) (es : List DebugSubstitution) → text_of_lines (document_lines (document_of f es)) ≡ func_text f es
 unfolding func_text
 function_fed f es =
     ap (λ (l : List ℕ). fed (codes "---") ++ (fed (name_line f.name) ++ l)) (fed_both (stack_lines f.slots f.objects) (substitution_lines es ++ behind)

@@ -3,7 +3,7 @@ use Rattle.std.specs.Prelude.{Result, Ok, Err, IfOk, IfErr}
 use Rattle.std.proofs.Common.{◌≡◌, ℕ, List, inl, inr}
 use Rattle.read_program.specs.declared.program.Program.{Program}
 use Rattle.cli.specs.declared.command.Command.{Command}
-use Rattle.cli.specs.declared.command.Plan.{Plan}
+use Rattle.cli.specs.declared.command.PassPipeline.{PassPipeline}
 use Rattle.cli.specs.declared.command.RunPlan.{RunPlan}
 use Rattle.cli.specs.declared.command.TestPlan.{TestPlan}
 use Rattle.cli.specs.declared.command.Command.TheVariants.{Compile, Listing, Report, Run, Strip, SelfTest}
@@ -71,7 +71,7 @@ read_none command reads input Write none = absurd none
 
 -- ---- the commands that compile
 
-by_compile : (plan : Plan) (program : Program) (fault : Fault) → RefusesToCompile (plan_steps plan) program fault →
+by_compile : (plan : PassPipeline) (program : Program) (fault : Fault) → RefusesToCompile (plan_steps plan) program fault →
     RefusesToWrite (Compile plan) program fault
 by_compile plan program FrameTooLarge refused = refused
 by_compile plan program SectionTooLarge refused = refused
@@ -84,7 +84,7 @@ by_compile plan program Read refused = refused
 by_compile plan program TooLong refused = refused
 by_compile plan program Write refused = refused
 
-by_listing : (plan : Plan) (program : Program) (fault : Fault) → RefusesToCompile (plan_steps plan) program fault →
+by_listing : (plan : PassPipeline) (program : Program) (fault : Fault) → RefusesToCompile (plan_steps plan) program fault →
     RefusesToWrite (Listing plan) program fault
 by_listing plan program FrameTooLarge refused = refused
 by_listing plan program SectionTooLarge refused = refused
@@ -97,7 +97,7 @@ by_listing plan program Read refused = refused
 by_listing plan program TooLong refused = refused
 by_listing plan program Write refused = refused
 
-by_report : (plan : Plan) (program : Program) (fault : Fault) → RefusesToCompile (plan_steps plan) program fault →
+by_report : (plan : PassPipeline) (program : Program) (fault : Fault) → RefusesToCompile (plan_steps plan) program fault →
     RefusesToWrite (Report plan) program fault
 by_report plan program FrameTooLarge refused = refused
 by_report plan program SectionTooLarge refused = refused
@@ -124,7 +124,7 @@ by_run run program Read known refused = refused
 by_run run program TooLong known refused = refused
 by_run run program Write known refused = refused
 
-module _ (plan : Plan) (input : Change) (program : Program) (read : HasReadProgram input program) where
+module _ (plan : PassPipeline) (input : Change) (program : Program) (read : HasReadProgram input program) where
   pub compile_ok : (r : Result (List ℕ) Fault) → IfOk r (Answers (Compile plan) program) → IfOk r (AnswersInput (Compile plan) input)
   compile_ok (Ok output) answers = read_answers (Compile plan) input program read output answers
   compile_ok (Err fault) answers = tt

@@ -1,10 +1,10 @@
 -- What the command that compiles wrote keeps each promise of the output that it is the text of.
 use Rattle.std.proofs.Common.{ℕ, List}
-use Rattle.cli.specs.declared.command.Plan.{Plan}
+use Rattle.cli.specs.declared.command.PassPipeline.{PassPipeline}
 use Rattle.cli.specs.declared.command.Command.TheVariants.{Compile}
 use Rattle.cli.specs.Command.{IsCommand}
 use Rattle.listing_text.specs.declared.output.Output.{Output}
-use Rattle.pass_trait.specs.Steps.{Step}
+use Rattle.pass_trait.specs.Steps.{PassStep}
 use Rattle.read_program.specs.declared.program.Program.{Program}
 use Rattle.compile_theorem.specs.Laws.{AreCompiledTo}
 use Rattle.compile_theorem.specs.Promise.{Promises, IsExact, AreLaidOut}
@@ -25,7 +25,7 @@ use Rattle.tool_driver.proofs.Sentences.{compiled_to, of_read, gives_back, stops
 
 -- ---- an output of a program
 
-module _ (steps : List Step) (p : Program) (o : Output) (is : IsOutputOf steps p o) where
+module _ (steps : List PassStep) (p : Program) (o : Output) (is : IsOutputOf steps p o) where
   to : AreCompiledTo (names_of p.meta) is.functions o
   to = compiled_to steps p o is
 
@@ -50,7 +50,7 @@ module _ (steps : List Step) (p : Program) (o : Output) (is : IsOutputOf steps p
 
 -- ---- what was written
 
-module _ (words : List (List ℕ)) (input output : Change) (finished : Finishes words input output) (plan : Plan)
+module _ (words : List (List ℕ)) (input output : Change) (finished : Finishes words input output) (plan : PassPipeline)
     (asked : IsCommand words (Compile plan)) where
   pub headline_kept : KeepsHeadline input output
   headline_kept = has_written plan (λ p. Promises (sources_of p.functions)) (promised (plan_steps plan)) words input output finished asked

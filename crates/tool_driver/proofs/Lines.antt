@@ -3,7 +3,7 @@ use Rattle.std.proofs.Common.{◌≡◌, ℕ, ◌+◌, ◌*◌, List, [], ◌∷
 use Rattle.std.specs.Prelude.{sum_by}
 use Rattle.emit_code.proofs.Sites.{site_size}
 use Rattle.emit_code.proofs.Stand.{stands, words_fill}
-use Rattle.emit_code.specs.declared.code.Entry.{Entry}
+use Rattle.emit_code.specs.declared.code.EncodedInstruction.{EncodedInstruction}
 use Rattle.emit_code.specs.Laid.{LaidCode, StandFrom, IsCodeOf}
 use Rattle.emit_code.specs.Rule.{entries_of, words_of, sites_of}
 use Rattle.listing_text.specs.declared.output.Output.{Output}
@@ -25,7 +25,7 @@ code_stands f base c is =
     let filled : size ≡ 4 * length c.words = sym (words_fill is.layout is.worded) ∙ fill in
     let end : is.layout.base + size ≡ c.base + 4 * length c.words = λ i. from i + filled i in
     subst (λ (b : ℕ). StandFrom b c.entries (c.base + 4 * length c.words)) from
-    (subst (λ (es : List Entry). StandFrom is.layout.base es (c.base + 4 * length c.words)) (sym is.entries)
+    (subst (λ (es : List EncodedInstruction). StandFrom is.layout.base es (c.base + 4 * length c.words)) (sym is.entries)
     (subst (λ (x : ℕ). StandFrom is.layout.base (entries_of is.layout) x) end (stands is.layout)))
 
 lie : (base : ℕ) (fs : List Function) (cs : List Compiled) → AreCoded base fs (map (λ c. c.code.now) cs) → LieFrom base cs

@@ -4,7 +4,7 @@ use Rattle.std.proofs.Common.{◌≡◌, ℕ, List, ◌+◌, ap, sym, ◌∙◌,
 use Rattle.base_io.specs.Told.{Takes, TakesCount}
 use Rattle.base_io.proofs.ToldLemmas.{Takes-told, TakesCount-told}
 use Rattle.cli.specs.declared.command.Command.{Command}
-use Rattle.cli.specs.declared.command.Plan.{Plan}
+use Rattle.cli.specs.declared.command.PassPipeline.{PassPipeline}
 use Rattle.cli.specs.declared.command.TestPlan.{TestPlan}
 use Rattle.cli.specs.declared.command.Command.TheVariants.{Compile, Listing, Report, Run, Strip, Gen, SelfTest}
 use Rattle.cli.specs.Command.{IsCommand}
@@ -31,7 +31,7 @@ use Rattle.tool_driver.proofs.Sentences.{of_shown}
 -- ---- what is compiled
 
 -- what was read and written by the command that compiles
-record Compiled (plan : Plan) (input output : Change) : Type 0 where
+record Compiled (plan : PassPipeline) (input output : Change) : Type 0 where
   text : List ℕ
   read : HasRead input text
   program : Program
@@ -40,7 +40,7 @@ record Compiled (plan : Plan) (input output : Change) : Type 0 where
   compiles : IsCompiledText (plan_steps plan) program bytes
   written : IsWrittenWhole output bytes
 
-compiled : (plan : Plan) (words : List (List ℕ)) (input output : Change) → Finishes words input output → IsCommand words (Compile plan) →
+compiled : (plan : PassPipeline) (words : List (List ℕ)) (input output : Change) → Finishes words input output → IsCommand words (Compile plan) →
     Compiled plan input output
 compiled plan words input output is asked =
     let accepted = is.accepted in
@@ -58,7 +58,7 @@ compiled plan words input output is asked =
     }
 
 -- what holds of each output that is a compilation of a program that was read holds of what was written
-pub has_written : (plan : Plan) (P : Program → Output → Type 0) →
+pub has_written : (plan : PassPipeline) (P : Program → Output → Type 0) →
     ((program : Program) (o : Output) → IsOutputOf (plan_steps plan) program o → P program o) →
     (words : List (List ℕ)) (input output : Change) → Finishes words input output → IsCommand words (Compile plan) → HasWritten P input output
 has_written plan P holds words input output finished asked =

@@ -5,7 +5,7 @@ use Rattle.listing_text.specs.declared.output.ListedFunction.{ListedFunction}
 use Rattle.listing_text.specs.declared.output.Output.{Output}
 use Rattle.listing_text.specs.Shown.{Shows, OfShown}
 use Rattle.listing_text.proofs.OneOutput.{one_reading}
-use Rattle.pass_trait.specs.Steps.{Step}
+use Rattle.pass_trait.specs.Steps.{PassStep}
 use Rattle.value_proof.proofs.Keeping.{kept_values_are_wanted}
 use Rattle.listing_proof.specs.Laws.{inlined_in}
 use Rattle.read_program.specs.declared.program.Program.{Program}
@@ -22,18 +22,19 @@ use Rattle.tool_driver.specs.Promise.{AllGiveBack, AllStopWell, ListsKept, AllLi
 
 -- ---- the sources
 
-pub compiled_to : (steps : List Step) (program : Program) (o : Output) (is : IsOutputOf steps program o) → AreCompiledTo (names_of program.meta) is.functions o
+pub compiled_to : (steps : List PassStep) (program : Program) (o : Output) (is : IsOutputOf steps program o) →
+    AreCompiledTo (names_of program.meta) is.functions o
 compiled_to steps program o is =
     record { passed = all_passed program.meta program.functions is.functions is.passed; compiled = is.compiled }
 
 -- what holds of the sources of what passes made holds of the functions that were read
-pub of_read : (P : List SourceFunction → Type 0) (steps : List Step) (program : Program) (o : Output) (is : IsOutputOf steps program o) →
+pub of_read : (P : List SourceFunction → Type 0) (steps : List PassStep) (program : Program) (o : Output) (is : IsOutputOf steps program o) →
     P (sources_among is.functions) → P (sources_of program.functions)
 of_read P steps program o is holds = subst P (sym (passed_sources program.meta program.functions is.functions is.passed)) holds
 
 -- ---- what the text shows
 
-module _ (printable : OutputsArePrintable) (steps : List Step) (program : Program) (text : List ℕ) (read : IsReadProgram program)
+module _ (printable : OutputsArePrintable) (steps : List PassStep) (program : Program) (text : List ℕ) (read : IsReadProgram program)
     (is : IsCompiledText steps program text) where
   shows : Shows (inlined_in program.meta) text is.output
   shows = record { spelled = is.spelled; printable = printable program is.is.functions is.output read is.is.passed is.is.compiled is.is.sections }

@@ -1,7 +1,7 @@
 -- What the commands that report, that run and that test wrote.
 use Rattle.std.proofs.Common.{◌≡◌, ℕ, List, subst}
 use Rattle.cli.specs.declared.command.Command.{Command}
-use Rattle.cli.specs.declared.command.Plan.{Plan}
+use Rattle.cli.specs.declared.command.PassPipeline.{PassPipeline}
 use Rattle.cli.specs.declared.command.RunPlan.{RunPlan}
 use Rattle.cli.specs.declared.command.TestPlan.{TestPlan}
 use Rattle.cli.specs.declared.command.Command.TheVariants.{Report, Run, SelfTest}
@@ -18,7 +18,7 @@ module _ (words : List (List ℕ)) (input output : Change) (finished : Finishes 
       let same : accepted.command ≡ command = one_command words accepted.command command accepted.asked asked in
       subst (λ (c : Command). AnswersInput c input finished.text) same accepted.answers
 
-  pub wrote_report : (plan : Plan) → IsCommand words (Report plan) → WroteReport plan input output
+  pub wrote_report : (plan : PassPipeline) → IsCommand words (Report plan) → WroteReport plan input output
   wrote_report plan asked =
       let answers : AnswersRead (Report plan) input finished.text = answers_asked (Report plan) asked in
       record {

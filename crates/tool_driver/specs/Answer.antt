@@ -1,6 +1,6 @@
 -- What a command writes for a text, or why it refuses the text.
 use Rattle.std.specs.Prelude.{◌≡◌, ◌≢◌, ℕ, List, [], Ok, Err}
-use Rattle.pass_trait.specs.Steps.{Step}
+use Rattle.pass_trait.specs.Steps.{PassStep}
 use Rattle.read_refusal.specs.declared.first.Refusal.{Refusal}
 use Rattle.read_program.specs.declared.program.Program.{Program}
 use Rattle.read_program.specs.declared.error.ParseError.TheVariants as errors
@@ -111,7 +111,7 @@ RefusesProgram text TooLong = ⊥
 RefusesProgram text Write = ⊥
 
 -- the faults for which a program has no output after these passes
-abbrev pub RefusesToCompile : List Step → Program → Fault → Type 0
+abbrev pub RefusesToCompile : List PassStep → Program → Fault → Type 0
 RefusesToCompile steps program FrameTooLarge = HasLargeFrame steps program.functions
 RefusesToCompile steps program SectionTooLarge = HasLargeSection steps program
 RefusesToCompile steps program Memory = Unit {0}

@@ -2,23 +2,23 @@
 use Rattle.std.specs.Prelude.{◌≡◌, ℕ, List}
 use Rattle.listing_text.specs.declared.output.Output.{Output}
 use Rattle.listing_text.specs.Output.{spelling, listing_text}
-use Rattle.cli.specs.declared.command.Plan.{Plan}
-use Rattle.pass_trait.specs.Steps.{Step}
+use Rattle.cli.specs.declared.command.PassPipeline.{PassPipeline}
+use Rattle.pass_trait.specs.Steps.{PassStep}
 use Rattle.read_program.specs.declared.program.Program.{Program}
 use Rattle.run_command.specs.Program.{IsOutputOf, steps_of}
 
 -- the steps of a plan: its passes, with the registers that may be spilled
-abbrev pub plan_steps : Plan → List Step
+abbrev pub plan_steps : PassPipeline → List PassStep
 plan_steps plan = steps_of plan.reserve plan.passes
 
 -- the text is that of an output of the program after these passes: its sections and its listing
-pub record IsCompiledText (steps : List Step) (program : Program) (text : List ℕ) : Type 0 where
+pub record IsCompiledText (steps : List PassStep) (program : Program) (text : List ℕ) : Type 0 where
   pub output : Output
   pub is : IsOutputOf steps program output
   pub spelled : text ≡ spelling output
 
 -- the text is the listing alone of such an output
-pub record IsListingText (steps : List Step) (program : Program) (text : List ℕ) : Type 0 where
+pub record IsListingText (steps : List PassStep) (program : Program) (text : List ℕ) : Type 0 where
   pub output : Output
   pub is : IsOutputOf steps program output
   pub spelled : text ≡ listing_text output.functions

@@ -1,6 +1,6 @@
 -- The contents of the line number section for a program's machine code.
 use Rattle.std.specs.Prelude.{◌≡◌, ℕ, List}
-use Rattle.emit_code.specs.declared.code.Entry.{Entry}
+use Rattle.emit_code.specs.declared.code.EncodedInstruction.{EncodedInstruction}
 use Rattle.listing_text.specs.declared.output.Output.{Output}
 use Rattle.dwarf_line.specs.declared.table.Row.{Row}
 use Rattle.dwarf_line.specs.Spelling.{spelling as rows_spelling}
@@ -19,7 +19,7 @@ pub record GivesLines (meta : Maps) (functions : List PassedFunction) (o : Outpu
   pub compiled : List Compiled
   pub coded : HaveCode functions compiled
   pub rows : o.rows ≡ rows_spelling (table_of meta compiled)
-  pub lines : (address : ℕ) (f : Compiled) (e : Entry) → HasCodeAt compiled address f e →
+  pub lines : (address : ℕ) (f : Compiled) (e : EncodedInstruction) → HasCodeAt compiled address f e →
       GivesLine (table_of meta compiled) address (entry_line meta (program_file meta compiled) f.source.now.blocks e)
-  pub outside : (address : ℕ) → ((f : Compiled) (e : Entry) → HasCodeAt compiled address f e → ⊥) → (row : Row) →
+  pub outside : (address : ℕ) → ((f : Compiled) (e : EncodedInstruction) → HasCodeAt compiled address f e → ⊥) → (row : Row) →
       IsRowAt (table_of meta compiled) address row → ⊥

@@ -1,13 +1,13 @@
 -- What a run of the tool did to its input and its output, and the faults that it reports.
 use Rattle.std.specs.Prelude.{◌≡◌, ◌⊎◌, ℕ, ◌+◌, ◌≤◌, List, length, All, Option, Some}
 use Rattle.listing_text.specs.declared.output.Output.{Output}
-use Rattle.pass_trait.specs.Steps.{Step}
+use Rattle.pass_trait.specs.Steps.{PassStep}
 use Rattle.listing_text.specs.Shown.{OfShown}
 use Rattle.listing_proof.specs.Laws.{inlined_in}
 use Rattle.read_program.specs.declared.program.Program.{Program}
 use Rattle.cli.specs.declared.command.Command.{Command}
 use Rattle.cli.specs.declared.command.Command.TheVariants.{Compile, Listing, Report, Run, Strip, Gen, SelfTest}
-use Rattle.cli.specs.declared.command.Plan.{Plan}
+use Rattle.cli.specs.declared.command.PassPipeline.{PassPipeline}
 use Rattle.cli.specs.declared.command.RunPlan.{RunPlan}
 use Rattle.cli.specs.declared.command.TestPlan.{TestPlan}
 use Rattle.cli.specs.declared.fault.Fault.{Fault}
@@ -202,7 +202,7 @@ WroteWords input output = HasWritten (λ p. HaveWords) input output
 -- Each function that was read was transformed by these passes, and the result, which simulates it, is the one that is compiled and listed, with its frame
 -- and its substitutions. The `.debug_info`, abbreviation and line sections are the encodings of the program's unit and line table; the line table has for
 -- each byte of machine code its line of the source, and no row for another address.
-pub record ShowsPassed (steps : List Step) (p : Program) (o : Output) : Type 0 where
+pub record ShowsPassed (steps : List PassStep) (p : Program) (o : Output) : Type 0 where
   pub functions : List PassedFunction
   pub passed : ArePassed p.meta p.functions functions
   pub made : All (IsMadeBy steps) functions
@@ -211,7 +211,7 @@ pub record ShowsPassed (steps : List Step) (p : Program) (o : Output) : Type 0 w
   pub rows : GivesLines p.meta functions o
 
 -- the whole text of one such output was written
-abbrev pub WrotePassed : List Step → (input output : Change) → Type 0
+abbrev pub WrotePassed : List PassStep → (input output : Change) → Type 0
 WrotePassed steps input output = HasWritten (ShowsPassed steps) input output
 
 -- the input was read as a program with a function, and the bytes written are the text `Is` requires for it
@@ -225,7 +225,7 @@ pub record WroteText (Is : Program → (text : List ℕ) → Type 0) (input outp
   pub written : IsWrittenWhole output bytes
 
 -- the report of the functions after the plan's passes was written
-abbrev pub WroteReport : Plan → (input output : Change) → Type 0
+abbrev pub WroteReport : PassPipeline → (input output : Change) → Type 0
 WroteReport plan input output = WroteText (IsReportText plan.reserve plan.passes) input output
 
 -- the text of the requested run was written

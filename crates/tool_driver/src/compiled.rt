@@ -9,7 +9,7 @@ ghost use Rattle.tool_driver.specs.Compiled.{plan_steps, IsCompiledText, IsListi
 ghost use Rattle.compile_program.specs.Program.{IsOutputOf, IsCompilationOf};
 ghost use Rattle.read_proof.specs.Read.{IsReadProgram};
 
-use cli::command::{Plan, RunPlan, TestPlan};
+use cli::command::{PassPipeline, RunPlan, TestPlan};
 use cli::fault::Fault;
 use compile_program::compile::{Compilation, CompileError, compile};
 use listing_text::print::{print_listing, print_output};
@@ -22,7 +22,7 @@ use selftest_command::text::self_test;
 use std::alloc::Global;
 
 /// The text of `compile`: the sections and the listing of a program after passes.
-pub fn compiled_text(alloc: Global, program: &Program, plan: &Plan) -> Result<Text, Fault>
+pub fn compiled_text(alloc: Global, program: &Program, plan: &PassPipeline) -> Result<Text, Fault>
     requires { IsReadProgram program.now }
     ensures ok { IfOk result (IsCompiledText (plan_steps plan.now) program.now) }
     ensures err { IfErr result (RefusesToCompile (plan_steps plan.now) program.now) }
@@ -32,7 +32,7 @@ pub fn compiled_text(alloc: Global, program: &Program, plan: &Plan) -> Result<Te
 }
 
 /// The text of `listing`: the listing alone of a program after passes.
-pub fn listing_text(alloc: Global, program: &Program, plan: &Plan) -> Result<Text, Fault>
+pub fn listing_text(alloc: Global, program: &Program, plan: &PassPipeline) -> Result<Text, Fault>
     requires { IsReadProgram program.now }
     ensures ok { IfOk result (IsListingText (plan_steps plan.now) program.now) }
     ensures err { IfErr result (RefusesToCompile (plan_steps plan.now) program.now) }
@@ -42,7 +42,7 @@ pub fn listing_text(alloc: Global, program: &Program, plan: &Plan) -> Result<Tex
 }
 
 /// The text of `report`: the report of a program after passes.
-pub fn report_text(alloc: Global, program: &Program, plan: &Plan) -> Result<Text, Fault>
+pub fn report_text(alloc: Global, program: &Program, plan: &PassPipeline) -> Result<Text, Fault>
     requires { IsReadProgram program.now }
     ensures ok { IfOk result (IsReportText plan.now.reserve plan.now.passes program.now) }
     ensures err { IfErr result (RefusesToCompile (plan_steps plan.now) program.now) }
@@ -126,7 +126,7 @@ pub fn test_text(alloc: Global, asked: &TestPlan) -> Result<Text, Fault>
 }
 
 /// A program compiled after passes.
-fn compilation(alloc: Global, program: &Program, plan: &Plan) -> Result<Compilation, Fault>
+fn compilation(alloc: Global, program: &Program, plan: &PassPipeline) -> Result<Compilation, Fault>
     requires { IsReadProgram program.now }
     ensures output { IfOk result (λ c. IsOutputOf (plan_steps plan.now) program.now c.output) }
     ensures compilation { IfOk result (IsCompilationOf plan.now.reserve plan.now.passes program.now) }

@@ -2,7 +2,7 @@
 
 ghost use Rattle.std.specs.Prelude.{◌≡◌, ◌≢◌, ◌≤◌, ◌⊎◌, IfOk, OnOk, IfErr, IsErrOf, map, string_bytes};
 ghost use Rattle.cli.specs.Command.{AreWithin, IsCommand};
-ghost use Rattle.cli.specs.declared.command.Plan.{Plan};
+ghost use Rattle.cli.specs.declared.command.PassPipeline.{PassPipeline};
 ghost use Rattle.cli.specs.declared.command.RunPlan.{RunPlan};
 ghost use Rattle.cli.specs.declared.command.TestPlan.{TestPlan};
 ghost use Rattle.cli_numbers.specs.declared.generation.Generation.{Generation};
@@ -65,44 +65,44 @@ pub fn mirdwarf<S: Source, K: Sink, E: Sink>(
 
     // What `compile` writes keeps its promise. The machine on the written code runs along with the source that was
     // read, and the written lists tell the truth.
-    ensures headline { (plan : Plan) → result ≡ Status.Done →
+    ensures headline { (plan : PassPipeline) → result ≡ Status.Done →
         IsCommand (map string_bytes words.now) (Command.Compile plan) →
         KeepsHeadline (change S.left S.faults input.old input.new) (change K.written K.faults output.old output.new) }
     // At a return the machine gives back the registers that a function is to keep.
-    ensures callee_saved { (plan : Plan) → result ≡ Status.Done →
+    ensures callee_saved { (plan : PassPipeline) → result ≡ Status.Done →
         IsCommand (map string_bytes words.now) (Command.Compile plan) →
         KeepsRegisters (change S.left S.faults input.old input.new) (change K.written K.faults output.old output.new) }
     // It stops nowhere but at a return, or where it waits for an answer.
-    ensures stops { (plan : Plan) → result ≡ Status.Done →
+    ensures stops { (plan : PassPipeline) → result ≡ Status.Done →
         IsCommand (map string_bytes words.now) (Command.Compile plan) →
         StopsAtReturns (change S.left S.faults input.old input.new) (change K.written K.faults output.old output.new) }
     // The lists say the place of a variable's value wherever the value is in one on every path, and nothing elsewhere.
-    ensures exact { (plan : Plan) → result ≡ Status.Done →
+    ensures exact { (plan : PassPipeline) → result ≡ Status.Done →
         IsCommand (map string_bytes words.now) (Command.Compile plan) →
         WroteExactly (change S.left S.faults input.old input.new) (change K.written K.faults output.old output.new) }
     // While a place keeps the value that a mark told of it, the lists give the variable a place.
-    ensures kept { (plan : Plan) → result ≡ Status.Done →
+    ensures kept { (plan : PassPipeline) → result ≡ Status.Done →
         IsCommand (map string_bytes words.now) (Command.Compile plan) →
         WroteKept (change S.left S.faults input.old input.new) (change K.written K.faults output.old output.new) }
     // Functions, lines, objects and variables stand where they should, with their names.
-    ensures laid_out { (plan : Plan) → result ≡ Status.Done →
+    ensures laid_out { (plan : PassPipeline) → result ≡ Status.Done →
         IsCommand (map string_bytes words.now) (Command.Compile plan) →
         WroteLaidOut (change S.left S.faults input.old input.new) (change K.written K.faults output.old output.new) }
     // At each line with an address stand the bytes of its instruction.
-    ensures words { (plan : Plan) → result ≡ Status.Done →
+    ensures words { (plan : PassPipeline) → result ≡ Status.Done →
         IsCommand (map string_bytes words.now) (Command.Compile plan) →
         WroteWords (change S.left S.faults input.old input.new) (change K.written K.faults output.old output.new) }
     // The lines show the functions that passes made of those that were read, with their frames: without passes, those
     // that were read. The other sections are those of the program's unit and of its table of lines, which gives each
     // byte of machine code its line of the source.
-    ensures passed { (plan : Plan) → result ≡ Status.Done →
+    ensures passed { (plan : PassPipeline) → result ≡ Status.Done →
         IsCommand (map string_bytes words.now) (Command.Compile plan) →
         WrotePassed (plan_steps plan) (change S.left S.faults input.old input.new)
         (change K.written K.faults output.old output.new) }
 
     // What `report` writes is the report of what passes made of the functions that were read: of each the words of its
     // machine code, at how many of them the list of each variable gives it a place, and what passes lost of it.
-    ensures reported { (plan : Plan) → result ≡ Status.Done →
+    ensures reported { (plan : PassPipeline) → result ≡ Status.Done →
         IsCommand (map string_bytes words.now) (Command.Report plan) →
         WroteReport plan (change S.left S.faults input.old input.new)
         (change K.written K.faults output.old output.new) }

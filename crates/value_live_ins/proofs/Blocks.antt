@@ -9,7 +9,7 @@ use Rattle.mir_func.specs.declared.block.Block.{Block}
 use Rattle.mir_func.specs.declared.entry.OperandPair.{OperandPair}
 use Rattle.mir_func.specs.declared.item.Item.{Item}
 use Rattle.mir_func.specs.Exits.{exit_of}
-use Rattle.mir_func.specs.Graph.{Program, Fetch, Here, Silent, Outside, block_start, end_of, front, fetch_in, framed_program, Edge, FetchEdge}
+use Rattle.mir_func.specs.Graph.{Program, Fetch, Here, EndOfBlock, Outside, block_start, end_of, front, fetch_in, framed_program, Edge, FetchEdge}
 use Rattle.mir_func.specs.Sound.{ids_of}
 use Rattle.mir_func.specs.Successors.{pos_in, ways}
 use Rattle.sem_mir.specs.Token.{Tokens, Path, begin, onward, after_fetch, after_item}
@@ -34,9 +34,9 @@ head_id-drop (b ∷ bs) (suc i) = head_id-drop bs i
 
 -- what stands at the positions of a block
 fetched : (blocks : List Block) (b : ℕ) (block : Block) → slice_get blocks b ≡ Some block → (k : ℕ) →
-    fetch_in (drop b blocks) k ≡ front (drop k block.items) block.silent (drop (suc b) blocks)
+    fetch_in (drop b blocks) k ≡ front (drop k block.items) block.source_end (drop (suc b) blocks)
 fetched [] b block e k = absurd cc
-fetched (x ∷ xs) zero block e k = let is : x ≡ block = cc in ap (λ (z : Block). front (drop k z.items) z.silent xs) is
+fetched (x ∷ xs) zero block e k = let is : x ≡ block = cc in ap (λ (z : Block). front (drop k z.items) z.source_end xs) is
 fetched (x ∷ xs) (suc b) block e k = fetched xs b block e k
 
 -- past the last block nothing stands
@@ -104,7 +104,7 @@ module _ (blocks : List Block) (resolve : OperandPair → Option OperandPair) (x
         let flow = of.each b block f here at in
         let (m, among, is) = contains_map g.enter (ways block.items (next_id blocks b)) c (subst (λ (z : List ℕ). Contains z c) flow.ways way) in
         let next = head_id-drop blocks (suc b) in
-        let out = go_out g b 0 n t block.items block.silent (drop (suc b) blocks) m p (shows b block here) (quiet b block here)
+        let out = go_out g b 0 n t block.items block.source_end (drop (suc b) blocks) m p (shows b block here) (quiet b block here)
         (subst (λ (z : Option ℕ). Contains (ways block.items z) m) (sym next) among) in
         record {
           steps = out.steps;
@@ -113,7 +113,7 @@ module _ (blocks : List Block) (resolve : OperandPair → Option OperandPair) (x
           told = λ x. token_same xs out.tokens (after_items resolve n block.items t) out.same x ∙ flow.tells.each n t (bare b n t p) x;
         } where
           shows : (b : ℕ) (block : Block) → slice_get blocks b ≡ Some block → (k : ℕ) →
-              g.fetch (pos_in b (0 + k)) ≡ front (drop k block.items) block.silent (drop (suc b) blocks)
+              g.fetch (pos_in b (0 + k)) ≡ front (drop k block.items) block.source_end (drop (suc b) blocks)
           shows b block here k =
               let e : 0 + k ≡ k = omega arith in
               ap (λ (z : ℕ). fetch_in (drop b blocks) z) e ∙ fetched blocks b block here k
@@ -133,16 +133,16 @@ module _ (blocks : List Block) (resolve : OperandPair → Option OperandPair) (x
     comes_out : (b k m : ℕ) (u : Tokens) (block : Block) (c : ℕ) → slice_get blocks b ≡ Some block → Edge g (pos_in b k) (block_start c) →
         ComesOut b k m u block.items c
     comes_out b k m u block c here edge = by_rest (drop k block.items) refl (drop (suc b) blocks) refl where
-      shown : g.fetch (pos_in b k) ≡ front (drop k block.items) block.silent (drop (suc b) blocks)
+      shown : g.fetch (pos_in b k) ≡ front (drop k block.items) block.source_end (drop (suc b) blocks)
       shown = fetched blocks b block here k
 
       by_end : (bs : List Block) → drop (suc b) blocks ≡ bs → drop k block.items ≡ [] →
-          FetchEdge g.enter (end_of block.silent bs) (pos_in b k) (block_start c) →
+          FetchEdge g.enter (end_of block.source_end bs) (pos_in b k) (block_start c) →
           ComesOut b k m u block.items c
       by_end [] e none edge = absurd edge
       by_end (next ∷ bs) e none edge =
           let after : next_id blocks b ≡ Some next.id = sym (head_id-drop blocks (suc b)) ∙ ap head_id e in
-          let fetch : g.fetch (pos_in b k) ≡ Silent block.silent next.id = shown ∙ ((λ i. front (none i) block.silent (e i))) in
+          let fetch : g.fetch (pos_in b k) ≡ EndOfBlock block.source_end next.id = shown ∙ ((λ i. front (none i) block.source_end (e i))) in
           record {
             number = next.id;
             enters = ap (λ (z : Pos). z.block) edge;
@@ -154,9 +154,9 @@ module _ (blocks : List Block) (resolve : OperandPair → Option OperandPair) (x
 
       by_rest : (rest : List Item) → drop k block.items ≡ rest → (bs : List Block) → drop (suc b) blocks ≡ bs → ComesOut b k m u block.items c
       by_rest [] e bs at =
-          by_end bs at e (subst (λ (z : Fetch). FetchEdge g.enter z (pos_in b k) (block_start c)) (shown ∙ (λ i. front (e i) block.silent (at i))) edge)
+          by_end bs at e (subst (λ (z : Fetch). FetchEdge g.enter z (pos_in b k) (block_start c)) (shown ∙ (λ i. front (e i) block.source_end (at i))) edge)
       by_rest (i ∷ rest) e bs at =
-          let fetch : g.fetch (pos_in b k) ≡ Here i = shown ∙ ap (λ (z : List Item). front z block.silent (drop (suc b) blocks)) e in
+          let fetch : g.fetch (pos_in b k) ≡ Here i = shown ∙ ap (λ (z : List Item). front z block.source_end (drop (suc b) blocks)) e in
           let (n, out, is) = kind_out g.enter (pos_in b k) i.kind c (subst (λ (z : Fetch). FetchEdge g.enter z (pos_in b k) (block_start c)) fetch edge) in
           let q = subst EndsQuietly e (drop_quiet k block.items (quiet b block here)) in
           let still = quiet_out (exit_of i.kind) n rest out q.0 in
@@ -188,7 +188,7 @@ module _ (blocks : List Block) (resolve : OperandPair → Option OperandPair) (x
           let flow = of.each b block f here at in
           let out = comes_out b k m u block c here edge in
           let next = head_id-drop blocks (suc b) in
-          let start = from_start g b k m u block.items block.silent (drop (suc b) blocks) (fetched blocks b block here) p in
+          let start = from_start g b k m u block.items block.source_end (drop (suc b) blocks) (fetched blocks b block here) p in
           let among : Contains (ways block.items (next_id blocks b)) out.number =
           subst (λ (z : Option ℕ). Contains (ways block.items z) out.number) next
           (start.down out.number (subst (λ (z : Option ℕ). Contains (ways (drop k block.items) z) out.number) (sym next) out.way)) in

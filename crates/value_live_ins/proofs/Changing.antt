@@ -12,8 +12,8 @@ use Rattle.value_proof.specs.Classes.{Classes}
 use Rattle.value_solver.specs.declared.tracked.Tracked.{Tracked}
 use Rattle.value_solver.specs.declared.tracked.Tracked.TheVariants.{Register, Slot, Pair, Part, Number}
 use Rattle.value_solver.specs.Entry.{thing}
-use Rattle.value_tracker.specs.declared.index.Index.{Index}
-use Rattle.value_tracker.specs.declared.held.Held.{Held}
+use Rattle.value_tracker.specs.declared.index.TrackedIndex.{TrackedIndex}
+use Rattle.value_tracker.specs.declared.held.LocationTracker.{LocationTracker}
 use Rattle.value_tracker.specs.Things.{AreThings}
 use Rattle.value_tracker.specs.Held.{Holds, slot_place, pair_class, number_class}
 use Rattle.value_solver.specs.declared.flow.Source.{Source}
@@ -107,7 +107,7 @@ all_changed things class n changes le h = record {
 
 -- ---- the classes that are held
 
-module _ (variables : List VarId) (things : List Tracked) (index : Index) (settled : List ℕ) (h : Held) (class : Classes)
+module _ (variables : List VarId) (things : List Tracked) (index : TrackedIndex) (settled : List ℕ) (h : LocationTracker) (class : Classes)
     (holds : Holds variables things index settled h class) (j : ℕ) where
   pub register_class : (r : ℕ) → AreTracked things → slice_get things j ≡ Some (Register r) → slice_index h.places.items r ≡ class (InRegister r)
   register_class r are at = holds.registers r (are.registers j r at).0

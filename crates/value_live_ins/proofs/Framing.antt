@@ -263,17 +263,18 @@ module _ (blocks : List Block) (resolve : OperandPair → Option OperandPair) (a
 
 -- ---- what stands at a position
 
-front_here : (items : List Item) (k silent : ℕ) (bs : List Block) (item : Item) → front (drop k items) silent bs ≡ Here item → slice_get items k ≡ Some item
-front_here [] zero silent [] item e = absurd cc
-front_here [] zero silent (b ∷ bs) item e = absurd cc
-front_here [] (suc k) silent [] item e = absurd cc
-front_here [] (suc k) silent (b ∷ bs) item e = absurd cc
-front_here (x ∷ xs) zero silent bs item e = let is : x ≡ item = cc in ap (λ (z : Item). Some z) is
-front_here (x ∷ xs) (suc k) silent bs item e = front_here xs k silent bs item e
+front_here : (items : List Item) (k source_end : ℕ) (bs : List Block) (item : Item) → front (drop k items) source_end bs ≡ Here item →
+    slice_get items k ≡ Some item
+front_here [] zero source_end [] item e = absurd cc
+front_here [] zero source_end (b ∷ bs) item e = absurd cc
+front_here [] (suc k) source_end [] item e = absurd cc
+front_here [] (suc k) source_end (b ∷ bs) item e = absurd cc
+front_here (x ∷ xs) zero source_end bs item e = let is : x ≡ item = cc in ap (λ (z : Item). Some z) is
+front_here (x ∷ xs) (suc k) source_end bs item e = front_here xs k source_end bs item e
 
 pub here_in : (blocks : List Block) (b k : ℕ) (item : Item) → fetch_in (drop b blocks) k ≡ Here item →
     (block : Block) × (slice_get blocks b ≡ Some block) × (slice_get block.items k ≡ Some item)
 here_in [] zero k item e = absurd cc
 here_in [] (suc b) k item e = absurd cc
-here_in (x ∷ xs) zero k item e = (x, refl, front_here x.items k x.silent xs item e)
+here_in (x ∷ xs) zero k item e = (x, refl, front_here x.items k x.source_end xs item e)
 here_in (x ∷ xs) (suc b) k item e = here_in xs b k item e

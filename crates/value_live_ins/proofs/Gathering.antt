@@ -55,7 +55,7 @@ use Rattle.value_solver.specs.declared.tracked.Tracked.{Tracked}
 use Rattle.value_solver.specs.declared.tracked.Tracked.TheVariants.{Register, Slot, Part, Number}
 use Rattle.value_solver.specs.Entry.{thing}
 use Rattle.value_tracker.specs.Things.{AreThings}
-use Rattle.value_live_ins.specs.declared.gather.Gathered.{Gathered}
+use Rattle.value_live_ins.specs.declared.gather.TrackedItemSet.{TrackedItemSet}
 use Rattle.value_live_ins.specs.Keys.{Key, key_of, is_key}
 use Rattle.value_live_ins.specs.Gathering.{MayTrack, AreOnce, IsGathered, IsNoPart, Grows, KnowsPassed, HasPart, HasRegister, HasRegistersBelow}
 use Rattle.value_live_ins.specs.Walking.{AreTracked}
@@ -90,7 +90,7 @@ once_push xs x once none i j y e f = by_cases (push_cases xs x i y e) (push_case
 
 -- ---- one more thing
 
-pub add_new : (old new : Gathered) (x : Tracked) → IsGathered old → MayTrack x → contains is_key old.seen (key_of x) ≡ false →
+pub add_new : (old new : TrackedItemSet) (x : Tracked) → IsGathered old → MayTrack x → contains is_key old.seen (key_of x) ≡ false →
     new.things ≡ old.things ++ x ∷ [] →
     ((q : Key) → contains is_key new.seen q ≡ cond (is_key (key_of x) q) true (contains is_key old.seen q)) → IsGathered new
 add_new old new x is may off things seen = record {
@@ -327,7 +327,7 @@ module _ (variables : List VarId) (things : List Tracked) (g : Grows (map Part v
       thing_in things (Part v) (is_in things s.0 (Part v)
       (ap (λ (z : List Tracked). slice_get z s.0) g.is ∙ part_first variables g.more s.0 v s.1))
 
-pub are_tracked : (g : Gathered) → IsGathered g → AreTracked g.things
+pub are_tracked : (g : TrackedItemSet) → IsGathered g → AreTracked g.things
 are_tracked g is = record {
   once = is.once;
   registers = λ i r e. is.may i (Register r) e;
@@ -372,7 +372,7 @@ registers_kept n old new g below m less is = grows_has old new (Register m) g (b
 
 -- ---- the things of a function
 
-module _ (variables : List VarId) (parts registers zero all : Gathered) (things : List Tracked) (first : parts.things ≡ map Part variables)
+module _ (variables : List VarId) (parts registers zero all : TrackedItemSet) (things : List Tracked) (first : parts.things ≡ map Part variables)
     (more : Grows parts.things registers.things) (then_zero : Grows registers.things zero.things) (rest : Grows zero.things all.things)
     (is : things ≡ all.things) where
   pub grows_all : Grows (map Part variables) things

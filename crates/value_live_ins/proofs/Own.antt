@@ -17,7 +17,7 @@ use Rattle.value_solver.specs.declared.tracked.Tracked.{Tracked}
 use Rattle.value_solver.specs.declared.tracked.Tracked.TheVariants.{Register, Slot, Pair, Part, Number}
 use Rattle.value_solver.specs.Entry.{thing}
 use Rattle.value_tracker.specs.Things.{AreThings, Settle}
-use Rattle.value_tracker.specs.declared.held.Held.{Held}
+use Rattle.value_tracker.specs.declared.held.LocationTracker.{LocationTracker}
 use Rattle.value_tracker.specs.Held.{Holds}
 use Rattle.value_live_ins.specs.declared.changes.Tracking.{Tracking}
 use Rattle.value_solver.specs.declared.flow.Source.TheVariants.{Was}
@@ -185,7 +185,8 @@ changes_tell resolve things items class changes tracked tell are within = record
   each n t none zero = refl
   each n t none (suc i) = by_thing n t none i (slice_get things i) refl
 
-pub changes_are : (t : Tracking) (items : List Item) (h : Held) (result : Result (List Change) AllocError) → AreTracked t.things.now → Walked t items h →
+pub changes_are : (t : Tracking) (items : List Item) (h : LocationTracker) (result : Result (List Change) AllocError) → AreTracked t.things.now →
+    Walked t items h →
     IfOk result (λ changes. (class : Classes) → Holds t.variables.now t.things.now t.index.now t.settled.now h class → AreChanges t.things.now class changes) →
     IfOk result (λ changes. AreWithin (length t.things.now) changes) → IfOk result (λ changes. Tells (resolve t.subs.now) t.things.now items changes)
 changes_are t items h (Ok changes) tracked w are within =

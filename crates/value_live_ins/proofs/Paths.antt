@@ -13,7 +13,7 @@ use Rattle.mir_func.specs.declared.item.Item.{Item}
 use Rattle.mir_func.specs.declared.item.ItemKind.{ItemKind}
 use Rattle.mir_func.specs.declared.item.ItemKind.TheVariants.{Code, Mark, Phi}
 use Rattle.mir_func.specs.Exits.{row_exit, exit_of}
-use Rattle.mir_func.specs.Graph.{Program, Fetch, Here, Silent, Outside, below, block_start, end_of, front, Edge, FetchEdge, KindEdge, RowEdge}
+use Rattle.mir_func.specs.Graph.{Program, Fetch, Here, EndOfBlock, Outside, below, block_start, end_of, front, Edge, FetchEdge, KindEdge, RowEdge}
 use Rattle.mir_func.specs.Successors.{pos_in, ways_from, ways}
 use Rattle.mir_func.proofs.Ways.{IsDown, IsOut}
 use Rattle.sem_mir.specs.Token.{Tokens, Path, begin, onward, after_fetch, after_item}
@@ -146,7 +146,7 @@ module _ (enter : ℕ → ℕ) (p q : Pos) where
 
   fetch_above : (f : Fetch) → FetchEdge enter f q (below p) → q ≡ p
   fetch_above (Here i) e = kind_above i.kind e
-  fetch_above (Silent k n) e = absurd (no_start enter p (enter n) e)
+  fetch_above (EndOfBlock k n) e = absurd (no_start enter p (enter n) e)
   fetch_above Outside e = absurd e
 
 -- a path to the position below is one to the position, one step shorter, and the edge
@@ -245,7 +245,7 @@ module _ (g : Program) where
     pub path : Path g first steps (block_start c) tokens
     pub same : (x : Tracked) → token_of x tokens ≡ token_of x (after_items g.resolve n items u)
 
-  abbrev Shows : (b j : ℕ) → List Item → (silent : ℕ) → List Block → Type 0
+  abbrev Shows : (b j : ℕ) → List Item → (source_end : ℕ) → List Block → Type 0
   Shows b j items s bs = (k : ℕ) → g.fetch (pos_in b (j + k)) ≡ front (drop k items) s bs
 
   at_first : (b j : ℕ) (items : List Item) (s : ℕ) (bs : List Block) → Shows b j items s bs → g.fetch (pos_in b j) ≡ front items s bs
@@ -321,7 +321,7 @@ module _ (g : Program) where
     pub same : after_items g.resolve m (drop k items) u ≡ after_items g.resolve steps items tokens
     pub down : (n : ℕ) → Contains (ways (drop k items) next) n → Contains (ways items next) n
 
-  abbrev ShowsAll : (b : ℕ) → List Item → (silent : ℕ) → List Block → Type 0
+  abbrev ShowsAll : (b : ℕ) → List Item → (source_end : ℕ) → List Block → Type 0
   ShowsAll b items s bs = (k : ℕ) → g.fetch (pos_in b k) ≡ front (drop k items) s bs
 
   not_below : (p : Pos) → first ≡ below p → ⊥

@@ -8,7 +8,7 @@ use Rattle.std.proofs.lemmas.Bool.Decides.{eqb_tells}
 use Rattle.std.proofs.lemmas.List.{length-append}
 use Rattle.std.proofs.lemmas.Option.{slice_get_within, slice_get-get_or}
 use Rattle.mir_func.specs.declared.block.Block.{Block}
-use Rattle.mir_func.specs.declared.entry.Entry.{Entry}
+use Rattle.mir_func.specs.declared.entry.DebugSubstitution.{DebugSubstitution}
 use Rattle.mir_func.specs.declared.variable.VarId.{VarId}
 use Rattle.mir_func.specs.declared.item.Item.{Item}
 use Rattle.mir_func.specs.Graph.{Program, framed_program}
@@ -44,7 +44,7 @@ map_same f h (n ∷ ns) same =
     λ i. first i ∷ rest i
 
 -- the things are those of the program
-pub things_are : (blocks : List Block) (subs : List Entry) (variables : List VarId) (things : List Tracked) → AreThings variables things →
+pub things_are : (blocks : List Block) (subs : List DebugSubstitution) (variables : List VarId) (things : List Tracked) → AreThings variables things →
     AllItems (λ i. KnowsItem (map thing things) (resolve subs) i.kind) blocks →
     AreThingsOf (framed_program blocks (resolve subs)) (map thing things)
 things_are blocks subs variables things are knows = record {

@@ -17,7 +17,7 @@ use Rattle.value_solver.specs.declared.tracked.Tracked.{Tracked}
 use Rattle.value_solver.specs.Entry.{thing}
 use Rattle.value_solver.specs.declared.flow.Source.TheVariants.{Was, New}
 use Rattle.value_solver.specs.Flows.{told}
-use Rattle.value_tracker.specs.declared.held.Held.{Held}
+use Rattle.value_tracker.specs.declared.held.LocationTracker.{LocationTracker}
 use Rattle.value_tracker.specs.Held.{Holds, Passes}
 use Rattle.mir_func.specs.Resolve.{resolve}
 use Rattle.value_live_ins.specs.declared.changes.Tracking.{Tracking}
@@ -98,7 +98,7 @@ module _ (resolve : OperandPair → Option OperandPair) (things : List Tracked) 
 
 -- ---- the walk itself
 
-module _ (t : Tracking) (items : List Item) (k : ℕ) (item : Item) (h after : Held) (next : ℕ) (is : next ≡ length t.things.now + 1 + 32 * k)
+module _ (t : Tracking) (items : List Item) (k : ℕ) (item : Item) (h after : LocationTracker) (next : ℕ) (is : next ≡ length t.things.now + 1 + 32 * k)
     (less : k < length items) (at : item ≡ get_or items k item) (knows : KnowsItem (map thing t.things.now) (resolve t.subs.now) item.kind)
     (passes : Passes t.variables.now t.things.now t.index.now t.settled.now (resolve t.subs.now) (record h { next = next }) after item.kind) where
   count : length (take k items) ≡ k

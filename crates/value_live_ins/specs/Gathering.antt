@@ -13,7 +13,7 @@ use Rattle.value_solver.specs.declared.tracked.Tracked.{Tracked}
 use Rattle.value_solver.specs.declared.tracked.Tracked.TheVariants.{Register, Slot, Pair, Part, Number}
 use Rattle.value_solver.specs.Entry.{thing}
 use Rattle.value_tracker.specs.Things.{IsOffset}
-use Rattle.value_live_ins.specs.declared.gather.Gathered.{Gathered}
+use Rattle.value_live_ins.specs.declared.gather.TrackedItemSet.{TrackedItemSet}
 use Rattle.value_live_ins.specs.Keys.{key_of, is_key}
 
 -- a register that is tracked: a physical one but x0 and x2
@@ -34,7 +34,7 @@ abbrev pub AreOnce : List Tracked → Type 0
 AreOnce things = (i j : ℕ) (x : Tracked) → slice_get things i ≡ Some x → slice_get things j ≡ Some x → i ≡ j
 
 -- the list has each entity once, all that may be tracked, and `seen` has exactly their keys
-pub record IsGathered (g : Gathered) : Type 0 where
+pub record IsGathered (g : TrackedItemSet) : Type 0 where
   pub once : AreOnce g.things
   pub may : (i : ℕ) (x : Tracked) → slice_get g.things i ≡ Some x → MayTrack x
   pub seen : (x : Tracked) → (contains is_key g.seen (key_of x) ≡ true) ↔ Contains g.things x

@@ -10,7 +10,7 @@ use Rattle.value_proof.specs.Classes.{Classes, IsKnown}
 use Rattle.value_solver.specs.declared.tracked.Tracked.{Tracked}
 use Rattle.value_solver.specs.declared.tracked.Tracked.TheVariants.{Register}
 use Rattle.value_solver.specs.Entry.{thing}
-use Rattle.value_tracker.specs.declared.held.Held.{Held}
+use Rattle.value_tracker.specs.declared.held.LocationTracker.{LocationTracker}
 use Rattle.value_tracker.specs.Held.{Holds}
 use Rattle.value_tracker.specs.Things.{AreThings, Indexes}
 use Rattle.value_solver.specs.declared.flow.Source.{Source}
@@ -56,7 +56,7 @@ pub record ClassesTell (resolve : OperandPair → Option OperandPair) (things : 
   pub below : (x : path.Tracked) → IsKnown (map thing things) x → class x < length things + 1 + 32 * length items
 
 -- the tracker's state past these items holds such classes
-pub record Walked (t : Tracking) (items : List Item) (h : Held) : Type 0 where
+pub record Walked (t : Tracking) (items : List Item) (h : LocationTracker) : Type 0 where
   pub class : Classes
   pub holds : Holds t.variables.now t.things.now t.index.now t.settled.now h class
   pub tells : ClassesTell (resolve t.subs.now) t.things.now items class

@@ -20,8 +20,8 @@ use rv64_instr::reg::physical;
 use std::alloc::{AllocError, Global};
 use value_solver::flow::{Change, Changes, Source};
 use value_solver::tracked::Tracked;
-use value_tracker::held::{Held, slot_place};
-use value_tracker::index::{Index, key, number_class, pair_class};
+use value_tracker::held::{LocationTracker, slot_place};
+use value_tracker::index::{TrackedIndex, key, number_class, pair_class};
 use value_tracker::pass::Block as Fixed;
 use value_tracker::start::start;
 
@@ -38,7 +38,7 @@ pub struct Tracking<'a> {
     /// All tracked entities.
     pub things: &'a [Tracked],
     /// The positions of constants and pairs in their list.
-    pub index: &'a Index,
+    pub index: &'a TrackedIndex,
     /// The class of each entity at the start of a block: each has its own.
     pub settled: &'a [usize],
     /// The debug value substitutions, which pairs resolve by.
@@ -79,7 +79,11 @@ pub fn changes_of(alloc: Global, tracking: &Tracking, items: &[Item]) -> Result<
 }
 
 /// Steps over the items of a block.
-fn pass_items(held: &mut Held, tracking: &Tracking, items: &[Item]) -> Result<(), AllocError>
+fn pass_items(
+    held: &mut LocationTracker,
+    tracking: &Tracking,
+    items: &[Item],
+) -> Result<(), AllocError>
     requires few { length tracking.now.things.now < 4294967295 }
     requires things { AreTracked tracking.now.things.now }
     requires places { length held.old.places.items ≡ PLACES }
@@ -103,7 +107,7 @@ fn pass_items(held: &mut Held, tracking: &Tracking, items: &[Item]) -> Result<()
 }
 
 /// Steps over an item.
-fn pass(held: &mut Held, tracking: &Tracking, kind: &ItemKind) -> Result<(), AllocError>
+fn pass(held: &mut LocationTracker, tracking: &Tracking, kind: &ItemKind) -> Result<(), AllocError>
     requires places { length held.old.places.items ≡ PLACES }
     requires parts { length held.old.parts.items ≡ length tracking.now.variables.now }
     ensures passes { OnOk result (Passes tracking.now.variables.now tracking.now.things.now tracking.now.index.now
@@ -136,7 +140,11 @@ fn read_form(kind: &ItemKind)
 }
 
 /// The changes that the classes encode: an entity has changed if it doesn't have its own class any more.
-fn changes(alloc: Global, held: &Held, tracking: &Tracking) -> Result<Changes, AllocError>
+fn changes(
+    alloc: Global,
+    held: &LocationTracker,
+    tracking: &Tracking,
+) -> Result<Changes, AllocError>
     requires few { length tracking.now.things.now < 4294967295 }
     requires tracked { AreTracked tracking.now.things.now }
     requires things { AreThings tracking.now.variables.now tracking.now.things.now }
@@ -161,7 +169,7 @@ fn changes(alloc: Global, held: &Held, tracking: &Tracking) -> Result<Changes, A
 }
 
 /// The class of the entity at index j.
-fn class_of(held: &Held, tracking: &Tracking, j: usize, thing: &Tracked) -> usize
+fn class_of(held: &LocationTracker, tracking: &Tracking, j: usize, thing: &Tracked) -> usize
     requires at { slice_get tracking.now.things.now j ≡ Some thing.now }
     requires tracked { AreTracked tracking.now.things.now }
     requires things { AreThings tracking.now.variables.now tracking.now.things.now }
@@ -178,14 +186,14 @@ fn class_of(held: &Held, tracking: &Tracking, j: usize, thing: &Tracked) -> usiz
     }
 }
 
-fn part_class(held: &Held, j: usize) -> usize
+fn part_class(held: &LocationTracker, j: usize) -> usize
     requires { j < length held.now.parts.items }
     ensures { result ≡ slice_index held.now.parts.items j }
 {
     held.parts[j]
 }
 
-fn class_of_pair(held: &Held, tracking: &Tracking, q: OperandPair) -> usize
+fn class_of_pair(held: &LocationTracker, tracking: &Tracking, q: OperandPair) -> usize
     ensures { result ≡ pair_class_of tracking.now.index.now tracking.now.settled.now held.now q.number q.operand }
 {
     let (number, operand) = key(q);

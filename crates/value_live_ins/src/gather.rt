@@ -10,20 +10,20 @@ use value_solver::tracked::{Tracked, TrackedItems};
 
 /// A list of tracked entities without duplicates.
 #[derive(Drop)]
-pub struct Gathered {
+pub struct TrackedItemSet {
     /// The entities, in order of first appearance.
     pub things: TrackedItems,
     /// Their keys.
     seen: HashSet<Key>,
 }
 
-impl Gathered {
+impl TrackedItemSet {
     /// The empty list.
-    pub fn new(alloc: Global) -> Gathered
+    pub fn new(alloc: Global) -> TrackedItemSet
         ensures gathered { IsGathered result }
         ensures empty { result.things ≡ [] }
     {
-        Gathered {
+        TrackedItemSet {
             things: TrackedItems::new(alloc),
             seen: HashSet::new(alloc),
         }
@@ -47,7 +47,7 @@ impl Gathered {
     pub fn into_things(self) -> TrackedItems
         ensures { result ≡ self.things }
     {
-        let Gathered { things, seen } = self;
+        let TrackedItemSet { things, seen } = self;
         drop(seen);
         things
     }

@@ -18,7 +18,7 @@ ghost use Rattle.value_live_ins.specs.Gathering.{
   KnowsPassed,
 };
 
-use crate::gather::Gathered;
+use crate::gather::TrackedItemSet;
 use mir_func::item::ItemKind;
 use mir_func::variable::MarkValue;
 use mir_substitution::substitutions::Substitutions;
@@ -28,7 +28,7 @@ use rv64_instr::place::Place;
 use std::alloc::AllocError;
 use value_solver::tracked::Tracked;
 
-impl Gathered {
+impl TrackedItemSet {
     /// Adds an entity that is no part of a variable. The error is out of memory.
     pub fn note_thing(&mut self, thing: Tracked) -> Result<(), AllocError>
         requires gathered { IsGathered self.old }

@@ -13,7 +13,7 @@ ghost use Rattle.value_live_ins.specs.Gathering.{IsGathered, Grows, HasOffsets, 
 ghost use Rattle.value_live_ins.specs.Gathering.{HasRegister, HasRegistersBelow};
 ghost use Rattle.value_live_ins.specs.Walking.{AreTracked};
 
-use crate::gather::Gathered;
+use crate::gather::TrackedItemSet;
 use base_list::List;
 use mir_func::block::Block;
 use mir_func::entry::OperandPair;
@@ -29,7 +29,7 @@ pub type Variables = List<VarId>;
 
 /// The tracked entities.
 #[derive(Drop)]
-pub struct Things {
+pub struct TrackedValues {
     /// The parts of variables that debug values assign.
     pub variables: Variables,
     /// All tracked entities: these parts first.
@@ -38,7 +38,7 @@ pub struct Things {
 
 /// Adds the part of a variable that an item assigns, if it is a debug value.
 fn add_part(
-    gathered: &mut Gathered,
+    gathered: &mut TrackedItemSet,
     variables: &mut Variables,
     kind: &ItemKind,
 ) -> Result<(), AllocError>
@@ -63,7 +63,7 @@ fn add_part(
 
 /// Adds the parts of variables that the items' debug values assign.
 fn add_parts(
-    gathered: &mut Gathered,
+    gathered: &mut TrackedItemSet,
     variables: &mut Variables,
     items: &[Item],
 ) -> Result<(), AllocError>
@@ -81,7 +81,7 @@ fn add_parts(
 }
 
 /// Adds all tracked registers.
-fn add_registers(gathered: &mut Gathered) -> Result<(), AllocError>
+fn add_registers(gathered: &mut TrackedItemSet) -> Result<(), AllocError>
     requires gathered { IsGathered gathered.old }
     ensures gathered { OnOk result (IsGathered gathered.new) }
     ensures grows { OnOk result (Grows gathered.old.things gathered.new.things) }
@@ -94,7 +94,7 @@ fn add_registers(gathered: &mut Gathered) -> Result<(), AllocError>
 }
 
 /// Adds a register, unless it is x0 or x2.
-fn add_register(gathered: &mut Gathered, n: u32) -> Result<(), AllocError>
+fn add_register(gathered: &mut TrackedItemSet, n: u32) -> Result<(), AllocError>
     requires gathered { IsGathered gathered.old }
     ensures gathered { OnOk result (IsGathered gathered.new) }
     ensures grows { OnOk result (Grows gathered.old.things gathered.new.things) }
@@ -111,7 +111,7 @@ fn add_register(gathered: &mut Gathered, n: u32) -> Result<(), AllocError>
 
 /// Adds the entities that items copy.
 fn note_items(
-    gathered: &mut Gathered,
+    gathered: &mut TrackedItemSet,
     subs: &Substitutions,
     items: &[Item],
 ) -> Result<(), AllocError>
@@ -131,7 +131,7 @@ fn note_items(
 /// The parts of variables that the blocks' debug values assign.
 fn parts_of(
     alloc: Global,
-    gathered: &mut Gathered,
+    gathered: &mut TrackedItemSet,
     blocks: &[Block],
 ) -> Result<Variables, AllocError>
     requires gathered { IsGathered gathered.old }
@@ -149,7 +149,7 @@ fn parts_of(
 
 /// Adds the entities that the items of blocks copy.
 fn note_blocks(
-    gathered: &mut Gathered,
+    gathered: &mut TrackedItemSet,
     subs: &Substitutions,
     blocks: &[Block],
 ) -> Result<(), AllocError>
@@ -168,7 +168,7 @@ fn note_blocks(
 }
 
 /// Adds the pairs of a caller's queries.
-fn note_pairs(gathered: &mut Gathered, pairs: &[OperandPair]) -> Result<(), AllocError>
+fn note_pairs(gathered: &mut TrackedItemSet, pairs: &[OperandPair]) -> Result<(), AllocError>
     requires gathered { IsGathered gathered.old }
     ensures gathered { OnOk result (IsGathered gathered.new) }
     ensures grows { OnOk result (Grows gathered.old.things gathered.new.things) }
@@ -188,7 +188,7 @@ pub fn things_of(
     blocks: &[Block],
     subs: &Substitutions,
     asked: &[OperandPair],
-) -> Result<Things, AllocError>
+) -> Result<TrackedValues, AllocError>
     requires offsets { AllItems (λ i. HasOffsets i.kind) blocks.now }
     requires physical { AllItems (λ i. HasPhysical i.kind) blocks.now }
     ensures things { IfOk result (λ t. AreThings t.variables t.things) }
@@ -198,13 +198,13 @@ pub fn things_of(
         (λ i. KnowsItem (map thing t.things) (resolve subs.now) i.kind) blocks.now) }
     ensures asked { IfOk result (λ t. All (λ q. Contains t.things (Pair q)) asked.now) }
 {
-    let mut gathered = Gathered::new(alloc);
+    let mut gathered = TrackedItemSet::new(alloc);
     let variables = parts_of(alloc, &mut gathered, blocks)?;
     add_registers(&mut gathered)?;
     gathered.note_thing(Tracked::Number(0))?;
     note_pairs(&mut gathered, asked)?;
     note_blocks(&mut gathered, subs, blocks)?;
-    Ok(Things {
+    Ok(TrackedValues {
         variables,
         things: gathered.into_things(),
     })

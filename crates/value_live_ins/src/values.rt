@@ -16,7 +16,7 @@ ghost use Rattle.value_tracker.specs.Things.{AreThings};
 use crate::changes::{Tracking, own_classes};
 use crate::flows::flows_of;
 use crate::opening::start_entry;
-use crate::things::{Things, Variables, things_of};
+use crate::things::{TrackedValues, Variables, things_of};
 use crate::ways::indices_of;
 use mir_func::block::Block;
 use mir_func::entry::OperandPair;
@@ -105,7 +105,7 @@ pub fn solve_asking(
     ensures asked { IfOk result (λ v. All (λ q. Contains v.things (Pair q)) asked.now) }
 {
     let blocks = framed.blocks.as_slice();
-    let Things { variables, things } = things_of(alloc, blocks, subs, asked)?;
+    let TrackedValues { variables, things } = things_of(alloc, blocks, subs, asked)?;
     if things.len() >= MOST || blocks.len() >= MOST {
         return Err(AllocError);
     }

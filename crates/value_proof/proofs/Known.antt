@@ -13,7 +13,7 @@ use Rattle.mir_func.specs.declared.item.ItemKind.TheVariants.{Code, Mark, Phi}
 use Rattle.mir_func.specs.Variables.{is_same, overlaps}
 use Rattle.sem_mir.proofs.Assignments.{same_is}
 use Rattle.mir_func.specs.declared.position.Pos.{Pos}
-use Rattle.mir_func.specs.Graph.{Program, Fetch, Here, Silent, Outside}
+use Rattle.mir_func.specs.Graph.{Program, Fetch, Here, EndOfBlock, Outside}
 use Rattle.sem_mir.specs.Token.{Entry, Fixed, Tokens, Path, begin, onward, after_fetch, entry_tokens, sets_pointer}
 use Rattle.sem_value_ids.specs.Pullback.{
   Tracked,
@@ -163,14 +163,14 @@ module _ (g : Program) (things : List Tracked) (are : AreThingsOf g things) wher
   known_after n p (Here item) t here only = λ x c k e.
       known_before things n t (back g.resolve 0 item.kind x) c only (known_back things g.resolve item.kind x (are.items p item here) k)
       (sym (tokens_pull_back g.resolve n (item ∷ []) t x) ∙ e)
-  known_after n p (Silent k m) t here only = only
+  known_after n p (EndOfBlock k m) t here only = only
   known_after n p Outside t here only = only
 
   bare_after : (n : ℕ) (p : Pos) (f : Fetch) (t : Tokens) → g.fetch p ≡ f → NoneIsBare things t → NoneIsBare things (after_fetch g.resolve n f t)
   bare_after n p (Here item) t here none = λ x bare.
       tokens_pull_back g.resolve n (item ∷ []) t x
       ∙ bare_before n t x (back g.resolve 0 item.kind x) (none x bare) (bare_stays things g.resolve item.kind x (are.items p item here) bare)
-  bare_after n p (Silent k m) t here none = none
+  bare_after n p (EndOfBlock k m) t here none = none
   bare_after n p Outside t here none = none
 
   pub path_knows : {start : Pos} {n : ℕ} {p : Pos} {t : Tokens} → Path g start n p t → OnlyKnown things t

@@ -18,7 +18,7 @@ use Rattle.mir_func.specs.declared.item.Item.{Item}
 use Rattle.mir_func.specs.declared.item.ItemKind.{ItemKind}
 use Rattle.mir_func.specs.declared.item.ItemKind.TheVariants.{Code, Mark, Phi}
 use Rattle.mir_func.specs.Variables.{is_same, overlaps}
-use Rattle.mir_func.specs.Graph.{Program, Fetch, Here, Silent, Outside, below, block_start, Edge, FetchEdge, KindEdge, RowEdge}
+use Rattle.mir_func.specs.Graph.{Program, Fetch, Here, EndOfBlock, Outside, below, block_start, Edge, FetchEdge, KindEdge, RowEdge}
 use Rattle.sem_mir.specs.Step.{defined}
 use Rattle.sem_mir.specs.Token.{Tokens, Path, begin, onward, after_fetch, after_item, sets_pointer}
 use Rattle.sem_value_ids.specs.Pullback.{Tracked, InRegister, InSlot, OfPair, OfVariable, OfNumber, token_of, Back, Was, New, Nameless, back, Share, BacksShare}
@@ -89,7 +89,7 @@ module _ (enter : ℕ → ℕ) (p q : Pos) where
 
   fetch_above : (f : Fetch) → FetchEdge enter f q (below p) → q ≡ p
   fetch_above (Here i) e = kind_above i.kind e
-  fetch_above (Silent k n) e = absurd (no_start (enter n) e)
+  fetch_above (EndOfBlock k n) e = absurd (no_start (enter n) e)
   fetch_above Outside e = absurd e
 
 -- a path to the position below is one to the position, and the edge

@@ -6,18 +6,18 @@ use Rattle.mir_func.specs.declared.block.Block.{Block}
 use Rattle.mir_func.specs.declared.position.Pos.{Pos}
 use Rattle.mir_func.specs.Graph.{block_start}
 use Rattle.mir_func.specs.Successors.{pos_in}
-use Rattle.value_tracker.specs.declared.index.Index.{Index}
+use Rattle.value_tracker.specs.declared.index.TrackedIndex.{TrackedIndex}
 use Rattle.location_of_variable.specs.Wanted.{AreWantedPlaces}
-use Rattle.location_ranges.specs.declared.stand.Stand.{Stand}
+use Rattle.location_ranges.specs.declared.stand.TransferTracker.{TransferTracker}
 use Rattle.location_ranges.specs.declared.values.Values.{Values}
 use Rattle.location_ranges.specs.Stands.{program, AreValuesOf, Stands}
 use Rattle.location_ranges.specs.steps.Places.{ArePlacesAt}
 use Rattle.location_ranges.proofs.Looking.{places_wanted}
 
-at_position : (s : Stand) (b i : ℕ) → s.block ≡ b → s.item ≡ i → pos_in s.block s.item ≡ pos_in b i
+at_position : (s : TransferTracker) (b i : ℕ) → s.block ≡ b → s.item ≡ i → pos_in s.block s.item ≡ pos_in b i
 at_position s b i eb ei = λ k. pos_in (eb k) (ei k)
 
-pub wanted_at : (blocks : List Block) (v : Values) (index : Index) (s : Stand) (found : List (Option Place)) (b i : ℕ) → AreValuesOf blocks v →
+pub wanted_at : (blocks : List Block) (v : Values) (index : TrackedIndex) (s : TransferTracker) (found : List (Option Place)) (b i : ℕ) → AreValuesOf blocks v →
     Stands blocks v index s → length found ≡ length v.variables.now → ArePlacesAt s found → s.block ≡ b → s.item ≡ i →
     AreWantedPlaces (program blocks v.subs.now) (block_start 0) (pos_in b i) v.variables.now found
 wanted_at blocks v index s found b i are stands count at eb ei =

@@ -24,17 +24,17 @@ use Rattle.value_solver.specs.declared.tracked.Tracked.{Tracked}
 use Rattle.value_solver.specs.declared.tracked.Tracked.TheVariants.{Pair, Part, Number}
 use Rattle.value_solver.specs.Entry.{thing}
 use Rattle.value_proof.proofs.Known.{slot, variable}
-use Rattle.value_tracker.specs.declared.index.Index.{Index}
+use Rattle.value_tracker.specs.declared.index.TrackedIndex.{TrackedIndex}
 use Rattle.value_tracker.specs.Things.{is_key, Indexes}
 use Rattle.value_tracker.specs.Held.{SLOTS_FROM, slot_place, class_at, pair_class}
 use Rattle.value_tracker.proofs.Starting.{stands as stand_of, contained, is_part}
-use Rattle.location_ranges.specs.declared.stand.Stand.{Stand}
+use Rattle.location_ranges.specs.declared.stand.TransferTracker.{TransferTracker}
 use Rattle.location_ranges.specs.declared.values.Values.{Values}
 use Rattle.location_ranges.specs.Stands.{program, AreValuesOf, Reaches, Stands}
 use Rattle.value_queries.specs.Sitting.{IsFit, SitsAt, SitsByClass, named_class, place_number}
 use Rattle.value_queries.proofs.Sitting.{Told, PlaceTold, sits_by_class, class_by_sits}
 
-module _ (v : Values) (index : Index) (s : Stand) (g : Program) (r : Reaches g v index s) (indexes : Indexes v.things.now index) where
+module _ (v : Values) (index : TrackedIndex) (s : TransferTracker) (g : Program) (r : Reaches g v index s) (indexes : Indexes v.things.now index) where
   abbrev things : List path.Tracked
   things = map thing v.things.now
 
@@ -104,7 +104,7 @@ pub turned : (g : Program) (a b : Place) (p : Pos) → IsPlace a × SitsAt g (pl
 turned g a b p (named, (other, sits)) = (other, (named, record { reached = sits.reached; same = λ n t path. let k = sits.same n t path in (k.0, k.2, k.1) }))
 
 -- a pair is found where it is tracked
-module _ (things : List Tracked) (index : Index) (indexes : Indexes things index) where
+module _ (things : List Tracked) (index : TrackedIndex) (indexes : Indexes things index) where
   pub pair_tracked : (k o : ℕ) → IsSome (get is_key index.pairs (k, o)) ↔ Contains things (Pair (record { number = k; operand = o }))
   pair_tracked k o = (
     at (get is_key index.pairs (k, o)) refl,
@@ -123,7 +123,7 @@ module _ (things : List Tracked) (index : Index) (indexes : Indexes things index
   pub tracked_by : (q : OperandPair) (b : Bool) → b ≡ is_some (get is_key index.pairs (q.number, q.operand)) → b ≡ true → Contains things (Pair q)
   tracked_by q b is on = (pair_tracked q.number q.operand).0 (sym is ∙ on)
 
-module _ (blocks : List Block) (v : Values) (index : Index) (s : Stand) (are : AreValuesOf blocks v) (stands : Stands blocks v index s)
+module _ (blocks : List Block) (v : Values) (index : TrackedIndex) (s : TransferTracker) (are : AreValuesOf blocks v) (stands : Stands blocks v index s)
     (indexes : Indexes v.things.now index) where
   abbrev g : Program
   g = program blocks v.subs.now

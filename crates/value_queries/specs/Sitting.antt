@@ -8,21 +8,21 @@ use Rattle.mir_func.specs.declared.position.Pos.{Pos}
 use Rattle.mir_func.specs.Graph.{Program, block_start}
 use Rattle.mir_func.specs.Successors.{pos_in}
 use Rattle.sem_mir.specs.Token.{Token, Tokens, IsPlace, Sits, place_token}
-use Rattle.value_tracker.specs.declared.held.Held.{Held}
-use Rattle.value_tracker.specs.declared.index.Index.{Index}
+use Rattle.value_tracker.specs.declared.held.LocationTracker.{LocationTracker}
+use Rattle.value_tracker.specs.declared.index.TrackedIndex.{TrackedIndex}
 use Rattle.value_tracker.specs.Things.{Indexes}
 use Rattle.value_tracker.specs.Held.{number_class, slot_place}
-use Rattle.location_ranges.specs.declared.stand.Stand.{Stand}
+use Rattle.location_ranges.specs.declared.stand.TransferTracker.{TransferTracker}
 use Rattle.location_ranges.specs.declared.values.Values.{Values}
 use Rattle.location_ranges.specs.Stands.{Stands}
-use Rattle.value_queries.specs.declared.point.Point.{Point}
+use Rattle.value_queries.specs.declared.point.QueryPoint.{QueryPoint}
 
 -- the position of a point
-abbrev pub position : Point → Pos
+abbrev pub position : QueryPoint → Pos
 position p = pos_in p.stand.block p.stand.item
 
 -- a valid point: its index is that of the tracked entities, and its state is the walk's before its item
-pub record IsPointOf (blocks : List Block) (v : Values) (p : Point) : Type 0 where
+pub record IsPointOf (blocks : List Block) (v : Values) (p : QueryPoint) : Type 0 where
   pub index : Indexes v.things.now p.index
   pub stands : Stands blocks v p.index p.stand
 
@@ -32,13 +32,13 @@ abbrev pub SitsAt : Program → (Tokens → Option Token) → Place → Pos → 
 SitsAt g x place p = IsPlace place × Sits g (block_start 0) x (place_token (Some place)) p
 
 -- the class of a place: a register of x1 to x31, a slot at a multiple of 8, or a constant, and 0 for any other
-abbrev pub named_class : Index → List ℕ → Held → Place → ℕ
+abbrev pub named_class : TrackedIndex → List ℕ → LocationTracker → Place → ℕ
 named_class index settled h (Register r) = cond (nat_eq r 0) 0 (cond (nat_lt r 32) (slice_index h.places.items r) 0)
 named_class index settled h (Slot n) = cond (nat_eq (n % 8) 0) (slice_index h.places.items (slot_place n)) 0
 named_class index settled h (Const c) = number_class index settled (word c)
 
 -- the place holds the value of this class: some path leads to the item, and the class isn't 0 and is that of the place
-pub record SitsByClass (s : Stand) (index : Index) (class : ℕ) (place : Place) : Type 0 where
+pub record SitsByClass (s : TransferTracker) (index : TrackedIndex) (class : ℕ) (place : Place) : Type 0 where
   pub reached : s.reached ≡ true
   pub some : class ≢ 0
   pub one : class ≡ named_class index s.settled.items s.held place

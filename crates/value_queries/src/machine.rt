@@ -16,7 +16,7 @@ ghost use Rattle.location_ranges.specs.Stands.{AreValuesOf, program};
 ghost use Rattle.value_queries.specs.Sitting.{IsFit, IsPointOf, SitsAt, SitsByClass, position, named_class};
 ghost use Rattle.value_queries.specs.Sitting.{place_number};
 
-use crate::point::Point;
+use crate::point::QueryPoint;
 use crate::sits::{class_sits, named_class, number_of};
 use location_ranges::values::Values;
 use mir_func::entry::OperandPair;
@@ -27,7 +27,7 @@ use value_tracker::index::{key, pair_class};
 /// Whether a place holds, at a point, the value of an operand of the instruction with a debug instruction number: some
 /// path leads there, and on every path to it both have the same token. None if and only if the pair isn't tracked.
 /// Tracked are the pairs that debug values refer to, and those passed to `value_live_ins::values::solve_asking`.
-pub fn holds(values: &Values, point: &Point, pair: &OperandPair, place: &Place) -> Option<bool>
+pub fn holds(values: &Values, point: &QueryPoint, pair: &OperandPair, place: &Place) -> Option<bool>
     ensures tracked { (blocks : List Block) → IsPointOf blocks values.now point.now →
         IsSome result ↔ Contains values.now.things.now (Pair pair.now) }
     ensures exact { IfSome result (λ h. (blocks : List Block) → AreValuesOf blocks values.now →
@@ -42,7 +42,7 @@ pub fn holds(values: &Values, point: &Point, pair: &OperandPair, place: &Place) 
     Some(class_sits(point, class_of(point, pair), place))
 }
 
-fn is_tracked(point: &Point, pair: &OperandPair) -> bool
+fn is_tracked(point: &QueryPoint, pair: &OperandPair) -> bool
     ensures { result ≡ is_some (get is_key point.now.index.pairs (pair.now.number, pair.now.operand)) }
 {
     let (number, operand) = key(*pair);
@@ -50,7 +50,7 @@ fn is_tracked(point: &Point, pair: &OperandPair) -> bool
 }
 
 /// The class of a pair at a point.
-fn class_of(point: &Point, pair: &OperandPair) -> usize
+fn class_of(point: &QueryPoint, pair: &OperandPair) -> usize
     ensures { result ≡ pair_class point.now.index point.now.stand.settled.items point.now.stand.held pair.now.number
         pair.now.operand }
 {
@@ -68,7 +68,7 @@ fn class_of(point: &Point, pair: &OperandPair) -> usize
 
 /// Whether two places hold the same value at a point: some path leads there, and on every path to it both have the same
 /// token.
-pub fn same(values: &Values, point: &Point, a: &Place, b: &Place) -> bool
+pub fn same(values: &Values, point: &QueryPoint, a: &Place, b: &Place) -> bool
     ensures { (blocks : List Block) → AreValuesOf blocks values.now → IsPointOf blocks values.now point.now →
         IsTrue result ↔ (IsPlace a.now × SitsAt (program blocks values.now.subs.now) (place_token (Some a.now)) b.now
         (position point.now)) }
@@ -80,7 +80,7 @@ pub fn same(values: &Values, point: &Point, a: &Place, b: &Place) -> bool
 }
 
 /// Whether the constant place a, with number m, and the place b hold the same value at a reached point.
-fn number_sits(point: &Point, m: u64, a: &Place, b: &Place) -> bool
+fn number_sits(point: &QueryPoint, m: u64, a: &Place, b: &Place) -> bool
     ensures fit { IsFit b.now }
     ensures number { IfSome (place_number b.now) (λ n. IsTrue result ↔ ((point.now.stand.reached ≡ true) × (m ≡ n))) }
     ensures place { IfNone (place_number b.now) (IsTrue result ↔ SitsByClass point.now.stand point.now.index

@@ -8,19 +8,19 @@ ghost use Rattle.location_ranges.specs.Stands.{AreValuesOf};
 ghost use Rattle.value_queries.specs.Sitting.{IsPointOf, position};
 
 use crate::stand::stand_before;
-use location_ranges::stand::Stand;
+use location_ranges::stand::TransferTracker;
 use location_ranges::values::Values;
 use mir_func::block::Block;
 use std::alloc::{AllocError, Global};
-use value_tracker::index::{Index, index_of};
+use value_tracker::index::{TrackedIndex, index_of};
 
 /// The analysis before an item of a block, or after its last one. Queries on it take no memory.
 #[derive(Drop)]
-pub struct Point {
+pub struct QueryPoint {
     /// The positions of constants and pairs in the list of tracked entities.
-    pub index: Index,
+    pub index: TrackedIndex,
     /// The walk's state there.
-    pub stand: Stand,
+    pub stand: TransferTracker,
 }
 
 /// The point before an item of a block, or after its last one, by a walk from the start of the block. The error is out
@@ -31,7 +31,7 @@ pub fn point_at(
     blocks: &[Block],
     block: usize,
     item: usize,
-) -> Result<Point, AllocError>
+) -> Result<QueryPoint, AllocError>
     requires things { AreThings values.now.variables.now values.now.things.now }
     requires parts { length values.now.variables.now ≤ length values.now.things.now }
     requires entries { length values.now.entries.now ≡ length blocks.now }
@@ -42,5 +42,5 @@ pub fn point_at(
 {
     let index = index_of(alloc, values.things)?;
     let stand = stand_before(alloc, values, &index, blocks, block, item)?;
-    Ok(Point { index, stand })
+    Ok(QueryPoint { index, stand })
 }

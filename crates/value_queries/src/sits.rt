@@ -7,11 +7,11 @@ ghost use Rattle.sem_mir.specs.Token.{IsPlace};
 ghost use Rattle.value_tracker.specs.Held.{slot_place};
 ghost use Rattle.value_queries.specs.Sitting.{IsFit, SitsByClass, named_class};
 
-use crate::point::Point;
+use crate::point::QueryPoint;
 use base_ids::code::SlotId;
 use rv64_instr::place::Place;
 use rv64_instr::reg::Reg;
-use value_tracker::held::{Held, SLOTS_FROM, slot_place};
+use value_tracker::held::{LocationTracker, SLOTS_FROM, slot_place};
 use value_tracker::index::number_class;
 
 /// A constant's number, modulo 2^64.
@@ -23,7 +23,7 @@ pub fn number_of(c: i64) -> u64
 }
 
 /// The class of a place: a register of x1 to x31, a slot at a multiple of 8, or a constant, and 0 for any other.
-pub fn named_class(point: &Point, place: &Place) -> usize
+pub fn named_class(point: &QueryPoint, place: &Place) -> usize
     ensures fit { IsFit place.now }
     ensures class { result ≡ named_class point.now.index point.now.stand.settled.items point.now.stand.held place.now }
 {
@@ -38,7 +38,7 @@ pub fn named_class(point: &Point, place: &Place) -> usize
     }
 }
 
-fn register_class(held: &Held, r: Reg) -> usize
+fn register_class(held: &LocationTracker, r: Reg) -> usize
     ensures { result ≡ cond (nat_eq r 0) 0 (cond (nat_lt r 32) (slice_index held.now.places.items r) 0) }
 {
     if r.number() == 0 || r.number() as usize >= SLOTS_FROM {
@@ -48,7 +48,7 @@ fn register_class(held: &Held, r: Reg) -> usize
     }
 }
 
-fn slot_class(held: &Held, n: SlotId) -> usize
+fn slot_class(held: &LocationTracker, n: SlotId) -> usize
     ensures { result ≡ cond (nat_eq (n % 8) 0) (slice_index held.now.places.items (slot_place n)) 0 }
 {
     if n.number() % 8 == 0 {
@@ -59,7 +59,7 @@ fn slot_class(held: &Held, n: SlotId) -> usize
 }
 
 /// Whether a place holds the value of this class at a point.
-pub fn class_sits(point: &Point, class: usize, place: &Place) -> bool
+pub fn class_sits(point: &QueryPoint, class: usize, place: &Place) -> bool
     ensures fit { IsFit place.now }
     ensures sits { IsTrue result ↔ SitsByClass point.now.stand point.now.index class place.now }
 {

@@ -5,22 +5,22 @@ ghost use Rattle.mir_func.specs.declared.block.Block.{Block};
 ghost use Rattle.value_tracker.specs.Things.{AreThings, Indexes};
 ghost use Rattle.location_ranges.specs.Stands.{AreValuesOf, Stands, Fits};
 
-use location_ranges::stand::{Stand, enter, move_to};
+use location_ranges::stand::{TransferTracker, enter, move_to};
 use location_ranges::values::Values;
 use mir_func::block::Block;
 use mir_func::variable::VarId;
 use std::alloc::{AllocError, Global};
-use value_tracker::index::Index;
+use value_tracker::index::TrackedIndex;
 
 /// The walk's state before an item of a block, or after its last one. The error is out of memory.
 pub fn stand_before(
     alloc: Global,
     values: &Values,
-    index: &Index,
+    index: &TrackedIndex,
     blocks: &[Block],
     block: usize,
     item: usize,
-) -> Result<Stand, AllocError>
+) -> Result<TransferTracker, AllocError>
     requires things { AreThings values.now.variables.now values.now.things.now }
     requires parts { length values.now.variables.now ≤ length values.now.things.now }
     requires entries { length values.now.entries.now ≡ length blocks.now }

@@ -13,17 +13,17 @@ ghost use Rattle.location_ranges.specs.steps.Places.{ArePlacesAt};
 ghost use Rattle.location_of_variable.specs.Wanted.{AreWantedPlaces, IsWantedPlace};
 ghost use Rattle.value_queries.specs.Sitting.{IsPointOf, SitsAt, position};
 
-use crate::point::Point;
+use crate::point::QueryPoint;
 use crate::sits::class_sits;
 use crate::stand::{index_in, stand_before};
 use location_ranges::places::look_up;
-use location_ranges::stand::Stand;
+use location_ranges::stand::TransferTracker;
 use location_ranges::values::Values;
 use mir_func::block::Block;
 use mir_func::variable::VarId;
 use rv64_instr::place::Place;
 use std::alloc::{AllocError, Global};
-use value_tracker::held::Held;
+use value_tracker::held::LocationTracker;
 use value_tracker::index::index_of;
 
 /// The first place that holds the value of a part of a variable on every path to an item of a block, or after its last
@@ -55,7 +55,7 @@ pub fn first_place(
 fn places_at(
     alloc: Global,
     values: &Values,
-    stand: &Stand,
+    stand: &TransferTracker,
 ) -> Result<Vec<Option<Place>>, AllocError>
     requires { Fits stand.now values.now }
     ensures count { IfOk result (λ places. length places.items ≡ length values.now.variables.now) }
@@ -81,7 +81,7 @@ fn place_of(parts: &[VarId], places: &[Option<Place>], part: &VarId) -> Option<P
 
 /// Whether a place holds the value of a part of a variable at a point: some path leads there, and on every path to it
 /// both have the same token.
-pub fn holds(values: &Values, point: &Point, part: &VarId, place: &Place) -> bool
+pub fn holds(values: &Values, point: &QueryPoint, part: &VarId, place: &Place) -> bool
     ensures { (blocks : List Block) → AreValuesOf blocks values.now → IsPointOf blocks values.now point.now →
         IsTrue result ↔ SitsAt (program blocks values.now.subs.now) (variable_token part.now) place.now
         (position point.now) }
@@ -94,7 +94,7 @@ pub fn holds(values: &Values, point: &Point, part: &VarId, place: &Place) -> boo
 }
 
 /// The class of a part of a variable, and 0 for a part without debug values.
-fn part_class(held: &Held, parts: &[VarId], part: &VarId) -> usize
+fn part_class(held: &LocationTracker, parts: &[VarId], part: &VarId) -> usize
     ensures held { Contains parts.now part.now → (j : ℕ) × (slice_get parts.now j ≡ Some part.now)
         × (result ≡ slice_index held.now.parts.items j) }
     ensures none { result ≢ 0 → Contains parts.now part.now }
@@ -106,7 +106,7 @@ fn part_class(held: &Held, parts: &[VarId], part: &VarId) -> usize
 }
 
 /// The class of the part at an index.
-fn part_at(held: &Held, j: usize) -> usize
+fn part_at(held: &LocationTracker, j: usize) -> usize
     ensures { result ≡ slice_index held.now.parts.items j }
 {
     if j < held.parts.len() {

@@ -10,7 +10,7 @@ use Rattle.value_solver.specs.Entry.{IsEntry}
 use Rattle.value_solver.specs.declared.flow.Flow.{Flow}
 use Rattle.value_solver.specs.Hands.{AreSoundFlows, ArePredecessors, IsShaped, handed, preds_at}
 use Rattle.value_solver.specs.Flows.{AreFlows, IsStart}
-use Rattle.value_solver.specs.Invariants.{IsTable, Swept, Settled, AreProven, Facts, IsSettled, weight_of}
+use Rattle.value_solver.specs.Invariants.{IsTable, SweepStep, Fixpoint, AreProven, Facts, IsSettled, weight_of}
 use Rattle.value_solver.proofs.Weights.{light, light_table}
 use Rattle.value_solver.proofs.Proven.{exact}
 
@@ -27,7 +27,7 @@ settling_begins n start flows preds old dirty t = record { table = t; proven = �
 
 pub settling_goes_on : (n : ℕ) (start : BlockEntry) (flows : List Flow) (preds : List (List ℕ)) (old now new : List BlockEntry) (dirty after : List Bool)
     (sweeps more : ℕ) (changed : Bool) →
-    changed ≡ true → more ≤ sweeps + 1 → Settling n start flows preds old now dirty sweeps → Swept n start flows preds now new after changed →
+    changed ≡ true → more ≤ sweeps + 1 → Settling n start flows preds old now dirty sweeps → SweepStep n start flows preds now new after changed →
     Settling n start flows preds old new after more
 settling_goes_on n start flows preds old now new dirty after sweeps more changed e le s w = record {
   table = w.table;
@@ -37,8 +37,8 @@ settling_goes_on n start flows preds old now new dirty after sweeps more changed
 
 pub settling_ends : (n : ℕ) (start : BlockEntry) (flows : List Flow) (preds : List (List ℕ)) (old now new : List BlockEntry) (dirty after : List Bool)
     (sweeps : ℕ) (changed : Bool) →
-    changed ≡ false → Settling n start flows preds old now dirty sweeps → Swept n start flows preds now new after changed →
-    Settled n start flows preds old new after sweeps
+    changed ≡ false → Settling n start flows preds old now dirty sweeps → SweepStep n start flows preds now new after changed →
+    Fixpoint n start flows preds old new after sweeps
 settling_ends n start flows preds old now new dirty after sweeps changed e s w = record {
   table = w.table;
   proven = λ g xs is facts p. w.proven g xs is facts (s.proven g xs is facts p);
@@ -54,7 +54,7 @@ table_is_light n start flows preds entries dirty t =
 
 -- what is left to the greatest weight falls
 pub falls : (n : ℕ) (start : BlockEntry) (flows : List Flow) (preds : List (List ℕ)) (old new : List BlockEntry) (after : List Bool) (changed : Bool) →
-    changed ≡ true → Swept n start flows preds old new after changed → 2 * n * length flows - weight_of new < 2 * n * length flows - weight_of old
+    changed ≡ true → SweepStep n start flows preds old new after changed → 2 * n * length flows - weight_of new < 2 * n * length flows - weight_of old
 falls n start flows preds old new after changed e w = omega (arith, w.heavier e, table_is_light n start flows preds new after w.table)
 
 -- a table of which nothing is known
@@ -94,7 +94,7 @@ pub settled_is_exact : (n : ℕ) (start : BlockEntry) (flows : List Flow) (preds
       classes = [];
       given = [];
     }) →
-    Settled n start flows preds old new after sweeps → (g : Program) (xs : List Tracked) → length xs ≡ n → AreFlows g xs flows → IsStart xs start →
+    Fixpoint n start flows preds old new after sweeps → (g : Program) (xs : List Tracked) → length xs ≡ n → AreFlows g xs flows → IsStart xs start →
     (b : ℕ) (e : BlockEntry) → slice_get new b ≡ Some e → IsEntry g xs b e
 settled_is_exact n start flows preds old new after sweeps sound are_preds each s g xs is are_flows is_start b e at =
     exact g xs start flows preds facts new shaped settled (s.proven g xs is facts (first_proven g xs old each)) s.table.long b e at where

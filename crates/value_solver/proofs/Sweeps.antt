@@ -8,7 +8,7 @@ use Rattle.mir_func.specs.Graph.{Program}
 use Rattle.value_solver.specs.declared.tracked.Tracked.{Tracked}
 use Rattle.value_solver.specs.declared.entry.BlockEntry.{BlockEntry}
 use Rattle.value_solver.specs.declared.flow.Flow.{Flow}
-use Rattle.value_solver.specs.Invariants.{IsTable, Turned, Swept, AreProven, Facts, weight_of}
+use Rattle.value_solver.specs.Invariants.{IsTable, Turned, SweepStep, AreProven, Facts, weight_of}
 
 -- so many of the ways are marked
 pub record IsMarked (ways : List ℕ) (k : ℕ) (old new : List Bool) : Type 0 where
@@ -95,7 +95,7 @@ sweep_turns n start flows preds old now next before after order k b changed fals
 pub sweep_ends : (n : ℕ) (start : BlockEntry) (flows : List Flow) (preds : List (List ℕ)) (old new : List BlockEntry) (dirty : List Bool) (order : List ℕ)
     (k : ℕ) (changed : Bool) →
     length order ≤ k → ((b : ℕ) → b < length flows → Contains order b) → Sweeping n start flows preds old new dirty order k changed →
-    Swept n start flows preds old new dirty changed
+    SweepStep n start flows preds old new dirty changed
 sweep_ends n start flows preds old new dirty order k changed far all s = record {
   table = s.table;
   proven = s.proven;

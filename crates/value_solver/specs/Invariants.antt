@@ -122,7 +122,7 @@ AllClean dirty = (c : ℕ) → c < length dirty → slice_index_or dirty c true 
 
 -- a sweep over all blocks. It preserves the invariants; if an entry changed the measure has grown, otherwise the worklist is
 -- empty
-pub record Swept (n : ℕ) (start : BlockEntry) (flows : List Flow) (preds : List (List ℕ)) (old new : List BlockEntry) (after : List Bool)
+pub record SweepStep (n : ℕ) (start : BlockEntry) (flows : List Flow) (preds : List (List ℕ)) (old new : List BlockEntry) (after : List Bool)
     (changed : Bool) : Type 0 where
   pub table : IsTable n start flows preds new after
   pub proven : (g : Program) (xs : List Tracked) → length xs ≡ n → Facts g xs start flows preds → AreProven g xs old → AreProven g xs new
@@ -131,7 +131,7 @@ pub record Swept (n : ℕ) (start : BlockEntry) (flows : List Flow) (preds : Lis
   pub clean : changed ≡ false → AllClean after
 
 -- the fixpoint: an invariant table with an empty worklist, after a number of sweeps that is at most the table's measure plus 1
-pub record Settled (n : ℕ) (start : BlockEntry) (flows : List Flow) (preds : List (List ℕ)) (old new : List BlockEntry) (after : List Bool)
+pub record Fixpoint (n : ℕ) (start : BlockEntry) (flows : List Flow) (preds : List (List ℕ)) (old new : List BlockEntry) (after : List Bool)
     (sweeps : ℕ) : Type 0 where
   pub table : IsTable n start flows preds new after
   pub proven : (g : Program) (xs : List Tracked) → length xs ≡ n → Facts g xs start flows preds → AreProven g xs old → AreProven g xs new

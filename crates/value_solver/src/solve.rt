@@ -9,7 +9,7 @@ ghost use Rattle.value_solver.specs.Entry.{IsEntry};
 ghost use Rattle.value_solver.specs.Joining.{IsKnown};
 ghost use Rattle.value_solver.specs.Hands.{AreSoundFlows};
 ghost use Rattle.value_solver.specs.Flows.{AreFlows, IsStart};
-ghost use Rattle.value_solver.specs.Invariants.{IsProblem, IsOrder, IsTable, Settled};
+ghost use Rattle.value_solver.specs.Invariants.{IsProblem, IsOrder, IsTable, Fixpoint};
 
 use crate::entry::{BlockEntries, BlockEntry};
 use crate::flow::{Flow, Ways};
@@ -42,7 +42,7 @@ fn settle(
         dirty.old.items }
     requires order { IsOrder flows.now order.now }
     ensures { IfOk result (λ sweeps.
-        Settled (length start.now.classes) start.now flows.now preds.now entries.old.items entries.new.items
+        Fixpoint (length start.now.classes) start.now flows.now preds.now entries.old.items entries.new.items
         dirty.new.items sweeps) }
 {
     let mut sweeps = 1u64;

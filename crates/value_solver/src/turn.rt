@@ -2,7 +2,7 @@
 
 ghost use Rattle.std.specs.Prelude.{◌≡◌, ℕ, ◌<◌, length, slice_index_or, IfOk, All, cond};
 ghost use Rattle.std.specs.Prelude.{true, false, Contains};
-ghost use Rattle.value_solver.specs.Invariants.{IsProblem, IsOrder, IsTable, Turned, Swept};
+ghost use Rattle.value_solver.specs.Invariants.{IsProblem, IsOrder, IsTable, Turned, SweepStep};
 
 use crate::entry::BlockEntry;
 use crate::flow::{Flow, Ways};
@@ -74,7 +74,7 @@ pub fn sweep(
         dirty.old.items }
     requires order { IsOrder flows.now order.now }
     ensures { IfOk result (λ changed.
-        Swept (length start.now.classes) start.now flows.now preds.now entries.old.items entries.new.items
+        SweepStep (length start.now.classes) start.now flows.now preds.now entries.old.items entries.new.items
         dirty.new.items changed) }
 {
     let mut pairs = Pairs::new(alloc);

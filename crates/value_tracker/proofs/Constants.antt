@@ -39,8 +39,8 @@ use Rattle.value_solver.specs.declared.tracked.Tracked.TheVariants.{Register, Sl
 use Rattle.value_solver.specs.Entry.{thing}
 use Rattle.value_proof.specs.Classes.{Classes}
 use Rattle.value_proof.specs.Wanted.{HasItsClass, IsFirstByClass}
-use Rattle.value_tracker.specs.declared.index.Index.{Index}
-use Rattle.value_tracker.specs.declared.held.Held.{Held}
+use Rattle.value_tracker.specs.declared.index.TrackedIndex.{TrackedIndex}
+use Rattle.value_tracker.specs.declared.held.LocationTracker.{LocationTracker}
 use Rattle.value_tracker.specs.Things.{Settle}
 use Rattle.value_tracker.specs.Held.{slot_place, Holds}
 use Rattle.value_tracker.specs.Firsts.{IsFirstBelow, AreFirsts}
@@ -119,7 +119,7 @@ constants_now things class constants are = record {
   only = λ k c e. let o = are.only k c e in (o.0, contained things o.1.0 (Number (word c)) o.1.1, o.2);
 }
 
-module _ (variables : List VarId) (things : List Tracked) (index : Index) (settled : List ℕ) (h : Held) (class : Classes)
+module _ (variables : List VarId) (things : List Tracked) (index : TrackedIndex) (settled : List ℕ) (h : LocationTracker) (class : Classes)
     (holds : Holds variables things index settled h class) (firsts : List (Option ℕ)) (constants : List (Option ℤ))
     (are_firsts : AreFirsts h.places.items firsts) (now : ConstantsNow things class constants) (v : VarId) where
   abbrev own : ℕ

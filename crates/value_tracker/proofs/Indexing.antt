@@ -7,7 +7,7 @@ use Rattle.std.proofs.lemmas.Bool.Decides.{eqb_tells}
 use Rattle.mir_func.specs.declared.entry.OperandPair.{OperandPair}
 use Rattle.value_solver.specs.declared.tracked.Tracked.{Tracked}
 use Rattle.value_solver.specs.declared.tracked.Tracked.TheVariants.{Pair, Number}
-use Rattle.value_tracker.specs.declared.index.Index.{Index}
+use Rattle.value_tracker.specs.declared.index.TrackedIndex.{TrackedIndex}
 use Rattle.value_tracker.specs.Things.{is_key, IndexesBelow}
 
 pair_of : {p q : OperandPair} → Some (Pair p) ≡ Some (Pair q) → p ≡ q
@@ -17,7 +17,7 @@ some_if : (b : Bool) (i : ℕ) (o : Option ℕ) → IsSome o → IsSome (cond b 
 some_if true i o h = refl
 some_if false i o h = h
 
-module _ (things : List Tracked) (i : ℕ) (old new : Index) where
+module _ (things : List Tracked) (i : ℕ) (old new : TrackedIndex) where
   -- a thing that the index needs not find
   pub index_other : (x : Tracked) → slice_get things i ≡ Some x → ((c : ℕ) → x ≡ Number c → ⊥) → ((k o : ℕ) → x ≡ Pair (record { number = k; operand = o }) →
       ⊥) →

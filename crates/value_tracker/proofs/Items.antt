@@ -70,8 +70,8 @@ use Rattle.value_solver.specs.Entry.{thing}
 use Rattle.value_proof.specs.Classes.{Classes, IsKnown, KnowsRow, KnowsPair, KnowsValue, KnowsPlace, DefinePhysical, class_back}
 use Rattle.value_proof.proofs.Passing.{Knows, known_back}
 use Rattle.value_proof.proofs.Known.{StaysBare, pointer, bare_stays}
-use Rattle.value_tracker.specs.declared.index.Index.{Index}
-use Rattle.value_tracker.specs.declared.held.Held.{Held}
+use Rattle.value_tracker.specs.declared.index.TrackedIndex.{TrackedIndex}
+use Rattle.value_tracker.specs.declared.held.LocationTracker.{LocationTracker}
 use Rattle.value_tracker.specs.Things.{is_key}
 use Rattle.value_tracker.specs.Held.{SLOTS_FROM, PLACES, slot_place, class_at, number_class, given_or, pair_class, Holds, places_past, part_past}
 use Rattle.value_tracker.specs.Held.{resolved_class, value_class, place_class, operand_class}
@@ -89,7 +89,7 @@ eq_swap m n = by_test (nat_eq m n) refl where
   by_test true e = sym (eq-eqb n m (sym (eqb-true m n e)))
   by_test false e = sym (ne_eqb n m (λ h. let on : nat_eq m n ≡ true = eq-eqb m n (sym h) in cc))
 
-module _ (variables : List VarId) (things : List Tracked) (index : Index) (settled : List ℕ) (h : Held) (class : Classes)
+module _ (variables : List VarId) (things : List Tracked) (index : TrackedIndex) (settled : List ℕ) (h : LocationTracker) (class : Classes)
     (holds : Holds variables things index settled h class) where
   abbrev known : List path.Tracked
   known = map thing things
@@ -136,7 +136,7 @@ module _ (variables : List VarId) (things : List Tracked) (index : Index) (settl
 
   -- ---- code
 
-  module _ (resolve : OperandPair → Option OperandPair) (i : Instruction) (k : Held)
+  module _ (resolve : OperandPair → Option OperandPair) (i : Instruction) (k : LocationTracker)
       (knows_row : KnowsRow known (row_of i)) (physical : DefinePhysical (is_call (row_of i)) i.operands) (count : length k.places.items ≡ PLACES)
       (places : (p : ℕ) → slice_index k.places.items p ≡ places_past (number_class index settled) h.next (row_of i) (slice_index h.places.items) p)
       (parts : k.parts ≡ h.parts) (next : k.next ≡ h.next + 32) where
@@ -260,7 +260,7 @@ module _ (variables : List VarId) (things : List Tracked) (index : Index) (settl
   value_is resolve (At r) k = holds.registers r k
   value_is resolve (Pair q) k = resolved_is (resolve q) k
 
-  pub mark_holds : (resolve : OperandPair → Option OperandPair) (v : VarId) (m : MarkValue) (parts : Held) → KnowsValue known resolve m →
+  pub mark_holds : (resolve : OperandPair → Option OperandPair) (v : VarId) (m : MarkValue) (parts : LocationTracker) → KnowsValue known resolve m →
       parts.places ≡ h.places → parts.pairs ≡ h.pairs → parts.next ≡ h.next → length parts.parts.items ≡ length variables →
       ((j : ℕ) (w : VarId) → slice_get variables j ≡ Some w →
       slice_index parts.parts.items j ≡ part_past v (value_class index settled resolve h m) w (slice_index h.parts.items j)) →
@@ -314,7 +314,7 @@ module _ (variables : List VarId) (things : List Tracked) (index : Index) (settl
   phi_below p j (OfVariable v) k kx = holds.below (OfVariable v) kx
   phi_below p j (OfNumber c) k kx = holds.below (OfNumber c) kx
 
-  pub phi_holds : (p : Option Place) (n : ℕ) (k : Held) → KnowsPlace known p → k.places ≡ h.places → k.parts ≡ h.parts → k.next ≡ h.next →
+  pub phi_holds : (p : Option Place) (n : ℕ) (k : LocationTracker) → KnowsPlace known p → k.places ≡ h.places → k.parts ≡ h.parts → k.next ≡ h.next →
       ((q : ℕ × ℕ) → get is_key k.pairs q ≡ cond (is_key (n, 0) q) (Some (place_class index settled h p)) (get is_key h.pairs q)) →
       Holds variables things index settled k (λ x. class_back class fresh (back_phi p n x))
   phi_holds p n k knows places parts next pairs = record {
@@ -349,7 +349,7 @@ module _ (variables : List VarId) (things : List Tracked) (index : Index) (settl
         ∙ by_tests m o c (nat_eq m n) (nat_eq o 0))
 
   -- code with a number, in its two steps: the places, and then the pairs
-  pub numbered_step : (resolve : OperandPair → Option OperandPair) (i : Instruction) (mid k : Held) (n : ℕ) (call : Bool) (operands : List Operand) →
+  pub numbered_step : (resolve : OperandPair → Option OperandPair) (i : Instruction) (mid k : LocationTracker) (n : ℕ) (call : Bool) (operands : List Operand) →
       KnowsRow known (row_of i) → DefinePhysical (is_call (row_of i)) i.operands → length mid.places.items ≡ PLACES →
       ((p : ℕ) → slice_index mid.places.items p ≡ places_past (number_class index settled) h.next (row_of i) (slice_index h.places.items) p) →
       mid.pairs ≡ h.pairs → mid.parts ≡ h.parts → mid.next ≡ h.next → k.places ≡ mid.places → k.parts ≡ mid.parts → k.next ≡ mid.next + 32 →

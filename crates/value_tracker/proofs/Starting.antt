@@ -13,8 +13,8 @@ use Rattle.value_solver.specs.declared.tracked.Tracked.{Tracked}
 use Rattle.value_solver.specs.declared.tracked.Tracked.TheVariants.{Register, Slot, Pair, Part, Number}
 use Rattle.value_solver.specs.Entry.{thing}
 use Rattle.value_proof.specs.Classes.{Classes, IsKnown}
-use Rattle.value_tracker.specs.declared.index.Index.{Index}
-use Rattle.value_tracker.specs.declared.held.Held.{Held}
+use Rattle.value_tracker.specs.declared.index.TrackedIndex.{TrackedIndex}
+use Rattle.value_tracker.specs.declared.held.LocationTracker.{LocationTracker}
 use Rattle.value_tracker.specs.Things.{AreThings, Indexes, IsOffset, Settle, is_key}
 use Rattle.value_tracker.specs.Held.{PLACES, slot_place, class_at, number_class, given_or, Holds}
 use Rattle.value_tracker.specs.Start.{stands_at, PlacedBelow}
@@ -161,7 +161,8 @@ placed_none things settled places empty = record {
 
 -- ---- what is held
 
-module _ (variables : List VarId) (things : List Tracked) (index : Index) (settled : List ℕ) (are : AreThings variables things) (indexes : Indexes things index)
+module _ (variables : List VarId) (things : List Tracked) (index : TrackedIndex) (settled : List ℕ) (are : AreThings variables things)
+    (indexes : Indexes things index)
     (class : Classes) (settle : Settle things settled class) where
   settled_is : (y : path.Tracked) → (s : Stands things y) → slice_index settled s.index ≡ class y
   settled_is y s = settle.each s.index s.item s.at ∙ ap class s.is
@@ -187,7 +188,7 @@ module _ (variables : List VarId) (things : List Tracked) (index : Index) (settl
       pair_at k o (get is_key index.pairs (k, o)) refl (indexes.each_pair k o s.index (slice_get_within things s.index (Pair
       (record { number = k; operand = o })) at) at)
 
-  module _ (places : List ℕ) (placed : PlacedBelow things settled (length things) places) (h : Held) (count : length h.places.items ≡ PLACES)
+  module _ (places : List ℕ) (placed : PlacedBelow things settled (length things) places) (h : LocationTracker) (count : length h.places.items ≡ PLACES)
       (fixed : (p : ℕ) → slice_index h.places.items p ≡ cond (nat_eq p 2) 0 (cond (nat_eq p 0) (number_class index settled 0) (slice_index places p)))
       (pairs : (q : ℕ × ℕ) → get is_key h.pairs q ≡ None) (parts : (j : ℕ) → j < length variables → slice_get h.parts.items j ≡ Some (slice_index settled j))
       (next : (i : ℕ) → slice_index settled i < h.next) where

@@ -40,8 +40,8 @@ use Rattle.sem_value_ids.specs.Pullback.{InRegister, InSlot, OfPair, OfVariable,
 use Rattle.value_solver.specs.declared.tracked.Tracked.{Tracked}
 use Rattle.value_solver.specs.Entry.{thing}
 use Rattle.value_proof.specs.Classes.{Classes, IsKnown, KnowsItem, class_back}
-use Rattle.value_tracker.specs.declared.index.Index.{Index}
-use Rattle.value_tracker.specs.declared.held.Held.{Held}
+use Rattle.value_tracker.specs.declared.index.TrackedIndex.{TrackedIndex}
+use Rattle.value_tracker.specs.declared.held.LocationTracker.{LocationTracker}
 use Rattle.value_tracker.specs.Things.{is_key, IsOffset}
 
 -- the location index of the doubleword at x2. Registers have the indices below it, and the doublewords at offsets up to 2,024
@@ -63,7 +63,7 @@ class_at settled None = 0
 class_at settled (Some i) = slice_index settled i
 
 -- a constant's class, which is the one at the block's start
-abbrev pub number_class : Index → List ℕ → ℕ → ℕ
+abbrev pub number_class : TrackedIndex → List ℕ → ℕ → ℕ
 number_class index settled c = class_at settled (get nat_eq index.numbers c)
 
 -- a pair's class: the one that an item of the block defined, or else the one at the block's start
@@ -72,11 +72,12 @@ given_or None c = c
 given_or (Some d) c = d
 
 -- the class of operand o of debug instruction number k, between two items of the block
-abbrev pub pair_class : Index → List ℕ → Held → ℕ → ℕ → ℕ
+abbrev pub pair_class : TrackedIndex → List ℕ → LocationTracker → ℕ → ℕ → ℕ
 pair_class index settled h k o = given_or (get is_key h.pairs (k, o)) (class_at settled (get is_key index.pairs (k, o)))
 
 -- the state holds these classes of the tracked entities
-pub record Holds (variables : List VarId) (things : List Tracked) (index : Index) (settled : List ℕ) (h : Held) (class : Classes) : Type 0 where
+pub record Holds (variables : List VarId) (things : List Tracked) (index : TrackedIndex) (settled : List ℕ) (h : LocationTracker)
+    (class : Classes) : Type 0 where
   pub count : length h.places.items ≡ PLACES
   pub registers : (r : ℕ) → r < 32 → slice_index h.places.items r ≡ class (InRegister r)
   pub slots : (n : ℕ) → Contains (map thing things) (InSlot n) → slice_index h.places.items (slot_place n) ≡ class (InSlot n)
@@ -91,8 +92,8 @@ pub record Holds (variables : List VarId) (things : List Tracked) (index : Index
 
 -- the step over an item: if the state before it holds the classes there, the state after it holds those past it. The class of a
 -- new token is `before.next` plus its register
-abbrev pub Passes : (variables : List VarId) (things : List Tracked) (index : Index) (settled : List ℕ) → (OperandPair → Option OperandPair) →
-    (before after : Held) → ItemKind → Type 0
+abbrev pub Passes : (variables : List VarId) (things : List Tracked) (index : TrackedIndex) (settled : List ℕ) → (OperandPair → Option OperandPair) →
+    (before after : LocationTracker) → ItemKind → Type 0
 Passes variables things index settled resolve before after kind = (class : Classes) → Holds variables things index settled before class →
     KnowsItem (map thing things) resolve kind →
     Holds variables things index settled after (λ x. class_back class (λ r. before.next + r) (back resolve 0 kind x))
@@ -129,25 +130,25 @@ part_past v c w d = cond (is_same w v) c (cond (overlaps w v) 0 d)
 -- ---- what debug values and DBG_PHIs read, and what operands define
 
 -- the class of the pair that a debug operand resolves to, or 0 if it resolves to none
-abbrev pub resolved_class : Index → List ℕ → Held → Option OperandPair → ℕ
+abbrev pub resolved_class : TrackedIndex → List ℕ → LocationTracker → Option OperandPair → ℕ
 resolved_class index settled h None = 0
 resolved_class index settled h (Some q) = pair_class index settled h q.number q.operand
 
 -- the class of the value of a debug value's operand, or 0 for $noreg
-abbrev pub value_class : Index → List ℕ → (OperandPair → Option OperandPair) → Held → MarkValue → ℕ
+abbrev pub value_class : TrackedIndex → List ℕ → (OperandPair → Option OperandPair) → LocationTracker → MarkValue → ℕ
 value_class index settled resolve h Nothing = 0
 value_class index settled resolve h (Constant c) = number_class index settled (word c)
 value_class index settled resolve h (At r) = slice_index h.places.items r
 value_class index settled resolve h (Pair q) = resolved_class index settled h (resolve q)
 
 -- the class of the value in a location
-abbrev pub at_class : Index → List ℕ → Held → Place → ℕ
+abbrev pub at_class : TrackedIndex → List ℕ → LocationTracker → Place → ℕ
 at_class index settled h (Register r) = slice_index h.places.items r
 at_class index settled h (Slot n) = slice_index h.places.items (slot_place n)
 at_class index settled h (Const c) = number_class index settled (word c)
 
 -- the class of the value in a DBG_PHI's location, or 0 if it has none
-abbrev pub place_class : Index → List ℕ → Held → Option Place → ℕ
+abbrev pub place_class : TrackedIndex → List ℕ → LocationTracker → Option Place → ℕ
 place_class index settled h None = 0
 place_class index settled h (Some p) = at_class index settled h p
 

@@ -8,7 +8,7 @@ use Rattle.value_solver.specs.declared.tracked.Tracked.{Tracked}
 use Rattle.value_solver.specs.declared.tracked.Tracked.TheVariants.{Register, Slot, Pair, Part, Number}
 use Rattle.value_solver.specs.Entry.{thing}
 use Rattle.value_proof.specs.Classes.{Classes}
-use Rattle.value_tracker.specs.declared.index.Index.{Index}
+use Rattle.value_tracker.specs.declared.index.TrackedIndex.{TrackedIndex}
 
 -- the offset of a doubleword of the largest frame, in bytes from x2
 abbrev pub IsOffset : ℕ → Type 0
@@ -28,14 +28,14 @@ abbrev pub is_key : ℕ × ℕ → ℕ × ℕ → Bool
 is_key p q = nat_eq p.0 q.0 && nat_eq p.1 q.1
 
 -- the index maps each constant and each pair among the first n entities to its position in the list, and contains no others
-pub record IndexesBelow (n : ℕ) (things : List Tracked) (index : Index) : Type 0 where
+pub record IndexesBelow (n : ℕ) (things : List Tracked) (index : TrackedIndex) : Type 0 where
   pub numbers : (c i : ℕ) → get nat_eq index.numbers c ≡ Some i → (i < n) × (slice_get things i ≡ Some (Number c))
   pub each_number : (c j : ℕ) → j < n → slice_get things j ≡ Some (Number c) → IsSome (get nat_eq index.numbers c)
   pub pairs : (k o i : ℕ) → get is_key index.pairs (k, o) ≡ Some i → (i < n) × (slice_get things i ≡ Some (Pair (record { number = k; operand = o })))
   pub each_pair : (k o j : ℕ) → j < n → slice_get things j ≡ Some (Pair (record { number = k; operand = o })) → IsSome (get is_key index.pairs (k, o))
 
 -- the index is exact for the whole list
-abbrev pub Indexes : List Tracked → Index → Type 0
+abbrev pub Indexes : List Tracked → TrackedIndex → Type 0
 Indexes things index = IndexesBelow (length things) things index
 
 -- the class of the entity at i if it has a token on every path (its bit is set), and 0 otherwise

@@ -16,7 +16,7 @@ pub const PLACES: usize = 286;
 
 /// The tracker's state between two items of a block (LLVM: `MLocTracker`). Class 0 means no class.
 #[derive(Drop)]
-pub struct Held {
+pub struct LocationTracker {
     /// The class of each machine location: registers by their numbers, then the doublewords of the frame by their
     /// offsets from x2. x0 has the class of the constant 0, and x2 has none.
     pub places: Vec<usize>,
@@ -35,7 +35,7 @@ pub fn slot_place(n: SlotId) -> usize
     SLOTS_FROM + n.number() as usize / 8
 }
 
-impl Held {
+impl LocationTracker {
     /// The class at a location index, or 0.
     pub fn place(&self, i: usize) -> usize
         ensures { result ≡ slice_index self.now.places.items i }

@@ -28,7 +28,7 @@ use value_solver::tracked::Tracked;
 
 /// The positions of constants and pairs in a list of tracked entities.
 #[derive(Drop)]
-pub struct Index {
+pub struct TrackedIndex {
     /// The positions of constants, by their number modulo 2^64.
     pub numbers: HashMap<u64, usize>,
     /// The positions of pairs, by debug instruction number and operand index.
@@ -36,10 +36,10 @@ pub struct Index {
 }
 
 /// The index of a list. The error is out of memory.
-pub fn index_of(alloc: Global, things: &[Tracked]) -> Result<Index, AllocError>
+pub fn index_of(alloc: Global, things: &[Tracked]) -> Result<TrackedIndex, AllocError>
     ensures { IfOk result (Indexes things.now) }
 {
-    let mut index = Index {
+    let mut index = TrackedIndex {
         numbers: HashMap::new(alloc),
         pairs: HashMap::new(alloc),
     };
@@ -49,7 +49,7 @@ pub fn index_of(alloc: Global, things: &[Tracked]) -> Result<Index, AllocError>
     Ok(index)
 }
 
-impl Index {
+impl TrackedIndex {
     /// Adds the entity at position i.
     fn add(&mut self, i: usize, thing: Tracked) -> Result<(), AllocError>
         ensures { OnOk result ((things : List Tracked) → slice_get things i ≡ Some thing →
@@ -87,14 +87,14 @@ fn class_of(settled: &[usize], i: usize) -> usize
 }
 
 /// The class of a constant at the start of a block, by the classes of all entities there.
-pub fn number_class(index: &Index, settled: &[usize], n: u64) -> usize
+pub fn number_class(index: &TrackedIndex, settled: &[usize], n: u64) -> usize
     ensures { result ≡ number_class index.now settled.now n }
 {
     class_at(settled, index.numbers.get(&n).copied())
 }
 
 /// The class of a pair at the start of a block, by the classes of all entities there.
-pub fn pair_class(index: &Index, settled: &[usize], number: u32, operand: usize) -> usize
+pub fn pair_class(index: &TrackedIndex, settled: &[usize], number: u32, operand: usize) -> usize
     ensures { result ≡ class_at settled.now (get is_key index.now.pairs (number, operand)) }
 {
     class_at(settled, index.pairs.get(&(number, operand)).copied())

@@ -34,8 +34,8 @@ ghost use Rattle.value_tracker.specs.Held.{
 };
 ghost use Rattle.value_tracker.specs.Things.{is_key};
 
-use crate::held::{Held, PLACES, SLOTS_FROM, slot_place};
-use crate::index::{Index, key, number_class, pair_class};
+use crate::held::{LocationTracker, PLACES, SLOTS_FROM, slot_place};
+use crate::index::{TrackedIndex, key, number_class, pair_class};
 use base_ids::code::DebugNumber;
 use mir_func::entry::OperandPair;
 use mir_func::item::ItemKind;
@@ -55,7 +55,7 @@ const MOST_CLASSES: usize = 1 << 62;
 #[derive(Drop)]
 pub struct Block<'a> {
     /// The positions of constants and pairs in the list of tracked entities.
-    pub index: &'a Index,
+    pub index: &'a TrackedIndex,
     /// The class of each tracked entity at the start of the block, or 0.
     pub settled: &'a [usize],
     /// The tracked parts of variables.
@@ -64,7 +64,7 @@ pub struct Block<'a> {
     pub subs: &'a Substitutions,
 }
 
-impl Held {
+impl LocationTracker {
     /// The class of a pair.
     fn pair(&self, block: &Block, number: u32, operand: usize) -> usize
         ensures { result ≡ pair_class block.now.index.now block.now.settled.now self.now number operand }

@@ -4,15 +4,15 @@ ghost use Rattle.std.specs.Prelude.{◌≡◌, ◌<◌, ◌^◌, ℕ, length, sl
 ghost use Rattle.rv64_instr.specs.Row.{row_of};
 ghost use Rattle.value_tracker.specs.Held.{number_class, places_past};
 
-use crate::held::{Held, PLACES, slot_place};
-use crate::index::{Index, number_class};
+use crate::held::{LocationTracker, PLACES, slot_place};
+use crate::index::{TrackedIndex, number_class};
 use rv64_instr::decoded::Decoded;
 use rv64_instr::instr::Instr;
 
-impl Held {
+impl LocationTracker {
     /// Sets the classes of the locations that an instruction writes. Each register has a new class of its own for a new
     /// token.
-    pub fn pass_row(&mut self, index: &Index, settled: &[usize], instr: &Instr)
+    pub fn pass_row(&mut self, index: &TrackedIndex, settled: &[usize], instr: &Instr)
         requires count { length self.old.places.items ≡ PLACES }
         requires few { self.old.next < 2 ^ 62 }
         ensures places { (i : ℕ) → slice_index self.new.places.items i

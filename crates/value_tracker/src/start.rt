@@ -27,8 +27,8 @@ ghost use Rattle.value_solver.specs.declared.tracked.Tracked.TheVariants.{Slot};
 ghost use Rattle.value_tracker.specs.Held.{PLACES, Holds};
 ghost use Rattle.value_tracker.specs.Start.{stands_at, PlacedBelow};
 
-use crate::held::{Held, PLACES, SLOTS_FROM, slot_place};
-use crate::index::{Index, number_class};
+use crate::held::{LocationTracker, PLACES, SLOTS_FROM, slot_place};
+use crate::index::{TrackedIndex, number_class};
 use mir_func::variable::VarId;
 use std::alloc::{AllocError, Global};
 use std::collections::HashMap;
@@ -69,9 +69,9 @@ pub fn start(
     alloc: Global,
     things: &[Tracked],
     variables: &[VarId],
-    index: &Index,
+    index: &TrackedIndex,
     settled: &[usize],
-) -> Result<Held, AllocError>
+) -> Result<LocationTracker, AllocError>
     requires things { AreThings variables.now things.now }
     requires index { Indexes things.now index.now }
     requires settled { length settled.now ≡ length things.now }
@@ -85,7 +85,7 @@ pub fn start(
     let mut places = no_classes(alloc)?;
     place(&mut places, things, settled);
     set_fixed(&mut places, number_class(index, settled, 0));
-    Ok(Held {
+    Ok(LocationTracker {
         places,
         pairs: HashMap::new(alloc),
         parts: Vec::from_slice(alloc, &settled[..variables.len()])?,

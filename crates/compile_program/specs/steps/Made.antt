@@ -2,9 +2,9 @@
 use Rattle.std.specs.Prelude.{◌≡◌, ℕ, ◌*◌, ◌%◌, ◌<◌, ◌≤◌, List, length, map, All}
 use Rattle.emit_code.specs.Counts.{MAX_WORDS}
 use Rattle.pass_trait.specs.declared.loss.Loss.{Loss}
-use Rattle.pass_trait.specs.Steps.{Step}
+use Rattle.pass_trait.specs.Steps.{PassStep}
 use Rattle.frame_rule.specs.Rule.{size_of}
-use Rattle.compile_function.specs.declared.emit.Made.{Made}
+use Rattle.compile_function.specs.declared.emit.EmittedFunctions.{EmittedFunctions}
 use Rattle.compile_function.specs.Emitted.{names_of, AreWritable, IsPushed}
 use Rattle.compile_function.specs.Passed.{source_of, IsMadeBy, IsMadeLosing, IsCompilable, steps_of}
 use Rattle.read_metadata.specs.Maps.{Maps}
@@ -17,7 +17,8 @@ use Rattle.pass_list.specs.declared.kind.PassKind.{PassKind}
 use Rattle.compile_program.specs.Program.{ArePassed, AreMadeLosing, AreCoded}
 
 -- One more function is run through the passes, with these losses, and compiled after the previous ones.
-pub record IsSourcePushed (meta : Maps) (reserve : List ℕ) (passes : List PassKind) (q : Parsed) (losses : List Loss) (before after : Made) : Type 0 where
+pub record IsSourcePushed (meta : Maps) (reserve : List ℕ) (passes : List PassKind) (q : Parsed) (losses : List Loss)
+    (before after : EmittedFunctions) : Type 0 where
   pub passed : PassedFunction
   pub source : passed.source ≡ source_of q
   pub compilable : IsCompilable meta passed
@@ -25,14 +26,15 @@ pub record IsSourcePushed (meta : Maps) (reserve : List ℕ) (passes : List Pass
   pub pushed : IsPushed meta passed before after
 
 -- The function, after the steps of passes, has a frame above the limit.
-pub record IsTooLarge (steps : List Step) (q : Parsed) : Type 0 where
+pub record IsTooLarge (steps : List PassStep) (q : Parsed) : Type 0 where
   pub passed : PassedFunction
   pub source : passed.source ≡ source_of q
   pub made : IsMadeBy steps passed
   pub large : MAX_FRAME < size_of passed.function
 
 -- The functions are run through the passes, with these losses of each, and compiled from address 0 on.
-pub record AreMade (meta : Maps) (reserve : List ℕ) (passes : List PassKind) (functions : List Parsed) (losses : List (List Loss)) (m : Made) : Type 0 where
+pub record AreMade (meta : Maps) (reserve : List ℕ) (passes : List PassKind) (functions : List Parsed) (losses : List (List Loss))
+    (m : EmittedFunctions) : Type 0 where
   pub passed : List PassedFunction
   pub are : ArePassed meta functions passed
   pub made : All (IsMadeBy (steps_of reserve passes)) passed

@@ -6,16 +6,16 @@ use Rattle.dwarf_loclists.specs.declared.range.Location.{Location}
 use Rattle.dwarf_loclists.specs.declared.range.Range.{Range}
 use Rattle.dwarf_loclists.specs.Ranges.{Ascend, IsLocated, location_in}
 use Rattle.dwarf_loclists.specs.Spelling.{expression, Spells}
-use Rattle.dwarf_loclists.specs.Fault.{Field, ListOffset, EntryKind, Nothing, Reaches, first_byte, after}
+use Rattle.dwarf_loclists.specs.Fault.{LocationListField, ListOffset, EntryKind, Nothing, Reaches, first_byte, after}
 
 -- the reader is at a field, and these bytes are left
-pub record StandsAt (bytes : List ℕ) (field : Field) (rest : List ℕ) : Type 0 where
+pub record StandsAt (bytes : List ℕ) (field : LocationListField) (rest : List ℕ) : Type 0 where
   pub reached : Reaches bytes field
   pub here : drop (first_byte field) bytes ≡ rest
   pub within : first_byte field + length rest ≡ length bytes
 
 -- the field is not the end of a section
-abbrev pub Goes : Field → Type 0
+abbrev pub Goes : LocationListField → Type 0
 Goes field = (done : List (List Range)) → field ≢ Nothing done
 
 -- the reader is before the next list. `table` is what is left from the next list's offset on, `rest` from the list's own bytes on

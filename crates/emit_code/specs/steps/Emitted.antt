@@ -2,7 +2,7 @@
 use Rattle.std.specs.Prelude.{◌≡◌, ℕ, ◌+◌, ◌<◌, ℤ, List, length, get_or, slice_index, Option}
 use Rattle.mir_func.specs.declared.item.Item.{Item}
 use Rattle.mir_func.specs.declared.position.Pos.{Pos}
-use Rattle.mir_func.specs.declared.position.Point.{Point}
+use Rattle.mir_func.specs.declared.position.ProgramPoint.{ProgramPoint}
 use Rattle.mir_func.specs.Successors.{pos_in}
 use Rattle.mir_func.specs.Sound.{HasForm}
 use Rattle.rv64_word.specs.declared.machine_op.MachineOp.{MachineOp}
@@ -10,22 +10,22 @@ use Rattle.rv64_word.specs.declared.word_op.WordOp.TheVariants.{Registers, Immed
 use Rattle.rv64_word.specs.declared.word_op.WordOp.{WordOp}
 use Rattle.emit_code.specs.Inverted.{inverted}
 use Rattle.rv64_word.specs.Lowering.{in_range, machine_op}
-use Rattle.emit_code.specs.declared.plan.Plan.{Plan}
+use Rattle.emit_code.specs.declared.plan.ItemLayout.{ItemLayout}
 use Rattle.emit_code.specs.declared.span.Span.TheVariants.{Nothing}
 use Rattle.emit_code.specs.Rule.{Layout, Site, address_in}
 use Rattle.emit_code.specs.steps.Spans.{site_span}
 
 -- at this index the plan has the span and the address of an item of a layout
-pub record StandsAt (l : Layout) (p : Plan) (index : ℕ) (s : Site) : Type 0 where
+pub record StandsAt (l : Layout) (p : ItemLayout) (index : ℕ) (s : Site) : Type 0 where
   pub span : get_or p.spans index Nothing ≡ site_span l.framed.blocks l.long s
   pub address : p.base + slice_index p.sums index ≡ address_in l s.point
 
 -- the plan has the spans and addresses of all items of a block, from this index on
-abbrev pub AllStandAt : Layout → Plan → (first block : ℕ) → List Item → Type 0
+abbrev pub AllStandAt : Layout → ItemLayout → (first block : ℕ) → List Item → Type 0
 AllStandAt l p first b items = (n : ℕ) (i : Item) → n < length items → i ≡ get_or items n i →
     StandsAt l p (first + n) (record { point = pos_in b n; item = i })
 
-abbrev pub point_of : Pos → Point
+abbrev pub point_of : Pos → ProgramPoint
 point_of p = record { block = p.block; item = p.item }
 
 -- an item whose code has the form of its opcode

@@ -7,7 +7,7 @@ use Rattle.mir_func.specs.Function.{FramedFunction}
 use Rattle.mir_func.specs.Objects.{object_of}
 use Rattle.mir_func.specs.SoundFrame.{own_size}
 use Rattle.emit_code.specs.declared.objects.ObjectOffsets.{ObjectOffsets}
-use Rattle.emit_code.specs.declared.plan.Plan.{Plan}
+use Rattle.emit_code.specs.declared.plan.ItemLayout.{ItemLayout}
 use Rattle.emit_code.specs.Rule.{Layout}
 use Rattle.emit_code.specs.Long.{IsSettled}
 use Rattle.emit_code.specs.steps.Places.{IsTableOf}
@@ -19,7 +19,7 @@ pub record AreOffsetsOf (f : FramedFunction) (o : ObjectOffsets) : Type 0 where
   pub offsets : (n : ℕ) → get nat_cmp o.offsets n ≡ option_map (λ x. own_size f + x.offset) (object_of f.objects n)
 
 -- the plan computes this layout
-pub record IsPlan (l : Layout) (p : Plan) : Type 0 where
+pub record IsPlan (l : Layout) (p : ItemLayout) : Type 0 where
   pub base : p.base ≡ l.base
   pub table : IsTableOf l.framed.blocks p.table
   pub spans : p.spans ≡ spans_of l.framed.blocks l.long
@@ -27,7 +27,7 @@ pub record IsPlan (l : Layout) (p : Plan) : Type 0 where
   pub objects : AreOffsetsOf l.framed p.objects
 
 -- the plan computes the least closed layout of a function
-pub record IsPlanOf (f : FramedFunction) (base : ℕ) (p : Plan) : Type 0 where
+pub record IsPlanOf (f : FramedFunction) (base : ℕ) (p : ItemLayout) : Type 0 where
   pub long : Pos → Bool
   pub settled : IsSettled (record { framed = f; base = base; long = long })
   pub plan : IsPlan (record { framed = f; base = base; long = long }) p

@@ -51,10 +51,10 @@ abbrev pub framed_items_in : Frame → List Item → List Item
 framed_items_in frame items = flat_map (framed_item_in frame) items
 
 abbrev pub framed_block_in : Frame → Block → Block
-framed_block_in frame b = record { id = b.id; items = framed_items_in frame b.items; silent = b.silent }
+framed_block_in frame b = record { id = b.id; items = framed_items_in frame b.items; source_end = b.source_end }
 
 abbrev pub prologue_block_in : Frame → Block → Block
-prologue_block_in frame b = record { id = b.id; items = prologue_in frame b.id; silent = b.silent }
+prologue_block_in frame b = record { id = b.id; items = prologue_in frame b.id; source_end = b.source_end }
 
 abbrev pub framed_blocks_in : Frame → List Block → List Block
 framed_blocks_in frame [] = []

@@ -3,14 +3,14 @@ use Rattle.std.specs.Prelude.{◌≡◌, ℕ, ◌<◌, List, length, Option, Non
 use Rattle.rv64_instr.specs.declared.place.Place.{Place}
 use Rattle.value_tracker.specs.Firsts.{AreFirsts}
 use Rattle.value_tracker.specs.Look.{place_of}
-use Rattle.location_ranges.specs.declared.stand.Stand.{Stand}
+use Rattle.location_ranges.specs.declared.stand.TransferTracker.{TransferTracker}
 
 -- the table of first locations is empty
 abbrev pub IsEmpty : List (Option ℕ) → Type 0
 IsEmpty firsts = (c : ℕ) → slice_index_or firsts c None ≡ None
 
 -- the place of each part: the first location of its class, and None at an unreached item
-pub record ArePlacesAt (s : Stand) (places : List (Option Place)) : Type 0 where
+pub record ArePlacesAt (s : TransferTracker) (places : List (Option Place)) : Type 0 where
   pub firsts : List (Option ℕ)
   pub are : AreFirsts s.held.places.items firsts
   pub each : (j : ℕ) → j < length places →

@@ -4,7 +4,7 @@ use Rattle.rv64_instr.specs.declared.place.Place.{Place}
 use Rattle.mir_func.specs.declared.position.Pos.{Pos}
 use Rattle.mir_func.specs.declared.variable.VarId.{VarId}
 use Rattle.mir_func.specs.Graph.{Program}
-use Rattle.emit_code.specs.declared.code.Entry.{Entry}
+use Rattle.emit_code.specs.declared.code.EncodedInstruction.{EncodedInstruction}
 use Rattle.dwarf_loclists.specs.declared.range.Location.{Location}
 use Rattle.dwarf_loclists.specs.declared.range.Range.{Range}
 use Rattle.dwarf_loclists.specs.Ranges.{ArePlaces, location_in}
@@ -28,24 +28,24 @@ pub record TurnedBelow (groups : List Group) (places : List (Option Place)) (a :
   pub rest : (k : ℕ) (u : Track) → n ≤ k → slice_get new k ≡ Some u → slice_get old k ≡ Some u
 
 -- the address of the entry at this index, or the end of the last one. The first is at address a, and entries are contiguous
-abbrev pub begin_at : (address : ℕ) → List Entry → (index : ℕ) → ℕ
+abbrev pub begin_at : (address : ℕ) → List EncodedInstruction → (index : ℕ) → ℕ
 begin_at a [] i = a
 begin_at a (e ∷ es) zero = a
 begin_at a (e ∷ es) (suc i) = begin_at (a + e.size) es i
 
 -- the track is exact for the first i entries: at each of their bytes it has the location required for the variable, and it has
 -- none outside of all entries
-pub record Says (g : Program) (start : Pos) (entries : List Entry) (v : VarId) (i a : ℕ) (t : Track) : Type 0 where
-  pub inside : (n : ℕ) (e : Entry) → n < i → slice_get entries n ≡ Some e → (x : ℕ) → HasByte e x →
+pub record Says (g : Program) (start : Pos) (entries : List EncodedInstruction) (v : VarId) (i a : ℕ) (t : Track) : Type 0 where
+  pub inside : (n : ℕ) (e : EncodedInstruction) → n < i → slice_get entries n ≡ Some e → (x : ℕ) → HasByte e x →
       IsWantedLocation g start v (point_of e) (location_in (covered t a) x)
-  pub outside : (x : ℕ) → ((e : Entry) → Contains entries e → HasByte e x → ⊥) → location_in (covered t a) x ≡ None
+  pub outside : (x : ℕ) → ((e : EncodedInstruction) → Contains entries e → HasByte e x → ⊥) → location_in (covered t a) x ≡ None
   pub places : (b : ℕ) → ArePlaces (covered t b)
 
 -- each track is in order up to an address
 abbrev pub AreTracksTo : (tracks : List Track) → (address : ℕ) → Type 0
 AreTracksTo tracks a = (k : ℕ) (t : Track) → slice_get tracks k ≡ Some t → IsTrackTo t a
 
-abbrev pub AllSay : (g : Program) (start : Pos) → List Entry → List VarId → (i a : ℕ) → List Track → Type 0
+abbrev pub AllSay : (g : Program) (start : Pos) → List EncodedInstruction → List VarId → (i a : ℕ) → List Track → Type 0
 AllSay g start entries variables i a tracks = (k : ℕ) (v : VarId) (t : Track) → slice_get variables k ≡ Some v → slice_get tracks k ≡ Some t →
     Says g start entries v i a t
 

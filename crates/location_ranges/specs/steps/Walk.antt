@@ -3,7 +3,7 @@ use Rattle.std.specs.Prelude.{◌≡◌, ℕ, ◌≤◌, List, length, Some, sli
 use Rattle.mir_func.specs.declared.block.Block.{Block}
 use Rattle.mir_func.specs.declared.variable.VarId.{VarId}
 use Rattle.mir_func.specs.Graph.{block_start}
-use Rattle.emit_code.specs.declared.code.Entry.{Entry}
+use Rattle.emit_code.specs.declared.code.EncodedInstruction.{EncodedInstruction}
 use Rattle.location_of_variable.specs.declared.group.Group.{Group}
 use Rattle.location_ranges.specs.declared.ranges.Walk.{Walk}
 use Rattle.location_ranges.specs.declared.track.Track.{Track}
@@ -14,7 +14,7 @@ use Rattle.location_ranges.specs.steps.Places.{IsEmpty}
 use Rattle.location_ranges.specs.steps.Saying.{begin_at, AreTracksTo, AllSay}
 
 -- the entry's point is in the blocks: an item of a block, or the block's end
-abbrev pub IsPointIn : List Block → Entry → Type 0
+abbrev pub IsPointIn : List Block → EncodedInstruction → Type 0
 IsPointIn blocks e = (block : Block) × (slice_get blocks e.point.block ≡ Some block) × (e.point.item ≤ length block.items)
 
 -- the tables of the walk have the right lengths, and that of first locations is empty
@@ -25,6 +25,7 @@ pub record Fits (v : Values) (groups : List Group) (w : Walk) : Type 0 where
   pub tracks : length w.tracks.items ≡ length groups
 
 -- up to the entry at index i the tracks ascend, and they are exact for the first i entries
-pub record HaveSaid (blocks : List Block) (v : Values) (entries : List Entry) (variables : List VarId) (base i : ℕ) (tracks : List Track) : Type 0 where
+pub record HaveSaid (blocks : List Block) (v : Values) (entries : List EncodedInstruction) (variables : List VarId) (base i : ℕ)
+    (tracks : List Track) : Type 0 where
   pub ascend : AreTracksTo tracks (begin_at base entries i)
   pub say : AreValuesOf blocks v → AllSay (program blocks v.subs.now) (block_start 0) entries variables i (begin_at base entries i) tracks

@@ -5,20 +5,20 @@ use Rattle.mir_func.specs.declared.position.Pos.{Pos}
 use Rattle.mir_func.specs.declared.position.Origin.{Origin}
 use Rattle.mir_func.specs.declared.position.Origin.TheVariants.{Kept, Before}
 use Rattle.mir_func.specs.declared.variable.VarId.{VarId}
-use Rattle.sem_mir.specs.Align.{position_of, Arrives, First, Aligns, Since, After}
+use Rattle.sem_mir.specs.Align.{position_of, Arrives, First, MatchesNext, Since, After}
 use Rattle.sem_mir.specs.State.{State}
 use Rattle.sem_interpreter.specs.StandsFor.{Concrete, StandsFor as StandsForSource}
 use Rattle.dwarf_loclists.specs.declared.range.Range.{Range}
 use Rattle.sem_machine.specs.Image.{Image}
 use Rattle.sem_machine.specs.Machine.{Machine}
-use Rattle.emit_code.specs.declared.code.Entry.{Entry}
+use Rattle.emit_code.specs.declared.code.EncodedInstruction.{EncodedInstruction}
 use Rattle.emit_code.specs.Laid.{LaidCode}
 use Rattle.sim_machine.specs.declared.hart.Hart.{Hart}
 use Rattle.sim_machine.specs.Kept.{StandsFor}
 use Rattle.sim_machine.specs.Shown.{ShowsCode, entry_at, entry_call}
 use Rattle.selftest_count.specs.declared.counts.Counts.{Counts}
-use Rattle.selftest_count.specs.declared.turn.Turn.{Turn}
-use Rattle.selftest_count.specs.declared.turn.Turn.TheVariants.{Went, Returned, Apart}
+use Rattle.selftest_count.specs.declared.turn.StepOutcome.{StepOutcome}
+use Rattle.selftest_count.specs.declared.turn.StepOutcome.TheVariants.{Went, Returned, Apart}
 use Rattle.selftest_count.specs.Apart.{MAX_SOURCE_STEPS, Misses, MissesNext, IsApart, GoesApart}
 use Rattle.selftest_count.specs.Counts.{no_counts, Counted, AreCounts}
 
@@ -38,7 +38,7 @@ IsSince false since = since ≡ After → ⊥
 
 -- From each source state that `old` represents, the source comes to its next state aligned at the position, which `new` represents.
 abbrev pub AlignsSo : Program → (moved : Bool) → Pos → (old new : Concrete) → Type 0
-AlignsSo src moved p old new = (s : State) (since : Since) → IsAt old s → IsSince moved since → (t : State) × Aligns src (First p) p since s t × IsAt new t
+AlignsSo src moved p old new = (s : State) (since : Since) → IsAt old s → IsSince moved since → (t : State) × MatchesNext src (First p) p since s t × IsAt new t
 
 -- From no source state that `old` represents does the source come to the position.
 abbrev pub MissesSo : Program → Pos → (old : Concrete) → Type 0
@@ -54,7 +54,7 @@ is_kept (Kept p) = true
 is_kept (Before p) = false
 
 -- The machine is at this entry, which isn't a call site, and the source comes to the state aligned with it.
-pub record Meets (src : Program) (c : LaidCode) (moved : Bool) (h : Hart) (old new : Concrete) (e : Entry) : Type 0 where
+pub record Meets (src : Program) (c : LaidCode) (moved : Bool) (h : Hart) (old new : Concrete) (e : EncodedInstruction) : Type 0 where
   pub found : entry_at c.entries h.counter ≡ Some e
   pub no_call : entry_call c.framed e ≡ None
   pub aligned : AlignsSo src moved (position_of e.origin) old new
@@ -81,7 +81,8 @@ LeadsApart src c lists parts n h k moved = (image : Image) (m0 : Machine) (s0 : 
     Beside src image lists parts m0 s0 n h k moved → n.steps < limit → GoesApart src image c lists parts limit m0 s0
 
 -- A step leads from states that are reached in lockstep to further ones, or returns, with its counts, or the runs diverge.
-abbrev pub Leads : Program → LaidCode → List (List Range) → List VarId → Turn → (old new : Counts) → (h h' : Hart) → (k k' : Concrete) → (moved moved' : Bool) →
+abbrev pub Leads : Program → LaidCode → List (List Range) → List VarId → StepOutcome → (old new : Counts) → (h h' : Hart) → (k k' : Concrete) →
+    (moved moved' : Bool) →
     Type 0
 Leads src c lists parts Went old new h h' k k' moved moved' = (image : Image) (m0 : Machine) (s0 : State) → ShowsCode c image →
     Beside src image lists parts m0 s0 old h k moved → Beside src image lists parts m0 s0 new h' k' moved'

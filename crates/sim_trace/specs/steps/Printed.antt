@@ -3,7 +3,7 @@ use Rattle.std.specs.Prelude.{◌≡◌, ℕ, suc, ◌<◌, List, [], ◌++◌, 
 use Rattle.rv64_instr.specs.declared.start.CallEvent.{CallEvent}
 use Rattle.sem_mir.specs.State.{Reply}
 use Rattle.sem_machine.specs.Machine.{Machine}
-use Rattle.emit_code.specs.declared.code.Entry.{Entry}
+use Rattle.emit_code.specs.declared.code.EncodedInstruction.{EncodedInstruction}
 use Rattle.emit_code.specs.Laid.{LaidCode}
 use Rattle.sim_machine.specs.declared.ending.Stepped.{Stepped}
 use Rattle.sim_machine.specs.declared.ending.Stepped.TheVariants.{Went, Stopped}
@@ -16,12 +16,12 @@ use Rattle.sim_trace.specs.declared.variable.Variable.{Variable}
 use Rattle.sim_trace.specs.Lines.{step_line, stop_line}
 
 -- the line of a step at an entry; none if no entry begins at the program counter
-abbrev pub line_at_entry : (number : ℕ) → Option Entry → List Variable → Machine → List ℕ
+abbrev pub line_at_entry : (number : ℕ) → Option EncodedInstruction → List Variable → Machine → List ℕ
 line_at_entry n None variables s = []
 line_at_entry n (Some e) variables s = step_line n e.origin variables s
 
 -- The line of a step is appended. It is the same for each machine state that the simulator state represents.
-abbrev pub IsLineAdded : (number : ℕ) → Option Entry → List Variable → Hart → (text more : List ℕ) → Type 0
+abbrev pub IsLineAdded : (number : ℕ) → Option EncodedInstruction → List Variable → Hart → (text more : List ℕ) → Type 0
 IsLineAdded n e variables h text more = (s : Machine) → StandsFor h s → more ≡ text ++ line_at_entry n e variables s
 
 -- a step, with its line before it

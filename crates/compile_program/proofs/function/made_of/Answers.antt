@@ -1,7 +1,7 @@
 use Rattle.std.proofs.Common.{◌≡◌, ◌+◌, drop, List, [], sym, subst}
 use Rattle.std.proofs.lemmas.List.{drop_all}
 use Rattle.pass_trait.specs.declared.loss.Loss.{Loss}
-use Rattle.compile_function.specs.declared.emit.Made.{Made}
+use Rattle.compile_function.specs.declared.emit.EmittedFunctions.{EmittedFunctions}
 use Rattle.read_program.specs.declared.closing.Parsed.{Parsed}
 use Rattle.dwarf_line_table.proofs.Split.{split_at}
 use Rattle.compile_program.proofs.Behind.{SoFar, begins, more, all_made}
@@ -9,8 +9,8 @@ use Rattle.compile_program.proofs.function.made_of.Goals as goal
 
 pub loop-source-init : goal.loop-source-init
 loop-source-init c =
-    let begun : Made = record { text = []; lists = []; functions = []; codes = [] } in
-    let made : Made = record { text = c.new.result; lists = c.new-2.result; functions = c.new-3.result; codes = c.new-4.result } in
+    let begun : EmittedFunctions = record { text = []; lists = []; functions = []; codes = [] } in
+    let made : EmittedFunctions = record { text = c.new.result; lists = c.new-2.result; functions = c.new-3.result; codes = c.new-4.result } in
     let text = sym c.new.ensures in
     let lists = sym c.new-2.ensures in
     let functions = sym c.new-3.ensures in

@@ -1,6 +1,6 @@
 use Rattle.std.proofs.Common.{◌≡◌, ◌<◌, ◌+◌, Result, Ok, Err, IfOk, length, take, sym, ap, ◌∙◌, subst}
 use Rattle.mir_func.specs.declared.item.Item.{Item}
-use Rattle.copyprop_block.specs.declared.copies.Fate.TheVariants.{GoesWith}
+use Rattle.copyprop_block.specs.declared.copies.CopyAction.TheVariants.{GoesWith}
 use Rattle.copyprop_block.specs.Copied.{renamed_item, fate_of, and_renamed}
 use Rattle.copyprop_block.specs.Next.{Stands}
 use Rattle.copyprop_block.proofs.Fronts.{get_any, get_set, taken_stands, index_up, index_same}

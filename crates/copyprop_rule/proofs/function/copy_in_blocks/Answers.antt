@@ -30,9 +30,9 @@ loop-b-preserved c =
     let e = c.in_ok-copy_items.ensures in
     let most = e.counted in
     let len = ap (λ (z : Block). length z.items) same in
-    let made : Block = record { id = c.b.inside.0.0; items = c.copy_items.new.items.items; silent = c.b.inside.0.1.1.0 } in
+    let made : Block = record { id = c.b.inside.0.0; items = c.copy_items.new.items.items; source_end = c.b.inside.0.1.1.0 } in
     let b : made ≡ without subs fresh c.b-item.result =
-    (λ i. record { id = c.b.inside.0.0; items = e.items i; silent = c.b.inside.0.1.1.0 }) ∙ ap (without subs fresh) same in
+    (λ i. record { id = c.b.inside.0.0; items = e.items i; source_end = c.b.inside.0.1.1.0 }) ∙ ap (without subs fresh) same in
     copies_more xs c.args.subs.now c.args.fresh.now c.loop-b.b-index c.loop-b.b-items subs fresh c.loop-b.invariant lt c.b-item.result c.b-item.is made
     c.copy_items.new.subs c.copy_items.new.fresh b (e.entries ∙ ap (λ (z : Block). (over_items (at_block subs fresh) z.items).subs) same)
     (e.fresh ∙ ap (λ (z : Block). (over_items (at_block subs fresh) z.items).fresh) same) (omega (arith, most, len))

@@ -48,11 +48,11 @@ loop-at-preserved c =
     let most = c.in_ok-numbers_off.ensures.counted in
     offs_more c.args.dead.now c.args.blocks.now.items a c.loop-at.at (c.loop-at.at - 1) (omega (arith, t)) now c.loop-at.invariant (omega (arith, w, t)) x
     c.index_mut.ensures.value
-    (record { id = c.behind-blocks.inside.0.0; items = c.numbers_off.new.items.items; silent = c.behind-blocks.inside.0.1.1.0 }) done
+    (record { id = c.behind-blocks.inside.0.0; items = c.numbers_off.new.items.items; source_end = c.behind-blocks.inside.0.1.1.0 }) done
     (c.in_ok-numbers_off.ensures.off ∙
     (λ i. off_down (r i) (v i) (length (same i).items)
     (record { items = (same i).items; subs = c.loop-at.subs; fresh = c.loop-at.fresh; lost = c.loop-at.lost.items })))
-    (λ i. record { id = (same i).id; items = c.numbers_off.new.items.items; silent = (same i).silent }) (omega (arith, most, e))
+    (λ i. record { id = (same i).id; items = c.numbers_off.new.items.items; source_end = (same i).source_end }) (omega (arith, most, e))
 
 pub returns : goal.returns
 returns c =

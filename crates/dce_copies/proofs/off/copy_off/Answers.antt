@@ -2,7 +2,7 @@ use Rattle.std.proofs.Common.{◌≡◌, List, length, take, Option, Some, None,
 use Rattle.std.proofs.lemmas.Option.{slice_get-get_or}
 use Rattle.std.proofs.lemmas.Result.{on_ok_weaker}
 use Rattle.mir_func.specs.declared.item.Item.{Item}
-use Rattle.pass_salvage.specs.declared.way.Way.{Way}
+use Rattle.pass_salvage.specs.declared.way.SalvageAction.{SalvageAction}
 use Rattle.pass_salvage.specs.Way.{way}
 use Rattle.dce_copies.specs.declared.off.Copied.{Copied}
 use Rattle.dce_copies.specs.Off.{SoFar, numbered_copy, items_off, copy_in, off_copy}
@@ -13,7 +13,7 @@ pub returns-in-Some-clause-longer : goal.returns-in-Some-clause-longer
 returns-in-Some-clause-longer c =
     let xs : List Item = c.args.items.now.items in
     let copied : Copied = c.in-Some.copied in
-    let w : Way = way c.args.removed.now c.args.subs.now c.args.fresh.now copied.number copied.source (take c.args.at xs) in
+    let w : SalvageAction = way c.args.removed.now c.args.subs.now c.args.fresh.now copied.number copied.source (take c.args.at xs) in
     on_ok_weaker c.number_off.result
     (λ e. (let longer = off_long w c.args.at copied xs in
     let same : length c.number_off.new.items.items ≡ length (items_off w c.args.at copied xs) = ap (λ (ys : List Item). length ys) e in

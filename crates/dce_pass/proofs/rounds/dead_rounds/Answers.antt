@@ -1,5 +1,5 @@
 use Rattle.std.proofs.Common.{◌≡◌, ◌+◌, ℕ, List, ◌++◌, Option, Bool, cond, ap, ◌∙◌, subst, arith}
-use Rattle.mir_func.specs.declared.entry.Entry.{Entry}
+use Rattle.mir_func.specs.declared.entry.DebugSubstitution.{DebugSubstitution}
 use Rattle.mir_func.specs.Function.{Function}
 use Rattle.pass_trait.specs.declared.loss.Loss.{Loss}
 use Rattle.pass_trait.specs.Sizes.{code_count}
@@ -19,9 +19,9 @@ dead_round-requires c =
 pub loop-going-preserved-in-Some : goal.loop-going-preserved-in-Some
 loop-going-preserved-in-Some c =
     let f : Function = c.loop-going.f in
-    let subs : List Entry = c.loop-going.subs in
+    let subs : List DebugSubstitution = c.loop-going.subs in
     let g : Function = c.dead_round.new.f in
-    let more : List Entry = c.dead_round.new.subs in
+    let more : List DebugSubstitution = c.dead_round.new.subs in
     let here : List Loss = c.in-Some.more in
     let r : IsDeadRound f subs g more here = subst (λ (v : Option (List Loss)). IsRoundWith f subs g more v) c.in-Some.is c.in_ok-more.ensures.round in
     going_on c.args.f.now c.args.subs.now f subs c.loop-going.losses c.loop-going.going c.loop-going.invariant g more here c.extend_from_slice.new.self
@@ -31,9 +31,9 @@ loop-going-preserved-in-Some c =
 pub loop-going-smaller-in-Some : goal.loop-going-smaller-in-Some
 loop-going-smaller-in-Some c =
     let f : Function = c.loop-going.f in
-    let subs : List Entry = c.loop-going.subs in
+    let subs : List DebugSubstitution = c.loop-going.subs in
     let g : Function = c.dead_round.new.f in
-    let more : List Entry = c.dead_round.new.subs in
+    let more : List DebugSubstitution = c.dead_round.new.subs in
     let r : IsDeadRound f subs g more c.in-Some.more =
     subst (λ (v : Option (List Loss)). IsRoundWith f subs g more v) c.in-Some.is c.in_ok-more.ensures.round in
     let less = (round_code f g subs more c.in-Some.more c.dead_round.ensures.sound r).1 in
@@ -42,18 +42,18 @@ loop-going-smaller-in-Some c =
 pub loop-going-preserved : goal.loop-going-preserved
 loop-going-preserved c =
     let f : Function = c.loop-going.f in
-    let subs : List Entry = c.loop-going.subs in
+    let subs : List DebugSubstitution = c.loop-going.subs in
     let g : Function = c.dead_round.new.f in
-    let more : List Entry = c.dead_round.new.subs in
+    let more : List DebugSubstitution = c.dead_round.new.subs in
     let r : (g ≡ f) × (more ≡ subs) × IsRound f f = subst (λ (v : Option (List Loss)). IsRoundWith f subs g more v) c.in-None.is c.in_ok-more.ensures.round in
     going_stops c.args.f.now c.args.subs.now f subs c.loop-going.losses c.loop-going.going c.loop-going.invariant g more r.0 r.1 r.2
 
 pub loop-going-smaller : goal.loop-going-smaller
 loop-going-smaller c =
     let f : Function = c.loop-going.f in
-    let subs : List Entry = c.loop-going.subs in
+    let subs : List DebugSubstitution = c.loop-going.subs in
     let g : Function = c.dead_round.new.f in
-    let more : List Entry = c.dead_round.new.subs in
+    let more : List DebugSubstitution = c.dead_round.new.subs in
     let r : (g ≡ f) × (more ≡ subs) × IsRound f f = subst (λ (v : Option (List Loss)). IsRoundWith f subs g more v) c.in-None.is c.in_ok-more.ensures.round in
     let same : code_count g ≡ code_count f = ap code_count r.0 in
     let one : ◌≡◌ {A = ℕ} (cond c.loop-going.going 1 0) 1 = ap (λ (z : Bool). cond z 1 0) c.loop-going-test.true in

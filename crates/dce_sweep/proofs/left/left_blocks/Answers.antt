@@ -5,7 +5,7 @@ use Rattle.mir_func.specs.declared.item.Item.{Item}
 use Rattle.mir_func.specs.Function.{Function}
 use Rattle.mir_func.specs.Sound.{IsSound}
 use Rattle.dce_rule.specs.Wrong.{silenced_block}
-use Rattle.dce_stale.specs.Sets.{WrongSets, wrong_of, starts_of}
+use Rattle.dce_stale.specs.Sets.{StaleSets, wrong_of, starts_of}
 use Rattle.dce_sweep.specs.Left.{lost_in}
 use Rattle.dce_sweep.proofs.Steps.{one_left, one_lost}
 use Rattle.dce_sweep.proofs.Whole.{slots_in, block_is, lost_is}
@@ -24,7 +24,7 @@ pub loop-block-preserved : goal.loop-block-preserved
 loop-block-preserved c =
     let f : Function = c.args.f.now in
     let dead : List (List Bool) = c.args.dead.now in
-    let w : WrongSets = c.args.wrong.now in
+    let w : StaleSets = c.args.wrong.now in
     let n : ℕ = c.loop-block.block in
     let b : Block = c.index-blocks-block.result in
     let all : c.as_slice-blocks.result.now ≡ f.blocks = c.as_slice-blocks.ensures ∙ ap (λ (z : Function). z.blocks) c.f.view_is in
@@ -33,7 +33,7 @@ loop-block-preserved c =
     let set : List ℕ = c.at_start-set.result in
     let vs : List Bool = c.verdicts_at.result.now in
     let xs : List Item = c.as_slice.result.now in
-    let made : Block = record { id = b.id; items = c.from.result; silent = b.silent } in
+    let made : Block = record { id = b.id; items = c.from.result; source_end = b.source_end } in
     record {
       left = λ ends are. one_left (wrong_of ends f (starts_of w)) ends f.blocks n b lt is c.loop-block.left.items _ made
           (c.loop-block.invariant.left ends are)

@@ -1,5 +1,5 @@
 use Rattle.std.proofs.Common.{◌≡◌, true, false, cond, Some, List, [], ◌∷◌, ◌++◌, subst, sym, ap, ◌∙◌}
-use Rattle.emit_code.specs.declared.code.Entry.{Entry}
+use Rattle.emit_code.specs.declared.code.EncodedInstruction.{EncodedInstruction}
 use Rattle.dwarf_line_table.specs.Table.{is_place_before}
 use Rattle.dwarf_line_table.proofs.RowSteps.{SoFar, next}
 use Rattle.dwarf_line_table.proofs.Split.{split_at}
@@ -8,7 +8,8 @@ use Rattle.dwarf_line_table.proofs.rows.rows.Goals.{then-not-is_place_before+in_
 
 pub loop-entry-preserved : goal.loop-entry-preserved
 loop-entry-preserved c =
-    let P : List Entry → Type 0 = λ es. SoFar c.args.meta.now c.args.places.now c.args.files.now c.loop-entry.files c.args.entries.now es c.loop-entry.before
+    let P : List EncodedInstruction →
+    Type 0 = λ es. SoFar c.args.meta.now c.args.places.now c.args.files.now c.loop-entry.files c.args.entries.now es c.loop-entry.before
     c.loop-entry.rows in
     let so = subst P (split_at c.args.entries.now c.loop-entry.entry-index c.entry-item.result c.loop-entry-test.true c.entry-item.is) c.loop-entry.invariant in
     let before = c.loop-entry.before in

@@ -16,35 +16,35 @@ returns-in-None c =
     let v = c.into_iter-tail.result.rest in
     let none : v.items ≡ [] = none_left v.items v.len (sym v.ok.0) c.in-None.ensures.cases.0 in
     on_ok_weaker c.push_plain.result
-    (λ h. finish (end_in c.args.ends.now) at.next at.fall at.silent c.args.items.now.items _ c.split_off.new.self.items v.items _
+    (λ h. finish (end_in c.args.ends.now) at.next at.fall at.source_end c.args.items.now.items _ c.split_off.new.self.items v.items _
     c.onward_count-count.result (c.onward_count-count.ensures.count ∙ ap onward_count c.as_slice.ensures.value) c.in_ok-split_off.ensures.items
     (c.into_iter-tail.ensures.rest ∙ c.in_ok-split_off.ensures.tail)
-    (ap (rewritten (end_in c.args.ends.now) at.next at.fall at.silent) none) h) c.push_plain.ensures
+    (ap (rewritten (end_in c.args.ends.now) at.next at.fall at.source_end) none) h) c.push_plain.ensures
 
 pub returns-in-Always : goal.returns-in-Always
 returns-in-Always c =
     let at = c.args.at.now in
     let v = c.into_iter-tail.result.rest in
     on_ok_weaker c.push_plain-in-Always.result
-    (λ h. finish (end_in c.args.ends.now) at.next at.fall at.silent c.args.items.now.items _ c.split_off.new.self.items v.items _
+    (λ h. finish (end_in c.args.ends.now) at.next at.fall at.source_end c.args.items.now.items _ c.split_off.new.self.items v.items _
     c.onward_count-count.result (c.onward_count-count.ensures.count ∙ ap onward_count c.as_slice.ensures.value) c.in_ok-split_off.ensures.items
     (c.into_iter-tail.ensures.rest ∙ c.in_ok-split_off.ensures.tail)
-    (ap (rewritten (end_in c.args.ends.now) at.next at.fall at.silent) c.in-Some.ensures.items ∙
-    ap (λ (z : Exit). tail_by (end_in c.args.ends.now) at.next at.fall at.silent z c.in-Some.x (first_of c.next.new.self.rest.items)
-    (rewritten (end_in c.args.ends.now) at.next at.fall at.silent c.next.new.self.rest.items)) (sym c.in-Always.ensures)) h) c.push_plain-in-Always.ensures
+    (ap (rewritten (end_in c.args.ends.now) at.next at.fall at.source_end) c.in-Some.ensures.items ∙
+    ap (λ (z : Exit). tail_by (end_in c.args.ends.now) at.next at.fall at.source_end z c.in-Some.x (first_of c.next.new.self.rest.items)
+    (rewritten (end_in c.args.ends.now) at.next at.fall at.source_end c.next.new.self.rest.items)) (sym c.in-Always.ensures)) h) c.push_plain-in-Always.ensures
 
 pub returns-in-Perhaps : goal.returns-in-Perhaps
 returns-in-Perhaps c =
     let at = c.args.at.now in
     let v = c.into_iter-tail.result.rest in
     on_ok_weaker c.push_branch.result
-    (λ h. finish (end_in c.args.ends.now) at.next at.fall at.silent c.args.items.now.items _ c.split_off.new.self.items v.items _
+    (λ h. finish (end_in c.args.ends.now) at.next at.fall at.source_end c.args.items.now.items _ c.split_off.new.self.items v.items _
     c.onward_count-count.result (c.onward_count-count.ensures.count ∙ ap onward_count c.as_slice.ensures.value) c.in_ok-split_off.ensures.items
     (c.into_iter-tail.ensures.rest ∙ c.in_ok-split_off.ensures.tail)
-    (ap (rewritten (end_in c.args.ends.now) at.next at.fall at.silent) c.in-Some.ensures.items ∙
-    ap (λ (z : Exit). tail_by (end_in c.args.ends.now) at.next at.fall at.silent z c.in-Some.x (first_of c.next.new.self.rest.items)
-    (rewritten (end_in c.args.ends.now) at.next at.fall at.silent c.next.new.self.rest.items)) (sym c.in-Perhaps.ensures) ∙
-    ap (λ (z : Option Item). branch_tail_to (end_in c.args.ends.now) at.next at.fall at.silent c.in-Some.x z c.in-Perhaps.n (else_way z at.fall)) (sym
+    (ap (rewritten (end_in c.args.ends.now) at.next at.fall at.source_end) c.in-Some.ensures.items ∙
+    ap (λ (z : Exit). tail_by (end_in c.args.ends.now) at.next at.fall at.source_end z c.in-Some.x (first_of c.next.new.self.rest.items)
+    (rewritten (end_in c.args.ends.now) at.next at.fall at.source_end c.next.new.self.rest.items)) (sym c.in-Perhaps.ensures) ∙
+    ap (λ (z : Option Item). branch_tail_to (end_in c.args.ends.now) at.next at.fall at.source_end c.in-Some.x z c.in-Perhaps.n (else_way z at.fall)) (sym
     (first_from c.next.new.self.rest.items c.next-in-Perhaps.result
     c.next-in-Perhaps.new.self.rest.items c.next-in-Perhaps.ensures.items (λ e.
     let k = rw e at c.next-in-Perhaps.ensures.cases in none_left c.next.new.self.rest.items c.next.new.self.rest.len (sym c.next.new.self.rest.ok.0)
@@ -61,9 +61,9 @@ returns c =
       | inr e ↦ sym c.exit.ensures ∙ e
     ] in
     on_ok_weaker c.push_plain-in-Onward.result
-    (λ h. finish (end_in c.args.ends.now) at.next at.fall at.silent c.args.items.now.items _ c.split_off.new.self.items v.items _
+    (λ h. finish (end_in c.args.ends.now) at.next at.fall at.source_end c.args.items.now.items _ c.split_off.new.self.items v.items _
     c.onward_count-count.result (c.onward_count-count.ensures.count ∙ ap onward_count c.as_slice.ensures.value) c.in_ok-split_off.ensures.items
     (c.into_iter-tail.ensures.rest ∙ c.in_ok-split_off.ensures.tail)
-    (ap (rewritten (end_in c.args.ends.now) at.next at.fall at.silent) c.in-Some.ensures.items ∙
-    ap (λ (z : Exit). tail_by (end_in c.args.ends.now) at.next at.fall at.silent z c.in-Some.x (first_of c.next.new.self.rest.items)
-    (rewritten (end_in c.args.ends.now) at.next at.fall at.silent c.next.new.self.rest.items)) final) h) c.push_plain-in-Onward.ensures
+    (ap (rewritten (end_in c.args.ends.now) at.next at.fall at.source_end) c.in-Some.ensures.items ∙
+    ap (λ (z : Exit). tail_by (end_in c.args.ends.now) at.next at.fall at.source_end z c.in-Some.x (first_of c.next.new.self.rest.items)
+    (rewritten (end_in c.args.ends.now) at.next at.fall at.source_end c.next.new.self.rest.items)) final) h) c.push_plain-in-Onward.ensures

@@ -9,9 +9,9 @@ pub loop-b-preserved : goal.loop-b-preserved
 loop-b-preserved c =
     let kills : ℕ → List Kill = kills_at c.args.kills.now in
     let xs : List Block = c.args.blocks.now.items in
-    let made : Block = record { id = c.b.inside.0.0; items = c.put_at.new.items.items; silent = c.b.inside.0.1.1.0 } in
+    let made : Block = record { id = c.b.inside.0.0; items = c.put_at.new.items.items; source_end = c.b.inside.0.1.1.0 } in
     let b : made ≡ with_kills_of kills c.b-item.result =
-    (λ i. record { id = c.b.inside.0.0; items = c.in_ok-put_at.ensures i; silent = c.b.inside.0.1.1.0 }) ∙
+    (λ i. record { id = c.b.inside.0.0; items = c.in_ok-put_at.ensures i; source_end = c.b.inside.0.1.1.0 }) ∙
     ap (with_kills_of kills) (c.b.view_is ∙ sym c.b-item.is) in
     let turn : set c.loop-b.b-items c.loop-b.b-index (with_kills_of kills c.b-item.result) ≡ _ =
     map_turn (with_kills_of kills) xs c.loop-b.b-items c.loop-b.b-index c.b-item.result

@@ -2,7 +2,7 @@ use Rattle.std.proofs.Common.{◌≡◌, ℕ, ◌++◌, List, drop}
 use Rattle.std.specs.Prelude.{All}
 use Rattle.std.specs.List.{flat_map}
 use Rattle.mir_func.specs.Successors.{pos_in}
-use Rattle.emit_code.specs.declared.code.Entry.{Entry as Laid}
+use Rattle.emit_code.specs.declared.code.EncodedInstruction.{EncodedInstruction as Laid}
 use Rattle.emit_code.specs.Rule.{Layout, entries_at, sites_in}
 use Rattle.listing_meaning.specs.Listing.{site_lines}
 use Rattle.listing_function.specs.steps.Entries.{BeginsApart, IsSource, IsPlaced}

@@ -4,7 +4,7 @@ use Rattle.std.specs.List.{flat_map}
 use Rattle.std.proofs.lemmas.List.Elements.{All-head, All-tail}
 use Rattle.mir_func.specs.declared.item.Item.{Item}
 use Rattle.emit_code.specs.Rule.{entries_at, sites_in, sites_from}
-use Rattle.emit_code.specs.declared.code.Entry.{Entry}
+use Rattle.emit_code.specs.declared.code.EncodedInstruction.{EncodedInstruction}
 use Rattle.listing_text.specs.declared.output.Line.{Line}
 use Rattle.listing_text.specs.declared.output.ListedBlock.{ListedBlock}
 use Rattle.listing_meaning.specs.Listing.{items_listed, blocks_listed}
@@ -18,7 +18,7 @@ returns c = λ l source placed here.
     let entries = c.args.entries.now in
     let first = c.args.first.now in
     let body = c.args.body.now in
-    let rest : List Entry = flat_map (entries_at l) (sites_from 1 body) in
+    let rest : List EncodedInstruction = flat_map (entries_at l) (sites_from 1 body) in
     let fits : All P c.as_slice-items.result.now = subst (All P) (sym c.as_slice-items.ensures) (All-head (λ b. All P b.items) first body placed) in
     let begins = subst (λ (t : List Item). drop 0 entries ≡ flat_map (entries_at l) (sites_in 0 0 t) ++ rest) (sym c.as_slice-items.ensures) (whole_here l
     first body entries here) in

@@ -4,7 +4,7 @@ use Rattle.std.specs.List.{flat_map}
 use Rattle.mir_func.specs.declared.block.Block.{Block}
 use Rattle.mir_func.specs.declared.item.Item.{Item}
 use Rattle.emit_code.specs.Rule.{entries_at, sites_in, sites_from}
-use Rattle.emit_code.specs.declared.code.Entry.{Entry}
+use Rattle.emit_code.specs.declared.code.EncodedInstruction.{EncodedInstruction}
 use Rattle.listing_text.specs.declared.output.Line.{Line}
 use Rattle.listing_meaning.specs.Listing.{items_listed}
 use Rattle.listing_function.specs.steps.Entries.{IsPlaced}
@@ -20,7 +20,7 @@ loop-block-preserved c = λ x b source placed here.
     let block = c.block-item.result in
     let less = c.loop-block-test.true in
     let so = c.loop-block.invariant x b source placed here in
-    let rest : List Entry = flat_map (entries_at x) (sites_from (suc (b + k)) (drop (k + 1) blocks)) in
+    let rest : List EncodedInstruction = flat_map (entries_at x) (sites_from (suc (b + k)) (drop (k + 1) blocks)) in
     let items = c.as_slice.result.now in
     let there = block_here x b blocks k block entries c.loop-block.at c.loop-block.listed _ less c.block-item.is so in
     let fits : All P items = subst (All P) (sym c.as_slice.ensures) (subst (λ (t : Block). All P t.items) (sym c.block-item.is) (placed k block less)) in

@@ -2,7 +2,7 @@ use Rattle.std.proofs.Common.{ℕ, ◌+◌, ◌*◌, List, length, sym, ◌∙�
 use Rattle.std.specs.Prelude.{All}
 use Rattle.mir_func.specs.declared.block.Block.{Block}
 use Rattle.mir_func.specs.Graph.{block_start}
-use Rattle.emit_code.specs.declared.code.Entry.{Entry}
+use Rattle.emit_code.specs.declared.code.EncodedInstruction.{EncodedInstruction}
 use Rattle.emit_code.specs.Laid.{StandFrom}
 use Rattle.location_of_variable.specs.declared.group.Group.{Group}
 use Rattle.location_of_variable.specs.Groups.{AreGroupsOf}
@@ -15,7 +15,7 @@ use Rattle.location_ranges.proofs.ranges.all_ranges.Goals as goal
 
 pub past_entries-requires-clause-points : goal.past_entries-requires-clause-points
 past_entries-requires-clause-points c =
-    subst (λ (es : List Entry). All (IsPointIn c.blocks_of.result.now) es) (sym c.entries_of.ensures.entries)
+    subst (λ (es : List EncodedInstruction). All (IsPointIn c.blocks_of.result.now) es) (sym c.entries_of.ensures.entries)
     (subst (λ (bs : List Block). All (IsPointIn bs) c.args.code.now.entries) (sym c.blocks_of.ensures) c.entries_of.ensures.points)
 
 pub returns-clause-exact : goal.returns-clause-exact
@@ -27,7 +27,7 @@ returns-clause-exact c = λ are.
     let end = code.base + 4 * length code.words in
     let blocks = c.blocks_of.result.now in
     let entries = c.entries_of.result.now in
-    let stand = subst (λ (es : List Entry). StandFrom base es end) (sym c.entries_of.ensures.entries) c.entries_of.ensures.stand in
+    let stand = subst (λ (es : List EncodedInstruction). StandFrom base es end) (sym c.entries_of.ensures.entries) c.entries_of.ensures.stand in
     let groups = subst (λ (gs : List Group). AreGroupsOf v.variables.now variables gs) (sym c.as_slice.ensures.value) c.in_ok-groups.ensures in
     let before = have_said_none blocks v entries variables base end stand c.in_ok-tracks.tracks.items c.in_ok-tracks.ensures.new in
     let said = c.in_ok-tracks-2.ensures.said variables base end stand groups before in
@@ -37,7 +37,7 @@ returns-clause-exact c = λ are.
     let values = subst (λ (bs : List Block). AreValuesOf bs v) (sym c.blocks_of.ensures) are in
     let all = lists_are blocks v entries variables base end stand past lists said closes (c.in_ok-tracks-2.ensures.count ∙ groups.for_all) values in
     subst (λ (bs : List Block). AreListsOf (program bs v.subs.now) (block_start 0) code.entries variables lists) c.blocks_of.ensures
-    (subst (λ (es : List Entry). AreListsOf (program blocks v.subs.now) (block_start 0) es variables lists) c.entries_of.ensures.entries all)
+    (subst (λ (es : List EncodedInstruction). AreListsOf (program blocks v.subs.now) (block_start 0) es variables lists) c.entries_of.ensures.entries all)
 
 pub returns-clause-ascend : goal.returns-clause-ascend
 returns-clause-ascend c =
@@ -48,7 +48,7 @@ returns-clause-ascend c =
     let end = code.base + 4 * length code.words in
     let blocks = c.blocks_of.result.now in
     let entries = c.entries_of.result.now in
-    let stand = subst (λ (es : List Entry). StandFrom base es end) (sym c.entries_of.ensures.entries) c.entries_of.ensures.stand in
+    let stand = subst (λ (es : List EncodedInstruction). StandFrom base es end) (sym c.entries_of.ensures.entries) c.entries_of.ensures.stand in
     let groups = subst (λ (gs : List Group). AreGroupsOf v.variables.now variables gs) (sym c.as_slice.ensures.value) c.in_ok-groups.ensures in
     let before = have_said_none blocks v entries variables base end stand c.in_ok-tracks.tracks.items c.in_ok-tracks.ensures.new in
     let said = c.in_ok-tracks-2.ensures.said variables base end stand groups before in

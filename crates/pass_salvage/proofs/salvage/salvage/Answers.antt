@@ -1,7 +1,7 @@
 use Rattle.std.proofs.Common.{◌≡◌, ◌<◌, ℕ, List, length, take, sym, ap, ◌∙◌, subst, arith}
 use Rattle.std.proofs.lemmas.List.{length-take-le}
 use Rattle.mir_func.specs.declared.item.Item.{Item}
-use Rattle.pass_salvage.specs.declared.way.Way.{Way}
+use Rattle.pass_salvage.specs.declared.way.SalvageAction.{SalvageAction}
 use Rattle.pass_salvage.specs.Way.{way}
 use Rattle.pass_salvage.specs.Salvage.{items_after}
 use Rattle.pass_salvage.proofs.Placed.{entry_items, phi_items}
@@ -23,7 +23,7 @@ returns-then-number-fresh-clause-items c =
     entry_items xs c.args.at c.in-GetsEntry.d c.in-GetsEntry.operand c.in-GetsEntry.standing c.args.number c.args.source c.index_mut.result.now
     c.give_number.new.x
     c.requires.at (inside xs c.deref.result.now c.args.at c.in-GetsEntry.d all c.requires.at (c.choose_way.ensures.within _ _ _ c.in-GetsEntry.is))
-    (sym c.index_mut.ensures.value) c.give_number.ensures ∙ ap (λ (w : Way). items_after w c.args.at c.args.number c.args.source xs) is
+    (sym c.index_mut.ensures.value) c.give_number.ensures ∙ ap (λ (w : SalvageAction). items_after w c.args.at c.args.number c.args.source xs) is
 
 pub returns-else-number-fresh-clause-items : goal.returns-else-number-fresh-clause-items
 returns-else-number-fresh-clause-items c =
@@ -35,7 +35,7 @@ returns-else-number-fresh-clause-items c =
     entry_items xs c.args.at c.in-GetsEntry.d c.in-GetsEntry.operand c.in-GetsEntry.standing c.args.number c.args.source c.index_mut.result.now
     c.give_number.new.x
     c.requires.at (inside xs c.deref.result.now c.args.at c.in-GetsEntry.d all c.requires.at (c.choose_way.ensures.within _ _ _ c.in-GetsEntry.is))
-    (sym c.index_mut.ensures.value) c.give_number.ensures ∙ ap (λ (w : Way). items_after w c.args.at c.args.number c.args.source xs) is
+    (sym c.index_mut.ensures.value) c.give_number.ensures ∙ ap (λ (w : SalvageAction). items_after w c.args.at c.args.number c.args.source xs) is
 
 pub returns-in-GetsPhi-clause-items : goal.returns-in-GetsPhi-clause-items
 returns-in-GetsPhi-clause-items c =
@@ -44,4 +44,4 @@ returns-in-GetsPhi-clause-items c =
     let is = sym (ap (λ (ys : List Item). way c.args.removed.now c.args.subs.now c.args.fresh.now c.args.number c.args.source (take c.args.at ys)) (sym all) ∙
     sym c.choose_way.ensures.chosen ∙ c.in-GetsPhi.is) in
     phi_items xs c.args.at c.args.number c.args.source c.index_mut-in-GetsPhi.result.now c.put_phi.new.x c.requires.at
-    (sym c.index_mut-in-GetsPhi.ensures.value) c.put_phi.ensures ∙ ap (λ (w : Way). items_after w c.args.at c.args.number c.args.source xs) is
+    (sym c.index_mut-in-GetsPhi.ensures.value) c.put_phi.ensures ∙ ap (λ (w : SalvageAction). items_after w c.args.at c.args.number c.args.source xs) is

@@ -1,6 +1,6 @@
 use Rattle.std.proofs.Common.{◌≡◌, ℕ, Bool, true, false, not, Option, Some, ap, sym, ◌∙◌, refl}
 use Rattle.mir_func.specs.declared.entry.OperandPair.{OperandPair}
-use Rattle.mir_func.specs.declared.entry.Entry.{Entry}
+use Rattle.mir_func.specs.declared.entry.DebugSubstitution.{DebugSubstitution}
 use Rattle.std.proofs.Common.{List}
 use Rattle.mir_func.specs.Resolve.{is_pair, resolve}
 use Rattle.mir_substitution.proofs.Entries.{is_pair-true, is_pair-same}
@@ -8,7 +8,8 @@ use Rattle.pass_salvage.specs.Way.{has_entry}
 use Rattle.pass_salvage.proofs.Found.{has_none, has_some}
 use Rattle.pass_salvage.proofs.way.has_entry.Goals as goal
 
-compared : (subs : List Entry) (q end : OperandPair) → resolve subs q ≡ Some end → (z : Bool) → is_pair end q ≡ z → not z ≡ has_entry subs (Some q.number)
+compared : (subs : List DebugSubstitution) (q end : OperandPair) → resolve subs q ≡ Some end → (z : Bool) → is_pair end q ≡ z →
+    not z ≡ has_entry subs (Some q.number)
     q.operand
 compared subs q end e true same = sym (has_none subs q.number q.operand (e ∙ ap Some (is_pair-true end q same)))
 compared subs q end e false apart = sym (has_some subs q.number q.operand (λ f.

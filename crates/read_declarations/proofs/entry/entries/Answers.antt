@@ -1,14 +1,14 @@
 use Rattle.std.proofs.Common.{◌+◌, drop, Some, sym, ap, ◌∙◌}
 use Rattle.read_refusal.specs.declared.first.Refusal.{Refusal}
 use Rattle.read_lexer.specs.declared.parts.Class.TheVariants.{Word}
-use Rattle.read_declarations.specs.declared.stream.Piece.{Piece}
+use Rattle.read_declarations.specs.declared.stream.YamlToken.{YamlToken}
 use Rattle.read_declarations.specs.declared.entry.OpenList.{OpenList}
 use Rattle.read_declarations.specs.Entry.{bad_line, entries_from}
 use Rattle.read_declarations.proofs.Walks.{misplaced, in_place, none_left}
 use Rattle.read_declarations.proofs.entry.entries.Goals as goal
 
 -- a token that stands for none
-none : Piece
+none : YamlToken
 none = record { at = 0; line = 0; token = record { class = Word; start = 0; end = 0 } }
 
 pub returns-then-not-fits : goal.returns-then-not-fits

@@ -1,16 +1,16 @@
 use Rattle.std.proofs.Common.{ℕ, List, sym, ap, ◌∙◌}
 use Rattle.std.specs.Str.{bytes_eq}
 use Rattle.read_lexer.specs.declared.parts.Class.TheVariants.{Word}
-use Rattle.read_declarations.specs.declared.stream.Piece.{Piece}
-use Rattle.read_declarations.specs.declared.entry.Field.{Field}
+use Rattle.read_declarations.specs.declared.stream.YamlToken.{YamlToken}
+use Rattle.read_declarations.specs.declared.entry.MappingField.{MappingField}
 use Rattle.read_declarations.proofs.Walks.{found, not_yet, nowhere}
 use Rattle.read_declarations.proofs.field.value_at.Goals as goal
 
 -- a token and a field that stand for none
-no_piece : Piece
+no_piece : YamlToken
 no_piece = record { at = 0; line = 0; token = record { class = Word; start = 0; end = 0 } }
 
-none : Field
+none : MappingField
 none = record { key = no_piece; value = no_piece }
 
 pub returns-then-eq : goal.returns-then-eq

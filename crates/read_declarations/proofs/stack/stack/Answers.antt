@@ -1,11 +1,11 @@
 use Rattle.std.proofs.Common.{[], ap, ◌∙◌}
-use Rattle.read_declarations.specs.declared.entry.Entry.{Entry}
+use Rattle.read_declarations.specs.declared.entry.MappingEntry.{MappingEntry}
 use Rattle.read_declarations.specs.Stack.{stack_entry_of, judged}
 use Rattle.read_declarations.proofs.Walks.{stack_more, stack_whole}
 use Rattle.read_declarations.proofs.stack.stack.Goals as goal
 
 -- an entry that stands for none
-none : Entry
+none : MappingEntry
 none = record { line = 0; fields = [] }
 
 pub loop-entry-preserved : goal.loop-entry-preserved

@@ -3,7 +3,7 @@ use Rattle.read_lexer.specs.declared.line.Line.{Line}
 use Rattle.read_lexer.specs.declared.parts.Token.{Token}
 use Rattle.read_lexer.specs.Line.{tokens_of}
 use Rattle.read_lexer.specs.Comment.{before_comment}
-use Rattle.read_declarations.specs.declared.stream.Piece.{Piece}
+use Rattle.read_declarations.specs.declared.stream.YamlToken.{YamlToken}
 use Rattle.read_declarations.specs.declared.stream.LineTokens.{LineTokens}
 use Rattle.read_declarations.specs.Stream.{line_tokens_of, piece_of, before_lines, stream_from}
 use Rattle.read_declarations.proofs.Streams.{read_of, stopped, goes_on, all_read}
@@ -18,7 +18,7 @@ returns-in-Some c =
     let pushed : c.push_pieces.new.pieces ≡ c.loop-at.pieces ++ map (piece_of c.loop-at.at here.number) (read_of here).tokens =
     c.in_ok-push_pieces.ensures ∙ ap (λ (ts : List Token). c.loop-at.pieces ++ map (piece_of c.loop-at.at here.number) ts)
     (c.as_slice-in-loop-at.ensures ∙ ap (λ (r : LineTokens). r.tokens) read) in
-    ap (λ (x : List Piece). record { pieces = x; fault = Some (record { line = here.number; kind = c.in-Some.kind }) }) pushed
+    ap (λ (x : List YamlToken). record { pieces = x; fault = Some (record { line = here.number; kind = c.in-Some.kind }) }) pushed
     ∙ stopped c.args.lines.now c.loop-at.at here c.loop-at.pieces c.in-Some.kind c.loop-at-test.true c.index-lines-at.is c.loop-at.invariant fault
 
 pub loop-at-preserved : goal.loop-at-preserved
@@ -30,7 +30,7 @@ loop-at-preserved c =
     let pushed : c.push_pieces.new.pieces ≡ c.loop-at.pieces ++ map (piece_of c.loop-at.at here.number) (read_of here).tokens =
     c.in_ok-push_pieces.ensures ∙ ap (λ (ts : List Token). c.loop-at.pieces ++ map (piece_of c.loop-at.at here.number) ts)
     (c.as_slice-in-loop-at.ensures ∙ ap (λ (r : LineTokens). r.tokens) read) in
-    ap (λ (x : List Piece). before_lines x 0 None (stream_from (c.loop-at.at + 1) (drop (c.loop-at.at + 1) c.args.lines.now))) pushed
+    ap (λ (x : List YamlToken). before_lines x 0 None (stream_from (c.loop-at.at + 1) (drop (c.loop-at.at + 1) c.args.lines.now))) pushed
     ∙ goes_on c.args.lines.now c.loop-at.at here c.loop-at.pieces c.loop-at-test.true c.index-lines-at.is c.loop-at.invariant fault
 
 -- a line that stands for none

@@ -1,11 +1,11 @@
 use Rattle.std.proofs.Common.{[], ap, ◌∙◌}
-use Rattle.read_declarations.specs.declared.entry.Entry.{Entry}
+use Rattle.read_declarations.specs.declared.entry.MappingEntry.{MappingEntry}
 use Rattle.read_declarations.specs.Substitutions.{substitution_of, substituted}
 use Rattle.read_declarations.proofs.Walks.{substitutions_more, substitutions_whole}
 use Rattle.read_declarations.proofs.substitutions.substitutions.Goals as goal
 
 -- an entry that stands for none
-none : Entry
+none : MappingEntry
 none = record { line = 0; fields = [] }
 
 pub loop-entry-preserved : goal.loop-entry-preserved

@@ -11,8 +11,9 @@ use Rattle.remat_pass.proofs.remat.set_blocks.Goals as goal
 pub loop-b-preserved : goal.loop-b-preserved
 loop-b-preserved c =
     let xs : List Block = c.args.blocks.now.items in
-    let made : Block = record { id = c.b.inside.0.0; items = c.set_items.new.items.items; silent = c.b.inside.0.1.1.0 } in
-    let b : made ≡ set_block c.b-item.result = (λ i. record { id = c.b.inside.0.0; items = c.in_ok-set_items.ensures.code i; silent = c.b.inside.0.1.1.0 }) ∙
+    let made : Block = record { id = c.b.inside.0.0; items = c.set_items.new.items.items; source_end = c.b.inside.0.1.1.0 } in
+    let b : made ≡ set_block c.b-item.result =
+    (λ i. record { id = c.b.inside.0.0; items = c.in_ok-set_items.ensures.code i; source_end = c.b.inside.0.1.1.0 }) ∙
     ap set_block (c.b.view_is ∙ sym c.b-item.is) in
     let inside = subst (λ (zs : List Block). c.loop-b.b-index < length zs) c.deref_mut-b-items.ensures.value c.loop-b-test.true in
     let turn : set c.loop-b.b-items c.loop-b.b-index (set_block c.b-item.result) ≡ _ =
@@ -29,13 +30,13 @@ pub returns-in_err-set_items-clause-each : goal.returns-in_err-set_items-clause-
 returns-in_err-set_items-clause-each c =
     let xs : List Block = c.args.blocks.now.items in
     let n = c.loop-b.b-index in
-    let made : Block = record { id = c.b.inside.0.0; items = c.set_items.new.items.items; silent = c.b.inside.0.1.1.0 } in
+    let made : Block = record { id = c.b.inside.0.0; items = c.set_items.new.items.items; source_end = c.b.inside.0.1.1.0 } in
     let is = c.b.view_is ∙ sym c.b-item.is in
     let inside = subst (λ (zs : List Block). n < length zs) c.deref_mut-b-items.ensures.value c.loop-b-test.true in
     let long : length c.args.blocks.now.items ≤ c.args.blocks.now.len = search rules in
     let part = block_in_part xs n inside c.b-item.result made
     (c.b-item.is ∙ ap (λ (zs : List Block). get_or zs n c.b-item.result) c.loop-b.invariant.code)
-    (ap (λ (d : Block). d.id) is) (ap (λ (d : Block). d.silent) is)
+    (ap (λ (d : Block). d.id) is) (ap (λ (d : Block). d.source_end) is)
     (subst (λ (d : Block). AreItemsSet d.items made.items) is c.set_items.ensures.each) in
     blocks_back xs _ c.args.blocks.now.len long (subst (λ (zs : List Block). AreBlocksSet xs (set zs n made)) (sym c.loop-b.invariant.code) part)
 

@@ -3,7 +3,7 @@ use Rattle.emit_code.specs.Laid.{LaidCode}
 use Rattle.sem_interpreter.specs.Steps.{source_of}
 use Rattle.sim_machine.specs.Shown.{ShowsCode}
 use Rattle.selftest_count.specs.declared.counts.Counts.{Counts}
-use Rattle.selftest_count.specs.declared.turn.Turn.{Turn}
+use Rattle.selftest_count.specs.declared.turn.StepOutcome.{StepOutcome}
 use Rattle.selftest_count.specs.Apart.{GoesApart}
 use Rattle.selftest_count.specs.Counts.{makes_steps}
 use Rattle.selftest_count.specs.steps.Beside.{Beside, Leads}
@@ -23,7 +23,7 @@ pub steps-preserved : goal.steps-preserved
 steps-preserved c =
     let src = source_of c.args.source.now.blocks c.args.subs.now in
     let code = c.steps.machine.code in
-    let went = subst (λ (t : Turn). Leads src code c.args.lists.now c.args.parts.now t c.steps.counts c.make_turn.new.counts c.steps.machine.hart
+    let went = subst (λ (t : StepOutcome). Leads src code c.args.lists.now c.args.parts.now t c.steps.counts c.make_turn.new.counts c.steps.machine.hart
     c.make_turn.new.machine.hart c.steps.state c.make_turn.new.state c.steps.moved c.make_turn.new.moved) c.in-Went.is c.in_ok-make_turn.ensures.leads in
     record {
       code = c.make_turn.ensures.code ∙ c.steps.invariant.code;
@@ -38,7 +38,7 @@ pub returns-in-Returned : goal.returns-in-Returned
 returns-in-Returned c =
     let src = source_of c.args.source.now.blocks c.args.subs.now in
     let code = c.steps.machine.code in
-    let returned = subst (λ (t : Turn). Leads src code c.args.lists.now c.args.parts.now t c.steps.counts c.make_turn.new.counts c.steps.machine.hart
+    let returned = subst (λ (t : StepOutcome). Leads src code c.args.lists.now c.args.parts.now t c.steps.counts c.make_turn.new.counts c.steps.machine.hart
     c.make_turn.new.machine.hart c.steps.state c.make_turn.new.state c.steps.moved c.make_turn.new.moved) c.in-Returned.is
     c.in_ok-make_turn.ensures.leads in
     record {
@@ -51,7 +51,7 @@ pub returns-in-Apart : goal.returns-in-Apart
 returns-in-Apart c =
     let src = source_of c.args.source.now.blocks c.args.subs.now in
     let code = c.steps.machine.code in
-    let away = subst (λ (t : Turn). Leads src code c.args.lists.now c.args.parts.now t c.steps.counts c.make_turn.new.counts c.steps.machine.hart
+    let away = subst (λ (t : StepOutcome). Leads src code c.args.lists.now c.args.parts.now t c.steps.counts c.make_turn.new.counts c.steps.machine.hart
     c.make_turn.new.machine.hart c.steps.state c.make_turn.new.state c.steps.moved c.make_turn.new.moved) c.in-Apart.is c.in_ok-make_turn.ensures.leads in
     record {
       counts = tt;

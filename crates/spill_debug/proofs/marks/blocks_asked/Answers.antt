@@ -1,13 +1,13 @@
 use Rattle.std.proofs.Common.{◌≡◌, ℕ, suc, List, ◌∷◌, drop, drop-cons, ap, sym, ◌∙◌, arith}
 use Rattle.mir_func.specs.declared.block.Block.{Block}
-use Rattle.spill_code.specs.declared.spilling.Home.{Home}
+use Rattle.spill_code.specs.declared.spilling.SlotAssignment.{SlotAssignment}
 use Rattle.spill_debug.specs.Asked.{number_behind, number_beyond}
 use Rattle.spill_debug.proofs.Numbers.{beyond_up}
 use Rattle.spill_debug.proofs.marks.blocks_asked.Goals as goal
 
 pub block_asked-requires : goal.block_asked-requires
 block_asked-requires c =
-    let homes : List Home = c.args.s.now.homes in
+    let homes : List SlotAssignment = c.args.s.now.homes in
     let blocks : List Block = c.args.blocks.now in
     let b : Block = c.b-item.result in
     let i : ℕ = c.loop-b.b-index in

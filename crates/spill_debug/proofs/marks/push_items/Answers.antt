@@ -1,13 +1,13 @@
 use Rattle.std.proofs.Common.{◌≡◌, ℕ, suc, List, ◌∷◌, drop, drop-cons, ap, sym, ◌∙◌, arith}
 use Rattle.mir_func.specs.declared.item.Item.{Item}
-use Rattle.spill_code.specs.declared.spilling.Home.{Home}
+use Rattle.spill_code.specs.declared.spilling.SlotAssignment.{SlotAssignment}
 use Rattle.spill_debug.specs.Asked.{next_number, number_behind}
 use Rattle.spill_debug.proofs.Numbers.{behind_up}
 use Rattle.spill_debug.proofs.marks.push_items.Goals as goal
 
 pub push_item-requires : goal.push_item-requires
 push_item-requires c =
-    let homes : List Home = c.args.s.now.homes in
+    let homes : List SlotAssignment = c.args.s.now.homes in
     let items : List Item = c.args.items.now in
     let x : Item = c.i-item.result in
     let i : ℕ = c.loop-i.i-index in

@@ -4,7 +4,7 @@ use Rattle.mir_func.specs.Function.{Function}
 use Rattle.mir_func.specs.Sound.{AllItems, IsSound, HasForm}
 use Rattle.pass_trait.specs.declared.loss.Loss.{Loss}
 use Rattle.pass_trait.specs.Sizes.{greatest_number}
-use Rattle.spill_code.specs.declared.spilling.Home.{Home}
+use Rattle.spill_code.specs.declared.spilling.SlotAssignment.{SlotAssignment}
 use Rattle.spill_code.specs.declared.spilling.Spilling.{Spilling}
 use Rattle.spill_code.specs.Rewrite.{spilled_blocks}
 use Rattle.spill_code.specs.Room.{HaveRoom}
@@ -14,7 +14,7 @@ use Rattle.spill_select.specs.Incoming.{is_among}
 use Rattle.spill_rule.specs.Choice.{entry_of}
 use Rattle.spill_proof.specs.Whole.{spilled_by}
 use Rattle.spill_proof.specs.Kept.{IsSpilledWithLosses}
-use Rattle.spill_pass.specs.declared.plan.Plan.{Plan}
+use Rattle.spill_pass.specs.declared.plan.SpillPlan.{SpillPlan}
 use Rattle.spill_pass.specs.Plan.{IsPlan, AreAllLosses}
 use Rattle.spill_pass.proofs.Made.{some_spilled, sound_spilled, room, fresh_enough}
 use Rattle.spill_pass.proofs.Results.{not_empty, same_blocks, same_slots}
@@ -32,7 +32,7 @@ blocks_in_slots-requires-clause-fresh c =
 pub blocks_in_slots-requires-clause-room : goal.blocks_in_slots-requires-clause-room
 blocks_in_slots-requires-clause-room c =
     let f : Function = c.args.f.now in
-    let plan : Plan = c.in_ok-plan.plan in
+    let plan : SpillPlan = c.in_ok-plan.plan in
     let p : IsPlan c.args.reserve.now f plan = c.in_ok-plan.ensures in
     let s : Spilling = plan.spilling in
     let live : ℕ → Bool = is_among plan.incoming in
@@ -40,8 +40,8 @@ blocks_in_slots-requires-clause-room c =
     let sound : IsSound f = subst IsSound c.f.view_is c.f.invariant in
     let forms : AllItems (λ i. HasForm i.kind) f.blocks =
     subst (λ (bs : List Block). AllItems (λ i. HasForm i.kind) bs) (c.as_slice.ensures ∙ same_blocks _ _ c.f.view_is) c.know_forms.ensures in
-    let small : All (λ (b : Block). b.silent < 2 ^ 32) f.blocks =
-    subst (λ (bs : List Block). All (λ (b : Block). b.silent < 2 ^ 32) bs) (c.as_slice-2.ensures ∙ same_blocks _ _ c.f.view_is)
+    let small : All (λ (b : Block). b.source_end < 2 ^ 32) f.blocks =
+    subst (λ (bs : List Block). All (λ (b : Block). b.source_end < 2 ^ 32) bs) (c.as_slice-2.ensures ∙ same_blocks _ _ c.f.view_is)
     c.know_silent.ensures in
     let first : c.fresh_number-fresh.result ≡ greatest_number f c.args.subs.now + 1 = c.fresh_number-fresh.ensures in
     subst (λ (bs : List Block). HaveRoom s (blocks_asked s c.fresh_number-fresh.result bs)) (sym blocks)
@@ -60,13 +60,13 @@ same : (c : goal.After-drop-plan-4) → record {
 same c =
     let f : Function = c.args.f.now in
     let s : Spilling = c.in_ok-plan.plan.spilling in
-    let entry : List Home = entry_of (is_among c.in_ok-plan.plan.incoming) s.homes in
+    let entry : List SlotAssignment = entry_of (is_among c.in_ok-plan.plan.incoming) s.homes in
     let old_slots : c.as_slice-5.result.now ≡ f.slots = c.as_slice-5.ensures ∙ same_slots _ _ c.f.view_is in
     let old_blocks : c.as_slice-4.result.now ≡ f.blocks = c.as_slice-4.ensures ∙ same_blocks _ _ c.f.view_is in
     let homes : c.as_slice-6.result.now ≡ s.homes = c.as_slice-6.ensures in
     let first : c.fresh_number-fresh.result ≡ greatest_number f c.args.subs.now + 1 = c.fresh_number-fresh.ensures in
-    let slots : c.in_ok-slots.slots ≡ f.slots ++ map (λ (h : Home). h.slot) s.homes =
-    c.in_ok-slots.ensures ∙ (λ i. old_slots i ++ map (λ (h : Home). h.slot) (homes i)) in
+    let slots : c.in_ok-slots.slots ≡ f.slots ++ map (λ (h : SlotAssignment). h.slot) s.homes =
+    c.in_ok-slots.ensures ∙ (λ i. old_slots i ++ map (λ (h : SlotAssignment). h.slot) (homes i)) in
     let blocks : c.in_ok-blocks.blocks ≡ spilled_blocks s entry (blocks_asked s (greatest_number f c.args.subs.now + 1) f.blocks) =
     c.in_ok-blocks.ensures ∙ (λ i. spilled_blocks s entry (blocks_asked s (first i) (old_blocks i))) in
     λ i. record { name = (c.f.view_is i).name; slots = slots i; objects = (c.f.view_is i).objects; blocks = blocks i }
@@ -74,7 +74,7 @@ same c =
 pub invariant_of-f : goal.invariant_of-f
 invariant_of-f c =
     let f : Function = c.args.f.now in
-    let plan : Plan = c.in_ok-plan.plan in
+    let plan : SpillPlan = c.in_ok-plan.plan in
     let p : IsPlan c.args.reserve.now f plan = c.in_ok-plan.ensures in
     let s : Spilling = plan.spilling in
     let live : ℕ → Bool = is_among plan.incoming in
@@ -88,7 +88,7 @@ invariant_of-f c =
 pub returns-clause-spilled : goal.returns-clause-spilled
 returns-clause-spilled c =
     let f : Function = c.args.f.now in
-    let plan : Plan = c.in_ok-plan.plan in
+    let plan : SpillPlan = c.in_ok-plan.plan in
     let p : IsPlan c.args.reserve.now f plan = c.in_ok-plan.ensures in
     let s : Spilling = plan.spilling in
     let live : ℕ → Bool = is_among plan.incoming in

@@ -5,7 +5,7 @@ use Rattle.mir_func.specs.Function.{Function}
 use Rattle.pass_trait.specs.declared.loss.Loss.{Loss}
 use Rattle.pass_trait.specs.declared.loss.Reason.{Reason}
 use Rattle.pass_trait.specs.Causes.{is_named}
-use Rattle.spill_code.specs.declared.spilling.Home.{Home}
+use Rattle.spill_code.specs.declared.spilling.SlotAssignment.{SlotAssignment}
 use Rattle.spill_code.specs.Rewrite.{slot_of}
 use Rattle.spill_rule.specs.Choice.{is_bound, homes_of}
 use Rattle.spill_select.specs.Incoming.{is_among}
@@ -18,7 +18,7 @@ loop-r-preserved c =
     let f : Function = c.args.f.now in
     let among : List ℕ = c.args.incoming.now in
     let reserve : List ℕ = c.args.reserve.now in
-    let all : List Home = homes_of reserve (is_among among) f in
+    let all : List SlotAssignment = homes_of reserve (is_among among) f in
     let r : ℕ = c.r-item.result in
     let so_far : List Loss = c.loop-r.losses in
     let lacks = c.in_ok-lacks_scratch.ensures in

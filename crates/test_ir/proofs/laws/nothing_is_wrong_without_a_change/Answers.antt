@@ -1,7 +1,7 @@
 use Rattle.std.proofs.Common.{◌≡◌, ℕ, ◌<◌, List, subst, sym, ◌∙◌, inl, inr, arith}
 use Rattle.rv64_instr.specs.declared.place.Place.TheVariants.{Register}
 use Rattle.mir_func.specs.declared.position.Pos.{Pos}
-use Rattle.mir_func.specs.declared.entry.Entry.{Entry}
+use Rattle.mir_func.specs.declared.entry.DebugSubstitution.{DebugSubstitution}
 use Rattle.mir_func.specs.Function.{Function}
 use Rattle.mir_func.specs.Graph.{Program}
 use Rattle.pass_trait.specs.Change.{Change, change}
@@ -19,7 +19,7 @@ same_now : (c : Change) (r now : ℕ) → IsNow nop_rule c r now → r ≡ now
 same_now c r now (inl e) = e
 same_now c r now (inr h) = absurd h
 
-module _ (f : Function) (subs : List Entry) where
+module _ (f : Function) (subs : List DebugSubstitution) where
   abbrev c : Change
   c = change f subs f subs
 

@@ -20,8 +20,8 @@ nop = record {
   loc = Absent;
 }
 
-abbrev alone : (silent : ℕ) → Function
-alone n = record { name = []; slots = []; objects = []; blocks = record { id = 0; items = nop ∷ []; silent = n } ∷ [] }
+abbrev alone : (source_end : ℕ) → Function
+alone n = record { name = []; slots = []; objects = []; blocks = record { id = 0; items = nop ∷ []; source_end = n } ∷ [] }
 
 pub returns : goal.returns
 returns c sees =

@@ -1,7 +1,7 @@
 use Rattle.std.proofs.Common.{◌≡◌, length, ap, subst, List, ◌∙◌}
 use Rattle.mir_func.specs.declared.block.Block.{Block}
 use Rattle.mir_func.specs.Sound.{AreApart, ids_of}
-use Rattle.pass_liveness.specs.Solving.{Settled}
+use Rattle.pass_liveness.specs.Solving.{Fixpoint}
 use Rattle.pass_liveness.proofs.Ready.{solved}
 use Rattle.pass_liveness.proofs.live.Live.solve.Goals as goal
 
@@ -16,7 +16,7 @@ returns c =
     let blocks : c.as_slice.result.now ≡ c.args.f.now.blocks = cc in
     let apart : AreApart (ids_of c.args.f.now.blocks) = subst (λ (bs : List Block). AreApart (ids_of bs)) view c.f.invariant.blocks_apart in
     let long : length c.in_ok-starts.starts.items ≡ length c.args.f.now.blocks = c.in_ok-starts.ensures.long ∙ (c.len.ensures ∙ ap (length {A = Block}) view) in
-    let settled = subst (λ (bs : List Block). Settled c.in_ok-names.names.slots c.in_ok-names.names.blocks bs c.in_ok-starts.starts.items
+    let settled = subst (λ (bs : List Block). Fixpoint c.in_ok-names.names.slots c.in_ok-names.names.blocks bs c.in_ok-starts.starts.items
     c.settle.new.starts.items) blocks c.settle.ensures in
     solved c.args.f.now c.in_ok-names.names.slots c.in_ok-names.names.blocks c.in_ok-starts.starts.items c.settle.new.starts.items c.in_ok-names.ensures.slots
     c.in_ok-names.ensures.blocks apart long c.in_ok-starts.ensures.none settled

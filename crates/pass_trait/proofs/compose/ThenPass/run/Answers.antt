@@ -3,7 +3,7 @@ use Rattle.std.proofs.Common.{◌≡◌, arith, List, ◌++◌, not, ◌&&◌, �
 use Rattle.std.proofs.lemmas.Bool.{and_parts}
 use Rattle.pass_trait.specs.Change.{change}
 use Rattle.pass_trait.specs.declared.loss.Loss.{Loss}
-use Rattle.pass_trait.specs.Steps.{Step, KeepsSteps}
+use Rattle.pass_trait.specs.Steps.{PassStep, KeepsSteps}
 use Rattle.pass_trait.specs.Sizes.{item_count}
 use Rattle.pass_trait.proofs.Composition.{steps_then, following_then, fits_then}
 use Rattle.pass_trait.proofs.Growth.{numbers_first, numbers_then, slots_then, sizes_then}
@@ -42,8 +42,8 @@ pub returns-clause-steps : goal.returns-clause-steps
 returns-clause-steps g c =
     let joined : c.extend_from_slice.new.self ≡ c.in_ok-losses.losses ++ c.in_ok-later.later = c.in_ok-extend_from_slice.ensures.ok ∙
     ap (λ l. c.in_ok-losses.losses ++ l) c.as_slice.ensures in
-    let first : List Step = g.A.Pass.steps c.args.self.now.first in
-    let second : List Step = g.B.Pass.steps c.args.self.now.second in
+    let first : List PassStep = g.A.Pass.steps c.args.self.now.first in
+    let second : List PassStep = g.B.Pass.steps c.args.self.now.second in
     let P : List Loss → Type 0 = λ l. KeepsSteps (first ++ second)
     (change c.args.f.now c.args.subs.now c.run-2.new.f c.run-2.new.subs) l in
     subst P (sym joined) (steps_then first second _ _ _ _ _ _ _ _ c.in_ok-losses.ensures.steps c.in_ok-later.ensures.steps)

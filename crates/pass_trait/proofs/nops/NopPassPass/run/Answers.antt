@@ -6,7 +6,7 @@ use Rattle.pass_trait.specs.declared.loss.Loss.{Loss}
 use Rattle.pass_trait.specs.Order.{IsInOrder}
 use Rattle.pass_trait.specs.Rule.{number_lost}
 use Rattle.pass_trait.specs.Steps.{KeepsSteps}
-use Rattle.pass_trait.specs.Following.{KeepsFollowing}
+use Rattle.pass_trait.specs.Simulation.{PreservesSimulation}
 use Rattle.pass_trait.specs.Sizes.{KeepsSizes}
 use Rattle.pass_trait.specs.Nops.{has_added_saves, nop_step}
 use Rattle.pass_trait.proofs.NopFollows.{nops_follow}
@@ -17,7 +17,7 @@ use Rattle.pass_trait.proofs.nops.NopPassPass.run.Goals as goal
 
 pub returns-clause-follows : goal.returns-clause-follows
 returns-clause-follows c =
-    let P : Function → Type 0 = λ g. KeepsFollowing false true
+    let P : Function → Type 0 = λ g. PreservesSimulation false true
     (change c.args.f.now c.args._subs.now g c.args._subs.now) in
     on_ok c.lost_numbers.result _ (λ fits. subst P (sym c.in_ok-numbers.ensures.code) (nops_follow c.args.f.now c.args._subs.now c.take_out_nops.ensures.sound))
 

@@ -3,7 +3,7 @@ use Rattle.mir_func.specs.Function.{Function}
 use Rattle.pass_trait.specs.Change.{change}
 use Rattle.pass_trait.specs.declared.loss.Loss.{Loss}
 use Rattle.pass_trait.specs.Steps.{KeepsSteps}
-use Rattle.pass_trait.specs.Following.{KeepsFollowing}
+use Rattle.pass_trait.specs.Simulation.{PreservesSimulation}
 use Rattle.pass_trait.specs.Sizes.{KeepsSizes}
 use Rattle.remat_pass.specs.Pass.{remat_step}
 use Rattle.remat_pass.proofs.Sound.{sound_rematerialized}
@@ -16,7 +16,7 @@ pub returns-clause-follows : goal.returns-clause-follows
 returns-clause-follows c = λ fits.
     let f : Function = c.args.f.now in
     let sound = c.set_constants.ensures.sound in
-    subst (λ (g : Function). KeepsFollowing false true (change f c.args._subs.now g c.args._subs.now)) (sym c.in_ok-set_constants.ensures.code)
+    subst (λ (g : Function). PreservesSimulation false true (change f c.args._subs.now g c.args._subs.now)) (sym c.in_ok-set_constants.ensures.code)
     (rematerialized_follows f c.args._subs.now sound (sound_rematerialized f sound) c.in_ok-set_constants.ensures.forms)
 
 pub returns-clause-steps : goal.returns-clause-steps

@@ -1,5 +1,5 @@
 use Rattle.std.proofs.Common.{◌≡◌, ℕ, ◌+◌, ◌-◌, ◌*◌, ◌/◌, ◌%◌, ◌^◌, ◌<◌, Bool, true, false, cond, List, length, drop, get_or, sym, ◌∙◌, arith}
-use Rattle.rv64_word.specs.declared.format.Field.TheVariants.{Opcode}
+use Rattle.rv64_word.specs.declared.format.EncodingField.TheVariants.{Opcode}
 use Rattle.rv64_word.specs.declared.format.Slice.{Slice}
 use Rattle.rv64_word.specs.declared.format.Format.{Format}
 use Rattle.rv64_word.specs.Format.{slices_of, width_of, same_field}

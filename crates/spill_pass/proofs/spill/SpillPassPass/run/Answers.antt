@@ -1,5 +1,5 @@
 use Rattle.std.proofs.Common.{◌≡◌, ℕ, List, [], ◌∷◌, sym, ap, ◌∙◌, subst}
-use Rattle.mir_func.specs.declared.entry.Entry.{Entry}
+use Rattle.mir_func.specs.declared.entry.DebugSubstitution.{DebugSubstitution}
 use Rattle.mir_func.specs.Function.{Function}
 use Rattle.pass_trait.specs.Change.{change}
 use Rattle.pass_trait.specs.Steps.{KeepsSteps}
@@ -18,7 +18,7 @@ pub returns-clause-follows : goal.returns-clause-follows
 returns-clause-follows c =
     let f : Function = c.args.f.now in
     let g : Function = c.spill.new.f in
-    let subs : List Entry = c.args.subs.now in
+    let subs : List DebugSubstitution = c.args.subs.now in
     let reserve : List ℕ = c.as_slice-2.result.now in
     let keeps : IsReserve reserve = subst IsReserve (sym (c.as_slice-2.ensures ∙ c.in_ok-reserve.ensures)) (is_reserve c.as_slice.result.now) in
     if_ok c.spill.result (IsSpilledWithLosses reserve f subs g) _ c.spill.ensures.spilled
@@ -28,7 +28,7 @@ pub returns-clause-steps : goal.returns-clause-steps
 returns-clause-steps c =
     let f : Function = c.args.f.now in
     let g : Function = c.spill.new.f in
-    let subs : List Entry = c.args.subs.now in
+    let subs : List DebugSubstitution = c.args.subs.now in
     let reserve : List ℕ = c.as_slice-2.result.now in
     let keeps : IsReserve reserve = subst IsReserve (sym (c.as_slice-2.ensures ∙ c.in_ok-reserve.ensures)) (is_reserve c.as_slice.result.now) in
     let is : reserve ≡ reserve_of c.args.self.now.reserve = c.as_slice-2.ensures ∙ c.in_ok-reserve.ensures ∙ ap reserve_of c.as_slice.ensures in
@@ -40,7 +40,7 @@ pub returns-clause-sizes : goal.returns-clause-sizes
 returns-clause-sizes c =
     let f : Function = c.args.f.now in
     let g : Function = c.spill.new.f in
-    let subs : List Entry = c.args.subs.now in
+    let subs : List DebugSubstitution = c.args.subs.now in
     let reserve : List ℕ = c.as_slice-2.result.now in
     let keeps : IsReserve reserve = subst IsReserve (sym (c.as_slice-2.ensures ∙ c.in_ok-reserve.ensures)) (is_reserve c.as_slice.result.now) in
     if_ok c.spill.result (IsSpilledWithLosses reserve f subs g) _ c.spill.ensures.spilled
