@@ -1,9 +1,9 @@
 -- The options of a command.
-use Rattle.std.specs.Prelude.{◌≡◌, ℕ, List, [], ◌∷◌, codes, map, Some, None}
+use Rattle.std.specs.Prelude.{◌≡◌, ℕ, List, [], ◌∷◌, ◌++◌, codes, map, Some, None}
 use Rattle.std.specs.List.{join_with_byte}
 use Rattle.std.specs.Fmt.{decimal}
 use Rattle.cli_numbers.specs.Numbers.{AreListed}
-use Rattle.pass_list.specs.Names.{AreDistinct}
+use Rattle.pass_list.specs.Names.{text_of, AreDistinct}
 use Rattle.cli_numbers.specs.Reserve.{register_name, IsReserveText}
 use Rattle.cli.specs.declared.option.CommandOption.{CommandOption}
 use Rattle.cli.specs.declared.option.CommandOption.TheVariants.{Passes, Reserve, Arguments, Answers}

@@ -8,12 +8,12 @@ use Rattle.mir_func.specs.declared.block.Block.{Block}
 use Rattle.mir_func.specs.declared.item.Item.{Item}
 use Rattle.mir_func.specs.declared.object.Object.{Object}
 use Rattle.mir_func.specs.Function.{Function}
-use Rattle.mir_func_printer.specs.FuncText.{slot_line as slot_text, object_line as object_text, stack_text}
+use Rattle.mir_func_printer.specs.FuncText.{name_text, slot_line as slot_text, object_line as object_text, stack_text}
 use Rattle.mir_func_printer.specs.FuncText.{item_line as item_line_text, block_text}
 use Rattle.mir_func_printer.specs.FuncText.{func_text}
 use Rattle.readback_items.specs.Body.{label_line, item_line, block_lines, body_lines}
 use Rattle.readback_functions.specs.Document.{fed, text_of_lines, document_lines}
-use Rattle.readback_functions.specs.Declared.{slot_line, object_line, entry_lines, stack_lines}
+use Rattle.readback_functions.specs.Declared.{name_line, slot_line, object_line, entry_lines, stack_lines}
 use Rattle.readback_functions.specs.Stripped.{document_of}
 
 pub fed_both : (xs ys : List (List ℕ)) → text_of_lines (xs ++ ys) ≡ text_of_lines xs ++ text_of_lines ys

@@ -11,7 +11,7 @@ use Rattle.mir_func.specs.declared.block.Block.{Block}
 use Rattle.mir_func.specs.declared.entry.DebugSubstitution.{DebugSubstitution}
 use Rattle.mir_func.specs.Function.{Function}
 use Rattle.mir_func.specs.Sound.{items_of}
-use Rattle.mir_func_printer.specs.FuncText.{stack_text, entry_line as entry_text, some_substitutions, substitutions_text, block_text}
+use Rattle.mir_func_printer.specs.FuncText.{name_text, stack_text, entry_line as entry_text, some_substitutions, substitutions_text, block_text}
 use Rattle.mir_func_printer.specs.FuncText.{func_text}
 use Rattle.read_proof.specs.Read.{EntryIsLimited}
 use Rattle.readback_items.specs.Laws.{IsWritable}
