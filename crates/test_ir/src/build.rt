@@ -24,6 +24,7 @@ use rv64_instr::reg::Reg;
 use std::alloc::{AllocError, Global};
 use std::str::SplitWhitespace;
 
+/// An operand of the instruction with a debug instruction number.
 pub fn pair(number: u32, operand: u32) -> OperandPair {
     OperandPair {
         number: DebugNumber(number),

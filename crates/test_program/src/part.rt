@@ -31,6 +31,7 @@ pub struct Texts {
 }
 
 impl Texts {
+    /// No text yet.
     pub fn new(alloc: Global) -> Texts {
         Texts {
             named: Vec::new(alloc),
