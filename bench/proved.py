@@ -50,7 +50,7 @@ def clauses(head, uses):
 NAME = re.compile(r"(?<![\w.])(?<!: )[A-Za-z_]\w*")
 FORM = re.compile(
     r"^(?:impl(?:<[^{]*?>)? (?P<owner>\w+)[^{;]*?\{$|pub trait (?P<trait>\w+)[^{]*?\{$"
-    r"|(?P<doc>(?:^ *///[^\n]*\n)*)(?P<in> *)(?P<pub>pub )?fn (?P<name>\w+)(?P<head>.*?)(?:^(?P=in)\{|\{\}$|;$))", re.M | re.S)
+    r"|(?P<doc>(?:^ *///[^\n]*\n)*)(?P<in> *)(?P<pub>pub )?fn (?P<name>\w+)(?P<head>[^\n]*\{$|.*?(?:^(?P=in)\{|\{\}$|;$)))", re.M | re.S)
 
 
 def calls(crate):
@@ -58,6 +58,7 @@ def calls(crate):
     found = []
     for module, text in modules(crate).items():
         text = re.sub(r"^#\[cfg\(test\)\].*\Z", "", text, flags=re.M | re.S)
+        text = re.sub(r"^ *#\[.*?\]\n", "", text, flags=re.M | re.S)
         uses, owner, is_trait = uses_in(text), None, False
         for match in FORM.finditer(text):
             if match["owner"] or match["trait"]:
