@@ -7,8 +7,6 @@ use Rattle.pass_trait.specs.declared.loss.Loss.{Loss}
 use Rattle.pass_trait.specs.Change.{change}
 use Rattle.pass_trait.specs.Sizes.{code_count}
 use Rattle.pass_trait.specs.Steps.{KeepsStep, KeepsSteps}
-use Rattle.pass_trait.specs.Code.{CodeRule, HasOneResult, SeesCodeAlone}
-use Rattle.pass_trait.specs.Steps.{EachCode}
 use Rattle.dce_rule.specs.Dead.{IsRound}
 use Rattle.dce_proof.specs.Rule.{dead_rule}
 use Rattle.dce_proof.proofs.Whole.{round_keeps}
@@ -17,7 +15,6 @@ use Rattle.dce_pass.proofs.Follows.{round_follows, round_code}
 use Rattle.dce_pass.specs.Rounds.{AreDeadRounds, ended, and_round}
 use Rattle.dce_pass.proofs.Keeps.{settled_stripped}
 use Rattle.dce_pass.specs.Steps.{repeated, round_step, most_rounds, dead_steps, RoundsKeepSteps}
-use Rattle.dce_rule.proofs.Rounds.{one_round, round_alike}
 
 most_is : most_rounds ≡ 2 ^ 31
 unfolding most_rounds
@@ -53,15 +50,3 @@ pub rounds_keep_steps : RoundsKeepSteps
 rounds_keep_steps f g subs more losses sound less rounds =
     let most : most_rounds ≡ 2147483648 = most_is in
     steps most_rounds sound (omega (arith, less, most)) rounds
-
--- ---- the rule for code
-
-each_code : (P : CodeRule → Type 0) (n : ℕ) → P IsRound → EachCode P (repeated n (round_step dead_rule))
-each_code P zero h = tt
-each_code P (suc n) h = (h, each_code P n h)
-
-pub each_one : EachCode HasOneResult dead_steps
-each_one = each_code HasOneResult most_rounds one_round
-
-pub each_same : EachCode SeesCodeAlone dead_steps
-each_same = each_code SeesCodeAlone most_rounds round_alike
