@@ -76,7 +76,7 @@ const FIRST: &[(usize, usize, u32)] = &[
 
 fn answers(
     values: &Values,
-    point: &Point,
+    point: &QueryPoint,
     number: u32,
     place: &Place,
 ) -> Result<(u32, u32, u32, u32), Fail> {
