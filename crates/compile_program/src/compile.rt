@@ -86,7 +86,7 @@ impl From<SectionError> for CompileError {
 /// Compiles a program that was read. Each function is run through the passes and its frame added, and they are laid out
 /// from address 0. The location lists are those of the variables of the source function. `reserve` is the registers
 /// that may be spilled. The error is `FrameTooLarge` if some function's frame would have more than 2,032 bytes, and
-/// otherwise `SectionTooLarge` exactly if a section would have 2^31 bytes or more.
+/// otherwise `SectionTooLarge`, only if a section of functions that the passes may make would have 2^31 bytes or more.
 pub fn compile(
     alloc: Global,
     program: &Program,

@@ -23,7 +23,8 @@ pub fn codes_are_compiled()
 {}
 
 /// The headline holds of each source and its part of a compiled output: the machine code refines the source, and each
-/// location list entry holds the value of the variable's newest assignment.
+/// location list entry holds the value of the variable's newest assignment, unless the source stops on a frame fault
+/// before.
 pub fn compiled_promises()
     ensures { CompiledPromises }
 {}

@@ -16,7 +16,7 @@ pub fn code_is_copied()
     ensures { CodeIsCopied }
 {}
 
-/// A function without its redundant copies is no larger, and gets at most one new number for each item.
+/// A function without its redundant copies is within the size bounds of a pass with factor 1 and count 1.
 pub fn copies_keep_sizes()
     ensures { CopiesKeepSizes }
 {}

@@ -2,7 +2,7 @@
 
 ghost use Rattle.fold_proof.specs.Sizes.{FoldedKeepsSizes};
 
-/// A function folded with kills has at most one more item for each block, and no more calls, numbers or slots.
+/// Folding with kills is within the size bounds of a pass with factor 1 and count 1.
 pub fn folded_keeps_sizes()
     ensures { FoldedKeepsSizes }
 {}

@@ -29,7 +29,8 @@ pub struct JumpChains {
     pub reached: HashSet<u32>,
 }
 
-/// Computes these for blocks with distinct numbers.
+/// Where jump-only blocks forward control, where their chains end, and which blocks are reachable, of blocks with
+/// distinct numbers.
 pub fn jump_chains(alloc: Global, blocks: &[Block]) -> Result<JumpChains, AllocError>
     requires { AreApart (ids_of blocks.now) }
     ensures leads { IfOk result (λ w. (n : ℕ) → told w.leads n ≡ lead blocks.now n) }

@@ -9,7 +9,8 @@ pub fn frame_follows()
 {}
 
 /// At each state of each run of a function with its frame, whatever its slots have at first: x2 is its value at entry
-/// less the lowering of the frame's state at the position, and registers are in their save slots or as at entry.
+/// less the lowering of the frame's state at the position, and the callee-saved registers and the return address
+/// are in their save slots or as at entry.
 pub fn frame_stands()
     ensures { FrameAlwaysStands }
 {}

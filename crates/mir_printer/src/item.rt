@@ -35,10 +35,10 @@ fn push_kind(text: &mut Text, kind: &ItemKind) -> Result<(), AllocError>
     }
 }
 
-/// The text of an item determines its kind and its location, and so does its line, whatever comes after it. The items
-/// are printable: their instruction has the form of its opcode, a `%stack.N` that could be a slot or an object is an
-/// object exactly if N is declared as one's number, a phi of `$x0` is one of the constant 0, and a mark's variable is
-/// inlined at the node that its location is inlined at.
+/// The text of a printable item determines its kind and its location, and so does its line, whatever comes after it.
+/// Printable items are those whose instruction has the form of its opcode, a `%stack.N` that could be a slot or an
+/// object is an object exactly if N is declared as one's number, a phi of `$x0` is one of the constant 0, and a mark's
+/// variable is inlined at the node that its location is inlined at.
 pub fn one_reading()
     ensures text { ItemTextTells }
     ensures line { ItemLineTells }

@@ -50,8 +50,8 @@ impl Substitutions {
         self.entries.as_slice()
     }
 
-    /// Adds an entry at the end. An entry whose source has one already changes nothing, and neither does a call
-    /// for which memory runs out.
+    /// Adds an entry at the end, unless its source has one already. That changes nothing, and neither does a call for
+    /// which memory runs out.
     pub fn add(&mut self, e: DebugSubstitution) -> Result<(), AllocError>
         ensures ok { OnOk result (self.new ≡ added self.old e) }
         ensures err { OnErr result (self.new ≡ self.old) }

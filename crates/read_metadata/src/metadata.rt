@@ -117,7 +117,8 @@ impl Metadata {
         self.nodes.get(&number)
     }
 
-    /// The variable with this node number, and `None` exactly if no readable line defines one. It takes no memory.
+    /// The variable with this node number, and `None` exactly if the first readable line of this number defines none.
+    /// It takes no memory.
     pub fn variable(&self, number: NodeId) -> Option<&VariableNode>
         ensures { option_copied result ≡ variable_at self.now number }
     {
@@ -127,8 +128,8 @@ impl Metadata {
         }
     }
 
-    /// The source location with this node number, and `None` exactly if no readable line defines one. It takes no
-    /// memory.
+    /// The source location with this node number, and `None` exactly if the first readable line of this number defines
+    /// none. It takes no memory.
     pub fn location(&self, number: NodeId) -> Option<&LocationNode>
         ensures { option_copied result ≡ location_at self.now number }
     {
@@ -158,15 +159,16 @@ impl Metadata {
         }
     }
 
-    /// The file of the subprogram or lexical block with this node number, and `None` exactly if no readable line
-    /// defines such a scope with a file, or none defines that file. It takes no memory.
+    /// The file of the subprogram or lexical block with this node number, and `None` exactly if the first readable line
+    /// of this number defines no such scope with a file, or that of the file's number no file. It takes no memory.
     pub fn file_of_scope(&self, number: NodeId) -> Option<&FileNode>
         ensures { option_copied result ≡ file_of_scope_at self.now number }
     {
         self.file(self.scope_file(number)?)
     }
 
-    /// The base type with this node number, and `None` exactly if no readable line defines one. It takes no memory.
+    /// The base type with this node number, and `None` exactly if the first readable line of this number defines none.
+    /// It takes no memory.
     pub fn base_type(&self, number: NodeId) -> Option<&BaseTypeNode>
         ensures { option_copied result ≡ base_type_at self.now number }
     {

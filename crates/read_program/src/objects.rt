@@ -138,7 +138,7 @@ fn block_as(alloc: Global, ids: &FirstUseOrder, block: &Block) -> Result<Block, 
     })
 }
 
-/// The blocks of a function.
+/// The blocks, with these numbers as stack objects.
 pub fn blocks_as(alloc: Global, ids: &FirstUseOrder, blocks: &[Block]) -> Result<Blocks, AllocError>
     ensures { IfOk result (λ all. all ≡ blocks_as ids.now blocks.now) }
 {

@@ -2,12 +2,12 @@
 
 ghost use Rattle.readback_functions.specs.Printed.{BlockLinesArePrinted, DeclaredLinesArePrinted};
 
-/// The line of an item is printable ASCII without a space at its end, and so is that of a label.
+/// The line of an item within the limits is printable ASCII without a space at its end, and so is that of a label.
 pub fn block_lines_are_printed()
     ensures { BlockLinesArePrinted }
 {}
 
-/// The same for the lines of a name, of slots and of objects.
+/// The lines of a name, of slots and of objects are printable ASCII without a space at the end.
 pub fn declared_lines_are_printed()
     ensures { DeclaredLinesArePrinted }
 {}

@@ -3,12 +3,13 @@
 ghost use Rattle.readback_items.specs.Debug.{DebugLinesReadBack};
 ghost use Rattle.readback_items.specs.Laws.{LinesSayForms, LabelsReadBack};
 
-/// The printed line of an item is parsed as the item's form.
+/// The printed line of an item within the limits is parsed as the item's form.
 pub fn lines_say_forms()
     ensures { LinesSayForms }
 {}
 
-/// The printed line of a debug item is read back as the item, given the same metadata.
+/// The printed line of a debug item within the limits, without x0 and x2, is read back as the item, given the same
+/// metadata.
 pub fn debug_lines_read_back()
     ensures { DebugLinesReadBack }
 {}

@@ -10,7 +10,7 @@ pub fn compilations_can_run()
 {}
 
 /// A run of a compilation is one of a function that was read, and the values of variables in its lines are those of the
-/// source.
+/// source, unless it stops on a frame fault before.
 pub fn runs_are_of_programs()
     ensures runs { RunsAreOfPrograms }
     ensures names { NamesAreRead }

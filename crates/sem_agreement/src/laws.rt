@@ -12,7 +12,8 @@ pub trait Likeness {
     ghost free: { ℕ → Type 0 };
 }
 
-/// The effect of items on two states that agree.
+/// Two states that agree on some places agree after an item too, if the second has no values of numbers and debug
+/// values but the first's and those of free numbers.
 pub fn items_are_alike<L: Likeness>()
     ensures { ItemsAreAlike L.held L.free }
 {}

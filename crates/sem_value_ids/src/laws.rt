@@ -4,7 +4,8 @@ ghost use Rattle.sem_value_ids.specs.Parts.{PartsHaveOneToken};
 ghost use Rattle.sem_value_ids.specs.Pullback.{AgreementPullsBack, SharingPullsBack, TokensPullBack};
 ghost use Rattle.sem_value_ids.specs.Trace.{RunsTakePaths, TokensNameValues};
 
-/// Along a run each token has one value, and whatever has the token holds it, a part of a variable its low bytes.
+/// Along a run from a state with all registers written, each token has one value, and whatever has the token holds it,
+/// a part of a variable its low bytes.
 pub fn tokens_name_values()
     ensures { TokensNameValues }
 {}
@@ -19,17 +20,17 @@ pub fn tokens_pull_back()
     ensures { TokensPullBack }
 {}
 
-/// Two entities have one token after items, or both none, exactly if their pull-backs agree before them.
+/// On a path, two entities have one token after items, or both none, exactly if their pull-backs agree before them.
 pub fn agreement_pulls_back()
     ensures { AgreementPullsBack }
 {}
 
-/// Two entities share a token after items exactly if their pull-backs share one before them.
+/// On a path, two entities share a token after items exactly if their pull-backs share one before them.
 pub fn sharing_pulls_back()
     ensures { SharingPullsBack }
 {}
 
-/// Of two different parts of a variable that overlap, at most one has a token.
+/// On a path, of two different parts of a variable that overlap, at most one has a token.
 pub fn parts_have_one_token()
     ensures { PartsHaveOneToken }
 {}

@@ -7,7 +7,7 @@ pub fn alive_bare()
     ensures { AliveBare }
 {}
 
-/// And for every function with the same code.
+/// A test of which registers are live into a function is right for every function with the same code.
 pub fn alive_alike()
     ensures { AliveAlike }
 {}

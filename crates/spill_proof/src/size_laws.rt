@@ -2,9 +2,7 @@
 
 ghost use Rattle.spill_proof.specs.Sizes.{WholeKeepsSizes};
 
-/// After spilling there are at most four times as many items, plus a store for each spilled register that is live into
-/// the function; no more calls; no virtual registers if there were none; at most one fresh number for each item; and at
-/// most `MAX_SLOTS` more slots.
+/// Spilling is within the size bounds of a pass with factor 4 and count 1.
 pub fn whole_keeps_sizes()
     ensures { WholeKeepsSizes }
 {}

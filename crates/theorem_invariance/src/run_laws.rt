@@ -2,7 +2,7 @@
 
 ghost use Rattle.theorem_invariance.specs.RunAlone.{RunsWriteCodeAlone};
 
-/// Debug items never change machine code. Two runs of `compile` with the same passes and the same registers for
+/// Two runs of `compile` that finish, with the same passes and the same registers for
 /// spilling write the same `.text` if the functions in both texts, pairwise, have the same names, slots, stack objects,
 /// block numbers and code in order.
 pub fn runs_write_code_alone()

@@ -7,7 +7,7 @@ pub fn kept_values_sit()
     ensures { KeptValuesSit }
 {}
 
-/// So some location is required for the part there: it can't be that none is.
+/// While a place keeps the value that a debug value assigned, it can't be that no location is required for the part.
 pub fn kept_values_are_wanted()
     ensures { KeptValuesAreWanted }
 {}
