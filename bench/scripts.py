@@ -31,6 +31,8 @@ WORDS = [
     ("compile --reserve=s0", "`s0`, which is no register that may be reserved"),
     ("compile --args=5", "`compile` takes no --args"),
     ("compile nofile.mir", "there is no file `nofile.mir`"),
+    ("compile examples", "`examples` is a folder"),
+    ("compile /dev/null", "`/dev/null` is no plain file"),
     (f"compile {LEDGER} {TOTALS}", "takes one file"),
     ("run", "NAME is missing"),
     ("run price", "STEPS is missing"),
@@ -59,6 +61,18 @@ REFUSED = [
     ("$x10 = MUL $x10, $x11", "UnknownOpcode", "M extension", "-march=rv64i"),
     ("$x10 = ADDI %5, 1", "VirtualRegister", "A virtual register", "virtregrewriter"),
     ("$x2 = ADDI $x2, -16", "StackPointerUse", "the stack pointer", "virtregrewriter"),
+    ("ADJCALLSTACKDOWN 8, 0, implicit-def dead $x2, implicit $x2", "BadOperands", "arguments on the stack; a call has at most eight", "a struct"),
+]
+
+# Texts that are no file of llc's, and what is told of them.
+OTHERS = [
+    ("; ModuleID = 't.c'\nsource_filename = \"t.c\"\n", "This is LLVM IR"),
+    ("define i64 @f(i64 %0) {\n  ret i64 %0\n}\n", "This is LLVM IR"),
+    ("#include <stdint.h>\nlong f(long a) {\n  return a;\n}\n", "This looks like C"),
+    ("long keep(long);\n", "This looks like C"),
+    ("\t.text\n\t.globl\tf\n", "This is assembler text"),
+    ("section .text 4\n67800000\n", "This is what `compile` writes"),
+    ("function f 00000000 00000004\nblock 0\n", "This is what `listing` writes"),
 ]
 
 BODY = "--- |\n...\n---\nname: small\nbody: |\n  bb.0:\n    PseudoRET\n...\n---\nname: f\n%sbody: |\n  bb.0:\n%s    PseudoRET\n...\n"
@@ -73,6 +87,11 @@ DEBUGGED = [
     ("price @1", r"@1 names no --bytes or --longs", r"", 1),
     ("price 1 2 3 4 5 6 7 8 9", r"9 arguments", r"", 1),
     ("price 99999999999999999999", r"doesn't fit into 64 bits", r"", 1),
+    ("--elf /nonexist/x.elf price 5", r"\A--elf names /nonexist/x.elf, and there is no folder /nonexist\n", r"", 1),
+    ("--elf /tmp price 5", r"\A--elf names /tmp, which is a folder\n", r"", 1),
+    ("--elf /dev/null price 5", r"\A--elf names /dev/null, which is no plain file\n", r"", 1),
+    ("--source nofile.c price 5", r"\Athere is no file nofile.c, which --source names\n\Z", r"", 1),
+    ("--bytes text", r"\AFUNCTION is missing\n--bytes took the word `text`\n", r"", 1),
 ]
 CALLED = [
     ("total 3 4", r"\Anot in .*: price, called by total\n", r"stopped in a call of price, which the output doesn't have; .*\n\Z", 1),
@@ -100,6 +119,32 @@ body: |
     PseudoRET
 ...
 """
+# A parameter and two variables without a type, and two of one name, of which the second has a type.
+UNTYPED = """--- |
+  define i64 @f(i64 %v) !dbg !1 { ret i64 0 }
+  !1 = distinct !DISubprogram(name: "f", scope: !2, file: !2, line: 3)
+  !2 = !DIFile(filename: "t.c", directory: "/d")
+  !3 = !DIBasicType(name: "long", size: 64, encoding: DW_ATE_signed)
+  !4 = !DILocalVariable(name: "v", arg: 1, scope: !1, file: !2, line: 3)
+  !5 = !DILocation(line: 3, column: 1, scope: !1)
+  !6 = !DILocation(line: 4, column: 1, scope: !1)
+  !7 = !DILocalVariable(name: "w", scope: !1, file: !2, line: 3)
+  !8 = !DILocalVariable(name: "i", scope: !1, file: !2, line: 3)
+  !9 = !DILocalVariable(name: "i", scope: !1, file: !2, line: 3, type: !3)
+...
+---
+name: f
+body: |
+  bb.0:
+    DBG_VALUE $x10, $noreg, !4, !DIExpression(), debug-location !5
+    DBG_VALUE $x10, $noreg, !7, !DIExpression(), debug-location !5
+    DBG_VALUE $x10, $noreg, !8, !DIExpression(), debug-location !5
+    DBG_VALUE $x10, $noreg, !9, !DIExpression(), debug-location !5
+    $x11 = ADDI $x0, 0, debug-location !5
+    $x12 = ADDI $x0, 1, debug-location !6
+    PseudoRET
+...
+"""
 
 passed = failed = 0
 
@@ -107,6 +152,10 @@ passed = failed = 0
 def run(*words, given=""):
     ran = subprocess.run(words, cwd=TOP, input=given, capture_output=True, text=True, env={**os.environ, "MIRDWARF": PROGRAM})
     return ran.returncode, ran.stdout, ran.stderr
+
+
+def shell(line):
+    return run("bash", "-c", line)
 
 
 def check(what, holds, got):
@@ -145,6 +194,13 @@ def wrapper(room):
         it.write(BODY % ("fixedStack:\n  - { id: 0, type: default, offset: 0, size: 8 }\n", ""))
     status, _, told = run("./mirdwarf", "listing", file)
     check("an argument on the stack", status == 1 and f"{file}:12: StackObject, in function f\n" in told, told)
+    for text, wanted in OTHERS:
+        status, said, told = run("./mirdwarf", "compile", given=text)
+        check(text, status == 1 and not said and f"\n  {wanted}.\n  What helps: " in told, told)
+    piped = shell(f"cat {LEDGER} | ./mirdwarf report /dev/stdin && ./mirdwarf report <(cat {LEDGER})")
+    check("a pipe as a file", piped == (0, run("./mirdwarf", "report", LEDGER)[1] * 2, ""), piped)
+    status, said, told = shell("./mirdwarf --help | (exec 0<&-; sleep 0.2)")
+    check("--help that nothing reads", status == 0 and not told, told)
     status, _, told = run("./mirdwarf", "run", "pricy", "5", LEDGER)
     check("another name", status == 1 and "The file has: price, ledger. Did you mean `price`?" in told, told)
 
@@ -171,6 +227,18 @@ def debugger(room):
             check(f"debug.py {' '.join(words)}", status == wants and re.search(wanted, said + told) and re.search(ending, said), said + told)
     status, said, told = run("examples/debug.py", files[LEDGER] + ".not", "price")
     check("debug.py without a file", status == 1 and "there is no file" in told, told)
+    took = f"price is wanted as OUTPUT, and there is no file of this name\n--bytes took the word `{files[LEDGER]}`\n"
+    for words, wanted in (([], "OUTPUT, a file of what `compile` wrote, and FUNCTION are missing\n"), (["examples"], "examples is no plain file\n"),
+                          (["--bytes", files[LEDGER], "price"], took)):
+        status, said, told = run("examples/debug.py", *words)
+        check(f"debug.py {' '.join(words)}", status == 1 and not said and told.startswith(wanted), told)
+    bare = compiled(room, "bare.txt", BODY % ("", ""))
+    status, said, told = run("examples/debug.py", bare, "f")
+    check("debug.py without debug information", status == 1 and told.startswith(f"{bare}: no function has debug information: "), said + told)
+    status, said, told = run("examples/debug.py", compiled(room, "untyped.txt", UNTYPED), "f", str(5 << 32))
+    check("debug.py without types", status == 0 and "v=(no type) w=(no type) i=(no type) i=21474836480" in re.sub(r"\*", "", said), said + told)
+    status, said, told = shell(f"examples/debug.py {files[LEDGER]} price 5 3 | (exec 0<&-; sleep 0.2)")
+    check("debug.py that nothing reads", status == 0 and not told, told)
     parts = compiled(room, "parts.txt", PARTS)
     status, said, told = run("examples/debug.py", "--bytes", "ab\\n", parts, "f", "@1", "7")
     check("debug.py with parts and memory", status == 0 and "v=30066868224" in said and "v=(4 of 8 bytes)*" in said, said + told)
@@ -180,6 +248,10 @@ def debugger(room):
 def view(room, ledger):
     status, said, told = run("tools/view.py", "--plain", "--function", "price", "--names", "a,b", ledger, ledger, "examples/ledger.c")
     check("view.py", status == 0 and "  a: 54 of 80 (67 %)\n  b: 54 of 80 (67 %)\n" in said and "long each = item + 3;" in said, said + told)
+    for words, wanted in (([], "FILE and FILE.c are missing\n"), ([ledger], f"one file is given, {ledger}: FILE or FILE.c is missing\n"),
+                          (["--html", "/nonexist/page", ledger, "examples/ledger.c"], "--html names /nonexist/page, and there is no folder")):
+        status, said, told = run("tools/view.py", *words)
+        check(f"view.py {' '.join(words)}", status == 1 and not said and told.startswith(wanted), told)
     page = os.path.join(room, "page.html")
     status, said, told = run("tools/view.py", "--html", page, ledger, "examples/ledger.c")
     with open(page, encoding="utf-8") as it:

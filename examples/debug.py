@@ -131,15 +131,27 @@ def elf(sections, functions, start, memory):
 
 
 def partly_known(file, function):
-    """The ranges in which a variable has places for some of its bytes alone: its name, the ends, and what is shown."""
+    """The ranges in which a variable has places for some of its bytes alone, or has no type: its name, which of this name it is, the ends, and what
+    is shown."""
     found = []
     for it in dwarf.functions(file):
+        names = []
         for variable in it.variables if it.name == function else []:
+            nth = names.count(variable.name)
+            names.append(variable.name)
             for low, high, place in variable.ranges:
                 known = dwarf.known_bytes(place, variable.size)
-                if known < variable.size:
-                    found.append((variable.name, low, high, f"({known} of {variable.size} bytes)"))
+                if not variable.typed:
+                    # gdb takes a local variable without a type for an int of four bytes
+                    found.append((variable.name, nth, low, high, "(no type)"))
+                elif known < variable.size:
+                    found.append((variable.name, nth, low, high, f"({known} of {variable.size} bytes)"))
     return found
+
+
+def has_debug_information(file):
+    """Whether any function has a variable or a source line."""
+    return any(it.variables for it in dwarf.functions(file)) or any(line for _, _, line in dwarf.lines(file))
 
 
 def free_port():
@@ -172,9 +184,9 @@ def run_to(place):
     gdb.execute("continue", to_string=True)
 
 
-def shown(symbol, frame, here):
-    for name, low, high, text in it["partly"]:
-        if name == symbol.name and low <= here < high:
+def shown(symbol, nth, frame, here):
+    for name, which, low, high, text in it["partly"]:
+        if name == symbol.name and which == nth and low <= here < high:
             # gdb would show what isn't known as 0
             return text
     try:
@@ -221,7 +233,8 @@ def walk():
         place = gdb.selected_frame().find_sal()
         if place.line != before:
             before, frame = place.line, gdb.selected_frame()
-            names = [(s.name, shown(s, frame, here)) for s in frame.block() if s.is_variable or s.is_argument]
+            symbols = [s for s in frame.block() if s.is_variable or s.is_argument]
+            names = [(s.name, shown(s, [s.name for s in symbols[:n]].count(s.name), frame, here)) for n, s in enumerate(symbols)]
             tell("stop", here, place.line, place.symtab.filename if place.symtab else None, names)
         if here in it["calls"]:
             why = over_call(here)
@@ -265,8 +278,8 @@ def number_of(word, what):
 
 
 def read_words(words):
-    """The options, and the other words."""
-    given, memory, rest = {"answers": []}, [], []
+    """The options, the other words, and the options that took the word behind them, each with the word."""
+    given, memory, rest, taken = {"answers": []}, [], [], []
     while words:
         word = words.pop(0)
         if word in ("-h", "--help"):
@@ -282,6 +295,7 @@ def read_words(words):
             if not words:
                 sys.exit(f"{option} wants a word behind it")
             value = words.pop(0)
+            taken.append((option, value))
         if option == "--bytes":
             memory.append(bytes_of(value))
         elif option == "--longs":
@@ -290,7 +304,13 @@ def read_words(words):
             given["answers"] = [number_of(it, "the answer") for it in value.split(",")]
         else:
             given[option[2:]] = value
-    return given, memory, rest
+    if given.get("source") and not os.path.isfile(given["source"]):
+        sys.exit(f"there is no file {given['source']}, which --source names")
+    if given.get("elf"):
+        dwarf.writable("--elf", given["elf"])
+        if os.path.exists(given["elf"]) and not os.path.isfile(given["elf"]):
+            sys.exit(f"--elf names {given['elf']}, which is no plain file")
+    return given, memory, rest, taken
 
 
 def placed(memory):
@@ -325,8 +345,6 @@ def source_of(name, given, beside):
         if os.path.isfile(place):
             with open(place, encoding="utf-8", errors="replace") as it:
                 return it.read().splitlines()
-    if given:
-        sys.exit(f"there is no file {given}")
     return []
 
 
@@ -369,11 +387,13 @@ def stepped(file, script):
 
 
 def main():
-    given, memory, words = read_words(sys.argv[1:])
+    given, memory, words, taken = read_words(sys.argv[1:])
+    if words and not os.path.isfile(words[0]):
+        wrong = "is no plain file" if os.path.exists(words[0]) else "is wanted as OUTPUT, and there is no file of this name"
+        sys.exit(f"{words[0]} {wrong}{dwarf.took(taken)}")
     if len(words) < 2:
-        sys.exit(__doc__)
-    if not os.path.isfile(words[0]):
-        sys.exit(f"there is no file {words[0]}")
+        missing = "FUNCTION is missing" if words else "OUTPUT, a file of what `compile` wrote, and FUNCTION are missing"
+        sys.exit(f"{missing}{dwarf.took(taken)}\n\n{__doc__}")
     for tool, package in TOOLS.items():
         if not shutil.which(tool):
             sys.exit(f"{tool} is missing: Debian's package {package} has it")
@@ -402,6 +422,8 @@ def main():
         with open(file, "wb") as it:
             it.write(made)
         os.chmod(file, 0o755)
+        if not has_debug_information(file):
+            sys.exit(f"{words[0]}: no function has debug information: compile the C file with clang -g")
         verified = subprocess.run(["llvm-dwarfdump", "--verify", file], capture_output=True, text=True)
         print(f"llvm-dwarfdump --verify: {(verified.stdout.strip() or verified.stderr.strip()).splitlines()[-1]}")
         script = os.path.join(room, "show.py")
@@ -422,4 +444,4 @@ def main():
 
 
 if __name__ == "__main__":
-    sys.exit(main())
+    dwarf.end_with(main)

@@ -1,4 +1,5 @@
 """What llvm-dwarfdump (Debian's package llvm) says of an object: its functions, their variables with the ranges in which each has a place, and lines."""
+import os
 import re
 import shutil
 import subprocess
@@ -17,6 +18,7 @@ class Variable:
     name: str
     ranges: list = field(default_factory=list)
     size: int = 0
+    typed: bool = True
 
     def place_at(self, address):
         """Its location in words at an address, or None."""
@@ -29,6 +31,37 @@ class Function:
     low: int
     high: int
     variables: list = field(default_factory=list)
+
+
+def end_with(main):
+    """Runs a script to its end, and ends quietly where nothing reads what it prints any more, as in `| head`."""
+    try:
+        try:
+            status = main()
+        finally:
+            if sys.stdout:
+                sys.stdout.flush()
+    except BrokenPipeError:
+        os.dup2(os.open(os.devnull, os.O_WRONLY), 1)
+        # as the shell says it of a program that SIGPIPE ended
+        status = 141
+    sys.exit(status)
+
+
+def took(words):
+    """What is said of options that took the word behind them, where a word is missing or wrong."""
+    return "".join(f"\n{option} took the word `{word}`" for option, word in words)
+
+
+def writable(option, path):
+    """Ends the script where an option names a file that can't be written."""
+    room = os.path.dirname(path) or "."
+    if os.path.isdir(path):
+        sys.exit(f"{option} names {path}, which is a folder")
+    if not os.path.isdir(room):
+        sys.exit(f"{option} names {path}, and there is no folder {room}")
+    if not os.access(path if os.path.exists(path) else room, os.W_OK):
+        sys.exit(f"{option} names {path}, which can't be written")
 
 
 def dumped(what, path):
@@ -83,7 +116,7 @@ def functions(path):
             if not ranges and place.startswith("DW_OP"):
                 ranges = [(inside.low, inside.high, place)]
             size = sizes.get(name_in(attributes.get("DW_AT_type", "")), 8)
-            inside.variables.append(Variable(name, ranges, size))
+            inside.variables.append(Variable(name, ranges, size, "DW_AT_type" in attributes))
         elif tag != "NULL" and inside and depth <= at:
             inside = None
     return found

@@ -146,7 +146,7 @@ def as_html(name, titles, tables, names, source):
 
 
 def main():
-    words, options, files = sys.argv[1:], {}, []
+    words, options, files, taken = sys.argv[1:], {}, [], []
     while words:
         word = words.pop(0)
         option, equals, value = word.partition("=")
@@ -157,6 +157,8 @@ def main():
             if not equals and not words:
                 sys.exit(f"{option} wants a word behind it")
             options[option] = value if equals else words.pop(0)
+            if not equals:
+                taken.append((option, options[option]))
         elif word == "--plain":
             options[word] = word
         elif word.startswith("--"):
@@ -164,10 +166,15 @@ def main():
         else:
             files.append(word)
     if len(files) not in (2, 3):
-        sys.exit(__doc__)
+        wrong = f"there are {len(files)} files, and three at most are shown: two outputs and the C source"
+        if len(files) < 2:
+            wrong = f"one file is given, {files[0]}: FILE or FILE.c is missing" if files else "FILE and FILE.c are missing"
+        sys.exit(f"{wrong}{dwarf.took(taken)}\n\n{__doc__}")
     *outputs, source = files
     if not os.path.isfile(source):
-        sys.exit(f"there is no file {source}")
+        sys.exit(f"there is no file {source}{dwarf.took(taken)}")
+    if "--html" in options:
+        dwarf.writable("--html", options["--html"])
     with open(source, encoding="utf-8", errors="replace") as it:
         source = it.read().splitlines()
     titles = options["--names"].split(",") if "--names" in options else [os.path.basename(it) for it in outputs]
@@ -193,4 +200,4 @@ def main():
             it.write(PAGE % (html.escape(", ".join(titles)), "\n".join(pages)))
 
 
-main()
+dwarf.end_with(main)
