@@ -14,4 +14,6 @@ mod location_lists;
 #[cfg(test)]
 mod no_functions;
 #[cfg(test)]
+mod objects;
+#[cfg(test)]
 mod table;

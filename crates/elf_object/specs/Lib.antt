@@ -1,0 +1,6 @@
+pub mod Standard
+pub mod Spelling
+pub mod Grammar
+pub mod Sections
+pub mod Symbols
+pub mod Relocations
