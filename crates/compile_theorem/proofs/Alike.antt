@@ -1,19 +1,22 @@
--- What a function's lines show wants the same places as the function: an address of a stack object is one of some object there too, and gives its
--- register a token of its own. So both have the same paths, with the same tokens.
+-- What a function's lines show wants the same places as the function: an address, a load or a store of a stack object is one of some object there too,
+-- and gives its register a token of its own. So both have the same paths, with the same tokens.
 use Rattle.std.proofs.Common.{◌≡◌, ℕ, zero, suc, ◌+◌, ◌-◌, ◌≤◌, ℤ, pos, List, [], ◌∷◌, ◌++◌, drop, map, Option, Some, None, Bool, true, false, cond, nat_eq}
 use Rattle.std.proofs.Common.{nat_le, refl, sym, ap, ◌∙◌, subst, arith}
 use Rattle.std.specs.Prelude.{All, slice_get}
 use Rattle.std.proofs.lemmas.Bool.{le-leb}
 use Rattle.std.proofs.lemmas.List.Elements.{All-head, All-tail}
 use Rattle.rv64_instr.specs.declared.op.Op.{Op}
-use Rattle.rv64_instr.specs.declared.op.Op.TheVariants.{Immediate}
+use Rattle.rv64_instr.specs.declared.decoded.Base.TheVariants.{ObjectAt}
+use Rattle.rv64_instr.specs.declared.op.Op.TheVariants.{Immediate, Load, Store}
+use Rattle.rv64_instr.specs.declared.op.LoadOp.{LoadOp}
+use Rattle.rv64_instr.specs.declared.op.StoreOp.{StoreOp}
 use Rattle.rv64_instr.specs.declared.op.ImmediateOp.{ImmediateOp}
 use Rattle.rv64_instr.specs.declared.op.ImmediateOp.TheVariants.{Addi, Slti}
 use Rattle.rv64_instr.specs.declared.operand.Operand.{Operand}
-use Rattle.rv64_instr.specs.declared.operand.Operand.TheVariants.{Def, Imm, Object as OfObject}
+use Rattle.rv64_instr.specs.declared.operand.Operand.TheVariants.{Def, Use, Imm, Object as OfObject}
 use Rattle.rv64_instr.specs.declared.place.Place.{Place}
 use Rattle.rv64_instr.specs.Arithmetic.{word}
-use Rattle.rv64_instr.specs.Row.{Addresses, Unfit}
+use Rattle.rv64_instr.specs.Row.{Addresses, Loads, Stores, Unfit}
 use Rattle.mir_func.specs.declared.block.Block.{Block}
 use Rattle.mir_func.specs.declared.entry.OperandPair.{OperandPair}
 use Rattle.mir_func.specs.declared.item.Item.{Item}
@@ -32,7 +35,7 @@ use Rattle.sem_mir.specs.Token.{numbered_tokens, given_token}
 use Rattle.sem_mir.specs.State.{updated}
 use Rattle.sem_mir.specs.Step.{defined}
 use Rattle.listing_text.specs.declared.output.ListedObject.{ListedObject}
-use Rattle.listing_meaning.specs.Frame.{object_at, in_object, by_pointer, by_object}
+use Rattle.listing_meaning.specs.Frame.{last_of, begins_by, has_byte, object_at, in_object, by_pointer, by_object}
 use Rattle.listing_meaning.specs.Listing.{object_listed}
 use Rattle.listing_meaning.specs.Program.{contents}
 use Rattle.listing_meaning.specs.Settled.{frame_of, settled_sum, settled_operands, settled_kind, settled_item, settled}
@@ -43,30 +46,36 @@ record Found (x : Option ListedObject) : Type 0 where
   object : ListedObject
   is : x ≡ Some object
 
-stays_found : (o : ListedObject) (os : List ListedObject) (n : ℕ) → Found (object_at (Some o) os n)
-stays_found o [] n = record { object = o; is = refl }
-stays_found o (x ∷ os) n = by_test (nat_le x.offset n) (stays_found x os n) (stays_found o os n) where
-  by_test : (b : Bool) → Found (object_at (Some x) os n) → Found (object_at (Some o) os n) → Found (object_at (cond b (Some x) (Some o)) os n)
+stays_found : (test : ListedObject → Bool) (o : ListedObject) (os : List ListedObject) → Found (last_of test (Some o) os)
+stays_found test o [] = record { object = o; is = refl }
+stays_found test o (x ∷ os) = by_test (test x) (stays_found test x os) (stays_found test o os) where
+  by_test : (b : Bool) → Found (last_of test (Some x) os) → Found (last_of test (Some o) os) → Found (last_of test (cond b (Some x) (Some o)) os)
   by_test true new old = new
   by_test false new old = old
 
-some_found : (old : Option ListedObject) (os : List Object) (o : Object) (k n : ℕ) → object_of os k ≡ Some o → o.offset ≤ n →
-    Found (object_at old (map object_listed os) n)
-some_found old [] o k n is low = absurd cc
-some_found old (x ∷ os) o k n is low =
-    by_id (nat_eq x.id k) is (λ same. by_first same) (λ more. some_found (cond (nat_le x.offset n) (Some (object_listed x)) old) os o k n more low) where
-      by_first : x ≡ o → Found (object_at (cond (nat_le x.offset n) (Some (object_listed x)) old) (map object_listed os) n)
+some_begins : (old : Option ListedObject) (os : List Object) (o : Object) (k n : ℕ) → object_of os k ≡ Some o → o.offset ≤ n →
+    Found (last_of (begins_by n) old (map object_listed os))
+some_begins old [] o k n is low = absurd cc
+some_begins old (x ∷ os) o k n is low =
+    by_id (nat_eq x.id k) is (λ same. by_first same) (λ more. some_begins (cond (nat_le x.offset n) (Some (object_listed x)) old) os o k n more low) where
+      Later : Type 0
+      Later = Found (last_of (begins_by n) (cond (nat_le x.offset n) (Some (object_listed x)) old) (map object_listed os))
+
+      by_first : x ≡ o → Later
       by_first same =
           let at : nat_le x.offset n ≡ true = le-leb x.offset n (subst (λ (y : Object). y.offset ≤ n) (sym same) low) in
-          subst (λ (b : Bool). Found (object_at (cond b (Some (object_listed x)) old) (map object_listed os) n)) (sym at)
-          (stays_found (object_listed x) (map object_listed os) n)
+          subst (λ (b : Bool). Found (last_of (begins_by n) (cond b (Some (object_listed x)) old) (map object_listed os))) (sym at)
+          (stays_found (begins_by n) (object_listed x) (map object_listed os))
 
-      by_id : (b : Bool) → cond b (Some x) (object_of os k) ≡ Some o →
-          (x ≡ o → Found (object_at (cond (nat_le x.offset n) (Some (object_listed x)) old) (map object_listed os) n)) →
-          (object_of os k ≡ Some o → Found (object_at (cond (nat_le x.offset n) (Some (object_listed x)) old) (map object_listed os) n)) →
-          Found (object_at (cond (nat_le x.offset n) (Some (object_listed x)) old) (map object_listed os) n)
+      by_id : (b : Bool) → cond b (Some x) (object_of os k) ≡ Some o → (x ≡ o → Later) → (object_of os k ≡ Some o → Later) → Later
       by_id true e here more = let same : x ≡ o = cc in here same
       by_id false e here more = more e
+
+some_found : (os : List Object) (o : Object) (k n : ℕ) → object_of os k ≡ Some o → o.offset ≤ n → Found (object_at (map object_listed os) n)
+some_found os o k n is low =
+    let one = some_begins None os o k n is low in
+    subst (λ (x : Option ListedObject). Found (last_of (has_byte n) x (map object_listed os))) (sym one.is)
+    (stays_found (has_byte n) one.object (map object_listed os))
 
 -- ---- kinds
 
@@ -82,21 +91,21 @@ itself k = record { edge = λ enter p q way. way; back = λ enter p q way. way; 
 abbrev sum : ImmediateOp → (rd n : ℕ) (i : ℤ) (rest : List Operand) → (number : Option ℕ) → ItemKind
 sum op rd n i rest number = Code (record { op = Immediate op; operands = Def rd ∷ OfObject n ∷ Imm i ∷ rest }) number
 
-given_alike : (call : Bool) (rd n m : ℕ) (i j : ℤ) (rest : List Operand) (o : ℕ) →
-    defined call (slice_get (Def rd ∷ OfObject n ∷ Imm i ∷ rest) o) ≡ defined call (slice_get (Def rd ∷ OfObject m ∷ Imm j ∷ rest) o)
-given_alike call rd n m i j rest zero = refl
-given_alike true rd n m i j rest (suc zero) = refl
-given_alike false rd n m i j rest (suc zero) = refl
-given_alike true rd n m i j rest (suc (suc zero)) = refl
-given_alike false rd n m i j rest (suc (suc zero)) = refl
-given_alike call rd n m i j rest (suc (suc (suc o))) = refl
+given_alike : (call : Bool) (x : Operand) (n m : ℕ) (i j : ℤ) (rest : List Operand) (o : ℕ) →
+    defined call (slice_get (x ∷ OfObject n ∷ Imm i ∷ rest) o) ≡ defined call (slice_get (x ∷ OfObject m ∷ Imm j ∷ rest) o)
+given_alike call x n m i j rest zero = refl
+given_alike true x n m i j rest (suc zero) = refl
+given_alike false x n m i j rest (suc zero) = refl
+given_alike true x n m i j rest (suc (suc zero)) = refl
+given_alike false x n m i j rest (suc (suc zero)) = refl
+given_alike call x n m i j rest (suc (suc (suc o))) = refl
 
-numbers_alike : (call : Bool) (number : Option ℕ) (rd n m : ℕ) (i j : ℤ) (rest : List Operand) (t : Tokens) →
-    numbered_tokens call number (Def rd ∷ OfObject n ∷ Imm i ∷ rest) t ≡ numbered_tokens call number (Def rd ∷ OfObject m ∷ Imm j ∷ rest) t
-numbers_alike call None rd n m i j rest t = refl
-numbers_alike call (Some k) rd n m i j rest t =
+numbers_alike : (call : Bool) (number : Option ℕ) (x : Operand) (n m : ℕ) (i j : ℤ) (rest : List Operand) (t : Tokens) →
+    numbered_tokens call number (x ∷ OfObject n ∷ Imm i ∷ rest) t ≡ numbered_tokens call number (x ∷ OfObject m ∷ Imm j ∷ rest) t
+numbers_alike call None x n m i j rest t = refl
+numbers_alike call (Some k) x n m i j rest t =
     ap (λ (which : ℕ → Option ℕ). record t { pairs = updated k (λ o. given_token (which o) (t.pairs k o) t) t.pairs })
-    (λ z o. given_alike call rd n m i j rest o z)
+    (λ z o. given_alike call x n m i j rest o z)
 
 moved_alike : (index rd n m x y : ℕ) (t : Tokens) → code_tokens index (Addresses rd n x) t ≡ code_tokens index (Addresses rd m y) t
 unfolding moved_tokens
@@ -108,18 +117,54 @@ sums_alike Addi number rd n m i j rest = record {
   edge = λ enter p q way. way;
   back = λ enter p q way. way;
   tokens = λ resolve index t.
-      numbers_alike false number rd n m i j rest (code_tokens index (Addresses rd n (word i)) t) ∙
+      numbers_alike false number (Def rd) n m i j rest (code_tokens index (Addresses rd n (word i)) t) ∙
       ap (numbered_tokens false number (Def rd ∷ OfObject m ∷ Imm j ∷ rest)) (moved_alike index rd n m (word i) (word j) t);
 }
 sums_alike Slti number rd n m i j rest = record {
   edge = λ enter p q way. way;
   back = λ enter p q way. way;
-  tokens = λ resolve index t. numbers_alike false number rd n m i j rest (code_tokens index Unfit t);
+  tokens = λ resolve index t. numbers_alike false number (Def rd) n m i j rest (code_tokens index Unfit t);
 }
 sums_alike op number rd n m i j rest = record {
   edge = λ enter p q way. way;
   back = λ enter p q way. way;
-  tokens = λ resolve index t. numbers_alike false number rd n m i j rest (code_tokens index Unfit t);
+  tokens = λ resolve index t. numbers_alike false number (Def rd) n m i j rest (code_tokens index Unfit t);
+}
+
+abbrev load : LoadOp → (rd n : ℕ) (i : ℤ) (rest : List Operand) → (number : Option ℕ) → ItemKind
+load op rd n i rest number = Code (record { op = Load op; operands = Def rd ∷ OfObject n ∷ Imm i ∷ rest }) number
+
+abbrev store : StoreOp → (rs n : ℕ) (i : ℤ) (rest : List Operand) → (number : Option ℕ) → ItemKind
+store op rs n i rest number = Code (record { op = Store op; operands = Use rs ∷ OfObject n ∷ Imm i ∷ rest }) number
+
+loaded_alike : (index rd : ℕ) (op : LoadOp) (n m x y : ℕ) (t : Tokens) →
+    code_tokens index (Loads rd op (ObjectAt n) x) t ≡ code_tokens index (Loads rd op (ObjectAt m) y) t
+unfolding moved_tokens
+loaded_alike index rd op n m x y t = refl
+
+loads_alike : (op : LoadOp) (number : Option ℕ) (rd n m : ℕ) (i j : ℤ) (rest : List Operand) →
+    AreAlike (load op rd n i rest number) (load op rd m j rest number)
+loads_alike op number rd n m i j rest = record {
+  edge = λ enter p q way. way;
+  back = λ enter p q way. way;
+  tokens = λ resolve index t.
+      numbers_alike false number (Def rd) n m i j rest (code_tokens index (Loads rd op (ObjectAt n) (word i)) t) ∙
+      ap (numbered_tokens false number (Def rd ∷ OfObject m ∷ Imm j ∷ rest)) (loaded_alike index rd op n m (word i) (word j) t);
+}
+
+stored_alike : (index rs : ℕ) (op : StoreOp) (n m x y : ℕ) (t : Tokens) →
+    code_tokens index (Stores op rs (ObjectAt n) x) t ≡ code_tokens index (Stores op rs (ObjectAt m) y) t
+unfolding moved_tokens
+stored_alike index rs op n m x y t = refl
+
+stores_alike : (op : StoreOp) (number : Option ℕ) (rs n m : ℕ) (i j : ℤ) (rest : List Operand) →
+    AreAlike (store op rs n i rest number) (store op rs m j rest number)
+stores_alike op number rs n m i j rest = record {
+  edge = λ enter p q way. way;
+  back = λ enter p q way. way;
+  tokens = λ resolve index t.
+      numbers_alike false number (Use rs) n m i j rest (code_tokens index (Stores op rs (ObjectAt n) (word i)) t) ∙
+      ap (numbered_tokens false number (Use rs ∷ OfObject m ∷ Imm j ∷ rest)) (stored_alike index rs op n m (word i) (word j) t);
 }
 
 module _ (f : FramedFunction) where
@@ -129,7 +174,7 @@ module _ (f : FramedFunction) where
   addressed n i (o, is, fits) =
       let at : offset_of f.objects n ≡ o.offset = ap offset_or_zero is in
       let x = own_size f + offset_of f.objects n + i in
-      let found = some_found None f.objects o n (x - own_size f) is (omega (arith, at)) in
+      let found = some_found f.objects o n (x - own_size f) is (omega (arith, at)) in
       (found.object, ap (λ (z : Option ListedObject). in_object z (x - own_size f) (by_pointer x)) found.is)
 
   to_object : (o : ImmediateOp) (rd n i : ℕ) (rest : List Operand) (number : Option ℕ) → HasBytes f.objects n (word (pos i)) →
@@ -159,12 +204,37 @@ module _ (f : FramedFunction) where
       ObjectsIn f.objects (Code (record { op = Immediate op; operands = operands }) number) →
       AreAlike (Code (record { op = Immediate op; operands = operands }) number) (Code (record { op = Immediate op; operands = settled_sum f operands }) number)
   settled_alike op (Def rd ∷ OfObject n ∷ Imm (pos i) ∷ rest) number form in_object = sum_settled op rd n i rest number form in_object
+  settled_alike op (other ∷ OfObject n ∷ Imm (pos i) ∷ rest) number form in_object = absurd cc
   settled_alike op operands number form in_object = itself (Code (record { op = Immediate op; operands = operands }) number)
+
+  load_settled : (op : LoadOp) (operands : List Operand) (number : Option ℕ) → HasForm (Code (record { op = Load op; operands = operands }) number) →
+      ObjectsIn f.objects (Code (record { op = Load op; operands = operands }) number) →
+      AreAlike (Code (record { op = Load op; operands = operands }) number) (Code (record { op = Load op; operands = settled_sum f operands }) number)
+  load_settled op (Def rd ∷ OfObject n ∷ Imm (pos i) ∷ rest) number form (o, is, fits) =
+      let found = addressed n i (o, is, omega (arith, fits)) in
+      subst (λ (os : List Operand). AreAlike (load op rd n (pos i) rest number) (Code (record { op = Load op; operands = Def rd ∷ os ++ rest }) number))
+      (sym found.1)
+      (loads_alike op number rd n found.0.id (pos i) (pos (own_size f + offset_of f.objects n + i - own_size f - found.0.offset)) rest)
+  load_settled op (other ∷ OfObject n ∷ Imm (pos i) ∷ rest) number form has = absurd cc
+  load_settled op operands number form has = itself (Code (record { op = Load op; operands = operands }) number)
+
+  store_settled : (op : StoreOp) (operands : List Operand) (number : Option ℕ) → HasForm (Code (record { op = Store op; operands = operands }) number) →
+      ObjectsIn f.objects (Code (record { op = Store op; operands = operands }) number) →
+      AreAlike (Code (record { op = Store op; operands = operands }) number) (Code (record { op = Store op; operands = settled_sum f operands }) number)
+  store_settled op (Use rs ∷ OfObject n ∷ Imm (pos i) ∷ rest) number form (o, is, fits) =
+      let found = addressed n i (o, is, omega (arith, fits)) in
+      subst (λ (os : List Operand). AreAlike (store op rs n (pos i) rest number) (Code (record { op = Store op; operands = Use rs ∷ os ++ rest }) number))
+      (sym found.1)
+      (stores_alike op number rs n found.0.id (pos i) (pos (own_size f + offset_of f.objects n + i - own_size f - found.0.offset)) rest)
+  store_settled op (other ∷ OfObject n ∷ Imm (pos i) ∷ rest) number form has = absurd cc
+  store_settled op operands number form has = itself (Code (record { op = Store op; operands = operands }) number)
 
   code_alike : (op : Op) (operands : List Operand) (number : Option ℕ) → HasForm (Code (record { op = op; operands = operands }) number) →
       ObjectsIn f.objects (Code (record { op = op; operands = operands }) number) →
       AreAlike (Code (record { op = op; operands = operands }) number) (Code (record { op = op; operands = settled_operands f op operands }) number)
   code_alike (Immediate op) operands number form has = settled_alike op operands number form has
+  code_alike (Load op) operands number form has = load_settled op operands number form has
+  code_alike (Store op) operands number form has = store_settled op operands number form has
   code_alike op operands number form has = itself (Code (record { op = op; operands = operands }) number)
 
   kind_alike : (k : ItemKind) → HasForm k → ObjectsIn f.objects k → AreAlike k (settled_kind f k)

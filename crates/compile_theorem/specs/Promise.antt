@@ -94,8 +94,8 @@ Promises sources o = OfEach (MeetsHeadline o) sources o.functions
 abbrev pub IsExact : Output → Type 0
 IsExact o = All (IsExactFor o) o.functions
 
--- The lines show the passed function with its frame, unchanged, and the listing has its substitutions. An address that is formed from a stack object
--- is shown relative to the object that it points into (see `settled`).
+-- The lines show the passed function with its frame, unchanged, and the listing has its substitutions. An address, a load or a store of a stack object
+-- is shown relative to the last object that has its byte (see `settled`).
 pub record ListsFramed (p : PassedFunction) (f : ListedFunction) : Type 0 where
   pub blocks : map contents (blocks_shown f) ≡ map contents (map (settled (framed_of p.function)) (framed_of p.function).blocks)
   pub substitutions : f.substitutions ≡ p.substitutions

@@ -3,7 +3,6 @@ pub mod Tables
 pub mod Growing
 pub mod Settled
 pub mod Least
-pub mod Areas
 pub mod Planned
 pub mod Emitting
 pub mod Encodes

@@ -35,7 +35,7 @@ use Rattle.emit_code.specs.Long.{IsBranchTo, with_short, reaches_in, IsClosed}
 use Rattle.emit_code.specs.Rule.{Layout, row_form, items_at, bytes_before, address_in, start_of, offset_to, object_offset, operation_at, skip_operation}
 use Rattle.emit_code.specs.Rule.{jump_operation}
 use Rattle.emit_code.specs.steps.Emitted.{IsFormed}
-use Rattle.emit_code.proofs.Areas.{object_within, end_small}
+use Rattle.mir_func.proofs.Ends.{bytes_within}
 use Rattle.emit_code.proofs.Bounds.{bytes_aligned, bytes_small}
 use Rattle.emit_code.proofs.Emitting.{inv, skipped}
 use Rattle.emit_code.proofs.Encodes.{HasWord, OffsetFits, offset, place, code_word}
@@ -54,24 +54,6 @@ all_at : (P : Item → Type 0) (blocks : List Block) → AllItems P blocks → (
 all_at P [] all b n i e = absurd cc
 all_at P (x ∷ blocks) all zero n i e = subst P (at_index x.items n i e) (all 0 x (omega arith) n i (in_range x.items n i e))
 all_at P (x ∷ blocks) all (suc b) n i e = all_at P blocks (λ k d lt. all (suc k) d (omega arith)) b n i e
-
--- ---- the frame
-
--- an object's bytes lie in the frame
-found_by : (t : Bool) (x o : Object) (objects : List Object) (n : ℕ) → nat_eq x.id n ≡ t →
-    (object_of objects n ≡ Some o → (k : ℕ) × (k < length objects) × (get_or objects k o ≡ o)) → object_of (x ∷ objects) n ≡ Some o →
-    (k : ℕ) × (k < suc (length objects)) × (get_or (x ∷ objects) k o ≡ o)
-found_by true x o objects n is more e =
-    let here : Some x ≡ Some o = ap (λ (z : Bool). cond z (Some x) (object_of objects n)) (sym is) ∙ e in
-    let same : x ≡ o = cc in
-    (0, omega arith, same)
-found_by false x o objects n is more e =
-    let below = more (ap (λ (z : Bool). cond z (Some x) (object_of objects n)) (sym is) ∙ e) in
-    (suc below.0, omega (arith, below.1), below.2)
-
-found_index : (objects : List Object) (n : ℕ) (o : Object) → object_of objects n ≡ Some o → (k : ℕ) × (k < length objects) × (get_or objects k o ≡ o)
-found_index [] n o e = absurd cc
-found_index (x ∷ objects) n o e = found_by (nat_eq x.id n) x o objects n refl (found_index objects n o) e
 
 -- ---- where code goes
 
@@ -117,14 +99,10 @@ module _ (l : Layout) (s : Sound l) where
 
   room_of : (n bytes : ℕ) → HasBytes l.framed.objects n bytes → own_size l.framed + offset_of l.framed.objects n + bytes ≤ 2047
   room_of n bytes has =
-      let o = has.0 in
-      let at = found_index l.framed.objects n o has.1 in
-      let within = object_within 0 l.framed.objects s.framed.objects_laid s.framed.each_object at.0 o at.1 in
-      let there : offset_of l.framed.objects n ≡ o.offset = ap offset_or_zero has.1 in
+      let within = bytes_within l.framed.objects n bytes has in
       let size = s.framed.small in
       let room = s.framed.room in
-      let end = end_small l.framed.objects in
-      omega (arith, within, ap (λ (x : Object). x.offset + x.size) at.2, there, has.2, size, room, end)
+      omega (arith, within, size, room)
 
   slot_low : (n : ℕ) → Contains (slot_offsets l.framed) n → n ≤ 2047
   slot_low n has =

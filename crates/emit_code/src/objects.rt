@@ -5,13 +5,13 @@ ghost use Rattle.std.specs.Ordering.{nat_cmp};
 ghost use Rattle.std.specs.BTreeMap.{get};
 ghost use Rattle.mir_func.specs.Function.{FramedFunction};
 ghost use Rattle.mir_func.specs.Limits.{MAX_FRAME};
-ghost use Rattle.mir_func.specs.Objects.{object_of, area_of};
+ghost use Rattle.mir_func.specs.Objects.{object_of};
 ghost use Rattle.emit_code.specs.Rule.{object_offset};
 ghost use Rattle.emit_code.specs.steps.Plans.{AreOffsetsOf};
 
 use base_ids::code::ObjectId;
 use mir_func::framed::Framed;
-use mir_func::object::{Object, up_to};
+use mir_func::object::{Object, area};
 use std::alloc::{AllocError, Global};
 use std::collections::BTreeMap;
 
@@ -49,19 +49,6 @@ impl ObjectOffsets {
             None => 0,
         }
     }
-}
-
-/// The bytes of all objects together, rounded up to 16.
-fn area(objects: &[Object]) -> u64
-    requires { area_of objects.now ≤ MAX_FRAME }
-    ensures { result ≡ area_of objects.now }
-{
-    let count = objects.len();
-    if count == 0 {
-        return 0;
-    }
-    let last = &objects[count - 1];
-    up_to(16, last.offset + u64::from(last.size))
 }
 
 /// Of objects with the same number the first is found: it is inserted last.

@@ -1,6 +1,5 @@
 pub mod Turns
 pub mod Forms
 pub mod Offsets
-pub mod Areas
 pub mod Kept
 pub mod Made

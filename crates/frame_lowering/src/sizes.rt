@@ -2,10 +2,10 @@
 
 ghost use Rattle.std.specs.Prelude.{◌≡◌, ◌≤◌, ◌+◌, ◌*◌, length, All};
 ghost use Rattle.mir_func.specs.Limits.{MAX_SLOTS};
-ghost use Rattle.mir_func.specs.Objects.{up_to, AreLaidFrom, area_of};
+ghost use Rattle.mir_func.specs.Objects.{up_to, AreLaid, area_of};
 ghost use Rattle.mir_func.specs.Sound.{IsSoundObject};
 
-use mir_func::object::{Object, up_to};
+use mir_func::object::{Object, area, up_to};
 
 /// The greatest size of a frame, in bytes: the greatest multiple of 16 by which one `ADDI` can lower x2.
 pub const MAX_FRAME: u64 = 2_032;
@@ -18,24 +18,8 @@ pub fn size(count: usize, objects: &[Object]) -> u64
     requires count { count ≤ 1024 }
     requires few { length objects.now ≤ MAX_SLOTS }
     requires each { All IsSoundObject objects.now }
-    requires laid { AreLaidFrom 0 objects.now }
+    requires laid { AreLaid objects.now }
     ensures { result ≡ up_to 16 (8 * count) + area_of objects.now }
 {
     up_to(ALIGNMENT, 8 * count as u64) + area(objects)
-}
-
-/// The size in bytes of all stack objects together.
-fn area(objects: &[Object]) -> u64
-    requires few { length objects.now ≤ MAX_SLOTS }
-    requires each { All IsSoundObject objects.now }
-    requires laid { AreLaidFrom 0 objects.now }
-    ensures value { result ≡ area_of objects.now }
-    ensures small { result ≤ 549755813888 }
-{
-    let count = objects.len();
-    if count == 0 {
-        return 0;
-    }
-    let last = &objects[count - 1];
-    up_to(ALIGNMENT, last.offset + u64::from(last.size))
 }

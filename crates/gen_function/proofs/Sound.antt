@@ -182,7 +182,7 @@ generated_is_sound number count some few =
       few_blocks = omega arith;
       few_slots = lit≤ tt;
       each_object = All-nil IsSoundObject;
-      objects_laid = tt;
+      objects_laid = record { each = tt; several = λ e. absurd cc };
       targets = blocks_each ids (λ b. All (λ i. TargetsIn ids i.kind) b.items) (λ b h. each ids (λ i. TargetsIn ids i.kind) (λ i k. k.targets) b.items h.fine)
           blocks all;
       slots = blocks_each ids (λ b. All (λ i. SlotsIn SLOTS i.kind) b.items) (λ b h. each ids (λ i. SlotsIn SLOTS i.kind) (λ i k. k.slots) b.items h.fine)

@@ -6,7 +6,7 @@ use Rattle.mir_func.specs.Function.{FramedFunction}
 use Rattle.mir_func.specs.SoundFrame.{IsFramed}
 use Rattle.emit_code.specs.declared.code.EncodedInstruction.{EncodedInstruction}
 use Rattle.emit_code.specs.Laid.{StandFrom}
-use Rattle.emit_code.proofs.Areas.{object_within, end_small}
+use Rattle.mir_func.proofs.Ends.{object_within}
 use Rattle.listing_function.specs.steps.Entries.{IsLow}
 
 reaches_end : (a : ℕ) (es : List EncodedInstruction) (end : ℕ) → StandFrom a es end → a ≤ end
@@ -22,8 +22,7 @@ entries_low a (e ∷ es) end stand low =
 -- objects lie in a small frame
 pub offsets_low : (f : FramedFunction) → IsFramed f → All (λ o. o.offset < 2 ^ 32) f.objects
 offsets_low f framed = λ k d less.
-    let within = object_within 0 f.objects framed.objects_laid framed.each_object k d less in
-    let small = end_small f.objects in
+    let within = object_within f.objects k d less in
     let room = framed.room in
     let size = framed.small in
-    omega (arith, within, small, room, size)
+    omega (arith, within, room, size)

@@ -26,7 +26,7 @@ use Rattle.mir_func.specs.Objects.{object_of, offset_of, offset_or_zero}
 use Rattle.mir_func.specs.Sound.{IsSoundObject, HasBytes, SlotIn, ObjectIn}
 use Rattle.mir_func.specs.SoundFrame.{own_size, slot_offsets, IsFramed, IsSlotOffset}
 use Rattle.emit_code.specs.Listed.{by_pointer}
-use Rattle.emit_code.proofs.Areas.{object_within, end_small}
+use Rattle.mir_func.proofs.Ends.{bytes_within}
 
 -- ---- numbers
 
@@ -49,21 +49,6 @@ sound_found [] n o all e = absurd cc
 sound_found (x ∷ os) n o all e =
     sound_by (nat_eq x.id n) x o (object_of os n) (All-head IsSoundObject x os all) (sound_found os n o (All-tail IsSoundObject x os all)) e
 
-found_by : (t : Bool) (x o : Object) (objects : List Object) (n : ℕ) → nat_eq x.id n ≡ t →
-    (object_of objects n ≡ Some o → (k : ℕ) × (k < length objects) × (get_or objects k o ≡ o)) → object_of (x ∷ objects) n ≡ Some o →
-    (k : ℕ) × (k < suc (length objects)) × (get_or (x ∷ objects) k o ≡ o)
-found_by true x o objects n is more e =
-    let here : Some x ≡ Some o = ap (λ (z : Bool). cond z (Some x) (object_of objects n)) (sym is) ∙ e in
-    let same : x ≡ o = cc in
-    (0, omega arith, same)
-found_by false x o objects n is more e =
-    let below = more (ap (λ (z : Bool). cond z (Some x) (object_of objects n)) (sym is) ∙ e) in
-    (suc below.0, omega (arith, below.1), below.2)
-
-found_index : (objects : List Object) (n : ℕ) (o : Object) → object_of objects n ≡ Some o → (k : ℕ) × (k < length objects) × (get_or objects k o ≡ o)
-found_index [] n o e = absurd cc
-found_index (x ∷ objects) n o e = found_by (nat_eq x.id n) x o objects n refl (found_index objects n o) e
-
 -- what is added in an object isn't negative, and is itself
 data Added : ℤ → Type 0 where
   added : (m : ℕ) → word (pos m) ≡ m → Added (pos m)
@@ -78,14 +63,10 @@ module _ (f : FramedFunction) (framed : IsFramed f) where
 
   room_of : (n bytes : ℕ) → HasBytes f.objects n bytes → own_size f + offset_of f.objects n + bytes ≤ 2047
   room_of n bytes has =
-      let o = has.0 in
-      let at = found_index f.objects n o has.1 in
-      let within = object_within 0 f.objects framed.objects_laid framed.each_object at.0 o at.1 in
-      let there : offset_of f.objects n ≡ o.offset = ap offset_or_zero has.1 in
+      let within = bytes_within f.objects n bytes has in
       let size = framed.small in
       let room = framed.room in
-      let end = end_small f.objects in
-      omega (arith, within, ap (λ (x : Object). x.offset + x.size) at.2, there, has.2, size, room, end)
+      omega (arith, within, size, room)
 
   slot_low : (n : ℕ) → Contains (slot_offsets f) n → n ≤ 2047
   slot_low n has =

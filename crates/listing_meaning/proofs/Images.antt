@@ -1,5 +1,5 @@
 -- The image of a listing: line by line it is that of the layout.
-use Rattle.std.proofs.Common.{◌≡◌, ℕ, suc, ◌+◌, pos, true, List, [], ◌∷◌, ◌++◌, Option, Some, refl, ap, sym, ◌∙◌, subst}
+use Rattle.std.proofs.Common.{◌≡◌, ℕ, suc, ◌+◌, max, pos, true, List, [], ◌∷◌, ◌++◌, Option, Some, refl, ap, sym, ◌∙◌, subst}
 use Rattle.std.specs.Prelude.{map, All}
 use Rattle.std.specs.List.{flat_map, list_all}
 use Rattle.std.proofs.lemmas.Bool.{and_parts}
@@ -111,7 +111,7 @@ module _ (l : Layout) where
 
 pub ends_alike : (n : ℕ) (objects : List Object) → end_of n (map object_listed objects) ≡ end_from n objects
 ends_alike n [] = refl
-ends_alike n (o ∷ objects) = ends_alike (o.offset + o.size) objects
+ends_alike n (o ∷ objects) = ends_alike (max n (o.offset + o.size)) objects
 
 pub areas_alike : (objects : List Object) → area_shown (map object_listed objects) ≡ area_of objects
 areas_alike objects = ap (up_to 16) (ends_alike 0 objects)

@@ -1,4 +1,4 @@
--- The operands of code that is listed are raised to what they were, but that an address names the object that it leads to.
+-- The operands of code that is listed are raised to what they were, but that an access names the last object that has its byte.
 use Rattle.std.proofs.Common.{◌≡◌, ℕ, zero, suc, ◌+◌, ◌-◌, ◌<◌, ◌≤◌, ℤ, pos, negsuc, Bool, true, false, ◌&&◌, cond, nat_eq, List, [], ◌∷◌}
 use Rattle.std.proofs.Common.{◌++◌, Option, Some, None, refl, ap, sym, ◌∙◌, subst, arith}
 use Rattle.std.specs.Prelude.{All, Contains}
@@ -30,7 +30,7 @@ use Rattle.emit_code.specs.Listed.{by_pointer}
 use Rattle.listing_text.specs.declared.output.ListedObject.{ListedObject}
 use Rattle.listing_meaning.specs.Frame.{object_at, in_object, by_pointer as by_pointer_at, by_object, accessed, raised_operands, raised_load, raised_store}
 use Rattle.listing_meaning.specs.Frame.{raised_sum, raised_number}
-use Rattle.listing_meaning.specs.Settled.{frame_of, settled_operands, settled_sum, LeadsInside}
+use Rattle.listing_meaning.specs.Settled.{frame_of, settled_operands, settled_sum, IsAlone, LeadsInside}
 use Rattle.listing_meaning.proofs.Raising.{found_at, id_found}
 
 -- an explicit x2 stands where x2 is lowered or raised alone
@@ -99,15 +99,15 @@ module _ (f : FramedFunction) (framed : IsFramed f) where
   above true n high = ap (λ (q : Bool). cond q (Slot n ∷ Imm (pos 0) ∷ []) (by_object (frame_of f) n)) (lt-leb (suc n) (own_size f) (omega (arith, high)))
   above false n high = ap (λ (q : Bool). cond q (Use 2 ∷ Imm (pos n) ∷ []) (by_object (frame_of f) n)) (lt-leb (suc n) (own_size f) (omega (arith, high)))
 
-  object_back : (n m bytes : ℕ) → HasBytes f.objects n bytes → m < bytes → by_object (frame_of f) (own_size f + offset_of f.objects n + m) ≡
-      OfObject n ∷ Imm (pos m) ∷ []
-  object_back n m bytes (o, found, fits) low =
+  object_back : (n m bytes : ℕ) → HasBytes f.objects n bytes → m < bytes → IsAlone f.objects n m →
+      by_object (frame_of f) (own_size f + offset_of f.objects n + m) ≡ OfObject n ∷ Imm (pos m) ∷ []
+  object_back n m bytes (o, found, fits) low alone =
       let at : offset_of f.objects n ≡ o.offset = ap offset_or_zero found in
       let over : own_size f + offset_of f.objects n + m - own_size f ≡ o.offset + m = omega (arith, at) in
-      let stands = found_at None 0 n m f.objects o framed.each_object framed.objects_laid found (omega (arith, fits, low)) in
+      let stands = found_at f.objects n m o found (omega (arith, fits, low)) alone in
       let left : o.offset + m - o.offset ≡ m = omega arith in
       let rest = by_pointer_at (own_size f + offset_of f.objects n + m) in
-      ap (λ (x : ℕ). in_object (object_at None (frame_of f).objects x) x rest) over ∙
+      ap (λ (x : ℕ). in_object (object_at (frame_of f).objects x) x rest) over ∙
       (ap (λ (z : Option ListedObject). in_object z (o.offset + m) rest) stands ∙
       (ap (λ (x : ℕ). OfObject o.id ∷ Imm (pos x) ∷ []) left ∙ ap (λ (x : ℕ). OfObject x ∷ Imm (pos m) ∷ []) (id_found f.objects n o found)))
 
@@ -128,20 +128,19 @@ module _ (f : FramedFunction) (framed : IsFramed f) where
       (ap (λ (os : List Operand). Def rd ∷ os ++ rest) (slot_back n (All-contains (IsSlotOffset f) (slot_offsets f) n framed.offsets is).1) ∙
       ap (λ (j : ℤ). Def rd ∷ Slot n ∷ Imm j ∷ rest) (sym (zero_only i both.1)))
 
-  object_load : (op : LoadOp) (rd n : ℕ) (i : ℤ) (rest : List Operand) → has_12_bits i ≡ true → HasBytes f.objects n (word i + load_width op) → Added i →
-      raised_load (frame_of f) op (by_pointer f (Def rd ∷ OfObject n ∷ Imm i ∷ rest)) ≡ Def rd ∷ OfObject n ∷ Imm i ∷ rest
-  object_load op rd n i rest bits has (added m same) =
-      ap (λ (os : List Operand). Def rd ∷ os ++ rest) (above (nat_eq (load_width op) 8) (own_size f + offset_of f.objects n + m) (omega arith)) ∙
-      ap (λ (os : List Operand). Def rd ∷ os ++ rest) (object_back n m (word (pos m) + load_width op) has (omega (arith, same, load_moves op)))
+  object_load : (op : LoadOp) (rd n : ℕ) (i : ℤ) (rest : List Operand) → Added i →
+      raised_load (frame_of f) op (by_pointer f (Def rd ∷ OfObject n ∷ Imm i ∷ rest)) ≡ settled_sum f (Def rd ∷ OfObject n ∷ Imm i ∷ rest)
+  object_load op rd n i rest (added m same) =
+      ap (λ (os : List Operand). Def rd ∷ os ++ rest) (above (nat_eq (load_width op) 8) (own_size f + offset_of f.objects n + m) (omega arith))
 
   load_back : (op : LoadOp) (os : List Operand) → fits_load op os ≡ true → IsSteady (Load op) os → SlotIn (slot_offsets f) (load_row op os) →
-      ObjectIn f.objects (load_row op os) → raised_load (frame_of f) op (by_pointer f os) ≡ os
+      ObjectIn f.objects (load_row op os) → raised_load (frame_of f) op (by_pointer f os) ≡ settled_sum f os
   load_back op (Def rd ∷ Use b ∷ Imm i ∷ rest) form steady slots objects = other_load op rd b i rest steady
   load_back op (Def rd ∷ Slot n ∷ Imm i ∷ rest) form steady slots objects =
       slot_load op rd n i rest (and_parts (moves_slot (load_width op) i) (list_all is_implicit rest) form).0 slots
   load_back op (Def rd ∷ OfObject n ∷ Imm i ∷ rest) form steady slots objects =
       let bits = (and_parts (has_12_bits i) (list_all is_implicit rest) form).0 in
-      object_load op rd n i rest bits objects (added_in n (load_width op) i bits objects)
+      object_load op rd n i rest (added_in n (load_width op) i bits objects)
   load_back op os form steady slots objects = absurd cc
 
   -- ---- stores
@@ -161,20 +160,19 @@ module _ (f : FramedFunction) (framed : IsFramed f) where
       (ap (λ (os : List Operand). Use rs ∷ os ++ rest) (slot_back n (All-contains (IsSlotOffset f) (slot_offsets f) n framed.offsets is).1) ∙
       ap (λ (j : ℤ). Use rs ∷ Slot n ∷ Imm j ∷ rest) (sym (zero_only i both.1)))
 
-  object_store : (op : StoreOp) (rs n : ℕ) (i : ℤ) (rest : List Operand) → has_12_bits i ≡ true → HasBytes f.objects n (word i + store_width op) → Added i →
-      raised_store (frame_of f) op (by_pointer f (Use rs ∷ OfObject n ∷ Imm i ∷ rest)) ≡ Use rs ∷ OfObject n ∷ Imm i ∷ rest
-  object_store op rs n i rest bits has (added m same) =
-      ap (λ (os : List Operand). Use rs ∷ os ++ rest) (above (nat_eq (store_width op) 8) (own_size f + offset_of f.objects n + m) (omega arith)) ∙
-      ap (λ (os : List Operand). Use rs ∷ os ++ rest) (object_back n m (word (pos m) + store_width op) has (omega (arith, same, store_moves op)))
+  object_store : (op : StoreOp) (rs n : ℕ) (i : ℤ) (rest : List Operand) → Added i →
+      raised_store (frame_of f) op (by_pointer f (Use rs ∷ OfObject n ∷ Imm i ∷ rest)) ≡ settled_sum f (Use rs ∷ OfObject n ∷ Imm i ∷ rest)
+  object_store op rs n i rest (added m same) =
+      ap (λ (os : List Operand). Use rs ∷ os ++ rest) (above (nat_eq (store_width op) 8) (own_size f + offset_of f.objects n + m) (omega arith))
 
   store_back : (op : StoreOp) (os : List Operand) → fits_store op os ≡ true → IsSteady (Store op) os → SlotIn (slot_offsets f) (store_row op os) →
-      ObjectIn f.objects (store_row op os) → raised_store (frame_of f) op (by_pointer f os) ≡ os
+      ObjectIn f.objects (store_row op os) → raised_store (frame_of f) op (by_pointer f os) ≡ settled_sum f os
   store_back op (Use rs ∷ Use b ∷ Imm i ∷ rest) form steady slots objects = other_store op rs b i rest steady
   store_back op (Use rs ∷ Slot n ∷ Imm i ∷ rest) form steady slots objects =
       slot_store op rs n i rest (and_parts (moves_slot (store_width op) i) (list_all is_implicit rest) form).0 slots
   store_back op (Use rs ∷ OfObject n ∷ Imm i ∷ rest) form steady slots objects =
       let bits = (and_parts (has_12_bits i) (list_all is_implicit rest) form).0 in
-      object_store op rs n i rest bits objects (added_in n (store_width op) i bits objects)
+      object_store op rs n i rest (added_in n (store_width op) i bits objects)
   store_back op os form steady slots objects = absurd cc
 
   -- ---- sums
@@ -286,19 +284,38 @@ module _ (f : FramedFunction) (framed : IsFramed f) where
   operands_back PseudoCall os form steady slots objects = call_stays os form
   operands_back PseudoRet os form steady slots objects = results_stay os form
 
-  -- ---- where each address leads to a byte of its object
+  -- ---- where an access begins at a byte that its object alone has
 
-  object_same : (rd n : ℕ) (i : ℤ) (rest : List Operand) → has_12_bits i ≡ true → HasBytes f.objects n (word i + 1) → Added i →
-      settled_sum f (Def rd ∷ OfObject n ∷ Imm i ∷ rest) ≡ Def rd ∷ OfObject n ∷ Imm i ∷ rest
-  object_same rd n i rest bits has (added m same) =
-      ap (λ (os : List Operand). Def rd ∷ os ++ rest) (object_back n m (word (pos m) + 1) has (omega (arith, same)))
+  object_same : (register : Operand) (n extra : ℕ) (i : ℤ) (rest : List Operand) → 0 < extra → HasBytes f.objects n (word i + extra) →
+      IsAlone f.objects n (word i) → Added i → settled_sum f (register ∷ OfObject n ∷ Imm i ∷ rest) ≡ register ∷ OfObject n ∷ Imm i ∷ rest
+  object_same register n extra i rest some has alone (added m same) =
+      ap (λ (os : List Operand). register ∷ os ++ rest)
+      (object_back n m (word (pos m) + extra) has (omega (arith, same, some)) (subst (IsAlone f.objects n) same alone))
 
   sum_same : (os : List Operand) → fits_immediate Addi os ≡ true → LeadsInside f.objects (number_row Addi os) → settled_sum f os ≡ os
   sum_same (Def rd ∷ Use b ∷ Imm i ∷ rest) form inside = refl
   sum_same (Def rd ∷ OfObject n ∷ Imm i ∷ rest) form inside =
       let bits = (and_parts (has_12_bits i) (list_all is_implicit rest) form).0 in
-      object_same rd n i rest bits inside (added_in n 1 i bits inside)
+      object_same (Def rd) n 1 i rest (omega arith) inside.0 inside.1 (added_in n 1 i bits inside.0)
   sum_same os form inside = absurd cc
+
+  load_same : (op : LoadOp) (os : List Operand) → fits_load op os ≡ true → ObjectIn f.objects (load_row op os) → LeadsInside f.objects (load_row op os) →
+      settled_sum f os ≡ os
+  load_same op (Def rd ∷ Use b ∷ Imm i ∷ rest) form objects inside = refl
+  load_same op (Def rd ∷ Slot n ∷ Imm i ∷ rest) form objects inside = refl
+  load_same op (Def rd ∷ OfObject n ∷ Imm i ∷ rest) form objects inside =
+      let bits = (and_parts (has_12_bits i) (list_all is_implicit rest) form).0 in
+      object_same (Def rd) n (load_width op) i rest (load_moves op) objects inside (added_in n (load_width op) i bits objects)
+  load_same op os form objects inside = absurd cc
+
+  store_same : (op : StoreOp) (os : List Operand) → fits_store op os ≡ true → ObjectIn f.objects (store_row op os) →
+      LeadsInside f.objects (store_row op os) → settled_sum f os ≡ os
+  store_same op (Use rs ∷ Use b ∷ Imm i ∷ rest) form objects inside = refl
+  store_same op (Use rs ∷ Slot n ∷ Imm i ∷ rest) form objects inside = refl
+  store_same op (Use rs ∷ OfObject n ∷ Imm i ∷ rest) form objects inside =
+      let bits = (and_parts (has_12_bits i) (list_all is_implicit rest) form).0 in
+      object_same (Use rs) n (store_width op) i rest (store_moves op) objects inside (added_in n (store_width op) i bits objects)
+  store_same op os form objects inside = absurd cc
 
   unsettled : (op : ImmediateOp) (os : List Operand) → fits_immediate op os ≡ true → is_addi op ≡ false → settled_sum f os ≡ os
   unsettled op (Def rd ∷ Use b ∷ Imm i ∷ rest) form other = refl
@@ -322,14 +339,15 @@ module _ (f : FramedFunction) (framed : IsFramed f) where
   immediate_same Srliw os form inside = unsettled Srliw os form refl
   immediate_same Sraiw os form inside = unsettled Sraiw os form refl
 
-  pub operands_same : (op : Op) (os : List Operand) → has_form op os ≡ true → LeadsInside f.objects (row_by op os) → settled_operands f op os ≡ os
-  operands_same (Registers op) os form inside = refl
-  operands_same (Immediate op) os form inside = immediate_same op os form inside
-  operands_same Lui os form inside = refl
-  operands_same (Branch op) os form inside = refl
-  operands_same (Load op) os form inside = refl
-  operands_same (Store op) os form inside = refl
-  operands_same Copy os form inside = refl
-  operands_same PseudoBr os form inside = refl
-  operands_same PseudoCall os form inside = refl
-  operands_same PseudoRet os form inside = refl
+  pub operands_same : (op : Op) (os : List Operand) → has_form op os ≡ true → ObjectIn f.objects (row_by op os) → LeadsInside f.objects (row_by op os) →
+      settled_operands f op os ≡ os
+  operands_same (Registers op) os form objects inside = refl
+  operands_same (Immediate op) os form objects inside = immediate_same op os form inside
+  operands_same Lui os form objects inside = refl
+  operands_same (Branch op) os form objects inside = refl
+  operands_same (Load op) os form objects inside = load_same op os form objects inside
+  operands_same (Store op) os form objects inside = store_same op os form objects inside
+  operands_same Copy os form objects inside = refl
+  operands_same PseudoBr os form objects inside = refl
+  operands_same PseudoCall os form objects inside = refl
+  operands_same PseudoRet os form objects inside = refl

@@ -1,65 +1,88 @@
 -- Raising undoes what the words make of slots and objects: each is found again by how far it lies above x2.
 --
--- Slots and saved registers lie below the frame's own size, objects from there on, one after the other. An access stays in its object,
--- so the last object that begins at or below the access is the one that it names.
-use Rattle.std.proofs.Common.{◌≡◌, ℕ, ◌+◌, ◌<◌, ◌≤◌, Bool, true, false, cond, nat_eq, nat_le, List, [], ◌∷◌}
-use Rattle.std.proofs.Common.{Option, Some, refl, ap, sym, ◌∙◌, subst, arith}
-use Rattle.std.specs.Prelude.{map, All}
-use Rattle.std.proofs.lemmas.Bool.{eqb-true, lt-leb, le-leb}
-use Rattle.std.proofs.lemmas.List.Elements.{All-head, All-tail}
+-- Slots and saved registers lie below the frame's own size, objects from there on. An access stays in its object. Where no other object has its
+-- first byte, the last object that has it is the one that the access names.
+use Rattle.std.proofs.Common.{◌≡◌, ℕ, zero, suc, ◌+◌, ◌<◌, ◌≤◌, Bool, true, false, cond, ◌&&◌, nat_eq, nat_le, nat_lt, List, [], ◌∷◌, length, get_or}
+use Rattle.std.proofs.Common.{Option, Some, None, refl, ap, sym, ◌∙◌, subst, arith}
+use Rattle.std.specs.Prelude.{map, Contains, IsTrue}
+use Rattle.std.proofs.lemmas.Bool.{eqb-true, le-leb, lt-ltb}
 use Rattle.mir_func.specs.declared.object.Object.{Object}
-use Rattle.mir_func.specs.Objects.{object_of, up_to, AreLaidFrom}
-use Rattle.mir_func.specs.Sound.{IsSoundObject}
-use Rattle.mir_func.proofs.Laid.{alignment_is_few}
+use Rattle.mir_func.specs.Objects.{object_of, offset_of, offset_or_zero}
 use Rattle.listing_text.specs.declared.output.ListedObject.{ListedObject}
-use Rattle.listing_meaning.specs.Frame.{object_at}
+use Rattle.listing_meaning.specs.Frame.{last_of, begins_by, has_byte, object_at}
 use Rattle.listing_meaning.specs.Listing.{object_listed}
+use Rattle.listing_meaning.specs.Settled.{IsAlone}
 
--- ---- objects, one after the other
+-- ---- the last object that passes a test
 
-reach_up : (align n : ℕ) → 1 ≤ align → n ≤ up_to align n
-reach_up align n some = omega arith
+module _ (test : ListedObject → Bool) (o : Object) where
+  -- of these objects none but this one passes
+  abbrev PassesAlone : List Object → Type 0
+  PassesAlone os = (p : Object) → Contains os p → IsTrue (test (object_listed p)) → p ≡ o
 
-starts_above : (o : Object) (n : ℕ) → IsSoundObject o → o.offset ≡ up_to o.align n → n ≤ o.offset
-starts_above o n sound e =
-    let few = alignment_is_few o.align sound.aligned in
-    omega (arith, e, reach_up o.align n few.0)
+  alone_tail : (x : Object) (os : List Object) → PassesAlone (x ∷ os) → PassesAlone os
+  alone_tail x os alone p (k, lt, e) passes = alone p (suc k, omega (arith, lt), e) passes
 
--- objects that begin above a place hide none that begins at or below it
-hides_none : (found : Option ListedObject) (n x : ℕ) (os : List Object) → All IsSoundObject os → AreLaidFrom n os → x < n →
-    object_at found (map object_listed os) x ≡ found
-hides_none found n x [] sound laid low = refl
-hides_none found n x (o ∷ os) sound laid low =
-    let above = starts_above o n (All-head IsSoundObject o os sound) laid.0 in
-    let higher : nat_le o.offset x ≡ false = lt-leb o.offset x (omega (arith, above, low)) in
-    let rest = hides_none found (o.offset + o.size) x os (All-tail IsSoundObject o os sound) laid.1 (omega (arith, above, low)) in
-    ap (λ (z : Bool). object_at (cond z (Some (object_listed o)) found) (map object_listed os) x) higher ∙ rest
+  alone_head : (x : Object) (os : List Object) → PassesAlone (x ∷ os) → IsTrue (test (object_listed x)) → x ≡ o
+  alone_head x os alone passes = alone x (zero, omega arith, refl) passes
 
-stands_first : (found : Option ListedObject) (o : Object) (m start : ℕ) (os : List Object) → All IsSoundObject (o ∷ os) → AreLaidFrom start (o ∷ os) →
-    m < o.size → object_at found (map object_listed (o ∷ os)) (o.offset + m) ≡ Some (object_listed o)
-stands_first found o m start os sound laid low =
+  last_kept : (os : List Object) → PassesAlone os → last_of test (Some (object_listed o)) (map object_listed os) ≡ Some (object_listed o)
+  last_kept [] alone = refl
+  last_kept (x ∷ os) alone = by (test (object_listed x)) refl where
+    rest : last_of test (Some (object_listed o)) (map object_listed os) ≡ Some (object_listed o)
+    rest = last_kept os (alone_tail x os alone)
+
+    by : (b : Bool) → test (object_listed x) ≡ b →
+        last_of test (cond b (Some (object_listed x)) (Some (object_listed o))) (map object_listed os) ≡ Some (object_listed o)
+    by true passes = ap (λ (y : Object). last_of test (Some (object_listed y)) (map object_listed os)) (alone_head x os alone passes) ∙ rest
+    by false other = rest
+
+  last_is : (found : Option ListedObject) (os : List Object) → PassesAlone os → IsTrue (test (object_listed o)) → (k : ℕ) → k < length os →
+      get_or os k o ≡ o → last_of test found (map object_listed os) ≡ Some (object_listed o)
+  last_is found [] alone passes k lt e = absurd (omega (arith, lt))
+  last_is found (x ∷ os) alone passes zero lt e =
+      ap (λ (y : Object). last_of test (cond (test (object_listed y)) (Some (object_listed y)) found) (map object_listed os)) e
+      ∙ ap (λ (b : Bool). last_of test (cond b (Some (object_listed o)) found) (map object_listed os)) passes
+      ∙ last_kept os (alone_tail x os alone)
+  last_is found (x ∷ os) alone passes (suc k) lt e =
+      last_is (cond (test (object_listed x)) (Some (object_listed x)) found) os (alone_tail x os alone) passes k (omega (arith, lt)) e
+
+-- ---- the object of a number
+
+found_by : (t : Bool) (x o : Object) (objects : List Object) (n : ℕ) → nat_eq x.id n ≡ t →
+    (object_of objects n ≡ Some o → (k : ℕ) × (k < length objects) × (get_or objects k o ≡ o)) → object_of (x ∷ objects) n ≡ Some o →
+    (k : ℕ) × (k < suc (length objects)) × (get_or (x ∷ objects) k o ≡ o)
+found_by true x o objects n is more e =
+    let here : Some x ≡ Some o = ap (λ (z : Bool). cond z (Some x) (object_of objects n)) (sym is) ∙ e in
+    let same : x ≡ o = cc in
+    (0, omega arith, same)
+found_by false x o objects n is more e =
+    let below = more (ap (λ (z : Bool). cond z (Some x) (object_of objects n)) (sym is) ∙ e) in
+    (suc below.0, omega (arith, below.1), below.2)
+
+found_index : (objects : List Object) (n : ℕ) (o : Object) → object_of objects n ≡ Some o → (k : ℕ) × (k < length objects) × (get_or objects k o ≡ o)
+found_index [] n o e = absurd cc
+found_index (x ∷ objects) n o e = found_by (nat_eq x.id n) x o objects n refl (found_index objects n o) e
+
+same_found : (r : Option Object) (o p : Object) → r ≡ Some o → r ≡ Some p → p ≡ o
+same_found r o p e f = let both : Some p ≡ Some o = sym f ∙ e in cc
+
+has_it : (o : Object) (m : ℕ) → m < o.size → IsTrue (has_byte (o.offset + m) (object_listed o))
+has_it o m low =
     let from : nat_le o.offset (o.offset + m) ≡ true = le-leb o.offset (o.offset + m) (omega arith) in
-    ap (λ (z : Bool). object_at (cond z (Some (object_listed o)) found) (map object_listed os) (o.offset + m)) from ∙
-    hides_none (Some (object_listed o)) (o.offset + o.size) (o.offset + m) os (All-tail IsSoundObject o os sound) laid.1 (omega (arith, low))
+    let within : nat_lt (o.offset + m) (o.offset + o.size) ≡ true = lt-ltb (o.offset + m) (o.offset + o.size) (omega (arith, low)) in
+    ap (λ (b : Bool). b && nat_lt (o.offset + m) (o.offset + o.size)) from ∙ within
 
-found_by : (p : Bool) (found : Option ListedObject) (o p' : Object) (n m start : ℕ) (os : List Object) → nat_eq o.id n ≡ p → All IsSoundObject (o ∷ os) →
-    AreLaidFrom start (o ∷ os) → cond p (Some o) (object_of os n) ≡ Some p' → m < p'.size →
-    ((other : Option ListedObject) → object_of os n ≡ Some p' → object_at other (map object_listed os) (p'.offset + m) ≡ Some (object_listed p')) →
-    object_at found (map object_listed (o ∷ os)) (p'.offset + m) ≡ Some (object_listed p')
-found_by true found o p' n m start os is sound laid e low more =
-    let same : o ≡ p' = cc in
-    subst (λ (y : Object). object_at found (map object_listed (o ∷ os)) (y.offset + m) ≡ Some (object_listed y)) same
-    (stands_first found o m start os sound laid (subst (λ (y : Object). m < y.size) (sym same) low))
-found_by false found o p' n m start os is sound laid e low more =
-    more (cond (nat_le o.offset (p'.offset + m)) (Some (object_listed o)) found) e
-
--- the object of a number is the last one that begins at or below what stands in it
-pub found_at : (found : Option ListedObject) (start n m : ℕ) (os : List Object) (o : Object) → All IsSoundObject os → AreLaidFrom start os →
-    object_of os n ≡ Some o → m < o.size → object_at found (map object_listed os) (o.offset + m) ≡ Some (object_listed o)
-found_at found start n m [] o sound laid e low = absurd cc
-found_at found start n m (x ∷ os) o sound laid e low =
-    found_by (nat_eq x.id n) found x o n m start os refl sound laid e low
-    (λ other is. found_at other (x.offset + x.size) n m os o (All-tail IsSoundObject x os sound) laid.1 is low)
+-- the object of a number is the last one that has its byte, where no other has it
+pub found_at : (os : List Object) (n m : ℕ) (o : Object) → object_of os n ≡ Some o → m < o.size → IsAlone os n m →
+    object_at (map object_listed os) (o.offset + m) ≡ Some (object_listed o)
+found_at os n m o e low alone =
+    let at : offset_of os n ≡ o.offset = ap offset_or_zero e in
+    let here = found_index os n o e in
+    last_is (has_byte (o.offset + m)) o (last_of (begins_by (o.offset + m)) None (map object_listed os)) os
+    (λ p there passes. same_found (object_of os n) o p e
+    (alone p there (subst (λ (x : ℕ). IsTrue (has_byte (x + m) (object_listed p))) (sym at) passes)))
+    (has_it o m low) here.0 here.1 here.2
 
 id_by : (p : Bool) (x o : Object) (n : ℕ) (rest : Option Object) → nat_eq x.id n ≡ p → (rest ≡ Some o → o.id ≡ n) → cond p (Some x) rest ≡ Some o → o.id ≡ n
 id_by true x o n rest is more e = let same : x ≡ o = cc in ap (λ (y : Object). y.id) (sym same) ∙ eqb-true x.id n is

@@ -1,6 +1,6 @@
 -- The frame that a listing shows. Listed instructions access the frame by x2 and an offset. These definitions map such accesses back to frame slots
 -- and stack objects.
-use Rattle.std.specs.Prelude.{ℕ, zero, suc, ◌+◌, ◌-◌, ◌^◌, Bool, true, false, cond, nat_eq, nat_le, nat_lt, pos, List, [], ◌∷◌, ◌++◌, Option, Some, None}
+use Rattle.std.specs.Prelude.{ℕ, zero, suc, ◌+◌, ◌-◌, ◌^◌, max, Bool, true, false, cond, ◌&&◌, nat_eq, nat_le, nat_lt, pos, List, [], ◌∷◌, ◌++◌, Option, Some, None}
 use Rattle.rv64_instr.specs.declared.op.Op.{Op}
 use Rattle.rv64_instr.specs.declared.op.Op.TheVariants.{Registers, Immediate, Lui, Branch, Load, Store, Copy, PseudoBr, PseudoCall, PseudoRet}
 use Rattle.rv64_instr.specs.declared.op.RegisterOp.TheVariants.{Add}
@@ -23,12 +23,12 @@ use Rattle.listing_text.specs.declared.output.ListedFunction.{ListedFunction}
 
 -- ---- its size
 
--- the end offset of the last listed stack object, or n if there is none
+-- the greatest end offset of listed stack objects, or n
 abbrev pub end_of : ℕ → List ListedObject → ℕ
 end_of n [] = n
-end_of n (o ∷ os) = end_of (o.offset + o.size) os
+end_of n (o ∷ os) = end_of (max n (o.offset + o.size)) os
 
--- the size of the area of stack objects at the top of the frame: up to the end of the last one, rounded up to a multiple of 16
+-- the size of the area of stack objects at the top of the frame: up to their greatest end, rounded up to a multiple of 16
 abbrev pub area_shown : List ListedObject → ℕ
 area_shown objects = up_to 16 (end_of 0 objects)
 
@@ -80,20 +80,31 @@ frame_shown f = record { below = size_shown f.prologue - area_shown f.objects; o
 abbrev pub by_pointer : ℕ → List Operand
 by_pointer n = Use 2 ∷ Imm (pos n) ∷ []
 
--- the last object with an offset of at most n, or `found` if there is none
-abbrev pub object_at : Option ListedObject → List ListedObject → (offset : ℕ) → Option ListedObject
-object_at found [] n = found
-object_at found (o ∷ os) n = object_at (cond (nat_le o.offset n) (Some o) found) os n
+-- the last object that passes a test, or `found` if there is none
+abbrev pub last_of : (ListedObject → Bool) → (found : Option ListedObject) → List ListedObject → Option ListedObject
+last_of test found [] = found
+last_of test found (o ∷ os) = last_of test (cond (test o) (Some o) found) os
+
+-- the object begins at an offset or below
+abbrev pub begins_by : (offset : ℕ) → ListedObject → Bool
+begins_by n o = nat_le o.offset n
+
+-- the object has the byte at an offset
+abbrev pub has_byte : (offset : ℕ) → ListedObject → Bool
+has_byte n o = nat_le o.offset n && nat_lt n (o.offset + o.size)
+
+-- The last object that has the byte at an offset. If none has it, as at the end of an object, the last one that begins below it, or None.
+abbrev pub object_at : List ListedObject → (offset : ℕ) → Option ListedObject
+object_at objects n = last_of (has_byte n) (last_of (begins_by n) None objects) objects
 
 -- the operands of an offset into an object, or `otherwise` without an object
 abbrev pub in_object : Option ListedObject → (offset : ℕ) → (otherwise : List Operand) → List Operand
 in_object None n otherwise = otherwise
 in_object (Some o) n otherwise = Object o.id ∷ Imm (pos (n - o.offset)) ∷ []
 
--- for n from `below` on, the operands of the address x2 + n: the last object that begins there or below and the offset from it, or by x2 if there is
--- none
+-- for n from `below` on, the operands of the address x2 + n: the object that is there (`object_at`) and the offset from it, or by x2 if there is none
 abbrev pub by_object : ShownFrame → ℕ → List Operand
-by_object f n = in_object (object_at None f.objects (n - f.below)) (n - f.below) (by_pointer n)
+by_object f n = in_object (object_at f.objects (n - f.below)) (n - f.below) (by_pointer n)
 
 -- The operands of an access at x2 + n. Below the stack objects, a doubleword access is of a slot, and any other is by x2. From the first object on,
 -- the operands are those of `by_object`.

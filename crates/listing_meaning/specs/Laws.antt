@@ -29,12 +29,13 @@ ListingsShowTheImage = (l : Layout) (variables : List ListedVariable) (substitut
     drop l.base o.text ≡ flat_map (to_le_bytes w32) (words_of l) ++ more → IsImageOf l (image_of o (listing_of l variables substitutions))
 
 -- The listing of a layout shows exactly the function with its frame: the numbers and items of its blocks, in order. An address of a stack object is
--- shown relative to the object that it points into.
+-- shown relative to the last object that has its byte (see `object_at`).
 abbrev pub ListingsShowTheFunction : Type 0
 ListingsShowTheFunction = (l : Layout) (variables : List ListedVariable) (substitutions : List DebugSubstitution) → IsFramed l.framed → AreFormed l.framed →
     map contents (blocks_shown (listing_of l variables substitutions)) ≡ map contents (map (settled l.framed) l.framed.blocks)
 
--- If each address of a stack object points to one of the object's bytes, the listing shows the function's own items.
+-- If each address, load and store of a stack object begins at one of the object's bytes, which no other object has, the listing shows the function's own
+-- items.
 abbrev pub ListingsShowTheItems : Type 0
 ListingsShowTheItems = (l : Layout) (variables : List ListedVariable) (substitutions : List DebugSubstitution) → IsFramed l.framed → AreFormed l.framed →
     AllItems (λ i. StaysInside l.framed.objects i.kind) l.framed.blocks →

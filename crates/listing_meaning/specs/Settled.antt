@@ -1,12 +1,14 @@
--- Functions in which each address of a stack object names the object that it points into.
+-- Functions in which each address of a stack object names the object that a listing shows for it.
 --
--- An address of the form object + number may point to the end of the object, where the next object may begin. The machine word is the same for both,
--- and a listing shows the address relative to the last object that begins at it or below it.
-use Rattle.std.specs.Prelude.{◌+◌, pos, List, ◌∷◌, ◌++◌, map}
+-- An address of the form object + number may point to the end of the object, where the next object may begin, and objects of the local block may
+-- overlap. The machine word is the same for each of them, and a listing shows the address relative to the last object that has its byte (`object_at`).
+use Rattle.std.specs.Prelude.{◌≡◌, ℕ, ◌+◌, pos, List, ◌∷◌, ◌++◌, map, Some, Contains, IsTrue}
 use Rattle.rv64_instr.specs.declared.op.Op.{Op}
 use Rattle.rv64_instr.specs.declared.op.Op.TheVariants.{Registers, Immediate, Lui, Branch, Load, Store, Copy, PseudoBr, PseudoCall, PseudoRet}
 use Rattle.rv64_instr.specs.declared.operand.Operand.{Operand}
 use Rattle.rv64_instr.specs.declared.operand.Operand.TheVariants.{Def, Object as OfObject, Imm}
+use Rattle.rv64_instr.specs.declared.decoded.Base.{Base}
+use Rattle.rv64_instr.specs.declared.decoded.Base.TheVariants.{PointedBy, ObjectAt}
 use Rattle.rv64_instr.specs.Row.{Row, Fixes, Moves, Sets, Addresses, Loads, Stores, LoadsSlot, StoresSlot, Branches, Jumps, Calls, Returns, Unfit, row_of}
 use Rattle.mir_func.specs.declared.block.Block.{Block}
 use Rattle.mir_func.specs.declared.item.Item.{Item}
@@ -15,28 +17,28 @@ use Rattle.mir_func.specs.declared.item.ItemKind.TheVariants.{Code, Mark, Phi}
 use Rattle.mir_func.specs.declared.object.Object.{Object}
 use Rattle.mir_func.specs.Function.{FramedFunction}
 use Rattle.mir_func.specs.Sound.{HasBytes}
-use Rattle.mir_func.specs.Objects.{offset_of}
+use Rattle.mir_func.specs.Objects.{object_of, offset_of}
 use Rattle.mir_func.specs.SoundFrame.{own_size}
-use Rattle.listing_meaning.specs.Frame.{ShownFrame, by_object}
+use Rattle.listing_meaning.specs.Frame.{ShownFrame, has_byte, by_object}
 use Rattle.listing_meaning.specs.Listing.{object_listed}
 
 -- the frame that the listing of a function shows
 abbrev pub frame_of : FramedFunction → ShownFrame
 frame_of f = record { below = own_size f; objects = map object_listed f.objects }
 
--- an address of the form object + number, relative to the last object that begins at it or below
+-- operands with an address of the form object + number, relative to the object that a listing shows for it
 abbrev pub settled_sum : FramedFunction → List Operand → List Operand
-settled_sum f (Def rd ∷ OfObject n ∷ Imm (pos i) ∷ rest) = Def rd ∷ by_object (frame_of f) (own_size f + offset_of f.objects n + i) ++ rest
+settled_sum f (register ∷ OfObject n ∷ Imm (pos i) ∷ rest) = register ∷ by_object (frame_of f) (own_size f + offset_of f.objects n + i) ++ rest
 settled_sum f operands = operands
 
--- the operands of an instruction: addresses of objects are changed so, loads and stores are not
+-- the operands of an instruction: addresses, loads and stores of objects are changed so
 abbrev pub settled_operands : FramedFunction → Op → List Operand → List Operand
 settled_operands f (Registers op) operands = operands
 settled_operands f (Immediate op) operands = settled_sum f operands
 settled_operands f Lui operands = operands
 settled_operands f (Branch op) operands = operands
-settled_operands f (Load op) operands = operands
-settled_operands f (Store op) operands = operands
+settled_operands f (Load op) operands = settled_sum f operands
+settled_operands f (Store op) operands = settled_sum f operands
 settled_operands f Copy operands = operands
 settled_operands f PseudoBr operands = operands
 settled_operands f PseudoCall operands = operands
@@ -56,14 +58,25 @@ settled_item f i = record i { kind = settled_kind f i.kind }
 abbrev pub settled : FramedFunction → Block → Block
 settled f b = record b { items = map (settled_item f) b.items }
 
--- If the instruction forms an address of an object, the address is that of one of the object's bytes.
+-- no object but the one with this number has the byte at an offset of it
+abbrev pub IsAlone : List Object → (n offset : ℕ) → Type 0
+IsAlone objects n offset =
+    (o : Object) → Contains objects o → IsTrue (has_byte (offset_of objects n + offset) (object_listed o)) → object_of objects n ≡ Some o
+
+-- if the base is a stack object, no other object has the byte at this offset
+abbrev pub IsBaseAlone : List Object → Base → (offset : ℕ) → Type 0
+IsBaseAlone objects (PointedBy r) offset = Unit {0}
+IsBaseAlone objects (ObjectAt n) offset = IsAlone objects n offset
+
+-- If the instruction forms an address of an object, the address is that of one of the object's bytes. No other object has a byte that an address, a load
+-- or a store begins at.
 abbrev pub LeadsInside : List Object → Row → Type 0
-LeadsInside objects (Addresses rd n offset) = HasBytes objects n (offset + 1)
+LeadsInside objects (Addresses rd n offset) = HasBytes objects n (offset + 1) × IsAlone objects n offset
+LeadsInside objects (Loads rd op base offset) = IsBaseAlone objects base offset
+LeadsInside objects (Stores op rs base offset) = IsBaseAlone objects base offset
 LeadsInside objects (Fixes rd n) = Unit {0}
 LeadsInside objects (Moves rd rs) = Unit {0}
 LeadsInside objects (Sets rd op a b) = Unit {0}
-LeadsInside objects (Loads rd op base offset) = Unit {0}
-LeadsInside objects (Stores op rs base offset) = Unit {0}
 LeadsInside objects (LoadsSlot rd n) = Unit {0}
 LeadsInside objects (StoresSlot rs n) = Unit {0}
 LeadsInside objects (Branches op a b target) = Unit {0}
@@ -72,7 +85,7 @@ LeadsInside objects (Calls name args) = Unit {0}
 LeadsInside objects (Returns results) = Unit {0}
 LeadsInside objects Unfit = Unit {0}
 
--- code whose addresses of objects point to bytes of those objects, so that a listing shows them relative to the same objects
+-- code whose addresses of objects lead to bytes of those objects alone, so that a listing shows them relative to the same objects
 abbrev pub StaysInside : List Object → ItemKind → Type 0
 StaysInside objects (Code c k) = LeadsInside objects (row_of c)
 StaysInside objects (Mark v m) = Unit {0}

@@ -1,5 +1,4 @@
 pub mod Memory
-pub mod Objects
 pub mod Rows
 pub mod Calls
 pub mod Registers

@@ -26,7 +26,7 @@ use Rattle.sem_machine.specs.Machine.{Machine, register, register_in, input, set
 use Rattle.sem_machine.specs.MachineStep.{Stepped, Continues, past, at, set_register, store, shown_store, does_row}
 use Rattle.sem_machine.specs.MachineStep as machine
 use Rattle.machine_steps_proof.specs.Beside.{frame_low, object_place, Beside}
-use Rattle.machine_steps_proof.proofs.Objects.{object_within}
+use Rattle.mir_func.proofs.Ends.{bytes_within}
 use Rattle.machine_steps_proof.proofs.Memory.{spelled_alike, length_low, stored_spelled, stored_elsewhere, untouched, not_touched, is_in_frame, is_above}
 use Rattle.machine_steps_proof.proofs.Memory.{touched}
 use Rattle.sem_mir.proofs.Places.{stored_other}
@@ -265,7 +265,7 @@ module _ (f : FramedFunction) (framed : IsFramed f) (c : Core) (m : Machine) (h 
 
     object_bytes : (n offset w : ℕ) → HasBytes f.objects n (offset + w) → touches_frame c.entry c.area (address_at c (ObjectAt n) offset) w ≡ false
     object_bytes n offset w bytes =
-        let in_area = object_within f.objects n (offset + w) framed.objects_laid framed.each_object bytes in
+        let in_area = bytes_within f.objects n (offset + w) bytes in
         let e = h.objects n in
         let a = h.area in
         let b = framed.room in

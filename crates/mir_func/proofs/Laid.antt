@@ -1,7 +1,7 @@
 -- Stack objects: their alignments, where they lie, and how their sizes are found.
 use Rattle.std.proofs.Common.{◌≡◌, ◌↔◌, ℕ, zero, suc, ◌+◌, ◌<◌, ◌≤◌, Bool, true, false, cond, List, [], ◌∷◌, ◌++◌, map, reverse, nat_eq, Option, Some, None}
 use Rattle.std.proofs.Common.{refl, sym, ap, ◌∙◌, arith}
-use Rattle.std.specs.Prelude.{Contains, option_map}
+use Rattle.std.specs.Prelude.{Contains, IfSome, option_map}
 use Rattle.std.specs.Bool.{Decides}
 use Rattle.std.specs.List.{list_any}
 use Rattle.std.specs.Map.{update_all}
@@ -11,7 +11,7 @@ use Rattle.std.proofs.lemmas.List.{map-append, reverse-append}
 use Rattle.std.proofs.lemmas.List.Sums.{fold-append}
 use Rattle.std.proofs.lemmas.Map.Made.{is_member-Decides}
 use Rattle.mir_func.specs.declared.object.Object.{Object}
-use Rattle.mir_func.specs.Objects.{ALIGNMENTS, object_of, up_to, AreLaidFrom}
+use Rattle.mir_func.specs.Objects.{ALIGNMENTS, object_of, up_to, reach_after, place_of, next_end, AreLaidFrom}
 use Rattle.mir_func.specs.Sound.{HasBytes}
 use Rattle.mir_func.proofs.Apart.{same}
 
@@ -38,10 +38,30 @@ alignment_is_few a (suc (suc (suc (suc (suc k)))), l, e) = absurd (omega arith)
 pub up_to-le : (align n : ℕ) → 0 < align → up_to align n < n + align
 up_to-le align n l = omega arith
 
--- one more object lies where it must
-pub laid_turn : (o : Object) (rest all : List Object) (end : ℕ) → AreLaidFrom end (o ∷ rest) ↔ AreLaidFrom 0 all → o.offset ≡ up_to o.align end →
-    AreLaidFrom (o.offset + o.size) rest ↔ AreLaidFrom 0 all
-laid_turn o rest all end both e = (λ h. both.0 (e, h), λ w. let r = both.1 w in r.1)
+pub ruleset padding = (up_to-le)
+
+-- one more object is where it must be
+pub laid_turn : (block end : ℕ) (o : Object) (rest : List Object) (all : Type 0) → AreLaidFrom block end (o ∷ rest) ↔ all →
+    o.offset ≡ place_of block end o.align o.local_offset → AreLaidFrom block (next_end end (o.offset + o.size) o.local_offset) rest ↔ all
+laid_turn block end o rest all both e = (λ h. both.0 (e, h), λ w. let r = both.1 w in r.1)
+
+-- an object begins less than 16 bytes above the local block and the objects before it
+pub place_low : (block end align : ℕ) (l : Option ℕ) → 0 < align → align ≤ 16 → place_of block end align l ≤ block + end + 15
+place_low block end align None some few = omega (arith, up_to-le align end some, few)
+place_low block end align (Some n) some few = omega arith
+
+-- an object moves the end of those above the local block by less than 2 ^ 31
+pub next_low : (block end align size : ℕ) (l : Option ℕ) → 0 < align → align ≤ 16 → size ≤ 1073741823 →
+    next_end end (place_of block end align l + size) l ≤ end + 2147483648
+next_low block end align size None some few small = omega (arith, up_to-le align end some, few, small)
+next_low block end align size (Some n) some few small = omega arith
+
+-- ---- how far objects reach
+
+-- a reach of 32 bits stays one
+pub reach_low : (n bound : ℕ) (l : Option ℕ) → n ≤ bound → IfSome l (λ m. m ≤ bound) → reach_after n l ≤ bound
+reach_low n bound None le small = le
+reach_low n bound (Some m) le small = omega (arith, le, small)
 
 -- ---- sizes by number
 

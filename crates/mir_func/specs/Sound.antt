@@ -22,7 +22,7 @@ use Rattle.mir_func.specs.declared.exit.Exit.{Exit}
 use Rattle.mir_func.specs.declared.exit.Exit.TheVariants.{Onward, Perhaps, Always, Final}
 use Rattle.mir_func.specs.Exits.{exit_of, IsAlways, Leaves}
 use Rattle.mir_func.specs.Limits.{MAX_BLOCKS, MAX_SLOTS}
-use Rattle.mir_func.specs.Objects.{ALIGNMENTS, object_of, AreLaidFrom}
+use Rattle.mir_func.specs.Objects.{ALIGNMENTS, object_of, AreLaid}
 use Rattle.mir_func.specs.Function.{Function}
 use Rattle.base_ids.specs.Limits.{MAX_NUMBER}
 
@@ -201,10 +201,16 @@ LastCloses [] = ⊥
 LastCloses (b ∷ []) = Closes b.items
 LastCloses (b ∷ c ∷ rest) = LastCloses (c ∷ rest)
 
+-- a local offset isn't 0, and is within the limit of numbers
+abbrev pub IsLocalOffset : Option ℕ → Type 0
+IsLocalOffset None = Unit {0}
+IsLocalOffset (Some n) = (0 < n) × (n ≤ MAX_NUMBER)
+
 -- the invariant of a stack object
 pub record IsSoundObject (o : Object) : Type 0 where
   pub size : o.size ≤ MAX_NUMBER
   pub aligned : Contains ALIGNMENTS o.align
+  pub local : IsLocalOffset o.local_offset
 
 -- the invariant of every function before frame lowering
 pub record IsSound (f : Function) : Type 0 where
@@ -214,7 +220,7 @@ pub record IsSound (f : Function) : Type 0 where
   pub few_blocks : length f.blocks ≤ MAX_BLOCKS
   pub few_slots : length f.slots + length f.objects ≤ MAX_SLOTS
   pub each_object : All IsSoundObject f.objects
-  pub objects_laid : AreLaidFrom 0 f.objects
+  pub objects_laid : AreLaid f.objects
   pub targets : AllItems (λ i. TargetsIn (ids_of f.blocks) i.kind) f.blocks
   pub slots : AllItems (λ i. SlotsIn f.slots i.kind) f.blocks
   pub objects : AllItems (λ i. ObjectsIn f.objects i.kind) f.blocks

@@ -22,7 +22,7 @@ use Rattle.mir_func.specs.declared.variable.MarkValue.TheVariants.{Nothing, Cons
 use Rattle.mir_func.specs.Function.{FramedFunction}
 use Rattle.mir_func.specs.Exits.{exit_of}
 use Rattle.mir_func.specs.Limits.{MAX_FRAME, MAX_SLOTS}
-use Rattle.mir_func.specs.Objects.{AreLaidFrom, area_of}
+use Rattle.mir_func.specs.Objects.{AreLaid, area_of}
 use Rattle.mir_func.specs.Sound.{AreApart, ids_of, AllItems, TargetsIn, SlotsIn, ObjectsIn, IsSoundObject, LeavesPointer, EndsWell, LastCloses}
 
 -- the registers that a frame may save: the return address and the callee-saved registers (RISC-V ELF psABI, "Integer
@@ -136,7 +136,7 @@ pub record IsFramed (f : FramedFunction) : Type 0 where
   pub offsets_apart : AreApart (slot_offsets f)
   pub each_object : All IsSoundObject f.objects
   pub objects_apart : AreApart (map (λ o. o.id) f.objects)
-  pub objects_laid : AreLaidFrom 0 f.objects
+  pub objects_laid : AreLaid f.objects
   pub slots : AllItems (λ i. SlotsIn (slot_offsets f) i.kind) f.blocks
   pub objects : AllItems (λ i. ObjectsIn f.objects i.kind) f.blocks
   pub saved : IsStrictlyIncreasing (map (λ s. s.register) f.saved)

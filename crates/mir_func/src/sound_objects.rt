@@ -1,14 +1,21 @@
 //! Whether stack objects are those of a sound function.
 
-ghost use Rattle.std.specs.Prelude.{◌≡◌, ◌↔◌, ◌≤◌, map, length, All, Contains, IfOk, IsTrue};
+ghost use Rattle.std.specs.Prelude.{◌≡◌, ◌↔◌, ◌+◌, ◌≤◌, map, length, All, Contains, IfOk, IsTrue};
 ghost use Rattle.mir_func.specs.Limits.{MAX_SLOTS};
-ghost use Rattle.mir_func.specs.Objects.{ALIGNMENTS, AreLaidFrom};
-ghost use Rattle.mir_func.specs.Sound.{IsSoundObject};
+ghost use Rattle.mir_func.specs.Objects.{
+  ALIGNMENTS,
+  local_offsets,
+  block_size,
+  local_count,
+  AreLaidFrom,
+  AreLaid,
+};
+ghost use Rattle.mir_func.specs.Sound.{IsLocalOffset, IsSoundObject};
 ghost use Rattle.mir_func.specs.steps.Checks.{AreSoundObjects};
 
 use crate::limits::ALIGNMENTS;
 use crate::number_set::Numbers;
-use crate::object::{Object, up_to};
+use crate::object::{Object, counted, next_end, place_of, reach_after, up_to};
 use base_ids::limits::MAX_NUMBER;
 use std::alloc::{AllocError, Global};
 
@@ -40,11 +47,21 @@ fn are_each_sound(objects: &[Object]) -> bool
     objects.iter().all(|o| is_object_sound(o))
 }
 
-/// Whether an object has a valid size and alignment.
+/// Whether an object has a valid size, alignment and local offset.
 fn is_object_sound(o: &Object) -> bool
     ensures { IsTrue result ↔ IsSoundObject o.now }
 {
-    o.size <= MAX_NUMBER && is_alignment(o.align)
+    o.size <= MAX_NUMBER && is_alignment(o.align) && is_local_offset(o.local_offset)
+}
+
+/// Whether a local offset, if there is one, is within its limits.
+fn is_local_offset(local: Option<u32>) -> bool
+    ensures { IsTrue result ↔ IsLocalOffset local }
+{
+    match local {
+        Some(offset) => 0 < offset && offset <= MAX_NUMBER,
+        None => true,
+    }
 }
 
 fn is_alignment(align: u32) -> bool
@@ -53,19 +70,53 @@ fn is_alignment(align: u32) -> bool
     ALIGNMENTS.contains(&align)
 }
 
-/// Whether each object comes right after the one before it, up to its alignment.
+/// How many objects have a local offset.
+fn local_count(objects: &[Object]) -> usize
+    ensures { result ≡ local_count (local_offsets objects.now) }
+{
+    let mut count = 0;
+    for o in objects {
+        count += counted(o.local_offset);
+    }
+    count
+}
+
+/// The size of the local block of these objects.
+fn block_size(objects: &[Object]) -> u64
+    ensures value { result ≡ block_size (local_offsets objects.now) }
+    ensures small { result ≤ 4294967296 }
+{
+    let mut reach = 0;
+    for o in objects {
+        reach = reach_after(reach, o.local_offset);
+    }
+    up_to(16, u64::from(reach))
+}
+
+/// Whether each object is where it must be.
 fn are_laid(objects: &[Object]) -> bool
     requires few { length objects.now ≤ MAX_SLOTS }
     requires each { All IsSoundObject objects.now }
-    ensures { IsTrue result ↔ AreLaidFrom 0 objects.now }
+    ensures { IsTrue result ↔ AreLaid objects.now }
 {
-    let mut end = 0;
+    let block = block_size(objects);
+    local_count(objects) != 1 && are_laid_from(block, objects)
+}
+
+/// Whether each object is where it must be by a local block of this size.
+fn are_laid_from(block: u64, objects: &[Object]) -> bool
+    requires few { length objects.now ≤ MAX_SLOTS }
+    requires each { All IsSoundObject objects.now }
+    requires small { block ≤ 4294967296 }
+    ensures { IsTrue result ↔ AreLaidFrom block block objects.now }
+{
+    let mut end = block;
     let mut rest = objects;
     while let Some((o, tail)) = rest.split_first() {
-        if o.offset != up_to(o.align as u64, end) {
+        if o.offset != place_of(block, end, o.align, o.local_offset) {
             return false;
         }
-        end = o.offset + o.size as u64;
+        end = next_end(end, o.offset + u64::from(o.size), o.local_offset);
         rest = tail;
     }
     true

@@ -1,6 +1,6 @@
 -- The text of a function (LLVM, Machine IR (MIR) Format Reference Manual, "High Level Structure"). The stack and the
 -- substitutions are YAML lists of maps.
-use Rattle.std.specs.Prelude.{ℕ, Bool, true, false, cond, ◌&&◌, ◌||◌, nat_eq, nat_le, List, [], ◌∷◌, ◌++◌, codes}
+use Rattle.std.specs.Prelude.{ℕ, Bool, true, false, cond, ◌&&◌, ◌||◌, nat_eq, nat_le, List, [], ◌∷◌, ◌++◌, Option, Some, None, codes}
 use Rattle.std.specs.List.{flat_map, list_all}
 use Rattle.std.specs.Fmt.{decimal}
 use Rattle.mir_func.specs.Function.{Function}
@@ -36,9 +36,18 @@ name_text name = cond (is_plain_name name) name (quoted_text name)
 abbrev pub slot_line : ℕ → List ℕ
 slot_line n = codes "  - { id: " ++ decimal n ++ (codes ", size: 8 }" ++ 10 ∷ [])
 
+-- the field of a local offset, if there is one
+abbrev pub local_text : Option ℕ → List ℕ
+local_text None = []
+local_text (Some n) = codes ", local-offset: -" ++ decimal n
+
+-- the beginning of the line of a stack object: its number, size and alignment
+abbrev pub object_numbers : Object → List ℕ
+object_numbers o = codes "  - { id: " ++ decimal o.id ++ codes ", size: " ++ decimal o.size ++ codes ", alignment: " ++ decimal o.align
+
 -- the line of a stack object
 abbrev pub object_line : Object → List ℕ
-object_line o = codes "  - { id: " ++ decimal o.id ++ codes ", size: " ++ decimal o.size ++ codes ", alignment: " ++ decimal o.align ++ (codes " }" ++ 10 ∷ [])
+object_line o = object_numbers o ++ local_text o.local_offset ++ (codes " }" ++ 10 ∷ [])
 
 -- the list is empty
 abbrev pub is_nothing : {A : Type 0} → List A → Bool

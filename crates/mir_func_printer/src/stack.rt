@@ -4,6 +4,8 @@ ghost use Rattle.std.specs.Prelude.{◌≡◌, ◌++◌, OnOk};
 ghost use Rattle.std.specs.List.{flat_map};
 ghost use Rattle.mir_func_printer.specs.FuncText.{
   slot_line,
+  local_text,
+  object_numbers,
   object_line,
   stack_text,
   pair_text,
@@ -26,13 +28,31 @@ fn push_slot(text: &mut Text, slot: SlotId) -> Result<(), AllocError>
     push_str(text, ", size: 8 }\n")
 }
 
+/// Appends the field of a local offset, if there is one.
+fn push_local_offset(text: &mut Text, local: Option<u32>) -> Result<(), AllocError>
+    ensures { OnOk result (text.new ≡ text.old ++ local_text local) }
+{
+    match local {
+        Some(offset) => push_numbered(text, ", local-offset: -", offset),
+        None => Ok(()),
+    }
+}
+
+/// Appends the numbers of a stack object: its own, its size and its alignment.
+fn push_numbers(text: &mut Text, object: &Object) -> Result<(), AllocError>
+    ensures { OnOk result (text.new ≡ text.old ++ object_numbers object.now) }
+{
+    push_numbered(text, "  - { id: ", object.id.number())?;
+    push_numbered(text, ", size: ", object.size)?;
+    push_numbered(text, ", alignment: ", object.align)
+}
+
 /// Appends the line of a stack object.
 fn push_object(text: &mut Text, object: &Object) -> Result<(), AllocError>
     ensures { OnOk result (text.new ≡ text.old ++ object_line object.now) }
 {
-    push_numbered(text, "  - { id: ", object.id.number())?;
-    push_numbered(text, ", size: ", object.size)?;
-    push_numbered(text, ", alignment: ", object.align)?;
+    push_numbers(text, object)?;
+    push_local_offset(text, object.local_offset)?;
     push_str(text, " }\n")
 }
 

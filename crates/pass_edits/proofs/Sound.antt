@@ -12,7 +12,7 @@ use Rattle.mir_func.specs.declared.item.Item.{Item}
 use Rattle.mir_func.specs.declared.item.ItemKind.{ItemKind}
 use Rattle.mir_func.specs.declared.item.ItemKind.TheVariants.{Phi}
 use Rattle.mir_func.specs.Exits.{exit_of, IsAlways, Leaves}
-use Rattle.mir_func.specs.Objects.{AreLaidFrom}
+use Rattle.mir_func.specs.Objects.{AreLaid}
 use Rattle.mir_func.specs.Limits.{MAX_BLOCKS, MAX_SLOTS}
 use Rattle.mir_func.specs.Sound.{AreApart, AllItems, ids_of, OriginIn, TargetsIn, SlotsIn, ObjectsIn, LeavesPointer}
 use Rattle.mir_func.specs.Sound.{IsJumpAtMost, MayFollow}
@@ -192,7 +192,7 @@ edited_sound old new s slots objects edited once =
       few_blocks = subst (λ (n : ℕ). n ≤ MAX_BLOCKS) (sym (as_many fs gs edited)) s.few_blocks;
       few_slots = subst (λ (n : ℕ). n ≤ MAX_SLOTS) (λ i. length (sym slots i) + length (sym objects i)) s.few_slots;
       each_object = subst (λ (os : List Object). All IsSoundObject os) (sym objects) s.each_object;
-      objects_laid = subst (λ (os : List Object). AreLaidFrom 0 os) (sym objects) s.objects_laid;
+      objects_laid = subst (λ (os : List Object). AreLaid os) (sym objects) s.objects_laid;
       targets = subst (λ (ns : List ℕ). AllItems (λ i. TargetsIn ns i.kind) gs) (sym ids)
           (each_block (TargetsIn (ids_of fs)) (target_same (ids_of fs)) (λ k r. tt) fs gs edited s.targets);
       slots = subst (λ (ns : List ℕ). AllItems (λ i. SlotsIn ns i.kind) gs) (sym slots)

@@ -1,8 +1,9 @@
 -- The frame of a function: which of its stack entries are spill slots, and which are stack objects.
-use Rattle.std.specs.Prelude.{ℕ, ◌+◌, ◌<◌, ◌≤◌, Bool, not, ◌||◌, ◌==◌, if◌then◌else◌, List, [], ◌∷◌, ◌++◌}
+use Rattle.std.specs.Prelude.{ℕ, ◌+◌, ◌<◌, ◌≤◌, Bool, not, ◌||◌, ◌==◌, if◌then◌else◌, is_some, List, [], ◌∷◌, ◌++◌}
 use Rattle.mir_func.specs.declared.object.Object.{Object}
-use Rattle.mir_func.specs.Objects.{up_to}
+use Rattle.mir_func.specs.Objects.{block_size, place_of, next_end}
 use Rattle.read_declarations.specs.declared.stack.StackEntry.{StackEntry}
+use Rattle.read_declarations.specs.Stack.{entry_offsets}
 use Rattle.read_body.specs.declared.frame.ObjectLayout.{ObjectLayout}
 use Rattle.read_body.specs.Met.{is_met, met}
 
@@ -12,9 +13,9 @@ pub record IsStackEntry (e : StackEntry) : Type 0 where
   pub positive : 0 < e.align
   pub aligned : e.align ≤ 16
 
--- whether a stack entry is an object: its size isn't the 8 bytes of a spill slot, or code names it as an object
+-- whether a stack entry is an object: it has a local offset, its size isn't the 8 bytes of a spill slot, or code names it as an object
 abbrev pub is_object : List ℕ → StackEntry → Bool
-is_object named e = not (e.size == 8) || is_met e.id named
+is_object named e = is_some e.local_offset || (not (e.size == 8) || is_met e.id named)
 
 -- the slots with one more entry, if that is a slot
 abbrev pub with_slot : List ℕ → List ℕ → StackEntry → List ℕ
@@ -29,23 +30,36 @@ slots_behind named slots (e ∷ es) = slots_behind named (with_slot named slots 
 abbrev pub slots_of : List ℕ → List StackEntry → List ℕ
 slots_of named es = slots_behind named [] es
 
--- the object of an entry, at the least multiple of its alignment that isn't below `end`
-abbrev pub laid_at : ℕ → StackEntry → Object
-laid_at end e = record { id = e.id; size = e.size; align = e.align; offset = up_to e.align end }
+-- the object of an entry: in a local block of this size if it has a local offset, and else not below `end`
+abbrev pub laid_at : (block end : ℕ) → StackEntry → Object
+laid_at block end e = record {
+  id = e.id;
+  size = e.size;
+  align = e.align;
+  local_offset = e.local_offset;
+  offset = place_of block end e.align e.local_offset;
+}
 
--- the objects with one more entry, if that is an object, placed after the end of those before it
-abbrev pub with_object : List ℕ → ObjectLayout → StackEntry → ObjectLayout
-with_object named laid e =
-    if is_object named e then record { objects = laid.objects ++ laid_at laid.end e ∷ []; end = up_to e.align laid.end + e.size } else laid
+-- the objects with one more entry, if that is an object
+abbrev pub with_object : List ℕ → (block : ℕ) → ObjectLayout → StackEntry → ObjectLayout
+with_object named block laid e =
+    if is_object named e then record {
+      objects = laid.objects ++ laid_at block laid.end e ∷ [];
+      end = next_end laid.end (place_of block laid.end e.align e.local_offset + e.size) e.local_offset;
+    } else laid
 
 -- the objects with those of further entries
-unfoldable pub objects_behind : List ℕ → ObjectLayout → List StackEntry → ObjectLayout
-objects_behind named laid [] = laid
-objects_behind named laid (e ∷ es) = objects_behind named (with_object named laid e) es
+unfoldable pub objects_behind : List ℕ → (block : ℕ) → ObjectLayout → List StackEntry → ObjectLayout
+objects_behind named block laid [] = laid
+objects_behind named block laid (e ∷ es) = objects_behind named block (with_object named block laid e) es
 
--- the stack objects among stack entries, in declared order, placed from offset 0
+-- the size of the local block of stack entries
+abbrev pub local_block : List StackEntry → ℕ
+local_block es = block_size (entry_offsets es)
+
+-- the stack objects among stack entries, in declared order: the local block from offset 0, and the others above it
 abbrev pub objects_of : List ℕ → List StackEntry → ObjectLayout
-objects_of named es = objects_behind named (record { objects = []; end = 0 }) es
+objects_of named es = objects_behind named (local_block es) (record { objects = []; end = local_block es }) es
 
 -- a set of numbers with that of an entry, if the entry is an object
 abbrev pub with_id : List ℕ → List ℕ → StackEntry → List ℕ

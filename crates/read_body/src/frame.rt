@@ -8,6 +8,7 @@ ghost use Rattle.read_body.specs.Frame.{
   with_slot,
   slots_of,
   with_object,
+  local_block,
   objects_of,
   with_id,
   ids_of_objects,
@@ -17,18 +18,21 @@ use crate::met::FirstUseOrder;
 use base_ids::code::ObjectId;
 use base_list::List;
 use mir_func::func::SlotIds;
-use mir_func::object::{Object, Objects, up_to};
+use mir_func::object::{Object, Objects, next_end, place_of, reach_after, up_to};
 use read_declarations::stack::StackEntry;
 use std::alloc::{AllocError, Global};
 
 /// The size of a spill slot, in bytes.
 const SLOT_SIZE: u32 = 8;
 
-/// Whether a stack entry is an object: its size isn't that of a spill slot, or code names it as an object.
+/// Whether a stack entry is an object: it has a local offset, its size isn't that of a spill slot, or code names it as
+/// an object.
 fn is_object(named: &FirstUseOrder, entry: &StackEntry) -> bool
     ensures { result ≡ is_object named.now entry.now }
 {
-    entry.size != SLOT_SIZE || named.has(u64::from(entry.id.number()))
+    entry.local_offset.is_some()
+        || entry.size != SLOT_SIZE
+        || named.has(u64::from(entry.id.number()))
 }
 
 /// Appends a stack entry, if it is a spill slot.
@@ -65,27 +69,46 @@ pub fn slots(
 pub struct ObjectLayout {
     /// The objects.
     pub objects: Objects,
-    /// The end of the last one, in bytes.
+    /// The end of the last one above the local block, in bytes.
     pub end: u64,
 }
 
-/// Places a stack entry, if it is an object, after those before it, at the least multiple of its alignment that isn't
-/// below their end.
-fn lay(laid: &mut ObjectLayout, named: &FirstUseOrder, entry: &StackEntry) -> Result<(), AllocError>
+/// The size of the local block of stack entries.
+fn local_block(entries: &[StackEntry]) -> u64
+    ensures value { result ≡ local_block entries.now }
+    ensures small { result ≤ 2 ^ 32 }
+{
+    let mut reach = 0;
+    for entry in entries {
+        reach = reach_after(reach, entry.local_offset);
+    }
+    up_to(16, u64::from(reach))
+}
+
+/// Places a stack entry, if it is an object: in a local block of this size if it has a local offset, and else after those
+/// before it, at the least multiple of its alignment that isn't below their end.
+fn lay(
+    laid: &mut ObjectLayout,
+    named: &FirstUseOrder,
+    block: u64,
+    entry: &StackEntry,
+) -> Result<(), AllocError>
     requires each { IsStackEntry entry.now }
     requires room { laid.old.end < 2 ^ 40 }
-    ensures laid { OnOk result (laid.new ≡ with_object named.now laid.old entry.now) }
+    requires block { block ≤ 2 ^ 32 }
+    ensures laid { OnOk result (laid.new ≡ with_object named.now block laid.old entry.now) }
     ensures bound { OnOk result (laid.new.end ≤ laid.old.end + 2147483648) }
 {
     if !is_object(named, entry) {
         return Ok(());
     }
-    let offset = up_to(u64::from(entry.align), laid.end);
-    laid.end = offset + u64::from(entry.size);
+    let offset = place_of(block, laid.end, entry.align, entry.local_offset);
+    laid.end = next_end(laid.end, offset + u64::from(entry.size), entry.local_offset);
     laid.objects.push(Object {
         id: ObjectId(entry.id.number()),
         size: entry.size,
         align: entry.align,
+        local_offset: entry.local_offset,
         offset,
     })
 }
@@ -100,12 +123,13 @@ pub fn objects(
     requires each { All IsStackEntry entries.now }
     ensures { IfOk result (λ laid. laid ≡ objects_of named.now entries.now) }
 {
+    let block = local_block(entries);
     let mut laid = ObjectLayout {
         objects: List::new(alloc),
-        end: 0,
+        end: block,
     };
     for entry in entries {
-        lay(&mut laid, named, entry)?;
+        lay(&mut laid, named, block, entry)?;
     }
     Ok(laid)
 }

@@ -14,7 +14,7 @@ use Rattle.read_declarations.specs.Name.{is_single_at, are_single}
 use Rattle.read_declarations.specs.declared.entry.MappingEntry.{MappingEntry}
 use Rattle.read_declarations.specs.declared.stack.StackRead.{StackRead}
 use Rattle.read_declarations.specs.declared.substitutions.SubstitutionsRead.{SubstitutionsRead}
-use Rattle.read_declarations.specs.Stack.{stack_entry_of, judged, stack_behind, stack_of}
+use Rattle.read_declarations.specs.Stack.{stack_entry_of, judged, stack_behind, stack_read}
 use Rattle.read_declarations.specs.Substitutions.{substitution_of, substituted, substitutions_behind, substitutions_of}
 
 module _ (lines : List Line) (key : List ℕ) (fs : List MappingField) (i : ℕ) (d : MappingField) where
@@ -65,14 +65,14 @@ module _ (lines : List Line) (cut : Bool) (ps : List YamlToken) (i : ℕ) (d : Y
   none_left all read = ap (entries_from lines cut so_far) (sym (drop_all i ps all)) ∙ read
 
 module _ (lines : List Line) (es : List MappingEntry) (i : ℕ) (here : MappingEntry) where
-  pub stack_more : (read next : StackRead) → i < length es → here ≡ get_or es i here → stack_behind lines read (drop i es) ≡ stack_of lines
-      → next ≡ judged read here.line (stack_entry_of lines here.fields) → stack_behind lines next (drop (i + 1) es) ≡ stack_of lines
+  pub stack_more : (read next : StackRead) → i < length es → here ≡ get_or es i here → stack_behind lines read (drop i es) ≡ stack_read lines
+      → next ≡ judged read here.line (stack_entry_of lines here.fields) → stack_behind lines next (drop (i + 1) es) ≡ stack_read lines
   unfolding stack_behind
   stack_more read next lt is so_far more =
       let parts : drop i es ≡ here ∷ drop (i + 1) es = drop_more es i here lt ∙ ap (λ (x : MappingEntry). x ∷ drop (i + 1) es) (sym is) in
       ap (λ (r : StackRead). stack_behind lines r (drop (i + 1) es)) more ∙ ap (stack_behind lines read) (sym parts) ∙ so_far
 
-  pub stack_whole : (read : StackRead) → length es ≤ i → stack_behind lines read (drop i es) ≡ stack_of lines → read ≡ stack_of lines
+  pub stack_whole : (read : StackRead) → length es ≤ i → stack_behind lines read (drop i es) ≡ stack_read lines → read ≡ stack_read lines
   unfolding stack_behind
   stack_whole read all so_far = ap (stack_behind lines read) (sym (drop_all i es all)) ∙ so_far
 

@@ -1,12 +1,21 @@
 //! The values of an entry's fields.
 
 ghost use Rattle.std.specs.Prelude.{◌≡◌};
-ghost use Rattle.read_declarations.specs.Field.{value_at, number_of, needed, given, is_variable_sized};
+ghost use Rattle.read_declarations.specs.Field.{
+  value_at,
+  number_of,
+  needed,
+  given,
+  positive,
+  negated_of,
+  negated,
+  is_variable_sized,
+};
 
 use crate::entry::MappingField;
 use crate::stream::{YamlToken, text_at};
 use read_lexer::line::Line;
-use read_metadata::number::integer;
+use read_metadata::number::{integer, spelled};
 use read_metadata::text::inside_quotes;
 use read_metadata::token::{is_integer, is_text};
 
@@ -48,6 +57,37 @@ pub fn given(lines: &[Line], fields: &[MappingField], key: &[u8], missing: u32) 
     match value_at(lines, fields, key) {
         Some(value) => number_of(lines, value),
         None => Some(missing),
+    }
+}
+
+/// The number, if it isn't 0.
+fn positive(number: Option<u32>) -> Option<u32>
+    ensures { result ≡ positive number }
+{
+    match number {
+        Some(0) => None,
+        _ => number,
+    }
+}
+
+/// The number after a minus sign, from 1 to 2^30 - 1; `None` for any other text.
+fn negated_of(text: &[u8]) -> Option<u32>
+    ensures { result ≡ negated_of text.now }
+{
+    match text {
+        [b'-', digits @ ..] => positive(spelled(10, digits)),
+        _ => None,
+    }
+}
+
+/// The number n if the field with this key is the integer -n, from -2^30 + 1 to -1; `None` if the field is missing or has
+/// another value.
+pub fn negated(lines: &[Line], fields: &[MappingField], key: &[u8]) -> Option<u32>
+    ensures { result ≡ negated lines.now key.now fields.now }
+{
+    match value_at(lines, fields, key) {
+        Some(value) if is_integer(value.token) => negated_of(text_at(lines, value)),
+        _ => None,
     }
 }
 

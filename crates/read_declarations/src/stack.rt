@@ -1,6 +1,7 @@
 //! The entries of `stack`: the objects in a function's stack frame, spill slots included.
 
-ghost use Rattle.std.specs.Prelude.{◌≡◌, IfOk, OnOk};
+ghost use Rattle.std.specs.Prelude.{◌≡◌, map, IfOk, OnOk};
+ghost use Rattle.mir_func.specs.Objects.{local_count};
 ghost use Rattle.read_declarations.specs.Stack.{
   is_alignment,
   stack_entry_of,
@@ -10,15 +11,20 @@ ghost use Rattle.read_declarations.specs.Stack.{
   refusal_at,
   AreIds,
   judged,
+  entry_offsets,
+  without_offset,
+  shared,
+  stack_read,
   stack_of,
 };
 
 use crate::entry::MappingField;
-use crate::field::{given, is_variable_sized, needed, value_at};
+use crate::field::{given, is_variable_sized, needed, negated, value_at};
 use crate::list::list;
 use base_ids::code::SlotId;
 use base_list::List;
 use mir_func::limits::MAX_SLOTS;
+use mir_func::object::counted;
 use read_lexer::line::Line;
 use read_refusal::first::{Refusal, earlier};
 use read_refusal::kind::RefusalKind;
@@ -34,6 +40,8 @@ pub struct StackEntry {
     pub size: u32,
     /// Its alignment in bytes: 1, 2, 4, 8 or 16.
     pub align: u32,
+    /// How far it begins below the end of the local block, in bytes, if it is in that (LLVM: `local-offset`, negated).
+    pub local_offset: Option<u32>,
 }
 
 /// Entries of a stack frame, in declared order.
@@ -63,14 +71,15 @@ fn unsized_entry(id: Option<u32>) -> Result<StackEntry, RefusalKind>
     }
 }
 
-/// The entry with these numbers, each `None` if it couldn't be read.
+/// The entry with these numbers, each `None` if it couldn't be read, and this local offset.
 fn entry_with(
     is_variable: bool,
     id: Option<u32>,
     size: Option<u32>,
     align: Option<u32>,
+    local_offset: Option<u32>,
 ) -> Result<StackEntry, RefusalKind>
-    ensures { result ≡ entry_with is_variable id size align }
+    ensures { result ≡ entry_with is_variable id size align local_offset }
 {
     match (id, size, align) {
         (Some(id), Some(size), Some(align)) => {
@@ -81,6 +90,7 @@ fn entry_with(
                     id: SlotId(id),
                     size,
                     align,
+                    local_offset,
                 })
             }
         }
@@ -99,7 +109,8 @@ fn stack_entry(lines: &[Line], fields: &[MappingField]) -> Result<StackEntry, Re
     }
     let size = needed(lines, fields, b"size");
     let align = given(lines, fields, b"alignment", 1);
-    entry_with(is_variable, id, size, align)
+    let local_offset = negated(lines, fields, b"local-offset");
+    entry_with(is_variable, id, size, align, local_offset)
 }
 
 /// Why an entry can't be added to `count` others: its number is taken, or the limit is reached.
@@ -150,9 +161,48 @@ fn judge(
     }
 }
 
-/// The stack entries in the lines of `stack`, and the first refusal.
-pub fn stack(alloc: Global, lines: &[Line]) -> Result<StackRead, AllocError>
-    ensures { IfOk result (λ read. read ≡ stack_of lines.now) }
+/// How many entries have a local offset.
+fn local_count(entries: &[StackEntry]) -> usize
+    ensures { result ≡ local_count (entry_offsets entries.now) }
+{
+    let mut count = 0;
+    for entry in entries {
+        count += counted(entry.local_offset);
+    }
+    count
+}
+
+/// An entry without its local offset.
+fn without_offset(entry: &StackEntry) -> StackEntry
+    ensures { result ≡ without_offset entry.now }
+{
+    StackEntry {
+        local_offset: None,
+        ..*entry
+    }
+}
+
+/// Entries without their local offsets.
+fn without_offsets(alloc: Global, entries: &[StackEntry]) -> Result<Vec<StackEntry>, AllocError>
+    ensures { IfOk result (λ made. made.items ≡ map without_offset entries.now) }
+{
+    entries.iter().map(|e| without_offset(e)).collect(alloc)
+}
+
+/// Entries, without a local offset if there is one alone.
+fn shared(alloc: Global, entries: StackEntries) -> Result<StackEntries, AllocError>
+    ensures { IfOk result (λ made. made ≡ shared entries) }
+{
+    if local_count(entries.as_slice()) == 1 {
+        Ok(List::from(without_offsets(alloc, entries.as_slice())?))
+    } else {
+        Ok(entries)
+    }
+}
+
+/// The entries in the lines of `stack`, each judged after those before it, and the first refusal.
+fn judged_entries(alloc: Global, lines: &[Line]) -> Result<StackRead, AllocError>
+    ensures { IfOk result (λ read. read ≡ stack_read lines.now) }
 {
     let listing = list(alloc, lines)?;
     let mut ids = BTreeSet::new(alloc);
@@ -165,4 +215,15 @@ pub fn stack(alloc: Global, lines: &[Line]) -> Result<StackRead, AllocError>
         judge(&mut read, &mut ids, entry.line, judged)?;
     }
     Ok(read)
+}
+
+/// The stack entries in the lines of `stack`, and the first refusal.
+pub fn stack(alloc: Global, lines: &[Line]) -> Result<StackRead, AllocError>
+    ensures { IfOk result (λ read. read ≡ stack_of lines.now) }
+{
+    let read = judged_entries(alloc, lines)?;
+    Ok(StackRead {
+        entries: shared(alloc, read.entries)?,
+        refused: read.refused,
+    })
 }

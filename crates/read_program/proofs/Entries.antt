@@ -10,7 +10,7 @@ use Rattle.read_declarations.specs.declared.stack.StackEntry.{StackEntry}
 use Rattle.read_body.specs.declared.frame.ObjectLayout.{ObjectLayout}
 use Rattle.read_body.specs.Met.{is_met, met}
 use Rattle.read_body.specs.Closing.{all_met}
-use Rattle.read_body.specs.Frame.{is_object, laid_at, with_object, objects_behind, objects_of, with_id, ids_behind as object_ids_behind, ids_of_objects}
+use Rattle.read_body.specs.Frame.{is_object, laid_at, with_object, objects_behind, local_block, objects_of, with_id, ids_behind as object_ids_behind, ids_of_objects}
 use Rattle.read_program.specs.Closing.{ids_behind, entry_ids}
 use Rattle.read_program.proofs.Lists.{met_keeps, met_has}
 
@@ -109,13 +109,13 @@ module _ (named : List ℕ) (n : ℕ) where
       ∙ sym (object_push laid.objects o n ∙ ap (λ (k : ℕ). is_some (object_of laid.objects n) || eqb k n) same)
   laid_step false e laid ids o end same so_far = so_far
 
-  laid_behind : (es : List StackEntry) (laid : ObjectLayout) (ids : List ℕ) → is_met n ids ≡ is_some (object_of laid.objects n) →
-      is_met n (object_ids_behind named ids es) ≡ is_some (object_of (objects_behind named laid es).objects n)
+  laid_behind : (block : ℕ) (es : List StackEntry) (laid : ObjectLayout) (ids : List ℕ) → is_met n ids ≡ is_some (object_of laid.objects n) →
+      is_met n (object_ids_behind named ids es) ≡ is_some (object_of (objects_behind named block laid es).objects n)
   unfolding object_ids_behind objects_behind
-  laid_behind [] laid ids so_far = so_far
-  laid_behind (e ∷ es) laid ids so_far = laid_behind es (with_object named laid e) (with_id named ids e)
-      (laid_step (is_object named e) e laid ids (laid_at laid.end e) _ refl so_far)
+  laid_behind block [] laid ids so_far = so_far
+  laid_behind block (e ∷ es) laid ids so_far = laid_behind block es (with_object named block laid e) (with_id named ids e)
+      (laid_step (is_object named e) e laid ids (laid_at block laid.end e) _ refl so_far)
 
   -- the numbers of the objects are those of the objects that are laid
   pub ids_are_objects : (es : List StackEntry) → is_met n (ids_of_objects named es) ≡ is_some (object_of (objects_of named es).objects n)
-  ids_are_objects es = laid_behind es (record { objects = []; end = 0 }) [] refl
+  ids_are_objects es = laid_behind (local_block es) es (record { objects = []; end = local_block es }) [] refl

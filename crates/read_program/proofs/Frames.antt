@@ -1,20 +1,21 @@
--- The slots and the objects of a function: each declared entry is one of them, and objects lie one behind the other.
-use Rattle.std.proofs.Common.{◌≡◌, ◌⊎◌, ℕ, zero, suc, ◌+◌, Bool, true, false, cond, not, ◌||◌, eqb, List, [], ◌∷◌, ◌++◌, map, length, All, Some}
-use Rattle.std.proofs.Common.{refl, sym, ap, subst, ◌∙◌, inl, inr, arith}
-use Rattle.std.specs.Prelude.{Contains}
+-- The slots and the objects of a function: each declared entry is one of them, and objects are where they must be.
+use Rattle.std.proofs.Common.{◌≡◌, ◌⊎◌, ℕ, zero, suc, ◌+◌, Bool, true, false, cond, not, ◌||◌, eqb, List, [], ◌∷◌, ◌++◌, map, length, All, Option, Some, None}
+use Rattle.std.proofs.Common.{refl, sym, ap, subst, ◌∙◌, append_assoc, append-nil, inl, inr, arith}
+use Rattle.std.specs.Prelude.{Contains, is_some, max}
 use Rattle.std.specs.List.{slice_get}
 use Rattle.std.proofs.lemmas.Bool.{or_left, or_right, or_cases, eq-eqb, eqb-true, false≢true, false_from_ne_true}
 use Rattle.std.proofs.lemmas.List.{map-append, length-append}
 use Rattle.std.proofs.lemmas.List.Elements.{All-nil, All-push, All-head, All-tail}
 use Rattle.std.proofs.lemmas.List.Folds.{list_any-append}
 use Rattle.mir_func.specs.declared.object.Object.{Object}
-use Rattle.mir_func.specs.Objects.{ALIGNMENTS, up_to, AreLaidFrom, end_from}
+use Rattle.mir_func.specs.Objects.{ALIGNMENTS, up_to, reach_after, reach_from, block_size, counted, local_count, local_offsets, place_of, next_end}
+use Rattle.mir_func.specs.Objects.{AreLaidFrom, AreLaid}
 use Rattle.mir_func.specs.Sound.{AreApart, IsSoundObject}
 use Rattle.read_declarations.specs.declared.stack.StackEntry.{StackEntry}
-use Rattle.read_declarations.specs.Stack.{is_alignment}
+use Rattle.read_declarations.specs.Stack.{is_alignment, entry_offsets}
 use Rattle.read_body.specs.declared.frame.ObjectLayout.{ObjectLayout}
 use Rattle.read_body.specs.Met.{is_met, met}
-use Rattle.read_body.specs.Frame.{is_object, with_slot, slots_behind, slots_of, laid_at, with_object, objects_behind, objects_of, with_id}
+use Rattle.read_body.specs.Frame.{is_object, with_slot, slots_behind, slots_of, laid_at, with_object, objects_behind, local_block, objects_of, with_id}
 use Rattle.read_body.specs.Frame.{ids_behind as object_ids_behind}
 use Rattle.read_body.specs.Frame.{ids_of_objects}
 use Rattle.read_program.specs.Closing.{ids_behind, entry_ids}
@@ -94,18 +95,18 @@ module _ (named : List ℕ) where
   abbrev object_numbers : List Object → List ℕ
   object_numbers os = map (λ (o : Object). o.id) os
 
-  objects_chosen : (laid : ObjectLayout) (es : List StackEntry) → object_numbers (objects_behind named laid es).objects ≡ chosen (is_object named)
-      (object_numbers laid.objects) es
+  objects_chosen : (block : ℕ) (laid : ObjectLayout) (es : List StackEntry) →
+      object_numbers (objects_behind named block laid es).objects ≡ chosen (is_object named) (object_numbers laid.objects) es
   unfolding objects_behind
-  objects_chosen laid [] = refl
-  objects_chosen laid (e ∷ es) = objects_chosen (with_object named laid e) es
+  objects_chosen block laid [] = refl
+  objects_chosen block laid (e ∷ es) = objects_chosen block (with_object named block laid e) es
       ∙ ap (λ (l : List ℕ). chosen (is_object named) l es) (step (is_object named e)) where
         step : (b : Bool) → object_numbers (cond b (record {
-          objects = laid.objects ++ laid_at laid.end e ∷ [];
-          end = up_to e.align laid.end + e.size;
+          objects = laid.objects ++ laid_at block laid.end e ∷ [];
+          end = next_end laid.end (place_of block laid.end e.align e.local_offset + e.size) e.local_offset;
         }) laid).objects
             ≡ cond b (object_numbers laid.objects ++ e.id ∷ []) (object_numbers laid.objects)
-        step true = map-append (λ (o : Object). o.id) laid.objects (laid_at laid.end e ∷ [])
+        step true = map-append (λ (o : Object). o.id) laid.objects (laid_at block laid.end e ∷ [])
         step false = refl
 
   module _ (es : List StackEntry) (apart : AreApart (numbers es)) where
@@ -113,14 +114,14 @@ module _ (named : List ℕ) where
     slots_apart = subst AreApart (sym (slots_chosen [] es)) (chosen_apart is_slot [] es (λ i j n e f. absurd cc) (λ i n at. refl) apart)
 
     pub objects_apart : AreApart (object_numbers (objects_of named es).objects)
-    objects_apart = subst AreApart (sym (objects_chosen (record { objects = []; end = 0 }) es))
+    objects_apart = subst AreApart (sym (objects_chosen (local_block es) (record { objects = []; end = local_block es }) es))
         (chosen_apart (is_object named) [] es (λ i j n e f. absurd cc) (λ i n at. refl) apart)
 
   pub frame_count : (es : List StackEntry) → length (slots_of named es) + length (objects_of named es).objects ≡ length es
   frame_count es =
       let count = chosen_count is_slot (is_object named) (λ e. twice (is_object named e)) [] [] es in
       let objects : length (object_numbers (objects_of named es).objects) ≡ length (objects_of named es).objects = counted (objects_of named es).objects in
-      omega (arith, ap length (slots_chosen [] es), ap length (objects_chosen (record { objects = []; end = 0 }) es), objects, count) where
+      omega (arith, ap length (slots_chosen [] es), ap length (objects_chosen (local_block es) (record { objects = []; end = local_block es }) es), objects, count) where
         twice : (b : Bool) → b ≡ not (not b)
         twice true = refl
         twice false = refl
@@ -163,20 +164,26 @@ module _ (named : List ℕ) where
     | inr slot ↦ met_contains (slots_of named es) n slot
   ]
 
--- ---- objects are laid one behind the other
+-- ---- objects are where they must be
 
-record IsLaid (laid : ObjectLayout) : Type 0 where
+-- the end of the objects above the local block
+abbrev last_end : ℕ → List Object → ℕ
+last_end n [] = n
+last_end n (o ∷ os) = last_end (next_end n (o.offset + o.size) o.local_offset) os
+
+record IsLaid (block : ℕ) (laid : ObjectLayout) : Type 0 where
   each : All IsSoundObject laid.objects
-  laid_from : AreLaidFrom 0 laid.objects
-  end_is : laid.end ≡ end_from 0 laid.objects
+  laid_from : AreLaidFrom block block laid.objects
+  end_is : laid.end ≡ last_end block laid.objects
 
-laid_push : (n : ℕ) (os : List Object) (o : Object) → AreLaidFrom n os → o.offset ≡ up_to o.align (end_from n os) → AreLaidFrom n (os ++ o ∷ [])
-laid_push n [] o is at = (at, tt)
-laid_push n (p ∷ os) o is at = (is.0, laid_push (p.offset + p.size) os o is.1 at)
+laid_push : (block n : ℕ) (os : List Object) (o : Object) → AreLaidFrom block n os → o.offset ≡ place_of block (last_end n os) o.align o.local_offset →
+    AreLaidFrom block n (os ++ o ∷ [])
+laid_push block n [] o is at = (at, tt)
+laid_push block n (p ∷ os) o is at = (is.0, laid_push block (next_end n (p.offset + p.size) p.local_offset) os o is.1 at)
 
-end_push : (n : ℕ) (os : List Object) (o : Object) → end_from n (os ++ o ∷ []) ≡ o.offset + o.size
+end_push : (n : ℕ) (os : List Object) (o : Object) → last_end n (os ++ o ∷ []) ≡ next_end (last_end n os) (o.offset + o.size) o.local_offset
 end_push n [] o = refl
-end_push n (p ∷ os) o = end_push (p.offset + p.size) os o
+end_push n (p ∷ os) o = end_push (next_end n (p.offset + p.size) p.local_offset) os o
 
 alignment : (align : ℕ) → is_alignment align ≡ true → Contains ALIGNMENTS align
 alignment align is = met_contains ALIGNMENTS align (by (eqb align 1) (eqb align 2) (eqb align 4) (eqb align 8) (eqb align 16) is) where
@@ -189,33 +196,92 @@ alignment align is = met_contains ALIGNMENTS align (by (eqb align 1) (eqb align 
   by false false false false false is = is
 
 module _ (named : List ℕ) where
-  laid_more : (laid : ObjectLayout) (e : StackEntry) → IsReadEntry e → IsLaid laid → IsLaid (with_object named laid e)
-  laid_more laid e entry is = by (is_object named e) where
+  laid_more : (block : ℕ) (laid : ObjectLayout) (e : StackEntry) → IsReadEntry e → IsLaid block laid → IsLaid block (with_object named block laid e)
+  laid_more block laid e entry is = by (is_object named e) where
     o : Object
-    o = laid_at laid.end e
+    o = laid_at block laid.end e
 
-    by : (b : Bool) → IsLaid (cond b (record { objects = laid.objects ++ laid_at laid.end e ∷ []; end = up_to e.align laid.end + e.size }) laid)
+    by : (b : Bool) → IsLaid block (cond b (record {
+      objects = laid.objects ++ laid_at block laid.end e ∷ [];
+      end = next_end laid.end (place_of block laid.end e.align e.local_offset + e.size) e.local_offset;
+    }) laid)
     by true = record {
-      each = All-push IsSoundObject laid.objects (laid_at laid.end e) is.each (record { size = entry.size; aligned = alignment e.align entry.aligned });
-      laid_from = laid_push 0 laid.objects (laid_at laid.end e) is.laid_from (ap (up_to e.align) is.end_is);
-      end_is = sym (end_push 0 laid.objects (laid_at laid.end e));
+      each = All-push IsSoundObject laid.objects (laid_at block laid.end e) is.each (record {
+        size = entry.size;
+        aligned = alignment e.align entry.aligned;
+        local = entry.local;
+      });
+      laid_from = laid_push block block laid.objects (laid_at block laid.end e) is.laid_from
+          (ap (λ (n : ℕ). place_of block n e.align e.local_offset) is.end_is);
+      end_is = ap (λ (n : ℕ). next_end n (place_of block laid.end e.align e.local_offset + e.size) e.local_offset) is.end_is
+          ∙ sym (end_push block laid.objects (laid_at block laid.end e));
     }
     by false = is
 
-  laid_behind : (laid : ObjectLayout) (es : List StackEntry) → All IsReadEntry es → IsLaid laid → IsLaid (objects_behind named laid es)
+  laid_behind : (block : ℕ) (laid : ObjectLayout) (es : List StackEntry) → All IsReadEntry es → IsLaid block laid →
+      IsLaid block (objects_behind named block laid es)
   unfolding objects_behind
-  laid_behind laid [] all is = is
-  laid_behind laid (e ∷ es) all is =
-      laid_behind (with_object named laid e) es (All-tail IsReadEntry e es all) (laid_more laid e (All-head IsReadEntry e es all) is)
+  laid_behind block laid [] all is = is
+  laid_behind block laid (e ∷ es) all is =
+      laid_behind block (with_object named block laid e) es (All-tail IsReadEntry e es all) (laid_more block laid e (All-head IsReadEntry e es all) is)
 
-  abbrev none_laid : ObjectLayout
-  none_laid = record { objects = []; end = 0 }
-
-  all_laid : (es : List StackEntry) → All IsReadEntry es → IsLaid (objects_of named es)
-  all_laid es all = laid_behind none_laid es all (record { each = All-nil IsSoundObject; laid_from = tt; end_is = refl })
+  all_laid : (es : List StackEntry) → All IsReadEntry es → IsLaid (local_block es) (objects_of named es)
+  all_laid es all = laid_behind (local_block es) (record { objects = []; end = local_block es }) es all
+      (record { each = All-nil IsSoundObject; laid_from = tt; end_is = refl })
 
   pub objects_sound : (es : List StackEntry) → All IsReadEntry es → All IsSoundObject (objects_of named es).objects
   objects_sound es all = (all_laid es all).each
 
-  pub objects_laid : (es : List StackEntry) → All IsReadEntry es → AreLaidFrom 0 (objects_of named es).objects
-  objects_laid es all = (all_laid es all).laid_from
+  -- ---- local offsets of objects are those of the entries
+
+  -- local offsets that are those of entries, but that None may lack: an entry with a local offset is an object
+  record AreLocal (ls : List (Option ℕ)) (es : List StackEntry) : Type 0 where
+    reach : (n : ℕ) → reach_from n ls ≡ reach_from n (entry_offsets es)
+    count : local_count ls ≡ local_count (entry_offsets es)
+
+  -- the same of entries with one more in front
+  record AreLocalMore (l : Option ℕ) (ls : List (Option ℕ)) (es : List StackEntry) : Type 0 where
+    reach : (n : ℕ) → reach_from n ls ≡ reach_from (reach_after n l) (entry_offsets es)
+    count : local_count ls ≡ counted l + local_count (entry_offsets es)
+
+  -- the local offsets of the objects of entries, without those before them
+  abbrev chosen_offsets : List StackEntry → List (Option ℕ)
+  chosen_offsets [] = []
+  chosen_offsets (e ∷ es) = cond (is_object named e) (e.local_offset ∷ chosen_offsets es) (chosen_offsets es)
+
+  offsets_chosen : (block : ℕ) (laid : ObjectLayout) (es : List StackEntry) →
+      local_offsets (objects_behind named block laid es).objects ≡ local_offsets laid.objects ++ chosen_offsets es
+  unfolding objects_behind
+  offsets_chosen block laid [] = sym (append-nil (local_offsets laid.objects))
+  offsets_chosen block laid (e ∷ es) = offsets_chosen block (with_object named block laid e) es ∙ step (is_object named e) where
+    step : (b : Bool) → local_offsets (cond b (record {
+      objects = laid.objects ++ laid_at block laid.end e ∷ [];
+      end = next_end laid.end (place_of block laid.end e.align e.local_offset + e.size) e.local_offset;
+    }) laid).objects ++ chosen_offsets es ≡ local_offsets laid.objects ++ cond b (e.local_offset ∷ chosen_offsets es) (chosen_offsets es)
+    step true = ap (λ (l : List (Option ℕ)). l ++ chosen_offsets es) (map-append (λ (o : Object). o.local_offset) laid.objects (laid_at block laid.end e ∷ []))
+        ∙ append_assoc (local_offsets laid.objects) (e.local_offset ∷ []) (chosen_offsets es)
+    step false = refl
+
+  chosen_local : (es : List StackEntry) → AreLocal (chosen_offsets es) es
+  chosen_local [] = record { reach = λ n. refl; count = refl }
+  chosen_local (e ∷ es) = let more = by e.local_offset (not (eqb e.size 8) || is_met e.id named) in record { reach = more.reach; count = more.count } where
+    rest : AreLocal (chosen_offsets es) es
+    rest = chosen_local es
+
+    by : (l : Option ℕ) (b : Bool) → AreLocalMore l (cond (is_some l || b) (l ∷ chosen_offsets es) (chosen_offsets es)) es
+    by (Some m) b = record { reach = λ n. rest.reach (max n m); count = ap suc rest.count }
+    by None true = record { reach = rest.reach; count = rest.count }
+    by None false = record { reach = rest.reach; count = rest.count }
+
+  local_is : (es : List StackEntry) → AreLocal (local_offsets (objects_of named es).objects) es
+  local_is es = subst (λ (l : List (Option ℕ)). AreLocal l es) (sym (offsets_chosen (local_block es) (record { objects = []; end = local_block es }) es))
+      (chosen_local es)
+
+  pub objects_laid : (es : List StackEntry) → All IsReadEntry es → (local_count (entry_offsets es) ≡ 1 → ⊥) → AreLaid (objects_of named es).objects
+  objects_laid es all several =
+      let is = local_is es in
+      let block : block_size (local_offsets (objects_of named es).objects) ≡ local_block es = ap (up_to 16) (is.reach 0) in
+      record {
+        each = subst (λ (n : ℕ). AreLaidFrom n n (objects_of named es).objects) (sym block) (all_laid es all).laid_from;
+        several = λ one. several (sym is.count ∙ one);
+      }

@@ -158,7 +158,7 @@ module _ (meta : Maps) (d : Declarations) (body : Body) (is : IsReadBody (ComesF
     few_blocks = omega (arith, ap length same_ids, length-map (blocks_as ids bs) (λ (b : Block). b.id), is.few_blocks);
     few_slots = omega (arith, frame_count body.objects d.stack, stack.few);
     each_object = objects_sound body.objects d.stack stack.each;
-    objects_laid = objects_laid body.objects d.stack stack.each;
+    objects_laid = objects_laid body.objects d.stack stack.each stack.several;
     targets = each_as (λ i. TargetsIn (ids_of (blocks_as ids bs)) i.kind)
         (λ i g. targets_as ids body.ids (ids_of (blocks_as ids bs)) has_block i.kind g.item.form g.goes);
     slots = each_as (λ i. SlotsIn (slots_of body.objects d.stack) i.kind)

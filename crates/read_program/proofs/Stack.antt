@@ -1,11 +1,11 @@
 -- The stack entries that a document declares: few, apart, with sizes within the limit and alignments that are some.
 use Rattle.std.proofs.Common.{◌≡◌, ℕ, zero, suc, ◌≤◌, Bool, true, false, cond, not, ◌&&◌, ◌||◌, eqb, leb, List, [], ◌∷◌, map, length, All, Option, Some, None}
-use Rattle.std.proofs.Common.{Result, Ok, Err, refl, sym, subst, ◌∙◌, arith}
+use Rattle.std.proofs.Common.{Result, Ok, Err, refl, sym, ap, subst, ◌∙◌, arith}
 use Rattle.std.specs.Prelude.{codes, is_none}
 use Rattle.std.specs.List.{slice_get}
 use Rattle.std.proofs.lemmas.Bool.{or_left, or_right, or_parts, not-false, leb-true, leb-false, eq-eqb, false≢true}
-use Rattle.std.proofs.lemmas.List.{map-append, length-append}
-use Rattle.std.proofs.lemmas.List.Elements.{All-nil, All-push}
+use Rattle.std.proofs.lemmas.List.{map-append, length-append, length-map}
+use Rattle.std.proofs.lemmas.List.Elements.{All-nil, All-push, All-map, All-weaker}
 use Rattle.read_refusal.specs.declared.first.Refusal.{Refusal}
 use Rattle.read_refusal.specs.declared.kind.RefusalKind.{RefusalKind}
 use Rattle.read_refusal.specs.declared.kind.RefusalKind.TheVariants.{StackObject, TooMany}
@@ -13,7 +13,8 @@ use Rattle.read_refusal.specs.First.{comes_before, earlier}
 use Rattle.read_metadata.specs.Number.{value_behind, spelled, zero_alone, unsigned_of, integer_of}
 use Rattle.read_metadata.specs.Token.{is_integer}
 use Rattle.read_documents.specs.declared.parts.FunctionDocument.{FunctionDocument}
-use Rattle.mir_func.specs.Sound.{AreApart}
+use Rattle.mir_func.specs.Objects.{local_count}
+use Rattle.mir_func.specs.Sound.{AreApart, IsLocalOffset}
 use Rattle.mir_func.specs.Limits.{MAX_SLOTS}
 use Rattle.base_ids.specs.Limits.{MAX_NUMBER}
 use Rattle.read_lexer.specs.declared.line.Line.{Line}
@@ -24,11 +25,11 @@ use Rattle.read_declarations.specs.declared.stack.StackEntry.{StackEntry}
 use Rattle.read_declarations.specs.declared.stack.StackRead.{StackRead}
 use Rattle.read_declarations.specs.declared.stream.YamlToken.{YamlToken}
 use Rattle.read_declarations.specs.Declarations.{fixed_refusal, refusal_of, declared_of, checked, declarations_of}
-use Rattle.read_declarations.specs.Field.{value_at, number_in, needed, given, is_variable_sized}
+use Rattle.read_declarations.specs.Field.{value_at, number_in, needed, given, positive, negated_of, negated_in, negated, is_variable_sized}
 use Rattle.read_declarations.specs.List.{list_of}
 use Rattle.read_declarations.specs.Name.{name_of}
 use Rattle.read_declarations.specs.Stack.{is_alignment, entry_with, unsized, stack_entry_of, has_id, clash, refusal_at, judged}
-use Rattle.read_declarations.specs.Stack.{stack_behind, stack_of}
+use Rattle.read_declarations.specs.Stack.{entry_offsets, without_offset, shared, stack_behind, stack_read, stack_of}
 use Rattle.read_declarations.specs.Stream.{text_at}
 use Rattle.read_declarations.specs.Substitutions.{substitutions_of}
 use Rattle.read_program.proofs.Lists.{apart_push}
@@ -36,11 +37,19 @@ use Rattle.read_program.proofs.Lists.{apart_push}
 pub record IsReadEntry (e : StackEntry) : Type 0 where
   pub size : e.size ≤ MAX_NUMBER
   pub aligned : is_alignment e.align ≡ true
+  pub local : IsLocalOffset e.local_offset
 
 pub record IsReadStack (es : List StackEntry) : Type 0 where
   pub few : length es ≤ MAX_SLOTS
   pub each : All IsReadEntry es
   pub apart : AreApart (map (λ e. e.id) es)
+  pub several : local_count (entry_offsets es) ≡ 1 → ⊥
+
+-- the same before the local offset of an entry alone is dropped
+record AreJudged (es : List StackEntry) : Type 0 where
+  few : length es ≤ MAX_SLOTS
+  each : All IsReadEntry es
+  apart : AreApart (map (λ e. e.id) es)
 
 -- ---- numbers
 
@@ -74,23 +83,47 @@ needed_small lines None n e = absurd cc
 needed_small lines (Some value) n e =
     one_of (is_integer value.token) (integer_of (text_at lines value)) None n e (integer_small (text_at lines value) n) (λ f. absurd cc)
 
+positive_local : (o : Option ℕ) → ((n : ℕ) → o ≡ Some n → n ≤ MAX_NUMBER) → IsLocalOffset (positive o)
+positive_local None small = tt
+positive_local (Some zero) small = tt
+positive_local (Some (suc n)) small = (omega arith, small (suc n) refl)
+
+negated_local : (text : List ℕ) → IsLocalOffset (negated_of text)
+negated_local [] = tt
+negated_local (a ∷ bs) = by (eqb a 45) where
+  by : (b : Bool) → IsLocalOffset (cond b (positive (spelled 10 bs)) None)
+  by true = positive_local (spelled 10 bs) (spelled_small 10 bs)
+  by false = tt
+
+local_read : (lines : List Line) (o : Option YamlToken) → IsLocalOffset (negated_in lines o)
+local_read lines None = tt
+local_read lines (Some value) = by (is_integer value.token) where
+  by : (b : Bool) → IsLocalOffset (cond b (negated_of (text_at lines value)) None)
+  by true = negated_local (text_at lines value)
+  by false = tt
+
 -- ---- entries
 
-sized_reads : (b : Bool) (id size align : ℕ) (e : StackEntry) → size ≤ MAX_NUMBER → (variable : Bool) → (variable || not (is_alignment align)) ≡ b →
-    ◌≡◌ {A = Result StackEntry RefusalKind} (cond b (Err StackObject) (Ok (record { id = id; size = size; align = align }))) (Ok e) → IsReadEntry e
-sized_reads true id size align e small variable is made = absurd cc
-sized_reads false id size align e small variable is made =
-    let same : record { id = id; size = size; align = align } ≡ e = cc in
-    subst IsReadEntry same (record { size = small; aligned = not-false (is_alignment align) (or_parts variable (not (is_alignment align)) is).1 })
-
-with_reads : (variable : Bool) (id size align : Option ℕ) (e : StackEntry) → ((n : ℕ) → size ≡ Some n → n ≤ MAX_NUMBER) →
-    entry_with variable id size align ≡ Ok e →
+sized_reads : (b : Bool) (id size align : ℕ) (local : Option ℕ) (e : StackEntry) → size ≤ MAX_NUMBER → IsLocalOffset local → (variable : Bool) →
+    (variable || not (is_alignment align)) ≡ b →
+    ◌≡◌ {A = Result StackEntry RefusalKind} (cond b (Err StackObject) (Ok (record { id = id; size = size; align = align; local_offset = local }))) (Ok e) →
     IsReadEntry e
-with_reads variable (Some id) (Some size) (Some align) e small made =
-    sized_reads (variable || not (is_alignment align)) id size align e (small size refl) variable refl made
-with_reads variable (Some id) (Some size) None e small made = absurd cc
-with_reads variable (Some id) None align e small made = absurd cc
-with_reads variable None size align e small made = absurd cc
+sized_reads true id size align local e small is_local variable is made = absurd cc
+sized_reads false id size align local e small is_local variable is made =
+    let same : record { id = id; size = size; align = align; local_offset = local } ≡ e = cc in
+    subst IsReadEntry same (record {
+      size = small;
+      aligned = not-false (is_alignment align) (or_parts variable (not (is_alignment align)) is).1;
+      local = is_local;
+    })
+
+with_reads : (variable : Bool) (id size align local : Option ℕ) (e : StackEntry) → ((n : ℕ) → size ≡ Some n → n ≤ MAX_NUMBER) → IsLocalOffset local →
+    entry_with variable id size align local ≡ Ok e → IsReadEntry e
+with_reads variable (Some id) (Some size) (Some align) local e small is_local made =
+    sized_reads (variable || not (is_alignment align)) id size align local e (small size refl) is_local variable refl made
+with_reads variable (Some id) (Some size) None local e small is_local made = absurd cc
+with_reads variable (Some id) None align local e small is_local made = absurd cc
+with_reads variable None size align local e small is_local made = absurd cc
 
 unsized_none : (id : Option ℕ) (e : StackEntry) → unsized id ≡ Ok e → ⊥
 unsized_none (Some id) e made = cc
@@ -98,12 +131,12 @@ unsized_none None e made = cc
 
 entry_reads_by : (b : Bool) (lines : List Line) (fields : List MappingField) (e : StackEntry) →
     cond b (unsized (needed lines (codes "id") fields)) (entry_with (is_variable_sized lines fields) (needed lines (codes "id") fields)
-    (needed lines (codes "size") fields) (given lines (codes "alignment") 1 fields)) ≡ Ok e → IsReadEntry e
+    (needed lines (codes "size") fields) (given lines (codes "alignment") 1 fields) (negated lines (codes "local-offset") fields)) ≡ Ok e → IsReadEntry e
 entry_reads_by true lines fields e made = absurd (unsized_none (needed lines (codes "id") fields) e made)
 entry_reads_by false lines fields e made =
     with_reads (is_variable_sized lines fields) (needed lines (codes "id") fields) (needed lines (codes "size") fields) (given lines
-    (codes "alignment") 1 fields) e
-    (λ n f. needed_small lines (value_at lines (codes "size") fields) n f) made
+    (codes "alignment") 1 fields) (negated lines (codes "local-offset") fields) e
+    (λ n f. needed_small lines (value_at lines (codes "size") fields) n f) (local_read lines (value_at lines (codes "local-offset") fields)) made
 
 entry_reads : (lines : List Line) (fields : List MappingField) (e : StackEntry) → stack_entry_of lines fields ≡ Ok e → IsReadEntry e
 entry_reads lines fields e made = entry_reads_by (is_variable_sized lines fields && is_none (value_at lines (codes "size") fields)) lines fields e made
@@ -135,8 +168,8 @@ id_at [] i n e = absurd cc
 id_at (x ∷ es) zero n e = let same : n ≡ x.id = cc in or_left (eqb n x.id) (has_id es n) (eq-eqb n x.id same)
 id_at (x ∷ es) (suc i) n e = or_right (eqb n x.id) (has_id es n) (id_at es i n e)
 
-one_more : (read : StackRead) (line : ℕ) (r : Result StackEntry RefusalKind) → ((e : StackEntry) → r ≡ Ok e → IsReadEntry e) → IsReadStack read.entries →
-    (judged read line r).refused ≡ None → IsReadStack (judged read line r).entries × (read.refused ≡ None)
+one_more : (read : StackRead) (line : ℕ) (r : Result StackEntry RefusalKind) → ((e : StackEntry) → r ≡ Ok e → IsReadEntry e) → AreJudged read.entries →
+    (judged read line r).refused ≡ None → AreJudged (judged read line r).entries × (read.refused ≡ None)
 one_more read line (Err kind) each is none = let parts = earlier_none read.refused (Some
     (record { line = line; kind = kind })) none in let e = parts.1 in absurd cc
 one_more read line (Ok e) each is none =
@@ -160,14 +193,36 @@ refused_before lines read (e ∷ es) none =
       before (Ok x) f = (earlier_none read.refused _ f).0
       before (Err kind) f = (earlier_none read.refused _ f).0
 
-stack_reads : (lines : List Line) (read : StackRead) (es : List MappingEntry) → IsReadStack read.entries → (stack_behind lines read es).refused ≡ None →
-    IsReadStack (stack_behind lines read es).entries
+stack_reads : (lines : List Line) (read : StackRead) (es : List MappingEntry) → AreJudged read.entries → (stack_behind lines read es).refused ≡ None →
+    AreJudged (stack_behind lines read es).entries
 unfolding stack_behind
 stack_reads lines read [] is none = is
 stack_reads lines read (e ∷ es) is none =
     let next = judged read e.line (stack_entry_of lines e.fields) in
     let step = one_more read e.line (stack_entry_of lines e.fields) (entry_reads lines e.fields) is (refused_before lines next es none) in
     stack_reads lines next es step.0 none
+
+-- ---- a local offset alone is dropped
+
+ids_kept : (es : List StackEntry) → map (λ (e : StackEntry). e.id) (map without_offset es) ≡ map (λ (e : StackEntry). e.id) es
+ids_kept [] = refl
+ids_kept (e ∷ es) = ap (λ (l : List ℕ). e.id ∷ l) (ids_kept es)
+
+none_counted : (es : List StackEntry) → local_count (entry_offsets (map without_offset es)) ≡ 0
+none_counted [] = refl
+none_counted (e ∷ es) = none_counted es
+
+shared_reads : (es : List StackEntry) → AreJudged es → IsReadStack (shared es)
+shared_reads es is = by (eqb (local_count (entry_offsets es)) 1) refl where
+  by : (b : Bool) → eqb (local_count (entry_offsets es)) 1 ≡ b → IsReadStack (cond b (map without_offset es) es)
+  by true one = record {
+    few = omega (arith, length-map es without_offset, is.few);
+    each = All-map IsReadEntry without_offset es (All-weaker IsReadEntry (λ e. IsReadEntry (without_offset e))
+        (λ e read. record { size = read.size; aligned = read.aligned; local = tt }) es is.each);
+    apart = subst AreApart (sym (ids_kept es)) is.apart;
+    several = λ e. omega (arith, none_counted es, e);
+  }
+  by false other = record { few = is.few; each = is.each; apart = is.apart; several = λ e. false≢true (sym other ∙ eq-eqb (local_count (entry_offsets es)) 1 e) }
 
 checked_ok : (refused : Option Refusal) (declared d : Declarations) → checked refused declared ≡ Ok d → (refused ≡ None) × (declared ≡ d)
 checked_ok None declared d e = (refl, cc)
@@ -180,5 +235,6 @@ declared_stack doc d e =
     let first = earlier_none (earlier (name_of doc.name).refused (stack_of doc.stack).refused)
     (earlier (fixed_refusal doc.fixed) (substitutions_of doc.substitutions).refused) is.0 in
     let none = (earlier_none (name_of doc.name).refused (stack_of doc.stack).refused first.0).1 in
-    subst (λ (x : Declarations). IsReadStack x.stack) is.1 (stack_reads doc.stack (record { entries = []; refused = (list_of doc.stack).refused })
-    (list_of doc.stack).entries (record { few = omega arith; each = All-nil IsReadEntry; apart = λ i j n e f. absurd cc }) none)
+    subst (λ (x : Declarations). IsReadStack x.stack) is.1 (shared_reads (stack_read doc.stack).entries
+    (stack_reads doc.stack (record { entries = []; refused = (list_of doc.stack).refused })
+    (list_of doc.stack).entries (record { few = omega arith; each = All-nil IsReadEntry; apart = λ i j n e f. absurd cc }) none))

@@ -23,13 +23,13 @@ use Rattle.read_declarations.specs.declared.stack.StackRead.{StackRead}
 use Rattle.read_declarations.specs.declared.stream.YamlToken.{YamlToken}
 use Rattle.read_declarations.specs.declared.substitutions.SubstitutionsRead.{SubstitutionsRead}
 use Rattle.read_declarations.specs.Declarations.{refusal_of, declared_of, checked, declarations_of}
-use Rattle.read_declarations.specs.Field.{value_at, number_in, needed, given, is_variable_sized}
+use Rattle.read_declarations.specs.Field.{value_at, number_in, needed, given, negated, is_variable_sized}
 use Rattle.read_declarations.specs.List.{list_of}
-use Rattle.read_declarations.specs.Stack.{is_alignment, entry_with, unsized, stack_entry_of, judged, stack_behind}
+use Rattle.read_declarations.specs.Stack.{is_alignment, entry_with, unsized, stack_entry_of, judged, stack_behind, stack_read, entry_offsets, without_offset, shared}
 use Rattle.read_declarations.specs.Stream.{text_at}
 use Rattle.read_declarations.specs.Substitutions.{pair_of, substitution_with, substitution_of, substituted, substitutions_behind}
 use Rattle.read_body.specs.declared.frame.ObjectLayout.{ObjectLayout}
-use Rattle.read_body.specs.Frame.{is_object, with_slot, slots_behind, slots_of, laid_at, with_object, objects_behind, objects_of}
+use Rattle.read_body.specs.Frame.{is_object, with_slot, slots_behind, slots_of, laid_at, with_object, objects_behind, local_block, objects_of}
 use Rattle.read_proof.specs.Read.{PairIsLimited, EntryIsLimited}
 use Rattle.read_proof.proofs.Nodes.{Small, one_of, integer_small}
 
@@ -57,12 +57,12 @@ either : (b : Bool) (x y : Result StackEntry RefusalKind) → IfRead x → IfRea
 either true x y p q = p
 either false x y p q = q
 
-with_small : (variable : Bool) (id size align : Option ℕ) → IfSome id Small → IfRead (entry_with variable id size align)
-with_small variable (Some id) (Some size) (Some align) small =
-    either (variable || not (is_alignment align)) (Err StackObject) (Ok (record { id = id; size = size; align = align })) tt small
-with_small variable (Some id) (Some size) None small = tt
-with_small variable (Some id) None align small = tt
-with_small variable None size align small = tt
+with_small : (variable : Bool) (id size align local : Option ℕ) → IfSome id Small → IfRead (entry_with variable id size align local)
+with_small variable (Some id) (Some size) (Some align) local small =
+    either (variable || not (is_alignment align)) (Err StackObject) (Ok (record { id = id; size = size; align = align; local_offset = local })) tt small
+with_small variable (Some id) (Some size) None local small = tt
+with_small variable (Some id) None align local small = tt
+with_small variable None size align local small = tt
 
 unsized_small : (id : Option ℕ) → IfRead (unsized id)
 unsized_small (Some id) = tt
@@ -72,10 +72,10 @@ entry_small : (lines : List Line) (fields : List MappingField) → IfRead (stack
 entry_small lines fields =
     either (is_variable_sized lines fields && is_none (value_at lines (codes "size") fields)) (unsized (needed lines (codes "id") fields))
     (entry_with (is_variable_sized lines fields) (needed lines (codes "id") fields) (needed lines (codes "size") fields) (given lines (codes "alignment") 1
-    fields))
+    fields) (negated lines (codes "local-offset") fields))
     (unsized_small (needed lines (codes "id") fields))
     (with_small (is_variable_sized lines fields) (needed lines (codes "id") fields) (needed lines (codes "size") fields) (given lines (codes "alignment") 1
-    fields) (needed_small lines (codes "id") fields))
+    fields) (negated lines (codes "local-offset") fields) (needed_small lines (codes "id") fields))
 
 one_more : (read : StackRead) (line : ℕ) (r : Result StackEntry RefusalKind) → IfRead r → All HasSmallId read.entries →
     All HasSmallId (judged read line r).entries
@@ -88,6 +88,13 @@ unfolding stack_behind
 stack_small lines read [] all = all
 stack_small lines read (e ∷ es) all = stack_small lines (judged read e.line (stack_entry_of lines e.fields)) es
     (one_more read e.line (stack_entry_of lines e.fields) (entry_small lines e.fields) all)
+
+-- entries without local offsets have the same numbers
+shared_small : (es : List StackEntry) → All HasSmallId es → All HasSmallId (shared es)
+shared_small es all = by (eqb (local_count (entry_offsets es)) 1) where
+  by : (b : Bool) → All HasSmallId (cond b (map without_offset es) es)
+  by true = All-map HasSmallId without_offset es (All-weaker HasSmallId (λ e. HasSmallId (without_offset e)) (λ e small. small) es all)
+  by false = all
 
 -- ---- substitutions
 
@@ -141,7 +148,8 @@ pub record DeclaresSmall (d : Declarations) : Type 0 where
 
 declared_small : (doc : FunctionDocument) → DeclaresSmall (declared_of doc)
 declared_small doc = record {
-  stack = stack_small doc.stack (record { entries = []; refused = (list_of doc.stack).refused }) (list_of doc.stack).entries (All-nil HasSmallId);
+  stack = shared_small (stack_read doc.stack).entries
+      (stack_small doc.stack (record { entries = []; refused = (list_of doc.stack).refused }) (list_of doc.stack).entries (All-nil HasSmallId));
   substitutions = substitutions_small doc.substitutions (record { entries = []; refused = (list_of doc.substitutions).refused })
       (list_of doc.substitutions).entries (All-nil EntryIsLimited);
 }
@@ -163,16 +171,16 @@ object_more : (b : Bool) (laid : ObjectLayout) (o : Object) (end : ℕ) → IsSm
 object_more true laid o end small all = All-push IsSmall laid.objects o all small
 object_more false laid o end small all = all
 
-objects_more : (named : List ℕ) (laid : ObjectLayout) (es : List StackEntry) → All HasSmallId es → All IsSmall laid.objects →
-    All IsSmall (objects_behind named laid es).objects
+objects_more : (named : List ℕ) (block : ℕ) (laid : ObjectLayout) (es : List StackEntry) → All HasSmallId es → All IsSmall laid.objects →
+    All IsSmall (objects_behind named block laid es).objects
 unfolding objects_behind
-objects_more named laid [] small all = all
-objects_more named laid (e ∷ es) small all = objects_more named (with_object named laid e) es (All-tail HasSmallId e es small)
-    (object_more (is_object named e) laid (laid_at laid.end e) _ (All-head HasSmallId e es small) all)
+objects_more named block laid [] small all = all
+objects_more named block laid (e ∷ es) small all = objects_more named block (with_object named block laid e) es (All-tail HasSmallId e es small)
+    (object_more (is_object named e) laid (laid_at block laid.end e) _ (All-head HasSmallId e es small) all)
 
 -- the objects among stack entries with small numbers
 pub objects_small : (named : List ℕ) (es : List StackEntry) → All HasSmallId es → All IsSmall (objects_of named es).objects
-objects_small named es small = objects_more named (record { objects = []; end = 0 }) es small (All-nil IsSmall)
+objects_small named es small = objects_more named (local_block es) (record { objects = []; end = local_block es }) es small (All-nil IsSmall)
 
 -- ---- slots
 

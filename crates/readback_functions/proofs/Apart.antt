@@ -7,6 +7,7 @@ use Rattle.mir_func.specs.declared.object.Object.{Object}
 use Rattle.mir_func.specs.Sound.{AreApart}
 use Rattle.read_declarations.specs.declared.stack.StackEntry.{StackEntry}
 use Rattle.read_body.specs.declared.frame.ObjectLayout.{ObjectLayout}
+use Rattle.mir_func.specs.Objects.{next_end}
 use Rattle.read_body.specs.Frame.{is_object, with_slot, slots_behind, laid_at, with_object, objects_behind}
 use Rattle.read_body.specs.Met.{is_met}
 use Rattle.read_program.proofs.Lists.{found, met_at}
@@ -69,12 +70,12 @@ abbrev AreFree : List ℕ → List StackEntry → Type 0
 AreFree ns es = (n : ℕ) → is_met n (numbers es) ≡ true → is_met n ns ≡ false
 
 module _ (named : List ℕ) where
-  pub once_behind : (ss : List ℕ) (laid : ObjectLayout) (es : List StackEntry) → Once (ss ++ object_numbers laid.objects) →
+  pub once_behind : (block : ℕ) (ss : List ℕ) (laid : ObjectLayout) (es : List StackEntry) → Once (ss ++ object_numbers laid.objects) →
       AreFree (ss ++ object_numbers laid.objects) es → Once (numbers es) →
-      Once (slots_behind named ss es ++ object_numbers (objects_behind named laid es).objects)
+      Once (slots_behind named ss es ++ object_numbers (objects_behind named block laid es).objects)
   unfolding slots_behind objects_behind
-  once_behind ss laid [] once free entries = once
-  once_behind ss laid (e ∷ es) once free entries = by (is_object named e) (once_behind (with_slot named ss e) (with_object named laid e) es) where
+  once_behind block ss laid [] once free entries = once
+  once_behind block ss laid (e ∷ es) once free entries = by (is_object named e) (once_behind block (with_slot named ss e) (with_object named block laid e) es) where
     new : is_met e.id (ss ++ object_numbers laid.objects) ≡ false
     new = free e.id (ap (λ (b : Bool). b || is_met e.id (numbers es)) (eq-eqb e.id e.id refl))
 
@@ -88,10 +89,10 @@ module _ (named : List ℕ) where
       or_later false f = f
 
     more : ObjectLayout
-    more = record { objects = laid.objects ++ laid_at laid.end e ∷ []; end = (laid_at laid.end e).offset + e.size }
+    more = record { objects = laid.objects ++ laid_at block laid.end e ∷ []; end = next_end laid.end ((laid_at block laid.end e).offset + e.size) e.local_offset }
 
     pushed : ss ++ object_numbers more.objects ≡ (ss ++ object_numbers laid.objects) ++ e.id ∷ []
-    pushed = ap (λ (l : List ℕ). ss ++ l) (map-append (λ (o : Object). o.id) laid.objects (laid_at laid.end e ∷ []))
+    pushed = ap (λ (l : List ℕ). ss ++ l) (map-append (λ (o : Object). o.id) laid.objects (laid_at block laid.end e ∷ []))
         ∙ sym (append_assoc ss (object_numbers laid.objects) (e.id ∷ []))
 
     put : (ss ++ e.id ∷ []) ++ object_numbers laid.objects ≡ ss ++ e.id ∷ object_numbers laid.objects
@@ -100,8 +101,8 @@ module _ (named : List ℕ) where
     by : (b : Bool) →
         (Once (cond b ss (ss ++ e.id ∷ []) ++ object_numbers (cond b more laid).objects) →
         AreFree (cond b ss (ss ++ e.id ∷ []) ++ object_numbers (cond b more laid).objects) es → Once (numbers es) →
-        Once (slots_behind named (cond b ss (ss ++ e.id ∷ [])) es ++ object_numbers (objects_behind named (cond b more laid) es).objects)) →
-        Once (slots_behind named (cond b ss (ss ++ e.id ∷ [])) es ++ object_numbers (objects_behind named (cond b more laid) es).objects)
+        Once (slots_behind named (cond b ss (ss ++ e.id ∷ [])) es ++ object_numbers (objects_behind named block (cond b more laid) es).objects)) →
+        Once (slots_behind named (cond b ss (ss ++ e.id ∷ [])) es ++ object_numbers (objects_behind named block (cond b more laid) es).objects)
     by true rest = rest
         (subst Once (sym pushed) (once_between e.id (ss ++ object_numbers laid.objects) []
         (ap (is_met e.id) (append-nil (ss ++ object_numbers laid.objects)) ∙ new) (subst Once (sym (append-nil (ss ++ object_numbers laid.objects))) once)))

@@ -1,5 +1,5 @@
 -- The slots and objects of entries, read as entries again.
-use Rattle.std.proofs.Common.{◌≡◌, ℕ, ◌+◌, ◌≤◌, Bool, true, false, cond, not, ◌||◌, eqb, List, [], ◌∷◌, ◌++◌, map, length, All, Some}
+use Rattle.std.proofs.Common.{◌≡◌, ℕ, ◌+◌, ◌≤◌, Bool, true, false, cond, not, ◌||◌, eqb, List, [], ◌∷◌, ◌++◌, map, length, All, Option, Some, None}
 use Rattle.std.proofs.Common.{refl, sym, ap, subst, ◌∙◌, arith, append_assoc, append-nil, inl, inr}
 use Rattle.std.specs.Prelude.{is_some, Contains}
 use Rattle.std.proofs.lemmas.Bool.{cases_Bool, or_right, or_left, eq-eqb, eqb-true}
@@ -8,10 +8,11 @@ use Rattle.std.proofs.lemmas.Option.{slice_get-get_or}
 use Rattle.std.proofs.lemmas.List.Elements.{All-nil, All-head, All-tail, All-push, All-append, All-map, All-weaker}
 use Rattle.base_ids.specs.Limits.{MAX_NUMBER}
 use Rattle.mir_func.specs.declared.object.Object.{Object}
-use Rattle.mir_func.specs.Objects.{up_to, AreLaidFrom, object_of}
+use Rattle.mir_func.specs.Objects.{up_to, reach_after, reach_from, counted, local_count, local_offsets, place_of, next_end, AreLaidFrom, AreLaid, object_of}
 use Rattle.read_declarations.specs.declared.stack.StackEntry.{StackEntry}
+use Rattle.read_declarations.specs.Stack.{entry_offsets}
 use Rattle.read_body.specs.declared.frame.ObjectLayout.{ObjectLayout}
-use Rattle.read_body.specs.Frame.{is_object, with_slot, slots_behind, slots_of, laid_at, with_object, objects_behind, objects_of}
+use Rattle.read_body.specs.Frame.{is_object, with_slot, slots_behind, slots_of, laid_at, with_object, objects_behind, local_block, objects_of}
 use Rattle.read_body.specs.Frame.{ids_of_objects}
 use Rattle.read_body.specs.Met.{is_met, met}
 use Rattle.read_program.specs.Closing.{ids_behind, entry_ids}
@@ -34,9 +35,10 @@ module _ (named : List ℕ) where
   abbrev IsObject : Object → Type 0
   IsObject o = (is_object named (object_entry o) ≡ true) × IsEntry (object_entry o)
 
-  unmet : (b c : Bool) → (not b || c) ≡ false → c ≡ false
-  unmet true c e = e
-  unmet false c e = absurd cc
+  unmet : (l : Option ℕ) (b c : Bool) → (is_some l || (not b || c)) ≡ false → c ≡ false
+  unmet None true c e = e
+  unmet None false c e = absurd cc
+  unmet (Some n) b c e = absurd cc
 
   slots_are : (ss : List ℕ) (es : List StackEntry) → All IsEntry es → All IsSlot ss → All IsSlot (slots_behind named ss es)
   unfolding slots_behind
@@ -45,19 +47,25 @@ module _ (named : List ℕ) where
       slots_are (with_slot named ss e) es (All-tail IsEntry e es all) (by (is_object named e) refl) where
         by : (b : Bool) → is_object named e ≡ b → All IsSlot (cond b ss (ss ++ e.id ∷ []))
         by true is = slots
-        by false is = All-push IsSlot ss e.id slots (unmet (eqb e.size 8) (is_met e.id named) is, (All-head IsEntry e es all).id)
+        by false is = All-push IsSlot ss e.id slots (unmet e.local_offset (eqb e.size 8) (is_met e.id named) is, (All-head IsEntry e es all).id)
 
-  objects_are : (laid : ObjectLayout) (es : List StackEntry) → All IsEntry es → All IsObject laid.objects → All IsObject (objects_behind named laid es).objects
+  objects_are : (block : ℕ) (laid : ObjectLayout) (es : List StackEntry) → All IsEntry es → All IsObject laid.objects →
+      All IsObject (objects_behind named block laid es).objects
   unfolding objects_behind
-  objects_are laid [] all objects = objects
-  objects_are laid (e ∷ es) all objects = objects_are (with_object named laid e) es (All-tail IsEntry e es all) (by (is_object named e) refl) where
-    entry : IsEntry e
-    entry = All-head IsEntry e es all
+  objects_are block laid [] all objects = objects
+  objects_are block laid (e ∷ es) all objects = objects_are block (with_object named block laid e) es (All-tail IsEntry e es all)
+      (by (is_object named e) refl) where
+        entry : IsEntry e
+        entry = All-head IsEntry e es all
 
-    by : (b : Bool) → is_object named e ≡ b →
-        All IsObject (cond b (record { objects = laid.objects ++ laid_at laid.end e ∷ []; end = up_to e.align laid.end + e.size }) laid).objects
-    by true is = All-push IsObject laid.objects (laid_at laid.end e) objects (is, record { id = entry.id; size = entry.size; aligned = entry.aligned })
-    by false is = objects
+        by : (b : Bool) → is_object named e ≡ b →
+            All IsObject (cond b (record {
+              objects = laid.objects ++ laid_at block laid.end e ∷ [];
+              end = next_end laid.end (place_of block laid.end e.align e.local_offset + e.size) e.local_offset;
+            }) laid).objects
+        by true is = All-push IsObject laid.objects (laid_at block laid.end e) objects
+            (is, record { id = entry.id; size = entry.size; aligned = entry.aligned; local = entry.local })
+        by false is = objects
 
 -- ---- entries again
 
@@ -78,36 +86,49 @@ module _ (again : List ℕ) where
       ∙ (slots_again (ss ++ m ∷ []) ms os (All-tail (IsSlot again) m ms slots) objects ∙ append_assoc ss (m ∷ []) ms)
 
   abbrev laid_more : ObjectLayout → Object → ObjectLayout
-  laid_more laid o = record { objects = laid.objects ++ o ∷ []; end = o.offset + o.size }
+  laid_more laid o = record { objects = laid.objects ++ o ∷ []; end = next_end laid.end (o.offset + o.size) o.local_offset }
 
-  objects_laid_again : (laid : ObjectLayout) (os : List Object) → All (IsObject again) os → AreLaidFrom laid.end os →
-      (objects_behind again laid (map object_entry os)).objects ≡ laid.objects ++ os
-  unfolding objects_behind
-  objects_laid_again laid [] all from = sym (append-nil laid.objects)
-  objects_laid_again laid (o ∷ os) all from =
-      ap (λ (b : Bool). (objects_behind again (cond b (record {
-        objects = laid.objects ++ laid_at laid.end (object_entry o) ∷ [];
-        end = up_to o.align laid.end + o.size;
-      }) laid) (map object_entry os)).objects) (All-head (IsObject again) o os all).0
-      ∙ ((λ i. (objects_behind again (record {
-        objects = laid.objects ++ record { id = o.id; size = o.size; align = o.align; offset = place i } ∷ [];
-        end = place i + o.size;
-      }) (map object_entry os)).objects)
-      ∙ (objects_laid_again (laid_more laid o) os (All-tail (IsObject again) o os all) from.1 ∙ append_assoc laid.objects (o ∷ []) os))
-    where
-      place : up_to o.align laid.end ≡ o.offset
-      place = sym from.0
+  module _ (block : ℕ) where
+    objects_laid_again : (laid : ObjectLayout) (os : List Object) → All (IsObject again) os → AreLaidFrom block laid.end os →
+        (objects_behind again block laid (map object_entry os)).objects ≡ laid.objects ++ os
+    unfolding objects_behind
+    objects_laid_again laid [] all from = sym (append-nil laid.objects)
+    objects_laid_again laid (o ∷ os) all from =
+        ap (λ (b : Bool). (objects_behind again block (cond b (record {
+          objects = laid.objects ++ laid_at block laid.end (object_entry o) ∷ [];
+          end = next_end laid.end (place_of block laid.end o.align o.local_offset + o.size) o.local_offset;
+        }) laid) (map object_entry os)).objects) (All-head (IsObject again) o os all).0
+        ∙ ((λ i. (objects_behind again block (record {
+          objects = laid.objects ++ record { id = o.id; size = o.size; align = o.align; local_offset = o.local_offset; offset = place i } ∷ [];
+          end = next_end laid.end (place i + o.size) o.local_offset;
+        }) (map object_entry os)).objects)
+        ∙ (objects_laid_again (laid_more laid o) os (All-tail (IsObject again) o os all) from.1 ∙ append_assoc laid.objects (o ∷ []) os))
+      where
+        place : place_of block laid.end o.align o.local_offset ≡ o.offset
+        place = sym from.0
 
-  objects_again : (laid : ObjectLayout) (ms : List ℕ) (os : List Object) → All (IsSlot again) ms → All (IsObject again) os → AreLaidFrom laid.end os →
-      (objects_behind again laid (entries_read ms os)).objects ≡ laid.objects ++ os
-  unfolding objects_behind
-  objects_again laid [] os slots objects from = objects_laid_again laid os objects from
-  objects_again laid (m ∷ ms) os slots objects from =
-      ap (λ (b : Bool). (objects_behind again (cond b (record {
-        objects = laid.objects ++ laid_at laid.end (slot_entry m) ∷ [];
-        end = up_to 1 laid.end + 8;
-      }) laid) (entries_read ms os)).objects) (All-head (IsSlot again) m ms slots).0
-      ∙ objects_again laid ms os (All-tail (IsSlot again) m ms slots) objects from
+    objects_again : (laid : ObjectLayout) (ms : List ℕ) (os : List Object) → All (IsSlot again) ms → All (IsObject again) os → AreLaidFrom block laid.end os →
+        (objects_behind again block laid (entries_read ms os)).objects ≡ laid.objects ++ os
+    unfolding objects_behind
+    objects_again laid [] os slots objects from = objects_laid_again laid os objects from
+    objects_again laid (m ∷ ms) os slots objects from =
+        ap (λ (b : Bool). (objects_behind again block (cond b (record {
+          objects = laid.objects ++ laid_at block laid.end (slot_entry m) ∷ [];
+          end = next_end laid.end (place_of block laid.end 1 None + 8) None;
+        }) laid) (entries_read ms os)).objects) (All-head (IsSlot again) m ms slots).0
+        ∙ objects_again laid ms os (All-tail (IsSlot again) m ms slots) objects from
+
+-- ---- local offsets
+
+reach_again : (n : ℕ) (ms : List ℕ) (os : List Object) → reach_from n (entry_offsets (entries_read ms os)) ≡ reach_from n (local_offsets os)
+reach_again n [] [] = refl
+reach_again n [] (o ∷ os) = reach_again (reach_after n o.local_offset) [] os
+reach_again n (m ∷ ms) os = reach_again n ms os
+
+count_again : (ms : List ℕ) (os : List Object) → local_count (entry_offsets (entries_read ms os)) ≡ local_count (local_offsets os)
+count_again [] [] = refl
+count_again [] (o ∷ os) = ap (λ (n : ℕ). counted o.local_offset + n) (count_again [] os)
+count_again (m ∷ ms) os = count_again ms os
 
 -- ---- numbers
 
@@ -157,6 +178,7 @@ small_entries ms os slots objects =
       id = small;
       size = omega arith;
       aligned = refl;
+      local = tt;
     }) ms slots))
     (All-map IsEntry object_entry os objects)
 
@@ -165,6 +187,7 @@ frames_read_back named again es declared same = record {
   declared = record {
     each = small_entries ms os (All-weaker (IsSlot named) (λ m. m ≤ MAX_NUMBER) (λ m is. is.1) ms slots)
         (All-weaker (IsObject named) (λ o. IsEntry (object_entry o)) (λ o is. is.1) os objects);
+    several = λ e. laid.several (sym (count_again ms os) ∙ e);
     apart = apart_if_once (numbers (entries_read ms os)) (subst Once (sym (numbers_again ms os)) once);
     few = omega (
       arith,
@@ -177,7 +200,8 @@ frames_read_back named again es declared same = record {
     );
   };
   slots = slots_again again [] ms os slots_too objects_too;
-  objects = objects_again again (record { objects = []; end = 0 }) ms os slots_too objects_too laid;
+  objects = objects_again again (local_block (entries_read ms os)) (record { objects = []; end = local_block (entries_read ms os) }) ms os slots_too
+      objects_too (subst (λ (n : ℕ). AreLaidFrom n n os) (sym (ap (up_to 16) (reach_again 0 ms os))) laid.each);
   ids = λ n is. ids_have [] (entries_read ms os) n (ap (is_met n) (numbers_again ms os) ∙ met_append n ms (object_numbers os) ∙ either n is);
 } where
   ms : List ℕ
@@ -190,19 +214,20 @@ frames_read_back named again es declared same = record {
   slots = slots_are named [] es declared.each (All-nil (IsSlot named))
 
   objects : All (IsObject named) os
-  objects = objects_are named (record { objects = []; end = 0 }) es declared.each (All-nil (IsObject named))
+  objects = objects_are named (local_block es) (record { objects = []; end = local_block es }) es declared.each (All-nil (IsObject named))
 
   slots_too : All (IsSlot again) ms
   slots_too = All-weaker (IsSlot named) (IsSlot again) (λ m is. (same m ∙ is.0, is.1)) ms slots
 
   objects_too : All (IsObject again) os
-  objects_too = All-weaker (IsObject named) (IsObject again) (λ o is. (ap (λ (b : Bool). not (eqb o.size 8) || b) (same o.id) ∙ is.0, is.1)) os objects
+  objects_too = All-weaker (IsObject named) (IsObject again) (λ o is. (ap (λ (b : Bool). is_some o.local_offset || (not (eqb o.size 8) || b)) (same o.id) ∙ is.0, is.1)) os objects
 
-  laid : AreLaidFrom 0 os
-  laid = objects_laid named es (All-weaker IsEntry IsReadEntry (λ e is. record { size = is.size; aligned = is.aligned }) es declared.each)
+  laid : AreLaid os
+  laid = objects_laid named es (All-weaker IsEntry IsReadEntry (λ e is. record { size = is.size; aligned = is.aligned; local = is.local }) es declared.each)
+      declared.several
 
   once : Once (ms ++ object_numbers os)
-  once = once_behind named [] (record { objects = []; end = 0 }) es tt (λ n is. refl) (once_if_apart (numbers es) declared.apart)
+  once = once_behind named (local_block es) [] (record { objects = []; end = local_block es }) es tt (λ n is. refl) (once_if_apart (numbers es) declared.apart)
 
   either : (n : ℕ) → is_met n (entry_ids es) ≡ true → (is_met n ms || is_met n (object_numbers os)) ≡ true
   either n is = elim (cases_Bool (is_met n (ids_of_objects named es))) [

@@ -31,7 +31,7 @@ slots_printed : (slots : List ℕ) (objects : List Object) → All IsEntry (entr
 slots_printed [] [] all = All-nil IsLine
 slots_printed [] (o ∷ os) all =
     let e = All-head IsEntry (object_entry o) (map object_entry os) all in
-    All-cons IsLine (object_line o) (map object_line os) (declared_lines_are_printed.objects o e.id e.size (aligned_small o.align e.aligned))
+    All-cons IsLine (object_line o) (map object_line os) (declared_lines_are_printed.objects o e.id e.size (aligned_small o.align e.aligned) e.local)
     (slots_printed [] os (All-tail IsEntry (object_entry o) (map object_entry os) all))
 slots_printed (n ∷ slots) objects all =
     All-cons IsLine (slot_line n) (entry_lines slots objects)

@@ -3,6 +3,8 @@ pub mod Scans
 pub mod Spans
 pub mod DeclarationNames
 pub mod Listed
+mod EntryLines
+mod ObjectLines
 pub mod Stacks
 pub mod Apart
 pub mod Frames

@@ -1,16 +1,19 @@
 -- The slots and objects of a function, printed as stack entries and read again.
 use Rattle.std.specs.Prelude.{◌≡◌, ℕ, ◌≤◌, true, List, map, length, All}
 use Rattle.mir_func.specs.Limits.{MAX_SLOTS}
+use Rattle.mir_func.specs.Objects.{local_count}
 use Rattle.mir_func.specs.Sound.{AreApart}
 use Rattle.read_declarations.specs.declared.stack.StackEntry.{StackEntry}
+use Rattle.read_declarations.specs.Stack.{entry_offsets}
 use Rattle.read_body.specs.Frame.{slots_of, objects_of}
 use Rattle.read_body.specs.Met.{is_met}
 use Rattle.read_program.specs.Closing.{entry_ids}
 use Rattle.readback_functions.specs.Declared.{IsEntry, entries_read}
 
--- the conditions on stack entries that were read: at most MAX_SLOTS, each within its limits, and no number twice
+-- the conditions on stack entries that were read: at most MAX_SLOTS, each within its limits, not one alone with a local offset, and no number twice
 pub record AreDeclared (es : List StackEntry) : Type 0 where
   pub each : All IsEntry es
+  pub several : local_count (entry_offsets es) ≡ 1 → ⊥
   pub apart : AreApart (map (λ (e : StackEntry). e.id) es)
   pub few : length es ≤ MAX_SLOTS
 

@@ -1,5 +1,5 @@
 -- The text of a function is that of the lines of its document.
-use Rattle.std.proofs.Common.{◌≡◌, ℕ, ◌+◌, List, [], ◌∷◌, ◌++◌, map, refl, sym, ap, ◌∙◌, append_assoc, append-nil}
+use Rattle.std.proofs.Common.{◌≡◌, ℕ, ◌+◌, List, [], ◌∷◌, ◌++◌, map, Option, Some, None, refl, sym, ap, ◌∙◌, append_assoc, append-nil}
 use Rattle.std.specs.Prelude.{codes}
 use Rattle.std.specs.Fmt.{decimal}
 use Rattle.std.specs.List.{flat_map}
@@ -8,12 +8,12 @@ use Rattle.mir_func.specs.declared.block.Block.{Block}
 use Rattle.mir_func.specs.declared.item.Item.{Item}
 use Rattle.mir_func.specs.declared.object.Object.{Object}
 use Rattle.mir_func.specs.Function.{Function}
-use Rattle.mir_func_printer.specs.FuncText.{name_text, slot_line as slot_text, object_line as object_text, stack_text}
+use Rattle.mir_func_printer.specs.FuncText.{name_text, slot_line as slot_text, local_text, object_numbers, object_line as object_text, stack_text}
 use Rattle.mir_func_printer.specs.FuncText.{item_line as item_line_text, block_text}
 use Rattle.mir_func_printer.specs.FuncText.{func_text}
 use Rattle.readback_items.specs.Body.{label_line, item_line, block_lines, body_lines}
 use Rattle.readback_functions.specs.Document.{fed, text_of_lines, document_lines}
-use Rattle.readback_functions.specs.Declared.{name_line, slot_line, object_line, entry_lines, stack_lines}
+use Rattle.readback_functions.specs.Declared.{name_line, slot_line, line_end, object_line, entry_lines, stack_lines}
 use Rattle.readback_functions.specs.Stripped.{document_of}
 
 pub fed_both : (xs ys : List (List ℕ)) → text_of_lines (xs ++ ys) ≡ text_of_lines xs ++ text_of_lines ys
@@ -28,8 +28,15 @@ slots_fed : (slots : List ℕ) → text_of_lines (map slot_line slots) ≡ flat_
 slots_fed [] = refl
 slots_fed (n ∷ slots) = λ i. slot_fed n i ++ slots_fed slots i
 
+-- the end of an object's line
+end_fed : (l : Option ℕ) → line_end l ++ 10 ∷ [] ≡ local_text l ++ (codes " }" ++ 10 ∷ [])
+end_fed None = refl
+end_fed (Some k) = simp append_assoc
+
 object_fed : (o : Object) → fed (object_line o) ≡ object_text o
-object_fed o = simp append_assoc
+object_fed o =
+    let numbers : fed (object_line o) ≡ object_numbers o ++ (line_end o.local_offset ++ 10 ∷ []) = simp append_assoc in
+    numbers ∙ ap (λ (l : List ℕ). object_numbers o ++ l) (end_fed o.local_offset)
 
 objects_fed : (objects : List Object) → text_of_lines (map object_line objects) ≡ flat_map object_text objects
 objects_fed [] = refl

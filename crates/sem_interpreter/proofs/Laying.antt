@@ -1,14 +1,11 @@
--- Where stack objects lie: their offsets by number, and the bytes that they take together.
-use Rattle.std.proofs.Common.{◌≡◌, ℕ, zero, suc, ◌+◌, ◌^◌, ◌<◌, ◌≤◌, List, [], ◌∷◌, ◌++◌, map, reverse, length, drop, get_or, Option, Some, None, Bool, true}
-use Rattle.std.proofs.Common.{false, cond, refl, sym, ap, ◌∙◌, subst, arith}
-use Rattle.std.specs.Prelude.{Contains, nat_eq, unwrap_or}
+-- The offsets of stack objects by number.
+use Rattle.std.proofs.Common.{◌≡◌, ℕ, List, [], ◌∷◌, ◌++◌, map, reverse, Option, Some, None, Bool, true, false, cond, refl, sym, ap, ◌∙◌}
+use Rattle.std.specs.Prelude.{nat_eq, unwrap_or}
 use Rattle.std.specs.Map.{lookup, update_all}
-use Rattle.std.proofs.Math.Seq.{drop-cons}
-use Rattle.std.proofs.lemmas.List.{drop_all, map-append, reverse-append}
+use Rattle.std.proofs.lemmas.List.{map-append, reverse-append}
 use Rattle.std.proofs.lemmas.List.Sums.{fold-append}
 use Rattle.mir_func.specs.declared.object.Object.{Object}
-use Rattle.mir_func.specs.Objects.{ALIGNMENTS, AreLaidFrom, end_from, object_of, offset_of, offset_or_zero, up_to}
-use Rattle.mir_func.specs.Sound.{IsSoundObject}
+use Rattle.mir_func.specs.Objects.{object_of, offset_of, offset_or_zero}
 use Rattle.sem_interpreter.specs.Held.{number_in}
 
 -- ---- offsets by number
@@ -40,39 +37,3 @@ made_offsets (o ∷ os) n =
 pub offsets_found : (objects : List Object) (es : List (ℕ × ℕ)) → ((n : ℕ) → lookup (nat_eq n) es ≡ Made (map offset_pair (reverse objects)) n) → (n : ℕ) →
     offset_of objects n ≡ number_in es n
 offsets_found objects es found n = sym (ap (λ (x : Option ℕ). unwrap_or x 0) (found n) ∙ made_offsets objects n)
-
--- ---- the end of the objects
-
-alignment_is_few : (a : ℕ) → Contains ALIGNMENTS a → (1 ≤ a) × (a ≤ 16)
-alignment_is_few a (zero, l, e) = (omega arith, omega arith)
-alignment_is_few a (suc zero, l, e) = (omega arith, omega arith)
-alignment_is_few a (suc (suc zero), l, e) = (omega arith, omega arith)
-alignment_is_few a (suc (suc (suc zero)), l, e) = (omega arith, omega arith)
-alignment_is_few a (suc (suc (suc (suc zero))), l, e) = (omega arith, omega arith)
-alignment_is_few a (suc (suc (suc (suc (suc k)))), l, e) = absurd (omega arith)
-
--- the padding is less than the alignment
-padded : (align n : ℕ) → 0 < align → up_to align n < n + align
-padded align n l = omega arith
-
--- the next object, and those behind it
-pub record Turn (end i : ℕ) (o : Object) (objects : List Object) : Type 0 where
-  pub few : o.offset + o.size ≤ end + 2 ^ 31
-  pub laid : AreLaidFrom (o.offset + o.size) (drop (i + 1) objects)
-  pub same : end_from end (drop i objects) ≡ end_from (o.offset + o.size) (drop (i + 1) objects)
-
-pub turn : (end i : ℕ) (o : Object) (objects : List Object) → i < length objects → o ≡ get_or objects i o → IsSoundObject o →
-    AreLaidFrom end (drop i objects) → Turn end i o objects
-turn end i o objects lt is sound laid =
-    let next : i + 1 ≡ suc i = omega arith in
-    let here : drop i objects ≡ o ∷ drop (i + 1) objects = drop-cons objects i o lt ∙ ap (λ (x : Object). x ∷ drop (suc i) objects) (sym is)
-    ∙ ap (λ (n : ℕ). o ∷ drop n objects) (sym next) in
-    let both = subst (λ (os : List Object). AreLaidFrom end os) here laid in
-    let few = alignment_is_few o.align sound.aligned in
-    let pad = padded o.align end (omega (arith, few)) in
-    let at : o.offset ≡ up_to o.align end = both.0 in
-    record { few = omega (arith, at, pad, few, sound.size); laid = both.1; same = ap (end_from end) here }
-
--- no object is left
-pub end_is : (end i : ℕ) (objects : List Object) → length objects ≤ i → end_from end (drop i objects) ≡ end
-end_is end i objects le = ap (end_from end) (drop_all i objects le)

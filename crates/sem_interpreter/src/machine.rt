@@ -6,7 +6,7 @@ ghost use Rattle.rv64_instr.specs.Row as row;
 ghost use Rattle.rv64_instr.specs.Row.{row_of, implicit_uses};
 ghost use Rattle.rv64_instr.specs.declared.start.CallResult.{CallResult};
 ghost use Rattle.mir_func.specs.Limits.{MAX_SLOTS};
-ghost use Rattle.mir_func.specs.Objects.{AreLaidFrom};
+ghost use Rattle.mir_func.specs.Objects.{AreLaid};
 ghost use Rattle.mir_func.specs.Sound.{IsSoundObject};
 ghost use Rattle.sem_mir.specs.State.{Core};
 ghost use Rattle.sem_mir.specs.Step.{are_written, is_fault, loaded, object_address, put_in_memory};
@@ -14,11 +14,11 @@ ghost use Rattle.sem_interpreter.specs.Acts.{Acts, AddressHolds, Does, InputHold
 
 use crate::frame::{touches_frame, writes_frame};
 use crate::memory::Memory;
-use crate::objects::{self, Offsets};
+use crate::objects::Offsets;
 use crate::registers::Registers;
 use crate::slots::Slots;
 use base_ids::code::{BlockId, ObjectId, SlotId};
-use mir_func::object::Object;
+use mir_func::object::{Object, area};
 use rv64_instr::arithmetic::{compute, extend, is_taken, load_width, store_width};
 use rv64_instr::decoded::{Base, Decoded, Input};
 use rv64_instr::instr::Instr;
@@ -66,12 +66,12 @@ impl InterpreterState {
     ) -> Result<InterpreterState, AllocError>
         requires few { length stack.now ≤ MAX_SLOTS }
         requires each { All IsSoundObject stack.now }
-        requires laid { AreLaidFrom 0 stack.now }
+        requires laid { AreLaid stack.now }
         ensures { IfOk result (λ made. StartsMachine stack.now start.now made) }
     {
         Ok(InterpreterState {
             entry: start.regs[2],
-            area: objects::area(stack),
+            area: area(stack),
             objects: Offsets::new(alloc, stack)?,
             registers: Registers::new(alloc, &start.regs)?,
             slots: Slots::new(alloc),

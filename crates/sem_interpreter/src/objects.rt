@@ -1,9 +1,7 @@
 //! The offsets of a function's stack objects.
 
-ghost use Rattle.std.specs.Prelude.{◌≡◌, ◌≤◌, All, IfOk, length};
-ghost use Rattle.mir_func.specs.Limits.{MAX_SLOTS};
-ghost use Rattle.mir_func.specs.Objects.{AreLaidFrom, area_of, offset_of};
-ghost use Rattle.mir_func.specs.Sound.{IsSoundObject};
+ghost use Rattle.std.specs.Prelude.{◌≡◌, IfOk};
+ghost use Rattle.mir_func.specs.Objects.{offset_of};
 ghost use Rattle.sem_interpreter.specs.Held.{number_in};
 ghost use Rattle.sem_interpreter.specs.Places.{ObjectsHold};
 
@@ -54,18 +52,4 @@ fn offsets_of(alloc: Global, objects: &[Object]) -> Result<IndexMap<u32, u64>, A
         .rev()
         .map(|o| (o.id.number(), o.offset))
         .collect(alloc)
-}
-
-/// How many bytes objects take together: a multiple of 16.
-pub fn area(objects: &[Object]) -> u64
-    requires few { length objects.now ≤ MAX_SLOTS }
-    requires each { All IsSoundObject objects.now }
-    requires laid { AreLaidFrom 0 objects.now }
-    ensures { result ≡ area_of objects.now }
-{
-    let mut end = 0;
-    for o in objects {
-        end = o.offset + u64::from(o.size);
-    }
-    (end + 15) / 16 * 16
 }

@@ -13,7 +13,7 @@ use Rattle.mir_func.specs.declared.item.ItemKind.{ItemKind}
 use Rattle.mir_func.specs.declared.item.ItemKind.TheVariants.{Code, Mark, Phi}
 use Rattle.mir_func.specs.Exits.{exit_of, IsAlways, Leaves}
 use Rattle.mir_func.specs.Function.{Function}
-use Rattle.mir_func.specs.Objects.{AreLaidFrom}
+use Rattle.mir_func.specs.Objects.{AreLaid}
 use Rattle.mir_func.specs.declared.object.Object.{Object}
 use Rattle.mir_func.specs.Limits.{MAX_BLOCKS, MAX_SLOTS}
 use Rattle.mir_func.specs.Sound.{AreApart, AllItems, ids_of, items_of, number_of, code_number, NumbersOnce, OriginIn, TargetsIn, SlotsIn, ObjectsIn}
@@ -255,7 +255,7 @@ module _ (Fresh : ℕ → Type 0) where
         few_blocks = subst (λ (n : ℕ). n ≤ MAX_BLOCKS) (sym (length_grown f.blocks g.blocks grow)) sound.few_blocks;
         few_slots = keeps.few_slots;
         each_object = subst (All IsSoundObject) (sym keeps.objects_same) sound.each_object;
-        objects_laid = subst (AreLaidFrom 0) (sym keeps.objects_same) sound.objects_laid;
+        objects_laid = subst AreLaid (sym keeps.objects_same) sound.objects_laid;
         targets = subst (λ (ns : List ℕ). All (λ (b : Block). All (λ (i : Item). TargetsIn ns i.kind) b.items) g.blocks) (sym ids) keeps.targets;
         slots = keeps.slots;
         objects = subst (λ (os : List Object). All (λ (b : Block). All (λ (i : Item). ObjectsIn os i.kind) b.items) g.blocks) (sym keeps.objects_same)

@@ -3,7 +3,7 @@
 use crate::build::{entries, entry, function, pair};
 use base_ids::code::BlockId;
 use mir_func::func::{Func, FuncError};
-use mir_func::object::up_to;
+use mir_func::object::{counted, next_end, place_of, reach_after, up_to};
 use mir_func::successors::Successors;
 use mir_func::variable::Fragment;
 use mir_substitution::substitutions::Substitutions;
@@ -37,7 +37,7 @@ fn changed(alloc: Global, from: &str, to: &str) -> Option<Result<Func, FuncError
 }
 
 /// What stands in the text, what stands there instead, and whether the function is sound then.
-const ROWS: [(&str, &str, bool); 33] = [
+const ROWS: [(&str, &str, bool); 40] = [
     ("bb 0", "bb 0", true),
     ("bb 2\n", "bb 1\n", false),
     ("slots 0 0", "slots 3 3", false),
@@ -79,6 +79,37 @@ const ROWS: [(&str, &str, bool); 33] = [
     ("object:9 24", "object:8 13", false),
     ("object:9 24", "object:8 -1", false),
     ("object:9", "object:3", false),
+    (
+        "8 12 4 0\nobject 9 24 16 16",
+        "8 12 4 8 24\nobject 9 24 16 12 20",
+        true,
+    ),
+    (
+        "8 12 4 0\nobject 9 24 16 16",
+        "8 12 4 24 8\nobject 9 24 16 32\nobject 10 8 8 0 32",
+        true,
+    ),
+    (
+        "8 12 4 0\nobject 9 24 16 16",
+        "8 12 4 0 24\nobject 9 24 16 12 20",
+        false,
+    ),
+    (
+        "8 12 4 0\nobject 9 24 16 16",
+        "8 12 4 24 8\nobject 9 24 16 16\nobject 10 8 8 0 32",
+        false,
+    ),
+    ("8 12 4 0", "8 12 4 0 16", false),
+    (
+        "8 12 4 0\nobject 9 24 16 16",
+        "8 12 4 16 0\nobject 9 24 16 0 16",
+        false,
+    ),
+    (
+        "8 12 4 0\nobject 9 24 16 16",
+        "8 12 4 0 1073741824\nobject 9 24 16 1073741808 16",
+        false,
+    ),
 ];
 
 /// Whether the function of the changed text is sound.
@@ -146,6 +177,12 @@ fn where_control_may_go(rt: HostRuntime) {
 fn alignment_and_parts(rt: HostRuntime) {
     assert_eq!(rt; up_to(16, 12), 16);
     assert_eq!(rt; up_to(8, 16), 16);
+    assert_eq!(rt; reach_after(8, Some(24)), 24);
+    assert_eq!(rt; place_of(32, 40, 16, Some(24)), 8);
+    assert_eq!(rt; place_of(32, 40, 16, None), 48);
+    assert_eq!(rt; next_end(40, 50, None), 50);
+    assert_eq!(rt; next_end(40, 50, Some(24)), 40);
+    assert_eq!(rt; counted(Some(24)) + counted(None), 1);
     for (offset, length, is_part) in [
         (0, 1, true),
         (4, 8, true),

@@ -144,8 +144,9 @@ module _ (meta : Maps) (doc : FunctionDocument) (d : Declarations) (body : Body)
   entries =
       let stack = declared_stack doc d declared in
       record {
-        each = All-weaker (λ e. IsReadEntry e × HasSmallId e) IsEntry (λ e r. record { id = r.1; size = r.0.size; aligned = r.0.aligned }) d.stack
+        each = All-weaker (λ e. IsReadEntry e × HasSmallId e) IsEntry (λ e r. record { id = r.1; size = r.0.size; aligned = r.0.aligned; local = r.0.local }) d.stack
             (both IsReadEntry HasSmallId d.stack stack.each (declares_small doc d declared).stack);
+        several = stack.several;
         apart = stack.apart;
         few = stack.few;
       }
@@ -250,7 +251,8 @@ module _ (meta : Maps) (doc : FunctionDocument) (d : Declarations) (body : Body)
   declares : declarations_of doc2 ≡ Ok declared2
   declares =
       let name = names_read_back (n + 1) d.name names.name in
-      let stack = stacks_read_back (n + 2) f.slots f.objects frame.declared.each frame.declared.apart frame.declared.few in
+      let stack = stacks_read_back (n + 2) f.slots f.objects frame.declared.each frame.declared.several frame.declared.apart
+      frame.declared.few in
       let subs = substitutions_read_back (n + 2 + length printed.stack) d.substitutions (declares_small doc d declared).substitutions
       (substitutions_new doc d declared) in
       λ i. checked (earlier (earlier (name i).refused (stack i).refused) (earlier (no_fixed i) (subs i).refused))

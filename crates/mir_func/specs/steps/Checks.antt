@@ -8,7 +8,7 @@ use Rattle.mir_func.specs.declared.item.ItemKind.{ItemKind}
 use Rattle.mir_func.specs.declared.item.ItemKind.TheVariants.{Code, Mark, Phi}
 use Rattle.mir_func.specs.declared.object.Object.{Object}
 use Rattle.mir_func.specs.declared.sound.Declared.{Declared}
-use Rattle.mir_func.specs.Objects.{object_of, AreLaidFrom}
+use Rattle.mir_func.specs.Objects.{object_of, AreLaid}
 use Rattle.mir_func.specs.Sound.{AreApart, TargetsIn, SlotsIn, ObjectsIn, LeavesPointer, OriginIn, EndsWell, LastCloses, IsSoundObject}
 
 -- the map has the size of the object with each number
@@ -47,4 +47,4 @@ pub record AreSoundParts (d : Declared) (blocks : List Block) : Type 0 where
 pub record AreSoundObjects (objects : List Object) : Type 0 where
   pub apart : AreApart (map (λ o. o.id) objects)
   pub each : All IsSoundObject objects
-  pub laid : AreLaidFrom 0 objects
+  pub laid : AreLaid objects

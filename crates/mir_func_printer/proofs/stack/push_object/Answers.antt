@@ -1,22 +1,13 @@
-use Rattle.std.proofs.Common.{◌++◌, codes}
-use Rattle.std.specs.Fmt.{decimal}
-use Rattle.mir_printer.proofs.Appends.{ended, joined, numbered}
-use Rattle.mir_func_printer.specs.FuncText.{object_line}
-use Rattle.mir_func_printer.proofs.Pieces.{three_labelled}
+use Rattle.std.proofs.Common.{◌++◌, append_assoc}
+use Rattle.mir_printer.proofs.Appends.{ended, joined}
+use Rattle.mir_func_printer.specs.FuncText.{local_text, object_numbers, object_line}
 use Rattle.mir_func_printer.proofs.stack.push_object.Goals as goal
 
 pub returns : goal.returns
 returns c =
     let o = c.args.object.now in
     let old = c.args.text.now in
-    let id = codes "  - { id: " in
-    let size = codes ", size: " in
-    let align = codes ", alignment: " in
-    let first = numbered old c.push_numbered.new.text id c.number.result o.id c.in_ok-push_numbered.ensures.ok c.number.ensures in
-    let second = joined old c.push_numbered.new.text c.push_numbered-2.new.text (id ++ decimal o.id) (size ++ decimal o.size) first
-    c.in_ok-push_numbered-2.ensures.ok in
-    let third = joined old c.push_numbered-2.new.text c.push_numbered-3.new.text ((id ++ decimal o.id) ++ (size ++ decimal o.size))
-    (align ++ decimal o.align) second c.in_ok-push_numbered-3.ensures.ok in
-    ended c.push_str.result old c.push_numbered-3.new.text c.push_str.new.text
-    (((id ++ decimal o.id) ++ (size ++ decimal o.size)) ++ (align ++ decimal o.align)) _ (object_line o) third c.push_str.ensures.ok
-    (three_labelled id (decimal o.id) size (decimal o.size) align (decimal o.align) _)
+    let second = joined old c.push_numbers.new.text c.push_local_offset.new.text (object_numbers o) (local_text o.local_offset) c.in_ok-push_numbers.ensures
+    c.in_ok-push_local_offset.ensures in
+    ended c.push_str.result old c.push_local_offset.new.text c.push_str.new.text (object_numbers o ++ local_text o.local_offset) _ (object_line o) second
+    c.push_str.ensures.ok (append_assoc (object_numbers o) (local_text o.local_offset) _)

@@ -1,4 +1,4 @@
-use Rattle.std.proofs.Common.{refl}
+use Rattle.std.proofs.Common.{None, refl}
 use Rattle.read_declarations.specs.declared.stack.StackEntry.{StackEntry}
 use Rattle.read_body.specs.Frame.{with_slot, slots_behind, slots_of}
 use Rattle.read_body.proofs.Entries.{one_more, no_more}
@@ -6,7 +6,7 @@ use Rattle.read_body.proofs.frame.slots.Goals as goal
 
 -- an entry that stands for none
 none : StackEntry
-none = record { id = 0; size = 0; align = 0 }
+none = record { id = 0; size = 0; align = 0; local_offset = None }
 
 pub loop-entry-preserved : goal.loop-entry-preserved
 unfolding slots_behind

@@ -7,7 +7,7 @@ use Rattle.read_program.proofs.closing.entry_ids.Goals as goal
 
 -- an entry that stands for none
 none : StackEntry
-none = record { id = 0; size = 0; align = 0 }
+none = record { id = 0; size = 0; align = 0; local_offset = None }
 
 -- numbers with that of one entry more
 abbrev with_entry : List ℕ → StackEntry → List ℕ

@@ -2,7 +2,7 @@ use Rattle.std.proofs.Common.{[], ap, ◌∙◌}
 use Rattle.read_declarations.specs.declared.entry.MappingEntry.{MappingEntry}
 use Rattle.read_declarations.specs.Stack.{stack_entry_of, judged}
 use Rattle.read_declarations.proofs.Walks.{stack_more, stack_whole}
-use Rattle.read_declarations.proofs.stack.stack.Goals as goal
+use Rattle.read_declarations.proofs.stack.judged_entries.Goals as goal
 
 -- an entry that stands for none
 none : MappingEntry

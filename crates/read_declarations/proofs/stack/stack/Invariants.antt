@@ -1,9 +1,0 @@
-use Rattle.std.proofs.Common.{◌≡◌, drop}
-use Rattle.read_declarations.specs.Stack.{AreIds, stack_behind, stack_of}
-use Rattle.read_declarations.proofs.stack.stack.Given as goal
-
-abbrev pub invariant-loop-entry : goal.invariant-loop-entry
-invariant-loop-entry l = record {
-  read : stack_behind l.lines l.read (drop l.entry-index l.entry-items) ≡ stack_of l.lines;
-  ids : AreIds l.ids l.read.entries;
-}
