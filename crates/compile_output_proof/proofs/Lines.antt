@@ -4,7 +4,7 @@ use Rattle.std.proofs.Common.{refl, ap, sym, ◌∙◌, subst, arith, Contains}
 use Rattle.std.specs.Prelude.{slice_get}
 use Rattle.emit_code.specs.declared.code.EncodedInstruction.{EncodedInstruction}
 use Rattle.emit_code.specs.Laid.{StandFrom, LaidCode, IsCodeOf}
-use Rattle.emit_code.specs.Long.{IsSettled}
+use Rattle.emit_code.specs.BranchRelaxation.{IsSettled}
 use Rattle.emit_code.specs.Rule.{Layout, entries_of, words_of}
 use Rattle.emit_code.specs.steps.Emitted.{IsFormed}
 use Rattle.emit_code.proofs.Stand.{stands, words_fill}
@@ -34,7 +34,7 @@ use Rattle.compile_program.specs.Program.{ArePassed, AreCoded, HaveCode, source_
 use Rattle.dwarf_line_table.specs.declared.compiled.Compiled.{Compiled}
 use Rattle.dwarf_line_table.specs.declared.file.SourceFile.{SourceFile}
 use Rattle.dwarf_line_table.specs.Files.{unit_file}
-use Rattle.dwarf_line_table.specs.Lines.{scope_line, loc_of, position_of, line_of}
+use Rattle.dwarf_line_table.specs.SourcePosition.{scope_line, loc_of, position_of, line_of}
 use Rattle.dwarf_line_table.specs.Program.{program_file, program_files, function_end, table_of}
 use Rattle.dwarf_unit.specs.Variables.{variables_of_function}
 use Rattle.compile_output_proof.specs.Lines.{origin_of, HasByte, file_of, TellsLinesOf, OutputsTellLines}

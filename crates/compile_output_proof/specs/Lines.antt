@@ -18,7 +18,7 @@ use Rattle.compile_program.specs.Program.{ArePassed, HasSections, names_of}
 use Rattle.listing_meaning.specs.Program.{lines_of, address_of, past_line}
 use Rattle.dwarf_line_table.specs.declared.file.SourceFile.{SourceFile}
 use Rattle.dwarf_line_table.specs.Files.{unit_file}
-use Rattle.dwarf_line_table.specs.Lines.{no_line, scope_line, loc_of, position_of, line_of}
+use Rattle.dwarf_line_table.specs.SourcePosition.{no_line, scope_line, loc_of, position_of, line_of}
 
 -- the origin of a line
 abbrev pub origin_of : Line → Origin

@@ -18,7 +18,7 @@ use Rattle.rv64_instr.specs.declared.place.Place.{Place}
 use Rattle.rv64_instr.specs.Arithmetic.{word}
 use Rattle.rv64_instr.specs.Row.{Addresses, Loads, Stores, Unfit}
 use Rattle.mir_func.specs.declared.block.Block.{Block}
-use Rattle.mir_func.specs.declared.entry.OperandPair.{OperandPair}
+use Rattle.mir_func.specs.declared.debug_substitution.OperandPair.{OperandPair}
 use Rattle.mir_func.specs.declared.item.Item.{Item}
 use Rattle.mir_func.specs.declared.item.ItemKind.{ItemKind}
 use Rattle.mir_func.specs.declared.item.ItemKind.TheVariants.{Code, Mark, Phi}
@@ -30,8 +30,9 @@ use Rattle.mir_func.specs.Graph.{Fetch, Here, EndOfBlock, Outside, Program, bloc
 use Rattle.mir_func.specs.Objects.{object_of, offset_of, offset_or_zero}
 use Rattle.mir_func.specs.Sound.{AllItems, ObjectsIn, HasBytes, HasForm}
 use Rattle.mir_func.specs.SoundFrame.{body_of, own_size}
-use Rattle.sem_mir.specs.Token.{Tokens, after_item, after_fetch, Path, begin, onward, SitsIn, IsWanted, NoneIsWanted, moved_tokens, code_tokens}
-use Rattle.sem_mir.specs.Token.{numbered_tokens, given_token}
+use Rattle.sem_mir.specs.ValueId.{Tokens, after_item, after_fetch, Path, begin, onward, moved_tokens, code_tokens}
+use Rattle.sem_mir.specs.PreferredLocation.{SitsIn, IsWanted, NoneIsWanted}
+use Rattle.sem_mir.specs.ValueId.{numbered_tokens, given_token}
 use Rattle.sem_mir.specs.State.{updated}
 use Rattle.sem_mir.specs.Step.{defined}
 use Rattle.listing_text.specs.declared.output.ListedObject.{ListedObject}

@@ -7,7 +7,7 @@ use Rattle.std.proofs.lemmas.List.Elements.{All-weaker}
 use Rattle.std.specs.List.{list_any}
 use Rattle.rv64_instr.specs.declared.place.Place.{Place}
 use Rattle.mir_func.specs.declared.block.Block.{Block}
-use Rattle.mir_func.specs.declared.entry.DebugSubstitution.{DebugSubstitution as Substitution}
+use Rattle.mir_func.specs.declared.debug_substitution.DebugSubstitution.{DebugSubstitution as Substitution}
 use Rattle.mir_func.specs.declared.item.Item.{Item}
 use Rattle.mir_func.specs.declared.position.Pos.{Pos}
 use Rattle.mir_func.specs.declared.variable.VarId.{VarId}
@@ -17,7 +17,7 @@ use Rattle.mir_func.specs.Parts.{Bytes}
 use Rattle.mir_func.specs.Resolve.{resolve}
 use Rattle.mir_func.specs.Sound.{AllItems}
 use Rattle.mir_func.specs.Variables.{is_same_variable}
-use Rattle.sem_mir.specs.Token.{IsWanted, NoneIsWanted}
+use Rattle.sem_mir.specs.PreferredLocation.{IsWanted, NoneIsWanted}
 use Rattle.sem_machine.specs.Exact.{AreExact}
 use Rattle.emit_code.specs.declared.code.EncodedInstruction.{EncodedInstruction}
 use Rattle.emit_code.specs.Rule.{Layout, entries_of}

@@ -19,7 +19,7 @@ use Rattle.rv64_word.specs.declared.word_op.WordOp.TheVariants.{Branch as Branch
 use Rattle.rv64_word.specs.Lowering.{in_range, machine_op}
 use Rattle.rv64_word.specs.MachineOp.{word_of}
 use Rattle.mir_func.specs.declared.block.Block.{Block}
-use Rattle.mir_func.specs.declared.entry.DebugSubstitution.{DebugSubstitution}
+use Rattle.mir_func.specs.declared.debug_substitution.DebugSubstitution.{DebugSubstitution}
 use Rattle.mir_func.specs.declared.exit.Exit.{Exit}
 use Rattle.mir_func.specs.declared.exit.Exit.TheVariants.{Onward, Perhaps, Always, Final}
 use Rattle.mir_func.specs.declared.item.Item.{Item}

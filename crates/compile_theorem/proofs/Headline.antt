@@ -7,7 +7,7 @@ use Rattle.mir_func.specs.Function.{FramedFunction}
 use Rattle.mir_func.specs.Graph.{block_start, framed_program}
 use Rattle.mir_func.specs.Resolve.{resolve}
 use Rattle.mir_func.specs.Sound.{AllItems}
-use Rattle.sem_mir.specs.Token.{IsWanted}
+use Rattle.sem_mir.specs.PreferredLocation.{IsWanted}
 use Rattle.sem_machine.specs.Exact.{AreExact}
 use Rattle.emit_code.specs.declared.code.EncodedInstruction.{EncodedInstruction}
 use Rattle.emit_code.specs.Laid.{StandFrom}

@@ -5,7 +5,7 @@ use Rattle.std.specs.Prelude.{slice_get, All}
 use Rattle.std.proofs.lemmas.List.Elements.{All-head, All-tail, All-cons, All-nil}
 use Rattle.rv64_instr.specs.declared.place.Place.{Place}
 use Rattle.mir_func.specs.declared.block.Block.{Block}
-use Rattle.mir_func.specs.declared.entry.DebugSubstitution.{DebugSubstitution}
+use Rattle.mir_func.specs.declared.debug_substitution.DebugSubstitution.{DebugSubstitution}
 use Rattle.mir_func.specs.declared.item.Item.{Item}
 use Rattle.mir_func.specs.declared.position.ProgramPoint.{ProgramPoint}
 use Rattle.mir_func.specs.declared.position.Pos.{Pos}
@@ -15,7 +15,7 @@ use Rattle.mir_func.specs.Graph.{Program, block_start, framed_program}
 use Rattle.mir_func.specs.Resolve.{resolve}
 use Rattle.mir_func.specs.Sound.{AllItems, ObjectsIn}
 use Rattle.mir_func.specs.Successors.{pos_in}
-use Rattle.sem_mir.specs.Token.{IsWanted, NoneIsWanted}
+use Rattle.sem_mir.specs.PreferredLocation.{IsWanted, NoneIsWanted}
 use Rattle.sem_machine.specs.Exact.{AreExact}
 use Rattle.emit_code.specs.Rule.{entries_of}
 use Rattle.emit_code.specs.steps.Emitted.{IsFormed, point_of as as_point}

@@ -8,7 +8,8 @@ use Rattle.rv64_instr.specs.Arithmetic.{word}
 use Rattle.mir_func.specs.declared.position.Pos.{Pos}
 use Rattle.mir_func.specs.declared.variable.VarId.{VarId}
 use Rattle.mir_func.specs.Graph.{Program}
-use Rattle.sem_mir.specs.Token.{Token, Fixed, IsPlace, IsWanted, SitsIn}
+use Rattle.sem_mir.specs.ValueId.{Token, Fixed}
+use Rattle.sem_mir.specs.PreferredLocation.{IsPlace, IsWanted, SitsIn}
 
 number_of : Token → ℕ → ℕ
 number_of (Fixed n) m = n

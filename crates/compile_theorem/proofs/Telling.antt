@@ -12,7 +12,7 @@ use Rattle.mir_func.specs.declared.variable.VarId.{VarId}
 use Rattle.mir_func.specs.Graph.{Program}
 use Rattle.mir_func.specs.Parts.{Bytes}
 use Rattle.mir_func.specs.Variables.{is_same_variable, are_same_bytes, overlaps}
-use Rattle.sem_mir.specs.Token.{IsWanted, NoneIsWanted, SitsIn}
+use Rattle.sem_mir.specs.PreferredLocation.{IsWanted, NoneIsWanted, SitsIn}
 use Rattle.sem_mir.proofs.Assignments.{one_assigned, same_variable_refl}
 use Rattle.dwarf_loclists.specs.declared.range.Part.{Part}
 use Rattle.dwarf_loclists.specs.declared.range.Location.{Location}

@@ -15,7 +15,8 @@ use Rattle.mir_func.specs.declared.variable.VarId.{VarId}
 use Rattle.mir_func.specs.Graph.{Program, Fetch, Here, EndOfBlock, Outside}
 use Rattle.mir_func.specs.Variables.{is_same_variable, is_same, overlaps}
 use Rattle.sem_mir.specs.State.{assigned}
-use Rattle.sem_mir.specs.Token.{Token, Tokens, Path, begin, onward, after_item, after_fetch, mark_token, variable_token, NoneIsWanted}
+use Rattle.sem_mir.specs.ValueId.{Token, Tokens, Path, begin, onward, after_item, after_fetch, mark_token, variable_token}
+use Rattle.sem_mir.specs.PreferredLocation.{NoneIsWanted}
 use Rattle.sem_mir.proofs.Assignments.{same_is, same_variable_refl}
 use Rattle.sem_value_ids.specs.Pullback.{OfVariable}
 use Rattle.sem_value_ids.proofs.Backwards.{tokens_pull_back}

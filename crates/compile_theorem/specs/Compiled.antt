@@ -9,7 +9,7 @@ use Rattle.mir_func.specs.Limits.{MAX_FRAME}
 use Rattle.mir_func.specs.Resolve.{resolve}
 use Rattle.emit_code.specs.Counts.{MAX_WORDS, MAX_BASE, count_of}
 use Rattle.emit_code.specs.Laid.{IsWorded}
-use Rattle.emit_code.specs.Long.{IsSettled}
+use Rattle.emit_code.specs.BranchRelaxation.{IsSettled}
 use Rattle.emit_code.specs.Rule.{Layout, entries_of, words_of}
 use Rattle.frame_rule.specs.Rule.{size_of, framed_of}
 use Rattle.dwarf_loclists.specs.declared.range.Range.{Range}

@@ -1,6 +1,6 @@
 -- One step over an item of a block, in a list whose front is the result for the items before it.
 use Rattle.std.specs.Prelude.{◌≡◌, ℕ, ◌≤◌, ◌<◌, ◌^◌, List, take, drop, length}
-use Rattle.mir_func.specs.declared.entry.DebugSubstitution.{DebugSubstitution}
+use Rattle.mir_func.specs.declared.debug_substitution.DebugSubstitution.{DebugSubstitution}
 use Rattle.mir_func.specs.declared.item.Item.{Item}
 use Rattle.copyprop_block.specs.declared.roots.Root.{Root}
 use Rattle.pass_salvage.specs.declared.above.Above.{Above}

@@ -1,7 +1,7 @@
 -- The function without its copies is one.
 use Rattle.std.proofs.Common.{◌≡◌, List, sym, subst}
 use Rattle.mir_func.specs.declared.block.Block.{Block}
-use Rattle.mir_func.specs.declared.entry.DebugSubstitution.{DebugSubstitution}
+use Rattle.mir_func.specs.declared.debug_substitution.DebugSubstitution.{DebugSubstitution}
 use Rattle.mir_func.specs.Function.{Function}
 use Rattle.mir_func.specs.Sound.{IsSound}
 use Rattle.copyprop_rule.specs.Rule.{salvaged_function}

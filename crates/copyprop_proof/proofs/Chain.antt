@@ -8,7 +8,7 @@ use Rattle.std.proofs.lemmas.List.{append_assoc}
 use Rattle.std.proofs.lemmas.List.Elements.{All-nil, All-cons, All-head, All-tail, All-append}
 use Rattle.rv64_instr.specs.Instruction.{Instruction}
 use Rattle.rv64_instr.specs.Row.{Moves, row_of}
-use Rattle.mir_func.specs.declared.entry.DebugSubstitution.{DebugSubstitution}
+use Rattle.mir_func.specs.declared.debug_substitution.DebugSubstitution.{DebugSubstitution}
 use Rattle.mir_func.specs.declared.position.Origin.{Origin}
 use Rattle.mir_func.specs.declared.location.Loc.{Loc}
 use Rattle.mir_func.specs.declared.block.Block.{Block}
@@ -36,12 +36,12 @@ use Rattle.rv64_instr.proofs.Moves.{moves_by}
 use Rattle.copyprop_rule.proofs.Sizes.{known_moves}
 use Rattle.copyprop_proof.specs.Renamed.{known_after, renamed_items, renamed_block}
 use Rattle.copyprop_proof.proofs.Known.{IsClean, clean_none, keeps_zero, clean_after, not_itself}
-use Rattle.copyprop_proof.proofs.Renaming.{rooted_moves, none_known}
+use Rattle.copyprop_proof.proofs.ReplacedUsesMatch.{rooted_moves, none_known}
 use Rattle.pass_edits.proofs.Around.{block_of, with_block}
 use Rattle.pass_edits.proofs.Others.{BlocksUnlike, Others, others_of}
 use Rattle.pass_edits.proofs.Under.{KindUnder, AreUnder, BlocksUnder, EntryUnder, items_more, blocks_more, entries_more, under_unlike}
 use Rattle.pass_edits.proofs.Found.{split_at}
-use Rattle.copyprop_proof.proofs.Taken.{IsNoSelfCopy, takes}
+use Rattle.copyprop_proof.proofs.RemovedCopyMatch.{IsNoSelfCopy, takes}
 use Rattle.pass_edits.proofs.Loose.{itself, then, Step, and_then}
 use Rattle.copyprop_proof.proofs.TakeOut.{Taught, at_end, taught_push, taught_numbered, take_out}
 use Rattle.pass_edits.proofs.ToPhi.{to_phi}

@@ -1,9 +1,9 @@
 pub mod Known
 pub mod Acts
 pub mod RootedKind
-pub mod Renaming
+pub mod ReplacedUsesMatch
 pub mod Renamed
-pub mod Taken
+pub mod RemovedCopyMatch
 pub mod TakeOut
 pub mod Chain
 pub mod Selfed

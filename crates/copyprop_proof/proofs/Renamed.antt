@@ -11,7 +11,7 @@ use Rattle.rv64_instr.specs.Instruction.{Instruction}
 use Rattle.rv64_instr.specs.Row.{Row, Fixes, Moves, Sets, Addresses, Loads, Stores, LoadsSlot, StoresSlot, Branches, Jumps, Calls, Returns, Unfit, row_of}
 use Rattle.rv64_instr.specs.Arithmetic.{load_width, store_width}
 use Rattle.mir_func.specs.declared.block.Block.{Block}
-use Rattle.mir_func.specs.declared.entry.OperandPair.{OperandPair}
+use Rattle.mir_func.specs.declared.debug_substitution.OperandPair.{OperandPair}
 use Rattle.mir_func.specs.declared.item.Item.{Item}
 use Rattle.mir_func.specs.declared.item.ItemKind.{ItemKind}
 use Rattle.mir_func.specs.declared.item.ItemKind.TheVariants.{Code, Mark, Phi}
@@ -39,7 +39,7 @@ use Rattle.copyprop_rule.proofs.Roots.{Reals, real_root, real_after}
 use Rattle.copyprop_proof.specs.Renamed.{known_after, renamed_items, renamed_block, renamed_function, RenamingFollows}
 use Rattle.copyprop_proof.proofs.Known.{IsClean, clean_none, keeps_zero, clean_after}
 use Rattle.copyprop_proof.proofs.RootedKind.{kind_kin}
-use Rattle.copyprop_proof.proofs.Renaming.{rooted_moves, Rooted, stays, goes_later, rooted_edits, RootCores, rooted_keeps, rooted_itself}
+use Rattle.copyprop_proof.proofs.ReplacedUsesMatch.{rooted_moves, Rooted, stays, goes_later, rooted_edits, RootCores, rooted_keeps, rooted_itself}
 
 -- ---- what holds of each item
 

@@ -28,7 +28,7 @@ use Rattle.rv64_instr.proofs.Moves.{moves_by}
 use Rattle.copyprop_rule.proofs.Sizes.{known_moves}
 use Rattle.copyprop_proof.specs.Renamed.{known_after}
 use Rattle.copyprop_proof.proofs.Known.{IsClean, keeps_zero, not_itself}
-use Rattle.copyprop_proof.proofs.Renaming.{rooted_moves, none_known, some_known}
+use Rattle.copyprop_proof.proofs.ReplacedUsesMatch.{rooted_moves, none_known, some_known}
 use Rattle.copyprop_proof.proofs.RootedKind.{kind_kin}
 use Rattle.copyprop_proof.proofs.Chain.{clean_next}
 

@@ -1,7 +1,7 @@
 -- A copy that changes nothing goes from a function, without a number or with one that nothing needs.
 use Rattle.std.proofs.Common.{◌≡◌, ℕ, zero, suc, List, [], ◌∷◌, ◌++◌, All, false, refl, sym, subst}
 use Rattle.std.proofs.lemmas.List.Elements.{All-head, All-tail, All-weaker}
-use Rattle.mir_func.specs.declared.entry.DebugSubstitution.{DebugSubstitution}
+use Rattle.mir_func.specs.declared.debug_substitution.DebugSubstitution.{DebugSubstitution}
 use Rattle.mir_func.specs.declared.block.Block.{Block}
 use Rattle.mir_func.specs.declared.item.Item.{Item}
 use Rattle.mir_func.specs.declared.item.ItemKind.{ItemKind}
@@ -22,8 +22,8 @@ use Rattle.copyprop_block.specs.declared.roots.Root.{Root}
 use Rattle.copyprop_block.specs.Copied.{roots_with}
 use Rattle.pass_edits.proofs.Around.{with_block, stays_items, stays_blocks, around, edited_same, edited_above, edited_around}
 use Rattle.pass_edits.proofs.Others.{BlocksUnlike, Others, once_around}
-use Rattle.copyprop_proof.proofs.Taken.{IsNoSelfCopy, TakenPair, teaches, passes, TakenOut, takes, taken_edits, taken_allows, TakenCores, taken_keeps}
-use Rattle.copyprop_proof.proofs.Taken.{taken_itself}
+use Rattle.copyprop_proof.proofs.RemovedCopyMatch.{IsNoSelfCopy, TakenPair, teaches, passes, TakenOut, takes, taken_edits, taken_allows, TakenCores, taken_keeps}
+use Rattle.copyprop_proof.proofs.RemovedCopyMatch.{taken_itself}
 
 -- ---- what is known after items that stay
 

@@ -1,7 +1,7 @@
 -- The first step of the proof: explicit uses are replaced by their roots, and no copy is removed yet.
 use Rattle.std.specs.Prelude.{List, [], ◌∷◌, map, cond}
 use Rattle.mir_func.specs.declared.block.Block.{Block}
-use Rattle.mir_func.specs.declared.entry.DebugSubstitution.{DebugSubstitution}
+use Rattle.mir_func.specs.declared.debug_substitution.DebugSubstitution.{DebugSubstitution}
 use Rattle.mir_func.specs.declared.item.Item.{Item}
 use Rattle.mir_func.specs.declared.item.ItemKind.{ItemKind}
 use Rattle.mir_func.specs.Function.{Function}

@@ -1,6 +1,6 @@
 -- The code rule and the function with salvaged numbers agree.
 use Rattle.std.specs.Prelude.{◌≡◌, List}
-use Rattle.mir_func.specs.declared.entry.DebugSubstitution.{DebugSubstitution}
+use Rattle.mir_func.specs.declared.debug_substitution.DebugSubstitution.{DebugSubstitution}
 use Rattle.mir_func.specs.Function.{Function}
 use Rattle.mir_func.specs.Strip.{stripped}
 use Rattle.pass_trait.specs.Change.{change}

@@ -1,7 +1,7 @@
 -- The blocks of a function whose dead copies lose their numbers.
 use Rattle.std.specs.Prelude.{ℕ, suc, List, [], ◌∷◌, drop, length, Bool, true, false, slice_index_or}
 use Rattle.mir_func.specs.declared.block.Block.{Block}
-use Rattle.mir_func.specs.declared.entry.DebugSubstitution.{DebugSubstitution}
+use Rattle.mir_func.specs.declared.debug_substitution.DebugSubstitution.{DebugSubstitution}
 use Rattle.pass_trait.specs.declared.loss.Loss.{Loss}
 use Rattle.dce_copies.specs.Off.{SoFar, off_down}
 

@@ -1,6 +1,6 @@
 -- What a round keeps.
 use Rattle.std.proofs.Common.{◌≡◌, ◌<◌, List, sym, ap, subst, arith}
-use Rattle.mir_func.specs.declared.entry.DebugSubstitution.{DebugSubstitution}
+use Rattle.mir_func.specs.declared.debug_substitution.DebugSubstitution.{DebugSubstitution}
 use Rattle.mir_func.specs.Function.{Function}
 use Rattle.mir_func.specs.Sound.{IsSound}
 use Rattle.mir_func.specs.Strip.{stripped}

@@ -16,7 +16,7 @@ use Rattle.rv64_instr.specs.Instruction.{Instruction}
 use Rattle.rv64_instr.specs.Arithmetic.{word}
 use Rattle.rv64_instr.specs.Form.{is_within, has_12_bits, is_immediate, moves_slot, is_implicit, is_clobbered, is_argument, is_result, has_form}
 use Rattle.rv64_instr.specs.Row.{Row, Calls, row_by, row_of, immediate_row, object_row, move_row}
-use Rattle.rv64_instr.specs.Access.{sets, caller_saved}
+use Rattle.rv64_instr.specs.DefsAndUses.{sets, caller_saved}
 use Rattle.rv64_instr.specs.Parts.{is_pure, is_call, defines_of}
 use Rattle.mir_func.specs.Sound.{IsNotPointer}
 use Rattle.sem_mir.specs.Step.{defined}

@@ -8,7 +8,7 @@ use Rattle.rv64_instr.specs.declared.place.Place.TheVariants.{Register, Slot, Co
 use Rattle.rv64_instr.specs.Instruction.{Instruction}
 use Rattle.rv64_instr.specs.Row.{Row, Jumps, Unfit, row_of}
 use Rattle.rv64_instr.specs.Parts.{defines_of}
-use Rattle.mir_func.specs.declared.entry.OperandPair.{OperandPair}
+use Rattle.mir_func.specs.declared.debug_substitution.OperandPair.{OperandPair}
 use Rattle.mir_func.specs.declared.position.Pos.{Pos}
 use Rattle.mir_func.specs.declared.position.Origin.{Origin}
 use Rattle.mir_func.specs.declared.position.Origin.TheVariants.{Kept, Before}
@@ -33,7 +33,7 @@ use Rattle.sem_mir.specs.Follow.{InOrder}
 use Rattle.sem_mir.proofs.Edges.{step_edge}
 use Rattle.sem_mir.proofs.Reading.{found_in}
 use Rattle.sem_simulation.specs.Refinement.{FaultsAt}
-use Rattle.sem_simulation.specs.Sides.{Sides, MatchStates, since_item, Laid, DoBoth}
+use Rattle.sem_simulation.specs.MatchStates.{Sides, MatchStates, since_item, Laid, DoBoth}
 use Rattle.sem_simulation.specs.InPlace.{FallsOrTraps, DoAlike, MayTrap, IsIdleAt, View, ended, both, taken as view_taken, paired, InPlace}
 use Rattle.sem_simulation.proofs.Stations.{moves_on_less, code_sync_point, end_is_sync_point, IsSyncPointOf, of_item, of_end, sync_point_is_of}
 use Rattle.sem_simulation.proofs.Laid.{rest_in, rest_of, laid_out, in_order_at, one_end, from_home, from_within, from_before_end, falls_down}

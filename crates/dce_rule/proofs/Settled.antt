@@ -11,7 +11,7 @@ use Rattle.mir_func.specs.declared.position.Pos.{Pos}
 use Rattle.mir_func.specs.declared.position.Origin.{Origin}
 use Rattle.mir_func.specs.declared.position.Origin.TheVariants.{Kept, Before}
 use Rattle.mir_func.specs.declared.block.Block.{Block}
-use Rattle.mir_func.specs.declared.entry.DebugSubstitution.{DebugSubstitution}
+use Rattle.mir_func.specs.declared.debug_substitution.DebugSubstitution.{DebugSubstitution}
 use Rattle.mir_func.specs.declared.item.Item.{Item}
 use Rattle.mir_func.specs.declared.item.ItemKind.{ItemKind}
 use Rattle.mir_func.specs.declared.item.ItemKind.TheVariants.{Code, Mark, Phi}
@@ -27,7 +27,7 @@ use Rattle.sem_mir.specs.Live.{Uses, KindUses, Live, used, later}
 use Rattle.sem_mir.specs.Follow.{MayAdd, KindFits, HasClass, OnRow, Counts, IsMetApart}
 use Rattle.sem_mir.proofs.Edges.{leads_on, leads_trans}
 use Rattle.sem_mir.proofs.Reading.{found, found_in}
-use Rattle.sem_simulation.specs.Sides.{Laid}
+use Rattle.sem_simulation.specs.MatchStates.{Laid}
 use Rattle.sem_simulation.proofs.Laid.{rest_in, rest_of, laid_out}
 use Rattle.pass_trait.specs.Simulation.{Source, SimulatesSource}
 use Rattle.dce_rule.specs.Dead.{Places, Ends, is_dead_row, is_dead, needed_at, without_dead, thinned_block, paths_of, IsRound}

@@ -23,7 +23,7 @@ use Rattle.mir_func.specs.Successors.{pos_in, ComesDown}
 use Rattle.sem_mir.specs.Live.{Defines, KindDefines}
 use Rattle.sem_mir.proofs.Parts.{effects_hold}
 use Rattle.sem_mir.proofs.Reading.{found_in}
-use Rattle.sem_simulation.specs.Sides.{Laid, IsPastItems}
+use Rattle.sem_simulation.specs.MatchStates.{Laid, IsPastItems}
 use Rattle.sem_simulation.proofs.Laid.{rest_in, rest_of, laid_out}
 use Rattle.dce_rule.specs.Dead.{Places, Ends, sets_unneeded, is_dead_row, is_dead, needed_before, needed_at, paths_of}
 use Rattle.dce_rule.specs.Wrong.{begins_dead, IsWrongAt, made, on, IsClosed}

@@ -4,7 +4,7 @@ use Rattle.std.proofs.lemmas.Bool.{cases_eq}
 use Rattle.rv64_instr.specs.Instruction.{Instruction}
 use Rattle.rv64_instr.specs.Row.{row_of}
 use Rattle.rv64_instr.specs.Parts.{is_call}
-use Rattle.mir_func.specs.declared.entry.OperandPair.{OperandPair}
+use Rattle.mir_func.specs.declared.debug_substitution.OperandPair.{OperandPair}
 use Rattle.mir_func.specs.declared.item.Item.{Item}
 use Rattle.mir_func.specs.declared.item.ItemKind.{ItemKind}
 use Rattle.mir_func.specs.declared.item.ItemKind.TheVariants.{Code, Mark, Phi}
@@ -16,7 +16,7 @@ use Rattle.sem_mir.specs.Effects.{EndAlike, FallsInto}
 use Rattle.sem_mir.specs.Align.{is_code}
 use Rattle.sem_mir.proofs.Outcomes.{alike_weaker}
 use Rattle.sem_mir.proofs.Places.{updated_same, updated_other}
-use Rattle.sem_simulation.specs.Sides.{OutcomesAlike}
+use Rattle.sem_simulation.specs.MatchStates.{OutcomesAlike}
 use Rattle.sem_simulation.proofs.Outcomes.{alike_of}
 use Rattle.sem_agreement.specs.Agreement.{AgreeOn, DebugLessDef, Alike, GenDefs, HeldAfter, NumbersHeld, Depends}
 use Rattle.sem_agreement.proofs.Outcomes.{TellsAs, alike_both, code_alike, leaves_pair}

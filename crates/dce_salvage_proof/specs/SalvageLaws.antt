@@ -1,6 +1,6 @@
 -- The laws of a function whose dead copies have lost their numbers.
 use Rattle.std.specs.Prelude.{◌≡◌, ◌+◌, List, [], Bool}
-use Rattle.mir_func.specs.declared.entry.DebugSubstitution.{DebugSubstitution}
+use Rattle.mir_func.specs.declared.debug_substitution.DebugSubstitution.{DebugSubstitution}
 use Rattle.mir_func.specs.Function.{Function}
 use Rattle.mir_func.specs.Sound.{IsSound}
 use Rattle.mir_func.specs.Strip.{stripped}

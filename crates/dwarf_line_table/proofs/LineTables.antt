@@ -7,7 +7,7 @@ use Rattle.read_metadata.specs.Maps.{Maps}
 use Rattle.dwarf_line_table.specs.declared.compiled.Compiled.{Compiled}
 use Rattle.dwarf_line_table.specs.declared.file.SourceFile.{SourceFile}
 use Rattle.dwarf_line_table.specs.Files.{number_in}
-use Rattle.dwarf_line_table.specs.Lines.{SourceLine, no_line, in_file, scope_line, loc_of, position_of}
+use Rattle.dwarf_line_table.specs.SourcePosition.{SourceLine, no_line, in_file, scope_line, loc_of, position_of}
 use Rattle.dwarf_line_table.specs.Program.{program_file, program_files, function_uses, table_of}
 use Rattle.dwarf_line_table.specs.Table.{entry_line}
 use Rattle.dwarf_line_table.specs.Laws.{LieFrom, HasCodeAt, IsNoLine, TablesGiveLines, NothingOutside, NoneIsLineZero, UnitIsFileOne}

@@ -16,7 +16,7 @@ use Rattle.mir_func.specs.declared.item.Item.{Item}
 use Rattle.mir_func.specs.declared.location.Loc.{Loc}
 use Rattle.mir_func.specs.declared.location.Loc.TheVariants.{Absent}
 use Rattle.dwarf_line_table.proofs.Split.{split_at}
-use Rattle.dwarf_line_table.specs.Lines.{first_loc, loc_if_code, loc_of}
+use Rattle.dwarf_line_table.specs.SourcePosition.{first_loc, loc_if_code, loc_of}
 use Rattle.dwarf_line_table.specs.steps.Places.{loc_at, loc_among, AreLocs}
 
 absent_at : (n k : ℕ) → loc_at (replicate n Absent) k ≡ Absent

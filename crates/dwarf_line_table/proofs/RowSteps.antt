@@ -10,9 +10,9 @@ use Rattle.mir_func.specs.declared.block.Block.{Block}
 use Rattle.mir_func.specs.declared.location.Loc.{Loc}
 use Rattle.emit_code.specs.declared.code.EncodedInstruction.{EncodedInstruction}
 use Rattle.dwarf_line_table.specs.declared.file.SourceFile.{SourceFile}
-use Rattle.dwarf_line_table.specs.declared.places.Places.{Places}
+use Rattle.dwarf_line_table.specs.declared.debug_locations.Places.{Places}
 use Rattle.dwarf_line_table.specs.Files.{with_new, first_uses, is_file, unit_in}
-use Rattle.dwarf_line_table.specs.Lines.{line_at, loc_of, position_of}
+use Rattle.dwarf_line_table.specs.SourcePosition.{line_at, loc_of, position_of}
 use Rattle.dwarf_line_table.specs.Table.{row_of_line, is_place_before, changes, uses_in, rows_in}
 use Rattle.dwarf_line_table.specs.steps.Places.{ArePlaces}
 use Rattle.dwarf_line_table.proofs.FirstUses.{joined_only}

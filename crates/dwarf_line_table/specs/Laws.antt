@@ -5,7 +5,7 @@ use Rattle.emit_code.specs.Laid.{StandFrom}
 use Rattle.dwarf_line.specs.declared.table.Row.{Row}
 use Rattle.read_metadata.specs.Maps.{Maps}
 use Rattle.dwarf_line_table.specs.declared.compiled.Compiled.{Compiled}
-use Rattle.dwarf_line_table.specs.Lines.{no_line, scope_line, loc_of, position_of}
+use Rattle.dwarf_line_table.specs.SourcePosition.{no_line, scope_line, loc_of, position_of}
 use Rattle.dwarf_line_table.specs.Program.{program_file, function_end, table_of}
 use Rattle.dwarf_line_table.specs.Table.{entry_line}
 use Rattle.dwarf_line_table.specs.Rows.{IsRowAt, GivesLine}

@@ -1,5 +1,5 @@
 pub mod Files
-pub mod Lines
+pub mod SourcePosition
 pub mod Program
 pub mod Table
 pub mod steps

@@ -5,7 +5,7 @@ use Rattle.dwarf_line.specs.declared.table.Row.{Row}
 use Rattle.dwarf_line.specs.declared.table.Sequence.{Sequence}
 use Rattle.dwarf_line.specs.declared.table.LineTable.{LineTable}
 use Rattle.dwarf_line_table.specs.declared.file.SourceFile.{SourceFile}
-use Rattle.dwarf_line_table.specs.Lines.{SourceLine}
+use Rattle.dwarf_line_table.specs.SourcePosition.{SourceLine}
 
 -- the row for an address: the last one whose address isn't above it
 pub record IsLastAt (rows : List Row) (address : ℕ) (row : Row) : Type 0 where

@@ -4,7 +4,7 @@ use Rattle.dwarf_line.specs.declared.table.Row.{Row}
 use Rattle.read_metadata.specs.Maps.{Maps}
 use Rattle.dwarf_line_table.specs.declared.file.SourceFile.{SourceFile}
 use Rattle.dwarf_line_table.specs.Files.{number_in}
-use Rattle.dwarf_line_table.specs.Lines.{SourceLine, line_of}
+use Rattle.dwarf_line_table.specs.SourcePosition.{SourceLine, line_of}
 use Rattle.mir_func.specs.declared.block.Block.{Block}
 use Rattle.emit_code.specs.declared.code.EncodedInstruction.{EncodedInstruction}
 

@@ -1,6 +1,6 @@
 //! The line number table of a program, and laws about it.
 //!
-//! - `compiled`, `entries`, `file`, `line_table`, `names`, `places`, `rows`, `scope_line`, `unit_file`: The table. The
+//! - `compiled`, `entries`, `file`, `line_table`, `names`, `debug_locations`, `rows`, `scope_line`, `unit_file`: The table. The
 //!   source position of an instruction is that of the debug location of the first code at or after its origin, in the
 //!   function as it was read. The files are numbered in the order of their first use, the unit's first. A row is
 //!   written at each address where the source position changes.
@@ -10,12 +10,12 @@
 #![tactic(auto)]
 
 pub mod compiled;
+pub mod debug_locations;
 pub mod entries;
 pub mod file;
 pub mod laws;
 pub mod line_table;
 pub mod names;
-pub mod places;
 pub mod rows;
 pub mod scope_line;
 pub mod unit_file;

@@ -9,9 +9,9 @@ ghost use Rattle.dwarf_line_table.specs.Program.{MAX_FUNCTIONS, function_uses, s
 ghost use Rattle.emit_code.specs.Counts.{MAX_WORDS};
 
 use crate::compiled::Compiled;
+use crate::debug_locations::Places;
 use crate::entries::Entries;
 use crate::file::Files;
-use crate::places::Places;
 use crate::rows::rows;
 use crate::unit_file::unit_file;
 use dwarf_line::table::{LineTable, Sequence, Sequences};

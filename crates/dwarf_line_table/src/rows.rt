@@ -6,12 +6,12 @@ ghost use Rattle.read_metadata.specs.Metadata.{file_of_scope_at};
 ghost use Rattle.mir_func.specs.declared.block.Block.{Block};
 ghost use Rattle.dwarf_line_table.specs.declared.file.SourceFile.{SourceFile};
 ghost use Rattle.dwarf_line_table.specs.Files.{number_in, with_new, first_uses, is_file, unit_in};
-ghost use Rattle.dwarf_line_table.specs.Lines.{scope_file, line_at};
+ghost use Rattle.dwarf_line_table.specs.SourcePosition.{scope_file, line_at};
 ghost use Rattle.dwarf_line_table.specs.Table.{row_of_line, is_place, is_place_before, changes, uses_in, rows_in};
 ghost use Rattle.dwarf_line_table.specs.steps.Places.{ArePlaces};
 
+use crate::debug_locations::Places;
 use crate::file::Files;
-use crate::places::Places;
 use crate::scope_line::scope_line;
 use base_ids::metadata::NodeId;
 use dwarf_info::entry::text_of;

@@ -1,7 +1,7 @@
 //! The source line of a debug location.
 
 ghost use Rattle.std.specs.Prelude.{◌≡◌, Some};
-ghost use Rattle.dwarf_line_table.specs.Lines.{no_line, node_line, scope_line};
+ghost use Rattle.dwarf_line_table.specs.SourcePosition.{no_line, node_line, scope_line};
 
 use base_ids::metadata::NodeId;
 use mir_func::location::Loc;

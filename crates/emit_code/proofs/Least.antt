@@ -24,7 +24,7 @@ use Rattle.mir_func.specs.Successors.{pos_in}
 use Rattle.emit_code.specs.declared.span.Span.{Span}
 use Rattle.emit_code.specs.declared.span.Span.TheVariants.{Short, Long}
 use Rattle.emit_code.specs.Rule.{Site, form_of, row_form, form_size, size_of, items_size, blocks_size, items_at, bytes_before, sites_from}
-use Rattle.emit_code.specs.Long.{is_same, IsClosed, IsSettled}
+use Rattle.emit_code.specs.BranchRelaxation.{is_same, IsClosed, IsSettled}
 use Rattle.emit_code.specs.steps.Places.{items_count, first_of}
 use Rattle.emit_code.specs.steps.Spans.{row_span, span_of, site_span, spans_of, reaches, round, Rounds, begun, further, Settles}
 use Rattle.emit_code.proofs.Sites.{site_size, bytes_at, site_from}

@@ -31,7 +31,7 @@ use Rattle.mir_func.specs.SoundFrame.{own_size, slot_offsets, IsFramed, HasPhysi
 use Rattle.emit_code.specs.Counts.{MAX_BASE, count_of}
 use Rattle.emit_code.specs.Inverted.{jump_to}
 use Rattle.emit_code.specs.Laid.{FormWorded, IsWorded, IsFit}
-use Rattle.emit_code.specs.Long.{IsBranchTo, with_short, reaches_in, IsClosed}
+use Rattle.emit_code.specs.BranchRelaxation.{IsBranchTo, with_short, reaches_in, IsClosed}
 use Rattle.emit_code.specs.Rule.{Layout, row_form, items_at, bytes_before, address_in, start_of, offset_to, object_offset, operation_at, skip_operation}
 use Rattle.emit_code.specs.Rule.{jump_operation}
 use Rattle.emit_code.specs.steps.Emitted.{IsFormed}

@@ -13,7 +13,7 @@ use Rattle.emit_code.specs.declared.code.EncodedInstruction.{EncodedInstruction}
 use Rattle.emit_code.specs.Counts.{MAX_WORDS, MAX_BASE}
 use Rattle.emit_code.specs.Rule.{Layout, Form, Nothing, OneWord, CallSite, LongBranch, row_form, address_in, operation_at, skip_operation, jump_operation}
 use Rattle.emit_code.specs.Rule.{entries_of, words_of}
-use Rattle.emit_code.specs.Long.{IsSettled}
+use Rattle.emit_code.specs.BranchRelaxation.{IsSettled}
 
 -- machine code: first address, words, entries, and the function with its frame
 pub record LaidCode : Type 0 where

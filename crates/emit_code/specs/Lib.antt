@@ -1,6 +1,6 @@
 pub mod Inverted
 pub mod Rule
-pub mod Long
+pub mod BranchRelaxation
 pub mod Listed
 pub mod Counts
 pub mod Laid

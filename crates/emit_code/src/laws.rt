@@ -3,7 +3,7 @@
 ghost use Rattle.std.specs.Prelude.{◌≡◌, ℕ, Bool};
 ghost use Rattle.mir_func.specs.declared.position.Pos.{Pos};
 ghost use Rattle.mir_func.specs.Function.{FramedFunction};
-ghost use Rattle.emit_code.specs.Long.{IsSettled};
+ghost use Rattle.emit_code.specs.BranchRelaxation.{IsSettled};
 
 /// The least closed layout is unique: at most one set of long branches for a function and its first address.
 pub fn one_layout()

@@ -5,14 +5,14 @@
 //! branch reaches.
 #![tactic(auto)]
 
-pub mod branch;
+mod branch_relaxation;
 pub mod code;
 mod entries;
+pub mod inverted;
 pub mod laws;
 pub mod layout;
 pub mod objects;
 mod plan;
-mod rounds;
 mod span;
 mod table;
 mod words;

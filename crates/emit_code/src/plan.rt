@@ -7,8 +7,8 @@ ghost use Rattle.emit_code.specs.Rule.{Layout, offset_to, start_of};
 ghost use Rattle.emit_code.specs.steps.Plans.{IsPlan, IsPlanOf};
 ghost use Rattle.emit_code.specs.declared.span.Span.TheVariants.{Nothing};
 
+use crate::branch_relaxation::{Sums, settle};
 use crate::objects::ObjectOffsets;
-use crate::rounds::{Sums, settle};
 use crate::span::{Span, Spans, short_spans};
 use crate::table::{Table, at};
 use base_ids::code::BlockId;

@@ -14,8 +14,8 @@ ghost use Rattle.emit_code.specs.Rule.{skip_operation};
 ghost use Rattle.emit_code.specs.steps.Plans.{IsPlan};
 ghost use Rattle.emit_code.specs.steps.Emitted.{StandsAt, AllStandAt, jump_by, inverted_word, IsFormed};
 
-use crate::branch::inverted;
 use crate::code::Words;
+use crate::inverted::inverted;
 use crate::plan::ItemLayout;
 use crate::span::Span;
 use mir_func::block::Block;

@@ -6,7 +6,7 @@ use Rattle.std.proofs.lemmas.List.Elements.{All-contains}
 use Rattle.std.proofs.lemmas.Option.{get_or_from_slice_get}
 use Rattle.rv64_instr.specs.Row.{Row, Branches, Jumps, Returns, Unfit, row_of}
 use Rattle.mir_func.specs.declared.block.Block.{Block}
-use Rattle.mir_func.specs.declared.entry.OperandPair.{OperandPair}
+use Rattle.mir_func.specs.declared.debug_substitution.OperandPair.{OperandPair}
 use Rattle.mir_func.specs.declared.exit.Exit.{Exit}
 use Rattle.mir_func.specs.declared.exit.Exit.TheVariants.{Onward, Perhaps, Always, Final}
 use Rattle.mir_func.specs.declared.item.Item.{Item}
@@ -26,7 +26,7 @@ use Rattle.sem_mir.specs.Follow.{OnRow, IsEnd, InOrder}
 use Rattle.sem_mir.proofs.Edges.{step_edge}
 use Rattle.sem_mir.proofs.Outcomes.{step_item}
 use Rattle.sem_mir.proofs.Reading.{found_in, front_item, within_list}
-use Rattle.sem_simulation.specs.Sides.{since_item}
+use Rattle.sem_simulation.specs.MatchStates.{since_item}
 use Rattle.fold_targets.specs.Ways.{EndsAt}
 use Rattle.fold_targets.specs.Leads.{lead}
 use Rattle.fold_rule.specs.Turned.{with_code}

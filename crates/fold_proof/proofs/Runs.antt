@@ -21,7 +21,7 @@ use Rattle.sem_mir.specs.Step.{Outcome, Falls, Goes, Gives, Traps, Asks, Breaks,
 use Rattle.sem_mir.specs.Align.{position_of, is_code, ByItems, ByEnds, Since, After}
 use Rattle.sem_mir.specs.Effects.{EndAlike}
 use Rattle.sem_mir.proofs.Told.{TellsLess, SeesLess, item_less}
-use Rattle.sem_simulation.specs.Sides.{Sides, since_item}
+use Rattle.sem_simulation.specs.MatchStates.{Sides, since_item}
 use Rattle.sem_simulation.specs.Rewired.{RewiredMatchStates, IsAbsent, Reaches, arrived, debug, jump, finish, Leaves, by_end, by_jump, by_branch, FallsTo}
 use Rattle.sem_simulation.specs.Rewired.{DoAlike}
 use Rattle.sem_simulation.specs.Rewired.{View, both, added, paired, closes, ended}

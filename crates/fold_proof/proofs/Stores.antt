@@ -229,7 +229,7 @@ kill_onward (Phi p n) h = refl
 kill_onward (Code i n) h = absurd h
 
 -- debug items at the start are passed
-walk_kills : (g : Program) (rest : Pos → List Item) → Rattle.sem_simulation.specs.Sides.Laid g rest → ((n : ℕ) → g.enter n ≡ n) →
+walk_kills : (g : Program) (rest : Pos → List Item) → Rattle.sem_simulation.specs.MatchStates.Laid g rest → ((n : ℕ) → g.enter n ≡ n) →
     (b n : ℕ) (ks xs : List Item) →
     All (IsKill b) ks → (p : ℕ) → rest (record { block = n; item = p }) ≡ ks ++ xs → (p0 : Pos) → LeadsFrom g p0 (record { block = n; item = p }) →
     (enter : g.enter ≡ (λ m. m)) → LeadsFrom g p0 (record { block = n; item = p + length ks })

@@ -29,7 +29,7 @@ use Rattle.sem_mir.specs.Step.{Outcome, Falls, Goes, Traps, act, does, are_writt
 use Rattle.sem_mir.specs.Step.{mark_value, place_value, do_item}
 use Rattle.sem_mir.proofs.Effects.{told_by}
 use Rattle.sem_mir.proofs.Told.{Below, TellsLess}
-use Rattle.sem_simulation.specs.Sides.{Does, ShowsSame}
+use Rattle.sem_simulation.specs.MatchStates.{Does, ShowsSame}
 use Rattle.sem_simulation.specs.Rewired.{Jumps as JumpsTo}
 use Rattle.fold_rule_proof.proofs.Kills.{IsKillKind}
 use Rattle.fold_rule_proof.proofs.Rows.{Leads, IsEnding, branch, jump, is_ending}

@@ -9,7 +9,7 @@ use Rattle.rv64_instr.specs.declared.decoded.Input.TheVariants.{Content, Number}
 use Rattle.rv64_instr.specs.declared.decoded.Base.TheVariants.{PointedBy, ObjectAt}
 use Rattle.rv64_instr.specs.Arithmetic.{computed, taken, load_width, store_width, extended}
 use Rattle.rv64_instr.specs.Row.{Row, Fixes, Moves, Sets, Addresses, Loads, Stores, LoadsSlot, StoresSlot, Branches, Jumps, Calls, Returns, Unfit}
-use Rattle.rv64_instr.specs.Access.{caller_saved, reads, input_reads}
+use Rattle.rv64_instr.specs.DefsAndUses.{caller_saved, reads, input_reads}
 use Rattle.mir_func.specs.declared.framed.SavedRegister.{SavedRegister}
 use Rattle.mir_func.specs.Sound.{SlotIn}
 use Rattle.sem_mir.specs.State.{Core, Reply, updated, content, put, put_all, spelled, low_bytes, writes_frame}

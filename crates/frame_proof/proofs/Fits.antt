@@ -13,7 +13,7 @@ use Rattle.rv64_instr.specs.Arithmetic.{word, taken, load_width, store_width}
 use Rattle.rv64_instr.specs.Form.{has_form, is_result}
 use Rattle.rv64_instr.specs.Row.{Row, Fixes, Moves, Sets, Addresses, Loads, Stores, LoadsSlot, StoresSlot, Branches, Jumps, Calls, Returns, Unfit, row_of}
 use Rattle.rv64_instr.specs.Row.{row_by, move_row, immediate_row, object_row, implicit_uses}
-use Rattle.rv64_instr.specs.Access.{reads}
+use Rattle.rv64_instr.specs.DefsAndUses.{reads}
 use Rattle.mir_func.specs.declared.exit.Exit.TheVariants.{Final}
 use Rattle.mir_func.specs.declared.item.Item.{Item}
 use Rattle.mir_func.specs.declared.item.ItemKind.{ItemKind}
@@ -28,7 +28,7 @@ use Rattle.sem_mir.specs.Step.{Outcome, Falls, Goes, Gives, Traps, Asks, Breaks,
 use Rattle.sem_mir.specs.Step.{answered, do_item}
 use Rattle.sem_mir.specs.Align.{is_jump_row, is_jump, waits_at, ByItems, After, since_of}
 use Rattle.sem_mir.specs.Follow.{RowFits, KindFits}
-use Rattle.sem_simulation.specs.Sides.{since_item}
+use Rattle.sem_simulation.specs.MatchStates.{since_item}
 
 -- ---- where code goes elsewhere, it is a branch
 

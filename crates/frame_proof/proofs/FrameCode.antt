@@ -17,7 +17,7 @@ use Rattle.sem_mir.specs.State.{Core, updated, content}
 use Rattle.sem_mir.specs.Step.{Outcome, Falls, Goes, Gives, Traps, Asks, Breaks, act, does, read, set_register, slot_loaded}
 use Rattle.sem_mir.specs.Align.{position_of, is_code, is_jump, is_jump_row, Since, After}
 use Rattle.sem_mir.specs.Effects.{EndAlike}
-use Rattle.sem_simulation.specs.Sides.{OutcomesAlike}
+use Rattle.sem_simulation.specs.MatchStates.{OutcomesAlike}
 use Rattle.frame_rule.specs.Rule.{position_in, renamed_kind}
 use Rattle.frame_rule.proofs.Rows.{renamed_row, row_renamed}
 

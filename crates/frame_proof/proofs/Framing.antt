@@ -9,7 +9,7 @@ use Rattle.rv64_instr.specs.Arithmetic.{word}
 use Rattle.rv64_instr.specs.Instruction.{Instruction}
 use Rattle.rv64_instr.specs.Row.{Row, row_of}
 use Rattle.mir_func.specs.declared.block.Block.{Block}
-use Rattle.mir_func.specs.declared.entry.OperandPair.{OperandPair}
+use Rattle.mir_func.specs.declared.debug_substitution.OperandPair.{OperandPair}
 use Rattle.mir_func.specs.declared.exit.Exit.TheVariants.{Final}
 use Rattle.mir_func.specs.declared.framed.SavedRegister.{SavedRegister}
 use Rattle.mir_func.specs.declared.item.Item.{Item}
@@ -31,7 +31,7 @@ use Rattle.sem_mir.specs.Align.{RunsMatch}
 use Rattle.sem_mir.specs.Effects.{EndAlike}
 use Rattle.sem_mir.proofs.Outcomes.{alike_with}
 use Rattle.sem_mir.proofs.Places.{contains_head, contains_tail, updated_same, updated_other, put_other}
-use Rattle.sem_simulation.specs.Sides.{Sides, ShowsSame, since_item}
+use Rattle.sem_simulation.specs.MatchStates.{Sides, ShowsSame, since_item}
 use Rattle.sem_simulation.specs.Added.{Standing, Opening, Level, Ahead, AddedMatchStates, MayCome, DoAlike, View, ended, both, before, opening, entering}
 use Rattle.sem_simulation.specs.Added.{paired}
 use Rattle.sem_simulation.specs.Added.{Adds, Begins, opens}

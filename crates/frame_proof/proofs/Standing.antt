@@ -11,7 +11,7 @@ use Rattle.rv64_instr.specs.Instruction.{Instruction}
 use Rattle.rv64_instr.specs.Row.{Row, Fixes, Moves, Sets, Addresses, Loads, Stores, LoadsSlot, StoresSlot, Branches, Jumps, Calls, Returns, Unfit, row_of}
 use Rattle.rv64_instr.specs.Row.{add_row}
 use Rattle.mir_func.specs.declared.block.Block.{Block}
-use Rattle.mir_func.specs.declared.entry.OperandPair.{OperandPair}
+use Rattle.mir_func.specs.declared.debug_substitution.OperandPair.{OperandPair}
 use Rattle.mir_func.specs.declared.exit.Exit.{Exit}
 use Rattle.mir_func.specs.declared.exit.Exit.TheVariants.{Onward, Perhaps, Always, Final}
 use Rattle.mir_func.specs.declared.framed.SavedRegister.{SavedRegister}
@@ -33,7 +33,7 @@ use Rattle.sem_mir.specs.Step.{with_core, moved, do_item, do_fetch, step}
 use Rattle.sem_mir.specs.Effects.{OnCore}
 use Rattle.sem_mir.proofs.Outcomes.{on_either}
 use Rattle.sem_mir.proofs.Places.{put_same, put_other, updated_same, updated_other, contains_head, contains_tail}
-use Rattle.sem_simulation.specs.Sides.{Laid, IsPastItems}
+use Rattle.sem_simulation.specs.MatchStates.{Laid, IsPastItems}
 use Rattle.sem_simulation.proofs.Laid.{rest_in, rest_of, laid_out_framed}
 use Rattle.frame_rule.specs.Rule.{saved_places, saved_registers, saved_of, size_of, sets_register, added, added_all, position_in, prologue}
 use Rattle.frame_rule.specs.Rule.{epilogue, renamed, renamed_code, renamed_kind, framed_item, framed_items, framed_block, framed_blocks}

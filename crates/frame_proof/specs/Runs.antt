@@ -1,7 +1,7 @@
 -- The runs of a function with its frame.
 use Rattle.std.specs.Prelude.{List, Option, true}
 use Rattle.mir_func.specs.declared.block.Block.{Block}
-use Rattle.mir_func.specs.declared.entry.OperandPair.{OperandPair}
+use Rattle.mir_func.specs.declared.debug_substitution.OperandPair.{OperandPair}
 use Rattle.mir_func.specs.Function.{Function}
 use Rattle.mir_func.specs.Graph.{block_start, program_of, framed_program}
 use Rattle.mir_func.specs.Sound.{AllItems, IsSound, HasForm}

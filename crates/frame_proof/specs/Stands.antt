@@ -1,7 +1,7 @@
 -- The frame's state at each position (DWARF 5, 6.4 "Call Frame Information": how far the stack pointer is below its value at
 -- entry, and where which registers are saved), and that machine states agree with it.
 use Rattle.std.specs.Prelude.{◌≡◌, ℕ, ◌-◌, ◌<◌, ◌≤◌, ◌^◌, List, ◌∷◌, drop, All, Contains, Option, Some, Bool, true, false, cond, not, ◌&&◌, ◌||◌, nat_eq}
-use Rattle.mir_func.specs.declared.entry.OperandPair.{OperandPair}
+use Rattle.mir_func.specs.declared.debug_substitution.OperandPair.{OperandPair}
 use Rattle.mir_func.specs.declared.framed.SavedRegister.{SavedRegister}
 use Rattle.mir_func.specs.declared.position.Pos.{Pos}
 use Rattle.mir_func.specs.Exits.{exit_of, is_final}

@@ -12,7 +12,7 @@ use Rattle.rv64_instr.specs.Instruction.{Instruction}
 use Rattle.rv64_instr.specs.Row.{Row, Fixes, Moves, Sets, Addresses, Loads, Stores, LoadsSlot, StoresSlot, Branches, Jumps, Calls, Returns, Unfit, row_of}
 use Rattle.rv64_instr.specs.Row.{row_by}
 use Rattle.rv64_instr.specs.Row.{move_row, immediate_row, object_row, implicit_uses}
-use Rattle.rv64_instr.specs.Access.{reads}
+use Rattle.rv64_instr.specs.DefsAndUses.{reads}
 use Rattle.mir_func.specs.Sound.{IsNotPointer}
 use Rattle.frame_rule.specs.Rule.{slot_offset, renamed_operand, renamed_code}
 

@@ -5,7 +5,7 @@ use Rattle.mir_func.specs.declared.position.Origin.{Origin}
 use Rattle.mir_func.specs.declared.position.Origin.TheVariants.{Kept, Before}
 use Rattle.mir_func.specs.Function.{FramedFunction}
 use Rattle.emit_code.specs.Listed.{Line, lines_of}
-use Rattle.emit_code.specs.Long.{IsSettled}
+use Rattle.emit_code.specs.BranchRelaxation.{IsSettled}
 use Rattle.emit_code.specs.Rule.{Layout, entries_of, words_of, added_before}
 use Rattle.pass_trait.specs.Code.{originless_origin}
 use Rattle.invariance_code.specs.Alike.{stripped_framed}

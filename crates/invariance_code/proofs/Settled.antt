@@ -14,7 +14,7 @@ use Rattle.mir_func.specs.Function.{FramedFunction}
 use Rattle.mir_func.specs.Graph.{index_of, block_start}
 use Rattle.mir_func.specs.SoundFrame.{body_of}
 use Rattle.mir_func.specs.Successors.{pos_in}
-use Rattle.emit_code.specs.Long.{IsBranchTo, is_same, with_short, reaches_in, IsClosed, IsSettled}
+use Rattle.emit_code.specs.BranchRelaxation.{IsBranchTo, is_same, with_short, reaches_in, IsClosed, IsSettled}
 use Rattle.emit_code.specs.Rule.{Layout, items_at, address_in, start_of}
 use Rattle.emit_code.proofs.Settled.{fetched, item_at}
 use Rattle.invariance_code.proofs.Drops.{DropsEach, exit_at, down, up, items_drop, up_in, down_in, down_up_in, down_zero, up_down, exit_up}

@@ -3,7 +3,7 @@ use Rattle.std.specs.Prelude.{◌≡◌, Bool, map}
 use Rattle.mir_func.specs.declared.position.Pos.{Pos}
 use Rattle.emit_code.specs.declared.code.EncodedInstruction.{EncodedInstruction}
 use Rattle.emit_code.specs.Listed.{Line, lines_of}
-use Rattle.emit_code.specs.Long.{IsSettled}
+use Rattle.emit_code.specs.BranchRelaxation.{IsSettled}
 use Rattle.emit_code.specs.Rule.{Layout, entries_of, words_of}
 use Rattle.pass_trait.specs.Code.{originless_origin}
 use Rattle.invariance_code.specs.Alike.{stripped_framed, AreFramedSame, AreFramedAlike}

@@ -1,6 +1,6 @@
 -- The theorem that listings are printable.
 use Rattle.std.specs.Prelude.{ℕ, ◌+◌, ◌*◌, ◌<◌, ◌^◌, List, length, All, Option}
-use Rattle.mir_func.specs.declared.entry.DebugSubstitution.{DebugSubstitution}
+use Rattle.mir_func.specs.declared.debug_substitution.DebugSubstitution.{DebugSubstitution}
 use Rattle.mir_func.specs.SoundFrame.{IsFramed}
 use Rattle.emit_code.specs.Rule.{Layout, words_of}
 use Rattle.emit_code.specs.Laid.{IsWorded}

@@ -9,7 +9,7 @@ ghost use Rattle.listing_meaning.specs.Listing.{implicits, line_at};
 ghost use Rattle.listing_function.specs.steps.Operands.{compared, branch_by};
 
 use base_ids::code::{BlockId, DebugNumber};
-use emit_code::branch::inverted;
+use emit_code::inverted::inverted;
 use listing_text::output::{Implicit, Implicits, ItemLine, Line, SkipLine};
 use mir_func::item::{Item, ItemKind};
 use mir_func::position::Origin;

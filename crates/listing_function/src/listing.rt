@@ -16,7 +16,7 @@ use emit_code::code::{Code, EncodedInstruction as Laid};
 use emit_code::objects::ObjectOffsets;
 use listing_text::output::{Lines, ListedBlock, ListedFunction, ListedObject};
 use mir_func::block::Block;
-use mir_func::entry::DebugSubstitution;
+use mir_func::debug_substitution::DebugSubstitution;
 use mir_func::framed::Framed;
 use mir_func::object::Object;
 use std::alloc::{AllocError, Global};

@@ -8,8 +8,8 @@ use Rattle.rv64_instr.specs.Mnemonic.{branch_name}
 use Rattle.mir_func.specs.declared.position.Pos.{Pos}
 use Rattle.mir_func.specs.declared.position.Origin.{Origin}
 use Rattle.mir_func.specs.declared.position.Origin.TheVariants.{Kept, Before}
-use Rattle.mir_func.specs.declared.entry.DebugSubstitution.{DebugSubstitution}
-use Rattle.mir_func.specs.declared.entry.OperandPair.{OperandPair}
+use Rattle.mir_func.specs.declared.debug_substitution.DebugSubstitution.{DebugSubstitution}
+use Rattle.mir_func.specs.declared.debug_substitution.OperandPair.{OperandPair}
 use Rattle.mir_printer.specs.Spelling.{item_text, operand_text, register_text, quoted_byte}
 use Rattle.listing_text.specs.declared.output.ItemLine.{ItemLine}
 use Rattle.listing_text.specs.declared.output.Implicit.{Implicit}

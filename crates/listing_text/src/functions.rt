@@ -12,7 +12,7 @@ use crate::name::push_name;
 use crate::output::{ListedBlock, ListedFunction, ListedObject, ListedVariable};
 use base_ids::code::BlockId;
 use base_ids::metadata::NodeId;
-use mir_func::entry::{DebugSubstitution, OperandPair};
+use mir_func::debug_substitution::{DebugSubstitution, OperandPair};
 use mir_printer::text::{Text, push_decimal, push_numbered, push_str};
 use std::alloc::AllocError;
 

@@ -2,7 +2,7 @@
 
 use base_ids::code::{BlockId, ObjectId};
 use base_list::List;
-use mir_func::entry::DebugSubstitution;
+use mir_func::debug_substitution::DebugSubstitution;
 use mir_func::item::Item;
 use mir_func::position::Origin;
 use mir_func::variable::VarId;

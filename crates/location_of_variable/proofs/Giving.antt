@@ -13,7 +13,8 @@ use Rattle.mir_func.specs.declared.variable.VarId.{VarId}
 use Rattle.mir_func.specs.Graph.{Program}
 use Rattle.mir_func.specs.Parts.{Bytes}
 use Rattle.mir_func.specs.Variables.{is_same_node, is_same_variable, are_same_bytes, do_meet, overlaps}
-use Rattle.sem_mir.specs.Token.{Fixed, IsPlace, SitsIn, IsWanted, NoneIsWanted}
+use Rattle.sem_mir.specs.ValueId.{Fixed}
+use Rattle.sem_mir.specs.PreferredLocation.{IsPlace, SitsIn, IsWanted, NoneIsWanted}
 use Rattle.sem_mir.proofs.Assignments.{one_assigned}
 use Rattle.dwarf_loclists.specs.declared.range.Part.{Part}
 use Rattle.dwarf_loclists.specs.declared.range.Location.{Location}

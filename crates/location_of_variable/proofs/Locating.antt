@@ -17,7 +17,7 @@ use Rattle.mir_func.specs.declared.variable.VarId.{VarId}
 use Rattle.mir_func.specs.Graph.{Program}
 use Rattle.mir_func.specs.Parts.{Bytes, IsPart}
 use Rattle.mir_func.specs.Variables.{is_same_node, is_same_variable, are_same_bytes, is_same, do_meet, overlaps}
-use Rattle.sem_mir.specs.Token.{IsWanted, NoneIsWanted}
+use Rattle.sem_mir.specs.PreferredLocation.{IsWanted, NoneIsWanted}
 use Rattle.sem_mir.proofs.Assignments.{one_assigned}
 use Rattle.dwarf_loclists.specs.declared.range.Part.{Part}
 use Rattle.dwarf_loclists.specs.declared.range.Location.TheVariants.{Whole}

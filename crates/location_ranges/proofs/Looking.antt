@@ -14,7 +14,7 @@ use Rattle.mir_func.specs.declared.position.Pos.{Pos}
 use Rattle.mir_func.specs.declared.variable.VarId.{VarId}
 use Rattle.mir_func.specs.Graph.{Program, block_start}
 use Rattle.mir_func.specs.Successors.{pos_in}
-use Rattle.sem_mir.specs.Token.{NoneIsWanted}
+use Rattle.sem_mir.specs.PreferredLocation.{NoneIsWanted}
 use Rattle.sem_value_ids.specs.Pullback.{OfVariable}
 use Rattle.value_solver.specs.declared.tracked.Tracked.{Tracked}
 use Rattle.value_solver.specs.declared.tracked.Tracked.TheVariants.{Pair, Part, Number}
@@ -24,11 +24,11 @@ use Rattle.value_proof.specs.Wanted.{HasItsClass, IsFirstByClass, IsWantedOrNone
 use Rattle.value_proof.proofs.Wanted.{first_by_class_is_wanted, unmarked_is_nowhere}
 use Rattle.value_tracker.proofs.Constants.{place_is_first}
 use Rattle.value_tracker.specs.declared.index.TrackedIndex.{TrackedIndex}
-use Rattle.value_tracker.specs.Firsts.{AreFirsts}
-use Rattle.value_tracker.specs.Look.{place_of}
+use Rattle.value_tracker.specs.LowestLocation.{AreFirsts}
+use Rattle.value_tracker.specs.PreferredLocation.{place_of}
 use Rattle.dwarf_loclists.specs.Ranges.{IsListed}
 use Rattle.location_of_variable.specs.Wanted.{IsWantedPlace, AreWantedPlaces}
-use Rattle.location_ranges.specs.declared.stand.TransferTracker.{TransferTracker}
+use Rattle.location_ranges.specs.declared.transfer_tracker.TransferTracker.{TransferTracker}
 use Rattle.location_ranges.specs.declared.values.Values.{Values}
 use Rattle.location_ranges.specs.Stands.{program, AreValuesOf, Reaches, Stands}
 use Rattle.location_ranges.specs.steps.Places.{ArePlacesAt}

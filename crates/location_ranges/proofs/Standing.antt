@@ -3,7 +3,7 @@ use Rattle.std.proofs.Common.{◌≡◌, ℕ, zero, suc, ◌+◌, ◌<◌, List,
 use Rattle.std.specs.Prelude.{ℤ, Option, Some, None, IsSome, slice_get, slice_index, slice_index_or}
 use Rattle.rv64_instr.specs.Row.{Row, Fixes, Moves, Sets, Addresses, Loads, Stores, LoadsSlot, StoresSlot, Branches, Jumps, Calls, Returns, Unfit, row_of}
 use Rattle.mir_func.specs.declared.block.Block.{Block}
-use Rattle.mir_func.specs.declared.entry.OperandPair.{OperandPair}
+use Rattle.mir_func.specs.declared.debug_substitution.OperandPair.{OperandPair}
 use Rattle.mir_func.specs.declared.item.Item.{Item}
 use Rattle.mir_func.specs.declared.item.ItemKind.{ItemKind}
 use Rattle.mir_func.specs.declared.item.ItemKind.TheVariants.{Code, Mark, Phi}
@@ -21,11 +21,11 @@ use Rattle.value_proof.specs.Classes.{Classes, IsReached, AreClasses, AreFresh, 
 use Rattle.value_proof.proofs.Passing.{classes_pass_items, paths_come_from_above}
 use Rattle.value_tracker.specs.declared.index.TrackedIndex.{TrackedIndex}
 use Rattle.value_tracker.specs.Things.{Settle, settled_at}
-use Rattle.value_tracker.specs.Held.{Holds, Passes}
+use Rattle.value_tracker.specs.LocationTracker.{Holds, Passes}
 use Rattle.value_tracker.specs.Start.{ConstantsNow}
 use Rattle.value_tracker.proofs.Entering.{entries_give_classes}
 use Rattle.location_ranges.specs.declared.values.Values.{Values}
-use Rattle.location_ranges.specs.declared.stand.TransferTracker.{TransferTracker}
+use Rattle.location_ranges.specs.declared.transfer_tracker.TransferTracker.{TransferTracker}
 use Rattle.location_ranges.specs.Stands.{program, AreValuesOf, Stands, Falls, IsBlockAt}
 
 -- ---- what stands at a position

@@ -1,7 +1,7 @@
 -- The walk's state before an item.
 use Rattle.std.specs.Prelude.{◌≡◌, ℕ, List, length, map, Some, true, false, slice_get}
 use Rattle.mir_func.specs.declared.block.Block.{Block}
-use Rattle.mir_func.specs.declared.entry.DebugSubstitution.{DebugSubstitution}
+use Rattle.mir_func.specs.declared.debug_substitution.DebugSubstitution.{DebugSubstitution}
 use Rattle.mir_func.specs.declared.exit.Exit.{Exit}
 use Rattle.mir_func.specs.declared.exit.Exit.TheVariants.{Onward, Perhaps, Always, Final}
 use Rattle.mir_func.specs.declared.item.Item.{Item}
@@ -14,10 +14,10 @@ use Rattle.value_proof.specs.Classes.{Classes, AreClasses, IsReached}
 use Rattle.value_proof.specs.Wanted.{AreThingsOf}
 use Rattle.value_tracker.specs.declared.index.TrackedIndex.{TrackedIndex}
 use Rattle.value_tracker.specs.Things.{AreThings}
-use Rattle.value_tracker.specs.Held.{PLACES, Holds}
+use Rattle.value_tracker.specs.LocationTracker.{PLACES, Holds}
 use Rattle.value_tracker.specs.Start.{ConstantsNow}
 use Rattle.location_ranges.specs.declared.values.Values.{Values}
-use Rattle.location_ranges.specs.declared.stand.TransferTracker.{TransferTracker}
+use Rattle.location_ranges.specs.declared.transfer_tracker.TransferTracker.{TransferTracker}
 
 -- the semantics of the function with its frame
 abbrev pub program : List Block → List DebugSubstitution → Program

@@ -7,7 +7,7 @@
 
 pub mod places;
 pub mod ranges;
-pub mod stand;
 pub mod track;
+pub mod transfer_tracker;
 pub mod turn;
 pub mod values;

@@ -15,8 +15,8 @@ ghost use Rattle.location_ranges.specs.steps.Saying.{TurnedBelow, IsNew, Closes}
 ghost use Rattle.location_ranges.specs.steps.Walk.{IsPointIn, Fits, HaveSaid};
 
 use crate::places::look_up;
-use crate::stand::{TransferTracker, enter, move_to};
 use crate::track::Track;
+use crate::transfer_tracker::{TransferTracker, enter, move_to};
 use crate::turn::turn_all;
 use crate::values::Values;
 use dwarf_loclists::range::{RangeLists, Ranges};

@@ -4,7 +4,7 @@ use Rattle.rv64_instr.specs.declared.place.Place.{Place}
 use Rattle.mir_func.specs.declared.position.Pos.{Pos}
 use Rattle.mir_func.specs.declared.variable.VarId.{VarId}
 use Rattle.mir_func.specs.Graph.{Program, block_start}
-use Rattle.sem_mir.specs.Token.{IsWanted}
+use Rattle.sem_mir.specs.PreferredLocation.{IsWanted}
 use Rattle.sem_machine.specs.Exact.{AreExact}
 use Rattle.machine_proof.specs.Lists.{GiveWanted}
 

@@ -8,7 +8,7 @@ use Rattle.rv64_instr.specs.Arithmetic.{taken, load_width, store_width}
 use Rattle.rv64_instr.specs.Instruction.{Instruction}
 use Rattle.rv64_instr.specs.Parts.{is_call}
 use Rattle.rv64_instr.specs.Row.{Row, Fixes, Moves, Sets, Addresses, Loads, Stores, LoadsSlot, StoresSlot, Branches, Jumps, Calls, Returns, Unfit, row_of}
-use Rattle.rv64_instr.specs.Access.{caller_saved, reads}
+use Rattle.rv64_instr.specs.DefsAndUses.{caller_saved, reads}
 use Rattle.mir_func.specs.declared.position.Pos.{Pos}
 use Rattle.mir_func.specs.declared.item.Item.{Item}
 use Rattle.mir_func.specs.declared.item.ItemKind.{ItemKind}

@@ -1,7 +1,7 @@
 -- From a function that simulates a source to the machine's run, with its frame and its layout.
 use Rattle.std.specs.Prelude.{◌≡◌, ℕ, Option}
 use Rattle.rv64_instr.specs.declared.place.Place.{Place}
-use Rattle.mir_func.specs.declared.entry.OperandPair.{OperandPair}
+use Rattle.mir_func.specs.declared.debug_substitution.OperandPair.{OperandPair}
 use Rattle.mir_func.specs.declared.variable.VarId.{VarId}
 use Rattle.mir_func.specs.Function.{Function}
 use Rattle.mir_func.specs.Graph.{framed_program}

@@ -1,7 +1,7 @@
 -- The statement `Headline` for a function that simulates a source, with its frame, its layout and its location lists.
 use Rattle.std.specs.Prelude.{◌≡◌, ℕ, ◌<◌, ◌≤◌, Option}
 use Rattle.rv64_instr.specs.declared.place.Place.{Place}
-use Rattle.mir_func.specs.declared.entry.OperandPair.{OperandPair}
+use Rattle.mir_func.specs.declared.debug_substitution.OperandPair.{OperandPair}
 use Rattle.mir_func.specs.declared.variable.VarId.{VarId}
 use Rattle.mir_func.specs.Function.{Function}
 use Rattle.mir_func.specs.Graph.{framed_program}

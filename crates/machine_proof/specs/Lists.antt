@@ -9,7 +9,7 @@ use Rattle.mir_func.specs.Exits.{exit_of}
 use Rattle.mir_func.specs.Function.{FramedFunction}
 use Rattle.mir_func.specs.Graph.{Here, Program, below, block_start}
 use Rattle.sem_mir.specs.Align.{is_code}
-use Rattle.sem_mir.specs.Token.{IsWanted}
+use Rattle.sem_mir.specs.PreferredLocation.{IsWanted}
 use Rattle.machine_steps_proof.specs.Laid.{fetched}
 
 -- each place that the lists name for a part of a variable at an address is the one required at each position of the address, over

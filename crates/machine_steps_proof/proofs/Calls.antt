@@ -5,7 +5,7 @@ use Rattle.std.proofs.Common.{subst}
 use Rattle.std.proofs.lemmas.List.Elements.{All-head, All-tail}
 use Rattle.rv64_instr.specs.declared.operand.Operand.{Operand}
 use Rattle.rv64_instr.specs.Row.{Calls}
-use Rattle.rv64_instr.specs.Access.{caller_saved}
+use Rattle.rv64_instr.specs.DefsAndUses.{caller_saved}
 use Rattle.mir_func.specs.Function.{FramedFunction}
 use Rattle.mir_func.specs.SoundFrame.{IsFramed}
 use Rattle.sem_mir.specs.State.{Core, Reply, Event, Called, updated, written, in_frame, writes_frame, IsReply, IsInRange}

@@ -3,13 +3,14 @@
 use Rattle.std.proofs.Common.{◌≡◌, ℕ, zero, suc, List, [], ◌∷◌, drop, map, Option, cond, nat_eq, refl, sym, ap, ◌∙◌, subst}
 use Rattle.rv64_instr.specs.declared.place.Place.{Place}
 use Rattle.mir_func.specs.declared.block.Block.{Block}
-use Rattle.mir_func.specs.declared.entry.OperandPair.{OperandPair}
+use Rattle.mir_func.specs.declared.debug_substitution.OperandPair.{OperandPair}
 use Rattle.mir_func.specs.declared.item.Item.{Item}
 use Rattle.mir_func.specs.declared.position.Pos.{Pos}
 use Rattle.mir_func.specs.declared.variable.VarId.{VarId}
 use Rattle.mir_func.specs.Graph.{Fetch, Here, EndOfBlock, Outside, Program, block_start, end_of, front, fetch_in, index_of, framed_program, KindEdge, FetchEdge}
 use Rattle.mir_func.specs.SoundFrame.{body_of}
-use Rattle.sem_mir.specs.Token.{Tokens, after_fetch, Path, begin, onward, SitsIn}
+use Rattle.sem_mir.specs.ValueId.{Tokens, after_fetch, Path, begin, onward}
+use Rattle.sem_mir.specs.PreferredLocation.{SitsIn}
 use Rattle.machine_steps_proof.specs.Contents.{contents_of, ContentsTellWanted}
 
 -- the same stands there, silent indices aside

@@ -5,8 +5,8 @@ use Rattle.mir_func.specs.declared.position.Pos.{Pos}
 use Rattle.mir_func.specs.Graph.{Program}
 use Rattle.sem_mir.specs.State.{State, IsInRange, content}
 use Rattle.sem_mir.specs.Step.{Went, step}
-use Rattle.sem_mir.specs.Token.{Token, Tokens, register_token, after_fetch, entry_tokens, Path}
-use Rattle.sem_mir.specs.Token as token
+use Rattle.sem_mir.specs.ValueId.{Token, Tokens, register_token, after_fetch, entry_tokens, Path}
+use Rattle.sem_mir.specs.ValueId as token
 use Rattle.sem_mir.proofs.Edges.{step_edge}
 use Rattle.sem_mir.proofs.InRange.{step_in_range}
 use Rattle.sem_value_ids.specs.Pullback.{InRegister}

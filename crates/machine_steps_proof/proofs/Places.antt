@@ -8,7 +8,7 @@ use Rattle.mir_func.specs.Limits.{MAX_FRAME, FRAME_ROOM}
 use Rattle.mir_func.specs.Objects.{area_of}
 use Rattle.sem_mir.specs.State.{content, spelled}
 use Rattle.sem_mir.specs.Step.{or_zero}
-use Rattle.sem_mir.specs.Token.{Fixed, place_token}
+use Rattle.sem_mir.specs.ValueId.{Fixed, place_token}
 use Rattle.sem_machine.specs.Machine.{address_of, place_content}
 use Rattle.machine_steps_proof.specs.Beside.{frame_low}
 use Rattle.machine_steps_proof.specs.Places.{PlacesHold}

@@ -9,7 +9,7 @@ use Rattle.rv64_instr.specs.Arithmetic.{word}
 use Rattle.rv64_instr.specs.Row.{Row, Fixes, Moves, Sets, Addresses, Loads, Stores, LoadsSlot, StoresSlot, Branches, Jumps, Calls, Returns, Unfit, row_of}
 use Rattle.rv64_instr.specs.Row.{add_row}
 use Rattle.rv64_instr.specs.Parts.{is_call}
-use Rattle.mir_func.specs.declared.entry.OperandPair.{OperandPair}
+use Rattle.mir_func.specs.declared.debug_substitution.OperandPair.{OperandPair}
 use Rattle.mir_func.specs.declared.exit.Exit.TheVariants.{Final}
 use Rattle.mir_func.specs.declared.item.Item.{Item}
 use Rattle.mir_func.specs.declared.item.ItemKind.{ItemKind}
@@ -20,8 +20,8 @@ use Rattle.mir_func.specs.Function.{FramedFunction}
 use Rattle.mir_func.specs.Graph.{Fetch, Here, EndOfBlock, Outside, Program, below, block_start, framed_program, RowEdge, KindEdge, FetchEdge}
 use Rattle.mir_func.specs.Sound.{SlotIn, SlotsIn}
 use Rattle.mir_func.specs.SoundFrame.{adds_to_pointer, slot_offsets, IsSlotOffset, IsFramed}
-use Rattle.sem_mir.specs.Token.{Token, Tokens, register_token, moved_tokens, sets_pointer, code_tokens, numbered_tokens, after_item, after_fetch}
-use Rattle.sem_mir.specs.Token.{Path, begin, onward}
+use Rattle.sem_mir.specs.ValueId.{Token, Tokens, register_token, moved_tokens, sets_pointer, code_tokens, numbered_tokens, after_item, after_fetch}
+use Rattle.sem_mir.specs.ValueId.{Path, begin, onward}
 use Rattle.machine_steps_proof.specs.Laid.{fetched}
 use Rattle.machine_steps_proof.specs.Pointer.{lowered_by}
 use Rattle.machine_steps_proof.proofs.Points.{of_item, PointerMotion, keeps, lowers, raises, leaves, pointer_motion, start_down}

@@ -1,13 +1,13 @@
 -- The value that the machine has in a place with a token.
 use Rattle.std.specs.Prelude.{◌≡◌, ℕ, Option, Some}
 use Rattle.rv64_instr.specs.declared.place.Place.{Place}
-use Rattle.mir_func.specs.declared.entry.OperandPair.{OperandPair}
+use Rattle.mir_func.specs.declared.debug_substitution.OperandPair.{OperandPair}
 use Rattle.mir_func.specs.declared.position.Pos.{Pos}
 use Rattle.mir_func.specs.Function.{FramedFunction}
 use Rattle.mir_func.specs.Graph.{block_start, framed_program}
 use Rattle.mir_func.specs.SoundFrame.{IsFramed}
 use Rattle.sem_mir.specs.State.{Core}
-use Rattle.sem_mir.specs.Token.{Token, Tokens, place_token, Path}
+use Rattle.sem_mir.specs.ValueId.{Token, Tokens, place_token, Path}
 use Rattle.sem_value_ids.specs.Trace.{Names}
 use Rattle.sem_simulation.specs.Words.{SameCode}
 use Rattle.sem_machine.specs.Machine.{Machine, place_content}

@@ -1,8 +1,8 @@
 -- Resolution of a pair of a debug instruction number and an operand by substitutions (LLVM, "Instruction referencing for debug
 -- info").
 use Rattle.std.specs.Prelude.{◌≡◌, ℕ, zero, suc, List, [], ◌∷◌, length, Option, Some, None, Bool, cond, nat_eq, ◌&&◌}
-use Rattle.mir_func.specs.declared.entry.OperandPair.{OperandPair}
-use Rattle.mir_func.specs.declared.entry.DebugSubstitution.{DebugSubstitution}
+use Rattle.mir_func.specs.declared.debug_substitution.OperandPair.{OperandPair}
+use Rattle.mir_func.specs.declared.debug_substitution.DebugSubstitution.{DebugSubstitution}
 
 -- both are the same operand of the same debug instruction number
 abbrev pub is_pair : OperandPair → OperandPair → Bool

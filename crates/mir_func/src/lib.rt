@@ -6,7 +6,7 @@
 #![tactic(auto)]
 
 pub mod block;
-pub mod entry;
+pub mod debug_substitution;
 pub mod exit;
 pub mod framed;
 pub mod func;

@@ -2,7 +2,7 @@
 
 ghost use Rattle.std.specs.Prelude.{◌≡◌, ◌↔◌, ℕ, ◌<◌, ◌∷◌, Bool, Option, length, slice_index, slice_get, Contains};
 ghost use Rattle.mir_func.specs.Sound.{ids_of, IsJumpAtMost, EndsWell};
-ghost use Rattle.mir_func.specs.declared.entry.OperandPair.{OperandPair};
+ghost use Rattle.mir_func.specs.declared.debug_substitution.OperandPair.{OperandPair};
 ghost use Rattle.mir_func.specs.Graph.{program_of};
 ghost use Rattle.mir_func.specs.Successors.{numbers_of, GoesTo, ways};
 

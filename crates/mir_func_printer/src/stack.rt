@@ -15,7 +15,7 @@ ghost use Rattle.mir_func_printer.specs.FuncText.{
 };
 
 use base_ids::code::SlotId;
-use mir_func::entry::{DebugSubstitution, OperandPair};
+use mir_func::debug_substitution::{DebugSubstitution, OperandPair};
 use mir_func::object::Object;
 use mir_printer::text::{Text, push_numbered, push_str};
 use std::alloc::AllocError;

@@ -1,7 +1,7 @@
 -- The law of chains of substitutions.
 use Rattle.std.specs.Prelude.{◌≡◌, ◌↔◌, List, Some}
-use Rattle.mir_func.specs.declared.entry.OperandPair.{OperandPair}
-use Rattle.mir_func.specs.declared.entry.DebugSubstitution.{DebugSubstitution}
+use Rattle.mir_func.specs.declared.debug_substitution.OperandPair.{OperandPair}
+use Rattle.mir_func.specs.declared.debug_substitution.DebugSubstitution.{DebugSubstitution}
 use Rattle.mir_func.specs.Resolve.{resolve, Ends}
 
 -- a pair resolves to another exactly if its chain ends there

@@ -5,7 +5,7 @@ ghost use Rattle.mir_func.specs.Resolve.{entry_of, resolve};
 ghost use Rattle.mir_substitution.specs.Added.{added};
 ghost use Rattle.mir_substitution.specs.Index.{key_of};
 
-use mir_func::entry::{DebugSubstitution, OperandPair};
+use mir_func::debug_substitution::{DebugSubstitution, OperandPair};
 use std::alloc::{AllocError, Global};
 use std::collections::HashMap;
 use std::marker::Model;
@@ -21,7 +21,7 @@ pub struct Substitutions {
 
 impl Model for Substitutions {
     ghost use Rattle.std.specs.Prelude.{List};
-    ghost use Rattle.mir_func.specs.declared.entry.DebugSubstitution.{DebugSubstitution};
+    ghost use Rattle.mir_func.specs.declared.debug_substitution.DebugSubstitution.{DebugSubstitution};
 
     ghost Value = { List DebugSubstitution };
 

@@ -5,8 +5,8 @@ use Rattle.rv64_instr.specs.declared.place.Place.TheVariants.{Register, Slot, Co
 use Rattle.rv64_instr.specs.Form.{has_form}
 use Rattle.rv64_instr.specs.Instruction.{Instruction}
 use Rattle.mir_func.specs.declared.block.Block.{Block}
-use Rattle.mir_func.specs.declared.entry.DebugSubstitution.{DebugSubstitution}
-use Rattle.mir_func.specs.declared.entry.OperandPair.{OperandPair}
+use Rattle.mir_func.specs.declared.debug_substitution.DebugSubstitution.{DebugSubstitution}
+use Rattle.mir_func.specs.declared.debug_substitution.OperandPair.{OperandPair}
 use Rattle.mir_func.specs.declared.item.Item.{Item}
 use Rattle.mir_func.specs.declared.item.ItemKind.{ItemKind}
 use Rattle.mir_func.specs.declared.item.ItemKind.TheVariants.{Code, Mark, Phi}

@@ -1,7 +1,7 @@
 -- What followed a source loosely follows it loosely after its blocks are edited item by item.
 use Rattle.std.proofs.Common.{◌≡◌, ℕ, suc, List, [], ◌∷◌, length, get_or, All, None, true, false, refl, sym, ap, ◌∙◌, subst, arith}
 use Rattle.std.proofs.lemmas.List.Elements.{All-cons, All-head, All-tail}
-use Rattle.mir_func.specs.declared.entry.DebugSubstitution.{DebugSubstitution}
+use Rattle.mir_func.specs.declared.debug_substitution.DebugSubstitution.{DebugSubstitution}
 use Rattle.mir_func.specs.declared.position.Pos.{Pos}
 use Rattle.mir_func.specs.declared.position.Origin.{Origin}
 use Rattle.mir_func.specs.declared.block.Block.{Block}

@@ -4,7 +4,7 @@ use Rattle.std.specs.Prelude.{◌≡◌, List, All, true, false}
 use Rattle.mir_func.specs.declared.position.Pos.{Pos}
 use Rattle.mir_func.specs.declared.block.Block.{Block}
 use Rattle.mir_func.specs.declared.item.Item.{Item}
-use Rattle.mir_func.specs.declared.entry.DebugSubstitution.{DebugSubstitution}
+use Rattle.mir_func.specs.declared.debug_substitution.DebugSubstitution.{DebugSubstitution}
 use Rattle.mir_func.specs.Function.{Function}
 use Rattle.mir_func.specs.Graph.{Program, Here, block_start, program_of, Edge, Leads}
 use Rattle.mir_func.specs.Resolve.{resolve}

@@ -8,8 +8,8 @@ ghost use Rattle.pass_liveness.specs.Sets.{bit_of, has, is_place};
 
 use crate::index::Index;
 use crate::set::PlaceSet;
+use rv64_instr::effects::CALLER_SAVED;
 use rv64_instr::operand::Operand;
-use rv64_instr::parts::CALLER_SAVED;
 use rv64_instr::place::Place;
 
 /// The bit of the first register.

@@ -14,9 +14,9 @@ use crate::names::SlotAndBlockNumbers;
 use crate::set::PlaceSet;
 use mir_func::item::ItemKind;
 use rv64_instr::decoded::Decoded;
+use rv64_instr::effects::CALLER_SAVED;
 use rv64_instr::instr::Instr;
 use rv64_instr::operand::Operand;
-use rv64_instr::parts::CALLER_SAVED;
 use rv64_instr::place::Place;
 use rv64_instr::reg::physical;
 

@@ -1,7 +1,7 @@
 -- Paths of a function, after its blocks are edited item by item.
 use Rattle.std.proofs.Common.{◌≡◌, ◌⊎◌, inl, inr, ℕ, ◌<◌, List, [], ◌∷◌, drop, Option, true, false, refl, sym}
 use Rattle.std.proofs.Common.{ap, ◌∙◌, subst}
-use Rattle.mir_func.specs.declared.entry.OperandPair.{OperandPair}
+use Rattle.mir_func.specs.declared.debug_substitution.OperandPair.{OperandPair}
 use Rattle.mir_func.specs.declared.position.Pos.{Pos}
 use Rattle.mir_func.specs.declared.position.Origin.TheVariants.{Before}
 use Rattle.mir_func.specs.declared.block.Block.{Block}
@@ -15,7 +15,7 @@ use Rattle.sem_mir.specs.Align.{position_of, is_code}
 use Rattle.sem_mir.specs.Follow.{OnRow, Counts, IsMetApart}
 use Rattle.sem_mir.proofs.Edges.{leads_trans}
 use Rattle.sem_simulation.proofs.Laid.{rest_in, rest_of, laid_out}
-use Rattle.sem_simulation.specs.Sides.{IsPastItems}
+use Rattle.sem_simulation.specs.MatchStates.{IsPastItems}
 use Rattle.pass_salvage.proofs.Kin.{Kin, kin_edge, kin_save, GoesAlike}
 use Rattle.pass_salvage.proofs.Edits.{Edits, Edited, over, pair, out, put, BlocksEdited, no_blocks, next_block, first_of_front, none_of_front, comes_from}
 use Rattle.pass_salvage.proofs.Edits.{above_on, IsPaired}

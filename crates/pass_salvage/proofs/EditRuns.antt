@@ -2,7 +2,7 @@
 use Rattle.std.proofs.Common.{◌≡◌, inl, ℕ, List, [], ◌∷◌, drop, All, Option, Some, Bool, true, false}
 use Rattle.std.proofs.Common.{refl, sym, ap, ◌∙◌, subst, arith}
 use Rattle.std.proofs.lemmas.List.Elements.{All-head, All-tail, All-contains}
-use Rattle.mir_func.specs.declared.entry.OperandPair.{OperandPair}
+use Rattle.mir_func.specs.declared.debug_substitution.OperandPair.{OperandPair}
 use Rattle.mir_func.specs.declared.position.Pos.{Pos}
 use Rattle.mir_func.specs.declared.block.Block.{Block}
 use Rattle.mir_func.specs.declared.item.Item.{Item}
@@ -15,7 +15,7 @@ use Rattle.sem_mir.specs.Effects.{EndAlike, FallsInto}
 use Rattle.sem_mir.specs.Align.{position_of, is_code, is_jump, Count, moves_on, end_sync_point, sync_point_of, sync_point_at, IsOrigin, AnyOrigin}
 use Rattle.sem_mir.specs.Align.{RunsMatch, SyncPoint, After}
 use Rattle.sem_mir.specs.Follow.{InOrder}
-use Rattle.sem_simulation.specs.Sides.{Sides, MatchStates, ShowsSame, OutcomesAlike, since_item}
+use Rattle.sem_simulation.specs.MatchStates.{Sides, MatchStates, ShowsSame, OutcomesAlike, since_item}
 use Rattle.sem_simulation.specs.InPlace.{FallsOrTraps, View, ended, both, taken, added, paired, InPlace}
 use Rattle.sem_simulation.proofs.Stations.{code_sync_point, end_is_sync_point, IsSyncPointOf, of_item, of_end, sync_point_is_of}
 use Rattle.sem_simulation.proofs.Laid.{rest_in, rest_of, laid_out, in_order_at, one_end, from_home, from_within, from_before_end, falls_down}

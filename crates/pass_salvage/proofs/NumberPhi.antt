@@ -7,7 +7,7 @@ use Rattle.rv64_instr.specs.declared.place.Place.TheVariants.{Register}
 use Rattle.rv64_instr.specs.Instruction.{Instruction}
 use Rattle.rv64_instr.specs.Row.{Moves, row_of}
 use Rattle.rv64_instr.specs.Parts.{is_call, set_by, moved_by}
-use Rattle.mir_func.specs.declared.entry.OperandPair.{OperandPair}
+use Rattle.mir_func.specs.declared.debug_substitution.OperandPair.{OperandPair}
 use Rattle.mir_func.specs.declared.position.Origin.{Origin}
 use Rattle.mir_func.specs.declared.location.Loc.{Loc}
 use Rattle.mir_func.specs.declared.item.Item.{Item}
@@ -23,7 +23,7 @@ use Rattle.sem_mir.specs.Align.{is_code}
 use Rattle.sem_mir.proofs.Outcomes.{alike_weaker}
 use Rattle.sem_mir.proofs.Parts.{effects_hold}
 use Rattle.sem_mir.proofs.Places.{updated_same, updated_other}
-use Rattle.sem_simulation.specs.Sides.{OutcomesAlike, ShowsSame}
+use Rattle.sem_simulation.specs.MatchStates.{OutcomesAlike, ShowsSame}
 use Rattle.sem_simulation.proofs.Outcomes.{alike_of}
 use Rattle.pass_trait.specs.Rule.{item}
 use Rattle.sem_agreement.specs.Agreement.{AgreeOn, DebugLessDef, Alike, GenDefs, HeldAfter, NumbersHeld, Depends}

@@ -1,7 +1,7 @@
 -- One substitution more, between two pairs that have none: what pairs resolve to.
 use Rattle.std.proofs.Common.{◌≡◌, ◌⊎◌, inl, inr, List, [], ◌∷◌, ◌++◌, Option, Some, None, Bool, true, false, cond, refl, sym, ap, ◌∙◌}
-use Rattle.mir_func.specs.declared.entry.OperandPair.{OperandPair}
-use Rattle.mir_func.specs.declared.entry.DebugSubstitution.{DebugSubstitution}
+use Rattle.mir_func.specs.declared.debug_substitution.OperandPair.{OperandPair}
+use Rattle.mir_func.specs.declared.debug_substitution.DebugSubstitution.{DebugSubstitution}
 use Rattle.mir_func.specs.Resolve.{is_pair, entry_of, resolve, Ends, at, by}
 use Rattle.mir_substitution.proofs.Entries.{is_pair-true, is_pair-same, entry_of-push}
 use Rattle.mir_substitution.proofs.Chains.{resolve_ends, ends_resolve}

@@ -2,7 +2,7 @@
 -- number.
 use Rattle.std.specs.Prelude.{◌≡◌, ℕ, ◌^◌, List, [], ◌∷◌, Bool, false, cond, nat_eq, nat_lt, Option, Some, None, max, not, ◌&&◌}
 use Rattle.std.specs.HashMap.{get}
-use Rattle.mir_func.specs.declared.entry.DebugSubstitution.{DebugSubstitution}
+use Rattle.mir_func.specs.declared.debug_substitution.DebugSubstitution.{DebugSubstitution}
 use Rattle.mir_func.specs.declared.item.Item.{Item}
 use Rattle.pass_trait.specs.Rule.{first_operand}
 use Rattle.pass_salvage.specs.declared.above.Above.{Above}

@@ -5,7 +5,7 @@ ghost use Rattle.pass_trait.specs.Sizes.{greatest, numbers_of, greatest_number};
 ghost use Rattle.pass_salvage.specs.Fresh.{item_numbers, block_numbers, entry_numbers};
 
 use mir_func::block::Block;
-use mir_func::entry::DebugSubstitution;
+use mir_func::debug_substitution::DebugSubstitution;
 use mir_func::func::Func;
 use mir_func::item::{Item, ItemKind};
 use mir_func::variable::MarkValue;

@@ -6,7 +6,7 @@ ghost use Rattle.pass_salvage.specs.Salvage.{with_number, entry_for, entries_for
 
 use crate::way::{SalvageAction, choose_way};
 use base_ids::code::{DebugNumber, OperandIndex};
-use mir_func::entry::{DebugSubstitution, OperandPair};
+use mir_func::debug_substitution::{DebugSubstitution, OperandPair};
 use mir_func::item::{Item, ItemKind};
 use mir_func::location::Loc;
 use mir_func::position::Origin;

@@ -13,7 +13,7 @@ ghost use Rattle.pass_salvage.specs.Way.{or_fresh, way_by, way};
 ghost use Rattle.pass_salvage.specs.Above.{way_unless};
 
 use base_ids::code::{DebugNumber, OperandIndex};
-use mir_func::entry::OperandPair;
+use mir_func::debug_substitution::OperandPair;
 use mir_func::item::{Item, ItemKind};
 use mir_func::variable::MarkValue;
 use mir_substitution::substitutions::Substitutions;

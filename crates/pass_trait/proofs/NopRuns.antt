@@ -5,7 +5,7 @@ use Rattle.std.proofs.lemmas.Bool.{cases_eq}
 use Rattle.std.proofs.lemmas.List.Elements.{All-head, All-tail, All-contains}
 use Rattle.rv64_instr.specs.declared.operand.Operand.{Operand}
 use Rattle.rv64_instr.specs.Row.{Row, Fixes, Jumps, row_of}
-use Rattle.mir_func.specs.declared.entry.OperandPair.{OperandPair}
+use Rattle.mir_func.specs.declared.debug_substitution.OperandPair.{OperandPair}
 use Rattle.mir_func.specs.declared.position.Pos.{Pos}
 use Rattle.mir_func.specs.declared.block.Block.{Block}
 use Rattle.mir_func.specs.declared.item.Item.{Item}
@@ -18,7 +18,7 @@ use Rattle.rv64_instr.specs.Parts.{is_call}
 use Rattle.mir_func.specs.Graph.{Program, block_start, from_block, index_of, program_of}
 use Rattle.sem_mir.specs.Align.{is_code, is_jump, is_jump_row, Count, end_sync_point, sync_point_at, IsOrigin, Since, After, AnyOrigin, RunsMatch}
 use Rattle.sem_mir.specs.Follow.{InOrder}
-use Rattle.sem_simulation.specs.Sides.{Sides, MatchStates, since_item}
+use Rattle.sem_simulation.specs.MatchStates.{Sides, MatchStates, since_item}
 use Rattle.sem_simulation.specs.InPlace.{FallsOrTraps, DoAlike, View, ended, both, taken, paired, InPlace}
 use Rattle.sem_mir.proofs.Effects.{told_by, act_apart}
 use Rattle.sem_mir.specs.Effects.{EndAlike, OnCore}

@@ -1,6 +1,6 @@
 -- The input and the output of a pass.
 use Rattle.std.specs.Prelude.{List}
-use Rattle.mir_func.specs.declared.entry.DebugSubstitution.{DebugSubstitution}
+use Rattle.mir_func.specs.declared.debug_substitution.DebugSubstitution.{DebugSubstitution}
 use Rattle.mir_func.specs.Function.{Function}
 
 -- a function with its substitutions, before a pass and after it

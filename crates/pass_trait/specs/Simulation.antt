@@ -1,6 +1,6 @@
 -- The first law of passes: a pass preserves the simulation of a source.
 use Rattle.std.specs.Prelude.{◌≡◌, List, Bool, IsTrue}
-use Rattle.mir_func.specs.declared.entry.DebugSubstitution.{DebugSubstitution}
+use Rattle.mir_func.specs.declared.debug_substitution.DebugSubstitution.{DebugSubstitution}
 use Rattle.mir_func.specs.Function.{Function}
 use Rattle.mir_func.specs.Sound.{AllItems, IsSound, HasForm}
 use Rattle.mir_func.specs.Resolve.{resolve}

@@ -2,4 +2,4 @@ pub mod Met
 pub mod Limits
 pub mod Body
 pub mod Closing
-pub mod Frame
+pub mod StackEntryKind

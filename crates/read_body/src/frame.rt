@@ -2,7 +2,7 @@
 
 ghost use Rattle.std.specs.Prelude.{◌≡◌, ◌+◌, ◌^◌, ◌≤◌, ◌<◌, All, IfOk, OnOk, length};
 ghost use Rattle.mir_func.specs.Limits.{MAX_SLOTS};
-ghost use Rattle.read_body.specs.Frame.{
+ghost use Rattle.read_body.specs.StackEntryKind.{
   IsStackEntry,
   is_object,
   with_slot,

@@ -3,7 +3,7 @@
 use base_ids::code::{BlockId, DebugNumber, SlotId};
 use base_ids::metadata::NodeId;
 use base_list::List;
-use mir_func::entry::OperandPair;
+use mir_func::debug_substitution::OperandPair;
 use mir_func::location::Loc;
 use mir_func::variable::Fragment;
 use read_token::lexeme::{Flag, RegisterName};

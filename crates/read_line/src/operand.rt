@@ -26,7 +26,7 @@ use crate::form::{Expression, OperandForm};
 use crate::front::behind_bracket;
 use crate::register::register;
 use base_ids::code::{DebugNumber, OperandIndex};
-use mir_func::entry::OperandPair;
+use mir_func::debug_substitution::OperandPair;
 use mir_func::variable::Fragment;
 use read_token::lexeme::{BEYOND, Lexeme, Number, Word};
 use read_token::symbol::symbol_name;

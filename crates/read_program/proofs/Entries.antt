@@ -10,7 +10,7 @@ use Rattle.read_declarations.specs.declared.stack.StackEntry.{StackEntry}
 use Rattle.read_body.specs.declared.frame.ObjectLayout.{ObjectLayout}
 use Rattle.read_body.specs.Met.{is_met, met}
 use Rattle.read_body.specs.Closing.{all_met}
-use Rattle.read_body.specs.Frame.{is_object, laid_at, with_object, objects_behind, local_block, objects_of, with_id, ids_behind as object_ids_behind, ids_of_objects}
+use Rattle.read_body.specs.StackEntryKind.{is_object, laid_at, with_object, objects_behind, local_block, objects_of, with_id, ids_behind as object_ids_behind, ids_of_objects}
 use Rattle.read_program.specs.Closing.{ids_behind, entry_ids}
 use Rattle.read_program.proofs.Lists.{met_keeps, met_has}
 

@@ -15,9 +15,9 @@ use Rattle.read_declarations.specs.declared.stack.StackEntry.{StackEntry}
 use Rattle.read_declarations.specs.Stack.{is_alignment, entry_offsets}
 use Rattle.read_body.specs.declared.frame.ObjectLayout.{ObjectLayout}
 use Rattle.read_body.specs.Met.{is_met, met}
-use Rattle.read_body.specs.Frame.{is_object, with_slot, slots_behind, slots_of, laid_at, with_object, objects_behind, local_block, objects_of, with_id}
-use Rattle.read_body.specs.Frame.{ids_behind as object_ids_behind}
-use Rattle.read_body.specs.Frame.{ids_of_objects}
+use Rattle.read_body.specs.StackEntryKind.{is_object, with_slot, slots_behind, slots_of, laid_at, with_object, objects_behind, local_block, objects_of, with_id}
+use Rattle.read_body.specs.StackEntryKind.{ids_behind as object_ids_behind}
+use Rattle.read_body.specs.StackEntryKind.{ids_of_objects}
 use Rattle.read_program.specs.Closing.{ids_behind, entry_ids}
 use Rattle.read_program.proofs.Lists.{apart_push, met_keeps, met_has, met_at, met_contains}
 use Rattle.read_program.proofs.Entries.{met_cases}

@@ -41,7 +41,7 @@ use Rattle.mir_func.specs.Sound.{LeavesPointer, number_of, code_number, NumbersO
 use Rattle.mir_func.specs.Sound.{HasForm}
 use Rattle.read_declarations.specs.declared.stack.StackEntry.{StackEntry}
 use Rattle.read_body.specs.Closing.{goes_to_one_of, item_goes_to, block_goes_to, blocks_go_to}
-use Rattle.read_body.specs.Frame.{slots_of, ids_of_objects}
+use Rattle.read_body.specs.StackEntryKind.{slots_of, ids_of_objects}
 use Rattle.read_body.specs.Met.{is_met}
 use Rattle.read_program.specs.Closing.{entry_ids}
 use Rattle.read_program.specs.Objects.{operand_as, operands_as, place_as, kind_as, item_as, blocks_as, base_has_bytes, row_stays, kind_stays}

@@ -17,7 +17,7 @@ use Rattle.read_body.specs.declared.body.Body.{Body}
 use Rattle.read_body.specs.Met.{met}
 use Rattle.read_body.specs.Body.{blocks_of}
 use Rattle.read_body.specs.Closing.{blocks_go_to, all_met}
-use Rattle.read_body.specs.Frame.{IsStackEntry, slots_of, objects_of, ids_of_objects}
+use Rattle.read_body.specs.StackEntryKind.{IsStackEntry, slots_of, objects_of, ids_of_objects}
 use Rattle.read_program.specs.declared.closing.Parts.{Parts}
 use Rattle.read_program.specs.declared.closing.Parsed.{Parsed}
 use Rattle.read_program.specs.declared.error.ParseError.{ParseError}

@@ -23,7 +23,7 @@ use Rattle.base_ids.specs.Limits.{MAX_NUMBER}
 use Rattle.read_item.specs.Debug.{inlined_at, inlined_at_node}
 use Rattle.read_declarations.specs.declared.stack.StackEntry.{StackEntry}
 use Rattle.read_body.specs.Body.{row_object, object_named}
-use Rattle.read_body.specs.Frame.{objects_of, ids_of_objects}
+use Rattle.read_body.specs.StackEntryKind.{objects_of, ids_of_objects}
 use Rattle.read_body.specs.Met.{is_met}
 use Rattle.read_program.specs.Closing.{entry_ids}
 use Rattle.read_program.specs.Objects.{operand_as, operands_as, is_object, place_as, kind_as}

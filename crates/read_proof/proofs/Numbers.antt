@@ -9,8 +9,8 @@ use Rattle.read_refusal.specs.declared.kind.RefusalKind.TheVariants.{StackObject
 use Rattle.read_metadata.specs.Number.{integer_of}
 use Rattle.read_metadata.specs.Token.{is_integer}
 use Rattle.read_documents.specs.declared.parts.FunctionDocument.{FunctionDocument}
-use Rattle.mir_func.specs.declared.entry.DebugSubstitution as func
-use Rattle.mir_func.specs.declared.entry.OperandPair.{OperandPair}
+use Rattle.mir_func.specs.declared.debug_substitution.DebugSubstitution as func
+use Rattle.mir_func.specs.declared.debug_substitution.OperandPair.{OperandPair}
 use Rattle.mir_func.specs.declared.object.Object.{Object}
 use Rattle.mir_func.specs.Resolve.{entry_of}
 use Rattle.base_ids.specs.Limits.{MAX_NUMBER}
@@ -29,7 +29,7 @@ use Rattle.read_declarations.specs.Stack.{is_alignment, entry_with, unsized, sta
 use Rattle.read_declarations.specs.Stream.{text_at}
 use Rattle.read_declarations.specs.Substitutions.{pair_of, substitution_with, substitution_of, substituted, substitutions_behind}
 use Rattle.read_body.specs.declared.frame.ObjectLayout.{ObjectLayout}
-use Rattle.read_body.specs.Frame.{is_object, with_slot, slots_behind, slots_of, laid_at, with_object, objects_behind, local_block, objects_of}
+use Rattle.read_body.specs.StackEntryKind.{is_object, with_slot, slots_behind, slots_of, laid_at, with_object, objects_behind, local_block, objects_of}
 use Rattle.read_proof.specs.Read.{PairIsLimited, EntryIsLimited}
 use Rattle.read_proof.proofs.Nodes.{Small, one_of, integer_small}
 

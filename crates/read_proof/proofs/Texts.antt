@@ -17,7 +17,7 @@ use Rattle.read_lexer.specs.declared.line.Line.{Line}
 use Rattle.read_documents.specs.declared.parts.FunctionDocument.{FunctionDocument}
 use Rattle.read_documents.specs.Documents.{documents_of}
 use Rattle.mir_func.specs.declared.block.Block.{Block}
-use Rattle.mir_func.specs.declared.entry.DebugSubstitution.{DebugSubstitution}
+use Rattle.mir_func.specs.declared.debug_substitution.DebugSubstitution.{DebugSubstitution}
 use Rattle.mir_func.specs.declared.item.Item.{Item}
 use Rattle.mir_func.specs.declared.item.ItemKind.{ItemKind}
 use Rattle.mir_func.specs.declared.location.Loc.{Loc}
@@ -29,7 +29,7 @@ use Rattle.read_item.specs.Debug.{inlined_at_node}
 use Rattle.read_body.specs.declared.body.Body.{Body}
 use Rattle.read_body.specs.Body.{blocks_of}
 use Rattle.read_body.specs.Closing.{blocks_go_to, all_met}
-use Rattle.read_body.specs.Frame.{ids_of_objects}
+use Rattle.read_body.specs.StackEntryKind.{ids_of_objects}
 use Rattle.read_body.specs.Met.{is_met}
 use Rattle.read_program.specs.declared.closing.Parsed.{Parsed}
 use Rattle.read_program.specs.declared.error.ParseError.{ParseError}

@@ -2,8 +2,8 @@
 use Rattle.std.specs.Prelude.{ℕ, ◌≤◌, is_some, IfSome, List, All, length, Ok}
 use Rattle.read_metadata.specs.Maps.{Maps}
 use Rattle.read_metadata.specs.Metadata.{location_at}
-use Rattle.mir_func.specs.declared.entry.DebugSubstitution.{DebugSubstitution}
-use Rattle.mir_func.specs.declared.entry.OperandPair.{OperandPair}
+use Rattle.mir_func.specs.declared.debug_substitution.DebugSubstitution.{DebugSubstitution}
+use Rattle.mir_func.specs.declared.debug_substitution.OperandPair.{OperandPair}
 use Rattle.mir_func.specs.Function.{Function}
 use Rattle.mir_func.specs.Objects.{object_of}
 use Rattle.mir_func.specs.Sound.{AllItems, items_of, IsSound, HasForm}

@@ -8,7 +8,7 @@ use Rattle.mir_func.specs.Sound.{AreApart}
 use Rattle.read_declarations.specs.declared.stack.StackEntry.{StackEntry}
 use Rattle.read_body.specs.declared.frame.ObjectLayout.{ObjectLayout}
 use Rattle.mir_func.specs.Objects.{next_end}
-use Rattle.read_body.specs.Frame.{is_object, with_slot, slots_behind, laid_at, with_object, objects_behind}
+use Rattle.read_body.specs.StackEntryKind.{is_object, with_slot, slots_behind, laid_at, with_object, objects_behind}
 use Rattle.read_body.specs.Met.{is_met}
 use Rattle.read_program.proofs.Lists.{found, met_at}
 

@@ -12,8 +12,8 @@ use Rattle.mir_func.specs.Objects.{up_to, reach_after, reach_from, counted, loca
 use Rattle.read_declarations.specs.declared.stack.StackEntry.{StackEntry}
 use Rattle.read_declarations.specs.Stack.{entry_offsets}
 use Rattle.read_body.specs.declared.frame.ObjectLayout.{ObjectLayout}
-use Rattle.read_body.specs.Frame.{is_object, with_slot, slots_behind, slots_of, laid_at, with_object, objects_behind, local_block, objects_of}
-use Rattle.read_body.specs.Frame.{ids_of_objects}
+use Rattle.read_body.specs.StackEntryKind.{is_object, with_slot, slots_behind, slots_of, laid_at, with_object, objects_behind, local_block, objects_of}
+use Rattle.read_body.specs.StackEntryKind.{ids_of_objects}
 use Rattle.read_body.specs.Met.{is_met, met}
 use Rattle.read_program.specs.Closing.{ids_behind, entry_ids}
 use Rattle.read_program.proofs.Entries.{ids_are_objects}

@@ -29,7 +29,7 @@ use Rattle.read_declarations.specs.Substitutions.{substitutions_behind, substitu
 use Rattle.read_body.specs.declared.body.Body.{Body}
 use Rattle.read_body.specs.Body.{constant_of, blocks_of}
 use Rattle.read_body.specs.Closing.{blocks_go_to, all_met}
-use Rattle.read_body.specs.Frame.{ids_of_objects}
+use Rattle.read_body.specs.StackEntryKind.{ids_of_objects}
 use Rattle.read_body.specs.Met.{is_met}
 use Rattle.read_program.specs.declared.closing.Parsed.{Parsed}
 use Rattle.read_program.specs.declared.closing.Parts.{Parts}

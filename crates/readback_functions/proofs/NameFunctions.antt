@@ -17,7 +17,7 @@ use Rattle.read_declarations.specs.declared.declarations.Declarations.{Declarati
 use Rattle.read_declarations.specs.Declarations.{refusal_of, declared_of, checked, declarations_of}
 use Rattle.read_body.specs.declared.body.Body.{Body}
 use Rattle.read_body.specs.Body.{blocks_of}
-use Rattle.read_body.specs.Frame.{ids_of_objects}
+use Rattle.read_body.specs.StackEntryKind.{ids_of_objects}
 use Rattle.read_program.specs.declared.closing.Parsed.{Parsed}
 use Rattle.read_program.specs.declared.error.ParseError.{ParseError}
 use Rattle.read_program.specs.declared.program.Program.{Program}

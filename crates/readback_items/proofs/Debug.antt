@@ -6,7 +6,7 @@ use Rattle.std.specs.Fmt.{decimal}
 use Rattle.std.proofs.lemmas.Fmt.{decimal_digit}
 use Rattle.std.proofs.lemmas.Bool.{le-leb, and_from, eq-eqb}
 use Rattle.read_metadata.specs.Token.{text_of}
-use Rattle.mir_func.specs.declared.entry.OperandPair.{OperandPair}
+use Rattle.mir_func.specs.declared.debug_substitution.OperandPair.{OperandPair}
 use Rattle.mir_func.specs.Parts.{Bytes, IsPart}
 use Rattle.base_ids.specs.Limits.{MAX_NUMBER}
 use Rattle.read_lexer.specs.declared.parts.Class.TheVariants as class

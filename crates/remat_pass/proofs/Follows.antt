@@ -2,7 +2,7 @@
 use Rattle.std.proofs.Common.{◌≡◌, List, [], ◌∷◌, All, true, false, refl, sym, ap, subst}
 use Rattle.std.proofs.lemmas.List.Elements.{All-head, All-tail}
 use Rattle.rv64_instr.specs.Row.{row_of}
-use Rattle.mir_func.specs.declared.entry.DebugSubstitution.{DebugSubstitution}
+use Rattle.mir_func.specs.declared.debug_substitution.DebugSubstitution.{DebugSubstitution}
 use Rattle.mir_func.specs.declared.block.Block.{Block}
 use Rattle.mir_func.specs.declared.item.Item.{Item}
 use Rattle.mir_func.specs.declared.item.ItemKind.{ItemKind}
@@ -16,7 +16,7 @@ use Rattle.sem_mir.specs.Step.{Outcome, Falls, Goes, Gives, Traps, Asks, Breaks,
 use Rattle.sem_mir.specs.Effects.{OnCore, EndAlike}
 use Rattle.sem_mir.specs.Follow.{OnRow, Counts}
 use Rattle.sem_mir.proofs.Told.{TellsLess, SeesLess, tells_itself, item_less}
-use Rattle.sem_simulation.specs.Sides.{OutcomesAlike}
+use Rattle.sem_simulation.specs.MatchStates.{OutcomesAlike}
 use Rattle.pass_trait.specs.Change.{change}
 use Rattle.pass_trait.specs.Simulation.{PreservesSimulation}
 use Rattle.pass_salvage.proofs.Edits.{Edits, Edited, over, pair, BlocksEdited, no_blocks, next_block}

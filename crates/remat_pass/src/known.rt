@@ -12,7 +12,7 @@ use crate::constant::Constant;
 use base_ids::code::SlotId;
 use mir_func::item::ItemKind;
 use rv64_instr::decoded::Decoded;
-use rv64_instr::parts::CALLER_SAVED;
+use rv64_instr::effects::CALLER_SAVED;
 use rv64_instr::reg::Reg;
 use std::alloc::{AllocError, Global};
 use std::collections::HashMap;

@@ -11,9 +11,9 @@ use emit_code::code::Code;
 use listing_text::output::{ListedFunction, ListedVariable};
 use mir_printer::text::Text;
 use pass_trait::loss::Losses;
-use report_function::debugify_print::print_report;
 use report_function::make::make_report;
 use report_function::report::VariableNames;
+use report_function::text::print_report;
 use std::alloc::{AllocError, Global};
 
 /// The reports of the functions of a compiled program, one after the other.

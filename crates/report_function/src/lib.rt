@@ -1,6 +1,6 @@
 //! The report on the debug info coverage and losses of one function, and of a program.
 //!
-//! - `covers`, `make`, `debugify_print`, `report`: How much debug info of a function was lost in compilation: how many
+//! - `covers`, `make`, `text`, `report`: How much debug info of a function was lost in compilation: how many
 //!   of its machine words are in the location list of each variable, and which debug instruction numbers, debug values
 //!   and registers the passes gave up, and why. The losses are in the order of the passes.
 //!
@@ -9,6 +9,6 @@
 
 pub mod compiled;
 mod covers;
-pub mod debugify_print;
 pub mod make;
 pub mod report;
+pub mod text;

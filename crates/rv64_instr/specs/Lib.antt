@@ -3,7 +3,7 @@ pub mod Instruction
 pub mod Form
 pub mod Arithmetic
 pub mod Row
-pub mod Access
+pub mod DefsAndUses
 pub mod Decoded
 pub mod Parts
 pub mod Reserve

@@ -5,7 +5,7 @@ use Rattle.rv64_instr.specs.declared.operand.Operand.{Operand}
 use Rattle.rv64_instr.specs.declared.operand.Operand.TheVariants.{ImplicitUse}
 use Rattle.rv64_instr.specs.declared.place.Place.{Place}
 use Rattle.rv64_instr.specs.declared.place.Place.TheVariants.{Register, Slot, Const}
-use Rattle.rv64_instr.specs.declared.parts.Effect.{Effect}
+use Rattle.rv64_instr.specs.declared.effects.Effect.{Effect}
 use Rattle.rv64_instr.specs.Instruction.{Instruction}
 use Rattle.rv64_instr.specs.Arithmetic.{signed}
 use Rattle.rv64_instr.specs.declared.decoded.Input.{Input}
@@ -13,7 +13,7 @@ use Rattle.rv64_instr.specs.declared.decoded.Input.TheVariants.{Content, Number}
 use Rattle.rv64_instr.specs.declared.decoded.Base.{Base}
 use Rattle.rv64_instr.specs.declared.decoded.Base.TheVariants.{PointedBy, ObjectAt}
 use Rattle.rv64_instr.specs.Row.{Row, Fixes, Moves, Sets, Addresses, Loads, Stores, LoadsSlot, StoresSlot, Branches, Jumps, Calls, Returns, Unfit, row_of}
-use Rattle.rv64_instr.specs.Access.{sets}
+use Rattle.rv64_instr.specs.DefsAndUses.{sets}
 
 -- the location that a definition of a register sets: none for x0, whose writes are dropped
 abbrev pub place_set : ℕ → Option Place

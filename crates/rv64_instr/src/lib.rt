@@ -5,12 +5,12 @@
 
 pub mod arithmetic;
 pub mod decoded;
+pub mod effects;
 pub mod form;
 pub mod instr;
 pub mod name;
 pub mod op;
 pub mod operand;
-pub mod parts;
 pub mod place;
 pub mod reg;
 pub mod reserve;

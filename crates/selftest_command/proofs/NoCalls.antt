@@ -18,7 +18,7 @@ use Rattle.frame_rule.proofs.Rows.{renamed_row, row_renamed}
 use Rattle.gen_program.proofs.Steps.{IsMildRow, IsMild, item_in, fetched}
 use Rattle.selftest_proof.specs.Together.{HasNoCall}
 use Rattle.mir_func.specs.declared.block.Block.{Block}
-use Rattle.mir_func.specs.declared.entry.OperandPair.{OperandPair}
+use Rattle.mir_func.specs.declared.debug_substitution.OperandPair.{OperandPair}
 use Rattle.mir_func.specs.declared.framed.SavedRegister.{SavedRegister}
 use Rattle.mir_func.specs.declared.item.Item.{Item}
 use Rattle.mir_func.specs.declared.item.ItemKind.{ItemKind}

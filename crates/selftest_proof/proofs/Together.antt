@@ -3,7 +3,7 @@ use Rattle.std.proofs.Common.{◌≡◌, ℕ, suc, ◌+◌, ◌≤◌, List, [],
 use Rattle.std.proofs.Common.{subst, inl, inr, arith, lit≤}
 use Rattle.std.proofs.lemmas.List.Elements.{All-head, All-tail}
 use Rattle.rv64_instr.specs.declared.place.Place.{Place}
-use Rattle.mir_func.specs.declared.entry.OperandPair.{OperandPair}
+use Rattle.mir_func.specs.declared.debug_substitution.OperandPair.{OperandPair}
 use Rattle.mir_func.specs.declared.position.Pos.{Pos}
 use Rattle.mir_func.specs.declared.variable.VarId.{VarId}
 use Rattle.mir_func.specs.Function.{Function}

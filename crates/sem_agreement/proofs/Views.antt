@@ -2,7 +2,7 @@
 use Rattle.std.proofs.Common.{◌≡◌, ℕ, Option, Some, None, Bool, true, false, cond, refl, sym}
 use Rattle.rv64_instr.specs.declared.place.Place.{Place}
 use Rattle.rv64_instr.specs.Row.{Row, Fixes, Moves, Sets, Addresses, Loads, Stores, LoadsSlot, StoresSlot, Branches, Jumps, Calls, Returns, Unfit, row_of}
-use Rattle.rv64_instr.specs.Access.{reads}
+use Rattle.rv64_instr.specs.DefsAndUses.{reads}
 use Rattle.rv64_instr.specs.Parts.{is_pure, is_call}
 use Rattle.rv64_instr.specs.Arithmetic.{load_width}
 use Rattle.mir_func.specs.declared.item.Item.{Item}
@@ -15,7 +15,7 @@ use Rattle.sem_mir.specs.Step.{do_item, is_fault, address_at}
 use Rattle.sem_mir.specs.Align.{is_code}
 use Rattle.sem_mir.specs.Effects.{EndAlike, FallsInto}
 use Rattle.sem_simulation.specs.InPlace.{FallsOrTraps}
-use Rattle.sem_simulation.specs.Sides.{ShowsSame, Does, DoBoth}
+use Rattle.sem_simulation.specs.MatchStates.{ShowsSame, Does, DoBoth}
 use Rattle.sem_agreement.specs.Agreement.{Alike}
 
 -- a debug item of each

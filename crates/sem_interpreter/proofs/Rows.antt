@@ -2,7 +2,7 @@
 use Rattle.std.proofs.Common.{◌≡◌, ℕ, zero, suc, ◌*◌, List, [], ◌∷◌, Option, Some, None, Bool, true, false, cond, refl, sym, ap, ◌∙◌, subst, inl, inr, arith}
 use Rattle.std.specs.Prelude.{is_some, ◌&&◌, slice_index_or, ◌+◌, ◌-◌, ◌%◌, ◌^◌, Result, Ok, Err, IfOk}
 use Rattle.rv64_instr.specs.Arithmetic.{computed, taken, load_width, store_width, extended}
-use Rattle.rv64_instr.specs.Access.{reads, input_reads, base_reads, caller_saved}
+use Rattle.rv64_instr.specs.DefsAndUses.{reads, input_reads, base_reads, caller_saved}
 use Rattle.rv64_instr.specs.declared.op.RegisterOp.{RegisterOp}
 use Rattle.rv64_instr.specs.declared.op.BranchOp.{BranchOp}
 use Rattle.rv64_instr.specs.declared.op.LoadOp.{LoadOp}

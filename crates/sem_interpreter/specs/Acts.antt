@@ -1,6 +1,6 @@
 -- The effect of an instruction on the interpreter's machine.
 use Rattle.std.specs.Prelude.{◌≡◌, ℕ, List, [], ◌∷◌, Option, Some, None, true, false, slice_index}
-use Rattle.rv64_instr.specs.Access.{input_reads, base_reads}
+use Rattle.rv64_instr.specs.DefsAndUses.{input_reads, base_reads}
 use Rattle.rv64_instr.specs.Row.{Row, Calls}
 use Rattle.rv64_instr.specs.declared.decoded.Base.{Base}
 use Rattle.rv64_instr.specs.declared.decoded.Input.{Input}

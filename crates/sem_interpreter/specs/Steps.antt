@@ -2,7 +2,7 @@
 use Rattle.std.specs.Prelude.{◌≡◌, ℕ, List, [], Option, true}
 use Rattle.rv64_instr.specs.declared.start.CallResult.{CallResult}
 use Rattle.mir_func.specs.declared.block.Block.{Block}
-use Rattle.mir_func.specs.declared.entry.DebugSubstitution.{DebugSubstitution}
+use Rattle.mir_func.specs.declared.debug_substitution.DebugSubstitution.{DebugSubstitution}
 use Rattle.sem_mir.specs.State.{Event, Reply, State}
 use Rattle.sem_mir.specs.Step as step
 use Rattle.sem_mir.specs.Step.{Next, do_fetch, moved}

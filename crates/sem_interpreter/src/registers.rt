@@ -1,11 +1,11 @@
 //! Registers.
 
 ghost use Rattle.std.specs.Prelude.{◌≡◌, ◌<◌, ℕ, Option, Some, None, IfOk, slice_index_or};
-ghost use Rattle.rv64_instr.specs.Access.{caller_saved};
+ghost use Rattle.rv64_instr.specs.DefsAndUses.{caller_saved};
 ghost use Rattle.sem_mir.specs.State.{put, put_all};
 ghost use Rattle.sem_interpreter.specs.Places.{RegistersHold, starting_registers};
 
-use rv64_instr::parts::CALLER_SAVED;
+use rv64_instr::effects::CALLER_SAVED;
 use rv64_instr::reg::Reg;
 use std::alloc::{AllocError, Global};
 use std::marker::Model;

@@ -11,7 +11,7 @@ use Rattle.mir_func.specs.Variables.{part_value}
 use Rattle.sem_mir.specs.State.{Core, State, content, assigned}
 use Rattle.sem_mir.specs.Step.{or_zero}
 use Rattle.mir_func.specs.Graph.{Program}
-use Rattle.sem_mir.specs.Token.{Token, Fixed, Tokens}
+use Rattle.sem_mir.specs.ValueId.{Token, Fixed, Tokens}
 use Rattle.sem_value_ids.specs.Trace.{Trace, Names, NamesAlong}
 use Rattle.sem_value_ids.specs.Trace as trace
 use Rattle.sem_machine.specs.Image.{CodeLine, Image, word_at}

@@ -5,7 +5,7 @@ use Rattle.std.specs.Prelude.{◌↔◌, ◌⊎◌, ◌≤◌, ◌<◌, slice_ge
 use Rattle.std.proofs.lemmas.Bool.{cases_lt}
 use Rattle.rv64_instr.specs.declared.place.Place.{Place}
 use Rattle.rv64_instr.specs.Row.{Row, Fixes, Moves, Sets, row_of}
-use Rattle.mir_func.specs.declared.entry.OperandPair.{OperandPair}
+use Rattle.mir_func.specs.declared.debug_substitution.OperandPair.{OperandPair}
 use Rattle.mir_func.specs.declared.position.Pos.{Pos}
 use Rattle.mir_func.specs.declared.variable.VarId.{VarId}
 use Rattle.mir_func.specs.declared.block.Block.{Block}
@@ -14,8 +14,9 @@ use Rattle.mir_func.specs.declared.item.ItemKind.{ItemKind}
 use Rattle.mir_func.specs.declared.item.ItemKind.TheVariants.{Code}
 use Rattle.mir_func.specs.Graph.{Fetch, Here, EndOfBlock, Program, below, block_start, front, framed_program, Edge, RowEdge, KindEdge, FetchEdge}
 use Rattle.sem_mir.specs.Align.{is_code}
-use Rattle.sem_mir.specs.Token.{Tokens, after_item, after_fetch, entry_tokens, variable_token, place_token, Path, begin, onward, SitsIn, IsWanted}
-use Rattle.sem_mir.specs.Token.{NoneIsWanted}
+use Rattle.sem_mir.specs.ValueId.{Tokens, after_item, after_fetch, entry_tokens, variable_token, place_token, Path, begin, onward}
+use Rattle.sem_mir.specs.PreferredLocation.{SitsIn, IsWanted}
+use Rattle.sem_mir.specs.PreferredLocation.{NoneIsWanted}
 use Rattle.sem_machine.specs.Straight.{IsPlainRow, IsStraight, returns, goes_on, marks, Holds}
 use Rattle.sem_machine.specs.Exact.{IsFirst, GiveFirstIf, GiveFirst, address_at, IsPointOf, StraightListsAreExact}
 use Rattle.sem_machine.proofs.Laid.{drop_one, drop_zero}

@@ -4,9 +4,9 @@ use Rattle.std.specs.Prelude.{◌↔◌, nat_eq, nat_lt, ◌&&◌, not, slice_ge
 use Rattle.rv64_instr.specs.declared.operand.Operand.{Operand}
 use Rattle.rv64_instr.specs.declared.place.Place.{Place}
 use Rattle.rv64_instr.specs.declared.place.Place.TheVariants.{Register, Slot, Const}
-use Rattle.rv64_instr.specs.Access.{caller_saved}
+use Rattle.rv64_instr.specs.DefsAndUses.{caller_saved}
 use Rattle.rv64_instr.specs.Row.{Row, Fixes, Moves, Sets, Addresses, Loads, LoadsSlot, StoresSlot, Calls, row_of}
-use Rattle.mir_func.specs.declared.entry.OperandPair.{OperandPair}
+use Rattle.mir_func.specs.declared.debug_substitution.OperandPair.{OperandPair}
 use Rattle.mir_func.specs.declared.variable.VarId.{VarId}
 use Rattle.mir_func.specs.declared.variable.MarkValue.{MarkValue}
 use Rattle.mir_func.specs.declared.variable.MarkValue.TheVariants.{Nothing, Constant, At, Pair}
@@ -18,8 +18,8 @@ use Rattle.mir_func.specs.Variables.{is_same, overlaps}
 use Rattle.sem_mir.specs.Step.{defined}
 use Rattle.rv64_instr.specs.Parts.{is_call}
 use Rattle.sem_mir.specs.Align.{is_code}
-use Rattle.sem_mir.specs.Token.{Token, Entry, Made, Fixed, Tokens, register_token, put_token, make_all, moved_tokens, sets_pointer, code_tokens}
-use Rattle.sem_mir.specs.Token.{given_token, numbered_tokens, place_token, pair_token, mark_token, after_item, entry_tokens, variable_token}
+use Rattle.sem_mir.specs.ValueId.{Token, Entry, Made, Fixed, Tokens, register_token, put_token, make_all, moved_tokens, sets_pointer, code_tokens}
+use Rattle.sem_mir.specs.ValueId.{given_token, numbered_tokens, place_token, pair_token, mark_token, after_item, entry_tokens, variable_token}
 use Rattle.sem_machine.specs.Straight.{Holds}
 use Rattle.sem_machine.specs.Exact.{IsFirst, GiveFirstAt, GiveFirstIf, GiveFirst}
 

@@ -9,7 +9,7 @@ use Rattle.rv64_instr.specs.Arithmetic.{computed}
 use Rattle.rv64_instr.specs.Row.{Row, Fixes, Moves, Sets, Returns}
 use Rattle.rv64_instr.specs.declared.decoded.Input.{Input}
 use Rattle.rv64_instr.specs.declared.decoded.Input.TheVariants.{Content, Number}
-use Rattle.rv64_instr.specs.Access.{input_reads}
+use Rattle.rv64_instr.specs.DefsAndUses.{input_reads}
 use Rattle.sem_mir.specs.State.{Core, content, put}
 use Rattle.sem_mir.specs.Step.{Outcome, Falls, Gives, Traps, act, does, read, or_zero, input_value, are_written, numbered}
 use Rattle.sem_mir.specs.Step as source

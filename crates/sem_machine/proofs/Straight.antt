@@ -8,7 +8,7 @@ use Rattle.std.proofs.lemmas.List.{drop-drop}
 use Rattle.rv64_instr.specs.Instruction.{Instruction}
 use Rattle.rv64_instr.specs.declared.place.Place.{Place}
 use Rattle.rv64_instr.specs.Row.{Row, Returns, implicit_uses, row_of}
-use Rattle.mir_func.specs.declared.entry.OperandPair.{OperandPair}
+use Rattle.mir_func.specs.declared.debug_substitution.OperandPair.{OperandPair}
 use Rattle.mir_func.specs.declared.position.Pos.{Pos}
 use Rattle.mir_func.specs.declared.variable.VarId.{VarId}
 use Rattle.mir_func.specs.declared.variable.MarkValue.{MarkValue}
@@ -26,7 +26,7 @@ use Rattle.mir_func.specs.Graph.{Fetch, Here, Program, below, front, fetch_in, p
 use Rattle.sem_mir.specs.Step as source
 use Rattle.sem_mir.specs.Follow.{IsStart}
 use Rattle.sem_mir.specs.Align.{is_code, waits_at, since_of, Since, Start, Same, After, First, Arrives, here, onward, MatchesNext, Tells}
-use Rattle.sem_mir.specs.Token.{Tokens, after_item, after_fetch, entry_tokens}
+use Rattle.sem_mir.specs.ValueId.{Tokens, after_item, after_fetch, entry_tokens}
 use Rattle.sem_mir.proofs.Alignment.{aligns_once}
 use Rattle.sem_mir.proofs.Outcomes.{step_item}
 use Rattle.sem_value_ids.specs.Trace.{Trace, Names, HasRegisters}

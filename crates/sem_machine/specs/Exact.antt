@@ -1,14 +1,15 @@
 -- Exact location lists: they name the wanted location, and none exactly if none is wanted.
 use Rattle.std.specs.Prelude.{◌≡◌, ◌↔◌, ℕ, zero, suc, ◌+◌, ◌≤◌, ◌<◌, Bool, true, false, cond, List, [], ◌∷◌, Option, Some, slice_get}
 use Rattle.rv64_instr.specs.declared.place.Place.{Place}
-use Rattle.mir_func.specs.declared.entry.OperandPair.{OperandPair}
+use Rattle.mir_func.specs.declared.debug_substitution.OperandPair.{OperandPair}
 use Rattle.mir_func.specs.declared.position.Pos.{Pos}
 use Rattle.mir_func.specs.declared.variable.VarId.{VarId}
 use Rattle.mir_func.specs.declared.block.Block.{Block}
 use Rattle.mir_func.specs.declared.item.Item.{Item}
 use Rattle.mir_func.specs.Graph.{Program, block_start, framed_program}
 use Rattle.sem_mir.specs.Align.{is_code}
-use Rattle.sem_mir.specs.Token.{Tokens, after_item, entry_tokens, IsPlace, Precedes, IsWanted, NoneIsWanted}
+use Rattle.sem_mir.specs.ValueId.{Tokens, after_item, entry_tokens}
+use Rattle.sem_mir.specs.PreferredLocation.{IsPlace, Precedes, IsWanted, NoneIsWanted}
 use Rattle.sem_machine.specs.Straight.{Holds, IsStraight}
 
 -- location lists are exact for a function, of which `points` relates the address of each byte of code to that code's position: at

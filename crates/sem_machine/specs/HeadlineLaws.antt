@@ -1,7 +1,7 @@
 -- The headline covers every state that the machine reaches.
 use Rattle.std.specs.Prelude.{◌≡◌, ◌⊎◌, ℕ, Option, Some, true}
 use Rattle.rv64_instr.specs.declared.place.Place.{Place}
-use Rattle.mir_func.specs.declared.entry.OperandPair.{OperandPair}
+use Rattle.mir_func.specs.declared.debug_substitution.OperandPair.{OperandPair}
 use Rattle.mir_func.specs.declared.variable.VarId.{VarId}
 use Rattle.mir_func.specs.Function.{Function}
 use Rattle.sem_mir.specs.State.{State}

@@ -10,7 +10,7 @@ use Rattle.rv64_instr.specs.declared.decoded.Input.TheVariants.{Content, Number}
 use Rattle.rv64_word.specs.declared.machine_op.MachineOp.{MachineOp}
 use Rattle.rv64_word.specs.MachineOp.{is_encodable, word_of}
 use Rattle.rv64_word.specs.MachineRow.{Does, machine_row}
-use Rattle.mir_func.specs.declared.entry.OperandPair.{OperandPair}
+use Rattle.mir_func.specs.declared.debug_substitution.OperandPair.{OperandPair}
 use Rattle.mir_func.specs.declared.position.Origin.TheVariants.{Kept}
 use Rattle.mir_func.specs.declared.variable.VarId.{VarId}
 use Rattle.mir_func.specs.declared.variable.MarkValue.{MarkValue}
@@ -18,7 +18,7 @@ use Rattle.mir_func.specs.declared.item.Item.{Item}
 use Rattle.mir_func.specs.declared.item.ItemKind.TheVariants.{Code, Mark}
 use Rattle.mir_func.specs.declared.block.Block.{Block}
 use Rattle.sem_mir.specs.Align.{is_code}
-use Rattle.sem_mir.specs.Token.{Token, Tokens, after_item, variable_token, place_token}
+use Rattle.sem_mir.specs.ValueId.{Token, Tokens, after_item, variable_token, place_token}
 use Rattle.sem_machine.specs.Image.{CodeLine, Image, line_of}
 use Rattle.sem_machine.specs.MachineStep.{return_word}
 use Rattle.sem_machine.specs.Headline.{KEPT}

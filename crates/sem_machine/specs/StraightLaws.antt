@@ -1,7 +1,7 @@
 -- Laws of runs of straight-line code.
 use Rattle.std.specs.Prelude.{◌≡◌, ℕ, [], ◌∷◌, Option, Some, true}
 use Rattle.rv64_instr.specs.declared.place.Place.{Place}
-use Rattle.mir_func.specs.declared.entry.OperandPair.{OperandPair}
+use Rattle.mir_func.specs.declared.debug_substitution.OperandPair.{OperandPair}
 use Rattle.mir_func.specs.declared.variable.VarId.{VarId}
 use Rattle.mir_func.specs.declared.block.Block.{Block}
 use Rattle.mir_func.specs.Function.{Function}
@@ -10,7 +10,7 @@ use Rattle.sem_mir.specs.Step.{read}
 use Rattle.mir_func.specs.Graph.{program_of}
 use Rattle.sem_mir.specs.Follow.{IsStart}
 use Rattle.sem_mir.specs.Align.{Since}
-use Rattle.sem_mir.specs.Token.{entry_tokens}
+use Rattle.sem_mir.specs.ValueId.{entry_tokens}
 use Rattle.sem_machine.specs.Image.{CodeLine, Image, line_at}
 use Rattle.sem_machine.specs.Machine.{Machine, register, machine_start}
 use Rattle.sem_machine.specs.Headline.{AlignsWith, MachineAlong, Headline}

@@ -20,8 +20,8 @@ use Rattle.rv64_instr.specs.Row.{row_by, move_row, immediate_row, object_row}
 use Rattle.rv64_instr.specs.declared.decoded.Input.{Input}
 use Rattle.rv64_instr.specs.declared.decoded.Input.TheVariants.{Content, Number}
 use Rattle.rv64_instr.specs.declared.decoded.Base.TheVariants.{ObjectAt}
-use Rattle.rv64_instr.specs.Access.{caller_saved, reads}
-use Rattle.mir_func.specs.declared.entry.OperandPair.{OperandPair}
+use Rattle.rv64_instr.specs.DefsAndUses.{caller_saved, reads}
+use Rattle.mir_func.specs.declared.debug_substitution.OperandPair.{OperandPair}
 use Rattle.mir_func.specs.declared.object.Object.{Object as StackObject}
 use Rattle.mir_func.specs.declared.position.Pos.{Pos}
 use Rattle.mir_func.specs.declared.variable.VarId.{VarId}

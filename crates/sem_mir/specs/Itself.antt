@@ -1,7 +1,7 @@
 -- A function as it is read refines itself.
 use Rattle.std.specs.Prelude.{List, Option}
 use Rattle.mir_func.specs.declared.block.Block.{Block}
-use Rattle.mir_func.specs.declared.entry.OperandPair.{OperandPair}
+use Rattle.mir_func.specs.declared.debug_substitution.OperandPair.{OperandPair}
 use Rattle.mir_func.specs.declared.object.Object.{Object}
 use Rattle.sem_mir.specs.Follow.{IsRead, Follows, HasWholeEnds}
 

@@ -2,7 +2,8 @@ pub mod State
 pub mod Step
 pub mod Align
 pub mod Follow
-pub mod Token
+pub mod ValueId
+pub mod PreferredLocation
 pub mod Live
 pub mod Effects
 pub mod Itself

@@ -13,9 +13,9 @@ use Rattle.rv64_instr.specs.declared.decoded.Input.TheVariants.{Content, Number}
 use Rattle.rv64_instr.specs.declared.decoded.Base.{Base}
 use Rattle.rv64_instr.specs.declared.decoded.Base.TheVariants.{PointedBy, ObjectAt}
 use Rattle.rv64_instr.specs.Row.{Row, Fixes, Moves, Sets, Addresses, Loads, Stores, LoadsSlot, StoresSlot, Branches, Jumps, Calls, Returns, Unfit, row_of}
-use Rattle.rv64_instr.specs.Access.{caller_saved, reads}
+use Rattle.rv64_instr.specs.DefsAndUses.{caller_saved, reads}
 use Rattle.rv64_instr.specs.Parts.{is_call}
-use Rattle.mir_func.specs.declared.entry.OperandPair.{OperandPair}
+use Rattle.mir_func.specs.declared.debug_substitution.OperandPair.{OperandPair}
 use Rattle.mir_func.specs.declared.position.Pos.{Pos}
 use Rattle.mir_func.specs.declared.variable.VarId.{VarId}
 use Rattle.mir_func.specs.declared.variable.MarkValue.{MarkValue}

@@ -9,7 +9,7 @@ use Rattle.mir_func.specs.Graph.{Fetch, Here, EndOfBlock, Outside, below, block_
 use Rattle.sem_mir.specs.Align.{position_of, is_code, SyncPoint, Count, sync_point_of, end_sync_point, IsOrigin, here, Since, Start, Same, After, since_of}
 use Rattle.sem_mir.specs.Align.{MatchesNext}
 use Rattle.sem_mir.specs.Align.{MatchedUpTo, begin, other, met, Agrees, RunsMatch}
-use Rattle.sem_simulation.specs.Sides.{IsPastItems, since_item, ShowsSame, Does}
+use Rattle.sem_simulation.specs.MatchStates.{IsPastItems, since_item, ShowsSame, Does}
 use Rattle.sem_simulation.specs.Added.{Standing, Opening, Level, Ahead, Owing, MayCome, DoAlike, MayOpen, LeadsIn, IsFree, AddedMatchStates, ended, both}
 use Rattle.sem_simulation.specs.Added.{before}
 use Rattle.sem_simulation.specs.Added.{opening, entering, behind, passed, added, paired, Begins, opens, level, AddedFollows}

@@ -3,7 +3,7 @@ use Rattle.std.proofs.Common.{◌≡◌, ℕ, ◌*◌, ◌<◌, ◌≤◌, List,
 use Rattle.std.proofs.Common.{◌⊎◌, arith}
 use Rattle.std.proofs.lemmas.List.Elements.{All-cons, All-head, All-tail, All-nil}
 use Rattle.rv64_instr.specs.Row.{Row, Fixes, Loads, Stores, LoadsSlot, StoresSlot, Branches, Jumps, Calls, Returns, row_of}
-use Rattle.rv64_instr.specs.Access.{reads}
+use Rattle.rv64_instr.specs.DefsAndUses.{reads}
 use Rattle.mir_func.specs.declared.object.Object as stack_object
 use Rattle.mir_func.specs.declared.position.Pos.{Pos}
 use Rattle.mir_func.specs.declared.position.Origin.{Origin}
@@ -21,7 +21,7 @@ use Rattle.rv64_instr.specs.Parts.{is_call}
 use Rattle.mir_func.specs.Graph.{Program, Fetch, Here, EndOfBlock, Outside}
 use Rattle.sem_mir.specs.Align.{position_of, Count, Since}
 use Rattle.sem_mir.specs.Follow.{class_of, Return, MayAdd, ItemHasClass, HasClass, KindFits, MarkFits, rank, next_rank, InOrder, IsStart, OnRow}
-use Rattle.sem_simulation.specs.Sides.{since_item}
+use Rattle.sem_simulation.specs.MatchStates.{since_item}
 use Rattle.sem_simulation.specs.Refinement.{FaultsAt}
 use Rattle.sem_simulation.specs.InPlace.{ShowsNoMore, IsNoReturn, IsIdleAt}
 use Rattle.sem_simulation.proofs.Order.{rank_next, same_pos}

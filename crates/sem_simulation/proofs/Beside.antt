@@ -11,7 +11,7 @@ use Rattle.sem_mir.specs.Step.{Faulted, Outcome, Falls, Goes, Gives, Traps, Asks
 use Rattle.mir_func.specs.Graph.{Here, EndOfBlock, below, block_start}
 use Rattle.sem_mir.specs.Align.{position_of, is_code, SyncPoint, moves_on, waits_at, sync_point_of, IsOrigin, Since, Same, After, since_of}
 use Rattle.sem_mir.specs.Follow.{rank, next_rank, InOrder}
-use Rattle.sem_simulation.specs.Sides.{ShowsSame, since_item}
+use Rattle.sem_simulation.specs.MatchStates.{ShowsSame, since_item}
 use Rattle.sem_simulation.specs.Refinement.{waiting, Walk, there, on, past, IsDoomed, faults, later, later_past, Passes, FaultsAt, Lingers, IsStuck, doomed}
 use Rattle.sem_simulation.specs.Refinement.{halted}
 use Rattle.sem_simulation.specs.Refinement.{IsStuckFrom}

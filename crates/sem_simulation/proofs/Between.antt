@@ -10,7 +10,7 @@ use Rattle.sem_mir.specs.Step.{Went, Lost, Goes, moved, do_fetch, step}
 use Rattle.mir_func.specs.Graph.{Program, Fetch, Here, EndOfBlock, Outside, below, block_start, FetchEdge}
 use Rattle.sem_mir.specs.Align.{position_of, is_code, SyncPoint, Count, ByEnds, end_sync_point, sync_point_at}
 use Rattle.sem_mir.specs.Follow.{rank, next_rank, InOrder}
-use Rattle.sem_simulation.specs.Sides.{Sides, MatchStates, IsPastItems}
+use Rattle.sem_simulation.specs.MatchStates.{Sides, MatchStates, IsPastItems}
 use Rattle.sem_simulation.specs.Refinement.{Passes, still, pass}
 use Rattle.sem_simulation.specs.InPlace.{View, ended, both, taken, passed, added, paired, InPlace}
 use Rattle.sem_mir.proofs.Edges.{step_edge, goes_to_start}

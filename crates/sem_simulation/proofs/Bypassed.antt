@@ -8,7 +8,7 @@ use Rattle.mir_func.specs.Graph.{Here, EndOfBlock, below, block_start}
 use Rattle.sem_mir.specs.Align.{position_of, SyncPoint, ByItems, ByEnds, waits_at, sync_point_of, sync_point_at, IsOrigin, Since, After, since_of}
 use Rattle.sem_mir.specs.Follow.{next_rank, InOrder}
 use Rattle.sem_simulation.specs.Refinement.{waiting, Walk, on, past, MayPass, gone, late, IsDoomed, faults, later, later_past}
-use Rattle.sem_simulation.specs.Sides.{Sides}
+use Rattle.sem_simulation.specs.MatchStates.{Sides}
 use Rattle.sem_simulation.specs.Rewired.{RewiredMatchStates, Reaches, arrived, debug, jump, finish, Leaves, by_end, by_jump, by_branch, Rewired}
 use Rattle.sem_mir.proofs.Outcomes.{step_item, step_end}
 use Rattle.sem_simulation.proofs.Order.{rank_high, cases_waiting, IsDone, done_past}

@@ -10,7 +10,7 @@ use Rattle.sem_mir.specs.Step.{Went, Returned, Faulted, Waits, Lost, Outcome, Fa
 use Rattle.mir_func.specs.Graph.{Program, Here, EndOfBlock, below, block_start}
 use Rattle.sem_mir.specs.Align.{position_of, is_code, SyncPoint, moves_on, waits_at, Since, Same, After, since_of}
 use Rattle.sem_mir.specs.Follow.{next_rank, InOrder}
-use Rattle.sem_simulation.specs.Sides.{ShowsSame, since_item}
+use Rattle.sem_simulation.specs.MatchStates.{ShowsSame, since_item}
 use Rattle.sem_simulation.specs.Refinement.{Passes, still, pass, Lingers, stays, goes_by, waits_by}
 use Rattle.sem_simulation.specs.InPlace.{ShowsNoMore, IsNoReturn, IsIdleAt}
 use Rattle.sem_mir.proofs.Alignment.{went_once}

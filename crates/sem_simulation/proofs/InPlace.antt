@@ -9,7 +9,7 @@ use Rattle.mir_func.specs.Graph.{Fetch, Here, EndOfBlock, Outside, below, block_
 use Rattle.sem_mir.specs.Align.{position_of, is_code, SyncPoint, Count, moves_on, waits_at, sync_point_of, end_sync_point, Since, After, since_of, AnyOrigin}
 use Rattle.sem_mir.specs.Align.{RunsMatch}
 use Rattle.sem_mir.specs.Follow.{rank, next_rank, InOrder}
-use Rattle.sem_simulation.specs.Sides.{MatchStates, IsPastItems, since_item}
+use Rattle.sem_simulation.specs.MatchStates.{MatchStates, IsPastItems, since_item}
 use Rattle.sem_simulation.specs.Refinement.{waiting, Walk, there, on, later, still, IsStuck, IsStuckFrom, Meets, Refines}
 use Rattle.sem_simulation.specs.InPlace.{DoAlike, ended, both, taken, passed, added, paired, InPlaceFollows}
 use Rattle.sem_mir.proofs.Alignment.{went_once}

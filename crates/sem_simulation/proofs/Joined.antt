@@ -8,7 +8,7 @@ use Rattle.mir_func.specs.Graph.{Program, below, block_start}
 use Rattle.sem_mir.specs.Align.{position_of, is_code, SyncPoint, Count, sync_point_at, IsOrigin, Since, Start, Same, After, MatchesNext, AnyOrigin, MatchedUpTo}
 use Rattle.sem_mir.specs.Align.{other}
 use Rattle.sem_mir.specs.Align.{FailsBefore, RunsMatch}
-use Rattle.sem_simulation.specs.Sides.{Sides, since_item, ShowsSame}
+use Rattle.sem_simulation.specs.MatchStates.{Sides, since_item, ShowsSame}
 use Rattle.sem_simulation.specs.Added.{Standing, Opening, Level, Ahead, Owing, MayCome, IsPlain, MayStand, IsQuiet, View, ended, both, before, opening}
 use Rattle.sem_simulation.specs.Added.{entering}
 use Rattle.sem_simulation.specs.Added.{behind, passed, added, paired, Adds, AddedMatchStates, IsFree}

@@ -2,7 +2,7 @@
 use Rattle.std.proofs.Common.{◌≡◌, ℕ, zero, suc, ◌+◌, ◌*◌, ◌<◌, ◌≤◌, List, [], ◌∷◌, drop, All, Contains, slice_get, slice_index_or, Option, Some, Bool, true}
 use Rattle.std.proofs.Common.{false, cond, nat_eq, ne_eqb, refl, sym, ap, ◌∙◌, subst, arith}
 use Rattle.std.proofs.lemmas.List.Elements.{All-contains}
-use Rattle.mir_func.specs.declared.entry.OperandPair.{OperandPair}
+use Rattle.mir_func.specs.declared.debug_substitution.OperandPair.{OperandPair}
 use Rattle.mir_func.specs.declared.position.Pos.{Pos}
 use Rattle.mir_func.specs.declared.position.Origin.{Origin}
 use Rattle.mir_func.specs.declared.position.Origin.TheVariants.{Kept, Before}
@@ -13,7 +13,7 @@ use Rattle.mir_func.specs.Graph.{Program, Here, EndOfBlock, block_start, end_of,
 use Rattle.sem_mir.specs.Align.{position_of}
 use Rattle.sem_mir.specs.Follow.{next_rank, InOrder}
 use Rattle.sem_mir.proofs.Reading.{found_in, front_item, front_end, end_index, within_list, next_block, apart_tail}
-use Rattle.sem_simulation.specs.Sides.{IsPastItems, Laid}
+use Rattle.sem_simulation.specs.MatchStates.{IsPastItems, Laid}
 
 -- the items of the first of the blocks from an index on
 abbrev pub rest_in : List Block → ℕ → List Item

@@ -5,7 +5,7 @@ use Rattle.sem_mir.specs.State.{Core, State}
 use Rattle.sem_mir.specs.Step.{Returned, Faulted, Outcome, Falls, Goes, Gives, Traps, Asks, Breaks, moved, step}
 use Rattle.mir_func.specs.Graph.{Program}
 use Rattle.sem_mir.specs.Effects.{EndAlike}
-use Rattle.sem_simulation.specs.Sides.{OutcomesAlike}
+use Rattle.sem_simulation.specs.MatchStates.{OutcomesAlike}
 
 pub returns_gives : (enter : ℕ → ℕ) (p : Pos) (o : Outcome) (v : List ℕ) → moved enter p o ≡ Returned v → o ≡ Gives v
 returns_gives enter p (Gives w) v e = cc

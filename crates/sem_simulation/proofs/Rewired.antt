@@ -11,7 +11,7 @@ use Rattle.mir_func.specs.Graph.{Program, Fetch, Here, EndOfBlock, Outside, belo
 use Rattle.sem_mir.specs.Align.{position_of, is_code, SyncPoint, ByItems, ByEnds, moves_on, waits_at, sync_point_of, Since, After, since_of, AnyOrigin}
 use Rattle.sem_mir.specs.Align.{RunsMatch}
 use Rattle.sem_mir.specs.Follow.{rank, next_rank, InOrder}
-use Rattle.sem_simulation.specs.Sides.{since_item, ShowsSame}
+use Rattle.sem_simulation.specs.MatchStates.{since_item, ShowsSame}
 use Rattle.sem_simulation.specs.Refinement.{waiting, Walk, there, on, IsDoomed, later, Passes, still, pass, Meets}
 use Rattle.sem_simulation.specs.Rewired.{RewiredMatchStates, DoAlike, View, both, added, paired, closes, ended, RewiredFollows}
 use Rattle.sem_mir.proofs.Alignment.{went_once}

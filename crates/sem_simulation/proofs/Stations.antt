@@ -12,7 +12,7 @@ use Rattle.mir_func.specs.Graph.{Program, Fetch, Here, EndOfBlock, Outside, belo
 use Rattle.sem_mir.specs.Align.{is_code, is_jump, is_jump_row, SyncPoint, Count, ByItems, ByEnds, ByWords, moves_on, sync_point_of, item_sync_point}
 use Rattle.sem_mir.specs.Align.{end_sync_point}
 use Rattle.sem_mir.specs.Align.{fetch_sync_point, sync_point_at}
-use Rattle.sem_simulation.specs.Sides.{IsPastItems}
+use Rattle.sem_simulation.specs.MatchStates.{IsPastItems}
 
 module _ (count : Count) (h : Program) (p : Pos) where
   pub code_sync_point : (x : Item) → h.fetch p ≡ Here x → is_code x.kind ≡ true → sync_point_at count h p ≡ Some (sync_point_of count x)

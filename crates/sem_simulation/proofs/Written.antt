@@ -16,7 +16,7 @@ use Rattle.rv64_instr.specs.Form.{is_result, has_form}
 use Rattle.rv64_instr.specs.Arithmetic.{word}
 use Rattle.rv64_instr.specs.Row.{Row, Fixes, Moves, Sets, Addresses, Loads, Stores, LoadsSlot, StoresSlot, Branches, Jumps, Calls, Returns, Unfit, row_of}
 use Rattle.rv64_instr.specs.Row.{row_by, implicit_uses, move_row, immediate_row, object_row}
-use Rattle.rv64_instr.specs.Access.{caller_saved, reads}
+use Rattle.rv64_instr.specs.DefsAndUses.{caller_saved, reads}
 use Rattle.mir_func.specs.declared.object.Object as stack_object
 use Rattle.mir_func.specs.declared.position.Pos.{Pos}
 use Rattle.mir_func.specs.declared.item.Item.{Item}

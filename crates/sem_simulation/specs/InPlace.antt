@@ -10,7 +10,7 @@ use Rattle.mir_func.specs.Graph.{Here, EndOfBlock, Program, block_start}
 use Rattle.sem_mir.specs.Align.{position_of, is_code, Count, moves_on, sync_point_at, IsOrigin, Since, After, AnyOrigin, RunsMatch}
 use Rattle.sem_mir.specs.Follow.{next_rank, InOrder}
 use Rattle.sem_simulation.specs.Refinement.{FaultsAt}
-use Rattle.sem_simulation.specs.Sides.{Sides, MatchStates, Laid, since_item, ShowsSame, Does, DoBoth, OutcomesAlike}
+use Rattle.sem_simulation.specs.MatchStates.{Sides, MatchStates, Laid, since_item, ShowsSame, Does, DoBoth, OutcomesAlike}
 
 -- the outcome is a fall-through with a core that satisfies P, or a trap if that is allowed
 abbrev pub FallsOrTraps : (may : Type 0) → (Core → Type 0) → Outcome → Type 0

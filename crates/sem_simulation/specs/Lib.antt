@@ -1,5 +1,5 @@
 pub mod Refinement
-pub mod Sides
+pub mod MatchStates
 pub mod InPlace
 pub mod Added
 pub mod Rewired

@@ -8,7 +8,7 @@ use Rattle.sem_mir.specs.Step.{Outcome, Falls, Goes, Gives, Traps, Asks, Breaks,
 use Rattle.mir_func.specs.Graph.{Here, EndOfBlock, Program, below, block_start}
 use Rattle.sem_mir.specs.Align.{position_of, is_code, is_jump, ByItems, ByEnds, sync_point_at, IsOrigin, Since, After, AnyOrigin, RunsMatch}
 use Rattle.sem_mir.specs.Follow.{next_rank, InOrder}
-use Rattle.sem_simulation.specs.Sides.{Sides, MatchStates, Laid, since_item, ShowsSame, Does, DoBoth}
+use Rattle.sem_simulation.specs.MatchStates.{Sides, MatchStates, Laid, since_item, ShowsSame, Does, DoBoth}
 
 -- the item goes to block n, with a core that satisfies P
 abbrev pub Jumps : Program → Item → Core → ℕ → (Core → Type 0) → Type 0

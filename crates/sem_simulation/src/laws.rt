@@ -5,7 +5,7 @@ ghost use Rattle.std.specs.Prelude.{Option};
 ghost use Rattle.mir_func.specs.declared.position.Pos.{Pos};
 ghost use Rattle.sem_mir.specs.State.{State};
 ghost use Rattle.sem_simulation.specs.Refinement.{RefinementFollows};
-ghost use Rattle.sem_simulation.specs.Sides.{MatchStates};
+ghost use Rattle.sem_simulation.specs.MatchStates.{MatchStates};
 ghost use Rattle.sem_simulation.specs.Words.{WordsFollow};
 ghost use Rattle.sem_simulation.specs.Added.{AddedMatchStates, AddedFollows};
 ghost use Rattle.sem_simulation.specs.InPlace.{InPlaceFollows};

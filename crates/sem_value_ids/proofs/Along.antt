@@ -8,7 +8,7 @@ use Rattle.rv64_instr.specs.declared.place.Place.{Place}
 use Rattle.rv64_instr.specs.declared.place.Place.TheVariants.{Register, Slot, Const}
 use Rattle.rv64_instr.specs.Arithmetic.{word}
 use Rattle.rv64_instr.specs.Row.{row_of}
-use Rattle.mir_func.specs.declared.entry.OperandPair.{OperandPair}
+use Rattle.mir_func.specs.declared.debug_substitution.OperandPair.{OperandPair}
 use Rattle.mir_func.specs.declared.variable.VarId.{VarId}
 use Rattle.mir_func.specs.declared.variable.MarkValue.{MarkValue}
 use Rattle.mir_func.specs.declared.variable.MarkValue.TheVariants.{Nothing, Constant, At, Pair}
@@ -21,8 +21,8 @@ use Rattle.sem_mir.specs.Step.{Outcome, Falls, Goes, Gives, Traps, Asks, Breaks,
 use Rattle.sem_mir.specs.Step.{place_value, pair_value, mark_value, part_of, do_item, do_fetch, step, or_zero}
 use Rattle.rv64_instr.specs.Parts.{is_call}
 use Rattle.mir_func.specs.Graph.{Fetch, Here, EndOfBlock, Outside, Program, below, block_start}
-use Rattle.sem_mir.specs.Token.{Token, Entry, Made, Fixed, Tokens, register_token, code_tokens, given_token, numbered_tokens, place_token}
-use Rattle.sem_mir.specs.Token.{pair_token, mark_token, after_item, after_fetch, entry_tokens}
+use Rattle.sem_mir.specs.ValueId.{Token, Entry, Made, Fixed, Tokens, register_token, code_tokens, given_token, numbered_tokens, place_token}
+use Rattle.sem_mir.specs.ValueId.{pair_token, mark_token, after_item, after_fetch, entry_tokens}
 use Rattle.sem_mir.proofs.Assignments.{same_is}
 use Rattle.sem_value_ids.specs.Trace.{Trace, begin, onward, Names, NamesAlong, HasRegisters, TokensNameValues}
 use Rattle.sem_value_ids.proofs.Naming.{in_part, Holds, IsOld, IsOlder, Good, AreOld, AgreeBelow, good_agree, extend, extend_agrees, old_later, are_old_later}

@@ -9,9 +9,9 @@ use Rattle.rv64_instr.specs.declared.operand.Operand.{Operand}
 use Rattle.rv64_instr.specs.declared.place.Place.{Place}
 use Rattle.rv64_instr.specs.declared.place.Place.TheVariants.{Register, Slot, Const}
 use Rattle.rv64_instr.specs.Row.{Row, Fixes, Moves, Sets, Addresses, Loads, LoadsSlot, StoresSlot, Calls, row_of}
-use Rattle.rv64_instr.specs.Access.{caller_saved}
+use Rattle.rv64_instr.specs.DefsAndUses.{caller_saved}
 use Rattle.rv64_instr.specs.Parts.{is_call}
-use Rattle.mir_func.specs.declared.entry.OperandPair.{OperandPair}
+use Rattle.mir_func.specs.declared.debug_substitution.OperandPair.{OperandPair}
 use Rattle.mir_func.specs.declared.variable.MarkValue.{MarkValue}
 use Rattle.mir_func.specs.declared.variable.MarkValue.TheVariants.{Nothing, Constant, At, Pair}
 use Rattle.mir_func.specs.declared.item.Item.{Item}
@@ -20,8 +20,8 @@ use Rattle.mir_func.specs.declared.item.ItemKind.TheVariants.{Code, Mark, Phi}
 use Rattle.mir_func.specs.Variables.{is_same, overlaps}
 use Rattle.sem_mir.specs.State.{updated, assigned}
 use Rattle.sem_mir.specs.Step.{defined}
-use Rattle.sem_mir.specs.Token.{Token, Made, Fixed, Tokens, register_token, put_token, make_all, moved_tokens, sets_pointer, code_tokens}
-use Rattle.sem_mir.specs.Token.{given_token, numbered_tokens, place_token, pair_token, mark_token, after_item}
+use Rattle.sem_mir.specs.ValueId.{Token, Made, Fixed, Tokens, register_token, put_token, make_all, moved_tokens, sets_pointer, code_tokens}
+use Rattle.sem_mir.specs.ValueId.{given_token, numbered_tokens, place_token, pair_token, mark_token, after_item}
 use Rattle.sem_value_ids.specs.Pullback.{Tracked, InRegister, InSlot, OfPair, OfVariable, OfNumber, token_of, Back, Was, New, Nameless, token_back}
 use Rattle.sem_value_ids.specs.Pullback.{put_back, back_register, slot_stored, back_row, given_back, back_place, back_pair, back_value}
 use Rattle.sem_value_ids.specs.Pullback.{back, through, back_over, after_items, TokensPullBack}

@@ -5,9 +5,9 @@ use Rattle.std.specs.List.{list_any}
 use Rattle.rv64_instr.specs.declared.place.Place.{Place}
 use Rattle.rv64_instr.specs.declared.place.Place.TheVariants.{Register, Slot, Const}
 use Rattle.rv64_instr.specs.Row.{Row, Fixes, Moves, Sets, Addresses, Loads, LoadsSlot, StoresSlot, Calls, row_of}
-use Rattle.rv64_instr.specs.Access.{caller_saved}
+use Rattle.rv64_instr.specs.DefsAndUses.{caller_saved}
 use Rattle.rv64_instr.specs.Parts.{is_call}
-use Rattle.mir_func.specs.declared.entry.OperandPair.{OperandPair}
+use Rattle.mir_func.specs.declared.debug_substitution.OperandPair.{OperandPair}
 use Rattle.mir_func.specs.declared.position.Pos.{Pos}
 use Rattle.mir_func.specs.declared.variable.MarkValue.{MarkValue}
 use Rattle.mir_func.specs.declared.variable.MarkValue.TheVariants.{Nothing, Constant, At, Pair}
@@ -16,7 +16,7 @@ use Rattle.mir_func.specs.declared.item.ItemKind.TheVariants.{Code, Mark, Phi}
 use Rattle.mir_func.specs.Variables.{is_same, overlaps}
 use Rattle.mir_func.specs.Graph.{Fetch, Here, EndOfBlock, Outside, Program}
 use Rattle.sem_mir.specs.Step.{defined}
-use Rattle.sem_mir.specs.Token.{Token, Entry, Tokens, entry_tokens, sets_pointer, after_fetch, Path, begin, onward}
+use Rattle.sem_mir.specs.ValueId.{Token, Entry, Tokens, entry_tokens, sets_pointer, after_fetch, Path, begin, onward}
 use Rattle.sem_value_ids.specs.Pullback.{Tracked, InRegister, InSlot, OfPair, OfVariable, OfNumber, token_of, Back, Was, New, Nameless, token_back}
 use Rattle.sem_value_ids.specs.Pullback.{put_back, back_register, slot_stored, back_row, given_back, back_place, back_pair, back_value, back}
 use Rattle.sem_value_ids.proofs.Naming.{IsOld, old_later}

@@ -6,7 +6,7 @@ use Rattle.mir_func.specs.declared.variable.VarId.{VarId}
 use Rattle.mir_func.specs.Variables.{part_value}
 use Rattle.sem_mir.specs.State.{Core, content, put, put_all, assigned}
 use Rattle.sem_mir.specs.Step.{or_zero}
-use Rattle.sem_mir.specs.Token.{Token, Entry, Made, Fixed, Tokens, register_token, put_token, make_all}
+use Rattle.sem_mir.specs.ValueId.{Token, Entry, Made, Fixed, Tokens, register_token, put_token, make_all}
 
 -- the content is the value that the token names, where there is a token
 abbrev pub Holds : (Token → ℕ) → Option Token → Option ℕ → Type 0

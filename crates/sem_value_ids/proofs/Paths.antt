@@ -2,8 +2,8 @@
 use Rattle.std.proofs.Common.{ℕ}
 use Rattle.sem_mir.specs.State.{State}
 use Rattle.mir_func.specs.Graph.{Program}
-use Rattle.sem_mir.specs.Token.{Tokens, Path}
-use Rattle.sem_mir.specs.Token as token
+use Rattle.sem_mir.specs.ValueId.{Tokens, Path}
+use Rattle.sem_mir.specs.ValueId as token
 use Rattle.sem_mir.proofs.Edges.{step_edge}
 use Rattle.sem_value_ids.specs.Trace.{Trace, begin, onward, RunsTakePaths}
 

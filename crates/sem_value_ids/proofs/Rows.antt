@@ -3,11 +3,11 @@ use Rattle.std.proofs.Common.{◌≡◌, ℕ, zero, suc, List, [], ◌∷◌, ma
 use Rattle.std.proofs.lemmas.Bool.{ne_eqb}
 use Rattle.rv64_instr.specs.Arithmetic.{taken, load_width, store_width}
 use Rattle.rv64_instr.specs.Row.{Row, Fixes, Moves, Sets, Addresses, Loads, Stores, LoadsSlot, StoresSlot, Branches, Jumps, Calls, Returns, Unfit}
-use Rattle.rv64_instr.specs.Access.{caller_saved, reads}
+use Rattle.rv64_instr.specs.DefsAndUses.{caller_saved, reads}
 use Rattle.sem_mir.specs.State.{Core, Reply, updated, content, put, put_all, writes_frame}
 use Rattle.sem_mir.specs.Step.{Outcome, Falls, Goes, Traps, act, does, read, or_zero, set_register, answered, slot_loaded, are_written, is_fault}
 use Rattle.sem_mir.specs.Step.{address_at}
-use Rattle.sem_mir.specs.Token.{Token, Made, Fixed, Tokens, register_token, put_token, make_all, moved_tokens, sets_pointer, code_tokens}
+use Rattle.sem_mir.specs.ValueId.{Token, Made, Fixed, Tokens, register_token, put_token, make_all, moved_tokens, sets_pointer, code_tokens}
 use Rattle.sem_value_ids.proofs.Naming.{Holds, IsOld, Good, AreOld, holds_agree, extend, extend_agrees, made_put, made_all, holds_put, holds_made}
 use Rattle.sem_value_ids.proofs.Naming.{old_put, old_made_or, old_later}
 

@@ -1,7 +1,7 @@
 -- When two things have one token after items: a token that an item makes is none that was there before.
 use Rattle.std.proofs.Common.{◌≡◌, ℕ, ◌<◌, ◌+◌, Option, Some, None, refl, sym, subst, arith}
 use Rattle.std.specs.Prelude.{◌↔◌}
-use Rattle.sem_mir.specs.Token.{Token, Made, Tokens}
+use Rattle.sem_mir.specs.ValueId.{Token, Made, Tokens}
 use Rattle.sem_value_ids.specs.Pullback.{Tracked, token_of, Back, Was, New, Nameless, token_back}
 use Rattle.sem_value_ids.specs.Pullback.{back_over, after_items, BacksAgree, AgreementPullsBack, Share, BacksShare, SharingPullsBack}
 use Rattle.sem_value_ids.proofs.Naming.{IsOld, IsOlder}

@@ -4,7 +4,7 @@ use Rattle.mir_func.specs.declared.position.Pos.{Pos}
 use Rattle.mir_func.specs.declared.variable.VarId.{VarId}
 use Rattle.mir_func.specs.Variables.{is_same, overlaps}
 use Rattle.mir_func.specs.Graph.{Program}
-use Rattle.sem_mir.specs.Token.{Token, Tokens, Path, variable_token}
+use Rattle.sem_mir.specs.ValueId.{Token, Tokens, Path, variable_token}
 
 -- Of two different parts of a variable that overlap, at most one has a token at a point of a path.
 abbrev pub PartsHaveOneToken : Type 0

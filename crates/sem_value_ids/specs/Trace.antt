@@ -5,7 +5,7 @@ use Rattle.sem_mir.specs.State.{Core, State, content, assigned}
 use Rattle.sem_mir.specs.Step.{Went, step}
 use Rattle.mir_func.specs.Variables.{part_value}
 use Rattle.mir_func.specs.Graph.{Program}
-use Rattle.sem_mir.specs.Token.{Token, Fixed, Tokens, register_token, after_fetch, entry_tokens, Path}
+use Rattle.sem_mir.specs.ValueId.{Token, Fixed, Tokens, register_token, after_fetch, entry_tokens, Path}
 
 -- the run from start is at a state after so many steps, with these tokens
 pub data Trace (g : Program) (start : State) : ℕ → State → Tokens → Type 0 where

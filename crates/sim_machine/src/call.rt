@@ -1,7 +1,7 @@
 //! Calls: their events, and the effects of their answers.
 
 ghost use Rattle.std.specs.Prelude.{◌≡◌, ◌<◌, ◌+◌, ◌^◌, true, List, ℕ, All, Some, map, IfOk, OnOk, OnErr};
-ghost use Rattle.rv64_instr.specs.Access.{caller_saved};
+ghost use Rattle.rv64_instr.specs.DefsAndUses.{caller_saved};
 ghost use Rattle.rv64_instr.specs.Parts.{is_call};
 ghost use Rattle.rv64_instr.specs.Row.{row_of, implicit_uses};
 ghost use Rattle.sem_mir.specs.State.{Reply};
@@ -12,9 +12,9 @@ ghost use Rattle.sim_machine.specs.Calls.{event_of, reply_of, after_call};
 ghost use Rattle.sim_machine.specs.steps.Arguments.{argument_of};
 
 use crate::hart::Hart;
+use rv64_instr::effects::CALLER_SAVED;
 use rv64_instr::instr::Instr;
 use rv64_instr::operand::Operand;
-use rv64_instr::parts::CALLER_SAVED;
 use rv64_instr::start::{CallEvent, CallResult, Values};
 use std::alloc::{AllocError, Global};
 

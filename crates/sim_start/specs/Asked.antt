@@ -1,6 +1,6 @@
 -- The run that the command `run` makes: with given arguments, and given values as the results of calls.
 use Rattle.std.specs.Prelude.{◌≡◌, ℕ, zero, suc, ◌+◌, ◌-◌, ◌<◌, List, [], ◌∷◌, length, map, cond, ◌&&◌, nat_eq, nat_le, nat_lt, slice_index}
-use Rattle.rv64_instr.specs.Access.{caller_saved}
+use Rattle.rv64_instr.specs.DefsAndUses.{caller_saved}
 use Rattle.mir_func.specs.Objects.{area_of}
 use Rattle.sem_mir.specs.State.{Reply}
 use Rattle.sem_machine.specs.Image.{Image}

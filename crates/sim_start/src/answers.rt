@@ -1,7 +1,7 @@
 //! Answers to calls by given values.
 
 ghost use Rattle.std.specs.Prelude.{◌≡◌, map};
-ghost use Rattle.rv64_instr.specs.Access.{caller_saved};
+ghost use Rattle.rv64_instr.specs.DefsAndUses.{caller_saved};
 ghost use Rattle.sim_start.specs.Asked.{call_value, call_register, reply_to};
 
 use rv64_instr::start::{CallEvent, CallResult, Values};

@@ -9,7 +9,7 @@ ghost use Rattle.spill_debug.specs.Asked.{number_behind, items_asked, number_bey
 
 use base_ids::code::{DebugNumber, OperandIndex};
 use mir_func::block::{Block, Blocks};
-use mir_func::entry::OperandPair;
+use mir_func::debug_substitution::OperandPair;
 use mir_func::item::{Item, ItemKind, Items};
 use mir_func::location::Loc;
 use mir_func::position::Origin;

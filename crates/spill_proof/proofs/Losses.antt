@@ -6,7 +6,7 @@ use Rattle.std.specs.List.{filter_map, cons_option}
 use Rattle.std.proofs.lemmas.List.Elements.{All-nil, All-cons, All-contains, Contains-append_cases, Contains-append_left, Contains-append_right}
 use Rattle.std.proofs.lemmas.List.Kept.{AllPairs-cons}
 use Rattle.rv64_instr.specs.declared.place.Place.TheVariants.{Register, Slot, Const}
-use Rattle.mir_func.specs.declared.entry.DebugSubstitution.{DebugSubstitution}
+use Rattle.mir_func.specs.declared.debug_substitution.DebugSubstitution.{DebugSubstitution}
 use Rattle.mir_func.specs.declared.item.Item.{Item}
 use Rattle.mir_func.specs.declared.item.ItemKind.{ItemKind}
 use Rattle.mir_func.specs.declared.item.ItemKind.TheVariants.{Code, Mark, Phi}

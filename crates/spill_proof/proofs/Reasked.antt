@@ -5,7 +5,7 @@ use Rattle.std.proofs.Common.{cond, nat_eq, refl, sym, ap, ◌∙◌, subst, ari
 use Rattle.rv64_instr.specs.declared.place.Place.TheVariants.{Register}
 use Rattle.rv64_instr.specs.Row.{Row}
 use Rattle.mir_func.specs.declared.block.Block.{Block}
-use Rattle.mir_func.specs.declared.entry.OperandPair.{OperandPair}
+use Rattle.mir_func.specs.declared.debug_substitution.OperandPair.{OperandPair}
 use Rattle.mir_func.specs.declared.item.Item.{Item}
 use Rattle.mir_func.specs.declared.item.ItemKind.{ItemKind}
 use Rattle.mir_func.specs.declared.item.ItemKind.TheVariants.{Code, Mark, Phi}

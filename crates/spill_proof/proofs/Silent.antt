@@ -1,8 +1,8 @@
 -- What follows a source follows it with phis of fresh numbers, where scratch registers tell nothing.
 use Rattle.std.proofs.Common.{◌≡◌, inr, ℕ, ◌<◌, ◌≤◌, List, Option, Some, None, true, false, refl, sym, ap, ◌∙◌, arith}
 use Rattle.rv64_instr.specs.Instruction.{Instruction}
-use Rattle.mir_func.specs.declared.entry.DebugSubstitution.{DebugSubstitution}
-use Rattle.mir_func.specs.declared.entry.OperandPair.{OperandPair}
+use Rattle.mir_func.specs.declared.debug_substitution.DebugSubstitution.{DebugSubstitution}
+use Rattle.mir_func.specs.declared.debug_substitution.OperandPair.{OperandPair}
 use Rattle.mir_func.specs.declared.item.Item.{Item}
 use Rattle.mir_func.specs.declared.item.ItemKind.{ItemKind}
 use Rattle.mir_func.specs.declared.item.ItemKind.TheVariants.{Code, Mark, Phi}
@@ -16,7 +16,7 @@ use Rattle.sem_mir.specs.Step.{do_item, pair_value}
 use Rattle.sem_mir.specs.Effects.{EndAlike, FallsInto}
 use Rattle.sem_mir.specs.Follow.{OnRow, Counts, MarkFits}
 use Rattle.sem_mir.proofs.Outcomes.{alike_weaker}
-use Rattle.sem_simulation.specs.Sides.{OutcomesAlike}
+use Rattle.sem_simulation.specs.MatchStates.{OutcomesAlike}
 use Rattle.sem_simulation.proofs.Outcomes.{alike_of}
 use Rattle.pass_trait.specs.Change.{change}
 use Rattle.pass_trait.specs.Simulation.{PreservesSimulation}

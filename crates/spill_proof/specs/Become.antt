@@ -1,6 +1,6 @@
 -- The effect of spilling on each item.
 use Rattle.std.specs.Prelude.{ℕ, ◌+◌, List, Bool}
-use Rattle.mir_func.specs.declared.entry.DebugSubstitution.{DebugSubstitution}
+use Rattle.mir_func.specs.declared.debug_substitution.DebugSubstitution.{DebugSubstitution}
 use Rattle.mir_func.specs.Function.{Function}
 use Rattle.mir_func.specs.Sound.{IsSound}
 use Rattle.pass_trait.specs.Change.{change}

@@ -1,6 +1,6 @@
 -- The causes of the losses of spilling.
 use Rattle.std.specs.Prelude.{ℕ, ◌<◌, List, AllPairs, Contains, Bool}
-use Rattle.mir_func.specs.declared.entry.DebugSubstitution.{DebugSubstitution}
+use Rattle.mir_func.specs.declared.debug_substitution.DebugSubstitution.{DebugSubstitution}
 use Rattle.mir_func.specs.declared.position.Pos.{Pos}
 use Rattle.mir_func.specs.Function.{Function}
 use Rattle.mir_func.specs.Sound.{IsSound}

@@ -1,6 +1,6 @@
 -- Rewriting the debug values of spilled registers preserves the simulation.
 use Rattle.std.specs.Prelude.{ℕ, ◌<◌, List, true, false}
-use Rattle.mir_func.specs.declared.entry.DebugSubstitution.{DebugSubstitution}
+use Rattle.mir_func.specs.declared.debug_substitution.DebugSubstitution.{DebugSubstitution}
 use Rattle.mir_func.specs.Function.{Function}
 use Rattle.mir_func.specs.Sound.{IsSound}
 use Rattle.pass_trait.specs.Change.{change}

@@ -1,6 +1,6 @@
 -- The size of a function after spilling.
 use Rattle.std.specs.Prelude.{ℕ, ◌+◌, List, Contains, Bool}
-use Rattle.mir_func.specs.declared.entry.DebugSubstitution.{DebugSubstitution}
+use Rattle.mir_func.specs.declared.debug_substitution.DebugSubstitution.{DebugSubstitution}
 use Rattle.mir_func.specs.Function.{Function}
 use Rattle.pass_trait.specs.Change.{change}
 use Rattle.pass_trait.specs.Sizes.{greatest_number, KeepsSizes}

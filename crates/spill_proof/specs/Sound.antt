@@ -1,6 +1,6 @@
 -- Spilling keeps functions sound.
 use Rattle.std.specs.Prelude.{ℕ, ◌+◌, ◌≤◌, List, ◌++◌, length, map, Option}
-use Rattle.mir_func.specs.declared.entry.OperandPair.{OperandPair}
+use Rattle.mir_func.specs.declared.debug_substitution.OperandPair.{OperandPair}
 use Rattle.mir_func.specs.Function.{Function}
 use Rattle.mir_func.specs.Limits.{MAX_SLOTS}
 use Rattle.mir_func.specs.Sound.{AreApart, IsSound}

@@ -23,7 +23,7 @@ use Rattle.rv64_instr.specs.Form.{has_form, is_result}
 use Rattle.rv64_instr.specs.Instruction.{Instruction}
 use Rattle.rv64_instr.specs.Parts.{has_implicit_uses, is_call}
 use Rattle.rv64_instr.specs.Row.{Row, Branches, Jumps, row_of, row_by, immediate_row, object_row, move_row}
-use Rattle.mir_func.specs.declared.entry.OperandPair.{OperandPair}
+use Rattle.mir_func.specs.declared.debug_substitution.OperandPair.{OperandPair}
 use Rattle.mir_func.specs.declared.position.Pos.{Pos}
 use Rattle.mir_func.specs.declared.position.Origin.{Origin}
 use Rattle.mir_func.specs.declared.variable.MarkValue.TheVariants.{Nothing, Constant, At, Pair}

@@ -1,7 +1,7 @@
 -- The scratch registers, and the registers of the reserve.
 use Rattle.std.proofs.Common.{◌≡◌, ◌⊎◌, ℕ, zero, suc, ◌<◌, ◌≤◌, List, [], ◌∷◌, filter, take, length, Contains, Bool, true, false, cond, refl, sym}
 use Rattle.std.proofs.Common.{subst, inl, inr, arith}
-use Rattle.rv64_instr.specs.Access.{caller_saved}
+use Rattle.rv64_instr.specs.DefsAndUses.{caller_saved}
 use Rattle.spill_rule.specs.Choice.{first_scratch, second_scratch}
 use Rattle.spill_rule.specs.Chosen.{IsReservable}
 

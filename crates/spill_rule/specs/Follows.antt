@@ -1,6 +1,6 @@
 -- Spilling the registers that the rule chooses preserves the simulation.
 use Rattle.std.specs.Prelude.{ℕ, List, Contains, Option, Bool}
-use Rattle.mir_func.specs.declared.entry.OperandPair.{OperandPair}
+use Rattle.mir_func.specs.declared.debug_substitution.OperandPair.{OperandPair}
 use Rattle.mir_func.specs.declared.object.Object.{Object}
 use Rattle.mir_func.specs.declared.block.Block.{Block}
 use Rattle.mir_func.specs.Function.{Function}

@@ -16,9 +16,9 @@ use mir_func::func::Func;
 use mir_func::item::{Item, ItemKind};
 use mir_func::position::Origin;
 use rv64_instr::decoded::Decoded;
+use rv64_instr::effects::is_call;
 use rv64_instr::instr::Instr;
 use rv64_instr::operand::Operand;
-use rv64_instr::parts::is_call;
 use rv64_instr::reg::Reg;
 
 /// Whether some code names the register: in an explicit operand, or in an implicit one of a row with implicit uses (a

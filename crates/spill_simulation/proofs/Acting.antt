@@ -10,7 +10,7 @@ use Rattle.rv64_instr.specs.declared.decoded.Base.{Base}
 use Rattle.rv64_instr.specs.declared.decoded.Base.TheVariants.{PointedBy, ObjectAt}
 use Rattle.rv64_instr.specs.Arithmetic.{computed, taken, load_width, store_width, extended}
 use Rattle.rv64_instr.specs.Row.{Row, Fixes, Moves, Sets, Addresses, Loads, Stores, LoadsSlot, StoresSlot, Branches, Jumps, Calls, Returns, Unfit}
-use Rattle.rv64_instr.specs.Access.{input_reads, base_reads, reads, sets}
+use Rattle.rv64_instr.specs.DefsAndUses.{input_reads, base_reads, reads, sets}
 use Rattle.rv64_instr.specs.Parts.{slot_read, slot_set, has_implicit_uses}
 use Rattle.mir_func.specs.declared.variable.VarId.{VarId}
 use Rattle.sem_mir.specs.State.{Core, content, updated, put, spelled, low_bytes}

@@ -14,7 +14,7 @@ use Rattle.rv64_instr.specs.declared.place.Place.{Place}
 use Rattle.rv64_instr.specs.declared.place.Place.TheVariants.{Register, Slot, Const}
 use Rattle.rv64_instr.specs.Instruction.{Instruction}
 use Rattle.rv64_instr.specs.Parts.{has_implicit_uses, first_use, second_use, input_place, base_place, is_register, is_implicit_use, uses_of}
-use Rattle.rv64_instr.specs.Access.{reads, sets, input_reads, base_reads}
+use Rattle.rv64_instr.specs.DefsAndUses.{reads, sets, input_reads, base_reads}
 use Rattle.rv64_instr.specs.Row.{Row, Fixes, Moves, Sets, Addresses, Loads, Stores, LoadsSlot, StoresSlot, Branches, Jumps, Calls, Returns, Unfit, row_of}
 use Rattle.mir_func.specs.declared.position.Pos.{Pos}
 use Rattle.mir_func.specs.declared.position.Origin.{Origin}

@@ -14,7 +14,7 @@ use Rattle.rv64_instr.specs.Arithmetic.{word}
 use Rattle.rv64_instr.specs.Form.{is_implicit, is_argument, is_result, is_immediate, is_addi, has_form}
 use Rattle.rv64_instr.specs.Instruction.{Instruction}
 use Rattle.rv64_instr.specs.Row.{Row, row_by, row_of, immediate_row, object_row, move_row}
-use Rattle.rv64_instr.specs.Access.{reads, sets}
+use Rattle.rv64_instr.specs.DefsAndUses.{reads, sets}
 use Rattle.rv64_instr.specs.Parts.{has_implicit_uses}
 use Rattle.sem_mir.specs.Step.{defined}
 use Rattle.sem_mir.proofs.Places.{contains_head, contains_tail}

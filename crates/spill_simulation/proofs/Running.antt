@@ -4,7 +4,7 @@ use Rattle.std.proofs.Common.{sym, ap, ◌∙◌, subst, inl, inr, arith}
 use Rattle.std.proofs.lemmas.List.Elements.{Contains-append_cases}
 use Rattle.rv64_instr.specs.declared.place.Place.TheVariants.{Register}
 use Rattle.rv64_instr.specs.Instruction.{Instruction}
-use Rattle.mir_func.specs.declared.entry.OperandPair.{OperandPair}
+use Rattle.mir_func.specs.declared.debug_substitution.OperandPair.{OperandPair}
 use Rattle.mir_func.specs.declared.position.Pos.{Pos}
 use Rattle.mir_func.specs.declared.position.Origin.{Origin}
 use Rattle.mir_func.specs.declared.position.Origin.TheVariants.{Kept, Before}
@@ -23,7 +23,7 @@ use Rattle.sem_mir.specs.State.{Core, State, content}
 use Rattle.sem_mir.specs.Step.{Went, step}
 use Rattle.sem_mir.proofs.Edges.{step_edge, step_from_before, leads_on}
 use Rattle.sem_simulation.specs.Added.{AddedMatchStates, Level, IsNeverBack, Adds, Begins, opens, level}
-use Rattle.sem_simulation.specs.Sides.{Sides, ShowsSame}
+use Rattle.sem_simulation.specs.MatchStates.{Sides, ShowsSame}
 use Rattle.sem_simulation.proofs.Added.{added_follows}
 use Rattle.sem_simulation.proofs.Laid.{rest_in, rest_of, laid_out}
 use Rattle.sem_simulation.proofs.Stations.{code_sync_point, end_is_sync_point, IsSyncPointOf, of_item, of_end, sync_point_is_of}

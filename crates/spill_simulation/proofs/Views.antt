@@ -9,11 +9,11 @@ use Rattle.std.proofs.lemmas.Bool.{cases_eq, cases_lt}
 use Rattle.std.proofs.lemmas.List.Concat.{flat_map-cons}
 use Rattle.std.proofs.lemmas.List.Elements.{All-contains}
 use Rattle.rv64_instr.specs.declared.place.Place.TheVariants.{Register}
-use Rattle.rv64_instr.specs.Access.{caller_saved, reads, sets}
+use Rattle.rv64_instr.specs.DefsAndUses.{caller_saved, reads, sets}
 use Rattle.rv64_instr.specs.Instruction.{Instruction}
 use Rattle.rv64_instr.specs.Parts.{has_implicit_uses}
 use Rattle.rv64_instr.specs.Row.{Row, Fixes, LoadsSlot, StoresSlot, Jumps, row_of}
-use Rattle.mir_func.specs.declared.entry.OperandPair.{OperandPair}
+use Rattle.mir_func.specs.declared.debug_substitution.OperandPair.{OperandPair}
 use Rattle.mir_func.specs.declared.position.Pos.{Pos}
 use Rattle.mir_func.specs.declared.position.Origin.{Origin}
 use Rattle.mir_func.specs.declared.position.Origin.TheVariants.{Kept, Before}
@@ -35,7 +35,7 @@ use Rattle.sem_mir.proofs.Implicit.{implicit}
 use Rattle.sem_mir.proofs.Places.{put_same, put_other, contains_head, contains_tail}
 use Rattle.sem_simulation.specs.Added.{Standing, IsPlain, IsQuiet, Opening, Level, Ahead, Owing, MayStand}
 use Rattle.sem_simulation.specs.Added.{MayCome, AddedMatchStates, View, ended, both, before, opening, behind, paired}
-use Rattle.sem_simulation.specs.Sides.{Sides, since_item, Does, OutcomesAlike}
+use Rattle.sem_simulation.specs.MatchStates.{Sides, since_item, Does, OutcomesAlike}
 use Rattle.sem_simulation.proofs.Laid.{rest_in, rest_of, laid_out}
 use Rattle.sem_simulation.proofs.Order.{cases_waiting}
 use Rattle.sem_simulation.proofs.Stations.{moves_on_less}

@@ -9,7 +9,7 @@ use base_ids::code::{BlockId, DebugNumber, ObjectId, OperandIndex, SlotId};
 use base_ids::metadata::NodeId;
 use base_list::List;
 use mir_func::block::{Block, Blocks};
-use mir_func::entry::{DebugSubstitution, OperandPair};
+use mir_func::debug_substitution::{DebugSubstitution, OperandPair};
 use mir_func::func::{Func, FuncError, SlotIds};
 use mir_func::item::{Item, ItemKind, Items};
 use mir_func::location::Loc;

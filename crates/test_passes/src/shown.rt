@@ -1,7 +1,7 @@
 //! Text of items with their origins, of substitutions and of losses, a line for each.
 
 use mir_func::block::Block;
-use mir_func::entry::DebugSubstitution;
+use mir_func::debug_substitution::DebugSubstitution;
 use mir_func::item::Item;
 use mir_func::position::{Origin, Pos};
 use mir_printer::item::push_item;

@@ -13,8 +13,8 @@ use std::collections::HashMap;
 use std::test::Fail;
 use value_solver::entry::{Bits, BlockEntry, Numbers};
 use value_solver::tracked::Tracked;
-use value_tracker::held::{LocationTracker, PLACES};
 use value_tracker::index::{index_of, number_class};
+use value_tracker::location_tracker::{LocationTracker, PLACES};
 use value_tracker::pass::Block;
 use value_tracker::start::settle;
 

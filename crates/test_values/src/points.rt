@@ -5,7 +5,7 @@ ghost use Rattle.value_tracker.specs.Things.{AreThings};
 
 use crate::text::{framed_of, function_of, pair, register, variable};
 use location_ranges::values::Values;
-use mir_func::entry::OperandPair;
+use mir_func::debug_substitution::OperandPair;
 use mir_func::framed::Framed;
 use mir_substitution::substitutions::Substitutions;
 use rv64_instr::place::Place;

@@ -4,7 +4,7 @@ use base_ids::code::{DebugNumber, OperandIndex};
 use base_ids::metadata::NodeId;
 use frame_lowering::lower::lower;
 use frame_lowering::physical::is_physical;
-use mir_func::entry::OperandPair;
+use mir_func::debug_substitution::OperandPair;
 use mir_func::framed::Framed;
 use mir_func::variable::{Fragment, VarId};
 use read_program::closing::Parsed;

@@ -1,6 +1,6 @@
 -- Functions after the same passes, from functions that may differ in their debug items.
 use Rattle.std.specs.Prelude.{◌≡◌, ℕ, List}
-use Rattle.mir_func.specs.declared.entry.DebugSubstitution.{DebugSubstitution}
+use Rattle.mir_func.specs.declared.debug_substitution.DebugSubstitution.{DebugSubstitution}
 use Rattle.mir_func.specs.Function.{Function}
 use Rattle.mir_func.specs.Strip.{stripped}
 use Rattle.emit_code.specs.Rule.{Layout}

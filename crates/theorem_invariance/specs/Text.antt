@@ -4,7 +4,7 @@ use Rattle.std.specs.List.{flat_map}
 use Rattle.std.specs.Int.{w32, to_le_bytes}
 use Rattle.mir_func.specs.Function.{Function}
 use Rattle.mir_func.specs.Strip.{stripped}
-use Rattle.emit_code.specs.Long.{IsSettled}
+use Rattle.emit_code.specs.BranchRelaxation.{IsSettled}
 use Rattle.emit_code.specs.Rule.{Layout, words_of}
 use Rattle.frame_rule.specs.Rule.{framed_of}
 use Rattle.invariance_code.specs.Alike.{HaveAlikeCode, HaveSameCode}

@@ -11,7 +11,7 @@ use Rattle.read_lexer.specs.declared.parts.Token.{Token}
 use Rattle.read_lexer.specs.Comment.{before}
 use Rattle.read_lexer.specs.Front.{token_at}
 use Rattle.read_metadata.specs.Number.{integer_of}
-use Rattle.mir_func.specs.declared.entry.DebugSubstitution as func
+use Rattle.mir_func.specs.declared.debug_substitution.DebugSubstitution as func
 use Rattle.read_declarations.specs.declared.stream.YamlToken as stream
 use Rattle.read_declarations.specs.declared.entry.MappingField.{MappingField}
 use Rattle.read_declarations.specs.declared.entry.MappingEntry.{MappingEntry}

@@ -5,7 +5,7 @@ use Rattle.std.specs.Prelude.{is_some}
 use Rattle.read_refusal.specs.declared.first.Refusal.{Refusal}
 use Rattle.read_lexer.specs.declared.line.Line.{Line}
 use Rattle.read_documents.specs.declared.parts.FunctionDocument.{FunctionDocument}
-use Rattle.mir_func.specs.declared.entry.DebugSubstitution as func
+use Rattle.mir_func.specs.declared.debug_substitution.DebugSubstitution as func
 use Rattle.mir_func.specs.Resolve.{entry_of}
 use Rattle.mir_substitution.specs.Added.{added}
 use Rattle.read_declarations.specs.declared.declarations.Declarations.{Declarations}

@@ -8,7 +8,7 @@ use Rattle.base_ids.specs.Limits.{MAX_NUMBER}
 use Rattle.read_documents.specs.declared.key.Key.TheVariants.{DebugValueSubstitutions}
 use Rattle.read_documents.specs.Key.{heading}
 use Rattle.mir_func.specs.declared.block.Block.{Block}
-use Rattle.mir_func.specs.declared.entry.DebugSubstitution.{DebugSubstitution}
+use Rattle.mir_func.specs.declared.debug_substitution.DebugSubstitution.{DebugSubstitution}
 use Rattle.mir_func.specs.Function.{Function}
 use Rattle.mir_func.specs.Sound.{items_of}
 use Rattle.mir_func_printer.specs.FuncText.{name_text, stack_text, entry_line as entry_text, some_substitutions, substitutions_text, block_text}

@@ -1,7 +1,7 @@
 -- The printed lines of debug value substitutions, and how they parse.
 use Rattle.std.specs.Prelude.{◌≡◌, ℕ, cond, is_some, false, codes, List, [], ◌∷◌, ◌++◌, map, All, None}
 use Rattle.std.specs.Fmt.{decimal}
-use Rattle.mir_func.specs.declared.entry.DebugSubstitution.{DebugSubstitution}
+use Rattle.mir_func.specs.declared.debug_substitution.DebugSubstitution.{DebugSubstitution}
 use Rattle.mir_func.specs.Resolve.{entry_of}
 use Rattle.read_declarations.specs.Substitutions.{substitutions_of}
 use Rattle.mir_func_printer.specs.FuncText.{is_nothing}

@@ -2,7 +2,7 @@
 -- aren't empty while a location keeps the value of a debug value.
 use Rattle.std.specs.Prelude.{◌≡◌, ◌⊎◌, ℕ, true, List, Option, Some, All}
 use Rattle.rv64_instr.specs.declared.place.Place.{Place}
-use Rattle.mir_func.specs.declared.entry.OperandPair.{OperandPair}
+use Rattle.mir_func.specs.declared.debug_substitution.OperandPair.{OperandPair}
 use Rattle.mir_func.specs.declared.position.Pos.{Pos}
 use Rattle.mir_func.specs.declared.variable.VarId.{VarId}
 use Rattle.mir_func.specs.Function.{Function}
@@ -10,7 +10,7 @@ use Rattle.mir_func.specs.Graph.{program_of}
 use Rattle.mir_func.specs.Resolve.{resolve}
 use Rattle.sem_mir.specs.Align.{Since}
 use Rattle.sem_mir.specs.State.{State}
-use Rattle.sem_mir.specs.Token.{IsPlace}
+use Rattle.sem_mir.specs.PreferredLocation.{IsPlace}
 use Rattle.sem_machine.specs.Headline.{FailsBeforeLine, KEPT, MachineAlong, StartsAt}
 use Rattle.sem_machine.specs.Image.{CodeLine, Image, line_at}
 use Rattle.sem_machine.specs.Machine.{Machine, machine_start, register}

@@ -6,13 +6,13 @@ use Rattle.std.specs.Prelude.{Contains, Option, Some, None, option_to_list, slic
 use Rattle.std.proofs.lemmas.Option.{slice_get_within}
 use Rattle.mir_func.specs.declared.position.Pos.{Pos}
 use Rattle.mir_func.specs.declared.block.Block.{Block}
-use Rattle.mir_func.specs.declared.entry.OperandPair.{OperandPair}
+use Rattle.mir_func.specs.declared.debug_substitution.OperandPair.{OperandPair}
 use Rattle.mir_func.specs.declared.item.Item.{Item}
 use Rattle.mir_func.specs.Exits.{exit_of}
 use Rattle.mir_func.specs.Graph.{Program, Fetch, Here, EndOfBlock, Outside, block_start, end_of, front, fetch_in, framed_program, Edge, FetchEdge}
 use Rattle.mir_func.specs.Sound.{ids_of}
 use Rattle.mir_func.specs.Successors.{pos_in, ways}
-use Rattle.sem_mir.specs.Token.{Tokens, Path, begin, onward, after_fetch, after_item}
+use Rattle.sem_mir.specs.ValueId.{Tokens, Path, begin, onward, after_fetch, after_item}
 use Rattle.sem_value_ids.specs.Pullback.{InRegister, token_of, after_items}
 use Rattle.sem_value_ids.specs.Pullback as path
 use Rattle.value_proof.specs.Wanted.{AreThingsOf}

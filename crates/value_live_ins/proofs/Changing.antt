@@ -5,7 +5,7 @@ use Rattle.std.specs.Prelude.{Some, Bool, true, false, cond, nat_eq, nat_lt, sli
 use Rattle.std.proofs.lemmas.Bool.{ne_eqb, eq-eqb}
 use Rattle.std.proofs.lemmas.Option.{slice_get_within, get_or_from_slice_get}
 use Rattle.std.proofs.lemmas.Bool.Decides.{eqb_tells}
-use Rattle.mir_func.specs.declared.entry.OperandPair.{OperandPair}
+use Rattle.mir_func.specs.declared.debug_substitution.OperandPair.{OperandPair}
 use Rattle.mir_func.specs.declared.variable.VarId.{VarId}
 use Rattle.sem_value_ids.specs.Pullback.{InRegister, InSlot, OfVariable, OfNumber}
 use Rattle.value_proof.specs.Classes.{Classes}
@@ -13,9 +13,9 @@ use Rattle.value_solver.specs.declared.tracked.Tracked.{Tracked}
 use Rattle.value_solver.specs.declared.tracked.Tracked.TheVariants.{Register, Slot, Pair, Part, Number}
 use Rattle.value_solver.specs.Entry.{thing}
 use Rattle.value_tracker.specs.declared.index.TrackedIndex.{TrackedIndex}
-use Rattle.value_tracker.specs.declared.held.LocationTracker.{LocationTracker}
+use Rattle.value_tracker.specs.declared.location_tracker.LocationTracker.{LocationTracker}
 use Rattle.value_tracker.specs.Things.{AreThings}
-use Rattle.value_tracker.specs.Held.{Holds, slot_place, pair_class, number_class}
+use Rattle.value_tracker.specs.LocationTracker.{Holds, slot_place, pair_class, number_class}
 use Rattle.value_solver.specs.declared.flow.Source.{Source}
 use Rattle.value_solver.specs.declared.flow.Source.TheVariants.{Was}
 use Rattle.value_solver.specs.declared.flow.Change.{Change}

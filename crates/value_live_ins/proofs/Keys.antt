@@ -2,7 +2,7 @@
 use Rattle.std.proofs.Common.{◌≡◌, ℕ, refl, ap, arith, eqb-true}
 use Rattle.std.specs.Prelude.{Option, Some, None, true, ◌&&◌, nat_eq}
 use Rattle.std.proofs.lemmas.Bool.{and_parts, eq-eqb}
-use Rattle.mir_func.specs.declared.entry.OperandPair.{OperandPair}
+use Rattle.mir_func.specs.declared.debug_substitution.OperandPair.{OperandPair}
 use Rattle.mir_func.specs.declared.variable.VarId.{VarId}
 use Rattle.mir_func.specs.Parts.{Bytes}
 use Rattle.value_solver.specs.declared.tracked.Tracked.{Tracked}

@@ -6,10 +6,10 @@ use Rattle.std.proofs.lemmas.Bool.Decides.{eqb_tells}
 use Rattle.std.proofs.lemmas.Option.{slice_get_within}
 use Rattle.std.specs.declared.alloc.AllocError.{AllocError}
 use Rattle.mir_func.specs.Resolve.{resolve}
-use Rattle.mir_func.specs.declared.entry.OperandPair.{OperandPair}
+use Rattle.mir_func.specs.declared.debug_substitution.OperandPair.{OperandPair}
 use Rattle.mir_func.specs.declared.item.Item.{Item}
 use Rattle.mir_func.specs.declared.variable.VarId.{VarId}
-use Rattle.sem_mir.specs.Token.{Tokens}
+use Rattle.sem_mir.specs.ValueId.{Tokens}
 use Rattle.sem_value_ids.specs.Pullback as path
 use Rattle.sem_value_ids.specs.Pullback.{InRegister, InSlot, OfPair, OfVariable, OfNumber, token_of, after_items}
 use Rattle.value_proof.specs.Classes.{Classes, IsKnown}
@@ -17,8 +17,8 @@ use Rattle.value_solver.specs.declared.tracked.Tracked.{Tracked}
 use Rattle.value_solver.specs.declared.tracked.Tracked.TheVariants.{Register, Slot, Pair, Part, Number}
 use Rattle.value_solver.specs.Entry.{thing}
 use Rattle.value_tracker.specs.Things.{AreThings, Settle}
-use Rattle.value_tracker.specs.declared.held.LocationTracker.{LocationTracker}
-use Rattle.value_tracker.specs.Held.{Holds}
+use Rattle.value_tracker.specs.declared.location_tracker.LocationTracker.{LocationTracker}
+use Rattle.value_tracker.specs.LocationTracker.{Holds}
 use Rattle.value_live_ins.specs.declared.changes.Tracking.{Tracking}
 use Rattle.value_solver.specs.declared.flow.Source.TheVariants.{Was}
 use Rattle.value_solver.specs.declared.flow.Change.{Change}

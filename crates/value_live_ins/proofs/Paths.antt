@@ -6,7 +6,7 @@ use Rattle.std.specs.Prelude.{Contains, Option, Some, None, option_to_list}
 use Rattle.rv64_instr.specs.Row.{Row, Fixes, Moves, Sets, Addresses, Loads, Stores, LoadsSlot, StoresSlot, Branches, Jumps, Calls, Returns, Unfit, row_of}
 use Rattle.mir_func.specs.declared.position.Pos.{Pos}
 use Rattle.mir_func.specs.declared.block.Block.{Block}
-use Rattle.mir_func.specs.declared.entry.OperandPair.{OperandPair}
+use Rattle.mir_func.specs.declared.debug_substitution.OperandPair.{OperandPair}
 use Rattle.mir_func.specs.declared.exit.Exit.{Exit}
 use Rattle.mir_func.specs.declared.exit.Exit.TheVariants.{Onward, Perhaps, Always, Final}
 use Rattle.mir_func.specs.declared.item.Item.{Item}
@@ -16,7 +16,7 @@ use Rattle.mir_func.specs.Exits.{row_exit, exit_of}
 use Rattle.mir_func.specs.Graph.{Program, Fetch, Here, EndOfBlock, Outside, below, block_start, end_of, front, Edge, FetchEdge, KindEdge, RowEdge}
 use Rattle.mir_func.specs.Successors.{pos_in, ways_from, ways}
 use Rattle.mir_func.proofs.Ways.{IsDown, IsOut}
-use Rattle.sem_mir.specs.Token.{Tokens, Path, begin, onward, after_fetch, after_item}
+use Rattle.sem_mir.specs.ValueId.{Tokens, Path, begin, onward, after_fetch, after_item}
 use Rattle.sem_value_ids.specs.Pullback.{Tracked, token_of, after_items}
 
 -- ---- edges from an item

@@ -6,7 +6,7 @@ use Rattle.std.proofs.lemmas.List.{get_or_past, get_or_append_left, length-appen
 use Rattle.std.proofs.lemmas.Option.{slice_get_within, slice_get-get_or}
 use Rattle.std.proofs.lemmas.Bool.{ne_eqb}
 use Rattle.std.proofs.lemmas.Bool.Decides.{eqb_tells}
-use Rattle.sem_mir.specs.Token.{Token, Entry, Fixed, entry_tokens}
+use Rattle.sem_mir.specs.ValueId.{Token, Entry, Fixed, entry_tokens}
 use Rattle.sem_value_ids.specs.Pullback.{token_of}
 use Rattle.value_solver.specs.declared.tracked.Tracked.{Tracked}
 use Rattle.value_solver.specs.declared.tracked.Tracked.TheVariants.{Register, Slot, Pair, Part, Number}

@@ -5,9 +5,9 @@ use Rattle.std.proofs.Common.{length-append, take, get_or}
 use Rattle.std.specs.Prelude.{All, Option, Some, None, Bool, true, false, cond, nat_lt}
 use Rattle.std.proofs.lemmas.Nat.{div-mul-add, mod-mul-add}
 use Rattle.std.proofs.lemmas.List.{take_more, length-take-le}
-use Rattle.mir_func.specs.declared.entry.OperandPair.{OperandPair}
+use Rattle.mir_func.specs.declared.debug_substitution.OperandPair.{OperandPair}
 use Rattle.mir_func.specs.declared.item.Item.{Item}
-use Rattle.sem_mir.specs.Token.{Made, Tokens, after_item}
+use Rattle.sem_mir.specs.ValueId.{Made, Tokens, after_item}
 use Rattle.sem_value_ids.specs.Pullback as path
 use Rattle.sem_value_ids.specs.Pullback.{InRegister, token_of, token_back, Back, back, after_items}
 use Rattle.sem_value_ids.proofs.Backwards.{tokens_pull_back}
@@ -17,8 +17,8 @@ use Rattle.value_solver.specs.declared.tracked.Tracked.{Tracked}
 use Rattle.value_solver.specs.Entry.{thing}
 use Rattle.value_solver.specs.declared.flow.Source.TheVariants.{Was, New}
 use Rattle.value_solver.specs.Flows.{told}
-use Rattle.value_tracker.specs.declared.held.LocationTracker.{LocationTracker}
-use Rattle.value_tracker.specs.Held.{Holds, Passes}
+use Rattle.value_tracker.specs.declared.location_tracker.LocationTracker.{LocationTracker}
+use Rattle.value_tracker.specs.LocationTracker.{Holds, Passes}
 use Rattle.mir_func.specs.Resolve.{resolve}
 use Rattle.value_live_ins.specs.declared.changes.Tracking.{Tracking}
 use Rattle.value_live_ins.specs.Walking.{new_of, decoded, ClassesTell, Walked}

@@ -1,7 +1,7 @@
 -- The result of the value analysis of a function with its frame.
 use Rattle.std.specs.Prelude.{◌≡◌, ◌≤◌, ℕ, ◌+◌, ◌*◌, List, Option, Some, length, map, slice_get}
 use Rattle.mir_func.specs.declared.block.Block.{Block}
-use Rattle.mir_func.specs.declared.entry.OperandPair.{OperandPair}
+use Rattle.mir_func.specs.declared.debug_substitution.OperandPair.{OperandPair}
 use Rattle.mir_func.specs.Graph.{framed_program}
 use Rattle.value_proof.specs.Wanted.{AreThingsOf}
 use Rattle.value_solver.specs.declared.entry.BlockEntry.{BlockEntry}

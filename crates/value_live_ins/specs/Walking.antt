@@ -1,17 +1,17 @@
 -- The walk over a block's items by which its flow is computed: classes encode the sources of tokens.
 use Rattle.std.specs.Prelude.{◌≡◌, ℕ, zero, suc, ◌+◌, ◌-◌, ◌*◌, ◌/◌, ◌%◌, ◌<◌, ◌≤◌, List, length, map, cond, nat_lt, Option, None, Some, slice_get, slice_index}
-use Rattle.mir_func.specs.declared.entry.OperandPair.{OperandPair}
+use Rattle.mir_func.specs.declared.debug_substitution.OperandPair.{OperandPair}
 use Rattle.mir_func.specs.declared.item.Item.{Item}
 use Rattle.mir_func.specs.Resolve.{resolve}
-use Rattle.sem_mir.specs.Token.{Tokens}
+use Rattle.sem_mir.specs.ValueId.{Tokens}
 use Rattle.sem_value_ids.specs.Pullback as path
 use Rattle.sem_value_ids.specs.Pullback.{InRegister, token_of, after_items}
 use Rattle.value_proof.specs.Classes.{Classes, IsKnown}
 use Rattle.value_solver.specs.declared.tracked.Tracked.{Tracked}
 use Rattle.value_solver.specs.declared.tracked.Tracked.TheVariants.{Register}
 use Rattle.value_solver.specs.Entry.{thing}
-use Rattle.value_tracker.specs.declared.held.LocationTracker.{LocationTracker}
-use Rattle.value_tracker.specs.Held.{Holds}
+use Rattle.value_tracker.specs.declared.location_tracker.LocationTracker.{LocationTracker}
+use Rattle.value_tracker.specs.LocationTracker.{Holds}
 use Rattle.value_tracker.specs.Things.{AreThings, Indexes}
 use Rattle.value_solver.specs.declared.flow.Source.{Source}
 use Rattle.value_solver.specs.declared.flow.Source.TheVariants.{Was, New, Nameless}

@@ -6,13 +6,13 @@ ghost use Rattle.mir_func.specs.Sound.{HasForm};
 ghost use Rattle.value_proof.specs.Classes.{Classes, KnowsItem};
 ghost use Rattle.value_solver.specs.Entry.{thing as name_of};
 ghost use Rattle.value_tracker.specs.Things.{AreThings};
-ghost use Rattle.value_tracker.specs.Held.{PLACES, Holds, Passes, pair_class as pair_class_of};
+ghost use Rattle.value_tracker.specs.LocationTracker.{PLACES, Holds, Passes, pair_class as pair_class_of};
 ghost use Rattle.value_solver.specs.Joining.{AreWithin};
 ghost use Rattle.value_live_ins.specs.steps.Flowing.{Tells};
 ghost use Rattle.value_live_ins.specs.Walking.{IsTracking, AreTracked, decoded, new_of, Walked, AreChanges, AreOwn};
 
 use base_list::List;
-use mir_func::entry::OperandPair;
+use mir_func::debug_substitution::OperandPair;
 use mir_func::item::{Item, ItemKind};
 use mir_func::variable::VarId;
 use mir_substitution::substitutions::Substitutions;
@@ -20,8 +20,8 @@ use rv64_instr::reg::physical;
 use std::alloc::{AllocError, Global};
 use value_solver::flow::{Change, Changes, Source};
 use value_solver::tracked::Tracked;
-use value_tracker::held::{LocationTracker, slot_place};
 use value_tracker::index::{TrackedIndex, key, number_class, pair_class};
+use value_tracker::location_tracker::{LocationTracker, slot_place};
 use value_tracker::pass::Block as Fixed;
 use value_tracker::start::start;
 

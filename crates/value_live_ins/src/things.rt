@@ -16,7 +16,7 @@ ghost use Rattle.value_live_ins.specs.Walking.{AreTracked};
 use crate::gather::TrackedItemSet;
 use base_list::List;
 use mir_func::block::Block;
-use mir_func::entry::OperandPair;
+use mir_func::debug_substitution::OperandPair;
 use mir_func::item::{Item, ItemKind};
 use mir_func::variable::VarId;
 use mir_substitution::substitutions::Substitutions;

@@ -19,7 +19,7 @@ use crate::opening::start_entry;
 use crate::things::{TrackedValues, Variables, things_of};
 use crate::ways::indices_of;
 use mir_func::block::Block;
-use mir_func::entry::OperandPair;
+use mir_func::debug_substitution::OperandPair;
 use mir_func::framed::Framed;
 use mir_func::variable::VarId;
 use mir_substitution::substitutions::Substitutions;

@@ -8,7 +8,8 @@ use Rattle.mir_func.specs.declared.variable.VarId.{VarId}
 use Rattle.mir_func.specs.declared.item.Item.{Item}
 use Rattle.mir_func.specs.declared.item.ItemKind.{ItemKind}
 use Rattle.mir_func.specs.Graph.{Program, Fetch, Here, Edge, below, block_start}
-use Rattle.sem_mir.specs.Token.{Token, Tokens, onward, after_fetch, Sits, SitsIn, mark_token, place_token, variable_token}
+use Rattle.sem_mir.specs.ValueId.{Token, Tokens, onward, after_fetch, Sits, mark_token, place_token, variable_token}
+use Rattle.sem_mir.specs.PreferredLocation.{SitsIn}
 use Rattle.sem_value_ids.specs.Pullback.{OfVariable, token_back, Was, back}
 use Rattle.sem_value_ids.proofs.Backwards.{tokens_pull_back}
 use Rattle.value_proof.specs.Wanted.{thing_at}

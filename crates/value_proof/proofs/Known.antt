@@ -5,7 +5,7 @@ use Rattle.std.proofs.lemmas.Bool.Decides.{nat_tests, eqb_tells}
 use Rattle.std.specs.Prelude.{Option, Some, None, Contains, Bool, true, false, cond, nat_lt, not, ◌&&◌, nat_eq, ◌⊎◌}
 use Rattle.rv64_instr.specs.Instruction.{Instruction}
 use Rattle.rv64_instr.specs.Row.{Row, Fixes, Moves, Sets, Addresses, Loads, Stores, LoadsSlot, StoresSlot, Branches, Jumps, Calls, Returns, Unfit, row_of}
-use Rattle.mir_func.specs.declared.entry.OperandPair.{OperandPair}
+use Rattle.mir_func.specs.declared.debug_substitution.OperandPair.{OperandPair}
 use Rattle.mir_func.specs.declared.variable.VarId.{VarId}
 use Rattle.mir_func.specs.declared.variable.MarkValue.{MarkValue}
 use Rattle.mir_func.specs.declared.item.ItemKind.{ItemKind}
@@ -14,7 +14,7 @@ use Rattle.mir_func.specs.Variables.{is_same, overlaps}
 use Rattle.sem_mir.proofs.Assignments.{same_is}
 use Rattle.mir_func.specs.declared.position.Pos.{Pos}
 use Rattle.mir_func.specs.Graph.{Program, Fetch, Here, EndOfBlock, Outside}
-use Rattle.sem_mir.specs.Token.{Entry, Fixed, Tokens, Path, begin, onward, after_fetch, entry_tokens, sets_pointer}
+use Rattle.sem_mir.specs.ValueId.{Entry, Fixed, Tokens, Path, begin, onward, after_fetch, entry_tokens, sets_pointer}
 use Rattle.sem_value_ids.specs.Pullback.{
   Tracked,
   InRegister,

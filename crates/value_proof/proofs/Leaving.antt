@@ -8,14 +8,14 @@ use Rattle.rv64_instr.specs.declared.place.Place.TheVariants.{Register, Slot, Co
 use Rattle.rv64_instr.specs.Instruction.{Instruction}
 use Rattle.rv64_instr.specs.Parts.{defines_of}
 use Rattle.rv64_instr.specs.Row.{Row, Fixes, Moves, Sets, Addresses, Loads, Stores, LoadsSlot, StoresSlot, Branches, Jumps, Calls, Returns, Unfit, row_of}
-use Rattle.mir_func.specs.declared.entry.OperandPair.{OperandPair}
+use Rattle.mir_func.specs.declared.debug_substitution.OperandPair.{OperandPair}
 use Rattle.mir_func.specs.declared.variable.VarId.{VarId}
 use Rattle.mir_func.specs.declared.variable.MarkValue.{MarkValue}
 use Rattle.mir_func.specs.declared.variable.MarkValue.TheVariants.{Nothing, Constant, At, Pair}
 use Rattle.mir_func.specs.declared.item.ItemKind.{ItemKind}
 use Rattle.mir_func.specs.declared.item.ItemKind.TheVariants.{Code, Mark, Phi}
 use Rattle.mir_func.specs.Variables.{overlaps}
-use Rattle.sem_mir.specs.Token.{Tokens, mark_token, pair_token, place_token}
+use Rattle.sem_mir.specs.ValueId.{Tokens, mark_token, pair_token, place_token}
 use Rattle.sem_mir.proofs.Assignments.{same_refl}
 use Rattle.sem_value_ids.specs.Pullback.{
   Tracked,

@@ -7,7 +7,8 @@ use Rattle.rv64_instr.specs.Arithmetic.{word}
 use Rattle.mir_func.specs.declared.position.Pos.{Pos}
 use Rattle.mir_func.specs.declared.variable.VarId.{VarId}
 use Rattle.mir_func.specs.Graph.{Program}
-use Rattle.sem_mir.specs.Token.{Fixed, Tokens, IsPlace, SitsIn, place_token, variable_token}
+use Rattle.sem_mir.specs.ValueId.{Fixed, Tokens, place_token, variable_token}
+use Rattle.sem_mir.specs.PreferredLocation.{IsPlace, SitsIn}
 use Rattle.sem_value_ids.specs.Pullback.{Tracked, InSlot, OfVariable, token_of}
 use Rattle.value_proof.specs.Classes.{Classes, IsKnown, ShareOnPaths, AreClasses}
 use Rattle.value_proof.specs.Wanted.{thing_at, HasItsClass, IsFirstByClass, IsWantedOrNone, AreThingsOf, FirstByClassIsWanted, UnmarkedIsNowhere}

@@ -12,7 +12,8 @@ use Rattle.mir_func.specs.declared.item.ItemKind.{ItemKind}
 use Rattle.mir_func.specs.declared.item.ItemKind.TheVariants.{Code, Mark, Phi}
 use Rattle.mir_func.specs.Graph.{Program, Here, Edge, below, block_start}
 use Rattle.mir_func.specs.Variables.{is_same, overlaps}
-use Rattle.sem_mir.specs.Token.{IsPlace, Sits, SitsIn, NoneIsWanted, mark_token, place_token, sets_pointer}
+use Rattle.sem_mir.specs.ValueId.{Sits, mark_token, place_token, sets_pointer}
+use Rattle.sem_mir.specs.PreferredLocation.{IsPlace, SitsIn, NoneIsWanted}
 
 -- an instruction preserves a place: it doesn't set it, nor x2 if it is a frame slot. A constant is always preserved
 abbrev pub LeavesPlace : Row → Place → Type 0

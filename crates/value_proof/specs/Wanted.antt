@@ -7,7 +7,7 @@ use Rattle.mir_func.specs.declared.position.Pos.{Pos}
 use Rattle.mir_func.specs.declared.variable.VarId.{VarId}
 use Rattle.mir_func.specs.declared.item.Item.{Item}
 use Rattle.mir_func.specs.Graph.{Program, Here}
-use Rattle.sem_mir.specs.Token.{IsPlace, Precedes, IsWanted, NoneIsWanted}
+use Rattle.sem_mir.specs.PreferredLocation.{IsPlace, Precedes, IsWanted, NoneIsWanted}
 use Rattle.sem_value_ids.specs.Pullback.{Tracked, InRegister, InSlot, OfVariable, OfNumber}
 use Rattle.value_proof.specs.Classes.{Classes, IsKnown, HaveOneClass, AreClasses, KnowsItem}
 

@@ -8,7 +8,8 @@ use Rattle.rv64_instr.specs.declared.place.Place.TheVariants.{Register, Slot, Co
 use Rattle.rv64_instr.specs.Arithmetic.{word}
 use Rattle.mir_func.specs.declared.position.Pos.{Pos}
 use Rattle.mir_func.specs.Graph.{Program}
-use Rattle.sem_mir.specs.Token.{Token, Tokens, IsPlace, Sits, place_token}
+use Rattle.sem_mir.specs.ValueId.{Token, Tokens, Sits, place_token}
+use Rattle.sem_mir.specs.PreferredLocation.{IsPlace}
 use Rattle.sem_value_ids.specs.Pullback.{Tracked, InSlot, token_of}
 use Rattle.value_proof.specs.Classes.{Classes, IsKnown, AreClasses}
 use Rattle.value_proof.specs.Wanted.{thing_at, AreThingsOf}

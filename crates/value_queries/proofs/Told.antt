@@ -12,12 +12,13 @@ use Rattle.rv64_instr.specs.declared.place.Place.{Place}
 use Rattle.rv64_instr.specs.declared.place.Place.TheVariants.{Register, Slot, Const}
 use Rattle.rv64_instr.specs.Arithmetic.{word}
 use Rattle.mir_func.specs.declared.block.Block.{Block}
-use Rattle.mir_func.specs.declared.entry.OperandPair.{OperandPair}
+use Rattle.mir_func.specs.declared.debug_substitution.OperandPair.{OperandPair}
 use Rattle.mir_func.specs.declared.position.Pos.{Pos}
 use Rattle.mir_func.specs.declared.variable.VarId.{VarId}
 use Rattle.mir_func.specs.Graph.{Program, block_start}
 use Rattle.mir_func.specs.Successors.{pos_in}
-use Rattle.sem_mir.specs.Token.{Fixed, IsPlace, Sits, place_token}
+use Rattle.sem_mir.specs.ValueId.{Fixed, Sits, place_token}
+use Rattle.sem_mir.specs.PreferredLocation.{IsPlace}
 use Rattle.sem_value_ids.specs.Pullback.{InRegister, InSlot, OfPair, OfVariable, OfNumber, token_of}
 use Rattle.sem_value_ids.specs.Pullback as path
 use Rattle.value_solver.specs.declared.tracked.Tracked.{Tracked}
@@ -26,9 +27,9 @@ use Rattle.value_solver.specs.Entry.{thing}
 use Rattle.value_proof.proofs.Known.{slot, variable}
 use Rattle.value_tracker.specs.declared.index.TrackedIndex.{TrackedIndex}
 use Rattle.value_tracker.specs.Things.{is_key, Indexes}
-use Rattle.value_tracker.specs.Held.{SLOTS_FROM, slot_place, class_at, pair_class}
+use Rattle.value_tracker.specs.LocationTracker.{SLOTS_FROM, slot_place, class_at, pair_class}
 use Rattle.value_tracker.proofs.Starting.{stands as stand_of, contained, is_part}
-use Rattle.location_ranges.specs.declared.stand.TransferTracker.{TransferTracker}
+use Rattle.location_ranges.specs.declared.transfer_tracker.TransferTracker.{TransferTracker}
 use Rattle.location_ranges.specs.declared.values.Values.{Values}
 use Rattle.location_ranges.specs.Stands.{program, AreValuesOf, Reaches, Stands}
 use Rattle.value_queries.specs.Sitting.{IsFit, SitsAt, SitsByClass, named_class, place_number}

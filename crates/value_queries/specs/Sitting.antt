@@ -7,12 +7,13 @@ use Rattle.mir_func.specs.declared.block.Block.{Block}
 use Rattle.mir_func.specs.declared.position.Pos.{Pos}
 use Rattle.mir_func.specs.Graph.{Program, block_start}
 use Rattle.mir_func.specs.Successors.{pos_in}
-use Rattle.sem_mir.specs.Token.{Token, Tokens, IsPlace, Sits, place_token}
-use Rattle.value_tracker.specs.declared.held.LocationTracker.{LocationTracker}
+use Rattle.sem_mir.specs.ValueId.{Token, Tokens, Sits, place_token}
+use Rattle.sem_mir.specs.PreferredLocation.{IsPlace}
+use Rattle.value_tracker.specs.declared.location_tracker.LocationTracker.{LocationTracker}
 use Rattle.value_tracker.specs.declared.index.TrackedIndex.{TrackedIndex}
 use Rattle.value_tracker.specs.Things.{Indexes}
-use Rattle.value_tracker.specs.Held.{number_class, slot_place}
-use Rattle.location_ranges.specs.declared.stand.TransferTracker.{TransferTracker}
+use Rattle.value_tracker.specs.LocationTracker.{number_class, slot_place}
+use Rattle.location_ranges.specs.declared.transfer_tracker.TransferTracker.{TransferTracker}
 use Rattle.location_ranges.specs.declared.values.Values.{Values}
 use Rattle.location_ranges.specs.Stands.{Stands}
 use Rattle.value_queries.specs.declared.point.QueryPoint.{QueryPoint}

@@ -8,7 +8,7 @@ ghost use Rattle.location_ranges.specs.Stands.{AreValuesOf};
 ghost use Rattle.value_queries.specs.Sitting.{IsPointOf, position};
 
 use crate::stand::stand_before;
-use location_ranges::stand::TransferTracker;
+use location_ranges::transfer_tracker::TransferTracker;
 use location_ranges::values::Values;
 use mir_func::block::Block;
 use std::alloc::{AllocError, Global};

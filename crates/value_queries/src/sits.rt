@@ -3,16 +3,16 @@
 ghost use Rattle.std.specs.Prelude.{◌≡◌, ◌≢◌, ◌↔◌, ◌%◌, true, IsTrue, cond, nat_eq, nat_lt, slice_index};
 ghost use Rattle.rv64_instr.specs.declared.place.Place.TheVariants.{Const};
 ghost use Rattle.rv64_instr.specs.Arithmetic.{word};
-ghost use Rattle.sem_mir.specs.Token.{IsPlace};
-ghost use Rattle.value_tracker.specs.Held.{slot_place};
+ghost use Rattle.sem_mir.specs.PreferredLocation.{IsPlace};
+ghost use Rattle.value_tracker.specs.LocationTracker.{slot_place};
 ghost use Rattle.value_queries.specs.Sitting.{IsFit, SitsByClass, named_class};
 
 use crate::point::QueryPoint;
 use base_ids::code::SlotId;
 use rv64_instr::place::Place;
 use rv64_instr::reg::Reg;
-use value_tracker::held::{LocationTracker, SLOTS_FROM, slot_place};
 use value_tracker::index::number_class;
+use value_tracker::location_tracker::{LocationTracker, SLOTS_FROM, slot_place};
 
 /// A constant's number, modulo 2^64.
 pub fn number_of(c: i64) -> u64

@@ -5,7 +5,7 @@ ghost use Rattle.mir_func.specs.declared.block.Block.{Block};
 ghost use Rattle.value_tracker.specs.Things.{AreThings, Indexes};
 ghost use Rattle.location_ranges.specs.Stands.{AreValuesOf, Stands, Fits};
 
-use location_ranges::stand::{TransferTracker, enter, move_to};
+use location_ranges::transfer_tracker::{TransferTracker, enter, move_to};
 use location_ranges::values::Values;
 use mir_func::block::Block;
 use mir_func::variable::VarId;

@@ -6,7 +6,7 @@ ghost use Rattle.mir_func.specs.declared.block.Block.{Block};
 ghost use Rattle.mir_func.specs.declared.position.Pos.{Pos};
 ghost use Rattle.mir_func.specs.Graph.{Program, block_start};
 ghost use Rattle.mir_func.specs.Successors.{pos_in};
-ghost use Rattle.sem_mir.specs.Token.{variable_token};
+ghost use Rattle.sem_mir.specs.ValueId.{variable_token};
 ghost use Rattle.value_tracker.specs.Things.{AreThings};
 ghost use Rattle.location_ranges.specs.Stands.{AreValuesOf, Fits, program};
 ghost use Rattle.location_ranges.specs.steps.Places.{ArePlacesAt};
@@ -17,14 +17,14 @@ use crate::point::QueryPoint;
 use crate::sits::class_sits;
 use crate::stand::{index_in, stand_before};
 use location_ranges::places::look_up;
-use location_ranges::stand::TransferTracker;
+use location_ranges::transfer_tracker::TransferTracker;
 use location_ranges::values::Values;
 use mir_func::block::Block;
 use mir_func::variable::VarId;
 use rv64_instr::place::Place;
 use std::alloc::{AllocError, Global};
-use value_tracker::held::LocationTracker;
 use value_tracker::index::index_of;
+use value_tracker::location_tracker::LocationTracker;
 
 /// The first place that holds the value of a part of a variable on every path to an item of a block, or after its last
 /// one: a constant, else the lowest register, else the lowest slot. None if and only if no place holds it. By a walk

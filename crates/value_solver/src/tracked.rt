@@ -2,7 +2,7 @@
 
 use base_ids::code::SlotId;
 use base_list::List;
-use mir_func::entry::OperandPair;
+use mir_func::debug_substitution::OperandPair;
 use mir_func::variable::VarId;
 use rv64_instr::reg::Reg;
 

@@ -32,7 +32,7 @@ use Rattle.rv64_instr.specs.Arithmetic.{word}
 use Rattle.rv64_instr.specs.declared.place.Place.{Place}
 use Rattle.rv64_instr.specs.declared.place.Place.TheVariants as spot
 use Rattle.mir_func.specs.declared.variable.VarId.{VarId}
-use Rattle.sem_mir.specs.Token.{IsPlace, Precedes}
+use Rattle.sem_mir.specs.PreferredLocation.{IsPlace, Precedes}
 use Rattle.sem_value_ids.specs.Pullback.{InSlot, OfVariable, OfNumber}
 use Rattle.value_solver.specs.declared.tracked.Tracked.{Tracked}
 use Rattle.value_solver.specs.declared.tracked.Tracked.TheVariants.{Register, Slot, Pair, Part, Number}
@@ -40,12 +40,12 @@ use Rattle.value_solver.specs.Entry.{thing}
 use Rattle.value_proof.specs.Classes.{Classes}
 use Rattle.value_proof.specs.Wanted.{HasItsClass, IsFirstByClass}
 use Rattle.value_tracker.specs.declared.index.TrackedIndex.{TrackedIndex}
-use Rattle.value_tracker.specs.declared.held.LocationTracker.{LocationTracker}
+use Rattle.value_tracker.specs.declared.location_tracker.LocationTracker.{LocationTracker}
 use Rattle.value_tracker.specs.Things.{Settle}
-use Rattle.value_tracker.specs.Held.{slot_place, Holds}
-use Rattle.value_tracker.specs.Firsts.{IsFirstBelow, AreFirsts}
+use Rattle.value_tracker.specs.LocationTracker.{slot_place, Holds}
+use Rattle.value_tracker.specs.LowestLocation.{IsFirstBelow, AreFirsts}
 use Rattle.value_tracker.specs.Start.{IsConstantOf, AreConstantsBelow, AreConstants, constant_past, ConstantsNow}
-use Rattle.value_tracker.specs.Look.{place_by, constant_or, place_of}
+use Rattle.value_tracker.specs.PreferredLocation.{place_by, constant_or, place_of}
 use Rattle.value_tracker.proofs.Starting.{stands, contained, is_number}
 
 module _ (things : List Tracked) (settled : List ℕ) (class : Classes) (settle : Settle things settled class) (i : ℕ) (old new : List (Option ℤ))

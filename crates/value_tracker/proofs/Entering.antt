@@ -33,7 +33,7 @@ use Rattle.std.proofs.lemmas.Option.{slice_get-get_or, slice_get_within}
 use Rattle.mir_func.specs.declared.variable.VarId.{VarId}
 use Rattle.mir_func.specs.Variables.{is_same}
 use Rattle.mir_func.specs.Graph.{Program, block_start}
-use Rattle.sem_mir.specs.Token.{Token}
+use Rattle.sem_mir.specs.ValueId.{Token}
 use Rattle.sem_mir.proofs.Assignments.{same_refl, same_is}
 use Rattle.sem_value_ids.specs.Pullback as path
 use Rattle.sem_value_ids.specs.Pullback.{InRegister, InSlot, OfPair, OfVariable, OfNumber, token_of}

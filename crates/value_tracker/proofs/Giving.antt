@@ -6,7 +6,7 @@ use Rattle.std.proofs.lemmas.Option.{slice_get_past, slice_get_read}
 use Rattle.rv64_instr.specs.declared.operand.Operand.{Operand}
 use Rattle.sem_mir.specs.Step.{defined}
 use Rattle.value_tracker.specs.Things.{is_key}
-use Rattle.value_tracker.specs.Held.{operand_class}
+use Rattle.value_tracker.specs.LocationTracker.{operand_class}
 
 abbrev pub GivenBelow : (call : Bool) (k : ℕ) (operands : List Operand) (places : List ℕ) (old : ℕ × ℕ → Option ℕ) → ℕ → (ℕ × ℕ → Option ℕ) → Type 0
 GivenBelow call k operands places old i new = (m p : ℕ) →

@@ -4,7 +4,7 @@ use Rattle.std.specs.Prelude.{Option, Some, IsSome, Bool, true, false, cond, nat
 use Rattle.std.specs.HashMap.{get}
 use Rattle.std.proofs.lemmas.Bool.{and_parts, and_from}
 use Rattle.std.proofs.lemmas.Bool.Decides.{eqb_tells}
-use Rattle.mir_func.specs.declared.entry.OperandPair.{OperandPair}
+use Rattle.mir_func.specs.declared.debug_substitution.OperandPair.{OperandPair}
 use Rattle.value_solver.specs.declared.tracked.Tracked.{Tracked}
 use Rattle.value_solver.specs.declared.tracked.Tracked.TheVariants.{Pair, Number}
 use Rattle.value_tracker.specs.declared.index.TrackedIndex.{TrackedIndex}

@@ -34,7 +34,7 @@ use Rattle.rv64_instr.specs.Arithmetic.{word}
 use Rattle.rv64_instr.specs.Instruction.{Instruction}
 use Rattle.rv64_instr.specs.Row.{Row, Fixes, Moves, Sets, Addresses, Loads, Stores, LoadsSlot, StoresSlot, Branches, Jumps, Calls, Returns, Unfit, row_of}
 use Rattle.rv64_instr.specs.Parts.{is_call}
-use Rattle.mir_func.specs.declared.entry.OperandPair.{OperandPair}
+use Rattle.mir_func.specs.declared.debug_substitution.OperandPair.{OperandPair}
 use Rattle.mir_func.specs.declared.variable.VarId.{VarId}
 use Rattle.mir_func.specs.declared.variable.MarkValue.{MarkValue}
 use Rattle.mir_func.specs.declared.variable.MarkValue.TheVariants.{Nothing, Constant, At, Pair}
@@ -71,10 +71,10 @@ use Rattle.value_proof.specs.Classes.{Classes, IsKnown, KnowsRow, KnowsPair, Kno
 use Rattle.value_proof.proofs.Passing.{Knows, known_back}
 use Rattle.value_proof.proofs.Known.{StaysBare, pointer, bare_stays}
 use Rattle.value_tracker.specs.declared.index.TrackedIndex.{TrackedIndex}
-use Rattle.value_tracker.specs.declared.held.LocationTracker.{LocationTracker}
+use Rattle.value_tracker.specs.declared.location_tracker.LocationTracker.{LocationTracker}
 use Rattle.value_tracker.specs.Things.{is_key}
-use Rattle.value_tracker.specs.Held.{SLOTS_FROM, PLACES, slot_place, class_at, number_class, given_or, pair_class, Holds, places_past, part_past}
-use Rattle.value_tracker.specs.Held.{resolved_class, value_class, place_class, operand_class}
+use Rattle.value_tracker.specs.LocationTracker.{SLOTS_FROM, PLACES, slot_place, class_at, number_class, given_or, pair_class, Holds, places_past, part_past}
+use Rattle.value_tracker.specs.LocationTracker.{resolved_class, value_class, place_class, operand_class}
 use Rattle.value_tracker.proofs.Rows.{Before, register_past, slot_past, slots_known_past}
 
 key_apart : (k o m p : ℕ) → is_key (k, o) (m, p) ≡ cond (nat_eq k m) (nat_eq o p) false

@@ -28,7 +28,7 @@ use Rattle.std.specs.Prelude.{Contains, Bool, true, false, cond, ◌||◌, nat_e
 use Rattle.std.specs.List.{list_any}
 use Rattle.std.proofs.lemmas.Bool.Decides.{nat_tests, eqb_tells}
 use Rattle.rv64_instr.specs.Row.{Row, Fixes, Moves, Sets, Addresses, Loads, Stores, LoadsSlot, StoresSlot, Branches, Jumps, Calls, Returns, Unfit}
-use Rattle.rv64_instr.specs.Access.{caller_saved}
+use Rattle.rv64_instr.specs.DefsAndUses.{caller_saved}
 use Rattle.sem_value_ids.specs.Pullback as path
 use Rattle.sem_value_ids.specs.Pullback.{
   InRegister,
@@ -47,7 +47,7 @@ use Rattle.sem_value_ids.specs.Pullback.{
 }
 use Rattle.value_proof.specs.Classes.{Classes, KnowsRow, class_back}
 use Rattle.value_tracker.specs.Things.{IsOffset}
-use Rattle.value_tracker.specs.Held.{SLOTS_FROM, PLACES, slot_place, put, places_past}
+use Rattle.value_tracker.specs.LocationTracker.{SLOTS_FROM, PLACES, slot_place, put, places_past}
 
 -- ---- a register that is put
 

@@ -14,9 +14,9 @@ use Rattle.value_solver.specs.declared.tracked.Tracked.TheVariants.{Register, Sl
 use Rattle.value_solver.specs.Entry.{thing}
 use Rattle.value_proof.specs.Classes.{Classes, IsKnown}
 use Rattle.value_tracker.specs.declared.index.TrackedIndex.{TrackedIndex}
-use Rattle.value_tracker.specs.declared.held.LocationTracker.{LocationTracker}
+use Rattle.value_tracker.specs.declared.location_tracker.LocationTracker.{LocationTracker}
 use Rattle.value_tracker.specs.Things.{AreThings, Indexes, IsOffset, Settle, is_key}
-use Rattle.value_tracker.specs.Held.{PLACES, slot_place, class_at, number_class, given_or, Holds}
+use Rattle.value_tracker.specs.LocationTracker.{PLACES, slot_place, class_at, number_class, given_or, Holds}
 use Rattle.value_tracker.specs.Start.{stands_at, PlacedBelow}
 
 -- ---- things of a list

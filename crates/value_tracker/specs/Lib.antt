@@ -1,6 +1,6 @@
 pub mod Things
-pub mod Held
-pub mod Firsts
+pub mod LocationTracker
+pub mod LowestLocation
 pub mod Start
-pub mod Look
+pub mod PreferredLocation
 pub mod Entering

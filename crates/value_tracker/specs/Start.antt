@@ -26,14 +26,14 @@ use Rattle.std.specs.Prelude.{
 }
 use Rattle.rv64_instr.specs.declared.place.Place.TheVariants.{Const}
 use Rattle.rv64_instr.specs.Arithmetic.{word}
-use Rattle.sem_mir.specs.Token.{IsPlace}
+use Rattle.sem_mir.specs.PreferredLocation.{IsPlace}
 use Rattle.sem_value_ids.specs.Pullback.{InRegister, InSlot, OfNumber}
 use Rattle.value_solver.specs.declared.tracked.Tracked.{Tracked}
 use Rattle.value_solver.specs.declared.tracked.Tracked.TheVariants.{Register, Slot, Pair, Part, Number}
 use Rattle.value_solver.specs.Entry.{thing}
 use Rattle.value_proof.specs.Classes.{Classes}
 use Rattle.value_tracker.specs.Things.{Settle}
-use Rattle.value_tracker.specs.Held.{SLOTS_FROM, PLACES, slot_place}
+use Rattle.value_tracker.specs.LocationTracker.{SLOTS_FROM, PLACES, slot_place}
 
 -- the entity is the location with this index
 abbrev pub stands_at : Tracked → ℕ → Bool

@@ -18,10 +18,10 @@ ghost use Rattle.std.specs.Prelude.{
 };
 ghost use Rattle.std.specs.HashMap.{get};
 ghost use Rattle.value_solver.specs.declared.tracked.Tracked.{Tracked};
-ghost use Rattle.value_tracker.specs.Held.{class_at, number_class};
+ghost use Rattle.value_tracker.specs.LocationTracker.{class_at, number_class};
 ghost use Rattle.value_tracker.specs.Things.{is_key, IndexesBelow, Indexes};
 
-use mir_func::entry::OperandPair;
+use mir_func::debug_substitution::OperandPair;
 use std::alloc::{AllocError, Global};
 use std::collections::HashMap;
 use value_solver::tracked::Tracked;

@@ -22,7 +22,7 @@ ghost use Rattle.mir_func.specs.declared.variable.VarId.{VarId};
 ghost use Rattle.mir_func.specs.declared.item.ItemKind.TheVariants.{Code, Mark, Phi};
 ghost use Rattle.mir_func.specs.Resolve.{resolve};
 ghost use Rattle.value_solver.specs.declared.tracked.Tracked.{Tracked};
-ghost use Rattle.value_tracker.specs.Held.{
+ghost use Rattle.value_tracker.specs.LocationTracker.{
   pair_class,
   resolved_class,
   value_class,
@@ -34,10 +34,10 @@ ghost use Rattle.value_tracker.specs.Held.{
 };
 ghost use Rattle.value_tracker.specs.Things.{is_key};
 
-use crate::held::{LocationTracker, PLACES, SLOTS_FROM, slot_place};
 use crate::index::{TrackedIndex, key, number_class, pair_class};
+use crate::location_tracker::{LocationTracker, PLACES, SLOTS_FROM, slot_place};
 use base_ids::code::DebugNumber;
-use mir_func::entry::OperandPair;
+use mir_func::debug_substitution::OperandPair;
 use mir_func::item::ItemKind;
 use mir_func::variable::{MarkValue, VarId};
 use mir_substitution::substitutions::Substitutions;

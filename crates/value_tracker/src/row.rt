@@ -2,10 +2,10 @@
 
 ghost use Rattle.std.specs.Prelude.{◌≡◌, ◌<◌, ◌^◌, ℕ, length, slice_index};
 ghost use Rattle.rv64_instr.specs.Row.{row_of};
-ghost use Rattle.value_tracker.specs.Held.{number_class, places_past};
+ghost use Rattle.value_tracker.specs.LocationTracker.{number_class, places_past};
 
-use crate::held::{LocationTracker, PLACES, slot_place};
 use crate::index::{TrackedIndex, number_class};
+use crate::location_tracker::{LocationTracker, PLACES, slot_place};
 use rv64_instr::decoded::Decoded;
 use rv64_instr::instr::Instr;
 

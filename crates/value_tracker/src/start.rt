@@ -24,11 +24,11 @@ ghost use Rattle.value_solver.specs.declared.tracked.Tracked.{Tracked};
 ghost use Rattle.value_proof.specs.Classes.{Classes};
 ghost use Rattle.value_tracker.specs.Things.{AreThings, Indexes, IsOffset, Settle, settled_at};
 ghost use Rattle.value_solver.specs.declared.tracked.Tracked.TheVariants.{Slot};
-ghost use Rattle.value_tracker.specs.Held.{PLACES, Holds};
+ghost use Rattle.value_tracker.specs.LocationTracker.{PLACES, Holds};
 ghost use Rattle.value_tracker.specs.Start.{stands_at, PlacedBelow};
 
-use crate::held::{LocationTracker, PLACES, SLOTS_FROM, slot_place};
 use crate::index::{TrackedIndex, number_class};
+use crate::location_tracker::{LocationTracker, PLACES, SLOTS_FROM, slot_place};
 use mir_func::variable::VarId;
 use std::alloc::{AllocError, Global};
 use std::collections::HashMap;

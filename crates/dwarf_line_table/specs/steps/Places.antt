@@ -7,8 +7,8 @@ use Rattle.mir_func.specs.declared.item.Item.{Item}
 use Rattle.mir_func.specs.declared.location.Loc.{Loc}
 use Rattle.mir_func.specs.declared.location.Loc.TheVariants.{Absent}
 use Rattle.mir_func.specs.declared.position.Pos.{Pos}
-use Rattle.dwarf_line_table.specs.declared.places.Places.{Places}
-use Rattle.dwarf_line_table.specs.Lines.{first_loc, loc_of}
+use Rattle.dwarf_line_table.specs.declared.debug_locations.Places.{Places}
+use Rattle.dwarf_line_table.specs.SourcePosition.{first_loc, loc_of}
 
 -- the debug location at an index, and Absent beyond the list
 abbrev pub loc_at : List Loc → ℕ → Loc

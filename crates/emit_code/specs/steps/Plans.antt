@@ -9,7 +9,7 @@ use Rattle.mir_func.specs.SoundFrame.{own_size}
 use Rattle.emit_code.specs.declared.objects.ObjectOffsets.{ObjectOffsets}
 use Rattle.emit_code.specs.declared.plan.ItemLayout.{ItemLayout}
 use Rattle.emit_code.specs.Rule.{Layout}
-use Rattle.emit_code.specs.Long.{IsSettled}
+use Rattle.emit_code.specs.BranchRelaxation.{IsSettled}
 use Rattle.emit_code.specs.steps.Places.{IsTableOf}
 use Rattle.emit_code.specs.steps.Spans.{spans_of, sums_from}
 

@@ -1,9 +1,9 @@
 -- The places of parts of variables before an item.
 use Rattle.std.specs.Prelude.{◌≡◌, ℕ, ◌<◌, List, length, Option, None, cond, slice_index, slice_index_or}
 use Rattle.rv64_instr.specs.declared.place.Place.{Place}
-use Rattle.value_tracker.specs.Firsts.{AreFirsts}
-use Rattle.value_tracker.specs.Look.{place_of}
-use Rattle.location_ranges.specs.declared.stand.TransferTracker.{TransferTracker}
+use Rattle.value_tracker.specs.LowestLocation.{AreFirsts}
+use Rattle.value_tracker.specs.PreferredLocation.{place_of}
+use Rattle.location_ranges.specs.declared.transfer_tracker.TransferTracker.{TransferTracker}
 
 -- the table of first locations is empty
 abbrev pub IsEmpty : List (Option ℕ) → Type 0

@@ -1,12 +1,12 @@
 -- The correctness of a block's flow.
 use Rattle.std.specs.Prelude.{◌≡◌, ℕ, suc, List, map, length, Option, None, Some, slice_get}
 use Rattle.mir_func.specs.declared.block.Block.{Block}
-use Rattle.mir_func.specs.declared.entry.OperandPair.{OperandPair}
+use Rattle.mir_func.specs.declared.debug_substitution.OperandPair.{OperandPair}
 use Rattle.mir_func.specs.declared.item.Item.{Item}
 use Rattle.mir_func.specs.Graph.{Program}
 use Rattle.mir_func.specs.Sound.{ids_of}
 use Rattle.mir_func.specs.Successors.{ways}
-use Rattle.sem_mir.specs.Token.{Tokens}
+use Rattle.sem_mir.specs.ValueId.{Tokens}
 use Rattle.sem_value_ids.specs.Pullback.{InRegister, token_of, after_items}
 use Rattle.value_solver.specs.declared.tracked.Tracked.{Tracked}
 use Rattle.value_solver.specs.declared.flow.Change.{Change}

@@ -1,5 +1,5 @@
 use Rattle.std.proofs.Common.{◌≡◌, List, Bool, true, false, refl, sym, ap, ◌∙◌, subst}
-use Rattle.mir_func.specs.declared.entry.DebugSubstitution.{DebugSubstitution}
+use Rattle.mir_func.specs.declared.debug_substitution.DebugSubstitution.{DebugSubstitution}
 use Rattle.mir_func.specs.Function.{Function}
 use Rattle.mir_func.specs.Sound.{IsSound}
 use Rattle.pass_trait.specs.declared.loss.Loss.{Loss}

@@ -1,5 +1,5 @@
 use Rattle.std.proofs.Common.{◌≡◌, ℕ, List, length, sym, ◌∙◌, subst, arith}
-use Rattle.value_tracker.specs.Firsts.{AreFirsts}
+use Rattle.value_tracker.specs.LowestLocation.{AreFirsts}
 use Rattle.location_ranges.proofs.Walking.{back_is}
 use Rattle.location_ranges.proofs.places.look_up.Goals as goal
 

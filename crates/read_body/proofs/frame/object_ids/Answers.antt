@@ -1,6 +1,6 @@
 use Rattle.std.proofs.Common.{None, refl}
 use Rattle.read_declarations.specs.declared.stack.StackEntry.{StackEntry}
-use Rattle.read_body.specs.Frame.{with_id, ids_behind, ids_of_objects}
+use Rattle.read_body.specs.StackEntryKind.{with_id, ids_behind, ids_of_objects}
 use Rattle.read_body.proofs.Entries.{one_more, no_more}
 use Rattle.read_body.proofs.frame.object_ids.Goals as goal
 

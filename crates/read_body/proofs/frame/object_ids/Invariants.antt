@@ -1,5 +1,5 @@
 use Rattle.std.proofs.Common.{◌≡◌, drop}
-use Rattle.read_body.specs.Frame.{ids_behind, ids_of_objects}
+use Rattle.read_body.specs.StackEntryKind.{ids_behind, ids_of_objects}
 use Rattle.read_body.proofs.frame.object_ids.Given as goal
 
 abbrev pub invariant-loop-entry : goal.invariant-loop-entry

@@ -1,6 +1,6 @@
 use Rattle.std.proofs.Common.{None, refl, arith}
 use Rattle.read_declarations.specs.declared.stack.StackEntry.{StackEntry}
-use Rattle.read_body.specs.Frame.{with_object, objects_behind, local_block, objects_of}
+use Rattle.read_body.specs.StackEntryKind.{with_object, objects_behind, local_block, objects_of}
 use Rattle.read_body.proofs.Entries.{one_more, no_more}
 use Rattle.read_body.proofs.frame.objects.Goals as goal
 

@@ -1,5 +1,5 @@
 use Rattle.std.proofs.Common.{◌≡◌, ◌+◌, ◌*◌, ◌≤◌, drop}
-use Rattle.read_body.specs.Frame.{objects_behind, local_block, objects_of}
+use Rattle.read_body.specs.StackEntryKind.{objects_behind, local_block, objects_of}
 use Rattle.read_body.proofs.frame.objects.Given as goal
 
 abbrev pub invariant-loop-entry : goal.invariant-loop-entry

@@ -1,6 +1,6 @@
 use Rattle.std.proofs.Common.{None, refl}
 use Rattle.read_declarations.specs.declared.stack.StackEntry.{StackEntry}
-use Rattle.read_body.specs.Frame.{with_slot, slots_behind, slots_of}
+use Rattle.read_body.specs.StackEntryKind.{with_slot, slots_behind, slots_of}
 use Rattle.read_body.proofs.Entries.{one_more, no_more}
 use Rattle.read_body.proofs.frame.slots.Goals as goal
 

@@ -1,5 +1,5 @@
 use Rattle.std.proofs.Common.{◌≡◌, drop}
-use Rattle.read_body.specs.Frame.{slots_behind, slots_of}
+use Rattle.read_body.specs.StackEntryKind.{slots_behind, slots_of}
 use Rattle.read_body.proofs.frame.slots.Given as goal
 
 abbrev pub invariant-loop-entry : goal.invariant-loop-entry

@@ -1,7 +1,7 @@
 use Rattle.std.proofs.Common.{◌≡◌, ℕ, ◌<◌, List, subst, sym, ◌∙◌, inl, inr, arith}
 use Rattle.rv64_instr.specs.declared.place.Place.TheVariants.{Register}
 use Rattle.mir_func.specs.declared.position.Pos.{Pos}
-use Rattle.mir_func.specs.declared.entry.DebugSubstitution.{DebugSubstitution}
+use Rattle.mir_func.specs.declared.debug_substitution.DebugSubstitution.{DebugSubstitution}
 use Rattle.mir_func.specs.Function.{Function}
 use Rattle.mir_func.specs.Graph.{Program}
 use Rattle.pass_trait.specs.Change.{Change, change}

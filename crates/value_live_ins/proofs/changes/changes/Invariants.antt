@@ -1,6 +1,6 @@
 use Rattle.std.proofs.Common.{length}
 use Rattle.value_proof.specs.Classes.{Classes}
-use Rattle.value_tracker.specs.Held.{Holds}
+use Rattle.value_tracker.specs.LocationTracker.{Holds}
 use Rattle.value_solver.specs.Joining.{AreWithin}
 use Rattle.value_live_ins.proofs.Changing.{ChangedBelow, KeptFrom}
 use Rattle.value_live_ins.proofs.changes.changes.Given as goal

@@ -1,7 +1,7 @@
 use Rattle.std.proofs.Common.{◌≡◌, length, take}
 use Rattle.mir_func.specs.declared.item.Item.{Item}
 use Rattle.mir_func.specs.Sound.{HasForm}
-use Rattle.value_tracker.specs.Held.{PLACES}
+use Rattle.value_tracker.specs.LocationTracker.{PLACES}
 use Rattle.value_live_ins.specs.Walking.{Walked}
 use Rattle.value_live_ins.proofs.Each.{EachBelow}
 use Rattle.value_live_ins.proofs.changes.pass_items.Given as goal

@@ -1,5 +1,5 @@
 use Rattle.std.specs.Prelude.{Contains}
-use Rattle.mir_func.specs.declared.entry.OperandPair.{OperandPair}
+use Rattle.mir_func.specs.declared.debug_substitution.OperandPair.{OperandPair}
 use Rattle.value_solver.specs.declared.tracked.Tracked.TheVariants.{Pair}
 use Rattle.value_live_ins.proofs.Each.{each_more, each_weaker, each_all}
 use Rattle.value_live_ins.proofs.Gathering.{grows_then, grows_has}

@@ -1,7 +1,7 @@
 use Rattle.std.proofs.Common.{◌≡◌, ◌<◌, ◌≤◌, ℕ, get_or, length}
 use Rattle.std.specs.Prelude.{Some, slice_get}
 use Rattle.mir_func.specs.declared.variable.VarId.{VarId}
-use Rattle.value_tracker.specs.Held.{part_past}
+use Rattle.value_tracker.specs.LocationTracker.{part_past}
 use Rattle.value_tracker.proofs.pass.mark.Given as goal
 
 abbrev pub invariant-loop-j : goal.invariant-loop-j

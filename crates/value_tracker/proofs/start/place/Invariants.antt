@@ -1,5 +1,5 @@
 use Rattle.std.proofs.Common.{◌≡◌, length}
-use Rattle.value_tracker.specs.Held.{PLACES}
+use Rattle.value_tracker.specs.LocationTracker.{PLACES}
 use Rattle.value_tracker.specs.Start.{PlacedBelow}
 use Rattle.value_tracker.proofs.start.place.Given as goal
 

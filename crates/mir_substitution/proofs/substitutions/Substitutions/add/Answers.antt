@@ -1,7 +1,7 @@
 use Rattle.std.proofs.Common.{◌≡◌, ap, sym, ◌∙◌, ◌++◌, ◌∷◌, [], Some, cond}
 use Rattle.std.specs.Prelude.{is_some}
 use Rattle.std.specs.HashMap.{get}
-use Rattle.mir_func.specs.declared.entry.OperandPair.{OperandPair}
+use Rattle.mir_func.specs.declared.debug_substitution.OperandPair.{OperandPair}
 use Rattle.mir_substitution.specs.Index.{is_key, key_of}
 use Rattle.mir_substitution.proofs.Entries.{indexed-push}
 use Rattle.mir_substitution.proofs.substitutions.Substitutions.add.Goals as goal

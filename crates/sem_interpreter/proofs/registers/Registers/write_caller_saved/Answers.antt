@@ -1,5 +1,5 @@
 use Rattle.std.proofs.Common.{arith, refl}
-use Rattle.rv64_instr.specs.Access.{caller_saved}
+use Rattle.rv64_instr.specs.DefsAndUses.{caller_saved}
 use Rattle.sem_mir.specs.State.{put}
 use Rattle.sem_interpreter.proofs.RunLoops.{put_holds, set_keeps, each_between, put_all_turn}
 use Rattle.sem_interpreter.proofs.registers.Registers.write_caller_saved.Goals as goal

@@ -1,5 +1,5 @@
 use Rattle.std.proofs.Common.{◌≡◌, ℕ, Option, drop}
-use Rattle.rv64_instr.specs.Access.{caller_saved}
+use Rattle.rv64_instr.specs.DefsAndUses.{caller_saved}
 use Rattle.sem_mir.specs.State.{put_all}
 use Rattle.sem_interpreter.specs.Places.{AreRegisters, RegistersHold}
 use Rattle.sem_interpreter.proofs.registers.Registers.write_caller_saved.Given as goal

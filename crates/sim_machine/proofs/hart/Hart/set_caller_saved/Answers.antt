@@ -1,5 +1,5 @@
 use Rattle.std.proofs.Common.{◌≡◌, ℕ, ◌∙◌, refl, sym, ap, subst, arith, drop}
-use Rattle.rv64_instr.specs.Access.{caller_saved}
+use Rattle.rv64_instr.specs.DefsAndUses.{caller_saved}
 use Rattle.sem_machine.specs.Machine.{set_in, set_all_in}
 use Rattle.sim_machine.specs.Kept.{StandsFor}
 use Rattle.sim_machine.proofs.Calls.{set_all_turn, each_below}

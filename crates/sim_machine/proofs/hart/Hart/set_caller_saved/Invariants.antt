@@ -1,5 +1,5 @@
 use Rattle.std.proofs.Common.{◌≡◌, ℕ, drop}
-use Rattle.rv64_instr.specs.Access.{caller_saved}
+use Rattle.rv64_instr.specs.DefsAndUses.{caller_saved}
 use Rattle.sem_machine.specs.Machine.{Machine, set_all_in}
 use Rattle.sim_machine.specs.Kept.{StandsFor, IsSameFrame}
 use Rattle.sim_machine.proofs.hart.Hart.set_caller_saved.Given as goal

@@ -1,5 +1,0 @@
-use Rattle.emit_code.proofs.Growing.{IsMade}
-use Rattle.emit_code.proofs.rounds.grow.Given as goal
-
-abbrev pub invariant-loop-index : goal.invariant-loop-index
-invariant-loop-index l = IsMade l.sums l.initial.spans.items l.spans.items l.index l.found
