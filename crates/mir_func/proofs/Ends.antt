@@ -6,7 +6,7 @@ use Rattle.std.proofs.Math.Seq.{drop-cons}
 use Rattle.std.proofs.lemmas.List.{drop_all}
 use Rattle.std.proofs.lemmas.List.Elements.{All-head, All-tail}
 use Rattle.mir_func.specs.declared.object.Object.{Object}
-use Rattle.mir_func.specs.Objects.{object_of, offset_of, offset_or_zero, up_to, place_of, next_end, AreLaidFrom, AreLaid, end_from, area_of}
+use Rattle.mir_func.specs.Objects.{object_of, offset_of, offset_or_zero, up_to, next_end, AreLaidFrom, AreLaid, end_from, area_of}
 use Rattle.mir_func.specs.Objects.{reach_after, reach_from, block_size, local_offsets}
 use Rattle.mir_func.specs.Sound.{HasBytes, IsLocalOffset, IsSoundObject}
 use Rattle.mir_func.proofs.Laid.{alignment_is_few, place_low, next_low}

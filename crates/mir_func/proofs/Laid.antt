@@ -1,7 +1,7 @@
 -- Stack objects: their alignments, where they lie, and how their sizes are found.
 use Rattle.std.proofs.Common.{◌≡◌, ◌↔◌, ℕ, zero, suc, ◌+◌, ◌<◌, ◌≤◌, Bool, true, false, cond, List, [], ◌∷◌, ◌++◌, map, reverse, nat_eq, Option, Some, None}
 use Rattle.std.proofs.Common.{refl, sym, ap, ◌∙◌, arith}
-use Rattle.std.specs.Prelude.{Contains, IfSome, option_map}
+use Rattle.std.specs.Prelude.{Contains, option_map}
 use Rattle.std.specs.Bool.{Decides}
 use Rattle.std.specs.List.{list_any}
 use Rattle.std.specs.Map.{update_all}
@@ -11,7 +11,7 @@ use Rattle.std.proofs.lemmas.List.{map-append, reverse-append}
 use Rattle.std.proofs.lemmas.List.Sums.{fold-append}
 use Rattle.std.proofs.lemmas.Map.Made.{is_member-Decides}
 use Rattle.mir_func.specs.declared.object.Object.{Object}
-use Rattle.mir_func.specs.Objects.{ALIGNMENTS, object_of, up_to, reach_after, place_of, next_end, AreLaidFrom}
+use Rattle.mir_func.specs.Objects.{ALIGNMENTS, object_of, up_to, place_of, next_end, AreLaidFrom}
 use Rattle.mir_func.specs.Sound.{HasBytes}
 use Rattle.mir_func.proofs.Apart.{same}
 
@@ -55,13 +55,6 @@ pub next_low : (block end align size : ℕ) (l : Option ℕ) → 0 < align → a
     next_end end (place_of block end align l + size) l ≤ end + 2147483648
 next_low block end align size None some few small = omega (arith, up_to-le align end some, few, small)
 next_low block end align size (Some n) some few small = omega arith
-
--- ---- how far objects reach
-
--- a reach of 32 bits stays one
-pub reach_low : (n bound : ℕ) (l : Option ℕ) → n ≤ bound → IfSome l (λ m. m ≤ bound) → reach_after n l ≤ bound
-reach_low n bound None le small = le
-reach_low n bound (Some m) le small = omega (arith, le, small)
 
 -- ---- sizes by number
 

@@ -1,4 +1,5 @@
 use Rattle.std.proofs.Common.{◌≡◌, ◌≤◌, ◌+◌, ℕ, max, drop, sym, ap, ◌∙◌, subst, arith}
+use Rattle.std.proofs.lemmas.Bool.Decides.{nat_tests}
 use Rattle.mir_func.specs.declared.object.Object.{Object}
 use Rattle.mir_func.specs.Objects.{up_to, end_from}
 use Rattle.mir_func.proofs.Ends.{each_ends_low, end_turn, end_is}
@@ -11,14 +12,15 @@ loop-o-preserved c =
     let i = c.loop-o.o-index in
     let low : o.offset + o.size ≤ 483183820800 = subst (λ (x : Object). x.offset + x.size ≤ 483183820800) (sym c.o-item.is)
     (each_ends_low objects c.requires.few c.requires.each c.requires.laid i o c.loop-o-test.true) in
+    let most : c.max-end.result ≡ max c.loop-o.end (o.offset + o.size) = grind (arith, nat_tests, c.max-end.ensures, c.from.ensures) in
     record {
-      same = ap (λ (n : ℕ). end_from n (drop (i + 1) objects)) (c.max.ensures ∙ ap (λ (n : ℕ). max c.loop-o.end (o.offset + n)) c.from.ensures)
+      same = ap (λ (n : ℕ). end_from n (drop (i + 1) objects)) most
           ∙ sym (end_turn c.loop-o.end i o objects c.loop-o-test.true c.o-item.is) ∙ c.loop-o.invariant.same;
-      few = omega (arith, c.max.ensures, c.from.ensures, low, c.loop-o.invariant.few);
+      few = omega (arith, most, low, c.loop-o.invariant.few);
     }
 
-pub overflow_add-max : goal.overflow_add-max
-overflow_add-max c =
+pub overflow_add-o : goal.overflow_add-o
+overflow_add-o c =
     let objects = c.args.objects.now in
     let o = c.o-item.result in
     let low : o.offset + o.size ≤ 483183820800 = subst (λ (x : Object). x.offset + x.size ≤ 483183820800) (sym c.o-item.is)

@@ -1,6 +1,6 @@
-use Rattle.std.proofs.Common.{◌≡◌, ◌≤◌, ◌+◌, ℕ, List, drop, sym, ap, ◌∙◌, arith}
+use Rattle.std.proofs.Common.{List, ap, arith}
 use Rattle.mir_func.specs.declared.object.Object.{Object}
-use Rattle.mir_func.specs.Objects.{local_offsets, local_count, counted}
+use Rattle.mir_func.specs.Objects.{local_offsets, local_count}
 use Rattle.mir_func.proofs.Ends.{here_first, none_left}
 use Rattle.mir_func.proofs.sound_objects.local_count.Goals as goal
 
@@ -10,8 +10,8 @@ loop-o-preserved c =
     let i = c.loop-o.o-index in
     let more = ap (λ (os : List Object). local_count (local_offsets os)) (here_first i c.o-item.result objects c.loop-o-test.true c.o-item.is) in
     record {
-      same = omega (arith, more, c.counted.ensures.value, c.loop-o.invariant.same);
-      few = omega (arith, c.counted.ensures.one, c.loop-o.invariant.few);
+      same = omega (arith, more, c.counted-count.ensures.value, c.loop-o.invariant.same);
+      few = omega (arith, c.counted-count.ensures.one, c.loop-o.invariant.few);
     }
 
 pub returns : goal.returns
