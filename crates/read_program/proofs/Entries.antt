@@ -10,7 +10,8 @@ use Rattle.read_declarations.specs.declared.stack.StackEntry.{StackEntry}
 use Rattle.read_body.specs.declared.frame.ObjectLayout.{ObjectLayout}
 use Rattle.read_body.specs.Met.{is_met, met}
 use Rattle.read_body.specs.Closing.{all_met}
-use Rattle.read_body.specs.StackEntryKind.{is_object, laid_at, with_object, objects_behind, local_block, objects_of, with_id, ids_behind as object_ids_behind, ids_of_objects}
+use Rattle.read_body.specs.StackEntryKind.{is_object, laid_at, with_object, objects_behind, local_block, objects_of, with_id, ids_behind as object_ids_behind}
+use Rattle.read_body.specs.StackEntryKind.{ids_of_objects}
 use Rattle.read_program.specs.Closing.{ids_behind, entry_ids}
 use Rattle.read_program.proofs.Lists.{met_keeps, met_has}
 
@@ -42,7 +43,8 @@ module _ (named : List ℕ) where
   -- a declared entry that code names as an object is one
   with_id_has : (e : StackEntry) (ids : List ℕ) → is_met e.id named ≡ true → is_met e.id (with_id named ids e) ≡ true
   with_id_has e ids is =
-      ap (λ (l : List ℕ). is_met e.id l) (cond-true (is_object named e) (met e.id ids) ids (or_right (not (eqb e.size 8)) (is_met e.id named) is))
+      ap (λ (l : List ℕ). is_met e.id l) (cond-true (is_object named e) (met e.id ids) ids
+      (or_right (is_some e.local_offset) (not (eqb e.size 8) || is_met e.id named) (or_right (not (eqb e.size 8)) (is_met e.id named) is)))
       ∙ met_has e.id ids
 
   with_id_keeps : (e : StackEntry) (ids : List ℕ) (n : ℕ) → is_met n ids ≡ true → is_met n (with_id named ids e) ≡ true

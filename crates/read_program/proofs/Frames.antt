@@ -121,7 +121,13 @@ module _ (named : List ℕ) where
   frame_count es =
       let count = chosen_count is_slot (is_object named) (λ e. twice (is_object named e)) [] [] es in
       let objects : length (object_numbers (objects_of named es).objects) ≡ length (objects_of named es).objects = counted (objects_of named es).objects in
-      omega (arith, ap length (slots_chosen [] es), ap length (objects_chosen (local_block es) (record { objects = []; end = local_block es }) es), objects, count) where
+      omega (
+        arith,
+        ap length (slots_chosen [] es),
+        ap length (objects_chosen (local_block es) (record { objects = []; end = local_block es }) es),
+        objects,
+        count,
+      ) where
         twice : (b : Bool) → b ≡ not (not b)
         twice true = refl
         twice false = refl
@@ -264,14 +270,14 @@ module _ (named : List ℕ) where
 
   chosen_local : (es : List StackEntry) → AreLocal (chosen_offsets es) es
   chosen_local [] = record { reach = λ n. refl; count = refl }
-  chosen_local (e ∷ es) = let more = by e.local_offset (not (eqb e.size 8) || is_met e.id named) in record { reach = more.reach; count = more.count } where
-    rest : AreLocal (chosen_offsets es) es
-    rest = chosen_local es
-
-    by : (l : Option ℕ) (b : Bool) → AreLocalMore l (cond (is_some l || b) (l ∷ chosen_offsets es) (chosen_offsets es)) es
-    by (Some m) b = record { reach = λ n. rest.reach (max n m); count = ap suc rest.count }
-    by None true = record { reach = rest.reach; count = rest.count }
-    by None false = record { reach = rest.reach; count = rest.count }
+  chosen_local (e ∷ es) =
+      let more = by (chosen_local es) e.local_offset (not (eqb e.size 8) || is_met e.id named) in record { reach = more.reach; count = more.count }
+    where
+      by : AreLocal (chosen_offsets es) es → (l : Option ℕ) (b : Bool) →
+          AreLocalMore l (cond (is_some l || b) (l ∷ chosen_offsets es) (chosen_offsets es)) es
+      by rest (Some m) b = record { reach = λ n. rest.reach (max n m); count = ap (λ (n : ℕ). 1 + n) rest.count }
+      by rest None true = record { reach = rest.reach; count = ap (λ (n : ℕ). 0 + n) rest.count }
+      by rest None false = record { reach = rest.reach; count = omega (arith, rest.count) }
 
   local_is : (es : List StackEntry) → AreLocal (local_offsets (objects_of named es).objects) es
   local_is es = subst (λ (l : List (Option ℕ)). AreLocal l es) (sym (offsets_chosen (local_block es) (record { objects = []; end = local_block es }) es))

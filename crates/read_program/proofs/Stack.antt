@@ -1,5 +1,6 @@
 -- The stack entries that a document declares: few, apart, with sizes within the limit and alignments that are some.
-use Rattle.std.proofs.Common.{◌≡◌, ℕ, zero, suc, ◌≤◌, Bool, true, false, cond, not, ◌&&◌, ◌||◌, eqb, leb, List, [], ◌∷◌, map, length, All, Option, Some, None}
+use Rattle.std.proofs.Common.{◌≡◌, ℕ, zero, suc, ◌+◌, ◌≤◌, Bool, true, false, cond, not, ◌&&◌, ◌||◌, eqb, leb, List, [], ◌∷◌, map, length, All, Option, Some}
+use Rattle.std.proofs.Common.{None}
 use Rattle.std.proofs.Common.{Result, Ok, Err, refl, sym, ap, subst, ◌∙◌, arith}
 use Rattle.std.specs.Prelude.{codes, is_none}
 use Rattle.std.specs.List.{slice_get}
@@ -210,7 +211,7 @@ ids_kept (e ∷ es) = ap (λ (l : List ℕ). e.id ∷ l) (ids_kept es)
 
 none_counted : (es : List StackEntry) → local_count (entry_offsets (map without_offset es)) ≡ 0
 none_counted [] = refl
-none_counted (e ∷ es) = none_counted es
+none_counted (e ∷ es) = let more : 0 + local_count (entry_offsets (map without_offset es)) ≡ 0 = omega (arith, none_counted es) in more
 
 shared_reads : (es : List StackEntry) → AreJudged es → IsReadStack (shared es)
 shared_reads es is = by (eqb (local_count (entry_offsets es)) 1) refl where
@@ -222,7 +223,12 @@ shared_reads es is = by (eqb (local_count (entry_offsets es)) 1) refl where
     apart = subst AreApart (sym (ids_kept es)) is.apart;
     several = λ e. omega (arith, none_counted es, e);
   }
-  by false other = record { few = is.few; each = is.each; apart = is.apart; several = λ e. false≢true (sym other ∙ eq-eqb (local_count (entry_offsets es)) 1 e) }
+  by false other = record {
+    few = is.few;
+    each = is.each;
+    apart = is.apart;
+    several = λ e. false≢true (sym other ∙ eq-eqb (local_count (entry_offsets es)) 1 e);
+  }
 
 checked_ok : (refused : Option Refusal) (declared d : Declarations) → checked refused declared ≡ Ok d → (refused ≡ None) × (declared ≡ d)
 checked_ok None declared d e = (refl, cc)

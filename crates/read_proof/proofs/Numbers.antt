@@ -1,8 +1,8 @@
 -- The numbers that a document declares are within their limits: those of stack entries, so of slots and objects, and those of substitutions.
-use Rattle.std.proofs.Common.{◌≡◌, ℕ, ◌≤◌, Bool, true, false, cond, ◌&&◌, ◌||◌, not, List, [], ◌∷◌, ◌++◌, All, Option, Some, None, Result, Ok, Err}
+use Rattle.std.proofs.Common.{◌≡◌, ℕ, ◌≤◌, Bool, true, false, cond, ◌&&◌, ◌||◌, not, eqb, List, [], ◌∷◌, ◌++◌, map, All, Option, Some, None, Result, Ok, Err}
 use Rattle.std.proofs.Common.{subst, arith}
 use Rattle.std.specs.Prelude.{IfSome, codes, is_none, is_some}
-use Rattle.std.proofs.lemmas.List.Elements.{All-nil, All-push, All-head, All-tail}
+use Rattle.std.proofs.lemmas.List.Elements.{All-nil, All-push, All-head, All-tail, All-map, All-weaker}
 use Rattle.read_refusal.specs.declared.first.Refusal.{Refusal}
 use Rattle.read_refusal.specs.declared.kind.RefusalKind.{RefusalKind}
 use Rattle.read_refusal.specs.declared.kind.RefusalKind.TheVariants.{StackObject}
@@ -12,6 +12,7 @@ use Rattle.read_documents.specs.declared.parts.FunctionDocument.{FunctionDocumen
 use Rattle.mir_func.specs.declared.debug_substitution.DebugSubstitution as func
 use Rattle.mir_func.specs.declared.debug_substitution.OperandPair.{OperandPair}
 use Rattle.mir_func.specs.declared.object.Object.{Object}
+use Rattle.mir_func.specs.Objects.{local_count}
 use Rattle.mir_func.specs.Resolve.{entry_of}
 use Rattle.base_ids.specs.Limits.{MAX_NUMBER}
 use Rattle.read_lexer.specs.declared.line.Line.{Line}
@@ -25,7 +26,8 @@ use Rattle.read_declarations.specs.declared.substitutions.SubstitutionsRead.{Sub
 use Rattle.read_declarations.specs.Declarations.{refusal_of, declared_of, checked, declarations_of}
 use Rattle.read_declarations.specs.Field.{value_at, number_in, needed, given, negated, is_variable_sized}
 use Rattle.read_declarations.specs.List.{list_of}
-use Rattle.read_declarations.specs.Stack.{is_alignment, entry_with, unsized, stack_entry_of, judged, stack_behind, stack_read, entry_offsets, without_offset, shared}
+use Rattle.read_declarations.specs.Stack.{is_alignment, entry_with, unsized, stack_entry_of, judged, stack_behind, stack_read, entry_offsets, without_offset}
+use Rattle.read_declarations.specs.Stack.{shared}
 use Rattle.read_declarations.specs.Stream.{text_at}
 use Rattle.read_declarations.specs.Substitutions.{pair_of, substitution_with, substitution_of, substituted, substitutions_behind}
 use Rattle.read_body.specs.declared.frame.ObjectLayout.{ObjectLayout}

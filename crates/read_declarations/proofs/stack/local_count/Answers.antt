@@ -1,4 +1,4 @@
-use Rattle.std.proofs.Common.{◌≡◌, ◌≤◌, ◌+◌, ◌∷◌, ℕ, List, drop, sym, ap, ◌∙◌, arith}
+use Rattle.std.proofs.Common.{◌≡◌, ◌+◌, ◌∷◌, List, drop, sym, ap, ◌∙◌, arith}
 use Rattle.std.proofs.lemmas.List.{drop_more, drop_all}
 use Rattle.mir_func.specs.Objects.{local_count}
 use Rattle.read_declarations.specs.declared.stack.StackEntry.{StackEntry}
@@ -14,8 +14,8 @@ loop-entry-preserved c =
     drop_more entries i e c.loop-entry-test.true ∙ ap (λ (x : StackEntry). x ∷ drop (i + 1) entries) (sym c.entry-item.is) in
     let more = ap (λ (es : List StackEntry). local_count (entry_offsets es)) parts in
     record {
-      same = omega (arith, more, c.counted.ensures.value, c.loop-entry.invariant.same);
-      few = omega (arith, c.counted.ensures.one, c.loop-entry.invariant.few);
+      same = omega (arith, more, c.counted-count.ensures.value, c.loop-entry.invariant.same);
+      few = omega (arith, c.counted-count.ensures.one, c.loop-entry.invariant.few);
     }
 
 pub returns : goal.returns

@@ -1,4 +1,4 @@
-use Rattle.std.proofs.Common.{ℕ, List, refl, rules}
+use Rattle.std.proofs.Common.{ℕ, List, None, refl, rules}
 use Rattle.read_declarations.specs.declared.stack.StackEntry.{StackEntry}
 use Rattle.read_body.specs.Met.{met}
 use Rattle.read_body.proofs.Entries.{one_more, no_more}
