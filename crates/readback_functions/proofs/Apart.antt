@@ -75,39 +75,43 @@ module _ (named : List ℕ) where
       Once (slots_behind named ss es ++ object_numbers (objects_behind named block laid es).objects)
   unfolding slots_behind objects_behind
   once_behind block ss laid [] once free entries = once
-  once_behind block ss laid (e ∷ es) once free entries = by (is_object named e) (once_behind block (with_slot named ss e) (with_object named block laid e) es) where
-    new : is_met e.id (ss ++ object_numbers laid.objects) ≡ false
-    new = free e.id (ap (λ (b : Bool). b || is_met e.id (numbers es)) (eq-eqb e.id e.id refl))
+  once_behind block ss laid (e ∷ es) once free entries =
+      by (is_object named e) (once_behind block (with_slot named ss e) (with_object named block laid e) es) where
+        new : is_met e.id (ss ++ object_numbers laid.objects) ≡ false
+        new = free e.id (ap (λ (b : Bool). b || is_met e.id (numbers es)) (eq-eqb e.id e.id refl))
 
-    other : (n : ℕ) → is_met n (numbers es) ≡ true → eqb n e.id ≡ false
-    other n is = ne_eqb n e.id (λ same. false≢true (sym entries.0 ∙ (ap (λ (k : ℕ). is_met k (numbers es)) (sym same) ∙ is)))
+        other : (n : ℕ) → is_met n (numbers es) ≡ true → eqb n e.id ≡ false
+        other n is = ne_eqb n e.id (λ same. false≢true (sym entries.0 ∙ (ap (λ (k : ℕ). is_met k (numbers es)) (sym same) ∙ is)))
 
-    later : (n : ℕ) → is_met n (numbers es) ≡ true → is_met n (ss ++ object_numbers laid.objects) ≡ false
-    later n is = free n (or_later (eqb n e.id) is) where
-      or_later : (b : Bool) → is_met n (numbers es) ≡ true → (b || is_met n (numbers es)) ≡ true
-      or_later true f = refl
-      or_later false f = f
+        later : (n : ℕ) → is_met n (numbers es) ≡ true → is_met n (ss ++ object_numbers laid.objects) ≡ false
+        later n is = free n (or_later (eqb n e.id) is) where
+          or_later : (b : Bool) → is_met n (numbers es) ≡ true → (b || is_met n (numbers es)) ≡ true
+          or_later true f = refl
+          or_later false f = f
 
-    more : ObjectLayout
-    more = record { objects = laid.objects ++ laid_at block laid.end e ∷ []; end = next_end laid.end ((laid_at block laid.end e).offset + e.size) e.local_offset }
+        more : ObjectLayout
+        more = record {
+          objects = laid.objects ++ laid_at block laid.end e ∷ [];
+          end = next_end laid.end ((laid_at block laid.end e).offset + e.size) e.local_offset;
+        }
 
-    pushed : ss ++ object_numbers more.objects ≡ (ss ++ object_numbers laid.objects) ++ e.id ∷ []
-    pushed = ap (λ (l : List ℕ). ss ++ l) (map-append (λ (o : Object). o.id) laid.objects (laid_at block laid.end e ∷ []))
-        ∙ sym (append_assoc ss (object_numbers laid.objects) (e.id ∷ []))
+        pushed : ss ++ object_numbers more.objects ≡ (ss ++ object_numbers laid.objects) ++ e.id ∷ []
+        pushed = ap (λ (l : List ℕ). ss ++ l) (map-append (λ (o : Object). o.id) laid.objects (laid_at block laid.end e ∷ []))
+            ∙ sym (append_assoc ss (object_numbers laid.objects) (e.id ∷ []))
 
-    put : (ss ++ e.id ∷ []) ++ object_numbers laid.objects ≡ ss ++ e.id ∷ object_numbers laid.objects
-    put = append_assoc ss (e.id ∷ []) (object_numbers laid.objects)
+        put : (ss ++ e.id ∷ []) ++ object_numbers laid.objects ≡ ss ++ e.id ∷ object_numbers laid.objects
+        put = append_assoc ss (e.id ∷ []) (object_numbers laid.objects)
 
-    by : (b : Bool) →
-        (Once (cond b ss (ss ++ e.id ∷ []) ++ object_numbers (cond b more laid).objects) →
-        AreFree (cond b ss (ss ++ e.id ∷ []) ++ object_numbers (cond b more laid).objects) es → Once (numbers es) →
-        Once (slots_behind named (cond b ss (ss ++ e.id ∷ [])) es ++ object_numbers (objects_behind named block (cond b more laid) es).objects)) →
-        Once (slots_behind named (cond b ss (ss ++ e.id ∷ [])) es ++ object_numbers (objects_behind named block (cond b more laid) es).objects)
-    by true rest = rest
-        (subst Once (sym pushed) (once_between e.id (ss ++ object_numbers laid.objects) []
-        (ap (is_met e.id) (append-nil (ss ++ object_numbers laid.objects)) ∙ new) (subst Once (sym (append-nil (ss ++ object_numbers laid.objects))) once)))
-        (λ n is. ap (is_met n) pushed ∙ met_between n e.id (ss ++ object_numbers laid.objects) [] (other n is)
-        (ap (is_met n) (append-nil (ss ++ object_numbers laid.objects)) ∙ later n is)) entries.1
-    by false rest = rest
-        (subst Once (sym put) (once_between e.id ss (object_numbers laid.objects) new once))
-        (λ n is. ap (is_met n) put ∙ met_between n e.id ss (object_numbers laid.objects) (other n is) (later n is)) entries.1
+        by : (b : Bool) →
+            (Once (cond b ss (ss ++ e.id ∷ []) ++ object_numbers (cond b more laid).objects) →
+            AreFree (cond b ss (ss ++ e.id ∷ []) ++ object_numbers (cond b more laid).objects) es → Once (numbers es) →
+            Once (slots_behind named (cond b ss (ss ++ e.id ∷ [])) es ++ object_numbers (objects_behind named block (cond b more laid) es).objects)) →
+            Once (slots_behind named (cond b ss (ss ++ e.id ∷ [])) es ++ object_numbers (objects_behind named block (cond b more laid) es).objects)
+        by true rest = rest
+            (subst Once (sym pushed) (once_between e.id (ss ++ object_numbers laid.objects) []
+            (ap (is_met e.id) (append-nil (ss ++ object_numbers laid.objects)) ∙ new) (subst Once (sym (append-nil (ss ++ object_numbers laid.objects))) once)))
+            (λ n is. ap (is_met n) pushed ∙ met_between n e.id (ss ++ object_numbers laid.objects) [] (other n is)
+            (ap (is_met n) (append-nil (ss ++ object_numbers laid.objects)) ∙ later n is)) entries.1
+        by false rest = rest
+            (subst Once (sym put) (once_between e.id ss (object_numbers laid.objects) new once))
+            (λ n is. ap (is_met n) put ∙ met_between n e.id ss (object_numbers laid.objects) (other n is) (later n is)) entries.1

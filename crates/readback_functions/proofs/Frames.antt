@@ -1,5 +1,5 @@
 -- The slots and objects of entries, read as entries again.
-use Rattle.std.proofs.Common.{◌≡◌, ℕ, ◌+◌, ◌≤◌, Bool, true, false, cond, not, ◌||◌, eqb, List, [], ◌∷◌, ◌++◌, map, length, All, Option, Some, None}
+use Rattle.std.proofs.Common.{◌≡◌, ℕ, ◌+◌, ◌≤◌, Bool, true, false, cond, not, ◌||◌, eqb, List, [], ◌∷◌, ◌++◌, map, All, Option, Some, None}
 use Rattle.std.proofs.Common.{refl, sym, ap, subst, ◌∙◌, arith, append_assoc, append-nil, inl, inr}
 use Rattle.std.specs.Prelude.{is_some, Contains}
 use Rattle.std.proofs.lemmas.Bool.{cases_Bool, or_right, or_left, eq-eqb, eqb-true}
@@ -128,7 +128,8 @@ reach_again n (m ∷ ms) os = reach_again n ms os
 count_again : (ms : List ℕ) (os : List Object) → local_count (entry_offsets (entries_read ms os)) ≡ local_count (local_offsets os)
 count_again [] [] = refl
 count_again [] (o ∷ os) = ap (λ (n : ℕ). counted o.local_offset + n) (count_again [] os)
-count_again (m ∷ ms) os = count_again ms os
+count_again (m ∷ ms) os =
+    let more : 0 + local_count (entry_offsets (entries_read ms os)) ≡ local_count (local_offsets os) = omega (arith, count_again ms os) in more
 
 -- ---- numbers
 
@@ -220,7 +221,8 @@ frames_read_back named again es declared same = record {
   slots_too = All-weaker (IsSlot named) (IsSlot again) (λ m is. (same m ∙ is.0, is.1)) ms slots
 
   objects_too : All (IsObject again) os
-  objects_too = All-weaker (IsObject named) (IsObject again) (λ o is. (ap (λ (b : Bool). is_some o.local_offset || (not (eqb o.size 8) || b)) (same o.id) ∙ is.0, is.1)) os objects
+  objects_too = All-weaker (IsObject named) (IsObject again)
+      (λ o is. (ap (λ (b : Bool). is_some o.local_offset || (not (eqb o.size 8) || b)) (same o.id) ∙ is.0, is.1)) os objects
 
   laid : AreLaid os
   laid = objects_laid named es (All-weaker IsEntry IsReadEntry (λ e is. record { size = is.size; aligned = is.aligned; local = is.local }) es declared.each)

@@ -1,53 +1,38 @@
 -- The line of an object is read as its entry, with a local offset or without.
-use Rattle.std.proofs.Common.{◌≡◌, ℕ, zero, suc, ◌+◌, ◌^◌, ◌<◌, ◌≤◌, negsuc, Bool, true, false, cond, not, ◌&&◌, ◌||◌, eqb, leb, List, [], ◌∷◌, ◌++◌, length, map, All}
-use Rattle.std.proofs.Common.{Option, Some, None, Result, Ok, Err, refl, sym, subst, ap, ◌∙◌, arith, append_assoc, append-nil}
-use Rattle.std.specs.Prelude.{codes, is_none}
-use Rattle.std.specs.List.{list_all, slice_get}
-use Rattle.std.specs.Char.{is_ascii_digit}
+use Rattle.std.proofs.Common.{◌≡◌, ℕ, ◌+◌, ◌≤◌, Bool, true, false, cond, not, ◌||◌, eqb, List, [], ◌∷◌, ◌++◌, length, map}
+use Rattle.std.proofs.Common.{Option, Some, None, refl, ap, ◌∙◌, arith}
+use Rattle.std.specs.Prelude.{codes}
 use Rattle.std.specs.Fmt.{decimal}
 use Rattle.std.specs.Str.{bytes_eq}
-use Rattle.std.proofs.lemmas.Bool.{and_parts, cond-true, cond-false, le-leb, lt-leb, eqb-true}
-use Rattle.std.proofs.lemmas.Fmt.{decimal_by_steps}
-use Rattle.std.proofs.lemmas.List.{length-append, map-append}
-use Rattle.std.proofs.lemmas.List.Elements.{All-head, All-tail}
+use Rattle.std.proofs.lemmas.Bool.{cond-true, eqb-true}
 use Rattle.base_ids.specs.Limits.{MAX_NUMBER}
 use Rattle.read_lexer.specs.declared.line.Line.{Line}
 use Rattle.read_lexer.specs.declared.parts.Class.TheVariants as class
-use Rattle.read_lexer.specs.declared.parts.Class.TheVariants.{Single}
 use Rattle.read_lexer.specs.declared.parts.Token.{Token}
-use Rattle.read_lexer.specs.Comment.{before}
-use Rattle.read_lexer.specs.Bytes.{is_blank, is_word_start, is_word_byte}
-use Rattle.read_lexer.specs.Front.{token, token_at}
-use Rattle.read_metadata.specs.Number.{within_limit, value_behind, spelled as spelt, integer_of, unsigned_of}
-use Rattle.read_metadata.specs.Token.{text_of}
+use Rattle.read_metadata.specs.Number.{integer_of}
 use Rattle.mir_func.specs.declared.object.Object.{Object}
-use Rattle.mir_func.specs.Objects.{local_count}
-use Rattle.mir_func.specs.Sound.{AreApart, IsLocalOffset}
-use Rattle.mir_func.specs.Limits.{MAX_SLOTS}
-use Rattle.read_refusal.specs.declared.kind.RefusalKind.{RefusalKind}
-use Rattle.read_refusal.specs.declared.kind.RefusalKind.TheVariants.{StackObject, TooMany}
 use Rattle.read_declarations.specs.declared.stream.YamlToken as stream
 use Rattle.read_declarations.specs.declared.entry.MappingField.{MappingField}
 use Rattle.read_declarations.specs.declared.entry.MappingEntry.{MappingEntry}
-use Rattle.read_declarations.specs.declared.entry.Listing.{Listing}
+use Rattle.read_declarations.specs.declared.entry.OpenList.{OpenList}
+use Rattle.read_declarations.specs.declared.entry.ParserState.TheVariants.{Next}
 use Rattle.read_declarations.specs.declared.stack.StackEntry.{StackEntry}
-use Rattle.read_declarations.specs.declared.stack.StackRead.{StackRead}
 use Rattle.read_declarations.specs.Entry.{has_key, entries_from}
-use Rattle.read_declarations.specs.Field.{value_at, number_in, needed, given, positive, negated_of, negated_in, negated, says}
+use Rattle.read_declarations.specs.Field.{value_at, number_in, negated_of, negated_in}
 use Rattle.read_declarations.specs.List.{list_in}
-use Rattle.read_declarations.specs.Stack.{is_alignment, entry_with, unsized, stack_entry_of, has_id, clash, refusal_at, judged, stack_behind, stack_of}
-use Rattle.read_declarations.specs.Stack.{entry_offsets, without_offset, shared}
-use Rattle.read_declarations.specs.Stream.{piece_of, stream_from, text_in, text_at}
-use Rattle.readback_items.proofs.Cuts.{is_safe, AllPass, safe_passes, decimal_safe, semicolon_mark, semicolon_colon}
-use Rattle.readback_items.proofs.Lexing.{Piece, spelled, AllRead}
-use Rattle.readback_items.proofs.Numbers.{decimal_of, no_digit}
+use Rattle.read_declarations.specs.Stack.{is_alignment}
+use Rattle.read_declarations.specs.Stream.{piece_of, text_at}
+use Rattle.readback_items.proofs.Lexing.{Piece, spelled}
 use Rattle.readback_items.proofs.Phrases.{piece}
-use Rattle.readback_items.proofs.Tokens.{Ends, word_read, single_read, decimal_token, integer_token}
-use Rattle.readback_functions.specs.Document.{lines_from}
-use Rattle.readback_functions.specs.Declared.{slot_line, line_end, object_line, entry_lines, slot_entry, object_entry, entries_read, IsEntry, StacksReadBack}
-use Rattle.readback_functions.proofs.Listed.{IsLexedLine, pieces_at, Stands, outside, IsEntryLine, AreEntryLines, AllMean, listed}
-use Rattle.readback_functions.proofs.Spans.{token_of, line_texts}
-use Rattle.readback_functions.proofs.EntryLines.{digits_spelled, number_read, spelt_read, positive_some, negated_read, mark, field, slot_pieces, numbers_pieces, local_field, end_pieces, object_pieces, IsRead, mark_reads, comma_reads, close_reads, open_reads, field_reads, slot_reads, local_reads, end_ends, end_reads, numbers_read, Means, text_found, says_entry, field_at}
+use Rattle.readback_functions.specs.Declared.{line_end, object_entry, IsEntry}
+use Rattle.readback_functions.proofs.Listed.{pieces_at, Stands, outside, IsEntryLine}
+use Rattle.readback_functions.proofs.Spans.{token_of, tokens_at, line_texts}
+use Rattle.readback_functions.proofs.EntryLines.{number_read, negated_read, mark, numbers_pieces, local_field, end_pieces}
+use Rattle.readback_functions.proofs.EntryLines.{object_pieces, numbers_read, Means, text_found, says_entry, field_at}
+
+-- in an entry, after its fields so far
+abbrev open_entry : List MappingEntry → ℕ → List MappingField → OpenList
+open_entry es line fields = record { entries = es; place = Next; line = line; fields = fields }
 
 -- an object's numbers
 module _ (id size align : ℕ) where
@@ -75,11 +60,15 @@ module _ (id size align : ℕ) where
   abbrev align_value : Token
   align_value = token_of align_place (piece 1 class.Integer (decimal align))
 
+  -- where the numbers end
+  abbrev numbers_end : ℕ
+  numbers_end = align_place + 1 + length (decimal align)
+
   abbrev local_key : Token
-  local_key = token_of (align_place + 1 + length (decimal align) + 0 + 1) (piece 1 class.Word (codes "local-offset"))
+  local_key = token_of (numbers_end + 0 + 1) (piece 1 class.Word (codes "local-offset"))
 
   abbrev local_value : ℕ → Token
-  local_value k = token_of (align_place + 1 + length (decimal align) + 0 + 1 + 1 + 12 + 0 + 1) (piece 1 class.Integer (45 ∷ decimal k))
+  local_value k = token_of (numbers_end + 0 + 1 + 1 + 12 + 0 + 1) (piece 1 class.Integer (45 ∷ decimal k))
 
   abbrev numbers_fields : ℕ → ℕ → List MappingField → List MappingField
   numbers_fields at n more = field_at at n id_key id_value ∷ field_at at n size_key size_value ∷ field_at at n align_key align_value ∷ more
@@ -113,6 +102,17 @@ module _ (id size align : ℕ) where
           align_is = text_found lines at n with_more align_value (decimal align) stands ts.1.1.1.1.1.1.1.1.1.1.1.1.0;
         }
 
+    -- after these fields
+    numbers_met : (lines : List Line) (at n : ℕ) → ObjectTexts lines at n → (cut : Bool) (es : List MappingEntry) (last : ℕ) (rest : List stream.YamlToken) →
+        entries_from lines cut (outside es last) (pieces_at at n with_more ++ rest)
+        ≡ entries_from lines cut (open_entry es n (numbers_fields at n [])) (map (piece_of at n) (tokens_at numbers_end more) ++ rest)
+    unfolding entries_from
+    numbers_met lines at n ts cut es last rest =
+        cond-true (not (has_key lines (field_at at n id_key id_value ∷ []) (piece_of at n size_key))) _ _
+        (λ i. not (bytes_eq (ts.id_text i) (ts.size_text i) || false))
+        ∙ cond-true (not (has_key lines (field_at at n id_key id_value ∷ field_at at n size_key size_value ∷ []) (piece_of at n align_key))) _ _
+        (λ i. not (bytes_eq (ts.id_text i) (ts.align_text i) || (bytes_eq (ts.size_text i) (ts.align_text i) || false)))
+
   aligned_small : is_alignment align ≡ true → align ≤ MAX_NUMBER
   aligned_small is = by (eqb align 1) (eqb align 2) (eqb align 4) (eqb align 8) (eqb align 16) refl refl refl refl refl is where
     at : (n : ℕ) → eqb align n ≡ true → n ≤ MAX_NUMBER → align ≤ MAX_NUMBER
@@ -131,16 +131,6 @@ module _ (id size align : ℕ) where
 
   abbrev plain_pieces : List Piece
   plain_pieces = numbers_pieces id size align (mark 1 125 ∷ [])
-
-  plain_read : (lines : List Line) (at n : ℕ) → ObjectTexts lines at n → (cut : Bool) (es : List MappingEntry) (last : ℕ) (rest : List stream.YamlToken) →
-      entries_from lines cut (outside es last) (pieces_at at n plain_pieces ++ rest)
-      ≡ entries_from lines cut (outside (es ++ record { line = n; fields = numbers_fields at n [] } ∷ []) n) rest
-  unfolding entries_from
-  plain_read lines at n ts cut es last rest =
-      cond-true (not (has_key lines (field_at at n id_key id_value ∷ []) (piece_of at n size_key))) _ _
-      (λ i. not (bytes_eq (ts.id_text i) (ts.size_text i) || false))
-      ∙ cond-true (not (has_key lines (field_at at n id_key id_value ∷ field_at at n size_key size_value ∷ []) (piece_of at n align_key))) _ _
-      (λ i. not (bytes_eq (ts.id_text i) (ts.align_text i) || (bytes_eq (ts.size_text i) (ts.align_text i) || false)))
 
   plain_says : (is : IsEntry (record { id = id; size = size; align = align; local_offset = None })) (lines : List Line) (at n : ℕ) →
       ObjectTexts lines at n →
@@ -168,12 +158,12 @@ module _ (id size align : ℕ) where
 
   plain_is : IsEntry (record { id = id; size = size; align = align; local_offset = None }) →
       IsEntryLine Means plain_pieces (record { id = id; size = size; align = align; local_offset = None })
-  unfolding list_in
+  unfolding list_in entries_from
   plain_is is = record {
     lexed = (let read = numbers_read id size align None is.id is.size (aligned_small is.aligned) tt in record { reads = read.all; passes = read.passes });
     opens = λ lines cut at n rest. refl;
     fields = λ at n. numbers_fields at n [];
-    read = λ lines at n stands. plain_read lines at n (object_texts (mark 1 125 ∷ []) lines at n stands);
+    read = λ lines at n stands. numbers_met (mark 1 125 ∷ []) lines at n (object_texts (mark 1 125 ∷ []) lines at n stands);
     means = λ lines at n stands. plain_says is lines at n (object_texts (mark 1 125 ∷ []) lines at n stands);
   }
 
@@ -198,19 +188,24 @@ module _ (id size align : ℕ) where
           local_is = text_found lines at n placed_pieces (local_value k) (45 ∷ decimal k) stands ts.1.1.1.1.1.1.1.1.1.1.1.1.1.1.1.1.0;
         }
 
+    -- after the numbers
+    local_met : (lines : List Line) (at n : ℕ) → LocalTexts k lines at n → (cut : Bool) (es : List MappingEntry) (rest : List stream.YamlToken) →
+        entries_from lines cut (open_entry es n (numbers_fields at n []))
+        (map (piece_of at n) (tokens_at numbers_end (mark 0 44 ∷ local_field k (mark 1 125 ∷ []))) ++ rest)
+        ≡ entries_from lines cut (outside (es ++ record { line = n; fields = placed_fields at n } ∷ []) n) rest
+    unfolding entries_from
+    local_met lines at n texts cut es rest =
+        let ts = texts.numbers in
+        cond-true (not (has_key lines (numbers_fields at n []) (piece_of at n local_key))) _ _
+        (λ i. not (bytes_eq (ts.id_text i) (texts.local_text i) || (bytes_eq (ts.size_text i) (texts.local_text i) ||
+        (bytes_eq (ts.align_text i) (texts.local_text i) || false))))
+
     placed_read : (lines : List Line) (at n : ℕ) → LocalTexts k lines at n → (cut : Bool) (es : List MappingEntry) (last : ℕ)
         (rest : List stream.YamlToken) → entries_from lines cut (outside es last) (pieces_at at n placed_pieces ++ rest)
         ≡ entries_from lines cut (outside (es ++ record { line = n; fields = placed_fields at n } ∷ []) n) rest
-    unfolding entries_from
     placed_read lines at n texts cut es last rest =
-        let ts = texts.numbers in
-        cond-true (not (has_key lines (field_at at n id_key id_value ∷ []) (piece_of at n size_key))) _ _
-        (λ i. not (bytes_eq (ts.id_text i) (ts.size_text i) || false))
-        ∙ (cond-true (not (has_key lines (field_at at n id_key id_value ∷ field_at at n size_key size_value ∷ []) (piece_of at n align_key))) _ _
-        (λ i. not (bytes_eq (ts.id_text i) (ts.align_text i) || (bytes_eq (ts.size_text i) (ts.align_text i) || false)))
-        ∙ cond-true (not (has_key lines (numbers_fields at n []) (piece_of at n local_key))) _ _
-        (λ i. not (bytes_eq (ts.id_text i) (texts.local_text i) || (bytes_eq (ts.size_text i) (texts.local_text i) ||
-        (bytes_eq (ts.align_text i) (texts.local_text i) || false)))))
+        numbers_met (mark 0 44 ∷ local_field k (mark 1 125 ∷ [])) lines at n texts.numbers cut es last rest
+        ∙ local_met lines at n texts cut es rest
 
     placed_says : IsEntry placed_entry → (lines : List Line) (at n : ℕ) → LocalTexts k lines at n → Means lines (placed_fields at n) placed_entry
     unfolding value_at

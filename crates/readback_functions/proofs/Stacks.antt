@@ -1,31 +1,27 @@
 -- The lines of slots and objects are read as stack entries.
-use Rattle.std.proofs.Common.{◌≡◌, ℕ, zero, suc, ◌+◌, ◌^◌, ◌<◌, ◌≤◌, negsuc, Bool, true, false, cond, not, ◌&&◌, ◌||◌, eqb, leb, List, [], ◌∷◌, ◌++◌, length, map, All}
-use Rattle.std.proofs.Common.{Option, Some, None, Result, Ok, Err, refl, sym, subst, ap, ◌∙◌, arith, append_assoc, append-nil}
-use Rattle.std.specs.Prelude.{codes, is_none}
-use Rattle.std.specs.List.{list_all, slice_get}
-use Rattle.std.specs.Char.{is_ascii_digit}
+use Rattle.std.proofs.Common.{◌≡◌, ℕ, suc, ◌+◌, ◌^◌, ◌<◌, ◌≤◌, Bool, true, false, cond, not, ◌||◌, eqb, leb, List, [], ◌∷◌, ◌++◌, length, map, All}
+use Rattle.std.proofs.Common.{Option, Some, None, Result, refl, sym, subst, ap, ◌∙◌, arith, append_assoc, append-nil}
+use Rattle.std.specs.Prelude.{codes}
+use Rattle.std.specs.List.{slice_get}
 use Rattle.std.specs.Fmt.{decimal}
 use Rattle.std.specs.Str.{bytes_eq}
-use Rattle.std.proofs.lemmas.Bool.{and_parts, cond-true, cond-false, le-leb, lt-leb, eqb-true}
+use Rattle.std.proofs.lemmas.Bool.{cond-true, lt-leb, eqb-true}
 use Rattle.std.proofs.lemmas.Fmt.{decimal_by_steps}
 use Rattle.std.proofs.lemmas.List.{length-append, map-append}
 use Rattle.std.proofs.lemmas.List.Elements.{All-head, All-tail}
 use Rattle.base_ids.specs.Limits.{MAX_NUMBER}
 use Rattle.read_lexer.specs.declared.line.Line.{Line}
 use Rattle.read_lexer.specs.declared.parts.Class.TheVariants as class
-use Rattle.read_lexer.specs.declared.parts.Class.TheVariants.{Single}
 use Rattle.read_lexer.specs.declared.parts.Token.{Token}
 use Rattle.read_lexer.specs.Comment.{before}
-use Rattle.read_lexer.specs.Bytes.{is_blank, is_word_start, is_word_byte}
-use Rattle.read_lexer.specs.Front.{token, token_at}
-use Rattle.read_metadata.specs.Number.{within_limit, value_behind, spelled as spelt, integer_of, unsigned_of}
-use Rattle.read_metadata.specs.Token.{text_of}
+use Rattle.read_lexer.specs.Front.{token_at}
+use Rattle.read_metadata.specs.Number.{integer_of}
 use Rattle.mir_func.specs.declared.object.Object.{Object}
 use Rattle.mir_func.specs.Objects.{local_count}
-use Rattle.mir_func.specs.Sound.{AreApart, IsLocalOffset}
+use Rattle.mir_func.specs.Sound.{AreApart}
 use Rattle.mir_func.specs.Limits.{MAX_SLOTS}
 use Rattle.read_refusal.specs.declared.kind.RefusalKind.{RefusalKind}
-use Rattle.read_refusal.specs.declared.kind.RefusalKind.TheVariants.{StackObject, TooMany}
+use Rattle.read_refusal.specs.declared.kind.RefusalKind.TheVariants.{TooMany}
 use Rattle.read_declarations.specs.declared.stream.YamlToken as stream
 use Rattle.read_declarations.specs.declared.entry.MappingField.{MappingField}
 use Rattle.read_declarations.specs.declared.entry.MappingEntry.{MappingEntry}
@@ -33,21 +29,20 @@ use Rattle.read_declarations.specs.declared.entry.Listing.{Listing}
 use Rattle.read_declarations.specs.declared.stack.StackEntry.{StackEntry}
 use Rattle.read_declarations.specs.declared.stack.StackRead.{StackRead}
 use Rattle.read_declarations.specs.Entry.{has_key, entries_from}
-use Rattle.read_declarations.specs.Field.{value_at, number_in, needed, given, positive, negated_of, negated_in, negated, says}
+use Rattle.read_declarations.specs.Field.{value_at, number_in, negated_in}
 use Rattle.read_declarations.specs.List.{list_in}
-use Rattle.read_declarations.specs.Stack.{is_alignment, entry_with, unsized, stack_entry_of, has_id, clash, refusal_at, judged, stack_behind, stack_of}
+use Rattle.read_declarations.specs.Stack.{has_id, clash, refusal_at, judged, stack_behind, stack_of}
 use Rattle.read_declarations.specs.Stack.{entry_offsets, without_offset, shared}
-use Rattle.read_declarations.specs.Stream.{piece_of, stream_from, text_in, text_at}
-use Rattle.readback_items.proofs.Cuts.{is_safe, AllPass, safe_passes, decimal_safe, semicolon_mark, semicolon_colon}
-use Rattle.readback_items.proofs.Lexing.{Piece, spelled, AllRead}
-use Rattle.readback_items.proofs.Numbers.{decimal_of, no_digit}
+use Rattle.read_declarations.specs.Stream.{piece_of, stream_from, text_at}
+use Rattle.readback_items.proofs.Cuts.{safe_passes, semicolon_mark}
+use Rattle.readback_items.proofs.Lexing.{Piece, spelled}
 use Rattle.readback_items.proofs.Phrases.{piece}
-use Rattle.readback_items.proofs.Tokens.{Ends, word_read, single_read, decimal_token, integer_token}
+use Rattle.readback_items.proofs.Tokens.{word_read, single_read}
 use Rattle.readback_functions.specs.Document.{lines_from}
-use Rattle.readback_functions.specs.Declared.{slot_line, line_end, object_line, entry_lines, slot_entry, object_entry, entries_read, IsEntry, StacksReadBack}
+use Rattle.readback_functions.specs.Declared.{slot_line, object_line, entry_lines, slot_entry, object_entry, entries_read, IsEntry, StacksReadBack}
 use Rattle.readback_functions.proofs.Listed.{IsLexedLine, pieces_at, Stands, outside, IsEntryLine, AreEntryLines, AllMean, listed}
 use Rattle.readback_functions.proofs.Spans.{token_of, line_texts}
-use Rattle.readback_functions.proofs.EntryLines.{digits_spelled, number_read, spelt_read, positive_some, negated_read, mark, field, slot_pieces, numbers_pieces, local_field, end_pieces, object_pieces, IsRead, mark_reads, comma_reads, close_reads, open_reads, field_reads, slot_reads, local_reads, end_ends, end_reads, numbers_read, Means, text_found, says_entry, field_at}
+use Rattle.readback_functions.proofs.EntryLines.{number_read, mark, slot_pieces, object_pieces, slot_reads, Means, text_found, says_entry, field_at}
 use Rattle.readback_functions.proofs.ObjectLines.{object_is, line_spelled}
 
 module _ (m : ℕ) (small : m ≤ MAX_NUMBER) where

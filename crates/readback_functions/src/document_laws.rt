@@ -2,8 +2,8 @@
 
 ghost use Rattle.readback_functions.specs.Document.{DocumentsReadBack};
 
-/// The text of function documents, one after the other, has no fault and no metadata, and its functions are these
-/// documents.
+/// The text of function documents of printable lines under their keys, one after the other, has no fault and no
+/// metadata, and its functions are these documents.
 pub fn documents_read_back()
     ensures { DocumentsReadBack }
 {}

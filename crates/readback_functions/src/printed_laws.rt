@@ -7,7 +7,8 @@ pub fn block_lines_are_printed()
     ensures { BlockLinesArePrinted }
 {}
 
-/// The lines of a name, of slots and of objects are printable ASCII without a space at the end.
+/// The lines of a name of bytes, and of slots and objects within the limits, are printable ASCII without a space at
+/// the end.
 pub fn declared_lines_are_printed()
     ensures { DeclaredLinesArePrinted }
 {}

@@ -36,7 +36,9 @@ end_fed (Some k) = simp append_assoc
 object_fed : (o : Object) → fed (object_line o) ≡ object_text o
 object_fed o =
     let numbers : fed (object_line o) ≡ object_numbers o ++ (line_end o.local_offset ++ 10 ∷ []) = simp append_assoc in
-    numbers ∙ ap (λ (l : List ℕ). object_numbers o ++ l) (end_fed o.local_offset)
+    numbers
+    ∙ (ap (λ (l : List ℕ). object_numbers o ++ l) (end_fed o.local_offset)
+    ∙ sym (append_assoc (object_numbers o) (local_text o.local_offset) (codes " }" ++ 10 ∷ [])))
 
 objects_fed : (objects : List Object) → text_of_lines (map object_line objects) ≡ flat_map object_text objects
 objects_fed [] = refl

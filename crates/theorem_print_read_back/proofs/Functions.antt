@@ -144,7 +144,8 @@ module _ (meta : Maps) (doc : FunctionDocument) (d : Declarations) (body : Body)
   entries =
       let stack = declared_stack doc d declared in
       record {
-        each = All-weaker (λ e. IsReadEntry e × HasSmallId e) IsEntry (λ e r. record { id = r.1; size = r.0.size; aligned = r.0.aligned; local = r.0.local }) d.stack
+        each = All-weaker (λ e. IsReadEntry e × HasSmallId e) IsEntry
+            (λ e r. record { id = r.1; size = r.0.size; aligned = r.0.aligned; local = r.0.local }) d.stack
             (both IsReadEntry HasSmallId d.stack stack.each (declares_small doc d declared).stack);
         several = stack.several;
         apart = stack.apart;
