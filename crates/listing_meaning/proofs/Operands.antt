@@ -1,6 +1,6 @@
 -- The operands of code that is listed are raised to what they were, but that an access names the last object that has its byte.
 use Rattle.std.proofs.Common.{◌≡◌, ℕ, zero, suc, ◌+◌, ◌-◌, ◌<◌, ◌≤◌, ℤ, pos, negsuc, Bool, true, false, ◌&&◌, cond, nat_eq, List, [], ◌∷◌}
-use Rattle.std.proofs.Common.{◌++◌, Option, Some, None, refl, ap, sym, ◌∙◌, subst, arith}
+use Rattle.std.proofs.Common.{◌++◌, Option, Some, refl, ap, sym, ◌∙◌, subst, arith}
 use Rattle.std.specs.Prelude.{All, Contains}
 use Rattle.std.specs.List.{list_all}
 use Rattle.std.proofs.lemmas.Bool.{and_parts, ne_eqb, lt-ltb, lt-leb}
@@ -179,7 +179,7 @@ module _ (f : FramedFunction) (framed : IsFramed f) where
 
   pointer_sum : (rd : ℕ) (i : ℤ) (rest : List Operand) → rd ≡ 2 → raised_sum (frame_of f) (Def rd ∷ Use 2 ∷ Imm i ∷ rest) ≡ Def rd ∷ Use 2 ∷ Imm i ∷ rest
   pointer_sum rd (pos n) rest is =
-      ap (λ (q : Bool). Def rd ∷ cond q (Use 2 ∷ Imm (pos n) ∷ []) (by_object (frame_of f) n) ++ rest) (ap (λ (r : ℕ). nat_eq r 2) is)
+      ap (λ (q : Bool). Def rd ∷ cond q (Use 2 ∷ Imm (pos n) ∷ []) (accessed (frame_of f) false n) ++ rest) (ap (λ (r : ℕ). nat_eq r 2) is)
   pointer_sum rd (negsuc n) rest is = refl
 
   other_sum : (rd b : ℕ) (i : ℤ) (rest : List Operand) → (b ≡ 2 → rd ≡ 2) → raised_sum (frame_of f) (Def rd ∷ Use b ∷ Imm i ∷ rest) ≡
@@ -193,7 +193,8 @@ module _ (f : FramedFunction) (framed : IsFramed f) where
       raised_sum (frame_of f) (by_pointer f (Def rd ∷ OfObject n ∷ Imm i ∷ rest)) ≡ settled_sum f (Def rd ∷ OfObject n ∷ Imm i ∷ rest)
   object_sum rd n i rest other (added m same) =
       let x = own_size f + offset_of f.objects n + m in
-      ap (λ (q : Bool). Def rd ∷ cond q (Use 2 ∷ Imm (pos x) ∷ []) (by_object (frame_of f) x) ++ rest) (ne_eqb rd 2 other)
+      ap (λ (q : Bool). Def rd ∷ cond q (Use 2 ∷ Imm (pos x) ∷ []) (accessed (frame_of f) false x) ++ rest) (ne_eqb rd 2 other) ∙
+      ap (λ (os : List Operand). Def rd ∷ os ++ rest) (above false x (omega arith))
 
   at_least : (n x : ℕ) → HasBytes f.objects n x → HasBytes f.objects n (x + 0)
   at_least n x (o, found, fits) = (o, found, omega (arith, fits))

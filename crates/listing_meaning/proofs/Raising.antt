@@ -2,7 +2,7 @@
 --
 -- Slots and saved registers lie below the frame's own size, objects from there on. An access stays in its object. Where no other object has its
 -- first byte, the last object that has it is the one that the access names.
-use Rattle.std.proofs.Common.{◌≡◌, ℕ, zero, suc, ◌+◌, ◌<◌, ◌≤◌, Bool, true, false, cond, ◌&&◌, nat_eq, nat_le, nat_lt, List, [], ◌∷◌, length, get_or}
+use Rattle.std.proofs.Common.{◌≡◌, ℕ, zero, suc, ◌+◌, ◌<◌, Bool, true, false, cond, ◌&&◌, nat_eq, nat_le, nat_lt, List, [], ◌∷◌, length, get_or}
 use Rattle.std.proofs.Common.{Option, Some, None, refl, ap, sym, ◌∙◌, subst, arith}
 use Rattle.std.specs.Prelude.{map, Contains, IsTrue}
 use Rattle.std.proofs.lemmas.Bool.{eqb-true, le-leb, lt-ltb}
@@ -28,14 +28,13 @@ module _ (test : ListedObject → Bool) (o : Object) where
 
   last_kept : (os : List Object) → PassesAlone os → last_of test (Some (object_listed o)) (map object_listed os) ≡ Some (object_listed o)
   last_kept [] alone = refl
-  last_kept (x ∷ os) alone = by (test (object_listed x)) refl where
-    rest : last_of test (Some (object_listed o)) (map object_listed os) ≡ Some (object_listed o)
-    rest = last_kept os (alone_tail x os alone)
+  last_kept (x ∷ os) alone = by (test (object_listed x)) refl (last_kept os (alone_tail x os alone)) where
+    Kept : Bool → Type 0
+    Kept b = last_of test (cond b (Some (object_listed x)) (Some (object_listed o))) (map object_listed os) ≡ Some (object_listed o)
 
-    by : (b : Bool) → test (object_listed x) ≡ b →
-        last_of test (cond b (Some (object_listed x)) (Some (object_listed o))) (map object_listed os) ≡ Some (object_listed o)
-    by true passes = ap (λ (y : Object). last_of test (Some (object_listed y)) (map object_listed os)) (alone_head x os alone passes) ∙ rest
-    by false other = rest
+    by : (b : Bool) → test (object_listed x) ≡ b → Kept false → Kept b
+    by true passes rest = ap (λ (y : Object). last_of test (Some (object_listed y)) (map object_listed os)) (alone_head x os alone passes) ∙ rest
+    by false other rest = rest
 
   last_is : (found : Option ListedObject) (os : List Object) → PassesAlone os → IsTrue (test (object_listed o)) → (k : ℕ) → k < length os →
       get_or os k o ≡ o → last_of test found (map object_listed os) ≡ Some (object_listed o)

@@ -28,11 +28,14 @@ module _ (f : FramedFunction) (framed : IsFramed f) where
       map (settled_item f) items ≡ items
   items_same [] forms objects inside = refl
   items_same (i ∷ items) forms objects inside =
-      let rest = items_same items (All-tail IsFormed i items forms) (All-tail (λ x. ObjectsIn f.objects x.kind) i items objects) (All-tail (λ x. StaysInside f.objects x.kind) i items inside) in
-      let kind = kind_same i.kind (All-head IsFormed i items forms) (All-head (λ x. ObjectsIn f.objects x.kind) i items objects) (All-head (λ x. StaysInside f.objects x.kind) i items inside) in
+      let rest = items_same items (All-tail IsFormed i items forms) (All-tail (λ x. ObjectsIn f.objects x.kind) i items objects)
+      (All-tail (λ x. StaysInside f.objects x.kind) i items inside) in
+      let kind = kind_same i.kind (All-head IsFormed i items forms) (All-head (λ x. ObjectsIn f.objects x.kind) i items objects)
+      (All-head (λ x. StaysInside f.objects x.kind) i items inside) in
       λ k. record { kind = kind k; origin = i.origin; loc = i.loc } ∷ rest k
 
-  blocks_same : (blocks : List Block) → AllItems IsFormed blocks → AllItems (λ i. ObjectsIn f.objects i.kind) blocks → AllItems (λ i. StaysInside f.objects i.kind) blocks →
+  blocks_same : (blocks : List Block) → AllItems IsFormed blocks → AllItems (λ i. ObjectsIn f.objects i.kind) blocks →
+      AllItems (λ i. StaysInside f.objects i.kind) blocks →
       map contents (map (settled f) blocks) ≡ map contents blocks
   blocks_same [] forms objects inside = refl
   blocks_same (b ∷ blocks) forms objects inside =

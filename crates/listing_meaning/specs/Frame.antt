@@ -1,6 +1,7 @@
 -- The frame that a listing shows. Listed instructions access the frame by x2 and an offset. These definitions map such accesses back to frame slots
 -- and stack objects.
-use Rattle.std.specs.Prelude.{ℕ, zero, suc, ◌+◌, ◌-◌, ◌^◌, max, Bool, true, false, cond, ◌&&◌, nat_eq, nat_le, nat_lt, pos, List, [], ◌∷◌, ◌++◌, Option, Some, None}
+use Rattle.std.specs.Prelude.{ℕ, zero, suc, ◌+◌, ◌-◌, ◌^◌, max, Bool, true, false, cond, ◌&&◌, nat_eq, nat_le, nat_lt, pos, List, [], ◌∷◌, ◌++◌, Option, Some}
+use Rattle.std.specs.Prelude.{None}
 use Rattle.rv64_instr.specs.declared.op.Op.{Op}
 use Rattle.rv64_instr.specs.declared.op.Op.TheVariants.{Registers, Immediate, Lui, Branch, Load, Store, Copy, PseudoBr, PseudoCall, PseudoRet}
 use Rattle.rv64_instr.specs.declared.op.RegisterOp.TheVariants.{Add}
@@ -113,9 +114,9 @@ accessed f true n = cond (nat_lt n f.below) (Slot n ∷ Imm (pos 0) ∷ []) (by_
 accessed f false n = cond (nat_lt n f.below) (by_pointer n) (by_object f n)
 
 -- The operands of the sum x2 + n, which is the new content of register rd: by x2 if rd is x2, as in frame setup and destruction, and otherwise those
--- of `by_object`.
+-- of an access there that is of no slot.
 abbrev pub summed : ShownFrame → (rd n : ℕ) → List Operand
-summed f rd n = cond (nat_eq rd 2) (by_pointer n) (by_object f n)
+summed f rd n = cond (nat_eq rd 2) (by_pointer n) (accessed f false n)
 
 -- a load by x2 as a load of a slot or of an object; only LD can be of a slot
 abbrev pub raised_load : ShownFrame → LoadOp → List Operand → List Operand
