@@ -1,0 +1,285 @@
+-- A section is read exactly where it is that of functions, and then its functions are read.
+use Rattle.std.specs.Prelude.{MatchResult, IfOk, IfErr}
+use Rattle.std.specs.List.{AllByRecursion, flat_map}
+use Rattle.std.specs.Int.{w32, to_le_bytes}
+use Rattle.std.proofs.Common.{◌≡◌, ℕ, ◌+◌, ◌-◌, ◌%◌, ◌^◌, ◌<◌, List, [], ◌∷◌, ◌++◌, length, replicate, Option, Result, Ok, Err}
+use Rattle.std.proofs.Common.{arith, ap, subst, sym, ◌∙◌, refl, append_assoc, length-append, lit<}
+use Rattle.std.proofs.lemmas.Bool.{true≢false}
+use Rattle.std.proofs.lemmas.List.Elements.{recursion_from_All, All-from_recursion}
+use Rattle.dwarf_base.specs.Standard.{LENGTH_LIMIT}
+use Rattle.dwarf_line.specs.Fields.{◌>>=◌, constants_at}
+use Rattle.dwarf_line.proofs.Groups.{bind_ok, ok_is, not_ok, constants_take, constants_again}
+use Rattle.dwarf_line.proofs.Fixed.{IsBytes, IsBytes-behind, wide32}
+use Rattle.dwarf_frame.specs.declared.table.FrameRow.{FrameRow}
+use Rattle.dwarf_frame.specs.declared.table.Row.{Row}
+use Rattle.dwarf_frame.specs.declared.table.FrameDescription.{FrameDescription}
+use Rattle.dwarf_frame.specs.declared.fault.FrameFault.{FrameFault}
+use Rattle.dwarf_frame.specs.Table.{initial, IsDescription}
+use Rattle.dwarf_frame.specs.Spelling.{rows_after, padded, common_fields, common_entry, instructions, fields, description, spelling}
+use Rattle.dwarf_frame.specs.FirstFault.{value_at, behind_common, padding_at, next_row_at, entry_at, range_at}
+use Rattle.dwarf_frame.specs.FirstFault.{Rows, NoRow, NextRow, RowsFault, InPadding, InRow, InLaterRow, FunctionAt, FunctionFault, InRange, InRows}
+use Rattle.dwarf_frame.specs.FirstFault.{Functions, NoFunction, NextFunction, FunctionsFault, InLength, InFunction, InLaterFunction}
+use Rattle.dwarf_frame.specs.FirstFault.{SectionFault, InCommon, InFunctions, FirstFault, HasSize, IsSection}
+use Rattle.dwarf_frame.specs.Rows.{rules_in}
+use Rattle.dwarf_frame.specs.steps.Read.{SectionRead}
+use Rattle.dwarf_frame.proofs.Opcodes.{step}
+use Rattle.dwarf_frame.proofs.Entries.{IsBytes-front, initial_rules, rows_take, rows_again, value_takes, value_again, range_bytes, range_takes, range_again}
+use Rattle.dwarf_frame.proofs.Entries.{entry_takes, entry_again, length-zeros}
+
+-- ---- a function
+
+-- the bytes of a function's entry after its length
+abbrev body_of : FrameDescription → List ℕ
+body_of f = range_bytes f.start f.size (instructions f)
+
+body_length : (f : FrameDescription) → length (body_of f) ≡ 20 + length (instructions f)
+body_length f = omega arith
+
+description_of : (f : FrameDescription) → to_le_bytes w32 (length (body_of f)) ++ body_of f ≡ description f
+description_of f = ap (λ n. to_le_bytes w32 n ++ body_of f) (body_length f)
+
+pub length-padded : (bytes : List ℕ) → length (padded bytes) ≡ length bytes + (8 - length bytes % 8) % 8
+length-padded bytes =
+    let n : ℕ = (8 - length bytes % 8) % 8 in length-append bytes (replicate n 0) ∙ ap (λ k. length bytes + k) (length-zeros n)
+
+padded_whole : (bytes : List ℕ) → length (padded bytes) % 8 ≡ 0
+padded_whole bytes = omega (arith, length-padded bytes)
+
+padding_is : (size padding : ℕ) → padding < 8 → (20 + (size + padding) + 4) % 8 ≡ 0 → padding ≡ (8 - size % 8) % 8
+padding_is size padding short whole = omega arith
+
+-- what a function is that is read
+record IsFunctionAt (bytes : List ℕ) (f : FrameDescription) : Type 0 where
+  spelled : bytes ≡ body_of f
+  is : IsDescription f
+
+function_takes : (bytes : List ℕ) (f : FrameDescription) → IsBytes bytes → (length bytes + 4) % 8 ≡ 0 → FunctionAt bytes f → IsFunctionAt bytes f
+function_takes bytes f are whole at =
+    let range = range_takes bytes f.start f.size at.opcodes are at.range in
+    let rows = rows_take range.are (initial_rules f.start) at.rows in
+    let opcodes : List ℕ = rows_after (initial f.start) f.rows in
+    let size : length bytes ≡ 20 + (length opcodes + rows.padding) =
+    omega (arith, ap length range.spelled, ap length rows.spelled, length-append opcodes (replicate rows.padding 0), length-zeros rows.padding) in
+    let padding : rows.padding ≡ (8 - length opcodes % 8) % 8 =
+    padding_is (length opcodes) rows.padding rows.short (ap (λ n. (n + 4) % 8) (sym size) ∙ whole) in
+    record {
+      spelled =
+          range.spelled
+          ∙ ap (range_bytes f.start f.size) (rows.spelled ∙ ap (λ n. opcodes ++ replicate n 0) padding);
+      is = record { start = range.start_fits; size = range.size_fits; end = range.end; rows = rows.are };
+    }
+
+function_again : (f : FrameDescription) → IsDescription f → FunctionAt (body_of f) f
+function_again f is = record {
+  opcodes = instructions f;
+  range = range_again f.start f.size (instructions f) is.start is.size is.end;
+  rows = rows_again (f.start + f.size) (initial f.start) f.rows ((8 - length (rows_after (initial f.start) f.rows) % 8) % 8)
+      (initial_rules f.start) is.rows (omega arith);
+}
+
+-- ---- the functions
+
+record AreFunctions (bytes : List ℕ) (functions : List FrameDescription) : Type 0 where
+  spelled : bytes ≡ flat_map description functions
+  are : AllByRecursion IsDescription functions
+  sizes : AllByRecursion HasSize functions
+
+functions_take : {bytes : List ℕ} {functions : List FrameDescription} → IsBytes bytes → Functions bytes functions → AreFunctions bytes functions
+functions_take are NoFunction = record { spelled = refl; are = tt; sizes = tt }
+functions_take {bytes} are (NextFunction {body = body} {rest = rest} {f = f} {functions = others} e at later) =
+    let is = entry_takes bytes body rest are e in
+    let are_body : IsBytes (body ++ rest) = IsBytes-behind bytes (to_le_bytes w32 (length body)) (body ++ rest) is.spelled are in
+    let function = function_takes body f (IsBytes-front body rest are_body) is.whole at in
+    let next = functions_take (IsBytes-behind (body ++ rest) body rest refl are_body) later in
+    let front : to_le_bytes w32 (length body) ++ body ≡ description f =
+    ap (λ x. to_le_bytes w32 (length x) ++ x) function.spelled ∙ description_of f in
+    record {
+      spelled =
+          is.spelled ∙ sym (append_assoc (to_le_bytes w32 (length body)) body rest) ∙ ap (λ x. x ++ rest) front
+          ∙ ap (λ x. description f ++ x) next.spelled;
+      are = (function.is, next.are);
+      sizes = (omega (arith, ap length front, is.limit), next.sizes);
+    }
+
+body_fits : (f : FrameDescription) → HasSize f → length (body_of f) < LENGTH_LIMIT
+body_fits f size = omega (arith, ap length (description_of f), size)
+
+functions_again : (functions : List FrameDescription) → AllByRecursion IsDescription functions → AllByRecursion HasSize functions
+    → Functions (flat_map description functions) functions
+functions_again [] are sizes = NoFunction
+functions_again (f ∷ others) are sizes =
+    let rest : List ℕ = flat_map description others in
+    let front : description f ++ rest ≡ to_le_bytes w32 (length (body_of f)) ++ (body_of f ++ rest) =
+    ap (λ x. x ++ rest) (sym (description_of f)) ∙ append_assoc (to_le_bytes w32 (length (body_of f))) (body_of f) rest in
+    NextFunction
+    (ap entry_at front
+    ∙ entry_again (body_of f) rest (omega (arith, body_length f))
+    (omega (arith, body_length f, padded_whole (rows_after (initial f.start) f.rows))) (body_fits f sizes.0))
+    (function_again f are.0) (functions_again others are.1 sizes.1)
+
+-- ---- a wrong field is none that is spelled, and what is read is one list alone
+
+no_fault : {A : Type 0} (r : Result A ℕ) (left : ℕ) (x : A) → r ≡ Err left → r ≡ Ok x → ⊥
+no_fault r left x e d = not_ok left x (sym e ∙ d)
+
+both : {A : Type 0} {B : Type 0} (r : Result (A × B) ℕ) (a b : A) (x y : B) → r ≡ Ok (a, x) → r ≡ Ok (b, y) → (a ≡ b) × (x ≡ y)
+both {A} {B} r a b x y e d =
+    let first : A × B = (a, x) in
+    let second : A × B = (b, y) in
+    let same = ok_is first second (sym e ∙ d) in (ap (λ (p : A × B). p.0) same, ap (λ (p : A × B). p.1) same)
+
+rows_apart : {end : ℕ} {before : Row} {bytes : List ℕ} {left : ℕ} {rows : List Row} → RowsFault end before bytes left → Rows end before bytes rows → ⊥
+rows_apart {bytes = bytes} {left = left} (InPadding b e) (NoRow c d) = no_fault (padding_at bytes) left [] e d
+rows_apart (InPadding b e) (NextRow c d later) = true≢false (sym c ∙ b)
+rows_apart (InRow b e) (NoRow c d) = true≢false (sym b ∙ c)
+rows_apart {end} {before} {bytes} {left} (InRow b e) (NextRow {r = r} {after = after} c d later) =
+    no_fault (next_row_at end before bytes) left (r, after) e d
+rows_apart (InLaterRow b e fault) (NoRow c d) = true≢false (sym b ∙ c)
+rows_apart {end} {before} {bytes} (InLaterRow {r = r} {after = x} b e fault) (NextRow {r = s} {after = y} {rows = others} c d later) =
+    let same = both (next_row_at end before bytes) r s x y e d in
+    rows_apart fault (subst (λ z. Rows end r z others) (sym same.1) (subst (λ q. Rows end q y others) (sym same.0) later))
+
+rows_one : {end : ℕ} {before : Row} {bytes : List ℕ} {ps qs : List Row} → Rows end before bytes ps → Rows end before bytes qs → ps ≡ qs
+rows_one (NoRow b e) (NoRow c d) = refl
+rows_one (NoRow b e) (NextRow c d later) = absurd (true≢false (sym c ∙ b))
+rows_one (NextRow b e later) (NoRow c d) = absurd (true≢false (sym b ∙ c))
+rows_one {end} {before} {bytes} (NextRow {r = r} {after = x} {rows = ps} b e reads) (NextRow {r = s} {after = y} {rows = qs} c d reads') =
+    let same = both (next_row_at end before bytes) r s x y e d in
+    let next = rows_one reads (subst (λ z. Rows end r z qs) (sym same.1) (subst (λ q. Rows end q y qs) (sym same.0) reads')) in
+    ap (λ q. q ∷ ps) same.0 ∙ ap (λ rs. s ∷ rs) next
+
+abbrev range_of : (start size : ℕ) → List ℕ → ℕ × ℕ × List ℕ
+range_of start size rest = (start, size, rest)
+
+function_apart : (bytes : List ℕ) (left : ℕ) (f : FrameDescription) → FunctionFault bytes left → FunctionAt bytes f → ⊥
+function_apart bytes left f (InRange e) at = no_fault (range_at bytes) left (f.start, f.size, at.opcodes) e at.range
+function_apart bytes left f (InRows start size opcodes e fault) at =
+    let same = ok_is (range_of f.start f.size at.opcodes) (range_of start size opcodes) (sym at.range ∙ e) in
+    rows_apart fault (subst (λ (p : ℕ × ℕ × List ℕ). Rows (p.0 + p.1) (initial p.0) p.2 f.rows) same at.rows)
+
+abbrev function_of : (start size : ℕ) → List Row → FrameDescription
+function_of start size rows = record { start = start; size = size; rows = rows }
+
+function_one : (bytes : List ℕ) (f g : FrameDescription) → FunctionAt bytes f → FunctionAt bytes g → f ≡ g
+function_one bytes f g at at' =
+    let same = ok_is (range_of f.start f.size at.opcodes) (range_of g.start g.size at'.opcodes) (sym at.range ∙ at'.range) in
+    let rows = rows_one (subst (λ (p : ℕ × ℕ × List ℕ). Rows (p.0 + p.1) (initial p.0) p.2 f.rows) same at.rows) at'.rows in
+    ap (λ (p : ℕ × ℕ × List ℕ). function_of p.0 p.1 f.rows) same ∙ ap (function_of g.start g.size) rows
+
+nothing_entered : (body rest : List ℕ) → entry_at [] ≡ Ok (body, rest) → ⊥
+unfolding entry_at
+nothing_entered body rest e = not_ok 0 (body, rest) e
+
+functions_apart : {bytes : List ℕ} {left : ℕ} {functions : List FrameDescription} → FunctionsFault bytes left → Functions bytes functions → ⊥
+functions_apart (InLength some e) NoFunction = some refl
+functions_apart {bytes} {left} (InLength some e) (NextFunction {body = body} {rest = rest} d at later) = no_fault (entry_at bytes) left (body, rest) e d
+functions_apart (InFunction {body = body} {rest = rest} e fault) NoFunction = nothing_entered body rest e
+functions_apart {bytes} (InFunction {body = a} {rest = x} {left = left} e fault) (NextFunction {body = b} {rest = y} {f = f} d at later) =
+    function_apart a left f fault (subst (λ z. FunctionAt z f) (sym (both (entry_at bytes) a b x y e d).0) at)
+functions_apart (InLaterFunction {body = body} {rest = rest} e at fault) NoFunction = nothing_entered body rest e
+functions_apart {bytes} (InLaterFunction {body = a} {rest = x} e at fault) (NextFunction {body = b} {rest = y} {functions = others} d at' later) =
+    functions_apart fault (subst (λ z. Functions z others) (sym (both (entry_at bytes) a b x y e d).1) later)
+
+functions_one : {bytes : List ℕ} {fs gs : List FrameDescription} → Functions bytes fs → Functions bytes gs → fs ≡ gs
+functions_one NoFunction NoFunction = refl
+functions_one NoFunction (NextFunction {body = body} {rest = rest} d at later) = absurd (nothing_entered body rest d)
+functions_one (NextFunction {body = body} {rest = rest} e at later) NoFunction = absurd (nothing_entered body rest e)
+functions_one {bytes} (NextFunction {body = a} {rest = x} {f = f} {functions = fs} e at later)
+    (NextFunction {body = b} {rest = y} {f = g} {functions = gs} d at' later') =
+    let same = both (entry_at bytes) a b x y e d in
+    let first = function_one a f g at (subst (λ z. FunctionAt z g) (sym same.0) at') in
+    let next = functions_one later (subst (λ z. Functions z gs) (sym same.1) later') in
+    ap (λ h. h ∷ fs) first ∙ ap (λ hs. g ∷ hs) next
+
+-- ---- the common information entry
+
+abbrev after_id : List ℕ → Result (List ℕ) ℕ
+after_id fields = constants_at (common_fields []) fields
+
+abbrev after_length : List ℕ → Result (List ℕ) ℕ
+after_length id = value_at w32 0xffffffff id >>= after_id
+
+common_takes : (bytes rest : List ℕ) → IsBytes bytes → behind_common [] bytes ≡ Ok rest → bytes ≡ common_entry [] ++ rest
+unfolding behind_common
+common_takes bytes rest are e =
+    let size = bind_ok (value_at w32 20 bytes) after_length rest e in
+    let front = value_takes w32 (2 ^ 32) wide32 20 bytes size.0 are size.1 in
+    let are_id : IsBytes size.0 = IsBytes-behind bytes (to_le_bytes w32 20) size.0 front are in
+    let id = bind_ok (value_at w32 0xffffffff size.0) after_id rest size.2 in
+    let middle = value_takes w32 (2 ^ 32) wide32 0xffffffff size.0 id.0 are_id id.1 in
+    let last = constants_take (common_fields []) id.0 rest id.2 in
+    front ∙ ap (λ x. to_le_bytes w32 20 ++ x) (middle ∙ ap (λ x. to_le_bytes w32 0xffffffff ++ x) last)
+
+pub common_bytes : (bytes rest : List ℕ) → IsBytes bytes → behind_common [] bytes ≡ Ok rest → IsBytes rest
+common_bytes bytes rest are e = IsBytes-behind bytes (common_entry []) rest (common_takes bytes rest are e) are
+
+common_again : (rest : List ℕ) → behind_common [] (common_entry [] ++ rest) ≡ Ok rest
+unfolding behind_common
+common_again rest =
+    let fields : List ℕ = common_fields [] ++ rest in
+    let id : List ℕ = to_le_bytes w32 0xffffffff ++ fields in
+    step (value_at w32 20 (to_le_bytes w32 20 ++ id)) after_length id (value_again w32 (2 ^ 32) wide32 20 id (lit< tt))
+    ∙ step (value_at w32 0xffffffff id) after_id fields (value_again w32 (2 ^ 32) wide32 0xffffffff fields (lit< tt))
+    ∙ constants_again (common_fields []) rest
+
+-- ---- the section
+
+pub section_found : (bytes rest : List ℕ) (functions : List FrameDescription) → IsBytes bytes → behind_common [] bytes ≡ Ok rest
+    → Functions rest functions → IsSection [] bytes functions
+unfolding spelling
+section_found bytes rest functions are e reads =
+    let front = common_takes bytes rest are e in
+    let is = functions_take (IsBytes-behind bytes (common_entry []) rest front are) reads in
+    record {
+      spelled = front ∙ ap (λ x. common_entry [] ++ x) is.spelled;
+      sizes = All-from_recursion HasSize functions is.sizes;
+      are = All-from_recursion IsDescription functions is.are;
+    }
+
+section_common : (bytes : List ℕ) (functions : List FrameDescription) → IsSection [] bytes functions
+    → behind_common [] bytes ≡ Ok (flat_map description functions)
+unfolding spelling
+section_common bytes functions is = ap (behind_common []) is.spelled ∙ common_again (flat_map description functions)
+
+section_functions : (bytes : List ℕ) (functions : List FrameDescription) → IsSection [] bytes functions
+    → Functions (flat_map description functions) functions
+section_functions bytes functions is =
+    functions_again functions (recursion_from_All IsDescription functions is.are) (recursion_from_All HasSize functions is.sizes)
+
+section_apart : (bytes : List ℕ) (left : ℕ) (functions : List FrameDescription) → SectionFault [] bytes left → IsSection [] bytes functions → ⊥
+section_apart bytes left functions (InCommon e) is = not_ok left (flat_map description functions) (sym e ∙ section_common bytes functions is)
+section_apart bytes left functions (InFunctions rest e fault) is =
+    let same : rest ≡ flat_map description functions = ok_is rest (flat_map description functions) (sym e ∙ section_common bytes functions is) in
+    functions_apart fault (subst (λ x. Functions x functions) (sym same) (section_functions bytes functions is))
+
+section_one : (bytes rest : List ℕ) (fs gs : List FrameDescription) → behind_common [] bytes ≡ Ok rest → Functions rest fs → IsSection [] bytes gs → fs ≡ gs
+section_one bytes rest fs gs e reads is =
+    let same : rest ≡ flat_map description gs = ok_is rest (flat_map description gs) (sym e ∙ section_common bytes gs is) in
+    functions_one reads (subst (λ x. Functions x gs) (sym same) (section_functions bytes gs is))
+
+pub one_section : (bytes : List ℕ) (fs gs : List FrameDescription) → IsSection [] bytes fs → IsSection [] bytes gs → fs ≡ gs
+one_section bytes fs gs is is' =
+    section_one bytes (flat_map description fs) fs gs (section_common bytes fs is) (section_functions bytes fs is) is'
+
+-- ---- the reader's result
+
+abbrev found : Option FrameRow → Result (Option FrameRow) FrameFault
+found rules = Ok rules
+
+pub read_found : (bytes : List ℕ) (address : ℕ) (r : Result (Option FrameRow) FrameFault) → IsBytes bytes
+    → MatchResult r (λ rules. SectionRead bytes address rules) (λ f. FirstFault [] bytes f.at)
+    → IfOk r (λ rules. (functions : List FrameDescription) × IsSection [] bytes functions × (rules ≡ rules_in functions address))
+read_found bytes address (Ok rules) are read = (read.functions, section_found bytes read.behind read.functions are read.common read.reads, read.is)
+read_found bytes address (Err f) are read = tt
+
+pub read_only : (bytes : List ℕ) (address : ℕ) (r : Result (Option FrameRow) FrameFault) (functions : List FrameDescription)
+    → MatchResult r (λ rules. SectionRead bytes address rules) (λ f. FirstFault [] bytes f.at) → IsSection [] bytes functions
+    → r ≡ Ok (rules_in functions address)
+read_only bytes address (Ok rules) functions read is =
+    ap found (read.is ∙ ap (λ fs. rules_in fs address) (section_one bytes read.behind read.functions functions read.common read.reads is))
+read_only bytes address (Err f) functions fault is = absurd (section_apart bytes fault.left functions fault.fault is)
+
+pub read_fault : (bytes : List ℕ) (address : ℕ) (r : Result (Option FrameRow) FrameFault)
+    → MatchResult r (λ rules. SectionRead bytes address rules) (λ f. FirstFault [] bytes f.at) → IfErr r (λ f. FirstFault [] bytes f.at)
+read_fault bytes address (Ok rules) read = tt
+read_fault bytes address (Err f) fault = fault
