@@ -46,8 +46,8 @@ impl From<AllocError> for ReadError {
 /// The size of the first buffer, in bytes.
 const FIRST_ROOM: usize = 64 * 1024;
 
-/// Reads a source to its end, and returns all its bytes. Each iteration takes a byte or ends, and no more than one
-/// byte beyond the limit is read.
+/// Reads a source to its end, and returns all its bytes, which are at most `limit`. Each iteration takes a byte or
+/// ends, and no more than one byte beyond the limit is read.
 ///
 /// `Failed`: the first read that failed ended the reading. `TooLong`: the source had more than `limit` bytes, and
 /// `limit + 1` of them were read.

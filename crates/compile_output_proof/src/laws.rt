@@ -3,7 +3,7 @@
 ghost use Rattle.compile_output_proof.specs.Laws.{OutputsArePrintable};
 ghost use Rattle.compile_output_proof.specs.Lines.{OutputsTellLines};
 
-/// The output of a program that was read is printable, so its text is the text of no other output.
+/// The output of a program that was read is printable, so its text is the text of no other printable output.
 pub fn outputs_are_printable()
     ensures { OutputsArePrintable }
 {}

@@ -4,8 +4,8 @@ ghost use Rattle.pass_trait.specs.Code.{HasOneResult, SeesCodeAlone};
 ghost use Rattle.pass_trait.specs.Steps.{EachCode};
 ghost use Rattle.dce_pass.specs.Steps.{RoundsKeepSteps, dead_steps};
 
-/// Complete rounds are a run of the pass's steps, and the code rule of each step is functional and doesn't depend on
-/// debug items.
+/// Of a sound function with fewer than 2^31 instructions complete rounds are a run of the pass's steps, and the code
+/// rule of each step is functional and doesn't depend on debug items.
 pub fn rounds_keep_steps()
     ensures steps { RoundsKeepSteps }
     ensures one { EachCode HasOneResult dead_steps }

@@ -8,7 +8,7 @@ pub fn round_keeps_items()
     ensures { RoundKeepsItems }
 {}
 
-/// A round in which nothing is dead changes nothing and loses nothing.
+/// If nothing is dead, the unchanged function meets the debug rule of a round, with no losses.
 pub fn idle_round_keeps_items()
     ensures { IdleKeepsItems }
 {}

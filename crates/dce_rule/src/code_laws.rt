@@ -30,8 +30,9 @@ pub fn dead_code_follows()
     ensures { DeadCodeFollows }
 {}
 
-/// Without dead code each debug value, DBG_PHI and number of a function is kept, or is among the losses with its cause:
-/// a number of dead code that isn't a copy, or a debug value or DBG_PHI of a wrong place.
+/// If no dead copy has a number, without dead code each debug value, DBG_PHI and number of a function is kept, or is
+/// among the losses with its cause: a number of dead code that isn't a copy, or a debug value or DBG_PHI of a wrong
+/// place.
 pub fn dead_code_keeps_items()
     ensures { DeadCodeKeepsItems }
 {}

@@ -2,8 +2,8 @@
 
 ghost use Rattle.dwarf_line_table.specs.Laws.{TablesGiveLines, NothingOutside, NoneIsLineZero, UnitIsFileOne};
 
-/// At each address of code the table has the line, column and file of the first code at or after the origin of the code
-/// there, in the function as it was read.
+/// At each address of the code of functions that are one after the other the table has the line, column and file of
+/// the first code at or after the origin of the code there, in the function as it was read.
 pub fn tables_give_lines()
     ensures { TablesGiveLines }
 {}

@@ -8,14 +8,14 @@ pub fn frame_follows()
     ensures { FrameFollows }
 {}
 
-/// At each state of each run of a function with its frame, whatever its slots have at first: x2 is its value at entry
-/// less the lowering of the frame's state at the position, and the callee-saved registers and the return address
-/// are in their save slots or as at entry.
+/// At each state of each run of a sound function with its frame, from an entry with room for a frame below x2,
+/// whatever its slots have at first: x2 is its value at entry less the lowering of the frame's state at the position,
+/// and the callee-saved registers and the return address are in their save slots or as at entry.
 pub fn frame_stands()
     ensures { FrameAlwaysStands }
 {}
 
-/// At a return the stack pointer, the return address and the callee-saved registers are as at entry.
+/// At a return of such a run the stack pointer, the return address and the callee-saved registers are as at entry.
 pub fn frame_gives_back()
     ensures { FrameGivesBack }
 {}

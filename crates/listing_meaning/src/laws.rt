@@ -8,9 +8,10 @@ pub fn listings_show_the_image()
     ensures { ListingsShowTheImage }
 {}
 
-/// The listing of a layout shows exactly the function with its frame: its blocks and their items. An address that is
-/// formed from a stack object is shown relative to the object that it points into, which is the same object if it
-/// points to one of its bytes.
+/// The listing of a layout shows the function with its frame: its blocks and their items, each address or access of a
+/// stack object from the last object that has its byte. If none has it, it is shown from the last object that begins
+/// below it; if the object that the code names has it alone, from that object, so that the items are exactly those of
+/// the function.
 pub fn listings_show_the_function()
     ensures function { ListingsShowTheFunction }
     ensures items { ListingsShowTheItems }

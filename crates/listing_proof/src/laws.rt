@@ -6,17 +6,19 @@ ghost use Rattle.listing_proof.specs.Laws.{
   ReadFunctionsArePrintable,
 };
 
-/// A function whose numbers have 32 bits is printable with its frame, and so are the listings of its layouts.
+/// A sound function with a printable body, whose code has the form of its opcode, is printable with its frame, if
+/// that is a function with a frame (`IsFramed`).
 pub fn bodies_are_printable()
     ensures { BodiesArePrintable }
 {}
 
-/// The numbers of a function that was read have 32 bits.
+/// A function that was read has a printable body: its numbers have 32 bits, and the text of each of its items
+/// determines it.
 pub fn read_functions_have_printable_bodies()
     ensures { ReadFunctionsHavePrintableBodies }
 {}
 
-/// A function that was read is printable with its frame, and so are the listings of its layouts.
+/// A function that was read is printable with its frame, if that is a function with a frame (`IsFramed`).
 pub fn read_functions_are_printable()
     ensures { ReadFunctionsArePrintable }
 {}

@@ -16,7 +16,7 @@ pub fn framed_has_plain_turns()
 {}
 
 /// The image that a simulating function is laid in, with its frame, satisfies the source's `Headline`, if lists name
-/// only required places.
+/// only required places and the function with its frame keeps the callee-saved registers.
 pub fn followers_meet_the_headline<L: LocationLists>()
     ensures { FollowersMeetTheHeadline L.gives }
 {}

@@ -4,7 +4,8 @@ ghost use Rattle.machine_proof.specs.Runs.{LaidCodeMeetsTheHeadline};
 
 use sem_machine::laws::LocationLists;
 
-/// The image that a function with its frame is laid in satisfies `Headline`, if lists name only required places.
+/// The image that a function with its frame is laid in satisfies the `Headline` of a source, if its origins satisfy
+/// `ComesFrom`, its runs simulate the source's (`RunsBeside`), and lists name only required places.
 pub fn laid_code_meets_the_headline<L: LocationLists>()
     ensures { LaidCodeMeetsTheHeadline L.gives }
 {}

@@ -9,12 +9,14 @@ pub trait FreeNumbers {
     ghost free: { ℕ → Type 0 };
 }
 
-/// A copy's number is substituted by an operand of code above it: this preserves the weak simulation.
+/// In a sound function the number of a copy of a register other than x2 is substituted by an operand of code above
+/// it: this preserves the weak simulation.
 pub fn number_goes_to_code<F: FreeNumbers>()
     ensures { NumberGoesToCode F.free }
 {}
 
-/// A copy's number goes to a DBG_PHI right before it: this preserves the weak simulation.
+/// In a sound function the number of a copy of a register other than x2 becomes that of a DBG_PHI right before it:
+/// this preserves the weak simulation.
 pub fn number_goes_to_phi()
     ensures { NumberGoesToPhi }
 {}

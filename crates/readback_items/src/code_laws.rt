@@ -2,8 +2,8 @@
 
 ghost use Rattle.readback_items.specs.Code.{FormsAreJudged};
 
-/// The form of each item's line is judged as the item, but with spill slots for stack objects where the opcode allows
-/// both.
+/// The form of the line of each item that meets the conditions (`IsReadable`) is judged as the item, but with spill
+/// slots for stack objects if the opcode allows both.
 pub fn forms_are_judged()
     ensures { FormsAreJudged }
 {}

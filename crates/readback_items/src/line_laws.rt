@@ -8,13 +8,13 @@ pub fn lines_say_forms()
     ensures { LinesSayForms }
 {}
 
-/// The printed line of a debug item within the limits, without x0 and x2, is read back as the item, given the same
-/// metadata.
+/// The printed line of a debug item within the limits, without x0 and x2, whose variable is inlined at the node of
+/// its location, is read back as the item, given the same metadata.
 pub fn debug_lines_read_back()
     ensures { DebugLinesReadBack }
 {}
 
-/// The printed line of a label is parsed as the label of the block.
+/// The printed line of a label within the limit is parsed as the label of the block.
 pub fn labels_read_back()
     ensures { LabelsReadBack }
 {}

@@ -12,8 +12,8 @@ pub trait Likeness {
     ghost free: { ℕ → Type 0 };
 }
 
-/// Two states that agree on some places agree after an item too, if the second has no values of numbers and debug
-/// values but the first's and those of free numbers.
+/// Two states that agree on some places agree after an item that depends on these places alone, if the second has no
+/// values of numbers and debug values but the first's and those of free numbers.
 pub fn items_are_alike<L: Likeness>()
     ensures { ItemsAreAlike L.held L.free }
 {}

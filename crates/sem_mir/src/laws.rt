@@ -4,8 +4,8 @@ ghost use Rattle.sem_mir.specs.Effects.{EffectsHold};
 ghost use Rattle.sem_mir.specs.Itself.{SourceFollowsItself};
 
 /// What `effect`, `uses` and `defines` say of an instruction is true of each of its runs: a location that it doesn't
-/// define keeps its content, its outcome depends only on the locations that it uses, and likewise for what it sets,
-/// moves and fixes, and for pure code.
+/// define keeps its content, its outcome depends only on the locations that it uses and on memory, answers and
+/// events, and likewise for what it sets, moves and fixes, and for pure code.
 pub fn effects_hold()
     ensures { EffectsHold }
 {}

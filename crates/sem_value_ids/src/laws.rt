@@ -4,8 +4,8 @@ ghost use Rattle.sem_value_ids.specs.Parts.{PartsHaveOneToken};
 ghost use Rattle.sem_value_ids.specs.Pullback.{AgreementPullsBack, SharingPullsBack, TokensPullBack};
 ghost use Rattle.sem_value_ids.specs.Trace.{RunsTakePaths, TokensNameValues};
 
-/// Along a run from a state with all registers written, each token has one value, and whatever has the token holds it,
-/// a part of a variable its low bytes.
+/// Along a run from a state with all physical registers written, each token has one value, and whatever has the token
+/// holds it, a part of a variable its low bytes.
 pub fn tokens_name_values()
     ensures { TokensNameValues }
 {}

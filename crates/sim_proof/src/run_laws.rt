@@ -18,9 +18,9 @@ pub fn runs_are_the_machines<A: CallAnswers>(answers: &A)
     ensures { RunsAreTheMachines (A.gives answers.now) }
 {}
 
-/// If the headline holds of an image of the code, then for each run of the simulator the source comes along, and the
-/// places in the location lists at the run's program counter hold the newest assignments, unless the source stops on a
-/// frame fault before.
+/// If the headline holds of an image of the code, then each run of the simulator, with answers that calls may have,
+/// is matched with a run of the source, and the places in the location lists at the run's program counter hold the
+/// newest assignments, unless the source stops on a frame fault before.
 pub fn runs_meet_the_headline<A: CallAnswers, L: LocationLists>(answers: &A)
     ensures { RunsMeetTheHeadline (A.gives answers.now) L.gives }
 {}

@@ -2,7 +2,8 @@
 
 ghost use Rattle.spill_simulation.specs.Follows.{SpilledFollows};
 
-/// Spilling preserves the simulation, and keeps matched block ends matched.
+/// In a sound function, spilling registers that satisfy the conditions (`MaySpill`) preserves the simulation, and
+/// keeps matched block ends matched.
 pub fn spilled_follows()
     ensures { SpilledFollows }
 {}

@@ -2,8 +2,8 @@
 
 ghost use Rattle.theorem_marks.specs.Starts.{RunsCanStart};
 
-/// A run of a function can start with any arguments and any values as its calls' results. So a statement about runs
-/// from all such starts isn't vacuous.
+/// A run of a function can start with any arguments and any values of 64 bits as its calls' results. So a statement
+/// about runs from all such starts isn't vacuous.
 pub fn runs_can_start()
     ensures { RunsCanStart }
 {}

@@ -2,7 +2,8 @@
 
 ghost use Rattle.theorem_print_read_back.specs.Substitutions.{SubstitutionsReadBack};
 
-/// The printed lines of debug value substitutions parse back to the same substitutions.
+/// The printed lines of debug value substitutions within the limits, of which no two have one source, parse back to
+/// the same substitutions.
 pub fn substitutions_read_back()
     ensures { SubstitutionsReadBack }
 {}

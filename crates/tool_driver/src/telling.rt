@@ -13,7 +13,8 @@ use cli::fault::Fault;
 use cli::status::Status;
 use itoa::Buffer;
 
-/// Writes the line that reports a fault, as far as the sink takes it, and returns the status of a run that ends so.
+/// Writes the line that reports a fault, as far as the sink takes it, and returns the status of a run that ends in
+/// this fault.
 pub fn tell<E: Sink>(fault: Fault, faults: &mut E) -> Status
     ensures status { result ≡ status_of fault }
     ensures line { IsTold (change E.written E.faults faults.old faults.new) (line_of fault) }

@@ -8,7 +8,7 @@ pub fn classes_pass_items()
     ensures { ClassesPassItems }
 {}
 
-/// A path to a position inside a block comes through the item above it.
+/// A path to a position below an item comes through this item, unless the paths start at that position.
 pub fn paths_come_from_above()
     ensures { PathsComeFromAbove }
 {}

@@ -67,8 +67,8 @@ fn class_of(point: &QueryPoint, pair: &OperandPair) -> usize
     }
 }
 
-/// Whether two places hold the same value at a point: some path leads there, and on every path to it both have the same
-/// token.
+/// Whether two places that a list may name hold the same value at a point: some path leads there, and on every path
+/// to it both have the same token.
 pub fn same(values: &Values, point: &QueryPoint, a: &Place, b: &Place) -> bool
     ensures { (blocks : List Block) → AreValuesOf blocks values.now → IsPointOf blocks values.now point.now →
         IsTrue result ↔ (IsPlace a.now × SitsAt (program blocks values.now.subs.now) (place_token (Some a.now)) b.now
