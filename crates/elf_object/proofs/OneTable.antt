@@ -93,7 +93,7 @@ type_small NoType = omega arith
 type_small Function = omega arith
 type_small Section = omega arith
 
-length-symbol : (name : ℕ) (s : Symbol) → length (symbol name s) ≡ 24
+pub length-symbol : (name : ℕ) (s : Symbol) → length (symbol name s) ≡ 24
 unfolding symbol
 length-symbol name s = refl
 

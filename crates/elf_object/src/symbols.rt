@@ -1,6 +1,6 @@
 //! The bytes of a symbol table, and of the table of its names: the contents of two sections (gABI, "Symbol Table").
 
-ghost use Rattle.std.specs.Prelude.{◌≡◌, ◌+◌, ◌*◌, ◌^◌, ◌<◌, ◌++◌, length, OnOk, IfOk};
+ghost use Rattle.std.specs.Prelude.{◌≡◌, ◌+◌, ◌*◌, ◌^◌, ◌<◌, ◌≤◌, ◌↔◌, ◌++◌, length, OnOk, IfOk, IfSome, IsNone};
 ghost use Rattle.elf_object.specs.Spelling.{text};
 ghost use Rattle.elf_object.specs.Symbols;
 ghost use Rattle.elf_object.specs.Symbols.{binding_number, type_number, name_text, name_offset, symbols_from};
@@ -9,6 +9,7 @@ ghost use Rattle.elf_object.specs.Symbols.{symbol_names, symbol_table};
 use crate::constants::*;
 use crate::object::{Bytes, Name};
 use base_list::List;
+use dwarf_base::limits::SECTION_LIMIT;
 use std::alloc::{AllocError, Global};
 
 /// Where a symbol is seen.
@@ -48,6 +49,21 @@ pub struct Symbol {
     pub value: u64,
     /// Its size in bytes.
     pub size: u64,
+}
+
+/// The size of the table of the symbols' names in bytes. `None` if and only if it is 2^31 or more. It takes no memory.
+pub fn symbol_names_size(symbols: &[Symbol]) -> Option<u32>
+    ensures none { IsNone result ↔ (2 ^ 31 ≤ length (symbol_names symbols.now)) }
+    ensures size { IfSome result (λ size. size ≡ length (symbol_names symbols.now)) }
+{
+    let mut size: usize = 1;
+    for symbol in symbols {
+        size = name_len(symbol.name.as_slice()).saturating_add(size);
+        if size >= SECTION_LIMIT {
+            return None;
+        }
+    }
+    Some(size as u32)
 }
 
 /// The bytes of the table of the symbols' names. The error is out of memory.
@@ -96,7 +112,6 @@ fn push_name(out: &mut Vec<u8>, name: &[u8]) -> Result<(), AllocError>
 
 /// The bytes that a name takes in the table of names.
 fn name_len(name: &[u8]) -> usize
-    requires { length (name_text name.now) < 2 ^ 32 }
     ensures { result ≡ length (name_text name.now) }
 {
     match name {
