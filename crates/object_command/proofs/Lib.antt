@@ -1,0 +1,3 @@
+mod SymbolLemmas
+mod SizeLemmas
+mod ObjectLemmas
