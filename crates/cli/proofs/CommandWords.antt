@@ -1,5 +1,7 @@
 -- Words tell their command.
-use Rattle.std.proofs.Common.{◌≡◌, ◌↔◌, ℕ, ◌+◌, ◌*◌, ◌≤◌, List, [], ◌∷◌, Option, Some, None, sym, ap, ◌∙◌, subst, refl, arith}
+use Rattle.std.proofs.Common.{◌≡◌, ◌↔◌, ℕ, ◌+◌, ◌-◌, ◌*◌, ◌≤◌, List, [], ◌∷◌, length, get_or, take, drop, Option, Some, None, sym, ap, ◌∙◌, subst, refl, arith}
+use Rattle.std.proofs.Math.Seq.{take-length}
+use Rattle.std.proofs.lemmas.List.{drop_more, length-drop}
 use Rattle.std.specs.Prelude.{codes}
 use Rattle.std.specs.Fmt.{decimal}
 use Rattle.std.proofs.lemmas.Fmt.{decimal_injective}
@@ -11,7 +13,7 @@ use Rattle.cli.specs.declared.option.CommandOption.TheVariants.{Passes, Reserve,
 use Rattle.cli.specs.Options.{none_given, IsWith, GivesOption, GiveOptions}
 use Rattle.cli.proofs.OptionWords.{the_option}
 use Rattle.cli.specs.declared.command.Command.{Command}
-use Rattle.cli.specs.declared.command.Command.TheVariants.{Compile, Listing, Report, Run, Strip, Gen, SelfTest}
+use Rattle.cli.specs.declared.command.Command.TheVariants.{Compile, Listing, Report, Object, Run, Strip, Gen, SelfTest}
 use Rattle.cli.specs.declared.command.PassPipeline.{PassPipeline}
 use Rattle.cli.specs.declared.command.RunPlan.{RunPlan}
 use Rattle.cli.specs.declared.command.TestPlan.{TestPlan}
@@ -128,6 +130,7 @@ abbrev pub sign_of : Command → ℕ
 sign_of (Compile p) = 321
 sign_of (Listing p) = 318
 sign_of (Report p) = 316
+sign_of (Object p) = 307
 sign_of (Run r) = 348
 sign_of Strip = 347
 sign_of (Gen g) = 305
@@ -137,6 +140,7 @@ named_by : (name : List ℕ) (words : List (List ℕ)) (c : Command) → IsComma
 named_by name words (Compile p) is = ap sign is.0
 named_by name words (Listing p) is = ap sign is.0
 named_by name words (Report p) is = ap sign is.0
+named_by name words (Object p) is = ap sign is.0
 named_by name words (Run r) is = ap sign is.0
 named_by name words Strip is = ap sign is.0
 named_by name words (Gen g) is = ap sign is.0
@@ -149,6 +153,7 @@ by_name : (name : List ℕ) (words : List (List ℕ)) (a b : Command) → sign_o
 by_name name words (Compile p) (Compile q) e ha hb = ap (λ (x : PassPipeline). Compile x) (one_plan words p q ha.1 hb.1)
 by_name name words (Compile p) (Listing q) e ha hb = absurd (omega (arith, e))
 by_name name words (Compile p) (Report q) e ha hb = absurd (omega (arith, e))
+by_name name words (Compile p) (Object q) e ha hb = absurd (omega (arith, e))
 by_name name words (Compile p) (Run s) e ha hb = absurd (omega (arith, e))
 by_name name words (Compile p) Strip e ha hb = absurd (omega (arith, e))
 by_name name words (Compile p) (Gen h) e ha hb = absurd (omega (arith, e))
@@ -156,6 +161,7 @@ by_name name words (Compile p) (SelfTest u) e ha hb = absurd (omega (arith, e))
 by_name name words (Listing p) (Compile q) e ha hb = absurd (omega (arith, e))
 by_name name words (Listing p) (Listing q) e ha hb = ap (λ (x : PassPipeline). Listing x) (one_plan words p q ha.1 hb.1)
 by_name name words (Listing p) (Report q) e ha hb = absurd (omega (arith, e))
+by_name name words (Listing p) (Object q) e ha hb = absurd (omega (arith, e))
 by_name name words (Listing p) (Run s) e ha hb = absurd (omega (arith, e))
 by_name name words (Listing p) Strip e ha hb = absurd (omega (arith, e))
 by_name name words (Listing p) (Gen h) e ha hb = absurd (omega (arith, e))
@@ -163,13 +169,23 @@ by_name name words (Listing p) (SelfTest u) e ha hb = absurd (omega (arith, e))
 by_name name words (Report p) (Compile q) e ha hb = absurd (omega (arith, e))
 by_name name words (Report p) (Listing q) e ha hb = absurd (omega (arith, e))
 by_name name words (Report p) (Report q) e ha hb = ap (λ (x : PassPipeline). Report x) (one_plan words p q ha.1 hb.1)
+by_name name words (Report p) (Object q) e ha hb = absurd (omega (arith, e))
 by_name name words (Report p) (Run s) e ha hb = absurd (omega (arith, e))
 by_name name words (Report p) Strip e ha hb = absurd (omega (arith, e))
 by_name name words (Report p) (Gen h) e ha hb = absurd (omega (arith, e))
 by_name name words (Report p) (SelfTest u) e ha hb = absurd (omega (arith, e))
+by_name name words (Object p) (Compile q) e ha hb = absurd (omega (arith, e))
+by_name name words (Object p) (Listing q) e ha hb = absurd (omega (arith, e))
+by_name name words (Object p) (Report q) e ha hb = absurd (omega (arith, e))
+by_name name words (Object p) (Object q) e ha hb = ap (λ (x : PassPipeline). Object x) (one_plan words p q ha.1 hb.1)
+by_name name words (Object p) (Run s) e ha hb = absurd (omega (arith, e))
+by_name name words (Object p) Strip e ha hb = absurd (omega (arith, e))
+by_name name words (Object p) (Gen h) e ha hb = absurd (omega (arith, e))
+by_name name words (Object p) (SelfTest u) e ha hb = absurd (omega (arith, e))
 by_name name words (Run r) (Compile q) e ha hb = absurd (omega (arith, e))
 by_name name words (Run r) (Listing q) e ha hb = absurd (omega (arith, e))
 by_name name words (Run r) (Report q) e ha hb = absurd (omega (arith, e))
+by_name name words (Run r) (Object q) e ha hb = absurd (omega (arith, e))
 by_name name words (Run r) (Run s) e ha hb = ap (λ (x : RunPlan). Run x) (one_run words r s ha.1 hb.1)
 by_name name words (Run r) Strip e ha hb = absurd (omega (arith, e))
 by_name name words (Run r) (Gen h) e ha hb = absurd (omega (arith, e))
@@ -177,6 +193,7 @@ by_name name words (Run r) (SelfTest u) e ha hb = absurd (omega (arith, e))
 by_name name words Strip (Compile q) e ha hb = absurd (omega (arith, e))
 by_name name words Strip (Listing q) e ha hb = absurd (omega (arith, e))
 by_name name words Strip (Report q) e ha hb = absurd (omega (arith, e))
+by_name name words Strip (Object q) e ha hb = absurd (omega (arith, e))
 by_name name words Strip (Run s) e ha hb = absurd (omega (arith, e))
 by_name name words Strip Strip e ha hb = refl
 by_name name words Strip (Gen h) e ha hb = absurd (omega (arith, e))
@@ -184,6 +201,7 @@ by_name name words Strip (SelfTest u) e ha hb = absurd (omega (arith, e))
 by_name name words (Gen g) (Compile q) e ha hb = absurd (omega (arith, e))
 by_name name words (Gen g) (Listing q) e ha hb = absurd (omega (arith, e))
 by_name name words (Gen g) (Report q) e ha hb = absurd (omega (arith, e))
+by_name name words (Gen g) (Object q) e ha hb = absurd (omega (arith, e))
 by_name name words (Gen g) (Run s) e ha hb = absurd (omega (arith, e))
 by_name name words (Gen g) Strip e ha hb = absurd (omega (arith, e))
 by_name name words (Gen g) (Gen h) e ha hb = ap (λ (x : Generation). Gen x) (one_generation words g h ha.2 hb.2 ha.1 hb.1)
@@ -191,6 +209,7 @@ by_name name words (Gen g) (SelfTest u) e ha hb = absurd (omega (arith, e))
 by_name name words (SelfTest t) (Compile q) e ha hb = absurd (omega (arith, e))
 by_name name words (SelfTest t) (Listing q) e ha hb = absurd (omega (arith, e))
 by_name name words (SelfTest t) (Report q) e ha hb = absurd (omega (arith, e))
+by_name name words (SelfTest t) (Object q) e ha hb = absurd (omega (arith, e))
 by_name name words (SelfTest t) (Run s) e ha hb = absurd (omega (arith, e))
 by_name name words (SelfTest t) Strip e ha hb = absurd (omega (arith, e))
 by_name name words (SelfTest t) (Gen h) e ha hb = absurd (omega (arith, e))
@@ -208,6 +227,7 @@ pub no_compile : (name : List ℕ) (words : List (List ℕ)) → name ≡ codes 
 no_compile name words is none (Compile p) h = none p h.1
 no_compile name words is none (Listing p) h = let e : 321 ≡ 318 = sym (ap sign is) ∙ ap sign h.0 in omega (arith, e)
 no_compile name words is none (Report p) h = let e : 321 ≡ 316 = sym (ap sign is) ∙ ap sign h.0 in omega (arith, e)
+no_compile name words is none (Object p) h = let e : 321 ≡ 307 = sym (ap sign is) ∙ ap sign h.0 in omega (arith, e)
 no_compile name words is none (Run r) h = let e : 321 ≡ 348 = sym (ap sign is) ∙ ap sign h.0 in omega (arith, e)
 no_compile name words is none Strip h = let e : 321 ≡ 347 = sym (ap sign is) ∙ ap sign h.0 in omega (arith, e)
 no_compile name words is none (Gen g) h = let e : 321 ≡ 305 = sym (ap sign is) ∙ ap sign h.0 in omega (arith, e)
@@ -218,6 +238,7 @@ pub no_listing : (name : List ℕ) (words : List (List ℕ)) → name ≡ codes 
 no_listing name words is none (Compile p) h = let e : 318 ≡ 321 = sym (ap sign is) ∙ ap sign h.0 in omega (arith, e)
 no_listing name words is none (Listing p) h = none p h.1
 no_listing name words is none (Report p) h = let e : 318 ≡ 316 = sym (ap sign is) ∙ ap sign h.0 in omega (arith, e)
+no_listing name words is none (Object p) h = let e : 318 ≡ 307 = sym (ap sign is) ∙ ap sign h.0 in omega (arith, e)
 no_listing name words is none (Run r) h = let e : 318 ≡ 348 = sym (ap sign is) ∙ ap sign h.0 in omega (arith, e)
 no_listing name words is none Strip h = let e : 318 ≡ 347 = sym (ap sign is) ∙ ap sign h.0 in omega (arith, e)
 no_listing name words is none (Gen g) h = let e : 318 ≡ 305 = sym (ap sign is) ∙ ap sign h.0 in omega (arith, e)
@@ -228,16 +249,29 @@ pub no_report : (name : List ℕ) (words : List (List ℕ)) → name ≡ codes "
 no_report name words is none (Compile p) h = let e : 316 ≡ 321 = sym (ap sign is) ∙ ap sign h.0 in omega (arith, e)
 no_report name words is none (Listing p) h = let e : 316 ≡ 318 = sym (ap sign is) ∙ ap sign h.0 in omega (arith, e)
 no_report name words is none (Report p) h = none p h.1
+no_report name words is none (Object p) h = let e : 316 ≡ 307 = sym (ap sign is) ∙ ap sign h.0 in omega (arith, e)
 no_report name words is none (Run r) h = let e : 316 ≡ 348 = sym (ap sign is) ∙ ap sign h.0 in omega (arith, e)
 no_report name words is none Strip h = let e : 316 ≡ 347 = sym (ap sign is) ∙ ap sign h.0 in omega (arith, e)
 no_report name words is none (Gen g) h = let e : 316 ≡ 305 = sym (ap sign is) ∙ ap sign h.0 in omega (arith, e)
 no_report name words is none (SelfTest t) h = let e : 316 ≡ 317 = sym (ap sign is) ∙ ap sign h.0 in omega (arith, e)
+
+pub no_object : (name : List ℕ) (words : List (List ℕ)) → name ≡ codes "object" → ((p : PassPipeline) → GivesPlan words p → ⊥) →
+    (c : Command) → IsCommand (name ∷ words) c → ⊥
+no_object name words is none (Compile p) h = let e : 307 ≡ 321 = sym (ap sign is) ∙ ap sign h.0 in omega (arith, e)
+no_object name words is none (Listing p) h = let e : 307 ≡ 318 = sym (ap sign is) ∙ ap sign h.0 in omega (arith, e)
+no_object name words is none (Report p) h = let e : 307 ≡ 316 = sym (ap sign is) ∙ ap sign h.0 in omega (arith, e)
+no_object name words is none (Object p) h = none p h.1
+no_object name words is none (Run r) h = let e : 307 ≡ 348 = sym (ap sign is) ∙ ap sign h.0 in omega (arith, e)
+no_object name words is none Strip h = let e : 307 ≡ 347 = sym (ap sign is) ∙ ap sign h.0 in omega (arith, e)
+no_object name words is none (Gen g) h = let e : 307 ≡ 305 = sym (ap sign is) ∙ ap sign h.0 in omega (arith, e)
+no_object name words is none (SelfTest t) h = let e : 307 ≡ 317 = sym (ap sign is) ∙ ap sign h.0 in omega (arith, e)
 
 pub no_run : (name : List ℕ) (words : List (List ℕ)) → name ≡ codes "run" → ((r : RunPlan) → GivesRun words r → ⊥) →
     (c : Command) → IsCommand (name ∷ words) c → ⊥
 no_run name words is none (Compile p) h = let e : 348 ≡ 321 = sym (ap sign is) ∙ ap sign h.0 in omega (arith, e)
 no_run name words is none (Listing p) h = let e : 348 ≡ 318 = sym (ap sign is) ∙ ap sign h.0 in omega (arith, e)
 no_run name words is none (Report p) h = let e : 348 ≡ 316 = sym (ap sign is) ∙ ap sign h.0 in omega (arith, e)
+no_run name words is none (Object p) h = let e : 348 ≡ 307 = sym (ap sign is) ∙ ap sign h.0 in omega (arith, e)
 no_run name words is none (Run r) h = none r h.1
 no_run name words is none Strip h = let e : 348 ≡ 347 = sym (ap sign is) ∙ ap sign h.0 in omega (arith, e)
 no_run name words is none (Gen g) h = let e : 348 ≡ 305 = sym (ap sign is) ∙ ap sign h.0 in omega (arith, e)
@@ -248,6 +282,7 @@ pub no_test : (name : List ℕ) (words : List (List ℕ)) → name ≡ codes "se
 no_test name words is none (Compile p) h = let e : 317 ≡ 321 = sym (ap sign is) ∙ ap sign h.0 in omega (arith, e)
 no_test name words is none (Listing p) h = let e : 317 ≡ 318 = sym (ap sign is) ∙ ap sign h.0 in omega (arith, e)
 no_test name words is none (Report p) h = let e : 317 ≡ 316 = sym (ap sign is) ∙ ap sign h.0 in omega (arith, e)
+no_test name words is none (Object p) h = let e : 317 ≡ 307 = sym (ap sign is) ∙ ap sign h.0 in omega (arith, e)
 no_test name words is none (Run r) h = let e : 317 ≡ 348 = sym (ap sign is) ∙ ap sign h.0 in omega (arith, e)
 no_test name words is none Strip h = let e : 317 ≡ 347 = sym (ap sign is) ∙ ap sign h.0 in omega (arith, e)
 no_test name words is none (Gen g) h = let e : 317 ≡ 305 = sym (ap sign is) ∙ ap sign h.0 in omega (arith, e)
@@ -308,7 +343,15 @@ within [] c is = absurd is
 within (name ∷ words) (Compile p) is = tt
 within (name ∷ words) (Listing p) is = tt
 within (name ∷ words) (Report p) is = tt
+within (name ∷ words) (Object p) is = tt
 within (name ∷ words) (Run r) is = tt
 within (name ∷ words) Strip is = tt
 within (name ∷ words) (Gen g) is = is.2
 within (name ∷ words) (SelfTest t) is = test_within words t is.1
+
+-- ---- the name and the words after it
+
+pub first_and_rest : {X : Type 0} (xs : List X) (x : X) → 1 ≤ length xs → x ≡ get_or xs 0 x → x ∷ take (length xs - 1) (drop 1 xs) ≡ xs
+first_and_rest {X} xs x some is =
+    ap (λ (n : ℕ). x ∷ take n (drop 1 xs)) (sym (length-drop 1 xs)) ∙ ap (λ (t : List X). x ∷ t) (take-length (drop 1 xs))
+    ∙ ap (λ (y : X). y ∷ drop 1 xs) is ∙ sym (drop_more xs 0 x (omega (arith, some)))

@@ -6,7 +6,7 @@ use Rattle.cli_numbers.specs.Numbers.{IsGeneration}
 use Rattle.cli.specs.declared.given.Options.{Options}
 use Rattle.cli.specs.Options.{none_given, GiveOptions}
 use Rattle.cli.specs.declared.command.Command.{Command}
-use Rattle.cli.specs.declared.command.Command.TheVariants.{Compile, Listing, Report, Run, Strip, Gen, SelfTest}
+use Rattle.cli.specs.declared.command.Command.TheVariants.{Compile, Listing, Report, Object, Run, Strip, Gen, SelfTest}
 use Rattle.cli.specs.declared.command.PassPipeline.{PassPipeline}
 use Rattle.cli.specs.declared.command.RunPlan.{RunPlan}
 use Rattle.cli.specs.declared.command.TestPlan.{TestPlan}
@@ -90,6 +90,7 @@ IsCommand [] command = ⊥
 IsCommand (name ∷ words) (Compile plan) = (name ≡ codes "compile") × GivesPlan words plan
 IsCommand (name ∷ words) (Listing plan) = (name ≡ codes "listing") × GivesPlan words plan
 IsCommand (name ∷ words) (Report plan) = (name ≡ codes "report") × GivesPlan words plan
+IsCommand (name ∷ words) (Object plan) = (name ≡ codes "object") × GivesPlan words plan
 IsCommand (name ∷ words) (Run run) = (name ≡ codes "run") × GivesRun words run
 IsCommand (name ∷ words) Strip = (name ≡ codes "strip") × (words ≡ [])
 IsCommand (name ∷ words) (Gen g) = (name ≡ codes "gen") × (words ≡ decimal g.number ∷ decimal g.blocks ∷ []) × IsWithin g
@@ -100,6 +101,7 @@ abbrev pub AreWithin : Command → Type 0
 AreWithin (Compile plan) = Unit {0}
 AreWithin (Listing plan) = Unit {0}
 AreWithin (Report plan) = Unit {0}
+AreWithin (Object plan) = Unit {0}
 AreWithin (Run run) = Unit {0}
 AreWithin Strip = Unit {0}
 AreWithin (Gen g) = IsWithin g
@@ -110,5 +112,6 @@ pub record IsPlain (name : List ℕ) : Type 0 where
   pub compile : name ≡ codes "compile" → ⊥
   pub listing : name ≡ codes "listing" → ⊥
   pub report : name ≡ codes "report" → ⊥
+  pub object : name ≡ codes "object" → ⊥
   pub run : name ≡ codes "run" → ⊥
   pub self_test : name ≡ codes "selftest" → ⊥

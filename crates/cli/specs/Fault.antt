@@ -4,7 +4,7 @@ use Rattle.std.specs.Fmt.{decimal}
 use Rattle.read_refusal.specs.Kind as kind
 use Rattle.cli.specs.declared.fault.Fault.{Fault}
 use Rattle.cli.specs.declared.fault.Fault.TheVariants.{Usage, Read, TooLong, Refused, NoFunction, UnknownFunction}
-use Rattle.cli.specs.declared.fault.Fault.TheVariants.{FrameTooLarge, SectionTooLarge, Write, Memory}
+use Rattle.cli.specs.declared.fault.Fault.TheVariants.{FrameTooLarge, SymbolName, SectionTooLarge, Write, Memory}
 use Rattle.cli.specs.declared.status.Status.{Status}
 use Rattle.cli.specs.declared.status.Status.TheVariants as status
 
@@ -15,6 +15,7 @@ input_line TooLong = Some 0
 input_line NoFunction = Some 0
 input_line UnknownFunction = Some 0
 input_line FrameTooLarge = Some 0
+input_line SymbolName = Some 0
 input_line SectionTooLarge = Some 0
 input_line Usage = None
 input_line Read = None
@@ -28,6 +29,7 @@ name_of TooLong = codes "TooLong"
 name_of NoFunction = codes "NoFunction"
 name_of UnknownFunction = codes "UnknownFunction"
 name_of FrameTooLarge = codes "FrameTooLarge"
+name_of SymbolName = codes "SymbolName"
 name_of SectionTooLarge = codes "SectionTooLarge"
 name_of Usage = codes "usage"
 name_of Read = codes "read"
@@ -52,6 +54,7 @@ status_of (Refused r) = status.Refused
 status_of NoFunction = status.Refused
 status_of UnknownFunction = status.Refused
 status_of FrameTooLarge = status.Refused
+status_of SymbolName = status.Refused
 status_of SectionTooLarge = status.Refused
 status_of Write = status.WriteFault
 status_of Memory = status.Memory

@@ -66,6 +66,8 @@ pub enum Command {
     /// Writes at how many of each function's words each variable has a location, after passes, and what the passes
     /// lost.
     Report(PassPipeline),
+    /// Writes the relocatable object of the functions after passes.
+    Object(PassPipeline),
     /// Writes the steps of a function's machine code, with the values of its variables.
     Run(RunPlan),
     /// Writes each function without its debug items.
@@ -76,8 +78,8 @@ pub enum Command {
     SelfTest(TestPlan),
 }
 
-/// The command that the words are; `None` if they are none. `compile`, `listing` and `report` have options in any
-/// order: a list of passes, as `--passes=copy,fold` or `--passes=none`, and registers that may be spilled, as
+/// The command that the words are; `None` if they are none. `compile`, `listing`, `report` and `object` have options
+/// in any order: a list of passes, as `--passes=copy,fold` or `--passes=none`, and registers that may be spilled, as
 /// `--reserve=x8,x18`. `run` has a function's name, its greatest number of steps, 0 to 1,000,000, and these options,
 /// as well as the function's arguments, as `--args=1,2`, and the return values of its calls, as `--answers=3`.
 /// `strip` has nothing else. `gen` has the number of a function, 0 to 65,536, and its number of blocks, 1 to 512.
@@ -112,6 +114,12 @@ fn named(alloc: Global, name: &str, words: &[String]) -> Result<Option<Command>,
     if is_same(name, "report") {
         return match plan_asked(alloc, words)? {
             Some(plan) => Ok(Some(Command::Report(plan))),
+            None => Ok(None),
+        };
+    }
+    if is_same(name, "object") {
+        return match plan_asked(alloc, words)? {
+            Some(plan) => Ok(Some(Command::Object(plan))),
             None => Ok(None),
         };
     }

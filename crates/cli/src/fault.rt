@@ -25,7 +25,9 @@ pub enum Fault {
     UnknownFunction,
     /// The frame of a function would have more than 2,032 bytes.
     FrameTooLarge,
-    /// A section of the output would have 2^31 bytes or more.
+    /// The name of a function, or of a function that is called, can't be a symbol's: it is empty or has a zero byte.
+    SymbolName,
+    /// A section of the output, or an object, would have 2^31 bytes or more.
     SectionTooLarge,
     /// Writing the output failed.
     Write,
@@ -50,7 +52,7 @@ impl Fault {
         match self {
             Fault::Refused(refusal) => Some(refusal.line),
             Fault::TooLong | Fault::NoFunction | Fault::UnknownFunction => Some(0),
-            Fault::FrameTooLarge | Fault::SectionTooLarge => Some(0),
+            Fault::FrameTooLarge | Fault::SymbolName | Fault::SectionTooLarge => Some(0),
             Fault::Usage | Fault::Read | Fault::Write | Fault::Memory => None,
         }
     }
@@ -67,6 +69,7 @@ impl Fault {
             Fault::NoFunction => "NoFunction",
             Fault::UnknownFunction => "UnknownFunction",
             Fault::FrameTooLarge => "FrameTooLarge",
+            Fault::SymbolName => "SymbolName",
             Fault::SectionTooLarge => "SectionTooLarge",
             Fault::Write => "write",
             Fault::Memory => "memory",
@@ -82,7 +85,7 @@ impl Fault {
             Fault::Read => Status::ReadFault,
             Fault::TooLong | Fault::Refused(_) | Fault::NoFunction => Status::Refused,
             Fault::UnknownFunction => Status::Refused,
-            Fault::FrameTooLarge | Fault::SectionTooLarge => Status::Refused,
+            Fault::FrameTooLarge | Fault::SymbolName | Fault::SectionTooLarge => Status::Refused,
             Fault::Write => Status::WriteFault,
             Fault::Memory => Status::Memory,
         }

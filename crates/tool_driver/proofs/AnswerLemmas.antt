@@ -6,12 +6,12 @@ use Rattle.cli.specs.declared.command.Command.{Command}
 use Rattle.cli.specs.declared.command.PassPipeline.{PassPipeline}
 use Rattle.cli.specs.declared.command.RunPlan.{RunPlan}
 use Rattle.cli.specs.declared.command.TestPlan.{TestPlan}
-use Rattle.cli.specs.declared.command.Command.TheVariants.{Compile, Listing, Report, Run, Strip, SelfTest}
+use Rattle.cli.specs.declared.command.Command.TheVariants.{Compile, Listing, Report, Object, Run, Strip, SelfTest}
 use Rattle.cli.specs.declared.fault.Fault.{Fault}
 use Rattle.cli.specs.declared.fault.Fault.TheVariants.{Usage, Read, TooLong, Refused, NoFunction, UnknownFunction}
-use Rattle.cli.specs.declared.fault.Fault.TheVariants.{FrameTooLarge, SectionTooLarge, Write, Memory}
+use Rattle.cli.specs.declared.fault.Fault.TheVariants.{FrameTooLarge, SymbolName, SectionTooLarge, Write, Memory}
 use Rattle.run_command.specs.Source.{IsUnknown}
-use Rattle.tool_driver.specs.Answer.{IsReader, Answers, IsTestText, RefusesToCompile, RefusesToTest, RefusesToWrite, RefusesToRun}
+use Rattle.tool_driver.specs.Answer.{IsReader, Answers, IsTestText, RefusesToCompile, RefusesToTest, RefusesToWrite, RefusesToRun, RefusesObject}
 use Rattle.tool_driver.specs.Run.{HasReadProgram, HasReadNone, AnswersRead, AnswersInput, ReadingEnds}
 use Rattle.tool_driver.specs.Stream.{Change, IsUnread}
 use Rattle.tool_driver.specs.Compiled.{plan_steps}
@@ -40,6 +40,13 @@ module _ (command : Command) (input : Change) (program : Program) (read : HasRea
         read = read.read;
         refused = record { program = program; has = read.has; refused = refused };
       })
+  held_back reads SymbolName refused =
+      record {
+        reads = reads;
+        text = read.text;
+        read = read.read;
+        refused = record { program = program; has = read.has; refused = refused };
+      }
   held_back reads SectionTooLarge refused =
       inl (record {
         reads = reads;
@@ -65,6 +72,7 @@ read_none command reads input (Refused r) none = record { reads = reads; text = 
 read_none command reads input NoFunction none = record { reads = reads; text = none.text; read = none.read; refused = none.refused }
 read_none command reads input UnknownFunction none = absurd none
 read_none command reads input FrameTooLarge none = absurd none
+read_none command reads input SymbolName none = absurd none
 read_none command reads input SectionTooLarge none = absurd none
 read_none command reads input Usage none = absurd none
 read_none command reads input Write none = absurd none
@@ -74,6 +82,7 @@ read_none command reads input Write none = absurd none
 by_compile : (plan : PassPipeline) (program : Program) (fault : Fault) → RefusesToCompile (plan_steps plan) program fault →
     RefusesToWrite (Compile plan) program fault
 by_compile plan program FrameTooLarge refused = refused
+by_compile plan program SymbolName refused = refused
 by_compile plan program SectionTooLarge refused = refused
 by_compile plan program Memory refused = tt
 by_compile plan program (Refused r) refused = refused
@@ -87,6 +96,7 @@ by_compile plan program Write refused = refused
 by_listing : (plan : PassPipeline) (program : Program) (fault : Fault) → RefusesToCompile (plan_steps plan) program fault →
     RefusesToWrite (Listing plan) program fault
 by_listing plan program FrameTooLarge refused = refused
+by_listing plan program SymbolName refused = refused
 by_listing plan program SectionTooLarge refused = refused
 by_listing plan program Memory refused = tt
 by_listing plan program (Refused r) refused = refused
@@ -100,6 +110,7 @@ by_listing plan program Write refused = refused
 by_report : (plan : PassPipeline) (program : Program) (fault : Fault) → RefusesToCompile (plan_steps plan) program fault →
     RefusesToWrite (Report plan) program fault
 by_report plan program FrameTooLarge refused = refused
+by_report plan program SymbolName refused = refused
 by_report plan program SectionTooLarge refused = refused
 by_report plan program Memory refused = tt
 by_report plan program (Refused r) refused = refused
@@ -110,10 +121,25 @@ by_report plan program Read refused = refused
 by_report plan program TooLong refused = refused
 by_report plan program Write refused = refused
 
+pub by_object : (plan : PassPipeline) (program : Program) (fault : Fault) → RefusesToCompile (plan_steps plan) program fault →
+    RefusesObject plan program fault
+by_object plan program FrameTooLarge refused = refused
+by_object plan program SymbolName refused = absurd refused
+by_object plan program SectionTooLarge refused = inl refused
+by_object plan program Memory refused = tt
+by_object plan program (Refused r) refused = refused
+by_object plan program NoFunction refused = refused
+by_object plan program UnknownFunction refused = refused
+by_object plan program Usage refused = refused
+by_object plan program Read refused = refused
+by_object plan program TooLong refused = refused
+by_object plan program Write refused = refused
+
 -- a run compiles a program that has the function
 pub by_run : (run : RunPlan) (program : Program) (fault : Fault) → (IsUnknown run.name program.functions → ⊥) →
     RefusesToCompile (plan_steps run.plan) program fault → RefusesToRun run program fault
 by_run run program FrameTooLarge known refused = (known, refused)
+by_run run program SymbolName known refused = refused
 by_run run program SectionTooLarge known refused = (known, refused)
 by_run run program Memory known refused = tt
 by_run run program (Refused r) known refused = refused
@@ -149,6 +175,14 @@ module _ (plan : PassPipeline) (input : Change) (program : Program) (read : HasR
   report_err (Ok output) refused = tt
   report_err (Err fault) refused = held_back (Report plan) input program read tt fault (by_report plan program fault refused)
 
+  pub object_ok : (r : Result (List ℕ) Fault) → IfOk r (Answers (Object plan) program) → IfOk r (AnswersInput (Object plan) input)
+  object_ok (Ok output) answers = read_answers (Object plan) input program read output answers
+  object_ok (Err fault) answers = tt
+
+  pub object_err : (r : Result (List ℕ) Fault) → IfErr r (RefusesObject plan program) → IfErr r (ReadingEnds (Object plan) input)
+  object_err (Ok output) refused = tt
+  object_err (Err fault) refused = held_back (Object plan) input program read tt fault refused
+
 module _ (run : RunPlan) (input : Change) (program : Program) (read : HasReadProgram input program) where
   pub run_ok : (r : Result (List ℕ) Fault) → IfOk r (Answers (Run run) program) → IfOk r (AnswersInput (Run run) input)
   run_ok (Ok output) answers = read_answers (Run run) input program read output answers
@@ -162,6 +196,7 @@ module _ (run : RunPlan) (input : Change) (program : Program) (read : HasReadPro
 
 test_fails : (test : TestPlan) (input : Change) (fault : Fault) → RefusesToTest test fault → ReadingEnds (SelfTest test) input fault
 test_fails test input FrameTooLarge refused = inr refused
+test_fails test input SymbolName refused = absurd refused
 test_fails test input SectionTooLarge refused = inr refused
 test_fails test input Memory refused = tt
 test_fails test input (Refused r) refused = absurd refused
@@ -191,6 +226,7 @@ pub memory_ends : (command : Command) (input : Change) (fault : Fault) → fault
 memory_ends command input Memory is = tt
 memory_ends command input UnknownFunction is = absurd cc
 memory_ends command input FrameTooLarge is = absurd cc
+memory_ends command input SymbolName is = absurd cc
 memory_ends command input SectionTooLarge is = absurd cc
 memory_ends command input (Refused r) is = absurd cc
 memory_ends command input NoFunction is = absurd cc

@@ -17,7 +17,7 @@ use Rattle.run_command.specs.Program.{sources_of, IsOutputOf, names_of}
 use Rattle.tool_driver.specs.Compiled.{plan_steps}
 use Rattle.tool_driver.specs.Promise.{AllGiveBack, AllStopWell, AllListKept}
 use Rattle.tool_driver.specs.Run.{Finishes, KeepsHeadline, KeepsRegisters, StopsAtReturns, WroteExactly, WroteLaidOut}
-use Rattle.tool_driver.specs.Run.{WroteKept, WroteWords, ShowsPassed, WrotePassed}
+use Rattle.tool_driver.specs.Run.{WroteKept, WroteWords, ShowsPassed, WrotePassed, KeepsPromises}
 use Rattle.tool_driver.specs.Stream.{Change}
 use Rattle.tool_driver.proofs.Lines.{gives_lines}
 use Rattle.tool_driver.proofs.RunLemmas.{has_written}
@@ -46,6 +46,18 @@ module _ (steps : List PassStep) (p : Program) (o : Output) (is : IsOutputOf ste
     lists = compiled_lists_passed (names_of p.meta) is.functions o to;
     sections = is.sections;
     rows = gives_lines p.meta is.functions o is.sections;
+  }
+
+  pub keeps_promises : KeepsPromises steps p o
+  keeps_promises = record {
+    headline = promised;
+    callee_saved = gives_back (sources_of p.functions) o promised;
+    stops = stops_well (sources_of p.functions) o promised;
+    exact = exact;
+    kept = lists_kept o exact;
+    laid_out = laid_out;
+    words = compiled_has_words (names_of p.meta) is.functions o to;
+    passed = shows_passed;
   }
 
 -- ---- what was written

@@ -6,12 +6,12 @@ use Rattle.base_io.proofs.ToldLemmas.{Takes-told, TakesCount-told}
 use Rattle.cli.specs.declared.command.Command.{Command}
 use Rattle.cli.specs.declared.command.PassPipeline.{PassPipeline}
 use Rattle.cli.specs.declared.command.TestPlan.{TestPlan}
-use Rattle.cli.specs.declared.command.Command.TheVariants.{Compile, Listing, Report, Run, Strip, Gen, SelfTest}
+use Rattle.cli.specs.declared.command.Command.TheVariants.{Compile, Listing, Report, Object, Run, Strip, Gen, SelfTest}
 use Rattle.cli.specs.Command.{IsCommand}
 use Rattle.cli.proofs.CommandWords.{one_command}
 use Rattle.cli.specs.declared.fault.Fault.{Fault}
 use Rattle.cli.specs.declared.fault.Fault.TheVariants.{Usage, Read, TooLong, Refused, NoFunction, UnknownFunction}
-use Rattle.cli.specs.declared.fault.Fault.TheVariants.{FrameTooLarge, SectionTooLarge, Write, Memory}
+use Rattle.cli.specs.declared.fault.Fault.TheVariants.{FrameTooLarge, SymbolName, SectionTooLarge, Write, Memory}
 use Rattle.cli.specs.declared.status.Status.TheVariants as status
 use Rattle.cli.specs.Fault.{status_of, line_of}
 use Rattle.read_program.specs.declared.program.Program.{Program}
@@ -85,6 +85,7 @@ is_usage (Refused r) e = cc
 is_usage NoFunction e = cc
 is_usage UnknownFunction e = cc
 is_usage FrameTooLarge e = cc
+is_usage SymbolName e = cc
 is_usage SectionTooLarge e = cc
 is_usage Write e = cc
 is_usage Memory e = cc
@@ -97,6 +98,7 @@ is_read (Refused r) e = cc
 is_read NoFunction e = cc
 is_read UnknownFunction e = cc
 is_read FrameTooLarge e = cc
+is_read SymbolName e = cc
 is_read SectionTooLarge e = cc
 is_read Write e = cc
 is_read Memory e = cc
@@ -109,6 +111,7 @@ is_write (Refused r) e = cc
 is_write NoFunction e = cc
 is_write UnknownFunction e = cc
 is_write FrameTooLarge e = cc
+is_write SymbolName e = cc
 is_write SectionTooLarge e = cc
 is_write Write e = refl
 is_write Memory e = cc
@@ -121,6 +124,7 @@ is_memory (Refused r) e = cc
 is_memory NoFunction e = cc
 is_memory UnknownFunction e = cc
 is_memory FrameTooLarge e = cc
+is_memory SymbolName e = cc
 is_memory SectionTooLarge e = cc
 is_memory Write e = cc
 is_memory Memory e = refl
@@ -133,6 +137,7 @@ not_done (Refused r) e = cc
 not_done NoFunction e = cc
 not_done UnknownFunction e = cc
 not_done FrameTooLarge e = cc
+not_done SymbolName e = cc
 not_done SectionTooLarge e = cc
 not_done Write e = cc
 not_done Memory e = cc
@@ -151,6 +156,7 @@ refusal words input output faults (Refused r) e ended told = tells words input f
 refusal words input output faults NoFunction e ended told = tells words input faults NoFunction ended ended.ended told
 refusal words input output faults UnknownFunction e ended told = tells words input faults UnknownFunction ended ended.ended told
 refusal words input output faults FrameTooLarge e ended told = tells words input faults FrameTooLarge ended ended.ended told
+refusal words input output faults SymbolName e ended told = tells words input faults SymbolName ended ended.ended told
 refusal words input output faults SectionTooLarge e ended told = tells words input faults SectionTooLarge ended ended.ended told
 refusal words input output faults Usage e ended told = absurd cc
 refusal words input output faults Read e ended told = absurd cc
@@ -162,6 +168,7 @@ refusal words input output faults Memory e ended told = absurd cc
 writes_or_memory : (command : Command) (program : Program) (fault : Fault) → IsAnswered command program → RefusesToWrite command program fault → fault ≡ Memory
 writes_or_memory command program UnknownFunction answered refused = absurd (answered.named refused)
 writes_or_memory command program FrameTooLarge answered refused = absurd (answered.frames refused)
+writes_or_memory command program SymbolName answered refused = absurd (answered.symbols refused)
 writes_or_memory command program SectionTooLarge answered refused = absurd (answered.sections refused)
 writes_or_memory command program Memory answered refused = refl
 writes_or_memory command program (Refused r) answered refused = absurd refused
@@ -183,6 +190,9 @@ answered_or_memory command text program UnknownFunction has answered refused =
 answered_or_memory command text program FrameTooLarge has answered refused =
     let same : refused.program ≡ program = programs_one text refused.program program refused.has.reads has.reads in
     writes_or_memory command program FrameTooLarge answered (subst (λ (p : Program). RefusesToWrite command p FrameTooLarge) same refused.refused)
+answered_or_memory command text program SymbolName has answered refused =
+    let same : refused.program ≡ program = programs_one text refused.program program refused.has.reads has.reads in
+    writes_or_memory command program SymbolName answered (subst (λ (p : Program). RefusesToWrite command p SymbolName) same refused.refused)
 answered_or_memory command text program SectionTooLarge has answered refused =
     let same : refused.program ≡ program = programs_one text refused.program program refused.has.reads has.reads in
     writes_or_memory command program SectionTooLarge answered (subst (λ (p : Program). RefusesToWrite command p SectionTooLarge) same refused.refused)
@@ -208,6 +218,7 @@ by_text : (command : Command) (left : Option (List ℕ)) → IsReader command �
 by_text (Compile plan) left reads form = form
 by_text (Listing plan) left reads form = form
 by_text (Report plan) left reads form = form
+by_text (Object plan) left reads form = form
 by_text (Run run) left reads form = form
 by_text Strip left reads form = form
 by_text (Gen g) left reads form = absurd reads
@@ -224,6 +235,7 @@ not_refused command input fault answerable refused =
 -- nor does a self-test fail whose function can be compiled
 tests_or_memory : (test : TestPlan) (fault : Fault) → IsTestable test → RefusesToTest test fault → fault ≡ Memory
 tests_or_memory test FrameTooLarge testable refused = absurd (testable.frames refused)
+tests_or_memory test SymbolName testable refused = absurd refused
 tests_or_memory test SectionTooLarge testable refused = absurd (testable.sections refused)
 tests_or_memory test Memory testable refused = refl
 tests_or_memory test (Refused r) testable refused = absurd refused
@@ -238,6 +250,7 @@ no_test_fails : (command : Command) (left : Option (List ℕ)) (fault : Fault) �
 no_test_fails (Compile plan) left fault form fails = absurd fails
 no_test_fails (Listing plan) left fault form fails = absurd fails
 no_test_fails (Report plan) left fault form fails = absurd fails
+no_test_fails (Object plan) left fault form fails = absurd fails
 no_test_fails (Run run) left fault form fails = absurd fails
 no_test_fails Strip left fault form fails = absurd fails
 no_test_fails (Gen g) left fault form fails = absurd fails
@@ -274,6 +287,7 @@ module _ (command : Command) (words : List (List ℕ)) (input output : Change) (
   memory_alone UnknownFunction explains =
       not_refused command input UnknownFunction form (ended_as_asked command words input UnknownFunction asked explains)
   memory_alone FrameTooLarge explains = not_too_large command input FrameTooLarge form (ended_as_asked command words input FrameTooLarge asked explains)
+  memory_alone SymbolName explains = not_refused command input SymbolName form (ended_as_asked command words input SymbolName asked explains)
   memory_alone SectionTooLarge explains =
       not_too_large command input SectionTooLarge form (ended_as_asked command words input SectionTooLarge asked explains)
 

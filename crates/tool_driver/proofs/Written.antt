@@ -1,14 +1,16 @@
--- What the commands that report, that run and that test wrote.
+-- What the commands that report, that run and that test wrote, and that which writes an object.
 use Rattle.std.proofs.Common.{◌≡◌, ℕ, List, subst}
 use Rattle.cli.specs.declared.command.Command.{Command}
 use Rattle.cli.specs.declared.command.PassPipeline.{PassPipeline}
 use Rattle.cli.specs.declared.command.RunPlan.{RunPlan}
 use Rattle.cli.specs.declared.command.TestPlan.{TestPlan}
-use Rattle.cli.specs.declared.command.Command.TheVariants.{Report, Run, SelfTest}
+use Rattle.cli.specs.declared.command.Command.TheVariants.{Report, Object, Run, SelfTest}
 use Rattle.cli.specs.Command.{IsCommand}
 use Rattle.cli.proofs.CommandWords.{one_command}
-use Rattle.tool_driver.specs.Run.{Finishes, AnswersRead, AnswersInput, WroteReport, WroteRun, WroteTest}
+use Rattle.tool_driver.specs.Run.{Finishes, AnswersRead, AnswersInput, WroteReport, WroteObject, WroteRun, WroteTest}
+use Rattle.tool_driver.specs.Compiled.{plan_steps}
 use Rattle.tool_driver.specs.Stream.{Change}
+use Rattle.tool_driver.proofs.Kept.{keeps_promises}
 
 module _ (words : List (List ℕ)) (input output : Change) (finished : Finishes words input output) where
   -- what the command that is asked for writes was written
@@ -28,6 +30,25 @@ module _ (words : List (List ℕ)) (input output : Change) (finished : Finishes 
         has = answers.answers.has;
         bytes = finished.text;
         is = answers.answers.answers;
+        written = finished.written;
+      }
+
+  pub wrote_object : (plan : PassPipeline) → IsCommand words (Object plan) → WroteObject plan input output
+  wrote_object plan asked =
+      let answers : AnswersRead (Object plan) input finished.text = answers_asked (Object plan) asked in
+      let file = answers.answers.answers in
+      record {
+        text = answers.text;
+        read = answers.read;
+        program = answers.answers.program;
+        has = answers.answers.has;
+        bytes = finished.text;
+        is = record {
+          made = file.output;
+          is = file.is;
+          promises = keeps_promises (plan_steps plan) answers.answers.program file.output file.is;
+          object = file.object;
+        };
         written = finished.written;
       }
 

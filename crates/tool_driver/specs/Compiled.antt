@@ -1,11 +1,12 @@
--- What the commands `compile` and `listing` write for a program.
-use Rattle.std.specs.Prelude.{◌≡◌, ℕ, List}
+-- What the commands `compile`, `listing` and `object` write for a program, and programs without an object.
+use Rattle.std.specs.Prelude.{◌≡◌, ◌⊎◌, ℕ, List}
 use Rattle.listing_text.specs.declared.output.Output.{Output}
 use Rattle.listing_text.specs.Output.{spelling, listing_text}
 use Rattle.cli.specs.declared.command.PassPipeline.{PassPipeline}
 use Rattle.pass_trait.specs.Steps.{PassStep}
 use Rattle.read_program.specs.declared.program.Program.{Program}
-use Rattle.run_command.specs.Program.{IsOutputOf, steps_of}
+use Rattle.object_command.specs.Object.{HaveSymbolNames, IsObjectOf, HasLargeObject}
+use Rattle.run_command.specs.Program.{IsOutputOf, HasLargeSection, steps_of}
 
 -- the steps of a plan: its passes, with the registers that may be spilled
 abbrev pub plan_steps : PassPipeline → List PassStep
@@ -22,3 +23,25 @@ pub record IsListingText (steps : List PassStep) (program : Program) (text : Lis
   pub output : Output
   pub is : IsOutputOf steps program output
   pub spelled : text ≡ listing_text output.functions
+
+-- the bytes are the object of such an output
+pub record IsObjectFile (steps : List PassStep) (program : Program) (bytes : List ℕ) : Type 0 where
+  pub output : Output
+  pub is : IsOutputOf steps program output
+  pub object : IsObjectOf output bytes
+
+-- the name of a function or of a call in such an output can't be a symbol's
+pub record HasInvalidName (steps : List PassStep) (program : Program) : Type 0 where
+  pub output : Output
+  pub is : IsOutputOf steps program output
+  pub invalid : HaveSymbolNames output.functions → ⊥
+
+-- the object of such an output would be too large
+pub record IsLargeObjectOf (steps : List PassStep) (program : Program) : Type 0 where
+  pub output : Output
+  pub is : IsOutputOf steps program output
+  pub large : HasLargeObject output
+
+-- a section of the program or its object would be too large
+abbrev pub HasLargeFile : List PassStep → Program → Type 0
+HasLargeFile steps program = HasLargeSection steps program ⊎ IsLargeObjectOf steps program

@@ -6,13 +6,13 @@ use Rattle.listing_text.specs.Shown.{OfShown}
 use Rattle.listing_proof.specs.Laws.{inlined_in}
 use Rattle.read_program.specs.declared.program.Program.{Program}
 use Rattle.cli.specs.declared.command.Command.{Command}
-use Rattle.cli.specs.declared.command.Command.TheVariants.{Compile, Listing, Report, Run, Strip, Gen, SelfTest}
+use Rattle.cli.specs.declared.command.Command.TheVariants.{Compile, Listing, Report, Object, Run, Strip, Gen, SelfTest}
 use Rattle.cli.specs.declared.command.PassPipeline.{PassPipeline}
 use Rattle.cli.specs.declared.command.RunPlan.{RunPlan}
 use Rattle.cli.specs.declared.command.TestPlan.{TestPlan}
 use Rattle.cli.specs.declared.fault.Fault.{Fault}
 use Rattle.cli.specs.declared.fault.Fault.TheVariants.{Usage, Read, TooLong, Refused, NoFunction, UnknownFunction}
-use Rattle.cli.specs.declared.fault.Fault.TheVariants.{FrameTooLarge, SectionTooLarge, Write, Memory}
+use Rattle.cli.specs.declared.fault.Fault.TheVariants.{FrameTooLarge, SymbolName, SectionTooLarge, Write, Memory}
 use Rattle.cli.specs.Command.{IsCommand}
 use Rattle.cli.specs.Fault.{line_of}
 use Rattle.run_command.specs.Reported.{IsReportText}
@@ -28,7 +28,8 @@ use Rattle.tool_driver.specs.Answer.{IsTestText, IsTestable, FailsToTest}
 use Rattle.compile_theorem.specs.Promise.{AreLaidOut, Promises, IsExact, ListsPassed}
 use Rattle.compile_theorem.specs.Source.{PassedFunction}
 use Rattle.compile_theorem.specs.Words.{HaveWords}
-use Rattle.run_command.specs.Program.{sources_of, ArePassed, HasSections, IsMadeBy, names_of}
+use Rattle.object_command.specs.Object.{IsObjectOf}
+use Rattle.run_command.specs.Program.{sources_of, ArePassed, HasSections, IsMadeBy, IsOutputOf, names_of}
 use Rattle.tool_driver.specs.Lines.{GivesLines}
 use Rattle.tool_driver.specs.Promise.{AllGiveBack, AllStopWell, AllListKept}
 use Rattle.tool_driver.specs.Stream.{Change, MetFault, IsUnread, IsReadWhole, IsReadFor, IsWrittenWhole, IsWrittenInPart, IsTold}
@@ -60,6 +61,7 @@ abbrev pub AnswersInput : Command → (input : Change) → (output : List ℕ) �
 AnswersInput (Compile plan) input output = AnswersRead (Compile plan) input output
 AnswersInput (Listing plan) input output = AnswersRead (Listing plan) input output
 AnswersInput (Report plan) input output = AnswersRead (Report plan) input output
+AnswersInput (Object plan) input output = AnswersRead (Object plan) input output
 AnswersInput (Run run) input output = AnswersRead (Run run) input output
 AnswersInput Strip input output = AnswersRead Strip input output
 AnswersInput (Gen g) input output = IsUnread input × (output ≡ generated_text g.number g.blocks)
@@ -102,6 +104,7 @@ HasReadNone input (Refused r) = RefusesInput input (Refused r)
 HasReadNone input NoFunction = RefusesInput input NoFunction
 HasReadNone input UnknownFunction = ⊥
 HasReadNone input FrameTooLarge = ⊥
+HasReadNone input SymbolName = ⊥
 HasReadNone input SectionTooLarge = ⊥
 HasReadNone input Usage = ⊥
 HasReadNone input Write = ⊥
@@ -124,6 +127,7 @@ Refuses command input (Refused r) = RefusesRead command input (Refused r)
 Refuses command input NoFunction = RefusesRead command input NoFunction
 Refuses command input UnknownFunction = RefusesRead command input UnknownFunction
 Refuses command input FrameTooLarge = IsTooLarge command input FrameTooLarge
+Refuses command input SymbolName = RefusesRead command input SymbolName
 Refuses command input SectionTooLarge = IsTooLarge command input SectionTooLarge
 Refuses command input Usage = ⊥
 Refuses command input Read = ⊥
@@ -152,6 +156,7 @@ abbrev pub IsAnswerable : Command → (left : Option (List ℕ)) → Type 0
 IsAnswerable (Compile plan) left = IsAnswerableText (Compile plan) left
 IsAnswerable (Listing plan) left = IsAnswerableText (Listing plan) left
 IsAnswerable (Report plan) left = IsAnswerableText (Report plan) left
+IsAnswerable (Object plan) left = IsAnswerableText (Object plan) left
 IsAnswerable (Run run) left = IsAnswerableText (Run run) left
 IsAnswerable Strip left = IsAnswerableText Strip left
 IsAnswerable (Gen g) left = Unit {0}
@@ -224,6 +229,29 @@ pub record WroteText (Is : Program → (text : List ℕ) → Type 0) (input outp
   pub is : Is program bytes
   pub written : IsWrittenWhole output bytes
 
+-- An output of a program after these steps keeps the promises of what `compile` writes: those of its runs, of its location lists, of its layout, of its
+-- words and of the functions that it shows.
+pub record KeepsPromises (steps : List PassStep) (p : Program) (o : Output) : Type 0 where
+  pub headline : Promises (sources_of p.functions) o
+  pub callee_saved : AllGiveBack (sources_of p.functions) o
+  pub stops : AllStopWell (sources_of p.functions) o
+  pub exact : IsExact o
+  pub kept : AllListKept o
+  pub laid_out : AreLaidOut (names_of p.meta) (sources_of p.functions) o
+  pub words : HaveWords o
+  pub passed : ShowsPassed steps p o
+
+-- The bytes are the object of an output of the program after these steps, which keeps the promises.
+pub record IsKeptObject (steps : List PassStep) (p : Program) (bytes : List ℕ) : Type 0 where
+  pub made : Output
+  pub is : IsOutputOf steps p made
+  pub promises : KeepsPromises steps p made
+  pub object : IsObjectOf made bytes
+
+-- the object of the functions after the plan's passes was written
+abbrev pub WroteObject : PassPipeline → (input output : Change) → Type 0
+WroteObject plan input output = WroteText (IsKeptObject (plan_steps plan)) input output
+
 -- the report of the functions after the plan's passes was written
 abbrev pub WroteReport : PassPipeline → (input output : Change) → Type 0
 WroteReport plan input output = WroteText (IsReportText plan.reserve plan.passes) input output
@@ -259,6 +287,7 @@ ReadingEnds command input (Refused r) = Refuses command input (Refused r)
 ReadingEnds command input NoFunction = Refuses command input NoFunction
 ReadingEnds command input UnknownFunction = Refuses command input UnknownFunction
 ReadingEnds command input FrameTooLarge = Refuses command input FrameTooLarge
+ReadingEnds command input SymbolName = Refuses command input SymbolName
 ReadingEnds command input SectionTooLarge = Refuses command input SectionTooLarge
 ReadingEnds command input Usage = ⊥
 ReadingEnds command input Write = ⊥
@@ -280,4 +309,5 @@ Explains words input output (Refused r) = ReadingEnded words input (Refused r)
 Explains words input output NoFunction = ReadingEnded words input NoFunction
 Explains words input output UnknownFunction = ReadingEnded words input UnknownFunction
 Explains words input output FrameTooLarge = ReadingEnded words input FrameTooLarge
+Explains words input output SymbolName = ReadingEnded words input SymbolName
 Explains words input output SectionTooLarge = ReadingEnded words input SectionTooLarge

@@ -4,8 +4,8 @@ ghost use Rattle.std.specs.Prelude.{IfOk, IfErr};
 ghost use Rattle.report_command.specs.Reported.{IsReportText};
 ghost use Rattle.run_command.specs.Source.{IsRunOfProgram};
 ghost use Rattle.cli.specs.Command.{IsWithin};
-ghost use Rattle.tool_driver.specs.Answer.{IsTestText, RefusesToCompile, RefusesToRun, RefusesToTest};
-ghost use Rattle.tool_driver.specs.Compiled.{plan_steps, IsCompiledText, IsListingText};
+ghost use Rattle.tool_driver.specs.Answer.{IsTestText, RefusesToCompile, RefusesObject, RefusesToRun, RefusesToTest};
+ghost use Rattle.tool_driver.specs.Compiled.{plan_steps, IsCompiledText, IsListingText, IsObjectFile};
 ghost use Rattle.compile_program.specs.Program.{IsOutputOf, IsCompilationOf};
 ghost use Rattle.read_proof.specs.Read.{IsReadProgram};
 
@@ -14,6 +14,7 @@ use cli::fault::Fault;
 use compile_program::compile::{Compilation, CompileError, compile};
 use listing_text::print::{print_listing, print_output};
 use mir_printer::text::Text;
+use object_command::object::{ObjectError, object};
 use read_program::program::Program;
 use report_command::report::report;
 use run_command::name::is_unknown;
@@ -49,6 +50,43 @@ pub fn report_text(alloc: Global, program: &Program, plan: &PassPipeline) -> Res
 {
     let compilation = compilation(alloc, program, plan)?;
     Ok(report(alloc, &compilation)?)
+}
+
+/// The bytes of `object`: the object of a program after passes.
+pub fn object_file(alloc: Global, program: &Program, plan: &PassPipeline) -> Result<Text, Fault>
+    requires { IsReadProgram program.now }
+    ensures ok { IfOk result (IsObjectFile (plan_steps plan.now) program.now) }
+    ensures err { IfErr result (RefusesObject plan.now program.now) }
+{
+    match compilation(alloc, program, plan) {
+        Ok(compilation) => object_in(alloc, program, plan, compilation),
+        Err(fault) => Err(fault),
+    }
+}
+
+/// The object of a compiled program.
+fn object_in(
+    alloc: Global,
+    _program: &Program,
+    _plan: &PassPipeline,
+    compilation: Compilation,
+) -> Result<Text, Fault>
+    requires { IsOutputOf (plan_steps _plan.now) _program.now compilation.output }
+    ensures ok { IfOk result (IsObjectFile (plan_steps _plan.now) _program.now) }
+    ensures err { IfErr result (RefusesObject _plan.now _program.now) }
+{
+    let Compilation {
+        output,
+        codes: _,
+        lists: _,
+        losses: _,
+    } = compilation;
+    match object(alloc, output) {
+        Ok(bytes) => Ok(bytes),
+        Err(ObjectError::SymbolName) => Err(Fault::SymbolName),
+        Err(ObjectError::TooLarge) => Err(Fault::SectionTooLarge),
+        Err(ObjectError::Memory) => Err(Fault::Memory),
+    }
 }
 
 /// The text of `run`: the requested run of one of a program's functions after passes.

@@ -11,12 +11,12 @@ ghost use Rattle.tool_driver.specs.Compiled.{plan_steps};
 ghost use Rattle.cli.specs.Fault.{line_of};
 ghost use Rattle.tool_driver.specs.Run.{AreCommand, AnswersInput, Finishes, IsCutOff, TellsRefusal, IsAnswerable};
 ghost use Rattle.tool_driver.specs.Run.{KeepsHeadline, KeepsRegisters, StopsAtReturns, WroteExactly, WroteLaidOut};
-ghost use Rattle.tool_driver.specs.Run.{WroteKept, WroteWords, WrotePassed, WroteReport, WroteRun, WroteTest};
-ghost use Rattle.tool_driver.specs.Run.{WroteStripped};
+ghost use Rattle.tool_driver.specs.Run.{WroteKept, WroteWords, WrotePassed, WroteReport, WroteObject, WroteRun};
+ghost use Rattle.tool_driver.specs.Run.{WroteTest, WroteStripped};
 ghost use Rattle.tool_driver.specs.Run.{HasReadProgram, HasReadNone, Explains, ReadingEnds};
 ghost use Rattle.tool_driver.specs.Stream.{change, MetFault, IsWrittenWhole, IsTold};
 
-use crate::compiled::{compiled_text, listing_text, report_text, run_text, test_text};
+use crate::compiled::{compiled_text, listing_text, object_file, report_text, run_text, test_text};
 use crate::reading::program_of;
 use crate::telling::tell;
 use base_io::reading::{ReadError, read_all};
@@ -39,12 +39,13 @@ pub const LIMIT: usize = 16_777_216;
 /// in it. `compile`, with the options for a list of passes and for registers that may be spilled, writes the sections
 /// and the listing of the functions after these passes (`--passes=none`: of the functions as they were read; all
 /// passes if there is no list). `listing`, with the same options, writes the listing alone, and `report` at how many
-/// of each function's words each variable has a location, and what the passes lost. `run`, with a function's name, a
-/// number of steps and such options, writes a line for each step of its machine code, with the values of its
-/// variables. `strip` writes the functions without their debug items. `gen` reads nothing, and writes the text of the
-/// function that it generates from two numbers. `selftest`, with such numbers and the options of `compile`, reads
-/// nothing either, and writes how many values the location lists of such a function have along a run of its machine
-/// code. A fault is reported by a line on `faults`.
+/// of each function's words each variable has a location, and what the passes lost. `object`, with the same options,
+/// writes the relocatable object of the functions. `run`, with a function's name, a number of steps and such options,
+/// writes a line for each step of its machine code, with the values of its variables. `strip` writes the functions
+/// without their debug items. `gen` reads nothing, and writes the text of the function that it generates from two
+/// numbers. `selftest`, with such numbers and the options of `compile`, reads nothing either, and writes how many
+/// values the location lists of such a function have along a run of its machine code. A fault is reported by a line on
+/// `faults`.
 pub fn mirdwarf<S: Source, K: Sink, E: Sink>(
     alloc: Global,
     words: &[String],
@@ -105,6 +106,13 @@ pub fn mirdwarf<S: Source, K: Sink, E: Sink>(
     ensures reported { (plan : PassPipeline) → result ≡ Status.Done →
         IsCommand (map string_bytes words.now) (Command.Report plan) →
         WroteReport plan (change S.left S.faults input.old input.new)
+        (change K.written K.faults output.old output.new) }
+
+    // What `object` writes is the relocatable object of an output that keeps the promises of what `compile` writes: its
+    // sections, a symbol for each function and each other function that is called, and a relocation at each call.
+    ensures object { (plan : PassPipeline) → result ≡ Status.Done →
+        IsCommand (map string_bytes words.now) (Command.Object plan) →
+        WroteObject plan (change S.left S.faults input.old input.new)
         (change K.written K.faults output.old output.new) }
 
     // What `run` writes is the run of the machine on the code of the first function of the name, line by line: it runs
@@ -221,6 +229,10 @@ fn answered<S: Source>(alloc: Global, command: Command, input: &mut S) -> Result
         Command::Report(plan) => {
             let program = read(alloc, input)?;
             report_text(alloc, &program, &plan)
+        }
+        Command::Object(plan) => {
+            let program = read(alloc, input)?;
+            object_file(alloc, &program, &plan)
         }
         Command::Run(plan) => {
             let program = read(alloc, input)?;

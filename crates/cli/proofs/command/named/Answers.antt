@@ -1,7 +1,7 @@
 use Rattle.std.proofs.Common.{◌∷◌, sym, ◌∙◌, map}
 use Rattle.std.specs.Prelude.{string_bytes}
-use Rattle.cli.specs.declared.command.Command.TheVariants.{Compile, Listing, Report, Run, SelfTest}
-use Rattle.cli.proofs.CommandWords.{the_command, no_compile, no_listing, no_report, no_run, no_test, no_some}
+use Rattle.cli.specs.declared.command.Command.TheVariants.{Compile, Listing, Report, Object, Run, SelfTest}
+use Rattle.cli.proofs.CommandWords.{the_command, no_compile, no_listing, no_report, no_object, no_run, no_test, no_some}
 use Rattle.cli.proofs.command.named.Goals as goal
 
 pub returns-in-Some : goal.returns-in-Some
@@ -42,24 +42,36 @@ returns-in-None-3 c = λ command. (
 
 pub returns-in-Some-4 : goal.returns-in-Some-4
 returns-in-Some-4 c =
-    the_command (c.args.name.now ∷ map string_bytes c.args.words.now) (Run c.in-Some-4.found)
-    (c.is_same-4.ensures.0 c.if-is_same-4.true, (c.in_ok-found.ensures c.in-Some-4.found).0 c.in-Some-4.is)
+    the_command (c.args.name.now ∷ map string_bytes c.args.words.now) (Object c.in-Some-4.plan)
+    (c.is_same-4.ensures.0 c.if-is_same-4.true, (c.in_ok-plan-4.ensures c.in-Some-4.plan).0 c.in-Some-4.is)
 
 pub returns-in-None-4 : goal.returns-in-None-4
 returns-in-None-4 c = λ command. (
   λ e. absurd (no_some command e),
-  λ h. absurd (no_run c.args.name.now (map string_bytes c.args.words.now) (c.is_same-4.ensures.0 c.if-is_same-4.true)
-      (λ r given. no_some r (sym c.in-None-4.is ∙ (c.in_ok-found.ensures r).1 given)) command h),
+  λ h. absurd (no_object c.args.name.now (map string_bytes c.args.words.now) (c.is_same-4.ensures.0 c.if-is_same-4.true)
+      (λ p given. no_some p (sym c.in-None-4.is ∙ (c.in_ok-plan-4.ensures p).1 given)) command h),
 )
 
 pub returns-in-Some-5 : goal.returns-in-Some-5
 returns-in-Some-5 c =
-    the_command (c.args.name.now ∷ map string_bytes c.args.words.now) (SelfTest c.in-Some-5.test)
-    (c.is_same-5.ensures.0 c.if-is_same-5.true, (c.in_ok-test.ensures c.in-Some-5.test).0 c.in-Some-5.is)
+    the_command (c.args.name.now ∷ map string_bytes c.args.words.now) (Run c.in-Some-5.found)
+    (c.is_same-5.ensures.0 c.if-is_same-5.true, (c.in_ok-found.ensures c.in-Some-5.found).0 c.in-Some-5.is)
 
 pub returns-in-None-5 : goal.returns-in-None-5
 returns-in-None-5 c = λ command. (
   λ e. absurd (no_some command e),
-  λ h. absurd (no_test c.args.name.now (map string_bytes c.args.words.now) (c.is_same-5.ensures.0 c.if-is_same-5.true)
-      (λ t given. no_some t (sym c.in-None-5.is ∙ (c.in_ok-test.ensures t).1 given)) command h),
+  λ h. absurd (no_run c.args.name.now (map string_bytes c.args.words.now) (c.is_same-5.ensures.0 c.if-is_same-5.true)
+      (λ r given. no_some r (sym c.in-None-5.is ∙ (c.in_ok-found.ensures r).1 given)) command h),
+)
+
+pub returns-in-Some-6 : goal.returns-in-Some-6
+returns-in-Some-6 c =
+    the_command (c.args.name.now ∷ map string_bytes c.args.words.now) (SelfTest c.in-Some-6.test)
+    (c.is_same-6.ensures.0 c.if-is_same-6.true, (c.in_ok-test.ensures c.in-Some-6.test).0 c.in-Some-6.is)
+
+pub returns-in-None-6 : goal.returns-in-None-6
+returns-in-None-6 c = λ command. (
+  λ e. absurd (no_some command e),
+  λ h. absurd (no_test c.args.name.now (map string_bytes c.args.words.now) (c.is_same-6.ensures.0 c.if-is_same-6.true)
+      (λ t given. no_some t (sym c.in-None-6.is ∙ (c.in_ok-test.ensures t).1 given)) command h),
 )

@@ -6,8 +6,8 @@ use Rattle.cli.specs.Command.{AreWithin}
 use Rattle.cli.specs.declared.command.Command.{Command}
 use Rattle.tool_driver.specs.Run.{AnswersInput, ReadingEnds}
 use Rattle.tool_driver.specs.Stream.{change}
-use Rattle.tool_driver.proofs.AnswerLemmas.{compile_ok, compile_err, listing_ok, listing_err, report_ok, report_err, run_ok, run_err, strip_ok}
-use Rattle.tool_driver.proofs.AnswerLemmas.{test_ok, test_err}
+use Rattle.tool_driver.proofs.AnswerLemmas.{compile_ok, compile_err, listing_ok, listing_err, report_ok, report_err, object_ok, object_err}
+use Rattle.tool_driver.proofs.AnswerLemmas.{run_ok, run_err, strip_ok, test_ok, test_err}
 use Rattle.tool_driver.proofs.driver.answered.Goals as goal
 
 pub compiled_text-requires : goal.compiled_text-requires
@@ -24,6 +24,11 @@ pub report_text-requires : goal.report_text-requires
 report_text-requires g c =
     let read = c.in_ok-program-in-Report.ensures.ok in
     programs_are_as_read read.text c.in_ok-program-in-Report.program read.has.reads
+
+pub object_file-requires : goal.object_file-requires
+object_file-requires g c =
+    let read = c.in_ok-program-in-Object.ensures.ok in
+    programs_are_as_read read.text c.in_ok-program-in-Object.program read.has.reads
 
 pub run_text-requires : goal.run_text-requires
 run_text-requires g c =
@@ -71,6 +76,20 @@ returns-in_ok-program-in-Report-clause-err g c =
     subst (λ (k : Command). IfErr c.report_text.result (ReadingEnds k input)) (sym c.in-Report.is)
     (report_err c.in-Report.plan input c.in_ok-program-in-Report.program c.in_ok-program-in-Report.ensures.ok c.report_text.result
     c.report_text.ensures.err)
+
+pub returns-in_ok-program-in-Object-clause-ok : goal.returns-in_ok-program-in-Object-clause-ok
+returns-in_ok-program-in-Object-clause-ok g c =
+    let input = change g.S.Source.left g.S.Source.faults c.args.input.now c.read-in-Object.new.input in
+    subst (λ (k : Command). IfOk c.object_file.result (AnswersInput k input)) (sym c.in-Object.is)
+    (object_ok c.in-Object.plan input c.in_ok-program-in-Object.program c.in_ok-program-in-Object.ensures.ok c.object_file.result
+    c.object_file.ensures.ok)
+
+pub returns-in_ok-program-in-Object-clause-err : goal.returns-in_ok-program-in-Object-clause-err
+returns-in_ok-program-in-Object-clause-err g c =
+    let input = change g.S.Source.left g.S.Source.faults c.args.input.now c.read-in-Object.new.input in
+    subst (λ (k : Command). IfErr c.object_file.result (ReadingEnds k input)) (sym c.in-Object.is)
+    (object_err c.in-Object.plan input c.in_ok-program-in-Object.program c.in_ok-program-in-Object.ensures.ok c.object_file.result
+    c.object_file.ensures.err)
 
 pub returns-in_ok-program-in-Run-clause-ok : goal.returns-in_ok-program-in-Run-clause-ok
 returns-in_ok-program-in-Run-clause-ok g c =

@@ -6,7 +6,7 @@ use Rattle.tool_driver.proofs.Kept.{headline_kept, registers_kept, stops_at_retu
 use Rattle.tool_driver.proofs.Kept.{wrote_words, wrote_passed}
 use Rattle.tool_driver.proofs.Stripped.{wrote_stripped}
 use Rattle.tool_driver.proofs.Generated.{wrote_generated}
-use Rattle.tool_driver.proofs.Written.{wrote_report, wrote_run, wrote_test}
+use Rattle.tool_driver.proofs.Written.{wrote_report, wrote_object, wrote_run, wrote_test}
 use Rattle.tool_driver.proofs.driver.mirdwarf.Goals as goal
 
 pub returns-in-Err-clause-refused : goal.returns-in-Err-clause-refused
@@ -59,6 +59,11 @@ returns-in-Ok-clause-words g c plan done =
 pub returns-in-Ok-clause-reported : goal.returns-in-Ok-clause-reported
 returns-in-Ok-clause-reported g c plan done =
     wrote_report (map string_bytes c.args.words.now) (change g.S.Source.left g.S.Source.faults c.args.input.now c.run.new.input)
+    (change g.K.Sink.written g.K.Sink.faults c.args.output.now c.run.new.output) c.in-Ok.ensures.done plan
+
+pub returns-in-Ok-clause-object : goal.returns-in-Ok-clause-object
+returns-in-Ok-clause-object g c plan done =
+    wrote_object (map string_bytes c.args.words.now) (change g.S.Source.left g.S.Source.faults c.args.input.now c.run.new.input)
     (change g.K.Sink.written g.K.Sink.faults c.args.output.now c.run.new.output) c.in-Ok.ensures.done plan
 
 pub returns-in-Ok-clause-ran : goal.returns-in-Ok-clause-ran
