@@ -6,6 +6,10 @@
 #[cfg(test)]
 mod changed;
 #[cfg(test)]
+mod frame_rows;
+#[cfg(test)]
+mod frames;
+#[cfg(test)]
 mod leb128;
 #[cfg(test)]
 mod line_tables;
