@@ -5,6 +5,7 @@ use Rattle.rv64_instr.specs.declared.decoded.Input.TheVariants.{Content, Number}
 use Rattle.rv64_instr.specs.declared.decoded.Base.{Base}
 use Rattle.rv64_instr.specs.declared.decoded.Base.TheVariants.{PointedBy, ObjectAt}
 use Rattle.rv64_instr.specs.Row.{Row, Fixes, Moves, Sets, Addresses, Loads, Stores, LoadsSlot, StoresSlot, Branches, Jumps, Calls, Returns, Unfit}
+use Rattle.rv64_instr.specs.View.{Write, SetsNothing, SetsRegister, SetsSlot, Clobbers, write_of}
 
 -- the registers that a call sets (RISC-V ELF psABI, "Integer Register Convention": ra, t0 to t6, a0 to a7)
 abbrev pub caller_saved : List ℕ
@@ -36,18 +37,13 @@ reads (Calls name args) = args
 reads (Returns results) = results
 reads Unfit = []
 
--- the registers that it sets. A write to x0 is dropped
+-- the registers that a write sets. A write to x0 is dropped
+abbrev pub registers_set : Write → List ℕ
+registers_set SetsNothing = []
+registers_set (SetsRegister rd value) = rd ∷ []
+registers_set (SetsSlot n rs) = []
+registers_set Clobbers = caller_saved
+
+-- the registers that it sets
 abbrev pub sets : Row → List ℕ
-sets (Fixes rd n) = rd ∷ []
-sets (Moves rd rs) = rd ∷ []
-sets (Sets rd op a b) = rd ∷ []
-sets (Addresses rd n offset) = rd ∷ []
-sets (Loads rd op base offset) = rd ∷ []
-sets (Stores op rs base offset) = []
-sets (LoadsSlot rd n) = rd ∷ []
-sets (StoresSlot rs n) = []
-sets (Branches op a b target) = []
-sets (Jumps target) = []
-sets (Calls name args) = caller_saved
-sets (Returns results) = []
-sets Unfit = []
+sets row = registers_set (write_of row)

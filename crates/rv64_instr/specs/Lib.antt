@@ -3,6 +3,7 @@ pub mod Instruction
 pub mod Form
 pub mod Arithmetic
 pub mod Row
+pub mod View
 pub mod DefsAndUses
 pub mod Decoded
 pub mod Parts

@@ -13,6 +13,8 @@ use Rattle.rv64_instr.specs.declared.decoded.Input.TheVariants.{Content, Number}
 use Rattle.rv64_instr.specs.declared.decoded.Base.{Base}
 use Rattle.rv64_instr.specs.declared.decoded.Base.TheVariants.{PointedBy, ObjectAt}
 use Rattle.rv64_instr.specs.Row.{Row, Fixes, Moves, Sets, Addresses, Loads, Stores, LoadsSlot, StoresSlot, Branches, Jumps, Calls, Returns, Unfit, row_of}
+use Rattle.rv64_instr.specs.View.{Literal, OfRegister, OfSlot, Write, SetsNothing, SetsRegister, SetsSlot, Clobbers, write_of}
+use Rattle.rv64_instr.specs.View.{Class, Call, Return, Plain, Odd, class_of}
 use Rattle.rv64_instr.specs.DefsAndUses.{sets}
 
 -- the location that a definition of a register sets: none for x0, whose writes are dropped
@@ -20,21 +22,16 @@ abbrev pub place_set : ℕ → Option Place
 place_set zero = None
 place_set (suc r) = Some (Register (suc r))
 
--- the one location that it sets. A call has none here, but sets the caller-saved registers
+-- the one location that a write sets. A call has none here, but sets the caller-saved registers
+abbrev pub location_set : Write → Option Place
+location_set SetsNothing = None
+location_set (SetsRegister rd value) = place_set rd
+location_set (SetsSlot n rs) = Some (Slot n)
+location_set Clobbers = None
+
+-- the one location that it sets
 abbrev pub set_by : Row → Option Place
-set_by (Fixes rd n) = place_set rd
-set_by (Moves rd rs) = place_set rd
-set_by (Sets rd op a b) = place_set rd
-set_by (Addresses rd n offset) = place_set rd
-set_by (Loads rd op base offset) = place_set rd
-set_by (Stores op rs base offset) = None
-set_by (LoadsSlot rd n) = place_set rd
-set_by (StoresSlot rs n) = Some (Slot n)
-set_by (Branches op a b target) = None
-set_by (Jumps target) = None
-set_by (Calls name args) = None
-set_by (Returns results) = None
-set_by Unfit = None
+set_by row = location_set (write_of row)
 
 -- the location that an input is read from
 abbrev pub input_place : Input → Option Place
@@ -83,59 +80,49 @@ abbrev pub moved_into : (rd rs : ℕ) → Option Place
 moved_into zero rs = None
 moved_into (suc rd) rs = Some (Register rs)
 
+-- the location whose content a write moves unchanged: none if it copies into x0
+abbrev pub location_moved : Write → Option Place
+location_moved (SetsRegister rd (OfRegister rs)) = moved_into rd rs
+location_moved (SetsRegister rd (OfSlot n)) = Some (Slot n)
+location_moved (SetsSlot n rs) = Some (Register rs)
+location_moved _ = None
+
 -- the location whose content it moves unchanged: of slot loads, slot stores, and copies except those into x0
 abbrev pub moved_by : Row → Option Place
-moved_by (Fixes rd n) = None
-moved_by (Moves rd rs) = moved_into rd rs
-moved_by (Sets rd op a b) = None
-moved_by (Addresses rd n offset) = None
-moved_by (Loads rd op base offset) = None
-moved_by (Stores op rs base offset) = None
-moved_by (LoadsSlot rd n) = Some (Slot n)
-moved_by (StoresSlot rs n) = Some (Register rs)
-moved_by (Branches op a b target) = None
-moved_by (Jumps target) = None
-moved_by (Calls name args) = None
-moved_by (Returns results) = None
-moved_by Unfit = None
+moved_by row = location_moved (write_of row)
+
+-- the number that a write sets a register to, also if that is x0
+abbrev pub literal_set : Write → Option ℕ
+literal_set (SetsRegister rd (Literal n)) = Some n
+literal_set _ = None
+
+-- the number as a signed one
+abbrev pub as_signed : Option ℕ → Option ℤ
+as_signed None = None
+as_signed (Some n) = Some (signed n)
 
 -- the number that a constant definition sets, also if it sets x0
 abbrev pub constant_of : Row → Option ℤ
-constant_of (Fixes rd n) = Some (signed n)
-constant_of (Moves rd rs) = None
-constant_of (Sets rd op a b) = None
-constant_of (Addresses rd n offset) = None
-constant_of (Loads rd op base offset) = None
-constant_of (Stores op rs base offset) = None
-constant_of (LoadsSlot rd n) = None
-constant_of (StoresSlot rs n) = None
-constant_of (Branches op a b target) = None
-constant_of (Jumps target) = None
-constant_of (Calls name args) = None
-constant_of (Returns results) = None
-constant_of Unfit = None
+constant_of row = as_signed (literal_set (write_of row))
+
+-- code of this class is no store to memory, branch, call or return
+abbrev pub is_pure_class : Class → Bool
+is_pure_class Plain = true
+is_pure_class Odd = true
+is_pure_class _ = false
 
 -- no store to memory, no branch, call or return: if it goes on, it sets at most its one location. A load may stop on a frame fault
 -- instead
 abbrev pub is_pure : Row → Bool
-is_pure (Fixes rd n) = true
-is_pure (Moves rd rs) = true
-is_pure (Sets rd op a b) = true
-is_pure (Addresses rd n offset) = true
-is_pure (Loads rd op base offset) = true
-is_pure (Stores op rs base offset) = false
-is_pure (LoadsSlot rd n) = true
-is_pure (StoresSlot rs n) = true
-is_pure (Branches op a b target) = false
-is_pure (Jumps target) = false
-is_pure (Calls name args) = false
-is_pure (Returns results) = false
-is_pure Unfit = true
+is_pure row = is_pure_class (class_of row)
+
+abbrev pub is_call_class : Class → Bool
+is_call_class Call = true
+is_call_class _ = false
 
 -- a call (LLVM: `PseudoCALL`)
 abbrev pub is_call : Row → Bool
-is_call (Calls name args) = true
-is_call _ = false
+is_call row = is_call_class (class_of row)
 
 -- an instruction's dataflow facts, as passes need them, all by its row
 abbrev pub effect_of : Row → Effect
@@ -148,42 +135,32 @@ effect_of row = record {
   call = is_call row;
 }
 
+-- the frame slot that a write sets a register from
+abbrev pub slot_moved : Write → Option ℕ
+slot_moved (SetsRegister rd (OfSlot n)) = Some n
+slot_moved _ = None
+
 -- the frame slot that it reads
 abbrev pub slot_read : Row → Option ℕ
-slot_read (Fixes rd n) = None
-slot_read (Moves rd rs) = None
-slot_read (Sets rd op a b) = None
-slot_read (Addresses rd n offset) = None
-slot_read (Loads rd op base offset) = None
-slot_read (Stores op rs base offset) = None
-slot_read (LoadsSlot rd n) = Some n
-slot_read (StoresSlot rs n) = None
-slot_read (Branches op a b target) = None
-slot_read (Jumps target) = None
-slot_read (Calls name args) = None
-slot_read (Returns results) = None
-slot_read Unfit = None
+slot_read row = slot_moved (write_of row)
+
+-- the frame slot that a write sets
+abbrev pub slot_written : Write → Option ℕ
+slot_written (SetsSlot n rs) = Some n
+slot_written _ = None
 
 -- the frame slot that it sets
 abbrev pub slot_set : Row → Option ℕ
-slot_set (Fixes rd n) = None
-slot_set (Moves rd rs) = None
-slot_set (Sets rd op a b) = None
-slot_set (Addresses rd n offset) = None
-slot_set (Loads rd op base offset) = None
-slot_set (Stores op rs base offset) = None
-slot_set (LoadsSlot rd n) = None
-slot_set (StoresSlot rs n) = Some n
-slot_set (Branches op a b target) = None
-slot_set (Jumps target) = None
-slot_set (Calls name args) = None
-slot_set (Returns results) = None
-slot_set Unfit = None
+slot_set row = slot_written (write_of row)
+
+-- it sets a frame slot
+abbrev pub SetsASlot : Write → Type 0
+SetsASlot (SetsSlot n rs) = Unit {0}
+SetsASlot _ = ⊥
 
 -- it stores into a frame slot
 abbrev pub IsSlotStore : Row → Type 0
-IsSlotStore (StoresSlot rs n) = Unit {0}
-IsSlotStore _ = ⊥
+IsSlotStore row = SetsASlot (write_of row)
 
 -- there is a frame slot, and it has this number
 abbrev pub names_slot : Option ℕ → ℕ → Bool
@@ -200,11 +177,15 @@ abbrev pub is_register : ℕ → Option Place → Bool
 is_register r (Some (Register s)) = nat_eq r s
 is_register r _ = false
 
+-- the implicit uses of code of this class are reads
+abbrev pub reads_implicit_uses : Class → Bool
+reads_implicit_uses Call = true
+reads_implicit_uses Return = true
+reads_implicit_uses _ = false
+
 -- its implicit uses are reads: only those of a call and a return are
 abbrev pub has_implicit_uses : Row → Bool
-has_implicit_uses (Calls name args) = true
-has_implicit_uses (Returns results) = true
-has_implicit_uses _ = false
+has_implicit_uses row = reads_implicit_uses (class_of row)
 
 -- it reads the location: a register by an explicit operand, or by an implicit one of a call or a return; or a slot
 abbrev pub uses_of : Instruction → Place → Bool
