@@ -19,7 +19,7 @@ use Rattle.rv64_instr.specs.Row.{row_by, row_of}
 use Rattle.rv64_word.specs.declared.machine_op.MachineOp.{MachineOp}
 use Rattle.rv64_word.specs.Lowering.{fields_of, lowered, in_range}
 use Rattle.rv64_word.specs.MachineOp.{is_encodable}
-use Rattle.rv64_word.specs.MachineRow.{object_named}
+use Rattle.rv64_instr.specs.Parts.{object_named}
 use Rattle.mir_func.specs.declared.exit.Exit.{Exit}
 use Rattle.mir_func.specs.declared.exit.Exit.TheVariants.{Onward, Perhaps, Always, Final}
 use Rattle.mir_func.specs.Exits.{row_exit}

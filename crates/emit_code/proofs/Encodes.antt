@@ -29,7 +29,7 @@ use Rattle.rv64_word.specs.Operation.{encoding_of}
 use Rattle.rv64_word.specs.Lowering.{lowered, fields_of, in_range, machine_op}
 use Rattle.rv64_word.proofs.Fitting.{is_fit}
 use Rattle.rv64_instr.specs.Row.{row_of}
-use Rattle.rv64_word.specs.MachineRow.{object_named}
+use Rattle.rv64_instr.specs.Parts.{object_named}
 use Rattle.mir_func.specs.declared.exit.Exit.{Exit}
 use Rattle.mir_func.specs.declared.exit.Exit.TheVariants.{Onward, Perhaps, Always, Final}
 use Rattle.mir_func.specs.declared.object.Object.{Object}

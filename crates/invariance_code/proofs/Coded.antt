@@ -6,7 +6,7 @@ use Rattle.rv64_instr.specs.declared.place.Place.{Place}
 use Rattle.rv64_instr.specs.Instruction.{Instruction}
 use Rattle.rv64_instr.specs.Row.{row_of}
 use Rattle.rv64_word.specs.Lowering.{lowered}
-use Rattle.rv64_word.specs.MachineRow.{object_named}
+use Rattle.rv64_instr.specs.Parts.{object_named}
 use Rattle.mir_func.specs.declared.block.Block.{Block}
 use Rattle.mir_func.specs.declared.exit.Exit.{Exit}
 use Rattle.mir_func.specs.declared.exit.Exit.TheVariants.{Onward, Perhaps, Always, Final}

@@ -10,7 +10,8 @@ use Rattle.rv64_instr.specs.Row.{Row, Unfit, immediate_row, row_of}
 use Rattle.rv64_word.specs.declared.machine_op.MachineOp.{MachineOp}
 use Rattle.rv64_word.specs.declared.word_op.WordOp.{WordOp}
 use Rattle.rv64_word.specs.declared.word_op.WordOp.TheVariants.{Registers, Immediate, Lui, Branch, Load, Store, Jal, Jalr}
-use Rattle.rv64_word.specs.MachineRow.{Does, row_as, link_row, machine_row, placed, at_offset, object_named}
+use Rattle.rv64_word.specs.MachineRow.{Does, row_as, link_row, machine_row, placed, at_offset}
+use Rattle.rv64_instr.specs.Parts.{object_named}
 use Rattle.rv64_word.proofs.Words.{lowered_acts}
 use Rattle.mir_func.specs.declared.position.Pos.{Pos}
 use Rattle.mir_func.specs.declared.variable.VarId.{VarId}

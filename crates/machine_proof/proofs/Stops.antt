@@ -6,7 +6,8 @@ use Rattle.rv64_instr.specs.Arithmetic.{taken}
 use Rattle.rv64_instr.specs.Instruction.{Instruction}
 use Rattle.rv64_instr.specs.Row.{Row, Fixes, Moves, Sets, Addresses, Loads, Stores, LoadsSlot, StoresSlot, Branches, Jumps, Calls, Returns, Unfit, add_row}
 use Rattle.rv64_instr.specs.Row.{row_of}
-use Rattle.rv64_word.specs.MachineRow.{Does, placed, object_named, from_object}
+use Rattle.rv64_word.specs.MachineRow.{Does, placed, from_object}
+use Rattle.rv64_instr.specs.Parts.{object_named}
 use Rattle.mir_func.specs.declared.position.Pos.{Pos}
 use Rattle.mir_func.specs.declared.item.Item.{Item}
 use Rattle.mir_func.specs.declared.item.ItemKind.{ItemKind}

@@ -19,7 +19,8 @@ use Rattle.rv64_instr.specs.Row.{Row, Fixes, Moves, Sets, Addresses, Loads, Stor
 use Rattle.rv64_instr.specs.Row.{row_by, implicit_uses, move_row, immediate_row, object_row}
 use Rattle.rv64_word.specs.declared.machine_op.MachineOp.{MachineOp}
 use Rattle.rv64_word.specs.MachineOp.{is_encodable, word_of}
-use Rattle.rv64_word.specs.MachineRow.{MachineRow, Does, LinksTo, machine_row, placed, at_offset, object_named}
+use Rattle.rv64_word.specs.MachineRow.{MachineRow, Does, LinksTo, machine_row, placed, at_offset}
+use Rattle.rv64_instr.specs.Parts.{object_named}
 use Rattle.rv64_word.specs.Decoded.{decoded}
 use Rattle.rv64_word.specs.Lowering.{lowered, return_op}
 use Rattle.rv64_word.proofs.Words.{lowered_fits, lowered_acts}

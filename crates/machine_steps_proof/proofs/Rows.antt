@@ -16,7 +16,7 @@ use Rattle.mir_func.specs.Objects.{area_of, offset_of}
 use Rattle.mir_func.specs.SoundFrame.{own_size, slot_offsets, IsSlotOffset, IsFramed}
 use Rattle.mir_func.specs.Sound.{HasBytes, SlotIn, ObjectIn}
 use Rattle.std.proofs.lemmas.List.Elements.{All-contains}
-use Rattle.rv64_word.specs.MachineRow.{object_named}
+use Rattle.rv64_instr.specs.Parts.{object_named}
 use Rattle.sem_mir.proofs.InRange.{RowInRange}
 use Rattle.sem_mir.specs.State.{Core, content, put, put_all, spelled, low_bytes, stored, written, in_frame, touches_frame, IsInRange}
 use Rattle.sem_mir.specs.Step.{Outcome, Falls, Goes, Gives, Traps, Asks, Breaks, act, does, read, or_zero, input_value, are_written}

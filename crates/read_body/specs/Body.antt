@@ -2,9 +2,9 @@
 use Rattle.std.specs.Prelude.{ℕ, ◌+◌, Bool, false, ◌||◌, nat_le, nat_lt, if◌then◌else◌, List, [], ◌∷◌, ◌++◌, length, Option, Some, None, IfSome, ◌≤◌}
 use Rattle.std.specs.Option.{option_map}
 use Rattle.rv64_instr.specs.Arithmetic.{word}
-use Rattle.rv64_instr.specs.Row.{Row, Fixes, Moves, Sets, Addresses, Loads, Stores, LoadsSlot, StoresSlot, Branches, Jumps, Calls, Returns, Unfit, row_of}
-use Rattle.rv64_instr.specs.declared.decoded.Base.{Base}
-use Rattle.rv64_instr.specs.declared.decoded.Base.TheVariants.{PointedBy, ObjectAt}
+use Rattle.rv64_instr.specs.Parts.{literal_set, object_named as row_object}
+use Rattle.rv64_instr.specs.Row.{row_of}
+use Rattle.rv64_instr.specs.View.{write_of}
 use Rattle.mir_func.specs.declared.block.Block.{Block}
 use Rattle.mir_func.specs.declared.item.ItemKind.{ItemKind}
 use Rattle.mir_func.specs.declared.item.ItemKind.TheVariants.{Code, Mark, Phi}
@@ -22,22 +22,6 @@ use Rattle.read_body.specs.Limits.{MAX_ITEMS, MAX_VARIABLES, MAX_NUMBERS, MAX_CO
 
 -- ---- facts of an item
 
--- the constant of an instruction that sets a register to one
-abbrev pub row_constant : Row → Option ℕ
-row_constant (Fixes rd n) = Some n
-row_constant (Moves rd rs) = None
-row_constant (Sets rd op a b) = None
-row_constant (Addresses rd n offset) = None
-row_constant (Loads rd op base offset) = None
-row_constant (Stores op rs base offset) = None
-row_constant (LoadsSlot rd n) = None
-row_constant (StoresSlot rs n) = None
-row_constant (Branches op a b target) = None
-row_constant (Jumps target) = None
-row_constant (Calls name args) = None
-row_constant (Returns results) = None
-row_constant Unfit = None
-
 -- the constant of a debug value, as 64 bits
 abbrev pub mark_constant : MarkValue → Option ℕ
 mark_constant Nothing = None
@@ -47,30 +31,9 @@ mark_constant (Pair p) = None
 
 -- the constant of an instruction that sets a register to one, or of a debug value
 abbrev pub constant_of : ItemKind → Option ℕ
-constant_of (Code i number) = row_constant (row_of i)
+constant_of (Code i number) = literal_set (write_of (row_of i))
 constant_of (Mark v m) = mark_constant m
 constant_of (Phi p number) = None
-
--- the stack object of a base address
-abbrev pub base_object : Base → Option ℕ
-base_object (PointedBy r) = None
-base_object (ObjectAt n) = Some n
-
--- the stack object that an instruction names
-abbrev pub row_object : Row → Option ℕ
-row_object (Addresses rd n offset) = Some n
-row_object (Loads rd op base offset) = base_object base
-row_object (Stores op rs base offset) = base_object base
-row_object (Fixes rd n) = None
-row_object (Moves rd rs) = None
-row_object (Sets rd op a b) = None
-row_object (LoadsSlot rd n) = None
-row_object (StoresSlot rs n) = None
-row_object (Branches op a b target) = None
-row_object (Jumps target) = None
-row_object (Calls name args) = None
-row_object (Returns results) = None
-row_object Unfit = None
 
 -- the stack object that an item names
 abbrev pub object_named : ItemKind → Option ℕ

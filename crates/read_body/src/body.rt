@@ -16,7 +16,6 @@ ghost use Rattle.read_body.specs.Body.{
   with_constant,
   constant_of,
   object_named,
-  row_object,
   with_object,
   exceeds,
   item_cause,
@@ -24,6 +23,7 @@ ghost use Rattle.read_body.specs.Body.{
   IsCounted,
   refused_cause,
 };
+ghost use Rattle.rv64_instr.specs.Parts.{object_named as row_object};
 
 use crate::limits::{MAX_CONSTANTS, MAX_ITEMS, MAX_NUMBERS, MAX_VARIABLES};
 use crate::met::FirstUseOrder;

@@ -20,7 +20,7 @@ use Rattle.rv64_instr.specs.Form.{fits_immediate, fits_upper}
 use Rattle.rv64_instr.specs.Form.{fits_branch, fits_load, fits_store, fits_copy, fits_jump, fits_call, has_form}
 use Rattle.rv64_instr.specs.Instruction.{Instruction}
 use Rattle.rv64_instr.specs.Row.{row_of}
-use Rattle.read_body.specs.Body.{row_object}
+use Rattle.rv64_instr.specs.Parts.{object_named as row_object}
 use Rattle.read_body.specs.Met.{is_met}
 use Rattle.read_program.specs.Objects.{operand_as, operands_as, instr_as}
 

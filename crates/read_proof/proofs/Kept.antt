@@ -22,7 +22,8 @@ use Rattle.mir_func.specs.Sound.{HasForm}
 use Rattle.base_ids.specs.Limits.{MAX_NUMBER}
 use Rattle.read_item.specs.Debug.{inlined_at, inlined_at_node}
 use Rattle.read_declarations.specs.declared.stack.StackEntry.{StackEntry}
-use Rattle.read_body.specs.Body.{row_object, object_named}
+use Rattle.read_body.specs.Body.{object_named}
+use Rattle.rv64_instr.specs.Parts.{object_named as row_object}
 use Rattle.read_body.specs.StackEntryKind.{objects_of, ids_of_objects}
 use Rattle.read_body.specs.Met.{is_met}
 use Rattle.read_program.specs.Closing.{entry_ids}

@@ -14,6 +14,7 @@ use Rattle.rv64_instr.specs.declared.decoded.Base.{Base}
 use Rattle.rv64_instr.specs.declared.decoded.Base.TheVariants.{PointedBy, ObjectAt}
 use Rattle.rv64_instr.specs.Row.{Row, Fixes, Moves, Sets, Addresses, Loads, Stores, LoadsSlot, StoresSlot, Branches, Jumps, Calls, Returns, Unfit, row_of}
 use Rattle.rv64_instr.specs.View.{Literal, OfRegister, OfSlot, Write, SetsNothing, SetsRegister, SetsSlot, Clobbers, write_of}
+use Rattle.rv64_instr.specs.View.{Access, NoAccess, SlotAccess, MemoryAccess, ObjectAddress, access_of}
 use Rattle.rv64_instr.specs.View.{Class, Call, Return, Plain, Odd, class_of}
 use Rattle.rv64_instr.specs.DefsAndUses.{sets}
 
@@ -161,6 +162,22 @@ SetsASlot _ = ⊥
 -- it stores into a frame slot
 abbrev pub IsSlotStore : Row → Type 0
 IsSlotStore row = SetsASlot (write_of row)
+
+-- the stack object that is a base
+abbrev pub base_object : Base → Option ℕ
+base_object (PointedBy r) = None
+base_object (ObjectAt n) = Some n
+
+-- the stack object that an access names
+abbrev pub object_accessed : Access → Option ℕ
+object_accessed NoAccess = None
+object_accessed (SlotAccess n) = None
+object_accessed (MemoryAccess base offset width) = base_object base
+object_accessed (ObjectAddress n offset) = Some n
+
+-- the stack object that it names
+abbrev pub object_named : Row → Option ℕ
+object_named row = object_accessed (access_of row)
 
 -- there is a frame slot, and it has this number
 abbrev pub names_slot : Option ℕ → ℕ → Bool

@@ -1,5 +1,5 @@
 -- What a word does, by the rows of instructions.
-use Rattle.std.specs.Prelude.{ℕ, zero, suc, ◌+◌, ◌%◌, ◌^◌, ℤ, pos, ◌*ℤ◌, Option, Some, None}
+use Rattle.std.specs.Prelude.{ℕ, zero, suc, ◌+◌, ◌%◌, ◌^◌, ℤ, pos, ◌*ℤ◌}
 use Rattle.rv64_instr.specs.declared.op.LoadOp.{LoadOp}
 use Rattle.rv64_instr.specs.declared.op.LoadOp.TheVariants.{Ld}
 use Rattle.rv64_instr.specs.declared.op.StoreOp.{StoreOp}
@@ -48,27 +48,6 @@ row_as Jalr address m = LinksTo m.rd m.rs1 (word m.imm)
 -- the row of a word at an address
 abbrev pub machine_row : (address : ℕ) → MachineOp → MachineRow
 machine_row address m = row_as m.op address m
-
--- the stack object that is an access's base
-abbrev pub base_object : Base → Option ℕ
-base_object (PointedBy r) = None
-base_object (ObjectAt n) = Some n
-
--- the stack object that an instruction names, by its row
-abbrev pub object_named : Row → Option ℕ
-object_named (Fixes rd n) = None
-object_named (Moves rd rs) = None
-object_named (Sets rd op a b) = None
-object_named (Addresses rd n offset) = Some n
-object_named (Loads rd op base offset) = base_object base
-object_named (Stores op rs base offset) = base_object base
-object_named (LoadsSlot rd n) = None
-object_named (StoresSlot rs n) = None
-object_named (Branches op a b target) = None
-object_named (Jumps target) = None
-object_named (Calls name args) = None
-object_named (Returns results) = None
-object_named Unfit = None
 
 -- an offset from a stack object as one from x2, modulo 2^64; `object` is the object's own offset from x2
 abbrev pub from_object : (object offset : ℕ) → ℕ

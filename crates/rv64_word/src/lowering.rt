@@ -16,7 +16,8 @@ ghost use Rattle.rv64_instr.specs.Form.{
 ghost use Rattle.rv64_instr.specs.Decoded.{Shows};
 ghost use Rattle.rv64_instr.specs.Row.{Row, row_of};
 ghost use Rattle.rv64_word.specs.MachineOp.{is_encodable};
-ghost use Rattle.rv64_word.specs.MachineRow.{machine_row, placed, at_offset, object_named, base_object};
+ghost use Rattle.rv64_word.specs.MachineRow.{machine_row, placed, at_offset};
+ghost use Rattle.rv64_instr.specs.Parts.{object_named, base_object};
 ghost use Rattle.rv64_word.specs.Lowering.{
   lowered,
   fields_of,
