@@ -1,12 +1,14 @@
 -- Functions as programs (control-flow graphs of positions), and the paths through them.
 use Rattle.std.specs.Prelude.{◌≡◌, ◌⊎◌, ◌+◌, ℕ, suc, List, [], ◌∷◌, drop, Option, Bool, false, cond, nat_eq}
-use Rattle.rv64_instr.specs.Row.{Row, Fixes, Moves, Sets, Addresses, Loads, Stores, LoadsSlot, StoresSlot, Branches, Jumps, Calls, Returns, Unfit, row_of}
+use Rattle.rv64_instr.specs.Row.{Row}
 use Rattle.mir_func.specs.declared.position.Pos.{Pos}
 use Rattle.mir_func.specs.declared.block.Block.{Block}
 use Rattle.mir_func.specs.declared.debug_substitution.OperandPair.{OperandPair}
 use Rattle.mir_func.specs.declared.item.Item.{Item}
 use Rattle.mir_func.specs.declared.item.ItemKind.{ItemKind}
-use Rattle.mir_func.specs.declared.item.ItemKind.TheVariants.{Code, Mark, Phi}
+use Rattle.mir_func.specs.declared.exit.Exit.{Exit}
+use Rattle.mir_func.specs.declared.exit.Exit.TheVariants.{Onward, Perhaps, Always, Final}
+use Rattle.mir_func.specs.Exits.{row_exit, exit_of}
 use Rattle.mir_func.specs.SoundFrame.{body_of}
 
 -- what is at a position
@@ -69,27 +71,20 @@ abbrev pub framed_program : List Block → (OperandPair → Option OperandPair) 
 framed_program blocks resolve =
     record { fetch = λ p. fetch_in (drop p.block blocks) p.item; enter = λ n. suc (index_of (body_of blocks) n); resolve = resolve; sees_pointer = false }
 
+-- the control-flow edges by an exit: to the position below, to the start of the target's block, or none
+abbrev pub ExitEdge : (ℕ → ℕ) → Exit → Pos → Pos → Type 0
+ExitEdge enter Onward p q = q ≡ below p
+ExitEdge enter (Perhaps n) p q = (q ≡ block_start (enter n)) ⊎ (q ≡ below p)
+ExitEdge enter (Always n) p q = q ≡ block_start (enter n)
+ExitEdge enter Final p q = ⊥
+
 -- the control-flow edges from code of a row
 abbrev pub RowEdge : (ℕ → ℕ) → Row → Pos → Pos → Type 0
-RowEdge enter (Branches op a b target) p q = (q ≡ block_start (enter target)) ⊎ (q ≡ below p)
-RowEdge enter (Jumps target) p q = q ≡ block_start (enter target)
-RowEdge enter (Returns results) p q = ⊥
-RowEdge enter Unfit p q = ⊥
-RowEdge enter (Fixes rd n) p q = q ≡ below p
-RowEdge enter (Moves rd rs) p q = q ≡ below p
-RowEdge enter (Sets rd op a b) p q = q ≡ below p
-RowEdge enter (Addresses rd n offset) p q = q ≡ below p
-RowEdge enter (Loads rd op base offset) p q = q ≡ below p
-RowEdge enter (Stores op rs base offset) p q = q ≡ below p
-RowEdge enter (LoadsSlot rd n) p q = q ≡ below p
-RowEdge enter (StoresSlot rs n) p q = q ≡ below p
-RowEdge enter (Calls name args) p q = q ≡ below p
+RowEdge enter row p q = ExitEdge enter (row_exit row) p q
 
 -- the control-flow edges from an item: from a debug item only to the position below
 abbrev pub KindEdge : (ℕ → ℕ) → ItemKind → Pos → Pos → Type 0
-KindEdge enter (Code i k) p q = RowEdge enter (row_of i) p q
-KindEdge enter (Mark v m) p q = q ≡ below p
-KindEdge enter (Phi r k) p q = q ≡ below p
+KindEdge enter kind p q = ExitEdge enter (exit_of kind) p q
 
 -- the control-flow edges from what is at a position: from a block's end to the next block
 abbrev pub FetchEdge : (ℕ → ℕ) → Fetch → Pos → Pos → Type 0

@@ -8,9 +8,9 @@ use Rattle.rv64_instr.specs.declared.place.Place.{Place}
 use Rattle.rv64_instr.specs.declared.place.Place.TheVariants.{Register, Slot, Const}
 use Rattle.rv64_instr.specs.declared.decoded.Base.{Base}
 use Rattle.rv64_instr.specs.declared.decoded.Base.TheVariants.{PointedBy, ObjectAt}
-use Rattle.rv64_instr.specs.Arithmetic.{load_width, store_width}
 use Rattle.rv64_instr.specs.Form.{has_form}
-use Rattle.rv64_instr.specs.Row.{Row, Fixes, Moves, Sets, Addresses, Loads, Stores, LoadsSlot, StoresSlot, Branches, Jumps, Calls, Returns, Unfit, row_of}
+use Rattle.rv64_instr.specs.Row.{Row, row_of}
+use Rattle.rv64_instr.specs.View.{Access, NoAccess, SlotAccess, MemoryAccess, ObjectAddress, access_of}
 use Rattle.mir_func.specs.declared.block.Block.{Block}
 use Rattle.mir_func.specs.declared.item.Item.{Item}
 use Rattle.mir_func.specs.declared.item.ItemKind.{ItemKind}
@@ -20,7 +20,7 @@ use Rattle.mir_func.specs.declared.position.Origin.{Origin}
 use Rattle.mir_func.specs.declared.position.Origin.TheVariants.{Kept, Before}
 use Rattle.mir_func.specs.declared.exit.Exit.{Exit}
 use Rattle.mir_func.specs.declared.exit.Exit.TheVariants.{Onward, Perhaps, Always, Final}
-use Rattle.mir_func.specs.Exits.{exit_of, IsAlways, Leaves}
+use Rattle.mir_func.specs.Exits.{row_exit, exit_of, IsAlways, Leaves}
 use Rattle.mir_func.specs.Limits.{MAX_BLOCKS, MAX_SLOTS}
 use Rattle.mir_func.specs.Objects.{ALIGNMENTS, object_of, AreLaid}
 use Rattle.mir_func.specs.Function.{Function}
@@ -48,43 +48,29 @@ HasForm (Code i k) = IsTrue (has_form i.op i.operands)
 HasForm (Mark v m) = Unit {0}
 HasForm (Phi p k) = Unit {0}
 
+-- the target of an exit is one of these blocks
+abbrev pub ExitIn : List ℕ → Exit → Type 0
+ExitIn ids Onward = Unit {0}
+ExitIn ids (Perhaps n) = Contains ids n
+ExitIn ids (Always n) = Contains ids n
+ExitIn ids Final = Unit {0}
+
 -- the target of a branch of this row is one of these blocks
 abbrev pub TargetIn : List ℕ → Row → Type 0
-TargetIn ids (Branches op a b target) = Contains ids target
-TargetIn ids (Jumps target) = Contains ids target
-TargetIn ids (Fixes rd n) = Unit {0}
-TargetIn ids (Moves rd rs) = Unit {0}
-TargetIn ids (Sets rd op a b) = Unit {0}
-TargetIn ids (Addresses rd n offset) = Unit {0}
-TargetIn ids (Loads rd op base offset) = Unit {0}
-TargetIn ids (Stores op rs base offset) = Unit {0}
-TargetIn ids (LoadsSlot rd n) = Unit {0}
-TargetIn ids (StoresSlot rs n) = Unit {0}
-TargetIn ids (Calls name args) = Unit {0}
-TargetIn ids (Returns results) = Unit {0}
-TargetIn ids Unfit = Unit {0}
+TargetIn ids row = ExitIn ids (row_exit row)
 
 -- the target of a branch is one of these blocks
 abbrev pub TargetsIn : List ℕ → ItemKind → Type 0
-TargetsIn ids (Code i n) = TargetIn ids (row_of i)
-TargetsIn ids (Mark v m) = Unit {0}
-TargetsIn ids (Phi p k) = Unit {0}
+TargetsIn ids kind = ExitIn ids (exit_of kind)
+
+-- a slot that is accessed is one of these
+abbrev pub AccessedSlotIn : List ℕ → Access → Type 0
+AccessedSlotIn slots (SlotAccess n) = Contains slots n
+AccessedSlotIn slots _ = Unit {0}
 
 -- a slot that this row names is one of these
 abbrev pub SlotIn : List ℕ → Row → Type 0
-SlotIn slots (LoadsSlot rd n) = Contains slots n
-SlotIn slots (StoresSlot rs n) = Contains slots n
-SlotIn slots (Fixes rd n) = Unit {0}
-SlotIn slots (Moves rd rs) = Unit {0}
-SlotIn slots (Sets rd op a b) = Unit {0}
-SlotIn slots (Addresses rd n offset) = Unit {0}
-SlotIn slots (Loads rd op base offset) = Unit {0}
-SlotIn slots (Stores op rs base offset) = Unit {0}
-SlotIn slots (Branches op a b target) = Unit {0}
-SlotIn slots (Jumps target) = Unit {0}
-SlotIn slots (Calls name args) = Unit {0}
-SlotIn slots (Returns results) = Unit {0}
-SlotIn slots Unfit = Unit {0}
+SlotIn slots row = AccessedSlotIn slots (access_of row)
 
 -- a slot that a phi's place names is one of these
 abbrev pub PlaceIn : List ℕ → Option Place → Type 0
@@ -109,20 +95,15 @@ BaseHasBytes objects (PointedBy r) bytes = Unit {0}
 BaseHasBytes objects (ObjectAt n) bytes = HasBytes objects n bytes
 
 -- an access by a stack object stays within it, and an address that is computed from one is at most that of its end
+abbrev pub AccessIn : List Object → Access → Type 0
+AccessIn objects NoAccess = Unit {0}
+AccessIn objects (SlotAccess n) = Unit {0}
+AccessIn objects (MemoryAccess base offset width) = BaseHasBytes objects base (offset + width)
+AccessIn objects (ObjectAddress n offset) = HasBytes objects n offset
+
+-- a row's access by a stack object stays within it
 abbrev pub ObjectIn : List Object → Row → Type 0
-ObjectIn objects (Addresses rd n offset) = HasBytes objects n offset
-ObjectIn objects (Loads rd op base offset) = BaseHasBytes objects base (offset + load_width op)
-ObjectIn objects (Stores op rs base offset) = BaseHasBytes objects base (offset + store_width op)
-ObjectIn objects (Fixes rd n) = Unit {0}
-ObjectIn objects (Moves rd rs) = Unit {0}
-ObjectIn objects (Sets rd op a b) = Unit {0}
-ObjectIn objects (LoadsSlot rd n) = Unit {0}
-ObjectIn objects (StoresSlot rs n) = Unit {0}
-ObjectIn objects (Branches op a b target) = Unit {0}
-ObjectIn objects (Jumps target) = Unit {0}
-ObjectIn objects (Calls name args) = Unit {0}
-ObjectIn objects (Returns results) = Unit {0}
-ObjectIn objects Unfit = Unit {0}
+ObjectIn objects row = AccessIn objects (access_of row)
 
 -- an item's accesses by stack objects stay in them
 abbrev pub ObjectsIn : List Object → ItemKind → Type 0
