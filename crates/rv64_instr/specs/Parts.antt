@@ -117,6 +117,7 @@ is_pure_class _ = false
 abbrev pub is_pure : Row → Bool
 is_pure row = is_pure_class (class_of row)
 
+-- the class of calls
 abbrev pub is_call_class : Class → Bool
 is_call_class Call = true
 is_call_class _ = false
