@@ -21,7 +21,8 @@ use Rattle.mir_func.specs.Exits.{row_exit, exit_of, Leaves}
 use Rattle.mir_func.specs.Graph.{Program, Fetch, Here, EndOfBlock, Outside}
 use Rattle.mir_func.specs.Sound.{IsJumpAtMost, MayFollow, EndsWell, Closes, LastCloses, OriginIn, ids_of}
 use Rattle.sem_mir.specs.Align.{position_of}
-use Rattle.sem_mir.specs.Follow.{class_of, ItemHasClass, HasClass, RowFits, KindFits, MarkFits, rank, next_rank, InOrder, Among, none, same, left}
+use Rattle.sem_mir.specs.Follow.{ItemHasClass, HasClass, RowFits, KindFits, MarkFits, rank, next_rank, InOrder, Among, none, same, left}
+use Rattle.rv64_instr.specs.View.{class_of}
 use Rattle.sem_mir.specs.Follow.{first_of as first_number}
 use Rattle.fold_targets.specs.Leads.{first_id}
 use Rattle.fold_rule.specs.Turned.{inverse, inverse_op, aimed, to_block, inverse_to, with_code, sent, turned, made_jump}

@@ -24,7 +24,8 @@ use Rattle.mir_func.specs.Graph.{Fetch, Here, EndOfBlock, Outside, Program, belo
 use Rattle.mir_func.specs.Sound.{ids_of}
 use Rattle.mir_func.specs.SoundFrame.{IsFramed}
 use Rattle.sem_mir.specs.Align.{position_of, is_code}
-use Rattle.sem_mir.specs.Follow.{class_of, Class, Return, Odd, MayAdd, ItemHasClass, HasClass, RowFits, KindFits, next_rank, InOrder, Among, none}
+use Rattle.sem_mir.specs.Follow.{MayAdd, ItemHasClass, HasClass, RowFits, KindFits, next_rank, InOrder, Among, none}
+use Rattle.rv64_instr.specs.View.{class_of, Class, Return, Odd}
 use Rattle.sem_mir.specs.Follow.{same, left}
 use Rattle.sem_mir.specs.State.{Core, content}
 use Rattle.sem_mir.specs.Step.{Outcome, Falls, Goes, Gives, Traps, Asks, Breaks, Faulted, act, does, read, numbered, with_core, do_item, do_fetch, moved}

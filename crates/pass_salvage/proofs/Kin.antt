@@ -17,7 +17,8 @@ use Rattle.mir_func.specs.Graph.{Program, Fetch, Here, EndOfBlock, Outside, RowE
 use Rattle.sem_mir.specs.State.{Core}
 use Rattle.sem_mir.specs.Step.{Falls, Goes, Traps, act, does, slot_loaded, with_core, are_written, numbered, do_item}
 use Rattle.sem_mir.specs.Align.{is_code, is_jump, is_jump_row, waits_at, moves_on, Count, After, since_of}
-use Rattle.sem_mir.specs.Follow.{class_of, MayAdd, HasClass, ItemHasClass, RowFits, KindFits, MarkFits, OnRow, GoesTo, SameEnd, IsEnd, KindsEndAlike}
+use Rattle.sem_mir.specs.Follow.{MayAdd, HasClass, ItemHasClass, RowFits, KindFits, MarkFits, OnRow, GoesTo, SameEnd, IsEnd, KindsEndAlike}
+use Rattle.rv64_instr.specs.View.{class_of}
 
 -- from p control goes to q: below, and from p' it may go below too; or to a block, and so from p'
 abbrev pub GoesAlike : (Pos → Pos → Type 0) → (p q p' : Pos) → Type 0

@@ -30,7 +30,8 @@ use Rattle.mir_func.specs.Function.{Function, FramedFunction}
 use Rattle.mir_func.specs.Graph.{Fetch, Here, EndOfBlock, Outside, Program, block_start, program_of}
 use Rattle.mir_func.specs.Sound.{AllItems}
 use Rattle.mir_func.specs.SoundFrame.{adds_to_pointer, saves, restores, prologue_code, epilogue_code}
-use Rattle.sem_mir.specs.Follow.{class_of, Call, MayAdd, ItemHasClass, HasClass, RowFits, KindFits, Shape}
+use Rattle.sem_mir.specs.Follow.{MayAdd, ItemHasClass, HasClass, RowFits, KindFits, Shape}
+use Rattle.rv64_instr.specs.View.{class_of, Call}
 
 -- an item calls nothing
 abbrev CallsNothing : Item → Type 0

@@ -1,6 +1,7 @@
 -- When a function follows a source, that is, refines it: its shape, and its runs from every start state.
 use Rattle.std.specs.Prelude.{◌≡◌, ◌⊎◌, ℕ, ◌+◌, ◌*◌, ◌%◌, ◌^◌, ◌<◌, ◌≤◌, List, [], ◌∷◌, length, All, Contains, Option, Some, None, true, false, slice_get}
-use Rattle.rv64_instr.specs.Row.{Row, Fixes, Moves, Sets, Addresses, Loads, Stores, LoadsSlot, StoresSlot, Branches, Jumps, Calls, Returns, Unfit, row_of}
+use Rattle.rv64_instr.specs.Row.{Row, Branches, Jumps, Returns, row_of}
+use Rattle.rv64_instr.specs.View.{Literal, OfRegister, OfSlot, Write, SetsRegister, SetsSlot, write_of, Class, Branch, Return, class_of}
 use Rattle.rv64_instr.specs.Parts.{IsSlotStore}
 use Rattle.mir_func.specs.declared.position.Pos.{Pos}
 use Rattle.mir_func.specs.declared.position.Origin.{Origin}
@@ -8,6 +9,9 @@ use Rattle.mir_func.specs.declared.position.Origin.TheVariants.{Kept, Before}
 use Rattle.mir_func.specs.declared.block.Block.{Block}
 use Rattle.mir_func.specs.declared.debug_substitution.OperandPair.{OperandPair}
 use Rattle.mir_func.specs.declared.object.Object.{Object}
+use Rattle.mir_func.specs.declared.exit.Exit.{Exit}
+use Rattle.mir_func.specs.declared.exit.Exit.TheVariants.{Onward, Perhaps, Always, Final}
+use Rattle.mir_func.specs.Exits.{row_exit}
 use Rattle.mir_func.specs.Limits.{FRAME_ROOM}
 use Rattle.mir_func.specs.Objects.{area_of, offset_of}
 use Rattle.mir_func.specs.declared.item.Item.{Item}
@@ -19,47 +23,24 @@ use Rattle.sem_mir.specs.State.{IsReply, State, content}
 use Rattle.mir_func.specs.Graph.{Fetch, Here, EndOfBlock, Program, below, block_start, program_of, Edge, Leads}
 use Rattle.sem_mir.specs.Align.{position_of, ByItems, ByEnds, sync_point_at, AnyOrigin, RunsMatch}
 
--- classes of instructions. A kept instruction keeps its class
-pub data Class : Type 0 where
-  Branch : Class
-  Call : Class
-  Return : Class
-  Store : Class
-  Plain : Class
-  Odd : Class
+-- code that sets this may be added before position `item` of a block that ends at index `source_end`: slot loads and constant definitions before
+-- its end, and slot stores anywhere
+abbrev pub MayAddWrite : Write → (item source_end : ℕ) → Type 0
+MayAddWrite (SetsRegister rd (Literal n)) k source_end = k < source_end
+MayAddWrite (SetsRegister rd (OfSlot n)) k source_end = k < source_end
+MayAddWrite (SetsSlot n rs) k source_end = Unit {0}
+MayAddWrite _ k source_end = ⊥
 
--- the class of a row. A store to a spill slot is plain, not a store to memory
-abbrev pub class_of : Row → Class
-class_of (Branches op a b target) = Branch
-class_of (Jumps target) = Branch
-class_of (Calls name args) = Call
-class_of (Returns results) = Return
-class_of (Stores op rs base offset) = Store
-class_of (Fixes rd n) = Plain
-class_of (Moves rd rs) = Plain
-class_of (Sets rd op a b) = Plain
-class_of (Addresses rd n offset) = Plain
-class_of (Loads rd op base offset) = Plain
-class_of (LoadsSlot rd n) = Plain
-class_of (StoresSlot rs n) = Plain
-class_of Unfit = Odd
+-- code of this exit that sets this may be added there: also an unconditional branch at the block's end
+abbrev pub MayAddExit : Exit → Write → (item source_end : ℕ) → Type 0
+MayAddExit Onward w k source_end = MayAddWrite w k source_end
+MayAddExit (Perhaps n) w k source_end = ⊥
+MayAddExit (Always n) w k source_end = k ≡ source_end
+MayAddExit Final w k source_end = ⊥
 
--- code that may be added before position `item` of a block that ends at index `source_end`: slot loads and constant definitions before
--- its end, slot stores anywhere, and unconditional branches at its end
+-- code of this row may be added there
 abbrev pub MayAdd : Row → (item source_end : ℕ) → Type 0
-MayAdd (LoadsSlot rd n) k source_end = k < source_end
-MayAdd (Fixes rd n) k source_end = k < source_end
-MayAdd (StoresSlot rs n) k source_end = Unit {0}
-MayAdd (Jumps target) k source_end = k ≡ source_end
-MayAdd (Moves rd rs) k source_end = ⊥
-MayAdd (Sets rd op a b) k source_end = ⊥
-MayAdd (Addresses rd n offset) k source_end = ⊥
-MayAdd (Loads rd op base offset) k source_end = ⊥
-MayAdd (Stores op rs base offset) k source_end = ⊥
-MayAdd (Branches op a b target) k source_end = ⊥
-MayAdd (Calls name args) k source_end = ⊥
-MayAdd (Returns results) k source_end = ⊥
-MayAdd Unfit k source_end = ⊥
+MayAdd row k source_end = MayAddExit (row_exit row) (write_of row) k source_end
 
 -- the item is code of the row's class
 abbrev pub ItemHasClass : Row → ItemKind → Type 0
@@ -120,37 +101,32 @@ abbrev pub OnRow : (Row → Type 0) → ItemKind → Type 0
 OnRow P (Code c k) = P (row_of c)
 OnRow P _ = ⊥
 
+-- control goes to block n, perhaps or always
+abbrev pub ExitsTo : ℕ → Exit → Type 0
+ExitsTo n Onward = ⊥
+ExitsTo n (Perhaps target) = target ≡ n
+ExitsTo n (Always target) = target ≡ n
+ExitsTo n Final = ⊥
+
 -- a conditional or unconditional branch to block n
 abbrev pub GoesTo : ℕ → Row → Type 0
-GoesTo n (Branches op a b target) = target ≡ n
-GoesTo n (Jumps target) = target ≡ n
-GoesTo block (Fixes rd n) = ⊥
-GoesTo block (Moves rd rs) = ⊥
-GoesTo block (Sets rd op a b) = ⊥
-GoesTo block (Addresses rd n offset) = ⊥
-GoesTo block (Loads rd op base offset) = ⊥
-GoesTo block (Stores op rs base offset) = ⊥
-GoesTo block (LoadsSlot rd n) = ⊥
-GoesTo block (StoresSlot rs n) = ⊥
-GoesTo block (Calls name args) = ⊥
-GoesTo block (Returns results) = ⊥
-GoesTo block Unfit = ⊥
+GoesTo n row = ExitsTo n (row_exit row)
+
+-- no copy of a register to itself
+abbrev pub IsNoSelfCopy : Write → Type 0
+IsNoSelfCopy (SetsRegister rd (OfRegister rs)) = rd ≡ rs → ⊥
+IsNoSelfCopy _ = Unit {0}
+
+-- no branch, and no copy of a register to itself
+abbrev pub CountsBy : Exit → Write → Type 0
+CountsBy Onward w = IsNoSelfCopy w
+CountsBy (Perhaps n) w = ⊥
+CountsBy (Always n) w = ⊥
+CountsBy Final w = Unit {0}
 
 -- code other than a branch or a copy of a register to itself
 abbrev pub Counts : Row → Type 0
-Counts (Branches op a b target) = ⊥
-Counts (Jumps target) = ⊥
-Counts (Moves rd rs) = rd ≡ rs → ⊥
-Counts (Fixes rd n) = Unit {0}
-Counts (Sets rd op a b) = Unit {0}
-Counts (Addresses rd n offset) = Unit {0}
-Counts (Loads rd op base offset) = Unit {0}
-Counts (Stores op rs base offset) = Unit {0}
-Counts (LoadsSlot rd n) = Unit {0}
-Counts (StoresSlot rs n) = Unit {0}
-Counts (Calls name args) = Unit {0}
-Counts (Returns results) = Unit {0}
-Counts Unfit = Unit {0}
+Counts row = CountsBy (row_exit row) (write_of row)
 
 -- the item at q is code other than a branch or a copy of a register to itself, its origin isn't the end of p's block, and it is
 -- earlier in p's block or reachable from p
@@ -206,21 +182,15 @@ SameEnd (Jumps t) (Jumps t') = t ≡ t'
 SameEnd (Returns v) (Returns w) = Unit {0}
 SameEnd _ _ = ⊥
 
+-- the class of terminators
+abbrev pub IsEndClass : Class → Type 0
+IsEndClass Branch = Unit {0}
+IsEndClass Return = Unit {0}
+IsEndClass _ = ⊥
+
 -- a terminator: a branch, a jump or a return
 abbrev pub IsEnd : Row → Type 0
-IsEnd (Branches op a b target) = Unit {0}
-IsEnd (Jumps target) = Unit {0}
-IsEnd (Returns results) = Unit {0}
-IsEnd (Fixes rd n) = ⊥
-IsEnd (Moves rd rs) = ⊥
-IsEnd (Sets rd op a b) = ⊥
-IsEnd (Addresses rd n offset) = ⊥
-IsEnd (Loads rd op base offset) = ⊥
-IsEnd (Stores op rs base offset) = ⊥
-IsEnd (LoadsSlot rd n) = ⊥
-IsEnd (StoresSlot rs n) = ⊥
-IsEnd (Calls name args) = ⊥
-IsEnd Unfit = ⊥
+IsEnd row = IsEndClass (class_of row)
 
 -- both items are code, and the same terminator up to its registers
 abbrev pub KindsEndAlike : ItemKind → ItemKind → Type 0

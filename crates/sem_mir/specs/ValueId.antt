@@ -1,11 +1,12 @@
 -- Which values are in which locations: value numbers along a path, and what is true of them on every path.
-use Rattle.std.specs.Prelude.{◌≡◌, ℕ, pos, negsuc, zero, suc, ◌<◌, List, [], ◌∷◌, Option, Some, None, Bool, cond, not, ◌&&◌, nat_eq, nat_lt, slice_get}
+use Rattle.std.specs.Prelude.{◌≡◌, ℕ, zero, suc, List, [], ◌∷◌, Option, Some, None, Bool, cond, not, ◌&&◌, nat_eq, nat_lt, slice_get}
 use Rattle.std.specs.List.{list_any}
 use Rattle.rv64_instr.specs.declared.operand.Operand.{Operand}
 use Rattle.rv64_instr.specs.declared.place.Place.{Place}
 use Rattle.rv64_instr.specs.declared.place.Place.TheVariants.{Register, Slot, Const}
 use Rattle.rv64_instr.specs.Arithmetic.{word}
-use Rattle.rv64_instr.specs.Row.{Row, Fixes, Moves, Sets, Addresses, Loads, Stores, LoadsSlot, StoresSlot, Branches, Jumps, Calls, Returns, Unfit, row_of}
+use Rattle.rv64_instr.specs.Row.{Row, row_of}
+use Rattle.rv64_instr.specs.View.{Value, Literal, OfRegister, OfSlot, Computed, Write, SetsNothing, SetsRegister, SetsSlot, Clobbers, write_of}
 use Rattle.rv64_instr.specs.Parts.{is_call}
 use Rattle.rv64_instr.specs.DefsAndUses.{caller_saved, sets}
 use Rattle.mir_func.specs.declared.debug_substitution.OperandPair.{OperandPair}
@@ -49,22 +50,24 @@ abbrev pub make_all : (index : ℕ) → List ℕ → (ℕ → Option Token) → 
 make_all n [] regs = regs
 make_all n (r ∷ rs) regs = make_all n rs (put_token r (Some (Made n r)) regs)
 
+-- the token of a value that register rd is set to at an index of the path: a result's is new
+abbrev pub value_token : (index rd : ℕ) → Value → Tokens → Option Token
+value_token n rd (Literal c) t = Some (Fixed c)
+value_token n rd (OfRegister rs) t = register_token t.regs rs
+value_token n rd (OfSlot k) t = t.slots k
+value_token n rd Computed t = Some (Made n rd)
+
+-- the tokens after this is set at an index of the path
+abbrev pub written_tokens : (index : ℕ) → Write → Tokens → Tokens
+written_tokens n SetsNothing t = t
+written_tokens n (SetsRegister rd value) t = record t { regs = put_token rd (value_token n rd value t) t.regs }
+written_tokens n (SetsSlot k rs) t = record t { slots = updated k (register_token t.regs rs) t.slots }
+written_tokens n Clobbers t = record t { regs = make_all n caller_saved t.regs }
+
 -- the transfer function of an instruction at an index of the path, on registers and slots: a constant definition sets
 -- the token of its number, copies, slot loads and slot stores pass tokens on, and every other definition creates one
 unfoldable pub moved_tokens : (index : ℕ) → Row → Tokens → Tokens
-moved_tokens n (Fixes rd c) t = record t { regs = put_token rd (Some (Fixed c)) t.regs }
-moved_tokens n (Moves rd rs) t = record t { regs = put_token rd (register_token t.regs rs) t.regs }
-moved_tokens n (Sets rd op a b) t = record t { regs = put_token rd (Some (Made n rd)) t.regs }
-moved_tokens n (Addresses rd k offset) t = record t { regs = put_token rd (Some (Made n rd)) t.regs }
-moved_tokens n (Loads rd op base offset) t = record t { regs = put_token rd (Some (Made n rd)) t.regs }
-moved_tokens n (LoadsSlot rd k) t = record t { regs = put_token rd (t.slots k) t.regs }
-moved_tokens n (StoresSlot rs k) t = record t { slots = updated k (register_token t.regs rs) t.slots }
-moved_tokens n (Calls name args) t = record t { regs = make_all n caller_saved t.regs }
-moved_tokens n (Stores op rs base offset) t = t
-moved_tokens n (Branches op a b target) t = t
-moved_tokens n (Jumps target) t = t
-moved_tokens n (Returns results) t = t
-moved_tokens n Unfit t = t
+moved_tokens n row t = written_tokens n (write_of row) t
 
 -- whether the row sets x2: then each slot loses its token, since slots are addressed from x2
 abbrev pub sets_pointer : Row → Bool

@@ -20,7 +20,8 @@ use Rattle.sem_mir.specs.Step.{do_item}
 use Rattle.rv64_instr.specs.Parts.{is_call}
 use Rattle.mir_func.specs.Graph.{Program, Fetch, Here, EndOfBlock, Outside}
 use Rattle.sem_mir.specs.Align.{position_of, Count, Since}
-use Rattle.sem_mir.specs.Follow.{class_of, Return, MayAdd, ItemHasClass, HasClass, KindFits, MarkFits, rank, next_rank, InOrder, IsStart, OnRow}
+use Rattle.sem_mir.specs.Follow.{MayAdd, ItemHasClass, HasClass, KindFits, MarkFits, rank, next_rank, InOrder, IsStart, OnRow}
+use Rattle.rv64_instr.specs.View.{class_of, Return}
 use Rattle.sem_simulation.specs.MatchStates.{since_item}
 use Rattle.sem_simulation.specs.Refinement.{FaultsAt}
 use Rattle.sem_simulation.specs.InPlace.{ShowsNoMore, IsNoReturn, IsIdleAt}

@@ -28,7 +28,8 @@ use Rattle.sem_mir.specs.Step.{act, with_core, numbered, do_item, do_fetch, step
 use Rattle.rv64_instr.specs.Parts.{is_call}
 use Rattle.mir_func.specs.Graph.{Program, Fetch, Here, EndOfBlock, Outside}
 use Rattle.sem_mir.specs.Align.{Arrives, here, onward}
-use Rattle.sem_mir.specs.Follow.{class_of, Return, IsStart, OnRow}
+use Rattle.sem_mir.specs.Follow.{IsStart, OnRow}
+use Rattle.rv64_instr.specs.View.{class_of, Return}
 use Rattle.sem_simulation.specs.Refinement.{FaultsAt}
 use Rattle.sem_simulation.proofs.Outcomes.{faults_traps}
 use Rattle.sem_mir.specs.Effects.{OnCore}

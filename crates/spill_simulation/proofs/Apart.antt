@@ -23,7 +23,8 @@ use Rattle.mir_func.specs.declared.item.Item.{Item}
 use Rattle.mir_func.specs.declared.item.ItemKind.TheVariants.{Code}
 use Rattle.mir_func.specs.Graph.{Program, below, Leads, stay, go}
 use Rattle.sem_mir.specs.Align.{position_of}
-use Rattle.sem_mir.specs.Follow.{Plain, class_of, OnRow, Counts}
+use Rattle.sem_mir.specs.Follow.{OnRow, Counts}
+use Rattle.rv64_instr.specs.View.{Plain, class_of}
 use Rattle.sem_mir.specs.Live.{Live, used, later, Uses}
 use Rattle.sem_mir.proofs.Places.{contains_head, contains_tail}
 use Rattle.spill_code.specs.declared.spilling.Spilling.{Spilling}

@@ -21,7 +21,8 @@ use Rattle.mir_func.specs.declared.item.ItemKind.TheVariants.{Code, Mark, Phi}
 use Rattle.mir_func.specs.Graph.{Program, Fetch, Here, below, block_start, Edge, FetchEdge}
 use Rattle.sem_mir.specs.Align.{is_code, is_jump_row}
 use Rattle.sem_mir.specs.Effects.{OnCore}
-use Rattle.sem_mir.specs.Follow.{Plain, class_of, HasClass, ItemHasClass}
+use Rattle.sem_mir.specs.Follow.{HasClass, ItemHasClass}
+use Rattle.rv64_instr.specs.View.{Plain, class_of}
 use Rattle.sem_mir.specs.Live.{Live, used, later, Uses, Defines, KindUses, KindDefines}
 use Rattle.sem_mir.specs.State.{Core, State}
 use Rattle.sem_mir.specs.Step.{Outcome, Falls, Goes, Gives, Traps, Asks, Breaks, Went}

@@ -26,7 +26,8 @@ use Rattle.mir_func.specs.Graph.{Program, Here, below, block_start, program_of, 
 use Rattle.mir_func.specs.Sound.{SlotIn, SlotsIn, OriginIn}
 use Rattle.sem_mir.specs.Align.{position_of, is_code, is_jump, is_jump_row, Count, moves_on, waits_at, sync_point_at, IsOrigin, Since, Same, After, since_of}
 use Rattle.sem_mir.specs.Effects.{EndAlike}
-use Rattle.sem_mir.specs.Follow.{Plain, class_of, first_of, MayAdd, KindFits, RowFits, HasClass, InOrder, next_rank, rank}
+use Rattle.sem_mir.specs.Follow.{first_of, MayAdd, KindFits, RowFits, HasClass, InOrder, next_rank, rank}
+use Rattle.rv64_instr.specs.View.{Plain, class_of}
 use Rattle.sem_mir.specs.Live.{Live}
 use Rattle.sem_mir.specs.State.{Core, State, content, updated}
 use Rattle.sem_mir.specs.Step.{Outcome, Falls, Goes, Gives, Traps, Asks, Breaks, with_core, do_item, set_register}
