@@ -5,7 +5,8 @@ use Rattle.rv64_instr.specs.declared.place.Place.{Place}
 use Rattle.rv64_instr.specs.declared.place.Place.TheVariants.{Register, Slot, Const}
 use Rattle.rv64_instr.specs.Arithmetic.{word}
 use Rattle.rv64_instr.specs.Instruction.{Instruction}
-use Rattle.rv64_instr.specs.Row.{Row, Fixes, Moves, Sets, Addresses, Loads, Stores, LoadsSlot, StoresSlot, Branches, Jumps, Calls, Returns, Unfit, row_of}
+use Rattle.rv64_instr.specs.Row.{Row, row_of}
+use Rattle.rv64_instr.specs.View.{Value, Literal, OfRegister, OfSlot, Computed, Write, SetsNothing, SetsRegister, SetsSlot, Clobbers, write_of}
 use Rattle.rv64_instr.specs.DefsAndUses.{caller_saved}
 use Rattle.rv64_instr.specs.Parts.{is_call}
 use Rattle.mir_func.specs.declared.debug_substitution.OperandPair.{OperandPair}
@@ -56,37 +57,32 @@ put_back rd b zero = Was (InRegister zero)
 put_back zero b (suc r) = Was (InRegister (suc r))
 put_back (suc rd) b (suc r) = cond (nat_eq (suc r) (suc rd)) (cond (nat_eq rd 1) Nameless b) (Was (InRegister (suc r)))
 
+-- where the token of a value comes from that register rd is set to by the item at an index
+abbrev pub value_back : (index rd : ℕ) → Value → Back
+value_back i rd (Literal c) = Was (OfNumber c)
+value_back i rd (OfRegister rs) = Was (InRegister rs)
+value_back i rd (OfSlot n) = Was (InSlot n)
+value_back i rd Computed = New i rd
+
+-- a register pulled back over what code sets
+abbrev pub register_back : (index : ℕ) → Write → (r : ℕ) → Back
+register_back i SetsNothing r = Was (InRegister r)
+register_back i (SetsRegister rd value) r = put_back rd (value_back i rd value) r
+register_back i (SetsSlot n rs) r = Was (InRegister r)
+register_back i Clobbers r = cond (list_any (λ q. nat_eq r q) caller_saved) (New i r) (Was (InRegister r))
+
 -- a register pulled back over code of a row
 abbrev pub back_register : (index : ℕ) → Row → (r : ℕ) → Back
-back_register i (Fixes rd c) r = put_back rd (Was (OfNumber c)) r
-back_register i (Moves rd rs) r = put_back rd (Was (InRegister rs)) r
-back_register i (Sets rd op a b) r = put_back rd (New i rd) r
-back_register i (Addresses rd n offset) r = put_back rd (New i rd) r
-back_register i (Loads rd op base offset) r = put_back rd (New i rd) r
-back_register i (Stores op rs base offset) r = Was (InRegister r)
-back_register i (LoadsSlot rd n) r = put_back rd (Was (InSlot n)) r
-back_register i (StoresSlot rs n) r = Was (InRegister r)
-back_register i (Branches op a b target) r = Was (InRegister r)
-back_register i (Jumps target) r = Was (InRegister r)
-back_register i (Calls name args) r = cond (list_any (λ q. nat_eq r q) caller_saved) (New i r) (Was (InRegister r))
-back_register i (Returns results) r = Was (InRegister r)
-back_register i Unfit r = Was (InRegister r)
+back_register i row r = register_back i (write_of row) r
+
+-- a slot pulled back over what code sets, if that isn't x2
+abbrev pub slot_back : Write → (k : ℕ) → Back
+slot_back (SetsSlot n rs) k = cond (nat_eq k n) (Was (InRegister rs)) (Was (InSlot k))
+slot_back _ k = Was (InSlot k)
 
 -- a slot pulled back over code of a row that doesn't write x2
 abbrev pub slot_stored : Row → (k : ℕ) → Back
-slot_stored (StoresSlot rs n) k = cond (nat_eq k n) (Was (InRegister rs)) (Was (InSlot k))
-slot_stored (Fixes rd c) k = Was (InSlot k)
-slot_stored (Moves rd rs) k = Was (InSlot k)
-slot_stored (Sets rd op a b) k = Was (InSlot k)
-slot_stored (Addresses rd n offset) k = Was (InSlot k)
-slot_stored (Loads rd op base offset) k = Was (InSlot k)
-slot_stored (Stores op rs base offset) k = Was (InSlot k)
-slot_stored (LoadsSlot rd n) k = Was (InSlot k)
-slot_stored (Branches op a b target) k = Was (InSlot k)
-slot_stored (Jumps target) k = Was (InSlot k)
-slot_stored (Calls name args) k = Was (InSlot k)
-slot_stored (Returns results) k = Was (InSlot k)
-slot_stored Unfit k = Was (InSlot k)
+slot_stored row k = slot_back (write_of row) k
 
 -- a slot pulled back over code of a row: a write of x2 takes each slot's token
 abbrev pub back_slot : Row → (k : ℕ) → Back
