@@ -96,19 +96,8 @@ answered name args s (r ∷ rest) =
 
 -- the name and the argument registers of a call
 abbrev pub call_of : Row → Option (List ℕ × List ℕ)
-call_of (Fixes rd n) = None
-call_of (Moves rd rs) = None
-call_of (Sets rd op a b) = None
-call_of (Addresses rd n offset) = None
-call_of (Loads rd op base offset) = None
-call_of (Stores op rs base offset) = None
-call_of (LoadsSlot rd n) = None
-call_of (StoresSlot rs n) = None
-call_of (Branches op a b target) = None
-call_of (Jumps target) = None
 call_of (Calls name args) = Some (name, args)
-call_of (Returns results) = None
-call_of Unfit = None
+call_of _ = None
 
 -- the step at a line: a call site calls, and any other line runs the word at the counter
 abbrev pub does_line : Image → CodeLine → (call : Option (List ℕ × List ℕ)) → Machine → Stepped
