@@ -8,10 +8,10 @@ use Rattle.rv64_instr.specs.declared.operand.Operand.{Operand}
 use Rattle.rv64_instr.specs.declared.operand.Operand.TheVariants.{Def, Use, ImplicitDef, ImplicitUse, Imm, Slot, Object, Block as OfBlock, Symbol, Mask}
 use Rattle.rv64_instr.specs.declared.place.Place.{Place}
 use Rattle.rv64_instr.specs.declared.place.Place.TheVariants as places
-use Rattle.rv64_instr.specs.Arithmetic.{load_width, store_width}
 use Rattle.rv64_instr.specs.Form.{has_form}
 use Rattle.rv64_instr.specs.Instruction.{Instruction}
-use Rattle.rv64_instr.specs.Row.{Row, Fixes, Moves, Sets, Addresses, Loads, Stores, LoadsSlot, StoresSlot, Branches, Jumps, Calls, Returns, Unfit, row_of}
+use Rattle.rv64_instr.specs.Row.{Row, row_of}
+use Rattle.rv64_instr.specs.View.{Access, NoAccess, SlotAccess, MemoryAccess, ObjectAddress, access_of}
 use Rattle.mir_func.specs.declared.block.Block.{Block}
 use Rattle.mir_func.specs.declared.item.Item.{Item}
 use Rattle.mir_func.specs.declared.item.ItemKind.{ItemKind}
@@ -81,21 +81,16 @@ abbrev pub base_has_bytes : List func.Object → Base → ℕ → Bool
 base_has_bytes objects (PointedBy r) bytes = true
 base_has_bytes objects (ObjectAt n) bytes = has_bytes objects n bytes
 
--- whether an instruction's access is within its object. An address computed in an object may be at most its end.
+-- whether an access is within its object. An address computed in an object may be at most its end.
+abbrev pub access_stays : List func.Object → Access → Bool
+access_stays objects NoAccess = true
+access_stays objects (SlotAccess n) = true
+access_stays objects (MemoryAccess base offset width) = base_has_bytes objects base (offset + width)
+access_stays objects (ObjectAddress n offset) = has_bytes objects n offset
+
+-- whether an instruction's access is within its object
 abbrev pub row_stays : List func.Object → Row → Bool
-row_stays objects (Addresses rd n offset) = has_bytes objects n offset
-row_stays objects (Loads rd op base offset) = base_has_bytes objects base (offset + load_width op)
-row_stays objects (Stores op rs base offset) = base_has_bytes objects base (offset + store_width op)
-row_stays objects (Fixes rd n) = true
-row_stays objects (Moves rd rs) = true
-row_stays objects (Sets rd op a b) = true
-row_stays objects (LoadsSlot rd n) = true
-row_stays objects (StoresSlot rs n) = true
-row_stays objects (Branches op a b target) = true
-row_stays objects (Jumps target) = true
-row_stays objects (Calls name args) = true
-row_stays objects (Returns results) = true
-row_stays objects Unfit = true
+row_stays objects row = access_stays objects (access_of row)
 
 -- whether the access of an item, if it has one, is within its object
 abbrev pub kind_stays : List func.Object → ItemKind → Bool
