@@ -5,23 +5,19 @@ use Rattle.rv64_instr.specs.declared.operand.Operand.{Operand}
 use Rattle.rv64_instr.specs.declared.place.Place.{Place}
 use Rattle.rv64_instr.specs.declared.place.Place.TheVariants.{Register, Slot, Const}
 use Rattle.rv64_instr.specs.Parts.{is_implicit_use}
-use Rattle.rv64_instr.specs.Row.{Row, Fixes, Moves, Sets, Addresses, Loads, Stores, LoadsSlot, StoresSlot, Branches, Jumps, Calls, Returns, Unfit}
+use Rattle.rv64_instr.specs.Row.{Row}
+use Rattle.rv64_instr.specs.View.{Write, SetsNothing, SetsRegister, SetsSlot, Clobbers, write_of}
 
--- the place that the row sets, if it sets one by an explicit operand; x0 too. A call sets its registers otherwise
+-- the place that a write sets; x0 too. A call sets its registers otherwise
+abbrev pub place_written : Write → Option Place
+place_written SetsNothing = None
+place_written (SetsRegister rd value) = Some (Register rd)
+place_written (SetsSlot n rs) = Some (Slot n)
+place_written Clobbers = None
+
+-- the place that the row sets, if it sets one by an explicit operand
 abbrev pub place_defined : Row → Option Place
-place_defined (Fixes rd n) = Some (Register rd)
-place_defined (Moves rd rs) = Some (Register rd)
-place_defined (Sets rd op a b) = Some (Register rd)
-place_defined (Addresses rd n offset) = Some (Register rd)
-place_defined (Loads rd op base offset) = Some (Register rd)
-place_defined (Stores op rs base offset) = None
-place_defined (LoadsSlot rd n) = Some (Register rd)
-place_defined (StoresSlot rs n) = Some (Slot n)
-place_defined (Branches op a b target) = None
-place_defined (Jumps target) = None
-place_defined (Calls name args) = None
-place_defined (Returns results) = None
-place_defined Unfit = None
+place_defined row = place_written (write_of row)
 
 -- the place is one of these registers
 abbrev pub is_among : Place → List ℕ → Bool
