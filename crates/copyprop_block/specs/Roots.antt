@@ -4,7 +4,8 @@ use Rattle.rv64_instr.specs.declared.operand.Operand.{Operand}
 use Rattle.rv64_instr.specs.declared.operand.Operand.TheVariants.{Def, Use, ImplicitDef, ImplicitUse, Imm, Slot, Object, Block, Symbol, Mask}
 use Rattle.rv64_instr.specs.declared.place.Place.TheVariants.{Register}
 use Rattle.rv64_instr.specs.Instruction.{Instruction}
-use Rattle.rv64_instr.specs.Row.{Row, Fixes, Moves, Sets, Addresses, Loads, Stores, LoadsSlot, StoresSlot, Branches, Jumps, Calls, Returns, Unfit}
+use Rattle.rv64_instr.specs.Row.{Row, Moves}
+use Rattle.rv64_instr.specs.View.{OfRegister, Write, SetsRegister, write_of}
 use Rattle.rv64_instr.specs.Parts.{defines_of}
 use Rattle.copyprop_block.specs.declared.roots.Root.{Root}
 
@@ -43,22 +44,19 @@ outlives row e = not (defines_of row (Register e.copy)) && not (defines_of row (
 abbrev pub forgotten : Row → List Root → List Root
 forgotten row e = filter (outlives row) e
 
+-- with one entry more, for a copy into a register that isn't x0
+abbrev pub with_copy : (rd rs : ℕ) → List Root → List Root
+with_copy zero rs e = e
+with_copy (suc rd) rs e = e ++ record { copy = suc rd; root = rs } ∷ []
+
+-- with the entry of what is set, if that is a copy
+abbrev pub with_write : Write → List Root → List Root
+with_write (SetsRegister rd (OfRegister rs)) e = with_copy rd rs e
+with_write _ e = e
+
 -- with one entry more, if the row is a copy whose target isn't x0
 abbrev pub learned : Row → List Root → List Root
-learned (Moves (suc rd) s) e = e ++ record { copy = suc rd; root = s } ∷ []
-learned (Moves zero s) e = e
-learned (Fixes rd n) e = e
-learned (Sets rd op a b) e = e
-learned (Addresses rd n offset) e = e
-learned (Loads rd op base offset) e = e
-learned (Stores op rs base offset) e = e
-learned (LoadsSlot rd n) e = e
-learned (StoresSlot rs n) e = e
-learned (Branches op a b target) e = e
-learned (Jumps target) e = e
-learned (Calls name args) e = e
-learned (Returns results) e = e
-learned Unfit e = e
+learned row e = with_write (write_of row) e
 
 -- the available copies after code of a row that is kept
 abbrev pub roots_after : Row → List Root → List Root
