@@ -3,7 +3,8 @@ use Rattle.std.specs.Prelude.{ℕ, zero, suc, cond, nat_eq, Option, Some, None}
 use Rattle.rv64_instr.specs.declared.place.Place.{Place}
 use Rattle.rv64_instr.specs.declared.place.Place.TheVariants.{Register, Slot, Const}
 use Rattle.rv64_instr.specs.Parts.{defines_of}
-use Rattle.rv64_instr.specs.Row.{Row, Fixes, Moves, Sets, Addresses, Loads, Stores, LoadsSlot, StoresSlot, Branches, Jumps, Calls, Returns, Unfit, row_of}
+use Rattle.rv64_instr.specs.Row.{Row, row_of}
+use Rattle.rv64_instr.specs.View.{Literal, Write, SetsRegister, SetsSlot, write_of}
 use Rattle.mir_func.specs.declared.item.ItemKind.{ItemKind}
 use Rattle.mir_func.specs.declared.item.ItemKind.TheVariants.{Code, Mark, Phi}
 
@@ -36,23 +37,21 @@ with_slot s n known (Register q) = known (Register q)
 with_slot s n known (Slot t) = cond (nat_eq s t) n (known (Slot t))
 with_slot s n known (Const c) = known (Const c)
 
+-- with the value of a register that is set to a number, except x0
+abbrev pub with_literal : (rd n : ℕ) → Known → Known
+with_literal zero n known = known
+with_literal (suc rd) n known = with_register (suc rd) (Some n) known
+
+-- with the value of what is set, if it is known
+abbrev pub with_write : Write → Known → Known
+with_write (SetsRegister rd (Literal n)) known = with_literal rd n known
+with_write (SetsSlot s rs) known = with_slot s (number_in known rs) known
+with_write _ known = known
+
 -- the known values after a row, once those of what it sets are removed: a constant definition adds the value of its
 -- register, except x0, and a store into a slot adds that of the slot, if the stored value is known
 abbrev pub learned : Row → Known → Known
-learned (Fixes zero n) known = known
-learned (Fixes (suc rd) n) known = with_register (suc rd) (Some n) known
-learned (StoresSlot rs s) known = with_slot s (number_in known rs) known
-learned (Moves rd rs) known = known
-learned (Sets rd op a b) known = known
-learned (Addresses rd n offset) known = known
-learned (Loads rd op base offset) known = known
-learned (Stores op rs base offset) known = known
-learned (LoadsSlot rd n) known = known
-learned (Branches op a b target) known = known
-learned (Jumps target) known = known
-learned (Calls name args) known = known
-learned (Returns results) known = known
-learned Unfit known = known
+learned row known = with_write (write_of row) known
 
 -- the known values after an item; debug items change nothing
 abbrev pub known_past : ItemKind → Known → Known

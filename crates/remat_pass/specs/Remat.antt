@@ -8,7 +8,8 @@ use Rattle.rv64_instr.specs.declared.place.Place.TheVariants.{Slot}
 use Rattle.rv64_instr.specs.Arithmetic.{signed}
 use Rattle.rv64_instr.specs.Form.{has_12_bits, is_implicit}
 use Rattle.rv64_instr.specs.Instruction.{Instruction}
-use Rattle.rv64_instr.specs.Row.{Row, Fixes, Moves, Sets, Addresses, Loads, Stores, LoadsSlot, StoresSlot, Branches, Jumps, Calls, Returns, Unfit, row_of}
+use Rattle.rv64_instr.specs.Row.{Row, row_of}
+use Rattle.rv64_instr.specs.View.{OfRegister, OfSlot, Write, SetsRegister, write_of}
 use Rattle.mir_func.specs.declared.item.Item.{Item}
 use Rattle.mir_func.specs.declared.item.ItemKind.{ItemKind}
 use Rattle.mir_func.specs.declared.item.ItemKind.TheVariants.{Code, Mark, Phi}
@@ -34,22 +35,20 @@ abbrev pub set_to : (rd : ℕ) → Option ℕ → Option Constant
 set_to rd None = None
 set_to rd (Some n) = Some (record { register = rd; number = n })
 
+-- the constant that a copy from rs sets, if the number is known: none into x0
+abbrev pub copied_constant : Known → (rd rs : ℕ) → Option Constant
+copied_constant known zero rs = None
+copied_constant known (suc rd) rs = set_to (suc rd) (number_in known rs)
+
+-- the known constant that a write sets by a copy or a slot load
+abbrev pub constant_written : Known → Write → Option Constant
+constant_written known (SetsRegister rd (OfRegister rs)) = copied_constant known rd rs
+constant_written known (SetsRegister rd (OfSlot n)) = set_to rd (known (Slot n))
+constant_written known _ = None
+
 -- the known constant that code sets by a copy, except into x0, or by a slot load
 abbrev pub constant_set : Known → Row → Option Constant
-constant_set known (Moves zero rs) = None
-constant_set known (Moves (suc rd) rs) = set_to (suc rd) (number_in known rs)
-constant_set known (LoadsSlot rd n) = set_to rd (known (Slot n))
-constant_set known (Fixes rd n) = None
-constant_set known (Sets rd op a b) = None
-constant_set known (Addresses rd n offset) = None
-constant_set known (Loads rd op base offset) = None
-constant_set known (Stores op rs base offset) = None
-constant_set known (StoresSlot rs n) = None
-constant_set known (Branches op a b target) = None
-constant_set known (Jumps target) = None
-constant_set known (Calls name args) = None
-constant_set known (Returns results) = None
-constant_set known Unfit = None
+constant_set known row = constant_written known (write_of row)
 
 -- the instruction replaced by a constant definition, which keeps its implicit operands
 abbrev pub set_or_same : Option Constant → Instruction → Instruction
