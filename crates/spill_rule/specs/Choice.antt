@@ -3,7 +3,10 @@ use Rattle.std.specs.Prelude.{ℕ, ◌+◌, ◌-◌, List, [], ◌∷◌, ◌++�
 use Rattle.std.specs.Prelude.{take, length, Option, Some, None, Bool, true, false, cond, ◌&&◌, ◌||◌}
 use Rattle.std.specs.Prelude.{nat_eq, nat_lt}
 use Rattle.std.specs.List.{list_any}
-use Rattle.rv64_instr.specs.Row.{Row, Fixes, Moves, Sets, Addresses, Loads, Stores, LoadsSlot, StoresSlot, Branches, Jumps, Calls, Returns, Unfit, row_of}
+use Rattle.rv64_instr.specs.Row.{Row, row_of}
+use Rattle.mir_func.specs.declared.exit.Exit.{Exit}
+use Rattle.mir_func.specs.declared.exit.Exit.TheVariants.{Onward, Perhaps, Always, Final}
+use Rattle.mir_func.specs.Exits.{row_exit}
 use Rattle.mir_func.specs.declared.position.Origin.{Origin}
 use Rattle.mir_func.specs.declared.position.Origin.TheVariants.{Kept, Before}
 use Rattle.mir_func.specs.declared.item.Item.{Item}
@@ -36,21 +39,16 @@ binds r i = names r i.kind && (calls i.kind || is_added i.origin)
 abbrev pub is_bound : Function → ℕ → Bool
 is_bound f r = list_any (binds r) (items_of f.blocks)
 
+-- control goes to the block, perhaps or always
+abbrev pub exit_goes : ℕ → Exit → Bool
+exit_goes n Onward = false
+exit_goes n (Perhaps target) = nat_eq target n
+exit_goes n (Always target) = nat_eq target n
+exit_goes n Final = false
+
 -- the row is a branch or a jump to the block
 abbrev pub row_goes : ℕ → Row → Bool
-row_goes n (Branches op a b target) = nat_eq target n
-row_goes n (Jumps target) = nat_eq target n
-row_goes n (Fixes rd m) = false
-row_goes n (Moves rd rs) = false
-row_goes n (Sets rd op a b) = false
-row_goes n (Addresses rd m offset) = false
-row_goes n (Loads rd op base offset) = false
-row_goes n (Stores op rs base offset) = false
-row_goes n (LoadsSlot rd m) = false
-row_goes n (StoresSlot rs m) = false
-row_goes n (Calls name args) = false
-row_goes n (Returns results) = false
-row_goes n Unfit = false
+row_goes n row = exit_goes n (row_exit row)
 
 -- the item is a branch or a jump to the block
 abbrev pub goes : ℕ → ItemKind → Bool
