@@ -1,6 +1,10 @@
 -- Limits on a function's size for its layout.
-use Rattle.std.specs.Prelude.{ℕ, List, sum_by}
-use Rattle.rv64_instr.specs.Row.{Row, Fixes, Moves, Sets, Addresses, Loads, Stores, LoadsSlot, StoresSlot, Branches, Jumps, Calls, Returns, Unfit, row_of}
+use Rattle.std.specs.Prelude.{ℕ, Bool, cond, List, sum_by}
+use Rattle.rv64_instr.specs.Row.{Row, row_of}
+use Rattle.rv64_instr.specs.Parts.{is_call}
+use Rattle.mir_func.specs.declared.exit.Exit.{Exit}
+use Rattle.mir_func.specs.declared.exit.Exit.TheVariants.{Onward, Perhaps, Always, Final}
+use Rattle.mir_func.specs.Exits.{row_exit}
 use Rattle.mir_func.specs.declared.block.Block.{Block}
 use Rattle.mir_func.specs.declared.item.Item.{Item}
 use Rattle.mir_func.specs.declared.item.ItemKind.{ItemKind}
@@ -14,21 +18,16 @@ MAX_WORDS = 262144
 abbrev pub MAX_BASE : ℕ
 MAX_BASE = 4294967296
 
+-- an upper bound of the words of an instruction by its exit
+abbrev pub exit_words : Exit → (call : Bool) → ℕ
+exit_words Onward call = cond call 2 1
+exit_words (Perhaps n) call = 2
+exit_words (Always n) call = 1
+exit_words Final call = 1
+
 -- an upper bound of the words of an instruction by its row
 abbrev pub row_words : Row → ℕ
-row_words (Fixes rd n) = 1
-row_words (Moves rd rs) = 1
-row_words (Sets rd op a b) = 1
-row_words (Addresses rd n offset) = 1
-row_words (Loads rd op base offset) = 1
-row_words (Stores op rs base offset) = 1
-row_words (LoadsSlot rd n) = 1
-row_words (StoresSlot rs n) = 1
-row_words (Branches op a b target) = 2
-row_words (Jumps target) = 1
-row_words (Calls name args) = 2
-row_words (Returns results) = 1
-row_words Unfit = 1
+row_words row = exit_words (row_exit row) (is_call row)
 
 -- the count of an item by its kind: two for a conditional branch or a call, one for any other item
 abbrev pub kind_count : ItemKind → ℕ

@@ -6,10 +6,10 @@
 use Rattle.std.specs.Prelude.{ℕ, zero, suc, ◌+◌, ℤ, pos, ◌-ℤ◌, Bool, true, false, cond, List, [], ◌∷◌, ◌++◌, take, Option, Some, None}
 use Rattle.std.specs.List.{flat_map}
 use Rattle.rv64_instr.specs.Instruction.{Instruction}
-use Rattle.rv64_instr.specs.Row.{Row, Fixes, Moves, Sets, Addresses, Loads, Stores, LoadsSlot, StoresSlot, Branches, Jumps, Calls, Returns, Unfit, row_of}
+use Rattle.rv64_instr.specs.Row.{Row, row_of}
 use Rattle.rv64_word.specs.declared.machine_op.MachineOp.{MachineOp}
 use Rattle.rv64_word.specs.MachineOp.{word_of}
-use Rattle.rv64_instr.specs.Parts.{object_named}
+use Rattle.rv64_instr.specs.Parts.{is_call, object_named}
 use Rattle.rv64_word.specs.Lowering.{lowered}
 use Rattle.mir_func.specs.declared.block.Block.{Block}
 use Rattle.mir_func.specs.declared.exit.Exit.{Exit}
@@ -45,21 +45,16 @@ pub data Form : Type 0 where
   CallSite : Form
   LongBranch : (block : ℕ) → Form
 
--- the form of an instruction by its row: only a conditional branch can be long
+-- the form of an instruction by its exit and class: only a conditional branch can be long
+abbrev pub exit_form : (long : Bool) → Exit → (call : Bool) → Form
+exit_form long Onward call = cond call CallSite OneWord
+exit_form long (Perhaps n) call = cond long (LongBranch n) OneWord
+exit_form long (Always n) call = OneWord
+exit_form long Final call = OneWord
+
+-- the form of an instruction by its row
 abbrev pub row_form : (long : Bool) → Row → Form
-row_form long (Fixes rd n) = OneWord
-row_form long (Moves rd rs) = OneWord
-row_form long (Sets rd op a b) = OneWord
-row_form long (Addresses rd n offset) = OneWord
-row_form long (Loads rd op base offset) = OneWord
-row_form long (Stores op rs base offset) = OneWord
-row_form long (LoadsSlot rd n) = OneWord
-row_form long (StoresSlot rs n) = OneWord
-row_form long (Branches op a b target) = cond long (LongBranch target) OneWord
-row_form long (Jumps target) = OneWord
-row_form long (Calls name args) = CallSite
-row_form long (Returns results) = OneWord
-row_form long Unfit = OneWord
+row_form long row = exit_form long (row_exit row) (is_call row)
 
 -- the form of an item: a debug value or DBG_PHI emits no word
 abbrev pub form_of : (long : Bool) → ItemKind → Form

@@ -1,6 +1,10 @@
 -- How each item is encoded (its span), and the rounds of branch relaxation.
 use Rattle.std.specs.Prelude.{◌≡◌, ℕ, suc, ◌+◌, ◌&&◌, Bool, cond, nat_le, List, [], ◌∷◌, map, slice_index, sum_by}
-use Rattle.rv64_instr.specs.Row.{Row, Fixes, Moves, Sets, Addresses, Loads, Stores, LoadsSlot, StoresSlot, Branches, Jumps, Calls, Returns, Unfit, row_of}
+use Rattle.rv64_instr.specs.Row.{Row, row_of}
+use Rattle.rv64_instr.specs.Parts.{is_call}
+use Rattle.mir_func.specs.declared.exit.Exit.{Exit}
+use Rattle.mir_func.specs.declared.exit.Exit.TheVariants.{Onward, Perhaps, Always, Final}
+use Rattle.mir_func.specs.Exits.{row_exit}
 use Rattle.mir_func.specs.declared.block.Block.{Block}
 use Rattle.mir_func.specs.declared.item.ItemKind.{ItemKind}
 use Rattle.mir_func.specs.declared.item.ItemKind.TheVariants.{Code, Mark, Phi}
@@ -28,21 +32,16 @@ short_count (Long t) = 0
 abbrev pub shorts : List Span → ℕ
 shorts spans = sum_by short_count spans
 
--- the span of an instruction by its row. The flag is whether a conditional branch is long
+-- the span of an instruction by its exit. The flag is whether a conditional branch is long
+abbrev pub exit_span : List Block → (long : Bool) → Exit → (call : Bool) → Span
+exit_span blocks long Onward call = cond call CallSite OneWord
+exit_span blocks long (Perhaps n) call = cond long (Long (first_of blocks n)) (Short (first_of blocks n))
+exit_span blocks long (Always n) call = OneWord
+exit_span blocks long Final call = OneWord
+
+-- the span of an instruction by its row
 abbrev pub row_span : List Block → (long : Bool) → Row → Span
-row_span blocks long (Fixes rd n) = OneWord
-row_span blocks long (Moves rd rs) = OneWord
-row_span blocks long (Sets rd op a b) = OneWord
-row_span blocks long (Addresses rd n offset) = OneWord
-row_span blocks long (Loads rd op base offset) = OneWord
-row_span blocks long (Stores op rs base offset) = OneWord
-row_span blocks long (LoadsSlot rd n) = OneWord
-row_span blocks long (StoresSlot rs n) = OneWord
-row_span blocks long (Branches op a b target) = cond long (Long (first_of blocks target)) (Short (first_of blocks target))
-row_span blocks long (Jumps target) = OneWord
-row_span blocks long (Calls name args) = CallSite
-row_span blocks long (Returns results) = OneWord
-row_span blocks long Unfit = OneWord
+row_span blocks long row = exit_span blocks long (row_exit row) (is_call row)
 
 abbrev pub span_of : List Block → (long : Bool) → ItemKind → Span
 span_of blocks long (Code i k) = row_span blocks long (row_of i)
