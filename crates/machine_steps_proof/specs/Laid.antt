@@ -6,6 +6,9 @@ use Rattle.rv64_instr.specs.Arithmetic.{taken}
 use Rattle.rv64_instr.specs.Row.{Row, Fixes, Moves, Sets, Addresses, Loads, Stores, LoadsSlot, StoresSlot, Branches, Jumps, Calls, Returns, Unfit, row_of}
 use Rattle.rv64_word.specs.MachineRow.{placed}
 use Rattle.rv64_instr.specs.Parts.{object_named}
+use Rattle.mir_func.specs.declared.exit.Exit.{Exit}
+use Rattle.mir_func.specs.declared.exit.Exit.TheVariants.{Onward, Perhaps, Always, Final}
+use Rattle.mir_func.specs.Exits.{row_exit}
 use Rattle.mir_func.specs.declared.position.Pos.{Pos}
 use Rattle.mir_func.specs.declared.position.Origin.TheVariants.{Before}
 use Rattle.mir_func.specs.declared.item.Item.{Item}
@@ -25,21 +28,16 @@ use Rattle.machine_steps_proof.specs.Beside.{object_place}
 abbrev pub fetched : FramedFunction → Pos → Fetch
 fetched f p = fetch_in (drop p.block f.blocks) p.item
 
+-- the block that control goes to, perhaps or always, and 0 if it goes to none
+abbrev pub exit_target : Exit → ℕ
+exit_target Onward = 0
+exit_target (Perhaps n) = n
+exit_target (Always n) = n
+exit_target Final = 0
+
 -- the number of the block that an instruction of this row jumps or branches to, and 0 if it has no target
 abbrev pub target_of : Row → ℕ
-target_of (Branches op a b target) = target
-target_of (Jumps target) = target
-target_of (Fixes rd n) = 0
-target_of (Moves rd rs) = 0
-target_of (Sets rd op a b) = 0
-target_of (Addresses rd n offset) = 0
-target_of (Loads rd op base offset) = 0
-target_of (Stores op rs base offset) = 0
-target_of (LoadsSlot rd n) = 0
-target_of (StoresSlot rs n) = 0
-target_of (Calls name args) = 0
-target_of (Returns results) = 0
-target_of Unfit = 0
+target_of row = exit_target (row_exit row)
 
 module _ (f : FramedFunction) (image : Image) (address : Pos → ℕ) where
   -- the target address of a branch to the block with this number. The prologue is no target
