@@ -1,6 +1,6 @@
 -- The origins in a function with its frame, for a function that simulates a source.
 use Rattle.std.specs.Prelude.{◌<◌, ◌≤◌, All, Option, true, false}
-use Rattle.rv64_instr.specs.Row.{Row, Fixes, Moves, Sets, Addresses, Loads, Stores, LoadsSlot, StoresSlot, Branches, Jumps, Calls, Returns, Unfit, row_of}
+use Rattle.rv64_instr.specs.Row.{Row, Returns, row_of}
 use Rattle.mir_func.specs.declared.debug_substitution.OperandPair.{OperandPair}
 use Rattle.mir_func.specs.declared.item.ItemKind.{ItemKind}
 use Rattle.mir_func.specs.declared.item.ItemKind.TheVariants.{Code, Mark, Phi}
@@ -17,18 +17,7 @@ use Rattle.machine_proof.specs.Runs.{ComesFrom}
 -- the results of a return are in physical registers
 abbrev pub ResultsArePhysical : Row → Type 0
 ResultsArePhysical (Returns results) = All (λ r. r < 32) results
-ResultsArePhysical (Fixes rd n) = Unit {0}
-ResultsArePhysical (Moves rd rs) = Unit {0}
-ResultsArePhysical (Sets rd op a b) = Unit {0}
-ResultsArePhysical (Addresses rd n offset) = Unit {0}
-ResultsArePhysical (Loads rd op base offset) = Unit {0}
-ResultsArePhysical (Stores op rs base offset) = Unit {0}
-ResultsArePhysical (LoadsSlot rd n) = Unit {0}
-ResultsArePhysical (StoresSlot rs n) = Unit {0}
-ResultsArePhysical (Branches op a b target) = Unit {0}
-ResultsArePhysical (Jumps target) = Unit {0}
-ResultsArePhysical (Calls name args) = Unit {0}
-ResultsArePhysical Unfit = Unit {0}
+ResultsArePhysical _ = Unit {0}
 
 -- the item, if it is a return, returns physical registers
 abbrev pub KindReturnsPhysical : ItemKind → Type 0

@@ -2,7 +2,8 @@
 use Rattle.std.specs.Prelude.{◌≡◌, ◌⊎◌, ℕ, suc, ◌<◌, List, All, Option, true, false, IsSome}
 use Rattle.rv64_instr.specs.Instruction.{Instruction}
 use Rattle.rv64_instr.specs.declared.place.Place.{Place}
-use Rattle.rv64_instr.specs.Row.{Row, Fixes, Moves, Sets, Addresses, Loads, Stores, LoadsSlot, StoresSlot, Branches, Jumps, Calls, Returns, Unfit, row_of}
+use Rattle.rv64_instr.specs.Row.{Row, row_of}
+use Rattle.rv64_instr.specs.View.{Access, MemoryAccess, access_of, Class, Plain, class_of}
 use Rattle.mir_func.specs.declared.debug_substitution.OperandPair.{OperandPair}
 use Rattle.mir_func.specs.declared.exit.Exit.TheVariants.{Perhaps, Final}
 use Rattle.mir_func.specs.declared.position.Pos.{Pos}
@@ -29,21 +30,19 @@ use Rattle.machine_proof.specs.Lists.{GiveWanted, IsPointAt}
 abbrev pub NeverFaults : Program → Pos → Type 0
 NeverFaults src q = (s : State) → s.pos ≡ q → ((r : ℕ) → r < 32 → IsSome (content s.core.regs r)) → step src s ≡ Faulted → ⊥
 
+-- no access to memory
+abbrev pub IsNoMemoryAccess : Access → Type 0
+IsNoMemoryAccess (MemoryAccess base offset width) = ⊥
+IsNoMemoryAccess _ = Unit {0}
+
+-- plain code without an access to memory
+abbrev pub IsHarmlessBy : Class → Access → Type 0
+IsHarmlessBy Plain a = IsNoMemoryAccess a
+IsHarmlessBy _ a = ⊥
+
 -- an instruction without observable effect, which can stop only at a slot that isn't written
 abbrev pub IsHarmless : Row → Type 0
-IsHarmless (Fixes rd n) = Unit {0}
-IsHarmless (Moves rd rs) = Unit {0}
-IsHarmless (Sets rd op a b) = Unit {0}
-IsHarmless (Addresses rd n offset) = Unit {0}
-IsHarmless (LoadsSlot rd n) = Unit {0}
-IsHarmless (StoresSlot rs n) = Unit {0}
-IsHarmless (Loads rd op base offset) = ⊥
-IsHarmless (Stores op rs base offset) = ⊥
-IsHarmless (Branches op a b target) = ⊥
-IsHarmless (Jumps target) = ⊥
-IsHarmless (Calls name args) = ⊥
-IsHarmless (Returns results) = ⊥
-IsHarmless Unfit = ⊥
+IsHarmless row = IsHarmlessBy (class_of row) (access_of row)
 
 -- debug items and block ends lead down the text from one position to the other
 pub data FallsTo (f : FramedFunction) : Pos → Pos → Type 0 where
