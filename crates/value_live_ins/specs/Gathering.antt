@@ -3,7 +3,8 @@ use Rattle.std.specs.Prelude.{◌≡◌, ◌↔◌, ℕ, ◌<◌, List, [], ◌�
 use Rattle.std.specs.HashSet.{contains}
 use Rattle.rv64_instr.specs.declared.place.Place.{Place}
 use Rattle.rv64_instr.specs.declared.place.Place.TheVariants.{Register as InRegister, Slot as InSlot, Const}
-use Rattle.rv64_instr.specs.Row.{Row, Fixes, Moves, Sets, Addresses, Loads, Stores, LoadsSlot, StoresSlot, Branches, Jumps, Calls, Returns, Unfit, row_of}
+use Rattle.rv64_instr.specs.Row.{Row, row_of}
+use Rattle.rv64_instr.specs.View.{Access, SlotAccess, access_of}
 use Rattle.mir_func.specs.declared.debug_substitution.OperandPair.{OperandPair}
 use Rattle.mir_func.specs.declared.item.ItemKind.{ItemKind}
 use Rattle.mir_func.specs.declared.item.ItemKind.TheVariants.{Code, Mark, Phi}
@@ -58,21 +59,14 @@ pub record Grows (old new : List Tracked) : Type 0 where
   pub is : new ≡ old ++ more
   pub others : (i : ℕ) (x : Tracked) → slice_get more i ≡ Some x → IsNoPart x
 
+-- a slot that is accessed is a doubleword of the frame
+abbrev pub AccessHasOffset : Access → Type 0
+AccessHasOffset (SlotAccess n) = IsOffset n
+AccessHasOffset _ = Unit {0}
+
 -- a slot that an instruction of this row accesses is a doubleword of the frame
 abbrev pub RowHasOffset : Row → Type 0
-RowHasOffset (LoadsSlot rd n) = IsOffset n
-RowHasOffset (StoresSlot rs n) = IsOffset n
-RowHasOffset (Fixes rd c) = Unit {0}
-RowHasOffset (Moves rd rs) = Unit {0}
-RowHasOffset (Sets rd op a b) = Unit {0}
-RowHasOffset (Addresses rd n offset) = Unit {0}
-RowHasOffset (Loads rd op base offset) = Unit {0}
-RowHasOffset (Stores op rs base offset) = Unit {0}
-RowHasOffset (Branches op a b target) = Unit {0}
-RowHasOffset (Jumps target) = Unit {0}
-RowHasOffset (Calls name args) = Unit {0}
-RowHasOffset (Returns results) = Unit {0}
-RowHasOffset Unfit = Unit {0}
+RowHasOffset row = AccessHasOffset (access_of row)
 
 -- a slot that a DBG_PHI reads is a doubleword of the frame
 abbrev pub PlaceHasOffset : Option Place → Type 0

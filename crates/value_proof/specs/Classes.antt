@@ -3,7 +3,8 @@ use Rattle.std.specs.Prelude.{◌≡◌, ◌≢◌, ◌↔◌, ℕ, ◌<◌, Lis
 use Rattle.rv64_instr.specs.declared.place.Place.{Place}
 use Rattle.rv64_instr.specs.declared.place.Place.TheVariants.{Register, Slot, Const}
 use Rattle.rv64_instr.specs.Arithmetic.{word}
-use Rattle.rv64_instr.specs.Row.{Row, Fixes, Moves, Sets, Addresses, Loads, Stores, LoadsSlot, StoresSlot, Branches, Jumps, Calls, Returns, Unfit, row_of}
+use Rattle.rv64_instr.specs.Row.{Row, row_of}
+use Rattle.rv64_instr.specs.View.{Value, Literal, OfRegister, OfSlot, Computed, Write, SetsNothing, SetsRegister, SetsSlot, Clobbers, write_of}
 use Rattle.rv64_instr.specs.declared.operand.Operand.{Operand}
 use Rattle.rv64_instr.specs.Parts.{is_call}
 use Rattle.mir_func.specs.declared.debug_substitution.OperandPair.{OperandPair}
@@ -60,21 +61,23 @@ pub record AreFresh (things : List Tracked) (class : Classes) (fresh : ℕ → �
   pub new : (x : Tracked) (r : ℕ) → IsKnown things x → class x ≢ fresh r
   pub some : (r : ℕ) → fresh r ≢ 0
 
+-- the constant, register or slot that a value is a copy of is known
+abbrev pub KnowsCopied : (things : List Tracked) → Value → Type 0
+KnowsCopied things (Literal c) = Contains things (OfNumber c)
+KnowsCopied things (OfRegister rs) = rs < 32
+KnowsCopied things (OfSlot n) = Contains things (InSlot n)
+KnowsCopied things Computed = Unit {0}
+
+-- the registers, slots and constants that a write copies are known
+abbrev pub KnowsWrite : (things : List Tracked) → Write → Type 0
+KnowsWrite things SetsNothing = Unit {0}
+KnowsWrite things (SetsRegister rd value) = KnowsCopied things value
+KnowsWrite things (SetsSlot n rs) = (rs < 32) × Contains things (InSlot n)
+KnowsWrite things Clobbers = Unit {0}
+
 -- the registers, slots and constants that an instruction of this row copies are known
 abbrev pub KnowsRow : (things : List Tracked) → Row → Type 0
-KnowsRow things (Fixes rd c) = Contains things (OfNumber c)
-KnowsRow things (Moves rd rs) = rs < 32
-KnowsRow things (Sets rd op a b) = Unit {0}
-KnowsRow things (Addresses rd n offset) = Unit {0}
-KnowsRow things (Loads rd op base offset) = Unit {0}
-KnowsRow things (Stores op rs base offset) = Unit {0}
-KnowsRow things (LoadsSlot rd n) = Contains things (InSlot n)
-KnowsRow things (StoresSlot rs n) = (rs < 32) × Contains things (InSlot n)
-KnowsRow things (Branches op a b target) = Unit {0}
-KnowsRow things (Jumps target) = Unit {0}
-KnowsRow things (Calls name args) = Unit {0}
-KnowsRow things (Returns results) = Unit {0}
-KnowsRow things Unfit = Unit {0}
+KnowsRow things row = KnowsWrite things (write_of row)
 
 -- the pair that a debug operand resolves to, if any, is in the list
 abbrev pub KnowsPair : (things : List Tracked) → Option OperandPair → Type 0

@@ -24,7 +24,8 @@ use Rattle.std.specs.Prelude.{
 }
 use Rattle.std.specs.List.{list_any}
 use Rattle.std.specs.HashMap.{get}
-use Rattle.rv64_instr.specs.Row.{Row, Fixes, Moves, Sets, Addresses, Loads, Stores, LoadsSlot, StoresSlot, Branches, Jumps, Calls, Returns, Unfit}
+use Rattle.rv64_instr.specs.Row.{Row}
+use Rattle.rv64_instr.specs.View.{Value, Literal, OfRegister, OfSlot, Computed, Write, SetsNothing, SetsRegister, SetsSlot, Clobbers, write_of}
 use Rattle.rv64_instr.specs.DefsAndUses.{caller_saved}
 use Rattle.rv64_instr.specs.Arithmetic.{word}
 use Rattle.rv64_instr.specs.declared.place.Place.{Place}
@@ -106,22 +107,24 @@ abbrev pub put : (rd c : ℕ) → (places : ℕ → ℕ) → ℕ → ℕ
 put rd c places i = cond (nat_eq rd 2) (cond (nat_lt i SLOTS_FROM) (places i) 0)
     (cond (nat_eq rd 0) (places i) (cond (nat_lt rd SLOTS_FROM) (cond (nat_eq i rd) c (places i)) (places i)))
 
--- the class at location i past an instruction of this row: a constant's class is that of the constant, copies, slot loads and
+-- the class of a value that register rd is set to: a constant's class is that of the constant, copies, slot loads and
 -- slot stores copy classes, and each other definition has the class `next` plus its register
+abbrev pub value_past : (number : ℕ → ℕ) → (next rd : ℕ) → Value → (places : ℕ → ℕ) → ℕ
+value_past number next rd (Literal c) places = number c
+value_past number next rd (OfRegister rs) places = places rs
+value_past number next rd (OfSlot n) places = places (slot_place n)
+value_past number next rd Computed places = next + rd
+
+-- the class at location i after this is set
+abbrev pub written_past : (number : ℕ → ℕ) → (next : ℕ) → Write → (places : ℕ → ℕ) → ℕ → ℕ
+written_past number next SetsNothing places i = places i
+written_past number next (SetsRegister rd value) places i = put rd (value_past number next rd value places) places i
+written_past number next (SetsSlot n rs) places i = cond (nat_eq i (slot_place n)) (cond (nat_lt i PLACES) (places rs) 0) (places i)
+written_past number next Clobbers places i = cond (list_any (λ q. nat_eq i q) caller_saved) (next + i) (places i)
+
+-- the class at location i past an instruction of this row
 abbrev pub places_past : (number : ℕ → ℕ) → (next : ℕ) → Row → (places : ℕ → ℕ) → ℕ → ℕ
-places_past number next (Fixes rd c) places i = put rd (number c) places i
-places_past number next (Moves rd rs) places i = put rd (places rs) places i
-places_past number next (Sets rd op a b) places i = put rd (next + rd) places i
-places_past number next (Addresses rd n offset) places i = put rd (next + rd) places i
-places_past number next (Loads rd op base offset) places i = put rd (next + rd) places i
-places_past number next (LoadsSlot rd n) places i = put rd (places (slot_place n)) places i
-places_past number next (StoresSlot rs n) places i = cond (nat_eq i (slot_place n)) (cond (nat_lt i PLACES) (places rs) 0) (places i)
-places_past number next (Calls name args) places i = cond (list_any (λ q. nat_eq i q) caller_saved) (next + i) (places i)
-places_past number next (Stores op rs base offset) places i = places i
-places_past number next (Branches op a b target) places i = places i
-places_past number next (Jumps target) places i = places i
-places_past number next (Returns results) places i = places i
-places_past number next Unfit places i = places i
+places_past number next row places i = written_past number next (write_of row) places i
 
 -- the class of a part of a variable past a debug value for the part `marked`: c for that part, and 0 for an overlapping one
 abbrev pub part_past : (marked : VarId) → (c : ℕ) → VarId → ℕ → ℕ
