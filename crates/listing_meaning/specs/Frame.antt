@@ -13,7 +13,7 @@ use Rattle.rv64_instr.specs.declared.operand.Operand.{Operand}
 use Rattle.rv64_instr.specs.declared.operand.Operand.TheVariants.{Def, Use, Imm, Slot, Object}
 use Rattle.rv64_instr.specs.declared.decoded.Input.TheVariants.{Number}
 use Rattle.rv64_instr.specs.Arithmetic.{load_width, store_width}
-use Rattle.rv64_instr.specs.Row.{Row, Fixes, Moves, Sets, Addresses, Loads, Stores, LoadsSlot, StoresSlot, Branches, Jumps, Calls, Returns, Unfit, row_of}
+use Rattle.rv64_instr.specs.Row.{Row, Sets, row_of}
 use Rattle.mir_func.specs.declared.item.ItemKind.{ItemKind}
 use Rattle.mir_func.specs.declared.item.ItemKind.TheVariants.{Code, Mark, Phi}
 use Rattle.mir_func.specs.Objects.{up_to}
@@ -36,19 +36,7 @@ area_shown objects = up_to 16 (end_of 0 objects)
 -- by how many bytes an instruction lowers x2: N for `$x2 = ADDI $x2, -N`
 abbrev pub lowered_by : Row → ℕ
 lowered_by (Sets (suc (suc zero)) Add (suc (suc zero)) (Number n)) = 2 ^ 64 - n
-lowered_by (Sets rd op a b) = 0
-lowered_by (Fixes rd n) = 0
-lowered_by (Moves rd rs) = 0
-lowered_by (Addresses rd n offset) = 0
-lowered_by (Loads rd op base offset) = 0
-lowered_by (Stores op rs base offset) = 0
-lowered_by (LoadsSlot rd n) = 0
-lowered_by (StoresSlot rs n) = 0
-lowered_by (Branches op a b target) = 0
-lowered_by (Jumps target) = 0
-lowered_by (Calls name args) = 0
-lowered_by (Returns results) = 0
-lowered_by Unfit = 0
+lowered_by _ = 0
 
 -- debug items don't change x2
 abbrev pub lowered_by_kind : ItemKind → ℕ

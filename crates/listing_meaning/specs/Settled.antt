@@ -9,7 +9,8 @@ use Rattle.rv64_instr.specs.declared.operand.Operand.{Operand}
 use Rattle.rv64_instr.specs.declared.operand.Operand.TheVariants.{Object as OfObject, Imm}
 use Rattle.rv64_instr.specs.declared.decoded.Base.{Base}
 use Rattle.rv64_instr.specs.declared.decoded.Base.TheVariants.{PointedBy, ObjectAt}
-use Rattle.rv64_instr.specs.Row.{Row, Fixes, Moves, Sets, Addresses, Loads, Stores, LoadsSlot, StoresSlot, Branches, Jumps, Calls, Returns, Unfit, row_of}
+use Rattle.rv64_instr.specs.Row.{Row, row_of}
+use Rattle.rv64_instr.specs.View.{Access, NoAccess, SlotAccess, MemoryAccess, ObjectAddress, access_of}
 use Rattle.mir_func.specs.declared.block.Block.{Block}
 use Rattle.mir_func.specs.declared.item.Item.{Item}
 use Rattle.mir_func.specs.declared.item.ItemKind.{ItemKind}
@@ -68,22 +69,17 @@ abbrev pub IsBaseAlone : List Object → Base → (offset : ℕ) → Type 0
 IsBaseAlone objects (PointedBy r) offset = Unit {0}
 IsBaseAlone objects (ObjectAt n) offset = IsAlone objects n offset
 
+-- an access of an object, or an address of it, begins at a byte that no other object has, and such an address is that of one of its bytes
+abbrev pub AccessIsInside : List Object → Access → Type 0
+AccessIsInside objects NoAccess = Unit {0}
+AccessIsInside objects (SlotAccess n) = Unit {0}
+AccessIsInside objects (MemoryAccess base offset width) = IsBaseAlone objects base offset
+AccessIsInside objects (ObjectAddress n offset) = HasBytes objects n (offset + 1) × IsAlone objects n offset
+
 -- If the instruction forms an address of an object, the address is that of one of the object's bytes. No other object has a byte that an address, a load
 -- or a store begins at.
 abbrev pub LeadsInside : List Object → Row → Type 0
-LeadsInside objects (Addresses rd n offset) = HasBytes objects n (offset + 1) × IsAlone objects n offset
-LeadsInside objects (Loads rd op base offset) = IsBaseAlone objects base offset
-LeadsInside objects (Stores op rs base offset) = IsBaseAlone objects base offset
-LeadsInside objects (Fixes rd n) = Unit {0}
-LeadsInside objects (Moves rd rs) = Unit {0}
-LeadsInside objects (Sets rd op a b) = Unit {0}
-LeadsInside objects (LoadsSlot rd n) = Unit {0}
-LeadsInside objects (StoresSlot rs n) = Unit {0}
-LeadsInside objects (Branches op a b target) = Unit {0}
-LeadsInside objects (Jumps target) = Unit {0}
-LeadsInside objects (Calls name args) = Unit {0}
-LeadsInside objects (Returns results) = Unit {0}
-LeadsInside objects Unfit = Unit {0}
+LeadsInside objects row = AccessIsInside objects (access_of row)
 
 -- code whose addresses of objects lead to bytes of those objects alone, so that a listing shows them relative to the same objects
 abbrev pub StaysInside : List Object → ItemKind → Type 0
