@@ -7,7 +7,7 @@ use Rattle.std.proofs.lemmas.List.Sums.{sum_by-cons}
 use Rattle.std.specs.Prelude.{All, sum_by, filter}
 use Rattle.std.proofs.lemmas.List.Elements.{All-head, All-tail}
 use Rattle.rv64_instr.specs.Instruction.{Instruction}
-use Rattle.rv64_instr.specs.Row.{Row, Fixes, Moves, Sets, Addresses, Loads, Stores, LoadsSlot, StoresSlot, Branches, Jumps, Calls, Returns, Unfit, row_of}
+use Rattle.rv64_instr.specs.Row.{Row, Fixes, row_of}
 use Rattle.mir_func.specs.declared.block.Block.{Block}
 use Rattle.mir_func.specs.declared.item.Item.{Item}
 use Rattle.mir_func.specs.declared.item.ItemKind.{ItemKind}
@@ -29,18 +29,7 @@ use Rattle.compile_passes.specs.Passed.{MAX_PASSED}
 
 row_few : (row : Row) → row_words row ≤ 2
 row_few (Fixes rd n) = omega arith
-row_few (Moves rd rs) = omega arith
-row_few (Sets rd op a b) = omega arith
-row_few (Addresses rd n offset) = omega arith
-row_few (Loads rd op base offset) = omega arith
-row_few (Stores op rs base offset) = omega arith
-row_few (LoadsSlot rd n) = omega arith
-row_few (StoresSlot rs n) = omega arith
-row_few (Branches op a b target) = omega arith
-row_few (Jumps target) = omega arith
-row_few (Calls name args) = omega arith
-row_few (Returns results) = omega arith
-row_few Unfit = omega arith
+row_few _ = omega arith
 
 kind_few : (k : ItemKind) → kind_count k ≤ 2
 kind_few (Code i k) = row_few (row_of i)

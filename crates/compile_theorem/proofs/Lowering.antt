@@ -14,7 +14,7 @@ use Rattle.rv64_instr.specs.declared.operand.Operand.{Operand}
 use Rattle.rv64_instr.specs.declared.operand.Operand.TheVariants.{Def, Use, ImplicitDef, ImplicitUse, Imm, Slot, Object as OfObject, Block, Symbol, Mask}
 use Rattle.rv64_instr.specs.Form.{has_form, fits_jump, fits_copy, fits_branch, fits_registers, fits_upper, fits_load, fits_store, fits_immediate}
 use Rattle.rv64_instr.specs.Instruction.{Instruction}
-use Rattle.rv64_instr.specs.Row.{Row, Fixes, Moves, Sets, Addresses, Loads, Stores, LoadsSlot, StoresSlot, Branches, Jumps, Calls, Returns, Unfit, add_row}
+use Rattle.rv64_instr.specs.Row.{Row, Branches, Jumps, add_row}
 use Rattle.rv64_instr.specs.Row.{row_by, row_of}
 use Rattle.rv64_word.specs.declared.machine_op.MachineOp.{MachineOp}
 use Rattle.rv64_word.specs.Lowering.{fields_of, lowered, in_range}
@@ -136,19 +136,9 @@ ExitIn ids (Always n) = Contains ids n
 ExitIn ids Final = Unit {0}
 
 pub exit_in : (ids : List ℕ) (r : Row) → TargetIn ids r → ExitIn ids (row_exit r)
-exit_in ids (Fixes rd n) is = tt
-exit_in ids (Moves rd rs) is = tt
-exit_in ids (Sets rd op a b) is = tt
-exit_in ids (Addresses rd n offset) is = tt
-exit_in ids (Loads rd op base offset) is = tt
-exit_in ids (Stores op rs base offset) is = tt
-exit_in ids (LoadsSlot rd n) is = tt
-exit_in ids (StoresSlot rs n) is = tt
 exit_in ids (Branches op a b target) is = is
 exit_in ids (Jumps target) is = is
-exit_in ids (Calls name args) is = tt
-exit_in ids (Returns results) is = tt
-exit_in ids Unfit is = tt
+exit_in ids _ is = tt
 
 pub there_and_back : (a t : ℕ) → pos a +ℤ (pos t -ℤ pos a) ≡ pos t
 there_and_back a t = grind (arith, ints)

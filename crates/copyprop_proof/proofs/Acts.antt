@@ -13,7 +13,7 @@ use Rattle.rv64_instr.specs.declared.op.LoadOp.TheVariants.{Ld}
 use Rattle.rv64_instr.specs.declared.op.StoreOp.{StoreOp}
 use Rattle.rv64_instr.specs.declared.op.RegisterOp.TheVariants.{Add}
 use Rattle.rv64_instr.specs.Instruction.{Instruction}
-use Rattle.rv64_instr.specs.Row.{Row, Fixes, Moves, Sets, Addresses, Loads, Stores, LoadsSlot, StoresSlot, Branches, Jumps, Calls, Returns, Unfit, row_of}
+use Rattle.rv64_instr.specs.Row.{Row, Moves, Sets, Loads, Stores, StoresSlot, Branches, row_of}
 use Rattle.rv64_instr.specs.DefsAndUses.{reads}
 use Rattle.rv64_instr.specs.Parts.{is_call}
 use Rattle.mir_func.specs.declared.item.ItemKind.TheVariants.{Code}
@@ -55,20 +55,14 @@ module _ (e : List Root) (d : Core) (holds : (r : ℕ) → content d.regs r ≡ 
 
   does_root : (r : Row) → does (rooted e r) d ≡ does r d
   unfolding does
-  does_root (Fixes rd n) = refl
   does_root (Moves rd rs) = ap (λ (v : ℕ). Falls (set_register rd v d)) (read_root rs)
   does_root (Sets rd op a b) = let x = read_root a in let y = input_root b in λ i. Falls (set_register rd (computed op (x i) (y i)) d)
-  does_root (Addresses rd n o) = refl
   does_root (Loads rd op b o) = loaded_root rd op b (address_at d (rooted_base e b) o) (address_at d b o) (address_root b o)
   does_root (Stores op rs b o) =
       stored_root op b (address_at d (rooted_base e b) o) (address_at d b o) (read d (root_of e rs)) (read d rs) (address_root b o) (read_root rs)
-  does_root (LoadsSlot rd n) = refl
   does_root (StoresSlot rs n) = ap (λ (v : ℕ). Falls (record d { slots = updated n (Some v) d.slots })) (read_root rs)
   does_root (Branches op a b t) = let x = read_root a in let y = read_root b in λ i. cond (taken op (x i) (y i)) (Goes t d) (Falls d)
-  does_root (Jumps t) = refl
-  does_root (Calls name args) = refl
-  does_root (Returns v) = refl
-  does_root Unfit = refl
+  does_root _ = refl
 
   one_written : (r : ℕ) → is_some (content d.regs (root_of e r)) ≡ is_some (content d.regs r)
   one_written r = ap is_some (sym (holds r))
@@ -82,19 +76,13 @@ module _ (e : List Root) (d : Core) (holds : (r : ℕ) → content d.regs r ≡ 
   base_written (ObjectAt n) = refl
 
   rows_written : (r : Row) → are_written d (reads (rooted e r)) ≡ are_written d (reads r)
-  rows_written (Fixes rd n) = refl
   rows_written (Moves rd rs) = let x = one_written rs in λ i. x i && true
   rows_written (Sets rd op a b) = input_written a b
-  rows_written (Addresses rd n o) = refl
   rows_written (Loads rd op b o) = base_written b
   rows_written (Stores op rs b o) = let x = one_written rs in let y = base_written b in λ i. x i && y i
-  rows_written (LoadsSlot rd n) = refl
   rows_written (StoresSlot rs n) = let x = one_written rs in λ i. x i && true
   rows_written (Branches op a b t) = let x = one_written a in let y = one_written b in λ i. x i && (y i && true)
-  rows_written (Jumps t) = refl
-  rows_written (Calls name args) = refl
-  rows_written (Returns v) = refl
-  rows_written Unfit = refl
+  rows_written _ = refl
 
   act_root : (r : Row) → act (rooted e r) d ≡ act r d
   unfolding act

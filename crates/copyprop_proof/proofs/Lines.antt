@@ -5,7 +5,7 @@ use Rattle.std.specs.List.{flat_map}
 use Rattle.std.proofs.lemmas.Grind.{flat_map-append}
 use Rattle.std.proofs.lemmas.List.Sums.{sum_by-cons, sum_by-append}
 use Rattle.rv64_instr.specs.Instruction.{Instruction}
-use Rattle.rv64_instr.specs.Row.{Row, Fixes, Moves, Sets, Addresses, Loads, Stores, LoadsSlot, StoresSlot, Branches, Jumps, Calls, Returns, Unfit, row_of}
+use Rattle.rv64_instr.specs.Row.{Row, Moves, row_of}
 use Rattle.rv64_instr.specs.Parts.{is_call}
 use Rattle.mir_func.specs.declared.debug_substitution.DebugSubstitution.{DebugSubstitution}
 use Rattle.mir_func.specs.declared.debug_substitution.OperandPair.{OperandPair}
@@ -168,18 +168,7 @@ copy_back e clean i rd s row = by_row (row_of i) (sym (row_renamed e (keeps_zero
   by_row : (r : Row) → rooted e r ≡ Moves (suc rd) s → IsCopy r
   by_row (Moves zero t) h = cc
   by_row (Moves (suc d) t) h = tt
-  by_row (Fixes d m) h = cc
-  by_row (Sets d op a b) h = cc
-  by_row (Addresses d m o) h = cc
-  by_row (Loads d op b o) h = cc
-  by_row (Stores op rs b o) h = cc
-  by_row (LoadsSlot d m) h = cc
-  by_row (StoresSlot rs m) h = cc
-  by_row (Branches op a b t) h = cc
-  by_row (Jumps t) h = cc
-  by_row (Calls name args) h = cc
-  by_row (Returns v) h = cc
-  by_row Unfit h = cc
+  by_row _ h = cc
 
 now_push : (ls : List Line) (l : Line) (done : List Item) → all_now ls ≡ done → all_now (ls ++ l ∷ []) ≡ done ++ l.now
 now_push ls l done is =

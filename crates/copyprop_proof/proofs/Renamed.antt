@@ -8,7 +8,7 @@ use Rattle.rv64_instr.specs.declared.operand.Operand.TheVariants.{Def, Use, Impl
 use Rattle.rv64_instr.specs.declared.decoded.Base.{Base}
 use Rattle.rv64_instr.specs.declared.decoded.Base.TheVariants.{PointedBy, ObjectAt}
 use Rattle.rv64_instr.specs.Instruction.{Instruction}
-use Rattle.rv64_instr.specs.Row.{Row, Fixes, Moves, Sets, Addresses, Loads, Stores, LoadsSlot, StoresSlot, Branches, Jumps, Calls, Returns, Unfit, row_of}
+use Rattle.rv64_instr.specs.Row.{Row, Fixes, Moves, Addresses, Loads, Stores, LoadsSlot, StoresSlot, Branches, Jumps, row_of}
 use Rattle.rv64_instr.specs.Arithmetic.{load_width, store_width}
 use Rattle.mir_func.specs.declared.block.Block.{Block}
 use Rattle.mir_func.specs.declared.debug_substitution.OperandPair.{OperandPair}
@@ -130,32 +130,12 @@ module _ (f g : Program) (blind_f : f.sees_pointer ≡ false) (blind_g : g.sees_
 target_rooted : (e : List Root) (ids : List ℕ) (r : Row) → TargetIn ids r → TargetIn ids (rooted e r)
 target_rooted e ids (Branches op a b t) h = h
 target_rooted e ids (Jumps t) h = h
-target_rooted e ids (Fixes rd n) h = tt
-target_rooted e ids (Moves rd rs) h = tt
-target_rooted e ids (Sets rd op a b) h = tt
-target_rooted e ids (Addresses rd n o) h = tt
-target_rooted e ids (Loads rd op b o) h = tt
-target_rooted e ids (Stores op rs b o) h = tt
-target_rooted e ids (LoadsSlot rd n) h = tt
-target_rooted e ids (StoresSlot rs n) h = tt
-target_rooted e ids (Calls name args) h = tt
-target_rooted e ids (Returns v) h = tt
-target_rooted e ids Unfit h = tt
+target_rooted e ids _ h = tt
 
 slot_rooted : (e : List Root) (slots : List ℕ) (r : Row) → SlotIn slots r → SlotIn slots (rooted e r)
 slot_rooted e slots (LoadsSlot rd n) h = h
 slot_rooted e slots (StoresSlot rs n) h = h
-slot_rooted e slots (Branches op a b t) h = tt
-slot_rooted e slots (Jumps t) h = tt
-slot_rooted e slots (Fixes rd n) h = tt
-slot_rooted e slots (Moves rd rs) h = tt
-slot_rooted e slots (Sets rd op a b) h = tt
-slot_rooted e slots (Addresses rd n o) h = tt
-slot_rooted e slots (Loads rd op b o) h = tt
-slot_rooted e slots (Stores op rs b o) h = tt
-slot_rooted e slots (Calls name args) h = tt
-slot_rooted e slots (Returns v) h = tt
-slot_rooted e slots Unfit h = tt
+slot_rooted e slots _ h = tt
 
 base_rooted : (e : List Root) (objects : List StackObject) (b : Base) (n : ℕ) → BaseHasBytes objects b n → BaseHasBytes objects (rooted_base e b) n
 base_rooted e objects (PointedBy r) n h = tt
@@ -165,31 +145,11 @@ object_rooted : (e : List Root) (objects : List StackObject) (r : Row) → Objec
 object_rooted e objects (Addresses rd n o) h = h
 object_rooted e objects (Loads rd op b o) h = base_rooted e objects b (o + load_width op) h
 object_rooted e objects (Stores op rs b o) h = base_rooted e objects b (o + store_width op) h
-object_rooted e objects (LoadsSlot rd n) h = tt
-object_rooted e objects (StoresSlot rs n) h = tt
-object_rooted e objects (Branches op a b t) h = tt
-object_rooted e objects (Jumps t) h = tt
-object_rooted e objects (Fixes rd n) h = tt
-object_rooted e objects (Moves rd rs) h = tt
-object_rooted e objects (Sets rd op a b) h = tt
-object_rooted e objects (Calls name args) h = tt
-object_rooted e objects (Returns v) h = tt
-object_rooted e objects Unfit h = tt
+object_rooted e objects _ h = tt
 
 exit_rooted : (e : List Root) (r : Row) → row_exit (rooted e r) ≡ row_exit r
 exit_rooted e (Fixes rd n) = refl
-exit_rooted e (Moves rd rs) = refl
-exit_rooted e (Sets rd op a b) = refl
-exit_rooted e (Addresses rd n o) = refl
-exit_rooted e (Loads rd op b o) = refl
-exit_rooted e (Stores op rs b o) = refl
-exit_rooted e (LoadsSlot rd n) = refl
-exit_rooted e (StoresSlot rs n) = refl
-exit_rooted e (Branches op a b t) = refl
-exit_rooted e (Jumps t) = refl
-exit_rooted e (Calls name args) = refl
-exit_rooted e (Returns v) = refl
-exit_rooted e Unfit = refl
+exit_rooted e _ = refl
 
 kind_exit : (e : List Root) → IsClean e → (k : ItemKind) → exit_of (renamed_kind e k) ≡ exit_of k
 kind_exit e clean (Code i n) = ap row_exit (row_renamed e (keeps_zero e clean) i) ∙ exit_rooted e (row_of i)

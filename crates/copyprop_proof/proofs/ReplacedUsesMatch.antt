@@ -2,7 +2,7 @@
 use Rattle.std.proofs.Common.{◌≡◌, inr, ℕ, suc, List, [], Option, Some, None, true, false, is_some, refl, sym, ap, ◌∙◌, subst}
 use Rattle.rv64_instr.specs.declared.place.Place.{Place}
 use Rattle.rv64_instr.specs.Instruction.{Instruction}
-use Rattle.rv64_instr.specs.Row.{Row, Fixes, Moves, Sets, Addresses, Loads, Stores, LoadsSlot, StoresSlot, Branches, Jumps, Calls, Returns, Unfit, row_of}
+use Rattle.rv64_instr.specs.Row.{Row, Moves, row_of}
 use Rattle.rv64_instr.specs.Parts.{is_call}
 use Rattle.mir_func.specs.declared.debug_substitution.OperandPair.{OperandPair}
 use Rattle.mir_func.specs.declared.item.Item.{Item}
@@ -40,18 +40,7 @@ NoFree m = ⊥
 -- a copy's source is a root
 pub rooted_moves : (e : List Root) (r : Row) (rd s : ℕ) → rooted e r ≡ Moves rd s → (t : ℕ) × (s ≡ root_of e t)
 rooted_moves e (Moves rd t) rd' s is = (t, (let same : root_of e t ≡ s = cc in sym same))
-rooted_moves e (Fixes rd n) rd' s is = cc
-rooted_moves e (Sets rd op a b) rd' s is = cc
-rooted_moves e (Addresses rd n o) rd' s is = cc
-rooted_moves e (Loads rd op b o) rd' s is = cc
-rooted_moves e (Stores op rs b o) rd' s is = cc
-rooted_moves e (LoadsSlot rd n) rd' s is = cc
-rooted_moves e (StoresSlot rs n) rd' s is = cc
-rooted_moves e (Branches op a b t) rd' s is = cc
-rooted_moves e (Jumps t) rd' s is = cc
-rooted_moves e (Calls name args) rd' s is = cc
-rooted_moves e (Returns v) rd' s is = cc
-rooted_moves e Unfit rd' s is = cc
+rooted_moves e _ rd' s is = cc
 
 pub none_known : (x : Option ℕ) → is_some x ≡ false → x ≡ None
 none_known None h = refl

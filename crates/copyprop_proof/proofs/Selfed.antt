@@ -163,18 +163,9 @@ module _ (e : List Root) (clean : IsClean e) where
 
   counts_rooted : (r : Row) → ((rd s : ℕ) → rooted e r ≡ Moves rd s → rd ≡ s → ⊥) → Counts r → Counts (rooted e r)
   counts_rooted (Moves rd s) other h = other rd (root_of e s) refl
-  counts_rooted (Fixes rd n) other h = tt
-  counts_rooted (Sets rd op a b) other h = tt
-  counts_rooted (Addresses rd n o) other h = tt
-  counts_rooted (Loads rd op b o) other h = tt
-  counts_rooted (Stores op rs b o) other h = tt
-  counts_rooted (LoadsSlot rd n) other h = tt
-  counts_rooted (StoresSlot rs n) other h = tt
   counts_rooted (Branches op a b t) other h = h
   counts_rooted (Jumps t) other h = h
-  counts_rooted (Calls name args) other h = tt
-  counts_rooted (Returns v) other h = tt
-  counts_rooted Unfit other h = tt
+  counts_rooted _ other h = tt
 
   -- what stays counts where it did
   stays_counts : (k : ItemKind) → goes e (renamed_kind e k) ≡ false → OnRow Counts k → OnRow Counts (renamed_kind e k)
@@ -242,18 +233,7 @@ move_back : (e : List Root) (clean : IsClean e) (i : Instruction) (n : Option �
 move_back e clean i n rd s row = by_row (row_of i) refl (sym (row_renamed e (keeps_zero e clean) i) ∙ row) where
   by_row : (r : Row) → row_of i ≡ r → rooted e r ≡ Moves rd s → (d : ℕ) × (t : ℕ) × (row_of i ≡ Moves d t)
   by_row (Moves d t) is h = (d, t, is)
-  by_row (Fixes d m) is h = cc
-  by_row (Sets d op a b) is h = cc
-  by_row (Addresses d m o) is h = cc
-  by_row (Loads d op b o) is h = cc
-  by_row (Stores op rs b o) is h = cc
-  by_row (LoadsSlot d m) is h = cc
-  by_row (StoresSlot rs m) is h = cc
-  by_row (Branches op a b t) is h = cc
-  by_row (Jumps t) is h = cc
-  by_row (Calls name args) is h = cc
-  by_row (Returns v) is h = cc
-  by_row Unfit is h = cc
+  by_row _ is h = cc
 
 -- what is known behind an item was known, or the item is a copy that counts
 known_behind : (e : List Root) (clean : IsClean e) (k : ItemKind) (o : Origin) (l : Loc) (xs : List Item) → IsSome (known_after e (renamed_kind e k)) →

@@ -116,15 +116,4 @@ module _ (e : List Root) where
 
   pub call_rooted : (r : Row) → is_call (rooted r) ≡ is_call r
   call_rooted (Fixes rd n) = refl
-  call_rooted (Moves rd rs) = refl
-  call_rooted (Sets rd op a b) = refl
-  call_rooted (Addresses rd n o) = refl
-  call_rooted (Loads rd op b o) = refl
-  call_rooted (Stores op rs b o) = refl
-  call_rooted (LoadsSlot rd n) = refl
-  call_rooted (StoresSlot rs n) = refl
-  call_rooted (Branches op a b t) = refl
-  call_rooted (Jumps t) = refl
-  call_rooted (Calls name args) = refl
-  call_rooted (Returns v) = refl
-  call_rooted Unfit = refl
+  call_rooted _ = refl

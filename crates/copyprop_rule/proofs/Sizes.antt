@@ -11,7 +11,7 @@ use Rattle.std.proofs.Math.Nat.{le-max_left, le-max_right, max-le, le_trans, le_
 use Rattle.rv64_instr.specs.declared.operand.Operand.{Operand}
 use Rattle.rv64_instr.specs.declared.operand.Operand.TheVariants.{Def, Use, ImplicitDef, ImplicitUse, Imm, Slot, Object, Block as BlockOperand, Symbol, Mask}
 use Rattle.rv64_instr.specs.Instruction.{Instruction}
-use Rattle.rv64_instr.specs.Row.{Row, Fixes, Moves, Sets, Addresses, Loads, Stores, LoadsSlot, StoresSlot, Branches, Jumps, Calls, Returns, Unfit, row_of}
+use Rattle.rv64_instr.specs.Row.{Row, Moves, row_of}
 use Rattle.mir_func.specs.declared.block.Block.{Block}
 use Rattle.mir_func.specs.declared.debug_substitution.DebugSubstitution.{DebugSubstitution}
 use Rattle.mir_func.specs.declared.item.Item.{Item}
@@ -114,18 +114,7 @@ known_moves e (Moves (suc rd) t) s is = by_test (nat_eq (root_of e (suc rd)) t) 
   by_test true eq is = let same : t ≡ s = cc in (rd, ap (Moves (suc rd)) same, eqb-true (root_of e (suc rd)) t eq ∙ same)
   by_test false eq is = cc
 known_moves e (Moves zero t) s is = cc
-known_moves e (Fixes rd n) s is = cc
-known_moves e (Sets rd op a b) s is = cc
-known_moves e (Addresses rd n o) s is = cc
-known_moves e (Loads rd op b o) s is = cc
-known_moves e (Stores op rs b o) s is = cc
-known_moves e (LoadsSlot rd n) s is = cc
-known_moves e (StoresSlot rs n) s is = cc
-known_moves e (Branches op a b t) s is = cc
-known_moves e (Jumps t) s is = cc
-known_moves e (Calls name args) s is = cc
-known_moves e (Returns v) s is = cc
-known_moves e Unfit s is = cc
+known_moves e _ s is = cc
 
 real_stays : Stays HasPhysical AreReal
 real_stays = record {

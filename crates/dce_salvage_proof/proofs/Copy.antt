@@ -4,7 +4,7 @@ use Rattle.std.proofs.Common.{slice_get, append-nil, refl, sym, ap, ◌∙◌, s
 use Rattle.std.proofs.Math.Nat.{le_refl}
 use Rattle.std.proofs.lemmas.List.Elements.{All-nil, All-append, All-cons, All-head, All-tail}
 use Rattle.rv64_instr.specs.Instruction.{Instruction}
-use Rattle.rv64_instr.specs.Row.{Row, Fixes, Moves, Sets, Addresses, Loads, Stores, LoadsSlot, StoresSlot, Branches, Jumps, Calls, Returns, Unfit, row_of}
+use Rattle.rv64_instr.specs.Row.{Row, Moves, row_of}
 use Rattle.mir_func.specs.declared.debug_substitution.DebugSubstitution.{DebugSubstitution}
 use Rattle.mir_func.specs.declared.position.Origin.{Origin}
 use Rattle.mir_func.specs.declared.location.Loc.{Loc}
@@ -58,18 +58,7 @@ copy_of (Code i (Some n)) c e = by_row (row_of i) refl e where
         row = is ∙ (λ j. Moves (suc rd) (same j).source);
         own = sym (ap (λ (z : Copied). z.own) same) ∙ (λ j. nat_eq (suc rd) (same j).source);
       }
-  by_row (Fixes d m) is w = cc
-  by_row (Sets d op a b) is w = cc
-  by_row (Addresses d m o) is w = cc
-  by_row (Loads d op b o) is w = cc
-  by_row (Stores op rs b o) is w = cc
-  by_row (LoadsSlot d m) is w = cc
-  by_row (StoresSlot rs m) is w = cc
-  by_row (Branches op a b t) is w = cc
-  by_row (Jumps t) is w = cc
-  by_row (Calls name args) is w = cc
-  by_row (Returns v) is w = cc
-  by_row Unfit is w = cc
+  by_row _ is w = cc
 
 -- ---- a list at an index
 

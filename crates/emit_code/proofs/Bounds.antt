@@ -2,7 +2,7 @@
 use Rattle.std.proofs.Common.{◌≡◌, ℕ, zero, suc, ◌+◌, ◌*◌, ◌%◌, ◌≤◌, Bool, true, false, List, [], ◌∷◌, take, refl, arith}
 use Rattle.std.specs.Prelude.{sum_by}
 use Rattle.std.proofs.lemmas.List.Sums.{sum_by-cons, sum_by-take-le}
-use Rattle.rv64_instr.specs.Row.{Row, Fixes, Moves, Sets, Addresses, Loads, Stores, LoadsSlot, StoresSlot, Branches, Jumps, Calls, Returns, Unfit, row_of}
+use Rattle.rv64_instr.specs.Row.{Row, Branches, row_of}
 use Rattle.mir_func.specs.declared.block.Block.{Block}
 use Rattle.mir_func.specs.declared.item.Item.{Item}
 use Rattle.mir_func.specs.declared.item.ItemKind.{ItemKind}
@@ -36,20 +36,9 @@ bytes_aligned long blocks p =
 -- ---- few of them
 
 row_small : (long : Bool) (row : Row) → form_size (row_form long row) ≤ 4 * row_words row
-row_small long (Fixes rd n) = omega arith
-row_small long (Moves rd rs) = omega arith
-row_small long (Sets rd op a b) = omega arith
-row_small long (Addresses rd n offset) = omega arith
-row_small long (Loads rd op base offset) = omega arith
-row_small long (Stores op rs base offset) = omega arith
-row_small long (LoadsSlot rd n) = omega arith
-row_small long (StoresSlot rs n) = omega arith
 row_small true (Branches op a b n) = omega arith
 row_small false (Branches op a b n) = omega arith
-row_small long (Jumps target) = omega arith
-row_small long (Calls name args) = omega arith
-row_small long (Returns results) = omega arith
-row_small long Unfit = omega arith
+row_small long _ = omega arith
 
 kind_small : (long : Bool) (kind : ItemKind) → form_size (form_of long kind) ≤ 4 * kind_count kind
 kind_small long (Code i k) = row_small long (row_of i)

@@ -17,7 +17,7 @@ use Rattle.rv64_instr.specs.declared.op.BranchOp.TheVariants.{Beq, Bne, Blt, Bge
 use Rattle.rv64_instr.specs.declared.operand.Operand.{Operand}
 use Rattle.rv64_instr.specs.declared.operand.Operand.TheVariants.{Def, Use, Imm, Slot, Object, Block as OfBlock}
 use Rattle.rv64_instr.specs.Instruction.{Instruction}
-use Rattle.rv64_instr.specs.Row.{Row, Fixes, Moves, Sets, Addresses, Loads, Stores, LoadsSlot, StoresSlot, Branches, Jumps, Calls, Returns, Unfit, row_of}
+use Rattle.rv64_instr.specs.Row.{Row, Branches, Calls, row_of}
 use Rattle.rv64_word.specs.declared.machine_op.MachineOp.{MachineOp}
 use Rattle.rv64_word.specs.declared.word_op.WordOp.{WordOp}
 use Rattle.rv64_word.specs.declared.word_op.WordOp.TheVariants.{Registers, Immediate, Lui, Branch, Load, Store, Jal, Jalr}
@@ -177,22 +177,12 @@ skip_none i e = ap (option_map inv) e ∙ sym (skipped i)
 
 one_of : (blocks : List Block) (long : Bool) (row : Row) (s : Span) → s ≡ row_span blocks long row → (s ≡ OneWord) ⊎ ((t : ℕ) × (s ≡ Short t)) →
     row_form long row ≡ rule.OneWord
-one_of blocks long (Fixes rd n) s e is = refl
-one_of blocks long (Moves rd rs) s e is = refl
-one_of blocks long (Sets rd op a b) s e is = refl
-one_of blocks long (Addresses rd n offset) s e is = refl
-one_of blocks long (Loads rd op base offset) s e is = refl
-one_of blocks long (Stores op rs base offset) s e is = refl
-one_of blocks long (LoadsSlot rd n) s e is = refl
-one_of blocks long (StoresSlot rs n) s e is = refl
 one_of blocks true (Branches op a b n) s e (inl is) = absurd cc
 one_of blocks true (Branches op a b n) s e (inr is) = let f : s ≡ Short is.0 = is.1 in absurd cc
 one_of blocks false (Branches op a b n) s e is = refl
-one_of blocks long (Jumps target) s e is = refl
 one_of blocks long (Calls name args) s e (inl is) = absurd cc
 one_of blocks long (Calls name args) s e (inr is) = let f : s ≡ Short is.0 = is.1 in absurd cc
-one_of blocks long (Returns results) s e is = refl
-one_of blocks long Unfit s e is = refl
+one_of blocks long _ s e is = refl
 
 pub record IsLongForm (blocks : List Block) (long : Bool) (row : Row) (t : ℕ) : Type 0 where
   pub block : ℕ
@@ -202,18 +192,7 @@ pub record IsLongForm (blocks : List Block) (long : Bool) (row : Row) (t : ℕ) 
 long_of : (blocks : List Block) (long : Bool) (row : Row) (t : ℕ) → Long t ≡ row_span blocks long row → IsLongForm blocks long row t
 long_of blocks true (Branches op a b n) t e = let same : t ≡ first_of blocks n = cc in record { block = n; form = refl; target = same }
 long_of blocks false (Branches op a b n) t e = absurd cc
-long_of blocks long (Fixes rd n) t e = absurd cc
-long_of blocks long (Moves rd rs) t e = absurd cc
-long_of blocks long (Sets rd op a b) t e = absurd cc
-long_of blocks long (Addresses rd n offset) t e = absurd cc
-long_of blocks long (Loads rd op base offset) t e = absurd cc
-long_of blocks long (Stores op rs base offset) t e = absurd cc
-long_of blocks long (LoadsSlot rd n) t e = absurd cc
-long_of blocks long (StoresSlot rs n) t e = absurd cc
-long_of blocks long (Jumps target) t e = absurd cc
-long_of blocks long (Calls name args) t e = absurd cc
-long_of blocks long (Returns results) t e = absurd cc
-long_of blocks long Unfit t e = absurd cc
+long_of blocks long _ t e = absurd cc
 
 pub one_word : (l : Layout) (p : Pos) (a : ℕ) (i : Instruction) (k : Option ℕ) (s : Span) → s ≡ span_of l.framed.blocks (l.long p) (Code i k) →
     (s ≡ OneWord) ⊎ ((t : ℕ) × (s ≡ Short t)) → a ≡ address_in l p → word_if (operation_at l a i) ≡ kind_words l p (Code i k)
@@ -234,17 +213,7 @@ call_of : (blocks : List Block) (long : Bool) (row : Row) → CallSite ≡ row_s
 call_of blocks long (Calls name args) e = refl
 call_of blocks true (Branches op a b n) e = absurd cc
 call_of blocks false (Branches op a b n) e = absurd cc
-call_of blocks long (Fixes rd n) e = absurd cc
-call_of blocks long (Moves rd rs) e = absurd cc
-call_of blocks long (Sets rd op a b) e = absurd cc
-call_of blocks long (Addresses rd n offset) e = absurd cc
-call_of blocks long (Loads rd op base offset) e = absurd cc
-call_of blocks long (Stores op rs base offset) e = absurd cc
-call_of blocks long (LoadsSlot rd n) e = absurd cc
-call_of blocks long (StoresSlot rs n) e = absurd cc
-call_of blocks long (Jumps target) e = absurd cc
-call_of blocks long (Returns results) e = absurd cc
-call_of blocks long Unfit e = absurd cc
+call_of blocks long _ e = absurd cc
 
 one_kind : (blocks : List Block) (long : Bool) (kind : ItemKind) (s : Span) → s ≡ span_of blocks long kind → (s ≡ OneWord) ⊎ ((t : ℕ) × (s ≡ Short t)) →
     form_of long kind ≡ rule.OneWord
@@ -262,18 +231,7 @@ call_kind blocks long (Phi p k) e = absurd cc
 row_something : (blocks : List Block) (long : Bool) (row : Row) → Nothing ≡ row_span blocks long row → ⊥
 row_something blocks true (Branches op a b n) e = cc
 row_something blocks false (Branches op a b n) e = cc
-row_something blocks long (Calls name args) e = cc
-row_something blocks long (Fixes rd n) e = cc
-row_something blocks long (Moves rd rs) e = cc
-row_something blocks long (Sets rd op a b) e = cc
-row_something blocks long (Addresses rd n offset) e = cc
-row_something blocks long (Loads rd op base offset) e = cc
-row_something blocks long (Stores op rs base offset) e = cc
-row_something blocks long (LoadsSlot rd n) e = cc
-row_something blocks long (StoresSlot rs n) e = cc
-row_something blocks long (Jumps target) e = cc
-row_something blocks long (Returns results) e = cc
-row_something blocks long Unfit e = cc
+row_something blocks long _ e = cc
 
 none_kind : (blocks : List Block) (long : Bool) (kind : ItemKind) → Nothing ≡ span_of blocks long kind → form_of long kind ≡ rule.Nothing
 none_kind blocks long (Code i k) e = absurd (row_something blocks long (row_of i) e)

@@ -9,7 +9,7 @@ use Rattle.std.proofs.lemmas.Option.{slice_get-map}
 use Rattle.std.proofs.lemmas.List.Sums.{sum_by-cons}
 use Rattle.rv64_instr.specs.declared.op.BranchOp.{BranchOp}
 use Rattle.rv64_instr.specs.Form.{is_within}
-use Rattle.rv64_instr.specs.Row.{Row, Fixes, Moves, Sets, Addresses, Loads, Stores, LoadsSlot, StoresSlot, Branches, Jumps, Calls, Returns, Unfit, row_of}
+use Rattle.rv64_instr.specs.Row.{Row, Branches, row_of}
 use Rattle.mir_func.specs.declared.block.Block.{Block}
 use Rattle.mir_func.specs.declared.exit.Exit.TheVariants.{Perhaps}
 use Rattle.mir_func.specs.declared.item.Item.{Item}
@@ -33,22 +33,11 @@ use Rattle.emit_code.proofs.Settled.{rounded, next_long, row_far, kind_far, fetc
 -- ---- more long branches put points further apart
 
 row_grows : (was is : Bool) (row : Row) → (was ≡ true → is ≡ true) → form_size (row_form was row) ≤ form_size (row_form is row)
-row_grows was is (Fixes rd n) more = omega arith
-row_grows was is (Moves rd rs) more = omega arith
-row_grows was is (Sets rd op a b) more = omega arith
-row_grows was is (Addresses rd n offset) more = omega arith
-row_grows was is (Loads rd op base offset) more = omega arith
-row_grows was is (Stores op rs base offset) more = omega arith
-row_grows was is (LoadsSlot rd n) more = omega arith
-row_grows was is (StoresSlot rs n) more = omega arith
 row_grows true true (Branches op a b n) more = omega arith
 row_grows true false (Branches op a b n) more = let e : false ≡ true = more refl in absurd cc
 row_grows false true (Branches op a b n) more = omega arith
 row_grows false false (Branches op a b n) more = omega arith
-row_grows was is (Jumps target) more = omega arith
-row_grows was is (Calls name args) more = omega arith
-row_grows was is (Returns results) more = omega arith
-row_grows was is Unfit more = omega arith
+row_grows was is _ more = omega arith
 
 kind_grows : (was is : Bool) (kind : ItemKind) → (was ≡ true → is ≡ true) → form_size (form_of was kind) ≤ form_size (form_of is kind)
 kind_grows was is (Code i k) more = row_grows was is (row_of i) more
@@ -208,18 +197,7 @@ row_branch blocks long p (Branches op a b n) e = (n, refl, negated (reaches (byt
     negated : (x : Bool) → not x ≡ true → x ≡ false
     negated true h = sym h
     negated false h = refl
-row_branch blocks long p (Fixes rd n) e = absurd cc
-row_branch blocks long p (Moves rd rs) e = absurd cc
-row_branch blocks long p (Sets rd op a b) e = absurd cc
-row_branch blocks long p (Addresses rd n offset) e = absurd cc
-row_branch blocks long p (Loads rd op base offset) e = absurd cc
-row_branch blocks long p (Stores op rs base offset) e = absurd cc
-row_branch blocks long p (LoadsSlot rd n) e = absurd cc
-row_branch blocks long p (StoresSlot rs n) e = absurd cc
-row_branch blocks long p (Jumps target) e = absurd cc
-row_branch blocks long p (Calls name args) e = absurd cc
-row_branch blocks long p (Returns results) e = absurd cc
-row_branch blocks long p Unfit e = absurd cc
+row_branch blocks long p _ e = absurd cc
 
 pub record IsFar (blocks : List Block) (long : Pos → Bool) (p : Pos) : Type 0 where
   pub item : Item
@@ -286,18 +264,7 @@ pub record IsBranch (row : Row) (m : ℕ) : Type 0 where
 pub row_is_branch : (row : Row) (m : ℕ) → row_exit row ≡ Perhaps m → IsBranch row m
 row_is_branch (Branches op a b n) m e =
     let same : n ≡ m = cc in record { op = op; first = a; second = b; is = ap (λ (k : ℕ). Branches op a b k) same }
-row_is_branch (Fixes rd n) m e = absurd cc
-row_is_branch (Moves rd rs) m e = absurd cc
-row_is_branch (Sets rd op a b) m e = absurd cc
-row_is_branch (Addresses rd n offset) m e = absurd cc
-row_is_branch (Loads rd op base offset) m e = absurd cc
-row_is_branch (Stores op rs base offset) m e = absurd cc
-row_is_branch (LoadsSlot rd n) m e = absurd cc
-row_is_branch (StoresSlot rs n) m e = absurd cc
-row_is_branch (Jumps target) m e = absurd cc
-row_is_branch (Calls name args) m e = absurd cc
-row_is_branch (Returns results) m e = absurd cc
-row_is_branch Unfit m e = absurd cc
+row_is_branch _ m e = absurd cc
 
 -- the span and the reach of a conditional branch
 pub record IsBranchKind (blocks : List Block) (kind : ItemKind) (m : ℕ) : Type 0 where

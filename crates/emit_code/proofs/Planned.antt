@@ -3,7 +3,7 @@ use Rattle.std.proofs.Common.{◌≡◌, ℕ, ◌+◌, ◌≤◌, Bool, List, []
 use Rattle.std.specs.Prelude.{sum_by, slice_index}
 use Rattle.std.proofs.lemmas.List.{length-map}
 use Rattle.std.proofs.lemmas.List.Sums.{sum_by-cons}
-use Rattle.rv64_instr.specs.Row.{Row, Fixes, Moves, Sets, Addresses, Loads, Stores, LoadsSlot, StoresSlot, Branches, Jumps, Calls, Returns, Unfit, row_of}
+use Rattle.rv64_instr.specs.Row.{Row, Fixes, row_of}
 use Rattle.mir_func.specs.declared.block.Block.{Block}
 use Rattle.mir_func.specs.declared.item.Item.{Item}
 use Rattle.mir_func.specs.declared.item.ItemKind.{ItemKind}
@@ -22,18 +22,7 @@ use Rattle.emit_code.proofs.Settled.{sum_there}
 
 row_counts : (row : Row) → 1 ≤ row_words row
 row_counts (Fixes rd n) = omega arith
-row_counts (Moves rd rs) = omega arith
-row_counts (Sets rd op a b) = omega arith
-row_counts (Addresses rd n offset) = omega arith
-row_counts (Loads rd op base offset) = omega arith
-row_counts (Stores op rs base offset) = omega arith
-row_counts (LoadsSlot rd n) = omega arith
-row_counts (StoresSlot rs n) = omega arith
-row_counts (Branches op a b n) = omega arith
-row_counts (Jumps target) = omega arith
-row_counts (Calls name args) = omega arith
-row_counts (Returns results) = omega arith
-row_counts Unfit = omega arith
+row_counts _ = omega arith
 
 kind_counts : (kind : ItemKind) → 1 ≤ kind_count kind
 kind_counts (Code i k) = row_counts (row_of i)

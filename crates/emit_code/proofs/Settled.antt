@@ -7,7 +7,7 @@ use Rattle.std.proofs.Common.{◌≡◌, ℕ, zero, suc, ◌+◌, ◌<◌, Bool,
 use Rattle.std.proofs.Common.{ap, subst, inl, inr, ◌∙◌, arith}
 use Rattle.std.specs.Prelude.{◌⊎◌, slice_get, slice_index}
 use Rattle.std.proofs.lemmas.List.Sums.{sum_by-cons, sum_by-take-le}
-use Rattle.rv64_instr.specs.Row.{Row, Fixes, Moves, Sets, Addresses, Loads, Stores, LoadsSlot, StoresSlot, Branches, Jumps, Calls, Returns, Unfit, row_of}
+use Rattle.rv64_instr.specs.Row.{Row, Branches, row_of}
 use Rattle.mir_func.specs.declared.block.Block.{Block}
 use Rattle.mir_func.specs.declared.item.Item.{Item}
 use Rattle.mir_func.specs.declared.item.ItemKind.{ItemKind}
@@ -142,18 +142,7 @@ sum_there long blocks n =
 
 abbrev pub row_far : List Block → (long : Pos → Bool) → Pos → Row → Bool
 row_far blocks long p (Branches op a b n) = not (reaches (bytes_before long blocks p) (bytes_before long blocks (target_point blocks n)))
-row_far blocks long p (Fixes rd n) = false
-row_far blocks long p (Moves rd rs) = false
-row_far blocks long p (Sets rd op a b) = false
-row_far blocks long p (Addresses rd n offset) = false
-row_far blocks long p (Loads rd op base offset) = false
-row_far blocks long p (Stores op rs base offset) = false
-row_far blocks long p (LoadsSlot rd n) = false
-row_far blocks long p (StoresSlot rs n) = false
-row_far blocks long p (Jumps target) = false
-row_far blocks long p (Calls name args) = false
-row_far blocks long p (Returns results) = false
-row_far blocks long p Unfit = false
+row_far blocks long p _ = false
 
 abbrev pub kind_far : List Block → (Pos → Bool) → Pos → ItemKind → Bool
 kind_far blocks long p (Code i k) = row_far blocks long p (row_of i)
@@ -185,18 +174,7 @@ module _ (blocks : List Block) (long : Pos → Bool) where
   row_grown (Branches op a b n) p k sums here there =
       branch_grown (row_far blocks long p (Branches op a b n)) (long p) (first_of blocks n) sums k
       ((λ i. reaches (here i) (there n i)) ∙ twice (reaches (bytes_before long blocks p) (bytes_before long blocks (target_point blocks n))))
-  row_grown (Fixes rd n) p k sums here there = refl
-  row_grown (Moves rd rs) p k sums here there = refl
-  row_grown (Sets rd op a b) p k sums here there = refl
-  row_grown (Addresses rd n offset) p k sums here there = refl
-  row_grown (Loads rd op base offset) p k sums here there = refl
-  row_grown (Stores op rs base offset) p k sums here there = refl
-  row_grown (LoadsSlot rd n) p k sums here there = refl
-  row_grown (StoresSlot rs n) p k sums here there = refl
-  row_grown (Jumps target) p k sums here there = refl
-  row_grown (Calls name args) p k sums here there = refl
-  row_grown (Returns results) p k sums here there = refl
-  row_grown Unfit p k sums here there = refl
+  row_grown _ p k sums here there = refl
 
   kind_grown : (kind : ItemKind) (p : Pos) (k : ℕ) (sums : List ℕ) → slice_index sums k ≡ bytes_before long blocks p →
       ((n : ℕ) → slice_index sums (first_of blocks n) ≡ bytes_before long blocks (target_point blocks n)) →

@@ -7,7 +7,7 @@ use Rattle.std.proofs.Common.{arith}
 use Rattle.std.specs.Prelude.{sum_by, slice_get, slice_index}
 use Rattle.std.proofs.lemmas.List.{take-append-le, length-append, length-map, take-map, append-nil, append_assoc}
 use Rattle.std.proofs.lemmas.List.Sums.{sum_by-cons, sum_by-append}
-use Rattle.rv64_instr.specs.Row.{Row, Fixes, Moves, Sets, Addresses, Loads, Stores, LoadsSlot, StoresSlot, Branches, Jumps, Calls, Returns, Unfit, row_of}
+use Rattle.rv64_instr.specs.Row.{Row, Branches, row_of}
 use Rattle.mir_func.specs.declared.block.Block.{Block}
 use Rattle.mir_func.specs.declared.item.Item.{Item}
 use Rattle.mir_func.specs.declared.item.ItemKind.{ItemKind}
@@ -25,20 +25,9 @@ abbrev pub site_size : (Pos → Bool) → Site → ℕ
 site_size long s = size_of (long s.point) s.item
 
 row_sized : (blocks : List Block) (long : Bool) (row : Row) → span_size (row_span blocks long row) ≡ form_size (row_form long row)
-row_sized blocks long (Fixes rd n) = refl
-row_sized blocks long (Moves rd rs) = refl
-row_sized blocks long (Sets rd op a b) = refl
-row_sized blocks long (Addresses rd n offset) = refl
-row_sized blocks long (Loads rd op base offset) = refl
-row_sized blocks long (Stores op rs base offset) = refl
-row_sized blocks long (LoadsSlot rd n) = refl
-row_sized blocks long (StoresSlot rs n) = refl
 row_sized blocks true (Branches op a b target) = refl
 row_sized blocks false (Branches op a b target) = refl
-row_sized blocks long (Jumps target) = refl
-row_sized blocks long (Calls name args) = refl
-row_sized blocks long (Returns results) = refl
-row_sized blocks long Unfit = refl
+row_sized blocks long _ = refl
 
 kind_sized : (blocks : List Block) (long : Bool) (kind : ItemKind) → span_size (span_of blocks long kind) ≡ form_size (form_of long kind)
 kind_sized blocks long (Code i k) = row_sized blocks long (row_of i)

@@ -8,7 +8,7 @@ use Rattle.std.proofs.lemmas.List.Elements.{All-nil, All-cons, All-append}
 use Rattle.std.proofs.lemmas.List.Sums.{sum_by-cons}
 use Rattle.rv64_instr.specs.Instruction.{Instruction}
 use Rattle.rv64_instr.specs.Parts.{is_call}
-use Rattle.rv64_instr.specs.Row.{Row, Fixes, Moves, Sets, Addresses, Loads, Stores, LoadsSlot, StoresSlot, Branches, Jumps, Calls, Returns, Unfit, row_of}
+use Rattle.rv64_instr.specs.Row.{Row, Branches, Calls, row_of}
 use Rattle.rv64_word.specs.declared.machine_op.MachineOp.{MachineOp}
 use Rattle.mir_func.specs.declared.item.Item.{Item}
 use Rattle.mir_func.specs.declared.item.ItemKind.{ItemKind}
@@ -70,20 +70,9 @@ form_length l a c (rule.LongBranch n) h some = omega (
 )
 
 row_something : (b : Bool) (row : Row) → row_form b row ≡ rule.Nothing → ⊥
-row_something b (Fixes rd n) e = cc
-row_something b (Moves rd rs) e = cc
-row_something b (Sets rd op x y) e = cc
-row_something b (Addresses rd n offset) e = cc
-row_something b (Loads rd op base offset) e = cc
-row_something b (Stores op rs base offset) e = cc
-row_something b (LoadsSlot rd n) e = cc
-row_something b (StoresSlot rs n) e = cc
 row_something true (Branches op x y n) e = cc
 row_something false (Branches op x y n) e = cc
-row_something b (Jumps target) e = cc
-row_something b (Calls name args) e = cc
-row_something b (Returns results) e = cc
-row_something b Unfit e = cc
+row_something b _ e = cc
 
 kind_length : (l : Layout) (p : Pos) (kind : ItemKind) → ((c : Instruction) (k : Option ℕ) → kind ≡ Code c k →
     FormWorded l (address_in l p) c (row_form (l.long p) (row_of c))) →
@@ -147,22 +136,12 @@ module _ (f : FramedFunction) (i : Item) (p : Pos) (at : fetch_in (drop p.block 
   only a n o call e = All-cons (IsOfItem f) (entry a n o p call) [] (one_of a n o call e) (All-nil (IsOfItem f))
 
   row_items : (a : ℕ) (o : Origin) (long : Bool) (row : Row) → is_call_kind i.kind ≡ is_call row → All (IsOfItem f) (form_entries a o p (row_form long row))
-  row_items a o long (Fixes rd n) e = only a 4 o false e
-  row_items a o long (Moves rd rs) e = only a 4 o false e
-  row_items a o long (Sets rd op x y) e = only a 4 o false e
-  row_items a o long (Addresses rd n offset) e = only a 4 o false e
-  row_items a o long (Loads rd op base offset) e = only a 4 o false e
-  row_items a o long (Stores op rs base offset) e = only a 4 o false e
-  row_items a o long (LoadsSlot rd n) e = only a 4 o false e
-  row_items a o long (StoresSlot rs n) e = only a 4 o false e
   row_items a o true (Branches op x y n) e =
       All-cons (IsOfItem f) (entry a 4 (added_before o) p false) (entry (a + 4) 4 o p false ∷ []) (one_of a 4 (added_before o) false e) (only (a + 4) 4 o false
       e)
   row_items a o false (Branches op x y n) e = only a 4 o false e
-  row_items a o long (Jumps target) e = only a 4 o false e
   row_items a o long (Calls name args) e = only a 8 o true e
-  row_items a o long (Returns results) e = only a 4 o false e
-  row_items a o long Unfit e = only a 4 o false e
+  row_items a o long _ e = only a 4 o false e
 
   kind_items : (a : ℕ) (o : Origin) (long : Bool) (kind : ItemKind) → i.kind ≡ kind → All (IsOfItem f) (form_entries a o p (form_of long kind))
   kind_items a o long (Code c k) e = row_items a o long (row_of c) (ap is_call_kind e)

@@ -244,15 +244,4 @@ module _ (slots : List ℕ) (saved : List SavedRegister) (Alike : ℕ → Type 0
       (alike_either Near (are_written c (reads r)) (does r c) Traps (does (renamed_row slots r) d) Traps core tt) where
         reads_same : (x : Row) → reads (renamed_row slots x) ≡ reads x
         reads_same (LoadsSlot rd n) = refl
-        reads_same (StoresSlot rs n) = refl
-        reads_same (Fixes rd n) = refl
-        reads_same (Moves rd rs) = refl
-        reads_same (Sets rd op a b) = refl
-        reads_same (Addresses rd n o) = refl
-        reads_same (Loads rd op b o) = refl
-        reads_same (Stores op rs b o) = refl
-        reads_same (Branches op a b t) = refl
-        reads_same (Jumps t) = refl
-        reads_same (Calls name args) = refl
-        reads_same (Returns v) = refl
-        reads_same Unfit = refl
+        reads_same _ = refl

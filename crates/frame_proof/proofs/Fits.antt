@@ -11,7 +11,7 @@ use Rattle.rv64_instr.specs.declared.operand.Operand.{Operand}
 use Rattle.rv64_instr.specs.declared.operand.Operand.TheVariants.{Def, Use, ImplicitDef, ImplicitUse, Imm, Slot, Object, Block, Symbol, Mask}
 use Rattle.rv64_instr.specs.Arithmetic.{word, taken, load_width, store_width}
 use Rattle.rv64_instr.specs.Form.{has_form, is_result}
-use Rattle.rv64_instr.specs.Row.{Row, Fixes, Moves, Sets, Addresses, Loads, Stores, LoadsSlot, StoresSlot, Branches, Jumps, Calls, Returns, Unfit, row_of}
+use Rattle.rv64_instr.specs.Row.{Row, Loads, Stores, LoadsSlot, Branches, Jumps, Calls, row_of}
 use Rattle.rv64_instr.specs.Row.{row_by, move_row, immediate_row, object_row, implicit_uses}
 use Rattle.rv64_instr.specs.DefsAndUses.{reads}
 use Rattle.mir_func.specs.declared.exit.Exit.TheVariants.{Final}
@@ -55,19 +55,12 @@ call_by name args vs c (x ∷ rs) = either_by (Calls name args) (writes_frame c.
 
 does_by : (r : Row) (c : Core) → GoesBy r (does r c)
 unfolding does
-does_by (Fixes rd n) c = tt
-does_by (Moves rd rs) c = tt
-does_by (Sets rd op a b) c = tt
-does_by (Addresses rd n o) c = tt
 does_by (Loads rd op b o) c = either_by (Loads rd op b o) (is_fault b c (address_at c b o) (load_width op)) Traps _ tt tt
 does_by (Stores op rs b o) c = either_by (Stores op rs b o) (is_fault b c (address_at c b o) (store_width op)) Traps _ tt tt
 does_by (LoadsSlot rd n) c = slot_by rd n c (c.slots n)
-does_by (StoresSlot rs n) c = tt
 does_by (Branches op a b t) c = either_by (Branches op a b t) (taken op (read c a) (read c b)) (Goes t c) (Falls c) tt tt
-does_by (Jumps t) c = tt
 does_by (Calls name args) c = call_by name args (map (read c) args) c c.script
-does_by (Returns v) c = tt
-does_by Unfit c = tt
+does_by _ c = tt
 
 act_by : (r : Row) (c : Core) → GoesBy r (act r c)
 unfolding act

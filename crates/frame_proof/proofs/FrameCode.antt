@@ -3,7 +3,7 @@ use Rattle.std.proofs.Common.{◌≡◌, ℕ, zero, suc, List, Option, Some, Non
 use Rattle.std.proofs.Common.{IsSome, true, false, refl, ap, ◌∙◌}
 use Rattle.rv64_instr.specs.declared.op.RegisterOp.TheVariants.{Add}
 use Rattle.rv64_instr.specs.Arithmetic.{computed}
-use Rattle.rv64_instr.specs.Row.{Row, Fixes, Moves, Sets, Addresses, Loads, Stores, LoadsSlot, StoresSlot, Branches, Jumps, Calls, Returns, Unfit, row_of}
+use Rattle.rv64_instr.specs.Row.{Row, LoadsSlot, StoresSlot, Jumps, row_of}
 use Rattle.rv64_instr.specs.Row.{add_row}
 use Rattle.mir_func.specs.declared.exit.Exit.{Exit}
 use Rattle.mir_func.specs.declared.exit.Exit.TheVariants.{Onward, Perhaps, Always, Final}
@@ -31,18 +31,7 @@ adds_no_jump (suc n) = refl
 
 pub row_jump : (slots : List ℕ) (r : Row) → is_jump_row (renamed_row slots r) ≡ is_jump_row r
 row_jump slots (Jumps t) = refl
-row_jump slots (LoadsSlot rd n) = refl
-row_jump slots (StoresSlot rs n) = refl
-row_jump slots (Fixes rd n) = refl
-row_jump slots (Moves rd rs) = refl
-row_jump slots (Sets rd op a b) = refl
-row_jump slots (Addresses rd n o) = refl
-row_jump slots (Loads rd op b o) = refl
-row_jump slots (Stores op rs b o) = refl
-row_jump slots (Branches op a b t) = refl
-row_jump slots (Calls name args) = refl
-row_jump slots (Returns v) = refl
-row_jump slots Unfit = refl
+row_jump slots _ = refl
 
 pub kind_jump : (slots : List ℕ) (k : ItemKind) → is_jump (renamed_kind slots k) ≡ is_jump k
 kind_jump slots (Code i n) = ap is_jump_row (row_renamed slots i) ∙ row_jump slots (row_of i)

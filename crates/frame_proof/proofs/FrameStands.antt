@@ -11,7 +11,7 @@ use Rattle.rv64_instr.specs.declared.op.ImmediateOp.TheVariants.{Addi}
 use Rattle.rv64_instr.specs.declared.operand.Operand.{Operand}
 use Rattle.rv64_instr.specs.declared.operand.Operand.TheVariants.{Def, Use, Imm, Slot, Object, Block as ToBlock, Symbol}
 use Rattle.rv64_instr.specs.Arithmetic.{word, taken, load_width, store_width}
-use Rattle.rv64_instr.specs.Row.{Row, Fixes, Moves, Sets, Addresses, Loads, Stores, LoadsSlot, StoresSlot, Branches, Jumps, Calls, Returns, Unfit, row_of}
+use Rattle.rv64_instr.specs.Row.{Row, Loads, Stores, LoadsSlot, Branches, Calls, Returns, row_of}
 use Rattle.rv64_instr.specs.Row.{row_by, move_row, immediate_row, object_row}
 use Rattle.rv64_instr.specs.DefsAndUses.{reads, sets}
 use Rattle.mir_func.specs.declared.block.Block.{Block}
@@ -114,19 +114,13 @@ call_gives name args vs c (x ∷ rs) = either_gives (Calls name args) (writes_fr
 
 does_gives : (r : Row) (c : Core) → GivesBy r (does r c)
 unfolding does
-does_gives (Fixes rd n) c = tt
-does_gives (Moves rd rs) c = tt
-does_gives (Sets rd op a b) c = tt
-does_gives (Addresses rd n o) c = tt
 does_gives (Loads rd op b o) c = either_gives (Loads rd op b o) (is_fault b c (address_at c b o) (load_width op)) Traps _ tt tt
 does_gives (Stores op rs b o) c = either_gives (Stores op rs b o) (is_fault b c (address_at c b o) (store_width op)) Traps _ tt tt
 does_gives (LoadsSlot rd n) c = slot_gives rd n c (c.slots n)
-does_gives (StoresSlot rs n) c = tt
 does_gives (Branches op a b t) c = either_gives (Branches op a b t) (taken op (read c a) (read c b)) (Goes t c) (Falls c) tt tt
-does_gives (Jumps t) c = tt
 does_gives (Calls name args) c = call_gives name args (map (read c) args) c c.script
 does_gives (Returns v) c = refl
-does_gives Unfit c = tt
+does_gives _ c = tt
 
 act_gives : (r : Row) (c : Core) → GivesBy r (act r c)
 unfolding act

@@ -4,7 +4,7 @@ use Rattle.std.proofs.Common.{Bool, true, false, cond, nat_eq, nat_le, le-leb, �
 use Rattle.std.specs.List.{list_any}
 use Rattle.rv64_instr.specs.declared.place.Place.TheVariants.{Register, Slot}
 use Rattle.rv64_instr.specs.Arithmetic.{word, computed}
-use Rattle.rv64_instr.specs.Row.{Row, Fixes, Moves, Sets, Addresses, Loads, Stores, LoadsSlot, StoresSlot, Branches, Jumps, Calls, Returns, Unfit, row_of}
+use Rattle.rv64_instr.specs.Row.{Row, LoadsSlot, StoresSlot, row_of}
 use Rattle.rv64_instr.specs.Row.{add_row}
 use Rattle.rv64_instr.specs.DefsAndUses.{sets}
 use Rattle.mir_func.specs.declared.framed.SavedRegister.{SavedRegister}
@@ -62,18 +62,7 @@ not_any n (r ∷ rs) h c = by_test (nat_eq n r) refl h c (not_any n rs) where
 
 same_sets : (slots : List ℕ) (r : Row) → sets (renamed_row slots r) ≡ sets r
 same_sets slots (LoadsSlot rd n) = refl
-same_sets slots (StoresSlot rs n) = refl
-same_sets slots (Fixes rd n) = refl
-same_sets slots (Moves rd rs) = refl
-same_sets slots (Sets rd op a b) = refl
-same_sets slots (Addresses rd n o) = refl
-same_sets slots (Loads rd op b o) = refl
-same_sets slots (Stores op rs b o) = refl
-same_sets slots (Branches op a b t) = refl
-same_sets slots (Jumps t) = refl
-same_sets slots (Calls name args) = refl
-same_sets slots (Returns v) = refl
-same_sets slots Unfit = refl
+same_sets slots _ = refl
 
 -- an item sets a register only where the same item with its slots by number does
 pub leaves_register : (slots : List ℕ) (k : ItemKind) (r : ℕ) → sets_register r k ≡ false → KindDefines (renamed_kind slots k) (Register r) → ⊥
@@ -87,18 +76,7 @@ leaves_register slots (Phi p n) r none h = h
 row_leaves : (slots : List ℕ) (r : Row) (o : ℕ) → SlotIn slots r → ((n : ℕ) → Contains slots n → slot_offset slots n ≡ o → ⊥) →
     RowDefines (renamed_row slots r) (Slot o) → ⊥
 row_leaves slots (StoresSlot rs n) o j far h = far n j h
-row_leaves slots (LoadsSlot rd n) o j far h = h
-row_leaves slots (Fixes rd n) o j far h = h
-row_leaves slots (Moves rd rs) o j far h = h
-row_leaves slots (Sets rd op a b) o j far h = h
-row_leaves slots (Addresses rd n q) o j far h = h
-row_leaves slots (Loads rd op b q) o j far h = h
-row_leaves slots (Stores op rs b q) o j far h = h
-row_leaves slots (Branches op a b t) o j far h = h
-row_leaves slots (Jumps t) o j far h = h
-row_leaves slots (Calls name args) o j far h = h
-row_leaves slots (Returns v) o j far h = h
-row_leaves slots Unfit o j far h = h
+row_leaves slots _ o j far h = h
 
 -- and it stores to the offsets of declared slots alone
 pub leaves_place : (slots : List ℕ) (k : ItemKind) (o : ℕ) → SlotsIn slots k → ((n : ℕ) → Contains slots n → slot_offset slots n ≡ o → ⊥) →

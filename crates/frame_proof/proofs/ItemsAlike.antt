@@ -6,7 +6,7 @@ use Rattle.rv64_instr.specs.declared.operand.Operand.{Operand}
 use Rattle.rv64_instr.specs.declared.operand.Operand.TheVariants.{Def, Use, ImplicitDef, ImplicitUse, Imm, Slot, Object, Block, Symbol, Mask}
 use Rattle.rv64_instr.specs.declared.place.Place.{Place}
 use Rattle.rv64_instr.specs.declared.place.Place.TheVariants.{Register, Slot as InSlot, Const}
-use Rattle.rv64_instr.specs.Row.{Row, Fixes, Moves, Sets, Addresses, Loads, Stores, LoadsSlot, StoresSlot, Branches, Jumps, Calls, Returns, Unfit, row_of}
+use Rattle.rv64_instr.specs.Row.{Row, Calls, Returns, Unfit, row_of}
 use Rattle.rv64_instr.specs.DefsAndUses.{reads}
 use Rattle.rv64_instr.specs.Parts.{is_call}
 use Rattle.mir_func.specs.declared.exit.Exit.TheVariants.{Final}
@@ -31,18 +31,7 @@ use Rattle.frame_proof.proofs.Cores.{Beside, act_near, written_near, reads_near}
 
 call_same : (slots : List ℕ) (r : Row) → is_call (renamed_row slots r) ≡ is_call r
 call_same slots (Calls name args) = refl
-call_same slots (LoadsSlot rd n) = refl
-call_same slots (StoresSlot rs n) = refl
-call_same slots (Fixes rd n) = refl
-call_same slots (Moves rd rs) = refl
-call_same slots (Sets rd op a b) = refl
-call_same slots (Addresses rd n o) = refl
-call_same slots (Loads rd op b o) = refl
-call_same slots (Stores op rs b o) = refl
-call_same slots (Branches op a b t) = refl
-call_same slots (Jumps t) = refl
-call_same slots (Returns v) = refl
-call_same slots Unfit = refl
+call_same slots _ = refl
 
 defined_same : (slots : List ℕ) (call : Bool) (x : Operand) → defined call (Some (renamed_operand slots x)) ≡ defined call (Some x)
 defined_same slots call (Def r) = refl
@@ -177,14 +166,4 @@ final_near slots saved Alike todo R c d h (Returns v) e k =
     (alike_either R (are_written c v) (Gives (map (read c) v)) Traps (Gives (map (read d) v)) Traps
     (reads_near slots saved Alike todo c d h v k) tt)
 final_near slots saved Alike todo R c d h Unfit e k = tt
-final_near slots saved Alike todo R c d h (Fixes rd n) e k = cc
-final_near slots saved Alike todo R c d h (Moves rd rs) e k = cc
-final_near slots saved Alike todo R c d h (Sets rd op a b) e k = cc
-final_near slots saved Alike todo R c d h (Addresses rd n o) e k = cc
-final_near slots saved Alike todo R c d h (Loads rd op b o) e k = cc
-final_near slots saved Alike todo R c d h (Stores op rs b o) e k = cc
-final_near slots saved Alike todo R c d h (LoadsSlot rd n) e k = cc
-final_near slots saved Alike todo R c d h (StoresSlot rs n) e k = cc
-final_near slots saved Alike todo R c d h (Branches op a b t) e k = cc
-final_near slots saved Alike todo R c d h (Jumps t) e k = cc
-final_near slots saved Alike todo R c d h (Calls n a) e k = cc
+final_near slots saved Alike todo R c d h _ e k = cc

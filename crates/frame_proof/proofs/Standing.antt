@@ -8,7 +8,7 @@ use Rattle.std.proofs.lemmas.List.Concat.{flat_map-cons}
 use Rattle.std.proofs.lemmas.List.Elements.{All-head, All-tail, All-contains}
 use Rattle.rv64_instr.specs.Arithmetic.{word}
 use Rattle.rv64_instr.specs.Instruction.{Instruction}
-use Rattle.rv64_instr.specs.Row.{Row, Fixes, Moves, Sets, Addresses, Loads, Stores, LoadsSlot, StoresSlot, Branches, Jumps, Calls, Returns, Unfit, row_of}
+use Rattle.rv64_instr.specs.Row.{Row, LoadsSlot, StoresSlot, Returns, Unfit, row_of}
 use Rattle.rv64_instr.specs.Row.{add_row}
 use Rattle.mir_func.specs.declared.block.Block.{Block}
 use Rattle.mir_func.specs.declared.debug_substitution.OperandPair.{OperandPair}
@@ -53,18 +53,7 @@ is_the_end (Always n) h = cc
 
 exit_same : (slots : List ℕ) (r : Row) → row_exit (renamed_row slots r) ≡ row_exit r
 exit_same slots (LoadsSlot rd n) = refl
-exit_same slots (StoresSlot rs n) = refl
-exit_same slots (Fixes rd n) = refl
-exit_same slots (Moves rd rs) = refl
-exit_same slots (Sets rd op a b) = refl
-exit_same slots (Addresses rd n o) = refl
-exit_same slots (Loads rd op b o) = refl
-exit_same slots (Stores op rs b o) = refl
-exit_same slots (Branches op a b t) = refl
-exit_same slots (Jumps t) = refl
-exit_same slots (Calls name args) = refl
-exit_same slots (Returns v) = refl
-exit_same slots Unfit = refl
+exit_same slots _ = refl
 
 pub kind_exit : (slots : List ℕ) (k : ItemKind) → exit_of (renamed_kind slots k) ≡ exit_of k
 kind_exit slots (Code i n) = ap row_exit (row_renamed slots i) ∙ exit_same slots (row_of i)
@@ -76,17 +65,7 @@ row_ends : (r : Row) (c : Core) → row_exit r ≡ Final → OnCore (λ d. ⊥) 
 unfolding act does
 row_ends (Returns v) c h = on_either (λ d. ⊥) (are_written c v) (Gives (map (read c) v)) Traps tt tt
 row_ends Unfit c h = tt
-row_ends (Fixes rd n) c h = cc
-row_ends (Moves rd rs) c h = cc
-row_ends (Sets rd op a b) c h = cc
-row_ends (Addresses rd n o) c h = cc
-row_ends (Loads rd op b o) c h = cc
-row_ends (Stores op rs b o) c h = cc
-row_ends (LoadsSlot rd n) c h = cc
-row_ends (StoresSlot rs n) c h = cc
-row_ends (Branches op a b t) c h = cc
-row_ends (Jumps t) c h = cc
-row_ends (Calls n a) c h = cc
+row_ends _ c h = cc
 
 nowhere : (j : Core → Core) (x : Outcome) → OnCore (λ d. ⊥) x → OnCore (λ d. ⊥) (with_core j x)
 nowhere j (Falls c) h = h

@@ -8,7 +8,7 @@ use Rattle.rv64_instr.specs.declared.operand.Operand.TheVariants.{Def, Use, Impl
 use Rattle.rv64_instr.specs.declared.place.Place.{Place}
 use Rattle.rv64_instr.specs.declared.place.Place.TheVariants.{Register, Slot as InSlot, Const}
 use Rattle.rv64_instr.specs.Arithmetic.{word}
-use Rattle.rv64_instr.specs.Row.{Row, Fixes, Moves, Sets, Addresses, Loads, Stores, LoadsSlot, StoresSlot, Branches, Jumps, Calls, Returns, Unfit, row_of}
+use Rattle.rv64_instr.specs.Row.{Row, LoadsSlot, StoresSlot, row_of}
 use Rattle.rv64_instr.specs.Row.{add_row}
 use Rattle.mir_func.specs.declared.block.Block.{Block}
 use Rattle.mir_func.specs.declared.exit.Exit.{Exit}
@@ -46,18 +46,7 @@ not_the_end x h e = let bad : true ≡ false = sym (ap is_final e) ∙ h in cc
 
 exit_same : (slots : List ℕ) (r : Row) → row_exit (renamed_row slots r) ≡ row_exit r
 exit_same slots (LoadsSlot rd n) = refl
-exit_same slots (StoresSlot rs n) = refl
-exit_same slots (Fixes rd n) = refl
-exit_same slots (Moves rd rs) = refl
-exit_same slots (Sets rd op a b) = refl
-exit_same slots (Addresses rd n o) = refl
-exit_same slots (Loads rd op b o) = refl
-exit_same slots (Stores op rs b o) = refl
-exit_same slots (Branches op a b t) = refl
-exit_same slots (Jumps t) = refl
-exit_same slots (Calls name args) = refl
-exit_same slots (Returns v) = refl
-exit_same slots Unfit = refl
+exit_same slots _ = refl
 
 pub kind_exit : (slots : List ℕ) (k : ItemKind) → exit_of (renamed_kind slots k) ≡ exit_of k
 kind_exit slots (Code i n) = ap row_exit (row_renamed slots i) ∙ exit_same slots (row_of i)
@@ -66,48 +55,16 @@ kind_exit slots (Phi p n) = refl
 
 target_same : (slots ids : List ℕ) (r : Row) → TargetIn ids (renamed_row slots r) ≡ TargetIn ids r
 target_same slots ids (LoadsSlot rd n) = refl
-target_same slots ids (StoresSlot rs n) = refl
-target_same slots ids (Fixes rd n) = refl
-target_same slots ids (Moves rd rs) = refl
-target_same slots ids (Sets rd op a b) = refl
-target_same slots ids (Addresses rd n o) = refl
-target_same slots ids (Loads rd op b o) = refl
-target_same slots ids (Stores op rs b o) = refl
-target_same slots ids (Branches op a b t) = refl
-target_same slots ids (Jumps t) = refl
-target_same slots ids (Calls name args) = refl
-target_same slots ids (Returns v) = refl
-target_same slots ids Unfit = refl
+target_same slots ids _ = refl
 
 object_same : (slots : List ℕ) (objects : List StackObject) (r : Row) → ObjectIn objects (renamed_row slots r) ≡ ObjectIn objects r
 object_same slots objects (LoadsSlot rd n) = refl
-object_same slots objects (StoresSlot rs n) = refl
-object_same slots objects (Fixes rd n) = refl
-object_same slots objects (Moves rd rs) = refl
-object_same slots objects (Sets rd op a b) = refl
-object_same slots objects (Addresses rd n o) = refl
-object_same slots objects (Loads rd op b o) = refl
-object_same slots objects (Stores op rs b o) = refl
-object_same slots objects (Branches op a b t) = refl
-object_same slots objects (Jumps t) = refl
-object_same slots objects (Calls name args) = refl
-object_same slots objects (Returns v) = refl
-object_same slots objects Unfit = refl
+object_same slots objects _ = refl
 
 slot_in : (f : Function) (r : Row) → SlotIn f.slots r → SlotIn (slot_offsets (framed_of f)) (renamed_row f.slots r)
 slot_in f (LoadsSlot rd n) h = slot_has_offset f n h
 slot_in f (StoresSlot rs n) h = slot_has_offset f n h
-slot_in f (Fixes rd n) h = h
-slot_in f (Moves rd rs) h = h
-slot_in f (Sets rd op a b) h = h
-slot_in f (Addresses rd n o) h = h
-slot_in f (Loads rd op b o) h = h
-slot_in f (Stores op rs b o) h = h
-slot_in f (Branches op a b t) h = h
-slot_in f (Jumps t) h = h
-slot_in f (Calls name args) h = h
-slot_in f (Returns v) h = h
-slot_in f Unfit h = h
+slot_in f _ h = h
 
 adds_slot : (offsets : List ℕ) (n : ℕ) → SlotIn offsets (add_row 2 2 n)
 adds_slot offsets zero = tt

@@ -18,7 +18,7 @@ use Rattle.rv64_instr.specs.declared.operand.Operand.{Operand}
 use Rattle.rv64_instr.specs.declared.operand.Operand.TheVariants.{Use, Imm, Slot as OfSlot}
 use Rattle.rv64_instr.specs.Arithmetic.{taken}
 use Rattle.rv64_instr.specs.Parts.{is_call}
-use Rattle.rv64_instr.specs.Row.{Row, Fixes, Moves, Sets, Addresses, Loads, Stores, LoadsSlot, StoresSlot, Branches, Jumps, Calls, Returns, Unfit, row_of}
+use Rattle.rv64_instr.specs.Row.{Row, Fixes, Moves, Sets, LoadsSlot, StoresSlot, Branches, Jumps, Returns, row_of}
 use Rattle.mir_func.specs.declared.block.Block.{Block}
 use Rattle.mir_func.specs.declared.debug_substitution.OperandPair.{OperandPair}
 use Rattle.mir_func.specs.declared.item.Item.{Item}
@@ -59,11 +59,7 @@ IsMildRow (StoresSlot rs n) = rs < 32
 IsMildRow (Branches op a b target) = (a < 32) × (b < 32)
 IsMildRow (Jumps target) = Unit {0}
 IsMildRow (Returns results) = All IsLow results
-IsMildRow (Addresses rd n offset) = ⊥
-IsMildRow (Loads rd op base offset) = ⊥
-IsMildRow (Stores op rs base offset) = ⊥
-IsMildRow (Calls name args) = ⊥
-IsMildRow Unfit = ⊥
+IsMildRow _ = ⊥
 
 abbrev pub IsMild : ItemKind → Type 0
 IsMild (Code i k) = IsMildRow (row_of i)
@@ -145,11 +141,7 @@ does_mildly (StoresSlot rs n) c m h = record { regs = h.regs; slots = λ q l. sl
 does_mildly (Branches op a b t) c m h = either (taken op (read c a) (read c b)) (Goes t c) (Falls c) h h
 does_mildly (Jumps t) c m h = h
 does_mildly (Returns v) c m h = tt
-does_mildly (Addresses rd n o) c m h = absurd m
-does_mildly (Loads rd op b o) c m h = absurd m
-does_mildly (Stores op rs b o) c m h = absurd m
-does_mildly (Calls name args) c m h = absurd m
-does_mildly Unfit c m h = absurd m
+does_mildly _ c m h = absurd m
 
 -- what it reads is written
 all_written : (c : Core) (rs : List ℕ) → HasRegisters c → All IsLow rs → are_written c rs ≡ true
@@ -174,11 +166,7 @@ reads_low (StoresSlot rs n) m = one rs m
 reads_low (Branches op a b t) m = two a b m.0 m.1
 reads_low (Jumps t) m = All-nil IsLow
 reads_low (Returns v) m = m
-reads_low (Addresses rd n o) m = absurd m
-reads_low (Loads rd op b o) m = absurd m
-reads_low (Stores op rs b o) m = absurd m
-reads_low (Calls name args) m = absurd m
-reads_low Unfit m = absurd m
+reads_low _ m = absurd m
 
 act_does : (r : Row) (c : Core) → IsMildRow r → HasRegisters c → act r c ≡ does r c
 unfolding act

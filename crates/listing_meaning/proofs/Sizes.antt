@@ -13,7 +13,7 @@ use Rattle.rv64_instr.specs.declared.operand.Operand.TheVariants.{Def, Use, Imm,
 use Rattle.rv64_instr.specs.Arithmetic.{word}
 use Rattle.rv64_instr.specs.Form.{has_form, fits_call}
 use Rattle.rv64_instr.specs.Parts.{is_call}
-use Rattle.rv64_instr.specs.Row.{Row, Fixes, Moves, Sets, Addresses, Loads, Stores, LoadsSlot, StoresSlot, Branches, Jumps, Calls, Returns, Unfit}
+use Rattle.rv64_instr.specs.Row.{Row, Branches}
 use Rattle.rv64_instr.specs.Row.{move_row, add_row, immediate_row, object_row, registers_row, number_row, upper_row, branch_row, load_row, store_row}
 use Rattle.rv64_instr.specs.Row.{copy_row, jump_row, row_by, row_of}
 use Rattle.rv64_instr.specs.Instruction.{Instruction}
@@ -86,20 +86,9 @@ is_call_form OneWord = false
 is_call_form (LongBranch n) = false
 
 row_calls : (far : Bool) (r : Row) → is_call_form (row_form far r) ≡ is_call r
-row_calls far (Fixes rd n) = refl
-row_calls far (Moves rd rs) = refl
-row_calls far (Sets rd op a b) = refl
-row_calls far (Addresses rd n offset) = refl
-row_calls far (Loads rd op base offset) = refl
-row_calls far (Stores op rs base offset) = refl
-row_calls far (LoadsSlot rd n) = refl
-row_calls far (StoresSlot rs n) = refl
 row_calls true (Branches op a b target) = refl
 row_calls false (Branches op a b target) = refl
-row_calls far (Jumps target) = refl
-row_calls far (Calls name args) = refl
-row_calls far (Returns results) = refl
-row_calls far Unfit = refl
+row_calls far _ = refl
 
 -- what never calls doesn't so with other operands either
 both_no_call : (far : Bool) (op : Op) (os ps : List Operand) → ((qs : List Operand) → is_call (row_by op qs) ≡ false) →

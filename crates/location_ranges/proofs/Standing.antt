@@ -1,7 +1,7 @@
 -- The walk goes on past an item: what it knows before the item tells what holds below it.
 use Rattle.std.proofs.Common.{◌≡◌, ℕ, zero, suc, ◌+◌, ◌<◌, List, [], ◌∷◌, map, length, drop, arith, refl, sym, ◌∙◌, ap, subst, inr, true, false}
 use Rattle.std.specs.Prelude.{ℤ, Option, Some, None, IsSome, slice_get, slice_index, slice_index_or}
-use Rattle.rv64_instr.specs.Row.{Row, Fixes, Moves, Sets, Addresses, Loads, Stores, LoadsSlot, StoresSlot, Branches, Jumps, Calls, Returns, Unfit, row_of}
+use Rattle.rv64_instr.specs.Row.{Row, Branches, Jumps, Returns, Unfit, row_of}
 use Rattle.mir_func.specs.declared.block.Block.{Block}
 use Rattle.mir_func.specs.declared.debug_substitution.OperandPair.{OperandPair}
 use Rattle.mir_func.specs.declared.item.Item.{Item}
@@ -54,34 +54,17 @@ module _ (enter : ℕ → ℕ) (p : Pos) where
   no_start n e = let item : p.item + 1 ≡ 0 = ap (λ (z : Pos). z.item) e in omega (arith, item)
 
   row_falls : (r : Row) → RowEdge enter r p (below p) → Falls (row_exit r)
-  row_falls (Fixes rd n) e = tt
-  row_falls (Moves rd rs) e = tt
-  row_falls (Sets rd op a b) e = tt
-  row_falls (Addresses rd n offset) e = tt
-  row_falls (Loads rd op base offset) e = tt
-  row_falls (Stores op rs base offset) e = tt
-  row_falls (LoadsSlot rd n) e = tt
-  row_falls (StoresSlot rs n) e = tt
-  row_falls (Branches op a b target) e = tt
   row_falls (Jumps target) e = no_start (enter target) e
-  row_falls (Calls name args) e = tt
   row_falls (Returns results) e = e
   row_falls Unfit e = e
+  row_falls _ e = tt
 
   falls_row : (r : Row) → Falls (row_exit r) → RowEdge enter r p (below p)
-  falls_row (Fixes rd n) e = refl
-  falls_row (Moves rd rs) e = refl
-  falls_row (Sets rd op a b) e = refl
-  falls_row (Addresses rd n offset) e = refl
-  falls_row (Loads rd op base offset) e = refl
-  falls_row (Stores op rs base offset) e = refl
-  falls_row (LoadsSlot rd n) e = refl
-  falls_row (StoresSlot rs n) e = refl
   falls_row (Branches op a b target) e = inr refl
   falls_row (Jumps target) e = absurd e
-  falls_row (Calls name args) e = refl
   falls_row (Returns results) e = absurd e
   falls_row Unfit e = absurd e
+  falls_row _ e = refl
 
   kind_falls : (k : ItemKind) → KindEdge enter k p (below p) → Falls (exit_of k)
   kind_falls (Code i k) e = row_falls (row_of i) e

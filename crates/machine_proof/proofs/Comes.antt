@@ -61,46 +61,17 @@ added_row slots (LoadsSlot rd n) k source_end h = inl tt
 added_row slots (Fixes rd n) k source_end h = inl tt
 added_row slots (StoresSlot rs n) k source_end h = inl tt
 added_row slots (Jumps target) k source_end h = inr h
-added_row slots (Moves rd rs) k source_end h = absurd h
-added_row slots (Sets rd op a b) k source_end h = absurd h
-added_row slots (Addresses rd n o) k source_end h = absurd h
-added_row slots (Loads rd op base o) k source_end h = absurd h
-added_row slots (Stores op rs base o) k source_end h = absurd h
-added_row slots (Branches op a b t) k source_end h = absurd h
-added_row slots (Calls name args) k source_end h = absurd h
-added_row slots (Returns results) k source_end h = absurd h
-added_row slots Unfit k source_end h = absurd h
+added_row slots _ k source_end h = absurd h
 
 renamed_exit : (slots : List ℕ) (r : Row) → row_exit (renamed_row slots r) ≡ row_exit r
 renamed_exit slots (LoadsSlot rd n) = refl
-renamed_exit slots (StoresSlot rs n) = refl
-renamed_exit slots (Fixes rd n) = refl
-renamed_exit slots (Moves rd rs) = refl
-renamed_exit slots (Sets rd op a b) = refl
-renamed_exit slots (Addresses rd n o) = refl
-renamed_exit slots (Loads rd op base o) = refl
-renamed_exit slots (Stores op rs base o) = refl
-renamed_exit slots (Branches op a b t) = refl
-renamed_exit slots (Jumps t) = refl
-renamed_exit slots (Calls name args) = refl
-renamed_exit slots (Returns results) = refl
-renamed_exit slots Unfit = refl
+renamed_exit slots _ = refl
 
 -- a return, or no code
 final_class : (r : Row) → row_exit r ≡ Final → (class_of r ≡ Return) ⊎ (class_of r ≡ Odd)
 final_class (Returns results) e = inl refl
 final_class Unfit e = inr refl
-final_class (Fixes rd n) e = cc
-final_class (Moves rd rs) e = cc
-final_class (Sets rd op a b) e = cc
-final_class (Addresses rd n o) e = cc
-final_class (Loads rd op base o) e = cc
-final_class (Stores op rs base o) e = cc
-final_class (LoadsSlot rd n) e = cc
-final_class (StoresSlot rs n) e = cc
-final_class (Branches op a b t) e = cc
-final_class (Jumps t) e = cc
-final_class (Calls name args) e = cc
+final_class _ e = cc
 
 pub final_not_added : (r : Row) (k source_end : ℕ) → row_exit r ≡ Final → MayAdd r k source_end → ⊥
 final_not_added (Returns results) k source_end e h = h

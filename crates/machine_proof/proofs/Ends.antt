@@ -3,7 +3,7 @@ use Rattle.std.proofs.Common.{◌≡◌, ◌⊎◌, ℕ, zero, suc, ◌*◌, ◌
 use Rattle.std.proofs.Common.{Some, None, true, false}
 use Rattle.std.proofs.Common.{refl, sym, ap, ◌∙◌, subst, inl, inr, arith}
 use Rattle.rv64_instr.specs.Parts.{IsSlotStore}
-use Rattle.rv64_instr.specs.Row.{Row, Fixes, Moves, Sets, Addresses, Loads, Stores, LoadsSlot, StoresSlot, Branches, Jumps, Calls, Returns, Unfit, row_of}
+use Rattle.rv64_instr.specs.Row.{Row, Fixes, LoadsSlot, StoresSlot, Jumps, Returns, Unfit, row_of}
 use Rattle.mir_func.specs.declared.exit.Exit.{Exit}
 use Rattle.mir_func.specs.declared.exit.Exit.TheVariants.{Onward, Always, Final}
 use Rattle.mir_func.specs.declared.item.Item.{Item}
@@ -70,47 +70,19 @@ end_row (StoresSlot rs n) k source_end e h = inl tt
 end_row (Jumps t) k source_end e h = inr refl
 end_row (Fixes rd n) k source_end e h = absurd (omega (arith, e, h))
 end_row (LoadsSlot rd n) k source_end e h = absurd (omega (arith, e, h))
-end_row (Moves rd rs) k source_end e h = absurd h
-end_row (Sets rd op a b) k source_end e h = absurd h
-end_row (Addresses rd n o) k source_end e h = absurd h
-end_row (Loads rd op base o) k source_end e h = absurd h
-end_row (Stores op rs base o) k source_end e h = absurd h
-end_row (Branches op a b t) k source_end e h = absurd h
-end_row (Calls name args) k source_end e h = absurd h
-end_row (Returns results) k source_end e h = absurd h
-end_row Unfit k source_end e h = absurd h
+end_row _ k source_end e h = absurd h
 
 pub final_row : (r : Row) → row_exit r ≡ Final → IsSlotStore r ⊎ (is_jump_row r ≡ true) → ⊥
 final_row (Returns results) e (inl h) = h
 final_row (Returns results) e (inr h) = cc
 final_row Unfit e (inl h) = h
 final_row Unfit e (inr h) = cc
-final_row (Fixes rd n) e h = cc
-final_row (Moves rd rs) e h = cc
-final_row (Sets rd op a b) e h = cc
-final_row (Addresses rd n o) e h = cc
-final_row (Loads rd op base o) e h = cc
-final_row (Stores op rs base o) e h = cc
-final_row (LoadsSlot rd n) e h = cc
-final_row (StoresSlot rs n) e h = cc
-final_row (Branches op a b t) e h = cc
-final_row (Jumps t) e h = cc
-final_row (Calls name args) e h = cc
+final_row _ e h = cc
 
 pub row_goes : (r : Row) → IsSlotStore r ⊎ (is_jump_row r ≡ true) → is_final (row_exit r) ≡ false
-row_goes (StoresSlot rs n) h = refl
-row_goes (Jumps t) h = refl
-row_goes (Fixes rd n) h = refl
-row_goes (Moves rd rs) h = refl
-row_goes (Sets rd op a b) h = refl
-row_goes (Addresses rd n o) h = refl
-row_goes (Loads rd op base o) h = refl
-row_goes (Stores op rs base o) h = refl
-row_goes (LoadsSlot rd n) h = refl
-row_goes (Branches op a b t) h = refl
-row_goes (Calls name args) h = refl
 row_goes (Returns results) h = absurd (final_row (Returns results) refl h)
 row_goes Unfit h = absurd (final_row Unfit refl h)
+row_goes _ h = refl
 
 pub store_code : (k : ItemKind) → OnRow IsSlotStore k → is_code k ≡ true
 store_code (Code c n) h = refl

@@ -4,7 +4,7 @@ use Rattle.std.proofs.Common.{◌≡◌, ◌⊎◌, ℕ, zero, suc, ◌+◌, Lis
 use Rattle.std.proofs.Common.{sym, ap, ◌∙◌, subst, inl, inr, arith}
 use Rattle.std.specs.List.{flat_map}
 use Rattle.rv64_instr.specs.Instruction.{Instruction}
-use Rattle.rv64_instr.specs.Row.{Row, Fixes, Moves, Sets, Addresses, Loads, Stores, LoadsSlot, StoresSlot, Branches, Jumps, Calls, Returns, Unfit, row_of}
+use Rattle.rv64_instr.specs.Row.{Row, Branches, row_of}
 use Rattle.mir_func.specs.declared.exit.Exit.TheVariants.{Perhaps}
 use Rattle.mir_func.specs.declared.item.Item.{Item}
 use Rattle.mir_func.specs.declared.item.ItemKind.{ItemKind}
@@ -73,18 +73,7 @@ map_append g (x ∷ xs) ys = ap (λ (zs : List _). g x ∷ zs) (map_append g xs 
 row_stands : (long : Bool) (r : Row) → row_form long r ≡ Nothing → ⊥
 row_stands true (Branches op a b t) e = cc
 row_stands false (Branches op a b t) e = cc
-row_stands long (Fixes rd n) e = cc
-row_stands long (Moves rd rs) e = cc
-row_stands long (Sets rd op a b) e = cc
-row_stands long (Addresses rd n o) e = cc
-row_stands long (Loads rd op b o) e = cc
-row_stands long (Stores op rs b o) e = cc
-row_stands long (LoadsSlot rd n) e = cc
-row_stands long (StoresSlot rs n) e = cc
-row_stands long (Jumps t) e = cc
-row_stands long (Calls name args) e = cc
-row_stands long (Returns v) e = cc
-row_stands long Unfit e = cc
+row_stands long _ e = cc
 
 code_stands : (long : Bool) (k : ItemKind) → is_code k ≡ true → form_of long k ≡ Nothing → ⊥
 code_stands long (Code c n) code e = row_stands long (row_of c) e
@@ -95,18 +84,7 @@ code_stands long (Phi p n) code e = cc
 long_row : (long : Bool) (r : Row) (n : ℕ) → row_exit r ≡ Perhaps n → form_size (row_form long r) ≡ 8 → (b : ℕ) × (row_form long r ≡ LongBranch b)
 long_row true (Branches op a b t) n e size = (t, refl)
 long_row false (Branches op a b t) n e size = absurd (omega (arith, size))
-long_row long (Fixes rd k) n e size = cc
-long_row long (Moves rd rs) n e size = cc
-long_row long (Sets rd op a b) n e size = cc
-long_row long (Addresses rd k o) n e size = cc
-long_row long (Loads rd op b o) n e size = cc
-long_row long (Stores op rs b o) n e size = cc
-long_row long (LoadsSlot rd k) n e size = cc
-long_row long (StoresSlot rs k) n e size = cc
-long_row long (Jumps t) n e size = cc
-long_row long (Calls name args) n e size = cc
-long_row long (Returns v) n e size = cc
-long_row long Unfit n e size = cc
+long_row long _ n e size = cc
 
 long_code : (long : Bool) (k : ItemKind) (n : ℕ) → exit_of k ≡ Perhaps n → form_size (form_of long k) ≡ 8 → (b : ℕ) × (form_of long k ≡ LongBranch b)
 long_code long (Code c j) n e size = long_row long (row_of c) n e size
@@ -123,18 +101,7 @@ form_code long (Phi p n) h = absurd (h refl)
 long_is : (long : Bool) (r : Row) (n : ℕ) → row_form long r ≡ LongBranch n → row_exit r ≡ Perhaps n
 long_is true (Branches op a b t) n e = let same : t ≡ n = cc in ap Perhaps same
 long_is false (Branches op a b t) n e = cc
-long_is long (Fixes rd k) n e = cc
-long_is long (Moves rd rs) n e = cc
-long_is long (Sets rd op a b) n e = cc
-long_is long (Addresses rd k o) n e = cc
-long_is long (Loads rd op b o) n e = cc
-long_is long (Stores op rs b o) n e = cc
-long_is long (LoadsSlot rd k) n e = cc
-long_is long (StoresSlot rs k) n e = cc
-long_is long (Jumps t) n e = cc
-long_is long (Calls name args) n e = cc
-long_is long (Returns v) n e = cc
-long_is long Unfit n e = cc
+long_is long _ n e = cc
 
 long_exit : (long : Bool) (k : ItemKind) (n : ℕ) → form_of long k ≡ LongBranch n → exit_of k ≡ Perhaps n
 long_exit long (Code c j) n e = long_is long (row_of c) n e

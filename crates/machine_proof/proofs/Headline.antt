@@ -39,7 +39,7 @@ use Rattle.sem_mir.specs.Step.{Outcome, Falls, Goes, Gives, Traps, Asks, Breaks,
 use Rattle.sem_mir.specs.Step.{is_fault, address_at}
 use Rattle.sem_mir.specs.State.{Reply, writes_frame}
 use Rattle.mir_func.specs.Exits.{row_exit}
-use Rattle.rv64_instr.specs.Row.{Fixes, Moves, Sets, Addresses, Loads, Stores, LoadsSlot, StoresSlot, Branches, Jumps, Calls, Returns, Unfit}
+use Rattle.rv64_instr.specs.Row.{Loads, Stores, LoadsSlot, Branches, Calls, Returns}
 use Rattle.rv64_instr.specs.Arithmetic.{taken, load_width, store_width}
 use Rattle.machine_proof.proofs.Stages.{falls_to, one_machine, IsCode, as_code, g, AlongWords, Counts, Stage, level, second, late, late_second, dead, MetAt}
 use Rattle.machine_proof.proofs.Stages.{IsCarried, IsQuiet, falls_on, long_branch}
@@ -78,19 +78,13 @@ answered_gives P c name args (x ∷ rs) = either_gives P (writes_frame c.entry c
 
 row_gives : (r : Row) (c : Core) → OnGives (row_exit r ≡ Final) (does r c)
 unfolding does
-row_gives (Fixes rd n) c = tt
-row_gives (Moves rd rs) c = tt
-row_gives (Sets rd op a b) c = tt
-row_gives (Addresses rd n o) c = tt
 row_gives (Loads rd op b o) c = either_gives _ (is_fault b c (address_at c b o) (load_width op)) Traps _ tt tt
 row_gives (Stores op rs b o) c = either_gives _ (is_fault b c (address_at c b o) (store_width op)) Traps _ tt tt
 row_gives (LoadsSlot rd n) c = loaded_gives _ c rd (c.slots n)
-row_gives (StoresSlot rs n) c = tt
 row_gives (Branches op a b t) c = either_gives _ (taken op (read c a) (read c b)) (Goes t c) (Falls c) tt tt
-row_gives (Jumps t) c = tt
 row_gives (Calls name args) c = answered_gives _ c name (Rattle.std.proofs.Common.map (read c) args) c.script
 row_gives (Returns v) c = refl
-row_gives Unfit c = tt
+row_gives _ c = tt
 
 act_gives : (r : Row) (c : Core) → OnGives (row_exit r ≡ Final) (act r c)
 unfolding act

@@ -2,7 +2,7 @@
 -- load at which that function stopped, where the source is about to stop; or past the position where the source stops.
 use Rattle.std.proofs.Common.{◌≡◌, ◌⊎◌, ℕ, suc, ◌+◌, Option, Some, true, false, refl, sym, ap, ◌∙◌, subst, inl, inr}
 use Rattle.rv64_instr.specs.Instruction.{Instruction}
-use Rattle.rv64_instr.specs.Row.{Row, Fixes, Moves, Sets, Addresses, Loads, Stores, LoadsSlot, StoresSlot, Branches, Jumps, Calls, Returns, Unfit, row_of}
+use Rattle.rv64_instr.specs.Row.{Row, Branches, row_of}
 use Rattle.rv64_instr.specs.declared.place.Place.{Place}
 use Rattle.mir_func.specs.declared.debug_substitution.OperandPair.{OperandPair}
 use Rattle.mir_func.specs.declared.item.Item.{Item}
@@ -57,18 +57,7 @@ falls_on (runs.past_end k n e rest) b = runs.past_end k n e (falls_on rest b)
 -- a conditional branch isn't harmless
 pub branch_harms : (r : Row) (n : ℕ) → row_exit r ≡ Perhaps n → IsHarmless r → ⊥
 branch_harms (Branches op a b t) n e h = h
-branch_harms (Fixes rd k) n e h = cc
-branch_harms (Moves rd rs) n e h = cc
-branch_harms (Sets rd op a b) n e h = cc
-branch_harms (Addresses rd k o) n e h = cc
-branch_harms (Loads rd op b o) n e h = cc
-branch_harms (Stores op rs b o) n e h = cc
-branch_harms (LoadsSlot rd k) n e h = cc
-branch_harms (StoresSlot rs k) n e h = cc
-branch_harms (Jumps t) n e h = cc
-branch_harms (Calls name args) n e h = cc
-branch_harms (Returns v) n e h = cc
-branch_harms Unfit n e h = cc
+branch_harms _ n e h = cc
 
 pub one_machine : (x y : Machine) → Continues x ≡ Continues y → x ≡ y
 one_machine x y e = cc
@@ -263,18 +252,7 @@ module _ (source : Function) (f : FramedFunction) (resolve fresolve : OperandPai
     by_row : (r : Row) → row_exit r ≡ Perhaps n → HasRow f image laid.address p i r → laid.address (below p) ≡ laid.address p + 8
     by_row (Branches op a b t) e (inl w) = absurd (not_kept w.line w.stands w.origin)
     by_row (Branches op a b t) e (inr w) = w.next
-    by_row (Fixes rd k) e w = cc
-    by_row (Moves rd rs) e w = cc
-    by_row (Sets rd op a b) e w = cc
-    by_row (Addresses rd k o) e w = cc
-    by_row (Loads rd op b o) e w = cc
-    by_row (Stores op rs b o) e w = cc
-    by_row (LoadsSlot rd k) e w = cc
-    by_row (StoresSlot rs k) e w = cc
-    by_row (Jumps t) e w = cc
-    by_row (Calls name args) e w = cc
-    by_row (Returns v) e w = cc
-    by_row Unfit e w = cc
+    by_row _ e w = cc
 
     by_kind : (k : ItemKind) → i.kind ≡ k → exit_of k ≡ Perhaps n → laid.address (below p) ≡ laid.address p + 8
     by_kind (Code c m) q e = by_row (row_of c) e (laid.code p i c m here q)

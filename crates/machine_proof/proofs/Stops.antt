@@ -4,7 +4,7 @@ use Rattle.rv64_instr.specs.declared.op.BranchOp.{BranchOp}
 use Rattle.rv64_instr.specs.declared.decoded.Base.TheVariants.{PointedBy, ObjectAt}
 use Rattle.rv64_instr.specs.Arithmetic.{taken}
 use Rattle.rv64_instr.specs.Instruction.{Instruction}
-use Rattle.rv64_instr.specs.Row.{Row, Fixes, Moves, Sets, Addresses, Loads, Stores, LoadsSlot, StoresSlot, Branches, Jumps, Calls, Returns, Unfit, add_row}
+use Rattle.rv64_instr.specs.Row.{Row, Addresses, Loads, Stores, Branches, Jumps, Calls, Returns, Unfit, add_row}
 use Rattle.rv64_instr.specs.Row.{row_of}
 use Rattle.rv64_word.specs.MachineRow.{Does, placed, from_object}
 use Rattle.rv64_instr.specs.Parts.{object_named}
@@ -52,21 +52,17 @@ branch_on target ids op a b n m false h = record { next = past 4 m; continues = 
 word_on : (target object : ℕ) (ids : List ℕ) (r : Row) → IsWordRow r → TargetIn ids r → (m : Machine) →
     GoesOn target ids r m (machine.does (placed target object r) m)
 unfolding does_row
-word_on target object ids (Fixes rd n) w t m = falls_on target ids _ m _ _ refl refl (λ x. x)
-word_on target object ids (Moves rd rs) w t m = falls_on target ids _ m _ _ refl refl (λ x. x)
-word_on target object ids (Sets rd op a b) w t m = falls_on target ids _ m _ _ refl refl (λ x. x)
 word_on target object ids (Addresses rd n o) w t m = adds_on target rd (from_object object o) ids _ m (λ x. x)
 word_on target object ids (Loads rd op (PointedBy r) o) w t m = falls_on target ids _ m _ _ refl refl (λ x. x)
 word_on target object ids (Loads rd op (ObjectAt n) o) w t m = falls_on target ids _ m _ _ refl refl (λ x. x)
 word_on target object ids (Stores op rs (PointedBy r) o) w t m = falls_on target ids _ m _ _ refl refl (λ x. x)
 word_on target object ids (Stores op rs (ObjectAt n) o) w t m = falls_on target ids _ m _ _ refl refl (λ x. x)
-word_on target object ids (LoadsSlot rd n) w t m = falls_on target ids _ m _ _ refl refl (λ x. x)
-word_on target object ids (StoresSlot rs n) w t m = falls_on target ids _ m _ _ refl refl (λ x. x)
 word_on target object ids (Branches op a b n) w t m = branch_on target ids op a b n m (taken op (register m a) (register m b)) t
 word_on target object ids (Jumps n) w t m = record { next = at target m; continues = refl; place = inr (refl, t) }
 word_on target object ids (Calls name args) w t m = absurd w
 word_on target object ids (Returns results) w t m = absurd w
 word_on target object ids Unfit w t m = absurd w
+word_on target object ids _ w t m = falls_on target ids _ m _ _ refl refl (λ x. x)
 
 one_next : (x y : Machine) → Continues x ≡ Continues y → x ≡ y
 one_next x y e = cc
@@ -145,20 +141,12 @@ module _ (f : FramedFunction) (framed : IsFramed f) (image : Image) (laid : IsLa
         record { well = subst IsWell (sym s) tt; next = λ k x. (let bad : Ends (map (register m) results) ≡ Continues k = sym s ∙ x in cc) }
 
     by_row : (x : Row) → row_of c ≡ x → HasRow f image laid.address p i x → IsGood m
-    by_row (Fixes rd n) e w = at_word (subst IsWordRow (sym e) tt) (subst (HasWord f image laid.address p i) (sym e) w)
-    by_row (Moves rd rs) e w = at_word (subst IsWordRow (sym e) tt) (subst (HasWord f image laid.address p i) (sym e) w)
-    by_row (Sets rd op a b) e w = at_word (subst IsWordRow (sym e) tt) (subst (HasWord f image laid.address p i) (sym e) w)
-    by_row (Addresses rd n o) e w = at_word (subst IsWordRow (sym e) tt) (subst (HasWord f image laid.address p i) (sym e) w)
-    by_row (Loads rd op b o) e w = at_word (subst IsWordRow (sym e) tt) (subst (HasWord f image laid.address p i) (sym e) w)
-    by_row (Stores op rs b o) e w = at_word (subst IsWordRow (sym e) tt) (subst (HasWord f image laid.address p i) (sym e) w)
-    by_row (LoadsSlot rd n) e w = at_word (subst IsWordRow (sym e) tt) (subst (HasWord f image laid.address p i) (sym e) w)
-    by_row (StoresSlot rs n) e w = at_word (subst IsWordRow (sym e) tt) (subst (HasWord f image laid.address p i) (sym e) w)
     by_row (Branches op a b n) e (inl w) = at_word (subst IsWordRow (sym e) tt) (subst (HasWord f image laid.address p i) (sym e) w)
     by_row (Branches op a b n) e (inr w) = at_branch op a b n e w
-    by_row (Jumps n) e w = at_word (subst IsWordRow (sym e) tt) (subst (HasWord f image laid.address p i) (sym e) w)
     by_row (Calls name args) e w = at_call name args e w
     by_row (Returns results) e w = at_return results w
     by_row Unfit e w = absurd w
+    by_row _ e w = at_word (subst IsWordRow (sym e) tt) (subst (HasWord f image laid.address p i) (sym e) w)
 
     good : IsGood m
     good = by_row (row_of c) refl (laid.code p i c k here kind)

@@ -7,7 +7,7 @@ use Rattle.rv64_instr.specs.Arithmetic.{taken, load_width, store_width}
 use Rattle.rv64_instr.specs.DefsAndUses.{reads}
 use Rattle.rv64_instr.specs.Instruction.{Instruction}
 use Rattle.rv64_instr.specs.Parts.{is_call}
-use Rattle.rv64_instr.specs.Row.{Row, Fixes, Moves, Sets, Addresses, Loads, Stores, LoadsSlot, StoresSlot, Branches, Jumps, Calls, Returns, Unfit, row_of}
+use Rattle.rv64_instr.specs.Row.{Row, Loads, Stores, LoadsSlot, Branches, Calls, Returns, Unfit, row_of}
 use Rattle.mir_func.specs.declared.debug_substitution.OperandPair.{OperandPair}
 use Rattle.mir_func.specs.declared.item.Item.{Item}
 use Rattle.mir_func.specs.declared.item.ItemKind.{ItemKind}
@@ -62,19 +62,14 @@ module _ (c : Core) where
 
   does_marks : (r : Row) → OnCore SameMarks (does r c)
   unfolding does
-  does_marks (Fixes rd n) = refl
-  does_marks (Moves rd rs) = refl
-  does_marks (Sets rd op a b) = refl
-  does_marks (Addresses rd n o) = refl
   does_marks (Loads rd op b o) = on_either SameMarks (is_fault b c (address_at c b o) (load_width op)) Traps _ tt refl
   does_marks (Stores op rs b o) = on_either SameMarks (is_fault b c (address_at c b o) (store_width op)) Traps _ tt refl
   does_marks (LoadsSlot rd n) = slot_marks rd (c.slots n)
-  does_marks (StoresSlot rs n) = refl
   does_marks (Branches op a b t) = on_either SameMarks (taken op (read c a) (read c b)) (Goes t c) (Falls c) refl refl
-  does_marks (Jumps t) = refl
   does_marks (Calls name args) = answer_marks name (map (read c) args) c.script
   does_marks (Returns v) = tt
   does_marks Unfit = tt
+  does_marks _ = refl
 
   act_marks : (r : Row) → OnCore SameMarks (act r c)
   unfolding act

@@ -6,7 +6,7 @@ use Rattle.std.proofs.lemmas.Bool.{cases_lt}
 use Rattle.std.proofs.lemmas.List.Elements.{All-contains}
 use Rattle.rv64_instr.specs.Instruction.{Instruction}
 use Rattle.rv64_instr.specs.Parts.{IsSlotStore}
-use Rattle.rv64_instr.specs.Row.{Row, Fixes, Moves, Sets, Addresses, Loads, Stores, LoadsSlot, StoresSlot, Branches, Jumps, Calls, Returns, Unfit, row_of}
+use Rattle.rv64_instr.specs.Row.{Row, StoresSlot, Jumps, row_of}
 use Rattle.mir_func.specs.declared.block.Block.{Block}
 use Rattle.mir_func.specs.declared.debug_substitution.OperandPair.{OperandPair}
 use Rattle.mir_func.specs.declared.exit.Exit.TheVariants.{Onward, Always, Final}
@@ -311,18 +311,7 @@ module _ (source f : Function) (resolve fresolve : OperandPair →
 
   store_of : (r : Row) → IsSlotStore (renamed_row f.slots r) → IsSlotStore r
   store_of (StoresSlot rs n) h = tt
-  store_of (LoadsSlot rd n) h = h
-  store_of (Fixes rd n) h = h
-  store_of (Moves rd rs) h = h
-  store_of (Sets rd op a b) h = h
-  store_of (Addresses rd n o) h = h
-  store_of (Loads rd op base o) h = h
-  store_of (Stores op rs base o) h = h
-  store_of (Branches op a b t) h = h
-  store_of (Jumps t) h = h
-  store_of (Calls name args) h = h
-  store_of (Returns results) h = h
-  store_of Unfit h = h
+  store_of _ h = h
 
   jump_named : (r : Row) → is_jump_row r ≡ true → is_jump_row (renamed_row f.slots r) ≡ true
   jump_named (Jumps t) h = refl

@@ -3,7 +3,7 @@ use Rattle.std.proofs.Common.{◌≡◌, ℕ, zero, suc, ◌+◌, ◌≤◌, Lis
 use Rattle.std.proofs.Common.{Option, Some}
 use Rattle.std.proofs.Common.{Bool, true, false, cond, nat_eq, refl, sym, ap, ◌∙◌, subst, inl, inr, arith}
 use Rattle.rv64_instr.specs.Instruction.{Instruction}
-use Rattle.rv64_instr.specs.Row.{Row, Fixes, Moves, Sets, Addresses, Loads, Stores, LoadsSlot, StoresSlot, Branches, Jumps, Calls, Returns, Unfit, row_of}
+use Rattle.rv64_instr.specs.Row.{Row, Branches, Jumps, Returns, Unfit, row_of}
 use Rattle.mir_func.specs.declared.block.Block.{Block}
 use Rattle.mir_func.specs.declared.debug_substitution.OperandPair.{OperandPair}
 use Rattle.mir_func.specs.declared.item.Item.{Item}
@@ -195,30 +195,12 @@ module _ (f : Function) (fresolve : OperandPair → Option OperandPair) where
   row_way (Jumps t) p q x y e bi = ap (image_of f) e ∙ sym (start_image t)
   row_way (Returns v) p q x y e bi = absurd e
   row_way Unfit p q x y e bi = absurd e
-  row_way (Fixes rd n) p q x y e bi = ap (image_of f) e ∙ sym bi
-  row_way (Moves rd rs) p q x y e bi = ap (image_of f) e ∙ sym bi
-  row_way (Sets rd op a b) p q x y e bi = ap (image_of f) e ∙ sym bi
-  row_way (Addresses rd n o) p q x y e bi = ap (image_of f) e ∙ sym bi
-  row_way (Loads rd op b o) p q x y e bi = ap (image_of f) e ∙ sym bi
-  row_way (Stores op rs b o) p q x y e bi = ap (image_of f) e ∙ sym bi
-  row_way (LoadsSlot rd n) p q x y e bi = ap (image_of f) e ∙ sym bi
-  row_way (StoresSlot rs n) p q x y e bi = ap (image_of f) e ∙ sym bi
-  row_way (Calls name args) p q x y e bi = ap (image_of f) e ∙ sym bi
+  row_way _ p q x y e bi = ap (image_of f) e ∙ sym bi
 
   row_not_final : (r : Row) (p q : Pos) → RowEdge (λ n. n) r p q → is_final (row_exit r) ≡ false
   row_not_final (Returns v) p q e = absurd e
   row_not_final Unfit p q e = absurd e
-  row_not_final (Branches op a b t) p q e = refl
-  row_not_final (Jumps t) p q e = refl
-  row_not_final (Fixes rd n) p q e = refl
-  row_not_final (Moves rd rs) p q e = refl
-  row_not_final (Sets rd op a b) p q e = refl
-  row_not_final (Addresses rd n o) p q e = refl
-  row_not_final (Loads rd op b o) p q e = refl
-  row_not_final (Stores op rs b o) p q e = refl
-  row_not_final (LoadsSlot rd n) p q e = refl
-  row_not_final (StoresSlot rs n) p q e = refl
-  row_not_final (Calls name args) p q e = refl
+  row_not_final _ p q e = refl
 
   kind_not_final : (k : ItemKind) (p q : Pos) → KindEdge (λ n. n) k p q → is_final (exit_of k) ≡ false
   kind_not_final (Code c n) p q e = row_not_final (row_of c) p q e

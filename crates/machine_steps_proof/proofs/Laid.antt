@@ -243,19 +243,10 @@ does_not_return m a target object r fits row is e =
     let links : placed target object r ≡ LinksTo 0 1 0 = sym row ∙ ap (machine_row a) same in
     by_row r is links where
       by_row : (r : Row) → IsWordRow r → placed target object r ≡ LinksTo 0 1 0 → ⊥
-      by_row (Fixes rd n) is k = cc
-      by_row (Moves rd rs) is k = cc
-      by_row (Sets rd op x y) is k = cc
-      by_row (Addresses rd n o) is k = cc
-      by_row (Loads rd op b o) is k = cc
-      by_row (Stores op rs b o) is k = cc
-      by_row (LoadsSlot rd n) is k = cc
-      by_row (StoresSlot rs n) is k = cc
-      by_row (Branches op x y t) is k = cc
-      by_row (Jumps t) is k = cc
       by_row (Calls name args) is k = absurd is
       by_row (Returns results) is k = absurd is
       by_row Unfit is k = absurd is
+      by_row _ is k = cc
 
 some_of : (o : Option MachineOp) → IsSome o → (m : MachineOp) × (o ≡ Some m)
 some_of None h = cc
@@ -297,17 +288,7 @@ inverted_taken Bgeu x y = twice _ where
 same_place : (r : Row) (t u object : ℕ) → ((n : ℕ) → (row_exit r ≡ Perhaps n) ⊎ (row_exit r ≡ Always n) → t ≡ u) → placed t object r ≡ placed u object r
 same_place (Branches op a b n) t u object h = ap (λ (x : ℕ). Does (Branches op a b x)) (h n (inl refl))
 same_place (Jumps n) t u object h = ap (λ (x : ℕ). Does (Jumps x)) (h n (inr refl))
-same_place (Fixes rd n) t u object h = refl
-same_place (Moves rd rs) t u object h = refl
-same_place (Sets rd op a b) t u object h = refl
-same_place (Addresses rd n o) t u object h = refl
-same_place (Loads rd op b o) t u object h = refl
-same_place (Stores op rs b o) t u object h = refl
-same_place (LoadsSlot rd n) t u object h = refl
-same_place (StoresSlot rs n) t u object h = refl
-same_place (Calls name args) t u object h = refl
-same_place (Returns results) t u object h = refl
-same_place Unfit t u object h = refl
+same_place _ t u object h = refl
 
 exit_target : (r : Row) (n : ℕ) → (row_exit r ≡ Perhaps n) ⊎ (row_exit r ≡ Always n) → target_of r ≡ n
 exit_target (Branches op a b t) n (inl e) = cc

@@ -104,17 +104,7 @@ pub final_stops : (r : Row) (c : Core) → row_exit r ≡ Final → OnCore (λ d
 unfolding does
 final_stops (Returns v) c e = tt
 final_stops Unfit c e = tt
-final_stops (Fixes rd n) c e = cc
-final_stops (Moves rd rs) c e = cc
-final_stops (Sets rd op a b) c e = cc
-final_stops (Addresses rd n o) c e = cc
-final_stops (Loads rd op b o) c e = cc
-final_stops (Stores op rs b o) c e = cc
-final_stops (LoadsSlot rd n) c e = cc
-final_stops (StoresSlot rs n) c e = cc
-final_stops (Branches op a b t) c e = cc
-final_stops (Jumps t) c e = cc
-final_stops (Calls n a) c e = cc
+final_stops _ c e = cc
 
 pub on_falls : (P : Core → Type 0) (x : Outcome) (d : Core) → OnCore P x → x ≡ Falls d → P d
 on_falls P x d h e = subst (OnCore P) e h
@@ -141,19 +131,13 @@ answered_target c name args (x ∷ rs) = either_target 0 (writes_frame c.entry c
 
 row_target : (r : Row) (c : Core) → IsTarget (target_of r) (does r c)
 unfolding does
-row_target (Fixes rd n) c = tt
-row_target (Moves rd rs) c = tt
-row_target (Sets rd op a b) c = tt
-row_target (Addresses rd n o) c = tt
 row_target (Loads rd op b o) c = either_target 0 (is_fault b c (address_at c b o) (load_width op)) Traps _ tt tt
 row_target (Stores op rs b o) c = either_target 0 (is_fault b c (address_at c b o) (store_width op)) Traps _ tt tt
 row_target (LoadsSlot rd n) c = loaded_target c rd (c.slots n)
-row_target (StoresSlot rs n) c = tt
 row_target (Branches op a b n) c = either_target n (taken op (read c a) (read c b)) (Goes n c) (Falls c) refl tt
 row_target (Jumps n) c = refl
 row_target (Calls name args) c = answered_target c name (map (read c) args) c.script
-row_target (Returns v) c = tt
-row_target Unfit c = tt
+row_target _ c = tt
 
 pub goes_target : (r : Row) (c : Core) (n : ℕ) (d : Core) → does r c ≡ Goes n d → target_of r ≡ n
 goes_target r c n d e = subst (IsTarget (target_of r)) e (row_target r c)
@@ -199,19 +183,13 @@ answered_goes P c name args (x ∷ rs) = either_goes P (writes_frame c.entry c.a
 
 row_contains : (ids : List ℕ) (r : Row) (c : Core) → TargetIn ids r → OnGoes (Contains ids) (does r c)
 unfolding does
-row_contains ids (Fixes rd n) c h = tt
-row_contains ids (Moves rd rs) c h = tt
-row_contains ids (Sets rd op a b) c h = tt
-row_contains ids (Addresses rd n o) c h = tt
 row_contains ids (Loads rd op b o) c h = either_goes (Contains ids) (is_fault b c (address_at c b o) (load_width op)) Traps _ tt tt
 row_contains ids (Stores op rs b o) c h = either_goes (Contains ids) (is_fault b c (address_at c b o) (store_width op)) Traps _ tt tt
 row_contains ids (LoadsSlot rd n) c h = loaded_goes (Contains ids) c rd (c.slots n)
-row_contains ids (StoresSlot rs n) c h = tt
 row_contains ids (Branches op a b n) c h = either_goes (Contains ids) (taken op (read c a) (read c b)) (Goes n c) (Falls c) h tt
 row_contains ids (Jumps n) c h = h
 row_contains ids (Calls name args) c h = answered_goes (Contains ids) c name (map (read c) args) c.script
-row_contains ids (Returns v) c h = tt
-row_contains ids Unfit c h = tt
+row_contains ids _ c h = tt
 
 pub goes_into : (ids : List ℕ) (r : Row) (c : Core) (n : ℕ) (d : Core) → TargetIn ids r → does r c ≡ Goes n d → Contains ids n
 goes_into ids r c n d h e = subst (OnGoes (Contains ids)) e (row_contains ids r c h)
@@ -222,51 +200,21 @@ unfolding does
 falls_stays (Jumps n) c d e h = cc
 falls_stays (Returns v) c d e h = cc
 falls_stays Unfit c d e h = cc
-falls_stays (Fixes rd n) c d e h = h
-falls_stays (Moves rd rs) c d e h = h
-falls_stays (Sets rd op a b) c d e h = h
-falls_stays (Addresses rd n o) c d e h = h
-falls_stays (Loads rd op b o) c d e h = h
-falls_stays (Stores op rs b o) c d e h = h
-falls_stays (LoadsSlot rd n) c d e h = h
-falls_stays (StoresSlot rs n) c d e h = h
-falls_stays (Branches op a b n) c d e h = h
-falls_stays (Calls name args) c d e h = h
+falls_stays _ c d e h = h
 
 -- ---- words that don't return
 
 row_ends : (x : Row) (m : Machine) (v : List ℕ) → does_row x m ≡ Ends v → ⊥
 unfolding does_row
-row_ends (Fixes rd n) m v e = cc
-row_ends (Moves rd rs) m v e = cc
-row_ends (Sets rd op a b) m v e = cc
-row_ends (Addresses rd n o) m v e = cc
 row_ends (Loads rd op (PointedBy r) o) m v e = cc
 row_ends (Loads rd op (ObjectAt n) o) m v e = cc
 row_ends (Stores op rs (PointedBy r) o) m v e = cc
 row_ends (Stores op rs (ObjectAt n) o) m v e = cc
-row_ends (LoadsSlot rd n) m v e = cc
-row_ends (StoresSlot rs n) m v e = cc
-row_ends (Branches op a b n) m v e = cc
-row_ends (Jumps n) m v e = cc
-row_ends (Calls name args) m v e = cc
-row_ends (Returns results) m v e = cc
-row_ends Unfit m v e = cc
+row_ends _ m v e = cc
 
 pub word_goes : (target object : ℕ) (r : Row) (m : Machine) (v : List ℕ) → machine.does (placed target object r) m ≡ Ends v → ⊥
-word_goes target object (Fixes rd n) m v e = row_ends _ m v e
-word_goes target object (Moves rd rs) m v e = row_ends _ m v e
-word_goes target object (Sets rd op a b) m v e = row_ends _ m v e
-word_goes target object (Addresses rd n o) m v e = row_ends _ m v e
-word_goes target object (Loads rd op b o) m v e = row_ends _ m v e
-word_goes target object (Stores op rs b o) m v e = row_ends _ m v e
-word_goes target object (LoadsSlot rd n) m v e = row_ends _ m v e
-word_goes target object (StoresSlot rs n) m v e = row_ends _ m v e
-word_goes target object (Branches op a b n) m v e = row_ends _ m v e
-word_goes target object (Jumps n) m v e = row_ends _ m v e
-word_goes target object (Calls name args) m v e = row_ends _ m v e
 word_goes target object (Returns results) m v e = cc
-word_goes target object Unfit m v e = row_ends _ m v e
+word_goes target object _ m v e = row_ends _ m v e
 
 pub call_goes : (name args : List ℕ) (m : Machine) (rs : List Reply) (v : List ℕ) → machine.answered name args m rs ≡ Ends v → ⊥
 call_goes name args m [] v e = cc

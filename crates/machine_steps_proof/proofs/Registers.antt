@@ -9,7 +9,7 @@ use Rattle.rv64_instr.specs.declared.operand.Operand.{Operand}
 use Rattle.rv64_instr.specs.declared.operand.Operand.TheVariants.{Def, Use, ImplicitDef, ImplicitUse, Imm, Slot, Object, Block, Symbol, Mask}
 use Rattle.rv64_instr.specs.Arithmetic.{word}
 use Rattle.rv64_instr.specs.Instruction.{Instruction}
-use Rattle.rv64_instr.specs.Row.{Row, Fixes, Moves, Sets, Addresses, Loads, Stores, LoadsSlot, StoresSlot, Branches, Jumps, Calls, Returns, Unfit, row_of}
+use Rattle.rv64_instr.specs.Row.{Row, Fixes, Moves, Sets, Addresses, Loads, LoadsSlot, row_of}
 use Rattle.rv64_instr.specs.Row.{row_by, move_row, immediate_row, object_row, implicit_uses}
 use Rattle.rv64_instr.specs.DefsAndUses.{reads}
 use Rattle.mir_func.specs.SoundFrame.{IsPhysical}
@@ -100,13 +100,7 @@ LeavesTwo (Sets rd op a b) = rd ≡ 2 → ⊥
 LeavesTwo (Addresses rd n offset) = rd ≡ 2 → ⊥
 LeavesTwo (Loads rd op base offset) = rd ≡ 2 → ⊥
 LeavesTwo (LoadsSlot rd n) = rd ≡ 2 → ⊥
-LeavesTwo (Stores op rs base offset) = Unit {0}
-LeavesTwo (StoresSlot rs n) = Unit {0}
-LeavesTwo (Branches op a b target) = Unit {0}
-LeavesTwo (Jumps target) = Unit {0}
-LeavesTwo (Calls name args) = Unit {0}
-LeavesTwo (Returns results) = Unit {0}
-LeavesTwo Unfit = Unit {0}
+LeavesTwo _ = Unit {0}
 
 defines : (rd : ℕ) (rest : List Operand) → All IsNotPointer (Def rd ∷ rest) → rd ≡ 2 → ⊥
 defines rd rest h = All-head IsNotPointer (Def rd) rest h

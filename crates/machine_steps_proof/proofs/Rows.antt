@@ -419,6 +419,4 @@ module _ (f : FramedFunction) (framed : IsFramed f) (c : Core) (m : Machine) (h 
       branch_by target (taken op (read c a) (read c b)) (taken op (register m a) (register m b)) n
       (ap (λ (x : ℕ). taken op x (read c b)) (sym (h.regs a)) ∙ ap (taken op (register m a)) (sym (h.regs b)))
   rows target (Jumps n) w k range p s o = (refl, beside_at target)
-  rows target (Calls name args) w k range p s o = absurd w
-  rows target (Returns results) w k range p s o = absurd w
-  rows target Unfit w k range p s o = absurd w
+  rows target _ w k range p s o = absurd w

@@ -4,7 +4,7 @@ use Rattle.std.proofs.Common.{cond, refl, sym, ap, ◌∙◌, subst, inl, inr, a
 use Rattle.rv64_instr.specs.declared.op.BranchOp.{BranchOp}
 use Rattle.rv64_instr.specs.Arithmetic.{word, taken}
 use Rattle.rv64_instr.specs.Instruction.{Instruction}
-use Rattle.rv64_instr.specs.Row.{Row, Fixes, Moves, Sets, Addresses, Loads, Stores, LoadsSlot, StoresSlot, Branches, Jumps, Calls, Returns, Unfit, row_of}
+use Rattle.rv64_instr.specs.Row.{Row, Branches, Calls, Returns, Unfit, row_of}
 use Rattle.rv64_instr.specs.DefsAndUses.{reads}
 use Rattle.rv64_instr.specs.Parts.{is_call}
 use Rattle.rv64_word.specs.MachineRow.{placed}
@@ -248,20 +248,12 @@ module _ (f : FramedFunction) (framed : IsFramed f) (resolve : OperandPair →
       (w.step m level.counter ∙ ap Ends (contents f framed t.core m h results)))
 
   by_row : (x : Row) → r ≡ x → HasRow f image laid.address t.pos i x → AtCode f resolve image laid t m i
-  by_row (Fixes rd n) e w = at_word (subst IsWordRow (sym e) tt) (subst (HasWord f image laid.address t.pos i) (sym e) w)
-  by_row (Moves rd rs) e w = at_word (subst IsWordRow (sym e) tt) (subst (HasWord f image laid.address t.pos i) (sym e) w)
-  by_row (Sets rd op a b) e w = at_word (subst IsWordRow (sym e) tt) (subst (HasWord f image laid.address t.pos i) (sym e) w)
-  by_row (Addresses rd n o) e w = at_word (subst IsWordRow (sym e) tt) (subst (HasWord f image laid.address t.pos i) (sym e) w)
-  by_row (Loads rd op b o) e w = at_word (subst IsWordRow (sym e) tt) (subst (HasWord f image laid.address t.pos i) (sym e) w)
-  by_row (Stores op rs b o) e w = at_word (subst IsWordRow (sym e) tt) (subst (HasWord f image laid.address t.pos i) (sym e) w)
-  by_row (LoadsSlot rd n) e w = at_word (subst IsWordRow (sym e) tt) (subst (HasWord f image laid.address t.pos i) (sym e) w)
-  by_row (StoresSlot rs n) e w = at_word (subst IsWordRow (sym e) tt) (subst (HasWord f image laid.address t.pos i) (sym e) w)
   by_row (Branches op a b n) e (inl w) = at_word (subst IsWordRow (sym e) tt) (subst (HasWord f image laid.address t.pos i) (sym e) w)
   by_row (Branches op a b n) e (inr w) = at_branch op a b n e w
-  by_row (Jumps n) e w = at_word (subst IsWordRow (sym e) tt) (subst (HasWord f image laid.address t.pos i) (sym e) w)
   by_row (Calls name args) e w = at_call name args e w
   by_row (Returns results) e w = at_return results e w
   by_row Unfit e w = absurd w
+  by_row _ e w = at_word (subst IsWordRow (sym e) tt) (subst (HasWord f image laid.address t.pos i) (sym e) w)
 
   -- at the address of code the machine does what the code does
   pub at_code : AtCode f resolve image laid t m i

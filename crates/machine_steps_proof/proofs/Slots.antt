@@ -6,7 +6,7 @@ use Rattle.std.proofs.lemmas.Bool.{cases_eq}
 use Rattle.std.proofs.lemmas.List.Elements.{All-contains}
 use Rattle.rv64_instr.specs.declared.operand.Operand.{Operand}
 use Rattle.rv64_instr.specs.Arithmetic.{word}
-use Rattle.rv64_instr.specs.Row.{Row, Fixes, Moves, Sets, Addresses, Loads, Stores, LoadsSlot, StoresSlot, Branches, Jumps, Calls, Returns, Unfit, row_of}
+use Rattle.rv64_instr.specs.Row.{Row, StoresSlot, Branches, Jumps, Returns, Unfit, row_of}
 use Rattle.rv64_instr.specs.Row.{add_row}
 use Rattle.rv64_instr.specs.Parts.{is_call}
 use Rattle.mir_func.specs.declared.debug_substitution.OperandPair.{OperandPair}
@@ -38,18 +38,7 @@ moved_slots n (StoresSlot rs j) t o k e = elim (cases_eq o j) as (λ _. CameFrom
   | inl same ↦ inr (rs, ap (StoresSlot rs) (sym same))
   | inr other ↦ inl (ap (λ (b : Bool). cond b (register_token t.regs rs) (t.slots o)) (sym (ne_eqb o j other)) ∙ e)
 ]
-moved_slots n (Fixes rd c) t o k e = inl e
-moved_slots n (Moves rd rs) t o k e = inl e
-moved_slots n (Sets rd op a b) t o k e = inl e
-moved_slots n (Addresses rd j offset) t o k e = inl e
-moved_slots n (Loads rd op base offset) t o k e = inl e
-moved_slots n (Stores op rs base offset) t o k e = inl e
-moved_slots n (LoadsSlot rd j) t o k e = inl e
-moved_slots n (Branches op a b target) t o k e = inl e
-moved_slots n (Jumps target) t o k e = inl e
-moved_slots n (Calls name args) t o k e = inl e
-moved_slots n (Returns results) t o k e = inl e
-moved_slots n Unfit t o k e = inl e
+moved_slots n _ t o k e = inl e
 
 code_slots : (n : ℕ) (row : Row) (t : Tokens) (o : ℕ) (k : Token) → (code_tokens n row t).slots o ≡ Some k → (sets_pointer row ≡ false) × CameFrom row t o k
 code_slots n row t o k e = by_pointer (sets_pointer row) refl e where
@@ -88,15 +77,7 @@ row_leads enter (Branches op a b target) p q (inr e) = inl e
 row_leads enter (Jumps target) p q e = inr (target, e)
 row_leads enter (Returns results) p q e = absurd e
 row_leads enter Unfit p q e = absurd e
-row_leads enter (Fixes rd n) p q e = inl e
-row_leads enter (Moves rd rs) p q e = inl e
-row_leads enter (Sets rd op a b) p q e = inl e
-row_leads enter (Addresses rd n offset) p q e = inl e
-row_leads enter (Loads rd op base offset) p q e = inl e
-row_leads enter (Stores op rs base offset) p q e = inl e
-row_leads enter (LoadsSlot rd n) p q e = inl e
-row_leads enter (StoresSlot rs n) p q e = inl e
-row_leads enter (Calls name args) p q e = inl e
+row_leads enter _ p q e = inl e
 
 kind_leads : (enter : ℕ → ℕ) (k : ItemKind) (p q : Pos) → KindEdge enter k p q → LeadsOn enter p q
 kind_leads enter (Code c j) p q e = row_leads enter (row_of c) p q e
@@ -106,17 +87,7 @@ kind_leads enter (Phi r j) p q e = inl e
 row_final : (enter : ℕ → ℕ) (r : Row) (p q : Pos) → row_exit r ≡ Final → RowEdge enter r p q → ⊥
 row_final enter (Returns results) p q e edge = edge
 row_final enter Unfit p q e edge = edge
-row_final enter (Branches op a b target) p q e edge = cc
-row_final enter (Jumps target) p q e edge = cc
-row_final enter (Fixes rd n) p q e edge = cc
-row_final enter (Moves rd rs) p q e edge = cc
-row_final enter (Sets rd op a b) p q e edge = cc
-row_final enter (Addresses rd n offset) p q e edge = cc
-row_final enter (Loads rd op base offset) p q e edge = cc
-row_final enter (Stores op rs base offset) p q e edge = cc
-row_final enter (LoadsSlot rd n) p q e edge = cc
-row_final enter (StoresSlot rs n) p q e edge = cc
-row_final enter (Calls name args) p q e edge = cc
+row_final enter _ p q e edge = cc
 
 kind_final : (enter : ℕ → ℕ) (k : ItemKind) (p q : Pos) → exit_of k ≡ Final → KindEdge enter k p q → ⊥
 kind_final enter (Code c j) p q e edge = row_final enter (row_of c) p q e edge

@@ -1,7 +1,7 @@
 -- Items from which control goes on to the next: they go nowhere else.
 use Rattle.std.proofs.Common.{◌≡◌, ℕ, List, [], ◌∷◌, ◌++◌, map, All, Option, Some, None, Bool, true, false, cond, refl, ap, subst}
 use Rattle.std.proofs.lemmas.List.Elements.{All-nil, All-cons}
-use Rattle.rv64_instr.specs.Row.{Row, Fixes, Moves, Sets, Addresses, Loads, Stores, LoadsSlot, StoresSlot, Branches, Jumps, Calls, Returns, Unfit, row_of}
+use Rattle.rv64_instr.specs.Row.{Row, Loads, Stores, LoadsSlot, Calls, row_of}
 use Rattle.rv64_instr.specs.DefsAndUses.{reads}
 use Rattle.rv64_instr.specs.Arithmetic.{load_width, store_width}
 use Rattle.rv64_instr.specs.Parts.{is_call}
@@ -29,25 +29,17 @@ by_test false x y h k = k
 
 does_nowhere : (r : Row) (c : Core) → row_exit r ≡ Onward → GoesNowhere (does r c)
 unfolding does
-does_nowhere (Fixes rd n) c on t e h = cc
-does_nowhere (Moves rd rs) c on t e h = cc
-does_nowhere (Sets rd op a b) c on t e h = cc
-does_nowhere (Addresses rd n o) c on t e h = cc
 does_nowhere (Loads rd op b o) c on t e h = by_test (is_fault b c (address_at c b o) (load_width op)) Traps (Falls _) (λ u d k. cc) (λ u d k. cc) t e h
 does_nowhere (Stores op rs b o) c on t e h = by_test (is_fault b c (address_at c b o) (store_width op)) Traps (Falls _) (λ u d k. cc) (λ u d k. cc) t e h
 does_nowhere (LoadsSlot rd n) c on t e h = by_slot (c.slots n) h where
   by_slot : (x : Option ℕ) → slot_loaded rd c x ≡ Goes t e → ⊥
   by_slot None h = cc
   by_slot (Some v) h = cc
-does_nowhere (StoresSlot rs n) c on t e h = cc
-does_nowhere (Branches op a b u) c on t e h = cc
-does_nowhere (Jumps u) c on t e h = cc
 does_nowhere (Calls name args) c on t e h = by_script c.script h where
   by_script : (rs : List Reply) → answered name (map (read c) args) c rs ≡ Goes t e → ⊥
   by_script [] h = cc
   by_script (r ∷ rest) h = by_test (writes_frame c.entry c.area r.writes) Traps (Falls _) (λ u d k. cc) (λ u d k. cc) t e h
-does_nowhere (Returns v) c on t e h = cc
-does_nowhere Unfit c on t e h = cc
+does_nowhere _ c on t e h = cc
 
 act_nowhere : (r : Row) (c : Core) → row_exit r ≡ Onward → GoesNowhere (act r c)
 unfolding act

@@ -2,7 +2,7 @@
 use Rattle.std.proofs.Common.{◌≡◌, ◌⊎◌, inl, inr, ℕ, [], ◌∷◌, Option, Some, None, Bool, true, false, cond, refl, sym, ap}
 use Rattle.std.proofs.Common.{◌∙◌, subst}
 use Rattle.rv64_instr.specs.Instruction.{Instruction}
-use Rattle.rv64_instr.specs.Row.{Row, Fixes, Moves, Sets, Addresses, Loads, Stores, LoadsSlot, StoresSlot, Branches, Jumps, Calls, Returns, Unfit, row_of}
+use Rattle.rv64_instr.specs.Row.{Row, Fixes, LoadsSlot, StoresSlot, Branches, Jumps, Returns, Unfit, row_of}
 use Rattle.rv64_instr.specs.Parts.{is_call, IsSlotStore}
 use Rattle.mir_func.specs.declared.position.Origin.{Origin}
 use Rattle.mir_func.specs.declared.position.Origin.TheVariants.{Kept, Before}
@@ -41,15 +41,7 @@ row_edge (Branches op a b t) p q p' e =
 row_edge (Jumps t) p q p' e = inr (t, e, refl)
 row_edge (Returns results) p q p' e = absurd e
 row_edge Unfit p q p' e = absurd e
-row_edge (Fixes rd n) p q p' e = inl (e, refl)
-row_edge (Moves rd rs) p q p' e = inl (e, refl)
-row_edge (Sets rd op a b) p q p' e = inl (e, refl)
-row_edge (Addresses rd n o) p q p' e = inl (e, refl)
-row_edge (Loads rd op b o) p q p' e = inl (e, refl)
-row_edge (Stores op rs b o) p q p' e = inl (e, refl)
-row_edge (LoadsSlot rd n) p q p' e = inl (e, refl)
-row_edge (StoresSlot rs n) p q p' e = inl (e, refl)
-row_edge (Calls name args) p q p' e = inl (e, refl)
+row_edge _ p q p' e = inl (e, refl)
 
 pub row_itself : (r : Row) → RowKin r r
 row_itself r = record {

@@ -24,7 +24,7 @@ use Rattle.rv64_instr.specs.declared.place.Place.TheVariants as place
 use Rattle.rv64_instr.specs.Arithmetic.{word, load_width, store_width}
 use Rattle.rv64_instr.specs.Form.{has_form, fits_immediate, fits_load, fits_store}
 use Rattle.rv64_instr.specs.Instruction.{Instruction}
-use Rattle.rv64_instr.specs.Row.{Row, Fixes, Moves, Sets, Addresses, Loads, Stores, LoadsSlot, StoresSlot, Branches, Jumps, Calls, Returns, Unfit}
+use Rattle.rv64_instr.specs.Row.{Row, Addresses, Loads, Stores, Branches, Jumps}
 use Rattle.rv64_instr.specs.Row.{row_of, immediate_row, object_row}
 use Rattle.rv64_instr.specs.Row.{move_row}
 use Rattle.mir_func.specs.declared.block.Block.{Block}
@@ -63,17 +63,7 @@ all_true p (x ∷ xs) e = let parts = and_parts (p x) (list_all p xs) e in All-c
 targets_in : (ids all : List ℕ) → ((n : ℕ) → is_met n ids ≡ true → Contains all n) → (r : Row) → goes_to_one_of ids (row_exit r) ≡ true → TargetIn all r
 targets_in ids all has (Branches op a b target) e = has target e
 targets_in ids all has (Jumps target) e = has target e
-targets_in ids all has (Fixes rd n) e = tt
-targets_in ids all has (Moves rd rs) e = tt
-targets_in ids all has (Sets rd op a b) e = tt
-targets_in ids all has (Addresses rd n offset) e = tt
-targets_in ids all has (Loads rd op base offset) e = tt
-targets_in ids all has (Stores op rs base offset) e = tt
-targets_in ids all has (LoadsSlot rd n) e = tt
-targets_in ids all has (StoresSlot rs n) e = tt
-targets_in ids all has (Calls name args) e = tt
-targets_in ids all has (Returns results) e = tt
-targets_in ids all has Unfit e = tt
+targets_in ids all has _ e = tt
 
 module _ (ids : List ℕ) where
   abbrev row_as : Op → List Operand → Row
@@ -261,16 +251,7 @@ object_in : (objects : List Object) (r : Row) → row_stays objects r ≡ true �
 object_in objects (Addresses rd n offset) e = bytes_in objects n offset (object_of objects n) refl e
 object_in objects (Loads rd op base offset) e = base_in objects base (offset + load_width op) e
 object_in objects (Stores op rs base offset) e = base_in objects base (offset + store_width op) e
-object_in objects (Fixes rd n) e = tt
-object_in objects (Moves rd rs) e = tt
-object_in objects (Sets rd op a b) e = tt
-object_in objects (LoadsSlot rd n) e = tt
-object_in objects (StoresSlot rs n) e = tt
-object_in objects (Branches op a b target) e = tt
-object_in objects (Jumps target) e = tt
-object_in objects (Calls name args) e = tt
-object_in objects (Returns results) e = tt
-object_in objects Unfit e = tt
+object_in objects _ e = tt
 
 objects_in : (objects : List Object) (kind : ItemKind) → kind_stays objects kind ≡ true → ObjectsIn objects kind
 objects_in objects (Code i k) e = object_in objects (row_of i) e

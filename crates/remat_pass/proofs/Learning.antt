@@ -15,30 +15,14 @@ use Rattle.remat_pass.specs.Known.{Known, learned, forgotten, known_past}
 abbrev pub TeachesNothing : Decoded → Type 0
 TeachesNothing (Fixes rd n) = ⊥
 TeachesNothing (StoresSlot rs n) = ⊥
-TeachesNothing (Moves rd rs) = Unit {0}
-TeachesNothing (Sets rd op a b) = Unit {0}
-TeachesNothing (Addresses rd n offset) = Unit {0}
-TeachesNothing (Loads rd op base offset) = Unit {0}
-TeachesNothing (Stores op rs base offset) = Unit {0}
-TeachesNothing (LoadsSlot rd n) = Unit {0}
-TeachesNothing (Branches op a b target) = Unit {0}
-TeachesNothing (Jumps target) = Unit {0}
-TeachesNothing Calls = Unit {0}
-TeachesNothing Returns = Unit {0}
+TeachesNothing _ = Unit {0}
 
 same_by : (d : Decoded) → TeachesNothing d → (r : Row) → Shows d r → (known : Known) (x : Place) → known x ≡ learned r known x
 same_by (Fixes rd n) t r s known x = absurd t
 same_by (StoresSlot rs n) t r s known x = absurd t
-same_by (Moves rd rs) t r s known x = ap (λ (q : Row). learned q known x) (sym s)
-same_by (Sets rd op a b) t r s known x = ap (λ (q : Row). learned q known x) (sym s)
-same_by (Addresses rd n offset) t r s known x = ap (λ (q : Row). learned q known x) (sym s)
-same_by (Loads rd op base offset) t r s known x = ap (λ (q : Row). learned q known x) (sym s)
-same_by (Stores op rs base offset) t r s known x = ap (λ (q : Row). learned q known x) (sym s)
-same_by (LoadsSlot rd n) t r s known x = ap (λ (q : Row). learned q known x) (sym s)
-same_by (Branches op a b target) t r s known x = ap (λ (q : Row). learned q known x) (sym s)
-same_by (Jumps target) t r s known x = ap (λ (q : Row). learned q known x) (sym s)
 same_by Calls t r (name, args, s) known x = ap (λ (q : Row). learned q known x) (sym s)
 same_by Returns t r (results, s) known x = ap (λ (q : Row). learned q known x) (sym s)
+same_by _ t r s known x = ap (λ (q : Row). learned q known x) (sym s)
 
 -- code of these kinds teaches nothing
 pub learned_same : (now : Decoded) {d : Decoded} → now ≡ d → TeachesNothing d → (known : Known) (r : Row) → Shows now r → (x : Place) →

@@ -5,7 +5,7 @@ use Rattle.std.proofs.lemmas.List.Elements.{All-nil, All-cons, All-head, All-tai
 use Rattle.rv64_instr.specs.Arithmetic.{word}
 use Rattle.rv64_instr.specs.Instruction.{Instruction}
 use Rattle.rv64_instr.specs.Parts.{is_call}
-use Rattle.rv64_instr.specs.Row.{Row, Fixes, Moves, Sets, Addresses, Loads, Stores, LoadsSlot, StoresSlot, Branches, Jumps, Calls, Returns, Unfit, row_of}
+use Rattle.rv64_instr.specs.Row.{Row, Calls, row_of}
 use Rattle.rv64_instr.specs.Row.{add_row}
 use Rattle.emit_code.specs.declared.code.EncodedInstruction.{EncodedInstruction}
 use Rattle.emit_code.specs.Laid.{LaidCode, IsCodeOf, IsOfItem, is_call_kind}
@@ -44,18 +44,7 @@ CodeCallsNothing i = is_call (row_of i) ≡ false
 
 not_call : (r : Row) → IsMildRow r → class_of r ≡ Call → ⊥
 not_call (Calls name args) m e = m
-not_call (Fixes rd n) m e = cc
-not_call (Moves rd rs) m e = cc
-not_call (Sets rd op a b) m e = cc
-not_call (Addresses rd n o) m e = cc
-not_call (Loads rd op b o) m e = cc
-not_call (Stores op rs b o) m e = cc
-not_call (LoadsSlot rd n) m e = cc
-not_call (StoresSlot rs n) m e = cc
-not_call (Branches op a b t) m e = cc
-not_call (Jumps t) m e = cc
-not_call (Returns v) m e = cc
-not_call Unfit m e = cc
+not_call _ m e = cc
 
 of_class : (r q : Row) → IsMildRow r → class_of r ≡ class_of q → is_call q ≡ false
 of_class r (Calls name args) m e = absurd (not_call r m e)

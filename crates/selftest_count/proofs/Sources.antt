@@ -3,7 +3,7 @@ use Rattle.std.proofs.lemmas.Bool.{and_parts, and_from}
 use Rattle.std.proofs.Common.{nat_eq, ◌&&◌, eq-eqb, eqb-true, ◌⊎◌}
 use Rattle.std.proofs.Common.{◌≡◌, ℕ, suc, ◌+◌, ◌-◌, ◌<◌, arith, List, [], map, Option, Some, None, Bool, true, false, refl, sym, ap, ◌∙◌, subst, inl}
 use Rattle.std.proofs.Common.{inr}
-use Rattle.rv64_instr.specs.Row.{Row, Fixes, Moves, Sets, Addresses, Loads, Stores, LoadsSlot, StoresSlot, Branches, Jumps, Calls, Returns, Unfit, row_of}
+use Rattle.rv64_instr.specs.Row.{Row, Loads, Stores, LoadsSlot, Branches, Calls, Returns, Unfit, row_of}
 use Rattle.rv64_instr.specs.Arithmetic.{taken, load_width, store_width, extended}
 use Rattle.rv64_instr.specs.DefsAndUses.{reads}
 use Rattle.rv64_instr.specs.Parts.{is_call}
@@ -33,10 +33,6 @@ NoneLeft c = c.script ≡ []
 
 does_leaves : (r : Row) (c : Core) → NoneLeft c → OnCore NoneLeft (does r c)
 unfolding does
-does_leaves (Fixes rd n) c e = e
-does_leaves (Moves rd rs) c e = e
-does_leaves (Sets rd op a b) c e = e
-does_leaves (Addresses rd n o) c e = e
 does_leaves (Loads rd op b o) c e =
     let a = address_at c b o in
     on_either NoneLeft (is_fault b c a (load_width op)) Traps (Falls (set_register rd (extended op (spelled c.memory a (load_width op))) c)) tt e
@@ -47,12 +43,11 @@ does_leaves (LoadsSlot rd n) c e = by_slot (c.slots n) where
   by_slot : (v : Option ℕ) → OnCore NoneLeft (slot_loaded rd c v)
   by_slot None = tt
   by_slot (Some v) = e
-does_leaves (StoresSlot rs n) c e = e
 does_leaves (Branches op a b t) c e = on_either NoneLeft (taken op (read c a) (read c b)) (Goes t c) (Falls c) e e
-does_leaves (Jumps t) c e = e
 does_leaves (Calls name args) c e = subst (λ (rs : List Reply). OnCore NoneLeft (answered name (map (read c) args) c rs)) (sym e) tt
 does_leaves (Returns v) c e = tt
 does_leaves Unfit c e = tt
+does_leaves _ c e = e
 
 act_leaves : (r : Row) (c : Core) → NoneLeft c → OnCore NoneLeft (act r c)
 unfolding act
@@ -101,19 +96,8 @@ step_leaves g s t e go = went_leaves g.enter s.pos (do_fetch g (g.fetch s.pos) s
 
 -- no answer is given, and none is left
 row_answered : (r : Row) (script : List Reply) → script ≡ [] → IsAnswered r None script
-row_answered (Fixes rd n) script e = tt
-row_answered (Moves rd rs) script e = tt
-row_answered (Sets rd op a b) script e = tt
-row_answered (Addresses rd n o) script e = tt
-row_answered (Loads rd op b o) script e = tt
-row_answered (Stores op rs b o) script e = tt
-row_answered (LoadsSlot rd n) script e = tt
-row_answered (StoresSlot rs n) script e = tt
-row_answered (Branches op a b t) script e = tt
-row_answered (Jumps t) script e = tt
 row_answered (Calls name args) script e = e
-row_answered (Returns v) script e = tt
-row_answered Unfit script e = tt
+row_answered _ script e = tt
 
 item_answered : (kind : ItemKind) (script : List Reply) → script ≡ [] → IsItemAnswered kind None script
 item_answered (Code i k) script e = row_answered (row_of i) script e

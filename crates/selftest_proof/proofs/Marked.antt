@@ -2,7 +2,7 @@
 use Rattle.std.proofs.Common.{◌≡◌, ℕ, List, [], ◌∷◌, map, drop, All, Contains, Option, Some, None, Bool, true, false, cond, nat_eq, refl, sym, subst}
 use Rattle.std.proofs.Common.{inl, inr}
 use Rattle.std.proofs.lemmas.List.Elements.{All-nil, All-cons, All-head, All-tail, All-drop}
-use Rattle.rv64_instr.specs.Row.{Row, Fixes, Moves, Sets, Addresses, Loads, Stores, LoadsSlot, StoresSlot, Branches, Jumps, Calls, Returns, Unfit, row_of}
+use Rattle.rv64_instr.specs.Row.{Row, Loads, Stores, LoadsSlot, Branches, Calls, Returns, Unfit, row_of}
 use Rattle.rv64_instr.specs.Arithmetic.{taken, load_width, store_width}
 use Rattle.rv64_instr.specs.DefsAndUses.{reads}
 use Rattle.rv64_instr.specs.Parts.{is_call}
@@ -59,25 +59,20 @@ module _ (parts : List VarId) where
 
   does_keeps : (r : Row) (c : Core) → P c → OnCore P (does r c)
   unfolding does
-  does_keeps (Fixes rd n) c h = h
-  does_keeps (Moves rd rs) c h = h
-  does_keeps (Sets rd op a b) c h = h
-  does_keeps (Addresses rd n o) c h = h
   does_keeps (Loads rd op b o) c h = on_either P (is_fault b c (address_at c b o) (load_width op)) Traps _ tt h
   does_keeps (Stores op rs b o) c h = on_either P (is_fault b c (address_at c b o) (store_width op)) Traps _ tt h
   does_keeps (LoadsSlot rd n) c h = by_slot (c.slots n) where
     by_slot : (v : Option ℕ) → OnCore P (slot_loaded rd c v)
     by_slot None = tt
     by_slot (Some v) = h
-  does_keeps (StoresSlot rs n) c h = h
   does_keeps (Branches op a b t) c h = on_either P (taken op (read c a) (read c b)) _ _ h h
-  does_keeps (Jumps t) c h = h
   does_keeps (Calls name args) c h = by_script (map (read c) args) c.script where
     by_script : (vs : List ℕ) (rs : List Reply) → OnCore P (answered name vs c rs)
     by_script vs [] = tt
     by_script vs (q ∷ rs) = on_either P (writes_frame c.entry c.area q.writes) _ _ tt h
   does_keeps (Returns v) c h = tt
   does_keeps Unfit c h = tt
+  does_keeps _ c h = h
 
   act_keeps : (r : Row) (c : Core) → P c → OnCore P (act r c)
   unfolding act

@@ -1,7 +1,7 @@
 -- From what items do to the words of the laws on lists of items.
 use Rattle.std.proofs.Common.{◌≡◌, ℕ, Option, Some, None, Bool, true, false, cond, refl, sym}
 use Rattle.rv64_instr.specs.declared.place.Place.{Place}
-use Rattle.rv64_instr.specs.Row.{Row, Fixes, Moves, Sets, Addresses, Loads, Stores, LoadsSlot, StoresSlot, Branches, Jumps, Calls, Returns, Unfit, row_of}
+use Rattle.rv64_instr.specs.Row.{Row, Loads, LoadsSlot, Unfit, row_of}
 use Rattle.rv64_instr.specs.DefsAndUses.{reads}
 use Rattle.rv64_instr.specs.Parts.{is_pure, is_call}
 use Rattle.rv64_instr.specs.Arithmetic.{load_width}
@@ -66,22 +66,13 @@ on_test false x y h k e = k e
 
 does_form : (r : Row) (c : Core) → is_pure r ≡ true → (r ≡ Unfit → ⊥) → does r c ≡ Breaks → ⊥
 unfolding does
-does_form (Fixes rd n) c p u e = cc
-does_form (Moves rd rs) c p u e = cc
-does_form (Sets rd op a b) c p u e = cc
-does_form (Addresses rd n o) c p u e = cc
 does_form (Loads rd op b o) c p u e = on_test (is_fault b c (address_at c b o) (load_width op)) Traps (Falls _) (λ k. cc) (λ k. cc) e
-does_form (Stores op rs b o) c p u e = cc
 does_form (LoadsSlot rd n) c p u e = by_slot (c.slots n) e where
   by_slot : (x : Option ℕ) → slot_loaded rd c x ≡ Breaks → ⊥
   by_slot None e = cc
   by_slot (Some v) e = cc
-does_form (StoresSlot rs n) c p u e = cc
-does_form (Branches op a b t) c p u e = cc
-does_form (Jumps t) c p u e = cc
-does_form (Calls name args) c p u e = cc
-does_form (Returns v) c p u e = cc
 does_form Unfit c p u e = u refl
+does_form _ c p u e = cc
 
 act_form : (r : Row) (c : Core) → is_pure r ≡ true → (r ≡ Unfit → ⊥) → act r c ≡ Breaks → ⊥
 unfolding act

@@ -4,7 +4,7 @@ use Rattle.std.specs.Prelude.{All, Result, Ok, Err, IfOk, OnErr}
 use Rattle.std.specs.declared.alloc.AllocError.{AllocError}
 use Rattle.std.proofs.lemmas.Bool.{cases_eq, eq-eqb, ne_eqb}
 use Rattle.std.proofs.lemmas.List.Elements.{All-drop}
-use Rattle.rv64_instr.specs.Row.{Row, Fixes, Moves, Sets, Addresses, Loads, Stores, LoadsSlot, StoresSlot, Branches, Jumps, Calls, Returns, Unfit, row_of}
+use Rattle.rv64_instr.specs.Row.{Row, Branches, Jumps, Returns, Unfit, row_of}
 use Rattle.mir_func.specs.declared.position.Pos.{Pos}
 use Rattle.mir_func.specs.declared.block.Block.{Block}
 use Rattle.mir_func.specs.declared.item.Item.{Item}
@@ -93,15 +93,7 @@ row_leads ids (Branches op a b t) p q at (inr e) = to_below e (λ z. z)
 row_leads ids (Jumps t) p q at e = to_block t at e
 row_leads ids (Returns rs) p q at e = absurd e
 row_leads ids Unfit p q at e = absurd e
-row_leads ids (Fixes rd n) p q at e = onward ids p q e
-row_leads ids (Moves rd rs) p q at e = onward ids p q e
-row_leads ids (Sets rd op a b) p q at e = onward ids p q e
-row_leads ids (Addresses rd n offset) p q at e = onward ids p q e
-row_leads ids (Loads rd op a n) p q at e = onward ids p q e
-row_leads ids (Stores op a b n) p q at e = onward ids p q e
-row_leads ids (LoadsSlot rd n) p q at e = onward ids p q e
-row_leads ids (StoresSlot rs n) p q at e = onward ids p q e
-row_leads ids (Calls name args) p q at e = onward ids p q e
+row_leads ids _ p q at e = onward ids p q e
 
 kind_leads : (ids : List ℕ) (k : ItemKind) (p q : Pos) → TargetsIn ids k → KindEdge (λ n. n) k p q → LeadsOn ids (exit_of k) p q
 kind_leads ids (Code i k) p q at e = row_leads ids (row_of i) p q at e

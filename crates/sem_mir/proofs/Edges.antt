@@ -3,7 +3,7 @@ use Rattle.std.proofs.Common.{◌≡◌, ℕ, ◌+◌, List, [], ◌∷◌, map,
 use Rattle.mir_func.specs.declared.position.Pos.{Pos}
 use Rattle.mir_func.specs.declared.item.ItemKind.{ItemKind}
 use Rattle.mir_func.specs.declared.item.ItemKind.TheVariants.{Code, Mark, Phi}
-use Rattle.rv64_instr.specs.Row.{Row, Fixes, Moves, Sets, Addresses, Loads, Stores, LoadsSlot, StoresSlot, Branches, Jumps, Calls, Returns, Unfit, row_of}
+use Rattle.rv64_instr.specs.Row.{Row, Loads, Stores, LoadsSlot, Branches, Calls, Returns, Unfit, row_of}
 use Rattle.rv64_instr.specs.Arithmetic.{taken, load_width, store_width, extended}
 use Rattle.rv64_instr.specs.DefsAndUses.{reads}
 use Rattle.sem_mir.specs.State.{State, Core, Reply, spelled, low_bytes, writes_frame, updated}
@@ -26,10 +26,6 @@ module _ (enter : ℕ → ℕ) (p : Pos) where
 
   does_allows : (r : Row) (c : Core) → Allows enter r p (does r c)
   unfolding does
-  does_allows (Fixes rd n) c = refl
-  does_allows (Moves rd rs) c = refl
-  does_allows (Sets rd op a b) c = refl
-  does_allows (Addresses rd n o) c = refl
   does_allows (Loads rd op b o) c =
       let a = address_at c b o in
       let v = extended op (spelled c.memory a (load_width op)) in
@@ -42,15 +38,14 @@ module _ (enter : ℕ → ℕ) (p : Pos) where
     by_slot : (x : Option ℕ) → Allows enter (LoadsSlot rd n) p (slot_loaded rd c x)
     by_slot None = tt
     by_slot (Some v) = refl
-  does_allows (StoresSlot rs n) c = refl
   does_allows (Branches op a b t) c = either (Branches op a b t) (taken op (read c a) (read c b)) (Goes t c) (Falls c) (inl refl) (inr refl)
-  does_allows (Jumps t) c = refl
   does_allows (Calls name args) c = by_script (map (read c) args) c.script where
     by_script : (vs : List ℕ) (rs : List Reply) → Allows enter (Calls name args) p (answered name vs c rs)
     by_script vs [] = tt
     by_script vs (r ∷ rs) = either (Calls name args) (writes_frame c.entry c.area r.writes) Traps (Falls (after_reply name vs c r rs)) tt refl
   does_allows (Returns v) c = tt
   does_allows Unfit c = tt
+  does_allows _ c = refl
 
   act_allows : (r : Row) (c : Core) → Allows enter r p (act r c)
   unfolding act

@@ -33,11 +33,8 @@ module _ (pairs : ℕ → ℕ → Option ℕ) (marks : List (VarId × Option ℕ
 
   does_apart : (r : Row) (c : Core) → does r (told_by pairs marks c) ≡ with_core (told_by pairs marks) (does r c)
   unfolding does
-  does_apart (Fixes rd n) c = refl
-  does_apart (Moves rd rs) c = refl
   does_apart (Sets rd op a (Content b)) c = refl
   does_apart (Sets rd op a (Number n)) c = refl
-  does_apart (Addresses rd n o) c = refl
   does_apart (Loads rd op (PointedBy b) o) c = apart_either (is_fault (PointedBy b) c (address_at c (PointedBy b) o) (load_width op)) _ _ _ _ refl refl
   does_apart (Loads rd op (ObjectAt n) o) c = refl
   does_apart (Stores op rs (PointedBy b) o) c = apart_either (is_fault (PointedBy b) c (address_at c (PointedBy b) o) (store_width op)) _ _ _ _ refl refl
@@ -46,15 +43,12 @@ module _ (pairs : ℕ → ℕ → Option ℕ) (marks : List (VarId × Option ℕ
     by_slot : (x : Option ℕ) → slot_loaded rd (told_by pairs marks c) x ≡ with_core (told_by pairs marks) (slot_loaded rd c x)
     by_slot None = refl
     by_slot (Some v) = refl
-  does_apart (StoresSlot rs n) c = refl
   does_apart (Branches op a b t) c = apart_either (taken op (read c a) (read c b)) _ _ _ _ refl refl
-  does_apart (Jumps t) c = refl
   does_apart (Calls name args) c = by_script (map (read c) args) c.script where
     by_script : (vs : List ℕ) (rs : List Reply) → answered name vs (told_by pairs marks c) rs ≡ with_core (told_by pairs marks) (answered name vs c rs)
     by_script vs [] = refl
     by_script vs (r ∷ rs) = apart_either (writes_frame c.entry c.area r.writes) _ _ _ _ refl refl
-  does_apart (Returns v) c = refl
-  does_apart Unfit c = refl
+  does_apart _ c = refl
 
   pub act_apart : (r : Row) (c : Core) → act r (told_by pairs marks c) ≡ with_core (told_by pairs marks) (act r c)
   unfolding act

@@ -131,11 +131,7 @@ register_used os (Branches op a b t) q h k =
     ]
 register_used os (Calls name args) q h k = implicit_any q os (subst (λ (qs : List ℕ). Contains qs q) h k)
 register_used os (Returns results) q h k = implicit_any q os (subst (λ (qs : List ℕ). Contains qs q) h k)
-register_used os (Fixes rd n) q h k = absurd (omega (arith, k.1))
-register_used os (Addresses rd n o) q h k = absurd (omega (arith, k.1))
-register_used os (LoadsSlot rd n) q h k = absurd (omega (arith, k.1))
-register_used os (Jumps t) q h k = absurd (omega (arith, k.1))
-register_used os Unfit q h k = absurd (omega (arith, k.1))
+register_used os _ q h k = absurd (omega (arith, k.1))
 
 row_uses : (i : Instruction) (x : Place) → RowUses (row_of i) x → uses_of i x ≡ true
 row_uses i (Register q) k = register_used i.operands (row_of i) q (implicit i) k
@@ -230,16 +226,7 @@ row_moves (StoresSlot rs n) from to c m s w =
     let d : Core = record c { slots = updated n (Some (read c rs)) c.slots } in
     subst (λ (x : Place). held_in to d ≡ held_in x c) f (subst (λ (x : Place). held_in x d ≡ content c.regs rs) t
     (updated_same n (Some (read c rs)) c.slots ∙ first_held c rs w))
-row_moves (Fixes rd n) from to c m s w = cc
-row_moves (Sets rd op a b) from to c m s w = cc
-row_moves (Addresses rd n o) from to c m s w = cc
-row_moves (Loads rd op b o) from to c m s w = cc
-row_moves (Stores op rs b o) from to c m s w = cc
-row_moves (Branches op a b t) from to c m s w = cc
-row_moves (Jumps t) from to c m s w = cc
-row_moves (Calls name args) from to c m s w = cc
-row_moves (Returns v) from to c m s w = cc
-row_moves Unfit from to c m s w = cc
+row_moves _ from to c m s w = cc
 
 moves : (i : Instruction) (from to : Place) (c : Core) → moved_by (row_of i) ≡ Some from → set_by (row_of i) ≡ Some to →
     OnCore (λ d. held_in to d ≡ held_in from c) (act (row_of i) c)
@@ -259,18 +246,7 @@ unfolding does
 row_fixes (Fixes rd n) z to c k e s =
     let f : signed n ≡ z = cc in
     set_holds rd n to c s ∙ ap Some (sym (word_signed n k)) ∙ ap (λ (y : ℤ). Some (word y)) f
-row_fixes (Moves rd rs) z to c k e s = cc
-row_fixes (LoadsSlot rd n) z to c k e s = cc
-row_fixes (StoresSlot rs n) z to c k e s = cc
-row_fixes (Sets rd op a b) z to c k e s = cc
-row_fixes (Addresses rd n o) z to c k e s = cc
-row_fixes (Loads rd op b o) z to c k e s = cc
-row_fixes (Stores op rs b o) z to c k e s = cc
-row_fixes (Branches op a b t) z to c k e s = cc
-row_fixes (Jumps t) z to c k e s = cc
-row_fixes (Calls name args) z to c k e s = cc
-row_fixes (Returns v) z to c k e s = cc
-row_fixes Unfit z to c k e s = cc
+row_fixes _ z to c k e s = cc
 
 fixes : (i : Instruction) (z : ℤ) (to : Place) (c : Core) → constant_of (row_of i) ≡ Some z → set_by (row_of i) ≡ Some to →
     OnCore (λ d. held_in to d ≡ Some (word z)) (act (row_of i) c)
@@ -287,10 +263,6 @@ falls_either P false x y h k = k
 
 row_pure : (r : Row) (c : Core) → is_pure r ≡ true → FallsInto (SameWorld c) (does r c)
 unfolding does
-row_pure (Fixes rd n) c e = record { entry = refl; area = refl; objects = refl; memory = refl; script = refl; events = refl }
-row_pure (Moves rd rs) c e = record { entry = refl; area = refl; objects = refl; memory = refl; script = refl; events = refl }
-row_pure (Sets rd op a b) c e = record { entry = refl; area = refl; objects = refl; memory = refl; script = refl; events = refl }
-row_pure (Addresses rd n o) c e = record { entry = refl; area = refl; objects = refl; memory = refl; script = refl; events = refl }
 row_pure (Loads rd op b o) c e =
     let a = address_at c b o in
     let d : Core = set_register rd (extended op (spelled c.memory a (load_width op))) c in
@@ -306,13 +278,13 @@ row_pure (LoadsSlot rd n) c e = by_slot (c.slots n) where
   by_slot : (x : Option ℕ) → FallsInto (SameWorld c) (slot_loaded rd c x)
   by_slot None = tt
   by_slot (Some v) = record { entry = refl; area = refl; objects = refl; memory = refl; script = refl; events = refl }
-row_pure (StoresSlot rs n) c e = record { entry = refl; area = refl; objects = refl; memory = refl; script = refl; events = refl }
 row_pure Unfit c e = tt
 row_pure (Stores op rs b o) c e = cc
 row_pure (Branches op a b t) c e = cc
 row_pure (Jumps t) c e = cc
 row_pure (Calls name args) c e = cc
 row_pure (Returns v) c e = cc
+row_pure _ c e = record { entry = refl; area = refl; objects = refl; memory = refl; script = refl; events = refl }
 
 pure : (i : Instruction) (c : Core) → is_pure (row_of i) ≡ true → FallsInto (SameWorld c) (act (row_of i) c)
 pure i c e = acts (FallsInto (SameWorld c)) tt (row_of i) c (λ w. row_pure (row_of i) c e)

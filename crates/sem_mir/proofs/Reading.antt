@@ -3,7 +3,7 @@ use Rattle.std.proofs.Common.{◌≡◌, ℕ, zero, suc, ◌+◌, ◌*◌, ◌<�
 use Rattle.std.proofs.Common.{None, Bool, true, false, cond, nat_eq, eq-eqb, ne_eqb, refl, sym, ap, ◌∙◌, subst, inl, inr, ◌⊎◌, arith}
 use Rattle.std.proofs.lemmas.Bool.{eqb-true}
 use Rattle.std.proofs.lemmas.List.Elements.{All-weaker, All-contains, All-contains_itself}
-use Rattle.rv64_instr.specs.Row.{Row, Fixes, Moves, Sets, Addresses, Loads, Stores, LoadsSlot, StoresSlot, Branches, Jumps, Calls, Returns, Unfit, row_of}
+use Rattle.rv64_instr.specs.Row.{Row, Branches, Jumps, Returns, Unfit, row_of}
 use Rattle.mir_func.specs.declared.debug_substitution.OperandPair.{OperandPair}
 use Rattle.mir_func.specs.declared.position.Pos.{Pos}
 use Rattle.mir_func.specs.declared.position.Origin.{Origin}
@@ -157,15 +157,7 @@ back_edge (Code c m) q n e = by_row (row_of c) e where
   by_row (Jumps t) e = ap (λ (p : Pos). p.block) (sym e)
   by_row (Returns v) e = absurd e
   by_row Unfit e = absurd e
-  by_row (Fixes rd v) e = not_below e
-  by_row (Moves rd rs) e = not_below e
-  by_row (Sets rd op a b) e = not_below e
-  by_row (Addresses rd v o) e = not_below e
-  by_row (Loads rd op a b) e = not_below e
-  by_row (Stores op rs a b) e = not_below e
-  by_row (LoadsSlot rd v) e = not_below e
-  by_row (StoresSlot rs v) e = not_below e
-  by_row (Calls v a) e = not_below e
+  by_row _ e = not_below e
 
 module _ (blocks : List Block) (read : IsRead blocks) where
   module _ (sp : Bool) (resolve : OperandPair → Option OperandPair) where

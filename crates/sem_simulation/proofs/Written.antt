@@ -194,18 +194,7 @@ row_returns g (Code i n) c has low e = by_row (row_of i) low e where
       let k : with_core (numbered g.sees_pointer (is_call (row_of i)) n i.operands) (cond true (Gives (map (read c) rs)) Traps) ≡ Traps =
       ap (λ (b : Bool). with_core (numbered g.sees_pointer (is_call (row_of i)) n i.operands) (cond b (Gives (map (read c) rs)) Traps)) (sym w) ∙ e in
       cc
-  by_row (Fixes rd n) low e = absurd low
-  by_row (Moves rd rs) low e = absurd low
-  by_row (Sets rd op a b) low e = absurd low
-  by_row (Addresses rd n o) low e = absurd low
-  by_row (Loads rd op b o) low e = absurd low
-  by_row (Stores op rs b o) low e = absurd low
-  by_row (LoadsSlot rd n) low e = absurd low
-  by_row (StoresSlot rs n) low e = absurd low
-  by_row (Branches op a b t) low e = absurd low
-  by_row (Jumps t) low e = absurd low
-  by_row (Calls name args) low e = absurd low
-  by_row Unfit low e = absurd low
+  by_row _ low e = absurd low
 row_returns g (Mark v m) c has low e = low
 row_returns g (Phi p n) c has low e = low
 

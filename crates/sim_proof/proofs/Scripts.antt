@@ -3,7 +3,7 @@ use Rattle.std.proofs.Common.{◌≡◌, ℕ, suc, ◌+◌, ◌/◌, ◌*◌, �
 use Rattle.std.proofs.Common.{Option, Some, None, Bool, true, false, cond, nat_eq, map, refl, ap, subst}
 use Rattle.rv64_instr.specs.Arithmetic.{taken, store_width}
 use Rattle.rv64_instr.specs.declared.decoded.Base.TheVariants.{PointedBy, ObjectAt}
-use Rattle.rv64_instr.specs.Row.{Row, Fixes, Moves, Sets, Addresses, Loads, Stores, LoadsSlot, StoresSlot, Branches, Jumps, Calls, Returns, Unfit}
+use Rattle.rv64_instr.specs.Row.{Row, Fixes, Moves, Sets, Loads, Stores, Branches, Jumps}
 use Rattle.rv64_instr.specs.Row.{implicit_uses}
 use Rattle.rv64_word.specs.declared.machine_op.MachineOp.{MachineOp}
 use Rattle.rv64_word.specs.Decoded.{decoded}
@@ -46,21 +46,16 @@ unfolding does_row
 row_keeps (Fixes rd n) s u e = kept s _ u e refl refl
 row_keeps (Moves rd rs) s u e = kept s _ u e refl refl
 row_keeps (Sets rd op a b) s u e = kept s _ u e refl refl
-row_keeps (Addresses rd n offset) s u e = absurd cc
 row_keeps (Loads rd op (PointedBy r) offset) s u e = kept s _ u e refl refl
 row_keeps (Loads rd op (ObjectAt n) offset) s u e = absurd cc
 row_keeps (Stores op rs (PointedBy r) offset) s u e = stored_keeps (address_of s r offset) (low_bytes (store_width op) (register s rs)) s u e
 row_keeps (Stores op rs (ObjectAt n) offset) s u e = absurd cc
-row_keeps (LoadsSlot rd n) s u e = absurd cc
-row_keeps (StoresSlot rs n) s u e = absurd cc
 row_keeps (Branches op a b target) s u e = by_test (taken op (register s a) (register s b)) e where
   by_test : (t : Bool) → Continues (cond t (at target s) (past 4 s)) ≡ Continues u → Keeps s u
   by_test true q = kept s (at target s) u q refl refl
   by_test false q = kept s (past 4 s) u q refl refl
 row_keeps (Jumps target) s u e = kept s _ u e refl refl
-row_keeps (Calls name args) s u e = absurd cc
-row_keeps (Returns results) s u e = absurd cc
-row_keeps Unfit s u e = absurd cc
+row_keeps _ s u e = absurd cc
 
 machine_keeps : (r : MachineRow) (s u : Machine) → does r s ≡ Continues u → Keeps s u
 machine_keeps (Does row) s u e = row_keeps row s u e

@@ -44,19 +44,15 @@ base_renamed at_use at_def (ObjectAt n) = tt
 
 -- a row with other registers reads those
 pub reads_renamed : (at_use at_def : ℕ → ℕ) (r : Row) → has_implicit_uses r ≡ false → AreRenamed at_use (reads r) (reads (renamed_row at_use at_def r))
-reads_renamed at_use at_def (Fixes rd n) i = tt
 reads_renamed at_use at_def (Moves rd rs) i = (refl, tt)
 reads_renamed at_use at_def (Sets rd op a b) i = (refl, input_renamed at_use at_def b)
-reads_renamed at_use at_def (Addresses rd n o) i = tt
 reads_renamed at_use at_def (Loads rd op b o) i = base_renamed at_use at_def b
 reads_renamed at_use at_def (Stores op rs b o) i = (refl, base_renamed at_use at_def b)
-reads_renamed at_use at_def (LoadsSlot rd n) i = tt
 reads_renamed at_use at_def (StoresSlot rs n) i = (refl, tt)
 reads_renamed at_use at_def (Branches op a b t) i = (refl, (refl, tt))
-reads_renamed at_use at_def (Jumps t) i = tt
 reads_renamed at_use at_def (Calls name args) i = cc
 reads_renamed at_use at_def (Returns v) i = cc
-reads_renamed at_use at_def Unfit i = tt
+reads_renamed at_use at_def _ i = tt
 
 module _ (at_use at_def : ℕ → ℕ) (keeps : SetsZero at_def) where
   -- what both set is alike, under its register in each

@@ -15,7 +15,7 @@ use Rattle.rv64_instr.specs.declared.place.Place.TheVariants.{Register, Slot, Co
 use Rattle.rv64_instr.specs.Instruction.{Instruction}
 use Rattle.rv64_instr.specs.Parts.{has_implicit_uses, first_use, second_use, input_place, base_place, is_register, is_implicit_use, uses_of}
 use Rattle.rv64_instr.specs.DefsAndUses.{reads, sets, input_reads, base_reads}
-use Rattle.rv64_instr.specs.Row.{Row, Fixes, Moves, Sets, Addresses, Loads, Stores, LoadsSlot, StoresSlot, Branches, Jumps, Calls, Returns, Unfit, row_of}
+use Rattle.rv64_instr.specs.Row.{Row, Moves, Sets, Loads, Stores, StoresSlot, Branches, Jumps, Calls, Returns, Unfit, row_of}
 use Rattle.mir_func.specs.declared.position.Pos.{Pos}
 use Rattle.mir_func.specs.declared.position.Origin.{Origin}
 use Rattle.mir_func.specs.declared.location.Loc.{Loc}
@@ -41,31 +41,17 @@ counts_renamed : (u d : ℕ → ℕ) (r : Row) → Counts r → ((rd rs : ℕ) �
 counts_renamed u d (Moves rd rs) h k = λ e. h (k rd rs refl e)
 counts_renamed u d (Branches op a b t) h k = absurd h
 counts_renamed u d (Jumps t) h k = absurd h
-counts_renamed u d (Fixes rd n) h k = tt
-counts_renamed u d (Sets rd op a b) h k = tt
-counts_renamed u d (Addresses rd n o) h k = tt
-counts_renamed u d (Loads rd op b o) h k = tt
-counts_renamed u d (Stores op rs b o) h k = tt
-counts_renamed u d (LoadsSlot rd n) h k = tt
-counts_renamed u d (StoresSlot rs n) h k = tt
-counts_renamed u d (Calls name args) h k = tt
-counts_renamed u d (Returns v) h k = tt
-counts_renamed u d Unfit h k = tt
+counts_renamed u d _ h k = tt
 
 plain_counts : (u d : ℕ → ℕ) (r : Row) → class_of r ≡ Plain → ((rd rs : ℕ) → r ≡ Moves rd rs → d rd ≡ u rs → ⊥) → Counts (renamed_row u d r)
 plain_counts u d (Moves rd rs) h k = λ e. k rd rs refl e
-plain_counts u d (Fixes rd n) h k = tt
-plain_counts u d (Sets rd op a b) h k = tt
-plain_counts u d (Addresses rd n o) h k = tt
-plain_counts u d (Loads rd op b o) h k = tt
-plain_counts u d (LoadsSlot rd n) h k = tt
-plain_counts u d (StoresSlot rs n) h k = tt
 plain_counts u d (Stores op rs b o) h k = cc
 plain_counts u d (Branches op a b t) h k = cc
 plain_counts u d (Jumps t) h k = cc
 plain_counts u d (Calls name args) h k = cc
 plain_counts u d (Returns v) h k = cc
 plain_counts u d Unfit h k = cc
+plain_counts u d _ h k = tt
 
 -- ---- what is used is read
 
@@ -87,34 +73,19 @@ head_is : (r q : ℕ) (rs : List ℕ) → is_register q (Some (Register r)) ≡ 
 head_is r q rs e = subst (λ (z : ℕ). Contains (r ∷ rs) z) (sym (eqb-true q r e)) (contains_head r rs)
 
 first_read : (r : Row) (q : ℕ) → is_register q (first_use r) ≡ true → Contains (reads r) q
-first_read (Fixes rd n) q e = cc
 first_read (Moves rd rs) q e = head_is rs q [] e
 first_read (Sets rd op a b) q e = head_is a q (input_reads b) e
-first_read (Addresses rd n o) q e = cc
 first_read (Loads rd op b o) q e = from_base b q e
 first_read (Stores op rs b o) q e = head_is rs q (base_reads b) e
-first_read (LoadsSlot rd n) q e = cc
 first_read (StoresSlot rs n) q e = head_is rs q [] e
 first_read (Branches op a b t) q e = head_is a q (b ∷ []) e
-first_read (Jumps t) q e = cc
-first_read (Calls name args) q e = cc
-first_read (Returns v) q e = cc
-first_read Unfit q e = cc
+first_read _ q e = cc
 
 second_read : (r : Row) (q : ℕ) → is_register q (second_use r) ≡ true → Contains (reads r) q
-second_read (Fixes rd n) q e = cc
-second_read (Moves rd rs) q e = cc
 second_read (Sets rd op a b) q e = contains_tail a q (input_reads b) (from_input b q e)
-second_read (Addresses rd n o) q e = cc
-second_read (Loads rd op b o) q e = cc
 second_read (Stores op rs b o) q e = contains_tail rs q (base_reads b) (from_base b q e)
-second_read (LoadsSlot rd n) q e = cc
-second_read (StoresSlot rs n) q e = cc
 second_read (Branches op a b t) q e = contains_tail a q (b ∷ []) (head_is b q [] e)
-second_read (Jumps t) q e = cc
-second_read (Calls name args) q e = cc
-second_read (Returns v) q e = cc
-second_read Unfit q e = cc
+second_read _ q e = cc
 
 -- an implicit row has no explicit use
 explicit_row : (r : Row) (q : ℕ) → has_implicit_uses r ≡ true → (is_register q (first_use r) || is_register q (second_use r)) ≡ true → ⊥

@@ -7,7 +7,7 @@ use Rattle.rv64_instr.specs.declared.place.Place.{Place}
 use Rattle.mir_func.specs.declared.variable.VarId.{VarId}
 use Rattle.mir_func.specs.declared.variable.MarkValue.{MarkValue}
 use Rattle.rv64_instr.specs.Instruction.{Instruction}
-use Rattle.rv64_instr.specs.Row.{Row, Fixes, Moves, Sets, Addresses, Loads, Stores, LoadsSlot, StoresSlot, Branches, Jumps, Calls, Returns, Unfit, row_of}
+use Rattle.rv64_instr.specs.Row.{Row, Branches, Jumps, Returns, Unfit, row_of}
 use Rattle.mir_func.specs.declared.debug_substitution.OperandPair.{OperandPair}
 use Rattle.mir_func.specs.declared.object.Object.{Object}
 use Rattle.mir_func.specs.declared.position.Pos.{Pos}
@@ -68,16 +68,7 @@ end_renamed : (u d : ℕ → ℕ) (r : Row) → IsEnd (renamed_row u d r) → Is
 end_renamed u d (Branches op a b t) h = tt
 end_renamed u d (Jumps t) h = tt
 end_renamed u d (Returns v) h = tt
-end_renamed u d (Fixes rd n) h = h
-end_renamed u d (Moves rd rs) h = h
-end_renamed u d (Sets rd op a b) h = h
-end_renamed u d (Addresses rd n o) h = h
-end_renamed u d (Loads rd op b o) h = h
-end_renamed u d (Stores op rs b o) h = h
-end_renamed u d (LoadsSlot rd n) h = h
-end_renamed u d (StoresSlot rs n) h = h
-end_renamed u d (Calls name args) h = h
-end_renamed u d Unfit h = h
+end_renamed u d _ h = h
 
 first_index : (bs : List Block) → LastCloses bs → index_of bs (first_of bs) ≡ 0
 first_index [] h = absurd h
@@ -197,15 +188,7 @@ module _ (objects : List Object) (src : List Block) (f : Function) (subs fsubs :
     by_row (Jumps t) e = same_block t e
     by_row (Returns v) e = absurd e
     by_row Unfit e = absurd e
-    by_row (Fixes rd m) e = never e
-    by_row (Moves rd rs) e = never e
-    by_row (Sets rd op a b) e = never e
-    by_row (Addresses rd m o) e = never e
-    by_row (Loads rd op b o) e = never e
-    by_row (Stores op rs b o) e = never e
-    by_row (LoadsSlot rd m) e = never e
-    by_row (StoresSlot rs m) e = never e
-    by_row (Calls name args) e = never e
+    by_row _ e = never e
 
   -- where a store stands at the start, nothing leads there
   none_leads : ((p : Pos) (i : Item) → fp.fetch p ≡ Here i → OnRow (GoesTo (first_of f.blocks)) i.kind → ⊥) → (p : Pos) →

@@ -14,7 +14,7 @@ use Rattle.rv64_instr.specs.declared.place.Place.TheVariants.{Register, Slot, Co
 use Rattle.rv64_instr.specs.DefsAndUses.{caller_saved, reads, sets}
 use Rattle.rv64_instr.specs.Instruction.{Instruction}
 use Rattle.rv64_instr.specs.Parts.{has_implicit_uses, names_slot, slot_read, slot_set}
-use Rattle.rv64_instr.specs.Row.{Row, Fixes, Moves, Sets, Addresses, Loads, Stores, LoadsSlot, StoresSlot, Branches, Jumps, Calls, Returns, Unfit, row_of}
+use Rattle.rv64_instr.specs.Row.{Row, Fixes, Moves, Sets, Addresses, Loads, LoadsSlot, StoresSlot, Calls, Returns, row_of}
 use Rattle.rv64_instr.specs.Row.{implicit_uses}
 use Rattle.mir_func.specs.declared.position.Origin.{Origin}
 use Rattle.mir_func.specs.declared.variable.VarId.{VarId}
@@ -146,11 +146,7 @@ sets_renamed u d r i q k = by_row r i k where
   by_row (LoadsSlot rd n) i k = one rd k
   by_row (Calls name args) i k = cc
   by_row (Returns v) i k = cc
-  by_row (Stores op rs b o) i k = absurd (none_in q k)
-  by_row (StoresSlot rs n) i k = absurd (none_in q k)
-  by_row (Branches op a b t) i k = absurd (none_in q k)
-  by_row (Jumps t) i k = absurd (none_in q k)
-  by_row Unfit i k = absurd (none_in q k)
+  by_row _ i k = absurd (none_in q k)
 
 -- what isn't read explicitly
 uses_implicit : (os : List Operand) (q : ℕ) → Contains (implicit_uses os) q → Contains (implicits_in os) q

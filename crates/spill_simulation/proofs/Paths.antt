@@ -5,7 +5,7 @@ use Rattle.std.proofs.Common.{sym, ap, ◌∙◌, subst, inl, inr, append_assoc,
 use Rattle.std.proofs.lemmas.List.Concat.{flat_map-cons}
 use Rattle.rv64_instr.specs.declared.operand.Operand.{Operand}
 use Rattle.rv64_instr.specs.Instruction.{Instruction}
-use Rattle.rv64_instr.specs.Row.{Row, Fixes, Moves, Sets, Addresses, Loads, Stores, LoadsSlot, StoresSlot, Branches, Jumps, Calls, Returns, Unfit, row_of}
+use Rattle.rv64_instr.specs.Row.{Row, Branches, Jumps, Returns, Unfit, row_of}
 use Rattle.mir_func.specs.declared.debug_substitution.OperandPair.{OperandPair}
 use Rattle.mir_func.specs.declared.position.Pos.{Pos}
 use Rattle.mir_func.specs.declared.position.Origin.{Origin}
@@ -36,20 +36,12 @@ WayOut u d r p p' = ((p' ≡ below p) × ((q : Pos) → RowEdge (λ n. n) (renam
     ((t : ℕ) × (p' ≡ block_start t) × ((q : Pos) → RowEdge (λ n. n) (renamed_row u d r) q (block_start t)))
 
 pub way_out : (u d : ℕ → ℕ) (r : Row) (p p' : Pos) → RowEdge (λ n. n) r p p' → WayOut u d r p p'
-way_out u d (Fixes rd n) p p' e = inl (e, λ q. refl)
-way_out u d (Moves rd rs) p p' e = inl (e, λ q. refl)
-way_out u d (Sets rd op a b) p p' e = inl (e, λ q. refl)
-way_out u d (Addresses rd n o) p p' e = inl (e, λ q. refl)
-way_out u d (Loads rd op b o) p p' e = inl (e, λ q. refl)
-way_out u d (Stores op rs b o) p p' e = inl (e, λ q. refl)
-way_out u d (LoadsSlot rd n) p p' e = inl (e, λ q. refl)
-way_out u d (StoresSlot rs n) p p' e = inl (e, λ q. refl)
 way_out u d (Branches op a b t) p p' (inl e) = inr (t, e, λ q. inl refl)
 way_out u d (Branches op a b t) p p' (inr e) = inl (e, λ q. inr refl)
 way_out u d (Jumps t) p p' e = inr (t, e, λ q. refl)
-way_out u d (Calls name args) p p' e = inl (e, λ q. refl)
 way_out u d (Returns v) p p' e = absurd e
 way_out u d Unfit p p' e = absurd e
+way_out u d _ p p' e = inl (e, λ q. refl)
 
 -- items that control falls through
 abbrev pub FallThrough : List Item → Type 0

@@ -7,7 +7,7 @@ use Rattle.std.proofs.lemmas.List.Elements.{All-contains}
 use Rattle.rv64_instr.specs.declared.place.Place.TheVariants.{Register}
 use Rattle.rv64_instr.specs.Instruction.{Instruction}
 use Rattle.rv64_instr.specs.Parts.{IsSlotStore}
-use Rattle.rv64_instr.specs.Row.{Row, Fixes, Moves, Sets, Addresses, Loads, Stores, LoadsSlot, StoresSlot, Branches, Jumps, Calls, Returns, Unfit, row_of}
+use Rattle.rv64_instr.specs.Row.{Row, StoresSlot, Branches, Jumps, Returns, Unfit, row_of}
 use Rattle.mir_func.specs.declared.debug_substitution.OperandPair.{OperandPair}
 use Rattle.mir_func.specs.declared.position.Pos.{Pos}
 use Rattle.mir_func.specs.declared.position.Origin.{Origin}
@@ -90,15 +90,7 @@ module _ (s : Spilling) (slots : List ℕ) (homes : AreHomes s slots) (entry : L
     by_row (Jumps t) h e = same_start t e h
     by_row (Returns v) h e = absurd e
     by_row Unfit h e = absurd e
-    by_row (Fixes rd m) h e = never e
-    by_row (Moves rd rs) h e = never e
-    by_row (Sets rd op a b) h e = never e
-    by_row (Addresses rd m o) h e = never e
-    by_row (Loads rd op b o) h e = never e
-    by_row (Stores op rs b o) h e = never e
-    by_row (LoadsSlot rd m) h e = never e
-    by_row (StoresSlot rs m) h e = never e
-    by_row (Calls name args) h e = never e
+    by_row _ h e = never e
 
   pub there : AreThere s entry blocks resolve
   there p n edge = found_id blocks n (by_fetch (f.fetch p) refl edge) where
@@ -260,18 +252,7 @@ module _ (s : Spilling) (slots : List ℕ) (homes : AreHomes s slots) (entry : L
     spilled_stores ins h = by_row (row_of ins) (subst IsSlotStore (renames s slots homes entry blocks resolve srcp ins) h) where
       by_row : (r : Row) → IsSlotStore (renamed_row (use_now s (first_used s.homes ins.operands)) (def_now s) r) → IsSlotStore r
       by_row (StoresSlot rs n) h = tt
-      by_row (Fixes rd n) h = h
-      by_row (Moves rd rs) h = h
-      by_row (Sets rd op a b) h = h
-      by_row (Addresses rd n o) h = h
-      by_row (Loads rd op b o) h = h
-      by_row (Stores op rs b o) h = h
-      by_row (LoadsSlot rd n) h = h
-      by_row (Branches op a b t) h = h
-      by_row (Jumps t) h = h
-      by_row (Calls name args) h = h
-      by_row (Returns v) h = h
-      by_row Unfit h = h
+      by_row _ h = h
 
     module _ (src : List Block) (shape : Shape src blocks srcp f)
         (stored : (h : SlotAssignment) → Contains entry h → slot_of s.homes h.register ≡ Some h.slot)

@@ -84,25 +84,21 @@ base_used (ObjectAt n) q k = absurd (none_in q k)
 
 -- the first place that it reads, or the second
 explicit_used : (r : Row) (q : ℕ) → has_implicit_uses r ≡ false → Contains (reads r) q → (is_register q (first_use r) || is_register q (second_use r)) ≡ true
-explicit_used (Fixes rd n) q i k = absurd (none_in q k)
 explicit_used (Moves rd rs) q i k = or_left (is_register q (Some (Register rs))) _ (register_is q rs (one_is rs q k))
 explicit_used (Sets rd op a b) q i (zero, lt, e) = or_left (is_register q (Some (Register a))) _ (register_is q a e)
 explicit_used (Sets rd op a b) q i (suc k, lt, e) =
     or_right (is_register q (Some (Register a))) (is_register q (input_place b)) (input_used b q (k, omega (arith, lt), e))
-explicit_used (Addresses rd n o) q i k = absurd (none_in q k)
 explicit_used (Loads rd op b o) q i k = or_left (is_register q (base_place b)) _ (base_used b q k)
 explicit_used (Stores op rs b o) q i (zero, lt, e) = or_left (is_register q (Some (Register rs))) _ (register_is q rs e)
 explicit_used (Stores op rs b o) q i (suc k, lt, e) =
     or_right (is_register q (Some (Register rs))) (is_register q (base_place b)) (base_used b q (k, omega (arith, lt), e))
-explicit_used (LoadsSlot rd n) q i k = absurd (none_in q k)
 explicit_used (StoresSlot rs n) q i k = or_left (is_register q (Some (Register rs))) _ (register_is q rs (one_is rs q k))
 explicit_used (Branches op a b t) q i (zero, lt, e) = or_left (is_register q (Some (Register a))) _ (register_is q a e)
 explicit_used (Branches op a b t) q i (suc k, lt, e) =
     or_right (is_register q (Some (Register a))) (is_register q (Some (Register b))) (register_is q b (one_is b q (k, omega (arith, lt), e)))
-explicit_used (Jumps t) q i k = absurd (none_in q k)
 explicit_used (Calls name args) q i k = cc
 explicit_used (Returns v) q i k = cc
-explicit_used Unfit q i k = absurd (none_in q k)
+explicit_used _ q i k = absurd (none_in q k)
 
 pub live_used : (f : Program) (r : ℕ) (p : Pos) (x : Item) (i : Instruction) (n : Option ℕ) → f.fetch p ≡ Here x → x.kind ≡ Code i n →
     has_implicit_uses (row_of i) ≡ false → Contains (reads (row_of i)) r → Live f (Register r) p
@@ -135,12 +131,7 @@ does_quiet (LoadsSlot rd n) c e = by_slot (c.slots n) where
   by_slot None = tt
   by_slot (Some v) = refl
 does_quiet (StoresSlot rs n) c e = refl
-does_quiet (Stores op rs b o) c e = cc
-does_quiet (Branches op a b t) c e = cc
-does_quiet (Jumps t) c e = cc
-does_quiet (Calls name args) c e = cc
-does_quiet (Returns v) c e = cc
-does_quiet Unfit c e = cc
+does_quiet _ c e = cc
 
 pub act_quiet : (r : Row) (c : Core) → class_of r ≡ Plain → Quiet c (act r c)
 unfolding act
@@ -148,12 +139,6 @@ act_quiet r c e = quiet_either c (are_written c (reads r)) (does r c) Traps (doe
 
 -- what sets a register and calls nothing is plain
 pub setting_plain : (r : Row) (q : ℕ) → has_implicit_uses r ≡ false → Contains (sets r) q → class_of r ≡ Plain
-setting_plain (Fixes rd n) q i k = refl
-setting_plain (Moves rd rs) q i k = refl
-setting_plain (Sets rd op a b) q i k = refl
-setting_plain (Addresses rd n o) q i k = refl
-setting_plain (Loads rd op b o) q i k = refl
-setting_plain (LoadsSlot rd n) q i k = refl
 setting_plain (Stores op rs b o) q i k = absurd (none_in q k)
 setting_plain (StoresSlot rs n) q i k = absurd (none_in q k)
 setting_plain (Branches op a b t) q i k = absurd (none_in q k)
@@ -161,6 +146,7 @@ setting_plain (Jumps t) q i k = absurd (none_in q k)
 setting_plain (Calls name args) q i k = cc
 setting_plain (Returns v) q i k = cc
 setting_plain Unfit q i k = absurd (none_in q k)
+setting_plain _ q i k = refl
 
 -- and it sets one
 pub sets_one : (r : Row) (p q : ℕ) → has_implicit_uses r ≡ false → Contains (sets r) p → Contains (sets r) q → p ≡ q
@@ -170,13 +156,9 @@ sets_one (Sets rd op a b) p q i k l = sym (one_is rd p k) ∙ one_is rd q l
 sets_one (Addresses rd n o) p q i k l = sym (one_is rd p k) ∙ one_is rd q l
 sets_one (Loads rd op b o) p q i k l = sym (one_is rd p k) ∙ one_is rd q l
 sets_one (LoadsSlot rd n) p q i k l = sym (one_is rd p k) ∙ one_is rd q l
-sets_one (Stores op rs b o) p q i k l = absurd (none_in p k)
-sets_one (StoresSlot rs n) p q i k l = absurd (none_in p k)
-sets_one (Branches op a b t) p q i k l = absurd (none_in p k)
-sets_one (Jumps t) p q i k l = absurd (none_in p k)
 sets_one (Calls name args) p q i k l = cc
 sets_one (Returns v) p q i k l = cc
-sets_one Unfit p q i k l = absurd (none_in p k)
+sets_one _ p q i k l = absurd (none_in p k)
 
 -- of the code itself, with its number
 abbrev QuietMarks : Core → Outcome → Type 0

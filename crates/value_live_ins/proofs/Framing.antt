@@ -7,7 +7,7 @@ use Rattle.std.proofs.lemmas.Bool.{eq-eqb, ne_eqb}
 use Rattle.std.proofs.lemmas.Option.{slice_get_within, get_or_from_slice_get, slice_get-map}
 use Rattle.rv64_instr.specs.Arithmetic.{word}
 use Rattle.rv64_instr.specs.Instruction.{Instruction}
-use Rattle.rv64_instr.specs.Row.{Row, Fixes, Moves, Sets, Addresses, Loads, Stores, LoadsSlot, StoresSlot, Branches, Jumps, Calls, Returns, Unfit}
+use Rattle.rv64_instr.specs.Row.{Row, LoadsSlot, StoresSlot, Branches, Jumps}
 use Rattle.rv64_instr.specs.Row.{row_of, add_row}
 use Rattle.rv64_instr.specs.declared.place.Place.{Place}
 use Rattle.rv64_instr.specs.declared.place.Place.TheVariants.{Register, Slot, Const}
@@ -123,17 +123,7 @@ module _ (f : FramedFunction) (is : IsFramed f) where
   row_offset : (r : Row) → SlotIn (slot_offsets f) r → RowHasOffset r
   row_offset (LoadsSlot rd n) h = slot_offset n h
   row_offset (StoresSlot rs n) h = slot_offset n h
-  row_offset (Fixes rd n) h = tt
-  row_offset (Moves rd rs) h = tt
-  row_offset (Sets rd op a b) h = tt
-  row_offset (Addresses rd n offset) h = tt
-  row_offset (Loads rd op base offset) h = tt
-  row_offset (Stores op rs base offset) h = tt
-  row_offset (Branches op a b target) h = tt
-  row_offset (Jumps target) h = tt
-  row_offset (Calls name args) h = tt
-  row_offset (Returns results) h = tt
-  row_offset Unfit h = tt
+  row_offset _ h = tt
 
   place_offset : (p : Option Place) → PlaceIn (slot_offsets f) p → PlaceHasOffset p
   place_offset None h = tt
@@ -221,17 +211,7 @@ module _ (blocks : List Block) (resolve : OperandPair → Option OperandPair) (a
   row_target : (r : Row) (n : ℕ) → TargetIn ids r → IsOut (row_exit r) n → Contains ids n
   row_target (Branches op a b target) n h e = subst (Contains ids) e h
   row_target (Jumps target) n h e = subst (Contains ids) e h
-  row_target (Fixes rd c) n h e = absurd e
-  row_target (Moves rd rs) n h e = absurd e
-  row_target (Sets rd op a b) n h e = absurd e
-  row_target (Addresses rd k offset) n h e = absurd e
-  row_target (Loads rd op base offset) n h e = absurd e
-  row_target (Stores op rs base offset) n h e = absurd e
-  row_target (LoadsSlot rd k) n h e = absurd e
-  row_target (StoresSlot rs k) n h e = absurd e
-  row_target (Calls name args) n h e = absurd e
-  row_target (Returns results) n h e = absurd e
-  row_target Unfit n h e = absurd e
+  row_target _ n h e = absurd e
 
   kind_target : (k : ItemKind) (n : ℕ) → TargetsIn ids k → IsOut (exit_of k) n → Contains ids n
   kind_target (Code i k) n h e = row_target (row_of i) n h e

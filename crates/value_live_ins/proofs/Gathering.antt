@@ -179,18 +179,9 @@ module _ (xs ys : List Tracked) (g : Grows xs ys) where
 
   row_grows : (row : Row) → KnowsRow (map thing xs) row → KnowsRow (map thing ys) row
   row_grows (Fixes rd c) k = more_in (OfNumber c) k
-  row_grows (Moves rd rs) k = k
-  row_grows (Sets rd op a b) k = k
-  row_grows (Addresses rd n offset) k = k
-  row_grows (Loads rd op base offset) k = k
-  row_grows (Stores op rs base offset) k = k
   row_grows (LoadsSlot rd n) k = more_in (InSlot n) k
   row_grows (StoresSlot rs n) k = (k.0, more_in (InSlot n) k.1)
-  row_grows (Branches op a b target) k = k
-  row_grows (Jumps target) k = k
-  row_grows (Calls name args) k = k
-  row_grows (Returns results) k = k
-  row_grows Unfit k = k
+  row_grows _ k = k
 
   pair_grows : (q : Option OperandPair) → KnowsPair (map thing xs) q → KnowsPair (map thing ys) q
   pair_grows None k = k
@@ -226,17 +217,7 @@ knows_all things variables resolve (Phi p k) parts has h = h
 abbrev ReadsPhysical : Row → Type 0
 ReadsPhysical (Moves rd rs) = rs < 32
 ReadsPhysical (StoresSlot rs n) = rs < 32
-ReadsPhysical (Fixes rd c) = Unit {0}
-ReadsPhysical (Sets rd op a b) = Unit {0}
-ReadsPhysical (Addresses rd n offset) = Unit {0}
-ReadsPhysical (Loads rd op base offset) = Unit {0}
-ReadsPhysical (Stores op rs base offset) = Unit {0}
-ReadsPhysical (LoadsSlot rd n) = Unit {0}
-ReadsPhysical (Branches op a b target) = Unit {0}
-ReadsPhysical (Jumps target) = Unit {0}
-ReadsPhysical (Calls name args) = Unit {0}
-ReadsPhysical (Returns results) = Unit {0}
-ReadsPhysical Unfit = Unit {0}
+ReadsPhysical _ = Unit {0}
 
 immediate_reads : (op : ImmediateOp) (rd a n : ℕ) → a < 32 → ReadsPhysical (immediate_row op rd a n)
 immediate_reads Addi rd zero n h = tt

@@ -3,7 +3,7 @@
 -- item that lets control out, and doesn't let it go below or goes below to a jump, nothing changes a token.
 use Rattle.std.proofs.Common.{◌≡◌, ◌⊎◌, ℕ, zero, suc, ◌+◌, List, [], ◌∷◌, drop, refl, sym, ap, ◌∙◌, subst, arith, inl, inr}
 use Rattle.std.specs.Prelude.{Contains, Option, Some, None, option_to_list}
-use Rattle.rv64_instr.specs.Row.{Row, Fixes, Moves, Sets, Addresses, Loads, Stores, LoadsSlot, StoresSlot, Branches, Jumps, Calls, Returns, Unfit, row_of}
+use Rattle.rv64_instr.specs.Row.{Row, Branches, Jumps, Returns, Unfit, row_of}
 use Rattle.mir_func.specs.declared.position.Pos.{Pos}
 use Rattle.mir_func.specs.declared.block.Block.{Block}
 use Rattle.mir_func.specs.declared.debug_substitution.OperandPair.{OperandPair}
@@ -29,31 +29,14 @@ module _ (enter : ℕ → ℕ) (p : Pos) where
   row_down (Jumps target) e = absurd (no_start (enter target) e)
   row_down (Returns results) e = e
   row_down Unfit e = e
-  row_down (Branches op a b target) e = tt
-  row_down (Fixes rd n) e = tt
-  row_down (Moves rd rs) e = tt
-  row_down (Sets rd op a b) e = tt
-  row_down (Addresses rd n offset) e = tt
-  row_down (Loads rd op base offset) e = tt
-  row_down (Stores op rs base offset) e = tt
-  row_down (LoadsSlot rd n) e = tt
-  row_down (StoresSlot rs n) e = tt
-  row_down (Calls name args) e = tt
+  row_down _ e = tt
 
   down_row : (r : Row) → IsDown (row_exit r) → RowEdge enter r p (below p)
   down_row (Jumps target) e = absurd e
   down_row (Returns results) e = absurd e
   down_row Unfit e = absurd e
   down_row (Branches op a b target) e = inr refl
-  down_row (Fixes rd n) e = refl
-  down_row (Moves rd rs) e = refl
-  down_row (Sets rd op a b) e = refl
-  down_row (Addresses rd n offset) e = refl
-  down_row (Loads rd op base offset) e = refl
-  down_row (Stores op rs base offset) e = refl
-  down_row (LoadsSlot rd n) e = refl
-  down_row (StoresSlot rs n) e = refl
-  down_row (Calls name args) e = refl
+  down_row _ e = refl
 
   kind_down : (k : ItemKind) → KindEdge enter k p (below p) → IsDown (exit_of k)
   kind_down (Code i k) e = row_down (row_of i) e
@@ -68,17 +51,7 @@ module _ (enter : ℕ → ℕ) (p : Pos) where
   out_row : (r : Row) (n : ℕ) → IsOut (row_exit r) n → RowEdge enter r p (block_start (enter n))
   out_row (Branches op a b target) n e = inl (ap (λ (z : ℕ). block_start (enter z)) (sym e))
   out_row (Jumps target) n e = ap (λ (z : ℕ). block_start (enter z)) (sym e)
-  out_row (Returns results) n e = absurd e
-  out_row Unfit n e = absurd e
-  out_row (Fixes rd k) n e = absurd e
-  out_row (Moves rd rs) n e = absurd e
-  out_row (Sets rd op a b) n e = absurd e
-  out_row (Addresses rd k offset) n e = absurd e
-  out_row (Loads rd op base offset) n e = absurd e
-  out_row (Stores op rs base offset) n e = absurd e
-  out_row (LoadsSlot rd k) n e = absurd e
-  out_row (StoresSlot rs k) n e = absurd e
-  out_row (Calls name args) n e = absurd e
+  out_row _ n e = absurd e
 
   out_kind : (k : ItemKind) (n : ℕ) → IsOut (exit_of k) n → KindEdge enter k p (block_start (enter n))
   out_kind (Code i k) n e = out_row (row_of i) n e
@@ -98,15 +71,7 @@ module _ (enter : ℕ → ℕ) (p : Pos) where
   row_out (Jumps target) c e = (target, refl, start_of c (enter target) e)
   row_out (Returns results) c e = absurd e
   row_out Unfit c e = absurd e
-  row_out (Fixes rd k) c e = absurd (no_start c (sym e))
-  row_out (Moves rd rs) c e = absurd (no_start c (sym e))
-  row_out (Sets rd op a b) c e = absurd (no_start c (sym e))
-  row_out (Addresses rd k offset) c e = absurd (no_start c (sym e))
-  row_out (Loads rd op base offset) c e = absurd (no_start c (sym e))
-  row_out (Stores op rs base offset) c e = absurd (no_start c (sym e))
-  row_out (LoadsSlot rd k) c e = absurd (no_start c (sym e))
-  row_out (StoresSlot rs k) c e = absurd (no_start c (sym e))
-  row_out (Calls name args) c e = absurd (no_start c (sym e))
+  row_out _ c e = absurd (no_start c (sym e))
 
   pub kind_out : (k : ItemKind) (c : ℕ) → KindEdge enter k p (block_start c) → LetsOut (exit_of k) c
   kind_out (Code i k) c e = row_out (row_of i) c e
@@ -124,20 +89,12 @@ module _ (enter : ℕ → ℕ) (p q : Pos) where
       λ i. record { block = block i; item = item i }
 
   row_above : (r : Row) → RowEdge enter r q (below p) → q ≡ p
-  row_above (Fixes rd n) e = one_below (sym e)
-  row_above (Moves rd rs) e = one_below (sym e)
-  row_above (Sets rd op a b) e = one_below (sym e)
-  row_above (Addresses rd n offset) e = one_below (sym e)
-  row_above (Loads rd op base offset) e = one_below (sym e)
-  row_above (Stores op rs base offset) e = one_below (sym e)
-  row_above (LoadsSlot rd n) e = one_below (sym e)
-  row_above (StoresSlot rs n) e = one_below (sym e)
   row_above (Branches op a b target) (inl e) = absurd (no_start enter p (enter target) e)
   row_above (Branches op a b target) (inr e) = one_below (sym e)
   row_above (Jumps target) e = absurd (no_start enter p (enter target) e)
-  row_above (Calls name args) e = one_below (sym e)
   row_above (Returns results) e = absurd e
   row_above Unfit e = absurd e
+  row_above _ e = one_below (sym e)
 
   kind_above : (k : ItemKind) → KindEdge enter k q (below p) → q ≡ p
   kind_above (Code i k) e = row_above (row_of i) e

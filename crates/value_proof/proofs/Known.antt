@@ -4,7 +4,7 @@ use Rattle.std.proofs.Common.{◌≡◌, ℕ, zero, suc, List, [], ◌∷◌, re
 use Rattle.std.proofs.lemmas.Bool.Decides.{nat_tests, eqb_tells}
 use Rattle.std.specs.Prelude.{Option, Some, None, Contains, Bool, true, false, cond, nat_lt, not, ◌&&◌, nat_eq, ◌⊎◌}
 use Rattle.rv64_instr.specs.Instruction.{Instruction}
-use Rattle.rv64_instr.specs.Row.{Row, Fixes, Moves, Sets, Addresses, Loads, Stores, LoadsSlot, StoresSlot, Branches, Jumps, Calls, Returns, Unfit, row_of}
+use Rattle.rv64_instr.specs.Row.{Row, Fixes, Moves, Sets, Addresses, Loads, LoadsSlot, StoresSlot, row_of}
 use Rattle.mir_func.specs.declared.debug_substitution.OperandPair.{OperandPair}
 use Rattle.mir_func.specs.declared.variable.VarId.{VarId}
 use Rattle.mir_func.specs.declared.variable.MarkValue.{MarkValue}
@@ -93,14 +93,8 @@ pointer_stays (Moves rd rs) = pointer_put rd (Was (InRegister rs))
 pointer_stays (Sets rd op a b) = pointer_put rd (New 0 rd)
 pointer_stays (Addresses rd n offset) = pointer_put rd (New 0 rd)
 pointer_stays (Loads rd op base offset) = pointer_put rd (New 0 rd)
-pointer_stays (Stores op rs base offset) = inl refl
 pointer_stays (LoadsSlot rd n) = pointer_put rd (Was (InSlot n))
-pointer_stays (StoresSlot rs n) = inl refl
-pointer_stays (Branches op a b target) = inl refl
-pointer_stays (Jumps target) = inl refl
-pointer_stays (Calls name args) = inl refl
-pointer_stays (Returns results) = inl refl
-pointer_stays Unfit = inl refl
+pointer_stays _ = inl refl
 
 module _ (things : List Tracked) where
   slot_stays : (row : Row) (n : ℕ) → KnowsRow things row → (Contains things (InSlot n) → ⊥) → StaysBare (InSlot n) (slot_stored row n)
@@ -108,18 +102,7 @@ module _ (things : List Tracked) where
     | inl h ↦ absurd (bare (subst (λ (z : ℕ). Contains things (InSlot z)) (sym h.1) k.1))
     | inr h ↦ subst (λ (z : Bool). StaysBare (InSlot n) (cond z (Was (InRegister rs)) (Was (InSlot n)))) (sym h.0) (inl refl)
   ]
-  slot_stays (Fixes rd c) n k bare = inl refl
-  slot_stays (Moves rd rs) n k bare = inl refl
-  slot_stays (Sets rd op a b) n k bare = inl refl
-  slot_stays (Addresses rd m offset) n k bare = inl refl
-  slot_stays (Loads rd op base offset) n k bare = inl refl
-  slot_stays (Stores op rs base offset) n k bare = inl refl
-  slot_stays (LoadsSlot rd m) n k bare = inl refl
-  slot_stays (Branches op a b target) n k bare = inl refl
-  slot_stays (Jumps target) n k bare = inl refl
-  slot_stays (Calls name args) n k bare = inl refl
-  slot_stays (Returns results) n k bare = inl refl
-  slot_stays Unfit n k bare = inl refl
+  slot_stays _ n k bare = inl refl
 
   variable_stays : (resolve : OperandPair → Option OperandPair) (v : VarId) (m : MarkValue) (w : VarId) → Contains things (OfVariable v) →
       (Contains things (OfVariable w) → ⊥) → StaysBare (OfVariable w) (back_mark resolve v m (OfVariable w))

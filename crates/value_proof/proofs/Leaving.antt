@@ -7,7 +7,7 @@ use Rattle.rv64_instr.specs.declared.place.Place.{Place}
 use Rattle.rv64_instr.specs.declared.place.Place.TheVariants.{Register, Slot, Const}
 use Rattle.rv64_instr.specs.Instruction.{Instruction}
 use Rattle.rv64_instr.specs.Parts.{defines_of}
-use Rattle.rv64_instr.specs.Row.{Row, Fixes, Moves, Sets, Addresses, Loads, Stores, LoadsSlot, StoresSlot, Branches, Jumps, Calls, Returns, Unfit, row_of}
+use Rattle.rv64_instr.specs.Row.{Row, Fixes, Moves, Sets, Addresses, Loads, LoadsSlot, StoresSlot, Calls, row_of}
 use Rattle.mir_func.specs.declared.debug_substitution.OperandPair.{OperandPair}
 use Rattle.mir_func.specs.declared.variable.VarId.{VarId}
 use Rattle.mir_func.specs.declared.variable.MarkValue.{MarkValue}
@@ -61,14 +61,9 @@ register_kept (Moves rd rs) r e = put_kept rd (Was (InRegister rs)) r e
 register_kept (Sets rd op a b) r e = put_kept rd (New 0 rd) r e
 register_kept (Addresses rd n offset) r e = put_kept rd (New 0 rd) r e
 register_kept (Loads rd op base offset) r e = put_kept rd (New 0 rd) r e
-register_kept (Stores op rs base offset) r e = refl
 register_kept (LoadsSlot rd n) r e = put_kept rd (Was (InSlot n)) r e
-register_kept (StoresSlot rs n) r e = refl
-register_kept (Branches op a b target) r e = refl
-register_kept (Jumps target) r e = refl
 register_kept (Calls name args) r e = ap (λ (z : Bool). cond z (New 0 r) (Was (InRegister r))) e
-register_kept (Returns results) r e = refl
-register_kept Unfit r e = refl
+register_kept _ r e = refl
 
 -- ---- slots
 
@@ -82,18 +77,7 @@ stored_kept (StoresSlot rs n) k e = elim (eqb_tells k n) [
     | inl h ↦ let is : true ≡ false = sym h.0 ∙ off in cc
     | inr h ↦ h.1 refl
   ]
-stored_kept (Fixes rd c) k e = refl
-stored_kept (Moves rd rs) k e = refl
-stored_kept (Sets rd op a b) k e = refl
-stored_kept (Addresses rd n offset) k e = refl
-stored_kept (Loads rd op base offset) k e = refl
-stored_kept (Stores op rs base offset) k e = refl
-stored_kept (LoadsSlot rd n) k e = refl
-stored_kept (Branches op a b target) k e = refl
-stored_kept (Jumps target) k e = refl
-stored_kept (Calls name args) k e = refl
-stored_kept (Returns results) k e = refl
-stored_kept Unfit k e = refl
+stored_kept _ k e = refl
 
 row_kept : (row : Row) (place : Place) → LeavesPlace row place → back_row 0 row (thing_at place) ≡ Was (thing_at place)
 row_kept row (Register r) e = register_kept row r e

@@ -6,7 +6,7 @@ use Rattle.std.specs.List.{list_any}
 use Rattle.rv64_instr.specs.declared.place.Place.{Place}
 use Rattle.rv64_instr.specs.declared.place.Place.TheVariants.{Register, Slot, Const}
 use Rattle.rv64_instr.specs.Instruction.{Instruction}
-use Rattle.rv64_instr.specs.Row.{Row, Fixes, Moves, Sets, Addresses, Loads, Stores, LoadsSlot, StoresSlot, Branches, Jumps, Calls, Returns, Unfit, row_of}
+use Rattle.rv64_instr.specs.Row.{Row, Fixes, Moves, Sets, Addresses, Loads, LoadsSlot, StoresSlot, Branches, Jumps, Calls, Returns, Unfit, row_of}
 use Rattle.rv64_instr.specs.DefsAndUses.{caller_saved}
 use Rattle.rv64_instr.specs.Parts.{is_call}
 use Rattle.mir_func.specs.declared.position.Pos.{Pos}
@@ -67,20 +67,12 @@ module _ (enter : ℕ → ℕ) (p q : Pos) where
   no_start n e = let item : p.item + 1 ≡ 0 = ap (λ (z : Pos). z.item) e in omega (arith, item)
 
   row_above : (r : Row) → RowEdge enter r q (below p) → q ≡ p
-  row_above (Fixes rd n) e = one_below (sym e)
-  row_above (Moves rd rs) e = one_below (sym e)
-  row_above (Sets rd op a b) e = one_below (sym e)
-  row_above (Addresses rd n offset) e = one_below (sym e)
-  row_above (Loads rd op base offset) e = one_below (sym e)
-  row_above (Stores op rs base offset) e = one_below (sym e)
-  row_above (LoadsSlot rd n) e = one_below (sym e)
-  row_above (StoresSlot rs n) e = one_below (sym e)
   row_above (Branches op a b target) (inl e) = absurd (no_start (enter target) e)
   row_above (Branches op a b target) (inr e) = one_below (sym e)
   row_above (Jumps target) e = absurd (no_start (enter target) e)
-  row_above (Calls name args) e = one_below (sym e)
   row_above (Returns results) e = absurd e
   row_above Unfit e = absurd e
+  row_above _ e = one_below (sym e)
 
   kind_above : (k : ItemKind) → KindEdge enter k q (below p) → q ≡ p
   kind_above (Code i k) e = row_above (row_of i) e
@@ -151,29 +143,13 @@ module _ (things : List Tracked) where
   known_register (Sets rd op a b) r k kr = known_new rd r kr
   known_register (Addresses rd n offset) r k kr = known_new rd r kr
   known_register (Loads rd op base offset) r k kr = known_new rd r kr
-  known_register (Stores op rs base offset) r k kr = kr
   known_register (LoadsSlot rd n) r k kr = known_put rd (Was (InSlot n)) r kr (λ is. k)
-  known_register (StoresSlot rs n) r k kr = kr
-  known_register (Branches op a b target) r k kr = kr
-  known_register (Jumps target) r k kr = kr
   known_register (Calls name args) r k kr = known_if (list_any (λ q. nat_eq r q) caller_saved) (New 0 r) (Was (InRegister r)) (refl, kr) kr
-  known_register (Returns results) r k kr = kr
-  known_register Unfit r k kr = kr
+  known_register _ r k kr = kr
 
   known_stored : (row : Row) (n : ℕ) → KnowsRow things row → Contains things (InSlot n) → Knows things (slot_stored row n)
   known_stored (StoresSlot rs m) n k kn = known_if (nat_eq n m) (Was (InRegister rs)) (Was (InSlot n)) k.0 kn
-  known_stored (Fixes rd c) n k kn = kn
-  known_stored (Moves rd rs) n k kn = kn
-  known_stored (Sets rd op a b) n k kn = kn
-  known_stored (Addresses rd m offset) n k kn = kn
-  known_stored (Loads rd op base offset) n k kn = kn
-  known_stored (Stores op rs base offset) n k kn = kn
-  known_stored (LoadsSlot rd m) n k kn = kn
-  known_stored (Branches op a b target) n k kn = kn
-  known_stored (Jumps target) n k kn = kn
-  known_stored (Calls name args) n k kn = kn
-  known_stored (Returns results) n k kn = kn
-  known_stored Unfit n k kn = kn
+  known_stored _ n k kn = kn
 
   known_row : (row : Row) (x : Tracked) → KnowsRow things row → IsKnown things x → Knows things (back_row 0 row x)
   known_row row (InRegister r) k kx = known_register row r k kx

@@ -32,7 +32,7 @@ use Rattle.rv64_instr.specs.declared.place.Place.{Place}
 use Rattle.rv64_instr.specs.declared.place.Place.TheVariants.{Register, Slot, Const}
 use Rattle.rv64_instr.specs.Arithmetic.{word}
 use Rattle.rv64_instr.specs.Instruction.{Instruction}
-use Rattle.rv64_instr.specs.Row.{Row, Fixes, Moves, Sets, Addresses, Loads, Stores, LoadsSlot, StoresSlot, Branches, Jumps, Calls, Returns, Unfit, row_of}
+use Rattle.rv64_instr.specs.Row.{Row, Fixes, row_of}
 use Rattle.rv64_instr.specs.Parts.{is_call}
 use Rattle.mir_func.specs.declared.debug_substitution.OperandPair.{OperandPair}
 use Rattle.mir_func.specs.declared.variable.VarId.{VarId}
@@ -121,18 +121,7 @@ module _ (variables : List VarId) (things : List Tracked) (index : TrackedIndex)
 
   zero_row : (row : Row) → class_back class fresh (back_register 0 row 0) ≡ class (InRegister 0)
   zero_row (Fixes rd c) = refl
-  zero_row (Moves rd rs) = refl
-  zero_row (Sets rd op a b) = refl
-  zero_row (Addresses rd n offset) = refl
-  zero_row (Loads rd op base offset) = refl
-  zero_row (Stores op rs base offset) = refl
-  zero_row (LoadsSlot rd n) = refl
-  zero_row (StoresSlot rs n) = refl
-  zero_row (Branches op a b target) = refl
-  zero_row (Jumps target) = refl
-  zero_row (Calls name args) = refl
-  zero_row (Returns results) = refl
-  zero_row Unfit = refl
+  zero_row _ = refl
 
   -- ---- code
 

@@ -27,7 +27,7 @@ use Rattle.std.proofs.Common.{
 use Rattle.std.specs.Prelude.{Contains, Bool, true, false, cond, ◌||◌, nat_eq, nat_lt}
 use Rattle.std.specs.List.{list_any}
 use Rattle.std.proofs.lemmas.Bool.Decides.{nat_tests, eqb_tells}
-use Rattle.rv64_instr.specs.Row.{Row, Fixes, Moves, Sets, Addresses, Loads, Stores, LoadsSlot, StoresSlot, Branches, Jumps, Calls, Returns, Unfit}
+use Rattle.rv64_instr.specs.Row.{Row, Fixes, Moves, Sets, Addresses, Loads, LoadsSlot, StoresSlot, Calls}
 use Rattle.rv64_instr.specs.DefsAndUses.{caller_saved}
 use Rattle.sem_value_ids.specs.Pullback as path
 use Rattle.sem_value_ids.specs.Pullback.{
@@ -131,11 +131,7 @@ module _ (things : List path.Tracked) (class : Classes) (number : ℕ → ℕ) (
   register_past (Calls name args) r k lt =
       ap (λ (z : ℕ). cond (list_any (λ q. nat_eq r q) caller_saved) (next + r) z) (is.registers r lt)
       ∙ sym (cond_class class (λ r. next + r) (list_any (λ q. nat_eq r q) caller_saved) (New 0 r) (Was (InRegister r)))
-  register_past (Stores op rs base offset) r k lt = is.registers r lt
-  register_past (Branches op a b target) r k lt = is.registers r lt
-  register_past (Jumps target) r k lt = is.registers r lt
-  register_past (Returns results) r k lt = is.registers r lt
-  register_past Unfit r k lt = is.registers r lt
+  register_past _ r k lt = is.registers r lt
 
   -- ---- slots
 
@@ -176,11 +172,7 @@ module _ (things : List path.Tracked) (class : Classes) (number : ℕ → ℕ) (
   slot_past (StoresSlot rs m) n k known = store_slot rs m n k.0 k.1 known
   slot_past (Calls name args) n k known =
       ap (λ (z : Bool). cond z (next + slot_place n) (places (slot_place n))) (saved_below (slot_place n) (omega arith)) ∙ is.slots n known
-  slot_past (Stores op rs base offset) n k known = is.slots n known
-  slot_past (Branches op a b target) n k known = is.slots n known
-  slot_past (Jumps target) n k known = is.slots n known
-  slot_past (Returns results) n k known = is.slots n known
-  slot_past Unfit n k known = is.slots n known
+  slot_past _ n k known = is.slots n known
 
   put_known : (rd c i : ℕ) → 32 ≤ i → put rd c places i ≢ 0 → Contains things (InSlot (8 * (i - 32)))
   put_known rd c i le some = is.slots_known i le (λ none. some (put_above rd c places i le ∙ by_test (nat_eq rd 2) none)) where
@@ -204,8 +196,4 @@ module _ (things : List path.Tracked) (class : Classes) (number : ℕ → ℕ) (
   ]
   slots_known_past (Calls name args) i k le some = is.slots_known i le (λ none. some (ap (λ (z : Bool). cond z (next + i) (places i)) (saved_below i le)
       ∙ none))
-  slots_known_past (Stores op rs base offset) i k le some = is.slots_known i le some
-  slots_known_past (Branches op a b target) i k le some = is.slots_known i le some
-  slots_known_past (Jumps target) i k le some = is.slots_known i le some
-  slots_known_past (Returns results) i k le some = is.slots_known i le some
-  slots_known_past Unfit i k le some = is.slots_known i le some
+  slots_known_past _ i k le some = is.slots_known i le some
