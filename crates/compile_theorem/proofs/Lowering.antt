@@ -7,7 +7,7 @@ use Rattle.rv64_instr.specs.declared.op.Op.TheVariants.{Registers, Immediate, Lu
 use Rattle.rv64_instr.specs.declared.op.ImmediateOp.{ImmediateOp}
 use Rattle.rv64_instr.specs.declared.op.ImmediateOp.TheVariants.{Addi, Slti}
 use Rattle.rv64_instr.specs.declared.op.LoadOp.{LoadOp}
-use Rattle.rv64_instr.specs.declared.op.LoadOp.TheVariants.{Ld, Lb, Lh, Lw, Lbu, Lhu, Lwu}
+use Rattle.rv64_instr.specs.declared.op.LoadOp.TheVariants.{Ld}
 use Rattle.rv64_instr.specs.declared.op.StoreOp.{StoreOp}
 use Rattle.rv64_instr.specs.declared.op.StoreOp.TheVariants.{Sd, Sb, Sh, Sw}
 use Rattle.rv64_instr.specs.declared.operand.Operand.{Operand}
@@ -65,12 +65,7 @@ module _ (f : FramedFunction) (offset : ℤ) where
   slot_load_same : (op : LoadOp) (rd n : ℕ) (i : ℤ) (rest : List Operand) → fits_load op (Def rd ∷ Slot n ∷ Imm i ∷ rest) ≡ true →
       SameCode f offset (Load op) (Def rd ∷ Slot n ∷ Imm i ∷ rest) (by_pointer f (Def rd ∷ Slot n ∷ Imm i ∷ rest))
   slot_load_same Ld rd n i rest form = record { fields = refl; exit = refl }
-  slot_load_same Lb rd n i rest form = absurd cc
-  slot_load_same Lh rd n i rest form = absurd cc
-  slot_load_same Lw rd n i rest form = absurd cc
-  slot_load_same Lbu rd n i rest form = absurd cc
-  slot_load_same Lhu rd n i rest form = absurd cc
-  slot_load_same Lwu rd n i rest form = absurd cc
+  slot_load_same _ rd n i rest form = absurd cc
 
   load_same : (op : LoadOp) (os : List Operand) → fits_load op os ≡ true → SameCode f offset (Load op) os (by_pointer f os)
   load_same op (Def rd ∷ Use b ∷ Imm i ∷ rest) form = record { fields = refl; exit = refl }

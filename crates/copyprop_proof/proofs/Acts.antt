@@ -90,26 +90,17 @@ module _ (e : List Root) (d : Core) (holds : (r : ℕ) → content d.regs r ≡ 
 
 -- an operand defines what it did
 defined_one : (e : List Root) (call : Bool) (o : Operand) → defined call (Some (renamed_operand e o)) ≡ defined call (Some o)
-defined_one e true (Def r) = refl
 defined_one e false (Def r) = refl
-defined_one e true (ImplicitDef r) = refl
 defined_one e false (ImplicitDef r) = refl
-defined_one e true (Use r) = refl
 defined_one e false (Use r) = refl
-defined_one e true (ImplicitUse r) = refl
 defined_one e false (ImplicitUse r) = refl
-defined_one e true (Imm n) = refl
 defined_one e false (Imm n) = refl
-defined_one e true (Slot n) = refl
 defined_one e false (Slot n) = refl
-defined_one e true (Object n) = refl
 defined_one e false (Object n) = refl
-defined_one e true (Block n) = refl
 defined_one e false (Block n) = refl
-defined_one e true (Symbol n) = refl
 defined_one e false (Symbol n) = refl
-defined_one e true Mask = refl
 defined_one e false Mask = refl
+defined_one e true _ = refl
 
 pub defined_same : (e : List Root) (call : Bool) (os : List Operand) (o : ℕ) →
     defined call (slice_get (map (renamed_operand e) os) o) ≡ defined call (slice_get os o)

@@ -4,7 +4,7 @@ use Rattle.std.proofs.Common.{slice_get, is_some, ◌+◌, refl, sym, ap, ◌∙
 use Rattle.std.proofs.lemmas.List.{length-map, map-append}
 use Rattle.std.proofs.lemmas.List.Elements.{All-nil, All-cons, All-head, All-tail, All-map, All-weaker}
 use Rattle.rv64_instr.specs.declared.operand.Operand.{Operand}
-use Rattle.rv64_instr.specs.declared.operand.Operand.TheVariants.{Def, Use, ImplicitDef, ImplicitUse, Imm, Slot, Object, Block as BlockOperand, Symbol, Mask}
+use Rattle.rv64_instr.specs.declared.operand.Operand.TheVariants.{Def, Use, Object}
 use Rattle.rv64_instr.specs.declared.decoded.Base.{Base}
 use Rattle.rv64_instr.specs.declared.decoded.Base.TheVariants.{PointedBy, ObjectAt}
 use Rattle.rv64_instr.specs.Instruction.{Instruction}
@@ -56,15 +56,7 @@ good_none = record { clean = clean_none; other = All-nil (λ (x : Root). IsOther
 
 operand_other : (e : List Root) → Reals IsOther e → (o : Operand) → IsNotPointer o → IsNotPointer (renamed_operand e o)
 operand_other e h (Use r) p = real_root IsOther e r h p
-operand_other e h (Def r) p = p
-operand_other e h (ImplicitDef r) p = p
-operand_other e h (ImplicitUse r) p = p
-operand_other e h (Imm n) p = p
-operand_other e h (Slot n) p = p
-operand_other e h (Object n) p = p
-operand_other e h (BlockOperand n) p = p
-operand_other e h (Symbol n) p = p
-operand_other e h Mask p = p
+operand_other e h _ p = p
 
 operands_other : (e : List Root) → Reals IsOther e → (os : List Operand) → All IsNotPointer os → All IsNotPointer (map (renamed_operand e) os)
 operands_other e h os p = All-map IsNotPointer (renamed_operand e) os

@@ -6,7 +6,7 @@ use Rattle.rv64_instr.specs.declared.op.ImmediateOp.{ImmediateOp}
 use Rattle.rv64_instr.specs.declared.op.ImmediateOp.TheVariants.{Addi}
 use Rattle.rv64_instr.specs.declared.op.RegisterOp.TheVariants.{Add}
 use Rattle.rv64_instr.specs.declared.operand.Operand.{Operand}
-use Rattle.rv64_instr.specs.declared.operand.Operand.TheVariants.{Def, Use, ImplicitDef, ImplicitUse, Imm, Slot, Object, Block, Symbol, Mask}
+use Rattle.rv64_instr.specs.declared.operand.Operand.TheVariants.{Def, Use, ImplicitUse, Imm, Slot, Object, Block, Symbol}
 use Rattle.rv64_instr.specs.declared.decoded.Input.{Input}
 use Rattle.rv64_instr.specs.declared.decoded.Input.TheVariants.{Content, Number}
 use Rattle.rv64_instr.specs.declared.decoded.Base.{Base}
@@ -50,15 +50,7 @@ module _ (e : List Root) where
   pub uses_same : (os : List Operand) → implicit_uses (others os) ≡ implicit_uses os
   uses_same [] = refl
   uses_same (ImplicitUse r ∷ os) = ap (λ (z : List ℕ). cond (nat_eq r 2) z (r ∷ z)) (uses_same os)
-  uses_same (Def r ∷ os) = uses_same os
-  uses_same (Use r ∷ os) = uses_same os
-  uses_same (ImplicitDef r ∷ os) = uses_same os
-  uses_same (Imm i ∷ os) = uses_same os
-  uses_same (Slot n ∷ os) = uses_same os
-  uses_same (Object n ∷ os) = uses_same os
-  uses_same (Block n ∷ os) = uses_same os
-  uses_same (Symbol n ∷ os) = uses_same os
-  uses_same (Mask ∷ os) = uses_same os
+  uses_same (_ ∷ os) = uses_same os
 
   -- x0 has no root, and is none
   pub record KeepsZero : Type 0 where

@@ -9,7 +9,7 @@ use Rattle.std.proofs.lemmas.List.Sums.{sum_by-cons}
 use Rattle.std.proofs.lemmas.Grind.{flat_map-append}
 use Rattle.std.proofs.Math.Nat.{le-max_left, le-max_right, max-le, le_trans, le_refl}
 use Rattle.rv64_instr.specs.declared.operand.Operand.{Operand}
-use Rattle.rv64_instr.specs.declared.operand.Operand.TheVariants.{Def, Use, ImplicitDef, ImplicitUse, Imm, Slot, Object, Block as BlockOperand, Symbol, Mask}
+use Rattle.rv64_instr.specs.declared.operand.Operand.TheVariants.{Def, Use}
 use Rattle.rv64_instr.specs.Instruction.{Instruction}
 use Rattle.rv64_instr.specs.Row.{Row, Moves, row_of}
 use Rattle.mir_func.specs.declared.block.Block.{Block}
@@ -86,15 +86,7 @@ AreReal e = Reals IsReal e
 
 operand_real : (e : List Root) → AreReal e → (o : Operand) → IsPhysical o → IsPhysical (renamed_operand e o)
 operand_real e h (Use r) p = real_root IsReal e r h p
-operand_real e h (Def r) p = p
-operand_real e h (ImplicitDef r) p = p
-operand_real e h (ImplicitUse r) p = p
-operand_real e h (Imm i) p = p
-operand_real e h (Slot n) p = p
-operand_real e h (Object n) p = p
-operand_real e h (BlockOperand n) p = p
-operand_real e h (Symbol n) p = p
-operand_real e h Mask p = p
+operand_real e h _ p = p
 
 -- a copy's source is one of its operands
 source_real : (i : Instruction) (rd s : ℕ) → row_of i ≡ Moves rd s → All IsPhysical i.operands → s < 32

@@ -29,30 +29,15 @@ none_implicit : (os : List Operand) → list_all is_implicit os ≡ true → (o 
 none_implicit [] h o = refl
 none_implicit (ImplicitDef r ∷ os) h zero = refl
 none_implicit (ImplicitUse r ∷ os) h zero = refl
-none_implicit (Def r ∷ os) h o = cc
-none_implicit (Use r ∷ os) h o = cc
-none_implicit (Imm i ∷ os) h o = cc
-none_implicit (Slot n ∷ os) h o = cc
-none_implicit (Object n ∷ os) h o = cc
-none_implicit (Block n ∷ os) h o = cc
-none_implicit (Symbol n ∷ os) h o = cc
-none_implicit (Mask ∷ os) h o = cc
 none_implicit (ImplicitDef r ∷ os) h (suc o) = none_implicit os (and_parts (is_implicit (ImplicitDef r)) (list_all is_implicit os) h).1 o
 none_implicit (ImplicitUse r ∷ os) h (suc o) = none_implicit os (and_parts (is_implicit (ImplicitUse r)) (list_all is_implicit os) h).1 o
+none_implicit (_ ∷ os) h o = cc
 
 none_result : (os : List Operand) → list_all is_result os ≡ true → (o : ℕ) → defined false (slice_get os o) ≡ None
 none_result [] h o = refl
 none_result (ImplicitUse r ∷ os) h zero = refl
 none_result (ImplicitUse r ∷ os) h (suc o) = none_result os (and_parts (is_result (ImplicitUse r)) (list_all is_result os) h).1 o
-none_result (ImplicitDef r ∷ os) h o = cc
-none_result (Def r ∷ os) h o = cc
-none_result (Use r ∷ os) h o = cc
-none_result (Imm i ∷ os) h o = cc
-none_result (Slot n ∷ os) h o = cc
-none_result (Object n ∷ os) h o = cc
-none_result (Block n ∷ os) h o = cc
-none_result (Symbol n ∷ os) h o = cc
-none_result (Mask ∷ os) h o = cc
+none_result (_ ∷ os) h o = cc
 
 abbrev NoneDefined : List Operand → Type 0
 NoneDefined os = (o : ℕ) → defined false (slice_get os o) ≡ None

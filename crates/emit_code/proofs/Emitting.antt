@@ -9,11 +9,11 @@ use Rattle.rv64_instr.specs.declared.op.Op.{Op}
 use Rattle.rv64_instr.specs.declared.op.Op.TheVariants as source
 use Rattle.rv64_instr.specs.declared.op.RegisterOp.{RegisterOp}
 use Rattle.rv64_instr.specs.declared.op.ImmediateOp.{ImmediateOp}
-use Rattle.rv64_instr.specs.declared.op.ImmediateOp.TheVariants.{Addi, Slti, Sltiu, Xori, Ori, Andi, Slli, Srli, Srai, Addiw, Slliw, Srliw, Sraiw}
+use Rattle.rv64_instr.specs.declared.op.ImmediateOp.TheVariants.{Addi}
 use Rattle.rv64_instr.specs.declared.op.LoadOp.{LoadOp}
 use Rattle.rv64_instr.specs.declared.op.StoreOp.{StoreOp}
 use Rattle.rv64_instr.specs.declared.op.BranchOp.{BranchOp}
-use Rattle.rv64_instr.specs.declared.op.BranchOp.TheVariants.{Beq, Bne, Blt, Bge, Bltu, Bgeu}
+use Rattle.rv64_instr.specs.declared.op.BranchOp.TheVariants.{Beq}
 use Rattle.rv64_instr.specs.declared.operand.Operand.{Operand}
 use Rattle.rv64_instr.specs.declared.operand.Operand.TheVariants.{Def, Use, Imm, Slot, Object, Block as OfBlock}
 use Rattle.rv64_instr.specs.Instruction.{Instruction}
@@ -63,18 +63,7 @@ registers_kept op operands = refl
 object_kept : (op : ImmediateOp) (rd : ℕ) (i : ℤ) → object_fields op rd i ≡ option_map inv (object_fields op rd i)
 unfolding inv
 object_kept Addi rd i = refl
-object_kept Slti rd i = refl
-object_kept Sltiu rd i = refl
-object_kept Xori rd i = refl
-object_kept Ori rd i = refl
-object_kept Andi rd i = refl
-object_kept Slli rd i = refl
-object_kept Srli rd i = refl
-object_kept Srai rd i = refl
-object_kept Addiw rd i = refl
-object_kept Slliw rd i = refl
-object_kept Srliw rd i = refl
-object_kept Sraiw rd i = refl
+object_kept _ rd i = refl
 
 immediate_kept : (op : ImmediateOp) (operands : List Operand) → immediate_fields op operands 0 ≡ option_map inv (immediate_fields op operands 0)
 unfolding inv
@@ -127,11 +116,7 @@ op_inverted source.PseudoRet operands offset = refl
 branch_format : (op : BranchOp) (rd rs1 rs2 : ℕ) (imm : ℤ) → is_encodable (machine_op (Branch (inverted op)) rd rs1 rs2 imm) ≡ is_encodable (machine_op (Branch
     op) rd rs1 rs2 imm)
 branch_format Beq rd rs1 rs2 imm = refl
-branch_format Bne rd rs1 rs2 imm = refl
-branch_format Blt rd rs1 rs2 imm = refl
-branch_format Bge rd rs1 rs2 imm = refl
-branch_format Bltu rd rs1 rs2 imm = refl
-branch_format Bgeu rd rs1 rs2 imm = refl
+branch_format _ rd rs1 rs2 imm = refl
 
 word_format : (op : WordOp) (rd rs1 rs2 : ℕ) (imm : ℤ) → is_encodable (machine_op (inverted_word op) rd rs1 rs2 imm) ≡ is_encodable (machine_op op rd rs1 rs2
     imm)

@@ -9,13 +9,13 @@ use Rattle.rv64_instr.specs.Arithmetic.{word, load_width, store_width}
 use Rattle.rv64_instr.specs.declared.op.Op.{Op}
 use Rattle.rv64_instr.specs.declared.op.Op.TheVariants as source
 use Rattle.rv64_instr.specs.declared.op.RegisterOp.{RegisterOp}
-use Rattle.rv64_instr.specs.declared.op.RegisterOp.TheVariants.{Add, Sub, Sll, Slt, Sltu, Xor, Srl, Sra, Or, And, Addw, Subw, Sllw, Srlw, Sraw}
+use Rattle.rv64_instr.specs.declared.op.RegisterOp.TheVariants.{Add}
 use Rattle.rv64_instr.specs.declared.op.ImmediateOp.{ImmediateOp}
 use Rattle.rv64_instr.specs.declared.op.ImmediateOp.TheVariants.{Addi, Slti, Sltiu, Xori, Ori, Andi, Slli, Srli, Srai, Addiw, Slliw, Srliw, Sraiw}
 use Rattle.rv64_instr.specs.declared.op.BranchOp.{BranchOp}
-use Rattle.rv64_instr.specs.declared.op.BranchOp.TheVariants.{Beq, Bne, Blt, Bge, Bltu, Bgeu}
+use Rattle.rv64_instr.specs.declared.op.BranchOp.TheVariants.{Beq}
 use Rattle.rv64_instr.specs.declared.op.LoadOp.{LoadOp}
-use Rattle.rv64_instr.specs.declared.op.LoadOp.TheVariants.{Lb, Lh, Lw, Ld, Lbu, Lhu, Lwu}
+use Rattle.rv64_instr.specs.declared.op.LoadOp.TheVariants.{Lb, Ld}
 use Rattle.rv64_instr.specs.declared.op.StoreOp.{StoreOp}
 use Rattle.rv64_instr.specs.declared.op.StoreOp.TheVariants.{Sb, Sh, Sw, Sd}
 use Rattle.rv64_instr.specs.declared.operand.Operand.{Operand}
@@ -94,37 +94,15 @@ offset a s ea es = offset_by a s ea es (either a s)
 
 register_format : (op : RegisterOp) → (encoding_of (Registers op)).format ≡ format.Register
 register_format Add = refl
-register_format Sub = refl
-register_format Sll = refl
-register_format Slt = refl
-register_format Sltu = refl
-register_format Xor = refl
-register_format Srl = refl
-register_format Sra = refl
-register_format Or = refl
-register_format And = refl
-register_format Addw = refl
-register_format Subw = refl
-register_format Sllw = refl
-register_format Srlw = refl
-register_format Sraw = refl
+register_format _ = refl
 
 branch_format : (op : BranchOp) → (encoding_of (Branch op)).format ≡ format.Branch
 branch_format Beq = refl
-branch_format Bne = refl
-branch_format Blt = refl
-branch_format Bge = refl
-branch_format Bltu = refl
-branch_format Bgeu = refl
+branch_format _ = refl
 
 load_format : (op : LoadOp) → (encoding_of (Load op)).format ≡ format.Immediate
 load_format Lb = refl
-load_format Lh = refl
-load_format Lw = refl
-load_format Ld = refl
-load_format Lbu = refl
-load_format Lhu = refl
-load_format Lwu = refl
+load_format _ = refl
 
 store_format : (op : StoreOp) → (encoding_of (Store op)).format ≡ format.Store
 store_format Sb = refl

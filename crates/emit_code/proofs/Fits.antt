@@ -6,7 +6,7 @@ use Rattle.rv64_instr.specs.declared.op.Op.{Op}
 use Rattle.rv64_instr.specs.declared.op.Op.TheVariants.{Registers, Immediate, Lui, Branch, Load, Store, Copy, PseudoBr, PseudoCall, PseudoRet}
 use Rattle.rv64_instr.specs.declared.op.RegisterOp.{RegisterOp}
 use Rattle.rv64_instr.specs.declared.op.ImmediateOp.{ImmediateOp}
-use Rattle.rv64_instr.specs.declared.op.ImmediateOp.TheVariants.{Addi, Slti, Sltiu, Xori, Ori, Andi, Slli, Srli, Srai, Addiw, Slliw, Srliw, Sraiw}
+use Rattle.rv64_instr.specs.declared.op.ImmediateOp.TheVariants.{Addi}
 use Rattle.rv64_instr.specs.declared.op.BranchOp.{BranchOp}
 use Rattle.rv64_instr.specs.declared.op.LoadOp.{LoadOp}
 use Rattle.rv64_instr.specs.declared.op.StoreOp.{StoreOp}
@@ -29,18 +29,7 @@ adds_fit rd (suc r) (suc n) e = cc
 
 numbers_fit : (op : ImmediateOp) (rd a n : ℕ) → immediate_row op rd a n ≡ Unfit → ⊥
 numbers_fit Addi rd a n e = adds_fit rd a n e
-numbers_fit Slti rd a n e = cc
-numbers_fit Sltiu rd a n e = cc
-numbers_fit Xori rd a n e = cc
-numbers_fit Ori rd a n e = cc
-numbers_fit Andi rd a n e = cc
-numbers_fit Slli rd a n e = cc
-numbers_fit Srli rd a n e = cc
-numbers_fit Srai rd a n e = cc
-numbers_fit Addiw rd a n e = cc
-numbers_fit Slliw rd a n e = cc
-numbers_fit Srliw rd a n e = cc
-numbers_fit Sraiw rd a n e = cc
+numbers_fit _ rd a n e = cc
 
 registers_fit : (op : RegisterOp) (operands : List Operand) → IsTrue (fits_registers operands) → registers_row op operands ≡ Unfit → ⊥
 registers_fit op (Def rd ∷ Use a ∷ Use b ∷ rest) form e = cc

@@ -3,7 +3,7 @@ use Rattle.std.proofs.Common.{◌≡◌, ◌⊎◌, ℕ, zero, suc, List, [], �
 use Rattle.std.proofs.Common.{slice_get, refl, sym, ap, ◌∙◌, subst, inl, inr}
 use Rattle.rv64_instr.specs.declared.op.Op.{Op}
 use Rattle.rv64_instr.specs.declared.op.BranchOp.{BranchOp}
-use Rattle.rv64_instr.specs.declared.op.BranchOp.TheVariants.{Beq, Bne, Blt, Bge, Bltu, Bgeu}
+use Rattle.rv64_instr.specs.declared.op.BranchOp.TheVariants.{Bne, Bge, Bgeu}
 use Rattle.rv64_instr.specs.declared.operand.Operand.{Operand}
 use Rattle.rv64_instr.specs.declared.operand.Operand.TheVariants.{Use, Block as OfBlock}
 use Rattle.rv64_instr.specs.Arithmetic.{taken, signed}
@@ -44,12 +44,10 @@ not_not true = refl
 not_not false = refl
 
 inverse_taken : (op : BranchOp) (a b : ℕ) → taken (inverse op) a b ≡ not (taken op a b)
-inverse_taken Beq a b = unfold taken in refl
 inverse_taken Bne a b = unfold taken in not_not (nat_eq a b)
-inverse_taken Blt a b = unfold taken in refl
 inverse_taken Bge a b = unfold taken in not_not (int_lt (signed a) (signed b))
-inverse_taken Bltu a b = unfold taken in refl
 inverse_taken Bgeu a b = unfold taken in not_not (nat_lt a b)
+inverse_taken _ a b = unfold taken in refl
 
 -- ---- outcomes
 

@@ -8,7 +8,7 @@ use Rattle.rv64_instr.specs.declared.op.Op.TheVariants.{Registers, Immediate, Lu
 use Rattle.rv64_instr.specs.declared.op.ImmediateOp.{ImmediateOp}
 use Rattle.rv64_instr.specs.declared.op.ImmediateOp.TheVariants.{Addi}
 use Rattle.rv64_instr.specs.declared.operand.Operand.{Operand}
-use Rattle.rv64_instr.specs.declared.operand.Operand.TheVariants.{Def, Use, ImplicitDef, ImplicitUse, Imm, Slot, Object, Block, Symbol, Mask}
+use Rattle.rv64_instr.specs.declared.operand.Operand.TheVariants.{Def, Use, ImplicitUse, Imm, Slot, Object, Block, Symbol}
 use Rattle.rv64_instr.specs.Arithmetic.{word, taken, load_width, store_width}
 use Rattle.rv64_instr.specs.Form.{has_form, is_result}
 use Rattle.rv64_instr.specs.Row.{Row, Loads, Stores, LoadsSlot, Branches, Jumps, Calls, row_of}
@@ -108,15 +108,7 @@ results_read (ImplicitUse r ∷ os) h =
       by_test : (b : Bool) → All IsResult (implicit_uses os) → IsResult r → All IsResult (cond b (implicit_uses os) (r ∷ implicit_uses os))
       by_test true more here = more
       by_test false more here = All-cons IsResult r (implicit_uses os) here more
-results_read (Def r ∷ os) h = cc
-results_read (Use r ∷ os) h = cc
-results_read (ImplicitDef r ∷ os) h = cc
-results_read (Imm i ∷ os) h = cc
-results_read (Slot n ∷ os) h = cc
-results_read (Object n ∷ os) h = cc
-results_read (Block n ∷ os) h = cc
-results_read (Symbol n ∷ os) h = cc
-results_read (Mask ∷ os) h = cc
+results_read (_ ∷ os) h = cc
 
 immediate_on : (op : ImmediateOp) (rd a n : ℕ) → row_exit (immediate_row op rd a n) ≡ Final → All IsResult (reads (immediate_row op rd a n))
 immediate_on Addi rd zero n h = cc

@@ -3,7 +3,7 @@ use Rattle.std.proofs.Common.{◌≡◌, ℕ, zero, suc, List, [], ◌∷◌, ma
 use Rattle.std.proofs.Common.{inl, inr}
 use Rattle.std.proofs.lemmas.Bool.{cases_eq, ne_eqb}
 use Rattle.rv64_instr.specs.declared.operand.Operand.{Operand}
-use Rattle.rv64_instr.specs.declared.operand.Operand.TheVariants.{Def, Use, ImplicitDef, ImplicitUse, Imm, Slot, Object, Block, Symbol, Mask}
+use Rattle.rv64_instr.specs.declared.operand.Operand.TheVariants.{ImplicitDef, Slot}
 use Rattle.rv64_instr.specs.declared.place.Place.{Place}
 use Rattle.rv64_instr.specs.declared.place.Place.TheVariants.{Register, Slot as InSlot, Const}
 use Rattle.rv64_instr.specs.Row.{Row, Calls, Returns, Unfit, row_of}
@@ -34,17 +34,9 @@ call_same slots (Calls name args) = refl
 call_same slots _ = refl
 
 defined_same : (slots : List ℕ) (call : Bool) (x : Operand) → defined call (Some (renamed_operand slots x)) ≡ defined call (Some x)
-defined_same slots call (Def r) = refl
 defined_same slots true (ImplicitDef r) = refl
 defined_same slots false (ImplicitDef r) = refl
-defined_same slots call (Use r) = refl
-defined_same slots call (ImplicitUse r) = refl
-defined_same slots call (Imm i) = refl
-defined_same slots call (Slot n) = refl
-defined_same slots call (Object n) = refl
-defined_same slots call (Block n) = refl
-defined_same slots call (Symbol n) = refl
-defined_same slots call Mask = refl
+defined_same slots call _ = refl
 
 operand_same : (slots : List ℕ) (call : Bool) (os : List Operand) (o : ℕ) →
     defined call (slice_get (map (renamed_operand slots) os) o) ≡ defined call (slice_get os o)

@@ -4,7 +4,7 @@ use Rattle.std.proofs.Common.{Option, Some, None, Bool, true, false, cond, refl,
 use Rattle.std.proofs.lemmas.List.Concat.{flat_map-cons}
 use Rattle.std.proofs.lemmas.List.Elements.{All-nil, All-cons, All-head, All-tail, All-append}
 use Rattle.rv64_instr.specs.declared.operand.Operand.{Operand}
-use Rattle.rv64_instr.specs.declared.operand.Operand.TheVariants.{Def, Use, ImplicitDef, ImplicitUse, Imm, Slot, Object, Block as ToBlock, Symbol, Mask}
+use Rattle.rv64_instr.specs.declared.operand.Operand.TheVariants.{Def, Use, ImplicitDef, ImplicitUse, Imm, Slot, Object}
 use Rattle.rv64_instr.specs.declared.place.Place.{Place}
 use Rattle.rv64_instr.specs.declared.place.Place.TheVariants.{Register, Slot as InSlot, Const}
 use Rattle.rv64_instr.specs.Arithmetic.{word}
@@ -87,24 +87,12 @@ operand_physical slots (Def r) h = h
 operand_physical slots (Use r) h = h
 operand_physical slots (ImplicitDef r) h = h
 operand_physical slots (ImplicitUse r) h = h
-operand_physical slots (Imm i) h = tt
-operand_physical slots (Slot n) h = tt
-operand_physical slots (Object n) h = tt
-operand_physical slots (ToBlock n) h = tt
-operand_physical slots (Symbol n) h = tt
-operand_physical slots Mask h = tt
+operand_physical slots _ h = tt
 
 pub operand_apart : (slots : List ℕ) (x : Operand) → IsNotPointer x → IsNotPointer (renamed_operand slots x)
 operand_apart slots (Def r) h = h
 operand_apart slots (Use r) h = h
-operand_apart slots (ImplicitDef r) h = tt
-operand_apart slots (ImplicitUse r) h = tt
-operand_apart slots (Imm i) h = tt
-operand_apart slots (Slot n) h = tt
-operand_apart slots (Object n) h = tt
-operand_apart slots (ToBlock n) h = tt
-operand_apart slots (Symbol n) h = tt
-operand_apart slots Mask h = tt
+operand_apart slots _ h = tt
 
 pub mapped : (P : Operand → Type 0) (g : Operand → Operand) → ((x : Operand) → P x → P (g x)) → (os : List Operand) → All P os → All P (map g os)
 mapped P g step [] h = All-nil P

@@ -6,7 +6,7 @@ use Rattle.rv64_instr.specs.declared.op.Op.TheVariants.{Registers, Immediate, Lu
 use Rattle.rv64_instr.specs.declared.op.ImmediateOp.{ImmediateOp}
 use Rattle.rv64_instr.specs.declared.op.ImmediateOp.TheVariants.{Addi}
 use Rattle.rv64_instr.specs.declared.operand.Operand.{Operand}
-use Rattle.rv64_instr.specs.declared.operand.Operand.TheVariants.{Def, Use, ImplicitDef, ImplicitUse, Imm, Slot, Object, Block, Symbol, Mask}
+use Rattle.rv64_instr.specs.declared.operand.Operand.TheVariants.{Def, Use, ImplicitUse, Imm, Slot, Object, Block, Symbol}
 use Rattle.rv64_instr.specs.Arithmetic.{word}
 use Rattle.rv64_instr.specs.Instruction.{Instruction}
 use Rattle.rv64_instr.specs.Row.{Row, Fixes, Moves, Sets, Addresses, Loads, Stores, LoadsSlot, StoresSlot, Branches, Jumps, Calls, Returns, Unfit, row_of}
@@ -39,15 +39,7 @@ module _ (slots : List ℕ) where
   uses_same : (os : List Operand) → implicit_uses (others os) ≡ implicit_uses os
   uses_same [] = refl
   uses_same (ImplicitUse r ∷ os) = ap (λ (z : List ℕ). cond (nat_eq r 2) z (r ∷ z)) (uses_same os)
-  uses_same (Def r ∷ os) = uses_same os
-  uses_same (Use r ∷ os) = uses_same os
-  uses_same (ImplicitDef r ∷ os) = uses_same os
-  uses_same (Imm i ∷ os) = uses_same os
-  uses_same (Slot n ∷ os) = uses_same os
-  uses_same (Object n ∷ os) = uses_same os
-  uses_same (Block n ∷ os) = uses_same os
-  uses_same (Symbol n ∷ os) = uses_same os
-  uses_same (Mask ∷ os) = uses_same os
+  uses_same (_ ∷ os) = uses_same os
 
   immediate_same : (op : ImmediateOp) (rd a n : ℕ) → immediate_row op rd a n ≡ renamed_row slots (immediate_row op rd a n)
   immediate_same Addi rd zero n = refl
@@ -104,15 +96,7 @@ uses_other (ImplicitUse r ∷ rest) = by_test (nat_eq r 2) refl (uses_other rest
   by_test : (b : Bool) → nat_eq r 2 ≡ b → All IsOther (implicit_uses rest) → All IsOther (cond b (implicit_uses rest) (r ∷ implicit_uses rest))
   by_test true e more = more
   by_test false e more = All-cons IsOther r (implicit_uses rest) (λ k. (let bad : false ≡ true = sym e ∙ eq-eqb r 2 k in cc)) more
-uses_other (Def r ∷ rest) = uses_other rest
-uses_other (Use r ∷ rest) = uses_other rest
-uses_other (ImplicitDef r ∷ rest) = uses_other rest
-uses_other (Imm i ∷ rest) = uses_other rest
-uses_other (Slot n ∷ rest) = uses_other rest
-uses_other (Object n ∷ rest) = uses_other rest
-uses_other (Block n ∷ rest) = uses_other rest
-uses_other (Symbol n ∷ rest) = uses_other rest
-uses_other (Mask ∷ rest) = uses_other rest
+uses_other (_ ∷ rest) = uses_other rest
 
 first : (x : Operand) (rest : List Operand) → All IsNotPointer (x ∷ rest) → IsNotPointer x
 first x rest h = All-head IsNotPointer x rest h

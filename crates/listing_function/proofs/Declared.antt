@@ -27,40 +27,19 @@ abbrev P : Operand → Type 0
 P = IsAsDeclared none
 
 implicit_apart : (o : Operand) → is_implicit o ≡ true → P o
-implicit_apart (ImplicitDef r) is = tt
-implicit_apart (ImplicitUse r) is = tt
-implicit_apart (Def r) is = tt
-implicit_apart (Use r) is = tt
-implicit_apart (Imm i) is = tt
 implicit_apart (Slot n) is = refl
 implicit_apart (Object n) is = absurd cc
-implicit_apart (Block n) is = tt
-implicit_apart (Symbol name) is = tt
-implicit_apart Mask is = tt
+implicit_apart _ is = tt
 
 argument_apart : (o : Operand) → is_argument o ≡ true → P o
-argument_apart (ImplicitDef r) is = tt
-argument_apart (ImplicitUse r) is = tt
-argument_apart (Def r) is = tt
-argument_apart (Use r) is = tt
-argument_apart (Imm i) is = tt
 argument_apart (Slot n) is = refl
 argument_apart (Object n) is = absurd cc
-argument_apart (Block n) is = tt
-argument_apart (Symbol name) is = tt
-argument_apart Mask is = tt
+argument_apart _ is = tt
 
 result_apart : (o : Operand) → is_result o ≡ true → P o
-result_apart (ImplicitDef r) is = tt
-result_apart (ImplicitUse r) is = tt
-result_apart (Def r) is = tt
-result_apart (Use r) is = tt
-result_apart (Imm i) is = tt
 result_apart (Slot n) is = refl
 result_apart (Object n) is = absurd cc
-result_apart (Block n) is = tt
-result_apart (Symbol name) is = tt
-result_apart Mask is = tt
+result_apart _ is = tt
 
 each : (test : Operand → Bool) → ((o : Operand) → test o ≡ true → P o) → (os : List Operand) → list_all test os ≡ true → All P os
 each test apart [] all = All-nil P

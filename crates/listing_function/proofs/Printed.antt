@@ -13,7 +13,7 @@ use Rattle.rv64_instr.specs.declared.op.Op.{Op}
 use Rattle.rv64_instr.specs.declared.op.Op.TheVariants.{Registers, Immediate, Lui, Branch as OfBranch, Load, Store, Copy, PseudoBr, PseudoCall, PseudoRet}
 use Rattle.rv64_instr.specs.declared.op.BranchOp.{BranchOp}
 use Rattle.rv64_instr.specs.declared.op.ImmediateOp.{ImmediateOp}
-use Rattle.rv64_instr.specs.declared.op.ImmediateOp.TheVariants.{Addi, Slti, Sltiu, Xori, Ori, Andi, Slli, Srli, Srai, Addiw, Slliw, Srliw, Sraiw}
+use Rattle.rv64_instr.specs.declared.op.ImmediateOp.TheVariants.{Slli, Srli, Srai, Slliw, Srliw, Sraiw}
 use Rattle.rv64_instr.specs.declared.operand.Operand.{Operand}
 use Rattle.rv64_instr.specs.declared.operand.Operand.TheVariants.{Def, Use, ImplicitDef, ImplicitUse, Imm, Slot, Object, Block as OfBlock, Symbol}
 use Rattle.rv64_instr.specs.Instruction.{Instruction}
@@ -68,19 +68,13 @@ shift5 (pos n) e = let less : n < 32 = grind (arith, nat_tests, ints) in omega (
 shift5 (negsuc n) e = absurd (grind (arith, nat_tests, ints))
 
 immediate_signed : (op : ImmediateOp) (x : ℤ) → is_immediate op x ≡ true → IsSigned x
-immediate_signed Addi x e = signed x e
-immediate_signed Slti x e = signed x e
-immediate_signed Sltiu x e = signed x e
-immediate_signed Xori x e = signed x e
-immediate_signed Ori x e = signed x e
-immediate_signed Andi x e = signed x e
 immediate_signed Slli x e = shift6 x e
 immediate_signed Srli x e = shift6 x e
 immediate_signed Srai x e = shift6 x e
-immediate_signed Addiw x e = signed x e
 immediate_signed Slliw x e = shift5 x e
 immediate_signed Srliw x e = shift5 x e
 immediate_signed Sraiw x e = shift5 x e
+immediate_signed _ x e = signed x e
 
 -- a number behind a register is in its opcode's range
 module _ (b : ℕ) (x : ℤ) (rest : List Operand) where

@@ -5,7 +5,7 @@ use Rattle.rv64_instr.specs.declared.op.Op.{Op}
 use Rattle.rv64_instr.specs.declared.op.Op.TheVariants.{Registers, Immediate, Lui, Branch, Load, Store, Copy, PseudoBr, PseudoCall, PseudoRet}
 use Rattle.rv64_instr.specs.declared.op.RegisterOp.{RegisterOp}
 use Rattle.rv64_instr.specs.declared.op.ImmediateOp.{ImmediateOp}
-use Rattle.rv64_instr.specs.declared.op.ImmediateOp.TheVariants.{Addi, Slti, Sltiu, Xori, Ori, Andi, Slli, Srli, Srai, Addiw, Slliw, Srliw, Sraiw}
+use Rattle.rv64_instr.specs.declared.op.ImmediateOp.TheVariants.{Addi}
 use Rattle.rv64_instr.specs.declared.op.BranchOp.{BranchOp}
 use Rattle.rv64_instr.specs.declared.op.LoadOp.{LoadOp}
 use Rattle.rv64_instr.specs.declared.op.StoreOp.{StoreOp}
@@ -35,18 +35,7 @@ adds op os far rd (suc r) (suc n) = one
 
 numbers : (o : Op) (os : List Operand) (far : Bool) (op : ImmediateOp) (rd a n : ℕ) → FormView o os (row_form far (immediate_row op rd a n))
 numbers o os far Addi rd a n = adds o os far rd a n
-numbers o os far Slti rd a n = one
-numbers o os far Sltiu rd a n = one
-numbers o os far Xori rd a n = one
-numbers o os far Ori rd a n = one
-numbers o os far Andi rd a n = one
-numbers o os far Slli rd a n = one
-numbers o os far Srli rd a n = one
-numbers o os far Srai rd a n = one
-numbers o os far Addiw rd a n = one
-numbers o os far Slliw rd a n = one
-numbers o os far Srliw rd a n = one
-numbers o os far Sraiw rd a n = one
+numbers o os far _ rd a n = one
 
 objects : (o : Op) (os : List Operand) (far : Bool) (op : ImmediateOp) (rd n : ℕ) (i : ℤ) (rest : List Operand) →
     (is_addi op && is_immediate op i && list_all is_implicit rest) ≡ true → FormView o os (row_form far (object_row op rd n (word i)))

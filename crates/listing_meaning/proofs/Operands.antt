@@ -12,7 +12,7 @@ use Rattle.rv64_instr.specs.declared.op.Op.TheVariants.{Registers, Immediate, Lu
 use Rattle.rv64_instr.specs.declared.op.ImmediateOp.{ImmediateOp}
 use Rattle.rv64_instr.specs.declared.op.ImmediateOp.TheVariants.{Addi, Slti, Sltiu, Xori, Ori, Andi, Slli, Srli, Srai, Addiw, Slliw, Srliw, Sraiw}
 use Rattle.rv64_instr.specs.declared.op.LoadOp.{LoadOp}
-use Rattle.rv64_instr.specs.declared.op.LoadOp.TheVariants.{Ld, Lb, Lh, Lw, Lbu, Lhu, Lwu}
+use Rattle.rv64_instr.specs.declared.op.LoadOp.TheVariants.{Lb}
 use Rattle.rv64_instr.specs.declared.op.StoreOp.{StoreOp}
 use Rattle.rv64_instr.specs.declared.op.StoreOp.TheVariants.{Sd, Sb, Sh, Sw}
 use Rattle.rv64_instr.specs.declared.operand.Operand.{Operand}
@@ -55,12 +55,7 @@ zero_only (negsuc n) e = absurd (grind (arith, nat_tests, ints))
 
 load_moves : (op : LoadOp) → 0 < load_width op
 load_moves Lb = omega arith
-load_moves Lh = omega arith
-load_moves Lw = omega arith
-load_moves Ld = omega arith
-load_moves Lbu = omega arith
-load_moves Lhu = omega arith
-load_moves Lwu = omega arith
+load_moves _ = omega arith
 
 store_moves : (op : StoreOp) → 0 < store_width op
 store_moves Sb = omega arith
@@ -342,13 +337,7 @@ module _ (f : FramedFunction) (framed : IsFramed f) where
 
   pub operands_same : (op : Op) (os : List Operand) → has_form op os ≡ true → ObjectIn f.objects (row_by op os) → LeadsInside f.objects (row_by op os) →
       settled_operands f op os ≡ os
-  operands_same (Registers op) os form objects inside = refl
   operands_same (Immediate op) os form objects inside = immediate_same op os form inside
-  operands_same Lui os form objects inside = refl
-  operands_same (Branch op) os form objects inside = refl
   operands_same (Load op) os form objects inside = load_same op os form objects inside
   operands_same (Store op) os form objects inside = store_same op os form objects inside
-  operands_same Copy os form objects inside = refl
-  operands_same PseudoBr os form objects inside = refl
-  operands_same PseudoCall os form objects inside = refl
-  operands_same PseudoRet os form objects inside = refl
+  operands_same _ os form objects inside = refl

@@ -7,7 +7,7 @@ use Rattle.std.proofs.lemmas.List.Elements.{All-head, All-tail}
 use Rattle.rv64_instr.specs.declared.op.Op.{Op}
 use Rattle.rv64_instr.specs.declared.op.Op.TheVariants.{Branch}
 use Rattle.rv64_instr.specs.declared.op.BranchOp.{BranchOp}
-use Rattle.rv64_instr.specs.declared.op.BranchOp.TheVariants.{Beq, Bne, Blt, Bge, Bltu, Bgeu}
+use Rattle.rv64_instr.specs.declared.op.BranchOp.TheVariants.{Beq}
 use Rattle.rv64_instr.specs.declared.operand.Operand.{Operand}
 use Rattle.rv64_instr.specs.declared.operand.Operand.TheVariants.{Use, Block as OfBlock}
 use Rattle.rv64_instr.specs.Instruction.{Instruction}
@@ -38,11 +38,7 @@ SteadyKind (Phi p k) = Unit {0}
 
 twice : (b : BranchOp) → inverted (inverted b) ≡ b
 twice Beq = refl
-twice Bne = refl
-twice Blt = refl
-twice Bge = refl
-twice Bltu = refl
-twice Bgeu = refl
+twice _ = refl
 
 module _ (l : Layout) (framed : IsFramed l.framed) where
   -- what is known of an item of the function

@@ -10,7 +10,7 @@ use Rattle.std.proofs.lemmas.Int.{ints}
 use Rattle.std.proofs.lemmas.List.{length-append}
 use Rattle.std.proofs.lemmas.List.Elements.{All-cons, All-nil, All-head, All-tail, All-append, All-contains, All-weaker}
 use Rattle.rv64_instr.specs.declared.operand.Operand.{Operand}
-use Rattle.rv64_instr.specs.declared.operand.Operand.TheVariants.{Def, Use, ImplicitDef, ImplicitUse, Imm, Slot, Object, Block as OfBlock, Symbol, Mask}
+use Rattle.rv64_instr.specs.declared.operand.Operand.TheVariants.{Def, Use, Imm, Slot}
 use Rattle.rv64_instr.specs.declared.place.Place.{Place}
 use Rattle.rv64_instr.specs.declared.place.Place.TheVariants as place
 use Rattle.rv64_instr.specs.Instruction.{Instruction}
@@ -177,16 +177,8 @@ module _ (inlined : ℕ → Option ℕ) (f : Function) (body : IsPrintableBody i
   offset_small n = let few = sound.few_slots in let before = before_few f.slots n in omega (arith, few, before)
 
   renamed_number : (o : Operand) → HasNumbers o → HasNumbers (renamed_operand f.slots o)
-  renamed_number (Def r) is = is
-  renamed_number (Use r) is = is
-  renamed_number (ImplicitDef r) is = is
-  renamed_number (ImplicitUse r) is = is
-  renamed_number (Imm i) is = is
   renamed_number (Slot n) is = offset_small n
-  renamed_number (Object n) is = is
-  renamed_number (OfBlock n) is = is
-  renamed_number (Symbol name) is = is
-  renamed_number Mask is = is
+  renamed_number _ is = is
 
   renamed_numbers : (os : List Operand) → All HasNumbers os → All HasNumbers (map (renamed_operand f.slots) os)
   renamed_numbers [] all = All-nil HasNumbers

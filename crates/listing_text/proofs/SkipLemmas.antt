@@ -197,15 +197,7 @@ defines (o ∷ os) = elim (defines os) [ nothing e ↦ nothing e | something n m
 
 abbrev is_branch : Op → Bool
 is_branch (Branch op) = true
-is_branch (Registers op) = false
-is_branch (Immediate op) = false
-is_branch Lui = false
-is_branch (Load op) = false
-is_branch (Store op) = false
-is_branch Copy = false
-is_branch PseudoBr = false
-is_branch PseudoCall = false
-is_branch PseudoRet = false
+is_branch _ = false
 
 others_begin : (op : Op) (r : List ℕ) → is_branch op ≡ false → begins_with_b (mnemonic_of op ++ r) ≡ false
 others_begin (Branch op) r other = absurd cc

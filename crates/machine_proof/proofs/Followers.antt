@@ -10,7 +10,7 @@ use Rattle.rv64_instr.specs.declared.op.Op.TheVariants.{Registers, Immediate, Lu
 use Rattle.rv64_instr.specs.declared.op.ImmediateOp.{ImmediateOp}
 use Rattle.rv64_instr.specs.declared.op.ImmediateOp.TheVariants.{Addi}
 use Rattle.rv64_instr.specs.declared.operand.Operand.{Operand}
-use Rattle.rv64_instr.specs.declared.operand.Operand.TheVariants.{Def, Use, ImplicitDef, ImplicitUse, Imm, Slot, Object, Block as BlockOperand, Symbol, Mask}
+use Rattle.rv64_instr.specs.declared.operand.Operand.TheVariants.{Def, Use, ImplicitUse, Imm, Slot, Object, Block as BlockOperand, Symbol}
 use Rattle.rv64_instr.specs.declared.place.Place.{Place}
 use Rattle.rv64_instr.specs.Arithmetic.{word}
 use Rattle.rv64_instr.specs.Form.{has_form, is_result}
@@ -48,15 +48,7 @@ results_low (ImplicitUse r ∷ rest) e =
       by_test : (b : Bool) → r < 32 → All (λ r. r < 32) (implicit_uses rest) → All (λ r. r < 32) (cond b (implicit_uses rest) (r ∷ implicit_uses rest))
       by_test true here more = more
       by_test false here more = All-cons (λ (q : ℕ). q < 32) r (implicit_uses rest) here more
-results_low (Def r ∷ rest) e = cc
-results_low (Use r ∷ rest) e = cc
-results_low (ImplicitDef r ∷ rest) e = cc
-results_low (Imm i ∷ rest) e = cc
-results_low (Slot n ∷ rest) e = cc
-results_low (Object n ∷ rest) e = cc
-results_low (BlockOperand n ∷ rest) e = cc
-results_low (Symbol n ∷ rest) e = cc
-results_low (Mask ∷ rest) e = cc
+results_low (_ ∷ rest) e = cc
 
 immediate_plain : (op : ImmediateOp) (rd a n : ℕ) → ResultsArePhysical (immediate_row op rd a n)
 immediate_plain Addi rd zero n = tt

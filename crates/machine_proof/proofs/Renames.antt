@@ -5,7 +5,7 @@ use Rattle.rv64_instr.specs.declared.op.Op.TheVariants.{Registers, Immediate, Lu
 use Rattle.rv64_instr.specs.declared.op.ImmediateOp.{ImmediateOp}
 use Rattle.rv64_instr.specs.declared.op.ImmediateOp.TheVariants.{Addi}
 use Rattle.rv64_instr.specs.declared.operand.Operand.{Operand}
-use Rattle.rv64_instr.specs.declared.operand.Operand.TheVariants.{Def, Use, ImplicitDef, ImplicitUse, Imm, Slot, Object, Block, Symbol, Mask}
+use Rattle.rv64_instr.specs.declared.operand.Operand.TheVariants.{Def, Use, ImplicitUse, Imm, Slot, Object, Block, Symbol}
 use Rattle.rv64_instr.specs.Arithmetic.{word}
 use Rattle.rv64_instr.specs.Instruction.{Instruction}
 use Rattle.rv64_instr.specs.Row.{Row, Fixes, Moves, Sets, Addresses, Loads, Stores, LoadsSlot, StoresSlot, Branches, Jumps, Calls, Returns, Unfit, row_of}
@@ -33,15 +33,7 @@ uses_stay slots [] = refl
 uses_stay slots (ImplicitUse r ∷ rest) =
     ap (λ (rs : List ℕ). cond (nat_eq r 2) rs (r ∷ implicit_uses (map (renamed_operand slots) rest))) (uses_stay slots rest)
     ∙ ap (λ (rs : List ℕ). cond (nat_eq r 2) (implicit_uses rest) (r ∷ rs)) (uses_stay slots rest)
-uses_stay slots (Def r ∷ rest) = uses_stay slots rest
-uses_stay slots (Use r ∷ rest) = uses_stay slots rest
-uses_stay slots (ImplicitDef r ∷ rest) = uses_stay slots rest
-uses_stay slots (Imm i ∷ rest) = uses_stay slots rest
-uses_stay slots (Slot n ∷ rest) = uses_stay slots rest
-uses_stay slots (Object n ∷ rest) = uses_stay slots rest
-uses_stay slots (Block n ∷ rest) = uses_stay slots rest
-uses_stay slots (Symbol n ∷ rest) = uses_stay slots rest
-uses_stay slots (Mask ∷ rest) = uses_stay slots rest
+uses_stay slots (_ ∷ rest) = uses_stay slots rest
 
 immediate_stays : (slots : List ℕ) (op : ImmediateOp) (rd a n : ℕ) → immediate_row op rd a n ≡ renamed_row slots (immediate_row op rd a n)
 immediate_stays slots Addi rd zero n = refl

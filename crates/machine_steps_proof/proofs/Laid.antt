@@ -8,7 +8,7 @@ use Rattle.std.specs.Int.{w32, to_le_bytes}
 use Rattle.rv64_instr.specs.declared.op.Op.{Op}
 use Rattle.rv64_instr.specs.declared.op.Op.TheVariants.{Registers, Immediate, Lui, Branch, Load, Store, Copy, PseudoBr, PseudoCall, PseudoRet}
 use Rattle.rv64_instr.specs.declared.op.BranchOp.{BranchOp}
-use Rattle.rv64_instr.specs.declared.op.BranchOp.TheVariants.{Beq, Bne, Blt, Bge, Bltu, Bgeu}
+use Rattle.rv64_instr.specs.declared.op.BranchOp.TheVariants.{Bne, Bge, Bgeu}
 use Rattle.rv64_instr.specs.declared.op.ImmediateOp.{ImmediateOp}
 use Rattle.rv64_instr.specs.declared.op.ImmediateOp.TheVariants.{Addi}
 use Rattle.rv64_instr.specs.declared.operand.Operand.{Operand}
@@ -197,15 +197,7 @@ branch_inverted _ _ o a b n e = cc
 
 op_or : (op : Op) → (op ≡ PseudoCall) ⊎ (op ≡ PseudoCall → ⊥)
 op_or PseudoCall = inl refl
-op_or (Registers op) = inr (λ e. cc)
-op_or (Immediate op) = inr (λ e. cc)
-op_or Lui = inr (λ e. cc)
-op_or (Branch op) = inr (λ e. cc)
-op_or (Load op) = inr (λ e. cc)
-op_or (Store op) = inr (λ e. cc)
-op_or Copy = inr (λ e. cc)
-op_or PseudoBr = inr (λ e. cc)
-op_or PseudoRet = inr (λ e. cc)
+op_or _ = inr (λ e. cc)
 
 call_or_unfit : (os : List Operand) → (row_by PseudoCall os ≡ Unfit) ⊎ ((name : List ℕ) × (args : List ℕ) × (row_by PseudoCall os ≡ Calls name args))
 call_or_unfit (Symbol name ∷ rest) = inr (name, implicit_uses rest, refl)
@@ -268,21 +260,19 @@ leads_to a s la ls = elim (Rattle.std.proofs.lemmas.Bool.cases_lt s a) as (λ _.
 
 inverted_taken : (op : BranchOp) (x y : ℕ) → taken (inverted op) x y ≡ not (taken op x y)
 unfolding taken
-inverted_taken Beq x y = refl
 inverted_taken Bne x y = twice (nat_eq x y) where
   twice : (b : Bool) → b ≡ not (not b)
   twice true = refl
   twice false = refl
-inverted_taken Blt x y = refl
 inverted_taken Bge x y = twice _ where
   twice : (b : Bool) → b ≡ not (not b)
   twice true = refl
   twice false = refl
-inverted_taken Bltu x y = refl
 inverted_taken Bgeu x y = twice _ where
   twice : (b : Bool) → b ≡ not (not b)
   twice true = refl
   twice false = refl
+inverted_taken _ x y = refl
 
 -- the target counts for branches alone
 same_place : (r : Row) (t u object : ℕ) → ((n : ℕ) → (row_exit r ≡ Perhaps n) ⊎ (row_exit r ≡ Always n) → t ≡ u) → placed t object r ≡ placed u object r

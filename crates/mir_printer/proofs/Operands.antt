@@ -99,14 +99,8 @@ IsUse o = (is_definition o ≡ false) × HasNumbers o
 lead_is : (o : Operand) (r : List ℕ) → IsUse o → lead (operand_text o ++ r) ≡ lead_of o
 lead_is (Def n) r is = let no : true ≡ false = is.0 in absurd cc
 lead_is (Use n) r is = register_lead (nat_lt n 32) n r is.1
-lead_is (ImplicitDef n) r is = refl
-lead_is (ImplicitUse n) r is = refl
 lead_is (Imm i) r is = let h = signed_head i r is.1 in ap lead h.2 ∙ number_lead h.0 h.1 h.3 h.4
-lead_is (Slot n) r is = refl
-lead_is (Object n) r is = refl
-lead_is (Block n) r is = refl
-lead_is (Symbol name) r is = refl
-lead_is Mask r is = refl
+lead_is _ r is = refl
 
 -- what may follow an operand
 pub record Follows (text : List ℕ) : Type 0 where
@@ -193,14 +187,8 @@ register_goes_on false n r = refl
 operand_goes_on : (o : Operand) (r : List ℕ) → IsUse o → goes_on (44 ∷ 32 ∷ (operand_text o ++ r)) ≡ true
 operand_goes_on (Def n) r is = register_goes_on (nat_lt n 32) n r
 operand_goes_on (Use n) r is = register_goes_on (nat_lt n 32) n r
-operand_goes_on (ImplicitDef n) r is = refl
-operand_goes_on (ImplicitUse n) r is = refl
 operand_goes_on (Imm i) r is = let h = signed_head i r is.1 in ap (λ (t : List ℕ). goes_on (44 ∷ 32 ∷ t)) h.2 ∙ number_goes_on h.0 h.1 h.3 h.4
-operand_goes_on (Slot n) r is = refl
-operand_goes_on (Object n) r is = refl
-operand_goes_on (Block n) r is = refl
-operand_goes_on (Symbol name) r is = refl
-operand_goes_on Mask r is = refl
+operand_goes_on _ r is = refl
 
 -- what may follow an instruction's operands
 pub record IsTail (text : List ℕ) : Type 0 where

@@ -200,19 +200,14 @@ store_object op os e = absurd cc
 -- in code that has its form, each object is the one that its row names
 pub one_object : (op : Op) (os : List Operand) → has_form op os ≡ true → All (ObjectsAre (row_object (row_of (record { op = op; operands = os })))) os
 one_object (Registers op) (Def rd ∷ Use a ∷ Use b ∷ rest) e = three_before _ (Def rd) (Use a) (Use b) rest tt tt tt (rest_one _ rest e)
-one_object (Registers op) os e = absurd cc
 one_object (Immediate op) os e = immediate_object op os e
 one_object Lui (Def rd ∷ Imm i ∷ rest) e = two_before _ (Def rd) (Imm i) rest tt tt (rest_one _ rest (and_parts (is_within (pos 0) (pos 1048575) i)
     (list_all is_implicit rest) e).1)
-one_object Lui os e = absurd cc
 one_object (Branch op) (Use a ∷ Use b ∷ Block n ∷ rest) e = three_before _ (Use a) (Use b) (Block n) rest tt tt tt (rest_one _ rest e)
-one_object (Branch op) os e = absurd cc
 one_object (Load op) os e = load_object op os e
 one_object (Store op) os e = store_object op os e
 one_object Copy (Def rd ∷ Use rs ∷ rest) e = two_before _ (Def rd) (Use rs) rest tt tt (rest_one _ rest e)
-one_object Copy os e = absurd cc
 one_object PseudoBr (Block n ∷ rest) e = one_before _ (Block n) rest tt (rest_one _ rest e)
-one_object PseudoBr os e = absurd cc
 one_object PseudoCall (Symbol name ∷ Mask ∷ rest) e = two_before _ (Symbol name) Mask rest tt tt (all_one _ is_argument (argument_one _) rest e)
-one_object PseudoCall os e = absurd cc
 one_object PseudoRet os e = all_one _ is_result (result_one _) os e
+one_object _ os e = absurd cc

@@ -17,7 +17,7 @@ use Rattle.rv64_instr.specs.declared.op.ImmediateOp.TheVariants.{Addi}
 use Rattle.rv64_instr.specs.declared.op.LoadOp.{LoadOp}
 use Rattle.rv64_instr.specs.declared.op.StoreOp.{StoreOp}
 use Rattle.rv64_instr.specs.declared.operand.Operand.{Operand}
-use Rattle.rv64_instr.specs.declared.operand.Operand.TheVariants.{Def, Use, ImplicitDef, ImplicitUse, Imm, Slot, Object as OfObject, Block as OfBlock}
+use Rattle.rv64_instr.specs.declared.operand.Operand.TheVariants.{Def, Use, Imm, Slot, Object as OfObject, Block as OfBlock}
 use Rattle.rv64_instr.specs.declared.operand.Operand.TheVariants.{Symbol, Mask}
 use Rattle.rv64_instr.specs.declared.place.Place.{Place}
 use Rattle.rv64_instr.specs.declared.place.Place.TheVariants as place
@@ -98,21 +98,16 @@ module _ (ids : List ℕ) where
   -- control leaves it as before
   exit_as : (op : Op) (os : List Operand) → has_form op os ≡ true → row_exit (row_as op os) ≡ row_exit (row op os)
   exit_as (Registers op) (Def rd ∷ Use a ∷ Use b ∷ rest) e = refl
-  exit_as (Registers op) os e = absurd cc
   exit_as (Immediate op) os e = exit_immediate op os e
   exit_as Lui (Def rd ∷ Imm i ∷ rest) e = refl
-  exit_as Lui os e = absurd cc
   exit_as (Branch op) (Use a ∷ Use b ∷ OfBlock n ∷ rest) e = refl
-  exit_as (Branch op) os e = absurd cc
   exit_as (Load op) os e = exit_load op os e
   exit_as (Store op) os e = exit_store op os e
   exit_as Copy (Def rd ∷ Use rs ∷ rest) e = refl
-  exit_as Copy os e = absurd cc
   exit_as PseudoBr (OfBlock n ∷ rest) e = refl
-  exit_as PseudoBr os e = absurd cc
   exit_as PseudoCall (Symbol name ∷ Mask ∷ rest) e = refl
-  exit_as PseudoCall os e = absurd cc
   exit_as PseudoRet os e = refl
+  exit_as _ os e = absurd cc
 
   pub targets_as : (bids all : List ℕ) → ((n : ℕ) → is_met n bids ≡ true → Contains all n) → (kind : ItemKind) → HasForm kind →
       goes_to_one_of bids (exit_of kind) ≡ true → TargetsIn all (kind_as ids kind)
@@ -183,21 +178,16 @@ module _ (named : List ℕ) (es : List StackEntry) (entries : List ℕ) (all : (
 
   slot_in_row : (op : Op) (os : List Operand) → has_form op os ≡ true → All (NamesAmong entries) os → SlotIn slots (row_as ids op os)
   slot_in_row (Registers op) (Def rd ∷ Use a ∷ Use b ∷ rest) e names = tt
-  slot_in_row (Registers op) os e names = absurd cc
   slot_in_row (Immediate op) os e names = slot_immediate op os e
   slot_in_row Lui (Def rd ∷ Imm i ∷ rest) e names = tt
-  slot_in_row Lui os e names = absurd cc
   slot_in_row (Branch op) (Use a ∷ Use b ∷ OfBlock n ∷ rest) e names = tt
-  slot_in_row (Branch op) os e names = absurd cc
   slot_in_row (Load op) os e names = slot_load op os e names
   slot_in_row (Store op) os e names = slot_store op os e names
   slot_in_row Copy (Def rd ∷ Use rs ∷ rest) e names = move_slot slots rd rs
-  slot_in_row Copy os e names = absurd cc
   slot_in_row PseudoBr (OfBlock n ∷ rest) e names = tt
-  slot_in_row PseudoBr os e names = absurd cc
   slot_in_row PseudoCall (Symbol name ∷ Mask ∷ rest) e names = tt
-  slot_in_row PseudoCall os e names = absurd cc
   slot_in_row PseudoRet os e names = tt
+  slot_in_row _ os e names = absurd cc
 
   slot_in_place : (p : Option Place) (k : ℕ) → KindNamesAmong entries (Phi p k) → PlaceIn slots (place_as ids p)
   slot_in_place None k names = tt
@@ -222,13 +212,7 @@ module _ (named : List ℕ) (es : List StackEntry) (entries : List ℕ) (all : (
     by false = tt
   pointer_operand (Def r) is = is
   pointer_operand (Use r) is = is
-  pointer_operand (ImplicitDef r) is = tt
-  pointer_operand (ImplicitUse r) is = tt
-  pointer_operand (Imm i) is = tt
-  pointer_operand (OfObject n) is = tt
-  pointer_operand (OfBlock n) is = tt
-  pointer_operand (Symbol name) is = tt
-  pointer_operand Mask is = tt
+  pointer_operand _ is = tt
 
   pub pointer_as : (kind : ItemKind) → HasForm kind → LeavesPointer kind → LeavesPointer (kind_as ids kind)
   pointer_as (Code i k) form is = subst (λ (j : Instruction). All IsNotPointer j.operands) (sym (renamed ids i form))

@@ -72,12 +72,7 @@ operand_physical (Def r) small = small
 operand_physical (Use r) small = small
 operand_physical (ImplicitDef r) small = small
 operand_physical (ImplicitUse r) small = small
-operand_physical (Imm i) small = tt
-operand_physical (Slot n) small = tt
-operand_physical (Object n) small = tt
-operand_physical (Block n) small = tt
-operand_physical (Symbol name) small = tt
-operand_physical Mask small = tt
+operand_physical _ small = tt
 
 value_physical : (m : MarkValue) → ValueIsLimited m → ValueIsPhysical m
 value_physical Nothing small = tt
@@ -142,15 +137,9 @@ module _ (meta : Maps) (named : List ℕ) (es : List StackEntry) where
     by : (b : Bool) → IsLimited (cond b (Object n) (Slot n))
     by true = small
     by false = small
-  operand_limited (Def r) small = small
-  operand_limited (Use r) small = small
-  operand_limited (ImplicitDef r) small = small
-  operand_limited (ImplicitUse r) small = small
-  operand_limited (Imm i) small = small
-  operand_limited (Object n) small = small
-  operand_limited (Block n) small = small
   operand_limited (Symbol name) small = tt
   operand_limited Mask small = tt
+  operand_limited _ small = small
 
   place_limited : (p : Option Place) → PlaceIsLimited p → PlaceIsLimited (place_as ids p)
   place_limited None small = tt
@@ -179,14 +168,7 @@ module _ (meta : Maps) (named : List ℕ) (es : List StackEntry) where
       by true e = sym (ids_are_objects named n es) ∙ e
       by false e = sym (ids_are_objects named n es) ∙ e
     operand_declared (Object n) is = sym (ids_are_objects named n es) ∙ object_if_named named es n (all n is.0) (code n is.1)
-    operand_declared (Def r) is = tt
-    operand_declared (Use r) is = tt
-    operand_declared (ImplicitDef r) is = tt
-    operand_declared (ImplicitUse r) is = tt
-    operand_declared (Imm i) is = tt
-    operand_declared (Block n) is = tt
-    operand_declared (Symbol name) is = tt
-    operand_declared Mask is = tt
+    operand_declared _ is = tt
 
     operands_declared : (os : List Operand) → All (NamesAmong entries) os → All (ObjectsAre found) os → All (IsAsDeclared objects) (operands_as ids os)
     operands_declared os names objs = All-map (IsAsDeclared objects) (operand_as ids) os

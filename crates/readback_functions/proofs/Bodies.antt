@@ -9,7 +9,7 @@ use Rattle.std.proofs.lemmas.List.{length-append}
 use Rattle.std.proofs.lemmas.List.Elements.{All-nil, All-cons, All-head, All-tail, All-append, All-filter, All-weaker}
 use Rattle.std.proofs.lemmas.List.Folds.{list_any-append, list_all-append}
 use Rattle.rv64_instr.specs.declared.operand.Operand.{Operand}
-use Rattle.rv64_instr.specs.declared.operand.Operand.TheVariants.{Def, Use, ImplicitDef, ImplicitUse, Imm, Slot, Object, Block as OfBlock, Symbol, Mask}
+use Rattle.rv64_instr.specs.declared.operand.Operand.TheVariants.{Slot, Object}
 use Rattle.rv64_instr.specs.Instruction.{Instruction}
 use Rattle.mir_func.specs.declared.block.Block.{Block}
 use Rattle.mir_func.specs.declared.item.Item.{Item}
@@ -241,14 +241,7 @@ one_declared : (declared : List ℕ) (o : Operand) (rest : List ℕ) → NamesAm
     all_met declared (cons_option (entry_of (operand_form o)) rest) ≡ true
 one_declared declared (Slot n) rest is all = and_from (is_met n declared) (all_met declared rest) is all
 one_declared declared (Object n) rest is all = and_from (is_met n declared) (all_met declared rest) is all
-one_declared declared (Def r) rest is all = all
-one_declared declared (Use r) rest is all = all
-one_declared declared (ImplicitDef r) rest is all = all
-one_declared declared (ImplicitUse r) rest is all = all
-one_declared declared (Imm i) rest is all = all
-one_declared declared (OfBlock n) rest is all = all
-one_declared declared (Symbol name) rest is all = all
-one_declared declared Mask rest is all = all
+one_declared declared _ rest is all = all
 
 operands_declared : (declared : List ℕ) (os : List Operand) → All (NamesAmong declared) os → all_met declared (entries_of (map operand_form os)) ≡ true
 operands_declared declared [] all = refl
@@ -259,14 +252,7 @@ named_weaker : (entries declared : List ℕ) → ((n : ℕ) → is_met n entries
     NamesAmong declared o
 named_weaker entries declared each (Slot n) is = each n is
 named_weaker entries declared each (Object n) is = each n is
-named_weaker entries declared each (Def r) is = is
-named_weaker entries declared each (Use r) is = is
-named_weaker entries declared each (ImplicitDef r) is = is
-named_weaker entries declared each (ImplicitUse r) is = is
-named_weaker entries declared each (Imm i) is = is
-named_weaker entries declared each (OfBlock n) is = is
-named_weaker entries declared each (Symbol name) is = is
-named_weaker entries declared each Mask is = is
+named_weaker entries declared each _ is = is
 
 pub code_declared : (entries declared : List ℕ) → ((n : ℕ) → is_met n entries ≡ true → is_met n declared ≡ true) → (c : Instruction) (o : Origin) (l : Loc) →
     All (NamesAmong entries) c.operands → all_met declared (entries_named (record { kind = Code c None; origin = o; loc = l })) ≡ true

@@ -6,7 +6,7 @@ use Rattle.std.proofs.lemmas.List.Elements.{All-map, All-weaker}
 use Rattle.read_refusal.specs.declared.kind.RefusalKind.{RefusalKind}
 use Rattle.rv64_instr.specs.declared.op.Op.{Op}
 use Rattle.rv64_instr.specs.declared.operand.Operand.{Operand}
-use Rattle.rv64_instr.specs.declared.operand.Operand.TheVariants.{Def, Use, ImplicitDef, ImplicitUse, Imm, Slot, Object, Block as OfBlock, Symbol, Mask}
+use Rattle.rv64_instr.specs.declared.operand.Operand.TheVariants.{Slot, Object}
 use Rattle.rv64_instr.specs.Form.{has_form}
 use Rattle.rv64_instr.specs.Instruction.{Instruction}
 use Rattle.read_metadata.specs.Maps.{Maps}
@@ -147,45 +147,21 @@ operand_limited ids (Slot n) small = by (is_met n ids) where
   by : (b : Bool) → IsLimited (cond b (Object n) (Slot n))
   by true = small
   by false = small
-operand_limited ids (Def r) small = small
-operand_limited ids (Use r) small = small
-operand_limited ids (ImplicitDef r) small = small
-operand_limited ids (ImplicitUse r) small = small
-operand_limited ids (Imm i) small = small
-operand_limited ids (Object n) small = small
-operand_limited ids (OfBlock n) small = small
-operand_limited ids (Symbol name) small = small
-operand_limited ids Mask small = small
+operand_limited ids _ small = small
 
 operand_named : (ids entries : List ℕ) (o : Operand) → NamesAmong entries o → NamesAmong entries (operand_as ids o)
 operand_named ids entries (Slot n) is = by (is_met n ids) where
   by : (b : Bool) → NamesAmong entries (cond b (Object n) (Slot n))
   by true = is
   by false = is
-operand_named ids entries (Def r) is = is
-operand_named ids entries (Use r) is = is
-operand_named ids entries (ImplicitDef r) is = is
-operand_named ids entries (ImplicitUse r) is = is
-operand_named ids entries (Imm i) is = is
-operand_named ids entries (Object n) is = is
-operand_named ids entries (OfBlock n) is = is
-operand_named ids entries (Symbol name) is = is
-operand_named ids entries Mask is = is
+operand_named ids entries _ is = is
 
 operand_pointer : (ids : List ℕ) (o : Operand) → IsNotPointer o → IsNotPointer (operand_as ids o)
 operand_pointer ids (Slot n) is = by (is_met n ids) where
   by : (b : Bool) → IsNotPointer (cond b (Object n) (Slot n))
   by true = tt
   by false = tt
-operand_pointer ids (Def r) is = is
-operand_pointer ids (Use r) is = is
-operand_pointer ids (ImplicitDef r) is = is
-operand_pointer ids (ImplicitUse r) is = is
-operand_pointer ids (Imm i) is = is
-operand_pointer ids (Object n) is = is
-operand_pointer ids (OfBlock n) is = is
-operand_pointer ids (Symbol name) is = is
-operand_pointer ids Mask is = is
+operand_pointer ids _ is = is
 
 -- what holds of each operand where entries are objects
 all_as : (P : Operand → Type 0) (ids : List ℕ) (c : Instruction) → has_form c.op c.operands ≡ true → ((o : Operand) → P o → P (operand_as ids o)) →
@@ -211,15 +187,7 @@ module _ (ids entries : List ℕ) (c : Instruction) (is : IsKnownCode entries c)
 -- the same entries are objects
 same_operand : (ids others : List ℕ) → ((n : ℕ) → is_met n ids ≡ is_met n others) → (o : Operand) → operand_as ids o ≡ operand_as others o
 same_operand ids others same (Slot n) = ap (λ (b : Bool). cond b (Object n) (Slot n)) (same n)
-same_operand ids others same (Def r) = refl
-same_operand ids others same (Use r) = refl
-same_operand ids others same (ImplicitDef r) = refl
-same_operand ids others same (ImplicitUse r) = refl
-same_operand ids others same (Imm i) = refl
-same_operand ids others same (Object n) = refl
-same_operand ids others same (OfBlock n) = refl
-same_operand ids others same (Symbol name) = refl
-same_operand ids others same Mask = refl
+same_operand ids others same _ = refl
 
 same_operands : (ids others : List ℕ) → ((n : ℕ) → is_met n ids ≡ is_met n others) → (os : List Operand) → operands_as ids os ≡ operands_as others os
 same_operands ids others same [] = refl

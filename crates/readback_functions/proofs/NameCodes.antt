@@ -126,15 +126,7 @@ operand_as_is ids (Slot n) is = by (is_met n ids) where
   by : (b : Bool) → NameIsBytes (cond b (Object n) (Slot n))
   by true = tt
   by false = tt
-operand_as_is ids (Def r) is = is
-operand_as_is ids (Use r) is = is
-operand_as_is ids (ImplicitDef r) is = is
-operand_as_is ids (ImplicitUse r) is = is
-operand_as_is ids (Imm i) is = is
-operand_as_is ids (Object n) is = is
-operand_as_is ids (OfBlock n) is = is
-operand_as_is ids (Symbol name) is = is
-operand_as_is ids Mask is = is
+operand_as_is ids _ is = is
 
 -- the symbols of an item where stack entries are objects
 pub kind_as_bytes : (ids : List ℕ) (kind : ItemKind) → HasByteNames kind → HasByteNames (kind_as ids kind)

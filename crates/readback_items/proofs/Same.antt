@@ -19,14 +19,7 @@ pub record Stays (ids : List ℕ) (os : List Operand) : Type 0 where
 abbrev pub IsPlain : Operand → Type 0
 IsPlain (Slot n) = ⊥
 IsPlain (Object n) = ⊥
-IsPlain (Def r) = Unit {0}
-IsPlain (Use r) = Unit {0}
-IsPlain (ImplicitDef r) = Unit {0}
-IsPlain (ImplicitUse r) = Unit {0}
-IsPlain (Imm i) = Unit {0}
-IsPlain (Block n) = Unit {0}
-IsPlain (Symbol name) = Unit {0}
-IsPlain Mask = Unit {0}
+IsPlain _ = Unit {0}
 
 module _ (ids : List ℕ) where
   pub stays_none : Stays ids []

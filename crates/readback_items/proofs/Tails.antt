@@ -4,7 +4,7 @@ use Rattle.std.specs.Prelude.{filter}
 use Rattle.std.specs.List.{flat_map, list_all}
 use Rattle.std.proofs.lemmas.Bool.{and_parts}
 use Rattle.rv64_instr.specs.declared.operand.Operand.{Operand}
-use Rattle.rv64_instr.specs.declared.operand.Operand.TheVariants.{Def, Use, ImplicitDef, ImplicitUse, Imm, Slot, Object, Block, Symbol, Mask}
+use Rattle.rv64_instr.specs.declared.operand.Operand.TheVariants.{ImplicitDef, ImplicitUse}
 use Rattle.rv64_instr.specs.Form.{is_implicit, is_argument, is_result}
 use Rattle.read_item.specs.Code.{before, placed}
 use Rattle.mir_printer.specs.Printable.{as_slot}
@@ -14,14 +14,7 @@ use Rattle.readback_items.specs.Forms.{operand_form, set_register}
 abbrev pub IsTail : Operand → Type 0
 IsTail (ImplicitDef r) = Unit {0}
 IsTail (ImplicitUse r) = Unit {0}
-IsTail (Def r) = ⊥
-IsTail (Use r) = ⊥
-IsTail (Imm i) = ⊥
-IsTail (Slot n) = ⊥
-IsTail (Object n) = ⊥
-IsTail (Block n) = ⊥
-IsTail (Symbol name) = ⊥
-IsTail Mask = ⊥
+IsTail _ = ⊥
 
 pub record Tail (rest : List Operand) : Type 0 where
   pub sets : flat_map set_register rest ≡ []

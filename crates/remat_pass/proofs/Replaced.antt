@@ -6,7 +6,7 @@ use Rattle.std.proofs.lemmas.Bool.{and_parts}
 use Rattle.rv64_instr.specs.declared.op.Op.TheVariants.{Immediate, Lui}
 use Rattle.rv64_instr.specs.declared.op.ImmediateOp.TheVariants.{Addi}
 use Rattle.rv64_instr.specs.declared.operand.Operand.{Operand}
-use Rattle.rv64_instr.specs.declared.operand.Operand.TheVariants.{Def, Use, ImplicitDef, ImplicitUse, Imm, Slot as SlotOperand, Object, Block, Symbol, Mask}
+use Rattle.rv64_instr.specs.declared.operand.Operand.TheVariants.{Def, Use, ImplicitDef, ImplicitUse, Imm}
 use Rattle.rv64_instr.specs.declared.place.Place.TheVariants.{Slot}
 use Rattle.rv64_instr.specs.Instruction.{Instruction}
 use Rattle.rv64_instr.specs.Arithmetic.{signed}
@@ -132,14 +132,7 @@ DefinesAlone rd os = (o : ℕ) → defined false (slice_get os o) ≡ first_only
 implicit_defines : (x : Operand) → is_implicit x ≡ true → defined false (Some x) ≡ None
 implicit_defines (ImplicitDef r) h = refl
 implicit_defines (ImplicitUse r) h = refl
-implicit_defines (Def r) h = cc
-implicit_defines (Use r) h = cc
-implicit_defines (Imm i) h = cc
-implicit_defines (SlotOperand n) h = cc
-implicit_defines (Object n) h = cc
-implicit_defines (Block n) h = cc
-implicit_defines (Symbol s) h = cc
-implicit_defines Mask h = cc
+implicit_defines _ h = cc
 
 none_defined : (xs : List Operand) → list_all is_implicit xs ≡ true → (o : ℕ) → defined false (slice_get xs o) ≡ None
 none_defined [] h zero = refl

@@ -71,11 +71,7 @@ found (Store Sb) = refl
 found (Store Sh) = refl
 found (Store Sw) = refl
 found (Store Sd) = refl
-found Lui = refl
-found Copy = refl
-found PseudoBr = refl
-found PseudoCall = refl
-found PseudoRet = refl
+found _ = refl
 
 same : (a b : Op) → Some a ≡ Some b → a ≡ b
 same a b e = cc

@@ -5,7 +5,7 @@ use Rattle.std.specs.List.{list_any}
 use Rattle.std.proofs.lemmas.Bool.{cases_eq, cases_lt, eqb-true}
 use Rattle.std.proofs.lemmas.Map.Made.{Contains-tail}
 use Rattle.rv64_instr.specs.declared.operand.Operand.{Operand}
-use Rattle.rv64_instr.specs.declared.operand.Operand.TheVariants.{Def, Use, ImplicitDef, ImplicitUse, Imm, Slot as SlotOperand, Object, Block, Symbol, Mask}
+use Rattle.rv64_instr.specs.declared.operand.Operand.TheVariants.{ImplicitUse}
 use Rattle.rv64_instr.specs.declared.place.Place.{Place}
 use Rattle.rv64_instr.specs.declared.place.Place.TheVariants.{Register, Slot, Const}
 use Rattle.rv64_instr.specs.Instruction.{Instruction}
@@ -89,15 +89,7 @@ implicit_any q (ImplicitUse r ∷ os) k = by_test (λ h. or_right (nat_eq r q) (
         | inl e ↦ or_left (nat_eq r q) (list_any (is_implicit_use q) os) (eq-eqb r q e)
         | inr ne ↦ later (Contains-tail r (implicit_uses os) q ne k)
       ]
-implicit_any q (Def r ∷ os) k = implicit_any q os k
-implicit_any q (Use r ∷ os) k = implicit_any q os k
-implicit_any q (ImplicitDef r ∷ os) k = implicit_any q os k
-implicit_any q (Imm z ∷ os) k = implicit_any q os k
-implicit_any q (SlotOperand n ∷ os) k = implicit_any q os k
-implicit_any q (Object n ∷ os) k = implicit_any q os k
-implicit_any q (Block n ∷ os) k = implicit_any q os k
-implicit_any q (Symbol n ∷ os) k = implicit_any q os k
-implicit_any q (Mask ∷ os) k = implicit_any q os k
+implicit_any q (_ ∷ os) k = implicit_any q os k
 
 only_one : (r q : ℕ) → Contains (r ∷ []) q → nat_eq q r ≡ true
 only_one r q k = let h = in_any q (r ∷ []) k in by_test (nat_eq q r) h where

@@ -6,7 +6,7 @@ use Rattle.std.proofs.lemmas.Bool.{cases_lt}
 use Rattle.std.proofs.lemmas.Nat.{or_lt, xor_lt, and_le_l}
 use Rattle.rv64_instr.specs.declared.op.RegisterOp.{RegisterOp}
 use Rattle.rv64_instr.specs.declared.op.LoadOp.{LoadOp}
-use Rattle.rv64_instr.specs.declared.op.LoadOp.TheVariants.{Lb, Lh, Lw, Ld, Lbu, Lhu, Lwu}
+use Rattle.rv64_instr.specs.declared.op.LoadOp.TheVariants.{Lb, Lh, Lw}
 use Rattle.rv64_instr.specs.declared.op.RegisterOp.TheVariants.{Add, Sub, Sll, Slt, Sltu, Xor, Srl, Sra, Or, And, Addw, Subw, Sllw, Srlw, Sraw}
 use Rattle.rv64_instr.specs.Arithmetic.{word, unsigned, signed, extend32, computed, extended}
 
@@ -98,7 +98,4 @@ unfolding extended
 extended_in_range Lb n h = signed_8 n
 extended_in_range Lh n h = signed_16 n
 extended_in_range Lw n h = signed_32 n
-extended_in_range Ld n h = h
-extended_in_range Lbu n h = h
-extended_in_range Lhu n h = h
-extended_in_range Lwu n h = h
+extended_in_range _ n h = h

@@ -9,7 +9,7 @@ use Rattle.std.proofs.lemmas.List.Elements.{All-nil, All-cons}
 use Rattle.rv64_instr.specs.declared.op.Op.{Op}
 use Rattle.rv64_instr.specs.declared.op.Op.TheVariants.{Registers, Immediate, Lui, Branch, Load, Store, Copy, PseudoBr, PseudoCall, PseudoRet}
 use Rattle.rv64_instr.specs.declared.op.ImmediateOp.{ImmediateOp}
-use Rattle.rv64_instr.specs.declared.op.ImmediateOp.TheVariants.{Addi, Slti, Sltiu, Xori, Ori, Andi, Slli, Srli, Srai, Addiw, Slliw, Srliw, Sraiw}
+use Rattle.rv64_instr.specs.declared.op.ImmediateOp.TheVariants.{Addi}
 use Rattle.rv64_instr.specs.declared.op.RegisterOp.{RegisterOp}
 use Rattle.rv64_instr.specs.declared.op.BranchOp.{BranchOp}
 use Rattle.rv64_instr.specs.declared.op.LoadOp.{LoadOp}
@@ -45,18 +45,7 @@ no_move rd (suc r) = refl
 
 no_immediate : (op : ImmediateOp) (rd a n : ℕ) → is_call (immediate_row op rd a n) ≡ false
 no_immediate Addi rd a n = no_add rd a n
-no_immediate Slti rd a n = refl
-no_immediate Sltiu rd a n = refl
-no_immediate Xori rd a n = refl
-no_immediate Ori rd a n = refl
-no_immediate Andi rd a n = refl
-no_immediate Slli rd a n = refl
-no_immediate Srli rd a n = refl
-no_immediate Srai rd a n = refl
-no_immediate Addiw rd a n = refl
-no_immediate Slliw rd a n = refl
-no_immediate Srliw rd a n = refl
-no_immediate Sraiw rd a n = refl
+no_immediate _ rd a n = refl
 
 no_object : (op : ImmediateOp) (rd n offset : ℕ) → is_call (object_row op rd n offset) ≡ false
 no_object Addi rd n offset = refl

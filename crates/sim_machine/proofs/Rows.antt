@@ -3,7 +3,7 @@ use Rattle.std.proofs.Common.{◌≡◌, ℕ, zero, suc, ◌+◌, ◌%◌, ◌^�
 use Rattle.std.specs.Prelude.{slice_index}
 use Rattle.rv64_instr.specs.Arithmetic.{computed}
 use Rattle.rv64_instr.specs.declared.op.ImmediateOp.{ImmediateOp}
-use Rattle.rv64_instr.specs.declared.op.ImmediateOp.TheVariants.{Addi, Slti, Sltiu, Xori, Ori, Andi, Slli, Srli, Srai, Addiw, Slliw, Srliw, Sraiw}
+use Rattle.rv64_instr.specs.declared.op.ImmediateOp.TheVariants.{Addi}
 use Rattle.rv64_instr.specs.declared.op.RegisterOp.TheVariants.{Add}
 use Rattle.rv64_instr.specs.Row as row
 use Rattle.sem_machine.specs.Machine.{Machine, register}
@@ -29,18 +29,7 @@ pub with_number : (op : ImmediateOp) (rd a n : ℕ) (s : Machine) → n < 2 ^ 64
     does_row (row.immediate_row op rd a n) s ≡ Continues (past 4 (set_register rd (computed (on_registers op) (register s a) n) s))
 unfolding does_row
 with_number Addi rd a n s k l = add_number rd a n s k l
-with_number Slti rd a n s k l = refl
-with_number Sltiu rd a n s k l = refl
-with_number Xori rd a n s k l = refl
-with_number Ori rd a n s k l = refl
-with_number Andi rd a n s k l = refl
-with_number Slli rd a n s k l = refl
-with_number Srli rd a n s k l = refl
-with_number Srai rd a n s k l = refl
-with_number Addiw rd a n s k l = refl
-with_number Slliw rd a n s k l = refl
-with_number Srliw rd a n s k l = refl
-with_number Sraiw rd a n s k l = refl
+with_number _ rd a n s k l = refl
 
 -- a step that sets a register and goes past its word
 pub sets : (now : Hart) (step : Stepped) (rd v w : ℕ) (s : Machine) → step ≡ Continues (past 4 (set_register rd v s)) → w ≡ v →

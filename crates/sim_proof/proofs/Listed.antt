@@ -1,7 +1,7 @@
 -- What is listed calls exactly where the instruction does.
 use Rattle.std.proofs.Common.{◌≡◌, inl, inr, ℕ, List, [], ◌∷◌, None, Bool, false, refl, sym, ap, ◌∙◌}
 use Rattle.rv64_instr.specs.declared.op.Op.{Op}
-use Rattle.rv64_instr.specs.declared.op.Op.TheVariants.{Registers, Immediate, Lui, Branch, Load, Store, Copy, PseudoBr, PseudoCall, PseudoRet}
+use Rattle.rv64_instr.specs.declared.op.Op.TheVariants.{PseudoCall}
 use Rattle.rv64_instr.specs.declared.operand.Operand.{Operand}
 use Rattle.rv64_instr.specs.declared.operand.Operand.TheVariants.{Def, Use, ImplicitDef, ImplicitUse, Imm, Slot, Object, Block, Symbol, Mask}
 use Rattle.rv64_instr.specs.Instruction.{Instruction}
@@ -67,15 +67,7 @@ long_none long _ b e = refl
 
 inverted_call : (op : Op) → inverted_op op ≡ PseudoCall → op ≡ PseudoCall
 inverted_call PseudoCall e = refl
-inverted_call (Registers op) e = cc
-inverted_call (Immediate op) e = cc
-inverted_call Lui e = cc
-inverted_call (Branch op) e = cc
-inverted_call (Load op) e = cc
-inverted_call (Store op) e = cc
-inverted_call Copy e = cc
-inverted_call PseudoBr e = cc
-inverted_call PseudoRet e = cc
+inverted_call _ e = cc
 
 no_long : (long : Bool) (os : List Operand) (b : ℕ) → row_form long (row_by PseudoCall os) ≡ LongBranch b → ⊥
 no_long long (Symbol n ∷ rest) b e = cc

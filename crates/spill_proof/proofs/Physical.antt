@@ -4,8 +4,7 @@ use Rattle.std.proofs.Common.{subst, pos}
 use Rattle.std.proofs.lemmas.List.Concat.{flat_map-cons}
 use Rattle.std.proofs.lemmas.List.Elements.{All-nil, All-cons, All-head, All-tail, All-append}
 use Rattle.rv64_instr.specs.declared.operand.Operand.{Operand}
-use Rattle.rv64_instr.specs.declared.operand.Operand.TheVariants.{Def, Use, ImplicitDef, ImplicitUse, Imm, Slot as OfSlot, Object, Block as OfBlock}
-use Rattle.rv64_instr.specs.declared.operand.Operand.TheVariants.{Symbol, Mask}
+use Rattle.rv64_instr.specs.declared.operand.Operand.TheVariants.{Def, Use, Imm, Slot as OfSlot}
 use Rattle.rv64_instr.specs.declared.place.Place.{Place}
 use Rattle.rv64_instr.specs.declared.place.Place.TheVariants.{Register, Slot, Const}
 use Rattle.rv64_instr.specs.Parts.{names_slot}
@@ -77,14 +76,7 @@ module _ (s : Spilling) (first : s.first < 32) (second : s.second < 32) where
   real_operand : (slot : Option ℕ) (o : Operand) → IsPhysical o → IsPhysical (renamed_operand (use_now s slot) (def_now s) o)
   real_operand slot (Use r) h = real_use slot r h (slot_of s.homes r)
   real_operand slot (Def r) h = real_def r h (slot_of s.homes r)
-  real_operand slot (ImplicitDef r) h = h
-  real_operand slot (ImplicitUse r) h = h
-  real_operand slot (Imm i) h = h
-  real_operand slot (OfSlot n) h = h
-  real_operand slot (Object n) h = h
-  real_operand slot (OfBlock n) h = h
-  real_operand slot (Symbol n) h = h
-  real_operand slot Mask h = h
+  real_operand slot _ h = h
 
   real_operands : (slot : Option ℕ) (os : List Operand) → All IsPhysical os → All IsPhysical (map (renamed_operand (use_now s slot) (def_now s)) os)
   real_operands slot [] h = All-nil IsPhysical

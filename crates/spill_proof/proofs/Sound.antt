@@ -7,8 +7,7 @@ use Rattle.std.specs.Prelude.{pos}
 use Rattle.std.proofs.lemmas.List.Concat.{flat_map-cons}
 use Rattle.std.proofs.lemmas.List.Elements.{All-nil, All-cons, All-head, All-tail, All-append, Contains-append_left, Contains-append_right}
 use Rattle.rv64_instr.specs.declared.operand.Operand.{Operand}
-use Rattle.rv64_instr.specs.declared.operand.Operand.TheVariants.{Def, Use, ImplicitDef, ImplicitUse, Imm, Slot as OfSlot, Object as OfObject}
-use Rattle.rv64_instr.specs.declared.operand.Operand.TheVariants.{Block as OfBlock, Symbol, Mask}
+use Rattle.rv64_instr.specs.declared.operand.Operand.TheVariants.{Def, Use, Imm, Slot as OfSlot}
 use Rattle.rv64_instr.specs.declared.place.Place.{Place}
 use Rattle.rv64_instr.specs.declared.place.Place.TheVariants.{Register, Slot, Const}
 use Rattle.rv64_instr.specs.DefsAndUses.{caller_saved, reads, sets}
@@ -434,14 +433,7 @@ module _ (s : Spilling) (entry : List SlotAssignment) (f : Function) (resolve : 
   operand_real : (u : Option ℕ) (o : Operand) → IsNotPointer o → IsNotPointer (renamed_operand (use_now s u) (def_now s) o)
   operand_real u (Use r) h = use_real u r h
   operand_real u (Def r) h = def_real r h
-  operand_real u (ImplicitDef r) h = tt
-  operand_real u (ImplicitUse r) h = tt
-  operand_real u (Imm i) h = tt
-  operand_real u (OfSlot n) h = tt
-  operand_real u (OfObject n) h = tt
-  operand_real u (OfBlock n) h = tt
-  operand_real u (Symbol name) h = tt
-  operand_real u Mask h = tt
+  operand_real u _ h = tt
 
   operands_real : (u : Option ℕ) (os : List Operand) → All IsNotPointer os → All IsNotPointer (map (renamed_operand (use_now s u) (def_now s)) os)
   operands_real u [] h = All-nil IsNotPointer

@@ -12,12 +12,10 @@ twice false = refl
 
 negates : (op : BranchOp) (a b : ℕ) → taken (inverted op) a b ≡ not (taken op a b)
 unfolding taken
-negates Beq a b = refl
 negates Bne a b = twice (nat_eq a b)
-negates Blt a b = refl
 negates Bge a b = twice (int_lt (signed a) (signed b))
-negates Bltu a b = refl
 negates Bgeu a b = twice (nat_lt a b)
+negates _ a b = refl
 
 pub returns-in-Beq-clause-negated : goal.returns-in-Beq-clause-negated
 returns-in-Beq-clause-negated c = λ a b. rw c.in-Beq.is (negates Beq a b)
