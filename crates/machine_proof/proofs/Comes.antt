@@ -39,7 +39,7 @@ use Rattle.machine_proof.specs.Runs.{NeverFaults, IsHarmless, FallsTo, past_item
 use Rattle.machine_proof.specs.Runs as runs
 use Rattle.frame_rule.specs.Rule.{size_of, saved_of, framed_items, framed_of, renamed_code}
 use Rattle.machine_proof.specs.Framing.{ResultsArePhysical, KindReturnsPhysical, IsMadeFrom}
-use Rattle.machine_proof.proofs.Renames.{renamed_row, row_renamed}
+use Rattle.frame_rule.proofs.Rows.{renamed_row, row_renamed}
 use Rattle.machine_proof.proofs.Framed.{IsFrameCode, adds, stores, loads, prologue_is, epilogue_is, frame_onward, IsFramedItem, own, gives_back}
 use Rattle.machine_proof.proofs.Framed.{framed_item_is}
 use Rattle.machine_proof.proofs.Framed.{InPrologue, InBlock, point_of, in_order_get, in_order_below, framed_order}

@@ -6,7 +6,6 @@ pub mod Meets
 pub mod Stops
 pub mod Headline
 pub mod Lists
-pub mod Renames
 pub mod Framed
 pub mod Comes
 pub mod Quiet

@@ -38,7 +38,7 @@ use Rattle.sem_mir.proofs.Reading.{FoundAt, found, front_item}
 use Rattle.sem_simulation.proofs.Laid.{from_home}
 use Rattle.frame_rule.specs.Rule.{renamed_kind}
 use Rattle.machine_proof.proofs.Framed.{index_in}
-use Rattle.machine_proof.proofs.Renames.{renamed_row, row_renamed}
+use Rattle.frame_rule.proofs.Rows.{renamed_row, row_renamed}
 use Rattle.machine_proof.proofs.Framed.{prologue_is, epilogue_is, frame_onward, IsFramedItem, own, gives_back, framed_item_is, InPrologue, InBlock}
 use Rattle.machine_proof.proofs.Framed.{point_of, same_position, in_order_below}
 use Rattle.machine_proof.proofs.Comes.{IsOf, of_f, own_code, own_exit, fits_before, block_order, silent_never, home_of, index_of_home}

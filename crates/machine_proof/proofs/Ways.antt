@@ -19,7 +19,7 @@ use Rattle.sem_mir.specs.Align.{position_of, is_code}
 use Rattle.sem_mir.proofs.Reading.{front_item}
 use Rattle.frame_rule.specs.Rule.{size_of, saved_of, epilogue, framed_item, framed_items, framed_block, framed_blocks, framed_of, renamed}
 use Rattle.frame_rule.specs.Rule.{renamed_kind, added_all, position_in}
-use Rattle.machine_proof.proofs.Renames.{renamed_row, row_renamed}
+use Rattle.frame_rule.proofs.Rows.{renamed_row, row_renamed}
 use Rattle.machine_proof.proofs.Framed.{drop_map, index_in, same_position}
 
 abbrev pub items_in : List Block → List Item
