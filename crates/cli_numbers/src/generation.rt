@@ -11,7 +11,7 @@ use crate::number::number;
 const MAX_NUMBER: u64 = 65_536;
 
 /// The greatest number of its blocks.
-const MAX_BLOCKS: u64 = 512;
+const MAX_GENERATED_BLOCKS: u64 = 512;
 
 /// A function to generate.
 #[derive(Clone, Copy, Debug, PartialEq, Eq)]
@@ -38,7 +38,7 @@ pub fn asked(first: &str, second: &str) -> Option<Generation>
 fn some_blocks(word: &str) -> Option<u32>
     ensures { (n : ℕ) → (result ≡ Some n) ↔ ((word.now ≡ decimal n) × (1 ≤ n) × (n ≤ 512)) }
 {
-    let blocks = number(word, MAX_BLOCKS)?;
+    let blocks = number(word, MAX_GENERATED_BLOCKS)?;
     if blocks == 0 {
         None
     } else {

@@ -28,7 +28,7 @@ use Rattle.mir_func.specs.declared.variable.VarId.{VarId}
 use Rattle.mir_func.specs.Function.{FramedFunction}
 use Rattle.mir_func.specs.Graph.{Fetch, Here, EndOfBlock, Outside, Program, block_start, end_of, front, fetch_in, index_of, framed_program, KindEdge, FetchEdge}
 use Rattle.mir_func.specs.Objects.{object_of, offset_of, offset_or_zero}
-use Rattle.mir_func.specs.Sound.{AllItems, ObjectsIn, HasBytes, HasForm}
+use Rattle.mir_func.specs.Sound.{AllItems, ObjectsIn, HasBytes, HasForm, contents_of}
 use Rattle.mir_func.specs.SoundFrame.{body_of, own_size}
 use Rattle.sem_mir.specs.ValueId.{Tokens, after_item, after_fetch, Path, begin, onward, moved_tokens, code_tokens}
 use Rattle.sem_mir.specs.PreferredLocation.{SitsIn, IsWanted, NoneIsWanted}
@@ -38,7 +38,6 @@ use Rattle.sem_mir.specs.Step.{defined}
 use Rattle.listing_text.specs.declared.output.ListedObject.{ListedObject}
 use Rattle.listing_meaning.specs.Frame.{last_of, begins_by, has_byte, object_at, in_object, by_pointer, by_object}
 use Rattle.listing_meaning.specs.Listing.{object_listed}
-use Rattle.listing_meaning.specs.Program.{contents}
 use Rattle.listing_meaning.specs.Settled.{frame_of, settled_sum, settled_operands, settled_kind, settled_item, settled}
 
 -- ---- the object that is found
@@ -263,7 +262,7 @@ module _ (f : FramedFunction) where
 
   -- these blocks have the contents of settled ones
   abbrev pub Shows : (blocks others : List Block) → Type 0
-  Shows blocks others = map contents others ≡ map contents (map (settled f) blocks)
+  Shows blocks others = map contents_of others ≡ map contents_of (map (settled f) blocks)
 
   record HeadsAlike (b o : Block) (blocks others : List Block) : Type 0 where
     id : b.id ≡ o.id
@@ -272,8 +271,8 @@ module _ (f : FramedFunction) where
 
   heads : (b o : Block) (blocks others : List Block) → Shows (b ∷ blocks) (o ∷ others) → HeadsAlike b o blocks others
   heads b o blocks others same =
-      let one : contents o ≡ contents (settled f b) = cc in
-      let rest : map contents others ≡ map contents (map (settled f) blocks) = cc in
+      let one : contents_of o ≡ contents_of (settled f b) = cc in
+      let rest : map contents_of others ≡ map contents_of (map (settled f) blocks) = cc in
       record { id = sym (ap (λ (x : ℕ × List Item). x.0) one); items = ap (λ (x : ℕ × List Item). x.1) one; rest = rest }
 
   ends_alike : (k l : ℕ) (blocks others : List Block) → Shows blocks others → FetchAlike (end_of k blocks) (end_of l others)

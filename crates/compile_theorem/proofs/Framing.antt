@@ -1,17 +1,11 @@
 -- What holds of each item of a function, and of the code that its frame adds, holds of each item of the function with its frame. So marks are
 -- of the same variables, and code has the form of its opcode: slots are renamed, and no form looks at a slot's number.
-use Rattle.std.proofs.Common.{◌≡◌, ℕ, zero, suc, ◌≤◌, pos, ◌-ℤ◌, List, [], ◌∷◌, ◌++◌, map, Bool, true, false, cond, ◌&&◌, None, refl, ap, ◌∙◌, arith}
+use Rattle.std.proofs.Common.{◌≡◌, ℕ, zero, suc, ◌≤◌, pos, ◌-ℤ◌, List, [], ◌∷◌, ◌++◌, map, Bool, true, false, cond, ◌&&◌, None, refl, ◌∙◌, arith}
 use Rattle.std.specs.Prelude.{All, IsTrue}
-use Rattle.std.specs.List.{list_all}
 use Rattle.std.proofs.lemmas.Bool.Decides.{nat_tests}
 use Rattle.std.proofs.lemmas.Int.{ints}
 use Rattle.std.proofs.lemmas.List.Elements.{All-nil, All-head, All-tail, All-cons, All-append}
-use Rattle.rv64_instr.specs.declared.op.Op.{Op}
-use Rattle.rv64_instr.specs.declared.op.Op.TheVariants.{Registers, Immediate, Lui, Branch, Load, Store, Copy, PseudoBr, PseudoCall, PseudoRet}
-use Rattle.rv64_instr.specs.declared.operand.Operand.{Operand}
-use Rattle.rv64_instr.specs.declared.operand.Operand.TheVariants.{Def, Use, Imm, Slot, Object, Block as OfBlock, Symbol, Mask}
-use Rattle.rv64_instr.specs.Arithmetic.{load_width, store_width}
-use Rattle.rv64_instr.specs.Form.{is_within, has_12_bits, is_immediate, is_addi, moves_slot, is_implicit, is_argument, is_result, has_form}
+use Rattle.rv64_instr.specs.Form.{has_12_bits}
 use Rattle.mir_func.specs.declared.block.Block.{Block}
 use Rattle.mir_func.specs.declared.framed.SavedRegister.{SavedRegister}
 use Rattle.mir_func.specs.declared.item.Item.{Item}
@@ -24,8 +18,9 @@ use Rattle.mir_func.specs.Function.{Function}
 use Rattle.mir_func.specs.Limits.{MAX_FRAME}
 use Rattle.mir_func.specs.Sound.{AllItems, HasForm}
 use Rattle.mir_func.specs.SoundFrame.{adds_to_pointer, saves, restores, prologue_code, epilogue_code}
-use Rattle.frame_rule.specs.Rule.{size_of, saved_of, added, added_all, prologue, epilogue, renamed_operand, renamed_kind, renamed, framed_item}
+use Rattle.frame_rule.specs.Rule.{size_of, saved_of, added, added_all, prologue, epilogue, renamed_kind, renamed, framed_item}
 use Rattle.frame_rule.specs.Rule.{framed_items, framed_block, framed_blocks}
+use Rattle.frame_rule.proofs.Forms.{form_same}
 use Rattle.emit_code.specs.steps.Emitted.{IsFormed}
 use Rattle.compile_theorem.proofs.Variables.{MarkIn}
 
@@ -94,50 +89,6 @@ marks_framed f vs marks =
       stays (Phi p k) is = tt
 
 -- ---- forms
-
-module _ (slots : List ℕ) where
-  abbrev others : List Operand → List Operand
-  others os = map (renamed_operand slots) os
-
-  all_same : (p : Operand → Bool) → ((o : Operand) → p (renamed_operand slots o) ≡ p o) → (os : List Operand) → list_all p (others os) ≡ list_all p os
-  all_same p same [] = refl
-  all_same p same (o ∷ os) = let now = same o in let rest = all_same p same os in λ i. now i && rest i
-
-  implicit_same : (o : Operand) → is_implicit (renamed_operand slots o) ≡ is_implicit o
-  implicit_same (Slot n) = refl
-  implicit_same _ = refl
-
-  argument_same : (o : Operand) → is_argument (renamed_operand slots o) ≡ is_argument o
-  argument_same (Slot n) = refl
-  argument_same _ = refl
-
-  result_same : (o : Operand) → is_result (renamed_operand slots o) ≡ is_result o
-  result_same (Slot n) = refl
-  result_same _ = refl
-
-  rest_same : (os : List Operand) → list_all is_implicit (others os) ≡ list_all is_implicit os
-  rest_same os = all_same is_implicit implicit_same os
-
-  behind : (b : Bool) (os : List Operand) → (b && list_all is_implicit (others os)) ≡ (b && list_all is_implicit os)
-  behind b os = ap (λ (z : Bool). b && z) (rest_same os)
-
-  form_same : (op : Op) (os : List Operand) → has_form op (others os) ≡ has_form op os
-  form_same (Registers op) (Def rd ∷ Use a ∷ Use b ∷ rest) = rest_same rest
-  form_same (Immediate op) (Def rd ∷ Use a ∷ Imm i ∷ rest) = behind (is_immediate op i) rest
-  form_same (Immediate op) (Def rd ∷ Object n ∷ Imm i ∷ rest) = behind (is_addi op && is_immediate op i) rest
-  form_same Lui (Def rd ∷ Imm i ∷ rest) = behind (is_within (pos 0) (pos 1048575) i) rest
-  form_same (Branch op) (Use a ∷ Use b ∷ OfBlock n ∷ rest) = rest_same rest
-  form_same (Load op) (Def rd ∷ Use a ∷ Imm i ∷ rest) = behind (has_12_bits i) rest
-  form_same (Load op) (Def rd ∷ Slot n ∷ Imm i ∷ rest) = behind (moves_slot (load_width op) i) rest
-  form_same (Load op) (Def rd ∷ Object n ∷ Imm i ∷ rest) = behind (has_12_bits i) rest
-  form_same (Store op) (Use a ∷ Use b ∷ Imm i ∷ rest) = behind (has_12_bits i) rest
-  form_same (Store op) (Use a ∷ Slot n ∷ Imm i ∷ rest) = behind (moves_slot (store_width op) i) rest
-  form_same (Store op) (Use a ∷ Object n ∷ Imm i ∷ rest) = behind (has_12_bits i) rest
-  form_same Copy (Def rd ∷ Use rs ∷ rest) = rest_same rest
-  form_same PseudoBr (OfBlock n ∷ rest) = rest_same rest
-  form_same PseudoCall (Symbol name ∷ Mask ∷ rest) = all_same is_argument argument_same rest
-  form_same PseudoRet os = all_same is_result result_same os
-  form_same _ _ = refl
 
 adds_up : (n : ℕ) → n ≤ 2032 → has_12_bits (pos n) ≡ true
 adds_up n small = grind (arith, nat_tests, ints)

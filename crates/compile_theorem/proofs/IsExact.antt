@@ -13,7 +13,7 @@ use Rattle.mir_func.specs.declared.variable.VarId.{VarId}
 use Rattle.mir_func.specs.Function.{FramedFunction}
 use Rattle.mir_func.specs.Graph.{Program, block_start, framed_program}
 use Rattle.mir_func.specs.Resolve.{resolve}
-use Rattle.mir_func.specs.Sound.{AllItems, ObjectsIn}
+use Rattle.mir_func.specs.Sound.{AllItems, ObjectsIn, contents_of}
 use Rattle.mir_func.specs.Successors.{pos_in}
 use Rattle.sem_mir.specs.PreferredLocation.{IsWanted, NoneIsWanted}
 use Rattle.sem_machine.specs.Exact.{AreExact}
@@ -23,7 +23,7 @@ use Rattle.dwarf_loclists.specs.declared.range.Range.{Range}
 use Rattle.dwarf_loclists.specs.Grammar.{IsSection}
 use Rattle.listing_text.specs.declared.output.ListedFunction.{ListedFunction}
 use Rattle.listing_text.specs.declared.output.Output.{Output}
-use Rattle.listing_meaning.specs.Program.{IsListedAt, blocks_shown, contents}
+use Rattle.listing_meaning.specs.Program.{IsListedAt, blocks_shown}
 use Rattle.listing_meaning.specs.Settled.{settled}
 use Rattle.listing_meaning.proofs.Places.{places_are_points}
 use Rattle.compile_theorem.specs.Laws.{AreCompiledTo, CompiledIsExact}
@@ -84,7 +84,7 @@ module _ (names : ℕ → List ℕ) (o : Output) (lists : List (List Range)) (se
   good = all_good c.compiled.layout.framed c.compiled.layout.framed.blocks (formed names o lists section passed f is c)
       (framed names o lists section passed f is c).objects
 
-  same : map contents (blocks_shown f) ≡ map contents (map (settled c.compiled.layout.framed) c.compiled.layout.framed.blocks)
+  same : map contents_of (blocks_shown f) ≡ map contents_of (map (settled c.compiled.layout.framed) c.compiled.layout.framed.blocks)
   same = shown names o lists section passed f is c
 
   points_to : (a : ℕ) (p : Pos) → IsListedAt f a p → IsByteOf (entries_of c.compiled.layout) a p

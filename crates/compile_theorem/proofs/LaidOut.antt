@@ -4,13 +4,14 @@ use Rattle.std.proofs.Common.{◌≡◌, ℕ, suc, ◌+◌, List, [], ◌∷◌,
 use Rattle.mir_func.specs.declared.variable.VarId.{VarId}
 use Rattle.mir_func.specs.Function.{FramedFunction}
 use Rattle.mir_func.specs.SoundFrame.{IsFramed}
+use Rattle.mir_func.specs.Sound.{contents_of}
 use Rattle.frame_rule.proofs.Framed.{is_framed}
 use Rattle.dwarf_loclists.specs.declared.range.Range.{Range}
 use Rattle.dwarf_loclists.specs.Grammar.{IsSection}
 use Rattle.listing_text.specs.declared.output.ListedFunction.{ListedFunction}
 use Rattle.listing_text.specs.declared.output.Output.{Output}
 use Rattle.listing_meaning.specs.Listing.{object_listed}
-use Rattle.listing_meaning.specs.Program.{IsLaidOut as LinesLie, blocks_shown, contents}
+use Rattle.listing_meaning.specs.Program.{IsLaidOut as LinesLie, blocks_shown}
 use Rattle.listing_meaning.specs.Settled.{settled}
 use Rattle.listing_meaning.proofs.Framing.{function_shown}
 use Rattle.listing_meaning.proofs.Lying.{listings_lie}
@@ -38,18 +39,18 @@ module _ (names : ℕ → List ℕ) (o : Output) (lists : List (List Range)) (se
         (formed names o lists section passed f is c) c.compiled.laid.worded);
   }
 
-  pub shown : map contents (blocks_shown f) ≡ map contents (map (settled c.compiled.layout.framed) c.compiled.layout.framed.blocks)
-  shown = ap (λ (x : ListedFunction). map contents (blocks_shown x)) c.compiled.listed ∙
+  pub shown : map contents_of (blocks_shown f) ≡ map contents_of (map (settled c.compiled.layout.framed) c.compiled.layout.framed.blocks)
+  shown = ap (λ (x : ListedFunction). map contents_of (blocks_shown x)) c.compiled.listed ∙
       function_shown c.compiled.layout (variable_lines names c.first (variables_of_function passed.source.function.blocks)) passed.substitutions framed
       (formed names o lists section passed f is c)
 
   lists_framed : ListsFramed passed f
   lists_framed = record {
-    blocks = shown ∙ ap (λ (x : FramedFunction). map contents (map (settled x) x.blocks)) c.compiled.laid.framed;
+    blocks = shown ∙ ap (λ (x : FramedFunction). map contents_of (map (settled x) x.blocks)) c.compiled.laid.framed;
     substitutions = ap (λ (x : ListedFunction). x.substitutions) c.compiled.listed;
   }
 
-lines_length : (names : ℕ → List ℕ) (k : ℕ) (vs : List VarId) → length (variable_lines names k vs) ≡ length vs
+pub lines_length : (names : ℕ → List ℕ) (k : ℕ) (vs : List VarId) → length (variable_lines names k vs) ≡ length vs
 lines_length names k [] = refl
 lines_length names k (v ∷ vs) = ap (λ (n : ℕ). suc n) (lines_length names (suc k) vs)
 

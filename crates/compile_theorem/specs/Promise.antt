@@ -5,6 +5,7 @@ use Rattle.mir_func.specs.declared.variable.VarId.{VarId}
 use Rattle.mir_func.specs.Graph.{block_start}
 use Rattle.mir_func.specs.Parts.{Bytes}
 use Rattle.mir_func.specs.Resolve.{resolve}
+use Rattle.mir_func.specs.Sound.{contents_of}
 use Rattle.dwarf_loclists.specs.Grammar.{PlaceAt, PieceAt}
 use Rattle.sem_machine.specs.Headline.{Headline}
 use Rattle.sem_machine.specs.Exact.{AreExact}
@@ -12,7 +13,7 @@ use Rattle.frame_rule.specs.Rule.{framed_of}
 use Rattle.listing_text.specs.declared.output.ListedFunction.{ListedFunction}
 use Rattle.listing_text.specs.declared.output.ListedVariable.{ListedVariable}
 use Rattle.listing_text.specs.declared.output.Output.{Output}
-use Rattle.listing_meaning.specs.Program.{IsLaidOut as LinesLie, IsListedAt, image_of, program_shown, blocks_shown, contents}
+use Rattle.listing_meaning.specs.Program.{IsLaidOut as LinesLie, IsListedAt, image_of, program_shown, blocks_shown}
 use Rattle.listing_meaning.specs.Listing.{object_listed}
 use Rattle.listing_meaning.specs.Settled.{settled}
 use Rattle.compile_theorem.specs.Source.{SourceFunction, PassedFunction, OfEach}
@@ -97,7 +98,7 @@ IsExact o = All (IsExactFor o) o.functions
 -- The lines show the passed function with its frame, unchanged, and the listing has its substitutions. An address, a load or a store of a stack object
 -- is shown relative to the last object that has its byte (see `settled`).
 pub record ListsFramed (p : PassedFunction) (f : ListedFunction) : Type 0 where
-  pub blocks : map contents (blocks_shown f) ≡ map contents (map (settled (framed_of p.function)) (framed_of p.function).blocks)
+  pub blocks : map contents_of (blocks_shown f) ≡ map contents_of (map (settled (framed_of p.function)) (framed_of p.function).blocks)
   pub substitutions : f.substitutions ≡ p.substitutions
 
 -- The listed functions are exactly the passed functions with their frames, in order.

@@ -1,5 +1,5 @@
 -- Lists of which elements move to the front.
-use Rattle.std.proofs.Common.{◌≡◌, ℕ, zero, suc, ◌+◌, ◌<◌, ◌≤◌, List, [], ◌∷◌, ◌++◌, length, get_or, take, drop, set, filter, map, Bool, true, false}
+use Rattle.std.proofs.Common.{◌≡◌, ℕ, zero, suc, ◌+◌, ◌<◌, ◌≤◌, List, [], ◌∷◌, ◌++◌, length, get_or, take, drop, set, filter, Bool, true, false}
 use Rattle.std.proofs.Common.{cond, refl, sym, ap, ◌∙◌, arith, append-nil}
 use Rattle.std.proofs.lemmas.List.{take_more, drop-set-lt, take_more_set}
 use Rattle.std.proofs.lemmas.List.Elements.{filter-append}
@@ -54,18 +54,3 @@ module _ {X : Type 0} where
   passes p xs ys kept at x lt so_far behind is goes =
       so_far ∙ sym (filter_turn p xs at x lt (is ∙ read_behind xs ys at x behind) ∙ ap (λ (z : Bool). filter p (take at xs) ++ cond z (x ∷ []) []) goes ∙
       append-nil (filter p (take at xs)))
-
-turned : {X : Type 0} (f : X → X) (xs : List X) (k : ℕ) (d : X) → k < length xs →
-    set (map f (take k xs) ++ drop k xs) k (f (get_or (map f (take k xs) ++ drop k xs) k d)) ≡ map f (take (suc k) xs) ++ drop (suc k) xs
-turned f [] k d lt = absurd (omega (arith, lt))
-turned f (x ∷ xs) zero d lt = refl
-turned f (x ∷ xs) (suc k) d lt = ap (λ ys. f x ∷ ys) (turned f xs k d (omega (arith, lt)))
-
--- one more element changed in place
-pub map_turn : {X : Type 0} (f : X → X) (xs ys : List X) (k : ℕ) (x : X) → k < length xs → ys ≡ map f (take k xs) ++ drop k xs → x ≡ get_or ys k x →
-    set ys k (f x) ≡ map f (take (k + 1) xs) ++ drop (k + 1) xs
-map_turn {X} f xs ys k x lt so_far is =
-    let next : k + 1 ≡ suc k = omega arith in
-    let e : f x ≡ f (get_or (map f (take k xs) ++ drop k xs) k x) = ap f (is ∙ ap (λ (zs : List X). get_or zs k x) so_far) in
-    let one : set ys k (f x) ≡ set (map f (take k xs) ++ drop k xs) k (f (get_or (map f (take k xs) ++ drop k xs) k x)) = λ i. set (so_far i) k (e i) in
-    one ∙ turned f xs k x lt ∙ ap (λ (n : ℕ). map f (take n xs) ++ drop n xs) (sym next)

@@ -3,7 +3,6 @@ use Rattle.std.proofs.Common.{◌≡◌, ℕ, zero, suc, ◌+◌, ◌<◌, ◌�
 use Rattle.std.proofs.Common.{cond, ◌&&◌, count_by, eq-eqb, ne_eqb, slice_get, refl, sym, ap, ◌∙◌, subst, arith}
 use Rattle.std.proofs.lemmas.List.Sums.{sum_by-append}
 use Rattle.std.proofs.lemmas.List.Elements.{All-contains}
-use Rattle.std.proofs.lemmas.Option.{get_or_from_slice_get}
 use Rattle.rv64_instr.specs.declared.place.Place.{Place}
 use Rattle.rv64_instr.specs.declared.place.Place.TheVariants.{Register, Slot, Const}
 use Rattle.mir_func.specs.declared.debug_substitution.DebugSubstitution.{DebugSubstitution}
@@ -17,13 +16,14 @@ use Rattle.mir_func.specs.declared.variable.MarkValue.TheVariants.{Nothing, Cons
 use Rattle.mir_func.specs.Function.{Function}
 use Rattle.mir_func.specs.Sound.{AreApart, ids_of, items_of, OriginIn, IsSound}
 use Rattle.sem_mir.specs.Align.{position_of, is_code}
-use Rattle.sem_mir.proofs.Reading.{apart_tail, within_list}
-use Rattle.pass_trait.specs.Causes.{is_position, is_origin, IsRemoved}
+use Rattle.sem_mir.proofs.Reading.{apart_tail}
+use Rattle.pass_trait.specs.Causes.{is_origin, IsRemoved}
 use Rattle.pass_trait.specs.Change.{Change, change}
 use Rattle.pass_trait.specs.Rule.{item}
 use Rattle.pass_trait.specs.Debug.{RegisterStays, ValueStays, PlaceStays, IsKillAt, Becomes, mark_stays, phi_stays, code_stays, code_numbered}
 use Rattle.pass_trait.specs.Debug.{code_unnumbered, code_goes, substituted, salvaged}
 use Rattle.pass_trait.specs.Debug.{BecomeAll, over, next, BlocksBecome, none, stays as block_stays}
+use Rattle.pass_trait.proofs.NopDebug.{of_get, same_position}
 use Rattle.pass_salvage.specs.Salvage.{phi_for}
 use Rattle.copyprop_block.specs.Copied.{at_block, BlocksSoFar, next_block}
 use Rattle.copyprop_rule.specs.Rule.{salvaged_function, salvaged_entries}
@@ -108,15 +108,9 @@ module _ (o : Origin) where
 
 -- ---- positions and origins
 
-same_position : (p : Pos) → is_position p p ≡ true
-same_position p = let a = eq-eqb p.block p.block refl in let b = eq-eqb p.item p.item refl in λ i. a i && b i
-
 same_origin : (o : Origin) → is_origin o o ≡ true
 same_origin (Kept p) = same_position p
 same_origin (Before p) = same_position p
-
-of_get : {A : Type 0} (xs : List A) (n : ℕ) (x : A) → slice_get xs n ≡ Some x → Contains xs x
-of_get xs n x at = (n, within_list xs n x at, get_or_from_slice_get xs n x x at)
 
 -- ---- what becomes of an item
 

@@ -4,7 +4,7 @@ use Rattle.std.proofs.Common.{true, false, cond, nat_eq, is_some, slice_get, get
 use Rattle.std.specs.List.{list_any}
 use Rattle.std.specs.Prelude.{nat_lt, ◌^◌}
 use Rattle.std.proofs.lemmas.List.{append_assoc}
-use Rattle.std.proofs.lemmas.List.Elements.{All-nil, All-cons, All-head, All-tail, All-append, All-weaker, All-contains, Contains-append_left}
+use Rattle.std.proofs.lemmas.List.Elements.{All-nil, All-cons, All-head, All-tail, All-append, All-weaker, Contains-append_left}
 use Rattle.std.proofs.lemmas.List.Elements.{Contains-append_right, Contains-append_cases}
 use Rattle.rv64_instr.specs.Instruction.{Instruction}
 use Rattle.mir_func.specs.declared.debug_substitution.DebugSubstitution.{DebugSubstitution}
@@ -17,22 +17,18 @@ use Rattle.mir_func.specs.declared.item.ItemKind.{ItemKind}
 use Rattle.mir_func.specs.declared.item.ItemKind.TheVariants.{Code, Mark, Phi}
 use Rattle.mir_func.specs.Function.{Function}
 use Rattle.mir_func.specs.Resolve.{is_pair, entry_of}
-use Rattle.mir_func.specs.Sound.{items_of, number_of, code_number}
+use Rattle.mir_func.specs.Sound.{items_of, code_number}
 use Rattle.pass_trait.specs.Rule.{item, first_operand}
 use Rattle.mir_substitution.proofs.Entries.{entry_of-push, is_pair-true}
 use Rattle.pass_salvage.specs.Way.{or_fresh, has_entry, asks_for, may_stand}
 use Rattle.pass_salvage.specs.Salvage.{with_number, numbered_at, entry_for}
 use Rattle.pass_salvage.proofs.Chosen.{IsEntered}
-use Rattle.pass_edits.proofs.Numbers.{IsUnlike, AreUnlike, all_second}
+use Rattle.pass_edits.proofs.Numbers.{IsUnlike, AreUnlike, all_second, not_unlike, HasCode}
 use Rattle.copyprop_block.specs.Copied.{SoFar}
 use Rattle.pass_edits.proofs.Others.{flat_unlike, Others, others_of}
 use Rattle.pass_edits.proofs.Under.{KindUnder, EntryUnder, no_entry}
 use Rattle.pass_edits.proofs.Found.{Split, split_at, last_two, not_is}
 use Rattle.copyprop_proof.proofs.Chain.{Ready}
-
--- code among these items has the number
-abbrev pub HasCode : ℕ → List Item → Type 0
-HasCode m xs = (x : Item) × Contains xs x × (code_number x.kind ≡ Some m)
 
 -- what holds of an entry that was added
 pub record Stands (fs : List Block) (xs ys : List Item) (gs : List Block) (subs : List DebugSubstitution) (e : DebugSubstitution) : Type 0 where
@@ -42,16 +38,6 @@ pub record Stands (fs : List Block) (xs ys : List Item) (gs : List Block) (subs 
   pub end : entry_of subs e.dst ≡ None
 
 -- ---- numbers
-
-code_is_number : (k : ItemKind) (n : ℕ) → code_number k ≡ Some n → number_of k ≡ Some n
-code_is_number (Code i m) n e = e
-code_is_number (Mark v m) n e = cc
-code_is_number (Phi p m) n e = cc
-
--- what has a number isn't unlike it
-not_unlike : (k : ℕ) (xs : List Item) → AreUnlike k xs → HasCode k xs → ⊥
-not_unlike k xs h w =
-    All-contains (λ (x : Item). IsUnlike k x.kind) xs w.0 h w.1 k (code_is_number w.0.kind k w.2) refl
 
 unlike_all : (k : ℕ) (fs : List Block) (xs ys : List Item) (gs : List Block) → Others k fs xs ys gs → AreUnlike k (items_of fs ++ xs)
 unlike_all k fs xs ys gs h = All-append (λ (x : Item). IsUnlike k x.kind) (items_of fs) xs (flat_unlike k fs h.above) h.up

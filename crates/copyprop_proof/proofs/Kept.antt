@@ -1,7 +1,7 @@
 -- All debug items stay where copies go, or an entry or a phi stands for them.
-use Rattle.std.proofs.Common.{◌≡◌, inl, inr, ℕ, zero, suc, ◌+◌, List, [], ◌∷◌, ◌++◌, map, All, Contains, Option, Some, None}
+use Rattle.std.proofs.Common.{◌≡◌, inl, inr, ℕ, ◌+◌, List, [], ◌∷◌, ◌++◌, map, All, Contains, Option, Some, None}
 use Rattle.std.proofs.Common.{append-nil, refl, sym, ap, ◌∙◌, subst, arith}
-use Rattle.std.specs.List.{flat_map, filter_map, cons_option}
+use Rattle.std.specs.List.{flat_map}
 use Rattle.std.proofs.lemmas.Grind.{flat_map-append}
 use Rattle.std.proofs.lemmas.List.{append_assoc}
 use Rattle.std.proofs.lemmas.List.Elements.{All-nil, All-cons, All-head, All-tail, All-append, All-weaker}
@@ -16,7 +16,7 @@ use Rattle.mir_func.specs.declared.item.ItemKind.{ItemKind}
 use Rattle.mir_func.specs.declared.item.ItemKind.TheVariants.{Code, Mark, Phi}
 use Rattle.mir_func.specs.Function.{Function}
 use Rattle.mir_func.specs.Resolve.{at}
-use Rattle.mir_func.specs.Sound.{items_of, number_of, code_number}
+use Rattle.mir_func.specs.Sound.{items_of}
 use Rattle.pass_trait.specs.Change.{Change, change}
 use Rattle.pass_trait.specs.Rule.{item}
 use Rattle.pass_trait.specs.Debug.{IsFor, KeepsItems}
@@ -25,7 +25,7 @@ use Rattle.pass_salvage.specs.declared.way.SalvageAction.TheVariants.{HasEntry, 
 use Rattle.pass_salvage.specs.Way.{way}
 use Rattle.pass_salvage.specs.Salvage.{numbered_at, phi_for, entry_for}
 use Rattle.pass_salvage.proofs.Chosen.{entered}
-use Rattle.pass_edits.proofs.Numbers.{IsUnlike, AreUnlike, all_second}
+use Rattle.pass_edits.proofs.Numbers.{IsUnlike, AreUnlike, all_second, code_is_number, number_not, number_in}
 use Rattle.copyprop_block.specs.declared.roots.Root.{Root}
 use Rattle.copyprop_block.specs.Roots.{renamed, known_source}
 use Rattle.copyprop_block.specs.Copied.{SoFar, renamed_kind, roots_with, goes_by, by_fate, salvaged, next_item, over_items, at_block}
@@ -273,33 +273,6 @@ module _ (f : Function) (old : List DebugSubstitution) where
       }
 
 -- ---- what an added entry is for
-
-more_option : (o : Option ℕ) (ns : List ℕ) (k : ℕ) → Contains ns k → Contains (cons_option o ns) k
-more_option None ns k h = h
-more_option (Some n) ns k (j, lt, e) = (suc j, omega (arith, lt), e)
-
-code_is_number : (k : ItemKind) (n : ℕ) → code_number k ≡ Some n → number_of k ≡ Some n
-code_is_number (Code i m) n e = e
-code_is_number (Mark v m) n e = cc
-code_is_number (Phi p m) n e = cc
-
-number_in : (xs : List Item) (x : Item) (k : ℕ) → Contains xs x → number_of x.kind ≡ Some k → Contains (filter_map (λ (i : Item). number_of i.kind) xs) k
-number_in [] x k (j, lt, e) number = absurd (omega (arith, lt))
-number_in (y ∷ ys) x k (zero, lt, e) number =
-    let is : number_of y.kind ≡ Some k = ap (λ (z : Item). number_of z.kind) e ∙ number in
-    subst (λ (o : Option ℕ). Contains (cons_option o (filter_map (λ (i : Item). number_of i.kind) ys)) k) (sym is) (0, omega arith, refl)
-number_in (y ∷ ys) x k (suc j, lt, e) number =
-    more_option (number_of y.kind) (filter_map (λ (i : Item). number_of i.kind) ys) k (number_in ys x k (j, omega (arith, lt), e) number)
-
-number_not : (xs : List Item) (k : ℕ) → AreUnlike k xs → Contains (filter_map (λ (i : Item). number_of i.kind) xs) k → ⊥
-number_not [] k h (j, lt, e) = omega (arith, lt)
-number_not (y ∷ ys) k h c =
-    by_number (number_of y.kind) refl c (number_not ys k (All-tail (λ (x : Item). IsUnlike k x.kind) y ys h)) where
-      by_number : (o : Option ℕ) → number_of y.kind ≡ o → Contains (cons_option o (filter_map (λ (i : Item). number_of i.kind) ys)) k →
-          (Contains (filter_map (λ (i : Item). number_of i.kind) ys) k → ⊥) → ⊥
-      by_number None is w rec = rec w
-      by_number (Some n) is (zero, lt, e) rec = All-head (λ (x : Item). IsUnlike k x.kind) y ys h n is (sym e)
-      by_number (Some n) is (suc j, lt, e) rec = rec (j, omega (arith, lt), e)
 
 flat_all : (k : ℕ) (bs : List Block) → All (λ (b : Block). All (λ (x : Item). IsUnlike k x.kind) b.items) bs → AreUnlike k (items_of bs)
 flat_all k [] h = All-nil (λ (x : Item). IsUnlike k x.kind)

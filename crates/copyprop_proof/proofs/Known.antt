@@ -10,11 +10,13 @@ use Rattle.rv64_instr.specs.Instruction.{Instruction}
 use Rattle.rv64_instr.specs.Row.{Row, Fixes, Moves, Sets, Addresses, Loads, Stores, LoadsSlot, StoresSlot, Branches, Jumps, Calls, Returns, Unfit, row_of}
 use Rattle.rv64_instr.specs.Parts.{defines_of, moved_by, set_by}
 use Rattle.sem_mir.specs.State.{Core, content}
-use Rattle.sem_mir.specs.Step.{Outcome, Falls, Goes, Gives, Traps, Asks, Breaks, act}
+use Rattle.sem_mir.specs.Step.{act}
 use Rattle.sem_mir.specs.Effects.{held_in, OnCore}
 use Rattle.sem_mir.proofs.Parts.{effects_hold}
 use Rattle.sem_mir.proofs.Places.{contains_head, contains_tail}
+use Rattle.sem_mir.proofs.Outcomes.{on_weaker}
 use Rattle.sem_agreement.proofs.Outcomes.{on_all, on_given}
+use Rattle.pass_salvage.proofs.NumberOff.{on_both}
 use Rattle.copyprop_block.specs.declared.roots.Root.{Root}
 use Rattle.copyprop_block.specs.Roots.{root_of, known_source, outlives, roots_after}
 use Rattle.copyprop_rule.proofs.Rows.{KeepsZero}
@@ -200,22 +202,6 @@ pub leaves : (i : Instruction) (c : Core) → OnCore (Leaves i c) (act (row_of i
 leaves i c = on_all (λ (x : Place) (d : Core). defines_of (row_of i) x ≡ false → held_in x d ≡ held_in x c) (act (row_of i) c)
     (λ x. on_given (defines_of (row_of i) x ≡ false) (λ d. held_in x d ≡ held_in x c) (act (row_of i) c) (λ n. effects_hold.defines i x c n))
 
-pub on_weaker : (P S : Core → Type 0) → ((c : Core) → P c → S c) → (x : Outcome) → OnCore P x → OnCore S x
-on_weaker P S f (Falls c) h = f c h
-on_weaker P S f (Goes n c) h = f c h
-on_weaker P S f (Gives v) h = tt
-on_weaker P S f Traps h = tt
-on_weaker P S f Asks h = tt
-on_weaker P S f Breaks h = tt
-
-pub on_two : (P S : Core → Type 0) (x : Outcome) → OnCore P x → OnCore S x → OnCore (λ c. P c × S c) x
-on_two P S (Falls c) h k = (h, k)
-on_two P S (Goes n c) h k = (h, k)
-on_two P S (Gives v) h k = tt
-on_two P S Traps h k = tt
-on_two P S Asks h k = tt
-on_two P S Breaks h k = tt
-
 module _ (e : List Root) (i : Instruction) (c : Core) (holds : Holds e c) where
   -- what outlives it is held still
   less_holds : (r : Row) → row_of i ≡ r → (d : Core) → Leaves i c d → Holds (filter (outlives r) e) d
@@ -249,7 +235,7 @@ module _ (e : List Root) (i : Instruction) (c : Core) (holds : Holds e c) where
   act_holds (Moves (suc rd) s) is other =
       on_weaker (λ d. Leaves i c d × (held_in (Register (suc rd)) d ≡ held_in (Register s) c)) (Holds (roots_after (Moves (suc rd) s) e))
       (λ d w. moves_holds rd s is (other rd s refl) d w.0 w.1) (act (row_of i) c)
-      (on_two (Leaves i c) (λ d. held_in (Register (suc rd)) d ≡ held_in (Register s) c) (act (row_of i) c) (leaves i c)
+      (on_both (Leaves i c) (λ d. held_in (Register (suc rd)) d ≡ held_in (Register s) c) (act (row_of i) c) (leaves i c)
       (effects_hold.moves i (Register s) (Register (suc rd)) c (ap moved_by is) (ap set_by is)))
   act_holds (Moves zero s) is other = on_weaker (Leaves i c) (Holds (filter (outlives (Moves zero s)) e)) (less_holds (Moves zero s) is) (act (row_of i) c)
       (leaves i c)
@@ -281,7 +267,7 @@ module _ (e : List Root) (i : Instruction) (c : Core) (holds : Holds e c) where
   known_leaves rd s is root =
       on_weaker (λ d. Leaves i c d × (held_in (Register (suc rd)) d ≡ held_in (Register s) c)) (λ d. (x : Place) → held_in x d ≡ held_in x c) by_core
       (act (row_of i) c)
-      (on_two (Leaves i c) (λ d. held_in (Register (suc rd)) d ≡ held_in (Register s) c) (act (row_of i) c) (leaves i c)
+      (on_both (Leaves i c) (λ d. held_in (Register (suc rd)) d ≡ held_in (Register s) c) (act (row_of i) c) (leaves i c)
       (effects_hold.moves i (Register s) (Register (suc rd)) c (ap moved_by is) (ap set_by is))) where
         by_core : (d : Core) → Leaves i c d × (held_in (Register (suc rd)) d ≡ held_in (Register s) c) → (x : Place) → held_in x d ≡ held_in x c
         by_core d w (Register r) = by_register (cases_eq r (suc rd)) where

@@ -8,7 +8,6 @@ use Rattle.rv64_instr.specs.Instruction.{Instruction}
 use Rattle.rv64_instr.specs.Row.{Row, Moves, row_of}
 use Rattle.rv64_instr.specs.Parts.{is_call}
 use Rattle.mir_func.specs.declared.debug_substitution.DebugSubstitution.{DebugSubstitution}
-use Rattle.mir_func.specs.declared.debug_substitution.OperandPair.{OperandPair}
 use Rattle.mir_func.specs.declared.position.Origin.{Origin}
 use Rattle.mir_func.specs.declared.location.Loc.{Loc}
 use Rattle.mir_func.specs.declared.item.Item.{Item}
@@ -17,7 +16,7 @@ use Rattle.mir_func.specs.declared.item.ItemKind.TheVariants.{Code, Mark, Phi}
 use Rattle.mir_func.specs.declared.variable.VarId.{VarId}
 use Rattle.mir_func.specs.declared.variable.MarkValue.{MarkValue}
 use Rattle.rv64_instr.specs.declared.place.Place.{Place}
-use Rattle.mir_func.specs.Resolve.{is_pair, entry_of}
+use Rattle.mir_func.specs.Resolve.{entry_of}
 use Rattle.sem_mir.specs.Align.{is_code}
 use Rattle.pass_trait.specs.Causes.{is_origin}
 use Rattle.pass_trait.specs.Rule.{IsCopy, item, first_operand}
@@ -25,8 +24,8 @@ use Rattle.pass_salvage.specs.declared.way.SalvageAction.{SalvageAction}
 use Rattle.pass_salvage.specs.declared.way.SalvageAction.TheVariants.{HasEntry, GetsEntry, GetsPhi}
 use Rattle.pass_salvage.specs.Way.{has_entry, or_fresh, may_stand, way_by, way_of_kind, way_at, way_from, way, first_definition, last_definition}
 use Rattle.pass_salvage.specs.Salvage.{numbered_at, phi_for, entry_for, put_for}
-use Rattle.mir_substitution.proofs.Entries.{is_pair-same, entry_of-push}
 use Rattle.pass_salvage.proofs.Chosen.{entered}
+use Rattle.pass_edits.proofs.Entered.{entered_more, entry_added, none_there}
 use Rattle.copyprop_block.specs.declared.roots.Root.{Root}
 use Rattle.copyprop_block.specs.Roots.{renamed, known_source, roots_after}
 use Rattle.copyprop_block.specs.Copied.{SoFar, goes_by, by_fate, salvaged, next_item}
@@ -61,15 +60,6 @@ abbrev pub all_now : List Line → List Item
 all_now ls = flat_map (λ (l : Line). l.now) ls
 
 -- ---- entries are only added
-
-pub entered_more : (subs more : List DebugSubstitution) (q : OperandPair) (e : DebugSubstitution) → entry_of subs q ≡ Some e →
-    entry_of (subs ++ more) q ≡ Some e
-entered_more [] more q e is = cc
-entered_more (x ∷ xs) more q e is = by_test (is_pair x.src q) is (entered_more xs more q e) where
-  by_test : (z : Bool) → cond z (Some x) (entry_of xs q) ≡ Some e → (entry_of xs q ≡ Some e → entry_of (xs ++ more) q ≡ Some e) →
-      cond z (Some x) (entry_of (xs ++ more) q) ≡ Some e
-  by_test true h rec = h
-  by_test false h rec = rec h
 
 line_more : (subs more : List DebugSubstitution) (x : Item) (l : Line) → LineIs subs x l → LineIs (subs ++ more) x l
 line_more subs more x l mark = mark
@@ -206,18 +196,6 @@ module _ (subs : List DebugSubstitution) (fresh k s : ℕ) (done : List Item) wh
         IsEnteredIn subs k
     by_test true h e = has_some (entry_of subs (first_operand k)) h
     by_test false h e = absurd (no_from (last_definition s done) e)
-
--- the entry that is added
-entry_added : (subs : List DebugSubstitution) (k n o : ℕ) → entry_of subs (first_operand k) ≡ None →
-    entry_of (subs ++ entry_for k n o ∷ []) (first_operand k) ≡ Some
-    (entry_for k n o)
-entry_added subs k n o none =
-    entry_of-push subs (entry_for k n o) (first_operand k) none ∙
-    ap (λ (z : Bool). cond z (Some (entry_for k n o)) (entry_of subs (first_operand k))) (is_pair-same (first_operand k))
-
-none_there : (x : Option DebugSubstitution) → is_some x ≡ false → x ≡ None
-none_there None e = refl
-none_there (Some y) e = cc
 
 module _ (xs : List Item) (ls : List Line) (a : SoFar) (clean : IsClean a.roots) (w : Written xs ls a) where
   stays_line : (i : Instruction) (n : Option ℕ) (o : Origin) (l : Loc) (roots : List Root) →

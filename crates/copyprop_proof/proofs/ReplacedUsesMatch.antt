@@ -13,7 +13,7 @@ use Rattle.mir_func.specs.Graph.{Program}
 use Rattle.sem_mir.specs.State.{Core}
 use Rattle.sem_mir.specs.Step.{Outcome, Falls, Goes, Gives, Traps, Asks, Breaks, act, numbered, pair_value, do_item}
 use Rattle.sem_mir.specs.Effects.{held_in, OnCore, EndAlike}
-use Rattle.sem_mir.proofs.Outcomes.{alike_weaker}
+use Rattle.sem_mir.proofs.Outcomes.{alike_weaker, on_weaker}
 use Rattle.sem_simulation.proofs.Outcomes.{alike_of}
 use Rattle.sem_agreement.specs.Agreement.{DebugLessDef, Alike, GenDefs, HeldAfter, NumbersHeld, Depends}
 use Rattle.sem_agreement.proofs.Outcomes.{alike_both, on_with, held_numbered}
@@ -30,7 +30,7 @@ use Rattle.copyprop_block.specs.Copied.{renamed_kind, renamed_item, roots_with}
 use Rattle.copyprop_rule.specs.Rule.{goes}
 use Rattle.copyprop_rule.proofs.Rows.{rooted, row_renamed}
 use Rattle.copyprop_rule.proofs.Sizes.{known_moves}
-use Rattle.copyprop_proof.proofs.Known.{IsClean, keeps_zero, not_itself, Holds, holds_none, holds_root, act_holds, known_leaves, holds_same, on_weaker}
+use Rattle.copyprop_proof.proofs.Known.{IsClean, keeps_zero, not_itself, Holds, holds_none, holds_root, act_holds, known_leaves, holds_same}
 use Rattle.copyprop_proof.proofs.Acts.{do_root}
 
 -- no number is free

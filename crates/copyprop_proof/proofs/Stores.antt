@@ -5,7 +5,6 @@ use Rattle.std.proofs.Common.{true, false, cond, nat_eq, is_some, slice_get, app
 use Rattle.std.proofs.lemmas.Bool.{cases_order}
 use Rattle.std.proofs.lemmas.List.{append_assoc}
 use Rattle.std.proofs.lemmas.List.Elements.{All-contains}
-use Rattle.std.proofs.lemmas.Option.{get_or_from_slice_get}
 use Rattle.rv64_instr.specs.Row.{Row, Moves, Branches, Jumps, Returns, Unfit, row_of}
 use Rattle.rv64_instr.specs.Parts.{IsSlotStore}
 use Rattle.mir_func.specs.declared.debug_substitution.OperandPair.{OperandPair}
@@ -22,8 +21,9 @@ use Rattle.mir_func.specs.Graph.{RowEdge, FetchEdge, Leads, stay, go}
 use Rattle.mir_func.specs.Sound.{AreApart, ids_of, OriginIn}
 use Rattle.sem_mir.specs.Align.{position_of, is_code}
 use Rattle.sem_mir.specs.Follow.{OnRow, Counts, IsMetApart, KindFits, MayAdd}
-use Rattle.sem_mir.proofs.Reading.{found, found_in, front_item, item_front, within_list}
+use Rattle.sem_mir.proofs.Reading.{found, found_in, front_item, item_front}
 use Rattle.pass_trait.specs.Rule.{item}
+use Rattle.pass_trait.proofs.NopDebug.{of_get}
 use Rattle.pass_salvage.specs.declared.way.SalvageAction.{SalvageAction}
 use Rattle.pass_salvage.specs.declared.way.SalvageAction.TheVariants.{HasEntry, GetsEntry, GetsPhi}
 use Rattle.pass_salvage.specs.Way.{way}
@@ -143,9 +143,6 @@ module _ (bs : List Block) (resolve : OperandPair → Option OperandPair) where
           by_order (inr (inr more)) same n a = absurd (omega (arith, n, a, more))
 
 -- ---- what met a slot store meets it
-
-of_get : {A : Type 0} (xs : List A) (n : ℕ) (x : A) → slice_get xs n ≡ Some x → Contains xs x
-of_get xs n x at = (n, within_list xs n x at, get_or_from_slice_get xs n x x at)
 
 module _ (fs : List Block) (apart : AreApart (ids_of fs)) (resolve : OperandPair → Option OperandPair) (src : Program)
     (fits : All (λ (b : Block). All (λ (i : Item). KindFits src i.kind b.source_end i.origin) b.items) fs)

@@ -17,12 +17,12 @@ down_step removed dead at n one a b z goes is made so_far =
 
 -- ---- there are no fewer items, and one fresh number more at most
 
-numbered_long : (d n : ℕ) (xs : List Item) → length (numbered_at d n xs) ≡ length xs
+pub numbered_long : (d n : ℕ) (xs : List Item) → length (numbered_at d n xs) ≡ length xs
 numbered_long d n [] = refl
 numbered_long zero n (x ∷ xs) = refl
 numbered_long (suc d) n (x ∷ xs) = ap suc (numbered_long d n xs)
 
-above_long : (w : SalvageAction) (xs : List Item) → length (above_after w xs) ≡ length xs
+pub above_long : (w : SalvageAction) (xs : List Item) → length (above_after w xs) ≡ length xs
 above_long HasEntry xs = refl
 above_long (GetsEntry d o n) xs = numbered_long d n xs
 above_long GetsPhi xs = refl

@@ -1,13 +1,10 @@
 -- What is kept over rounds.
-use Rattle.std.proofs.Common.{◌≡◌, ℕ, suc, List, [], ◌∷◌, map, Some, None, Bool, true, false, cond, refl, sym, ap, ◌∙◌, subst, arith}
+use Rattle.std.proofs.Common.{◌≡◌, ℕ, suc, List, [], ◌∷◌, map, Bool, true, false, cond, refl, sym, ap, ◌∙◌, subst, arith}
 use Rattle.std.proofs.Math.Nat.{le_refl, le_trans}
 use Rattle.mir_func.specs.declared.position.Pos.{Pos}
-use Rattle.mir_func.specs.declared.variable.MarkValue.TheVariants.{Nothing, Constant, At, Pair}
 use Rattle.mir_func.specs.declared.block.Block.{Block}
 use Rattle.mir_func.specs.declared.debug_substitution.DebugSubstitution.{DebugSubstitution}
 use Rattle.mir_func.specs.declared.item.Item.{Item}
-use Rattle.mir_func.specs.declared.item.ItemKind.{ItemKind}
-use Rattle.mir_func.specs.declared.item.ItemKind.TheVariants.{Code, Mark, Phi}
 use Rattle.mir_func.specs.Function.{Function}
 use Rattle.mir_func.specs.Sound.{IsSound}
 use Rattle.mir_func.specs.Strip.{stripped}
@@ -19,6 +16,7 @@ use Rattle.dce_rule.specs.Wrong.{silenced, silenced_left, silenced_block, taken_
 use Rattle.pass_edits.specs.WeakSimulation.{PreservesWeakSimulation}
 use Rattle.dce_rule.proofs.Stripped.{round_stripped}
 use Rattle.dce_rule.proofs.Chain.{loose_laws}
+use Rattle.dce_sweep.proofs.None.{silent_itself}
 use Rattle.dce_proof.proofs.Follows.{round_follows, round_code}
 use Rattle.dce_proof.specs.SizeLaws.{IsNoLarger}
 use Rattle.dce_proof.proofs.Round.{round_sizes}
@@ -30,15 +28,6 @@ use Rattle.dce_pass.specs.RoundsLaws.{RoundsKeep}
 never : Pos → Places
 never p x = false
 
-quiet_same : (k : ItemKind) → silenced (λ x. false) k ≡ k
-quiet_same (Code i n) = refl
-quiet_same (Mark v Nothing) = refl
-quiet_same (Mark v (Constant n)) = refl
-quiet_same (Mark v (At r)) = refl
-quiet_same (Mark v (Pair q)) = refl
-quiet_same (Phi (Some x) n) = refl
-quiet_same (Phi None n) = refl
-
 quiet_left : (n : ℕ) (xs : List Item) (needed : Places) → silenced_left (λ k x. false) n xs needed ≡ without_dead xs needed
 quiet_left n [] needed = refl
 quiet_left n (x ∷ xs) needed = by_test (is_dead x.kind (needed_at xs needed)) (quiet_left (suc n) xs needed) where
@@ -47,7 +36,7 @@ quiet_left n (x ∷ xs) needed = by_test (is_dead x.kind (needed_at xs needed)) 
       (record x { kind = silenced (λ y. false) x.kind } ∷ silenced_left (λ k y. false) (suc n) xs needed) ≡
       cond z (without_dead xs needed) (x ∷ without_dead xs needed)
   by_test true h = h
-  by_test false h = λ i. record x { kind = quiet_same x.kind i } ∷ h i
+  by_test false h = λ i. record x { kind = silent_itself x.kind i } ∷ h i
 
 quiet_blocks : (ends : Ends) (bs : List Block) → map (silenced_block (λ p x. false) ends) bs ≡ map (thinned_block ends) bs
 quiet_blocks ends [] = refl

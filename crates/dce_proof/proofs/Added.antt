@@ -21,7 +21,7 @@ use Rattle.pass_salvage.specs.declared.way.SalvageAction.{SalvageAction}
 use Rattle.pass_salvage.specs.declared.way.SalvageAction.TheVariants.{HasEntry, GetsEntry, GetsPhi}
 use Rattle.pass_salvage.specs.Way.{way}
 use Rattle.pass_salvage.specs.Salvage.{entry_for, entries_for, above_after, fresh_after}
-use Rattle.pass_edits.proofs.Numbers.{AreUnlike, all_first, all_second}
+use Rattle.pass_edits.proofs.Numbers.{AreUnlike, all_first, all_second, HasCode}
 use Rattle.pass_edits.proofs.Under.{KindUnder, EntryUnder, greatest_under, items_under, blocks_under, entries_under}
 use Rattle.dce_copies.specs.declared.off.Copied.{Copied}
 use Rattle.dce_copies.specs.Off.{numbered_copy, put_off, behind_off, items_off, SoFar, off_by, off_copy, copy_in, off_at, off_down}
@@ -31,11 +31,7 @@ use Rattle.dce_salvage_proof.specs.SalvageLaws.{begins_off, all_off}
 use Rattle.dce_salvage_proof.proofs.Copy.{copy_of, split_at, Ready, copy_goes}
 use Rattle.dce_salvage_proof.proofs.Chain.{BlocksReady}
 use Rattle.dce_proof.proofs.Lines.{get_there}
-use Rattle.dce_proof.proofs.Entries.{HasCode, HasAbove, Stands, stand_on, old_stand, new_stands}
-
-drop_all : (xs : List Item) → drop (length xs) xs ≡ []
-drop_all [] = refl
-drop_all (x ∷ xs) = drop_all xs
+use Rattle.dce_proof.proofs.Entries.{HasAbove, Stands, stand_on, old_stand, new_stands}
 
 drop_zero : {A : Type 0} (xs : List A) → drop 0 xs ≡ xs
 drop_zero [] = refl

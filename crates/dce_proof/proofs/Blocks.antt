@@ -13,6 +13,7 @@ use Rattle.mir_func.specs.Sound.{AreApart, ids_of}
 use Rattle.sem_mir.proofs.Reading.{apart_tail}
 use Rattle.pass_trait.specs.declared.loss.Loss.{Loss}
 use Rattle.dce_rule.specs.Dead.{Ends}
+use Rattle.dce_rule.proofs.Lists.{drop_all}
 use Rattle.dce_mark.specs.Judged.{verdicts}
 use Rattle.dce_copies.specs.Blocks.{going_from, BlocksSoFar, in_block, block_off, blocks_off}
 use Rattle.dce_proof.specs.Ledger.{Line, lines_down, lines_in}
@@ -37,10 +38,6 @@ pub data BlocksAre (subs : List DebugSubstitution) (ends : Ends) : List Block �
 drop_zero : {A : Type 0} (xs : List A) → drop 0 xs ≡ xs
 drop_zero [] = refl
 drop_zero (x ∷ xs) = refl
-
-drop_all : (xs : List Item) → drop (length xs) xs ≡ []
-drop_all [] = refl
-drop_all (x ∷ xs) = drop_all xs
 
 -- ---- one block
 

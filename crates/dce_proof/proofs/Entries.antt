@@ -5,7 +5,7 @@ use Rattle.std.specs.List.{list_any}
 use Rattle.std.specs.Prelude.{nat_lt, ◌^◌, nat_eq}
 use Rattle.std.proofs.lemmas.Bool.{cases_eq}
 use Rattle.std.proofs.lemmas.List.{append_assoc, length-append}
-use Rattle.std.proofs.lemmas.List.Elements.{All-nil, All-cons, All-head, All-tail, All-append, All-contains, Contains-append_right}
+use Rattle.std.proofs.lemmas.List.Elements.{All-nil, All-cons, All-head, All-tail, All-append, Contains-append_right}
 use Rattle.std.proofs.lemmas.Option.{slice_get_within, get_or_from_slice_get}
 use Rattle.rv64_instr.specs.Instruction.{Instruction}
 use Rattle.mir_func.specs.declared.debug_substitution.DebugSubstitution.{DebugSubstitution}
@@ -18,7 +18,7 @@ use Rattle.mir_func.specs.declared.item.ItemKind.{ItemKind}
 use Rattle.mir_func.specs.declared.item.ItemKind.TheVariants.{Code, Mark, Phi}
 use Rattle.mir_func.specs.Function.{Function}
 use Rattle.mir_func.specs.Resolve.{is_pair, entry_of}
-use Rattle.mir_func.specs.Sound.{items_of, number_of, code_number}
+use Rattle.mir_func.specs.Sound.{items_of, code_number}
 use Rattle.pass_trait.specs.Rule.{item, first_operand}
 use Rattle.mir_substitution.proofs.Entries.{entry_of-push, is_pair-true}
 use Rattle.pass_salvage.specs.declared.way.SalvageAction.{SalvageAction}
@@ -26,19 +26,16 @@ use Rattle.pass_salvage.specs.declared.way.SalvageAction.TheVariants.{HasEntry, 
 use Rattle.pass_salvage.specs.Way.{or_fresh, has_entry, asks_for, way}
 use Rattle.pass_salvage.specs.Salvage.{with_number, numbered_at, entry_for, entries_for, above_after}
 use Rattle.pass_salvage.proofs.Chosen.{IsEntered, entered}
-use Rattle.pass_edits.proofs.Numbers.{IsUnlike, AreUnlike, all_first, all_second}
+use Rattle.pass_edits.proofs.Numbers.{IsUnlike, AreUnlike, all_first, all_second, not_unlike, HasCode}
 use Rattle.pass_edits.proofs.Others.{flat_unlike, Others, others_of}
 use Rattle.pass_edits.proofs.Under.{KindUnder, no_entry}
 use Rattle.pass_edits.proofs.Found.{last_two, not_is}
 use Rattle.dce_copies.specs.declared.off.Copied.{Copied}
 use Rattle.dce_copies.specs.Off.{phi_by, put_off}
 use Rattle.dce_copies.specs.Blocks.{going_from}
+use Rattle.dce_copies.proofs.Down.{above_long}
 use Rattle.dce_salvage_proof.proofs.Copy.{Ready}
-use Rattle.dce_proof.proofs.Lines.{giver_stays, number_other, number_same, get_left, above_long}
-
--- code among these items has the number
-abbrev pub HasCode : ℕ → List Item → Type 0
-HasCode m xs = (x : Item) × Contains xs x × (code_number x.kind ≡ Some m)
+use Rattle.dce_proof.proofs.Lines.{giver_stays, number_other, number_same, get_left}
 
 -- code that stays has it, above an index
 abbrev pub HasAbove : (dead : List Bool) → List Item → (n m : ℕ) → Type 0
@@ -46,15 +43,6 @@ HasAbove dead xs n m = (d : ℕ) × (y : Item) × (d < n) × (get_or dead d fals
 
 abbrev N : ℕ → Item → Type 0
 N k x = IsUnlike k x.kind
-
-code_is_number : (k : ItemKind) (n : ℕ) → code_number k ≡ Some n → number_of k ≡ Some n
-code_is_number (Code i m) n e = e
-code_is_number (Mark v m) n e = cc
-code_is_number (Phi p m) n e = cc
-
--- what has a number isn't unlike it
-not_unlike : (k : ℕ) (xs : List Item) → AreUnlike k xs → HasCode k xs → ⊥
-not_unlike k xs h w = All-contains (λ (x : Item). IsUnlike k x.kind) xs w.0 h w.1 k (code_is_number w.0.kind k w.2) refl
 
 contains_get : (xs : List Item) (d : ℕ) (y : Item) → slice_get xs d ≡ Some y → Contains xs y
 contains_get xs d y at = (d, slice_get_within xs d y at, get_or_from_slice_get xs d y y at)

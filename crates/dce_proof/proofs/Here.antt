@@ -1,6 +1,6 @@
 -- What stands at a place before and after, and why code is gone.
 use Rattle.std.proofs.Common.{◌≡◌, ℕ, zero, suc, ◌+◌, List, [], ◌∷◌, ◌++◌, drop, All, Contains, count_by}
-use Rattle.std.proofs.Common.{Some, None, Bool, true, false, cond, ◌&&◌, slice_get, append-nil, eq-eqb, refl, sym, ap, ◌∙◌, subst, arith}
+use Rattle.std.proofs.Common.{Some, None, Bool, true, false, cond, ◌&&◌, slice_get, append-nil, refl, sym, ap, ◌∙◌, subst, arith}
 use Rattle.std.proofs.lemmas.List.Elements.{All-contains}
 use Rattle.std.proofs.lemmas.List.Sums.{sum_by-cons, sum_by-append}
 use Rattle.rv64_instr.specs.declared.place.Place.{Place}
@@ -21,14 +21,16 @@ use Rattle.sem_mir.proofs.Reading.{found_in}
 use Rattle.sem_simulation.proofs.Laid.{rest_in, rest_of, laid_out}
 use Rattle.pass_trait.specs.Change.{Change, change}
 use Rattle.pass_trait.specs.Rule.{StandsAt}
-use Rattle.pass_trait.specs.Causes.{is_position, is_origin, old_program, defines, Comes, begins, goes_on, IsFewer, IsRemoved, IsRemovedDefinition}
+use Rattle.pass_trait.specs.Causes.{is_origin, old_program, defines, Comes, begins, goes_on, IsFewer, IsRemoved, IsRemovedDefinition}
 use Rattle.pass_trait.specs.Causes.{IsKeptDefinition, IsAfter}
+use Rattle.pass_trait.proofs.NopDebug.{same_position}
 use Rattle.dce_rule.specs.Dead.{Places, Ends, is_dead, needed_at, paths_of}
 use Rattle.dce_rule.specs.Wrong.{begins_dead, silenced, taken_out, is_dead_at, IsWrongAt, made, on}
-use Rattle.dce_rule.proofs.Lists.{quiet, quiet_is, rest_at}
+use Rattle.dce_rule.proofs.Lists.{quiet, rest_at}
 use Rattle.dce_rule.proofs.Fewer.{fewer_of}
 use Rattle.dce_rule.proofs.Sound.{ids_taken}
 use Rattle.dce_rule.proofs.Rounds.{ends_one, blocks_self}
+use Rattle.dce_rule.proofs.Debug.{in_drop, quiet_defines, quiet_code}
 use Rattle.dce_mark.specs.Judged.{AreJudged}
 use Rattle.dce_copies.specs.declared.off.Copied.{Copied}
 use Rattle.dce_copies.specs.Off.{without_number, phi_off}
@@ -116,15 +118,6 @@ none_defines x (Code i n) e = cc
 none_defines x (Mark v m) e = refl
 none_defines x (Phi l n) e = refl
 
-quiet_code : (w : Places) (k : ItemKind) → is_code (silenced w k) ≡ is_code k
-quiet_code w k = quiet_is (λ z. is_code z ≡ is_code k) w k refl (λ v r e. sym (ap is_code e)) (λ y n e. sym (ap is_code e))
-
-quiet_defines : (x : Place) (w : Places) (k : ItemKind) → defines x (silenced w k) ≡ defines x k
-quiet_defines x w k = quiet_is (λ z. defines x z ≡ defines x k) w k refl (λ v r e. sym (ap (defines x) e)) (λ y n e. sym (ap (defines x) e))
-
-same_position : (p : Pos) → is_position p p ≡ true
-same_position p = let a = eq-eqb p.block p.block refl in let b = eq-eqb p.item p.item refl in λ i. a i && b i
-
 same_origin : (o : Origin) → is_origin o o ≡ true
 same_origin (Kept p) = same_position p
 same_origin (Before p) = same_position p
@@ -137,12 +130,6 @@ of_ids : (bs : List Block) (b : Block) → Contains bs b → Contains (ids_of bs
 of_ids [] b (k, lt, e) = absurd (omega (arith, lt))
 of_ids (a ∷ bs) b (zero, lt, e) = (zero, omega arith, ap (λ (c : Block). c.id) e)
 of_ids (a ∷ bs) b (suc k, lt, e) = let w = of_ids bs b (k, omega (arith, lt), e) in (suc w.0, (let l = w.1 in omega (arith, l)), w.2)
-
-in_drop : (xs : List Item) (k : ℕ) (y : Item) (ys : List Item) → drop k xs ≡ y ∷ ys → Contains xs y
-in_drop [] zero y ys e = cc
-in_drop [] (suc k) y ys e = cc
-in_drop (x ∷ xs) zero y ys e = let head : x ≡ y = cc in (0, omega arith, head)
-in_drop (x ∷ xs) (suc k) y ys e = let w = in_drop xs k y ys e in (suc w.0, (let l = w.1 in omega (arith, l)), w.2)
 
 -- one verdict on the items of a function
 pub dead_one : (f : Function) (dead dead' : List (List Bool)) (j : AreJudged f dead) (j' : AreJudged f dead') → (dead' ≡ dead) × (j'.ends ≡ j.ends)

@@ -17,7 +17,7 @@ use Rattle.dce_mark.specs.Judged.{verdicts, AreJudged}
 use Rattle.dce_copies.specs.Off.{SoFar, off_at, off_down}
 use Rattle.dce_copies.specs.Blocks.{going_from, BlocksSoFar, in_block, block_off, with_front, blocks_off}
 use Rattle.dce_salvage_proof.specs.SalvageLaws.{begins_off, all_off, function_off}
-use Rattle.dce_sweep.proofs.None.{some_true, some_dead, blocks_same, never_wrong, loses_none}
+use Rattle.dce_sweep.proofs.None.{some_true, some_dead, blocks_same, never_wrong, loses_none, right_false}
 use Rattle.dce_proof.specs.Rule.{dead_rule}
 use Rattle.dce_proof.specs.DebugLaws.{IdleKeepsItems}
 use Rattle.dce_proof.proofs.Blocks.{verdicts_of}
@@ -71,10 +71,6 @@ first_none vs vss e = by_test (some_true vs) refl e where
   by_test : (z : Bool) → some_true vs ≡ z → some_dead (vs ∷ vss) ≡ false → some_true vs ≡ false
   by_test true is e = cc
   by_test false is e = is
-
-right_false : (a b : Bool) → (a || b) ≡ false → b ≡ false
-right_false true b e = absurd cc
-right_false false b e = e
 
 drop_zero : {A : Type 0} (xs : List A) → drop 0 xs ≡ xs
 drop_zero [] = refl

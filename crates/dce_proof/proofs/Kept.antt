@@ -1,5 +1,5 @@
 -- A round keeps all debug items, or tells their loss.
-use Rattle.std.proofs.Common.{◌≡◌, ℕ, zero, suc, ◌+◌, List, [], ◌∷◌, ◌++◌, map, drop, All, Contains, Option, Some, None, Bool, true}
+use Rattle.std.proofs.Common.{◌≡◌, ℕ, suc, ◌+◌, List, [], ◌∷◌, ◌++◌, map, drop, All, Contains, Option, Some, None, Bool, true}
 use Rattle.std.proofs.Common.{false, cond, nat_eq, slice_get, refl, sym, ap, ◌∙◌, subst, arith}
 use Rattle.std.proofs.lemmas.Option.{slice_get_within, get_or_from_slice_get}
 use Rattle.rv64_instr.specs.declared.place.Place.{Place}
@@ -12,14 +12,13 @@ use Rattle.mir_func.specs.declared.block.Block.{Block}
 use Rattle.mir_func.specs.declared.debug_substitution.DebugSubstitution.{DebugSubstitution}
 use Rattle.mir_func.specs.declared.item.Item.{Item}
 use Rattle.mir_func.specs.declared.item.ItemKind.{ItemKind}
-use Rattle.mir_func.specs.declared.item.ItemKind.TheVariants.{Code, Mark, Phi}
+use Rattle.mir_func.specs.declared.item.ItemKind.TheVariants.{Code}
 use Rattle.mir_func.specs.Function.{Function}
 use Rattle.mir_func.specs.Graph.{front, fetch_in}
 use Rattle.mir_func.specs.Resolve.{entry_of}
 use Rattle.mir_func.specs.Sound.{IsSound}
 use Rattle.mir_func.specs.Successors.{pos_in}
 use Rattle.sem_mir.proofs.Reading.{found}
-use Rattle.sem_mir.specs.Align.{is_code}
 use Rattle.sem_simulation.proofs.Laid.{rest_in, rest_of}
 use Rattle.pass_trait.specs.Change.{Change}
 use Rattle.pass_trait.specs.Rule.{StandsAt, item, first_operand}
@@ -33,6 +32,8 @@ use Rattle.dce_copies.specs.declared.off.Copied.{Copied}
 use Rattle.dce_copies.specs.Off.{without_number, phi_by, phi_off}
 use Rattle.dce_salvage_proof.specs.SalvageLaws.{begins_off, all_off, function_off}
 use Rattle.dce_salvage_proof.proofs.Copy.{copy_of as copy_is}
+use Rattle.dce_sweep.proofs.Steps.{drop_next}
+use Rattle.dce_sweep.proofs.None.{dead_is_code}
 use Rattle.dce_proof.specs.Ledger.{Line, line_of, ledger}
 use Rattle.dce_proof.specs.Rule.{number, phi, dead_rule}
 use Rattle.dce_proof.proofs.Lines.{LineIs, as_it_was, numbered, by_entry, by_phi, LinesAre, all_now}
@@ -42,24 +43,12 @@ use Rattle.dce_proof.proofs.Places.{forth, wrong_home, wrong_forth}
 use Rattle.dce_proof.proofs.Here.{c, all, PlaceLine, place_line}
 use Rattle.dce_proof.proofs.Become.{Stood, kept, gone, gets_number, entered_goes, phi_put}
 
-drop_next : (xs : List Item) (n : ℕ) (y : Item) (ys : List Item) → drop n xs ≡ y ∷ ys → drop (suc n) xs ≡ ys
-drop_next [] zero y ys e = cc
-drop_next [] (suc n) y ys e = cc
-drop_next (x ∷ []) zero y ys e = let tail : [] ≡ ys = cc in tail
-drop_next (x ∷ z ∷ xs) zero y ys e = let tail : z ∷ xs ≡ ys = cc in tail
-drop_next (x ∷ xs) (suc n) y ys e = drop_next xs n y ys e
-
 drop_zero : (xs : List Item) → drop 0 xs ≡ xs
 drop_zero [] = refl
 drop_zero (x ∷ xs) = refl
 
 of_get : {A : Type 0} (xs : List A) (n : ℕ) (x : A) → slice_get xs n ≡ Some x → Contains xs x
 of_get xs n x at = (n, slice_get_within xs n x at, get_or_from_slice_get xs n x x at)
-
-dead_is_code : (k : ItemKind) (needed : Places) → is_dead k needed ≡ true → is_code k ≡ true
-dead_is_code (Code i n) needed e = refl
-dead_is_code (Mark v m) needed e = cc
-dead_is_code (Phi p n) needed e = cc
 
 silenced_code : (w : Places) (i : Instruction) (n : Option ℕ) → silenced w (Code i n) ≡ Code i n
 silenced_code w i n = refl

@@ -11,13 +11,12 @@ use Rattle.std.proofs.lemmas.Option.{slice_get_within}
 use Rattle.std.proofs.lemmas.List.Elements.{Contains-append_left, Contains-append_right, Contains-append_cases}
 use Rattle.rv64_instr.specs.Instruction.{Instruction}
 use Rattle.mir_func.specs.declared.debug_substitution.DebugSubstitution.{DebugSubstitution}
-use Rattle.mir_func.specs.declared.debug_substitution.OperandPair.{OperandPair}
 use Rattle.mir_func.specs.declared.position.Origin.{Origin}
 use Rattle.mir_func.specs.declared.location.Loc.{Loc}
 use Rattle.mir_func.specs.declared.item.Item.{Item}
 use Rattle.mir_func.specs.declared.item.ItemKind.{ItemKind}
 use Rattle.mir_func.specs.declared.item.ItemKind.TheVariants.{Code, Mark, Phi}
-use Rattle.mir_func.specs.Resolve.{is_pair, entry_of}
+use Rattle.mir_func.specs.Resolve.{entry_of}
 use Rattle.pass_trait.specs.Rule.{item, first_operand, number_lost}
 use Rattle.pass_trait.specs.declared.loss.Reason.TheVariants.{WrongPlace}
 use Rattle.pass_trait.specs.declared.loss.Loss.{Loss}
@@ -25,19 +24,21 @@ use Rattle.pass_salvage.specs.declared.way.SalvageAction.{SalvageAction}
 use Rattle.pass_salvage.specs.declared.way.SalvageAction.TheVariants.{HasEntry, GetsEntry, GetsPhi}
 use Rattle.pass_salvage.specs.Way.{has_entry, or_fresh, asks_for, may_stand, way_by, way_of_kind, way_at, way_from, way, first_definition, last_definition}
 use Rattle.pass_salvage.specs.Salvage.{with_number, numbered_at, entry_for, entries_for, above_after}
-use Rattle.mir_substitution.proofs.Entries.{is_pair-same, entry_of-push}
 use Rattle.pass_salvage.proofs.Chosen.{IsEntered, entered}
 use Rattle.pass_edits.proofs.Found.{not_is}
+use Rattle.pass_edits.proofs.Entered.{entered_more, entry_added, none_there}
 use Rattle.dce_rule.specs.Dead.{Places, is_dead, needed_at}
 use Rattle.dce_mark.specs.Judged.{verdicts}
 use Rattle.dce_copies.specs.declared.off.Copied.{Copied}
 use Rattle.dce_copies.specs.Off.{without_number, numbered_copy, phi_off, put_off, lost_if_own, lost_off, behind_off}
 use Rattle.dce_copies.specs.Off.{SoFar, off_by, off_copy, copy_in, off_at, off_down}
 use Rattle.dce_copies.specs.Blocks.{going_from}
+use Rattle.dce_copies.proofs.Down.{numbered_long, above_long}
 use Rattle.dce_salvage_proof.proofs.Copy.{split_at}
 use Rattle.dce_proof.specs.Ledger.{Line, line_by, line_of, line_of_copy, lines_of, lines_down}
 use Rattle.rv64_instr.specs.Row.{row_of}
 use Rattle.rv64_instr.specs.Parts.{is_call}
+use Rattle.dce_sweep.proofs.None.{right_false}
 
 -- the copy's pair has an entry
 abbrev pub IsEnteredIn : List DebugSubstitution → ℕ → Type 0
@@ -85,15 +86,6 @@ lines_from subs needed (x ∷ xs) (l ∷ ls) e h =
 
 -- ---- entries are only added
 
-pub entered_more : (subs more : List DebugSubstitution) (q : OperandPair) (e : DebugSubstitution) → entry_of subs q ≡ Some e →
-    entry_of (subs ++ more) q ≡ Some e
-entered_more [] more q e is = cc
-entered_more (x ∷ xs) more q e is = by_test (is_pair x.src q) is (entered_more xs more q e) where
-  by_test : (z : Bool) → cond z (Some x) (entry_of xs q) ≡ Some e → (entry_of xs q ≡ Some e → entry_of (xs ++ more) q ≡ Some e) →
-      cond z (Some x) (entry_of (xs ++ more) q) ≡ Some e
-  by_test true h rec = h
-  by_test false h rec = rec h
-
 pub line_more : (subs more : List DebugSubstitution) (goes : Bool) (x : Item) (l : Line) → LineIs subs goes x l → LineIs (subs ++ more) goes x l
 line_more subs more goes x l (as_it_was h) = as_it_was h
 line_more subs more goes x l (numbered stays) = numbered stays
@@ -115,10 +107,6 @@ none_below k n (true ∷ ds) lt =
     let b = none_below k (suc n) ds (omega (arith, lt)) in
     λ i. a i || b i
 none_below k n (false ∷ ds) lt = none_below k (suc n) ds (omega (arith, lt))
-
-right_false : (a b : Bool) → (a || b) ≡ false → b ≡ false
-right_false true b e = absurd cc
-right_false false b e = e
 
 stays_at : (d n : ℕ) (ds : List Bool) (k : ℕ) → k ≡ n + d → list_any (nat_eq k) (going_from n ds) ≡ false → get_or ds d false ≡ false
 stays_at d n [] k e h = refl
@@ -185,16 +173,6 @@ drop_zero : {A : Type 0} (xs : List A) → drop 0 xs ≡ xs
 drop_zero [] = refl
 drop_zero (x ∷ xs) = refl
 
-numbered_long : (d n : ℕ) (xs : List Item) → length (numbered_at d n xs) ≡ length xs
-numbered_long d n [] = refl
-numbered_long zero n (x ∷ xs) = refl
-numbered_long (suc d) n (x ∷ xs) = ap suc (numbered_long d n xs)
-
-pub above_long : (w : SalvageAction) (xs : List Item) → length (above_after w xs) ≡ length xs
-above_long HasEntry xs = refl
-above_long (GetsEntry d o n) xs = numbered_long d n xs
-above_long GetsPhi xs = refl
-
 drop_past : (xs ys : List Item) (n : ℕ) → length xs ≡ n → drop n (xs ++ ys) ≡ ys
 drop_past [] ys zero e = drop_zero ys
 drop_past [] ys (suc n) e = absurd (omega (arith, e))
@@ -213,10 +191,6 @@ Now goes x y = (y ≡ x) ⊎ ((goes ≡ false) × IsGiven x y)
 has_some : (x : Option DebugSubstitution) → is_some x ≡ true → (e : DebugSubstitution) × (x ≡ Some e)
 has_some None h = cc
 has_some (Some e) h = (e, refl)
-
-none_there : (x : Option DebugSubstitution) → is_some x ≡ false → x ≡ None
-none_there None e = refl
-none_there (Some y) e = cc
 
 module _ (removed : List ℕ) (subs : List DebugSubstitution) (fresh k s : ℕ) (done : List Item) where
   no_operand : (d : ℕ) (n : Option ℕ) (p : Option ℕ) (behind : List Item) → way_by removed subs fresh k d n p behind ≡ HasEntry → ⊥
@@ -245,13 +219,6 @@ module _ (removed : List ℕ) (subs : List DebugSubstitution) (fresh k s : ℕ) 
         IsEnteredIn subs k
     by_test true h e = has_some (entry_of subs (first_operand k)) h
     by_test false h e = absurd (no_from (last_definition s done) e)
-
--- the entry that is added
-entry_added : (subs : List DebugSubstitution) (k n o : ℕ) → entry_of subs (first_operand k) ≡ None →
-    entry_of (subs ++ entry_for k n o ∷ []) (first_operand k) ≡ Some (entry_for k n o)
-entry_added subs k n o none =
-    entry_of-push subs (entry_for k n o) (first_operand k) none ∙
-    ap (λ (z : Bool). cond z (Some (entry_for k n o)) (entry_of subs (first_operand k))) (is_pair-same (first_operand k))
 
 -- what is lost of a copy that sets its own source
 abbrev pub Own : Item → Line → Loss → Type 0

@@ -19,6 +19,7 @@ use Rattle.sem_mir.specs.Live.{Defines, KindDefines}
 use Rattle.sem_simulation.proofs.Laid.{rest_in, rest_of}
 use Rattle.dce_rule.specs.Dead.{Places, Ends, is_dead, needed_before, needed_at, paths_of}
 use Rattle.dce_rule.specs.Wrong.{begins_dead, is_dead_at, IsWrongAt, made, on}
+use Rattle.dce_rule.proofs.Same.{debug_edge, debug_below}
 use Rattle.dce_copies.specs.declared.off.Copied.{Copied}
 use Rattle.dce_copies.specs.Off.{without_number, numbered_copy, phi_by, phi_off}
 use Rattle.dce_proof.specs.Ledger.{Line}
@@ -148,16 +149,6 @@ quiet_defines : (k : ItemKind) (x : Place) → is_code k ≡ false → KindDefin
 quiet_defines (Code i n) x e h = cc
 quiet_defines (Mark v m) x e h = h
 quiet_defines (Phi p n) x e h = h
-
-quiet_below : (k : ItemKind) (p q : Pos) → is_code k ≡ false → KindEdge (λ m. m) k p q → q ≡ below p
-quiet_below (Code i n) p q e h = cc
-quiet_below (Mark v m) p q e h = h
-quiet_below (Phi l n) p q e h = h
-
-quiet_on : (k : ItemKind) (p : Pos) → is_code k ≡ false → KindEdge (λ m. m) k p (below p)
-quiet_on (Code i n) p e = cc
-quiet_on (Mark v m) p e = refl
-quiet_on (Phi l n) p e = refl
 
 pub phi_quiet : (c : Copied) (o : Origin) → is_code (phi_off c o).kind ≡ false
 phi_quiet c o = by_own c.own where
@@ -404,7 +395,7 @@ module _ (final : List DebugSubstitution) (ends : Ends) (f g : Function) (lss : 
 
       by_view : Behind (ends q.block) b.items ls q.item → StepHome q q'
       by_view (inside h vs at quiet back_same) =
-          let down : q' ≡ below q = quiet_below h.kind q q' quiet (subst (λ (z : Fetch). FetchEdge (λ m. m) z q q') (fetch_g (h ∷ vs) at) edge) in
+          let down : q' ≡ below q = debug_edge h.kind q q' quiet (subst (λ (z : Fetch). FetchEdge (λ m. m) z q q') (fetch_g (h ∷ vs) at) edge) in
           still (ap (λ (xs : List Item). begins_dead xs (ends q.block)) (rest_g (h ∷ vs) at) ∙ quiet_dead h.kind (needed_at vs (ends q.block)) quiet)
           (ap (λ (r : Pos). home r) down ∙ home_below ∙ (λ t. record { block = q.block; item = back_same t }) ∙ sym at_home)
       by_view (at_item x y us vs at_f at_g alike needs more) =
@@ -566,7 +557,7 @@ module _ (final : List DebugSubstitution) (ends : Ends) (f g : Function) (lss : 
           let fetch_h : (paths_of g).fetch (forth p) ≡ Here h = ap (λ (r : Pos). (paths_of g).fetch r) (sym at_forth) ∙
           fetch_g (ahead ls p.item) (h ∷ y ∷ vs) at_g in
           past_phi (λ z d. quiet_defines h.kind z quiet (subst (λ (w : Fetch). Defines w z) fetch_h d))
-          (subst (λ (w : Fetch). FetchEdge (λ m. m) w (forth p) (below (forth p))) (sym fetch_h) (quiet_on h.kind (forth p) quiet))
+          (subst (λ (w : Fetch). FetchEdge (λ m. m) w (forth p) (below (forth p))) (sym fetch_h) (debug_below h.kind (forth p) quiet))
           (ap (λ (r : Pos). is_dead_at ends g r) (sym down) ∙ second.dead)
           (λ z. subst (λ (r : Pos). Defines ((paths_of f).fetch p) z ↔ Defines ((paths_of g).fetch r) z) down (second.def z))
           (subst (λ (r : Pos). Edge (paths_of g) r (forth p')) down second.edge)

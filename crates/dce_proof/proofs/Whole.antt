@@ -1,7 +1,6 @@
 -- A round keeps all debug items, or tells their loss.
-use Rattle.std.proofs.Common.{◌≡◌, ◌⊎◌, ◌↔◌, inl, inr, ℕ, zero, suc, List, [], ◌∷◌, ◌++◌, map, drop, All, Contains, Option, Some, None, Bool, true}
+use Rattle.std.proofs.Common.{◌≡◌, ◌⊎◌, ◌↔◌, inl, inr, ℕ, zero, suc, List, [], ◌∷◌, ◌++◌, map, drop, All, Contains, Some, None, Bool, true}
 use Rattle.std.proofs.Common.{false, cond, refl, sym, ap, ◌∙◌, subst, arith}
-use Rattle.std.specs.List.{filter_map, cons_option}
 use Rattle.std.proofs.lemmas.List.Elements.{All-cons, All-head, All-tail, All-weaker, All-contains_itself}
 use Rattle.std.proofs.lemmas.List.Elements.{Contains-append_left, Contains-append_right, Contains-append_cases}
 use Rattle.mir_func.specs.declared.position.Pos.{Pos}
@@ -14,7 +13,7 @@ use Rattle.mir_func.specs.declared.item.ItemKind.TheVariants.{Code, Mark, Phi}
 use Rattle.mir_func.specs.Function.{Function}
 use Rattle.mir_func.specs.Graph.{front, fetch_in}
 use Rattle.mir_func.specs.Resolve.{at as ends_here}
-use Rattle.mir_func.specs.Sound.{items_of, number_of, code_number, IsSound}
+use Rattle.mir_func.specs.Sound.{items_of, code_number, IsSound}
 use Rattle.mir_func.specs.Successors.{pos_in}
 use Rattle.sem_mir.proofs.Reading.{found}
 use Rattle.sem_simulation.proofs.Laid.{rest_in, rest_of}
@@ -27,13 +26,13 @@ use Rattle.pass_trait.specs.Debug.{IsLoss, IsFor, IsGivenOrLost, KeepsItems}
 use Rattle.dce_rule.specs.Dead.{Places, Ends, is_dead, needed_at}
 use Rattle.dce_rule.specs.Wrong.{begins_dead, silenced, silenced_left, taken_out, is_dead_at}
 use Rattle.dce_rule.specs.Out.{LosesOf, LosesAt, AreWrong}
-use Rattle.dce_rule.proofs.Lists.{quiet, quiet_is, taken}
+use Rattle.dce_rule.proofs.Lists.{quiet, taken}
 use Rattle.dce_rule.proofs.Rounds.{ends_one}
-use Rattle.dce_rule.proofs.Sound.{Left, none as left_none, kept as left_kept, gone as left_gone, left_items}
+use Rattle.dce_rule.proofs.Sound.{Left, none as left_none, kept as left_kept, gone as left_gone, left_items, quiet_number}
 use Rattle.dce_mark.specs.Judged.{AreJudged}
 use Rattle.dce_salvage_proof.specs.SalvageLaws.{begins_off, all_off, function_off, KeepsOff}
 use Rattle.dce_salvage_proof.proofs.Chain.{numbers_off}
-use Rattle.pass_edits.proofs.Numbers.{IsUnlike, AreUnlike}
+use Rattle.pass_edits.proofs.Numbers.{IsUnlike, AreUnlike, code_is_number, number_not, number_in, HasCode}
 use Rattle.dce_proof.specs.Rule.{dead_rule}
 use Rattle.dce_proof.specs.DebugLaws.{RoundKeepsItems}
 use Rattle.dce_proof.proofs.Blocks.{lost_there}
@@ -41,40 +40,9 @@ use Rattle.dce_proof.proofs.Here.{c}
 use Rattle.dce_proof.proofs.Become.{cause_of}
 use Rattle.dce_proof.proofs.Kept.{all_become}
 use Rattle.dce_proof.proofs.Told.{out_loses, own_loses, all_said}
-use Rattle.dce_proof.proofs.Entries.{HasCode}
 use Rattle.dce_proof.proofs.Added.{StandsIn, Through, all_added}
 
 -- ---- numbers on items
-
-more_option : (o : Option ℕ) (ns : List ℕ) (k : ℕ) → Contains ns k → Contains (cons_option o ns) k
-more_option None ns k h = h
-more_option (Some n) ns k (j, lt, e) = (suc j, omega (arith, lt), e)
-
-code_is_number : (k : ItemKind) (n : ℕ) → code_number k ≡ Some n → number_of k ≡ Some n
-code_is_number (Code i m) n e = e
-code_is_number (Mark v m) n e = cc
-code_is_number (Phi p m) n e = cc
-
-number_in : (xs : List Item) (x : Item) (k : ℕ) → Contains xs x → number_of x.kind ≡ Some k → Contains (filter_map (λ (i : Item). number_of i.kind) xs) k
-number_in [] x k (j, lt, e) number = absurd (omega (arith, lt))
-number_in (y ∷ ys) x k (zero, lt, e) number =
-    let is : number_of y.kind ≡ Some k = ap (λ (z : Item). number_of z.kind) e ∙ number in
-    subst (λ (o : Option ℕ). Contains (cons_option o (filter_map (λ (i : Item). number_of i.kind) ys)) k) (sym is) (0, omega arith, refl)
-number_in (y ∷ ys) x k (suc j, lt, e) number =
-    more_option (number_of y.kind) (filter_map (λ (i : Item). number_of i.kind) ys) k (number_in ys x k (j, omega (arith, lt), e) number)
-
-number_not : (xs : List Item) (k : ℕ) → AreUnlike k xs → Contains (filter_map (λ (i : Item). number_of i.kind) xs) k → ⊥
-number_not [] k h (j, lt, e) = omega (arith, lt)
-number_not (y ∷ ys) k h w =
-    by_number (number_of y.kind) refl w (number_not ys k (All-tail (λ (x : Item). IsUnlike k x.kind) y ys h)) where
-      by_number : (o : Option ℕ) → number_of y.kind ≡ o → Contains (cons_option o (filter_map (λ (i : Item). number_of i.kind) ys)) k →
-          (Contains (filter_map (λ (i : Item). number_of i.kind) ys) k → ⊥) → ⊥
-      by_number None is v rec = rec v
-      by_number (Some n) is (zero, lt, e) rec = All-head (λ (x : Item). IsUnlike k x.kind) y ys h n is (sym e)
-      by_number (Some n) is (suc j, lt, e) rec = rec (j, omega (arith, lt), e)
-
-quiet_number : (w : Places) (k : ItemKind) → number_of (silenced w k) ≡ number_of k
-quiet_number w k = quiet_is (λ z. number_of z ≡ number_of k) w k refl (λ v r e. sym (ap number_of e)) (λ y n e. sym (ap number_of e))
 
 -- what is left has no more numbers
 unlike_left : {xs ys : List Item} (k : ℕ) → Left xs ys → AreUnlike k xs → AreUnlike k ys

@@ -56,7 +56,7 @@ of_ids [] b (k, lt, e) = absurd (omega (arith, lt))
 of_ids (a ∷ bs) b (zero, lt, e) = (zero, omega arith, ap (λ (c : Block). c.id) e)
 of_ids (a ∷ bs) b (suc k, lt, e) = let w = of_ids bs b (k, omega (arith, lt), e) in (suc w.0, (let l = w.1 in omega (arith, l)), w.2)
 
-in_drop : (xs : List Item) (k : ℕ) (y : Item) (ys : List Item) → drop k xs ≡ y ∷ ys → Contains xs y
+pub in_drop : (xs : List Item) (k : ℕ) (y : Item) (ys : List Item) → drop k xs ≡ y ∷ ys → Contains xs y
 in_drop [] zero y ys e = cc
 in_drop [] (suc k) y ys e = cc
 in_drop (x ∷ xs) zero y ys e = let head : x ≡ y = cc in (0, omega arith, head)
@@ -70,10 +70,10 @@ module _ (p : ItemKind → Bool) (quiet_p : (w : Places) (k : ItemKind) → p (s
   tested_quiet : (w : Places) (x : Item) → tested (quiet w x) ≡ tested x
   tested_quiet w x = ap (λ (z : Bool). z && is_origin x.origin o) (quiet_p w x.kind)
 
-quiet_code : (w : Places) (k : ItemKind) → is_code (silenced w k) ≡ is_code k
+pub quiet_code : (w : Places) (k : ItemKind) → is_code (silenced w k) ≡ is_code k
 quiet_code w k = quiet_is (λ z. is_code z ≡ is_code k) w k refl (λ v r e. sym (ap is_code e)) (λ y n e. sym (ap is_code e))
 
-quiet_defines : (x : Place) (w : Places) (k : ItemKind) → defines x (silenced w k) ≡ defines x k
+pub quiet_defines : (x : Place) (w : Places) (k : ItemKind) → defines x (silenced w k) ≡ defines x k
 quiet_defines x w k = quiet_is (λ z. defines x z ≡ defines x k) w k refl (λ v r e. sym (ap (defines x) e)) (λ y n e. sym (ap (defines x) e))
 
 module _ (f : Function) (sound : IsSound f) (subs : List DebugSubstitution) (ends : Ends) (wrong : Pos → Places) (exact : AreWrong ends f wrong)

@@ -148,7 +148,7 @@ numbers_left (gone {xs = xs} {ys = ys} x more) ms =
 le_more : (n m : ℕ) → n ≤ n + m
 le_more n m = omega arith
 
-quiet_code : (w : Places) (x : Item) → is_code (quiet w x).kind ≡ is_code x.kind
+pub quiet_code : (w : Places) (x : Item) → is_code (quiet w x).kind ≡ is_code x.kind
 quiet_code w x = quiet_is (λ z. is_code z ≡ is_code x.kind) w x.kind refl (λ v r e. sym (ap is_code e)) (λ y n e. sym (ap is_code e))
 
 quiet_calls : (w : Places) (x : Item) → calls (quiet w x).kind ≡ calls x.kind

@@ -56,7 +56,7 @@ none_of_front : (xs : List Item) (k : ℕ) (bs : List Block) (j n : ℕ) → fro
 none_of_front [] k bs j n e = (refl, e)
 none_of_front (x ∷ xs) k bs j n e = cc
 
-drop_all : (xs : List Item) → drop (length xs) xs ≡ []
+pub drop_all : (xs : List Item) → drop (length xs) xs ≡ []
 drop_all [] = refl
 drop_all (x ∷ xs) = drop_all xs
 

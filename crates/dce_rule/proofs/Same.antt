@@ -62,12 +62,12 @@ row_ways (Returns v) p q e = absurd e
 row_ways Unfit p q e = absurd e
 row_ways _ p q e = inl (e, λ p'. refl)
 
-debug_edge : (k : ItemKind) (p q : Pos) → is_code k ≡ false → KindEdge (λ m. m) k p q → q ≡ below p
+pub debug_edge : (k : ItemKind) (p q : Pos) → is_code k ≡ false → KindEdge (λ m. m) k p q → q ≡ below p
 debug_edge (Code i n) p q no_code e = cc
 debug_edge (Mark v m) p q no_code e = e
 debug_edge (Phi l n) p q no_code e = e
 
-debug_below : (k : ItemKind) (p : Pos) → is_code k ≡ false → KindEdge (λ m. m) k p (below p)
+pub debug_below : (k : ItemKind) (p : Pos) → is_code k ≡ false → KindEdge (λ m. m) k p (below p)
 debug_below (Code i n) p no_code = cc
 debug_below (Mark v m) p no_code = refl
 debug_below (Phi l n) p no_code = refl

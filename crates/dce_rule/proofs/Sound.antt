@@ -52,7 +52,7 @@ left_items wrong ends (b ∷ bs) = left_append (left_of (λ n. wrong (pos_in b.i
 
 -- ---- numbers
 
-quiet_number : (w : Places) (k : ItemKind) → number_of (silenced w k) ≡ number_of k
+pub quiet_number : (w : Places) (k : ItemKind) → number_of (silenced w k) ≡ number_of k
 quiet_number w k = quiet_is (λ z. number_of z ≡ number_of k) w k refl (λ v r e. sym (ap number_of e)) (λ y n e. sym (ap number_of e))
 
 quiet_code_number : (w : Places) (k : ItemKind) → code_number (silenced w k) ≡ code_number k

@@ -1,4 +1,4 @@
-mod Steps
+pub mod Steps
 mod Whole
 mod Told
 pub mod None

@@ -23,9 +23,9 @@ use Rattle.pass_trait.specs.declared.loss.Loss.{Loss}
 use Rattle.dce_rule.specs.Dead.{Places, Ends, is_dead, needed_at, without_dead, thinned_block, IsRound}
 use Rattle.dce_rule.specs.Wrong.{begins_dead, silenced, silenced_left, silenced_block, taken_out, is_dead_at, IsWrongAt, made, on}
 use Rattle.dce_rule.specs.Out.{LosesOf}
-use Rattle.dce_rule.proofs.Lists.{quiet, quiet_is}
+use Rattle.dce_rule.proofs.Lists.{quiet}
 use Rattle.dce_rule.proofs.Sound.{left_of, left_items}
-use Rattle.dce_rule.proofs.Fewer.{count_left}
+use Rattle.dce_rule.proofs.Fewer.{count_left, quiet_code}
 use Rattle.dce_mark.specs.Judged.{verdicts, AreJudged}
 use Rattle.dce_stale.specs.Sets.{AreVerdicts, StaleSets, AreStaleSets, wrong_of, starts_of}
 use Rattle.dce_stale.proofs.Exact.{begins_at}
@@ -47,7 +47,7 @@ left_false : (a b : Bool) → (a || b) ≡ false → a ≡ false
 left_false true b e = e
 left_false false b e = refl
 
-right_false : (a b : Bool) → (a || b) ≡ false → b ≡ false
+pub right_false : (a b : Bool) → (a || b) ≡ false → b ≡ false
 right_false true b e = absurd cc
 right_false false b e = e
 
@@ -65,7 +65,7 @@ none_in ends (c ∷ bs) b e (zero, lt, is) =
 none_in ends (c ∷ bs) b e (suc k, lt, is) =
     none_in ends bs b (right_false (some_true (verdicts_in ends c)) (some_dead (map (verdicts_in ends) bs)) e) (k, omega (arith, lt), is)
 
-silent_itself : (k : ItemKind) → silenced (λ x. false) k ≡ k
+pub silent_itself : (k : ItemKind) → silenced (λ x. false) k ≡ k
 silent_itself (Code i n) = refl
 silent_itself (Mark v Nothing) = refl
 silent_itself (Mark v (Constant n)) = refl
@@ -134,9 +134,6 @@ module _ (f : Function) (ends : Ends) (none : some_dead (map (verdicts_in ends) 
 abbrev code_in : List Item → ℕ
 code_in xs = count_by (λ (i : Item). is_code i.kind) xs
 
-quiet_code : (w : Places) (x : Item) → is_code (quiet w x).kind ≡ is_code x.kind
-quiet_code w x = quiet_is (λ z. is_code z ≡ is_code x.kind) w x.kind refl (λ v r e. sym (ap is_code e)) (λ y n e. sym (ap is_code e))
-
 code_first : (x : Item) (xs : List Item) → code_in (x ∷ xs) ≡ cond (is_code x.kind) 1 0 + code_in xs
 code_first x xs = sum_by-cons (λ (y : Item). cond (is_code y.kind) 1 0) x xs
 
@@ -146,7 +143,7 @@ code_both xs ys = sum_by-append (λ (y : Item). cond (is_code y.kind) 1 0) xs ys
 no_more : (wrong : ℕ → Places) (needed : Places) (n : ℕ) (xs : List Item) → code_in (silenced_left wrong n xs needed) ≤ code_in xs
 no_more wrong needed n xs = count_left (λ (i : Item). is_code i.kind) quiet_code (left_of wrong n xs needed)
 
-dead_is_code : (k : ItemKind) (needed : Places) → is_dead k needed ≡ true → is_code k ≡ true
+pub dead_is_code : (k : ItemKind) (needed : Places) → is_dead k needed ≡ true → is_code k ≡ true
 dead_is_code (Code i n) needed e = refl
 dead_is_code (Mark v m) needed e = cc
 dead_is_code (Phi p n) needed e = cc

@@ -75,7 +75,7 @@ module _ (items : List Item) (dead : List Bool) (start : Places) where
 
 -- ---- by the verdicts it is what taking out leaves
 
-drop_next : (xs : List Item) (n : ℕ) (y : Item) (ys : List Item) → drop n xs ≡ y ∷ ys → drop (suc n) xs ≡ ys
+pub drop_next : (xs : List Item) (n : ℕ) (y : Item) (ys : List Item) → drop n xs ≡ y ∷ ys → drop (suc n) xs ≡ ys
 drop_next [] zero y ys e = cc
 drop_next [] (suc n) y ys e = cc
 drop_next (x ∷ []) zero y ys e = let tail : [] ≡ ys = cc in tail

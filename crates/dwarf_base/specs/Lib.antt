@@ -1,3 +1,4 @@
 pub mod Limits
 pub mod Standard
 pub mod Leb
+pub mod Size

@@ -9,13 +9,13 @@ use Rattle.std.proofs.lemmas.List.{take_at, drop_at, take-append-drop, length-ta
 use Rattle.std.proofs.lemmas.List.Elements.{All-from_recursion}
 use Rattle.dwarf_base.specs.Standard.{LENGTH_LIMIT}
 use Rattle.dwarf_line.specs.Fields.{◌>>=◌, constants_at, number_at}
-use Rattle.dwarf_line.proofs.Groups.{bind_ok, chosen, ok_is, not_ok, constants_take, constants_again}
+use Rattle.dwarf_line.proofs.Groups.{bind_ok, chosen, ok_is, not_ok, constants_take, constants_again, step}
 use Rattle.dwarf_line.proofs.Fixed.{IsBytes, IsBytes-behind, IsWide, wide32, wide64, number_takes, number_again}
 use Rattle.dwarf_frame.specs.declared.table.Row.{Row}
 use Rattle.dwarf_frame.specs.Table.{none_saved, initial, IsDistance, AreRules, IsNext, AreRows}
 use Rattle.dwarf_frame.specs.Spelling.{advance, registers, row, rows_after}
 use Rattle.dwarf_frame.specs.FirstFault.{value_at, begins_row, padding_at, next_row_at, entry_at, range_at, Rows, NoRow, NextRow}
-use Rattle.dwarf_frame.proofs.Opcodes.{step, short_is, long_is, none_fit}
+use Rattle.dwarf_frame.proofs.Opcodes.{short_is, long_is, none_fit}
 use Rattle.dwarf_frame.proofs.OneRow.{change, row_append, Follows, row_takes, row_again}
 
 pub IsBytes-front : (x rest : List ℕ) → IsBytes (x ++ rest) → IsBytes x

@@ -8,19 +8,15 @@ use Rattle.dwarf_base.specs.Leb.{uleb_of}
 use Rattle.dwarf_line.specs.Spelling.{changing}
 use Rattle.dwarf_line.specs.Fields.{◌>>=◌, uleb_at}
 use Rattle.dwarf_line.specs.FirstFault.{register_at}
-use Rattle.dwarf_line.proofs.Groups.{bind_ok, chosen, ok_is, not_ok, IsOperand, Other, register_takes, register_again}
+use Rattle.dwarf_line.proofs.Groups.{bind_ok, chosen, ok_is, not_ok, Other, register_takes, register_again, step, small}
 use Rattle.dwarf_line.proofs.Fixed.{IsBytes}
-use Rattle.dwarf_line.proofs.Numbers.{uleb_takes, uleb_again}
 use Rattle.dwarf_frame.specs.declared.table.FrameRow.{FrameRow}
 use Rattle.dwarf_frame.specs.declared.table.Row.{Row}
 use Rattle.dwarf_frame.specs.Table.{is_saved, IsDistance, AreRules, IsNext}
 use Rattle.dwarf_frame.specs.Spelling.{advance, def_cfa_offset, saves, restores, registers, row}
 use Rattle.dwarf_frame.specs.FirstFault.{address_at, registers_at, next_row_at}
-use Rattle.dwarf_frame.proofs.Opcodes.{step, number, address_takes, address_again, Below, registers_take, registers_again, unchanged}
+use Rattle.dwarf_frame.proofs.Opcodes.{number, address_takes, address_again, Below, registers_take, registers_again, unchanged}
 use Rattle.dwarf_frame.proofs.Opcodes.{nothing_changes}
-
-small : IsOperand (uleb_at (2 ^ 32)) uleb_of (λ n. n < 2 ^ 32)
-small = record { takes = uleb_takes (2 ^ 32); again = uleb_again (2 ^ 32) }
 
 abbrev pub change : (old new : ℕ) → List ℕ
 change old new = changing old new (def_cfa_offset new)

@@ -8,16 +8,12 @@ use Rattle.std.proofs.Common.{length, replicate, Option, Some, None, Result, Ok,
 use Rattle.std.proofs.lemmas.Bool.{true≢false, false≢true, ne_eqb, cases_Bool, cases_lt, ltb-true, ltb-false, lt-ltb, le-ltb, le-leb, lt-leb, and_parts}
 use Rattle.dwarf_base.specs.Leb.{uleb_of}
 use Rattle.dwarf_line.specs.Fields.{◌>>=◌, constants_at, number_at, uleb_at}
-use Rattle.dwarf_line.proofs.Groups.{bind_ok, chosen, ok_is, not_ok, constants_take, constants_again, Other}
+use Rattle.dwarf_line.proofs.Groups.{bind_ok, chosen, ok_is, not_ok, constants_take, constants_again, Other, step}
 use Rattle.dwarf_line.proofs.Fixed.{IsBytes, IsBytes-rest, wide32, number_takes, number_again}
 use Rattle.dwarf_line.proofs.Numbers.{uleb_takes, uleb_again}
 use Rattle.dwarf_frame.specs.Table.{is_saved, none_saved, IsDistance}
 use Rattle.dwarf_frame.specs.Spelling.{advance, saves, restores, registers}
 use Rattle.dwarf_frame.specs.FirstFault.{advanced_at, address_at, save_at, saves_at, begins_restore, registers_at}
-
--- a step that didn't fail
-pub step : {A B : Type 0} (r : Result A ℕ) (f : A → Result B ℕ) (x : A) → r ≡ Ok x → (r >>= f) ≡ f x
-step r f x e = ap (λ z. z >>= f) e
 
 abbrev pub number : ℕ → List ℕ → Result (ℕ × List ℕ) ℕ
 number n rest = Ok (n, rest)

@@ -8,8 +8,9 @@ use Rattle.std.proofs.lemmas.Bool.{true≢false}
 use Rattle.std.proofs.lemmas.List.Elements.{recursion_from_All, All-from_recursion}
 use Rattle.dwarf_base.specs.Standard.{LENGTH_LIMIT}
 use Rattle.dwarf_line.specs.Fields.{◌>>=◌, constants_at}
-use Rattle.dwarf_line.proofs.Groups.{bind_ok, ok_is, not_ok, constants_take, constants_again}
+use Rattle.dwarf_line.proofs.Groups.{bind_ok, ok_is, not_ok, constants_take, constants_again, step}
 use Rattle.dwarf_line.proofs.Fixed.{IsBytes, IsBytes-behind, wide32}
+use Rattle.dwarf_line.proofs.Program.{no_fault}
 use Rattle.dwarf_frame.specs.declared.table.FrameRow.{FrameRow}
 use Rattle.dwarf_frame.specs.declared.table.Row.{Row}
 use Rattle.dwarf_frame.specs.declared.table.FrameDescription.{FrameDescription}
@@ -22,7 +23,6 @@ use Rattle.dwarf_frame.specs.FirstFault.{Functions, NoFunction, NextFunction, Fu
 use Rattle.dwarf_frame.specs.FirstFault.{SectionFault, InCommon, InFunctions, FirstFault, HasSize, IsSection}
 use Rattle.dwarf_frame.specs.Rows.{rules_in}
 use Rattle.dwarf_frame.specs.steps.Read.{SectionRead}
-use Rattle.dwarf_frame.proofs.Opcodes.{step}
 use Rattle.dwarf_frame.proofs.Entries.{IsBytes-front, initial_rules, rows_take, rows_again, value_takes, value_again, range_bytes, range_takes, range_again}
 use Rattle.dwarf_frame.proofs.Entries.{entry_takes, entry_again, length-zeros}
 
@@ -118,9 +118,6 @@ functions_again (f ∷ others) are sizes =
     (function_again f are.0) (functions_again others are.1 sizes.1)
 
 -- ---- a wrong field is none that is spelled, and what is read is one list alone
-
-no_fault : {A : Type 0} (r : Result A ℕ) (left : ℕ) (x : A) → r ≡ Err left → r ≡ Ok x → ⊥
-no_fault r left x e d = not_ok left x (sym e ∙ d)
 
 both : {A : Type 0} {B : Type 0} (r : Result (A × B) ℕ) (a b : A) (x y : B) → r ≡ Ok (a, x) → r ≡ Ok (b, y) → (a ≡ b) × (x ≡ y)
 both {A} {B} r a b x y e d =

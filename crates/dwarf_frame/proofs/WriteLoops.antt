@@ -7,7 +7,7 @@ use Rattle.std.proofs.lemmas.List.{drop_more, drop_all, take_all}
 use Rattle.std.proofs.lemmas.List.Elements.{All-from_recursion, All-get_or}
 use Rattle.std.specs.Int.{w32, w64, to_le_bytes}
 use Rattle.dwarf_base.specs.Leb.{uleb_of}
-use Rattle.dwarf_line.specs.steps.Size.{capped}
+use Rattle.dwarf_base.specs.Size.{capped}
 use Rattle.dwarf_frame.specs.declared.table.Row.{Row}
 use Rattle.dwarf_frame.specs.declared.table.FrameDescription.{FrameDescription}
 use Rattle.dwarf_frame.specs.Table.{IsNext, AreRows}

@@ -2,7 +2,7 @@
 
 ghost use Rattle.std.specs.Prelude.{◌≡◌, ◌+◌, ◌*◌, ◌-◌, ◌^◌, ◌≤◌, ◌<◌, ◌↔◌, [], length, All, IsNone, IfSome};
 ghost use Rattle.dwarf_line.specs.Spelling.{changing};
-ghost use Rattle.dwarf_line.specs.steps.Size.{capped};
+ghost use Rattle.dwarf_base.specs.Size.{capped};
 ghost use Rattle.dwarf_frame.specs.Table;
 ghost use Rattle.dwarf_frame.specs.Table.{IsDescription};
 ghost use Rattle.dwarf_frame.specs.Spelling;

@@ -6,7 +6,7 @@ ghost use Rattle.dwarf_base.specs.Leb.{uleb_of};
 ghost use Rattle.dwarf_info.specs.Kinds;
 ghost use Rattle.dwarf_info.specs.Entries.{named, entry, base_type, variable, subprogram, compile_unit, spelling};
 ghost use Rattle.dwarf_info.specs.steps.Parts.{type_bytes, variable_bytes, function_bytes};
-ghost use Rattle.dwarf_info.specs.steps.Size.{capped};
+ghost use Rattle.dwarf_base.specs.Size.{capped};
 
 use crate::abbreviation::code;
 use crate::entry::text_of;

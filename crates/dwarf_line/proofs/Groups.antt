@@ -50,7 +50,7 @@ pub record IsOperand (read : List ℕ → Result (ℕ × List ℕ) ℕ) (spell :
   pub takes : (bytes : List ℕ) (n : ℕ) (rest : List ℕ) → read bytes ≡ Ok (n, rest) → (bytes ≡ spell n ++ rest) × Fits n
   pub again : (n : ℕ) (rest : List ℕ) → Fits n → read (spell n ++ rest) ≡ Ok (n, rest)
 
-small : IsOperand (uleb_at (2 ^ 32)) uleb_of (λ n. n < 2 ^ 32)
+pub small : IsOperand (uleb_at (2 ^ 32)) uleb_of (λ n. n < 2 ^ 32)
 small = record { takes = uleb_takes (2 ^ 32); again = uleb_again (2 ^ 32) }
 
 to_line : (from : ℕ) → IsOperand (line_at from) (λ to. sleb_of (pos to -ℤ pos from)) (λ n. n < 2 ^ 32)
@@ -428,7 +428,7 @@ group_takes first before bytes g rest fits e = let p = group_parts first before 
 
 -- ---- and back
 
-step : {A B : Type 0} (r : Result A ℕ) (f : A → Result B ℕ) (x : A) → r ≡ Ok x → (r >>= f) ≡ f x
+pub step : {A B : Type 0} (r : Result A ℕ) (f : A → Result B ℕ) (x : A) → r ≡ Ok x → (r >>= f) ≡ f x
 step r f x e = ap (λ z. z >>= f) e
 
 copied_again : (before r : Row) (operand : Option ℕ) (rest : List ℕ) → ((k : ℕ) → operand ≡ Some k → r.address ≢ before.address)

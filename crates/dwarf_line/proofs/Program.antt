@@ -64,7 +64,7 @@ one_group : (r : Result (Group × List ℕ) ℕ) (g h : Group) (x y : List ℕ) 
 one_group r g h x y e d =
     let same = ok_is (g, x) (h, y) (sym e ∙ d) in (ap (λ (p : Group × List ℕ). p.0) same, ap (λ (p : Group × List ℕ). p.1) same)
 
-no_fault : {A : Type 0} (r : Result A ℕ) (left : ℕ) (x : A) → r ≡ Err left → r ≡ Ok x → ⊥
+pub no_fault : {A : Type 0} (r : Result A ℕ) (left : ℕ) (x : A) → r ≡ Err left → r ≡ Ok x → ⊥
 no_fault r left x e d = not_ok left x (sym e ∙ d)
 
 row_is : (r s : Row) → Copied r ≡ Copied s → r ≡ s

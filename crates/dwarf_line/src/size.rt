@@ -6,7 +6,7 @@ ghost use Rattle.dwarf_line.specs.Table.{HasRows, IsSequence};
 ghost use Rattle.dwarf_line.specs.Spelling;
 ghost use Rattle.dwarf_line.specs.Spelling.{changing, set_file, set_column, advance_pc, advance_line};
 ghost use Rattle.dwarf_line.specs.Spelling.{registers_at, sequence, program, text, tables, spelling};
-ghost use Rattle.dwarf_line.specs.steps.Size.{capped};
+ghost use Rattle.dwarf_base.specs.Size.{capped};
 
 use crate::constants::*;
 use crate::table::{FileEntry, LineTable, Name, Row, Sequence};

@@ -27,7 +27,7 @@ cut (m ∷ a) (n ∷ b) x y same e =
 abbrev pub Entered : Range → Type 0
 Entered r = IsLocated r.location
 
-entry-append : (r : Range) (x : List ℕ)
+pub entry-append : (r : Range) (x : List ℕ)
     → entry r ++ x ≡ 4 ∷ (uleb_of r.lo ++ (uleb_of r.hi ++ (uleb_of (length (expression r.location)) ++ (expression r.location ++ x))))
 entry-append r x = simp append_assoc
 
@@ -45,7 +45,7 @@ entry_one r s x y ok_r ok_s e =
     let same = expression_one r.location s.location ok_r ok_s location.0 in
     (same_range r s lo.0 hi.0 same, location.1)
 
-spliced : (first rest end x : List ℕ) → ((first ++ rest) ++ end) ++ x ≡ first ++ ((rest ++ end) ++ x)
+pub spliced : (first rest end x : List ℕ) → ((first ++ rest) ++ end) ++ x ≡ first ++ ((rest ++ end) ++ x)
 spliced first rest end x = simp append_assoc
 
 list-append : (r : Range) (ranges : List Range) (x : List ℕ) → list_spelling (r ∷ ranges) ++ x ≡ entry r ++ (list_spelling ranges ++ x)

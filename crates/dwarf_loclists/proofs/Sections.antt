@@ -21,6 +21,7 @@ use Rattle.dwarf_loclists.proofs.ReaderLemmas.{step, at_start}
 use Rattle.dwarf_loclists.proofs.EntryLemmas.{entry_size}
 use Rattle.dwarf_loclists.proofs.ListLemmas.{bodies_size}
 use Rattle.dwarf_loclists.proofs.OneFault.{no_fault}
+use Rattle.dwarf_loclists.proofs.OneReading.{entry-append, spliced}
 
 -- ranges up to one of those that ascend
 ascend_front : (front : List Range) (r : Range) (rest : List Range) → Ascend (front ++ r ∷ rest) → Ascend (front ++ r ∷ [])
@@ -47,10 +48,6 @@ below_next (p ∷ q ∷ front) r a =
     let next : q.hi ≤ r.lo = All-head (λ (s : Range). s.hi ≤ r.lo) q front rest in
     All-cons (λ (s : Range). s.hi ≤ r.lo) p (q ∷ front) (omega (arith, a.1, first_order q front r a.3)) rest
 
-entry-append : (r : Range) (x : List ℕ)
-    → entry r ++ x ≡ 4 ∷ (uleb_of r.lo ++ (uleb_of r.hi ++ (uleb_of (length (expression r.location)) ++ (expression r.location ++ x))))
-entry-append r x = simp append_assoc
-
 -- an entry more
 entry_right : (bytes : List ℕ) (n : ℕ) (done : List (List Range)) (ranges : List Range) (r : Range) (rest behind : List ℕ)
     → StandsAt bytes (EntryKind n done ranges) rest
@@ -70,9 +67,6 @@ entry_right bytes n done ranges r rest behind s e short ascend located wide =
     (len, within, refl, refl) refl in
     step bytes (Expression n done ranges r.lo r.hi len) (EntryKind n done (ranges ++ r ∷ [])) here _ behind s4 refl
     (r.location, record { located = located; wide = wide.2; spelled = refl }, refl, ascend, refl) (omega (arith, entry_size ranges r))
-
-spliced : (first rest end x : List ℕ) → ((first ++ rest) ++ end) ++ x ≡ first ++ ((rest ++ end) ++ x)
-spliced first rest end x = simp append_assoc
 
 -- the ranges that are left of a list
 ranges_right : (bytes : List ℕ) (n : ℕ) (done : List (List Range)) (front ranges : List Range) (rest behind : List ℕ)

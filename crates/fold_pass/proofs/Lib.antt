@@ -1,4 +1,3 @@
 mod Turns
-mod Results
 mod Folding
 mod Running

@@ -30,12 +30,13 @@ use Rattle.fold_rule.specs.Reached.{LeadTo, first, onward}
 use Rattle.fold_rule_proof.proofs.Tails.{goes_else}
 use Rattle.fold_rule_proof.specs.Kills.{kills}
 use Rattle.fold_rule_proof.proofs.Kills.{IsKillKind, IsKill, each_kill}
+use Rattle.fold_rule_proof.proofs.StepAlike.{leads_either}
 use Rattle.fold_proof.specs.Runs.{FoldedRunsAlong}
 use Rattle.fold_proof.proofs.Told.{kin_itself}
 use Rattle.fold_proof.proofs.Placed.{Found, falls_from, made_block, made_at, made_was}
 use Rattle.fold_proof.proofs.Ways.{ways_at}
 use Rattle.fold_proof.proofs.Folding.{Folding, old, end, stays, was, new, fp, gp, origins_new, apart_new, new_is, found_staying, was_staying}
-use Rattle.fold_proof.proofs.Folding.{code_leads, leads_to}
+use Rattle.fold_proof.proofs.Folding.{code_leads}
 use Rattle.fold_proof.proofs.Runs.{sides, match_states, Rest, view}
 
 -- control doesn't fall out of the last block
@@ -91,14 +92,14 @@ module _ (to_end : ℕ → ℕ) (next fall : Option ℕ) (source_end : Pos) wher
   jump_from x [] m n may to code = inr (m, to, refl)
   jump_from x (j ∷ []) m n may to code =
       let go : exit_of j.kind ≡ Always m = Rattle.fold_proof.proofs.Ways.always_is (exit_of j.kind) m to in
-      inl (j, tail x j (j ∷ []) (head j []), code_leads j.kind (leads_to (exit_of j.kind) m (inr go)), refl)
+      inl (j, tail x j (j ∷ []) (head j []), code_leads j.kind (leads_either (exit_of j.kind) m (inr go)), refl)
   jump_from x (j ∷ y ∷ ys) m n may to code = absurd may
 
   branch_from : (x : Item) (xs : List Item) (t m u v : ℕ) → exit_of x.kind ≡ Perhaps t → IsJumpAtMost xs → else_way (first_of xs) fall ≡ Some m →
       All (CodeFrom (x ∷ xs)) (branch_tail next source_end x (first_of xs) u v)
   branch_from x xs t m u v exit may to = by_tests (nat_eq u v) (is_number next v) (is_number next u) where
     code : is_code x.kind ≡ true
-    code = code_leads x.kind (leads_to (exit_of x.kind) t (inl exit))
+    code = code_leads x.kind (leads_either (exit_of x.kind) t (inl exit))
 
     own : (y : Item) → y.origin ≡ x.origin → CodeFrom (x ∷ xs) y
     own y o k = inl (x, head x xs, code, ap position_of (sym o))
@@ -140,7 +141,7 @@ module _ (to_end : ℕ → ℕ) (next fall : Option ℕ) (source_end : Pos) wher
         subst (λ (o : Option ℕ). All (CodeFrom (x ∷ xs)) (branch_tail_to to_end next fall source_end x (first_of xs) t o)) (sym w.1)
         (branch_from x xs t w.0 (to_end t) (to_end w.0) e may w.1)
     by_exit (Always n) e may rest = needed_from (x ∷ xs) (to_end n) (sent (to_end n) x)
-        (λ code. inl (x, head x xs, code_leads x.kind (leads_to (exit_of x.kind) n (inr e)), refl))
+        (λ code. inl (x, head x xs, code_leads x.kind (leads_either (exit_of x.kind) n (inr e)), refl))
     by_exit Final e may rest = one_from (x ∷ xs) x (λ code. inl (x, head x xs, code, refl))
 
 module _ (fold : Folding) (s : State) where

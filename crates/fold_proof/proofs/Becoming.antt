@@ -1,6 +1,6 @@
 -- What the items of a block become: those of a block that stays stay, but for its end, which is written anew.
 use Rattle.std.proofs.Common.{◌≡◌, ◌⊎◌, ℕ, suc, ◌<◌, List, [], ◌∷◌, count_by, All, Option, Some, None, Bool, true, false, cond}
-use Rattle.std.proofs.Common.{not, ◌&&◌, nat_eq, refl, sym, ap, subst, inl, inr, arith}
+use Rattle.std.proofs.Common.{not, ◌&&◌, nat_eq, refl, ap, subst, inl, inr, arith}
 use Rattle.std.proofs.lemmas.List.Elements.{All-head, All-tail}
 use Rattle.rv64_instr.specs.declared.place.Place.{Place}
 use Rattle.rv64_instr.specs.declared.place.Place.TheVariants.{Register, Slot, Const}
@@ -32,7 +32,7 @@ use Rattle.pass_trait.specs.declared.loss.Loss.{Loss}
 use Rattle.fold_rule.specs.Turned.{to_block, inverse_to, with_code, sent, turned, made_jump}
 use Rattle.fold_rule.specs.Tails.{first_of, else_way, is_number, jump_at_end}
 use Rattle.fold_rule.specs.Tails.{jump_for_branch, branch_tail, plain_tail, branch_tail_to, tail_by, rewritten}
-use Rattle.fold_rule_proof.proofs.Rows.{Leads, sent_jump}
+use Rattle.fold_rule_proof.proofs.Rows.{Leads, sent_jump, leads_by, leads_always}
 use Rattle.fold_rule_proof.proofs.Tails.{goes_else, always_some}
 use Rattle.fold_proof.proofs.Folding.{code_leads, branch_no_jump, still_code}
 use Rattle.fold_proof.specs.Debug.{fold_debug, IsLostAt}
@@ -53,12 +53,6 @@ jumps_row : (r : Row) (n : ℕ) → row_exit r ≡ Always n → is_jump_row r �
 jumps_row (Jumps t) n e = refl
 jumps_row _ n e = cc
 
-leads_branch : (e : Exit) (t : ℕ) → e ≡ Perhaps t → Leads e
-leads_branch e t h = subst Leads (sym h) tt
-
-leads_jump : (e : Exit) (t : ℕ) → e ≡ Always t → Leads e
-leads_jump e t h = subst Leads (sym h) tt
-
 other_none : (k : ItemKind) (n : ℕ) → exit_of k ≡ Always n → is_other_code k ≡ false
 other_none (Code i m) n e = ap (λ (z : Bool). not z) (jumps_row (row_of i) n e)
 other_none (Mark v m) n e = cc
@@ -66,7 +60,7 @@ other_none (Phi p m) n e = cc
 
 other_some : (k : ItemKind) (t : ℕ) → exit_of k ≡ Perhaps t → is_other_code k ≡ true
 other_some k t e =
-    let a = code_leads k (leads_branch (exit_of k) t e) in
+    let a = code_leads k (leads_by (exit_of k) t e) in
     let b = branch_no_jump k t e in
     λ i. a i && not (b i)
 
@@ -199,10 +193,10 @@ module _ (c : Change) (b : ℕ) (unlost : (n : ℕ) (loss : Loss) → IsLostAt c
     branch_alone : (x : Item) (n t u v : ℕ) → exit_of x.kind ≡ Perhaps t → Home x → (q r z s : Bool) → Less (branch_items x None u v q r z s) (x ∷ []) →
         Whole n (x ∷ []) (branch_items x None u v q r z s)
     branch_alone x n t u v e home true r z true less =
-        let leads = leads_branch (exit_of x.kind) t e in
+        let leads = leads_by (exit_of x.kind) t e in
         step (gone n x leads (inl (less is_code x.origin code_test home (fewer_none is_code x [] (code_leads x.kind leads))))) over
     branch_alone x n t u v e home true r z false less =
-        let leads = leads_branch (exit_of x.kind) t e in
+        let leads = leads_by (exit_of x.kind) t e in
         added (step (gone n x leads (inr (less is_other_code x.origin other_test home
         (fewer_one is_other_code x (jump_for_branch source_end x None v) [] (other_some x.kind t e) refl)))) over)
     branch_alone x n t u v e home false true z s less = step (changed (to_block u) n x) over
@@ -213,23 +207,23 @@ module _ (c : Change) (b : ℕ) (unlost : (n : ℕ) (loss : Loss) → IsLostAt c
     branch_jump : (x j : Item) (n t m u v : ℕ) → exit_of x.kind ≡ Perhaps t → exit_of j.kind ≡ Always m → Home x → Home j → (q r z s : Bool) →
         Less (branch_items x (Some j) u v q r z s) (x ∷ j ∷ []) → Whole n (x ∷ j ∷ []) (branch_items x (Some j) u v q r z s)
     branch_jump x j n t m u v e d home home' true r z true less =
-        let leads = leads_branch (exit_of x.kind) t e in
-        let code = code_leads j.kind (leads_jump (exit_of j.kind) m d) in
+        let leads = leads_by (exit_of x.kind) t e in
+        let code = code_leads j.kind (leads_always (exit_of j.kind) m d) in
         step (gone n x leads (inl (less is_code x.origin code_test home (fewer_none is_code x (j ∷ []) (code_leads x.kind leads)))))
-        (step (gone (suc n) j (leads_jump (exit_of j.kind) m d) (inl (less is_code j.origin code_test home' (fewer_second x j code)))) over)
+        (step (gone (suc n) j (leads_always (exit_of j.kind) m d) (inl (less is_code j.origin code_test home' (fewer_second x j code)))) over)
     branch_jump x j n t m u v e d home home' true r z false less =
-        let leads = leads_branch (exit_of x.kind) t e in
+        let leads = leads_by (exit_of x.kind) t e in
         let went = sent_jump j.kind m v d in
         step (gone n x leads (inr (less is_other_code x.origin other_test home
         (fewer_one is_other_code x (jump_for_branch source_end x (Some j) v) (j ∷ []) (other_some x.kind t e) (other_none (sent v j).kind v went)))))
         (step (moved_kind (to_block v) (suc n) m v j.kind j.origin x.origin j.loc x.loc d went) over)
     branch_jump x j n t m u v e d home home' false true z s less =
-        let code = code_leads j.kind (leads_jump (exit_of j.kind) m d) in
-        step (changed (to_block u) n x) (step (gone (suc n) j (leads_jump (exit_of j.kind) m d)
+        let code = code_leads j.kind (leads_always (exit_of j.kind) m d) in
+        step (changed (to_block u) n x) (step (gone (suc n) j (leads_always (exit_of j.kind) m d)
         (inl (less is_code j.origin code_test home' (fewer_after x j (sent u x) code (still_code (to_block u) x.kind) refl)))) over)
     branch_jump x j n t m u v e d home home' false false true s less =
-        let code = code_leads j.kind (leads_jump (exit_of j.kind) m d) in
-        step (changed (inverse_to v) n x) (step (gone (suc n) j (leads_jump (exit_of j.kind) m d)
+        let code = code_leads j.kind (leads_always (exit_of j.kind) m d) in
+        step (changed (inverse_to v) n x) (step (gone (suc n) j (leads_always (exit_of j.kind) m d)
         (inl (less is_code j.origin code_test home' (fewer_after x j (turned v x) code (still_code (inverse_to v) x.kind) refl)))) over)
     branch_jump x j n t m u v e d home home' false false false s less = step (changed (to_block u) n x) (step (changed (to_block v) (suc n) j) over)
 
@@ -269,7 +263,7 @@ module _ (c : Change) (b : ℕ) (unlost : (n : ℕ) (loss : Loss) → IsLostAt c
           jump_test : (m t : ℕ) → exit_of x.kind ≡ Always t → xs ≡ [] → (z : Bool) → Less (cond z [] (sent m x ∷ [])) (x ∷ xs) →
               Whole n (x ∷ xs) (cond z [] (sent m x ∷ []))
           jump_test m t e none true k =
-              let leads = leads_jump (exit_of x.kind) t e in
+              let leads = leads_always (exit_of x.kind) t e in
               step (gone n x leads (inl (k is_code x.origin code_test home (fewer_none is_code x xs (code_leads x.kind leads))))) (nothing_more (suc n) xs none)
           jump_test m t e none false k = step (changed (to_block m) n x) (nothing_more (suc n) xs none)
 

@@ -1,14 +1,13 @@
 -- A function that is folded, with what is known of it.
-use Rattle.std.proofs.Common.{◌≡◌, ◌⊎◌, ℕ, ◌+◌, List, [], ◌∷◌, map, All, Option, Bool, true, false}
-use Rattle.std.proofs.Common.{refl, sym}
-use Rattle.std.proofs.Common.{ap, ◌∙◌, subst, inl, inr, arith}
+use Rattle.std.proofs.Common.{◌≡◌, ℕ, ◌+◌, List, [], ◌∷◌, map, All, Option, Bool, true, false}
+use Rattle.std.proofs.Common.{refl}
+use Rattle.std.proofs.Common.{ap, ◌∙◌, subst, arith}
 use Rattle.std.proofs.lemmas.List.Elements.{All-contains}
 use Rattle.std.proofs.lemmas.Option.{get_or_from_slice_get}
 use Rattle.rv64_instr.specs.Row.{Row, Branches, Jumps, Returns, Unfit, row_of}
 use Rattle.mir_func.specs.declared.block.Block.{Block}
 use Rattle.mir_func.specs.declared.debug_substitution.OperandPair.{OperandPair}
-use Rattle.mir_func.specs.declared.exit.Exit.{Exit}
-use Rattle.mir_func.specs.declared.exit.Exit.TheVariants.{Onward, Perhaps, Always, Final}
+use Rattle.mir_func.specs.declared.exit.Exit.TheVariants.{Onward, Perhaps, Final}
 use Rattle.mir_func.specs.declared.item.Item.{Item}
 use Rattle.mir_func.specs.declared.item.ItemKind.{ItemKind}
 use Rattle.mir_func.specs.declared.item.ItemKind.TheVariants.{Code, Mark, Phi}
@@ -59,10 +58,6 @@ pub end_kind : (k : ItemKind) → Leads (exit_of k) → OnRow IsEnd k
 end_kind (Code i n) h = end_row (row_of i) h
 end_kind (Mark v m) h = absurd h
 end_kind (Phi p n) h = absurd h
-
-pub leads_to : (e : Exit) (n : ℕ) → (e ≡ Perhaps n) ⊎ (e ≡ Always n) → Leads e
-leads_to e n (inl h) = subst Leads (sym h) tt
-leads_to e n (inr h) = subst Leads (sym h) tt
 
 pub code_leads : (k : ItemKind) → Leads (exit_of k) → is_code k ≡ true
 code_leads (Code i n) h = refl

@@ -39,7 +39,7 @@ some_short e (x ∷ xs) = by_option (kill_by e x.kind x.loc) (some_short e xs) w
   by_option None h = omega (arith, h)
   by_option (Some y) h = omega (arith, h)
 
-four : (a b d e : Bool) → (a && b && d && e) ≡ true → (a ≡ true) × (d ≡ true) × (e ≡ true)
+pub four : (a b d e : Bool) → (a && b && d && e) ≡ true → (a ≡ true) × (d ≡ true) × (e ≡ true)
 four true true true true h = (refl, refl, refl)
 four true true true false h = cc
 four true true false e h = cc

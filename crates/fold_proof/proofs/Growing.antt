@@ -140,7 +140,7 @@ module _ (w : Item → ℕ) (k : ℕ) (ends_weigh : (x : Item) → Leads (exit_o
 abbrev weight : Bool → ℕ
 weight z = cond z 1 0
 
-all_of : {X : Type 0} (P : X → Type 0) (xs : List X) → ((x : X) → Contains xs x → P x) → All P xs
+pub all_of : {X : Type 0} (P : X → Type 0) (xs : List X) → ((x : X) → Contains xs x → P x) → All P xs
 all_of P [] h = All-nil P
 all_of P (x ∷ xs) h = All-cons P x xs (h x (0, omega arith, refl)) (all_of P xs (λ y w. h y (suc w.0, (let lt = w.1 in omega (arith, lt)), w.2)))
 

@@ -1,9 +1,9 @@
 -- A folded function with its kills keeps each debug item, or its loss is told.
 use Rattle.std.proofs.Common.{◌≡◌, ◌⊎◌, ℕ, suc, ◌+◌, List, [], ◌∷◌, map, slice_get, All, Contains, Some, None, Bool, true, false}
-use Rattle.std.proofs.Common.{cond, not, ◌&&◌, nat_eq, append-nil, refl, sym, ap, ◌∙◌, subst, inl, inr, eqb-true, eq-eqb, arith}
+use Rattle.std.proofs.Common.{cond, not, nat_eq, append-nil, refl, sym, ap, ◌∙◌, subst, inl, inr, eqb-true, eq-eqb, arith}
 use Rattle.std.specs.Option.{is_some}
-use Rattle.std.proofs.lemmas.List.Elements.{All-nil, All-cons, All-head, All-tail, All-weaker, All-contains}
-use Rattle.std.proofs.lemmas.Option.{slice_get-get_or, slice_get_within, get_or_from_slice_get}
+use Rattle.std.proofs.lemmas.List.Elements.{All-nil, All-head, All-tail, All-weaker, All-contains}
+use Rattle.std.proofs.lemmas.Option.{slice_get-get_or}
 use Rattle.rv64_instr.specs.DefsAndUses.{sets}
 use Rattle.rv64_instr.specs.Row.{Row, Jumps, row_of}
 use Rattle.mir_func.specs.declared.block.Block.{Block}
@@ -32,6 +32,7 @@ use Rattle.fold_rule.specs.Tails.{rewritten}
 use Rattle.fold_rule.specs.Rule.{folded_block, staying, folded_blocks}
 use Rattle.fold_rule_proof.specs.Kills.{kill_by, is_bypassed, kills, with_kills, IsFoldedWithKills}
 use Rattle.fold_rule_proof.proofs.Kills.{ComesFrom, each_from}
+use Rattle.fold_rule_proof.proofs.KillSound.{contains_at}
 use Rattle.fold_proof.proofs.Placed.{place_of, made_block, made}
 use Rattle.fold_proof.specs.Debug.{IsPassed, IsLostFor, fold_debug}
 use Rattle.fold_proof.specs.Keeps.{FoldedKeepsItems}
@@ -39,24 +40,12 @@ use Rattle.fold_proof.proofs.Passing.{c, new_is, gone_reason, passed_jumps, stay
 use Rattle.fold_proof.proofs.Fewer.{same_origin, home_of, fewer_staying, fewer_gone}
 use Rattle.fold_proof.proofs.Becoming.{become}
 use Rattle.fold_proof.proofs.Losing.{stands_in, told, said, caused}
+use Rattle.fold_proof.proofs.Growing.{all_of}
+use Rattle.fold_proof.proofs.Gone.{four}
 
 jump_sets : (r : Row) → IsJump r → sets r ≡ []
 jump_sets (Jumps t) h = refl
 jump_sets _ h = absurd h
-
-four : (a b d e : Bool) → (a && b && d && e) ≡ true → (a ≡ true) × (d ≡ true) × (e ≡ true)
-four true true true true h = (refl, refl, refl)
-four true true true false h = cc
-four true true false e h = cc
-four true false d e h = cc
-four false b d e h = cc
-
-contains_at : (xs : List Item) (k : ℕ) (x : Item) → slice_get xs k ≡ Some x → Contains xs x
-contains_at xs k x e = (k, slice_get_within xs k x e, get_or_from_slice_get xs k x x e)
-
-all_of : {X : Type 0} (P : X → Type 0) (xs : List X) → ((x : X) → Contains xs x → P x) → All P xs
-all_of P [] h = All-nil P
-all_of P (x ∷ xs) h = All-cons P x xs (h x (0, omega arith, refl)) (all_of P xs (λ y w. h y (suc w.0, (let lt = w.1 in omega (arith, lt)), w.2)))
 
 module _ (f g : Function) (subs : List DebugSubstitution) (sound : IsSound f) (h : IsFoldedWithKills f g) where
   abbrev old : List Block

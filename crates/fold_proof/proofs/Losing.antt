@@ -1,8 +1,7 @@
 -- What is lost, as it is told and as the rule says it, and its causes.
-use Rattle.std.proofs.Common.{◌≡◌, ◌⊎◌, ℕ, zero, suc, ◌+◌, List, [], ◌∷◌, ◌++◌, slice_get, Contains, Option, Some, None, Bool, true, false, cond}
-use Rattle.std.proofs.Common.{refl, sym, ap, ◌∙◌, subst, inl, inr, arith}
-use Rattle.std.specs.List.{flat_map, cons_option}
-use Rattle.std.proofs.lemmas.List.Elements.{Contains-append_left, Contains-append_right}
+use Rattle.std.proofs.Common.{◌≡◌, ℕ, zero, suc, ◌+◌, List, [], ◌∷◌, slice_get, Contains, Option, Some, None, Bool, true, false, cond}
+use Rattle.std.proofs.Common.{refl, sym, ap, ◌∙◌, subst, inl, inr}
+use Rattle.std.specs.List.{cons_option}
 use Rattle.rv64_instr.specs.Instruction.{Instruction}
 use Rattle.mir_func.specs.declared.block.Block.{Block}
 use Rattle.mir_func.specs.declared.debug_substitution.DebugSubstitution.{DebugSubstitution}
@@ -21,6 +20,7 @@ use Rattle.pass_trait.specs.declared.loss.Reason.TheVariants.{Bypassed, Unreacha
 use Rattle.pass_trait.specs.declared.loss.Loss.{Loss}
 use Rattle.pass_trait.specs.Rule.{number_lost, mark_lost, item, StandsAt}
 use Rattle.pass_trait.specs.Causes.{HasCause, block_bypassed, block_unreachable, code_unreachable}
+use Rattle.pass_trait.proofs.NopDebug.{of_flat, in_flat, in_first, at_later, at_first, none_in}
 use Rattle.fold_targets.specs.Leads.{lead}
 use Rattle.fold_rule_proof.specs.Kills.{IsFoldedWithKills}
 use Rattle.fold_proof.specs.Lost.{is_unreachable, loss_of, lost_in, lost_for, reason_for, all_lost}
@@ -29,40 +29,6 @@ use Rattle.fold_proof.proofs.Passing.{end, was, c}
 use Rattle.fold_proof.proofs.Passing.{gone_block, unreached_gone, not_reached, passed_block, lost_reason, reason_lost}
 
 -- ---- where an element of a list that is put together comes from
-
-in_first : {A : Type 0} (x : A) (xs : List A) (y : A) → Contains (x ∷ xs) y → (x ≡ y) ⊎ Contains xs y
-in_first x xs y (zero, lt, at) = inl at
-in_first x xs y (suc k, lt, at) = inr (k, omega (arith, lt), at)
-
-at_first : {A : Type 0} (x : A) (xs : List A) → Contains (x ∷ xs) x
-at_first x xs = (zero, omega arith, refl)
-
-at_later : {A : Type 0} (x : A) (xs : List A) (y : A) → Contains xs y → Contains (x ∷ xs) y
-at_later x xs y (k, lt, at) = (suc k, omega (arith, lt), at)
-
-in_append : {A : Type 0} (xs ys : List A) (y : A) → Contains (xs ++ ys) y → Contains xs y ⊎ Contains ys y
-in_append [] ys y h = inr h
-in_append (x ∷ xs) ys y h = elim (in_first x (xs ++ ys) y h) [
-  | inl e ↦ inl (subst (Contains (x ∷ xs)) e (at_first x xs))
-  | inr k ↦ elim (in_append xs ys y k) [ inl l ↦ inl (at_later x xs y l) | inr l ↦ inr l ]
-]
-
-none_in : {A P : Type 0} (y : A) → Contains [] y → P
-none_in y h = absurd (omega (arith, h.1))
-
-in_flat : {A B : Type 0} (h : A → List B) (xs : List A) (y : B) → Contains (flat_map h xs) y → (x : A) × Contains xs x × Contains (h x) y
-in_flat h [] y k = none_in y k
-in_flat h (x ∷ xs) y k = elim (in_append (h x) (flat_map h xs) y k) [
-  | inl l ↦ (x, at_first x xs, l)
-  | inr l ↦ (let w = in_flat h xs y l in (w.0, at_later x xs w.0 w.1, w.2))
-]
-
-of_flat : {A B : Type 0} (h : A → List B) (xs : List A) (x : A) (y : B) → Contains xs x → Contains (h x) y → Contains (flat_map h xs) y
-of_flat h [] x y k l = none_in x k
-of_flat {A} h (z ∷ zs) x y k l = elim (in_first z zs x k) [
-  | inl e ↦ Contains-append_left (h z) (flat_map h zs) y (subst (λ (w : A). Contains (h w) y) (sym e) l)
-  | inr m ↦ Contains-append_right (h z) (flat_map h zs) y (of_flat h zs x y m l)
-]
 
 -- a loss of some item
 record IsAmong (why : Reason) (xs : List Item) (loss : Loss) : Type 0 where

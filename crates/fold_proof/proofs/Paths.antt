@@ -4,7 +4,7 @@ use Rattle.std.proofs.Common.{Some, None, Bool}
 use Rattle.std.proofs.Common.{true, false, cond, refl, sym, ap, ◌∙◌, subst, inl, inr, eq-eqb, arith}
 use Rattle.std.proofs.lemmas.Bool.{cases_eq}
 use Rattle.std.proofs.lemmas.List.Elements.{All-contains, Contains-append_right}
-use Rattle.std.proofs.lemmas.Option.{slice_get-get_or, slice_get_within, get_or_from_slice_get}
+use Rattle.std.proofs.lemmas.Option.{slice_get-get_or, slice_get_within}
 use Rattle.rv64_instr.specs.Row.{Row, Branches, Jumps, Returns, Unfit, row_of}
 use Rattle.mir_func.specs.declared.block.Block.{Block}
 use Rattle.mir_func.specs.declared.debug_substitution.OperandPair.{OperandPair}
@@ -34,9 +34,11 @@ use Rattle.fold_rule.specs.Rule.{staying}
 use Rattle.fold_rule.specs.Reached.{ways_in, LeadTo, Reached, first, onward}
 use Rattle.fold_rule_proof.proofs.Blocks.{has_from, contains_from, ways_goes}
 use Rattle.fold_rule_proof.specs.Kills.{kills}
+use Rattle.fold_rule_proof.proofs.KillSound.{at_of, contains_at}
+use Rattle.fold_rule_proof.proofs.StepAlike.{leads_either}
 use Rattle.fold_proof.proofs.Placed.{Found, found_at, first_end, falls_from, made_block, made, made_at, made_first}
 use Rattle.fold_proof.proofs.Ways.{ways_at, ways_found, lead_at, Was, targets_of}
-use Rattle.fold_proof.proofs.Folding.{Folding, old, end, stays, was, new, fp, gp, ends, apart_new, end_kind, leads_to}
+use Rattle.fold_proof.proofs.Folding.{Folding, old, end, stays, was, new, fp, gp, ends, apart_new, end_kind}
 use Rattle.fold_proof.proofs.Along.{last_closes, none_after}
 use Rattle.fold_proof.proofs.Back.{item_leads, falls_on, way_goes, way_from, stays_or_way, next_by_ids, same_exit}
 use Rattle.fold_proof.proofs.Items.{same_ids}
@@ -71,12 +73,6 @@ alike_leaves (Code i m) (Mark v n) h l = absurd h
 alike_leaves (Code i m) (Phi p n) h l = absurd h
 alike_leaves (Mark v m) l h k = absurd h
 alike_leaves (Phi p m) l h k = absurd h
-
-slice_at : (xs : List Item) (x : Item) → Contains xs x → (k : ℕ) × (slice_get xs k ≡ Some x)
-slice_at xs x h = (h.0, slice_get-get_or xs h.0 x h.1 ∙ ap (λ (z : Item). Some z) h.2)
-
-pub contains_at : (xs : List Item) (k : ℕ) (x : Item) → slice_get xs k ≡ Some x → Contains xs x
-contains_at xs k x e = (k, slice_get_within xs k x e, get_or_from_slice_get xs k x x e)
 
 -- an item stands in its block
 pub record StandsIn (bs : List Block) (p : Pos) (i : Item) : Type 0 where
@@ -143,7 +139,7 @@ module _ (fold : Folding) (src : List Block) (subs : OperandPair → Option Oper
 
     way_of_item : (p : Pos) (i : Item) (n : ℕ) → srcp.fetch p ≡ Here i → (exit_of i.kind ≡ Perhaps n) ⊎ (exit_of i.kind ≡ Always n) → HasWay p.block n
     way_of_item p i n at e =
-        let k = kept p i at (end_kind i.kind (leads_to (exit_of i.kind) n e)) in
+        let k = kept p i at (end_kind i.kind (leads_either (exit_of i.kind) n e)) in
         let q = k.0 in
         let j = k.1 in
         let home : p.block ≡ q.block = ap (λ (o : Origin). (position_of o).block) (sym k.3) ∙ from_home false (old fold) fold.resolve fold.sound.origins q j
@@ -347,7 +343,7 @@ module _ (fold : Folding) (src : List Block) (subs : OperandPair → Option Oper
           (subst (λ (w : Ways). LeadTo w v.to) k.1 v.leads) (v.is_end ∙ first_ends) in
           let anew = rewritten (end fold) next (first_id after) source_end b.items in
           let ks = kills (end fold) (was fold) (old fold) b.id in
-          let s = slice_at (ks ++ anew) g.0 (Contains-append_right ks anew g.0 g.1) in (
+          let s = at_of (ks ++ anew) g.0 (Contains-append_right ks anew g.0 g.1) in (
             record { block = v.block; item = s.0 },
             g.0,
             ap (λ (z : List Block). fetch_in z s.0) (made_at (end fold) (stays fold) (was fold) (old fold) (old fold) v.block b after k.0.at v.stay) ∙

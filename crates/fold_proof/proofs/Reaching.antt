@@ -24,10 +24,11 @@ use Rattle.fold_targets.specs.Leads.{first_id}
 use Rattle.fold_rule.specs.declared.ways.Ways.{Ways}
 use Rattle.fold_rule.specs.Tails.{first_of, else_way, ways_by, ways_of}
 use Rattle.fold_rule.specs.Reached.{LeadTo, Reached, first, onward}
+use Rattle.fold_rule_proof.proofs.KillSound.{contains_at}
 use Rattle.fold_proof.proofs.Placed.{end_first}
 use Rattle.fold_proof.proofs.Ways.{always_is, ways_at, ways_found}
 use Rattle.fold_proof.proofs.Back.{item_leads, falls_on}
-use Rattle.fold_proof.proofs.Paths.{edge_item, contains_at, stands_in, EndsIn, ends_in}
+use Rattle.fold_proof.proofs.Paths.{edge_item, stands_in, EndsIn, ends_in}
 
 -- ---- edges
 

@@ -40,13 +40,13 @@ use Rattle.fold_rule_proof.proofs.Tails.{always_some, goes_else, jump_exit}
 use Rattle.fold_rule_proof.specs.Kills.{is_bypassed, kills}
 use Rattle.fold_rule_proof.proofs.Kills.{IsKill}
 use Rattle.fold_rule_proof.specs.Alike.{aimed_at, swapped}
-use Rattle.fold_rule_proof.proofs.StepAlike.{items_do_alike}
+use Rattle.fold_rule_proof.proofs.StepAlike.{items_do_alike, leads_either}
 use Rattle.fold_proof.proofs.Told.{MatchCores, kin_itself, kin_more, kin_less, kin_shows, kin_kill, kin_debug, kin_jump, kin_branch, kin_new_jump}
 use Rattle.fold_proof.proofs.Killed.{covered}
 use Rattle.fold_proof.proofs.Placed.{falls_from, made_block, made_at, made_gone, made_first}
 use Rattle.fold_proof.proofs.Ways.{always_is, LeadsOn, lead_at, ends_elsewhere, staying_end, Was, was_led}
 use Rattle.fold_proof.proofs.Folding.{Folding, old, end, stays, was, new, fp, gp, ends, origins_new, form_at}
-use Rattle.fold_proof.proofs.Folding.{after_end, end_kind, leads_to, code_leads, code_final, branch_no_jump, still_code, onward_never_goes, final_never_falls}
+use Rattle.fold_proof.proofs.Folding.{after_end, end_kind, code_leads, code_final, branch_no_jump, still_code, onward_never_goes, final_never_falls}
 use Rattle.fold_proof.proofs.Folding.{final_never_goes}
 use Rattle.sem_mir.proofs.Reading.{found_in}
 
@@ -166,7 +166,7 @@ module _ (fold : Folding) (s : State) where
           by_kind (Phi r m) q k later = quiet (ap is_code q) (later k)
           by_kind (Code i m) q k later =
               let exit : exit_of x.kind ≡ Always n = ap exit_of q ∙ always_is (row_exit (row_of i)) n k in
-              let leads = leads_to (exit_of x.kind) n (inr exit) in
+              let leads = leads_either (exit_of x.kind) n (inr exit) in
               let home = from_home false (old fold) fold.resolve fold.sound.origins p x at_x in
               jump x n at_x (ap is_code q) (after_end fold ByEnds p x at_x leads)
               (absent (position_of x.origin) (ap (stays fold) (home ∙ same) ∙ gone))
@@ -327,11 +327,11 @@ module _ (fold : Folding) (s : State) where
         stays fold (to_end n) ≡ true → WasReached n → (z : Bool) → is_number (next_of after) (to_end n) ≡ z →
         Seen b [] (x ∷ xs) (cond z [] (sent (to_end n) x ∷ []))
     view_jump x xs p same here n exit has was z e =
-        let leads = leads_to (exit_of x.kind) n (inr exit) in
+        let leads = leads_either (exit_of x.kind) n (inr exit) in
         let code = code_leads x.kind leads in
         by_test code z e where
           leads : Leads (exit_of x.kind)
-          leads = leads_to (exit_of x.kind) n (inr exit)
+          leads = leads_either (exit_of x.kind) n (inr exit)
 
           form : HasForm x.kind
           form = form_at fold p x here
@@ -377,7 +377,7 @@ module _ (fold : Folding) (s : State) where
       next = next_of after
 
       leads : Leads (exit_of x.kind)
-      leads = leads_to (exit_of x.kind) t (inl exit)
+      leads = leads_either (exit_of x.kind) t (inl exit)
 
       code : is_code x.kind ≡ true
       code = code_leads x.kind leads
@@ -399,7 +399,7 @@ module _ (fold : Folding) (s : State) where
       leave_by (j ∷ []) q k r jumps to =
           let there = (laid_out false (old fold) fold.resolve).cons q j [] r in
           let go : exit_of j.kind ≡ Always m = always_is (exit_of j.kind) m to in
-          let lead = leads_to (exit_of j.kind) m (inr go) in
+          let lead = leads_either (exit_of j.kind) m (inr go) in
           by_jump j m (code_leads j.kind lead) (after_end fold ByEnds q j there.0 lead)
           (λ c d h. kin_jump f j m (lost v) c d (form_at fold q j there.0) go h) (arrive m was_m)
       leave_by (j ∷ y ∷ ys) q k r jumps to = absurd jumps
@@ -449,7 +449,7 @@ module _ (fold : Folding) (s : State) where
       jump_goes = jump_exit (silent_of block) xs v may
 
       jump_code : is_code one_jump.kind ≡ true
-      jump_code = code_leads one_jump.kind (leads_to (exit_of one_jump.kind) v (inr jump_goes))
+      jump_code = code_leads one_jump.kind (leads_either (exit_of one_jump.kind) v (inr jump_goes))
 
       do_removed : u ≡ v → (c d : Core) → MatchCores [] c d → Alike b xs [] (since_item ByEnds x) (do_item f x.kind c) (do_item g one_jump.kind d)
       do_removed uv c d h = elim (kin_branch f x t [] c d form exit h) as (λ z. Alike b xs [] (since_item ByEnds x) (do_item f x.kind c)

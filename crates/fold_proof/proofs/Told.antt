@@ -13,7 +13,6 @@ use Rattle.rv64_instr.specs.Form.{is_implicit, has_form}
 use Rattle.rv64_instr.specs.Arithmetic.{taken}
 use Rattle.rv64_instr.specs.Row.{Branches, Jumps, row_of, row_by}
 use Rattle.rv64_instr.specs.Parts.{is_call}
-use Rattle.mir_func.specs.declared.exit.Exit.{Exit}
 use Rattle.mir_func.specs.declared.exit.Exit.TheVariants.{Perhaps, Always}
 use Rattle.mir_func.specs.declared.item.Item.{Item}
 use Rattle.mir_func.specs.declared.item.ItemKind.{ItemKind}
@@ -32,7 +31,7 @@ use Rattle.sem_mir.proofs.Told.{Below, TellsLess}
 use Rattle.sem_simulation.specs.MatchStates.{Does, ShowsSame}
 use Rattle.sem_simulation.specs.Rewired.{Jumps as JumpsTo}
 use Rattle.fold_rule_proof.proofs.Kills.{IsKillKind}
-use Rattle.fold_rule_proof.proofs.Rows.{Leads, IsEnding, branch, jump, is_ending}
+use Rattle.fold_rule_proof.proofs.Rows.{IsEnding, branch, jump, is_ending, leads_by, leads_always}
 
 -- a kill takes away what a part of a variable was assigned that it is or overlaps, and what its number gave
 abbrev pub kills_part : VarId → ItemKind → Bool
@@ -215,12 +214,6 @@ kin_numbered sp (Some n) os ks c d none h = record { same = h.same; pairs = afte
         subst (λ (w : Option ℕ). Below w (d.pairs k o)) same (h.pairs k o e)
     by_number false t = h.pairs k o e
 
-leads_always : (e : Exit) (t : ℕ) → e ≡ Always t → Leads e
-leads_always e t h = subst Leads (sym h) tt
-
-leads_perhaps : (e : Exit) (t : ℕ) → e ≡ Perhaps t → Leads e
-leads_perhaps e t h = subst Leads (sym h) tt
-
 act_jump : (t : ℕ) (c : Core) → act (Jumps t) c ≡ Goes t c
 act_jump t c = unfold act in unfold does in refl
 
@@ -281,7 +274,7 @@ pub kin_branch : (f : Program) (x : Item) (n : ℕ) (ks : List Item) (c d : Core
 kin_branch f x n ks c d form e h = by_kind x.kind form e where
   by_kind : (k : ItemKind) → HasForm k → exit_of k ≡ Perhaps n → BranchDoes (do_item f k c) n (λ e. MatchCores ks e d)
   by_kind (Code i m) form e =
-      branch_by f.sees_pointer m i.op i.operands n ks c d (is_ending i.op i.operands (leads_perhaps (row_exit (row_of i)) n e)) form e h
+      branch_by f.sees_pointer m i.op i.operands n ks c d (is_ending i.op i.operands (leads_by (row_exit (row_of i)) n e)) form e h
   by_kind (Mark v m) form e = cc
   by_kind (Phi p m) form e = cc
 

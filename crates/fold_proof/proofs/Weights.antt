@@ -1,6 +1,6 @@
 -- What the items of a block weigh once its end is written anew: at most one jump more.
 use Rattle.std.proofs.Common.{◌≡◌, ℕ, ◌+◌, ◌≤◌, List, [], ◌∷◌, Option, Some, None, Bool, true, false, cond, nat_eq}
-use Rattle.std.proofs.Common.{refl, sym, subst, arith}
+use Rattle.std.proofs.Common.{refl, subst, arith}
 use Rattle.std.specs.List.{sum_by}
 use Rattle.std.proofs.lemmas.List.Sums.{sum_by-cons}
 use Rattle.mir_func.specs.declared.exit.Exit.{Exit}
@@ -14,17 +14,11 @@ use Rattle.mir_func.specs.Sound.{IsJumpAtMost, MayFollow, EndsWell, Closes}
 use Rattle.fold_rule.specs.Turned.{sent, turned, made_jump}
 use Rattle.fold_rule.specs.Tails.{first_of, else_way, is_number, jump_at_end}
 use Rattle.fold_rule.specs.Tails.{jump_for_branch, plain_tail, branch_tail_to, tail_by, rewritten}
-use Rattle.fold_rule_proof.proofs.Rows.{Leads, sent_branch, turned_branch, sent_jump}
+use Rattle.fold_rule_proof.proofs.Rows.{Leads, sent_branch, turned_branch, sent_jump, leads_by, leads_always}
 use Rattle.fold_rule_proof.proofs.Tails.{goes_else, jump_exit}
 
 pub sum_first : {X : Type 0} (w : X → ℕ) (x : X) (xs : List X) → sum_by w (x ∷ xs) ≡ w x + sum_by w xs
 sum_first w x xs = sum_by-cons w x xs
-
-leads_branch : (e : Exit) (t : ℕ) → e ≡ Perhaps t → Leads e
-leads_branch e t h = subst Leads (sym h) tt
-
-leads_jump : (e : Exit) (t : ℕ) → e ≡ Always t → Leads e
-leads_jump e t h = subst Leads (sym h) tt
 
 -- each branch and each jump weighs k
 module _ (w : Item → ℕ) (k : ℕ) (ends_weigh : (x : Item) → Leads (exit_of x.kind) → w x ≡ k) (end : ℕ → ℕ) (next fall : Option ℕ) (source_end : Pos) where
@@ -42,18 +36,18 @@ module _ (w : Item → ℕ) (k : ℕ) (ends_weigh : (x : Item) → Leads (exit_o
       sum_by w (cond q (cond s [] (jump_for_branch source_end x (first_of xs) v ∷ [])) (cond r (sent u x ∷ [])
       (cond z (turned v x ∷ []) (sent u x ∷ jump_at_end source_end (first_of xs) v ∷ [])))) ≤ w x + sum_by w xs + k
   branch_weighs x xs t u v e may true r z s =
-      let a = needed (jump_for_branch source_end x (first_of xs) v) (leads_jump _ v (jump_exit source_end xs v may)) s in
+      let a = needed (jump_for_branch source_end x (first_of xs) v) (leads_always _ v (jump_exit source_end xs v may)) s in
       omega (arith, a)
   branch_weighs x xs t u v e may false true z s =
-      let a = weighs_one (sent u x) (leads_branch _ u (sent_branch x.kind t u e)) in omega (arith, a)
+      let a = weighs_one (sent u x) (leads_by _ u (sent_branch x.kind t u e)) in omega (arith, a)
   branch_weighs x xs t u v e may false false true s =
-      let a = weighs_one (turned v x) (leads_branch _ v (turned_branch x.kind t v e)) in omega (arith, a)
+      let a = weighs_one (turned v x) (leads_by _ v (turned_branch x.kind t v e)) in omega (arith, a)
   branch_weighs x xs t u v e may false false false s =
       let j : Item = jump_at_end source_end (first_of xs) v in
       let a = sum_first w (sent u x) (j ∷ []) in
-      let b = weighs_one j (leads_jump _ v (jump_exit source_end xs v may)) in
-      let c = ends_weigh (sent u x) (leads_branch _ u (sent_branch x.kind t u e)) in
-      let d = ends_weigh x (leads_branch _ t e) in
+      let b = weighs_one j (leads_always _ v (jump_exit source_end xs v may)) in
+      let c = ends_weigh (sent u x) (leads_by _ u (sent_branch x.kind t u e)) in
+      let d = ends_weigh x (leads_by _ t e) in
       omega (arith, a, b, c, d)
 
   pub anew_weighs : (xs : List Item) → EndsWell xs → (fall ≡ None → Closes xs) → sum_by w (anew xs) ≤ sum_by w xs + k
@@ -84,5 +78,5 @@ module _ (w : Item → ℕ) (k : ℕ) (ends_weigh : (x : Item) → Leads (exit_o
             let g = goes_else x t xs fall e may onto in
             by_to t (else_way (first_of xs) fall) g.0 g.1 e may
         by_exit (Always t) e may rest =
-            let a = needed (sent (end t) x) (leads_jump _ (end t) (sent_jump x.kind t (end t) e)) (is_number next (end t)) in omega (arith, a)
+            let a = needed (sent (end t) x) (leads_always _ (end t) (sent_jump x.kind t (end t) e)) (is_number next (end t)) in omega (arith, a)
         by_exit Final e may rest = let a = sum_first w x [] in omega (arith, a)

@@ -33,10 +33,10 @@ pub data Put (all : List Item) : (new old : List Item) → Type 0 where
   put : {z : Item} {xs ys : List Item} → code_number z.kind ≡ None →
       ((k : ℕ) → number_of z.kind ≡ Some k → (w : Item) → Contains all w → code_number w.kind ≡ Some k → ⊥) → Put all ys xs → Put all (z ∷ ys) xs
 
-contains_at : (xs : List Item) (i : ℕ) (x : Item) → slice_get xs i ≡ Some x → Contains xs x
+pub contains_at : (xs : List Item) (i : ℕ) (x : Item) → slice_get xs i ≡ Some x → Contains xs x
 contains_at xs i x e = (i, slice_get_within xs i x e, get_or_from_slice_get xs i x x e)
 
-at_of : (xs : List Item) (x : Item) → Contains xs x → (i : ℕ) × (slice_get xs i ≡ Some x)
+pub at_of : (xs : List Item) (x : Item) → Contains xs x → (i : ℕ) × (slice_get xs i ≡ Some x)
 at_of xs x h = (h.0, slice_get-get_or xs h.0 x h.1 ∙ ap (λ (z : Item). Some z) h.2)
 
 module _ (all : List Item) where

@@ -73,10 +73,10 @@ sent_exit_by : (op : Op) (os : List Operand) (n : ℕ) → IsEnding op os →
 sent_exit_by _ _ n branch = (λ t e. (refl, refl), λ t e. cc)
 sent_exit_by _ _ n jump = (λ t e. cc, λ t e. refl)
 
-leads_by : (e : Exit) (t : ℕ) → e ≡ Perhaps t → Leads e
+pub leads_by : (e : Exit) (t : ℕ) → e ≡ Perhaps t → Leads e
 leads_by e t h = subst Leads (sym h) tt
 
-leads_always : (e : Exit) (t : ℕ) → e ≡ Always t → Leads e
+pub leads_always : (e : Exit) (t : ℕ) → e ≡ Always t → Leads e
 leads_always e t h = subst Leads (sym h) tt
 
 pub sent_branch : (k : ItemKind) (t n : ℕ) → exit_of k ≡ Perhaps t → exit_of (with_code (to_block n) k) ≡ Perhaps n

@@ -106,7 +106,7 @@ turned_by sp k _ _ u n c (branch {op} {a} {b} {t} {rest}) e =
     (branch_act (numbered sp false k (Use a ∷ Use b ∷ OfBlock t ∷ rest)) op a b t n c).1
 turned_by sp k _ _ u n c jump e = cc
 
-leads_either : (e : Exit) (t : ℕ) → (e ≡ Perhaps t) ⊎ (e ≡ Always t) → Leads e
+pub leads_either : (e : Exit) (t : ℕ) → (e ≡ Perhaps t) ⊎ (e ≡ Always t) → Leads e
 leads_either e t (inl h) = subst Leads (sym h) tt
 leads_either e t (inr h) = subst Leads (sym h) tt
 

@@ -5,14 +5,13 @@ use Rattle.rv64_instr.specs.declared.op.RegisterOp.TheVariants.{Add}
 use Rattle.rv64_instr.specs.Arithmetic.{computed}
 use Rattle.rv64_instr.specs.Row.{Row, LoadsSlot, StoresSlot, Jumps, row_of}
 use Rattle.rv64_instr.specs.Row.{add_row}
-use Rattle.mir_func.specs.declared.exit.Exit.{Exit}
-use Rattle.mir_func.specs.declared.exit.Exit.TheVariants.{Onward, Perhaps, Always, Final}
+use Rattle.mir_func.specs.declared.exit.Exit.TheVariants.{Final}
 use Rattle.mir_func.specs.declared.framed.SavedRegister.{SavedRegister}
 use Rattle.mir_func.specs.declared.item.ItemKind.{ItemKind}
 use Rattle.mir_func.specs.declared.item.ItemKind.TheVariants.{Code, Mark, Phi}
 use Rattle.mir_func.specs.declared.position.Origin.{Origin}
 use Rattle.mir_func.specs.declared.position.Origin.TheVariants.{Kept, Before}
-use Rattle.mir_func.specs.Exits.{exit_of, is_final}
+use Rattle.mir_func.specs.Exits.{exit_of}
 use Rattle.sem_mir.specs.State.{Core, updated, content}
 use Rattle.sem_mir.specs.Step.{Outcome, Falls, Goes, Gives, Traps, Asks, Breaks, act, does, read, set_register, slot_loaded}
 use Rattle.sem_mir.specs.Align.{position_of, is_code, is_jump, is_jump_row, Since, After}
@@ -47,12 +46,6 @@ pub final_code : (k : ItemKind) → exit_of k ≡ Final → is_code k ≡ true
 final_code (Code i n) e = refl
 final_code (Mark v m) e = cc
 final_code (Phi p n) e = cc
-
-pub is_the_end : (e : Exit) → is_final e ≡ true → e ≡ Final
-is_the_end Final h = refl
-is_the_end Onward h = cc
-is_the_end (Perhaps n) h = cc
-is_the_end (Always n) h = cc
 
 -- both go on alike, and elsewhere only where the source moves on
 pub to_outcomes : (R : Core → Core → Type 0) (m : Since) (L : Type 0) → L → (x y : Outcome) → ((n : ℕ) (e : Core) → x ≡ Goes n e → m ≡ After) → EndAlike R x y →

@@ -44,7 +44,8 @@ use Rattle.frame_proof.proofs.Cores.{Beside, put_written, updated_written, slots
 use Rattle.frame_proof.proofs.ItemsAlike.{item_near, final_near}
 use Rattle.frame_proof.proofs.Fits.{IsResult, ReadsResults}
 use Rattle.frame_rule.proofs.Saved.{saved_above, saved_given, none_saved}
-use Rattle.frame_proof.proofs.FrameCode.{same_position, adds_no_jump, kind_jump, kind_code, final_code, is_the_end, to_outcomes, to_final, adds_does}
+use Rattle.frame_rule.proofs.Parts.{is_the_end}
+use Rattle.frame_proof.proofs.FrameCode.{same_position, adds_no_jump, kind_jump, kind_code, final_code, to_outcomes, to_final, adds_does}
 use Rattle.frame_proof.proofs.FrameCode.{store_does}
 use Rattle.frame_proof.proofs.FrameCode.{load_does}
 use Rattle.frame_proof.proofs.Blocks.{from_index, items_from, ends_alike, drop_zero}

@@ -1,5 +1,5 @@
 -- What the frame holds where a run stands is what the frame's state at the position says.
-use Rattle.std.proofs.Common.{◌≡◌, ◌⊎◌, ℕ, zero, suc, ◌-◌, pos, List, [], ◌∷◌, ◌++◌, map, drop, Contains, Option, Some, Bool, true, false, cond, not, nat_eq}
+use Rattle.std.proofs.Common.{◌≡◌, ℕ, zero, suc, ◌-◌, pos, List, [], ◌∷◌, ◌++◌, map, drop, Contains, Option, Some, Bool, true, false, cond, not, nat_eq}
 use Rattle.std.proofs.Common.{◌&&◌, ◌||◌, refl, sym, ap, ◌∙◌, subst, inl, inr, append_assoc, eq-eqb, ne_eqb, arith}
 use Rattle.std.proofs.lemmas.Bool.{eqb-true, and_parts}
 use Rattle.std.proofs.lemmas.List.Concat.{flat_map-cons}
@@ -22,7 +22,7 @@ use Rattle.sem_simulation.proofs.Laid.{rest_in, laid_out_framed}
 use Rattle.frame_rule.specs.Rule.{saved_places, saved_of, size_of, added, added_all, position_in, epilogue, renamed, framed_item, framed_items}
 use Rattle.frame_rule.specs.Rule.{framed_of}
 use Rattle.frame_proof.specs.Stands.{FrameState, is_return, is_as_found, frame_state, IsSaved, FrameStands}
-use Rattle.frame_rule.proofs.Saved.{none_saved}
+use Rattle.frame_rule.proofs.Saved.{none_saved, or_cases}
 use Rattle.frame_proof.proofs.Standing.{Part, lowering, saving, body, loading, loaded, kind_exit}
 
 adds_goes_on : (n : ℕ) → row_exit (add_row 2 2 n) ≡ Onward
@@ -32,10 +32,6 @@ adds_goes_on (suc n) = refl
 pub or_true : (a b : Bool) → b ≡ true → (a || b) ≡ true
 or_true true b e = refl
 or_true false b e = e
-
-or_cases : (a b : Bool) → (a || b) ≡ true → (a ≡ true) ⊎ (b ≡ true)
-or_cases true b h = inl refl
-or_cases false b h = inr h
 
 past_no_return : (x : Fetch) → IsPastItems x → is_return x ≡ true → ⊥
 past_no_return (Here i) past h = past

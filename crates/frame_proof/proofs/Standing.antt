@@ -12,8 +12,7 @@ use Rattle.rv64_instr.specs.Row.{Row, LoadsSlot, StoresSlot, Returns, Unfit, row
 use Rattle.rv64_instr.specs.Row.{add_row}
 use Rattle.mir_func.specs.declared.block.Block.{Block}
 use Rattle.mir_func.specs.declared.debug_substitution.OperandPair.{OperandPair}
-use Rattle.mir_func.specs.declared.exit.Exit.{Exit}
-use Rattle.mir_func.specs.declared.exit.Exit.TheVariants.{Onward, Perhaps, Always, Final}
+use Rattle.mir_func.specs.declared.exit.Exit.TheVariants.{Final}
 use Rattle.mir_func.specs.declared.framed.SavedRegister.{SavedRegister}
 use Rattle.mir_func.specs.declared.item.Item.{Item}
 use Rattle.mir_func.specs.declared.item.ItemKind.{ItemKind}
@@ -42,14 +41,9 @@ use Rattle.frame_proof.specs.Stands.{IsEntered}
 use Rattle.frame_rule.proofs.Rows.{renamed_row, row_renamed}
 use Rattle.frame_proof.proofs.Cores.{slots_below}
 use Rattle.frame_rule.proofs.Saved.{IsGivenBack, saved_above, saved_given, saved_in, none_saved}
+use Rattle.frame_rule.proofs.Parts.{is_the_end}
 use Rattle.frame_proof.proofs.Blocks.{from_index, items_from, drop_zero}
 use Rattle.frame_proof.proofs.Holding.{Holds, lowers_to, raises_to, adds_to, leaves_register, leaves_place, still_holds}
-
-is_the_end : (x : Exit) → is_final x ≡ true → x ≡ Final
-is_the_end Final h = refl
-is_the_end Onward h = cc
-is_the_end (Perhaps n) h = cc
-is_the_end (Always n) h = cc
 
 exit_same : (slots : List ℕ) (r : Row) → row_exit (renamed_row slots r) ≡ row_exit r
 exit_same slots (LoadsSlot rd n) = refl

@@ -4,3 +4,4 @@ pub mod Offsets
 pub mod Parts
 pub mod Ends
 pub mod Framed
+pub mod Forms

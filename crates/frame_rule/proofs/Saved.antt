@@ -23,7 +23,7 @@ middle r x y = (omega (arith, y), (λ a b. omega (arith, y, a, b)), (λ a. omega
 high : (r : ℕ) → 18 ≤ r → r ≤ 27 → IsGivenBack r
 high r x y = (omega (arith, y), (λ a b. omega (arith, x, a, b)), (λ a. omega (arith, x, a)), λ a. omega (arith, x, a))
 
-or_cases : (a b : Bool) → (a || b) ≡ true → (a ≡ true) ⊎ (b ≡ true)
+pub or_cases : (a b : Bool) → (a || b) ≡ true → (a ≡ true) ⊎ (b ≡ true)
 or_cases true b h = inl refl
 or_cases false b h = inr h
 

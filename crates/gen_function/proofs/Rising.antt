@@ -4,8 +4,8 @@ use Rattle.std.proofs.Common.{Bool, true, false, cond, nat_eq}
 use Rattle.std.specs.List.{slice_get}
 use Rattle.mir_func.specs.declared.item.Item.{Item}
 use Rattle.mir_func.specs.declared.item.ItemKind.{ItemKind}
-use Rattle.mir_func.specs.declared.item.ItemKind.TheVariants.{Code, Mark, Phi}
-use Rattle.mir_func.specs.Sound.{number_of, code_number, NumbersOnce}
+use Rattle.mir_func.specs.Sound.{number_of, NumbersOnce}
+use Rattle.mir_func.proofs.Once.{code_is_number}
 use Rattle.gen_function.specs.Draws.{Drawn, next, draw}
 use Rattle.gen_function.specs.Generator.{group_of, group, groups, last_end, end_of, end, beginning, block_items, placed}
 
@@ -96,11 +96,6 @@ above (goes_items {n} {m} i at more) zero k y g f =
     let same : i ≡ y = cc in rises_above n m k (number_of i.kind) at (ap (λ (x : Item). number_of x.kind) same ∙ f)
 above (goes_items {n} {m} i at more) (suc j) k y g f =
     let up = rises_up n m (number_of i.kind) at in let later = above more j k y g f in omega arith
-
-code_is_number : (k : ItemKind) (n : ℕ) → code_number k ≡ Some n → number_of k ≡ Some n
-code_is_number (Code i k) n e = e
-code_is_number (Mark v m) n e = absurd cc
-code_is_number (Phi p k) n e = absurd cc
 
 once : {n e : ℕ} {items : List Item} → RisingItems n items e → (i j : ℕ) (x y : Item) (k : ℕ) → slice_get items i ≡ Some x → number_of x.kind ≡ Some k →
     slice_get items j ≡ Some y → number_of y.kind ≡ Some k → i ≡ j

@@ -2,12 +2,12 @@
 --
 -- Their blocks are made one after the other. By induction on how many were made: their numbers are those from 0 on, each block's
 -- items are fine for all blocks of the function and its ends are those of a block, and the numbers of its items go on rising.
-use Rattle.std.proofs.Common.{◌≡◌, ℕ, zero, suc, ◌+◌, ◌<◌, ◌≤◌, List, [], ◌∷◌, ◌++◌, Some, length, get_or, refl, sym, ap, ◌∙◌, subst, arith, lit≤}
+use Rattle.std.proofs.Common.{◌≡◌, ℕ, zero, suc, ◌+◌, ◌<◌, ◌≤◌, List, [], ◌∷◌, ◌++◌, length, get_or, refl, sym, ap, ◌∙◌, subst, arith, lit≤}
 use Rattle.std.proofs.Common.{length-append, inl, inr}
 use Rattle.std.proofs.Math.ListN.{get_or-append}
 use Rattle.std.proofs.Math.Seq.{get_or-append_seam}
 use Rattle.std.proofs.lemmas.Bool.{cases_eq}
-use Rattle.std.specs.List.{All, slice_get}
+use Rattle.std.specs.List.{All}
 use Rattle.std.proofs.lemmas.List.{map-append, append-nil}
 use Rattle.std.proofs.lemmas.List.Elements.{All-nil, All-cons, All-append, All-head, All-tail}
 use Rattle.std.proofs.lemmas.Grind.{flat_map-append}
@@ -18,6 +18,7 @@ use Rattle.std.specs.Prelude.{codes}
 use Rattle.mir_func.specs.declared.object.Object.{Object}
 use Rattle.mir_func.specs.Sound.{AreApart, ids_of, items_of, TargetsIn, SlotsIn, ObjectsIn, LeavesPointer, OriginIn, EndsWell, Closes, LastCloses}
 use Rattle.mir_func.specs.Sound.{IsSoundObject, IsSound}
+use Rattle.mir_func.proofs.Apart.{at_slice_get}
 use Rattle.gen_function.specs.Draws.{Drawn}
 use Rattle.gen_function.specs.Generator.{groups, end, beginning, block_items, placed, block_of, blocks_made, generated}
 use Rattle.gen_function.proofs.Placing.{item_at}
@@ -38,11 +39,6 @@ up_to_more ids n h = (simp length-append (omega arith), at) where
     | inl e ↦ subst (λ (k : ℕ). get_or (ids ++ n ∷ []) k d ≡ k) (h.0 ∙ sym e) (get_or-append_seam ids n [] d ∙ sym h.0)
     | inr e ↦ get_or-append ids (n ∷ []) d i (omega arith) ∙ h.1 i d (omega arith)
   ]
-
-at_slice_get : (xs : List ℕ) (i n : ℕ) → slice_get xs i ≡ Some n → (i < length xs) × ((d : ℕ) → get_or xs i d ≡ n)
-at_slice_get [] i n e = absurd cc
-at_slice_get (x ∷ xs) zero n e = (omega arith, λ d. cc)
-at_slice_get (x ∷ xs) (suc i) n e = let r = at_slice_get xs i n e in (let l : i < length xs = r.0 in omega arith, r.1)
 
 up_to_apart : (ids : List ℕ) (n : ℕ) → IsUpTo ids n → AreApart ids
 up_to_apart ids n h i j m e f =

@@ -1,13 +1,13 @@
 -- The operands that a slot or an object is listed by have the form of the opcode: the frame is so small that each offset from x2 is
 -- one of 12 bits.
-use Rattle.std.proofs.Common.{◌≡◌, ℕ, suc, ◌+◌, ◌<◌, ◌≤◌, ℤ, pos, negsuc, Bool, true, false, ◌&&◌, cond, nat_eq, List, [], ◌∷◌, length, get_or, Option}
-use Rattle.std.proofs.Common.{Some, refl, ap, sym, ◌∙◌, subst, arith}
-use Rattle.std.specs.Prelude.{All, Contains, ◌+ℤ◌}
+use Rattle.std.proofs.Common.{◌≡◌, ℕ, suc, ◌+◌, ◌≤◌, ℤ, pos, true, false, ◌&&◌, List, [], ◌∷◌, length, get_or}
+use Rattle.std.proofs.Common.{refl, ap, sym, ◌∙◌, arith}
+use Rattle.std.specs.Prelude.{Contains, ◌+ℤ◌}
 use Rattle.std.specs.List.{list_all}
 use Rattle.std.proofs.lemmas.Bool.{and_parts}
 use Rattle.std.proofs.lemmas.Bool.Decides.{nat_tests}
 use Rattle.std.proofs.lemmas.Int.{ints}
-use Rattle.std.proofs.lemmas.List.Elements.{All-head, All-tail, All-contains}
+use Rattle.std.proofs.lemmas.List.Elements.{All-contains}
 use Rattle.rv64_instr.specs.declared.op.Op.{Op}
 use Rattle.rv64_instr.specs.declared.op.Op.TheVariants.{Registers, Immediate, Lui, Branch, Load, Store, Copy, PseudoBr, PseudoCall, PseudoRet}
 use Rattle.rv64_instr.specs.declared.op.ImmediateOp.{ImmediateOp}
@@ -20,47 +20,20 @@ use Rattle.rv64_instr.specs.Arithmetic.{word, load_width, store_width}
 use Rattle.rv64_instr.specs.Form.{has_12_bits, is_implicit, is_result, moves_slot, is_addi, is_immediate, has_form}
 use Rattle.rv64_instr.specs.Form.{fits_registers, fits_immediate, fits_upper, fits_branch, fits_load, fits_store, fits_copy, fits_jump, fits_call}
 use Rattle.rv64_instr.specs.Row.{row_by, load_row, store_row, number_row}
-use Rattle.mir_func.specs.declared.object.Object.{Object}
 use Rattle.mir_func.specs.Function.{FramedFunction}
-use Rattle.mir_func.specs.Objects.{object_of, offset_of, offset_or_zero}
-use Rattle.mir_func.specs.Sound.{IsSoundObject, HasBytes, SlotIn, ObjectIn}
+use Rattle.mir_func.specs.Objects.{offset_of, offset_or_zero}
+use Rattle.mir_func.specs.Sound.{HasBytes, SlotIn, ObjectIn}
 use Rattle.mir_func.specs.SoundFrame.{own_size, slot_offsets, IsFramed, IsSlotOffset}
 use Rattle.emit_code.specs.Listed.{by_pointer}
 use Rattle.mir_func.proofs.Ends.{bytes_within}
+use Rattle.listing_meaning.proofs.Operands.{Added, added, added_in, at_least, results_stay}
 
 -- ---- numbers
-
-small : (k : ℕ) → has_12_bits (negsuc k) ≡ true → k < 2048
-small k e = grind (arith, nat_tests, ints)
-
-tiny : (m : ℕ) → has_12_bits (pos m) ≡ true → m < 2048
-tiny m e = grind (arith, nat_tests, ints)
 
 fits_low : (n : ℕ) → n ≤ 2047 → has_12_bits (pos n) ≡ true
 fits_low n low = grind (arith, nat_tests, ints)
 
-sound_by : (p : Bool) (x o : Object) (rest : Option Object) → IsSoundObject x → (rest ≡ Some o → IsSoundObject o) → cond p (Some x) rest ≡ Some o →
-    IsSoundObject o
-sound_by true x o rest is more e = let same : x ≡ o = cc in subst IsSoundObject same is
-sound_by false x o rest is more e = more e
-
-sound_found : (os : List Object) (n : ℕ) (o : Object) → All IsSoundObject os → object_of os n ≡ Some o → IsSoundObject o
-sound_found [] n o all e = absurd cc
-sound_found (x ∷ os) n o all e =
-    sound_by (nat_eq x.id n) x o (object_of os n) (All-head IsSoundObject x os all) (sound_found os n o (All-tail IsSoundObject x os all)) e
-
--- what is added in an object isn't negative, and is itself
-data Added : ℤ → Type 0 where
-  added : (m : ℕ) → word (pos m) ≡ m → Added (pos m)
-
 module _ (f : FramedFunction) (framed : IsFramed f) where
-  added_in : (n extra : ℕ) (i : ℤ) → has_12_bits i ≡ true → HasBytes f.objects n (word i + extra) → Added i
-  added_in n extra (pos m) bits has = let less = tiny m bits in added m (omega (arith, less))
-  added_in n extra (negsuc k) bits (o, found, fits) =
-      let less = small k bits in
-      let sound = sound_found f.objects n o framed.each_object found in
-      absurd (omega (arith, less, sound.size, fits))
-
   room_of : (n bytes : ℕ) → HasBytes f.objects n bytes → own_size f + offset_of f.objects n + bytes ≤ 2047
   room_of n bytes has =
       let within = bytes_within f.objects n bytes has in
@@ -87,7 +60,7 @@ module _ (f : FramedFunction) (framed : IsFramed f) where
   object_fits : (n extra : ℕ) (i : ℤ) (rest : List Operand) → HasBytes f.objects n (word i + extra) → has_12_bits i ≡ true → list_all is_implicit rest ≡ true →
       (has_12_bits (pos (own_size f + offset_of f.objects n) +ℤ i) && list_all is_implicit rest) ≡ true
   object_fits n extra i rest has bits all =
-      (λ j. object_bits n extra i has (added_in n extra i bits has) j && list_all is_implicit rest) ∙ all
+      (λ j. object_bits n extra i has (added_in f framed n extra i bits has) j && list_all is_implicit rest) ∙ all
 
   -- ---- of each opcode
 
@@ -111,14 +84,11 @@ module _ (f : FramedFunction) (framed : IsFramed f) where
       object_fits n (store_width op) i rest objects both.0 both.1
   store_formed op os form slots objects = absurd cc
 
-  at_least : (n x : ℕ) → HasBytes f.objects n x → HasBytes f.objects n (x + 0)
-  at_least n x (o, found, fits) = (o, found, omega (arith, fits))
-
   sum_formed : (os : List Operand) → fits_immediate Addi os ≡ true → ObjectIn f.objects (number_row Addi os) → fits_immediate Addi (by_pointer f os) ≡ true
   sum_formed (Def rd ∷ Use b ∷ Imm i ∷ rest) form objects = form
   sum_formed (Def rd ∷ OfObject n ∷ Imm i ∷ rest) form objects =
       let both = and_parts (has_12_bits i) (list_all is_implicit rest) form in
-      object_fits n 0 i rest (at_least n (word i) objects) both.0 both.1
+      object_fits n 0 i rest (at_least f framed n (word i) objects) both.0 both.1
   sum_formed os form objects = absurd cc
 
   number_formed : (op : ImmediateOp) (os : List Operand) → fits_immediate op os ≡ true → is_addi op ≡ false → fits_immediate op (by_pointer f os) ≡ true
@@ -174,16 +144,6 @@ module _ (f : FramedFunction) (framed : IsFramed f) where
   call_formed (Symbol name ∷ Mask ∷ rest) form = form
   call_formed os form = absurd cc
 
-  behind_result : (x : Operand) (o : Operand) (os : List Operand) → is_result o ≡ true → by_pointer f (x ∷ o ∷ os) ≡ x ∷ o ∷ os
-  behind_result x (ImplicitUse r) os is = refl
-  behind_result x o os is = absurd cc
-
-  results_stay : (os : List Operand) → list_all is_result os ≡ true → by_pointer f os ≡ os
-  results_stay [] all = refl
-  results_stay (o ∷ []) all = refl
-  results_stay (x ∷ o ∷ os) all =
-      behind_result x o os (and_parts (is_result o) (list_all is_result os) (and_parts (is_result x) (is_result o && list_all is_result os) all).1).0
-
   pub operands_formed : (op : Op) (os : List Operand) → has_form op os ≡ true → SlotIn (slot_offsets f) (row_by op os) → ObjectIn f.objects (row_by op os) →
       has_form op (by_pointer f os) ≡ true
   operands_formed (Registers op) os form slots objects = registers_formed os form
@@ -195,4 +155,4 @@ module _ (f : FramedFunction) (framed : IsFramed f) where
   operands_formed Copy os form slots objects = copy_formed os form
   operands_formed PseudoBr os form slots objects = jump_formed os form
   operands_formed PseudoCall os form slots objects = call_formed os form
-  operands_formed PseudoRet os form slots objects = ap (list_all is_result) (results_stay os form) ∙ form
+  operands_formed PseudoRet os form slots objects = ap (list_all is_result) (results_stay f framed os form) ∙ form

@@ -19,7 +19,7 @@ use Rattle.rv64_instr.specs.declared.operand.Operand.TheVariants.{Def, Use, Impl
 use Rattle.rv64_instr.specs.Instruction.{Instruction}
 use Rattle.rv64_instr.specs.declared.op.LoadOp.{LoadOp}
 use Rattle.rv64_instr.specs.declared.op.StoreOp.{StoreOp}
-use Rattle.rv64_instr.specs.Form.{is_implicit, is_result, is_within, has_12_bits, is_immediate, has_form}
+use Rattle.rv64_instr.specs.Form.{is_implicit, is_result, is_within, has_12_bits, is_immediate, has_form, IsSigned}
 use Rattle.rv64_instr.specs.Form.{fits_registers, fits_immediate, fits_upper, fits_branch, fits_load, fits_store, fits_copy, fits_jump, fits_call}
 use Rattle.mir_func.specs.declared.block.Block.{Block}
 use Rattle.mir_func.specs.declared.item.Item.{Item}
@@ -39,7 +39,7 @@ use Rattle.emit_code.specs.Rule.{entries_at, entry}
 use Rattle.emit_code.specs.Rule.{entries_of, sites_in, sites_from, sites_of, words_of}
 use Rattle.emit_code.proofs.Sites.{site_size}
 use Rattle.emit_code.proofs.Stand.{stands, words_fill}
-use Rattle.mir_printer.specs.Printable.{IsNumber, IsSigned, HasNumbers, IsPrintableInstruction}
+use Rattle.mir_printer.specs.Printable.{IsNumber, HasNumbers, IsPrintableInstruction}
 use Rattle.mir_printer.specs.Printable.{IsAsDeclared}
 use Rattle.listing_text.specs.Shown.{IsPrintableOrigin, IsPrintableImplicit, IsPrintableLine, IsPrintableBlock}
 use Rattle.listing_text.specs.Shown.{IsPrintableObject}
@@ -55,7 +55,7 @@ use Rattle.listing_function.proofs.Lowering.{operands_formed}
 
 -- ---- numbers
 
-signed : (x : ℤ) → has_12_bits x ≡ true → IsSigned x
+pub signed : (x : ℤ) → has_12_bits x ≡ true → IsSigned x
 signed (pos n) e = let less : n < 2048 = grind (arith, nat_tests, ints) in omega (arith, less)
 signed (negsuc n) e = let less : n < 2048 = grind (arith, nat_tests, ints) in omega (arith, less)
 
@@ -144,7 +144,7 @@ before_printable : (o : Origin) → IsPrintableOrigin o → IsPrintableOrigin (a
 before_printable (Kept p) is = is
 before_printable (Before p) is = is
 
-both_sides : {X : Type 0} (P : X → Type 0) (xs ys : List X) → All P (xs ++ ys) → All P xs × All P ys
+pub both_sides : {X : Type 0} (P : X → Type 0) (xs ys : List X) → All P (xs ++ ys) → All P xs × All P ys
 both_sides P [] ys all = (All-nil P, all)
 both_sides P (x ∷ xs) ys all =
     let rest = both_sides P xs ys (All-tail P x (xs ++ ys) all) in (All-cons P x xs (All-head P x (xs ++ ys) all) rest.0, rest.1)

@@ -19,7 +19,7 @@ use Rattle.mir_func.specs.declared.framed.SavedRegister.{SavedRegister}
 use Rattle.mir_func.specs.declared.item.Item.{Item}
 use Rattle.mir_func.specs.declared.item.ItemKind.{ItemKind}
 use Rattle.mir_func.specs.declared.item.ItemKind.TheVariants.{Code, Mark, Phi}
-use Rattle.mir_func.specs.Sound.{IsNotPointer, LeavesPointer, AllItems, SlotsIn, ObjectsIn}
+use Rattle.mir_func.specs.Sound.{IsNotPointer, LeavesPointer, AllItems, SlotsIn, ObjectsIn, contents_of}
 use Rattle.mir_func.specs.SoundFrame.{adds_to_pointer, saves, restores, prologue_code, epilogue_code, AreCode, IsBody, GivesBack, goes_on, returns, HasFrame}
 use Rattle.mir_func.specs.SoundFrame.{NumberedAlike, IsFramed, slot_offsets}
 use Rattle.emit_code.specs.Rule.{Layout, Form, OneWord, row_form, form_of, address_in, sites_in}
@@ -28,7 +28,7 @@ use Rattle.listing_text.specs.declared.output.Line.{Line}
 use Rattle.listing_text.specs.declared.output.ListedBlock.{ListedBlock}
 use Rattle.listing_text.specs.declared.output.ListedVariable.{ListedVariable}
 use Rattle.listing_meaning.specs.Frame.{ShownFrame, lowered_by, size_shown, frame_shown}
-use Rattle.listing_meaning.specs.Program.{blocks_of, block_shown, contents, first_id}
+use Rattle.listing_meaning.specs.Program.{blocks_of, block_shown, first_id}
 use Rattle.listing_meaning.specs.Listing.{form_lines, kind_lines, site_lines, items_listed, prologue_listed, body_listed, blocks_listed, listing_of}
 use Rattle.listing_meaning.specs.Settled.{frame_of, settled}
 use Rattle.listing_meaning.specs.Laws.{ListingsShowTheFunction}
@@ -203,7 +203,7 @@ function_shown l variables substitutions framed formed =
     let frame = frame_same l variables substitutions framed in
     let blocks = blocks_whole l variables substitutions framed in
     let good = goods l framed l.framed.blocks formed (frame_steady l.framed.size l.framed.saved l.framed.blocks framed.frame) framed.slots framed.objects in
-    ap (λ (bs : List ListedBlock). map contents (map (block_shown (frame_shown listing)) bs)) blocks ∙
-    (ap (λ (f : ShownFrame). map contents (map (block_shown f) (blocks_listed l 0 l.framed.blocks))) frame ∙
-    (map-map contents (block_shown (frame_of l.framed)) (blocks_listed l 0 l.framed.blocks) ∙
-    (blocks_back l framed 0 l.framed.blocks good ∙ sym (map-map contents (settled l.framed) l.framed.blocks))))
+    ap (λ (bs : List ListedBlock). map contents_of (map (block_shown (frame_shown listing)) bs)) blocks ∙
+    (ap (λ (f : ShownFrame). map contents_of (map (block_shown f) (blocks_listed l 0 l.framed.blocks))) frame ∙
+    (map-map contents_of (block_shown (frame_of l.framed)) (blocks_listed l 0 l.framed.blocks) ∙
+    (blocks_back l framed 0 l.framed.blocks good ∙ sym (map-map contents_of (settled l.framed) l.framed.blocks))))

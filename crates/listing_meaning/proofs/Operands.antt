@@ -74,11 +74,11 @@ sound_found (x ∷ os) n o all e =
     sound_by (nat_eq x.id n) x o (object_of os n) (All-head IsSoundObject x os all) (sound_found os n o (All-tail IsSoundObject x os all)) e
 
 -- what is added in an object isn't negative, and is itself
-data Added : ℤ → Type 0 where
+pub data Added : ℤ → Type 0 where
   added : (m : ℕ) → word (pos m) ≡ m → Added (pos m)
 
 module _ (f : FramedFunction) (framed : IsFramed f) where
-  added_in : (n extra : ℕ) (i : ℤ) → has_12_bits i ≡ true → HasBytes f.objects n (word i + extra) → Added i
+  pub added_in : (n extra : ℕ) (i : ℤ) → has_12_bits i ≡ true → HasBytes f.objects n (word i + extra) → Added i
   added_in n extra (pos m) bits has = let less = tiny m bits in added m (omega (arith, less))
   added_in n extra (negsuc k) bits (o, found, fits) =
       let less = small k bits in
@@ -191,7 +191,7 @@ module _ (f : FramedFunction) (framed : IsFramed f) where
       ap (λ (q : Bool). Def rd ∷ cond q (Use 2 ∷ Imm (pos x) ∷ []) (accessed (frame_of f) false x) ++ rest) (ne_eqb rd 2 other) ∙
       ap (λ (os : List Operand). Def rd ∷ os ++ rest) (above false x (omega arith))
 
-  at_least : (n x : ℕ) → HasBytes f.objects n x → HasBytes f.objects n (x + 0)
+  pub at_least : (n x : ℕ) → HasBytes f.objects n x → HasBytes f.objects n (x + 0)
   at_least n x (o, found, fits) = (o, found, omega (arith, fits))
 
   sum_back : (os : List Operand) → fits_immediate Addi os ≡ true → IsSteady (Immediate Addi) os → ObjectIn f.objects (number_row Addi os) →
@@ -261,7 +261,7 @@ module _ (f : FramedFunction) (framed : IsFramed f) where
   behind_result x (ImplicitUse r) os is = refl
   behind_result x o os is = absurd cc
 
-  results_stay : (os : List Operand) → list_all is_result os ≡ true → by_pointer f os ≡ os
+  pub results_stay : (os : List Operand) → list_all is_result os ≡ true → by_pointer f os ≡ os
   results_stay [] all = refl
   results_stay (o ∷ []) all = refl
   results_stay (x ∷ o ∷ os) all =

@@ -8,10 +8,9 @@ use Rattle.mir_func.specs.declared.item.Item.{Item}
 use Rattle.mir_func.specs.declared.item.ItemKind.{ItemKind}
 use Rattle.mir_func.specs.declared.item.ItemKind.TheVariants.{Code, Mark, Phi}
 use Rattle.mir_func.specs.Function.{FramedFunction}
-use Rattle.mir_func.specs.Sound.{AllItems, HasForm, ObjectsIn}
+use Rattle.mir_func.specs.Sound.{AllItems, HasForm, ObjectsIn, contents_of}
 use Rattle.mir_func.specs.SoundFrame.{IsFramed}
 use Rattle.emit_code.specs.steps.Emitted.{IsFormed}
-use Rattle.listing_meaning.specs.Program.{contents}
 use Rattle.listing_meaning.specs.Settled.{settled, settled_kind, settled_item, StaysInside}
 use Rattle.listing_meaning.specs.Laws.{ListingsShowTheItems}
 use Rattle.listing_meaning.proofs.Operands.{operands_same}
@@ -36,7 +35,7 @@ module _ (f : FramedFunction) (framed : IsFramed f) where
 
   blocks_same : (blocks : List Block) → AllItems IsFormed blocks → AllItems (λ i. ObjectsIn f.objects i.kind) blocks →
       AllItems (λ i. StaysInside f.objects i.kind) blocks →
-      map contents (map (settled f) blocks) ≡ map contents blocks
+      map contents_of (map (settled f) blocks) ≡ map contents_of blocks
   blocks_same [] forms objects inside = refl
   blocks_same (b ∷ blocks) forms objects inside =
       let rest = blocks_same blocks (All-tail (λ x. All IsFormed x.items) b blocks forms)

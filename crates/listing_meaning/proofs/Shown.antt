@@ -16,7 +16,7 @@ use Rattle.mir_func.specs.declared.block.Block.{Block}
 use Rattle.mir_func.specs.declared.item.Item.{Item}
 use Rattle.mir_func.specs.declared.item.ItemKind.{ItemKind}
 use Rattle.mir_func.specs.declared.item.ItemKind.TheVariants.{Code, Mark, Phi}
-use Rattle.mir_func.specs.Sound.{SlotsIn, ObjectsIn, HasForm}
+use Rattle.mir_func.specs.Sound.{SlotsIn, ObjectsIn, HasForm, contents_of}
 use Rattle.mir_func.specs.SoundFrame.{slot_offsets, IsFramed}
 use Rattle.emit_code.specs.Inverted.{inverted, jump_to}
 use Rattle.emit_code.specs.Listed.{listed}
@@ -24,7 +24,7 @@ use Rattle.emit_code.specs.Rule.{Layout, Site, Form, form_of, address_in, sites_
 use Rattle.listing_text.specs.declared.output.Line.{Line}
 use Rattle.listing_text.specs.Output.{operand_of}
 use Rattle.listing_meaning.specs.Frame.{raised}
-use Rattle.listing_meaning.specs.Program.{items_shown, block_shown, contents}
+use Rattle.listing_meaning.specs.Program.{items_shown, block_shown}
 use Rattle.listing_meaning.specs.Listing.{implicits, branch_skip, line_at, form_lines, kind_lines, site_lines, blocks_listed}
 use Rattle.listing_meaning.specs.Settled.{frame_of, settled_kind, settled_item, settled}
 use Rattle.listing_meaning.proofs.Forms.{FormView, one, call, long, viewed}
@@ -100,10 +100,10 @@ module _ (l : Layout) (framed : IsFramed l.framed) where
       ap (λ (is : List Item). settled_item l.framed i ∷ is) (items_back b (suc n) items (All-tail Good i items all))
 
   pub blocks_back : (b : ℕ) (blocks : List Block) → All (λ block. All Good block.items) blocks →
-      map (λ listed. contents (block_shown (frame_of l.framed) listed)) (blocks_listed l b blocks) ≡ map (λ block. contents (settled l.framed block)) blocks
+      map (λ listed. contents_of (block_shown (frame_of l.framed) listed)) (blocks_listed l b blocks) ≡ map (λ block. contents_of (settled l.framed block)) blocks
   blocks_back b [] all = refl
   blocks_back b (block ∷ blocks) all =
       let items = items_back b 0 block.items (All-head (λ x. All Good x.items) block blocks all) in
       let rest = blocks_back (suc b) blocks (All-tail (λ x. All Good x.items) block blocks all) in
-      ap (λ (is : List Item). (block.id, is) ∷ map (λ listed. contents (block_shown (frame_of l.framed) listed)) (blocks_listed l (suc b) blocks)) items ∙
-      ap (λ (bs : List (ℕ × List Item)). contents (settled l.framed block) ∷ bs) rest
+      ap (λ (is : List Item). (block.id, is) ∷ map (λ listed. contents_of (block_shown (frame_of l.framed) listed)) (blocks_listed l (suc b) blocks)) items ∙
+      ap (λ (bs : List (ℕ × List Item)). contents_of (settled l.framed block) ∷ bs) rest

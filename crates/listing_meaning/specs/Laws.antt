@@ -5,7 +5,7 @@ use Rattle.std.specs.Int.{w32, to_le_bytes}
 use Rattle.mir_func.specs.declared.debug_substitution.DebugSubstitution.{DebugSubstitution}
 use Rattle.mir_func.specs.declared.position.Pos.{Pos}
 use Rattle.mir_func.specs.Function.{FramedFunction}
-use Rattle.mir_func.specs.Sound.{AllItems}
+use Rattle.mir_func.specs.Sound.{AllItems, contents_of}
 use Rattle.mir_func.specs.SoundFrame.{IsFramed}
 use Rattle.emit_code.specs.declared.code.EncodedInstruction.{EncodedInstruction as Laid}
 use Rattle.emit_code.specs.Rule.{Layout, words_of, entries_of}
@@ -14,7 +14,7 @@ use Rattle.emit_code.specs.steps.Emitted.{IsFormed, point_of}
 use Rattle.machine_steps_proof.specs.Images.{IsImageOf}
 use Rattle.listing_text.specs.declared.output.ListedVariable.{ListedVariable}
 use Rattle.listing_text.specs.declared.output.Output.{Output}
-use Rattle.listing_meaning.specs.Program.{image_of, blocks_shown, contents, IsLaidOut, IsListedAt}
+use Rattle.listing_meaning.specs.Program.{image_of, blocks_shown, IsLaidOut, IsListedAt}
 use Rattle.listing_meaning.specs.Settled.{settled, StaysInside}
 use Rattle.listing_meaning.specs.Listing.{listing_of}
 
@@ -32,14 +32,14 @@ ListingsShowTheImage = (l : Layout) (variables : List ListedVariable) (substitut
 -- shown relative to the last object that has its byte (see `object_at`).
 abbrev pub ListingsShowTheFunction : Type 0
 ListingsShowTheFunction = (l : Layout) (variables : List ListedVariable) (substitutions : List DebugSubstitution) → IsFramed l.framed → AreFormed l.framed →
-    map contents (blocks_shown (listing_of l variables substitutions)) ≡ map contents (map (settled l.framed) l.framed.blocks)
+    map contents_of (blocks_shown (listing_of l variables substitutions)) ≡ map contents_of (map (settled l.framed) l.framed.blocks)
 
 -- If each address, load and store of a stack object begins at one of the object's bytes, which no other object has, the listing shows the function's own
 -- items.
 abbrev pub ListingsShowTheItems : Type 0
 ListingsShowTheItems = (l : Layout) (variables : List ListedVariable) (substitutions : List DebugSubstitution) → IsFramed l.framed → AreFormed l.framed →
     AllItems (λ i. StaysInside l.framed.objects i.kind) l.framed.blocks →
-    map contents (blocks_shown (listing_of l variables substitutions)) ≡ map contents l.framed.blocks
+    map contents_of (blocks_shown (listing_of l variables substitutions)) ≡ map contents_of l.framed.blocks
 
 -- The lines of a listing fill the function's addresses in order.
 abbrev pub ListingsLie : Type 0

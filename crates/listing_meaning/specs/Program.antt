@@ -98,10 +98,6 @@ blocks_shown f = map (block_shown (frame_shown f)) (blocks_of f)
 abbrev pub program_shown : ListedFunction → Program
 program_shown f = framed_program (blocks_shown f) (resolve f.substitutions)
 
--- the number and the items of a block, without its silent position, which isn't listed
-abbrev pub contents : Block → ℕ × List Item
-contents b = (b.id, b.items)
-
 -- ---- addresses of lines
 
 -- The line is an item's. A skip is part of the long branch on the next line.

@@ -1,6 +1,6 @@
 -- The items of a function with its frame are printable where those of the function are: those that were there keep their numbers but for slots,
 -- which are named by small offsets, and those that were added have small ones. A function that was read has printable items.
-use Rattle.std.proofs.Common.{◌≡◌, ℕ, zero, suc, ◌<◌, ◌≤◌, ◌^◌, ℤ, pos, negsuc, Bool, true, false, ◌&&◌, cond, nat_eq, List, [], ◌∷◌, ◌++◌, length, map}
+use Rattle.std.proofs.Common.{◌≡◌, ℕ, zero, suc, ◌<◌, ◌≤◌, ◌^◌, ℤ, pos, Bool, true, false, ◌&&◌, cond, nat_eq, List, [], ◌∷◌, length, map}
 use Rattle.std.proofs.Common.{Option, Some, None, refl, sym, subst, ◌∙◌, arith}
 use Rattle.std.specs.Prelude.{All, ◌-ℤ◌, Contains, nat_lt}
 use Rattle.std.proofs.lemmas.Bool.{and_parts, ltb-true}
@@ -29,17 +29,18 @@ use Rattle.mir_func.specs.Function.{Function}
 use Rattle.mir_func.specs.Graph.{block_start}
 use Rattle.mir_func.specs.Sound.{AllItems, OriginIn, items_of, IsSound, HasForm, HasForm as KindForm}
 use Rattle.mir_func.specs.SoundFrame.{SAVED, adds_to_pointer, saves, restores, prologue_code, epilogue_code, IsSlotOffset, IsFramed}
-use Rattle.frame_lowering.proofs.Forms.{form_same}
+use Rattle.frame_rule.proofs.Forms.{form_same}
 use Rattle.frame_rule.specs.Rule.{slots_before, slot_offset, added, added_all, position_in, epilogue, renamed_operand, renamed_place}
 use Rattle.frame_rule.specs.Rule.{renamed_kind, renamed, framed_item, framed_block, prologue_block, framed_blocks, framed_of, size_of}
 use Rattle.frame_rule.specs.Rule.{saved_of}
 use Rattle.mir_func.specs.Exits.{exit_of, is_final}
 use Rattle.base_ids.specs.Limits.{MAX_NUMBER}
 use Rattle.read_body.specs.Limits.{MAX_ITEMS}
-use Rattle.mir_printer.specs.Printable.{IsNumber, IsSigned, HasNumbers, IsPrintablePlace}
+use Rattle.mir_printer.specs.Printable.{IsNumber, HasNumbers, IsPrintablePlace}
 use Rattle.mir_printer.specs.Printable.{IsPrintableKind, IsPrintableLoc, IsPrintable}
 use Rattle.listing_text.specs.Shown.{IsPrintableOrigin}
 use Rattle.listing_function.specs.Printable.{IsPrintableFramedKind, IsPrintableFramedItem, IsPrintableFramedBlock, IsPrintableFramed}
+use Rattle.listing_function.proofs.Printed.{both_sides, signed}
 use Rattle.read_proof.specs.Read.{declared_in}
 use Rattle.listing_proof.specs.Laws.{inlined_in, IsPrintableBlock, IsPrintableBody, ReadFunctionsHavePrintableBodies, BodiesArePrintable}
 use Rattle.listing_proof.specs.Laws.{ReadFunctionsArePrintable}
@@ -60,10 +61,6 @@ tens n low = grind (arith, nat_tests, ints)
 lowering : (n : ℕ) → n ≤ 2032 → has_12_bits (pos 0 -ℤ pos n) ≡ true
 lowering n low = grind (arith, nat_tests, ints)
 
-signed_of : (x : ℤ) → has_12_bits x ≡ true → IsSigned x
-signed_of (pos n) e = let less : n < 2048 = grind (arith, nat_tests, ints) in omega (arith, less)
-signed_of (negsuc n) e = let less : n < 2048 = grind (arith, nat_tests, ints) in omega (arith, less)
-
 small_all : (rs : List ℕ) → list_all (λ r. nat_lt r 32) rs ≡ true → All (λ r. r < 2 ^ 32) rs
 small_all [] all = All-nil (λ r. r < 2 ^ 32)
 small_all (r ∷ rs) all =
@@ -77,11 +74,6 @@ each_saved = small_all SAVED refl
 all_flat : {X Y : Type 0} (P : Y → Type 0) (Q : X → Type 0) (g : X → List Y) → ((x : X) → Q x → All P (g x)) → (xs : List X) → All Q xs → All P (flat_map g xs)
 all_flat P Q g each [] all = All-nil P
 all_flat P Q g each (x ∷ xs) all = All-append P (g x) (flat_map g xs) (each x (All-head Q x xs all)) (all_flat P Q g each xs (All-tail Q x xs all))
-
-both_sides : {X : Type 0} (P : X → Type 0) (xs ys : List X) → All P (xs ++ ys) → All P xs × All P ys
-both_sides P [] ys all = (All-nil P, all)
-both_sides P (x ∷ xs) ys all =
-    let rest = both_sides P xs ys (All-tail P x (xs ++ ys) all) in (All-cons P x xs (All-head P x (xs ++ ys) all) rest.0, rest.1)
 
 unmapped : (P : ℕ → Type 0) (ss : List SavedRegister) → All P (map (λ s. s.offset) ss) → All (λ s. P s.offset) ss
 unmapped P [] all = All-nil (λ (s : SavedRegister). P s.offset)
@@ -127,7 +119,7 @@ module _ (inlined : ℕ → Option ℕ) (f : Function) (body : IsPrintableBody i
   sum_fits x e = record {
     form = (λ j. e j && true);
     numbers = All-cons HasNumbers (Def 2) (Use 2 ∷ Imm x ∷ []) (omega arith) (All-cons HasNumbers (Use 2) (Imm x ∷ []) (omega arith) (All-cons HasNumbers (Imm
-        x) [] (signed_of x e) (All-nil HasNumbers)));
+        x) [] (signed x e) (All-nil HasNumbers)));
   }
 
   save_fits : (s : SavedRegister) → SavedFits s → CodeFits (saves s)

@@ -91,7 +91,7 @@ before_feed = record { one = name_one; begins = λ x r s e. feed_begins (nat_eq 
 
 -- ---- a function's line
 
-function_parts : (a b c d e f g rest : List ℕ) → (a ++ b ++ c ++ d ++ e ++ f ++ g) ++ rest ≡ a ++ (b ++ (c ++ (d ++ (e ++ (f ++ (g ++ rest))))))
+pub function_parts : (a b c d e f g rest : List ℕ) → (a ++ b ++ c ++ d ++ e ++ f ++ g) ++ rest ≡ a ++ (b ++ (c ++ (d ++ (e ++ (f ++ (g ++ rest))))))
 function_parts a b c d e f g rest = simp append_assoc
 
 pub function_line_one : (a b : List ℕ) (low high other another : ℕ) (r s : List ℕ) → function_line a low high ++ r ≡ function_line b other another ++ s →

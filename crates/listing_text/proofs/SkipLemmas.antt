@@ -44,7 +44,7 @@ use Rattle.listing_text.specs.Hex.{address_text}
 use Rattle.listing_text.specs.Output.{spaced_origin, start_text, item_line, operand_of, implicit_text, skip_text, skip_line, line_text}
 use Rattle.listing_text.specs.Shown.{IsPrintableItem, IsPrintableImplicit, IsPrintableSkip, IsPrintableLine, declared_by}
 use Rattle.listing_text.proofs.HexLemmas.{address_one}
-use Rattle.listing_text.proofs.LineLemmas.{item_one, origin_one, no_address, line_parts}
+use Rattle.listing_text.proofs.LineLemmas.{item_one, origin_one, no_address, line_parts, function_parts}
 
 -- ---- implicit operands, up to the end of the line
 
@@ -135,12 +135,9 @@ compared_one a b first other second another r s small low tiny few e =
 
 -- ---- two skips
 
-skip_parts : (a b c d e f g rest : List ℕ) → (a ++ b ++ c ++ d ++ e ++ f ++ g) ++ rest ≡ a ++ (b ++ (c ++ (d ++ (e ++ (f ++ (g ++ rest))))))
-skip_parts a b c d e f g rest = simp append_assoc
-
 skip_is : (s : SkipLine) (r : List ℕ) → skip_text s ++ (10 ∷ r) ≡ compared s.op s.first s.second (codes "+8" ++ implicits_before s.implicit r)
 skip_is s r =
-    skip_parts (branch_name s.op) (codes " ") (register_text s.first) (codes ", ") (register_text s.second) (codes ", +8") (flat_map implicit_text s.implicit)
+    function_parts (branch_name s.op) (codes " ") (register_text s.first) (codes ", ") (register_text s.second) (codes ", +8") (flat_map implicit_text s.implicit)
     (10 ∷ r) ∙ ap (λ (t : List ℕ). compared s.op s.first s.second (codes "+8" ++ t)) (implicits_are s.implicit r)
 
 skip_one : (a b : SkipLine) (r s : List ℕ) → IsPrintableSkip a → IsPrintableSkip b → skip_line a ++ r ≡ skip_line b ++ s → (a ≡ b) × (r ≡ s)

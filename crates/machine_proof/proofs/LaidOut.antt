@@ -22,15 +22,15 @@ use Rattle.sem_mir.proofs.Reading.{follows_itself}
 use Rattle.sem_machine.specs.Headline.{StartsAt}
 use Rattle.sem_machine.specs.Image.{Image}
 use Rattle.emit_code.specs.Counts.{MAX_WORDS, MAX_BASE, count_of}
-use Rattle.emit_code.specs.Laid.{IsWorded}
-use Rattle.emit_code.specs.Rule.{Layout, Form, Nothing, OneWord, CallSite, LongBranch, row_form, address_in, offset_to, object_offset, operation_at}
+use Rattle.emit_code.specs.Laid.{IsWorded, FormWorded}
+use Rattle.emit_code.specs.Rule.{Layout, row_form, address_in, offset_to, object_offset, operation_at}
 use Rattle.emit_code.proofs.Bounds.{bytes_small}
 use Rattle.frame_rule.proofs.Framed.{is_framed}
 use Rattle.frame_proof.specs.Stands.{IsEntered}
 use Rattle.frame_proof.proofs.FrameStands.{frame_gives_back}
 use Rattle.machine_steps_proof.specs.Laid.{IsLaidAt}
 use Rattle.machine_proof.proofs.Followers.{followers_meet_the_headline}
-use Rattle.machine_steps_proof.specs.Images.{FormHasWords, HasAllWords, IsImageOf}
+use Rattle.machine_steps_proof.specs.Images.{HasAllWords, IsImageOf}
 use Rattle.machine_steps_proof.proofs.Laid.{images_are_laid, images_addresses}
 use Rattle.machine_proof.specs.Lists.{IsPointAt}
 use Rattle.machine_proof.specs.Entries.{IsEntryAt}
@@ -66,12 +66,6 @@ if_some P None h k = cc
 if_some P (Some m) h k = (m, k)
 
 module _ (l : Layout) (low : l.base < MAX_BASE) (few : count_of l.framed.blocks < MAX_WORDS) (worded : IsWorded l) where
-  form_worded : (a : ℕ) (c : Instruction) (x : Form) → Rattle.emit_code.specs.Laid.FormWorded l a c x → FormHasWords l a c x
-  form_worded a c Nothing h = tt
-  form_worded a c OneWord h = h
-  form_worded a c CallSite h = tt
-  form_worded a c (LongBranch n) h = h
-
   one_fit : (a : ℕ) (c : Instruction) → IsSome (operation_at l a c) → row_of c ≡ Unfit → ⊥
   one_fit a c h e =
       let offset = offset_to l a (row_exit (row_of c)) in
@@ -83,8 +77,8 @@ module _ (l : Layout) (low : l.base < MAX_BASE) (few : count_of l.framed.blocks 
 
   has_all : HasAllWords l
   has_all = record {
-    words = λ p i c k e kind. form_worded (address_in l p) c (row_form (l.long p) (row_of c)) (worded p i c k e kind);
-    fits = λ p i c k e kind u. one_fit (address_in l p) c (subst (Rattle.emit_code.specs.Laid.FormWorded l (address_in l p) c) (ap (row_form (l.long p)) u)
+    words = λ p i c k e kind. worded p i c k e kind;
+    fits = λ p i c k e kind u. one_fit (address_in l p) c (subst (FormWorded l (address_in l p) c) (ap (row_form (l.long p)) u)
         (worded p i c k e kind)) u;
     small = λ p. (let b = bytes_small l.long l.framed.blocks p in omega (arith, b, low, few));
   }

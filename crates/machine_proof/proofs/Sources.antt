@@ -1,6 +1,6 @@
 -- Steps from equal places, and physical registers that stay written.
-use Rattle.std.proofs.Common.{◌≡◌, ℕ, zero, suc, ◌<◌, List, [], ◌∷◌, map, Option, Some, None, Bool, true, false, cond, IsSome, refl, sym, ap, ◌∙◌, subst, inl}
-use Rattle.std.proofs.Common.{inr, eqb}
+use Rattle.std.proofs.Common.{◌≡◌, ℕ, suc, ◌<◌, List, [], ◌∷◌, map, Option, Some, None, Bool, IsSome, refl, sym, ap, ◌∙◌, subst, inl}
+use Rattle.std.proofs.Common.{inr}
 use Rattle.rv64_instr.specs.declared.operand.Operand.{Operand}
 use Rattle.rv64_instr.specs.declared.place.Place.{Place}
 use Rattle.rv64_instr.specs.declared.place.Place.TheVariants.{Register, Slot, Const}
@@ -14,7 +14,7 @@ use Rattle.mir_func.specs.declared.item.Item.{Item}
 use Rattle.mir_func.specs.declared.item.ItemKind.{ItemKind}
 use Rattle.mir_func.specs.declared.item.ItemKind.TheVariants.{Code, Mark, Phi}
 use Rattle.mir_func.specs.Graph.{Fetch, Here, EndOfBlock, Outside, Program, below, block_start}
-use Rattle.sem_mir.specs.State.{Core, State, Reply, content, put, put_all, writes_frame}
+use Rattle.sem_mir.specs.State.{Core, State, Reply, content, writes_frame}
 use Rattle.sem_mir.specs.Step.{Went, Returned, Faulted, Outcome, Falls, Goes, Gives, Traps, Asks, Breaks, act, does, are_written, is_fault, address_at}
 use Rattle.sem_mir.specs.Step.{answered}
 use Rattle.sem_mir.specs.Step.{slot_loaded, numbered, with_core, do_item, do_fetch, moved, step, read, run}
@@ -24,6 +24,7 @@ use Rattle.sem_mir.proofs.Outcomes.{on_either, alike_with, alike_returns, alike_
 use Rattle.sem_mir.proofs.Parts.{effects_hold}
 use Rattle.sem_mir.proofs.Runs.{run_step_last}
 use Rattle.sem_simulation.specs.Words.{SameCode}
+use Rattle.machine_steps_proof.proofs.Rows.{set_written, set_all_written}
 
 -- ---- from equal places
 
@@ -72,32 +73,22 @@ module _ (g : Program) (s t : State) (i : Instruction) (k : Option ℕ) (x : Ite
 abbrev pub IsWritten : Core → Type 0
 IsWritten c = (r : ℕ) → r < 32 → IsSome (content c.regs r)
 
-put_written : (rd v : ℕ) (g : ℕ → Option ℕ) → ((r : ℕ) → r < 32 → IsSome (content g r)) → (r : ℕ) → r < 32 → IsSome (content (put rd v g) r)
-put_written zero v g h r lt = h r lt
-put_written (suc rd) v g h zero lt = h zero lt
-put_written (suc rd) v g h (suc r) lt = elim (eqb (suc r) (suc rd)) as (λ b. IsSome (cond b (Some v) (g (suc r)))) [ true ↦ (refl) | false ↦ h (suc r) lt ]
-
-all_written : (rs vs : List ℕ) (g : ℕ → Option ℕ) → ((r : ℕ) → r < 32 → IsSome (content g r)) → (r : ℕ) → r < 32 → IsSome (content (put_all rs vs g) r)
-all_written [] vs g h r lt = h r lt
-all_written (q ∷ rs) [] g h r lt = all_written rs [] (put q 0 g) (put_written q 0 g h) r lt
-all_written (q ∷ rs) (v ∷ vs) g h r lt = all_written rs vs (put q v g) (put_written q v g h) r lt
-
 module _ (c : Core) (h : IsWritten c) where
   answer_written : (name args : List ℕ) (rs : List Reply) → OnCore IsWritten (answered name args c rs)
   answer_written name args [] = tt
-  answer_written name args (r ∷ rs) = on_either IsWritten (writes_frame c.entry c.area r.writes) Traps _ tt (all_written caller_saved r.regs c.regs h)
+  answer_written name args (r ∷ rs) = on_either IsWritten (writes_frame c.entry c.area r.writes) Traps _ tt (set_all_written caller_saved r.regs c.regs h)
 
   slot_written : (rd : ℕ) (x : Option ℕ) → OnCore IsWritten (slot_loaded rd c x)
   slot_written rd None = tt
-  slot_written rd (Some v) = put_written rd v c.regs h
+  slot_written rd (Some v) = set_written rd v c.regs h
 
   does_written : (r : Row) → OnCore IsWritten (does r c)
   unfolding does
-  does_written (Fixes rd n) = put_written rd _ c.regs h
-  does_written (Moves rd rs) = put_written rd _ c.regs h
-  does_written (Sets rd op a b) = put_written rd _ c.regs h
-  does_written (Addresses rd n o) = put_written rd _ c.regs h
-  does_written (Loads rd op b o) = on_either IsWritten (is_fault b c (address_at c b o) (load_width op)) Traps _ tt (put_written rd _ c.regs h)
+  does_written (Fixes rd n) = set_written rd _ c.regs h
+  does_written (Moves rd rs) = set_written rd _ c.regs h
+  does_written (Sets rd op a b) = set_written rd _ c.regs h
+  does_written (Addresses rd n o) = set_written rd _ c.regs h
+  does_written (Loads rd op b o) = on_either IsWritten (is_fault b c (address_at c b o) (load_width op)) Traps _ tt (set_written rd _ c.regs h)
   does_written (Stores op rs b o) = on_either IsWritten (is_fault b c (address_at c b o) (store_width op)) Traps _ tt h
   does_written (LoadsSlot rd n) = slot_written rd (c.slots n)
   does_written (StoresSlot rs n) = h

@@ -23,7 +23,7 @@ use Rattle.sem_machine.specs.Image.{Image}
 use Rattle.sem_machine.specs.Machine.{Machine, register}
 use Rattle.sem_machine.specs.MachineStep.{Stepped, Continues, Ends, Awaits, past, at, does_row, answered, machine_step, Comes, there, steps, IsWell}
 use Rattle.sem_machine.specs.MachineStep as machine
-use Rattle.machine_steps_proof.specs.Beside.{object_place}
+use Rattle.emit_code.specs.Rule.{object_offset}
 use Rattle.machine_steps_proof.specs.Laid.{fetched, target_of, start_of, HasWord, HasTwoWords, HasCall, HasReturn, HasRow, IsLaidAt}
 use Rattle.machine_steps_proof.proofs.Lands.{Lands, Settles, now, past_item, past_end, first_lands, below_lands, target_lands}
 use Rattle.machine_steps_proof.proofs.Points.{of_item}
@@ -107,7 +107,7 @@ module _ (f : FramedFunction) (framed : IsFramed f) (image : Image) (laid : IsLa
     at_word : IsWordRow (row_of c) → HasWord f image laid.address p i (row_of c) → IsGood m
     at_word is w =
         let to = start_of f image laid.address (target_of (row_of c)) in
-        let on = word_on to (object_place f (object_named (row_of c))) (ids_of (body_of f.blocks)) (row_of c) is targets m in
+        let on = word_on to (object_offset f (object_named (row_of c))) (ids_of (body_of f.blocks)) (row_of c) is targets m in
         continues_good m on.next (w.step m counter ∙ on.continues) (elim on.place as (λ _. Stays on.next) [
           | inl l ↦ below_stays on.next l.1 (l.0 ∙ ap (λ (x : ℕ). x + 4) counter ∙ sym w.next)
           | inr t ↦ target_stays on.next (target_of (row_of c)) t.1 t.0

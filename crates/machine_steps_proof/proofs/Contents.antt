@@ -9,9 +9,10 @@ use Rattle.mir_func.specs.declared.position.Pos.{Pos}
 use Rattle.mir_func.specs.declared.variable.VarId.{VarId}
 use Rattle.mir_func.specs.Graph.{Fetch, Here, EndOfBlock, Outside, Program, block_start, end_of, front, fetch_in, index_of, framed_program, KindEdge, FetchEdge}
 use Rattle.mir_func.specs.SoundFrame.{body_of}
+use Rattle.mir_func.specs.Sound.{contents_of}
 use Rattle.sem_mir.specs.ValueId.{Tokens, after_fetch, Path, begin, onward}
 use Rattle.sem_mir.specs.PreferredLocation.{SitsIn}
-use Rattle.machine_steps_proof.specs.Contents.{contents_of, ContentsTellWanted}
+use Rattle.machine_steps_proof.specs.Contents.{ContentsTellWanted}
 
 -- the same stands there, silent indices aside
 abbrev AreAlike : Fetch → Fetch → Type 0

@@ -51,10 +51,10 @@ use Rattle.emit_code.specs.Rule.{offset_to, object_offset, operation_at, skip_op
 use Rattle.emit_code.specs.Rule.{jump_operation, word_if, form_words, kind_words, words_at, added_before, Site, sites_of}
 use Rattle.emit_code.proofs.Sites.{site_from}
 use Rattle.emit_code.proofs.Settled as settled
-use Rattle.machine_steps_proof.specs.Beside.{object_place}
+use Rattle.emit_code.specs.Laid.{FormWorded}
 use Rattle.machine_steps_proof.specs.Laid.{fetched, target_of, start_of, HasWord, HasTwoWords, HasCall, HasReturn, HasRow, IsLaidAt}
 use Rattle.machine_steps_proof.proofs.Rows.{IsWordRow}
-use Rattle.machine_steps_proof.specs.Images.{code_line, FormHasWords, HasAllWords, IsImageOf, ImagesAreLaid}
+use Rattle.machine_steps_proof.specs.Images.{code_line, HasAllWords, IsImageOf, ImagesAreLaid}
 use Rattle.machine_steps_proof.proofs.Addresses.{address_next, address_end, first_address}
 use Rattle.machine_steps_proof.proofs.Standing.{AtSite, at_site, word_below, word_at_is, bytes}
 
@@ -308,10 +308,6 @@ exit_target (Returns results) n (inr e) = cc
 exit_target Unfit n (inl e) = cc
 exit_target Unfit n (inr e) = cc
 
-same_object : (f : FramedFunction) (o : Option ℕ) → object_offset f o ≡ object_place f o
-same_object f None = refl
-same_object f (Some n) = refl
-
 line_first : (x : CodeLine) (more : List CodeLine) (a : ℕ) → x.address ≡ a → line_at (x ∷ more) a ≡ Some x
 line_first x more a e = ap (λ (b : Bool). cond b (Some x) (line_at more a)) (eq-eqb x.address a e)
 
@@ -367,7 +363,7 @@ module _ (l : Layout) (image : Image) (has : HasAllWords l) (is : IsImageOf l im
     size_is : size_of (l.long p) i ≡ form_size (form_of (l.long p) (Code c k))
     size_is = ap (λ (z : ItemKind). form_size (form_of (l.long p) z)) kind
 
-    has_it : FormHasWords l (address_in l p) c (form_of (l.long p) (Code c k))
+    has_it : FormWorded l (address_in l p) c (form_of (l.long p) (Code c k))
     has_it = has.words p i c k here kind
 
     fit : row_of c ≡ Unfit → ⊥
@@ -422,7 +418,7 @@ module _ (l : Layout) (image : Image) (has : HasAllWords l) (is : IsImageOf l im
     one_word : form_of (l.long p) (Code c k) ≡ OneWord → IsWordRow (row_of c) → call_of (row_of c) ≡ None →
         HasWord l.framed image (λ q. address_in l q) p i (row_of c)
     one_word f w none =
-        let o = some_of (operation_at l (address_in l p) c) (subst (FormHasWords l (address_in l p) c) f has_it) in
+        let o = some_of (operation_at l (address_in l p) c) (subst (FormWorded l (address_in l p) c) f has_it) in
         let y : CodeLine = code_line (line (address_in l p) i.origin (listed l.framed c)) in
         let fits = if_some (λ (m : MachineOp). IsTrue (is_encodable m)) (operation_at l (address_in l p) c) o.0
         (lowered_fits (offset_to l (address_in l p) (row_exit (row_of c))) (object_offset l.framed (object_named (row_of c))) c) o.1 in
@@ -433,9 +429,7 @@ module _ (l : Layout) (image : Image) (has : HasAllWords l) (is : IsImageOf l im
         (lowered_acts (offset_to l (address_in l p) (row_exit (row_of c))) (object_offset l.framed (object_named (row_of c))) c) o.1 in
         let row = acts (address_in l p)
         ∙ same_place (row_of c) _ (start_of l.framed image (λ q. address_in l q) (target_of (row_of c))) (object_offset l.framed (object_named (row_of
-        c))) exits
-        ∙ ap (λ (z : ℕ). placed (start_of l.framed image (λ q. address_in l q) (target_of (row_of c))) z (row_of c)) (same_object l.framed (object_named
-        (row_of c))) in
+        c))) exits in
         let at_it : line_at image.lines (address_in l p) ≡ Some y = lines OneWord f (address_in l p) (omega arith)
         ∙ line_first y st.others (address_in l p) refl in
         record {
@@ -443,7 +437,7 @@ module _ (l : Layout) (image : Image) (has : HasAllWords l) (is : IsImageOf l im
           stands = at_it;
           origin = refl;
           next = next OneWord f;
-          step = λ m e. do_word m (address_in l p) y o.0 st.more (start_of l.framed image (λ q. address_in l q) (target_of (row_of c))) (object_place
+          step = λ m e. do_word m (address_in l p) y o.0 st.more (start_of l.framed image (λ q. address_in l q) (target_of (row_of c))) (object_offset
               l.framed (object_named (row_of c))) (row_of c) e
               (no_call_listed l.framed c fit none) at_it (text OneWord f ∙ ap (λ (z : Option MachineOp). bytes (word_if z) ++ st.more) o.1) fits row w;
         }
@@ -511,7 +505,7 @@ module _ (l : Layout) (image : Image) (has : HasAllWords l) (is : IsImageOf l im
         HasTwoWords l.framed image (λ q. address_in l q) p i op ra rb n
     two_words op ra rb n e f =
         let A = address_in l p in
-        let has_both = subst (FormHasWords l (address_in l p) c) f has_it in
+        let has_both = subst (FormWorded l (address_in l p) c) f has_it in
         let so = some_of (skip_operation c) has_both.0 in
         let jo = some_of (jump_operation l (address_in l p) n) has_both.1 in
         let inv = branch_inverted c.op c.operands op ra rb n e in

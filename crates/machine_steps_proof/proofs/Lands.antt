@@ -14,8 +14,9 @@ use Rattle.mir_func.specs.Sound.{AreApart, ids_of, Closes, LastCloses}
 use Rattle.mir_func.specs.SoundFrame.{body_of, NumberedAlike, IsFramed}
 use Rattle.sem_mir.specs.Align.{is_code}
 use Rattle.sem_mir.proofs.Reading.{apart_tail}
+use Rattle.sem_machine.proofs.Laid.{drop_zero}
 use Rattle.machine_steps_proof.specs.Laid.{fetched}
-use Rattle.machine_steps_proof.proofs.Points.{dropped, drop_next, drop_zero, stands_at}
+use Rattle.machine_steps_proof.proofs.Points.{dropped, drop_next, stands_at}
 
 -- ---- lists of blocks
 

@@ -56,7 +56,7 @@ untouched entry area (suc n) a e (suc j) lt =
     let z : a + suc j ≡ (a + 1) + j = omega arith in
     ap (λ (x : ℕ). in_frame entry area (x % 2 ^ 64)) z ∙ untouched entry area n (a + 1) k.1 j (omega (arith, lt))
 
-either_right : (a b : Bool) → a ≡ false → b ≡ false → (a || b) ≡ false
+pub either_right : (a b : Bool) → a ≡ false → b ≡ false → (a || b) ≡ false
 either_right a b e f = ap (λ (x : Bool). x || b) e ∙ f
 
 pub not_touched : (entry area : ℕ) (n a : ℕ) → ((j : ℕ) → j < n → in_frame entry area ((a + j) % 2 ^ 64) ≡ false) → touches_frame entry area a n ≡ false

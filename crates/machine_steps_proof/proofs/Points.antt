@@ -16,10 +16,12 @@ use Rattle.mir_func.specs.Graph.{Here, EndOfBlock, below, block_start, end_of, f
 use Rattle.mir_func.specs.Sound.{AllItems, LeavesPointer}
 use Rattle.mir_func.specs.SoundFrame.{adds_to_pointer, AreCode, prologue_code, epilogue_code, GivesBack, HasFrame, IsFramed}
 use Rattle.sem_mir.proofs.Reading.{front_item}
+use Rattle.sem_machine.proofs.Laid.{drop_zero}
 use Rattle.machine_steps_proof.specs.Laid.{fetched}
 use Rattle.machine_steps_proof.specs.Pointer.{fetch_returns, is_as_at_entry, lowered_by}
 use Rattle.machine_steps_proof.proofs.Motions.{KindLeavesTwo, kind_leaves, IsNotFinal, Motion, Moves, block_moves, prologue_moves}
 use Rattle.machine_steps_proof.proofs.Motions as motion
+use Rattle.machine_steps_proof.proofs.Memory.{either_right}
 
 -- the item at an index is one of the list
 pub got : {A : Type 0} (xs : List A) (k : ℕ) (x : A) → slice_get xs k ≡ Some x → Contains xs x
@@ -32,10 +34,6 @@ dropped [] zero x rest e = cc
 dropped [] (suc n) x rest e = cc
 dropped (y ∷ ys) zero x rest e = let same : y ≡ x = cc in ap Some same
 dropped (y ∷ ys) (suc n) x rest e = dropped ys n x rest e
-
-pub drop_zero : {A : Type 0} (xs : List A) → drop 0 xs ≡ xs
-drop_zero [] = refl
-drop_zero (x ∷ xs) = refl
 
 pub drop_next : {A : Type 0} (xs : List A) (n : ℕ) (x : A) (rest : List A) → drop n xs ≡ x ∷ rest → drop (suc n) xs ≡ rest
 drop_next [] zero x rest e = cc
@@ -96,9 +94,6 @@ none_returns : (x : Option Item) → IsNotFinal x → returns_if x ≡ false
 none_returns None h = refl
 none_returns (Some i) h = not_final (exit_of i.kind) h
 
-left : (a b : Bool) → a ≡ false → b ≡ false → (a || b) ≡ false
-left a b e h = ap (λ (x : Bool). x || b) e ∙ h
-
 right_true : (a b : Bool) → b ≡ true → (a || b) ≡ true
 right_true true b e = refl
 right_true false b e = e
@@ -132,7 +127,7 @@ module _ (f : FramedFunction) where
 
   -- at an item that doesn't return, past the start
   item_down : (p : Pos) (i : Item) → fetched f p ≡ Here i → (p.block ≡ 0 → p.item ≡ 0 → ⊥) → (exit_of i.kind ≡ Final → ⊥) → lowered_by f p ≡ f.size
-  item_down p i e h n = down p (left (nat_eq p.block 0 && nat_eq p.item 0) (fetch_returns (fetched f p)) (not_start p h)
+  item_down p i e h n = down p (either_right (nat_eq p.block 0 && nat_eq p.item 0) (fetch_returns (fetched f p)) (not_start p h)
       (ap fetch_returns e ∙ not_final (exit_of i.kind) n))
 
   next_fetch : (p : Pos) (i : Item) (s : StandsAt f p i) → fetch_returns (fetched f (below p)) ≡ returns_if (slice_get s.block.items (suc p.item))
@@ -143,7 +138,7 @@ module _ (f : FramedFunction) where
 
   -- below an item, where no return comes
   below_down : (p : Pos) (i : Item) (s : StandsAt f p i) → IsNotFinal (slice_get s.block.items (suc p.item)) → lowered_by f (below p) ≡ f.size
-  below_down p i s n = down (below p) (left (nat_eq p.block 0 && nat_eq (p.item + 1) 0) (fetch_returns (fetched f (below p)))
+  below_down p i s n = down (below p) (either_right (nat_eq p.block 0 && nat_eq (p.item + 1) 0) (fetch_returns (fetched f (below p)))
       (not_start (below p) (λ b z. omega (arith, z))) (next_fetch p i s ∙ none_returns (slice_get s.block.items (suc p.item)) n))
 
   below_up : (p : Pos) (i : Item) (s : StandsAt f p i) (l : Item) → slice_get s.block.items (suc p.item) ≡ Some l → exit_of l.kind ≡ Final →
@@ -261,7 +256,7 @@ module _ (f : FramedFunction) where
     start_of_body : (blocks : List Block) → f.blocks ≡ blocks → (z : ℕ) → f.size ≡ suc z → HasFrame (suc z) f.saved blocks → (n : ℕ) →
         lowered_by f (block_start (suc n)) ≡ f.size
     start_of_body [] eb z es h n = absurd h
-    start_of_body (pro ∷ bs) eb z es h n = down (block_start (suc n)) (left (nat_eq (suc n) 0 && nat_eq 0 0) (fetch_returns (fetched f (block_start (suc n))))
+    start_of_body (pro ∷ bs) eb z es h n = down (block_start (suc n)) (either_right (nat_eq (suc n) 0 && nat_eq 0 0) (fetch_returns (fetched f (block_start (suc n))))
         (not_start (block_start (suc n)) (λ b _. omega (arith, b))) (ap (λ (x : List Block). fetch_returns (fetch_in (drop (suc n) x) 0)) eb
         ∙ by_block (drop n bs) refl))
       where
@@ -283,7 +278,7 @@ module _ (f : FramedFunction) where
     end_of_frame : (blocks : List Block) → f.blocks ≡ blocks → (z : ℕ) → f.size ≡ suc z → HasFrame (suc z) f.saved blocks → (p : Pos) (k n : ℕ) →
         fetched f p ≡ EndOfBlock k n → lowered_by f p ≡ f.size
     end_of_frame [] eb z es h p k n e = absurd h
-    end_of_frame (pro ∷ bs) eb z es h p k n e = down p (left (nat_eq p.block 0 && nat_eq p.item 0) (fetch_returns (fetched f p))
+    end_of_frame (pro ∷ bs) eb z es h p k n e = down p (either_right (nat_eq p.block 0 && nat_eq p.item 0) (fetch_returns (fetched f p))
         (not_start p (λ b i. at_start b i pro.items refl h.0)) (ap fetch_returns e))
       where
         at_start : p.block ≡ 0 → p.item ≡ 0 → (items : List Item) → pro.items ≡ items → AreCode items (prologue_code (suc z) f.saved) → ⊥

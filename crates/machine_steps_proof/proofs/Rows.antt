@@ -25,11 +25,13 @@ use Rattle.sem_mir.specs.Step as source
 use Rattle.sem_machine.specs.Machine.{Machine, register, register_in, input, set_in, set_all_in, address_of}
 use Rattle.sem_machine.specs.MachineStep.{Stepped, Continues, past, at, set_register, store, shown_store, does_row}
 use Rattle.sem_machine.specs.MachineStep as machine
-use Rattle.machine_steps_proof.specs.Beside.{frame_low, object_place, Beside}
+use Rattle.sem_machine.proofs.Plain.{set_alike, falls_if}
+use Rattle.machine_steps_proof.specs.Beside.{frame_low, Beside}
 use Rattle.mir_func.proofs.Ends.{bytes_within}
 use Rattle.machine_steps_proof.proofs.Memory.{spelled_alike, length_low, stored_spelled, stored_elsewhere, untouched, not_touched, is_in_frame, is_above}
 use Rattle.machine_steps_proof.proofs.Memory.{touched}
 use Rattle.sem_mir.proofs.Places.{stored_other}
+use Rattle.emit_code.specs.Rule.{object_offset}
 
 -- a row that a word may have
 abbrev pub IsWordRow : Row → Type 0
@@ -51,23 +53,12 @@ all_written c h [] a = refl
 all_written c h (r ∷ rs) a = both _ _ (is_there (content c.regs r) (h r (All-head (λ (q : ℕ). q < 32) r rs a)))
     (all_written c h rs (All-tail (λ (q : ℕ). q < 32) r rs a))
 
-acts_if : (b : Bool) (x : Outcome) → b ≡ true → cond b x Traps ≡ x
-acts_if true x e = refl
-acts_if false x e = cc
-
 -- where what it reads is written
 pub acts : (r : Row) (c : Core) → ((r : ℕ) → r < 32 → IsSome (content c.regs r)) → All (λ r. r < 32) (reads r) → act r c ≡ does r c
 unfolding act
-acts r c h a = acts_if _ _ (all_written c h (reads r) a)
+acts r c h a = falls_if _ _ (all_written c h (reads r) a)
 
-set_alike : (rd v : ℕ) (f : ℕ → ℕ) (g : ℕ → Option ℕ) → ((r : ℕ) → register_in f r ≡ or_zero (content g r)) → (r : ℕ) →
-    register_in (set_in rd v f) r ≡ or_zero (content (put rd v g) r)
-set_alike zero v f g h r = h r
-set_alike (suc rd) v f g h zero = refl
-set_alike (suc rd) v f g h (suc r) =
-    elim (eqb (suc r) (suc rd)) as (λ b. cond b v (f (suc r)) ≡ or_zero (cond b (Some v) (g (suc r)))) [ true ↦ refl | false ↦ h (suc r) ]
-
-set_written : (rd v : ℕ) (g : ℕ → Option ℕ) → ((r : ℕ) → r < 32 → IsSome (content g r)) → (r : ℕ) → r < 32 → IsSome (content (put rd v g) r)
+pub set_written : (rd v : ℕ) (g : ℕ → Option ℕ) → ((r : ℕ) → r < 32 → IsSome (content g r)) → (r : ℕ) → r < 32 → IsSome (content (put rd v g) r)
 set_written zero v g h r lt = h r lt
 set_written (suc rd) v g h zero lt = h zero lt
 set_written (suc rd) v g h (suc r) lt = elim (eqb (suc r) (suc rd)) as (λ b. IsSome (cond b (Some v) (g (suc r)))) [ true ↦ (refl) | false ↦ h (suc r) lt ]
@@ -374,7 +365,7 @@ module _ (f : FramedFunction) (framed : IsFramed f) (c : Core) (m : Machine) (h 
   -- what a word does is what its code does
   pub rows : (target : ℕ) (r : Row) → IsWordRow r → RowInRange r → IsInRange c → (NeedsFrame r → read c 2 ≡ frame_low f c) →
       SlotIn (slot_offsets f) r → ObjectIn f.objects r →
-      FollowsRow f target m (does r c) (machine.does (placed target (object_place f (object_named r)) r) m)
+      FollowsRow f target m (does r c) (machine.does (placed target (object_offset f (object_named r)) r) m)
   unfolding does does_row computed extended
   rows target (Fixes rd n) w k range p s o = sets_to target rd n n refl
   rows target (Moves rd rs) w k range p s o = sets_to target rd (read c rs) (register m rs) (h.regs rs)

@@ -27,7 +27,7 @@ use Rattle.sem_machine.specs.Image.{Image}
 use Rattle.sem_machine.specs.Machine.{Machine, register}
 use Rattle.sem_machine.specs.MachineStep.{Stepped, Continues, Ends, past, at, machine_step}
 use Rattle.sem_machine.specs.MachineStep as machine
-use Rattle.machine_steps_proof.specs.Beside.{frame_low, object_place, Beside}
+use Rattle.machine_steps_proof.specs.Beside.{frame_low, Beside}
 use Rattle.machine_steps_proof.specs.Laid.{fetched, target_of, start_of, HasWord, HasTwoWords, HasCall, HasReturn, HasRow, IsLaidAt}
 use Rattle.machine_steps_proof.specs.Pointer.{lowered_by, IsPointerAt}
 use Rattle.machine_steps_proof.specs.Steps.{framed_run, Level, OneStep, goes, gives, waits, faults, TwoSteps, over, through, AtCode, single, double}
@@ -43,6 +43,7 @@ use Rattle.mir_func.specs.Exits.{exit_of, row_exit, Leaves}
 use Rattle.mir_func.specs.Sound.{TargetsIn, ids_of}
 use Rattle.sem_mir.specs.Step.{Went, Returned, Faulted, Waits, Lost}
 use Rattle.sem_simulation.specs.Words.{SameCode}
+use Rattle.emit_code.specs.Rule.{object_offset}
 
 module _ (f : FramedFunction) (framed : IsFramed f) (resolve : OperandPair →
     Option OperandPair) (image : Image) (laid : IsLaidAt f image) (t : State) (m : Machine)
@@ -200,8 +201,8 @@ module _ (f : FramedFunction) (framed : IsFramed f) (resolve : OperandPair →
 
   at_word : IsWordRow r → HasWord f image laid.address t.pos i r → AtCode f resolve image laid t m i
   at_word is w = single w.line (line_is w.line w.stands) w.origin
-      (by_outcome (does r t.core) (machine.does (placed (start_of f image laid.address (target_of r)) (object_place f (object_named r)) r) m) refl
-      (w.step m level.counter) (word_goes (start_of f image laid.address (target_of r)) (object_place f (object_named r)) r m) w.next
+      (by_outcome (does r t.core) (machine.does (placed (start_of f image laid.address (target_of r)) (object_offset f (object_named r)) r) m) refl
+      (w.step m level.counter) (word_goes (start_of f image laid.address (target_of r)) (object_offset f (object_named r)) r m) w.next
       (rows f framed t.core m h (start_of f image laid.address (target_of r)) r is (row_in_range c) level.range needs slots_in objects_in))
 
   at_branch : (op : BranchOp) (a b n : ℕ) → r ≡ Branches op a b n → HasTwoWords f image laid.address t.pos i op a b n → AtCode f resolve image laid t m i

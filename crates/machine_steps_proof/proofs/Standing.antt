@@ -20,8 +20,9 @@ use Rattle.emit_code.specs.Listed.{Line, form_lines, kind_lines, lines_at}
 use Rattle.emit_code.specs.Rule.{Layout, Form, Nothing, OneWord, CallSite, LongBranch, form_of, form_size, size_of, address_in, operation_at, skip_operation}
 use Rattle.emit_code.specs.Rule.{jump_operation}
 use Rattle.emit_code.specs.Rule.{word_if, form_words, kind_words, words_at, Site, sites_of}
+use Rattle.emit_code.specs.Laid.{FormWorded}
 use Rattle.machine_steps_proof.specs.Laid.{fetched}
-use Rattle.machine_steps_proof.specs.Images.{code_line, FormHasWords, HasAllWords, IsImageOf}
+use Rattle.machine_steps_proof.specs.Images.{code_line, HasAllWords, IsImageOf}
 use Rattle.machine_steps_proof.proofs.Addresses.{Chained, chained}
 
 -- an operation's word has 32 bits
@@ -95,7 +96,7 @@ module _ (l : Layout) (image : Image) (has : HasAllWords l) where
   one_line : (a b : CodeLine) → Some a ≡ Some b → a.address ≡ b.address
   one_line a b e = let same : a ≡ b = cc in ap (λ (z : CodeLine). z.address) same
 
-  form_sized : (a : ℕ) (c : Instruction) (o : Origin) (x : Form) → FormHasWords l a c x →
+  form_sized : (a : ℕ) (c : Instruction) (o : Origin) (x : Form) → FormWorded l a c x →
       (4 * length (form_words l a c x) ≡ form_size x) ×
       ((k : ℕ) (y : CodeLine) → slice_get (map code_line (form_lines l.framed a o c x)) k ≡ Some y → y.address < a + form_size x)
   form_sized a c o Nothing h = (refl, λ k y e. cc)

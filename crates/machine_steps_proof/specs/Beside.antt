@@ -1,10 +1,10 @@
 -- The matching relation of the machine and a function with its frame: the same registers, and the same memory except the frame's
 -- bytes, which have the written slots.
-use Rattle.std.specs.Prelude.{◌≡◌, ℕ, ◌+◌, ◌-◌, ◌^◌, ◌<◌, ◌≤◌, Option, Some, None, false, IsSome}
+use Rattle.std.specs.Prelude.{◌≡◌, ℕ, ◌+◌, ◌-◌, ◌^◌, ◌<◌, ◌≤◌, Some, false, IsSome}
 use Rattle.mir_func.specs.Function.{FramedFunction}
 use Rattle.mir_func.specs.Limits.{FRAME_ROOM}
 use Rattle.mir_func.specs.Objects.{area_of, offset_of}
-use Rattle.mir_func.specs.SoundFrame.{own_size, IsSlotOffset}
+use Rattle.mir_func.specs.SoundFrame.{IsSlotOffset}
 use Rattle.sem_mir.specs.State.{Core, content, spelled, in_frame}
 use Rattle.sem_mir.specs.Step.{read}
 use Rattle.sem_machine.specs.Machine.{Machine, register}
@@ -12,11 +12,6 @@ use Rattle.sem_machine.specs.Machine.{Machine, register}
 -- the lowest address of the frame
 abbrev pub frame_low : FramedFunction → Core → ℕ
 frame_low f c = c.entry - f.size
-
--- the offset of a stack object from x2, and 0 for None
-abbrev pub object_place : FramedFunction → (object : Option ℕ) → ℕ
-object_place f None = 0
-object_place f (Some n) = own_size f + offset_of f.objects n
 
 -- the machine matches a core of the function with its frame. Each written slot has its content in the frame's bytes
 pub record Beside (f : FramedFunction) (c : Core) (m : Machine) : Type 0 where

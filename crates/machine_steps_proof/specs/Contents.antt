@@ -1,17 +1,13 @@
 -- The required locations depend only on the numbers and the items of blocks.
-use Rattle.std.specs.Prelude.{◌≡◌, ℕ, List, map, Option}
+use Rattle.std.specs.Prelude.{◌≡◌, List, map, Option}
 use Rattle.rv64_instr.specs.declared.place.Place.{Place}
 use Rattle.mir_func.specs.declared.block.Block.{Block}
 use Rattle.mir_func.specs.declared.debug_substitution.OperandPair.{OperandPair}
-use Rattle.mir_func.specs.declared.item.Item.{Item}
 use Rattle.mir_func.specs.declared.position.Pos.{Pos}
 use Rattle.mir_func.specs.declared.variable.VarId.{VarId}
 use Rattle.mir_func.specs.Graph.{block_start, framed_program}
+use Rattle.mir_func.specs.Sound.{contents_of}
 use Rattle.sem_mir.specs.PreferredLocation.{IsWanted}
-
--- the number and the items of a block, without the index of its end
-abbrev pub contents_of : Block → ℕ × List Item
-contents_of b = (b.id, b.items)
 
 -- In two functions with their frames whose blocks have the same numbers and items, the same locations are required.
 abbrev pub ContentsTellWanted : Type 0

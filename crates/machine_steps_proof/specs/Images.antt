@@ -1,5 +1,5 @@
 -- The image of a laid-out function.
-use Rattle.std.specs.Prelude.{◌≡◌, ℕ, ◌+◌, ◌^◌, ◌<◌, List, ◌++◌, drop, map, Option, IsSome}
+use Rattle.std.specs.Prelude.{◌≡◌, ℕ, ◌+◌, ◌^◌, ◌<◌, List, ◌++◌, drop, map, Option}
 use Rattle.std.specs.List.{flat_map}
 use Rattle.std.specs.Int.{w32, to_le_bytes}
 use Rattle.rv64_instr.specs.Instruction.{Instruction}
@@ -11,25 +11,19 @@ use Rattle.mir_func.specs.Graph.{Here}
 use Rattle.mir_func.specs.Objects.{area_of}
 use Rattle.sem_machine.specs.Image.{CodeLine, Image}
 use Rattle.emit_code.specs.Listed.{Line, lines_of}
-use Rattle.emit_code.specs.Rule.{Layout, Form, Nothing, OneWord, CallSite, LongBranch, form_of, address_in, operation_at, skip_operation, jump_operation}
+use Rattle.emit_code.specs.Rule.{Layout, form_of, address_in}
 use Rattle.emit_code.specs.Rule.{words_of}
+use Rattle.emit_code.specs.Laid.{FormWorded}
 use Rattle.machine_steps_proof.specs.Laid.{fetched, IsLaidAt}
 
 -- a code line of the layout, as the image has it
 abbrev pub code_line : Line → CodeLine
 code_line l = record { address = l.address; origin = l.origin; instruction = l.instruction }
 
--- each word of the form is that of an encodable operation (a call's words always are)
-abbrev pub FormHasWords : Layout → (address : ℕ) → Instruction → Form → Type 0
-FormHasWords l a c Nothing = Unit {0}
-FormHasWords l a c OneWord = IsSome (operation_at l a c)
-FormHasWords l a c CallSite = Unit {0}
-FormHasWords l a c (LongBranch n) = IsSome (skip_operation c) × IsSome (jump_operation l a n)
-
 -- each instruction of the layout is encodable, and its addresses fit in 64 bits
 pub record HasAllWords (l : Layout) : Type 0 where
   pub words : (p : Pos) (i : Item) (c : Instruction) (k : Option ℕ) → fetched l.framed p ≡ Here i → i.kind ≡ Code c k →
-      FormHasWords l (address_in l p) c (form_of (l.long p) (Code c k))
+      FormWorded l (address_in l p) c (form_of (l.long p) (Code c k))
   pub fits : (p : Pos) (i : Item) (c : Instruction) (k : Option ℕ) → fetched l.framed p ≡ Here i → i.kind ≡ Code c k → row_of c ≡ Unfit → ⊥
   pub small : (p : Pos) → address_in l p + 8 < 2 ^ 64
 

@@ -22,7 +22,7 @@ use Rattle.sem_machine.specs.Image.{CodeLine, Image, line_at}
 use Rattle.sem_machine.specs.Machine.{Machine, register}
 use Rattle.sem_machine.specs.MachineStep.{Continues, Ends, past, at, answered, machine_step}
 use Rattle.sem_machine.specs.MachineStep as machine
-use Rattle.machine_steps_proof.specs.Beside.{object_place}
+use Rattle.emit_code.specs.Rule.{object_offset}
 
 -- the item, block end or nothing at a position of a function with its frame. The position's block is a block index
 abbrev pub fetched : FramedFunction → Pos → Fetch
@@ -51,7 +51,7 @@ module _ (f : FramedFunction) (image : Image) (address : Pos → ℕ) where
     pub origin : line.origin ≡ i.origin
     pub next : address (below p) ≡ address p + 4
     pub step : (m : Machine) → m.counter ≡ address p →
-        machine_step image m ≡ machine.does (placed (start_of (target_of r)) (object_place f (object_named r)) r) m
+        machine_step image m ≡ machine.does (placed (start_of (target_of r)) (object_offset f (object_named r)) r) m
 
   -- a long branch has two lines. At the first, whose origin is before the position, the machine steps over the second if the
   -- branch isn't taken, and to the second otherwise. At the second it jumps to the target

@@ -23,7 +23,7 @@ slice_get-at [] i d l = absurd (omega arith)
 slice_get-at (x ∷ xs) zero d l = refl
 slice_get-at (x ∷ xs) (suc i) d l = slice_get-at xs i d (omega arith)
 
-at_slice_get : (xs : List ℕ) (i n : ℕ) → slice_get xs i ≡ Some n → (i < length xs) × ((d : ℕ) → get_or xs i d ≡ n)
+pub at_slice_get : (xs : List ℕ) (i n : ℕ) → slice_get xs i ≡ Some n → (i < length xs) × ((d : ℕ) → get_or xs i d ≡ n)
 at_slice_get [] i n e = absurd cc
 at_slice_get (x ∷ xs) zero n e = (omega arith, λ d. cc)
 at_slice_get (x ∷ xs) (suc i) n e = let r = at_slice_get xs i n e in (let l : i < length xs = r.0 in omega arith, r.1)

@@ -30,15 +30,15 @@ apart_cons n ns h new zero (suc j) m e f = absurd (new j (f ∙ sym e))
 apart_cons n ns h new (suc i) zero m e f = absurd (new i (e ∙ sym f))
 apart_cons n ns h new (suc i) (suc j) m e f = ap suc (h i j m e f)
 
-apart_tail : (n : ℕ) (ns : List ℕ) → AreApart (n ∷ ns) → AreApart ns
+pub apart_tail : (n : ℕ) (ns : List ℕ) → AreApart (n ∷ ns) → AreApart ns
 apart_tail n ns h i j m e f = let k : suc i ≡ suc j = h (suc i) (suc j) m e f in omega arith
 
-apart_head : (n : ℕ) (ns : List ℕ) (j : ℕ) → AreApart (n ∷ ns) → slice_get ns j ≡ Some n → ⊥
+pub apart_head : (n : ℕ) (ns : List ℕ) (j : ℕ) → AreApart (n ∷ ns) → slice_get ns j ≡ Some n → ⊥
 apart_head n ns j h e = let k : zero ≡ suc j = h zero (suc j) n refl e in absurd (omega arith)
 
 -- ---- items and their numbers
 
-code_is_number : (k : ItemKind) (n : ℕ) → code_number k ≡ Some n → number_of k ≡ Some n
+pub code_is_number : (k : ItemKind) (n : ℕ) → code_number k ≡ Some n → number_of k ≡ Some n
 code_is_number (Code i k) n e = e
 code_is_number (Mark v m) n e = absurd cc
 code_is_number (Phi p k) n e = absurd cc

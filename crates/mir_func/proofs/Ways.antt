@@ -86,17 +86,17 @@ fetch_out Outside p n = (λ h. h, λ h. h)
 
 -- ---- ways down items
 
-contains_first : (m n : ℕ) (ns : List ℕ) → m ≡ n → Contains (m ∷ ns) n
+pub contains_first : (m n : ℕ) (ns : List ℕ) → m ≡ n → Contains (m ∷ ns) n
 contains_first m n ns e = (zero, omega arith, e)
 
-contains_later : (m n : ℕ) (ns : List ℕ) → Contains ns n → Contains (m ∷ ns) n
+pub contains_later : (m n : ℕ) (ns : List ℕ) → Contains ns n → Contains (m ∷ ns) n
 contains_later m n ns (k, l, e) = (suc k, omega arith, e)
 
-contains_cases : (m n : ℕ) (ns : List ℕ) → Contains (m ∷ ns) n → (m ≡ n) ⊎ Contains ns n
+pub contains_cases : (m n : ℕ) (ns : List ℕ) → Contains (m ∷ ns) n → (m ≡ n) ⊎ Contains ns n
 contains_cases m n ns (zero, l, e) = inl e
 contains_cases m n ns (suc k, l, e) = inr (k, omega arith, e)
 
-contains_none : (n : ℕ) → Contains [] n → ⊥
+pub contains_none : (n : ℕ) → Contains [] n → ⊥
 contains_none n (k, l, e) = omega arith
 
 abbrev head_id : List Block → Option ℕ
@@ -118,19 +118,19 @@ end_to : (s : ℕ) (bs : List Block) (n : ℕ) → Contains (option_to_list (hea
 end_to s [] n h = absurd (contains_none n h)
 end_to s (b ∷ bs) n h = elim (contains_cases b.id n [] h) [ inl e ↦ e | inr c ↦ absurd (contains_none n c) ]
 
-out_way : (x : Exit) (n : ℕ) (rest : List ℕ) → IsOut x n → Contains (ways_from x rest) n
+pub out_way : (x : Exit) (n : ℕ) (rest : List ℕ) → IsOut x n → Contains (ways_from x rest) n
 out_way Onward n rest h = absurd h
 out_way (Perhaps t) n rest h = contains_first t n rest h
 out_way (Always t) n rest h = contains_first t n [] h
 out_way Final n rest h = absurd h
 
-down_way : (x : Exit) (n : ℕ) (rest : List ℕ) → IsDown x → Contains rest n → Contains (ways_from x rest) n
+pub down_way : (x : Exit) (n : ℕ) (rest : List ℕ) → IsDown x → Contains rest n → Contains (ways_from x rest) n
 down_way Onward n rest d h = h
 down_way (Perhaps t) n rest d h = contains_later t n rest h
 down_way (Always t) n rest d h = absurd d
 down_way Final n rest d h = absurd d
 
-way_back : (x : Exit) (n : ℕ) (rest : List ℕ) → Contains (ways_from x rest) n → IsOut x n ⊎ (IsDown x × Contains rest n)
+pub way_back : (x : Exit) (n : ℕ) (rest : List ℕ) → Contains (ways_from x rest) n → IsOut x n ⊎ (IsDown x × Contains rest n)
 way_back Onward n rest h = inr (tt, h)
 way_back (Perhaps t) n rest h = elim (contains_cases t n rest h) [ inl e ↦ inl e | inr c ↦ inr (tt, c) ]
 way_back (Always t) n rest h = elim (contains_cases t n [] h) [ inl e ↦ inl e | inr c ↦ absurd (contains_none n c) ]

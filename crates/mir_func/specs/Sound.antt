@@ -34,6 +34,10 @@ AreApart ns = (i j n : ℕ) → slice_get ns i ≡ Some n → slice_get ns j ≡
 abbrev pub ids_of : List Block → List ℕ
 ids_of blocks = map (λ b. b.id) blocks
 
+-- the number and the items of a block, without the index of its end
+abbrev pub contents_of : Block → ℕ × List Item
+contents_of b = (b.id, b.items)
+
 -- the items of all blocks, in their order
 abbrev pub items_of : List Block → List Item
 items_of blocks = flat_map (λ b. b.items) blocks

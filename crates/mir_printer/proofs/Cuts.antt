@@ -7,7 +7,7 @@ use Rattle.std.proofs.lemmas.Bool.{and_parts, and_from, eqb-false}
 use Rattle.std.proofs.lemmas.Bool.Decides.{nat_tests}
 use Rattle.std.proofs.lemmas.Fmt.{decimal_by_steps, decimal_injective}
 use Rattle.std.proofs.lemmas.List.Folds.{list_all-append}
-use Rattle.mir_printer.specs.Printable.{IsSigned}
+use Rattle.rv64_instr.specs.Form.{IsSigned}
 
 -- two texts with one front
 pub front_one : (front r s : List ℕ) → front ++ r ≡ front ++ s → r ≡ s

@@ -7,6 +7,7 @@ use Rattle.std.proofs.lemmas.Fmt.{decimal_digit}
 use Rattle.rv64_instr.specs.Instruction.{Instruction}
 use Rattle.rv64_instr.specs.declared.place.Place.{Place}
 use Rattle.rv64_instr.specs.declared.place.Place.TheVariants.{Register, Slot, Const}
+use Rattle.rv64_instr.specs.Form.{IsSigned}
 use Rattle.mir_func.specs.declared.location.Loc.{Loc}
 use Rattle.mir_func.specs.declared.location.Loc.TheVariants.{Absent, Node, Inline}
 use Rattle.mir_func.specs.declared.location.InlineLoc.{InlineLoc}
@@ -20,7 +21,7 @@ use Rattle.mir_func.specs.declared.item.ItemKind.{ItemKind}
 use Rattle.mir_func.specs.declared.item.ItemKind.TheVariants.{Code, Mark, Phi}
 use Rattle.mir_printer.specs.Spelling.{register_text, instruction_text, number_text, phi_place_text, expression_text, pair_expression_text, value_mark_text}
 use Rattle.mir_printer.specs.Spelling.{mark_text, kind_text, inlined_at_text, location_text, item_text}
-use Rattle.mir_printer.specs.Printable.{IsNumber, IsSigned, IsPrintableInstruction, IsPrintablePlace, IsPrintableValue, IsPrintableLoc, IsPrintableVariable}
+use Rattle.mir_printer.specs.Printable.{IsNumber, IsPrintableInstruction, IsPrintablePlace, IsPrintableValue, IsPrintableLoc, IsPrintableVariable}
 use Rattle.mir_printer.specs.Printable.{IsPrintableKind, IsPrintable, Declared, inlined_at}
 use Rattle.mir_printer.proofs.Cuts.{front_one, apart, Stops, is_digit, decimal_head, signed_one, signed_head}
 use Rattle.mir_printer.proofs.Operands.{goes_on, wide, number_one, register_one}

@@ -1,11 +1,11 @@
 -- Items whose text determines all of them but their origin.
-use Rattle.std.specs.Prelude.{◌≡◌, ℕ, ℤ, pos, negsuc, ◌<◌, ◌^◌, ◌++◌, ◌∷◌, Bool, true, false, List, All, map, Option, Some, None, IsTrue, IfSome}
+use Rattle.std.specs.Prelude.{◌≡◌, ℕ, pos, ◌<◌, ◌^◌, ◌++◌, ◌∷◌, Bool, true, false, List, All, map, Option, Some, None, IsTrue, IfSome}
 use Rattle.rv64_instr.specs.declared.operand.Operand.{Operand}
 use Rattle.rv64_instr.specs.declared.operand.Operand.TheVariants.{Def, Use, ImplicitDef, ImplicitUse, Imm, Slot as SlotOperand, Object, Block, Symbol, Mask}
 use Rattle.rv64_instr.specs.declared.place.Place.{Place}
 use Rattle.rv64_instr.specs.declared.place.Place.TheVariants.{Register, Slot, Const}
 use Rattle.rv64_instr.specs.Instruction.{Instruction}
-use Rattle.rv64_instr.specs.Form.{has_form}
+use Rattle.rv64_instr.specs.Form.{has_form, IsSigned}
 use Rattle.mir_func.specs.declared.location.Loc.{Loc}
 use Rattle.mir_func.specs.declared.location.Loc.TheVariants.{Absent, Node, Inline}
 use Rattle.mir_func.specs.declared.variable.MarkValue.{MarkValue}
@@ -20,11 +20,6 @@ use Rattle.mir_printer.specs.Spelling.{item_text}
 -- a number of 32 bits
 abbrev pub IsNumber : ℕ → Type 0
 IsNumber n = n < 2 ^ 32
-
--- a signed number of 64 bits
-abbrev pub IsSigned : ℤ → Type 0
-IsSigned (pos n) = n < 2 ^ 63
-IsSigned (negsuc n) = n < 2 ^ 63
 
 -- the numbers of an operand are of these sizes
 abbrev pub HasNumbers : Operand → Type 0

@@ -1,7 +1,8 @@
 //! The sizes of the numbers of blocks and substitutions.
 
 ghost use Rattle.std.specs.Prelude.{All, IfSome};
-ghost use Rattle.mir_printer.specs.Printable.{IsNumber, IsSigned, HasNumbers, IsPrintableValue, IsPrintableLoc};
+ghost use Rattle.rv64_instr.specs.Form.{IsSigned};
+ghost use Rattle.mir_printer.specs.Printable.{IsNumber, HasNumbers, IsPrintableValue, IsPrintableLoc};
 ghost use Rattle.mir_func.specs.Parts.{IsPart};
 ghost use Rattle.mir_type_facts.specs.Typed.{IsTypedBlock, IsTypedItem, IsTypedKind, IsTypedCode, IsTypedVariable};
 ghost use Rattle.mir_type_facts.specs.Typed.{IsTypedPlace, IsTypedPair, IsTypedEntry};

@@ -1,63 +1,25 @@
 -- What followed a source loosely follows it loosely after its blocks are edited item by item.
-use Rattle.std.proofs.Common.{◌≡◌, ℕ, suc, List, [], ◌∷◌, length, get_or, All, None, true, false, refl, sym, ap, ◌∙◌, subst, arith}
-use Rattle.std.proofs.lemmas.List.Elements.{All-cons, All-head, All-tail}
+use Rattle.std.proofs.Common.{◌≡◌, ℕ, List, [], get_or, All, None, true, false, refl, sym, ap, ◌∙◌, subst}
 use Rattle.mir_func.specs.declared.debug_substitution.DebugSubstitution.{DebugSubstitution}
 use Rattle.mir_func.specs.declared.position.Pos.{Pos}
-use Rattle.mir_func.specs.declared.position.Origin.{Origin}
 use Rattle.mir_func.specs.declared.block.Block.{Block}
 use Rattle.mir_func.specs.declared.object.Object.{Object}
 use Rattle.mir_func.specs.declared.item.Item.{Item}
 use Rattle.mir_func.specs.declared.item.ItemKind.{ItemKind}
-use Rattle.mir_func.specs.declared.item.ItemKind.TheVariants.{Code, Mark, Phi}
 use Rattle.mir_func.specs.Function.{Function}
 use Rattle.mir_func.specs.Sound.{IsSound}
 use Rattle.mir_func.specs.Resolve.{resolve}
 use Rattle.mir_func.specs.Graph.{Here, Program, program_of}
 use Rattle.sem_mir.specs.State.{Core, State}
-use Rattle.sem_mir.specs.Align.{is_code, is_jump, moves_on, Count, ByItems, ByEnds, sync_point_at, AnyOrigin, RunsMatch, since_of, waits_at}
-use Rattle.sem_mir.specs.Follow.{KindFits, MarkFits, InOrder, Among, none, same, left, first_of, OnRow, IsStart, IsEnd}
+use Rattle.sem_mir.specs.Align.{is_jump, moves_on, Count, ByItems, ByEnds, sync_point_at, AnyOrigin, RunsMatch, since_of, waits_at}
+use Rattle.sem_mir.specs.Follow.{KindFits, MarkFits, first_of, OnRow, IsStart, IsEnd}
 use Rattle.sem_mir.specs.Follow.{EndIsKept, EndComesFrom}
 use Rattle.pass_trait.specs.Change.{change}
 use Rattle.pass_salvage.proofs.Kin.{kin_fits, kin_marks, kin_goes, kin_end, kin_is_end, moves_after}
-use Rattle.pass_salvage.proofs.Edits.{Edits, BlocksEdited, no_blocks, next_block, order_edited, item_back, item_on}
+use Rattle.pass_salvage.proofs.Edits.{Edits, BlocksEdited, item_back, item_on}
 use Rattle.pass_salvage.proofs.EditRuns.{Keeps, IsSteady, runs_edited}
-use Rattle.pass_salvage.proofs.EditFollows.{Allows, each_edited}
+use Rattle.pass_salvage.proofs.EditFollows.{Allows, each_edited, end_is_code, debug_fits, among_edited, first_edited, length_edited, order_of}
 use Rattle.pass_edits.specs.WeakSimulation.{LooseShape, PreservesWeakSimulation}
-
-all_none : {A : Type 0} (P : A → Type 0) → All P []
-all_none P k d lt = absurd (omega (arith, lt))
-
-end_is_code : (k : ItemKind) → OnRow IsEnd k → is_code k ≡ true
-end_is_code (Code i n) h = refl
-end_is_code (Mark v m) h = absurd h
-end_is_code (Phi p n) h = absurd h
-
-debug_fits : (src : Program) (k : ItemKind) (source_end : ℕ) (o : Origin) → is_code k ≡ false → KindFits src k source_end o
-debug_fits src (Code i n) source_end o e = cc
-debug_fits src (Mark v m) source_end o e = tt
-debug_fits src (Phi p n) source_end o e = tt
-
-module _ (E : Edits) where
-  among_edited : {fs gs src : List Block} → BlocksEdited E fs gs → Among fs src → Among gs src
-  among_edited no_blocks none = none
-  among_edited (next_block id source_end items rest) (same e s more) = same (id ∙ e) (source_end ∙ s) (among_edited rest more)
-  among_edited b (left more) = left (among_edited b more)
-
-  first_edited : (fs gs : List Block) → BlocksEdited E fs gs → first_of gs ≡ first_of fs
-  first_edited fs gs no_blocks = refl
-  first_edited (a ∷ fs) (b ∷ gs) (next_block id source_end items rest) = id
-
-  length_edited : (fs gs : List Block) → BlocksEdited E fs gs → length gs ≡ length fs
-  length_edited fs gs no_blocks = refl
-  length_edited (a ∷ fs) (b ∷ gs) (next_block id source_end items rest) = ap suc (length_edited fs gs rest)
-
-  order_of : (fs gs : List Block) → BlocksEdited E fs gs → All (λ (b : Block). InOrder b.id 0 b.items) fs → All (λ (b : Block). InOrder b.id 0 b.items) gs
-  order_of fs gs no_blocks h = all_none (λ (b : Block). InOrder b.id 0 b.items)
-  order_of (a ∷ fs) (b ∷ gs) (next_block id source_end items rest) h =
-      All-cons (λ (c : Block). InOrder c.id 0 c.items) b gs
-      (subst (λ (n : ℕ). InOrder n 0 b.items) (sym id)
-      (order_edited E a.id 0 0 a.items b.items refl items (All-head (λ (c : Block). InOrder c.id 0 c.items) a fs h)))
-      (order_of fs gs rest (All-tail (λ (c : Block). InOrder c.id 0 c.items) a fs h))
 
 module _ (E : Edits) (Q : E.Stage → Core → Core → Type 0) (allows : Allows E) (old new : Function) (sound : IsSound old) (sound' : IsSound new)
     (subs subs' : List DebugSubstitution) (objects : new.objects ≡ old.objects) (edited : BlocksEdited E old.blocks new.blocks)

@@ -11,3 +11,4 @@ pub mod Under
 pub mod Found
 pub mod ToPhi
 pub mod ToCode
+pub mod Entered

@@ -1,7 +1,8 @@
 -- Numbers that stand on code once: of which items none has the number of some code, and what items may be put, changed or taken out.
-use Rattle.std.proofs.Common.{◌≡◌, ◌⊎◌, inl, inr, ℕ, zero, suc, ◌<◌, List, [], ◌∷◌, ◌++◌, length, get_or, All, Option, Some, None, slice_get, refl}
-use Rattle.std.proofs.Common.{sym, ap, ◌∙◌, arith}
-use Rattle.std.proofs.lemmas.List.Elements.{All-nil, All-cons, All-head, All-tail}
+use Rattle.std.proofs.Common.{◌≡◌, ◌⊎◌, inl, inr, ℕ, zero, suc, ◌<◌, List, [], ◌∷◌, ◌++◌, length, get_or, All, Contains, Option, Some, None, slice_get, refl}
+use Rattle.std.proofs.Common.{sym, ap, ◌∙◌, subst, arith}
+use Rattle.std.specs.List.{filter_map, cons_option}
+use Rattle.std.proofs.lemmas.List.Elements.{All-nil, All-cons, All-head, All-tail, All-contains}
 use Rattle.std.proofs.lemmas.Option.{slice_get-get_or, slice_get_within, get_or_from_slice_get}
 use Rattle.mir_func.specs.declared.item.Item.{Item}
 use Rattle.mir_func.specs.declared.item.ItemKind.{ItemKind}
@@ -109,7 +110,7 @@ was (puts {y = z} none code more) zero y n e number =
     let same : z ≡ y = cc in none_some (number_of z.kind) n none (ap (λ (i : Item). number_of i.kind) same ∙ number)
 was (puts none code more) (suc k) y n e number = was more k y n e number
 
-code_is_number : (k : ItemKind) (n : ℕ) → code_number k ≡ Some n → number_of k ≡ Some n
+pub code_is_number : (k : ItemKind) (n : ℕ) → code_number k ≡ Some n → number_of k ≡ Some n
 code_is_number (Code i m) n e = e
 code_is_number (Mark v m) n e = cc
 code_is_number (Phi p m) n e = cc
@@ -200,3 +201,37 @@ fewer_append no_more k = k
 fewer_append (keeps h more) k = keeps h (fewer_append more k)
 fewer_append (drops more) k = drops (fewer_append more k)
 fewer_append (puts none code more) k = puts none code (fewer_append more k)
+
+-- ---- the numbers of items
+
+more_option : (o : Option ℕ) (ns : List ℕ) (k : ℕ) → Contains ns k → Contains (cons_option o ns) k
+more_option None ns k h = h
+more_option (Some n) ns k (j, lt, e) = (suc j, omega (arith, lt), e)
+
+-- a number on an item is among the items' numbers
+pub number_in : (xs : List Item) (x : Item) (k : ℕ) → Contains xs x → number_of x.kind ≡ Some k → Contains (filter_map (λ (i : Item). number_of i.kind) xs) k
+number_in [] x k (j, lt, e) number = absurd (omega (arith, lt))
+number_in (y ∷ ys) x k (zero, lt, e) number =
+    let is : number_of y.kind ≡ Some k = ap (λ (z : Item). number_of z.kind) e ∙ number in
+    subst (λ (o : Option ℕ). Contains (cons_option o (filter_map (λ (i : Item). number_of i.kind) ys)) k) (sym is) (0, omega arith, refl)
+number_in (y ∷ ys) x k (suc j, lt, e) number =
+    more_option (number_of y.kind) (filter_map (λ (i : Item). number_of i.kind) ys) k (number_in ys x k (j, omega (arith, lt), e) number)
+
+-- a number on no item isn't
+pub number_not : (xs : List Item) (k : ℕ) → AreUnlike k xs → Contains (filter_map (λ (i : Item). number_of i.kind) xs) k → ⊥
+number_not [] k h (j, lt, e) = omega (arith, lt)
+number_not (y ∷ ys) k h c =
+    by_number (number_of y.kind) refl c (number_not ys k (All-tail (λ (x : Item). IsUnlike k x.kind) y ys h)) where
+      by_number : (o : Option ℕ) → number_of y.kind ≡ o → Contains (cons_option o (filter_map (λ (i : Item). number_of i.kind) ys)) k →
+          (Contains (filter_map (λ (i : Item). number_of i.kind) ys) k → ⊥) → ⊥
+      by_number None is w rec = rec w
+      by_number (Some n) is (zero, lt, e) rec = All-head (λ (x : Item). IsUnlike k x.kind) y ys h n is (sym e)
+      by_number (Some n) is (suc j, lt, e) rec = rec (j, omega (arith, lt), e)
+
+-- code with the number is among the items
+abbrev pub HasCode : ℕ → List Item → Type 0
+HasCode m xs = (x : Item) × Contains xs x × (code_number x.kind ≡ Some m)
+
+-- what has a number isn't unlike it
+pub not_unlike : (k : ℕ) (xs : List Item) → AreUnlike k xs → HasCode k xs → ⊥
+not_unlike k xs h w = All-contains (λ (x : Item). IsUnlike k x.kind) xs w.0 h w.1 k (code_is_number w.0.kind k w.2) refl

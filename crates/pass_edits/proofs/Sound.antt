@@ -18,7 +18,8 @@ use Rattle.mir_func.specs.Sound.{AreApart, AllItems, ids_of, OriginIn, TargetsIn
 use Rattle.mir_func.specs.Sound.{IsJumpAtMost, MayFollow}
 use Rattle.mir_func.specs.Sound.{EndsWell, Closes, LastCloses, IsSoundObject}
 use Rattle.sem_mir.specs.Align.{position_of}
-use Rattle.pass_edits.specs.Edits.{SameButNumber, same_code, same_kind, IsMove, phi_before, AreEdited, no_items, stays, with_phi, goes}
+use Rattle.pass_salvage.specs.Salvage.{phi_for}
+use Rattle.pass_edits.specs.Edits.{SameButNumber, same_code, same_kind, IsMove, AreEdited, no_items, stays, with_phi, goes}
 use Rattle.pass_edits.specs.Edits.{AreBlocksEdited, no_blocks, next_block, EditsKeepSound}
 use Rattle.pass_edits.proofs.Onward.{move_onward, not_alone}
 
@@ -33,7 +34,7 @@ module _ (P : ItemKind → Type 0) (same : (k l : ItemKind) → SameButNumber k 
   each_item (x ∷ xs) (y ∷ ys) (stays o k rest) h =
       All-cons Q y ys (same x.kind y.kind k (All-head Q x xs h)) (each_item xs ys rest (All-tail Q x xs h))
   each_item (x ∷ xs) (z ∷ y ∷ ys) (with_phi k s m o e rest) h =
-      All-cons Q (phi_before k s x.origin) (y ∷ ys) (phi k s)
+      All-cons Q (phi_for k s x.origin) (y ∷ ys) (phi k s)
       (All-cons Q y ys (same x.kind y.kind e (All-head Q x xs h)) (each_item xs ys rest (All-tail Q x xs h)))
   each_item (x ∷ xs) ys (goes m rest) h = each_item xs ys rest (All-tail Q x xs h)
 
@@ -82,7 +83,7 @@ origins_of a b (x ∷ xs) (y ∷ ys) id source_end (stays o e rest) h =
     (origins_of a b xs ys id source_end rest (All-tail (λ (i : Item). OriginIn a i.origin) x xs h))
 origins_of a b (x ∷ xs) (z ∷ y ∷ ys) id source_end (with_phi k s m o e rest) h =
     let here : OriginIn b x.origin = origin_in a b x.origin id source_end (All-head (λ (i : Item). OriginIn a i.origin) x xs h) in
-    All-cons (λ (i : Item). OriginIn b i.origin) (phi_before k s x.origin) (y ∷ ys) (before_in b x.origin here)
+    All-cons (λ (i : Item). OriginIn b i.origin) (phi_for k s x.origin) (y ∷ ys) (before_in b x.origin here)
     (All-cons (λ (i : Item). OriginIn b i.origin) y ys (subst (OriginIn b) (sym o) here)
     (origins_of a b xs ys id source_end rest (All-tail (λ (i : Item). OriginIn a i.origin) x xs h)))
 origins_of a b (x ∷ xs) ys id source_end (goes m rest) h = origins_of a b xs ys id source_end rest (All-tail (λ (i : Item). OriginIn a i.origin) x xs h)

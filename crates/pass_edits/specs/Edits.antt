@@ -1,18 +1,14 @@
 -- Edits of blocks: copies are removed, DBG_PHIs are added before copies, and code gets another number or none.
-use Rattle.std.specs.Prelude.{◌≡◌, ℕ, List, [], ◌∷◌, Option, Some}
-use Rattle.rv64_instr.specs.declared.place.Place.TheVariants.{Register}
+use Rattle.std.specs.Prelude.{◌≡◌, ℕ, List, [], ◌∷◌, Option}
 use Rattle.rv64_instr.specs.Instruction.{Instruction}
 use Rattle.rv64_instr.specs.Row.{Moves, row_of}
-use Rattle.mir_func.specs.declared.position.Origin.{Origin}
-use Rattle.mir_func.specs.declared.position.Origin.TheVariants.{Before}
-use Rattle.mir_func.specs.declared.location.Loc.TheVariants.{Absent}
 use Rattle.mir_func.specs.declared.block.Block.{Block}
 use Rattle.mir_func.specs.declared.item.Item.{Item}
 use Rattle.mir_func.specs.declared.item.ItemKind.{ItemKind}
 use Rattle.mir_func.specs.declared.item.ItemKind.TheVariants.{Code, Mark, Phi}
 use Rattle.mir_func.specs.Function.{Function}
 use Rattle.mir_func.specs.Sound.{items_of, NumbersOnce, IsSound}
-use Rattle.sem_mir.specs.Align.{position_of}
+use Rattle.pass_salvage.specs.Salvage.{phi_for}
 
 -- the kinds are the same except for the number of code
 pub data SameButNumber : ItemKind → ItemKind → Type 0 where
@@ -25,16 +21,12 @@ IsMove (Code i n) = (rd : ℕ) × (s : ℕ) × (row_of i ≡ Moves rd s)
 IsMove (Mark v m) = ⊥
 IsMove (Phi p k) = ⊥
 
--- a DBG_PHI of a register right before the position of this origin, with no debug location
-abbrev pub phi_before : (k s : ℕ) → Origin → Item
-phi_before k s o = record { kind = Phi (Some (Register s)) k; origin = Before (position_of o); loc = Absent }
-
 -- the items of a block, item by item
 pub data AreEdited : List Item → List Item → Type 0 where
   no_items : AreEdited [] []
   stays : {x y : Item} {xs ys : List Item} → y.origin ≡ x.origin → SameButNumber x.kind y.kind → AreEdited xs ys → AreEdited (x ∷ xs) (y ∷ ys)
   with_phi : {x y : Item} {xs ys : List Item} (k s : ℕ) → IsMove x.kind → y.origin ≡ x.origin → SameButNumber x.kind y.kind → AreEdited xs ys →
-      AreEdited (x ∷ xs) (phi_before k s x.origin ∷ y ∷ ys)
+      AreEdited (x ∷ xs) (phi_for k s x.origin ∷ y ∷ ys)
   goes : {x : Item} {xs ys : List Item} → IsMove x.kind → AreEdited xs ys → AreEdited (x ∷ xs) ys
 
 -- the blocks of a function; their numbers and silent indices are unchanged

@@ -1,34 +1,20 @@
 -- What passes in a row keep: the first, and then the rest.
-use Rattle.std.proofs.Common.{inl, inr, ℕ, ◌+◌, ◌*◌, ◌<◌, ◌≤◌, ◌^◌, List, [], ◌∷◌, ◌++◌, Bool, ◌&&◌, ◌||◌, refl, sym, ap, ◌∙◌, subst, arith}
-use Rattle.std.specs.Prelude.{IsTrue}
+use Rattle.std.proofs.Common.{inl, inr, ℕ, ◌+◌, ◌*◌, ◌<◌, ◌≤◌, ◌^◌, List, [], ◌∷◌, ◌++◌, refl, ◌∙◌, arith}
 use Rattle.std.proofs.Math.Nat.{mul-le-mul_left, le_trans}
-use Rattle.std.proofs.lemmas.Bool.{or_left, or_right, and_parts}
-use Rattle.std.proofs.lemmas.List.{append_assoc}
 use Rattle.mir_func.specs.declared.debug_substitution.DebugSubstitution.{DebugSubstitution}
 use Rattle.mir_func.specs.Function.{Function}
 use Rattle.mir_func.specs.Limits.{MAX_BLOCKS, MAX_SLOTS}
 use Rattle.pass_trait.specs.Change.{Change, change}
 use Rattle.pass_trait.specs.declared.loss.Loss.{Loss}
-use Rattle.pass_trait.specs.Simulation.{PreservesSimulation}
 use Rattle.pass_trait.specs.Sizes.{greatest, greatest_number, most, item_count, code_count, KeepsSizes}
-use Rattle.pass_trait.specs.Steps.{PassStep, KeepsSteps}
+use Rattle.pass_trait.specs.Steps.{KeepsSteps}
+use Rattle.pass_trait.proofs.Composition.{steps_then}
 use Rattle.pass_list.specs.declared.kind.PassKind.{PassKind}
 use Rattle.pass_manager.specs.Passes.{steps_of_pass, steps_of, passes_of, factor, count, most_after, numbers_after, slots_after, KeepsGrowth}
 use Rattle.pass_manager.specs.Shown.{KeepsShown}
 use Rattle.pass_manager.specs.Told.{KeepsPasses}
 
 -- ---- steps
-
-pub steps_then : (steps more : List PassStep) (f : Function) (fs : List DebugSubstitution) (g : Function) (gs : List DebugSubstitution) (h : Function)
-    (hs : List DebugSubstitution)
-    (a b : List Loss) → KeepsSteps steps (change f fs g gs) a → KeepsSteps more (change g gs h hs) b → KeepsSteps (steps ++ more) (change f fs h hs) (a ++ b)
-steps_then [] more f fs g gs h hs a b (ef, es, ea) y =
-    let P : Function → Type 0 = λ x. KeepsSteps more (change x gs h hs) b in
-    let S : List DebugSubstitution → Type 0 = λ x. KeepsSteps more (change f x h hs) b in
-    let L : List Loss → Type 0 = λ x. KeepsSteps more (change f fs h hs) (x ++ b) in
-    subst L (sym ea) (subst S es (subst P ef y))
-steps_then (s ∷ steps) more f fs g gs h hs a b (m, ms, here, later, k, rest, e) y =
-    (m, ms, here, later ++ b, k, steps_then steps more m ms g gs h hs later b rest y, ap (λ x. x ++ b) e ∙ append_assoc here later b)
 
 -- passes that keep their steps keep those of all, with losses of which they are told
 pub told_steps : (reserve : List ℕ) (ps : List PassKind) (c : Change) (told : List Loss) → KeepsPasses (passes_of reserve ps) c told →
@@ -37,17 +23,6 @@ told_steps reserve [] c told k = ([], (k.0, k.1, refl))
 told_steps reserve (p ∷ ps) c told (g, gs, here, later, k, rest, e) =
     let more = told_steps reserve ps (record c { old = g; old_subs = gs }) later rest in
     (k.lost ++ more.0, steps_then (steps_of_pass reserve p) (steps_of reserve ps) c.old c.old_subs g gs c.new c.new_subs k.lost more.0 k.kept more.1)
-
--- ---- following
-
-pub following_then : (asks keeps asks' keeps' : Bool) (f : Function) (fs : List DebugSubstitution) (g : Function) (gs : List DebugSubstitution) (h : Function)
-    (hs : List DebugSubstitution) →
-    (IsTrue asks' → IsTrue keeps) → PreservesSimulation asks keeps (change f fs g gs) → PreservesSimulation asks' keeps' (change g gs h hs) →
-    PreservesSimulation (asks || asks') (keeps && keeps') (change f fs h hs)
-following_then asks keeps asks' keeps' f fs g gs h hs fit x y = record {
-  follows = λ src fol ends. y.follows src (x.follows src fol (λ a. ends (or_left asks asks' a))) (λ a. x.ends (fit a) src fol (ends (or_right asks asks' a)));
-  ends = λ k src fol ends. let both = and_parts keeps keeps' k in y.ends both.1 src (x.follows src fol (λ a. ends)) (x.ends both.0 src fol ends);
-}
 
 -- ---- sizes
 

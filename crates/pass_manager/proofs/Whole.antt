@@ -7,11 +7,12 @@ use Rattle.pass_trait.specs.Change.{change}
 use Rattle.pass_trait.specs.declared.loss.Loss.{Loss}
 use Rattle.pass_trait.specs.Simulation.{PreservesSimulation}
 use Rattle.pass_trait.specs.Sizes.{greatest, greatest_number, item_count, KeepsSizes}
+use Rattle.pass_trait.proofs.Composition.{following_then}
 use Rattle.pass_list.specs.declared.kind.PassKind.{PassKind}
 use Rattle.pass_manager.specs.Passes.{steps_of_pass, asks, keeps, factor, count}
 use Rattle.pass_manager.specs.Passes.{passes_of, any_asks, all_keep, Fit, numbers_after, slots_after, KeepsGrowth}
 use Rattle.pass_manager.specs.Told.{KeepsPass, KeepsPasses}
-use Rattle.pass_manager.proofs.Row.{following_then, growth_then, later_numbers, later_slots}
+use Rattle.pass_manager.proofs.Row.{growth_then, later_numbers, later_slots}
 
 module _ (passes : List PassKind) (p : PassKind) (ps : List PassKind) (is : passes ≡ p ∷ ps) (f : Function) (fs : List DebugSubstitution) where
   module _ (g : Function) (gs : List DebugSubstitution) where

@@ -29,29 +29,29 @@ use Rattle.pass_salvage.proofs.Edits.{Edits, Edited, over, pair, out, put, Block
 use Rattle.pass_salvage.proofs.EditRuns.{Keeps, IsSteady, runs_edited}
 use Rattle.pass_salvage.proofs.EditPaths.{stores_on}
 
-all_none : {A : Type 0} (P : A → Type 0) → All P []
+pub all_none : {A : Type 0} (P : A → Type 0) → All P []
 all_none P k d lt = absurd (omega (arith, lt))
 
-end_is_code : (k : ItemKind) → OnRow IsEnd k → is_code k ≡ true
+pub end_is_code : (k : ItemKind) → OnRow IsEnd k → is_code k ≡ true
 end_is_code (Code i n) h = refl
 end_is_code (Mark v m) h = absurd h
 end_is_code (Phi p n) h = absurd h
 
 module _ (E : Edits) where
-  among_edited : {fs gs src : List Block} → BlocksEdited E fs gs → Among fs src → Among gs src
+  pub among_edited : {fs gs src : List Block} → BlocksEdited E fs gs → Among fs src → Among gs src
   among_edited no_blocks none = none
   among_edited (next_block id source_end items rest) (same e s more) = same (id ∙ e) (source_end ∙ s) (among_edited rest more)
   among_edited b (left more) = left (among_edited b more)
 
-  first_edited : (fs gs : List Block) → BlocksEdited E fs gs → first_of gs ≡ first_of fs
+  pub first_edited : (fs gs : List Block) → BlocksEdited E fs gs → first_of gs ≡ first_of fs
   first_edited fs gs no_blocks = refl
   first_edited (a ∷ fs) (b ∷ gs) (next_block id source_end items rest) = id
 
-  length_edited : (fs gs : List Block) → BlocksEdited E fs gs → length gs ≡ length fs
+  pub length_edited : (fs gs : List Block) → BlocksEdited E fs gs → length gs ≡ length fs
   length_edited fs gs no_blocks = refl
   length_edited (a ∷ fs) (b ∷ gs) (next_block id source_end items rest) = ap suc (length_edited fs gs rest)
 
-  order_of : (fs gs : List Block) → BlocksEdited E fs gs → All (λ (b : Block). InOrder b.id 0 b.items) fs → All (λ (b : Block). InOrder b.id 0 b.items) gs
+  pub order_of : (fs gs : List Block) → BlocksEdited E fs gs → All (λ (b : Block). InOrder b.id 0 b.items) fs → All (λ (b : Block). InOrder b.id 0 b.items) gs
   order_of fs gs no_blocks h = all_none (λ (b : Block). InOrder b.id 0 b.items)
   order_of (a ∷ fs) (b ∷ gs) (next_block id source_end items rest) h =
       All-cons (λ (c : Block). InOrder c.id 0 c.items) b gs
@@ -89,7 +89,7 @@ pub record Allows (E : Edits) : Type 0 where
   -- a mark that is put assigns nothing
   pub marks : (k k' : E.Stage) (y : Item) → E.Put k k' y → is_code y.kind ≡ false → MarkFits y.kind y.origin
 
-debug_fits : (src : Program) (k : ItemKind) (source_end : ℕ) (o : Origin) → is_code k ≡ false → KindFits src k source_end o
+pub debug_fits : (src : Program) (k : ItemKind) (source_end : ℕ) (o : Origin) → is_code k ≡ false → KindFits src k source_end o
 debug_fits src (Code i n) source_end o e = cc
 debug_fits src (Mark v m) source_end o e = tt
 debug_fits src (Phi p n) source_end o e = tt

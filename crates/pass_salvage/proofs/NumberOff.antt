@@ -46,7 +46,7 @@ pub data Side : Type 0 where
 abbrev pub Everywhere : Place → Type 0
 Everywhere x = Unit {0}
 
-on_both : (P S : Core → Type 0) (x : Outcome) → OnCore P x → OnCore S x → OnCore (λ c. P c × S c) x
+pub on_both : (P S : Core → Type 0) (x : Outcome) → OnCore P x → OnCore S x → OnCore (λ c. P c × S c) x
 on_both P S (Falls c) h s = (h, s)
 on_both P S (Goes n c) h s = (h, s)
 on_both P S (Gives v) h s = tt

@@ -27,18 +27,18 @@ steps_then (s ∷ steps) more f fs g gs h hs a b (m, ms, here, later, k, rest, e
     (m, ms, here, later ++ b, k, steps_then steps more m ms g gs h hs later b rest y, ap (λ x. x ++ b) e ∙ append_assoc here later b)
 
 -- the code is made by the rules for code, step by step
-made_in_turn : (steps : List PassStep) (c : Change) (lost : List Loss) → KeepsSteps steps c lost → MakesInTurn steps (stripped c.old) (stripped c.new)
+pub made_in_turn : (steps : List PassStep) (c : Change) (lost : List Loss) → KeepsSteps steps c lost → MakesInTurn steps (stripped c.old) (stripped c.new)
 made_in_turn [] c lost k = ap stripped k.0
 made_in_turn (s ∷ steps) c lost (f, fs, here, later, k, rest, e) = (stripped f, k.code, made_in_turn steps (record c { old = f; old_subs = fs }) later rest)
 
 -- and these see code alone, and have one result
-alike_in_turn : (steps : List PassStep) → EachCode SeesCodeAlone steps → (f f' g g' : Function) → AreAlike f f' → MakesInTurn steps f g →
+pub alike_in_turn : (steps : List PassStep) → EachCode SeesCodeAlone steps → (f f' g g' : Function) → AreAlike f f' → MakesInTurn steps f g →
     MakesInTurn steps f' g' →
     AreAlike g g'
 alike_in_turn [] sees f f' g g' h k k' = ap originless k ∙ h ∙ sym (ap originless k')
 alike_in_turn (s ∷ steps) sees f f' g g' h (m, k, rest) (m', k', rest') = alike_in_turn steps sees.1 m m' g g' (sees.0 f f' m m' h k k') rest rest'
 
-same_in_turn : (steps : List PassStep) → EachCode HasOneResult steps → (f f' g g' : Function) → f ≡ f' → MakesInTurn steps f g → MakesInTurn steps f' g' →
+pub same_in_turn : (steps : List PassStep) → EachCode HasOneResult steps → (f f' g g' : Function) → f ≡ f' → MakesInTurn steps f g → MakesInTurn steps f' g' →
     g ≡ g'
 same_in_turn [] one f f' g g' h k k' = k ∙ h ∙ sym k'
 same_in_turn (s ∷ steps) one f f' g g' h (m, k, rest) (m', k', rest') =

@@ -1,15 +1,15 @@
 -- What a loop that changes each element of a list in place has after one more.
 use Rattle.std.proofs.Common.{◌≡◌, ℕ, zero, suc, ◌+◌, ◌<◌, List, [], ◌∷◌, ◌++◌, length, get_or, set, take, drop, map, refl, sym, ap, ◌∙◌, arith}
 
-drop_none : {X : Type 0} (xs : List X) → drop 0 xs ≡ xs
+pub drop_none : {X : Type 0} (xs : List X) → drop 0 xs ≡ xs
 drop_none [] = refl
 drop_none (x ∷ xs) = refl
 
-take_none : {X : Type 0} (xs : List X) → take 0 xs ≡ []
+pub take_none : {X : Type 0} (xs : List X) → take 0 xs ≡ []
 take_none [] = refl
 take_none (x ∷ xs) = refl
 
-turned : {X : Type 0} (f : X → X) (xs : List X) (k : ℕ) (d : X) → k < length xs →
+pub turned : {X : Type 0} (f : X → X) (xs : List X) (k : ℕ) (d : X) → k < length xs →
     set (map f (take k xs) ++ drop k xs) k (f (get_or (map f (take k xs) ++ drop k xs) k d)) ≡ map f (take (suc k) xs) ++ drop (suc k) xs
 turned f [] k d lt = absurd (omega (arith, lt))
 turned f (x ∷ xs) zero d lt = refl

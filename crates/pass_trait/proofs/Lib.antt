@@ -1,4 +1,4 @@
-mod Composition
+pub mod Composition
 mod Growth
 mod Thinning
 mod NopRuns
@@ -6,7 +6,7 @@ mod NopFollows
 mod NopSound
 mod NopCode
 mod NopSizes
-mod NopDebug
-mod InPlaceMap
+pub mod NopDebug
+pub mod InPlaceMap
 mod LostNumbers
-mod Results
+pub mod Results

@@ -42,37 +42,37 @@ use Rattle.pass_trait.proofs.NopSound.{items_thin, ids_thin, sound_thin}
 use Rattle.pass_trait.proofs.NopSizes.{count_thin}
 
 -- where an element of a list that is put together comes from
-in_first : {A : Type 0} (x : A) (xs : List A) (y : A) → Contains (x ∷ xs) y → (x ≡ y) ⊎ Contains xs y
+pub in_first : {A : Type 0} (x : A) (xs : List A) (y : A) → Contains (x ∷ xs) y → (x ≡ y) ⊎ Contains xs y
 in_first x xs y (zero, lt, at) = inl at
 in_first x xs y (suc k, lt, at) = inr (k, omega (arith, lt), at)
 
-at_first : {A : Type 0} (x : A) (xs : List A) → Contains (x ∷ xs) x
+pub at_first : {A : Type 0} (x : A) (xs : List A) → Contains (x ∷ xs) x
 at_first x xs = (zero, omega arith, refl)
 
-at_later : {A : Type 0} (x : A) (xs : List A) (y : A) → Contains xs y → Contains (x ∷ xs) y
+pub at_later : {A : Type 0} (x : A) (xs : List A) (y : A) → Contains xs y → Contains (x ∷ xs) y
 at_later x xs y (k, lt, at) = (suc k, omega (arith, lt), at)
 
-of_get : {A : Type 0} (xs : List A) (n : ℕ) (x : A) → slice_get xs n ≡ Some x → Contains xs x
+pub of_get : {A : Type 0} (xs : List A) (n : ℕ) (x : A) → slice_get xs n ≡ Some x → Contains xs x
 of_get xs n x at = (n, within_list xs n x at, get_or_from_slice_get xs n x x at)
 
-in_append : {A : Type 0} (xs ys : List A) (y : A) → Contains (xs ++ ys) y → Contains xs y ⊎ Contains ys y
+pub in_append : {A : Type 0} (xs ys : List A) (y : A) → Contains (xs ++ ys) y → Contains xs y ⊎ Contains ys y
 in_append [] ys y h = inr h
 in_append (x ∷ xs) ys y h = elim (in_first x (xs ++ ys) y h) [
   | inl e ↦ inl (subst (Contains (x ∷ xs)) e (at_first x xs))
   | inr k ↦ elim (in_append xs ys y k) [ inl l ↦ inl (at_later x xs y l) | inr l ↦ inr l ]
 ]
 
-none_in : {A P : Type 0} (y : A) → Contains [] y → P
+pub none_in : {A P : Type 0} (y : A) → Contains [] y → P
 none_in y h = absurd (omega (arith, h.1))
 
-in_flat : {A B : Type 0} (h : A → List B) (xs : List A) (y : B) → Contains (flat_map h xs) y → (x : A) × Contains xs x × Contains (h x) y
+pub in_flat : {A B : Type 0} (h : A → List B) (xs : List A) (y : B) → Contains (flat_map h xs) y → (x : A) × Contains xs x × Contains (h x) y
 in_flat h [] y k = none_in y k
 in_flat h (x ∷ xs) y k = elim (in_append (h x) (flat_map h xs) y k) [
   | inl l ↦ (x, at_first x xs, l)
   | inr l ↦ (let w = in_flat h xs y l in (w.0, at_later x xs w.0 w.1, w.2))
 ]
 
-of_flat : {A B : Type 0} (h : A → List B) (xs : List A) (x : A) (y : B) → Contains xs x → Contains (h x) y → Contains (flat_map h xs) y
+pub of_flat : {A B : Type 0} (h : A → List B) (xs : List A) (x : A) (y : B) → Contains xs x → Contains (h x) y → Contains (flat_map h xs) y
 of_flat h [] x y k l = none_in x k
 of_flat {A} h (z ∷ zs) x y k l = elim (in_first z zs x k) [
   | inl e ↦ Contains-append_left (h z) (flat_map h zs) y (subst (λ (w : A). Contains (h w) y) (sym e) l)
@@ -148,7 +148,7 @@ no_copy : (r : Row) → is_nop_row r ≡ true → IsCopy r → ⊥
 no_copy (Moves rd rs) e h = cc
 no_copy _ e h = absurd h
 
-same_position : (p : Pos) → is_position p p ≡ true
+pub same_position : (p : Pos) → is_position p p ≡ true
 same_position p = let a = eq-eqb p.block p.block refl in let b = eq-eqb p.item p.item refl in λ i. a i && b i
 
 same_origin : (o : Origin) → is_origin o o ≡ true

@@ -10,7 +10,7 @@ use Rattle.std.proofs.lemmas.List.Folds.{list_any-append}
 use Rattle.read_declarations.specs.declared.stack.StackEntry.{StackEntry}
 use Rattle.read_declarations.specs.Stack.{has_id, AreIds}
 
-by_order : (k q : ℕ) (o : Ordering) → MatchOrdering o (k < q) (k ≡ q) (q < k) → is_eq o ≡ eqb q k
+pub by_order : (k q : ℕ) (o : Ordering) → MatchOrdering o (k < q) (k ≡ q) (q < k) → is_eq o ≡ eqb q k
 by_order k q Less lt = sym (ne_eqb q k (λ e. omega (arith, lt, e)))
 by_order k q Equal e = sym (eq-eqb q k (sym e))
 by_order k q Greater gt = sym (ne_eqb q k (λ e. omega (arith, gt, e)))

@@ -52,7 +52,8 @@ begins_with_zeros _ = false
 abbrev pub passed_if : Bool → Result Judged RefusalKind
 passed_if good = if good then Ok Passed else Err kinds.BadOperands
 
--- the item of a line with this opcode, or its refusal
+-- the item of a line with this opcode, or its refusal. Lines of `DBG_LABEL`, `KILL`, `IMPLICIT_DEF` and call frames are no items: only what
+-- stands here is asked of them, and their numbers and stack entries have no limits
 abbrev pub judged_by : Option Opcode → Maps → ItemForm → Result Judged RefusalKind
 judged_by None meta line = Err kinds.UnknownOpcode
 judged_by (Some (opcodes.Code op)) meta line = item_of line (numbered line.number (code_of op line))

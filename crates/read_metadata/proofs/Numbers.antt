@@ -7,7 +7,7 @@ use Rattle.std.proofs.lemmas.List.{drop_more, drop_all}
 use Rattle.read_metadata.specs.Number.{value_behind, spelled}
 use Rattle.base_ids.specs.Limits.{MAX_NUMBER}
 
-grows : (base n : ℕ) (ds : List ℕ) → 0 < base → n ≤ value_behind base n ds
+pub grows : (base n : ℕ) (ds : List ℕ) → 0 < base → n ≤ value_behind base n ds
 grows base n [] positive = omega arith
 grows base n (d ∷ ds) positive =
     let more = grows base (n * base + digit_value d) ds positive in

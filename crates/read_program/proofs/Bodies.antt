@@ -129,7 +129,7 @@ codes_keep body (Code i (Some n)) k is = met_keeps k n body.codes is
 codes_keep body (Mark v m) k is = is
 codes_keep body (Phi p n) k is = is
 
-numbers_keep : (body : Body) (kind : ItemKind) (k : ℕ) → is_met k body.numbers ≡ true → is_met k (with_number body kind).numbers ≡ true
+pub numbers_keep : (body : Body) (kind : ItemKind) (k : ℕ) → is_met k body.numbers ≡ true → is_met k (with_number body kind).numbers ≡ true
 numbers_keep body (Code i None) k is = is
 numbers_keep body (Code i (Some n)) k is = met_keeps k n body.numbers is
 numbers_keep body (Mark v m) k is = is
@@ -193,7 +193,7 @@ no_cause false true x y e = absurd cc
 no_cause false false x y e = (refl, refl)
 
 -- nothing is refused
-unless_ok : (cause : Option RefusalKind) (body next : Body) → unless cause body ≡ Ok next → (cause ≡ None) × (body ≡ next)
+pub unless_ok : (cause : Option RefusalKind) (body next : Body) → unless cause body ≡ Ok next → (cause ≡ None) × (body ≡ next)
 unless_ok None body next e = (refl, cc)
 unless_ok (Some kind) body next e = absurd cc
 

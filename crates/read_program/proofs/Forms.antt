@@ -2,6 +2,7 @@
 use Rattle.std.proofs.Common.{◌≡◌, ◌⊎◌, ℕ, ℤ, zero, suc, ◌+◌, Bool, true, false, cond, ◌&&◌, ltb, leb, List, [], ◌∷◌, length, Option, Some, None}
 use Rattle.std.proofs.Common.{Result, Ok, Err, refl, subst, inl, inr}
 use Rattle.std.proofs.lemmas.Bool.{and_parts, leb-true}
+use Rattle.rv64_instr.specs.Form.{IsSigned}
 use Rattle.mir_func.specs.Parts.{Bytes, IsPart}
 use Rattle.read_lexer.specs.declared.fault.LexError.{LexError}
 use Rattle.read_lexer.specs.declared.fault.LexError.TheVariants as lex
@@ -41,7 +42,6 @@ use Rattle.read_line.specs.Operand.{is_zero, flagged_symbol_at, reference_at, ma
 use Rattle.read_line.specs.Read.{◌>>=◌, behind_comma, behind_equals}
 use Rattle.read_line.specs.Register.{joined, behind_class, behind_tied, named_at, register_at, begins_register}
 use Rattle.read_line.specs.Attribute.{begins_attribute}
-use Rattle.read_program.specs.Limited.{IsSigned}
 use Rattle.read_metadata.specs.Token.{text_of}
 use Rattle.read_program.proofs.Lexemes.{NameFits, NumberFits, AllFit, lexemes_fit}
 
@@ -76,12 +76,12 @@ pub bind_some : {A B : Type 0} (o : Option A) (f : A → Option B) (y : B) → (
 bind_some None f y e = absurd cc
 bind_some (Some x) f y e = (x, refl, e)
 
-case_some : {A B : Type 0} (o : Option A) (f : A → Option B) (other : Option B) (y : B) → case_of o f other ≡ Some y →
+pub case_some : {A B : Type 0} (o : Option A) (f : A → Option B) (other : Option B) (y : B) → case_of o f other ≡ Some y →
     ((x : A) × (o ≡ Some x) × (f x ≡ Some y)) ⊎ (other ≡ Some y)
 case_some None f other y e = inr e
 case_some (Some x) f other y e = inl (x, refl, e)
 
-if_some : {A : Type 0} (b : Bool) (x y : Option A) (z : A) → cond b x y ≡ Some z → ((b ≡ true) × (x ≡ Some z)) ⊎ ((b ≡ false) × (y ≡ Some z))
+pub if_some : {A : Type 0} (b : Bool) (x y : Option A) (z : A) → cond b x y ≡ Some z → ((b ≡ true) × (x ≡ Some z)) ⊎ ((b ≡ false) × (y ≡ Some z))
 if_some true x y z e = inl (refl, e)
 if_some false x y z e = inr (refl, e)
 
@@ -362,21 +362,21 @@ item_fits line ts form e fit =
 
 -- ---- lines
 
-as_item_some : (item : Option ItemForm) (form : ItemForm) → as_item item ≡ Ok (Item form) → item ≡ Some form
+pub as_item_some : (item : Option ItemForm) (form : ItemForm) → as_item item ≡ Ok (Item form) → item ≡ Some form
 as_item_some None form e = absurd cc
 as_item_some (Some item) form e = cc
 
-if_ok : {A : Type 0} (b : Bool) (x y z : Result A FormError) → cond b x y ≡ z → (x ≡ z → ⊥) → y ≡ z
+pub if_ok : {A : Type 0} (b : Bool) (x y z : Result A FormError) → cond b x y ≡ z → (x ≡ z → ⊥) → y ≡ z
 if_ok true x y z e not_x = absurd (not_x e)
 if_ok false x y z e not_x = e
 
-label_no_item : (n : ℕ) (form : ItemForm) → ◌≡◌ {A = Result BodyLine FormError} (Ok (label_of n)) (Ok (Item form)) → ⊥
+pub label_no_item : (n : ℕ) (form : ItemForm) → ◌≡◌ {A = Result BodyLine FormError} (Ok (label_of n)) (Ok (Item form)) → ⊥
 label_no_item n form e = by (ltb n 1073741824) e where
   by : (b : Bool) → ◌≡◌ {A = Result BodyLine FormError} (Ok (cond b (Label (Some n)) (Label None))) (Ok (Item form)) → ⊥
   by true e = cc
   by false e = cc
 
-labelled_no_item : (n : ℕ) (rest : Option (List Lexeme)) (form : ItemForm) → labelled n rest ≡ Ok (Item form) → ⊥
+pub labelled_no_item : (n : ℕ) (rest : Option (List Lexeme)) (form : ItemForm) → labelled n rest ≡ Ok (Item form) → ⊥
 labelled_no_item n None form e = cc
 labelled_no_item n (Some rest) form e =
     let no_colon : ◌≡◌ {A = Result BodyLine FormError} (Err BadLine) (Ok (Item form)) = if_ok (is_colon rest) (Ok (label_of n)) (Err BadLine) (Ok

@@ -11,6 +11,7 @@ use Rattle.mir_func.specs.declared.object.Object.{Object}
 use Rattle.mir_func.specs.Objects.{ALIGNMENTS, up_to, reach_after, reach_from, block_size, counted, local_count, local_offsets, place_of, next_end}
 use Rattle.mir_func.specs.Objects.{AreLaidFrom, AreLaid}
 use Rattle.mir_func.specs.Sound.{AreApart, IsSoundObject}
+use Rattle.mir_func.proofs.Once.{apart_head, apart_tail}
 use Rattle.read_declarations.specs.declared.stack.StackEntry.{StackEntry}
 use Rattle.read_declarations.specs.Stack.{is_alignment, entry_offsets}
 use Rattle.read_body.specs.declared.frame.ObjectLayout.{ObjectLayout}
@@ -26,12 +27,6 @@ use Rattle.read_program.proofs.Stack.{IsReadEntry}
 -- the numbers of entries
 abbrev numbers : List StackEntry → List ℕ
 numbers es = map (λ (e : StackEntry). e.id) es
-
-apart_head : (n : ℕ) (ns : List ℕ) (i : ℕ) → AreApart (n ∷ ns) → slice_get ns i ≡ Some n → ⊥
-apart_head n ns i apart e = let k : zero ≡ suc i = apart zero (suc i) n refl e in absurd (omega arith)
-
-apart_tail : (n : ℕ) (ns : List ℕ) → AreApart (n ∷ ns) → AreApart ns
-apart_tail n ns apart i j m e f = let k : suc i ≡ suc j = apart (suc i) (suc j) m e f in omega arith
 
 -- ---- some of the entries
 

@@ -6,6 +6,7 @@ use Rattle.std.specs.Prelude.{codes}
 use Rattle.std.specs.Char.{is_ascii_digit}
 use Rattle.std.specs.Str.{bytes_eq}
 use Rattle.std.proofs.lemmas.Bool.{and_parts, ltb-true, leb-true}
+use Rattle.rv64_instr.specs.Form.{IsSigned}
 use Rattle.read_lexer.specs.declared.parts.Class.{Class}
 use Rattle.read_lexer.specs.declared.parts.Class.TheVariants as classes
 use Rattle.read_lexer.specs.declared.parts.Token.{Token}
@@ -21,7 +22,6 @@ use Rattle.read_token.specs.Word.{case_of, named_number}
 use Rattle.read_token.specs.Register.{two_digits, physical_of, register_of, is_number, virtual_of, slot_of, block_operand_of, behind_stack, behind_bb}
 use Rattle.read_token.specs.Register.{percent_behind, percent_of}
 use Rattle.read_token.specs.Sentence.{kind_of, single_of, lexeme_by, lexeme_of, lexemes_of}
-use Rattle.read_program.specs.Limited.{IsSigned}
 
 abbrev pub NameFits : RegisterName → Type 0
 NameFits (Physical r) = r < 32

@@ -1,9 +1,10 @@
 -- The limits on the numbers in an item that was read.
-use Rattle.std.specs.Prelude.{◌≡◌, ℤ, pos, negsuc, ◌<◌, ◌≤◌, ◌^◌, IfSome, All, Option, Some, None}
+use Rattle.std.specs.Prelude.{◌≡◌, pos, ◌<◌, ◌≤◌, IfSome, All, Option, Some, None}
 use Rattle.rv64_instr.specs.declared.operand.Operand.{Operand}
 use Rattle.rv64_instr.specs.declared.operand.Operand.TheVariants.{Def, Use, ImplicitDef, ImplicitUse, Imm, Slot, Object, Block, Symbol, Mask}
 use Rattle.rv64_instr.specs.declared.place.Place.{Place}
 use Rattle.rv64_instr.specs.declared.place.Place.TheVariants as place
+use Rattle.rv64_instr.specs.Form.{IsSigned}
 use Rattle.mir_func.specs.declared.item.ItemKind.{ItemKind}
 use Rattle.mir_func.specs.declared.item.ItemKind.TheVariants.{Code, Mark, Phi}
 use Rattle.mir_func.specs.declared.location.Loc.{Loc}
@@ -13,11 +14,6 @@ use Rattle.mir_func.specs.declared.variable.MarkValue.TheVariants.{Nothing, Cons
 use Rattle.mir_func.specs.declared.variable.VarId.{VarId}
 use Rattle.mir_func.specs.Parts.{IsPart}
 use Rattle.base_ids.specs.Limits.{MAX_NUMBER}
-
--- an integer of 64 bits, signed
-abbrev pub IsSigned : ℤ → Type 0
-IsSigned (pos n) = n < 2 ^ 63
-IsSigned (negsuc n) = n < 2 ^ 63
 
 -- ---- the numbers of items: a number or count is at most 2^30 - 1, a register is physical, and other integers have 64 bits
 

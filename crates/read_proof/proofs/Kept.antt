@@ -1,5 +1,5 @@
 -- What an item keeps where stack entries are read as objects: its numbers, and that its text tells it.
-use Rattle.std.proofs.Common.{◌≡◌, ℕ, ℤ, pos, negsuc, ◌<◌, ◌≤◌, Bool, true, false, cond, List, All, Option, Some, None, refl, sym, subst, ◌∙◌, arith}
+use Rattle.std.proofs.Common.{◌≡◌, ℕ, ◌<◌, ◌≤◌, Bool, true, false, cond, List, All, Option, Some, None, refl, sym, subst, ◌∙◌, arith}
 use Rattle.std.specs.Prelude.{IfSome, is_some}
 use Rattle.std.proofs.lemmas.List.Elements.{All-map, All-weaker}
 use Rattle.rv64_instr.specs.declared.operand.Operand.{Operand}
@@ -28,10 +28,10 @@ use Rattle.read_body.specs.StackEntryKind.{objects_of, ids_of_objects}
 use Rattle.read_body.specs.Met.{is_met}
 use Rattle.read_program.specs.Closing.{entry_ids}
 use Rattle.read_program.specs.Objects.{operand_as, operands_as, is_object, place_as, kind_as}
-use Rattle.mir_printer.specs.Printable.{IsNumber, IsSigned, HasNumbers, IsAsDeclared, IsPrintableInstruction, IsPrintablePlace, IsPrintableValue}
+use Rattle.mir_printer.specs.Printable.{IsNumber, HasNumbers, IsAsDeclared, IsPrintableInstruction, IsPrintablePlace, IsPrintableValue}
 use Rattle.mir_printer.specs.Printable.{IsPrintableLoc, Declared}
 use Rattle.mir_printer.specs.Printable.{inlined_at as text_inlined_at, IsPrintableKind}
-use Rattle.read_program.specs.Limited.{IsSigned as ReadSigned, IsLimited, ValueIsLimited, PlaceIsLimited, KindIsLimited, LocIsLimited}
+use Rattle.read_program.specs.Limited.{IsLimited, ValueIsLimited, PlaceIsLimited, KindIsLimited, LocIsLimited}
 use Rattle.read_program.proofs.Entries.{object_if_named, ids_are_objects}
 use Rattle.read_program.proofs.Items.{IsReadItem}
 use Rattle.read_program.proofs.Lists.{both}
@@ -40,10 +40,6 @@ use Rattle.read_program.proofs.Printed.{form_kept, renamed, ObjectsAre, one_obje
 use Rattle.read_program.proofs.Renamed.{has_form_as}
 
 -- ---- forms and numbers, in the words of those who need them
-
-signed : (i : ℤ) → ReadSigned i → IsSigned i
-signed (pos n) small = small
-signed (negsuc n) small = small
 
 limited_number : (n : ℕ) → n ≤ MAX_NUMBER → IsNumber n
 limited_number n small = omega (arith, small)
@@ -60,7 +56,7 @@ operand_numbers (Def r) small = register_number r small
 operand_numbers (Use r) small = register_number r small
 operand_numbers (ImplicitDef r) small = register_number r small
 operand_numbers (ImplicitUse r) small = register_number r small
-operand_numbers (Imm i) small = signed i small
+operand_numbers (Imm i) small = small
 operand_numbers (Slot n) small = limited_number n small
 operand_numbers (Object n) small = limited_number n small
 operand_numbers (Block n) small = limited_number n small
@@ -82,7 +78,7 @@ value_physical (Pair q) small = tt
 
 value_printable : (m : MarkValue) → ValueIsLimited m → IsPrintableValue m
 value_printable Nothing small = tt
-value_printable (Constant i) small = signed i small
+value_printable (Constant i) small = small
 value_printable (At r) small = register_number r small
 value_printable (Pair q) small = (limited_number q.number small.0, limited_number q.operand small.1)
 

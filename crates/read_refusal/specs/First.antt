@@ -1,5 +1,5 @@
 -- The order of refusals.
-use Rattle.std.specs.Prelude.{Bool, ◌&&◌, ◌||◌, ◌==◌, nat_lt, if◌then◌else◌, List, [], ◌∷◌, Option, Some, None}
+use Rattle.std.specs.Prelude.{Bool, ◌&&◌, ◌||◌, ◌==◌, nat_lt, if◌then◌else◌, Option, Some, None}
 use Rattle.read_refusal.specs.declared.first.Refusal.{Refusal}
 use Rattle.read_refusal.specs.Kind.{number_of}
 
@@ -12,8 +12,3 @@ abbrev pub earlier : Option Refusal → Option Refusal → Option Refusal
 earlier None other = other
 earlier (Some one) None = Some one
 earlier (Some one) (Some other) = if comes_before other one then Some other else Some one
-
--- the first refusal in a list
-unfoldable pub first_of : List Refusal → Option Refusal
-first_of [] = None
-first_of (r ∷ rs) = earlier (Some r) (first_of rs)

@@ -1,20 +1,13 @@
 -- The number that digits spell only grows.
-use Rattle.std.proofs.Common.{◌≡◌, ℕ, ◌+◌, ◌*◌, ◌^◌, ◌<◌, ◌≤◌, List, [], ◌∷◌, length, get_or, drop, Some, None, Bool, true}
+use Rattle.std.proofs.Common.{◌≡◌, ℕ, ◌+◌, ◌*◌, ◌^◌, ◌<◌, ◌≤◌, List, [], length, get_or, drop, Some, None, Bool, true}
 use Rattle.std.proofs.Common.{false, cond, min, refl, sym, ap, ◌∙◌, arith}
 use Rattle.std.specs.Prelude.{nat_lt}
 use Rattle.std.specs.Char.{digit_value}
-use Rattle.std.proofs.Math.Nat.{mul-le-mul_left}
 use Rattle.std.proofs.lemmas.Bool.{lt-ltb, le-ltb, ltb-false}
 use Rattle.std.proofs.lemmas.List.{drop_more, drop_all}
 use Rattle.read_metadata.specs.Number.{value_behind}
+use Rattle.read_metadata.proofs.Numbers.{grows}
 use Rattle.read_token.specs.Number.{BEYOND, narrow_value, value_of, limited}
-
-grows : (base n : ℕ) (ds : List ℕ) → 0 < base → n ≤ value_behind base n ds
-grows base n [] positive = omega arith
-grows base n (d ∷ ds) positive =
-    let more = grows base (n * base + digit_value d) ds positive in
-    let times : n * 1 ≤ n * base = mul-le-mul_left n (omega arith) in
-    omega (arith, more, times)
 
 -- one more digit
 pub one_digit : (base n d : ℕ) (ds : List ℕ) (i : ℕ) → i < length ds → d ≡ digit_value (get_or ds i 0) → value_behind base n (drop i ds) ≡ value_of base ds

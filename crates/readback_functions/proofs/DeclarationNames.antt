@@ -1,10 +1,10 @@
 -- The line of a name is read as the name.
-use Rattle.std.proofs.Common.{◌≡◌, ℕ, suc, ◌+◌, ◌-◌, ◌*◌, ◌/◌, ◌%◌, ◌<◌, Bool, true, false, cond, not, ◌&&◌, ◌||◌, eqb, List, [], ◌∷◌, ◌++◌}
+use Rattle.std.proofs.Common.{◌≡◌, ℕ, ◌+◌, ◌-◌, ◌*◌, ◌/◌, ◌%◌, ◌<◌, Bool, true, false, cond, ◌&&◌, eqb, List, [], ◌∷◌, ◌++◌}
 use Rattle.std.proofs.Common.{Ok, length, take, Option, Some, None, All, refl, subst, ap, ◌∙◌, arith, append_assoc, append-nil}
-use Rattle.std.specs.Prelude.{position, unwrap_or, is_some, nat_lt, nat_le, nat_eq, codes}
-use Rattle.std.specs.List.{list_all, flat_map, position_or_len, starts_with}
+use Rattle.std.specs.Prelude.{unwrap_or, is_some, nat_eq, codes}
+use Rattle.std.specs.List.{list_all, flat_map, starts_with}
 use Rattle.std.specs.Char.{digit_value, is_ascii_hexdigit}
-use Rattle.std.proofs.lemmas.Bool.{and_parts, and_from, cond-true, eqb-true, lt-ltb}
+use Rattle.std.proofs.lemmas.Bool.{and_parts, and_from, cond-true, eqb-true}
 use Rattle.std.proofs.lemmas.Bool.Decides.{nat_tests}
 use Rattle.std.proofs.lemmas.List.{length-append}
 use Rattle.std.proofs.lemmas.List.Elements.{All-head, All-tail}
@@ -12,7 +12,7 @@ use Rattle.read_lexer.specs.declared.parts.Class.TheVariants as class
 use Rattle.read_lexer.specs.declared.parts.Token.{Token}
 use Rattle.read_lexer.specs.Bytes.{is_word_start, is_word_byte, is_blank}
 use Rattle.read_lexer.specs.Front.{closed, quoted, token_at}
-use Rattle.read_metadata.specs.Text.{escape, unescaped_behind, unescaped, inside_quotes}
+use Rattle.read_metadata.specs.Text.{unescaped_behind, unescaped, inside_quotes}
 use Rattle.read_metadata.specs.Token.{text_of}
 use Rattle.read_declarations.specs.Name.{spelling_alone, spelling_of, name_by, refused_by, name_read, name_of}
 use Rattle.mir_printer.specs.Spelling.{upper_hex_digit, quoted_byte}
@@ -20,16 +20,13 @@ use Rattle.mir_func_printer.specs.FuncText.{is_name_start, is_name_byte, is_plai
 use Rattle.readback_items.proofs.Lexing.{Reads, Piece, spelled, AllRead}
 use Rattle.readback_items.proofs.Phrases.{piece}
 use Rattle.readback_items.proofs.Registers.{all_below, below}
-use Rattle.readback_items.proofs.Symbols.{unclosed}
+use Rattle.readback_items.proofs.Symbols.{unclosed, quote_at, no_escape, plain}
 use Rattle.readback_items.proofs.Tokens.{word_read, single_read}
 use Rattle.readback_functions.specs.Document.{lines_from}
 use Rattle.readback_functions.specs.Declared.{NamesReadBack}
 use Rattle.readback_functions.proofs.Spans.{token_of, line_tokens, line_texts}
 
 -- ---- bytes in quotes
-
-abbrev plain : ℕ → Bool
-plain b = nat_le 32 b && nat_le b 126 && not (nat_eq b 34 || nat_eq b 92)
 
 digits_are : all_below (λ n. nat_eq (digit_value (upper_hex_digit n)) n && is_ascii_hexdigit (upper_hex_digit n)) 16 ≡ true
 digits_are = refl
@@ -46,12 +43,6 @@ digit n small =
 
 no_backslash : (b : ℕ) → plain b ≡ true → eqb b 92 ≡ false
 no_backslash b is = grind (arith, nat_tests, is)
-
-no_escape : (b : ℕ) (bs : List ℕ) → eqb b 92 ≡ false → escape (b ∷ bs) ≡ None
-no_escape b [] other = refl
-no_escape b (x ∷ []) other = refl
-no_escape b (x ∷ y ∷ bs) other = ap (λ (t : Bool). cond (t && (is_ascii_hexdigit x && is_ascii_hexdigit y)) (Some
-    (16 * digit_value x + digit_value y)) None) other
 
 -- the bytes of a name in quotes stand for the name
 unquoted : (name : List ℕ) → All (λ b. b < 256) name → unescaped_behind 0 (flat_map quoted_byte name) ≡ name
@@ -76,20 +67,6 @@ unquoted (b ∷ name) bytes = by (plain b) refl (unquoted name (All-tail (λ (x 
       ∷ unescaped_behind (cond (is_some (cond t (Some (16 * digit_value (upper_hex_digit (b / 16)) + digit_value (upper_hex_digit (b % 16)))) None)) 2 0)
       (upper_hex_digit (b / 16) ∷ upper_hex_digit (b % 16) ∷ flat_map quoted_byte name)) both
       ∙ (λ i. value i ∷ rest i)
-
-first_quote : (bs rest : List ℕ) → list_all (λ b. not (eqb b 34)) bs ≡ true → position_or_len (λ b. eqb b 34) (bs ++ 34 ∷ rest) ≡ length bs
-first_quote [] rest all = refl
-first_quote (b ∷ bs) rest all =
-    let parts = and_parts (not (eqb b 34)) (list_all (λ x. not (eqb x 34)) bs) all in
-    let more = first_quote bs rest parts.1 in
-    ap (λ (t : Bool). cond t (1 + position_or_len (λ x. eqb x 34) (bs ++ 34 ∷ rest)) 0) parts.0
-    ∙ (let e : 1 + position_or_len (λ x. eqb x 34) (bs ++ 34 ∷ rest) ≡ suc (length bs) = omega (arith, more) in e)
-
-quote_at : (bs rest : List ℕ) → list_all (λ b. not (eqb b 34)) bs ≡ true → position (λ b. eqb b 34) (bs ++ 34 ∷ rest) ≡ Some (length bs)
-quote_at bs rest all =
-    let first = first_quote bs rest all in
-    ap (λ (n : ℕ). cond (nat_lt n (length (bs ++ 34 ∷ rest))) (Some n) None) first
-    ∙ ap (λ (t : Bool). cond t (Some (length bs)) None) (lt-ltb (length bs) (length (bs ++ 34 ∷ rest)) (omega (arith, length-append bs (34 ∷ rest))))
 
 -- a name in quotes, as a token and as a name
 quoted_token : (name : List ℕ) → All (λ b. b < 256) name → Reads class.Text (34 ∷ (flat_map quoted_byte name ++ 34 ∷ [])) []

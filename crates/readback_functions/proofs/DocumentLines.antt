@@ -1,5 +1,5 @@
 -- The lines of a text that is made of lines.
-use Rattle.std.proofs.Common.{◌≡◌, ℕ, suc, ◌+◌, ◌-◌, ◌<◌, Bool, true, false, not, cond, eqb, ◌&&◌, List, [], ◌∷◌, ◌++◌, length, take, All, get_or}
+use Rattle.std.proofs.Common.{◌≡◌, ℕ, suc, ◌+◌, ◌-◌, Bool, true, false, not, cond, eqb, ◌&&◌, List, [], ◌∷◌, ◌++◌, length, take, All, get_or}
 use Rattle.std.proofs.Common.{refl, sym, ap, subst, ◌∙◌, arith, append_assoc}
 use Rattle.std.specs.List.{list_all, slice_split, suffix_len}
 use Rattle.std.specs.Str.Lines.{lines, lines_of_parts, strip_carriage_return}
@@ -12,6 +12,7 @@ use Rattle.std.proofs.lemmas.List.Splits.{slice_split_at, length-slice_split}
 use Rattle.std.proofs.lemmas.List.Sums.{suffix_len-take_no}
 use Rattle.read_lexer.specs.declared.line.Line.{Line}
 use Rattle.read_documents.specs.Lines.{trimmed, numbered, lines_of}
+use Rattle.read_documents.proofs.Cuts.{lines_of_parts-more}
 use Rattle.readback_functions.specs.Document.{is_printed, ends_visibly, IsLine, text_of_lines, lines_from}
 
 -- ---- the last byte of a line
@@ -91,10 +92,6 @@ whole (b ∷ bs) is = by (last_of b bs) where
 
 -- ---- all lines
 
-one_line : (line : List ℕ) (parts : List (List ℕ)) → 0 < length parts → lines_of_parts (line ∷ parts) ≡ strip_carriage_return line ∷ lines_of_parts parts
-one_line line [] some = absurd (omega arith)
-one_line line (next ∷ parts) some = refl
-
 lines_whole : (ls : List (List ℕ)) → All IsLine ls → lines (text_of_lines ls) ≡ ls
 lines_whole [] all = refl
 lines_whole (l ∷ ls) all =
@@ -103,7 +100,7 @@ lines_whole (l ∷ ls) all =
     let p = λ (b : ℕ). eqb b 10 in
     ap lines (append_assoc l (10 ∷ []) rest)
     ∙ (ap lines_of_parts (slice_split_at p l 10 rest (no_feeds l is.printed) refl)
-    ∙ (one_line l (slice_split p rest) (omega (arith, length-slice_split p rest))
+    ∙ (lines_of_parts-more l (slice_split p rest) (omega (arith, length-slice_split p rest))
     ∙ (λ i. (whole l is).returns i ∷ lines_whole ls (All-tail IsLine l ls all) i)))
 
 numbered_whole : (n : ℕ) (ls : List (List ℕ)) → All IsLine ls → numbered n ls ≡ lines_from n ls

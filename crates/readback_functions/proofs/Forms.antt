@@ -1,5 +1,5 @@
 -- The symbols that a line of bytes names are of bytes.
-use Rattle.std.proofs.Common.{◌≡◌, ◌⊎◌, ℕ, zero, suc, ◌<◌, Bool, true, false, cond, ltb, List, [], ◌∷◌, length, Option, Some, None, Result, Ok, Err}
+use Rattle.std.proofs.Common.{◌≡◌, ℕ, zero, suc, ◌<◌, Bool, true, false, cond, List, [], ◌∷◌, length, Option, Some, None, Result, Ok, Err}
 use Rattle.std.proofs.Common.{refl, subst, inl, inr}
 use Rattle.std.specs.Prelude.{codes}
 use Rattle.std.proofs.lemmas.List.Elements.{All-nil, All-cons, All-head, All-tail, All-drop}
@@ -15,56 +15,23 @@ use Rattle.read_token.specs.declared.lexeme.Lexeme.TheVariants as lexemes
 use Rattle.read_token.specs.declared.lexeme.Word.{Word}
 use Rattle.read_token.specs.declared.lexeme.Word.TheVariants as words
 use Rattle.read_token.specs.Sentence.{lexemes_of}
-use Rattle.read_token.specs.Word.{case_of}
 use Rattle.read_line.specs.declared.form.BodyLine.{BodyLine}
-use Rattle.read_line.specs.declared.form.BodyLine.TheVariants.{Passed, Label, Item}
+use Rattle.read_line.specs.declared.form.BodyLine.TheVariants.{Passed, Item}
 use Rattle.read_line.specs.declared.form.ItemForm.{ItemForm}
 use Rattle.read_line.specs.declared.form.FormError.{FormError}
-use Rattle.read_line.specs.declared.form.FormError.TheVariants.{BadLine}
 use Rattle.read_line.specs.declared.form.OperandForm.{OperandForm}
 use Rattle.read_line.specs.declared.form.OperandForm.TheVariants as operands
 use Rattle.read_line.specs.declared.form.RegisterForm.{RegisterForm}
-use Rattle.read_line.specs.Body.{is_listing, code_of, label_of, is_colon, labelled, as_item, sentence_of, line_of_tokens, body_line_of}
+use Rattle.read_line.specs.Body.{is_listing, code_of, sentence_of, line_of_tokens, body_line_of}
 use Rattle.read_line.specs.Bracket.{behind_bracket}
 use Rattle.read_line.specs.Item.{before, definitions_of, behind_operand, behind_words, opcode_at, operands_at, begins_operand, operands_of, attributes_of_item}
 use Rattle.read_line.specs.Item.{item_with, defined_item, item_of}
 use Rattle.read_line.specs.Operand.{symbol_at, flagged_symbol_at, reference_at, mask_at, expression_at, register_operand_at, word_operand_at, operand_at}
 use Rattle.read_line.specs.Register.{register_at}
-use Rattle.read_program.proofs.Forms.{AllOf, bind_some}
+use Rattle.read_program.proofs.Forms.{AllOf, bind_some, labelled_no_item, case_some, if_some, if_ok, as_item_some}
 use Rattle.read_metadata.specs.Token.{text_of}
 use Rattle.readback_functions.specs.Bytes.{AreBytes}
 use Rattle.readback_functions.proofs.Names.{token_bytes, symbol_bytes}
-
--- ---- reading from left to right
-
-case_some : {A B : Type 0} (o : Option A) (f : A → Option B) (other : Option B) (y : B) → case_of o f other ≡ Some y →
-    ((x : A) × (o ≡ Some x) × (f x ≡ Some y)) ⊎ (other ≡ Some y)
-case_some None f other y e = inr e
-case_some (Some x) f other y e = inl (x, refl, e)
-
-if_some : {A : Type 0} (b : Bool) (x y : Option A) (z : A) → cond b x y ≡ Some z → ((b ≡ true) × (x ≡ Some z)) ⊎ ((b ≡ false) × (y ≡ Some z))
-if_some true x y z e = inl (refl, e)
-if_some false x y z e = inr (refl, e)
-
-as_item_some : (item : Option ItemForm) (form : ItemForm) → as_item item ≡ Ok (Item form) → item ≡ Some form
-as_item_some None form e = absurd cc
-as_item_some (Some item) form e = cc
-
-if_ok : {A : Type 0} (b : Bool) (x y z : Result A FormError) → cond b x y ≡ z → (x ≡ z → ⊥) → y ≡ z
-if_ok true x y z e not_x = absurd (not_x e)
-if_ok false x y z e not_x = e
-
-label_no_item : (n : ℕ) (form : ItemForm) → ◌≡◌ {A = Result BodyLine FormError} (Ok (label_of n)) (Ok (Item form)) → ⊥
-label_no_item n form e = by (ltb n 1073741824) e where
-  by : (b : Bool) → ◌≡◌ {A = Result BodyLine FormError} (Ok (cond b (Label (Some n)) (Label None))) (Ok (Item form)) → ⊥
-  by true e = cc
-  by false e = cc
-
-labelled_no_item : (n : ℕ) (rest : Option (List Lexeme)) (form : ItemForm) → labelled n rest ≡ Ok (Item form) → ⊥
-labelled_no_item n None form e = cc
-labelled_no_item n (Some rest) form e =
-    let no_colon : ◌≡◌ {A = Result BodyLine FormError} (Err BadLine) (Ok (Item form)) = if_ok (is_colon rest) (Ok (label_of n)) (Err BadLine) (Ok
-    (Item form)) e (label_no_item n form) in cc
 
 -- ---- operands
 

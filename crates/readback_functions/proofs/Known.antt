@@ -1,10 +1,10 @@
 -- What is known of a body is known behind each line more.
-use Rattle.std.proofs.Common.{◌≡◌, ℕ, ◌≤◌, Bool, true, false, cond, eqb, ltb, ◌&&◌, ◌||◌, List, [], ◌∷◌, ◌++◌, length, map, All, Option, Some, None}
+use Rattle.std.proofs.Common.{◌≡◌, ℕ, ◌≤◌, Bool, true, false, cond, ltb, ◌||◌, List, [], ◌∷◌, ◌++◌, length, map, All, Option, Some, None}
 use Rattle.std.proofs.Common.{Result, Ok, Err}
 use Rattle.std.proofs.Common.{refl, sym, ap, subst, ◌∙◌, arith, append_assoc, append-nil, inl, inr}
 use Rattle.std.specs.Prelude.{Contains, IfSome, option_map}
 use Rattle.std.specs.List.{list_any}
-use Rattle.std.proofs.lemmas.Bool.{or_parts, ltb-false, or_left, or_right, cases_Bool, cond-true, cond-false, eq-eqb}
+use Rattle.std.proofs.lemmas.Bool.{or_parts, ltb-false, or_left, or_right, cases_Bool, cond-true, cond-false}
 use Rattle.std.proofs.lemmas.List.Concat.{flat_map-append}
 use Rattle.std.proofs.lemmas.List.Elements.{All-nil, All-head, All-tail, All-push, All-cons, All-weaker, All-same, All-contains_itself}
 use Rattle.std.proofs.lemmas.List.Folds.{list_any-append}
@@ -19,9 +19,8 @@ use Rattle.mir_func.specs.declared.item.ItemKind.TheVariants.{Code, Mark, Phi}
 use Rattle.mir_func.specs.declared.location.Loc.{Loc}
 use Rattle.mir_func.specs.declared.position.Origin.TheVariants.{Kept}
 use Rattle.mir_func.specs.declared.variable.VarId.{VarId}
-use Rattle.mir_func.specs.Parts.{Bytes}
 use Rattle.mir_func.specs.Sound.{items_of, number_of}
-use Rattle.mir_func.specs.Variables.{is_same_node, are_same_bytes, is_same}
+use Rattle.mir_func.specs.Variables.{is_same}
 use Rattle.read_line.specs.declared.form.BodyLine.{BodyLine}
 use Rattle.read_line.specs.declared.form.BodyLine.TheVariants as lines
 use Rattle.read_line.specs.declared.form.ItemForm.{ItemForm}
@@ -36,11 +35,12 @@ use Rattle.read_body.specs.Body.{with_number, with_constant, with_variable}
 use Rattle.read_body.specs.Body.{with_item, exceeds, item_cause}
 use Rattle.read_body.specs.Limits.{MAX_ITEMS, MAX_VARIABLES, MAX_NUMBERS, MAX_CONSTANTS}
 use Rattle.read_body.specs.Met.{is_met, met, is_known, known}
-use Rattle.read_program.specs.BodyLines.{unless, judged_said, item_said, line_said, behind_line, and_then, body_behind}
-use Rattle.read_program.proofs.Bodies.{facts_apart}
+use Rattle.read_program.specs.BodyLines.{judged_said, item_said, line_said, behind_line, and_then, body_behind}
+use Rattle.read_program.proofs.Bodies.{facts_apart, numbers_keep, unless_ok}
 use Rattle.read_program.proofs.Lists.{met_keeps, met_has}
 use Rattle.readback_items.specs.Body.{VariableIn}
 use Rattle.readback_items.proofs.Facts.{Facts, item_facts, objects_behind}
+use Rattle.readback_items.proofs.Room.{part_itself}
 use Rattle.readback_functions.specs.Known.{names, IsOfLine, IsKnown, BodiesAreKnown}
 
 -- ---- the items behind a label and behind an item
@@ -72,10 +72,6 @@ no_cause true b x y e = absurd cc
 no_cause false true x y e = absurd cc
 no_cause false false x y e = refl
 
-unless_ok : (cause : Option RefusalKind) (body next : Body) → unless cause body ≡ Ok next → (cause ≡ None) × (body ≡ next)
-unless_ok None body next e = (refl, cc)
-unless_ok (Some kind) body next e = absurd cc
-
 or_end : (b : Bool) → b ≡ (b || false)
 or_end true = refl
 or_end false = refl
@@ -96,12 +92,6 @@ if_some_weaker (Some k) P Q each is = each k is
 
 -- ---- numbers
 
-number_stays : (body : Body) (kind : ItemKind) (k : ℕ) → is_met k body.numbers ≡ true → is_met k (with_number body kind).numbers ≡ true
-number_stays body (Code i None) k is = is
-number_stays body (Code i (Some n)) k is = met_keeps k n body.numbers is
-number_stays body (Mark v m) k is = is
-number_stays body (Phi p n) k is = met_keeps k n body.numbers is
-
 number_is_met : (body : Body) (kind : ItemKind) → IfSome (number_of kind) (λ k. is_met k (with_number body kind).numbers ≡ true)
 number_is_met body (Code i None) = tt
 number_is_met body (Code i (Some n)) = met_has n body.numbers
@@ -109,20 +99,6 @@ number_is_met body (Mark v m) = tt
 number_is_met body (Phi p n) = met_has n body.numbers
 
 -- ---- variables
-
-node_itself : (a : Option ℕ) → is_same_node a a ≡ true
-node_itself None = refl
-node_itself (Some m) = eq-eqb m m refl
-
-bytes_itself : (a : Option Bytes) → are_same_bytes a a ≡ true
-bytes_itself None = refl
-bytes_itself (Some a) = ap (λ (b : Bool). b && eqb a.length a.length) (eq-eqb a.offset a.offset refl) ∙ eq-eqb a.length a.length refl
-
-part_itself : (v : VarId) → is_same v v ≡ true
-part_itself v =
-    ap (λ (b : Bool). b && are_same_bytes v.fragment v.fragment)
-    (ap (λ (b : Bool). b && is_same_node v.inlined_at v.inlined_at) (eq-eqb v.node v.node refl) ∙ node_itself v.inlined_at)
-    ∙ bytes_itself v.fragment
 
 known_keeps : (v w : VarId) (vs : List VarId) → is_known v vs ≡ true → is_known v (known w vs) ≡ true
 known_keeps v w vs is = elim (cases_Bool (is_known w vs)) [
@@ -233,7 +209,7 @@ module _ (meta : Maps) (texts : List (List ℕ)) where
             (All-push (HasNumber next.numbers) items item
             (All-weaker (HasNumber body.numbers) (HasNumber next.numbers)
             (λ x has. if_some_weaker (number_of x.kind) (λ k. is_met k body.numbers ≡ true) (λ k. is_met k next.numbers ≡ true)
-            (λ k met. ap (is_met k) facts.numbers ∙ number_stays body kind k met) has) items is.numbers)
+            (λ k met. ap (is_met k) facts.numbers ∙ numbers_keep body kind k met) has) items is.numbers)
             (if_some_weaker (number_of kind) (λ k. is_met k (with_number body kind).numbers ≡ true) (λ k. is_met k next.numbers ≡ true)
             (λ k met. ap (is_met k) facts.numbers ∙ met) (number_is_met body kind)));
         few_numbers = few.numbers;

@@ -3,7 +3,7 @@ pub mod Scans
 pub mod Spans
 pub mod DeclarationNames
 pub mod Listed
-mod EntryLines
+pub mod EntryLines
 mod ObjectLines
 pub mod Stacks
 pub mod Apart

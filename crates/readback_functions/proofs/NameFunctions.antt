@@ -120,7 +120,7 @@ items_bytes meta ls body bytes read =
     texts : List (List ℕ)
     texts = map (λ (l : Line). l.text) ls
 
-checked_is : (refused : Option Refusal) (declared d : Declarations) → checked refused declared ≡ Ok d → declared ≡ d
+pub checked_is : (refused : Option Refusal) (declared d : Declarations) → checked refused declared ≡ Ok d → declared ≡ d
 checked_is (Some r) declared d e = absurd cc
 checked_is None declared d e = cc
 

@@ -1,15 +1,12 @@
 -- The tokens of a line of pieces, by their places: each has the class and the text of its piece.
-use Rattle.std.proofs.Common.{◌≡◌, ℕ, zero, suc, ◌+◌, ◌-◌, Bool, false, cond, List, [], ◌∷◌, ◌++◌, length, take, drop, replicate, Result, Ok}
+use Rattle.std.proofs.Common.{◌≡◌, ℕ, zero, suc, ◌+◌, ◌-◌, List, [], ◌∷◌, ◌++◌, length, take, drop, replicate, Ok}
 use Rattle.std.proofs.Common.{refl, sym, ap, ◌∙◌, arith, append_assoc}
 use Rattle.std.specs.List.{slice_range}
 use Rattle.std.proofs.lemmas.List.{length-append}
-use Rattle.read_lexer.specs.declared.fault.LexError.{LexError}
 use Rattle.read_lexer.specs.declared.parts.Token.{Token}
-use Rattle.read_lexer.specs.Bytes.{is_blank}
-use Rattle.read_lexer.specs.Front.{token_at}
-use Rattle.read_lexer.specs.Line.{followed_by, and_then, tokens_from, tokens_of}
+use Rattle.read_lexer.specs.Line.{followed_by, tokens_from, tokens_of}
 use Rattle.read_metadata.specs.Token.{text_of}
-use Rattle.readback_items.proofs.Lexing.{Piece, spelled, AllRead}
+use Rattle.readback_items.proofs.Lexing.{Piece, spelled, AllRead, one_token, behind_blanks, taken, dropped}
 
 -- the token of a piece whose blanks begin at a place
 abbrev pub token_of : ℕ → Piece → Token
@@ -25,44 +22,12 @@ abbrev pub HaveTexts : List ℕ → ℕ → List Piece → Type 0
 HaveTexts line at [] = Unit {0}
 HaveTexts line at (p ∷ ps) = (text_of line (token_of at p) ≡ p.text) × HaveTexts line (at + p.blanks + length p.text) ps
 
-taken : {X : Type 0} (xs ys : List X) → take (length xs) (xs ++ ys) ≡ xs
-taken [] [] = refl
-taken [] (y ∷ ys) = refl
-taken (x ∷ xs) ys = ap (λ zs. x ∷ zs) (taken xs ys)
-
-dropped : {X : Type 0} (xs ys : List X) → drop (length xs) (xs ++ ys) ≡ ys
-dropped [] [] = refl
-dropped [] (y ∷ ys) = refl
-dropped (x ∷ xs) ys = dropped xs ys
-
 span_is : (front text rest : List ℕ) (from to : ℕ) → from ≡ length front → to ≡ length front + length text →
     slice_range (front ++ (text ++ rest)) from to ≡ text
 span_is front text rest from to p q =
     let size : to - from ≡ length text = omega arith in
     (λ i. take (size i) (drop (p i) (front ++ (text ++ rest))))
     ∙ ap (take (length text)) (dropped front (text ++ rest)) ∙ taken text rest
-
-inside_token : (at : ℕ) (bytes rest : List ℕ) → tokens_from at (length bytes) (bytes ++ rest) ≡ tokens_from (at + length bytes) 0 rest
-unfolding tokens_from
-inside_token at [] rest = ap (λ (n : ℕ). tokens_from n 0 rest) (let e : at ≡ at + 0 = omega arith in e)
-inside_token at (b ∷ bytes) rest = inside_token (at + 1) bytes rest ∙ ap (λ (n : ℕ). tokens_from n 0 rest)
-    (let e : at + 1 + length bytes ≡ at + suc (length bytes) = omega arith in e)
-
-past_blanks : (at n : ℕ) (rest : List ℕ) → tokens_from at 0 (replicate n 32 ++ rest) ≡ tokens_from (at + n) 0 rest
-unfolding tokens_from
-past_blanks at zero rest = ap (λ (n : ℕ). tokens_from n 0 rest) (let e : at ≡ at + 0 = omega arith in e)
-past_blanks at (suc n) rest = past_blanks (at + 1) n rest ∙ ap (λ (m : ℕ). tokens_from m 0 rest) (let e : at + 1 + n ≡ at + suc n = omega arith in e)
-
-a_token : (at first : ℕ) (bytes rest : List ℕ) (t : Token) → is_blank first ≡ false → token_at at first (bytes ++ rest) ≡ Ok t →
-    t.end ≡ at + (1 + length bytes) → tokens_from at 0 (first ∷ (bytes ++ rest)) ≡ followed_by t (tokens_from (at + (1 + length bytes)) 0 rest)
-unfolding tokens_from
-a_token at first bytes rest t visible is end =
-    ap (λ (b : Bool). cond b (tokens_from (at + 1) 0 (bytes ++ rest))
-    (and_then (token_at at first (bytes ++ rest)) (λ x. followed_by x (tokens_from (at + 1) (x.end - (at + 1)) (bytes ++ rest))))) visible
-    ∙ (ap (λ (r : Result Token LexError). and_then r (λ x. followed_by x (tokens_from (at + 1) (x.end - (at + 1)) (bytes ++ rest)))) is
-    ∙ (ap (λ (n : ℕ). followed_by t (tokens_from (at + 1) n (bytes ++ rest))) (let e : t.end - (at + 1) ≡ length bytes = omega (arith, end) in e)
-    ∙ ap (followed_by t) (inside_token (at + 1) bytes rest ∙ ap (λ (n : ℕ). tokens_from n 0 rest)
-    (let e : at + 1 + length bytes ≡ at + (1 + length bytes) = omega arith in e))))
 
 -- the tokens of pieces from a place on
 pub tokens_are : (at : ℕ) (ps : List Piece) → AllRead ps → tokens_from at 0 (spelled ps) ≡ Ok (tokens_at at ps)
@@ -73,9 +38,9 @@ tokens_are at (p ∷ ps) (here, all) =
     let size : length p.text ≡ 1 + length here.bytes = (let e : length p.text ≡ suc (length here.bytes) = ap length here.parts in omega (arith, e)) in
     let size' : 1 + length here.bytes ≡ length p.text = sym size in
     let t : Token = record { class = p.class; start = from; end = from + (1 + length here.bytes) } in
-    past_blanks at p.blanks (p.text ++ spelled ps)
+    behind_blanks at p.blanks (p.text ++ spelled ps)
     ∙ (ap (λ (x : List ℕ). tokens_from from 0 (x ++ spelled ps)) here.parts
-    ∙ (a_token from here.first here.bytes (spelled ps) t here.visible (here.token from) refl
+    ∙ (one_token from here.first here.bytes (spelled ps) t here.visible (here.token from) refl
     ∙ ((λ i. followed_by (record { class = p.class; start = from; end = from + size' i }) (tokens_from (from + size' i) 0 (spelled ps)))
     ∙ ap (followed_by (token_of at p)) (tokens_are (from + length p.text) ps all))))
 

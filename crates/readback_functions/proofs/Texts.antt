@@ -10,7 +10,7 @@ use Rattle.std.proofs.lemmas.Bool.{and_parts, and_from}
 use Rattle.std.proofs.lemmas.Bool.Decides.{nat_tests}
 use Rattle.std.proofs.lemmas.List.Elements.{All-head, All-tail}
 use Rattle.std.proofs.lemmas.List.Folds.{list_all-append}
-use Rattle.read_program.specs.Limited.{IsSigned}
+use Rattle.rv64_instr.specs.Form.{IsSigned}
 use Rattle.mir_printer.specs.Spelling.{upper_hex_digit, quoted_byte}
 use Rattle.readback_items.proofs.Numbers.{decimal_of}
 use Rattle.readback_items.proofs.Registers.{all_below, below}

@@ -45,12 +45,12 @@ Lexed line (p ∷ ps) ls = (t : Token) × (rest : List Lexeme) × (text_of line 
 
 -- ---- spans
 
-taken : {X : Type 0} (xs ys : List X) → take (length xs) (xs ++ ys) ≡ xs
+pub taken : {X : Type 0} (xs ys : List X) → take (length xs) (xs ++ ys) ≡ xs
 taken [] [] = refl
 taken [] (y ∷ ys) = refl
 taken (x ∷ xs) ys = ap (λ zs. x ∷ zs) (taken xs ys)
 
-dropped : {X : Type 0} (xs ys : List X) → drop (length xs) (xs ++ ys) ≡ ys
+pub dropped : {X : Type 0} (xs ys : List X) → drop (length xs) (xs ++ ys) ≡ ys
 dropped [] [] = refl
 dropped [] (y ∷ ys) = refl
 dropped (x ∷ xs) ys = dropped xs ys
@@ -63,18 +63,18 @@ slice_is front text rest =
 
 -- ---- tokens
 
-skips : (at : ℕ) (bytes rest : List ℕ) → tokens_from at (length bytes) (bytes ++ rest) ≡ tokens_from (at + length bytes) 0 rest
+pub skips : (at : ℕ) (bytes rest : List ℕ) → tokens_from at (length bytes) (bytes ++ rest) ≡ tokens_from (at + length bytes) 0 rest
 unfolding tokens_from
 skips at [] rest = ap (λ (n : ℕ). tokens_from n 0 rest) (let e : at ≡ at + 0 = omega arith in e)
 skips at (b ∷ bytes) rest = skips (at + 1) bytes rest ∙ ap (λ (n : ℕ). tokens_from n 0 rest) (let e : at + 1 + length bytes ≡ at + suc
     (length bytes) = omega arith in e)
 
-behind_blanks : (at n : ℕ) (rest : List ℕ) → tokens_from at 0 (replicate n 32 ++ rest) ≡ tokens_from (at + n) 0 rest
+pub behind_blanks : (at n : ℕ) (rest : List ℕ) → tokens_from at 0 (replicate n 32 ++ rest) ≡ tokens_from (at + n) 0 rest
 unfolding tokens_from
 behind_blanks at zero rest = ap (λ (n : ℕ). tokens_from n 0 rest) (let e : at ≡ at + 0 = omega arith in e)
 behind_blanks at (suc n) rest = behind_blanks (at + 1) n rest ∙ ap (λ (m : ℕ). tokens_from m 0 rest) (let e : at + 1 + n ≡ at + suc n = omega arith in e)
 
-one_token : (at first : ℕ) (bytes rest : List ℕ) (t : Token) → is_blank first ≡ false → token_at at first (bytes ++ rest) ≡ Ok t →
+pub one_token : (at first : ℕ) (bytes rest : List ℕ) (t : Token) → is_blank first ≡ false → token_at at first (bytes ++ rest) ≡ Ok t →
     t.end ≡ at + (1 + length bytes) → tokens_from at 0 (first ∷ (bytes ++ rest)) ≡ followed_by t (tokens_from (at + (1 + length bytes)) 0 rest)
 unfolding tokens_from
 one_token at first bytes rest t visible is end =

@@ -14,9 +14,9 @@ use Rattle.read_metadata.specs.Number.{value_behind}
 use Rattle.read_token.specs.declared.lexeme.Number.TheVariants.{Fits, Large}
 use Rattle.read_token.specs.Number.{BEYOND, narrow, narrow_value, limited, unsigned, negated, sized, unsigned_of, number_of}
 use Rattle.read_token.specs.Word.{is_name_behind, named_number}
-use Rattle.read_program.specs.Limited.{IsSigned}
 use Rattle.mir_printer.proofs.Cuts.{Stops}
 use Rattle.base_ids.specs.Limits.{MAX_NUMBER}
+use Rattle.rv64_instr.specs.Form.{IsSigned}
 
 -- ---- runs
 

@@ -7,6 +7,7 @@ use Rattle.std.specs.Fmt.{decimal, signed_decimal}
 use Rattle.std.proofs.lemmas.Bool.{lt-leb}
 use Rattle.rv64_instr.specs.declared.operand.Operand.{Operand}
 use Rattle.rv64_instr.specs.declared.operand.Operand.TheVariants.{Def, Use, ImplicitDef, ImplicitUse, Imm, Slot, Object, Block, Symbol, Mask}
+use Rattle.rv64_instr.specs.Form.{IsSigned}
 use Rattle.read_metadata.specs.Definition.{name_of}
 use Rattle.read_metadata.specs.Token.{text_of}
 use Rattle.read_lexer.specs.declared.parts.Class.{Class}
@@ -35,7 +36,7 @@ use Rattle.read_line.specs.Item.{begins_operand}
 use Rattle.read_line.specs.Operand.{fitting, mask_at, word_operand_at, operand_at}
 use Rattle.read_line.specs.Read.{◌>>=◌}
 use Rattle.read_line.specs.Register.{behind_class, behind_tied, named_at, register_at}
-use Rattle.read_program.specs.Limited.{IsSigned, IsLimited}
+use Rattle.read_program.specs.Limited.{IsLimited}
 use Rattle.mir_printer.specs.Spelling.{register_text, symbol_text, operand_text}
 use Rattle.readback_items.specs.Forms.{register_form, no_register, operand_form}
 use Rattle.readback_items.specs.Laws.{NameIsBytes}

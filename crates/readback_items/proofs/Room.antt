@@ -59,15 +59,15 @@ same_parts v w e =
       fragment = same_bytes v.fragment w.fragment parts.1 i;
     }
 
-node_itself : (a : Option ℕ) → is_same_node a a ≡ true
+pub node_itself : (a : Option ℕ) → is_same_node a a ≡ true
 node_itself None = refl
 node_itself (Some m) = eq-eqb m m refl
 
-bytes_itself : (a : Option Bytes) → are_same_bytes a a ≡ true
+pub bytes_itself : (a : Option Bytes) → are_same_bytes a a ≡ true
 bytes_itself None = refl
 bytes_itself (Some a) = ap (λ (b : Bool). b && eqb a.length a.length) (eq-eqb a.offset a.offset refl) ∙ eq-eqb a.length a.length refl
 
-part_itself : (v : VarId) → is_same v v ≡ true
+pub part_itself : (v : VarId) → is_same v v ≡ true
 part_itself v =
     ap (λ (b : Bool). b && are_same_bytes v.fragment v.fragment)
     (ap (λ (b : Bool). b && is_same_node v.inlined_at v.inlined_at) (eq-eqb v.node v.node refl) ∙ node_itself v.inlined_at)

@@ -35,7 +35,7 @@ bare_unquoted b is = grind (arith, nat_tests, is)
 
 -- ---- bytes in quotes
 
-abbrev plain : ℕ → Bool
+abbrev pub plain : ℕ → Bool
 plain b = nat_le 32 b && nat_le b 126 && not (nat_eq b 34 || nat_eq b 92)
 
 digits_are : all_below (λ n. (nat_eq (digit_value (upper_hex_digit n)) n && is_ascii_hexdigit (upper_hex_digit n)) && not (nat_eq
@@ -67,7 +67,7 @@ digit n small =
 plain_is : (b : ℕ) → plain b ≡ true → (eqb b 34 ≡ false) × (eqb b 92 ≡ false)
 plain_is b is = (grind (arith, nat_tests, is), grind (arith, nat_tests, is))
 
-no_escape : (b : ℕ) (bs : List ℕ) → eqb b 92 ≡ false → escape (b ∷ bs) ≡ None
+pub no_escape : (b : ℕ) (bs : List ℕ) → eqb b 92 ≡ false → escape (b ∷ bs) ≡ None
 no_escape b [] other = refl
 no_escape b (x ∷ []) other = refl
 no_escape b (x ∷ y ∷ bs) other = ap (λ (t : Bool). cond (t && (is_ascii_hexdigit x && is_ascii_hexdigit y)) (Some
@@ -115,7 +115,7 @@ unclosed (b ∷ name) bytes =
         let small = All-head (λ (x : ℕ). x < 256) b name bytes in
         (λ i. not ((digit (b / 16) (omega (arith, small))).unquoted i) && (not ((digit (b % 16) (omega arith)).unquoted i) && true))
 
-first_quote : (bs rest : List ℕ) → list_all (λ b. not (eqb b 34)) bs ≡ true → position_or_len (λ b. eqb b 34) (bs ++ 34 ∷ rest) ≡ length bs
+pub first_quote : (bs rest : List ℕ) → list_all (λ b. not (eqb b 34)) bs ≡ true → position_or_len (λ b. eqb b 34) (bs ++ 34 ∷ rest) ≡ length bs
 first_quote [] rest all = refl
 first_quote (b ∷ bs) rest all =
     let parts = and_parts (not (eqb b 34)) (list_all (λ x. not (eqb x 34)) bs) all in
@@ -123,7 +123,7 @@ first_quote (b ∷ bs) rest all =
     ap (λ (t : Bool). cond t (1 + position_or_len (λ x. eqb x 34) (bs ++ 34 ∷ rest)) 0) parts.0
     ∙ (let e : 1 + position_or_len (λ x. eqb x 34) (bs ++ 34 ∷ rest) ≡ suc (length bs) = omega (arith, more) in e)
 
-quote_at : (bs rest : List ℕ) → list_all (λ b. not (eqb b 34)) bs ≡ true → position (λ b. eqb b 34) (bs ++ 34 ∷ rest) ≡ Some (length bs)
+pub quote_at : (bs rest : List ℕ) → list_all (λ b. not (eqb b 34)) bs ≡ true → position (λ b. eqb b 34) (bs ++ 34 ∷ rest) ≡ Some (length bs)
 quote_at bs rest all =
     let first = first_quote bs rest all in
     ap (λ (n : ℕ). cond (nat_lt n (length (bs ++ 34 ∷ rest))) (Some n) None) first

@@ -7,12 +7,12 @@ use Rattle.std.specs.Fmt.{decimal, signed_decimal}
 use Rattle.std.proofs.Math.Dec.{eqb-suc-zero}
 use Rattle.std.proofs.lemmas.Bool.{and_parts, and_from, cond-true, cond-false, eqb-true}
 use Rattle.std.proofs.lemmas.Bool.Decides.{nat_tests}
+use Rattle.rv64_instr.specs.Form.{IsSigned}
 use Rattle.read_lexer.specs.declared.fault.LexError.TheVariants.{BadByte}
 use Rattle.read_lexer.specs.declared.parts.Class.{Class}
 use Rattle.read_lexer.specs.declared.parts.Class.TheVariants.{Word, Register, Percent, Node, Kind, Integer, Single}
 use Rattle.read_lexer.specs.Bytes.{is_blank, is_word_start, is_word_byte, word_len}
 use Rattle.read_lexer.specs.Front.{token, marked, hexadecimal_len, token_at}
-use Rattle.read_program.specs.Limited.{IsSigned}
 use Rattle.mir_printer.proofs.Cuts.{Stops}
 use Rattle.readback_items.proofs.Lexing.{Reads}
 use Rattle.readback_items.proofs.Numbers.{prefix_all, decimal_of, no_digit}

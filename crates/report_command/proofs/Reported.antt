@@ -1,5 +1,5 @@
 -- Each part of a compilation is of its function: the lists of all functions are cut where those of one end.
-use Rattle.std.proofs.Common.{◌≡◌, ℕ, suc, ◌+◌, ◌*◌, ◌≤◌, List, [], ◌∷◌, map, length, take, drop, refl, sym, ap, ◌∙◌, subst, arith}
+use Rattle.std.proofs.Common.{◌≡◌, ℕ, ◌+◌, ◌*◌, ◌≤◌, List, [], ◌∷◌, map, length, take, drop, refl, sym, ap, ◌∙◌, subst, arith}
 use Rattle.std.proofs.Common.{length-append}
 use Rattle.std.proofs.Math.Seq.{take-append_seam, drop-append_seam}
 use Rattle.emit_code.specs.Laid.{LaidCode, IsCodeOf}
@@ -8,10 +8,9 @@ use Rattle.listing_text.specs.declared.output.ListedFunction.{ListedFunction}
 use Rattle.dwarf_loclists.specs.declared.range.Range.{Range}
 use Rattle.pass_trait.specs.declared.loss.Loss.{Loss}
 use Rattle.frame_rule.specs.Rule.{framed_of}
-use Rattle.mir_func.specs.declared.variable.VarId.{VarId}
 use Rattle.compile_theorem.specs.Compiled.{IsCompiledFunction, AreCompiled}
-use Rattle.compile_theorem.specs.Promise.{variable_lines}
 use Rattle.compile_theorem.specs.Source.{PassedFunction}
+use Rattle.compile_theorem.proofs.LaidOut.{lines_length}
 use Rattle.read_program.specs.declared.program.Program.{Program}
 use Rattle.pass_list.specs.declared.kind.PassKind.{PassKind}
 use Rattle.compile_program.specs.declared.compile.Compilation.{Compilation}
@@ -21,10 +20,6 @@ use Rattle.invariance_code.proofs.Settled.{same_layout}
 use Rattle.report_command.specs.Reported.{parts_of, variable_count, AreReportedAs, IsReported, CompilationsAreReported}
 
 -- ---- one function
-
-lines_length : (names : ℕ → List ℕ) (k : ℕ) (vs : List VarId) → length (variable_lines names k vs) ≡ length vs
-lines_length names k [] = refl
-lines_length names k (v ∷ vs) = ap (λ (n : ℕ). suc n) (lines_length names (suc k) vs)
 
 module _ (names : ℕ → List ℕ) (p : PassedFunction) (base first : ℕ) (f : ListedFunction) (is : IsCompiledFunction names p base first f) where
   -- it has as many lists as variables are listed

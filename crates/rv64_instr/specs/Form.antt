@@ -1,5 +1,5 @@
 -- The operands that an opcode takes (RISC-V Unprivileged ISA, RV64I; LLVM, Machine IR (MIR) Format Reference Manual).
-use Rattle.std.specs.Prelude.{ℕ, ℤ, pos, negsuc, Bool, true, false, ◌&&◌, ◌||◌, List, ◌∷◌, int_le, nat_le, nat_lt, nat_eq}
+use Rattle.std.specs.Prelude.{ℕ, ◌<◌, ◌^◌, ℤ, pos, negsuc, Bool, true, false, ◌&&◌, ◌||◌, List, ◌∷◌, int_le, nat_le, nat_lt, nat_eq}
 use Rattle.std.specs.List.{list_all}
 use Rattle.rv64_instr.specs.declared.op.Op.{Op}
 use Rattle.rv64_instr.specs.declared.op.ImmediateOp.{ImmediateOp}
@@ -14,6 +14,11 @@ use Rattle.rv64_instr.specs.Arithmetic.{load_width, store_width}
 -- the number is between the two, both included
 abbrev pub is_within : ℤ → ℤ → ℤ → Bool
 is_within low high i = int_le low i && int_le i high
+
+-- a signed number of 64 bits
+abbrev pub IsSigned : ℤ → Type 0
+IsSigned (pos n) = n < 2 ^ 63
+IsSigned (negsuc n) = n < 2 ^ 63
 
 -- a signed number of 12 bits
 abbrev pub has_12_bits : ℤ → Bool

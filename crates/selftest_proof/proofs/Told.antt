@@ -16,9 +16,9 @@ use Rattle.dwarf_loclists.specs.declared.range.Location.{Location}
 use Rattle.dwarf_loclists.specs.declared.range.Location.TheVariants.{Whole, Parts}
 use Rattle.dwarf_loclists.specs.declared.range.Range.{Range}
 use Rattle.dwarf_loclists.specs.Ranges.{IsLocated, ArePieces, ArePlaces, location_in}
-use Rattle.sim_trace.proofs.Places.{located}
 use Rattle.location_of_variable.specs.Groups.{part_of}
 use Rattle.location_of_variable.specs.Wanted.{bytes_of}
+use Rattle.sim_machine.proofs.Listed.{located}
 use Rattle.selftest_count.specs.Counts.{values_of, read_at}
 use Rattle.selftest_proof.specs.Known.{IsGiven}
 use Rattle.selftest_proof.proofs.Fits.{Apart, apart_append, Passes}

@@ -12,12 +12,13 @@ use Rattle.sem_mir.specs.State.{Called, Core, Event, Reply, content, put_all, wr
 use Rattle.sem_mir.specs.Step as step
 use Rattle.sem_mir.specs.Step.{moved, with_core, are_written, act, does, answered, read, do_item, do_fetch}
 use Rattle.mir_func.specs.Graph.{Fetch, Here, EndOfBlock, Outside, Program}
+use Rattle.mir_substitution.specs.Index.{is_key}
 use Rattle.sem_interpreter.specs.declared.state.SourceStep.{SourceStep}
 use Rattle.sem_interpreter.specs.declared.state.SourceStep.TheVariants.{Went, Returned, Faulted, Waits}
 use Rattle.sem_interpreter.specs.Acts.{IsNext, IsAnswered, reply_of}
 use Rattle.sem_interpreter.specs.Held.{number_in}
 use Rattle.sem_interpreter.proofs.Marking.{marks_of, marks_hold}
-use Rattle.sem_interpreter.specs.StandsFor.{Concrete, flat, pair_eq, IsItemAnswered, IsStepAnswered}
+use Rattle.sem_interpreter.specs.StandsFor.{Concrete, flat, IsItemAnswered, IsStepAnswered}
 use Rattle.sem_interpreter.specs.Steps.{IsStep, IsState, ReturnsAgain}
 
 -- ---- a state for what is kept
@@ -40,7 +41,7 @@ a_state c z script events = record {
       memory = λ a. number_in c.machine.memory a;
       script = script;
       events = events;
-      pairs = λ k o. flat (lookup (pair_eq (k, o)) c.pairs);
+      pairs = λ k o. flat (lookup (is_key (k, o)) c.pairs);
       marks = marks_of c.assigned;
     };
   };

@@ -13,9 +13,10 @@ use Rattle.sem_mir.specs.State.{Core, updated}
 use Rattle.sem_mir.specs.Step.{mark_value, part_of, place_value}
 use Rattle.mir_func.specs.Graph.{program_of}
 use Rattle.mir_func.specs.Resolve.{resolve}
+use Rattle.mir_substitution.specs.Index.{is_key}
 use Rattle.sem_interpreter.specs.declared.machine.Outcome.TheVariants.{Falls}
 use Rattle.sem_interpreter.specs.Assigned.{MarksHold}
-use Rattle.sem_interpreter.specs.StandsFor.{Concrete, flat, pair_eq, PairsHold, Holds, DoesItem}
+use Rattle.sem_interpreter.specs.StandsFor.{Concrete, flat, PairsHold, Holds, DoesItem}
 
 pub mark_does : (subs : List DebugSubstitution) (v : VarId) (m : MarkValue) (answer : Option CallResult) (old : Concrete)
     (fs : List ((ℕ × Option ℕ) × List (Option Bytes × Option ℕ))) (x : Option ℕ) →
@@ -50,30 +51,30 @@ pub set_pair : ℕ → ℕ → Option ℕ → (ℕ → ℕ → Option ℕ) → �
 set_pair k o x f = updated k (updated o x (f k)) f
 
 pub pairs_put : (es fs : List ((ℕ × ℕ) × Option ℕ)) (f : ℕ → ℕ → Option ℕ) (k o : ℕ) (x : Option ℕ) → PairsHold es f →
-    ((q : ℕ × ℕ) → lookup (pair_eq q) fs ≡ cond (pair_eq (k, o) q) (Some x) (lookup (pair_eq q) es)) → PairsHold fs (updated k (updated o x (f k)) f)
+    ((q : ℕ × ℕ) → lookup (is_key q) fs ≡ cond (is_key (k, o) q) (Some x) (lookup (is_key q) es)) → PairsHold fs (updated k (updated o x (f k)) f)
 pairs_put es fs f k o x holds put l p =
     elim (cases_eq l k) [
       | inl e ↦ (elim (cases_eq p o) [
         | inl d ↦
-            let same : pair_eq (k, o) (l, p) ≡ true = (λ i. eq-eqb k l (sym e) i && eq-eqb o p (sym d) i) in
+            let same : is_key (k, o) (l, p) ≡ true = (λ i. eq-eqb k l (sym e) i && eq-eqb o p (sym d) i) in
             ap (λ (b : Bool). cond b (updated o x (f k)) (f l) p) (eq-eqb l k e) ∙ ap (λ (b : Bool). cond b x (f k p)) (eq-eqb p o d)
-            ∙ sym (ap flat (put (l, p) ∙ ap (λ (b : Bool). cond b (Some x) (lookup (pair_eq (l, p)) es)) same))
+            ∙ sym (ap flat (put (l, p) ∙ ap (λ (b : Bool). cond b (Some x) (lookup (is_key (l, p)) es)) same))
         | inr n ↦
-            let other : pair_eq (k, o) (l, p) ≡ false = and_right (nat_eq k l) (nat_eq o p) (ne_eqb o p (λ d. n (sym d))) in
+            let other : is_key (k, o) (l, p) ≡ false = and_right (nat_eq k l) (nat_eq o p) (ne_eqb o p (λ d. n (sym d))) in
             ap (λ (b : Bool). cond b (updated o x (f k)) (f l) p) (eq-eqb l k e) ∙ ap (λ (b : Bool). cond b x (f k p)) (ne_eqb p o n)
             ∙ ap (λ (a : ℕ). f a p) (sym e) ∙ holds l p
-            ∙ sym (ap flat (put (l, p) ∙ ap (λ (b : Bool). cond b (Some x) (lookup (pair_eq (l, p)) es)) other))
+            ∙ sym (ap flat (put (l, p) ∙ ap (λ (b : Bool). cond b (Some x) (lookup (is_key (l, p)) es)) other))
       ])
       | inr n ↦
-          let other : pair_eq (k, o) (l, p) ≡ false = and_left (nat_eq k l) (nat_eq o p) (ne_eqb k l (λ d. n (sym d))) in
+          let other : is_key (k, o) (l, p) ≡ false = and_left (nat_eq k l) (nat_eq o p) (ne_eqb k l (λ d. n (sym d))) in
           ap (λ (b : Bool). cond b (updated o x (f k)) (f l) p) (ne_eqb l k n) ∙ holds l p
-          ∙ sym (ap flat (put (l, p) ∙ ap (λ (b : Bool). cond b (Some x) (lookup (pair_eq (l, p)) es)) other))
+          ∙ sym (ap flat (put (l, p) ∙ ap (λ (b : Bool). cond b (Some x) (lookup (is_key (l, p)) es)) other))
     ]
 
 pub phi_does : (subs : List DebugSubstitution) (p : Option Place) (k : ℕ) (answer : Option CallResult) (old : Concrete) (fs : List ((ℕ × ℕ) × Option ℕ))
     (x : Option ℕ) →
     ((s : Core) → Holds old s → x ≡ place_value p s) →
-    ((q : ℕ × ℕ) → lookup (pair_eq q) fs ≡ cond (pair_eq (k, 0) q) (Some x) (lookup (pair_eq q) old.pairs)) →
+    ((q : ℕ × ℕ) → lookup (is_key q) fs ≡ cond (is_key (k, 0) q) (Some x) (lookup (is_key q) old.pairs)) →
     DoesItem subs (Phi p k) answer Falls old (record old { pairs = fs })
 phi_does subs p k answer old fs x is put = record {
   ends = λ s holds script. (

@@ -1,5 +1,5 @@
 -- The interpreter's state, and the states of the definition that it represents.
-use Rattle.std.specs.Prelude.{◌≡◌, ◌<◌, ◌^◌, ℕ, List, [], length, All, Option, Some, None, Bool, true, ◌&&◌, nat_eq, slice_index}
+use Rattle.std.specs.Prelude.{◌≡◌, ◌<◌, ◌^◌, ℕ, List, [], length, All, Option, Some, None, true, slice_index}
 use Rattle.std.specs.Map.{lookup}
 use Rattle.rv64_instr.specs.Row.{row_of}
 use Rattle.rv64_instr.specs.declared.start.CallResult.{CallResult}
@@ -18,6 +18,7 @@ use Rattle.sem_mir.specs.Step.{do_item}
 use Rattle.mir_func.specs.Graph.{Fetch, Here, EndOfBlock, Outside, below, block_start, program_of, fetch_in, from_block, KindEdge}
 use Rattle.sem_mir.specs.Follow.{first_of}
 use Rattle.mir_func.specs.Resolve.{resolve}
+use Rattle.mir_substitution.specs.Index.{is_key}
 use Rattle.sem_interpreter.specs.declared.machine.InterpreterState.{InterpreterState}
 use Rattle.sem_interpreter.specs.declared.machine.Outcome.{Outcome}
 use Rattle.sem_interpreter.specs.declared.machine.Outcome.TheVariants.{Falls, Goes, Returns as Ended, Faults, Waits}
@@ -38,13 +39,9 @@ abbrev pub flat : Option (Option ℕ) → Option ℕ
 flat None = None
 flat (Some o) = o
 
--- both are the same debug instruction number and the same operand of it
-abbrev pub pair_eq : ℕ × ℕ → ℕ × ℕ → Bool
-pair_eq p q = nat_eq p.0 q.0 && nat_eq p.1 q.1
-
 -- each pair's last value is that of the entries
 abbrev pub PairsHold : List ((ℕ × ℕ) × Option ℕ) → (ℕ → ℕ → Option ℕ) → Type 0
-PairsHold es held = (k o : ℕ) → held k o ≡ flat (lookup (pair_eq (k, o)) es)
+PairsHold es held = (k o : ℕ) → held k o ≡ flat (lookup (is_key (k, o)) es)
 
 -- the core is the one represented, with any script and any events
 pub record Holds (c : Concrete) (s : Core) : Type 0 where

@@ -44,7 +44,7 @@ inputs_written : (c : Core) (b : Input) → IsPlainInput b → ((r : ℕ) → r 
 inputs_written c (Content r) p h = ap (λ (x : Bool). x && true) (is_there (content c.regs r) (h r p))
 inputs_written c (Number n) p h = refl
 
-falls_if : (b : Bool) (x : Outcome) → b ≡ true → cond b x Traps ≡ x
+pub falls_if : (b : Bool) (x : Outcome) → b ≡ true → cond b x Traps ≡ x
 falls_if true x e = refl
 falls_if false x e = cc
 
@@ -73,7 +73,7 @@ sets_alike (Sets rd op a b) m c p h = record {
 sets_alike _ m c p h = absurd p
 
 -- a register that is set in both
-set_alike : (rd v : ℕ) (f : ℕ → ℕ) (g : ℕ → Option ℕ) → ((r : ℕ) → register_in f r ≡ or_zero (content g r)) → (r : ℕ) →
+pub set_alike : (rd v : ℕ) (f : ℕ → ℕ) (g : ℕ → Option ℕ) → ((r : ℕ) → register_in f r ≡ or_zero (content g r)) → (r : ℕ) →
     register_in (set_in rd v f) r ≡ or_zero (content (put rd v g) r)
 set_alike zero v f g h r = h r
 set_alike (suc rd) v f g h zero = refl

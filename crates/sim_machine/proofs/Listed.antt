@@ -11,7 +11,7 @@ use Rattle.dwarf_loclists.specs.declared.range.Range.{Range}
 use Rattle.dwarf_loclists.specs.Ranges.{IsListed, ArePieces, IsLocated, ArePlaces, location_in, whole_place, nth_piece}
 use Rattle.dwarf_loclists.specs.Grammar.{LocationAt, PlaceAt, PieceAt}
 
-located : (ranges : List Range) (address : ℕ) (l : Location) → ArePlaces ranges → location_in ranges address ≡ Some l → IsLocated l
+pub located : (ranges : List Range) (address : ℕ) (l : Location) → ArePlaces ranges → location_in ranges address ≡ Some l → IsLocated l
 located [] address l h e = absurd cc
 located (r ∷ rest) address l h e =
     by_test (nat_le r.lo address && nat_lt address r.hi) e (λ q. located rest address l (All-tail (λ (x : Range). IsLocated x.location) r rest h) q) where

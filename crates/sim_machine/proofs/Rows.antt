@@ -72,7 +72,7 @@ links_to now rd target u v s e f h = record {
   stands = subst (λ (x : ℕ). StandsFor now (at target (set_register rd x s))) f (subst (λ (x : ℕ). StandsFor now (at x (set_register rd v s))) e h);
 }
 
-calls_stay : (t : Bool) (a : ℕ) (bytes : List ℕ) (events : List Event) → calls_in (cond t events (Wrote a bytes ∷ events)) ≡ calls_in events
+pub calls_stay : (t : Bool) (a : ℕ) (bytes : List ℕ) (events : List Event) → calls_in (cond t events (Wrote a bytes ∷ events)) ≡ calls_in events
 calls_stay true a bytes events = refl
 calls_stay false a bytes events = refl
 

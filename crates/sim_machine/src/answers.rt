@@ -3,7 +3,7 @@
 ghost use Rattle.std.specs.Prelude.{◌≡◌, ℕ, false};
 ghost use Rattle.rv64_instr.specs.declared.start.CallEvent.{CallEvent};
 ghost use Rattle.sem_mir.specs.State.{Reply, writes_frame};
-ghost use Rattle.sim_machine.specs.Calls.{reply_of};
+ghost use Rattle.sem_interpreter.specs.Acts.{reply_of};
 
 use rv64_instr::start::{CallEvent, CallResult};
 

@@ -5,10 +5,11 @@ ghost use Rattle.rv64_instr.specs.DefsAndUses.{caller_saved};
 ghost use Rattle.rv64_instr.specs.Parts.{is_call};
 ghost use Rattle.rv64_instr.specs.Row.{row_of, implicit_uses};
 ghost use Rattle.sem_mir.specs.State.{Reply};
+ghost use Rattle.sem_interpreter.specs.Acts.{reply_of};
 ghost use Rattle.sem_machine.specs.Machine.{Machine, register, set_all_in};
 ghost use Rattle.sem_machine.specs.MachineStep.{call_of};
 ghost use Rattle.sim_machine.specs.Kept.{StandsFor, IsSameFrame};
-ghost use Rattle.sim_machine.specs.Calls.{event_of, reply_of, after_call};
+ghost use Rattle.sim_machine.specs.Calls.{event_of, after_call};
 ghost use Rattle.sim_machine.specs.steps.Arguments.{argument_of};
 
 use crate::hart::Hart;

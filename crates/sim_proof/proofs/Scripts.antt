@@ -8,10 +8,11 @@ use Rattle.rv64_instr.specs.Row.{implicit_uses}
 use Rattle.rv64_word.specs.declared.machine_op.MachineOp.{MachineOp}
 use Rattle.rv64_word.specs.Decoded.{decoded}
 use Rattle.rv64_word.specs.MachineRow.{MachineRow, Does, Links, LinksTo, machine_row}
-use Rattle.sem_mir.specs.State.{Reply, Event, Wrote, low_bytes, touches_frame}
+use Rattle.sem_mir.specs.State.{Reply, low_bytes, touches_frame}
 use Rattle.sem_machine.specs.Image.{CodeLine}
 use Rattle.sem_machine.specs.Machine.{Machine, register, address_of}
 use Rattle.sim_machine.specs.Kept.{calls_in}
+use Rattle.sim_machine.proofs.Rows.{calls_stay}
 use Rattle.sem_machine.specs.MachineStep.{Continues, Ends, past, at, set_register, store, does_row, does, does_operation, does_word, answered, return_word}
 
 -- the script and the count of calls are the same
@@ -32,14 +33,9 @@ kept s t u e script events = one_state s t u e (record { script = script; calls 
 no_end : (results : List ℕ) (u : Machine) → Ends results ≡ Continues u → ⊥
 no_end results u e = cc
 
--- a store is no call
-store_calls : (b : Bool) (a : ℕ) (bytes : List ℕ) (events : List Event) → calls_in (cond b events (Wrote a bytes ∷ events)) ≡ calls_in events
-store_calls true a bytes events = refl
-store_calls false a bytes events = refl
-
 stored_keeps : (a : ℕ) (bytes : List ℕ) (s u : Machine) → Continues (past 4 (store a bytes s)) ≡ Continues u → Keeps s u
 stored_keeps a bytes s u e =
-    one_state s (past 4 (store a bytes s)) u e (record { script = refl; calls = store_calls (touches_frame s.entry s.area a (length bytes)) a bytes s.events })
+    one_state s (past 4 (store a bytes s)) u e (record { script = refl; calls = calls_stay (touches_frame s.entry s.area a (length bytes)) a bytes s.events })
 
 row_keeps : (r : Row) (s u : Machine) → does_row r s ≡ Continues u → Keeps s u
 unfolding does_row

@@ -149,7 +149,7 @@ module _ {X : Type 0} (R : X → X → Type 0) where
       (pairs_append xs ys (λ i j d lt within. h (suc i) (suc j) d (omega (arith, lt)) (omega (arith, within))) k
       (λ z w. before z (suc w.0, (let lt = w.1 in omega (arith, lt)), w.2)))
 
-all_of : {X : Type 0} (P : X → Type 0) (xs : List X) → ((x : X) → Contains xs x → P x) → All P xs
+pub all_of : {X : Type 0} (P : X → Type 0) (xs : List X) → ((x : X) → Contains xs x → P x) → All P xs
 all_of P [] h = All-nil P
 all_of P (x ∷ xs) h = All-cons P x xs (h x (0, omega arith, refl)) (all_of P xs (λ y w. h y (suc w.0, (let lt = w.1 in omega (arith, lt)), w.2)))
 

@@ -1,24 +1,12 @@
 -- Whatever decides what is live at the start, the same registers are spilled.
-use Rattle.std.proofs.Common.{◌≡◌, ◌↔◌, ℕ, suc, List, [], ◌∷◌, filter, take, Contains, Some, None, Bool, true, false, cond, ◌&&◌}
-use Rattle.std.proofs.Common.{refl, sym, ap, arith}
+use Rattle.std.proofs.Common.{◌≡◌, ℕ, List, [], take, Contains, Some, None, Bool, cond, ◌&&◌}
+use Rattle.std.proofs.Common.{ap}
 use Rattle.mir_func.specs.Function.{Function}
 use Rattle.pass_trait.specs.declared.loss.Reason.TheVariants.{NoScratch, CallNamed, EntryLoop}
 use Rattle.pass_trait.specs.Causes.{is_named}
 use Rattle.spill_rule.specs.Choice.{is_bound, is_looped, lacks_scratch, reason_of, is_free, candidates, room, next_slot, homes_from, homes_of}
 use Rattle.spill_rule.specs.Rule.{IsLiveIn, Decides}
-
-filter_same : (p q : ℕ → Bool) (xs : List ℕ) → ((x : ℕ) → Contains xs x → p x ≡ q x) → filter p xs ≡ filter q xs
-filter_same p q [] h = refl
-filter_same p q (x ∷ xs) h =
-    let here = h x (0, omega arith, refl) in
-    let rest = filter_same p q xs (λ y k. h y (suc k.0, (let lt = k.1 in omega (arith, lt)), k.2)) in
-    λ i. cond (here i) (x ∷ rest i) (rest i)
-
-agreeing : (P : Type 0) (a b : Bool) → (a ≡ true) ↔ P → (b ≡ true) ↔ P → a ≡ b
-agreeing P true true h k = refl
-agreeing P true false h k = sym (k.1 (h.0 refl))
-agreeing P false true h k = h.1 (k.0 refl)
-agreeing P false false h k = refl
+use Rattle.spill_rule.specs.Laws.{filter_same, agreeing}
 
 module _ (reserve : List ℕ) (f : Function) (live live' : ℕ → Bool) (decides : Decides reserve f live) (decides' : Decides reserve f live') where
   pub agree : (r : ℕ) → Contains reserve r → live r ≡ live' r

@@ -27,8 +27,8 @@ use Rattle.spill_rule.specs.Choice.{lacks_scratch, is_bound, is_looped, reason_o
 use Rattle.spill_rule.specs.Choice.{first_scratch, second_scratch, spilling_of, entry_of}
 use Rattle.spill_rule.specs.Rule.{Decides}
 use Rattle.spill_rule.proofs.Scratch.{kept_by}
+use Rattle.spill_rule.specs.Laws.{from_take}
 use Rattle.spill_proof.specs.Whole.{spilled_by, where_spilled, whole}
-use Rattle.spill_proof.proofs.Chosen.{in_take}
 use Rattle.spill_proof.proofs.Slots.{below_next}
 use Rattle.spill_proof.specs.Step.{spill_debug}
 use Rattle.spill_proof.proofs.Agree.{homes_same}
@@ -93,7 +93,7 @@ module _ (reserve : List ℕ) (live : ℕ → Bool) (k : ℕ) (f : Function) whe
     by_chosen [] e = absurd (some (ap (homes_from (next_slot f.slots)) e))
     by_chosen (r ∷ rs) e =
         let there : Contains (chosen reserve live f) r = subst (λ (xs : List ℕ). Contains xs r) (sym e) (0, omega arith, refl) in
-        let passes = (kept_by (λ r. is_named f r && is_free (reason_of f live r)) reserve r (in_take (room f) (candidates reserve live f) r there)).1 in
+        let passes = (kept_by (λ r. is_named f r && is_free (reason_of f live r)) reserve r (from_take (room f) (candidates reserve live f) r there)).1 in
         not_less (length (scratch_of f)) 2
         (free_scratch (lacks_scratch f) (is_bound f r) (live r && is_looped f) (and_parts (is_named f r) (is_free (reason_of f live r)) passes).1)
 

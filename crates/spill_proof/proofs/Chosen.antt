@@ -1,5 +1,5 @@
 -- Registers that are spilled are of the reserve, and scratch registers aren't.
-use Rattle.std.proofs.Common.{◌≡◌, ℕ, zero, suc, ◌+◌, List, [], ◌∷◌, filter, take, Contains, Some, Bool, true, false, cond, not}
+use Rattle.std.proofs.Common.{◌≡◌, ℕ, suc, ◌+◌, List, [], ◌∷◌, filter, take, Contains, Some, Bool, true, false, cond, not}
 use Rattle.std.proofs.Common.{◌&&◌, nat_eq}
 use Rattle.std.proofs.Common.{refl, sym, subst, arith, eqb-true}
 use Rattle.mir_func.specs.Function.{Function}
@@ -9,6 +9,7 @@ use Rattle.spill_simulation.specs.MaySpill.{IsNoScratch}
 use Rattle.spill_rule.specs.Choice.{is_free, reason_of, candidates, room, chosen, next_slot, homes_from, homes_of, first_scratch, second_scratch, spilling_of}
 use Rattle.spill_rule.specs.Chosen.{IsReservable}
 use Rattle.spill_rule.proofs.Scratch.{CANDIDATES, kept_by, saved, kept_registers, not_small}
+use Rattle.spill_rule.specs.Laws.{from_take}
 
 -- what holds of each register of a list holds of one that lives in a slot
 slot_from : (P : ℕ → Type 0) (m : ℕ) (rs : List ℕ) → ((r : ℕ) → Contains rs r → P r) → (r n : ℕ) → slot_of (homes_from m rs) r ≡ Some n → P r
@@ -19,13 +20,6 @@ slot_from P m (q ∷ rs) each r n e =
           (slot_of (homes_from (m + 1) rs) r ≡ Some n → P r) → P r
       by_test true is e more = each r (0, omega arith, eqb-true q r is)
       by_test false is e more = more e
-
-pub in_take : (n : ℕ) (xs : List ℕ) (x : ℕ) → Contains (take n xs) x → Contains xs x
-in_take zero [] x k = k
-in_take zero (y ∷ ys) x (k, lt, e) = absurd (omega (arith, lt))
-in_take (suc n) [] x k = k
-in_take (suc n) (y ∷ ys) x (zero, lt, e) = (0, omega arith, e)
-in_take (suc n) (y ∷ ys) x (suc k, lt, e) = let w = in_take n ys x (k, omega (arith, lt), e) in let less = w.1 in (suc w.0, omega (arith, less), w.2)
 
 -- a scratch register, or x0
 no_first : (p : ℕ → Bool) (xs : List ℕ) → filter p CANDIDATES ≡ xs → (r : ℕ) → IsReservable r → r ≡ first_scratch (take 2 xs) → ⊥
@@ -44,7 +38,7 @@ no_second p (a ∷ b ∷ rest) e r real is =
 module _ (reserve : List ℕ) (live : ℕ → Bool) (f : Function) (real : (r : ℕ) → Contains reserve r → IsReservable r) where
   pub reserved : (r n : ℕ) → slot_of (homes_of reserve live f) r ≡ Some n → Contains reserve r
   reserved = slot_from (Contains reserve) (next_slot f.slots) (chosen reserve live f)
-      (λ r k. (kept_by (λ r. is_named f r && is_free (reason_of f live r)) reserve r (in_take (room f) (candidates reserve live f) r k)).0)
+      (λ r k. (kept_by (λ r. is_named f r && is_free (reason_of f live r)) reserve r (from_take (room f) (candidates reserve live f) r k)).0)
 
   pub no_scratch : (r n : ℕ) → slot_of (homes_of reserve live f) r ≡ Some n → IsNoScratch (spilling_of reserve live f) r
   no_scratch r n e = (

@@ -3,7 +3,7 @@ use Rattle.std.proofs.Common.{◌≡◌, inl, inr, ℕ, zero, suc, ◌<◌, List
 use Rattle.std.proofs.Common.{refl, sym, ap, ◌∙◌, subst, arith}
 use Rattle.std.specs.Prelude.{AllPairs}
 use Rattle.std.specs.List.{filter_map, cons_option}
-use Rattle.std.proofs.lemmas.List.Elements.{All-nil, All-cons, All-contains, Contains-append_cases, Contains-append_left, Contains-append_right}
+use Rattle.std.proofs.lemmas.List.Elements.{All-contains, Contains-append_cases, Contains-append_left, Contains-append_right}
 use Rattle.std.proofs.lemmas.List.Kept.{AllPairs-cons}
 use Rattle.rv64_instr.specs.declared.place.Place.TheVariants.{Register, Slot, Const}
 use Rattle.mir_func.specs.declared.debug_substitution.DebugSubstitution.{DebugSubstitution}
@@ -24,6 +24,7 @@ use Rattle.pass_trait.specs.Rule.{Rule, register_lost}
 use Rattle.spill_code.specs.declared.spilling.SlotAssignment.{SlotAssignment}
 use Rattle.spill_code.specs.declared.spilling.Spilling.{Spilling}
 use Rattle.spill_debug.specs.Lost.{LosesScratch, AreScratchLosses}
+use Rattle.spill_debug.proofs.Silenced.{all_of}
 use Rattle.spill_select.specs.Left.{why_left, loss_for, registers_left}
 use Rattle.spill_rule.specs.Choice.{homes_of, spilling_of}
 use Rattle.spill_rule.specs.Rule.{Decides}
@@ -36,10 +37,6 @@ use Rattle.spill_proof.proofs.Standing.{among, standing}
 use Rattle.spill_proof.specs.Kept.{AreTaken}
 
 -- ---- lists
-
-all_of : {X : Type 0} (P : X → Type 0) (xs : List X) → ((x : X) → Contains xs x → P x) → All P xs
-all_of P [] h = All-nil P
-all_of P (x ∷ xs) h = All-cons P x xs (h x (0, omega arith, refl)) (all_of P xs (λ y w. h y (suc w.0, (let lt = w.1 in omega (arith, lt)), w.2)))
 
 none_in : {X : Type 0} (xs : List X) (x : X) → xs ≡ [] → Contains xs x → ⊥
 none_in [] x e (k, lt, is) = omega (arith, lt)

@@ -24,8 +24,8 @@ use Rattle.spill_rule.specs.Choice.{is_free, reason_of, candidates, room, chosen
 use Rattle.spill_rule.specs.Choice.{spilling_of, entry_of}
 use Rattle.spill_rule.specs.Chosen.{IsReservable}
 use Rattle.spill_rule.proofs.Scratch.{CANDIDATES, kept_by, reservable_real}
+use Rattle.spill_rule.specs.Laws.{from_take}
 use Rattle.spill_proof.specs.Whole.{spilled_by, where_spilled}
-use Rattle.spill_proof.proofs.Chosen.{in_take}
 use Rattle.spill_proof.proofs.Slots.{how_many}
 use Rattle.spill_proof.specs.Sizes.{WholeKeepsSizes}
 use Rattle.spill_proof.proofs.Measures.{blocks_bound}
@@ -56,7 +56,7 @@ low_second (a ∷ rest) low = low_first rest (λ r k. low r (suc k.0, (let lt = 
 low_scratch : (f : Function) (r : ℕ) → Contains (scratch_of f) r → r < 32
 low_scratch f r k =
     let free : List ℕ = filter (λ (q : ℕ). not (is_named f q)) CANDIDATES in
-    low_candidate r (kept_by (λ q. not (is_named f q)) CANDIDATES r (in_take 2 free r k)).0
+    low_candidate r (kept_by (λ q. not (is_named f q)) CANDIDATES r (from_take 2 free r k)).0
 
 low_homes : (m : ℕ) (rs : List ℕ) → ((r : ℕ) → Contains rs r → r < 32) → All (λ (h : SlotAssignment). h.register < 32) (homes_from m rs)
 low_homes m [] low = All-nil (λ (h : SlotAssignment). h.register < 32)
@@ -142,7 +142,7 @@ module _ (reserve : List ℕ) (live : ℕ → Bool) (f : Function) (subs : List 
 
   chosen_real : (r : ℕ) → Contains (chosen reserve live f) r → r < 32
   chosen_real r c = reservable_real r (real r
-      (kept_by (λ r. is_named f r && is_free (reason_of f live r)) reserve r (in_take (room f) (candidates reserve live f) r c)).0)
+      (kept_by (λ r. is_named f r && is_free (reason_of f live r)) reserve r (from_take (room f) (candidates reserve live f) r c)).0)
 
   entry_real : All (λ (h : SlotAssignment). h.register < 32) entry
   entry_real = All-filter (λ (h : SlotAssignment). live h.register) (λ (h : SlotAssignment). h.register < 32) (homes_of reserve live f)

@@ -1,10 +1,10 @@
 -- Where the items of a function stand.
 use Rattle.std.proofs.Common.{◌≡◌, ◌⊎◌, inl, inr, zero, suc, List, [], ◌∷◌, slice_get, Contains, Some, None, Bool, true, false}
-use Rattle.std.proofs.Common.{◌||◌, refl, sym, ap, ◌∙◌, subst, arith}
+use Rattle.std.proofs.Common.{◌||◌, refl, ap, ◌∙◌, subst, arith}
 use Rattle.std.specs.List.{list_any}
 use Rattle.std.proofs.lemmas.Bool.{or_left, or_right}
 use Rattle.std.proofs.lemmas.List.Concat.{flat_map-cons}
-use Rattle.std.proofs.lemmas.List.Elements.{Contains-append_cases, Contains-append_left, Contains-append_right}
+use Rattle.std.proofs.lemmas.List.Elements.{Contains-append_cases}
 use Rattle.std.proofs.lemmas.Option.{slice_get-get_or}
 use Rattle.mir_func.specs.declared.block.Block.{Block}
 use Rattle.mir_func.specs.declared.item.Item.{Item}
@@ -15,6 +15,7 @@ use Rattle.mir_func.specs.Sound.{AreApart, ids_of, items_of}
 use Rattle.sem_mir.proofs.Reading.{found, item_front}
 use Rattle.pass_trait.specs.Rule.{StandsAt}
 use Rattle.spill_simulation.proofs.Places.{stands_at, contains_at}
+use Rattle.spill_rule.proofs.Chosen.{item_in}
 
 -- ---- tests of lists
 
@@ -32,15 +33,6 @@ some_by {A} test (y ∷ ys) h = by_test (test y) refl h (some_by test ys) where
   by_test false e h more = let w = more h in let k = w.1 in (w.0, (suc k.0, (let lt = k.1 in omega (arith, lt)), k.2), w.2)
 
 -- ---- items and their places
-
-item_in : (bs : List Block) (b : Block) (i : Item) → Contains bs b → Contains b.items i → Contains (items_of bs) i
-item_in [] b i (k, lt, e) h = absurd (omega (arith, lt))
-item_in (c ∷ bs) b i (zero, lt, e) h =
-    subst (λ (z : List Item). Contains z i) (sym (flat_map-cons (λ (c : Block). c.items) c bs))
-    (Contains-append_left c.items (items_of bs) i (subst (λ (z : Block). Contains z.items i) (sym e) h))
-item_in (c ∷ bs) b i (suc k, lt, e) h =
-    subst (λ (z : List Item). Contains z i) (sym (flat_map-cons (λ (c : Block). c.items) c bs))
-    (Contains-append_right c.items (items_of bs) i (item_in bs b i (k, omega (arith, lt), e) h))
 
 item_from : (bs : List Block) (i : Item) → Contains (items_of bs) i → (b : Block) × Contains bs b × Contains b.items i
 item_from [] i (k, lt, e) = absurd (omega (arith, lt))

@@ -68,7 +68,7 @@ any_by test (y ∷ ys) x (suc k, lt, e) h = or_right (test y) (list_any test ys)
 none_by : {A : Type 0} (test : A → Bool) (xs : List A) (x : A) → list_any test xs ≡ false → Contains xs x → test x ≡ true → ⊥
 none_by test xs x none k h = let bad : false ≡ true = sym none ∙ any_by test xs x k h in cc
 
-item_in : (bs : List Block) (b : Block) (i : Item) → Contains bs b → Contains b.items i → Contains (items_of bs) i
+pub item_in : (bs : List Block) (b : Block) (i : Item) → Contains bs b → Contains b.items i → Contains (items_of bs) i
 item_in [] b i (k, lt, e) h = absurd (omega (arith, lt))
 item_in (c ∷ bs) b i (zero, lt, e) h =
     subst (λ (z : List Item). Contains z i) (sym (flat_map-cons (λ (c : Block). c.items) c bs))

@@ -43,7 +43,7 @@ use Rattle.spill_rule.specs.Rule.{IsLiveIn, IsSpilled}
 -- ---- one result
 
 -- two tests that agree on a list's members filter it to the same list
-filter_same : (p q : ℕ → Bool) (xs : List ℕ) → ((x : ℕ) → Contains xs x → p x ≡ q x) → filter p xs ≡ filter q xs
+pub filter_same : (p q : ℕ → Bool) (xs : List ℕ) → ((x : ℕ) → Contains xs x → p x ≡ q x) → filter p xs ≡ filter q xs
 filter_same p q [] h = refl
 filter_same p q (x ∷ xs) h =
     let here = h x (0, omega arith, refl) in
@@ -69,7 +69,7 @@ from_filter p (y ∷ ys) x k = by_test (p y) k (λ j. from_filter p ys x j) wher
   by_test true (suc k, lt, e) more = later (more (k, omega (arith, lt), e))
   by_test false k more = later (more k)
 
-from_take : (n : ℕ) (xs : List ℕ) (x : ℕ) → Contains (take n xs) x → Contains xs x
+pub from_take : (n : ℕ) (xs : List ℕ) (x : ℕ) → Contains (take n xs) x → Contains xs x
 from_take zero [] x k = k
 from_take zero (y ∷ ys) x (k, lt, e) = absurd (omega (arith, lt))
 from_take (suc n) [] x k = k
@@ -110,7 +110,7 @@ module _ (reserve : List ℕ) (f : Function) (live live' : ℕ → Bool) (agree 
       }
 
 -- two tests of one property agree
-agreeing : (P : Type 0) (a b : Bool) → (a ≡ true) ↔ P → (b ≡ true) ↔ P → a ≡ b
+pub agreeing : (P : Type 0) (a b : Bool) → (a ≡ true) ↔ P → (b ≡ true) ↔ P → a ≡ b
 agreeing P true true h k = refl
 agreeing P true false h k = sym (k.1 (h.0 refl))
 agreeing P false true h k = h.1 (k.0 refl)

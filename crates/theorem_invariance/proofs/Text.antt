@@ -5,12 +5,13 @@ use Rattle.std.specs.Int.{w32, to_le_bytes}
 use Rattle.mir_func.specs.Function.{Function, FramedFunction}
 use Rattle.emit_code.specs.Rule.{Layout, words_of}
 use Rattle.frame_rule.specs.Rule.{framed_of}
+use Rattle.compile_theorem.specs.Compiled.{bytes_of}
 use Rattle.invariance_code.specs.Alike.{HaveAlikeCode, HaveSameCode, AreFramedAlike, AreFramedSame, stripped_framed}
 use Rattle.invariance_code.proofs.Strips.{frames_strip, frames_same}
 use Rattle.invariance_code.proofs.Alike.{frames_alike}
 use Rattle.invariance_code.specs.Alone.{AreCodedAlike, AreCodedSame}
 use Rattle.invariance_code.proofs.Alone.{code_has_words, alike_code, same_code}
-use Rattle.theorem_invariance.specs.Text.{IsLaid, IsCodedAlone, AlikeIsCodedAlike, SameIsCodedSame, bytes_of, AreLaid, OneByOne}
+use Rattle.theorem_invariance.specs.Text.{IsLaid, IsCodedAlone, AlikeIsCodedAlike, SameIsCodedSame, AreLaid, OneByOne}
 use Rattle.theorem_invariance.specs.Text.{HasTextAlone, AlikeHasSameText, SameHasSameText}
 
 -- ---- one function

@@ -1,12 +1,11 @@
 -- The bytes of `.text` depend only on the code of functions, not on their debug items.
 use Rattle.std.specs.Prelude.{◌≡◌, ℕ, ◌+◌, ◌*◌, List, [], ◌∷◌, ◌++◌, length, map}
-use Rattle.std.specs.List.{flat_map}
-use Rattle.std.specs.Int.{w32, to_le_bytes}
 use Rattle.mir_func.specs.Function.{Function}
 use Rattle.mir_func.specs.Strip.{stripped}
 use Rattle.emit_code.specs.BranchRelaxation.{IsSettled}
 use Rattle.emit_code.specs.Rule.{Layout, words_of}
 use Rattle.frame_rule.specs.Rule.{framed_of}
+use Rattle.compile_theorem.specs.Compiled.{bytes_of}
 use Rattle.invariance_code.specs.Alike.{HaveAlikeCode, HaveSameCode}
 use Rattle.invariance_code.specs.Alone.{AreCodedAlike, AreCodedSame}
 
@@ -37,10 +36,6 @@ abbrev pub SameIsCodedSame : Type 0
 SameIsCodedSame = (f g : Function) (base : ℕ) (l m : Layout) → IsLaid f base l → IsLaid g base m → HaveSameCode f g → AreCodedSame l m
 
 -- ---- functions one after the other
-
--- the bytes of a layout in `.text`: its words in little-endian order
-abbrev pub bytes_of : Layout → List ℕ
-bytes_of l = flat_map (to_le_bytes w32) (words_of l)
 
 -- The functions are laid out one after the other from address `base`, and `text` is exactly the bytes of their layouts.
 abbrev pub AreLaid : (base : ℕ) → (text : List ℕ) → List Function → List Layout → Type 0

@@ -30,19 +30,16 @@ use Rattle.read_proof.specs.Read.{EntryIsLimited}
 use Rattle.readback_functions.specs.Document.{lines_from}
 use Rattle.readback_functions.proofs.Listed.{IsLexedLine, pieces_at, Stands, outside, IsEntryLine, AreEntryLines, AllMean, listed}
 use Rattle.readback_functions.proofs.Spans.{token_of, line_texts}
+use Rattle.readback_functions.proofs.EntryLines.{field_reads, number_read, open_reads, text_found, field, close_reads, comma_reads, field_at, IsRead}
 use Rattle.theorem_print_read_back.specs.Substitutions.{entry_line, AreNew, SubstitutionsReadBack}
-use Rattle.theorem_print_read_back.proofs.Fields.{number_read, mark, field, IsRead, comma_reads, close_reads, open_reads, field_reads, opened, open_step}
+use Rattle.theorem_print_read_back.proofs.Fields.{mark, opened, open_step}
 use Rattle.theorem_print_read_back.proofs.Fields.{field_step, comma_step}
-use Rattle.theorem_print_read_back.proofs.Fields.{close_step, text_found}
+use Rattle.theorem_print_read_back.proofs.Fields.{close_step}
 
 -- ---- what an entry says
 
 abbrev Means : List Line → List MappingField → func.DebugSubstitution → Type 0
 Means lines fields e = substitution_of lines fields ≡ Some e
-
--- the pieces of a field whose key's token is at a place
-abbrev field_at : ℕ → ℕ → Token → Token → MappingField
-field_at at n key value = record { key = piece_of at n key; value = piece_of at n value }
 
 -- numbers that are read make a substitution
 said : (a b c d f : Option ℕ) (v w x y z : ℕ) → a ≡ Some v → b ≡ Some w → c ≡ Some x → d ≡ Some y → f ≡ Some z →

@@ -2,7 +2,6 @@
 use Rattle.std.proofs.Common.{◌≡◌, ℕ, Bool, true, false, cond, List, [], ◌∷◌, ◌++◌, Option, Some, None, Ok, refl, sym, ap, subst, ◌∙◌}
 use Rattle.std.proofs.Common.{append_assoc, append-nil}
 use Rattle.std.specs.Prelude.{is_some}
-use Rattle.read_refusal.specs.declared.first.Refusal.{Refusal}
 use Rattle.read_lexer.specs.declared.line.Line.{Line}
 use Rattle.read_documents.specs.declared.parts.FunctionDocument.{FunctionDocument}
 use Rattle.mir_func.specs.declared.debug_substitution.DebugSubstitution as func
@@ -11,9 +10,10 @@ use Rattle.mir_substitution.specs.Added.{added}
 use Rattle.read_declarations.specs.declared.declarations.Declarations.{Declarations}
 use Rattle.read_declarations.specs.declared.entry.MappingEntry.{MappingEntry}
 use Rattle.read_declarations.specs.declared.substitutions.SubstitutionsRead.{SubstitutionsRead}
-use Rattle.read_declarations.specs.Declarations.{refusal_of, declared_of, checked, declarations_of}
+use Rattle.read_declarations.specs.Declarations.{refusal_of, declared_of, declarations_of}
 use Rattle.read_declarations.specs.List.{list_of}
 use Rattle.read_declarations.specs.Substitutions.{substitution_of, substituted, substitutions_behind}
+use Rattle.readback_functions.proofs.NameFunctions.{checked_is}
 use Rattle.theorem_print_read_back.specs.Substitutions.{AreNew}
 
 pushed : (front es : List func.DebugSubstitution) (e : func.DebugSubstitution) → AreNew front es → is_some (entry_of (front ++ es) e.src) ≡ false →
@@ -40,10 +40,6 @@ unfolding substitutions_behind
 all_new lines read [] new = new
 all_new lines read (x ∷ xs) new =
     all_new lines (substituted read x.line (substitution_of lines x.fields)) xs (one_new read x.line (substitution_of lines x.fields) new)
-
-checked_is : (refused : Option Refusal) (declared d : Declarations) → checked refused declared ≡ Ok d → declared ≡ d
-checked_is (Some r) declared d e = absurd cc
-checked_is None declared d e = cc
 
 -- the substitutions that a document declares
 pub substitutions_new : (doc : FunctionDocument) (d : Declarations) → declarations_of doc ≡ Ok d → AreNew [] d.substitutions

@@ -12,6 +12,7 @@ use Rattle.mir_func.specs.Exits.{exit_of}
 use Rattle.mir_func.specs.Graph.{Program, Fetch, Here, EndOfBlock, Outside, block_start, end_of, front, fetch_in, framed_program, Edge, FetchEdge}
 use Rattle.mir_func.specs.Sound.{ids_of}
 use Rattle.mir_func.specs.Successors.{pos_in, ways}
+use Rattle.mir_func.proofs.Ways.{out_way, contains_first}
 use Rattle.sem_mir.specs.ValueId.{Tokens, Path, begin, onward, after_fetch, after_item}
 use Rattle.sem_value_ids.specs.Pullback.{InRegister, token_of, after_items}
 use Rattle.sem_value_ids.specs.Pullback as path
@@ -22,7 +23,7 @@ use Rattle.value_solver.specs.Entry.{thing, PathTo}
 use Rattle.value_solver.specs.declared.flow.Flow.{Flow}
 use Rattle.value_solver.specs.Flows.{thing_token, token_at, Begins, Comes, GoesOn, AreFlows}
 use Rattle.value_live_ins.specs.steps.Flowing.{next_id, AreFlowsOf}
-use Rattle.value_live_ins.proofs.Paths.{EndsQuietly, head_id, go_out, from_start, quiet_out, out_way, kind_out, contains_first}
+use Rattle.value_live_ins.proofs.Paths.{EndsQuietly, head_id, go_out, from_start, quiet_out, kind_out}
 
 -- ---- blocks by their indices
 

@@ -36,13 +36,12 @@ use Rattle.mir_func.specs.SoundFrame.{
   body_of,
 }
 use Rattle.mir_func.specs.Successors.{ways}
-use Rattle.mir_func.proofs.Ways.{IsOut}
+use Rattle.mir_func.proofs.Ways.{IsOut, way_back, contains_cases, contains_none}
 use Rattle.value_tracker.specs.Things.{IsOffset}
 use Rattle.value_live_ins.specs.steps.Flowing.{next_id}
 use Rattle.value_live_ins.specs.steps.Framing.{AreBlocks}
 use Rattle.value_live_ins.specs.Gathering.{RowHasOffset, PlaceHasOffset, HasOffsets}
 use Rattle.value_live_ins.specs.steps.Ways.{Indices, enter_by, FindsIds}
-use Rattle.value_live_ins.proofs.Paths.{way_back, contains_cases, contains_none}
 
 -- ---- lists
 

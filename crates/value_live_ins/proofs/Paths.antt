@@ -14,8 +14,8 @@ use Rattle.mir_func.specs.declared.item.ItemKind.{ItemKind}
 use Rattle.mir_func.specs.declared.item.ItemKind.TheVariants.{Code, Mark, Phi}
 use Rattle.mir_func.specs.Exits.{row_exit, exit_of}
 use Rattle.mir_func.specs.Graph.{Program, Fetch, Here, EndOfBlock, Outside, below, block_start, end_of, front, Edge, FetchEdge, KindEdge, RowEdge}
-use Rattle.mir_func.specs.Successors.{pos_in, ways_from, ways}
-use Rattle.mir_func.proofs.Ways.{IsDown, IsOut}
+use Rattle.mir_func.specs.Successors.{pos_in, ways}
+use Rattle.mir_func.proofs.Ways.{IsDown, IsOut, way_back, down_way, contains_cases, contains_none}
 use Rattle.sem_mir.specs.ValueId.{Tokens, Path, begin, onward, after_fetch, after_item}
 use Rattle.sem_value_ids.specs.Pullback.{Tracked, token_of, after_items}
 
@@ -128,39 +128,6 @@ from_above {g = g} {start = start} p first e (onward {n = n} {p = s} {q = q} {t 
       one_more = refl;
       passed = ap (λ (z : Pos). after_fetch g.resolve n (g.fetch z) t) at;
     }
-
--- ---- numbers among ways
-
-pub contains_first : (m n : ℕ) (ns : List ℕ) → m ≡ n → Contains (m ∷ ns) n
-contains_first m n ns e = (zero, omega arith, e)
-
-contains_later : (m n : ℕ) (ns : List ℕ) → Contains ns n → Contains (m ∷ ns) n
-contains_later m n ns (k, l, e) = (suc k, omega arith, e)
-
-pub contains_cases : (m n : ℕ) (ns : List ℕ) → Contains (m ∷ ns) n → (m ≡ n) ⊎ Contains ns n
-contains_cases m n ns (zero, l, e) = inl e
-contains_cases m n ns (suc k, l, e) = inr (k, omega arith, e)
-
-pub contains_none : (n : ℕ) → Contains [] n → ⊥
-contains_none n (k, l, e) = omega arith
-
-pub out_way : (x : Exit) (n : ℕ) (rest : List ℕ) → IsOut x n → Contains (ways_from x rest) n
-out_way Onward n rest h = absurd h
-out_way (Perhaps t) n rest h = contains_first t n rest h
-out_way (Always t) n rest h = contains_first t n [] h
-out_way Final n rest h = absurd h
-
-down_way : (x : Exit) (n : ℕ) (rest : List ℕ) → IsDown x → Contains rest n → Contains (ways_from x rest) n
-down_way Onward n rest d h = h
-down_way (Perhaps t) n rest d h = contains_later t n rest h
-down_way (Always t) n rest d h = absurd d
-down_way Final n rest d h = absurd d
-
-pub way_back : (x : Exit) (n : ℕ) (rest : List ℕ) → Contains (ways_from x rest) n → IsOut x n ⊎ (IsDown x × Contains rest n)
-way_back Onward n rest h = inr (tt, h)
-way_back (Perhaps t) n rest h = elim (contains_cases t n rest h) [ inl e ↦ inl e | inr c ↦ inr (tt, c) ]
-way_back (Always t) n rest h = elim (contains_cases t n [] h) [ inl e ↦ inl e | inr c ↦ absurd (contains_none n c) ]
-way_back Final n rest h = absurd (contains_none n h)
 
 -- ---- what changes no token
 

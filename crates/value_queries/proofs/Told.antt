@@ -17,6 +17,7 @@ use Rattle.mir_func.specs.declared.position.Pos.{Pos}
 use Rattle.mir_func.specs.declared.variable.VarId.{VarId}
 use Rattle.mir_func.specs.Graph.{Program, block_start}
 use Rattle.mir_func.specs.Successors.{pos_in}
+use Rattle.mir_substitution.specs.Index.{is_key}
 use Rattle.sem_mir.specs.ValueId.{Fixed, Sits, place_token}
 use Rattle.sem_mir.specs.PreferredLocation.{IsPlace}
 use Rattle.sem_value_ids.specs.Pullback.{InRegister, InSlot, OfPair, OfVariable, OfNumber, token_of}
@@ -26,7 +27,7 @@ use Rattle.value_solver.specs.declared.tracked.Tracked.TheVariants.{Pair, Part, 
 use Rattle.value_solver.specs.Entry.{thing}
 use Rattle.value_proof.proofs.Known.{slot, variable}
 use Rattle.value_tracker.specs.declared.index.TrackedIndex.{TrackedIndex}
-use Rattle.value_tracker.specs.Things.{is_key, Indexes}
+use Rattle.value_tracker.specs.Things.{Indexes}
 use Rattle.value_tracker.specs.LocationTracker.{SLOTS_FROM, slot_place, class_at, pair_class}
 use Rattle.value_tracker.proofs.Starting.{stands as stand_of, contained, is_part}
 use Rattle.location_ranges.specs.declared.transfer_tracker.TransferTracker.{TransferTracker}

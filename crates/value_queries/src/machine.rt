@@ -5,13 +5,13 @@ ghost use Rattle.std.specs.Prelude.{Some, is_some, true, Contains, length, min, 
 ghost use Rattle.std.specs.HashMap.{get};
 ghost use Rattle.mir_func.specs.declared.block.Block.{Block};
 ghost use Rattle.mir_func.specs.Graph.{Program};
+ghost use Rattle.mir_substitution.specs.Index.{is_key};
 ghost use Rattle.sem_mir.specs.ValueId.{pair_token, place_token};
 ghost use Rattle.sem_mir.specs.PreferredLocation.{IsPlace};
 ghost use Rattle.value_solver.specs.declared.entry.BlockEntry.{BlockEntry};
 ghost use Rattle.value_solver.specs.declared.tracked.Tracked.{Tracked};
 ghost use Rattle.value_solver.specs.declared.tracked.Tracked.TheVariants.{Pair};
 ghost use Rattle.value_solver.specs.Entry.{IsEntry};
-ghost use Rattle.value_tracker.specs.Things.{is_key};
 ghost use Rattle.value_tracker.specs.LocationTracker.{pair_class};
 ghost use Rattle.location_ranges.specs.Stands.{AreValuesOf, program};
 ghost use Rattle.value_queries.specs.Sitting.{IsFit, IsPointOf, SitsAt, SitsByClass, position, named_class};

@@ -4,8 +4,8 @@ use Rattle.std.specs.Prelude.{Option, Some, None, Bool, true, false, cond, ◌&&
 use Rattle.std.proofs.lemmas.Bool.Decides.{nat_tests, eqb_tells}
 use Rattle.std.proofs.lemmas.Option.{slice_get_past, slice_get_read}
 use Rattle.rv64_instr.specs.declared.operand.Operand.{Operand}
+use Rattle.mir_substitution.specs.Index.{is_key}
 use Rattle.sem_mir.specs.Step.{defined}
-use Rattle.value_tracker.specs.Things.{is_key}
 use Rattle.value_tracker.specs.LocationTracker.{operand_class}
 
 abbrev pub GivenBelow : (call : Bool) (k : ℕ) (operands : List Operand) (places : List ℕ) (old : ℕ × ℕ → Option ℕ) → ℕ → (ℕ × ℕ → Option ℕ) → Type 0

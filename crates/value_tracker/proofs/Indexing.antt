@@ -5,10 +5,11 @@ use Rattle.std.specs.HashMap.{get}
 use Rattle.std.proofs.lemmas.Bool.{and_parts, and_from}
 use Rattle.std.proofs.lemmas.Bool.Decides.{eqb_tells}
 use Rattle.mir_func.specs.declared.debug_substitution.OperandPair.{OperandPair}
+use Rattle.mir_substitution.specs.Index.{is_key}
 use Rattle.value_solver.specs.declared.tracked.Tracked.{Tracked}
 use Rattle.value_solver.specs.declared.tracked.Tracked.TheVariants.{Pair, Number}
 use Rattle.value_tracker.specs.declared.index.TrackedIndex.{TrackedIndex}
-use Rattle.value_tracker.specs.Things.{is_key, IndexesBelow}
+use Rattle.value_tracker.specs.Things.{IndexesBelow}
 
 pair_of : {p q : OperandPair} → Some (Pair p) ≡ Some (Pair q) → p ≡ q
 pair_of e = cc

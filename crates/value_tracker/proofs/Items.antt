@@ -40,6 +40,7 @@ use Rattle.mir_func.specs.declared.variable.MarkValue.{MarkValue}
 use Rattle.mir_func.specs.declared.variable.MarkValue.TheVariants.{Nothing, Constant, At, Pair}
 use Rattle.mir_func.specs.declared.item.ItemKind.TheVariants.{Code}
 use Rattle.mir_func.specs.Variables.{is_same, overlaps}
+use Rattle.mir_substitution.specs.Index.{is_key}
 use Rattle.sem_mir.specs.Step.{defined}
 use Rattle.sem_value_ids.specs.Pullback as path
 use Rattle.sem_value_ids.specs.Pullback.{
@@ -72,7 +73,6 @@ use Rattle.value_proof.proofs.Passing.{Knows, known_back}
 use Rattle.value_proof.proofs.Known.{StaysBare, pointer, bare_stays}
 use Rattle.value_tracker.specs.declared.index.TrackedIndex.{TrackedIndex}
 use Rattle.value_tracker.specs.declared.location_tracker.LocationTracker.{LocationTracker}
-use Rattle.value_tracker.specs.Things.{is_key}
 use Rattle.value_tracker.specs.LocationTracker.{SLOTS_FROM, PLACES, slot_place, class_at, number_class, given_or, pair_class, Holds, places_past, part_past}
 use Rattle.value_tracker.specs.LocationTracker.{resolved_class, value_class, place_class, operand_class}
 use Rattle.value_tracker.proofs.Rows.{Before, register_past, slot_past, slots_known_past}

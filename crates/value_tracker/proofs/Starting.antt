@@ -7,6 +7,7 @@ use Rattle.std.proofs.lemmas.Bool.{and_parts, and_from}
 use Rattle.std.proofs.lemmas.Bool.Decides.{nat_tests, eqb_tells}
 use Rattle.std.proofs.lemmas.Option.{slice_get-get_or, slice_get_within, get_or_from_slice_get, slice_get-map}
 use Rattle.mir_func.specs.declared.variable.VarId.{VarId}
+use Rattle.mir_substitution.specs.Index.{is_key}
 use Rattle.sem_value_ids.specs.Pullback as path
 use Rattle.sem_value_ids.specs.Pullback.{InRegister, InSlot, OfPair, OfVariable, OfNumber}
 use Rattle.value_solver.specs.declared.tracked.Tracked.{Tracked}
@@ -15,7 +16,7 @@ use Rattle.value_solver.specs.Entry.{thing}
 use Rattle.value_proof.specs.Classes.{Classes, IsKnown}
 use Rattle.value_tracker.specs.declared.index.TrackedIndex.{TrackedIndex}
 use Rattle.value_tracker.specs.declared.location_tracker.LocationTracker.{LocationTracker}
-use Rattle.value_tracker.specs.Things.{AreThings, Indexes, IsOffset, Settle, is_key}
+use Rattle.value_tracker.specs.Things.{AreThings, Indexes, IsOffset, Settle}
 use Rattle.value_tracker.specs.LocationTracker.{PLACES, slot_place, class_at, number_class, given_or, Holds}
 use Rattle.value_tracker.specs.Start.{stands_at, PlacedBelow}
 

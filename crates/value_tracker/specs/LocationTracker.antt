@@ -36,6 +36,7 @@ use Rattle.mir_func.specs.declared.debug_substitution.OperandPair.{OperandPair}
 use Rattle.mir_func.specs.declared.variable.VarId.{VarId}
 use Rattle.mir_func.specs.declared.item.ItemKind.{ItemKind}
 use Rattle.mir_func.specs.Variables.{is_same, overlaps}
+use Rattle.mir_substitution.specs.Index.{is_key}
 use Rattle.sem_value_ids.specs.Pullback as path
 use Rattle.sem_value_ids.specs.Pullback.{InRegister, InSlot, OfPair, OfVariable, OfNumber, back}
 use Rattle.value_solver.specs.declared.tracked.Tracked.{Tracked}
@@ -43,7 +44,7 @@ use Rattle.value_solver.specs.Entry.{thing}
 use Rattle.value_proof.specs.Classes.{Classes, IsKnown, KnowsItem, class_back}
 use Rattle.value_tracker.specs.declared.index.TrackedIndex.{TrackedIndex}
 use Rattle.value_tracker.specs.declared.location_tracker.LocationTracker.{LocationTracker}
-use Rattle.value_tracker.specs.Things.{is_key, IsOffset}
+use Rattle.value_tracker.specs.Things.{IsOffset}
 
 -- the location index of the doubleword at x2. Registers have the indices below it, and the doublewords at offsets up to 2,024
 -- those from it on

@@ -1,8 +1,9 @@
 -- The list of tracked entities, their indices, and their classes at a block's start.
-use Rattle.std.specs.Prelude.{◌≡◌, ℕ, ◌<◌, ◌≤◌, ◌%◌, List, length, Some, IsSome, Bool, false, cond, nat_eq, ◌&&◌, slice_get, slice_index, slice_index_or}
+use Rattle.std.specs.Prelude.{◌≡◌, ℕ, ◌<◌, ◌≤◌, ◌%◌, List, length, Some, IsSome, Bool, false, cond, nat_eq, slice_get, slice_index, slice_index_or}
 use Rattle.std.specs.HashMap.{get}
 use Rattle.base_ids.specs.Limits.{MAX_OFFSET}
 use Rattle.mir_func.specs.declared.variable.VarId.{VarId}
+use Rattle.mir_substitution.specs.Index.{is_key}
 use Rattle.sem_value_ids.specs.Pullback.{InRegister, OfNumber}
 use Rattle.value_solver.specs.declared.tracked.Tracked.{Tracked}
 use Rattle.value_solver.specs.declared.tracked.Tracked.TheVariants.{Register, Slot, Pair, Part, Number}
@@ -22,10 +23,6 @@ pub record AreThings (variables : List VarId) (things : List Tracked) : Type 0 w
   pub registers : (r : ℕ) → r < 32 → (r ≡ 0 → ⊥) → (r ≡ 2 → ⊥) → (j : ℕ) × (slice_get things j ≡ Some (Register r))
   pub zero : (j : ℕ) × (slice_get things j ≡ Some (Number 0))
   pub slots : (j n : ℕ) → slice_get things j ≡ Some (Slot n) → IsOffset n
-
--- equality of keys: the instruction number and the operand index of a pair
-abbrev pub is_key : ℕ × ℕ → ℕ × ℕ → Bool
-is_key p q = nat_eq p.0 q.0 && nat_eq p.1 q.1
 
 -- the index maps each constant and each pair among the first n entities to its position in the list, and contains no others
 pub record IndexesBelow (n : ℕ) (things : List Tracked) (index : TrackedIndex) : Type 0 where

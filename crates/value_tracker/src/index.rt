@@ -17,9 +17,10 @@ ghost use Rattle.std.specs.Prelude.{
   slice_index,
 };
 ghost use Rattle.std.specs.HashMap.{get};
+ghost use Rattle.mir_substitution.specs.Index.{is_key};
 ghost use Rattle.value_solver.specs.declared.tracked.Tracked.{Tracked};
 ghost use Rattle.value_tracker.specs.LocationTracker.{class_at, number_class};
-ghost use Rattle.value_tracker.specs.Things.{is_key, IndexesBelow, Indexes};
+ghost use Rattle.value_tracker.specs.Things.{IndexesBelow, Indexes};
 
 use mir_func::debug_substitution::OperandPair;
 use std::alloc::{AllocError, Global};

@@ -21,6 +21,7 @@ ghost use Rattle.sem_mir.specs.Step.{defined as defined_by};
 ghost use Rattle.mir_func.specs.declared.variable.VarId.{VarId};
 ghost use Rattle.mir_func.specs.declared.item.ItemKind.TheVariants.{Code, Mark, Phi};
 ghost use Rattle.mir_func.specs.Resolve.{resolve};
+ghost use Rattle.mir_substitution.specs.Index.{is_key};
 ghost use Rattle.value_solver.specs.declared.tracked.Tracked.{Tracked};
 ghost use Rattle.value_tracker.specs.LocationTracker.{
   pair_class,
@@ -32,7 +33,6 @@ ghost use Rattle.value_tracker.specs.LocationTracker.{
   part_past,
   Passes,
 };
-ghost use Rattle.value_tracker.specs.Things.{is_key};
 
 use crate::index::{TrackedIndex, key, number_class, pair_class};
 use crate::location_tracker::{LocationTracker, PLACES, SLOTS_FROM, slot_place};

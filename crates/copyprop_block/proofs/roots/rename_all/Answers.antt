@@ -1,6 +1,6 @@
 use Rattle.std.proofs.Common.{set, sym, ap, ◌∙◌}
+use Rattle.pass_trait.proofs.InPlaceMap.{map_turn}
 use Rattle.copyprop_block.specs.Roots.{renamed_operand}
-use Rattle.copyprop_block.proofs.Lists.{map_turn}
 use Rattle.copyprop_block.proofs.roots.rename_all.Goals as goal
 
 pub loop-o-preserved : goal.loop-o-preserved

@@ -1,6 +1,6 @@
 use Rattle.std.proofs.Common.{◌≡◌, ◌+◌, length, take}
 use Rattle.std.specs.List.{flat_map}
-use Rattle.dwarf_line.specs.steps.Size.{capped}
+use Rattle.dwarf_base.specs.Size.{capped}
 use Rattle.dwarf_frame.specs.Spelling.{description}
 use Rattle.dwarf_frame.proofs.size.frame_size.Given as goal
 

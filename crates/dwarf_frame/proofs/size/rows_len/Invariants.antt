@@ -1,5 +1,5 @@
 use Rattle.std.proofs.Common.{◌≡◌, ◌+◌, ◌^◌, ◌<◌, length, drop}
-use Rattle.dwarf_line.specs.steps.Size.{capped}
+use Rattle.dwarf_base.specs.Size.{capped}
 use Rattle.dwarf_frame.specs.Table.{initial, AreRows}
 use Rattle.dwarf_frame.specs.Spelling.{rows_after}
 use Rattle.dwarf_frame.proofs.size.rows_len.Given as goal

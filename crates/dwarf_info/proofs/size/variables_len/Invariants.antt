@@ -1,7 +1,7 @@
 use Rattle.std.proofs.Common.{◌≡◌, ℕ, length, take}
 use Rattle.std.specs.List.{flat_map}
 use Rattle.dwarf_info.specs.steps.Parts.{variable_bytes}
-use Rattle.dwarf_info.specs.steps.Size.{capped}
+use Rattle.dwarf_base.specs.Size.{capped}
 use Rattle.dwarf_info.proofs.size.variables_len.Given as goal
 
 abbrev pub invariant-loop-variable : goal.invariant-loop-variable

@@ -1,7 +1,7 @@
 use Rattle.std.proofs.Common.{◌≡◌, ◌+◌, length, drop}
 use Rattle.dwarf_line.specs.Table.{Ascend}
 use Rattle.dwarf_line.specs.Spelling.{rows_to, first_address, registers_at}
-use Rattle.dwarf_line.specs.steps.Size.{capped}
+use Rattle.dwarf_base.specs.Size.{capped}
 use Rattle.dwarf_line.proofs.size.sequence_len.Given as goal
 
 abbrev pub invariant-loop-row : goal.invariant-loop-row

@@ -1,8 +1,8 @@
 use Rattle.std.proofs.Common.{◌≡◌, ◌<◌, ℕ, List, length, set, subst, sym, ap, ◌∙◌}
 use Rattle.mir_func.specs.declared.block.Block.{Block}
+use Rattle.pass_trait.proofs.InPlaceMap.{map_turn}
 use Rattle.fold_undef.specs.declared.kill.Kill.{Kill}
 use Rattle.fold_undef.specs.steps.Gathered.{kills_at, with_kills_of}
-use Rattle.fold_undef.proofs.Turns.{map_turn}
 use Rattle.fold_undef.proofs.put.put_all.Goals as goal
 
 pub loop-b-preserved : goal.loop-b-preserved

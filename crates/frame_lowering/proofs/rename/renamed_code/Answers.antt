@@ -3,7 +3,7 @@ use Rattle.std.specs.Prelude.{IsTrue}
 use Rattle.rv64_instr.specs.declared.operand.Operand.{Operand}
 use Rattle.rv64_instr.specs.Form.{has_form}
 use Rattle.frame_rule.specs.Rule.{renamed_operand}
-use Rattle.frame_lowering.proofs.Forms.{form_same}
+use Rattle.frame_rule.proofs.Forms.{form_same}
 use Rattle.frame_lowering.proofs.rename.renamed_code.Goals as goal
 
 pub invariant_of-result : goal.invariant_of-result

@@ -2,9 +2,10 @@ use Rattle.std.proofs.Common.{◌≡◌, ◌<◌, ◌≤◌, List, All, length, 
 use Rattle.mir_func.specs.declared.block.Block.{Block}
 use Rattle.mir_func.specs.declared.item.Item.{Item}
 use Rattle.mir_func.specs.Sound.{HasForm}
+use Rattle.pass_trait.proofs.InPlaceMap.{map_turn}
 use Rattle.remat_pass.specs.Remat.{set_block}
 use Rattle.remat_pass.specs.Partly.{AreItemsSet, AreBlocksSet}
-use Rattle.remat_pass.proofs.InPlaceMap.{map_turn, map_at}
+use Rattle.remat_pass.proofs.InPlaceMap.{map_at}
 use Rattle.remat_pass.proofs.Partly.{each_more, blocks_done, block_in_part, blocks_back}
 use Rattle.remat_pass.proofs.remat.set_blocks.Goals as goal
 

@@ -1,7 +1,7 @@
 use Rattle.std.proofs.Common.{List, sym, ap, ◌∙◌}
 use Rattle.dwarf_loclists.specs.declared.range.Range.{Range}
 use Rattle.dwarf_loclists.specs.Ranges.{location_in}
-use Rattle.sim_trace.proofs.Places.{located}
+use Rattle.sim_machine.proofs.Listed.{located}
 use Rattle.selftest_count.proofs.read.values.Goals as goal
 
 pub places-requires : goal.places-requires

@@ -3,7 +3,7 @@ use Rattle.std.specs.Prelude.{Some, cond, nat_eq, slice_get, slice_index}
 use Rattle.std.proofs.lemmas.List.{length-take-le, get_or-take}
 use Rattle.std.proofs.lemmas.Option.{slice_get-get_or}
 use Rattle.std.specs.Map.{lookup}
-use Rattle.value_tracker.specs.Things.{is_key}
+use Rattle.mir_substitution.specs.Index.{is_key}
 use Rattle.value_tracker.proofs.Starting.{start_holds}
 use Rattle.value_tracker.proofs.start.start.Goals as goal
 

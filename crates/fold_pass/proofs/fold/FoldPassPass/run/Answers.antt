@@ -4,7 +4,7 @@ use Rattle.mir_func.specs.Sound.{AllItems, HasForm}
 use Rattle.pass_trait.specs.Change.{change}
 use Rattle.pass_trait.specs.Sizes.{KeepsSizes}
 use Rattle.pass_trait.specs.Steps.{KeepsSteps}
-use Rattle.fold_pass.proofs.Results.{both_ok}
+use Rattle.pass_trait.proofs.Results.{both_ok}
 use Rattle.fold_proof.specs.Debug.{fold_step}
 use Rattle.fold_pass.specs.Folded.{AreFoldedWithLosses}
 use Rattle.fold_pass.proofs.Folding.{with_all_kills}

@@ -1,6 +1,6 @@
 use Rattle.std.proofs.Common.{sym, ap, subst, ◌∙◌, arith}
+use Rattle.sem_interpreter.specs.Acts.{reply_of}
 use Rattle.sim_machine.specs.declared.ending.Stepped.TheVariants.{Went}
-use Rattle.sim_machine.specs.Calls.{reply_of}
 use Rattle.sim_machine.specs.Machines.{Running}
 use Rattle.sim_machine.specs.Running.{StepsOn, CallsOn}
 use Rattle.sim_machine.specs.Shown.{entry_at}

@@ -1,7 +1,7 @@
 use Rattle.std.proofs.Common.{ℕ, refl, ap, ◌∙◌}
 use Rattle.std.specs.Prelude.{Some, cond}
 use Rattle.std.specs.HashMap.{get}
-use Rattle.value_tracker.specs.Things.{is_key}
+use Rattle.mir_substitution.specs.Index.{is_key}
 use Rattle.value_solver.specs.declared.tracked.Tracked.{Tracked}
 use Rattle.value_tracker.proofs.Indexing.{index_number, index_pair, index_other}
 use Rattle.value_tracker.proofs.index.TrackedIndex.add.Goals as goal

@@ -1,8 +1,8 @@
 use Rattle.std.proofs.Common.{ap, ◌∙◌}
 use Rattle.std.specs.Prelude.{Some, cond}
 use Rattle.std.specs.HashMap.{get}
+use Rattle.mir_substitution.specs.Index.{is_key}
 use Rattle.sem_mir.specs.Step.{defined}
-use Rattle.value_tracker.specs.Things.{is_key}
 use Rattle.value_tracker.specs.LocationTracker.{operand_class}
 use Rattle.value_tracker.proofs.Giving.{given_more, given_all}
 use Rattle.value_tracker.proofs.location_tracker.LocationTracker.give.Goals as goal
