@@ -1,5 +1,7 @@
 -- Sweeps until nothing changes.
 use Rattle.std.proofs.Common.{◌≡◌, ℕ, ◌+◌, ◌-◌, ◌*◌, ◌<◌, ◌≤◌, List, [], length, Bool, true, false, Some, sym, ap, ◌∙◌, subst, inr, arith}
+use Rattle.std.specs.List.Sorted.{IsPermutation}
+use Rattle.std.proofs.lemmas.List.Sorted.{All-permutation, Contains-permutation}
 use Rattle.std.specs.Prelude.{slice_get, slice_index_or}
 use Rattle.std.proofs.lemmas.Bool.{false≢true}
 use Rattle.std.proofs.lemmas.Option.{slice_get_within}
@@ -10,7 +12,7 @@ use Rattle.value_solver.specs.Entry.{IsEntry}
 use Rattle.value_solver.specs.declared.flow.Flow.{Flow}
 use Rattle.value_solver.specs.Hands.{AreSoundFlows, ArePredecessors, IsShaped, handed, preds_at}
 use Rattle.value_solver.specs.Flows.{AreFlows, IsStart}
-use Rattle.value_solver.specs.Invariants.{IsTable, SweepStep, Fixpoint, AreProven, Facts, IsSettled, weight_of}
+use Rattle.value_solver.specs.Invariants.{IsTable, IsOrder, SweepStep, Fixpoint, AreProven, Facts, IsSettled, weight_of}
 use Rattle.value_solver.proofs.Weights.{light, light_table}
 use Rattle.value_solver.proofs.Proven.{exact}
 
@@ -44,6 +46,13 @@ settling_ends n start flows preds old now new dirty after sweeps changed e s w =
   proven = λ g xs is facts p. w.proven g xs is facts (s.proven g xs is facts p);
   clean = w.clean e;
   few = omega (arith, s.few, w.kept);
+}
+
+-- an order in another order
+pub order_permuted : (flows : List Flow) (old new : List ℕ) → IsPermutation old new → IsOrder flows old → IsOrder flows new
+order_permuted flows old new p o = record {
+  within = All-permutation (λ (b : ℕ). b < length flows) old new p o.within;
+  all = λ b less. Contains-permutation old new b p (o.all b less);
 }
 
 -- a table weighs so much at most

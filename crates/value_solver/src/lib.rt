@@ -8,8 +8,8 @@
 //! - `flow`, `hand`, `join`, `meet`, `order`, `solve`, `turn`, `visit`: The dataflow solver. A block's transfer
 //!   function maps each tracked entity to the token at the block's end: one that some entity had at its start, a new
 //!   one, or none. A block's entry is the join of what its predecessors propagate: two entities have the same class
-//!   there if and only if they have in each of them. Sweeps visit the blocks in reverse post-order until no entry
-//!   changes.
+//!   there if and only if they have in each of them. Sweeps visit the blocks whose predecessors changed, in reverse
+//!   post-order and after three sweeps in post-order too, in turn, until no entry changes.
 #![tactic(auto)]
 
 pub mod entry;

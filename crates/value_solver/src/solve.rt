@@ -5,6 +5,7 @@ ghost use Rattle.std.specs.Prelude.{List, Some, true, false, []};
 ghost use Rattle.mir_func.specs.Graph.{Program};
 ghost use Rattle.value_solver.specs.declared.tracked.Tracked.{Tracked};
 ghost use Rattle.value_solver.specs.declared.entry.BlockEntry.{BlockEntry};
+ghost use Rattle.value_solver.specs.declared.flow.Flow.{Flow};
 ghost use Rattle.value_solver.specs.Entry.{IsEntry};
 ghost use Rattle.value_solver.specs.Joining.{IsKnown};
 ghost use Rattle.value_solver.specs.Hands.{AreSoundFlows};
@@ -27,27 +28,43 @@ pub struct Solved {
     pub sweeps: u64,
 }
 
+/// The number of sweeps in reverse post-order before every other one goes the opposite way. Most functions need no
+/// more.
+const SWEEPS_FORWARD: u64 = 3;
+
+/// The order of the sweep with this number, from that of the sweep before. In reverse post-order a value that comes
+/// along edges to earlier blocks gets one block further in a sweep; in post-order one sweep takes it along all of them.
+fn turn_round(order: &mut Vec<u32>, sweep: u64)
+    ensures { (flows : List Flow) → IsOrder flows order.old.items → IsOrder flows order.new.items }
+{
+    if sweep <= SWEEPS_FORWARD {
+        return;
+    }
+    order.reverse();
+}
+
 /// Sweeps until nothing changes. The result is the number of sweeps.
 fn settle(
     alloc: Global,
     start: &BlockEntry,
     flows: &[Flow],
     preds: &[Ways],
-    order: &[u32],
+    order: &mut Vec<u32>,
     entries: &mut Vec<BlockEntry>,
     dirty: &mut Vec<bool>,
 ) -> Result<u64, AllocError>
     requires problem { IsProblem start.now flows.now preds.now }
     requires table { IsTable (length start.now.classes) start.now flows.now preds.now entries.old.items
         dirty.old.items }
-    requires order { IsOrder flows.now order.now }
+    requires order { IsOrder flows.now order.old.items }
     ensures { IfOk result (λ sweeps.
         Fixpoint (length start.now.classes) start.now flows.now preds.now entries.old.items entries.new.items
         dirty.new.items sweeps) }
 {
     let mut sweeps = 1u64;
-    while sweep(alloc, start, flows, preds, order, entries, dirty)? {
+    while sweep(alloc, start, flows, preds, order.as_slice(), entries, dirty)? {
         sweeps = sweeps.saturating_add(1);
+        turn_round(order, sweeps);
     }
     Ok(sweeps)
 }
@@ -97,7 +114,7 @@ pub fn solve(alloc: Global, start: &BlockEntry, flows: &[Flow]) -> Result<Solved
     ensures sweeps { IfOk result (λ s. s.sweeps ≤ 2 * length start.now.classes * length flows.now + 1) }
 {
     let preds = predecessors(alloc, flows)?;
-    let order = order(alloc, flows)?;
+    let mut order = order(alloc, flows)?;
     let mut entries = unreached(alloc, flows.len())?;
     let mut dirty = all_marked(alloc, flows.len())?;
     let sweeps = settle(
@@ -105,7 +122,7 @@ pub fn solve(alloc: Global, start: &BlockEntry, flows: &[Flow]) -> Result<Solved
         start,
         flows,
         preds.as_slice(),
-        order.as_slice(),
+        &mut order,
         &mut entries,
         &mut dirty,
     )?;

@@ -20,7 +20,7 @@ settle-requires-clause-problem c =
 
 pub settle-requires-clause-order : goal.settle-requires-clause-order
 settle-requires-clause-order c =
-    rw c.as_slice-2.ensures.value (record { within = c.in_ok-order.ensures.within; all = c.in_ok-order.ensures.all })
+    record { within = c.in_ok-order.ensures.within; all = c.in_ok-order.ensures.all }
 
 pub returns-clause-exact : goal.returns-clause-exact
 returns-clause-exact c =
