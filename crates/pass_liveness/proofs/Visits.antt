@@ -18,7 +18,7 @@ use Rattle.pass_liveness.specs.Index.{index_in}
 use Rattle.pass_liveness.specs.Sets.{has, has_bit, gap}
 use Rattle.pass_liveness.specs.Walk.{live_from}
 use Rattle.pass_liveness.specs.Liveness.{has_at_start, set_at}
-use Rattle.pass_liveness.specs.Solving.{AreFound, IsClosed, gap_of, Visited, SweepStep, Fixpoint}
+use Rattle.pass_liveness.specs.Solving.{AreFound, IsClosed, gap_of, Visited, Settling, SweepStep, Fixpoint}
 use Rattle.pass_liveness.proofs.Indices.{index_is}
 use Rattle.pass_liveness.proofs.Places.{has_united, has_nothing}
 use Rattle.pass_liveness.proofs.Paths.{LiveFrom, WalkedIn, next_of, walk_is_live, live_is_walked}
@@ -191,14 +191,22 @@ sweep_ends {slots} {ids} {blocks} {old} {new} {order} {k} {grown} s end = record
   any (x ∷ xs) zero d e l = refl
   any (x ∷ xs) (suc k) d e l = any xs k d e (omega arith)
 
--- ---- sweeps until nothing grows
-
-pub record Settling (slots ids : List ℕ) (blocks : List Block) (old new : List (List ℕ)) : Type 0 where
-  pub long : length new ≡ length old
-  pub found : AreApart (ids_of blocks) → ids ≡ ids_of blocks → AreFound slots ids blocks old → AreFound slots ids blocks new
+-- ---- visits in any order, and sweeps until nothing grows
 
 pub settling_begins : (slots ids : List ℕ) (blocks : List Block) (old : List (List ℕ)) → Settling slots ids blocks old old
 settling_begins slots ids blocks old = record { long = refl; found = λ a n f. f }
+
+pub settling_visited : {slots ids : List ℕ} {blocks : List Block} {old new : List (List ℕ)} {b : ℕ} {grown : Bool} →
+    Visited slots ids blocks old new b grown → Settling slots ids blocks old new
+settling_visited v = record { long = v.long; found = v.found }
+
+pub settling_then : {slots ids : List ℕ} {blocks : List Block} {old mid new : List (List ℕ)} →
+    Settling slots ids blocks old mid → Settling slots ids blocks mid new → Settling slots ids blocks old new
+settling_then s t = record { long = t.long ∙ s.long; found = λ a n f. t.found a n (s.found a n f) }
+
+pub settled_then : {slots ids : List ℕ} {blocks : List Block} {old mid new : List (List ℕ)} →
+    Settling slots ids blocks old mid → Fixpoint slots ids blocks mid new → Fixpoint slots ids blocks old new
+settled_then s w = record { long = w.long ∙ s.long; found = λ a n f. w.found a n (s.found a n f); closed = w.closed }
 
 pub settling_goes_on : {slots ids : List ℕ} {blocks : List Block} {old mid new : List (List ℕ)} {order : List ℕ} {grown : Bool} →
     Settling slots ids blocks old mid → SweepStep slots ids blocks mid new order grown → Settling slots ids blocks old new

@@ -38,6 +38,11 @@ pub record Visited (slots ids : List ℕ) (blocks : List Block) (old new : List 
   pub same : grown ≡ false → new ≡ old
   pub closed : grown ≡ false → IsClosed slots ids blocks new b
 
+-- the result of any visits
+pub record Settling (slots ids : List ℕ) (blocks : List Block) (old new : List (List ℕ)) : Type 0 where
+  pub long : length new ≡ length old
+  pub found : AreApart (ids_of blocks) → ids ≡ ids_of blocks → AreFound slots ids blocks old → AreFound slots ids blocks new
+
 -- the result of visiting some blocks, in order; `grown` is whether any set grew
 pub record SweepStep (slots ids : List ℕ) (blocks : List Block) (old new : List (List ℕ)) (order : List ℕ) (grown : Bool) : Type 0 where
   pub long : length new ≡ length old

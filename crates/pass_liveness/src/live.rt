@@ -45,8 +45,12 @@ impl Live {
     {
         let names = names_of(alloc, f)?;
         let order = names.order(alloc, f)?;
+        let predecessors = names.predecessors(alloc, f)?;
         let mut starts = empty_sets(alloc, f.blocks.len())?;
-        names.settle(f.blocks.as_slice(), &mut starts, order.as_slice());
+        let blocks = f.blocks.as_slice();
+        let visits = order.as_slice();
+        names.propagate(alloc, blocks, &mut starts, visits, predecessors.as_slice())?;
+        names.settle(blocks, &mut starts, visits);
         Ok(Live { names, starts })
     }
 

@@ -1,6 +1,6 @@
 //! The fixpoint solver for the live-in sets.
 
-ghost use Rattle.std.specs.Prelude.{◌≡◌, ℕ, ◌+◌, ◌<◌, ◌≤◌, length, drop, All, Contains, slice_get, Some};
+ghost use Rattle.std.specs.Prelude.{◌≡◌, ℕ, ◌+◌, ◌<◌, ◌≤◌, length, drop, All, Contains, slice_get, Some, OnOk};
 ghost use Rattle.rv64_instr.specs.declared.place.Place.{Place};
 ghost use Rattle.mir_func.specs.declared.item.Item.{Item};
 ghost use Rattle.mir_func.specs.Exits.{exit_of};
@@ -8,14 +8,16 @@ ghost use Rattle.mir_func.specs.Sound.{AllItems, SlotsIn, ids_of};
 ghost use Rattle.pass_liveness.specs.Sets.{has};
 ghost use Rattle.pass_liveness.specs.Walk.{live_across, live_from};
 ghost use Rattle.pass_liveness.specs.Liveness.{has_at_start, items_at};
-ghost use Rattle.pass_liveness.specs.Solving.{IsKnownBlock, Visited, SweepStep, Fixpoint};
+ghost use Rattle.pass_liveness.specs.Solving.{IsKnownBlock, Visited, Settling, SweepStep, Fixpoint};
 
 use crate::names::SlotAndBlockNumbers;
 use crate::set::PlaceSet;
+use crate::worklist::Worklist;
 use base_ids::code::BlockId;
 use mir_func::block::Block;
 use mir_func::item::Item;
 use mir_func::successors::id_at;
+use std::alloc::{AllocError, Global};
 
 impl SlotAndBlockNumbers {
     /// Adds to a block's set what is live at its start according to the sets of its successors, and returns whether it
@@ -29,6 +31,53 @@ impl SlotAndBlockNumbers {
         let live = self.live_from(starts.as_slice(), blocks[block].items.as_slice(), next);
         let start = &mut starts[block];
         start.unite(&live)
+    }
+
+    /// Visits a block of the worklist. If its set grew, its predecessors wait.
+    fn turn(
+        &self,
+        blocks: &[Block],
+        starts: &mut Vec<PlaceSet>,
+        predecessors: &[Vec<u32>],
+        worklist: &mut Worklist,
+        block: usize,
+    ) -> Result<(), AllocError>
+        requires slots { AllItems (λ i. SlotsIn self.now.slots i.kind) blocks.now }
+        requires long { length starts.old.items ≡ length blocks.now }
+        ensures { OnOk result
+            (Settling self.now.slots self.now.blocks blocks.now starts.old.items starts.new.items) }
+    {
+        if block >= blocks.len() {
+            return Ok(());
+        }
+        if self.visit(blocks, starts, block) {
+            worklist.add_all(predecessors, block)?;
+        }
+        Ok(())
+    }
+
+    /// Visits all blocks in this order, and again each block of which a successor's set grew.
+    pub fn propagate(
+        &self,
+        alloc: Global,
+        blocks: &[Block],
+        starts: &mut Vec<PlaceSet>,
+        order: &[u32],
+        predecessors: &[Vec<u32>],
+    ) -> Result<(), AllocError>
+        requires slots { AllItems (λ i. SlotsIn self.now.slots i.kind) blocks.now }
+        requires long { length starts.old.items ≡ length blocks.now }
+        ensures { OnOk result
+            (Settling self.now.slots self.now.blocks blocks.now starts.old.items starts.new.items) }
+    {
+        let mut worklist = Worklist::new(alloc, order)?;
+        for _ in 0..u64::MAX {
+            let Some(block) = worklist.take() else {
+                break;
+            };
+            self.turn(blocks, starts, predecessors, &mut worklist, block)?;
+        }
+        Ok(())
     }
 
     /// Visits all blocks in this order, and returns whether any set grew.

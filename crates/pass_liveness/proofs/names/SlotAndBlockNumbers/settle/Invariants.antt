@@ -1,5 +1,4 @@
-use Rattle.pass_liveness.specs.Solving.{gap_of}
-use Rattle.pass_liveness.proofs.Visits.{Settling}
+use Rattle.pass_liveness.specs.Solving.{gap_of, Settling}
 use Rattle.pass_liveness.proofs.names.SlotAndBlockNumbers.settle.Given as goal
 
 abbrev pub invariant-loop : goal.invariant-loop
