@@ -1,5 +1,5 @@
 -- Chains that end, by the number of their entries.
-use Rattle.std.proofs.Common.{◌≡◌, ℕ, ◌≤◌, ◌<◌, ◌+◌, ◌-◌, List, [], ◌∷◌, length, Option, Some, None, Bool, true, false, cond, refl, sym, ap, subst, arith, ◌∙◌}
+use Rattle.std.proofs.Common.{◌≡◌, ℕ, ◌≤◌, List, [], ◌∷◌, length, Option, Some, None, Bool, true, false, cond, refl, sym, ap, subst, arith, ◌∙◌}
 use Rattle.std.proofs.Common.{zero, suc, inl, inr}
 use Rattle.std.specs.Prelude.{nat_eq}
 use Rattle.std.proofs.lemmas.Bool.{cases_Bool, eqb-true, eq-eqb}
@@ -151,11 +151,3 @@ pub ends_resolve : (subs : List DebugSubstitution) (q r : OperandPair) → Ends 
 ends_resolve subs q r h =
     let a = EndsIn-from subs q r h in
     chain_end-found subs a.0 (length subs) q r (EndsIn-short a.0 subs q r a.1) a.1
-
--- one turn of the loop that follows a chain
-pub chain_end-turn : (subs : List DebugSubstitution) (q : OperandPair) (e : DebugSubstitution) (i n : ℕ) (t : Option OperandPair) → i < n →
-    entry_of subs q ≡ Some e → e.subreg ≡ 0 →
-    chain_end subs (n - i) q ≡ t → chain_end subs (n - (i + 1)) e.dst ≡ t
-chain_end-turn subs q e i n t lt h z k =
-    let one : n - i ≡ suc (n - (i + 1)) = omega arith in
-    sym (chain_end-goes subs (n - (i + 1)) q e h z) ∙ ap (λ (m : ℕ). chain_end subs m q) (sym one) ∙ k

@@ -1,6 +1,6 @@
 -- Entries by their sources.
 use Rattle.std.proofs.Common.{◌≡◌, List, [], ◌∷◌, ◌++◌, Option, Some, None, Bool, true, false, cond, refl, sym, ap, ◌∙◌, inl, inr}
-use Rattle.std.specs.Prelude.{nat_eq, is_some}
+use Rattle.std.specs.Prelude.{nat_eq}
 use Rattle.std.proofs.lemmas.Bool.{cases_Bool, and_parts, and_from, eqb-true, eq-eqb}
 use Rattle.mir_func.specs.declared.debug_substitution.OperandPair.{OperandPair}
 use Rattle.mir_func.specs.declared.debug_substitution.DebugSubstitution.{DebugSubstitution}
@@ -44,17 +44,3 @@ entry_of-push (x ∷ xs) e q h =
                 (entry_of-later x xs q g))
           ]
     ]
-
--- an index with one more entry
-pub indexed-push : (xs ys : List DebugSubstitution) (e : DebugSubstitution) (m n : OperandPair → Option DebugSubstitution) →
-    ((q : OperandPair) → m q ≡ entry_of xs q) →
-    is_some (m e.src) ≡ false → ((q : OperandPair) → n q ≡ cond (is_pair e.src q) (Some e) (m q)) → ys ≡ xs ++ e ∷ [] → (q : OperandPair) → n q ≡ entry_of ys q
-indexed-push xs ys e m n known absent put more q =
-    let new : entry_of xs e.src ≡ None = is_some-false (entry_of xs e.src) (ap is_some (sym (known e.src)) ∙ absent) in
-    put q ∙ ap (λ (o : Option DebugSubstitution). cond (is_pair e.src q) (Some e) o) (known q) ∙ sym (entry_of-push xs e q new) ∙ ap (λ
-    (zs : List DebugSubstitution). entry_of zs q)
-    (sym more)
-  where
-    is_some-false : (o : Option DebugSubstitution) → is_some o ≡ false → o ≡ None
-    is_some-false None h = refl
-    is_some-false (Some x) h = (let no : true ≡ false = h in cc)

@@ -1,3 +1,4 @@
 pub mod Added
 pub mod Index
+pub mod Forest
 pub mod Chain

@@ -1,9 +1,10 @@
 //! Substitutions of debug instruction numbers (LLVM: `debugValueSubstitutions`): when a pass merges or replaces
 //! an instruction whose value a mark refers to by number, it adds an entry for where the value is instead.
 //! Entries form chains, and a pair's value is that of the end of its chain. A chain that is cyclic, or that has
-//! an entry for a part of a register, has no end. Look-ups use an index from source to entry, so that a chain
-//! is followed in time proportional to its length.
+//! an entry for a part of a register, has no end. The ends of all chains stand in a disjoint-set forest, so that a
+//! pair's end is found in a number of look-ups that grows with the logarithm of the number of entries at most.
 #![tactic(auto)]
 
 pub mod chain;
+mod forest;
 pub mod substitutions;

@@ -1,10 +1,10 @@
-//! Substitutions, with an index from source to entry.
+//! Substitutions, with the ends of their chains.
 
 ghost use Rattle.std.specs.Prelude.{◌≡◌, [], IfOk, OnOk, OnErr};
-ghost use Rattle.mir_func.specs.Resolve.{entry_of, resolve};
+ghost use Rattle.mir_func.specs.Resolve.{resolve};
 ghost use Rattle.mir_substitution.specs.Added.{added};
-ghost use Rattle.mir_substitution.specs.Index.{key_of};
 
+use crate::forest::{Forest, ends_at, find, grow};
 use mir_func::debug_substitution::{DebugSubstitution, OperandPair};
 use std::alloc::{AllocError, Global};
 use std::collections::HashMap;
@@ -15,8 +15,8 @@ use std::marker::Model;
 #[derive(Drop)]
 pub struct Substitutions {
     entries: Vec<DebugSubstitution>,
-    /// The entry of each source.
-    index: HashMap<(u32, u32), DebugSubstitution>,
+    /// The ends of all chains.
+    forest: Forest,
 }
 
 impl Model for Substitutions {
@@ -25,11 +25,11 @@ impl Model for Substitutions {
 
     ghost Value = { List DebugSubstitution };
 
-    ghost use Rattle.mir_substitution.specs.Index.{IsIndexed};
+    ghost use Rattle.mir_substitution.specs.Forest.{AreEnds, node_of};
 
     ghost view = { λ s. s.entries.items };
 
-    ghost invariant = { λ s. IsIndexed s.entries.items s.index };
+    ghost invariant = { λ s. AreEnds s.entries.items (node_of s.forest) };
 }
 
 impl Substitutions {
@@ -39,7 +39,7 @@ impl Substitutions {
     {
         Substitutions {
             entries: Vec::new(alloc),
-            index: HashMap::new(alloc),
+            forest: HashMap::new(alloc),
         }
     }
 
@@ -56,21 +56,15 @@ impl Substitutions {
         ensures ok { OnOk result (self.new ≡ added self.old e) }
         ensures err { OnErr result (self.new ≡ self.old) }
     {
-        let source = key(&e.src);
-        if self.index.contains_key(&source) {
+        let source = find(self.entries.as_slice(), &self.forest, e.src);
+        if !ends_at(&source, &e.src) {
             return Ok(());
         }
         self.entries.reserve(1)?;
-        self.index.insert(source, e)?;
+        self.forest.reserve(2)?;
+        grow(self.entries.as_slice(), &mut self.forest, &e, &source);
         self.entries.push(e)?;
         Ok(())
-    }
-
-    /// The entry of a pair.
-    fn entry(&self, pair: &OperandPair) -> Option<DebugSubstitution>
-        ensures { result ≡ entry_of self.now pair.now }
-    {
-        self.index.get(&key(pair)).copied()
     }
 
     /// The same entries in the same order.
@@ -79,7 +73,7 @@ impl Substitutions {
     {
         Ok(Substitutions {
             entries: Vec::from_slice(*self.entries.allocator(), self.entries.as_slice())?,
-            index: self.index.clone()?,
+            forest: self.forest.clone()?,
         })
     }
 
@@ -88,26 +82,6 @@ impl Substitutions {
     pub fn resolve(&self, pair: OperandPair) -> Option<OperandPair>
         ensures { result ≡ resolve self.now pair }
     {
-        let mut at = pair;
-        for _ in 0..self.entries.len() {
-            let Some(e) = self.entry(&at) else {
-                return Some(at);
-            };
-            if e.subreg != 0 {
-                return None;
-            }
-            at = e.dst;
-        }
-        match self.entry(&at) {
-            None => Some(at),
-            Some(_) => None,
-        }
+        find(self.entries.as_slice(), &self.forest, pair).end
     }
-}
-
-/// The key of a pair in the index.
-fn key(pair: &OperandPair) -> (u32, u32)
-    ensures { result ≡ key_of pair.now }
-{
-    (pair.number.number(), pair.operand.number())
 }
