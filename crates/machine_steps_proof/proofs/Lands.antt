@@ -14,7 +14,7 @@ use Rattle.mir_func.specs.Sound.{AreApart, ids_of, Closes, LastCloses}
 use Rattle.mir_func.specs.SoundFrame.{body_of, NumberedAlike, IsFramed}
 use Rattle.sem_mir.specs.Align.{is_code}
 use Rattle.sem_mir.proofs.Reading.{apart_tail}
-use Rattle.sem_machine.proofs.Laid.{drop_zero}
+use Rattle.sem_machine.proofs.Fetching.{drop_zero}
 use Rattle.machine_steps_proof.specs.Laid.{fetched}
 use Rattle.machine_steps_proof.proofs.Points.{dropped, drop_next, stands_at}
 

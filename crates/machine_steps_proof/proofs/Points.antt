@@ -16,7 +16,7 @@ use Rattle.mir_func.specs.Graph.{Here, EndOfBlock, below, block_start, end_of, f
 use Rattle.mir_func.specs.Sound.{AllItems, LeavesPointer}
 use Rattle.mir_func.specs.SoundFrame.{adds_to_pointer, AreCode, prologue_code, epilogue_code, GivesBack, HasFrame, IsFramed}
 use Rattle.sem_mir.proofs.Reading.{front_item}
-use Rattle.sem_machine.proofs.Laid.{drop_zero}
+use Rattle.sem_machine.proofs.Fetching.{drop_zero}
 use Rattle.machine_steps_proof.specs.Laid.{fetched}
 use Rattle.machine_steps_proof.specs.Pointer.{fetch_returns, is_as_at_entry, lowered_by}
 use Rattle.machine_steps_proof.proofs.Motions.{KindLeavesTwo, kind_leaves, IsNotFinal, Motion, Moves, block_moves, prologue_moves}

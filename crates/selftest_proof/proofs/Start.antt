@@ -1,5 +1,5 @@
 -- The start of a self-test is one of the headline's.
-use Rattle.std.proofs.Common.{◌≡◌, ℕ, zero, suc, ◌+◌, ◌-◌, ◌%◌, ◌^◌, ◌<◌, ◌≤◌, [], Option, Some, None, Bool, true, false, cond, ◌&&◌}
+use Rattle.std.proofs.Common.{◌≡◌, ℕ, zero, suc, ◌+◌, ◌-◌, ◌^◌, ◌<◌, ◌≤◌, [], Option, Some, None, Bool, true, false, cond, ◌&&◌}
 use Rattle.std.proofs.Common.{nat_le, nat_lt}
 use Rattle.std.proofs.Common.{refl, sym, ap, ◌∙◌, subst, arith}
 use Rattle.std.specs.List.{All}
@@ -82,7 +82,6 @@ starts_at source s b = record {
   regs = λ r l. (start_register [] r, b.regs r l, start_small r l);
   virtual = b.virtual;
   pointer = b.regs 2 two_low ∙ ap Some (sym b.entry);
-  aligned = ap (λ (n : ℕ). n % 16) b.entry;
   room = let e = b.entry in omega (arith, e);
   area = b.area;
   objects = b.objects;

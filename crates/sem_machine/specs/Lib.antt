@@ -3,6 +3,4 @@ pub mod Machine
 pub mod MachineStep
 pub mod Headline
 pub mod HeadlineLaws
-pub mod Straight
-pub mod StraightLaws
 pub mod Exact

@@ -1,5 +1,5 @@
 -- When a function follows a source, that is, refines it: its shape, and its runs from every start state.
-use Rattle.std.specs.Prelude.{◌≡◌, ◌⊎◌, ℕ, ◌+◌, ◌*◌, ◌%◌, ◌^◌, ◌<◌, ◌≤◌, List, [], ◌∷◌, length, All, Contains, Option, Some, None, true, false, slice_get}
+use Rattle.std.specs.Prelude.{◌≡◌, ◌⊎◌, ℕ, ◌+◌, ◌*◌, ◌^◌, ◌<◌, ◌≤◌, List, [], ◌∷◌, length, All, Contains, Option, Some, None, true, false, slice_get}
 use Rattle.rv64_instr.specs.Row.{Row, Branches, Jumps, Returns, row_of}
 use Rattle.rv64_instr.specs.View.{Literal, OfRegister, OfSlot, Write, SetsRegister, SetsSlot, write_of, Class, Branch, Return, class_of}
 use Rattle.rv64_instr.specs.Parts.{IsSlotStore}
@@ -150,14 +150,13 @@ pub record Shape (src f : List Block) (srcp fp : Program) : Type 0 where
   -- between code that is added before a position and what is kept there no variable gets a value
   pub marks : All (λ b. All (λ i. MarkFits i.kind i.origin) b.items) f
 
--- a start state of a function with these stack objects: x2 is a multiple of 16 with room for a frame below it, the other physical
+-- a start state of a function with these stack objects: x2 has room for a frame below it, the other physical
 -- registers and memory are arbitrary, and no virtual register, slot, pair or variable has a value
 pub record IsStart (stack : List Object) (first : ℕ) (s : State) : Type 0 where
   pub pos : s.pos ≡ block_start first
   pub regs : (r : ℕ) → r < 32 → (v : ℕ) × (content s.core.regs r ≡ Some v) × (v < 2 ^ 64)
   pub virtual : (r : ℕ) → 32 ≤ r → content s.core.regs r ≡ None
   pub pointer : content s.core.regs 2 ≡ Some s.core.entry
-  pub aligned : s.core.entry % 16 ≡ 0
   pub room : FRAME_ROOM ≤ s.core.entry
   pub area : s.core.area ≡ area_of stack
   pub objects : (n : ℕ) → s.core.objects n ≡ offset_of stack n

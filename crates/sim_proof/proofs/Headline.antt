@@ -29,7 +29,6 @@ module _ (gives : CallEvent → Reply → Type 0) (lists : VarId → (address : 
     regs = start.regs;
     virtual = start.virtual;
     pointer = start.pointer;
-    aligned = start.aligned;
     room = start.room;
     area = start.area;
     objects = start.objects;

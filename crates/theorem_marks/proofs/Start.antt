@@ -71,7 +71,6 @@ module _ (source : Function) (image : Image) (arguments values : List ℕ) (limi
     regs = λ r lt. (start_register arguments r, written r lt, register_small r lt);
     virtual = unwritten;
     pointer = refl;
-    aligned = refl;
     room = omega arith;
     area = refl;
     objects = λ n. refl;
