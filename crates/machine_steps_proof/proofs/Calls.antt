@@ -1,21 +1,21 @@
 -- A call beside the machine's, and what a number of code changes.
-use Rattle.std.proofs.Common.{◌≡◌, ℕ, ◌+◌, ◌%◌, ◌^◌, ◌<◌, List, [], ◌∷◌, map, All, Option, Some, None, Bool, true, false, cond, nat_eq, ◌||◌, refl, sym, ap}
-use Rattle.std.proofs.Common.{◌∙◌}
+use Rattle.std.proofs.Common.{◌≡◌, ℕ, ◌+◌, ◌%◌, ◌^◌, ◌<◌, ◌≤◌, List, [], ◌∷◌, map, All, Option, Some, None, Bool, true, false, cond, nat_eq, ◌||◌, refl, sym, ap}
+use Rattle.std.proofs.Common.{◌∙◌, ◌&&◌, nat_lt, arith}
 use Rattle.std.proofs.Common.{subst}
 use Rattle.std.proofs.lemmas.List.Elements.{All-head, All-tail}
 use Rattle.rv64_instr.specs.declared.operand.Operand.{Operand}
 use Rattle.rv64_instr.specs.Row.{Calls}
 use Rattle.rv64_instr.specs.DefsAndUses.{caller_saved}
 use Rattle.mir_func.specs.Function.{FramedFunction}
-use Rattle.mir_func.specs.SoundFrame.{IsFramed}
+use Rattle.mir_func.specs.SoundFrame.{IsFramed, IsSlotOffset}
 use Rattle.sem_mir.specs.State.{Core, Reply, Event, Called, updated, written, in_frame, writes_frame, IsReply, IsInRange}
 use Rattle.sem_mir.specs.Step.{Outcome, Falls, Goes, Gives, Traps, Asks, Breaks, does, read, numbered}
 use Rattle.sem_mir.specs.Step as source
 use Rattle.sem_machine.specs.Machine.{Machine, register, set_all_in}
-use Rattle.sem_machine.specs.MachineStep.{Stepped, Continues, Awaits, past, answered}
+use Rattle.sem_machine.specs.MachineStep.{Stepped, Continues, Awaits, past, answered, left_below, memory_after}
 use Rattle.machine_steps_proof.specs.Beside.{frame_low, Beside}
 use Rattle.machine_steps_proof.proofs.Memory.{spelled_alike}
-use Rattle.machine_steps_proof.proofs.Rows.{set_all_alike, set_all_written, slot_byte}
+use Rattle.machine_steps_proof.proofs.Rows.{set_all_alike, set_all_written, slot_room, slot_byte}
 
 -- what a call site's step is to what the call does
 abbrev pub FollowsCall : FramedFunction → Machine → Outcome → Stepped → Type 0
@@ -51,12 +51,55 @@ written_outside (w ∷ ws) x entry area b out is =
       not_equal : in_frame entry area b ≡ in_frame entry area w.0 → in_frame entry area w.0 ≡ false → ⊥
       not_equal e o = let bad : true ≡ false = sym is ∙ e ∙ o in cc
 
+-- what a callee leaves in its own frame is in the caller's frame, below the stack pointer
+left_elsewhere : (ws : List (ℕ × ℕ)) (x : ℕ → ℕ) (entry area pointer b : ℕ) → (in_frame entry area b && nat_lt b pointer) ≡ false →
+    left_below entry area pointer x ws b ≡ x b
+left_elsewhere [] x entry area pointer b out = refl
+left_elsewhere (w ∷ ws) x entry area pointer b out =
+    left_elsewhere ws (cond (in_frame entry area w.0 && nat_lt w.0 pointer) (updated w.0 w.1 x) x) entry area pointer b out
+    ∙ by_test (in_frame entry area w.0 && nat_lt w.0 pointer) refl where
+      by_test : (z : Bool) → (in_frame entry area w.0 && nat_lt w.0 pointer) ≡ z → cond z (updated w.0 w.1 x) x b ≡ x b
+      by_test false e = refl
+      by_test true e = Rattle.sem_mir.proofs.Places.updated_other w.0 b w.1 x
+          (λ same. let bad : true ≡ false = sym e ∙ sym (ap (λ n. in_frame entry area n && nat_lt n pointer) same) ∙ out in cc)
+
+left_bytes : (ws : List (ℕ × ℕ)) (x : ℕ → ℕ) (entry area pointer b : ℕ) → All (λ (w : ℕ × ℕ). (w.0 < 2 ^ 64) × (w.1 < 256)) ws → ((a : ℕ) → x a < 256) →
+    left_below entry area pointer x ws b < 256
+left_bytes [] x entry area pointer b h lt = lt b
+left_bytes (w ∷ ws) x entry area pointer b h lt =
+    left_bytes ws (cond (in_frame entry area w.0 && nat_lt w.0 pointer) (updated w.0 w.1 x) x) entry area pointer b
+    (All-tail (λ (w : ℕ × ℕ). (w.0 < 2 ^ 64) × (w.1 < 256)) w ws h)
+    (λ a. by_test (in_frame entry area w.0 && nat_lt w.0 pointer) a (nat_eq a w.0) (All-head (λ (w : ℕ × ℕ). (w.0 < 2 ^ 64) × (w.1 < 256)) w ws h).1) where
+      chosen : (z : Bool) (a : ℕ) → w.1 < 256 → cond z w.1 (x a) < 256
+      chosen true a small = small
+      chosen false a small = lt a
+
+      by_test : (z : Bool) (a : ℕ) (y : Bool) → w.1 < 256 → cond z (updated w.0 w.1 x) x a < 256
+      by_test true a y small = chosen (nat_eq a w.0) a small
+      by_test false a y small = lt a
+
+no_frame : (a b : Bool) → a ≡ false → (a && b) ≡ false
+no_frame false b e = refl
+no_frame true b e = cc
+
+not_below : (a b : ℕ) (z : Bool) → b ≤ a → (z && nat_lt a b) ≡ false
+not_below a b false le = refl
+not_below a b true le = grind arith
+
 module _ (f : FramedFunction) (framed : IsFramed f) (c : Core) (m : Machine) (h : Beside f c m) where
   pub contents : (rs : List ℕ) → map (register m) rs ≡ map (read c) rs
   contents [] = refl
   contents (r ∷ rs) = ap (λ (x : ℕ). x ∷ map (register m) rs) (h.regs r) ∙ ap (λ (xs : List ℕ). read c r ∷ xs) (contents rs)
 
-  beside_answered : (name args : List ℕ) (r : Reply) (rest : List Reply) → IsReply r → writes_frame c.entry c.area r.writes ≡ false →
+  same_frame : (b : ℕ) → in_frame m.entry m.area b ≡ in_frame c.entry c.area b
+  same_frame b = ap (λ (e : ℕ). in_frame e m.area b) h.same_entry ∙ ap (λ (a : ℕ). in_frame c.entry a b) h.same_area
+
+  -- a slot's bytes are at the stack pointer or above
+  slot_above : (o j : ℕ) → IsSlotOffset f o → j < 8 → read c 2 ≡ frame_low f c → register m 2 ≤ ((frame_low f c + o) + j) % 2 ^ 64
+  slot_above o j is lt pointer =
+      let k = slot_room f framed c m h o is in let t = h.top in let p = h.regs 2 ∙ pointer in omega (arith, k, t, p, lt)
+
+  beside_answered : (name args : List ℕ) (r : Reply) (rest : List Reply) → IsReply r → read c 2 ≡ frame_low f c → writes_frame c.entry c.area r.writes ≡ false →
       Beside f
       (record c {
         regs = Rattle.sem_mir.specs.State.put_all caller_saved r.regs c.regs;
@@ -66,12 +109,12 @@ module _ (f : FramedFunction) (framed : IsFramed f) (c : Core) (m : Machine) (h 
       })
       (past 8 (record m {
         regs = set_all_in caller_saved r.regs m.regs;
-        memory = written m.memory r.writes;
+        memory = memory_after r m;
         script = rest;
         events = Called name args ∷
             m.events;
       }))
-  beside_answered name args r rest is out = record {
+  beside_answered name args r rest is pointer out = record {
     room = h.room;
     top = h.top;
     area = h.area;
@@ -80,17 +123,22 @@ module _ (f : FramedFunction) (framed : IsFramed f) (c : Core) (m : Machine) (h 
     same_entry = h.same_entry;
     same_area = h.same_area;
     regs = set_all_alike caller_saved r.regs m.regs c.regs h.regs;
-    memory = λ b o. written_alike r.writes m.memory c.memory b (h.memory b o);
-    bytes = λ b. written_bytes r.writes m.memory b is.writes (h.bytes b);
-    slots = λ o x ix s. h.slots o x ix s ∙ spelled_alike m.memory (written m.memory r.writes) 8 (frame_low f c + o)
-        (λ j lt. sym (written_outside r.writes m.memory c.entry c.area (((frame_low f c + o) + j) % 2 ^ 64) out (slot_byte f framed c m h o j ix lt)));
+    memory = λ b o. left_elsewhere r.below (written m.memory r.writes) m.entry m.area (register m 2) b
+        (no_frame (in_frame m.entry m.area b) (nat_lt b (register m 2)) (same_frame b ∙ o))
+        ∙ written_alike r.writes m.memory c.memory b (h.memory b o);
+    bytes = λ b. left_bytes r.below (written m.memory r.writes) m.entry m.area (register m 2) b is.below (λ a. written_bytes r.writes m.memory a is.writes (h.bytes a));
+    slots = λ o x ix s. h.slots o x ix s ∙ spelled_alike m.memory (memory_after r m) 8 (frame_low f c + o)
+        (λ j lt. sym (left_elsewhere r.below (written m.memory r.writes) m.entry m.area (register m 2) (((frame_low f c + o) + j) % 2 ^ 64)
+        (not_below (((frame_low f c + o) + j) % 2 ^ 64) (register m 2) (in_frame m.entry m.area (((frame_low f c + o) + j) % 2 ^ 64)) (slot_above o j ix lt pointer))
+        ∙ written_outside r.writes m.memory c.entry c.area (((frame_low f c + o) + j) % 2 ^ 64) out (slot_byte f framed c m h o j ix lt)));
     script = refl;
     events = ap (λ (es : List Event). Called name args ∷ es) h.events;
   }
 
-  call_by : (name args : List ℕ) (rs : List Reply) → All IsReply rs → FollowsCall f m (source.answered name args c rs) (answered name args m rs)
-  call_by name args [] is = refl
-  call_by name args (r ∷ rs) is = by_fault (writes_frame c.entry c.area r.writes) refl where
+  call_by : (name args : List ℕ) (rs : List Reply) → All IsReply rs → read c 2 ≡ frame_low f c →
+      FollowsCall f m (source.answered name args c rs) (answered name args m rs)
+  call_by name args [] is pointer = refl
+  call_by name args (r ∷ rs) is pointer = by_fault (writes_frame c.entry c.area r.writes) refl where
     by_fault : (b : Bool) → writes_frame c.entry c.area r.writes ≡ b → FollowsCall f m
         (cond b Traps (Falls (record c {
           regs = Rattle.sem_mir.specs.State.put_all caller_saved r.regs c.regs;
@@ -100,27 +148,28 @@ module _ (f : FramedFunction) (framed : IsFramed f) (c : Core) (m : Machine) (h 
         })))
         (Continues (past 8 (record m {
           regs = set_all_in caller_saved r.regs m.regs;
-          memory = written m.memory r.writes;
+          memory = memory_after r m;
           script = rs;
           events = Called name
               args ∷ m.events;
         })))
     by_fault true e = tt
     by_fault false e = (
-      past 8 (record m { regs = set_all_in caller_saved r.regs m.regs; memory = written m.memory r.writes; script = rs; events = Called name args ∷ m.events }),
+      past 8 (record m { regs = set_all_in caller_saved r.regs m.regs; memory = memory_after r m; script = rs; events = Called name args ∷ m.events }),
       refl,
       refl,
-      beside_answered name args r rs (All-head IsReply r rs is) e,
+      beside_answered name args r rs (All-head IsReply r rs is) pointer e,
     )
 
   -- a call site does what its call does
-  pub calls : (name args : List ℕ) → IsInRange c → FollowsCall f m (does (Calls name args) c) (answered name (map (register m) args) m m.script)
+  pub calls : (name args : List ℕ) → IsInRange c → read c 2 ≡ frame_low f c →
+      FollowsCall f m (does (Calls name args) c) (answered name (map (register m) args) m m.script)
   unfolding does
-  calls name args range =
+  calls name args range pointer =
       subst (λ (rs : List Reply). FollowsCall f m (source.answered name (map (read c) args) c c.script) (answered name (map (register m) args) m rs)) (sym
       h.script)
       (subst (λ (vs : List ℕ). FollowsCall f m (source.answered name (map (read c) args) c c.script) (answered name vs m c.script)) (sym (contents args))
-      (call_by name (map (read c) args) c.script range.script))
+      (call_by name (map (read c) args) c.script range.script pointer))
 
   pub beside_numbered : (sp call : Bool) (k : Option ℕ) (operands : List Operand) → Beside f (numbered sp call k operands c) m
   beside_numbered sp call None operands = h

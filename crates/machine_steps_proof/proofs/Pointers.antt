@@ -93,6 +93,7 @@ final_needs (Loads rd op (ObjectAt n) o) e h = cc
 final_needs (Stores op rs (ObjectAt n) o) e h = cc
 final_needs (LoadsSlot rd n) e h = cc
 final_needs (StoresSlot rs n) e h = cc
+final_needs (Calls name args) e h = cc
 final_needs _ e h = absurd h
 
 pub adds_needs : (n : ℕ) → NeedsFrame (add_row 2 2 n) → ⊥

@@ -90,6 +90,7 @@ NeedsFrame (Loads rd op (ObjectAt n) offset) = Unit {0}
 NeedsFrame (Stores op rs (ObjectAt n) offset) = Unit {0}
 NeedsFrame (LoadsSlot rd n) = Unit {0}
 NeedsFrame (StoresSlot rs n) = Unit {0}
+NeedsFrame (Calls name args) = Unit {0}
 NeedsFrame _ = ⊥
 
 module _ (f : FramedFunction) (framed : IsFramed f) (c : Core) (m : Machine) (h : Beside f c m) where
@@ -142,7 +143,7 @@ module _ (f : FramedFunction) (framed : IsFramed f) (c : Core) (m : Machine) (h 
   own_aligned = let a = framed.aligned in let b = framed.room in omega (arith, a, b)
 
   -- a slot's bytes lie in the frame, below the stack objects
-  slot_room : (o : ℕ) → IsSlotOffset f o → (frame_low f c + o) + 8 ≤ c.entry - area_of f.objects
+  pub slot_room : (o : ℕ) → IsSlotOffset f o → (frame_low f c + o) + 8 ≤ c.entry - area_of f.objects
   slot_room o is =
       let a = own_aligned in
       let x = is.0 in

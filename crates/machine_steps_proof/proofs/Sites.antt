@@ -231,7 +231,7 @@ module _ (f : FramedFunction) (framed : IsFramed f) (resolve : OperandPair →
   at_call name args e w = single w.line (line_is w.line w.stands) w.origin
       (by_call (does r t.core) refl (machine.answered name (map (register m) args) m m.script) (w.step m level.counter)
       (subst (λ (x : Row). FollowsCall f m (does x t.core) (machine.answered name (map (register m) args) m m.script)) (sym e)
-      (calls f framed t.core m h name args level.range))) where
+      (calls f framed t.core m h name args level.range (needs (subst NeedsFrame (sym e) tt))))) where
         by_call : (x : Outcome) → does r t.core ≡ x → (st : Stepped) → machine_step image m ≡ st → FollowsCall f m x st → OneStep f resolve image laid t m
         by_call (Falls d) g st s (n, q, counter, b) =
             goes (below_state d) n (steps_as (Falls d) g) (s ∙ q)

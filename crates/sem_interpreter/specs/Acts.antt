@@ -39,7 +39,7 @@ pub record StartsMachine (stack : List Object) (start : Start) (m : InterpreterS
 
 -- the reply of the definitions for an answer
 abbrev pub reply_of : CallResult → Reply
-reply_of a = record { regs = a.regs; writes = some_writes a.writes }
+reply_of a = record { regs = a.regs; writes = some_writes a.writes; below = [] }
 
 -- the script's next reply is that of this answer, or there is none
 abbrev pub IsNext : Option CallResult → List Reply → Type 0

@@ -1,5 +1,5 @@
 -- The step function of the machine, by the words of the image and the table of rows.
-use Rattle.std.specs.Prelude.{◌≡◌, ℕ, ◌+◌, ◌*◌, ◌/◌, ◌%◌, ◌^◌, List, [], ◌∷◌, length, map, Option, Some, None, cond, nat_eq}
+use Rattle.std.specs.Prelude.{◌≡◌, ℕ, ◌+◌, ◌*◌, ◌/◌, ◌%◌, ◌^◌, List, [], ◌∷◌, length, map, Option, Some, None, cond, nat_eq, nat_lt, ◌&&◌}
 use Rattle.rv64_instr.specs.Arithmetic.{computed, taken, load_width, store_width, extended}
 use Rattle.rv64_instr.specs.declared.decoded.Base.TheVariants.{PointedBy, ObjectAt}
 use Rattle.rv64_instr.specs.Row.{Row, Fixes, Moves, Sets, Addresses, Loads, Stores, LoadsSlot, StoresSlot, Branches, Jumps, Calls, Returns, Unfit}
@@ -7,7 +7,7 @@ use Rattle.rv64_instr.specs.Row.{row_of, implicit_uses}
 use Rattle.rv64_instr.specs.DefsAndUses.{caller_saved}
 use Rattle.rv64_word.specs.declared.machine_op.MachineOp.{MachineOp}
 use Rattle.rv64_word.specs.MachineRow.{MachineRow, Does, Links, LinksTo, machine_row}
-use Rattle.sem_mir.specs.State.{Called, Wrote, Event, Reply, spelled, low_bytes, stored, written, touches_frame}
+use Rattle.sem_mir.specs.State.{Called, Wrote, Event, Reply, spelled, low_bytes, stored, written, updated, in_frame, touches_frame}
 use Rattle.sem_machine.specs.Image.{CodeLine, Image, line_at, word_at}
 use Rattle.rv64_word.specs.Decoded.{decoded}
 use Rattle.sem_machine.specs.Machine.{Machine, register, input, set_in, set_all_in, address_of}
@@ -86,13 +86,24 @@ abbrev pub does_word : CodeLine → Option ℕ → Machine → Stepped
 does_word l None s = BadWord
 does_word l (Some w) s = cond (nat_eq w return_word) (Ends (map (register s) (implicit_uses l.instruction.operands))) (does_operation (decoded w) s)
 
--- the step of a call: it adds its event, the next reply sets the caller-saved registers and writes its bytes, and the counter
--- advances past the call's two words
+-- memory with the bytes that a callee leaves in its own frame. Of these writes those count that are to bytes of the frame below the
+-- caller's stack pointer (RISC-V ELF psABI, "Integer Calling Convention"); the others write nothing
+abbrev pub left_below : (entry area pointer : ℕ) → (ℕ → ℕ) → List (ℕ × ℕ) → ℕ → ℕ
+left_below entry area pointer m [] = m
+left_below entry area pointer m (w ∷ ws) =
+    left_below entry area pointer (cond (in_frame entry area w.0 && nat_lt w.0 pointer) (updated w.0 w.1 m) m) ws
+
+-- the memory after a reply
+abbrev pub memory_after : Reply → Machine → ℕ → ℕ
+memory_after r s = left_below s.entry s.area (register s 2) (written s.memory r.writes) r.below
+
+-- the step of a call: it adds its event, the next reply sets the caller-saved registers, writes its bytes and leaves its frame's, and
+-- the counter advances past the call's two words
 abbrev pub answered : (name args : List ℕ) → Machine → List Reply → Stepped
 answered name args s [] = Awaits
 answered name args s (r ∷ rest) =
     let regs = set_all_in caller_saved r.regs s.regs in
-    Continues (past 8 (record s { regs = regs; memory = written s.memory r.writes; script = rest; events = Called name args ∷ s.events }))
+    Continues (past 8 (record s { regs = regs; memory = memory_after r s; script = rest; events = Called name args ∷ s.events }))
 
 -- the name and the argument registers of a call
 abbrev pub call_of : Row → Option (List ℕ × List ℕ)

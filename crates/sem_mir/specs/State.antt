@@ -13,11 +13,12 @@ pub data Event : Type 0 where
   -- a store of bytes to memory, from the address on
   Wrote : (address : ℕ) (bytes : List ℕ) → Event
 
--- the effect of a call, given in advance: the contents of the caller-saved registers, ascending, and the bytes that the
--- callee writes, in order
+-- the effect of a call, given in advance: the contents of the caller-saved registers, ascending, the bytes that the callee
+-- writes, in order, and the bytes that it leaves in its own frame, below its caller's stack pointer, which the machine alone has
 pub record Reply : Type 0 where
   pub regs : List ℕ
   pub writes : List (ℕ × ℕ)
+  pub below : List (ℕ × ℕ)
 
 -- the state of a run without its position
 pub record Core : Type 0 where
@@ -110,6 +111,7 @@ pub record IsReply (r : Reply) : Type 0 where
   pub count : length r.regs ≡ 16
   pub regs : All (λ v. v < 2 ^ 64) r.regs
   pub writes : All (λ w. (w.0 < 2 ^ 64) × (w.1 < 256)) r.writes
+  pub below : All (λ w. (w.0 < 2 ^ 64) × (w.1 < 256)) r.below
 
 -- registers, slots and values have 64 bits, and memory has bytes
 pub record IsInRange (s : Core) : Type 0 where

@@ -138,7 +138,7 @@ answer_step image s name args r rest now e script stands = record {
 
 -- an answer where none is asked for
 abbrev no_reply : Reply
-no_reply = record { regs = []; writes = [] }
+no_reply = record { regs = []; writes = []; below = [] }
 
 -- nothing begins at the counter
 pub steps_left : (c : LaidCode) (h : Hart) → entry_at c.entries h.counter ≡ None → StepsOn c (Stopped Left) h h

@@ -44,7 +44,7 @@ call_register value r = cond (nat_eq r 10) value (2000 + r)
 
 -- the answer to the n-th call: it sets the caller-saved registers, and writes no memory
 abbrev pub reply_to : (values : List ℕ) → (n : ℕ) → Reply
-reply_to values n = record { regs = map (call_register (call_value values n)) caller_saved; writes = [] }
+reply_to values n = record { regs = map (call_register (call_value values n)) caller_saved; writes = []; below = [] }
 
 -- the answers to `count` calls, from the n-th on
 abbrev pub replies : (values : List ℕ) → (n count : ℕ) → List Reply

@@ -41,6 +41,7 @@ module _ (values : List ℕ) (small : All (λ v. v < 2 ^ 64) values) where
     regs = All-map (λ v. v < 2 ^ 64) (call_register (call_value values n)) caller_saved
         (λ k d inside. register_small (call_value values n) _ (value_small n lt) (saved_low k d inside));
     writes = All-nil _;
+    below = All-nil _;
   }
 
   pub all_replies : (n count : ℕ) → n + count ≤ 2 ^ 64 → All IsReply (replies values n count)
