@@ -100,6 +100,7 @@ defined_one e false (Object n) = refl
 defined_one e false (Block n) = refl
 defined_one e false (Symbol n) = refl
 defined_one e false Mask = refl
+defined_one e true (Def r) = refl
 defined_one e true _ = refl
 
 pub defined_same : (e : List Root) (call : Bool) (os : List Operand) (o : ℕ) →
