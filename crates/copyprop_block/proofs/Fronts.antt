@@ -1,23 +1,24 @@
 -- Lists of which the front is what has become of the items before an index.
-use Rattle.std.proofs.Common.{◌≡◌, ◌⊎◌, inl, inr, ℕ, zero, suc, ◌+◌, ◌<◌, ◌≤◌, List, [], ◌∷◌, ◌++◌, length, length-set, get_or, take, drop, set}
-use Rattle.std.proofs.Common.{cond, nat_eq}
+use Rattle.std.proofs.Common.{◌≡◌, ◌⊎◌, inl, inr, ℕ, zero, suc, ◌+◌, ◌-◌, ◌<◌, ◌≤◌, List, [], ◌∷◌, ◌++◌, length, length-set, get_or, take, drop, set}
 use Rattle.std.proofs.Common.{refl, sym, ap, ◌∙◌, subst, arith, append-nil}
 use Rattle.std.specs.List.{swap}
 use Rattle.std.proofs.lemmas.Bool.{cases_eq}
-use Rattle.std.proofs.lemmas.List.{drop-set-lt, take_more, take_all, take_more_set, take-set-le, get_or-take, length-take-le}
+use Rattle.std.proofs.lemmas.List.{drop-set-lt, drop-drop, drop_at, take_more, take_all, take_at, take_more_set, take-set-le}
+use Rattle.std.proofs.lemmas.List.{length-append, length-drop, length-take-le}
 use Rattle.std.proofs.lemmas.List.Edits.{swap_is, length-swap}
-use Rattle.std.proofs.Math.Seq.{take-set-lt}
 use Rattle.mir_func.specs.declared.debug_substitution.DebugSubstitution.{DebugSubstitution}
 use Rattle.mir_func.specs.declared.item.Item.{Item}
 use Rattle.mir_func.specs.declared.position.Origin.{Origin}
 use Rattle.pass_salvage.specs.declared.above.Above.{Above}
+use Rattle.pass_salvage.specs.declared.lookup.Lookup.{Lookup}
+use Rattle.pass_salvage.specs.declared.lookup.Lookup.TheVariants.{Index}
 use Rattle.pass_salvage.specs.declared.way.SalvageAction.{SalvageAction}
-use Rattle.pass_salvage.specs.declared.way.SalvageAction.TheVariants.{GetsEntry, GetsPhi}
+use Rattle.pass_salvage.specs.declared.way.SalvageAction.TheVariants.{GetsPhi}
 use Rattle.pass_salvage.specs.Way.{way}
-use Rattle.pass_salvage.specs.Salvage.{numbered_at, phi_for, entry_for}
+use Rattle.pass_salvage.specs.Salvage.{above_after, put_for, entries_for, fresh_after, phi_for}
 use Rattle.pass_salvage.specs.Above.{IsIndexOf}
-use Rattle.pass_salvage.proofs.Placed.{numbered_item, numbered_set}
-use Rattle.pass_salvage.proofs.Indexed.{index_numbered}
+use Rattle.pass_salvage.specs.Lookup.{IsLookupOf}
+use Rattle.pass_salvage.proofs.Placed.{above_length}
 use Rattle.copyprop_block.specs.declared.roots.Root.{Root}
 use Rattle.copyprop_block.specs.declared.copies.CopyAction.{CopyAction}
 use Rattle.copyprop_block.specs.declared.copies.CopyAction.TheVariants.{Stays, Goes, GoesWith}
@@ -74,80 +75,76 @@ module _ {X : Type 0} where
       let len : length (set xs at x) ≡ length xs = length-set xs at x in
       behind_swap (set xs at x) kept at x le (omega (arith, lt, len)) (get_set xs at x x lt) ∙ drop-set-lt (at + 1) xs at x (omega arith)
 
--- the front with a number on one of its items
-numbered_front : (xs : List Item) (kept d n : ℕ) (x0 made : Item) → d < kept → kept ≤ length xs → get_or xs d x0 ≡ x0 → made ≡ numbered_item n x0 →
-    take kept (set xs d made) ≡ numbered_at d n (take kept xs)
-numbered_front xs kept d n x0 made above le is numbered =
-    let len : length (take kept xs) ≡ kept = length-take-le kept xs le in
-    take-set-lt kept xs d made above ∙ ap (set (take kept xs) d) numbered ∙
-    sym (numbered_set d n (take kept xs) x0 (omega (arith, above, len)) (get_or-take kept xs d x0 above ∙ is))
-
-pub index_front : (xs : List Item) (kept d n : ℕ) (x0 made : Item) (index : Above) (subs : List DebugSubstitution) → d < kept → kept ≤ length xs →
-    get_or xs d x0 ≡ x0 →
-    made ≡ numbered_item n x0 → IsIndexOf index subs (take kept xs) → IsIndexOf index subs (take kept (set xs d made))
-index_front xs kept d n x0 made index subs above le is numbered h =
-    subst (IsIndexOf index subs) (sym (numbered_front xs kept d n x0 made above le is numbered)) (index_numbered index subs (take kept xs) d n h)
-
 -- the front with an item that moved to its end
-pub index_up : (xs zs : List Item) (kept at : ℕ) (made : Item) (index : Above) (subs : List DebugSubstitution) → kept ≤ at → at < length xs →
-    zs ≡ swap (set xs at made) kept at → (kept ≡ length (take kept xs) → IsIndexOf index subs (take kept xs ++ made ∷ [])) →
-    IsIndexOf index subs (take (kept + 1) zs)
-index_up xs zs kept at made index subs le lt e h =
-    subst (IsIndexOf index subs) (sym (ap (take (kept + 1)) e ∙ written_up xs kept at made le lt))
+pub lookup_up : (xs zs : List Item) (kept at : ℕ) (made : Item) (lookup : Lookup) (subs : List DebugSubstitution) → kept ≤ at → at < length xs →
+    zs ≡ swap (set xs at made) kept at → (kept ≡ length (take kept xs) → IsLookupOf lookup subs (take kept xs ++ made ∷ [])) →
+    IsLookupOf lookup subs (take (kept + 1) zs)
+lookup_up xs zs kept at made lookup subs le lt e h =
+    subst (IsLookupOf lookup subs) (sym (ap (take (kept + 1)) e ∙ written_up xs kept at made le lt))
     (h (sym (length-take-le kept xs (omega (arith, le, lt)))))
 
 -- the front before an item that was written
-pub index_same : (xs : List Item) (kept at : ℕ) (y : Item) (index : Above) (subs : List DebugSubstitution) → kept ≤ at → IsIndexOf index subs (take kept xs) →
-    IsIndexOf index subs (take kept (set xs at y))
-index_same xs kept at y index subs le h = subst (IsIndexOf index subs) (sym (take-set-le kept xs at y le)) h
+pub lookup_same : (xs : List Item) (kept at : ℕ) (y : Item) (lookup : Lookup) (subs : List DebugSubstitution) → kept ≤ at →
+    IsLookupOf lookup subs (take kept xs) → IsLookupOf lookup subs (take kept (set xs at y))
+lookup_same xs kept at y lookup subs le h = subst (IsLookupOf lookup subs) (sym (take-set-le kept xs at y le)) h
 
 module _ (xs : List Item) (kept at k s : ℕ) (subs : List DebugSubstitution) (fresh : ℕ) (roots : List Root) (le : kept ≤ at) (lt : at < length xs) where
   abbrev before : SoFar
   before = record { done = take kept xs; roots = roots; subs = subs; fresh = fresh }
 
-  -- where code above gets the number
-  entry_base : (d o n : ℕ) (x0 made : Item) (origin : Origin) (subs' : List DebugSubstitution) (fresh' : ℕ) → d < kept → get_or xs d x0 ≡ x0 →
-      made ≡ numbered_item n x0 →
-      subs' ≡ subs ++ entry_for k n o ∷ [] → fresh' ≡ cond (nat_eq n fresh) (fresh + 1) fresh →
-      Stands (salvaged before k s origin (GetsEntry d o n)) kept (at + 1) (set xs d made) xs roots subs' fresh'
-  entry_base d o n x0 made origin subs' fresh' above is numbered entries counted =
-      record {
-        done = numbered_front xs kept d n x0 made above (omega (arith, le, lt)) is numbered ∙ sym (append-nil (numbered_at d n (take kept xs)));
-        behind = drop-set-lt (at + 1) xs d made (omega (arith, above, le));
-        size = length-set xs d made;
-        within = omega (arith, le);
-        known = refl;
-        entries = entries;
-        counted = counted;
-      }
+  -- the number is salvaged without a DBG_PHI
+  module _ (w : SalvageAction) (zs : List Item) (is : zs ≡ above_after w (take kept xs) ++ drop kept xs) where
+    size : length (above_after w (take kept xs)) ≡ kept
+    size = above_length w (take kept xs) ∙ length-take-le kept xs (omega (arith, le, lt))
 
-  pub entry_stands : (d o n : ℕ) (x0 made : Item) (origin : Origin) (subs' : List DebugSubstitution) (fresh' : ℕ) (w : SalvageAction) → w ≡ GetsEntry d o n →
-      d < kept → get_or xs d
-      x0 ≡ x0 →
-      made ≡ numbered_item n x0 → subs' ≡ subs ++ entry_for k n o ∷ [] → fresh' ≡ cond (nat_eq n fresh) (fresh + 1) fresh →
-      Stands (salvaged before k s origin w) kept (at + 1) (set xs d made) xs roots subs' fresh'
-  entry_stands d o n x0 made origin subs' fresh' w e above is numbered entries counted =
-      subst (λ (z : SalvageAction). Stands (salvaged before k s origin z) kept (at + 1) (set xs d made) xs roots subs' fresh') (sym e)
-      (entry_base d o n x0 made origin subs' fresh' above is numbered entries counted)
+    same_length : length zs ≡ length xs
+    same_length =
+        let e = ap length is in
+        let both = length-append (above_after w (take kept xs)) (drop kept xs) in
+        let rest = length-drop kept xs in
+        omega (arith, e, both, size, rest, le, lt)
 
-  -- where a phi is put
-  phi_base : (made : Item) (origin : Origin) (zs : List Item) → made ≡ phi_for k s origin → zs ≡ swap (set xs at made) kept at →
-      Stands (salvaged before k s origin GetsPhi) (kept + 1) (at + 1) zs xs roots subs fresh
-  phi_base made origin zs is e = record {
+    same_behind : drop (at + 1) zs ≡ drop (at + 1) xs
+    same_behind =
+        let e : kept + (at + 1 - kept) ≡ at + 1 = omega (arith, le) in
+        let rest : drop kept zs ≡ drop kept xs = ap (drop kept) is ∙ drop_at (above_after w (take kept xs)) (drop kept xs) kept size in
+        ap (λ (n : ℕ). drop n zs) (sym e) ∙ sym (drop-drop (at + 1 - kept) kept zs) ∙ ap (drop (at + 1 - kept)) rest ∙ drop-drop (at + 1 - kept) kept xs ∙
+        ap (λ (n : ℕ). drop n xs) e
+
+    pub above_stands : (origin : Origin) (subs' : List DebugSubstitution) (fresh' : ℕ) → put_for w k s origin ≡ [] → subs' ≡ subs ++ entries_for w k →
+        fresh' ≡ fresh_after w fresh → Stands (salvaged before k s origin w) kept (at + 1) zs xs roots subs' fresh'
+    above_stands origin subs' fresh' none entries counted = record {
+      done = ap (take kept) is ∙ take_at (above_after w (take kept xs)) (drop kept xs) kept size ∙ sym (append-nil (above_after w (take kept xs))) ∙
+          sym (ap (λ (ps : List Item). above_after w (take kept xs) ++ ps) none);
+      behind = same_behind;
+      size = same_length;
+      within = omega (arith, le);
+      known = refl;
+      entries = entries;
+      counted = counted;
+    }
+
+  -- with a DBG_PHI
+  phi_base : (made : Item) (origin : Origin) (zs : List Item) (subs' : List DebugSubstitution) (fresh' : ℕ) → made ≡ phi_for k s origin →
+      zs ≡ swap (set xs at made) kept at → subs' ≡ subs ++ [] → fresh' ≡ fresh →
+      Stands (salvaged before k s origin GetsPhi) (kept + 1) (at + 1) zs xs roots subs' fresh'
+  phi_base made origin zs subs' fresh' is e entries counted = record {
     done = ap (take (kept + 1)) e ∙ written_up xs kept at made le lt ∙ ap (λ (y : Item). take kept xs ++ y ∷ []) is;
     behind = ap (drop (at + 1)) e ∙ written_behind xs kept at made le lt;
     size = ap length e ∙ length-swap (set xs at made) kept at ∙ length-set xs at made;
     within = omega (arith, le);
     known = refl;
-    entries = sym (append-nil subs);
-    counted = refl;
+    entries = entries;
+    counted = counted;
   }
 
-  pub phi_stands : (made : Item) (origin : Origin) (zs : List Item) (w : SalvageAction) → w ≡ GetsPhi → made ≡ phi_for k s origin →
-      zs ≡ swap (set xs at made) kept at →
-      Stands (salvaged before k s origin w) (kept + 1) (at + 1) zs xs roots subs fresh
-  phi_stands made origin zs w e is f =
-      subst (λ (z : SalvageAction). Stands (salvaged before k s origin z) (kept + 1) (at + 1) zs xs roots subs fresh) (sym e) (phi_base made origin zs is f)
+  pub phi_stands : (made : Item) (origin : Origin) (zs : List Item) (w : SalvageAction) (subs' : List DebugSubstitution) (fresh' : ℕ) → w ≡ GetsPhi →
+      made ≡ phi_for k s origin → zs ≡ swap (set xs at made) kept at → subs' ≡ subs ++ entries_for w k → fresh' ≡ fresh_after w fresh →
+      Stands (salvaged before k s origin w) (kept + 1) (at + 1) zs xs roots subs' fresh'
+  phi_stands made origin zs w subs' fresh' e is f entries counted =
+      subst (λ (z : SalvageAction). Stands (salvaged before k s origin z) (kept + 1) (at + 1) zs xs roots subs' fresh') (sym e)
+      (phi_base made origin zs subs' fresh' is f (entries ∙ ap (λ (z : SalvageAction). subs ++ entries_for z k) e)
+      (counted ∙ ap (λ (z : SalvageAction). fresh_after z fresh) e))
 
 module _ (xs : List Item) (kept at : ℕ) (subs : List DebugSubstitution) (fresh : ℕ) (roots : List Root) (le : kept ≤ at) (lt : at < length xs) where
   abbrev so_far : SoFar
@@ -242,7 +239,7 @@ first_stands xs subs fresh = subst (λ (ys : List Item). Stands (over_items (at_
 })
 
 pub first_indexed : (index : Above) (subs : List DebugSubstitution) (xs : List Item) → ((es : List DebugSubstitution) → IsIndexOf index es []) →
-    IsIndexOf index subs (take 0 xs)
+    IsLookupOf (Index index) subs (take 0 xs)
 first_indexed index subs xs h = subst (IsIndexOf index subs) (sym (take_none xs)) (h subs)
 
 pub last_stands : (a : SoFar) (xs items : List Item) (kept at : ℕ) (roots : List Root) (subs : List DebugSubstitution) (fresh : ℕ) → length xs ≤ at →

@@ -3,14 +3,14 @@ use Rattle.std.specs.Prelude.{◌≡◌, ℕ, ◌≤◌, ◌<◌, ◌^◌, List,
 use Rattle.mir_func.specs.declared.debug_substitution.DebugSubstitution.{DebugSubstitution}
 use Rattle.mir_func.specs.declared.item.Item.{Item}
 use Rattle.copyprop_block.specs.declared.roots.Root.{Root}
-use Rattle.pass_salvage.specs.declared.above.Above.{Above}
-use Rattle.pass_salvage.specs.Above.{IsIndexOf}
+use Rattle.pass_salvage.specs.declared.lookup.Lookup.{Lookup}
+use Rattle.pass_salvage.specs.Lookup.{IsLookupOf}
 use Rattle.copyprop_block.specs.Copied.{SoFar}
 
--- the invariant along a block: numbers are left, and the index is that of the items so far
-pub record IsCarried (index : Above) (subs : List DebugSubstitution) (fresh : ℕ) (done : List Item) : Type 0 where
+-- the invariant along a block: numbers are left, and the lookup is that of the items so far
+pub record IsCarried (lookup : Lookup) (subs : List DebugSubstitution) (fresh : ℕ) (done : List Item) : Type 0 where
   pub left : fresh < 2 ^ 31
-  pub indexed : IsIndexOf index subs done
+  pub found : IsLookupOf lookup subs done
 
 -- the state is `a`: the first `kept` items of the list are its result, and from index `at` on the list is the old one
 pub record Stands (a : SoFar) (kept at : ℕ) (items old : List Item) (roots : List Root) (subs : List DebugSubstitution) (fresh : ℕ) : Type 0 where

@@ -4,7 +4,7 @@ ghost use Rattle.std.specs.Prelude.{◌≡◌, ◌+◌, ◌<◌, ◌≤◌, ◌^
 ghost use Rattle.mir_func.specs.declared.item.Item.{Item};
 ghost use Rattle.copyprop_block.specs.declared.roots.Root.{Root};
 ghost use Rattle.pass_salvage.specs.Way.{way};
-ghost use Rattle.pass_salvage.specs.Above.{IsIndexOf};
+ghost use Rattle.pass_salvage.specs.Lookup.{IsLookupOf};
 ghost use Rattle.copyprop_block.specs.Copied.{renamed_item, fate_of, goes_with, roots_with, salvaged, next_item};
 ghost use Rattle.copyprop_block.specs.Copied.{over_items, at_block};
 ghost use Rattle.copyprop_block.specs.Next.{IsCarried, Stands};
@@ -13,8 +13,9 @@ use crate::roots::{Root, known_source, learn, rename};
 use base_ids::code::DebugNumber;
 use mir_func::item::{Item, ItemKind};
 use mir_substitution::substitutions::Substitutions;
-use pass_salvage::above::{Above, choose_way_by, substitute};
-use pass_salvage::salvage::{give_number, put_phi};
+use pass_salvage::above::Above;
+use pass_salvage::lookup::Lookup;
+use pass_salvage::salvage::{put_phi, salvage};
 use pass_salvage::way::SalvageAction;
 use rv64_instr::reg::Reg;
 use std::alloc::{AllocError, Global};
@@ -81,12 +82,12 @@ fn next_item(
     at: usize,
     roots: &mut Vec<Root>,
     subs: &mut Substitutions,
-    index: &mut Above,
+    lookup: &mut Lookup,
     fresh: &mut u32,
 ) -> Result<usize, AllocError>
     requires within { kept ≤ at }
     requires at { at < length items.old.items }
-    requires carried { IsCarried index.old subs.old fresh.old (take kept items.old.items) }
+    requires carried { IsCarried lookup.old subs.old fresh.old (take kept items.old.items) }
     ensures stands { IfOk result (λ more. (x : Item) → x ≡ slice_index_or items.old.items at x →
         Stands (next_item (record {
           done = take kept items.old.items;
@@ -95,20 +96,20 @@ fn next_item(
           fresh = fresh.old;
         }) x)
         more (at + 1) items.new.items items.old.items roots.new.items subs.new fresh.new) }
-    ensures index { IfOk result (λ more. IsIndexOf index.new subs.new (take more items.new.items)) }
+    ensures lookup { IfOk result (λ more. IsLookupOf lookup.new subs.new (take more items.new.items)) }
     ensures counted { OnOk result (fresh.new ≤ fresh.old + 1) }
 {
     rename_item(&mut items[at], roots.as_slice());
     match fate_of(&items[at].kind, roots.as_slice()) {
         CopyAction::Stays => {
             learn_item(&items[at].kind, roots)?;
-            index.push(&items[at].kind, kept, subs)?;
+            lookup.push(&items[at].kind, kept, subs)?;
             items.swap(kept, at);
             Ok(kept + 1)
         }
         CopyAction::Goes => Ok(kept),
         CopyAction::GoesWith(number, source) => take_out(
-            alloc, items, kept, at, number, source, subs, index, fresh,
+            alloc, items, kept, at, number, source, subs, lookup, fresh,
         ),
     }
 }
@@ -122,12 +123,12 @@ fn take_out(
     number: DebugNumber,
     source: Reg,
     subs: &mut Substitutions,
-    index: &mut Above,
+    lookup: &mut Lookup,
     fresh: &mut u32,
 ) -> Result<usize, AllocError>
     requires within { kept ≤ at }
     requires at { at < length items.old.items }
-    requires carried { IsCarried index.old subs.old fresh.old (take kept items.old.items) }
+    requires carried { IsCarried lookup.old subs.old fresh.old (take kept items.old.items) }
     ensures stands { IfOk result (λ more. (x : Item) (roots : List Root) → x ≡ slice_index_or items.old.items at x →
         Stands (salvaged (record {
           done = take kept items.old.items;
@@ -138,23 +139,16 @@ fn take_out(
         }) number source x.origin
         (way [] subs.old fresh.old number source (take kept items.old.items)))
         more (at + 1) items.new.items items.old.items roots subs.new fresh.new) }
-    ensures index { IfOk result (λ more. IsIndexOf index.new subs.new (take more items.new.items)) }
+    ensures lookup { IfOk result (λ more. IsLookupOf lookup.new subs.new (take more items.new.items)) }
     ensures counted { OnOk result (fresh.new ≤ fresh.old + 1) }
 {
-    let above = &items[..kept];
-    match choose_way_by(index, above, subs, number, source, DebugNumber(*fresh)) {
+    let action = salvage(alloc, items, kept, subs, lookup, &[], number, source, fresh)?;
+    match action {
         SalvageAction::HasEntry => Ok(kept),
-        SalvageAction::GetsEntry(d, operand, standing) => {
-            substitute(alloc, subs, index, above, number, standing, operand)?;
-            give_number(&mut items[d], standing);
-            if standing.number() == *fresh {
-                *fresh += 1;
-            }
-            Ok(kept)
-        }
+        SalvageAction::GetsEntry(_, _, _) => Ok(kept),
         SalvageAction::GetsPhi => {
             put_phi(&mut items[at], number, source);
-            index.push(&items[at].kind, kept, subs)?;
+            lookup.push(&items[at].kind, kept, subs)?;
             items.swap(kept, at);
             Ok(kept + 1)
         }
@@ -175,10 +169,10 @@ pub fn copy_items(
     ensures counted { OnOk result (fresh.new ≤ fresh.old + length items.old.items) }
 {
     let mut roots = Vec::new(alloc);
-    let mut index = Above::new(alloc);
+    let mut lookup = Lookup::Index(Above::new(alloc));
     let mut kept = 0;
     for at in 0..items.len() {
-        kept = next_item(alloc, items, kept, at, &mut roots, subs, &mut index, fresh)?;
+        kept = next_item(alloc, items, kept, at, &mut roots, subs, &mut lookup, fresh)?;
     }
     items.truncate(kept);
     Ok(())

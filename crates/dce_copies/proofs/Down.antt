@@ -5,7 +5,8 @@ use Rattle.mir_func.specs.declared.position.Origin.{Origin}
 use Rattle.mir_func.specs.declared.item.Item.{Item}
 use Rattle.pass_salvage.specs.declared.way.SalvageAction.{SalvageAction}
 use Rattle.pass_salvage.specs.declared.way.SalvageAction.TheVariants.{HasEntry, GetsEntry, GetsPhi}
-use Rattle.pass_salvage.specs.Salvage.{numbered_at, above_after, fresh_after}
+use Rattle.pass_salvage.specs.Salvage.{above_after, fresh_after}
+use Rattle.pass_salvage.proofs.Placed.{above_length}
 use Rattle.dce_copies.specs.declared.off.Copied.{Copied}
 use Rattle.dce_copies.specs.Off.{without_number, put_off, behind_off, items_off, SoFar, off_at, off_down}
 
@@ -16,16 +17,6 @@ down_step removed dead at n one a b z goes is made so_far =
     ap (off_down removed dead n) (made ∙ ap (λ (g : Bool). off_at removed n g a) is) ∙ ap (λ (m : ℕ). off_down removed dead m a) e ∙ so_far
 
 -- ---- there are no fewer items, and one fresh number more at most
-
-pub numbered_long : (d n : ℕ) (xs : List Item) → length (numbered_at d n xs) ≡ length xs
-numbered_long d n [] = refl
-numbered_long zero n (x ∷ xs) = refl
-numbered_long (suc d) n (x ∷ xs) = ap suc (numbered_long d n xs)
-
-pub above_long : (w : SalvageAction) (xs : List Item) → length (above_after w xs) ≡ length xs
-above_long HasEntry xs = refl
-above_long (GetsEntry d o n) xs = numbered_long d n xs
-above_long GetsPhi xs = refl
 
 behind_long : (w : SalvageAction) (c : Copied) (xs : List Item) → length xs ≤ length (behind_off w c xs)
 behind_long w c [] = omega arith
@@ -42,7 +33,7 @@ split_long (suc at) (x ∷ xs) = let e = split_long at xs in omega (arith, e)
 pub off_long : (w : SalvageAction) (at : ℕ) (c : Copied) (xs : List Item) → length xs ≤ length (items_off w at c xs)
 off_long w at c xs =
     let e = length-append (above_after w (take at xs)) (behind_off w c (drop at xs)) in
-    let a = above_long w (take at xs) in
+    let a = above_length w (take at xs) in
     let b = behind_long w c (drop at xs) in
     let s = split_long at xs in
     omega (arith, e, a, b, s)
@@ -81,7 +72,7 @@ pub off_grows : (w : SalvageAction) (at : ℕ) (c : Copied) (xs : List Item) (fr
     length (items_off w at c xs) + fresh_after w fresh ≤ length xs + fresh + 1
 off_grows w at c xs fresh =
     let e = length-append (above_after w (take at xs)) (behind_off w c (drop at xs)) in
-    let a = above_long w (take at xs) in
+    let a = above_length w (take at xs) in
     let b = behind_grows w c (drop at xs) fresh in
     let s = split_long at xs in
     omega (arith, e, a, b, s)

@@ -1,9 +1,9 @@
 //! Salvage of one copy's number, which leaves the copy in place.
 
-ghost use Rattle.std.specs.Prelude.{◌≡◌, ◌++◌, ◌+◌, ◌<◌, ◌≤◌, ◌^◌, length, take, true, OnOk};
+ghost use Rattle.std.specs.Prelude.{◌≡◌, ◌++◌, ◌+◌, ◌<◌, ◌≤◌, ◌^◌, length, take, drop, true, IfOk, OnOk};
 ghost use Rattle.rv64_instr.specs.Row.{row_of};
 ghost use Rattle.pass_salvage.specs.Way.{way};
-ghost use Rattle.pass_salvage.specs.Salvage.{entries_for, fresh_after};
+ghost use Rattle.pass_salvage.specs.Salvage.{above_after, entries_for, fresh_after};
 ghost use Rattle.dce_copies.specs.Off.{copied_by, numbered_copy, without_number, phi_off, lost_off, items_off};
 ghost use Rattle.dce_copies.specs.Off.{off_at, off_down};
 
@@ -13,8 +13,9 @@ use mir_func::item::{Item, ItemKind};
 use mir_func::location::Loc;
 use mir_func::position::Origin;
 use mir_substitution::substitutions::Substitutions;
-use pass_salvage::salvage::{entry_for, give_number};
-use pass_salvage::way::{SalvageAction, choose_way};
+use pass_salvage::lookup::Lookup;
+use pass_salvage::salvage::salvage;
+use pass_salvage::way::SalvageAction;
 use pass_trait::loss::{Loss, Lost, Reason};
 use rv64_instr::decoded::Decoded;
 use rv64_instr::instr::Instr;
@@ -91,24 +92,18 @@ pub fn number_off(
         lost.old.items ++ lost_off (way removed.now subs.old fresh.old copied.number copied.source
         (take at items.old.items)) copied) }
 {
-    let above = &items[..at];
-    match choose_way(
-        above,
+    let action = salvage_by_walk(
+        items,
         subs,
-        removed,
+        at,
         copied.number,
         copied.source,
-        DebugNumber(*fresh),
-    ) {
+        removed,
+        fresh,
+    )?;
+    match action {
         SalvageAction::HasEntry => drop_number(&mut items[at]),
-        SalvageAction::GetsEntry(d, operand, standing) => {
-            subs.add(entry_for(copied.number, standing, operand))?;
-            give_number(&mut items[d], standing);
-            drop_number(&mut items[at]);
-            if standing.number() == *fresh {
-                *fresh += 1;
-            }
-        }
+        SalvageAction::GetsEntry(_, _, _) => drop_number(&mut items[at]),
         SalvageAction::GetsPhi => {
             if copied.own {
                 lost.push(Loss {
@@ -122,6 +117,41 @@ pub fn number_off(
         }
     }
     Ok(())
+}
+
+/// Salvages the number of the copy at an index, by a walk over the items above it.
+fn salvage_by_walk(
+    items: &mut Vec<Item>,
+    subs: &mut Substitutions,
+    at: usize,
+    number: DebugNumber,
+    source: Reg,
+    removed: &[usize],
+    fresh: &mut u32,
+) -> Result<SalvageAction, AllocError>
+    requires at { at < length items.old.items }
+    requires fresh { fresh.old < 2 ^ 31 }
+    ensures action { IfOk result (λ w.
+        w ≡ way removed.now subs.old fresh.old number source (take at items.old.items)) }
+    ensures items { IfOk result (λ w.
+        items.new.items ≡ above_after w (take at items.old.items) ++ drop at items.old.items) }
+    ensures size { length items.new.items ≡ length items.old.items }
+    ensures entries { IfOk result (λ w. subs.new ≡ subs.old ++ entries_for w number) }
+    ensures fresh { IfOk result (λ w. fresh.new ≡ fresh_after w fresh.old) }
+{
+    let alloc = *items.allocator();
+    let mut lookup = Lookup::Walk;
+    salvage(
+        alloc,
+        items,
+        at,
+        subs,
+        &mut lookup,
+        removed,
+        number,
+        source,
+        fresh,
+    )
 }
 
 /// Removes the numbers from the dead copies of a block, from the last to the first. `dead` has for each item whether it

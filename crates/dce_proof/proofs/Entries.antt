@@ -33,7 +33,7 @@ use Rattle.pass_edits.proofs.Found.{last_two, not_is}
 use Rattle.dce_copies.specs.declared.off.Copied.{Copied}
 use Rattle.dce_copies.specs.Off.{phi_by, put_off}
 use Rattle.dce_copies.specs.Blocks.{going_from}
-use Rattle.dce_copies.proofs.Down.{above_long}
+use Rattle.pass_salvage.proofs.Placed.{above_length}
 use Rattle.dce_salvage_proof.proofs.Copy.{Ready}
 use Rattle.dce_proof.proofs.Lines.{giver_stays, number_other, number_same, get_left}
 
@@ -210,12 +210,12 @@ module _ (f : Function) (fs : List Block) (id source_end : ℕ) (gs : List Block
             let s : Some y ≡ Some (item (Code e.i e.own) e.origin e.loc) = sym at ∙ ap (slice_get up) same ∙ e.stands in
             let y_is : y ≡ item (Code e.i e.own) e.origin e.loc = cc in (
               item (Code e.i (Some a)) e.origin e.loc,
-              left (numbered_at d a up) (above_long (GetsEntry d p a) up) ∙ ap (slice_get (numbered_at d a up)) same ∙
+              left (numbered_at d a up) (above_length (GetsEntry d p a) up) ∙ ap (slice_get (numbered_at d a up)) same ∙
                   number_same d a up (item (Code e.i e.own) e.origin e.loc) e.stands,
               ap Some (numbered_code a m y e.i e.own e.origin e.loc fresh y_is e.number code),
             )
             )
-        | inr ne ↦ (y, left (numbered_at d a up) (above_long (GetsEntry d p a) up) ∙ number_other d a up q ne ∙ at, code)
+        | inr ne ↦ (y, left (numbered_at d a up) (above_length (GetsEntry d p a) up) ∙ number_other d a up q ne ∙ at, code)
       ]
 
     abbrev after : SalvageAction → List Item
@@ -223,7 +223,7 @@ module _ (f : Function) (fs : List Block) (id source_end : ℕ) (gs : List Block
 
     rest_after : (w : SalvageAction) → drop n (after w) ≡ put_off w (record { number = k; source = s; own = own }) o ++ item (Code i None) o l ∷ down
     rest_after w = drop_past (above_after w up) (put_off w (record { number = k; source = s; own = own }) o ++ item (Code i None) o l ∷ down) n
-        (above_long w up ∙ long)
+        (above_length w up ∙ long)
 
     rest_before : drop (suc n) (up ++ item (Code i (Some k)) o l ∷ down) ≡ down
     rest_before =
@@ -316,7 +316,7 @@ module _ (f : Function) (fs : List Block) (id source_end : ℕ) (gs : List Block
       there : slice_get (after (GetsEntry d p m)) d ≡ Some (item (Code e.i (Some m)) e.origin e.loc)
       there =
           let lt = slice_get_within up d (item (Code e.i e.own) e.origin e.loc) e.stands in
-          let same = above_long (GetsEntry d p m) up in
+          let same = above_length (GetsEntry d p m) up in
           get_left (numbered_at d m up) (bare ∷ down) d (omega (arith, lt, same)) ∙ number_same d m up (item (Code e.i e.own) e.origin e.loc) e.stands
 
       target_none : (z : Option ℕ) → e.own ≡ z → m ≡ or_fresh fresh z → entry_of subs (record { number = m; operand = p }) ≡ None

@@ -33,7 +33,7 @@ use Rattle.dce_copies.specs.declared.off.Copied.{Copied}
 use Rattle.dce_copies.specs.Off.{without_number, numbered_copy, phi_off, put_off, lost_if_own, lost_off, behind_off}
 use Rattle.dce_copies.specs.Off.{SoFar, off_by, off_copy, copy_in, off_at, off_down}
 use Rattle.dce_copies.specs.Blocks.{going_from}
-use Rattle.dce_copies.proofs.Down.{numbered_long, above_long}
+use Rattle.pass_salvage.proofs.Placed.{numbered_length, above_length}
 use Rattle.dce_salvage_proof.proofs.Copy.{split_at}
 use Rattle.dce_proof.specs.Ledger.{Line, line_by, line_of, line_of_copy, lines_of, lines_down}
 use Rattle.rv64_instr.specs.Row.{row_of}
@@ -275,14 +275,14 @@ module _ (xs : List Item) (dead : List Bool) where
               let y_is : u.0 ≡ item (Code e.i e.own) e.origin e.loc = cc in
               let stays : get_or dead j false ≡ false = ap (λ (z : ℕ). get_or dead z false) same ∙ giver_stays dead subs fresh k s (take n items) d p m e in (
                 item (Code e.i (Some m)) e.origin e.loc,
-                left (numbered_at d m (take n items)) (numbered_long d m (take n items)) ∙ ap (slice_get (numbered_at d m (take n items))) same ∙
+                left (numbered_at d m (take n items)) (numbered_length d m (take n items)) ∙ ap (slice_get (numbered_at d m (take n items))) same ∙
                     number_same d m (take n items) (item (Code e.i e.own) e.origin e.loc) e.stands,
                 now_numbered j m x u.0 e.i e.own e.origin e.loc fresh stays u.2 y_is e.number,
               )
               )
           | inr ne ↦ (
             u.0,
-            left (numbered_at d m (take n items)) (numbered_long d m (take n items)) ∙ number_other d m (take n items) j ne ∙ same_up,
+            left (numbered_at d m (take n items)) (numbered_length d m (take n items)) ∙ number_other d m (take n items) j ne ∙ same_up,
             u.2,
           )
         ]
@@ -335,7 +335,7 @@ module _ (xs : List Item) (dead : List Bool) where
     now = append_assoc (put_off w c x.origin) (bare_of x ∷ []) (drop (suc n) a.items) ∙
         ap (λ (ys : List Item). behind_off w c ys) (sym (split_at a.items n x at).behind) ∙
         sym (drop_past (above_after w (take n a.items)) (behind_off w c (drop n a.items)) n
-        (above_long w (take n a.items) ∙ length-take-le n a.items (omega (arith, inside))));
+        (above_length w (take n a.items) ∙ length-take-le n a.items (omega (arith, inside))));
     more = entries_for w c.number;
     grown = refl;
     above = λ all. now_above a.items a.subs a.fresh c.number c.source n (behind_off w c (drop n a.items)) (omega (arith, inside))

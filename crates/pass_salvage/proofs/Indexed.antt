@@ -17,10 +17,13 @@ use Rattle.pass_trait.specs.Rule.{first_operand}
 use Rattle.mir_substitution.specs.Added.{added}
 use Rattle.mir_substitution.proofs.Entries.{is_pair-true, is_pair-same}
 use Rattle.pass_salvage.specs.declared.above.Above.{Above}
+use Rattle.pass_salvage.specs.declared.lookup.Lookup.{Lookup}
+use Rattle.pass_salvage.specs.declared.lookup.Lookup.TheVariants.{Index, Walk}
 use Rattle.pass_salvage.specs.declared.way.SalvageAction.TheVariants.{GetsEntry, GetsPhi}
 use Rattle.pass_salvage.specs.Way.{further, last_definition, is_just, asks_for, has_entry, or_fresh, way_by}
 use Rattle.pass_salvage.specs.Salvage.{with_number, numbered_at, entry_for}
 use Rattle.pass_salvage.specs.Above.{last_question, IsIndexOf, is_past, later, moved, way_unless}
+use Rattle.pass_salvage.specs.Lookup.{IsLookupOf}
 use Rattle.pass_salvage.proofs.OneMore.{one_more}
 use Rattle.pass_salvage.proofs.Found.{last_more}
 use Rattle.pass_salvage.proofs.Last.{last_more as one_more_item, last_within, any_past, last_numbered}
@@ -61,7 +64,7 @@ unasked subs k n (Code i m) = refl
 unasked subs k n (Mark v m) = refl
 unasked subs k n (Phi p m) = refl
 
-pub index_numbered : (index : Above) (subs : List DebugSubstitution) (xs : List Item) (d n : ℕ) → IsIndexOf index subs xs →
+index_numbered : (index : Above) (subs : List DebugSubstitution) (xs : List Item) (d n : ℕ) → IsIndexOf index subs xs →
     IsIndexOf index subs (numbered_at d n xs)
 index_numbered index subs xs d n h = record {
   definitions = λ s. h.definitions s ∙
@@ -69,6 +72,11 @@ index_numbered index subs xs d n h = record {
   questions = λ k. h.questions k ∙
       sym (last_numbered (last_question subs k) (λ (x : Item). asks_for subs k x.kind) refl (λ x ys. refl) n (λ x. unasked subs k n x.kind) d xs);
 }
+
+pub lookup_numbered : (lookup : Lookup) (subs : List DebugSubstitution) (xs : List Item) (d n : ℕ) → IsLookupOf lookup subs xs →
+    IsLookupOf lookup subs (numbered_at d n xs)
+lookup_numbered (Index index) subs xs d n h = index_numbered index subs xs d n h
+lookup_numbered Walk subs xs d n h = tt
 
 -- ---- one more substitution
 

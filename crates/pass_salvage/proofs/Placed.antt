@@ -1,12 +1,11 @@
--- Items of which one gets a number, or goes.
-use Rattle.std.proofs.Common.{◌≡◌, ℕ, zero, suc, ◌<◌, List, [], ◌∷◌, ◌++◌, length, get_or, take, drop, set, refl, sym, ap, ◌∙◌, arith, drop-cons}
-use Rattle.std.specs.List.{remove}
-use Rattle.std.proofs.lemmas.List.{get_or-take, length-take-le, drop-set-lt, set_split}
+-- Items of which one gets a number.
+use Rattle.std.proofs.Common.{◌≡◌, ℕ, zero, suc, ◌<◌, ◌≤◌, List, [], ◌∷◌, ◌++◌, length, get_or, take, drop, set, refl, sym, ap, ◌∙◌, arith}
+use Rattle.std.proofs.lemmas.List.{get_or-take, length-take-le, take-append-drop, set-append_left}
 use Rattle.std.proofs.Math.Seq.{take-set-lt}
 use Rattle.mir_func.specs.declared.item.Item.{Item}
 use Rattle.pass_salvage.specs.declared.way.SalvageAction.{SalvageAction}
-use Rattle.pass_salvage.specs.declared.way.SalvageAction.TheVariants.{GetsEntry, GetsPhi}
-use Rattle.pass_salvage.specs.Salvage.{with_number, numbered_at, phi_for, put_for, behind_after, items_after}
+use Rattle.pass_salvage.specs.declared.way.SalvageAction.TheVariants.{HasEntry, GetsEntry, GetsPhi}
+use Rattle.pass_salvage.specs.Salvage.{with_number, numbered_at, above_after}
 
 -- the item with the number
 abbrev pub numbered_item : ℕ → Item → Item
@@ -17,35 +16,30 @@ numbered_set d n [] x lt e = absurd (omega (arith, lt))
 numbered_set zero n (y ∷ ys) x lt e = ap (λ (z : Item). numbered_item n z ∷ ys) e
 numbered_set (suc d) n (y ∷ ys) x lt e = ap (λ (zs : List Item). y ∷ zs) (numbered_set d n ys x (omega (arith, lt)) e)
 
--- whatever stands past the end
-get_or_same : (xs : List Item) (i : ℕ) (x : Item) → i < length xs → get_or xs i (get_or xs i x) ≡ get_or xs i x
-get_or_same [] i x lt = absurd (omega (arith, lt))
-get_or_same (y ∷ ys) zero x lt = refl
-get_or_same (y ∷ ys) (suc i) x lt = other ys i x (get_or ys i x) (omega (arith, lt)) where
-  other : (ys : List Item) (i : ℕ) (x z : Item) → i < length ys → get_or ys i z ≡ get_or ys i x
-  other [] i x z lt = absurd (omega (arith, lt))
-  other (y ∷ ys) zero x z lt = refl
-  other (y ∷ ys) (suc i) x z lt = other ys i x z (omega (arith, lt))
+-- one of the items before an index gets the number
+module _ (xs : List Item) (at d n : ℕ) (x made : Item) (le : at ≤ length xs) (above : d < at) (is : get_or xs d x ≡ x)
+    (numbered : made ≡ numbered_item n x) where
+  within : d < length (take at xs)
+  within = let len : length (take at xs) ≡ at = length-take-le at xs le in omega (arith, above, len)
 
-behind_one : (w : SalvageAction) (k s : ℕ) (xs : List Item) (at : ℕ) (x : Item) → at < length xs → get_or xs at x ≡ x →
-    behind_after w k s (drop at xs) ≡ put_for w k s x.origin ++ drop (suc at) xs
-behind_one w k s xs at x lt e = ap (behind_after w k s) (drop-cons xs at x lt ∙ ap (λ (y : Item). y ∷ drop (suc at) xs) e)
+  set_front : set (take at xs) d made ≡ numbered_at d n (take at xs)
+  set_front = ap (set (take at xs) d) numbered ∙ sym (numbered_set d n (take at xs) x within (get_or-take at xs d x above ∙ is))
 
--- where one above gets a number, and one goes
-pub entry_items : (xs : List Item) (at d o n k s : ℕ) (x made : Item) → at < length xs → d < at → get_or xs d x ≡ x → made ≡ numbered_item n x →
-    remove (set xs d made) at ≡ items_after (GetsEntry d o n) at k s xs
-entry_items xs at d o n k s x made lt above e is =
-    let len : length (take at xs) ≡ at = length-take-le at xs (omega (arith, lt)) in
-    let within : d < length (take at xs) = omega (arith, above, len) in
-    let first : take at (set xs d made) ≡ numbered_at d n (take at xs) =
-    take-set-lt at xs d made above ∙ ap (set (take at xs) d) is ∙ sym (numbered_set d n (take at xs) x within (get_or-take at xs d x above ∙ e)) in
-    let second : drop (suc at) (set xs d made) ≡ drop (suc at) xs = drop-set-lt (suc at) xs d made (omega (arith, above)) in
-    (λ i. first i ++ second i) ∙ ap (λ (ys : List Item). numbered_at d n (take at xs) ++ ys)
-    (sym (behind_one (GetsEntry d o n) k s xs at (get_or xs at x) lt (get_or_same xs at x lt)))
+  pub numbered_front : take at (set xs d made) ≡ numbered_at d n (take at xs)
+  numbered_front = take-set-lt at xs d made above ∙ set_front
 
--- where a phi takes the place of one
-pub phi_items : (xs : List Item) (at k s : ℕ) (x made : Item) → at < length xs → get_or xs at x ≡ x → made ≡ phi_for k s x.origin →
-    set xs at made ≡ items_after GetsPhi at k s xs
-phi_items xs at k s x made lt e is =
-    set_split xs at made lt ∙ ap (λ (y : Item). take at xs ++ y ∷ drop (suc at) xs) is ∙
-    ap (λ (ys : List Item). take at xs ++ ys) (sym (behind_one GetsPhi k s xs at x lt e))
+  pub numbered_items : set xs d made ≡ numbered_at d n (take at xs) ++ drop at xs
+  numbered_items =
+      ap (λ (ys : List Item). set ys d made) (sym (take-append-drop at xs)) ∙ set-append_left (take at xs) (drop at xs) d made within ∙
+      ap (λ (ys : List Item). ys ++ drop at xs) set_front
+
+pub numbered_length : (d n : ℕ) (xs : List Item) → length (numbered_at d n xs) ≡ length xs
+numbered_length d n [] = refl
+numbered_length zero n (x ∷ xs) = refl
+numbered_length (suc d) n (x ∷ xs) = ap suc (numbered_length d n xs)
+
+-- salvage doesn't change how many items are above
+pub above_length : (w : SalvageAction) (xs : List Item) → length (above_after w xs) ≡ length xs
+above_length HasEntry xs = refl
+above_length (GetsEntry d o n) xs = numbered_length d n xs
+above_length GetsPhi xs = refl

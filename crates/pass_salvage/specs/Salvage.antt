@@ -1,5 +1,5 @@
--- What a function's items and its substitutions are after a copy was removed and its number salvaged.
-use Rattle.std.specs.Prelude.{ℕ, zero, suc, ◌+◌, List, [], ◌∷◌, ◌++◌, take, drop, cond, nat_eq, Some}
+-- What the items above a copy, its position and the substitutions are after its number was salvaged.
+use Rattle.std.specs.Prelude.{ℕ, zero, suc, ◌+◌, List, [], ◌∷◌, cond, nat_eq, Some}
 use Rattle.rv64_instr.specs.declared.place.Place.TheVariants.{Register}
 use Rattle.mir_func.specs.declared.position.Origin.{Origin}
 use Rattle.mir_func.specs.declared.debug_substitution.DebugSubstitution.{DebugSubstitution}
@@ -53,12 +53,3 @@ abbrev pub fresh_after : SalvageAction → (fresh : ℕ) → ℕ
 fresh_after HasEntry fresh = fresh
 fresh_after (GetsEntry d o n) fresh = cond (nat_eq n fresh) (fresh + 1) fresh
 fresh_after GetsPhi fresh = fresh
-
--- what replaces the items from the copy on: the first of them is the copy
-abbrev pub behind_after : SalvageAction → (k s : ℕ) → List Item → List Item
-behind_after w k s [] = []
-behind_after w k s (x ∷ xs) = put_for w k s x.origin ++ xs
-
--- the items of a block after the salvage; the one at an index was a copy of s with number k
-abbrev pub items_after : SalvageAction → (at k s : ℕ) → List Item → List Item
-items_after w at k s items = above_after w (take at items) ++ behind_after w k s (drop at items)

@@ -1,8 +1,8 @@
 //! An index of the items above a position of a block, by which the salvage of a copy is chosen in constant time.
 
-ghost use Rattle.std.specs.Prelude.{◌≡◌, ◌++◌, ◌<◌, ◌||◌, [], ◌∷◌, List, ℕ, cond, nat_eq, Some, None, length};
+ghost use Rattle.std.specs.Prelude.{◌≡◌, ◌++◌, ◌||◌, [], ◌∷◌, List, ℕ, cond, nat_eq, Some, None, length};
 ghost use Rattle.std.specs.Prelude.{drop, suc, false};
-ghost use Rattle.std.specs.Prelude.{IfOk, IfSome, OnOk};
+ghost use Rattle.std.specs.Prelude.{IfOk, OnOk};
 ghost use Rattle.std.specs.List.{list_any};
 ghost use Rattle.std.specs.HashMap.{get};
 ghost use Rattle.rv64_instr.specs.Row.{Row};
@@ -13,13 +13,12 @@ ghost use Rattle.mir_func.specs.declared.debug_substitution.DebugSubstitution.{D
 ghost use Rattle.rv64_instr.specs.declared.place.Place.TheVariants as place;
 ghost use Rattle.pass_trait.specs.Causes.{defines};
 ghost use Rattle.pass_trait.specs.Rule.{first_operand};
-ghost use Rattle.pass_salvage.specs.declared.way.SalvageAction.TheVariants as chosen;
-ghost use Rattle.pass_salvage.specs.Way.{has_entry, asks_for, is_just, last_definition, way};
+ghost use Rattle.pass_salvage.specs.Way.{has_entry, asks_for, is_just, last_definition};
 ghost use Rattle.pass_salvage.specs.Salvage.{entry_for};
 ghost use Rattle.pass_salvage.specs.Above.{IsIndexOf, is_past, later, moved};
 
 use crate::salvage::entry_for;
-use crate::way::{SalvageAction, first_definition, has_entry, way_unless};
+use crate::way::has_entry;
 use base_ids::code::{DebugNumber, OperandIndex};
 use mir_func::debug_substitution::OperandPair;
 use mir_func::item::{Item, ItemKind};
@@ -77,22 +76,21 @@ impl Above {
         Ok(())
     }
 
+    /// The index of the last code that defines the register.
+    pub(crate) fn last_definition(&self, s: Reg) -> Option<usize>
+        ensures { (subs : List DebugSubstitution) (above : List Item) → IsIndexOf self.now subs above →
+            result ≡ last_definition s above }
+    {
+        find_register(&self.definitions, s)
+    }
+
     /// Whether a debug value after the item at an index refers to the number.
-    fn asks_behind(&self, number: DebugNumber, d: usize) -> bool
+    pub(crate) fn asks_behind(&self, number: DebugNumber, d: usize) -> bool
         ensures { (subs : List DebugSubstitution) (above : List Item) → IsIndexOf self.now subs above →
             result ≡ list_any (λ x. asks_for subs number x.kind) (drop (suc d) above) }
     {
         is_past(d, find(&self.questions, number))
     }
-}
-
-/// The index of the last code that defines the register, in the table of these items.
-fn find_definition(table: &HashMap<u32, usize>, above: &[Item], s: Reg) -> Option<usize>
-    requires { (q : ℕ) → get nat_eq table.now q ≡ last_definition q above.now }
-    ensures found { result ≡ last_definition s above.now }
-    ensures within { IfSome result (λ d. d < length above.now) }
-{
-    find_register(table, s)
 }
 
 /// The index in the table for a register.
@@ -282,7 +280,7 @@ fn later(at: usize, other: Option<usize>) -> usize
 /// Adds the substitution of operand 0 of a number, which has none, by an operand of another number, and updates the
 /// index of the items. It takes constant time if the other pair has no substitution and isn't the number's own, which
 /// is so in every sound function; otherwise the index is rebuilt.
-pub fn substitute(
+pub(crate) fn substitute(
     alloc: Global,
     subs: &mut Substitutions,
     index: &mut Above,
@@ -323,36 +321,4 @@ fn is_first(number: DebugNumber, standing: DebugNumber, operand: OperandIndex) -
     ensures { result ≡ is_just (first_operand number) (Some (record { number = standing; operand = operand })) }
 {
     number == standing && operand.number() == 0
-}
-
-/// How the number of a removed copy of `source` is salvaged, below these items of its block, none of which is removed:
-/// the same as `choose_way`. It takes no memory, and constant time except for the chains of substitutions of its number
-/// and of the one that replaces it.
-pub fn choose_way_by(
-    index: &Above,
-    above: &[Item],
-    subs: &Substitutions,
-    number: DebugNumber,
-    source: Reg,
-    fresh: DebugNumber,
-) -> SalvageAction
-    requires { IsIndexOf index.now subs.now above.now }
-    ensures chosen { result ≡ way [] subs.now fresh number source above.now }
-    ensures within { (d o n : ℕ) → result ≡ chosen.GetsEntry d o n → d < length above.now }
-{
-    if has_entry(subs, &Some(number), OperandIndex(0)) {
-        return SalvageAction::HasEntry;
-    }
-    let Some(d) = find_definition(&index.definitions, above, source) else {
-        return SalvageAction::GetsPhi;
-    };
-    match &above[d].kind {
-        ItemKind::Code(i, n) => {
-            let barred = index.asks_behind(number, d);
-            let operand = first_definition(i, source);
-            way_unless(barred, subs, fresh, d, n, operand)
-        }
-        ItemKind::Mark(_, _) => SalvageAction::GetsPhi,
-        ItemKind::Phi(_, _) => SalvageAction::GetsPhi,
-    }
 }

@@ -1,10 +1,14 @@
-//! Removes one copy and salvages its number.
+//! Salvages the number of one copy.
 
-ghost use Rattle.std.specs.Prelude.{◌≡◌, ◌++◌, ◌<◌, ◌^◌, length, take, OnOk};
-ghost use Rattle.pass_salvage.specs.Way.{way};
-ghost use Rattle.pass_salvage.specs.Salvage.{with_number, entry_for, entries_for, fresh_after, phi_for, items_after};
+ghost use Rattle.std.specs.Prelude.{◌≡◌, ◌++◌, ◌+◌, ◌<◌, ◌≤◌, ◌^◌, [], ◌∷◌, Some, length, take, drop};
+ghost use Rattle.std.specs.Prelude.{cond, nat_eq, false, IfOk, OnOk};
+ghost use Rattle.pass_salvage.specs.Way.{has_entry, way};
+ghost use Rattle.pass_salvage.specs.Salvage.{with_number, numbered_at, above_after, entry_for, entries_for};
+ghost use Rattle.pass_salvage.specs.Salvage.{fresh_after, phi_for};
+ghost use Rattle.pass_salvage.specs.Lookup.{IsLookupOf};
 
-use crate::way::{SalvageAction, choose_way};
+use crate::lookup::{Lookup, choose_way};
+use crate::way::SalvageAction;
 use base_ids::code::{DebugNumber, OperandIndex};
 use mir_func::debug_substitution::{DebugSubstitution, OperandPair};
 use mir_func::item::{Item, ItemKind};
@@ -13,50 +17,99 @@ use mir_func::position::Origin;
 use mir_substitution::substitutions::Substitutions;
 use rv64_instr::place::Place;
 use rv64_instr::reg::Reg;
-use std::alloc::AllocError;
+use std::alloc::{AllocError, Global};
 
-/// Removes a numbered copy of `source` from a block's items, or replaces it by a DBG_PHI, and adds the substitution if
-/// one is needed. `removed` has the ascending indices of the other items that the caller removes later. `fresh` is a
-/// fresh number, and is incremented if it is used. After an error the items and the substitutions may only be dropped.
+/// Salvages the number of a copy of `source`, which stands below the first `at` items of its block: code among them that
+/// defines the copied value gets a number and the substitution, if it can. Returns how the number is salvaged. The copy
+/// itself is the caller's, which removes it or its number, and after `GetsPhi` puts a DBG_PHI in its position. `removed`
+/// has the indices of the items that are removed too. `fresh` is a fresh number, and is incremented if it is used. After
+/// an error the items, the substitutions and the lookup may only be dropped.
 pub fn salvage(
+    alloc: Global,
     items: &mut Vec<Item>,
-    subs: &mut Substitutions,
     at: usize,
+    subs: &mut Substitutions,
+    lookup: &mut Lookup,
+    removed: &[usize],
     number: DebugNumber,
     source: Reg,
-    removed: &[usize],
     fresh: &mut u32,
-) -> Result<(), AllocError>
-    requires at { at < length items.old.items }
+) -> Result<SalvageAction, AllocError>
+    requires at { at ≤ length items.old.items }
     requires fresh { fresh.old < 2 ^ 31 }
-    ensures items { OnOk result (items.new.items ≡
-        items_after (way removed.now subs.old fresh.old number source (take at items.old.items)) at number source
-        items.old.items) }
-    ensures entries { OnOk result (subs.new ≡
-        subs.old ++ entries_for (way removed.now subs.old fresh.old number source (take at items.old.items)) number) }
-    ensures fresh { OnOk result (fresh.new ≡
-        fresh_after (way removed.now subs.old fresh.old number source (take at items.old.items)) fresh.old) }
+    requires lookup { IsLookupOf lookup.old subs.old (take at items.old.items) }
+    ensures action { IfOk result (λ w.
+        w ≡ way removed.now subs.old fresh.old number source (take at items.old.items)) }
+    ensures items { IfOk result (λ w.
+        items.new.items ≡ above_after w (take at items.old.items) ++ drop at items.old.items) }
+    ensures size { length items.new.items ≡ length items.old.items }
+    ensures entries { IfOk result (λ w. subs.new ≡ subs.old ++ entries_for w number) }
+    ensures fresh { IfOk result (λ w. fresh.new ≡ fresh_after w fresh.old) }
+    ensures counted { OnOk result (fresh.new ≤ fresh.old + 1) }
+    ensures lookup { OnOk result (IsLookupOf lookup.new subs.new (take at items.new.items)) }
 {
     let above = &items[..at];
-    match choose_way(above, subs, removed, number, source, DebugNumber(*fresh)) {
-        SalvageAction::HasEntry => {
-            items.remove(at);
-        }
+    let action = choose_way(
+        lookup,
+        above,
+        subs,
+        removed,
+        number,
+        source,
+        DebugNumber(*fresh),
+    );
+    match action {
+        SalvageAction::HasEntry => Ok(action),
         SalvageAction::GetsEntry(d, operand, standing) => {
-            subs.add(entry_for(number, standing, operand))?;
-            give_number(&mut items[d], standing);
-            items.remove(at);
-            if standing.number() == *fresh {
-                *fresh += 1;
-            }
+            put_entry(alloc, items, at, subs, lookup, number, d, operand, standing)?;
+            use_fresh(standing, fresh);
+            Ok(action)
         }
-        SalvageAction::GetsPhi => put_phi(&mut items[at], number, source),
+        SalvageAction::GetsPhi => Ok(action),
     }
+}
+
+/// Adds the substitution of a number, which has none, by an operand of the code at index `d`, and gives the code this
+/// number.
+fn put_entry(
+    alloc: Global,
+    items: &mut Vec<Item>,
+    at: usize,
+    subs: &mut Substitutions,
+    lookup: &mut Lookup,
+    number: DebugNumber,
+    d: usize,
+    operand: OperandIndex,
+    standing: DebugNumber,
+) -> Result<(), AllocError>
+    requires at { at ≤ length items.old.items }
+    requires above { d < at }
+    requires free { has_entry subs.old (Some number) 0 ≡ false }
+    ensures items { OnOk result (items.new.items ≡
+        numbered_at d standing (take at items.old.items) ++ drop at items.old.items) }
+    ensures size { length items.new.items ≡ length items.old.items }
+    ensures entries { OnOk result (subs.new ≡ subs.old ++ entry_for number standing operand ∷ []) }
+    ensures lookup { OnOk result (IsLookupOf lookup.old subs.old (take at items.old.items) →
+        IsLookupOf lookup.new subs.new (take at items.new.items)) }
+{
+    lookup.substitute(alloc, subs, &items[..at], number, standing, operand)?;
+    give_number(&mut items[d], standing);
     Ok(())
 }
 
+/// Increments the fresh number if this number is it.
+fn use_fresh(standing: DebugNumber, fresh: &mut u32)
+    requires { fresh.old < 2 ^ 31 }
+    ensures value { fresh.new ≡ cond (nat_eq standing fresh.old) (fresh.old + 1) fresh.old }
+    ensures counted { fresh.new ≤ fresh.old + 1 }
+{
+    if standing.number() == *fresh {
+        *fresh += 1;
+    }
+}
+
 /// The substitution of a number's operand 0 by an operand of another.
-pub fn entry_for(
+pub(crate) fn entry_for(
     number: DebugNumber,
     standing: DebugNumber,
     operand: OperandIndex,
@@ -77,7 +130,7 @@ pub fn entry_for(
 }
 
 /// Sets the number of code; debug items are unchanged.
-pub fn give_number(x: &mut Item, number: DebugNumber)
+fn give_number(x: &mut Item, number: DebugNumber)
     ensures { x.new ≡ record x.old { kind = with_number number x.old.kind } }
 {
     if let ItemKind::Code(_, n) = &mut x.kind {

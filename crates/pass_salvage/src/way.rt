@@ -1,15 +1,14 @@
 //! How the debug instruction number of a removed copy is salvaged.
 
-ghost use Rattle.std.specs.Prelude.{◌≡◌, ◌<◌, ◌||◌, ◌&&◌, ℕ, Some, nat_eq, not, length, IfSome};
+ghost use Rattle.std.specs.Prelude.{◌≡◌, ◌<◌, ◌&&◌, Some, nat_eq, not, length, IfSome};
 ghost use Rattle.std.specs.List.{list_any};
 ghost use Rattle.rv64_instr.specs.declared.place.Place.TheVariants as place;
 ghost use Rattle.rv64_instr.specs.Row.{row_of};
 ghost use Rattle.rv64_instr.specs.Parts.{is_call};
 ghost use Rattle.sem_mir.specs.Step.{defined};
 ghost use Rattle.pass_trait.specs.Causes.{defines};
-ghost use Rattle.pass_salvage.specs.declared.way.SalvageAction.TheVariants as chosen;
 ghost use Rattle.pass_salvage.specs.Way.{last_definition, is_register, first_definition, asks_for, has_entry};
-ghost use Rattle.pass_salvage.specs.Way.{or_fresh, way_by, way};
+ghost use Rattle.pass_salvage.specs.Way.{or_fresh};
 ghost use Rattle.pass_salvage.specs.Above.{way_unless};
 
 use base_ids::code::{DebugNumber, OperandIndex};
@@ -33,71 +32,9 @@ pub enum SalvageAction {
     GetsPhi,
 }
 
-/// How the number of a removed copy of `source` is salvaged, below these items of its block; those at the indices in
-/// `removed` are removed too. `fresh` is the number that code without one would get. It takes no memory.
-pub fn choose_way(
-    above: &[Item],
-    subs: &Substitutions,
-    removed: &[usize],
-    number: DebugNumber,
-    source: Reg,
-    fresh: DebugNumber,
-) -> SalvageAction
-    ensures chosen { result ≡ way removed.now subs.now fresh number source above.now }
-    ensures within { (d o n : ℕ) → result ≡ chosen.GetsEntry d o n → d < length above.now }
-{
-    if has_entry(subs, &Some(number), OperandIndex(0)) {
-        return SalvageAction::HasEntry;
-    }
-    let Some(d) = last_definition(above, source) else {
-        return SalvageAction::GetsPhi;
-    };
-    match &above[d].kind {
-        ItemKind::Code(i, n) => {
-            let behind = &above[d + 1..];
-            let operand = first_definition(i, source);
-            way_by(behind, subs, removed, number, fresh, d, n, operand)
-        }
-        ItemKind::Mark(_, _) => SalvageAction::GetsPhi,
-        ItemKind::Phi(_, _) => SalvageAction::GetsPhi,
-    }
-}
-
-/// The choice by the code at index `d`, with its own number and the operand that defines the source; `behind` are the
-/// items between it and the copy.
-fn way_by(
-    behind: &[Item],
-    subs: &Substitutions,
-    removed: &[usize],
-    number: DebugNumber,
-    fresh: DebugNumber,
-    d: usize,
-    own: &Option<DebugNumber>,
-    operand: Option<usize>,
-) -> SalvageAction
-    ensures { result ≡ way_by removed.now subs.now fresh number d own.now operand behind.now }
-{
-    let barred = is_barred(behind, subs, removed, number, d);
-    way_unless(barred, subs, fresh, d, own, operand)
-}
-
-/// Whether the code at index `d` is removed too, or some of the items after it refer to the number.
-fn is_barred(
-    behind: &[Item],
-    subs: &Substitutions,
-    removed: &[usize],
-    number: DebugNumber,
-    d: usize,
-) -> bool
-    ensures { result ≡
-        (list_any (nat_eq d) removed.now || list_any (λ x. asks_for subs.now number x.kind) behind.now) }
-{
-    is_among(removed, d) || ask_for(behind, subs, number)
-}
-
 /// The choice by the code at index `d`, with its own number and the operand that defines the source, unless that is
 /// barred.
-pub fn way_unless(
+pub(crate) fn way_unless(
     barred: bool,
     subs: &Substitutions,
     fresh: DebugNumber,
@@ -133,7 +70,7 @@ fn may_stand(
 }
 
 /// Whether the index is one of these.
-fn is_among(indices: &[usize], d: usize) -> bool
+pub(crate) fn is_among(indices: &[usize], d: usize) -> bool
     ensures { result ≡ list_any (nat_eq d) indices.now }
 {
     indices.iter().any(|i| d == *i)
@@ -150,7 +87,7 @@ fn or_fresh(own: &Option<DebugNumber>, fresh: DebugNumber) -> DebugNumber
 }
 
 /// The index of the last code that defines the register.
-fn last_definition(items: &[Item], s: Reg) -> Option<usize>
+pub(crate) fn last_definition(items: &[Item], s: Reg) -> Option<usize>
     ensures found { result ≡ last_definition s items.now }
     ensures within { IfSome result (λ d. d < length items.now) }
 {
@@ -175,7 +112,7 @@ fn defines(kind: &ItemKind, s: Reg) -> bool
 }
 
 /// The index of the first operand that defines the register.
-pub fn first_definition(i: &Instr, s: Reg) -> Option<usize>
+pub(crate) fn first_definition(i: &Instr, s: Reg) -> Option<usize>
     ensures { result ≡ first_definition (is_call (row_of i.now)) s i.now.operands }
 {
     let call = i.effect().call;
@@ -213,7 +150,11 @@ fn is_definition(call: bool, s: Reg, operand: &Operand) -> bool
 }
 
 /// Whether a pair of the number has a substitution.
-pub fn has_entry(subs: &Substitutions, number: &Option<DebugNumber>, operand: OperandIndex) -> bool
+pub(crate) fn has_entry(
+    subs: &Substitutions,
+    number: &Option<DebugNumber>,
+    operand: OperandIndex,
+) -> bool
     ensures { result ≡ has_entry subs.now number.now operand }
 {
     match number {
@@ -232,7 +173,7 @@ pub fn has_entry(subs: &Substitutions, number: &Option<DebugNumber>, operand: Op
 }
 
 /// Whether some of the items are debug values of a pair that resolves to operand 0 of the number.
-fn ask_for(items: &[Item], subs: &Substitutions, number: DebugNumber) -> bool
+pub(crate) fn ask_for(items: &[Item], subs: &Substitutions, number: DebugNumber) -> bool
     ensures { result ≡ list_any (λ x. asks_for subs.now number x.kind) items.now }
 {
     items.iter().any(|x| asks_for(&x.kind, subs, number))

@@ -17,8 +17,11 @@ use mir_printer::text::{Text, push_numbered, push_str};
 use mir_substitution::substitutions::Substitutions;
 use pass_liveness::live::Live;
 use pass_liveness::set::PlaceSet;
+use pass_salvage::above::Above;
 use pass_salvage::fresh::greatest_in_blocks;
-use pass_salvage::salvage::salvage;
+use pass_salvage::lookup::Lookup;
+use pass_salvage::salvage::{put_phi, salvage};
+use pass_salvage::way::SalvageAction;
 use pass_trait::pass::Pass;
 use read_program::closing::Parsed;
 use read_program::program::read_program;
@@ -128,39 +131,85 @@ fn push_folded(alloc: Global, f: &mut Func, text: &mut Text) -> Result<(), Alloc
     push_blocks(text, f.blocks.as_slice())
 }
 
+/// Takes a copy out, and appends what is left; a walk and an index of the items above have to agree.
 fn push_left(
     alloc: Global,
-    parsed: &mut Parsed,
+    parsed: &Parsed,
     at: usize,
     removed: &[usize],
     text: &mut Text,
 ) -> Result<(), Fail> {
+    let by_walk = left(alloc, parsed, at, removed, false)?;
+    let by_index = left(alloc, parsed, at, removed, true)?;
+    if by_walk.as_slice() != by_index.as_slice() {
+        return Err(Fail::from("an index finds another way than a walk"));
+    }
+    text.extend_from_slice(by_walk.as_slice())?;
+    Ok(())
+}
+
+/// The items that are left of the first block without a copy, the substitutions and the next fresh number.
+fn left(
+    alloc: Global,
+    parsed: &Parsed,
+    at: usize,
+    removed: &[usize],
+    by_index: bool,
+) -> Result<Text, Fail> {
     let mut blocks = copy_blocks(alloc, parsed.func.blocks.as_slice())?.into_vec();
+    let mut subs = parsed.subs.copy()?;
+    let mut text = Text::new(alloc);
     match blocks.first_mut() {
-        Some(block) => take_out(&mut block.items.items, &mut parsed.subs, at, removed, text),
+        Some(block) => {
+            let items = &mut block.items.items;
+            let fresh = take_out(alloc, items, &mut subs, at, removed, by_index)?;
+            push_items(&mut text, items.as_slice())?;
+            push_entries(&mut text, subs.entries())?;
+            push_numbered(&mut text, "fresh ", fresh)?;
+            push_str(&mut text, "\n")?;
+            Ok(text)
+        }
         None => Err(Fail::from("a block")),
     }
 }
 
-/// Takes a copy out, and appends the items that are left, the substitutions and the next fresh number.
+/// Takes a copy out, and returns the next fresh number.
 fn take_out(
+    alloc: Global,
     items: &mut Vec<Item>,
     subs: &mut Substitutions,
     at: usize,
     removed: &[usize],
-    text: &mut Text,
-) -> Result<(), Fail> {
+    by_index: bool,
+) -> Result<u32, Fail> {
     if items.len() <= at {
         return Err(Fail::from("too few items"));
     }
+    let number = DebugNumber(1);
     let source = Reg::new(11).ok_or("a register")?;
     let mut fresh: u32 = 100;
-    salvage(items, subs, at, DebugNumber(1), source, removed, &mut fresh)?;
-    push_items(text, items.as_slice())?;
-    push_entries(text, subs.entries())?;
-    push_numbered(text, "fresh ", fresh)?;
-    push_str(text, "\n")?;
-    Ok(())
+    let mut lookup = if by_index {
+        Lookup::Index(Above::of(alloc, &items[..at], subs)?)
+    } else {
+        Lookup::Walk
+    };
+    let action = salvage(
+        alloc,
+        items,
+        at,
+        subs,
+        &mut lookup,
+        removed,
+        number,
+        source,
+        &mut fresh,
+    )?;
+    if action == SalvageAction::GetsPhi {
+        put_phi(&mut items[at], number, source);
+    } else {
+        items.remove(at);
+    }
+    Ok(fresh)
 }
 
 /// Spills, and appends what each spilling loses, the function behind them all, and how many slots it has.

@@ -21,7 +21,7 @@ loop-at-preserved c =
       so_far = step_stands (at_block c.args.subs.now c.args.fresh.now) xs items c.next_item.new.items.items c.loop-at.kept at c.in_ok-kept.kept w.0
           c.loop-at.roots.items c.next_item.new.roots.items c.loop-at.subs c.next_item.new.subs c.loop-at.fresh c.next_item.new.fresh lt
           (w.1 ∙ read_behind xs items at w.0 h.behind) h (e.stands w.0 w.1);
-      indexed = e.index;
+      found = e.lookup;
       counted = omega (arith, low, one);
     }
 
@@ -33,4 +33,4 @@ next_item-requires-clause-carried c =
     let low = c.loop-at.invariant.counted in
     let most = c.requires.fresh in
     let lt : at < length xs = (let t = c.loop-at-test.true in let l = c.len-at-end.ensures in omega (arith, t, l)) in
-    record { left = omega (arith, low, most, lt); indexed = c.loop-at.invariant.indexed }
+    record { left = omega (arith, low, most, lt); found = c.loop-at.invariant.found }

@@ -3,7 +3,7 @@ use Rattle.mir_func.specs.declared.item.Item.{Item}
 use Rattle.copyprop_block.specs.declared.copies.CopyAction.TheVariants.{GoesWith}
 use Rattle.copyprop_block.specs.Copied.{renamed_item, fate_of, and_renamed}
 use Rattle.copyprop_block.specs.Next.{Stands}
-use Rattle.copyprop_block.proofs.Fronts.{get_any, get_set, taken_stands, index_up, index_same}
+use Rattle.copyprop_block.proofs.Fronts.{get_any, get_set, taken_stands, lookup_up, lookup_same}
 use Rattle.copyprop_block.proofs.copies.next_item.Goals as goal
 
 map_ok : {T E : Type 0} (r : Result T E) (P Q : T → Type 0) → IfOk r P → ((v : T) → P v → Q v) → IfOk r Q
@@ -36,22 +36,22 @@ returns-in-GoesWith-clause-stands c =
     c.take_out.new.subs
     c.take_out.new.fresh fate (h y roots (sym (get_set xs at y y lt))))))
 
--- the index of the front
-pub returns-in_ok-push-in-Stays-clause-index : goal.returns-in_ok-push-in-Stays-clause-index
-returns-in_ok-push-in-Stays-clause-index c =
+-- the lookup in the front
+pub returns-in_ok-push-in-Stays-clause-lookup : goal.returns-in_ok-push-in-Stays-clause-lookup
+returns-in_ok-push-in-Stays-clause-lookup c =
     let xs = c.args.items.now.items in
     let y = c.rename_item.new.x in
-    index_up xs c.swap.new.self.items c.args.kept c.args.at y c.push.new.self c.args.subs.now c.requires.within c.requires.at c.swap.ensures.items
-    (λ len. c.in_ok-push-in-Stays.ensures (take c.args.kept xs) y c.requires.carried.indexed len
+    lookup_up xs c.swap.new.self.items c.args.kept c.args.at y c.push.new.self c.args.subs.now c.requires.within c.requires.at c.swap.ensures.items
+    (λ len. c.in_ok-push-in-Stays.ensures (take c.args.kept xs) y c.requires.carried.found len
     (ap (λ (i : Item). i.kind) (sym (c.index-in-Stays-2.ensures ∙ get_set xs c.args.at y c.index-in-Stays-2.result.now c.requires.at))))
 
-pub returns-in-Goes-clause-index : goal.returns-in-Goes-clause-index
-returns-in-Goes-clause-index c =
-    index_same c.args.items.now.items c.args.kept c.args.at c.rename_item.new.x c.args.index.now c.args.subs.now c.requires.within c.requires.carried.indexed
+pub returns-in-Goes-clause-lookup : goal.returns-in-Goes-clause-lookup
+returns-in-Goes-clause-lookup c =
+    lookup_same c.args.items.now.items c.args.kept c.args.at c.rename_item.new.x c.args.lookup.now c.args.subs.now c.requires.within c.requires.carried.found
 
 pub take_out-requires-clause-carried : goal.take_out-requires-clause-carried
 take_out-requires-clause-carried c = record {
   left = c.requires.carried.left;
-  indexed = index_same c.args.items.now.items c.args.kept c.args.at c.rename_item.new.x c.args.index.now c.args.subs.now c.requires.within
-      c.requires.carried.indexed;
+  found = lookup_same c.args.items.now.items c.args.kept c.args.at c.rename_item.new.x c.args.lookup.now c.args.subs.now c.requires.within
+      c.requires.carried.found;
 }

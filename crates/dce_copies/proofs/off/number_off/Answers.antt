@@ -1,49 +1,58 @@
-use Rattle.std.proofs.Common.{◌≡◌, ◌<◌, ℕ, List, length, take, sym, ap, ◌∙◌, subst, arith}
-use Rattle.std.proofs.lemmas.List.{length-take-le}
+use Rattle.std.proofs.Common.{◌≡◌, ◌<◌, [], ◌∷◌, ◌++◌, length, append-nil, sym, ap, ◌∙◌, subst}
+use Rattle.std.proofs.lemmas.List.{get_or_default}
+use Rattle.std.proofs.lemmas.Result.{on_ok_weaker}
 use Rattle.mir_func.specs.declared.item.Item.{Item}
 use Rattle.pass_salvage.specs.declared.way.SalvageAction.{SalvageAction}
-use Rattle.pass_salvage.specs.Way.{way}
-use Rattle.dce_copies.specs.Off.{items_off}
-use Rattle.dce_copies.proofs.Set.{plain_items, entry_items}
+use Rattle.pass_salvage.specs.Salvage.{entries_for, fresh_after}
+use Rattle.dce_copies.specs.Off.{phi_off, put_off, lost_off, items_off}
+use Rattle.dce_copies.proofs.Set.{bare_items, phi_items}
 use Rattle.dce_copies.proofs.off.number_off.Goals as goal
-
-inside : (xs ys : List Item) (at d : ℕ) → ys ≡ xs → at < length xs → d < length (take at ys) → d < at
-inside xs ys at d e lt h =
-    let k : d < length (take at xs) = subst (λ (zs : List Item). d < length (take at zs)) e h in
-    let len : length (take at xs) ≡ at = length-take-le at xs (omega (arith, lt)) in
-    omega (arith, k, len)
 
 pub returns-in-HasEntry-clause-items : goal.returns-in-HasEntry-clause-items
 returns-in-HasEntry-clause-items c =
     let xs = c.args.items.now.items in
-    let all : c.deref.result.now ≡ xs = c.deref.ensures.value in
-    let is = sym (ap (λ (ys : List Item). way c.args.removed.now c.args.subs.now c.args.fresh.now c.args.copied.number c.args.copied.source (take c.args.at ys))
-    (sym all) ∙ sym c.choose_way.ensures.chosen ∙ c.in-HasEntry.is) in
-    plain_items c.args.copied xs c.args.at c.index_mut.result.now c.drop_number.new.x c.requires.at (sym c.index_mut.ensures.value) c.drop_number.ensures ∙
-    ap (λ (w : SalvageAction). items_off w c.args.at c.args.copied xs) is
+    let x = c.index_mut.result.now in
+    let salvaged = c.in_ok-action.ensures in
+    bare_items c.args.copied c.in_ok-action.action xs c.salvage_by_walk.new.items.items c.args.at x c.drop_number.new.x c.requires.at salvaged.items
+    (sym c.index_mut.ensures.value) c.drop_number.ensures (ap (λ (w : SalvageAction). put_off w c.args.copied x.origin) c.in-HasEntry.is) ∙
+    ap (λ (w : SalvageAction). items_off w c.args.at c.args.copied xs) salvaged.action
 
-pub returns-then-number-fresh-clause-items : goal.returns-then-number-fresh-clause-items
-returns-then-number-fresh-clause-items c =
+pub returns-in-GetsEntry-clause-items : goal.returns-in-GetsEntry-clause-items
+returns-in-GetsEntry-clause-items c =
     let xs = c.args.items.now.items in
-    let all : c.deref.result.now ≡ xs = c.deref.ensures.value in
-    let is = sym (ap (λ (ys : List Item). way c.args.removed.now c.args.subs.now c.args.fresh.now c.args.copied.number c.args.copied.source (take c.args.at ys))
-    (sym all) ∙ sym c.choose_way.ensures.chosen ∙ c.in-GetsEntry.is) in
-    entry_items c.args.copied xs c.args.at c.in-GetsEntry.d c.in-GetsEntry.operand c.in-GetsEntry.standing c.index_mut-in-GetsEntry.result.now
-    c.give_number.new.x
-    c.index_mut-in-GetsEntry-2.result.now c.drop_number-in-GetsEntry.new.x c.requires.at
-    (inside xs c.deref.result.now c.args.at c.in-GetsEntry.d all c.requires.at (c.choose_way.ensures.within _ _ _ c.in-GetsEntry.is))
-    (sym c.index_mut-in-GetsEntry.ensures.value) c.give_number.ensures (sym c.index_mut-in-GetsEntry-2.ensures.value) c.drop_number-in-GetsEntry.ensures ∙
-    ap (λ (w : SalvageAction). items_off w c.args.at c.args.copied xs) is
+    let x = c.index_mut-in-GetsEntry.result.now in
+    let salvaged = c.in_ok-action.ensures in
+    bare_items c.args.copied c.in_ok-action.action xs c.salvage_by_walk.new.items.items c.args.at x c.drop_number-in-GetsEntry.new.x c.requires.at
+    salvaged.items (sym c.index_mut-in-GetsEntry.ensures.value) c.drop_number-in-GetsEntry.ensures
+    (ap (λ (w : SalvageAction). put_off w c.args.copied x.origin) c.in-GetsEntry.is) ∙
+    ap (λ (w : SalvageAction). items_off w c.args.at c.args.copied xs) salvaged.action
 
-pub returns-else-number-fresh-clause-items : goal.returns-else-number-fresh-clause-items
-returns-else-number-fresh-clause-items c =
-    let xs = c.args.items.now.items in
-    let all : c.deref.result.now ≡ xs = c.deref.ensures.value in
-    let is = sym (ap (λ (ys : List Item). way c.args.removed.now c.args.subs.now c.args.fresh.now c.args.copied.number c.args.copied.source (take c.args.at ys))
-    (sym all) ∙ sym c.choose_way.ensures.chosen ∙ c.in-GetsEntry.is) in
-    entry_items c.args.copied xs c.args.at c.in-GetsEntry.d c.in-GetsEntry.operand c.in-GetsEntry.standing c.index_mut-in-GetsEntry.result.now
-    c.give_number.new.x
-    c.index_mut-in-GetsEntry-2.result.now c.drop_number-in-GetsEntry.new.x c.requires.at
-    (inside xs c.deref.result.now c.args.at c.in-GetsEntry.d all c.requires.at (c.choose_way.ensures.within _ _ _ c.in-GetsEntry.is))
-    (sym c.index_mut-in-GetsEntry.ensures.value) c.give_number.ensures (sym c.index_mut-in-GetsEntry-2.ensures.value) c.drop_number-in-GetsEntry.ensures ∙
-    ap (λ (w : SalvageAction). items_off w c.args.at c.args.copied xs) is
+pub returns-in-HasEntry-clause-entries : goal.returns-in-HasEntry-clause-entries
+returns-in-HasEntry-clause-entries c =
+    let salvaged = c.in_ok-action.ensures in
+    salvaged.entries ∙ ap (λ (w : SalvageAction). c.args.subs.now ++ entries_for w c.args.copied.number) salvaged.action
+
+pub returns-in-HasEntry-clause-fresh : goal.returns-in-HasEntry-clause-fresh
+returns-in-HasEntry-clause-fresh c =
+    let salvaged = c.in_ok-action.ensures in
+    salvaged.fresh ∙ ap (λ (w : SalvageAction). fresh_after w c.args.fresh.now) salvaged.action
+
+pub returns-in-HasEntry-clause-lost : goal.returns-in-HasEntry-clause-lost
+returns-in-HasEntry-clause-lost c =
+    sym (append-nil c.args.lost.now.items) ∙
+    ap (λ (w : SalvageAction). c.args.lost.now.items ++ lost_off w c.args.copied) (sym c.in-HasEntry.is ∙ c.in_ok-action.ensures.action)
+
+pub returns-in-GetsEntry-clause-entries : goal.returns-in-GetsEntry-clause-entries
+returns-in-GetsEntry-clause-entries c =
+    let salvaged = c.in_ok-action.ensures in
+    salvaged.entries ∙ ap (λ (w : SalvageAction). c.args.subs.now ++ entries_for w c.args.copied.number) salvaged.action
+
+pub returns-in-GetsEntry-clause-fresh : goal.returns-in-GetsEntry-clause-fresh
+returns-in-GetsEntry-clause-fresh c =
+    let salvaged = c.in_ok-action.ensures in
+    salvaged.fresh ∙ ap (λ (w : SalvageAction). fresh_after w c.args.fresh.now) salvaged.action
+
+pub returns-in-GetsEntry-clause-lost : goal.returns-in-GetsEntry-clause-lost
+returns-in-GetsEntry-clause-lost c =
+    sym (append-nil c.args.lost.now.items) ∙
+    ap (λ (w : SalvageAction). c.args.lost.now.items ++ lost_off w c.args.copied) (sym c.in-GetsEntry.is ∙ c.in_ok-action.ensures.action)
