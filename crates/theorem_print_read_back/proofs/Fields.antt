@@ -1,11 +1,8 @@
--- The fields of an entry as they are printed: what is read of their pieces.
+-- The fields of an entry as they are printed: the steps in which an entry is read.
 use Rattle.std.proofs.Common.{◌≡◌, ℕ, ◌+◌, Bool, true, false, not, ◌&&◌, ◌||◌, List, [], ◌∷◌, ◌++◌}
 use Rattle.std.proofs.Common.{ap, ◌∙◌}
 use Rattle.std.proofs.lemmas.Bool.{cond-true, cond-false}
 use Rattle.read_lexer.specs.declared.line.Line.{Line}
-use Rattle.read_lexer.specs.declared.parts.Class.TheVariants as class
-use Rattle.read_lexer.specs.declared.parts.Class.TheVariants.{Single}
-use Rattle.read_lexer.specs.Front.{token}
 use Rattle.read_metadata.specs.Token.{is_word}
 use Rattle.read_declarations.specs.declared.stream.YamlToken as stream
 use Rattle.read_declarations.specs.declared.entry.MappingField.{MappingField}
@@ -14,15 +11,6 @@ use Rattle.read_declarations.specs.declared.entry.OpenList.{OpenList}
 use Rattle.read_declarations.specs.declared.entry.ParserState.{ParserState}
 use Rattle.read_declarations.specs.declared.entry.ParserState.TheVariants.{Outside, Key, Next}
 use Rattle.read_declarations.specs.Entry.{is_mark, is_value, has_key, entries_from}
-use Rattle.readback_items.proofs.Lexing.{Piece}
-use Rattle.readback_items.proofs.Phrases.{piece}
-
--- ---- pieces
-
-abbrev pub mark : ℕ → ℕ → Piece
-mark blanks b = piece blanks (class.Single b) (b ∷ [])
-
--- ---- steps
 
 -- a list of entries, one of which is open
 abbrev pub opened : List MappingEntry → ParserState → ℕ → List MappingField → OpenList
@@ -58,5 +46,3 @@ module _ (lines : List Line) (cut : Bool) (es : List MappingEntry) where
   close_step n fields brace rest other is =
       cond-true (is_mark 44 brace || is_mark 125 brace) _ _ (λ i. other i || is i)
       ∙ ap (λ (o : OpenList). entries_from lines cut o rest) (cond-false (is_mark 44 brace) _ _ other)
-
--- ---- texts

@@ -30,11 +30,9 @@ use Rattle.read_proof.specs.Read.{EntryIsLimited}
 use Rattle.readback_functions.specs.Document.{lines_from}
 use Rattle.readback_functions.proofs.Listed.{IsLexedLine, pieces_at, Stands, outside, IsEntryLine, AreEntryLines, AllMean, listed}
 use Rattle.readback_functions.proofs.Spans.{token_of, line_texts}
-use Rattle.readback_functions.proofs.EntryLines.{field_reads, number_read, open_reads, text_found, field, close_reads, comma_reads, field_at, IsRead}
+use Rattle.readback_functions.proofs.EntryLines.{field_reads, number_read, open_reads, text_found, mark, field, close_reads, comma_reads, field_at, IsRead}
 use Rattle.theorem_print_read_back.specs.Substitutions.{entry_line, AreNew, SubstitutionsReadBack}
-use Rattle.theorem_print_read_back.proofs.Fields.{mark, opened, open_step}
-use Rattle.theorem_print_read_back.proofs.Fields.{field_step, comma_step}
-use Rattle.theorem_print_read_back.proofs.Fields.{close_step}
+use Rattle.theorem_print_read_back.proofs.Fields.{opened, open_step, field_step, comma_step, close_step}
 
 -- ---- what an entry says
 
