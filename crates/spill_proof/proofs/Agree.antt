@@ -1,5 +1,5 @@
 -- Whatever decides what is live at the start, the same registers are spilled.
-use Rattle.std.proofs.Common.{◌≡◌, ℕ, List, [], take, Contains, Some, None, Bool, cond, ◌&&◌}
+use Rattle.std.proofs.Common.{◌≡◌, ℕ, List, take, Contains, Some, None, Bool, cond, ◌&&◌}
 use Rattle.std.proofs.Common.{ap}
 use Rattle.mir_func.specs.Function.{Function}
 use Rattle.pass_trait.specs.declared.loss.Reason.TheVariants.{NoScratch, CallNamed, EntryLoop}
