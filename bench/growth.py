@@ -13,6 +13,7 @@
   bench/growth.py locations           of frame, layout, values over all paths and location lists, on blocks, items and variables
   bench/growth.py sections            what the sections of `compile` take beside its listing, on functions with variables and lines
   bench/growth.py passes              of copies, constants and spilled registers, in one block and in 1,024 blocks
+  bench/growth.py worst [KIND..]      the whole run of `compile` on texts that were made to be slow: ladder, rounds, dead, swing, chain, ring, copies
   bench/growth.py lex                 the whole run of crates/mirdwarf_bench/out/mirdwarf_bench, on texts of 1, 2 and 4 MiB
 
 The program is crates/mirdwarf/out/mirdwarf, as the gate leaves it. Each line has the input's size, the count and its growth.
@@ -242,6 +243,76 @@ def lined(number):
     return b"".join(head) + b"...\n" + b"".join(b"---\nname: f%d\nbody: |\n  bb.0:\n%s    PseudoRET\n...\n" % (n, body) for n in range(number))
 
 
+def made_slow(entries, blocks, slots=0):
+    """A function of these lines of substitutions and of each block, with so many spill slots."""
+    meta = (b"--- |\n  !1 = !DIFile(filename: \"t.c\", directory: \"/d\")\n  !2 = !DIBasicType(name: \"long\", size: 64, encoding: DW_ATE_signed)\n"
+            b"  !3 = distinct !DISubprogram(name: \"f\", scope: !1, file: !1, line: 1)\n  !5 = !DILocation(line: 2, column: 1, scope: !3)\n"
+            b"  !4 = !DILocalVariable(name: \"v\", scope: !3, file: !1, line: 1, type: !2)\n...\n---\nname: f\n")
+    stack = b"".join(b"  - { id: %d, size: 8 }\n" % n for n in range(slots))
+    lines = b"".join(b"  bb.%d:\n" % n + b"".join(b"    " + line + b"\n" for line in block) for n, block in enumerate(blocks))
+    return meta + (b"debugValueSubstitutions:\n" + b"".join(entries) if entries else b"") + (b"stack:\n" + stack if slots else b"") + b"body: |\n" + lines + b"...\n"
+
+
+ASKED = b"DBG_INSTR_REF !4, !DIExpression(DW_OP_LLVM_arg, 0), dbg-instr-ref(%d, 0), debug-location !5"
+RETURN = b"PseudoRET implicit $x10"
+
+
+def ladder(blocks):
+    """Each block branches to the one before it, and has two numbers that marks ask for."""
+    def block(n):
+        sums = [line for k in (1, 2) for line in (b"$x10 = ADDI $x10, 1, debug-instr-number %d" % (2 * n + k), ASKED % (2 * n + k))]
+        return [b"$x8 = ADDI $x10, 1", *sums, b"BNE $x5, $x6, %%bb.%d" % n]
+    return made_slow([], [[b"$x11 = ADDI $x11, 1"], *(block(n) for n in range(blocks - 2)), [b"$x10 = ADD $x10, $x12", RETURN]])
+
+
+def rounds(loops):
+    """Loops of two blocks through which dead code goes to and fro: a round of `dead` finds one piece of it; then as many blocks that branch one back."""
+    first = [block for n in range(loops) for block in (
+        [b"$x8 = ADDI $x%d, 1" % (12 if n else 10)], [b"$x11 = ADDI $x9, 1"],
+        [b"$x12 = ADDI $x11, 1", b"$x9 = ADDI $x8, 1", b"BNE $x5, $x6, %%bb.%d" % (3 * n + 1)])]
+    behind = [[b"$x10 = ADDI $x7, 1"], *([b"BNE $x5, $x6, %%bb.%d" % (3 * loops + n)] for n in range(3 * loops))]
+    return made_slow([], [*first, *behind, [RETURN]])
+
+
+def dead(blocks):
+    """Dead sums of one register: each is found only when the one behind it, in the next block, has gone."""
+    return made_slow([], [[b"$x11 = ADDI $x11, 1", *(b"$x10 = ADDI $x10, %d" % n for n in range(4))] for _ in range(blocks - 1)]
+                     + [[b"$x10 = ADDI $x0, 1", RETURN]])
+
+
+def swing(slots):
+    """Copies from slot to slot in a loop of blocks: each sweep over the values tells one slot apart from the others."""
+    copies = [line for n in range(slots - 1, 0, -1) for line in (b"$x6 = LD %%stack.%d, 0" % (n - 1), b"SD $x6, %%stack.%d, 0" % n)]
+    first = [b"$x5 = ADDI $x0, 1", *(b"SD $x5, %%stack.%d, 0" % n for n in range(slots))]
+    loop = [[*copies, b"SD $x10, %stack.0, 0"], *([b"$x11 = ADDI $x11, 1"] for _ in range(4 * slots)), [b"BNE $x11, $x12, %bb.1"]]
+    return made_slow([], [first, *loop, [b"$x10 = LD %%stack.%d, 0, debug-instr-number 1" % (slots - 1), ASKED % 1, RETURN]], slots)
+
+
+def substituted(entries, last):
+    """Substitutions in one chain that ends at this number, and a mark of the chain's head for each tenth."""
+    line = b"  - { srcinst: %d, srcop: 0, dstinst: %d, dstop: 0, subreg: 0 }\n"
+    chain = [line % (10000 + n, 10000 + n + 1 if n < entries - 1 else last) for n in range(entries)]
+    return made_slow(chain, [[b"$x11 = ADDI $x11, 1, debug-instr-number 1", *([ASKED % 10000] * (entries // 10)), RETURN]])
+
+
+def copies(number):
+    """Dead copies with numbers, each with a mark behind it."""
+    lines = [line for n in range(number) for line in (b"$x12 = ADDI $x10, %d" % (n % 2000), b"$x11 = COPY $x12, debug-instr-number %d" % (n + 1), ASKED % (n + 1))]
+    return made_slow([], [[*lines, RETURN]])
+
+
+# Of each kind of slow text: what is doubled, from what on, how often, and the text of a size.
+WORST = {
+    "ladder": ("blocks", 64, 3, ladder),
+    "rounds": ("loops of two blocks", 10, 3, rounds),
+    "dead": ("blocks", 32, 3, dead),
+    "swing": ("slots, four blocks each", 28, 3, swing),
+    "chain": ("substitutions", 1000, 3, lambda n: substituted(n, 1)),
+    "ring": ("substitutions", 1000, 3, lambda n: substituted(n, 10000)),
+    "copies": ("copies", 250, 3, copies),
+}
+
+
 def table(name, program, words, sizes, make):
     print(name)
     before = None
@@ -336,6 +407,10 @@ def main():
                 instructions = count(program, ["selftest", str(number), str(size)], b"")
                 print("  %9d  %13d  %s" % (size, instructions, "%.3f" % (instructions / last) if last else ""))
                 last = instructions
+    elif what[:1] == ["worst"] and all(kind in WORST for kind in what[1:]):
+        for kind in what[1:] or WORST:
+            by, first, times, make = WORST[kind]
+            table("%s, by %s" % (kind, by), "crates/mirdwarf/out/mirdwarf", ["compile"], [first << n for n in range(times + 1)], make)
     elif what == ["sections"]:
         more("functions of four variables and 64 lines, by functions", ["compile", "--passes=none"], ["listing", "--passes=none"], (32, 64, 128, 256), lined)
     elif what == ["passes"]:
