@@ -101,6 +101,8 @@ initial_rules start = record {
   offset = lit< tt;
   registers = refl;
   distances = All-from_recursion IsDistance none_saved (none_fit 32);
+  zero = refl;
+  pointer = refl;
 }
 
 -- what rows are that are read

@@ -1,14 +1,17 @@
 -- The rules of an address: those that were in force there when the rows were made.
 use Rattle.std.specs.Prelude.{Contains}
-use Rattle.std.proofs.Common.{◌≡◌, ℕ, zero, suc, ◌+◌, ◌<◌, ◌≤◌, cond, leb, ltb, Some, List, [], ◌∷◌, length, get_or}
+use Rattle.std.specs.Option.{option_map}
+use Rattle.std.proofs.Common.{◌≡◌, ℕ, zero, suc, ◌+◌, ◌<◌, ◌≤◌, cond, leb, ltb, Option, Some, None, List, [], ◌∷◌, ◌++◌, length, get_or, take, set}
 use Rattle.std.proofs.Common.{ap, subst, sym, ◌∙◌, refl, arith}
 use Rattle.std.proofs.lemmas.Bool.{le-leb, lt-leb, lt-ltb, le-ltb, and_from, and_right}
+use Rattle.std.proofs.lemmas.List.{take_all, take_more, take_more_set, length-take}
+use Rattle.dwarf_frame.specs.declared.table.RegisterRule.{RegisterRule}
 use Rattle.dwarf_frame.specs.declared.table.FrameRow.{FrameRow}
 use Rattle.dwarf_frame.specs.declared.table.Row.{Row}
 use Rattle.dwarf_frame.specs.declared.table.FrameDescription.{FrameDescription}
 use Rattle.dwarf_frame.specs.Table.{initial}
 use Rattle.dwarf_frame.specs.FirstFault.{IsSection}
-use Rattle.dwarf_frame.specs.Rows.{rules_after, rules_in, RulesAt, Changes, NoEntry, Same, Other, AscendFrom, AreApart}
+use Rattle.dwarf_frame.specs.Rows.{rules_after, rules_in, rule_of, rules_from, unwinding, RulesAt, Changes, NoEntry, Same, Other, AscendFrom, AreApart}
 
 -- all rows are later than an address
 abbrev AreLater : ℕ → List Row → Type 0
@@ -74,14 +77,44 @@ rules_by from (g ∷ functions) (suc k) f address apart inside at begins ends =
     ∙ rules_by (g.start + g.size) functions k f address apart.1 (omega arith) at begins ends
 
 -- and so are those of the section
-pub entry_rules : (bytes : List ℕ) (functions : List FrameDescription) (f : FrameDescription) (entries : List Row) (e : Row)
-    → IsSection [] bytes functions → AreApart 0 functions → Contains functions f → Changes (initial f.start).rules entries f.rows
-    → AscendFrom f.start entries → Contains entries e → e.address < f.start + f.size → RulesAt [] bytes e.address e.rules
-entry_rules bytes functions f entries e is apart listed changes ascend entered ends =
+pub entry_rules : (undefined bytes : List ℕ) (functions : List FrameDescription) (f : FrameDescription) (entries : List Row) (e : Row)
+    → IsSection undefined bytes functions → AreApart 0 functions → Contains functions f → Changes (initial f.start).rules entries f.rows
+    → AscendFrom f.start entries → Contains entries e → e.address < f.start + f.size → RulesAt undefined bytes e.address (unwinding undefined e.rules)
+entry_rules undefined bytes functions f entries e is apart listed changes ascend entered ends =
     let begins : f.start ≤ e.address = at_or_after f.start entries entered.0 e ascend entered.1 entered.2 in
     record {
       functions = functions;
       section = is;
-      found = rules_by 0 functions listed.0 f e.address apart listed.1 listed.2 begins ends
-          ∙ ap Some (rules_of f.start entered.0 e changes ascend entered.1 entered.2);
+      found =
+          ap (option_map (unwinding undefined))
+          (rules_by 0 functions listed.0 f e.address apart listed.1 listed.2 begins ends
+          ∙ ap Some (rules_of f.start entered.0 e changes ascend entered.1 entered.2));
     }
+
+-- ---- the rules that a row stands for, one register after the other
+
+rules_push : (undefined : List ℕ) (register : ℕ) (saved : List (Option ℕ)) (o : Option ℕ)
+    → rules_from undefined register (saved ++ o ∷ []) ≡ rules_from undefined register saved ++ rule_of undefined (register + length saved) o ∷ []
+rules_push undefined register [] o =
+    let same : register ≡ register + 0 = omega arith in ap (λ n. rule_of undefined n o ∷ []) same
+rules_push undefined register (x ∷ saved) o =
+    let next : suc register + length saved ≡ register + suc (length saved) = omega arith in
+    ap (λ rs. rule_of undefined register x ∷ rs)
+    (rules_push undefined (suc register) saved o
+    ∙ ap (λ n. rules_from undefined (suc register) saved ++ rule_of undefined n o ∷ []) next)
+
+pub rules_more : (undefined : List ℕ) (registers : List RegisterRule) (saved : List (Option ℕ)) (i : ℕ) (rule : RegisterRule) → i < length registers
+    → i < length saved → take i registers ≡ rules_from undefined 0 (take i saved) → rule ≡ rule_of undefined i (get_or saved i None)
+    → take (i + 1) (set registers i rule) ≡ rules_from undefined 0 (take (i + 1) saved)
+rules_more undefined registers saved i rule inside among so_far is =
+    let count : i ≡ 0 + length (take i saved) = omega (arith, length-take i saved, among) in
+    take_more_set registers i rule inside ∙ ap (λ xs. xs ++ rule ∷ []) so_far
+    ∙ ap (λ r. rules_from undefined 0 (take i saved) ++ r ∷ []) is
+    ∙ ap (λ n. rules_from undefined 0 (take i saved) ++ rule_of undefined n (get_or saved i None) ∷ []) count
+    ∙ sym (rules_push undefined 0 (take i saved) (get_or saved i None))
+    ∙ ap (rules_from undefined 0) (sym (take_more saved i None among))
+
+pub rules_done : (undefined : List ℕ) (registers : List RegisterRule) (saved : List (Option ℕ)) (i : ℕ) → length registers ≤ i → length saved ≤ i
+    → take i registers ≡ rules_from undefined 0 (take i saved) → registers ≡ rules_from undefined 0 saved
+rules_done undefined registers saved i past all so_far =
+    sym (take_all i registers past) ∙ so_far ∙ ap (rules_from undefined 0) (take_all i saved all)

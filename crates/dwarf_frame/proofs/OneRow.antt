@@ -1,6 +1,7 @@
 -- A row is read where it is spelled, in both directions.
 use Rattle.std.proofs.Common.{◌≡◌, ◌≢◌, ℕ, suc, ◌+◌, ◌-◌, ◌*◌, ◌/◌, ◌^◌, ◌<◌, true, false, cond, eqb, List, [], ◌∷◌, ◌++◌}
-use Rattle.std.proofs.Common.{length, Option, Some, None, Result, Ok, Err, arith, ap, subst, sym, ◌∙◌, inl, inr, append_assoc, length-append, eq-eqb, eqb-true}
+use Rattle.std.proofs.Common.{length, Option, Some, None, Result, Ok, Err, arith, ap, subst, sym, ◌∙◌, refl, inl, inr, append_assoc, length-append}
+use Rattle.std.proofs.Common.{eq-eqb, eqb-true}
 use Rattle.std.proofs.lemmas.Bool.{eqb-false, ne_eqb, cases_Bool}
 use Rattle.std.proofs.lemmas.List.{nil_from_length}
 use Rattle.std.proofs.lemmas.List.Elements.{recursion_from_All, All-from_recursion}
@@ -15,8 +16,8 @@ use Rattle.dwarf_frame.specs.declared.table.Row.{Row}
 use Rattle.dwarf_frame.specs.Table.{is_saved, IsDistance, AreRules, IsNext}
 use Rattle.dwarf_frame.specs.Spelling.{advance, def_cfa_offset, saves, restores, registers, row}
 use Rattle.dwarf_frame.specs.FirstFault.{address_at, registers_at, next_row_at}
-use Rattle.dwarf_frame.proofs.Opcodes.{number, address_takes, address_again, Below, registers_take, registers_again, unchanged}
-use Rattle.dwarf_frame.proofs.Opcodes.{nothing_changes}
+use Rattle.dwarf_frame.proofs.Opcodes.{number, address_takes, address_again, Below, may_at, may_be, registers_take, registers_again}
+use Rattle.dwarf_frame.proofs.Opcodes.{unchanged, nothing_changes}
 
 abbrev pub change : (old new : ℕ) → List ℕ
 change old new = changing old new (def_cfa_offset new)
@@ -77,7 +78,9 @@ row_takes end before bytes r rest are fits e =
     let s = bind_ok (registers_at before.rules.saved o.0.1) (closing a.0.0 o.0.0 a.0.1) (r, rest) o.2 in
     let address = address_takes before.address end bytes a.0.0 a.0.1 are a.1 in
     let offset = register_takes 14 (uleb_at (2 ^ 32)) uleb_of (λ n. n < 2 ^ 32) before.rules.cfa_offset a.0.1 o.0.0 o.0.1 small fits.offset o.1 in
-    let saved = registers_take before.rules.saved o.0.1 s.0.0 s.0.1 fits.registers (recursion_from_All IsDistance before.rules.saved fits.distances) s.1 in
+    let saved =
+    registers_take before.rules.saved o.0.1 s.0.0 s.0.1 fits.registers (recursion_from_All IsDistance before.rules.saved fits.distances)
+    (may_be before.rules.saved fits.zero fits.pointer) s.1 in
     let words : (a.0.0 - before.address) / 4 ≡ address.words = omega (arith, address.is) in
     elim (chosen (eqb (length s.0.1) (length a.0.1)) (refused (length s.0.1)) (given (row_of a.0.0 o.0.0 s.0.0) s.0.1) (given r rest) s.2) [
       | inl nothing ↦ absurd (not_ok (length s.0.1) (r, rest) nothing.1)
@@ -106,6 +109,8 @@ row_takes end before bytes r rest are fits e =
               offset = offset.1;
               registers = saved.count;
               distances = All-from_recursion IsDistance s.0.0 saved.distances;
+              zero = may_at s.0.0 0 0 saved.may refl;
+              pointer = may_at s.0.0 0 2 saved.may refl;
             };
           })
     ]
@@ -179,7 +184,7 @@ row_again end before r rest next fits rules follows =
     (register_again 14 (uleb_at (2 ^ 32)) uleb_of (λ n. n < 2 ^ 32) before.rules.cfa_offset r.rules.cfa_offset b2 small rules.offset
     (no_offset before.rules.saved r.rules.saved rest follows))
     ∙ step (registers_at before.rules.saved b2) (closing r.address r.rules.cfa_offset b1) (r.rules.saved, rest)
-    (registers_again before.rules.saved r.rules.saved rest rules.registers (recursion_from_All IsDistance r.rules.saved rules.distances) next.keeps
-    (follows_below rest follows))
+    (registers_again before.rules.saved r.rules.saved rest rules.registers (recursion_from_All IsDistance r.rules.saved rules.distances)
+    (may_be r.rules.saved rules.zero rules.pointer) next.keeps (follows_below rest follows))
     ∙ ap (λ b. cond b (refused (length rest)) (given r rest))
     (ne_eqb (length rest) (length b1) (λ same. next.others (same_rules before r end rest next fits rules same)))

@@ -3,23 +3,29 @@
 use Rattle.std.specs.Prelude.{◌&&◌}
 use Rattle.std.specs.Int.{w32, to_le_bytes}
 use Rattle.std.specs.List.{AllByRecursion}
-use Rattle.std.proofs.Common.{◌≡◌, ℕ, zero, suc, ◌+◌, ◌-◌, ◌*◌, ◌/◌, ◌^◌, ◌<◌, ◌≤◌, true, false, cond, eqb, ltb, List, [], ◌∷◌, ◌++◌}
-use Rattle.std.proofs.Common.{length, replicate, Option, Some, None, Result, Ok, Err, arith, ap, subst, sym, ◌∙◌, refl, inl, inr, append_assoc, eq-eqb, eqb-true}
-use Rattle.std.proofs.lemmas.Bool.{true≢false, false≢true, ne_eqb, cases_Bool, cases_lt, ltb-true, ltb-false, lt-ltb, le-ltb, le-leb, lt-leb, and_parts}
+use Rattle.std.proofs.Common.{◌≡◌, ◌⊎◌, ℕ, zero, suc, ◌+◌, ◌-◌, ◌*◌, ◌/◌, ◌^◌, ◌<◌, ◌≤◌, Bool, true, false, cond, eqb, ltb, List, [], ◌∷◌, ◌++◌}
+use Rattle.std.proofs.Common.{length, replicate, get_or, Option, Some, None, Result, Ok, Err, arith, ap, subst, sym, ◌∙◌, refl}
+use Rattle.std.proofs.Common.{inl, inr, append_assoc, eq-eqb, eqb-true}
+use Rattle.std.proofs.lemmas.Bool.{or_cases, true≢false, false≢true, ne_eqb, cases_Bool, cases_lt, ltb-true, ltb-false, lt-ltb, le-ltb, le-leb, lt-leb}
+use Rattle.std.proofs.lemmas.Bool.{and_parts}
 use Rattle.dwarf_base.specs.Leb.{uleb_of}
 use Rattle.dwarf_line.specs.Fields.{◌>>=◌, constants_at, number_at, uleb_at}
 use Rattle.dwarf_line.proofs.Groups.{bind_ok, chosen, ok_is, not_ok, constants_take, constants_again, Other, step}
 use Rattle.dwarf_line.proofs.Fixed.{IsBytes, IsBytes-rest, wide32, number_takes, number_again}
 use Rattle.dwarf_line.proofs.Numbers.{uleb_takes, uleb_again}
-use Rattle.dwarf_frame.specs.Table.{is_saved, none_saved, IsDistance}
+use Rattle.dwarf_frame.specs.Table.{is_saved, is_fixed, none_saved, IsDistance}
 use Rattle.dwarf_frame.specs.Spelling.{advance, saves, restores, registers}
-use Rattle.dwarf_frame.specs.FirstFault.{advanced_at, address_at, save_at, saves_at, begins_restore, registers_at}
+use Rattle.dwarf_frame.specs.FirstFault.{advanced_at, address_at, distance_at, save_at, saves_at, begins_restore}
+use Rattle.dwarf_frame.specs.FirstFault.{registers_at}
 
 abbrev pub number : ℕ → List ℕ → Result (ℕ × List ℕ) ℕ
 number n rest = Ok (n, rest)
 
 abbrev wrong : ℕ → Result (ℕ × List ℕ) ℕ
 wrong left = Err left
+
+not_none : (distance : ℕ) → Some distance ≡ None → ⊥
+not_none distance e = cc
 
 -- ---- the advance
 
@@ -172,11 +178,11 @@ saved_at register b bytes n after o rest is operand e =
       (omega arith, omega (arith, operand.1)),
     )
 
-save_takes : (register : ℕ) (bytes : List ℕ) (o : Option ℕ) (rest : List ℕ) → save_at register bytes ≡ Ok (o, rest)
+distance_takes : (register : ℕ) (bytes : List ℕ) (o : Option ℕ) (rest : List ℕ) → distance_at register bytes ≡ Ok (o, rest)
     → (bytes ≡ one register o ++ rest) × IsDistance o
-unfolding save_at
-save_takes register [] o rest e = unsaved register [] o rest e
-save_takes register (b ∷ bytes) o rest e =
+unfolding distance_at
+distance_takes register [] o rest e = unsaved register [] o rest e
+distance_takes register (b ∷ bytes) o rest e =
     elim (chosen (eqb b (128 + register)) (uleb_at (2 ^ 29) bytes >>= at_distance) (kept None (b ∷ bytes)) (kept o rest) e) [
       | inl saved ↦
           (let operand = bind_ok (uleb_at (2 ^ 29) bytes) at_distance (o, rest) saved.1 in
@@ -184,11 +190,37 @@ save_takes register (b ∷ bytes) o rest e =
       | inr other ↦ unsaved register (b ∷ bytes) o rest other.1
     ]
 
+-- a register that is saved may be
+abbrev MayBe : ℕ → Option ℕ → Type 0
+MayBe register None = Unit {0}
+MayBe register (Some distance) = is_fixed register ≡ false
+
+free_may : (register : ℕ) (o : Option ℕ) → is_fixed register ≡ false → MayBe register o
+free_may register None free = tt
+free_may register (Some distance) free = free
+
+save_takes : (register : ℕ) (bytes : List ℕ) (o : Option ℕ) (rest : List ℕ) → save_at register bytes ≡ Ok (o, rest)
+    → (bytes ≡ one register o ++ rest) × IsDistance o × MayBe register o
+unfolding save_at
+save_takes register bytes o rest e =
+    elim (chosen (is_fixed register) (kept None bytes) (distance_at register bytes) (kept o rest) e) [
+      | inl fixed ↦
+          subst (λ (p : Option ℕ × List ℕ). (bytes ≡ one register p.0 ++ p.1) × IsDistance p.0 × MayBe register p.0)
+          (ok_is (one_of None bytes) (one_of o rest) fixed.1) (refl, tt, tt)
+      | inr free ↦ (let is = distance_takes register bytes o rest free.1 in (is.0, is.1, free_may register o free.0))
+    ]
+
+-- each register that is saved may be
+abbrev pub MayBeSaved : (register : ℕ) → List (Option ℕ) → Type 0
+MayBeSaved register [] = Unit {0}
+MayBeSaved register (o ∷ saved) = MayBe register o × MayBeSaved (suc register) saved
+
 -- what distances are that are read
 pub record AreSaves (count register : ℕ) (bytes : List ℕ) (saved : List (Option ℕ)) (rest : List ℕ) : Type 0 where
   pub spelled : bytes ≡ saves register saved ++ rest
   pub count_is : length saved ≡ count
   pub distances : AllByRecursion IsDistance saved
+  pub may : MayBeSaved register saved
 
 abbrev all_of : List (Option ℕ) → List ℕ → List (Option ℕ) × List ℕ
 all_of saved rest = (saved, rest)
@@ -207,7 +239,7 @@ pub saves_take : (count register : ℕ) (bytes : List ℕ) (saved : List (Option
 unfolding saves_at
 saves_take zero register bytes saved rest e =
     subst (λ (p : List (Option ℕ) × List ℕ). AreSaves 0 register bytes p.0 p.1) (ok_is (all_of [] bytes) (all_of saved rest) e)
-    (record { spelled = refl; count_is = refl; distances = tt })
+    (record { spelled = refl; count_is = refl; distances = tt; may = tt })
 saves_take (suc count) register bytes saved rest e =
     let first = bind_ok (save_at register bytes) (others_after count register) (saved, rest) e in
     let others = bind_ok (saves_at count (suc register) first.0.1) (joined first.0.0) (saved, rest) first.2 in
@@ -222,6 +254,7 @@ saves_take (suc count) register bytes saved rest e =
           ∙ ap (λ x. x ++ others.0.1) (sym (saves_more register first.0.0 others.0.0));
       count_is = ap suc next.count_is;
       distances = (this.1, next.distances);
+      may = (this.2, next.may);
     })
 
 -- the next byte is no opcode of a register
@@ -235,33 +268,49 @@ saves_other [] k register (b ∷ rest) above below = λ e. omega arith
 saves_other (None ∷ saved) k register rest above below = saves_other saved k (suc register) rest (omega arith) below
 saves_other (Some distance ∷ saved) k register rest above below = λ e. omega arith
 
+distance_other : (register : ℕ) (bytes : List ℕ) → Other (128 + register) bytes → distance_at register bytes ≡ Ok (None, bytes)
+unfolding distance_at
+distance_other register [] other = refl
+distance_other register (b ∷ bytes) other = rw (ne_eqb b (128 + register) other) refl
+
 save_other : (register : ℕ) (bytes : List ℕ) → Other (128 + register) bytes → save_at register bytes ≡ Ok (None, bytes)
 unfolding save_at
-save_other register [] other = refl
-save_other register (b ∷ bytes) other = rw (ne_eqb b (128 + register) other) refl
+save_other register bytes other =
+    elim (cases_Bool (is_fixed register)) [
+      | inl fixed ↦ ap (λ b. cond b (kept None bytes) (distance_at register bytes)) fixed
+      | inr free ↦ ap (λ b. cond b (kept None bytes) (distance_at register bytes)) free ∙ distance_other register bytes other
+    ]
 
-save_again : (register distance : ℕ) (rest : List ℕ) → IsDistance (Some distance)
-    → save_at register (((128 + register) ∷ uleb_of (distance / 8)) ++ rest) ≡ Ok (Some distance, rest)
-unfolding save_at
-save_again register distance rest is =
+distance_again : (register distance : ℕ) (rest : List ℕ) → IsDistance (Some distance)
+    → distance_at register (((128 + register) ∷ uleb_of (distance / 8)) ++ rest) ≡ Ok (Some distance, rest)
+unfolding distance_at
+distance_again register distance rest is =
     let back : 8 * (distance / 8) ≡ distance = omega (arith, is.0) in
     rw (eq-eqb (128 + register) (128 + register) refl, uleb_again (2 ^ 29) (distance / 8) rest (omega (arith, is.1)), back) refl
 
-pub saves_again : (saved : List (Option ℕ)) (register : ℕ) (rest : List ℕ) → AllByRecursion IsDistance saved → Below rest
+save_again : (register distance : ℕ) (rest : List ℕ) → is_fixed register ≡ false → IsDistance (Some distance)
+    → save_at register (((128 + register) ∷ uleb_of (distance / 8)) ++ rest) ≡ Ok (Some distance, rest)
+unfolding save_at
+save_again register distance rest free is =
+    let bytes : List ℕ = ((128 + register) ∷ uleb_of (distance / 8)) ++ rest in
+    ap (λ b. cond b (kept None bytes) (distance_at register bytes)) free ∙ distance_again register distance rest is
+
+pub saves_again : (saved : List (Option ℕ)) (register : ℕ) (rest : List ℕ) → AllByRecursion IsDistance saved → MayBeSaved register saved → Below rest
     → saves_at (length saved) register (saves register saved ++ rest) ≡ Ok (saved, rest)
 unfolding saves_at
-saves_again [] register rest are below = refl
-saves_again (None ∷ saved) register rest are below =
+saves_again [] register rest are may below = refl
+saves_again (None ∷ saved) register rest are may below =
     let after : List ℕ = saves (suc register) saved ++ rest in
     step (save_at register after) (others_after (length saved) register) (one_of None after)
     (save_other register after (saves_other saved register (suc register) rest (omega arith) below))
-    ∙ step (saves_at (length saved) (suc register) after) (joined None) (all_of saved rest) (saves_again saved (suc register) rest are.1 below)
-saves_again (Some distance ∷ saved) register rest are below =
+    ∙ step (saves_at (length saved) (suc register) after) (joined None) (all_of saved rest) (saves_again saved (suc register) rest are.1 may.1 below)
+saves_again (Some distance ∷ saved) register rest are may below =
     let after : List ℕ = saves (suc register) saved ++ rest in
     ap (saves_at (suc (length saved)) register) (append_assoc ((128 + register) ∷ uleb_of (distance / 8)) (saves (suc register) saved) rest)
     ∙ step (save_at register (((128 + register) ∷ uleb_of (distance / 8)) ++ after)) (others_after (length saved) register) (one_of (Some distance) after)
-    (save_again register distance after are.0)
-    ∙ step (saves_at (length saved) (suc register) after) (joined (Some distance)) (all_of saved rest) (saves_again saved (suc register) rest are.1 below)
+    (save_again register distance after may.0 are.0)
+    ∙ step (saves_at (length saved) (suc register) after) (joined (Some distance)) (all_of saved rest)
+    (saves_again saved (suc register) rest are.1 may.1 below)
 
 -- ---- changes of saved registers
 
@@ -276,6 +325,51 @@ none_all saved count none = none_is saved none ∙ ap (λ n. replicate n None) c
 pub none_fit : (n : ℕ) → AllByRecursion IsDistance (replicate n None)
 none_fit zero = tt
 none_fit (suc n) = (tt, none_fit n)
+
+pub none_may : (n register : ℕ) → MayBeSaved register (replicate n None)
+none_may zero register = tt
+none_may (suc n) register = (tt, none_may n (suc register))
+
+-- the registers that are never saved are two
+fixed_is : (register : ℕ) → is_fixed register ≡ true → (register ≡ 0) ⊎ (register ≡ 2)
+fixed_is register fixed =
+    elim (or_cases (eqb register 0) (eqb register 2) fixed) [
+      | inl first ↦ inl (eqb-true register 0 first)
+      | inr third ↦ inr (eqb-true register 2 third)
+    ]
+
+-- the places of registers that are never saved are empty
+pub may_at : (saved : List (Option ℕ)) (register k : ℕ) → MayBeSaved register saved → is_fixed (register + k) ≡ true → get_or saved k None ≡ None
+may_at [] register k may fixed = refl
+may_at (None ∷ saved) register zero may fixed = refl
+may_at (Some distance ∷ saved) register zero may fixed =
+    let same : register ≡ register + 0 = omega arith in
+    absurd (true≢false (sym fixed ∙ subst (λ n. is_fixed n ≡ false) same may.0))
+may_at (o ∷ saved) register (suc k) may fixed =
+    let next : register + suc k ≡ suc register + k = omega arith in
+    may_at saved (suc register) k may.1 (subst (λ n. is_fixed n ≡ true) next fixed)
+
+may_from : (saved : List (Option ℕ)) (register : ℕ) → ((k : ℕ) → is_fixed (register + k) ≡ true → get_or saved k None ≡ None)
+    → MayBeSaved register saved
+may_from [] register empty = tt
+may_from (o ∷ saved) register empty = (first o (empty 0), may_from saved (suc register) later) where
+  some : (distance : ℕ) (b : Bool) → b ≡ is_fixed register → (is_fixed (register + 0) ≡ true → Some distance ≡ None) → b ≡ false
+  some distance false is none = refl
+  some distance true is none =
+      let same : register ≡ register + 0 = omega arith in absurd (not_none distance (none (subst (λ n. is_fixed n ≡ true) same (sym is))))
+
+  first : (o : Option ℕ) → (is_fixed (register + 0) ≡ true → o ≡ None) → MayBe register o
+  first None none = tt
+  first (Some distance) none = some distance (is_fixed register) refl none
+
+  later : (k : ℕ) → is_fixed (suc register + k) ≡ true → get_or saved k None ≡ None
+  later k fixed = let next : suc register + k ≡ register + suc k = omega arith in empty (suc k) (subst (λ n. is_fixed n ≡ true) next fixed)
+
+pub may_be : (saved : List (Option ℕ)) → get_or saved 0 None ≡ None → get_or saved 2 None ≡ None → MayBeSaved 0 saved
+may_be saved none_zero none_pointer = may_from saved 0 (λ k fixed. at k (fixed_is (0 + k) fixed)) where
+  at : (k : ℕ) → (0 + k ≡ 0) ⊎ (0 + k ≡ 2) → get_or saved k None ≡ None
+  at k (inl first) = let is : k ≡ 0 = omega (arith, first) in ap (λ n. get_or saved n None) is ∙ none_zero
+  at k (inr third) = let is : k ≡ 2 = omega (arith, third) in ap (λ n. get_or saved n None) is ∙ none_pointer
 
 none_spelled : (saved : List (Option ℕ)) (register : ℕ) → is_saved saved ≡ false → saves register saved ≡ []
 none_spelled [] register none = refl
@@ -311,15 +405,16 @@ pub record AreRegisters (saved : List (Option ℕ)) (bytes : List ℕ) (new : Li
   pub spelled : bytes ≡ registers saved new ++ rest
   pub count : length new ≡ 32
   pub distances : AllByRecursion IsDistance new
+  pub may : MayBeSaved 0 new
   pub keeps : is_saved saved ≡ true → is_saved new ≡ true → new ≡ saved
 
 abbrev restored : List ℕ → Result (List (Option ℕ) × List ℕ) ℕ
 restored rest = Ok (none_saved, rest)
 
 pub registers_take : (saved : List (Option ℕ)) (bytes : List ℕ) (new : List (Option ℕ)) (rest : List ℕ) → length saved ≡ 32
-    → AllByRecursion IsDistance saved → registers_at saved bytes ≡ Ok (new, rest) → AreRegisters saved bytes new rest
+    → AllByRecursion IsDistance saved → MayBeSaved 0 saved → registers_at saved bytes ≡ Ok (new, rest) → AreRegisters saved bytes new rest
 unfolding registers_at
-registers_take saved bytes new rest count are e =
+registers_take saved bytes new rest count are may e =
     elim (chosen (is_saved saved) (cond (begins_restore bytes) (constants_at (restores 0 saved) bytes >>= restored) (kept_all saved bytes))
     (saves_at 32 0 bytes) (kept_all new rest) e) [
       | inl some ↦
@@ -333,6 +428,7 @@ registers_take saved bytes new rest count are e =
                       ∙ ap (λ x. x ++ opcodes.0) (sym (gone_is saved none_saved some.0 refl));
                   count = refl;
                   distances = none_fit 32;
+                  may = none_may 32 0;
                   keeps = λ was is. absurd (false≢true is);
                 }))
             | inr stays ↦
@@ -341,6 +437,7 @@ registers_take saved bytes new rest count are e =
                   spelled = ap (λ x. x ++ bytes) (sym (still_is saved saved some.0 some.0));
                   count = count;
                   distances = are;
+                  may = may;
                   keeps = λ was is. refl;
                 })
           ]
@@ -350,14 +447,15 @@ registers_take saved bytes new rest count are e =
             spelled = taken.spelled ∙ ap (λ x. x ++ rest) (sym (saves_is saved new none.0));
             count = taken.count_is;
             distances = taken.distances;
+            may = taken.may;
             keeps = λ was is. absurd (true≢false (sym was ∙ none.0));
           })
     ]
 
-pub registers_again : (saved new : List (Option ℕ)) (rest : List ℕ) → length new ≡ 32 → AllByRecursion IsDistance new
+pub registers_again : (saved new : List (Option ℕ)) (rest : List ℕ) → length new ≡ 32 → AllByRecursion IsDistance new → MayBeSaved 0 new
     → (is_saved saved ≡ true → is_saved new ≡ true → new ≡ saved) → Below rest → registers_at saved (registers saved new ++ rest) ≡ Ok (new, rest)
 unfolding registers_at
-registers_again saved new rest count are keeps below =
+registers_again saved new rest count are may keeps below =
     elim (cases_Bool (is_saved saved)) [
       | inl some ↦
           elim (cases_Bool (is_saved new)) [
@@ -371,7 +469,7 @@ registers_again saved new rest count are keeps below =
           ]
       | inr none ↦
           ap (λ x. registers_at saved (x ++ rest)) (saves_is saved new none)
-          ∙ rw none (ap (λ n. saves_at n 0 (saves 0 new ++ rest)) (sym count) ∙ saves_again new 0 rest are below)
+          ∙ rw none (ap (λ n. saves_at n 0 (saves 0 new ++ rest)) (sym count) ∙ saves_again new 0 rest are may below)
     ]
 
 -- nothing is spelled exactly where nothing changes

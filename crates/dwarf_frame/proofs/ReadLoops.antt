@@ -1,9 +1,9 @@
 -- How the loops of the reader go on and end.
 use Rattle.std.specs.Prelude.{◌&&◌}
 use Rattle.std.specs.Option.{option_or}
-use Rattle.std.proofs.Common.{◌≡◌, ◌≢◌, ℕ, suc, ◌+◌, ◌-◌, ◌/◌, ◌<◌, ◌≤◌, Bool, true, false, cond, leb, ltb, List, [], ◌∷◌, ◌++◌, length, take, set}
+use Rattle.std.proofs.Common.{◌≡◌, ◌≢◌, ℕ, suc, ◌+◌, ◌*◌, ◌-◌, ◌/◌, ◌%◌, ◌<◌, ◌≤◌, Bool, true, false, cond, eqb, leb, ltb, List, [], ◌∷◌, ◌++◌}
 use Rattle.std.proofs.Common.{replicate, Option, Some, None, Result, Ok, Err, arith, ap, subst, sym, ◌∙◌, refl, inl, inr, append_assoc, append-nil}
-use Rattle.std.proofs.Common.{length-append}
+use Rattle.std.proofs.Common.{length, take, set, length-append}
 use Rattle.std.proofs.lemmas.Bool.{cases_lt, and_from, le-leb, leb-true, lt-ltb, le-ltb}
 use Rattle.std.proofs.lemmas.List.{take_all, take_more_set, nil_from_length, take-replicate}
 use Rattle.std.specs.Int.{w32, to_le_bytes}
@@ -15,7 +15,7 @@ use Rattle.dwarf_frame.specs.declared.table.Row.{Row}
 use Rattle.dwarf_frame.specs.declared.table.FrameDescription.{FrameDescription}
 use Rattle.dwarf_frame.specs.declared.read.Range.{Range}
 use Rattle.dwarf_frame.specs.Table.{initial, AreRules}
-use Rattle.dwarf_frame.specs.Spelling.{advance, registers, row}
+use Rattle.dwarf_frame.specs.Spelling.{undefines, common_front, common_fields, advance, registers, row}
 use Rattle.dwarf_frame.specs.FirstFault.{behind_common, save_at, saves_at, begins_row, padding_at, next_row_at, entry_at, range_at}
 use Rattle.dwarf_frame.specs.FirstFault.{Rows, NoRow, NextRow, RowsFault, InPadding, InRow, InLaterRow, FunctionFault}
 use Rattle.dwarf_frame.specs.FirstFault.{Functions, NoFunction, NextFunction, FunctionsFault, InLength, InFunction, InLaterFunction}
@@ -25,6 +25,7 @@ use Rattle.dwarf_frame.specs.steps.Read.{RulesRead, FunctionRead, SectionRead}
 use Rattle.dwarf_frame.proofs.Opcodes.{short_is, long_is}
 use Rattle.dwarf_frame.proofs.OneRow.{change, row_append, row_takes}
 use Rattle.dwarf_frame.proofs.Entries.{entry_takes, initial_rules, length-zeros}
+use Rattle.dwarf_frame.proofs.Sections.{length-undefines}
 
 -- ---- saved registers
 
@@ -200,6 +201,54 @@ rows_end range bytes address before rest after rules going begins e =
       is = going.is;
     }
 
+-- ---- the common information entry
+
+-- fields that begin with others
+pub constants_append : (x y bytes : List ℕ) → constants_at (x ++ y) bytes ≡ (constants_at x bytes >>= constants_at y)
+constants_append [] y bytes = refl
+constants_append (n ∷ x) y [] = refl
+constants_append (n ∷ x) y (b ∷ bytes) = choose (eqb b n) (constants_append x y bytes) where
+  choose : (same : Bool) → constants_at (x ++ y) bytes ≡ (constants_at x bytes >>= constants_at y)
+      → cond same (constants_at (x ++ y) bytes) (refused (length (b ∷ bytes)))
+      ≡ (cond same (constants_at x bytes) (refused (length (b ∷ bytes))) >>= constants_at y)
+  choose true others = others
+  choose false others = refl
+
+-- the number of bytes of the padding
+abbrev pub nops : List ℕ → ℕ
+nops undefined = (8 - length (common_front ++ undefines undefined) % 8) % 8
+
+pub fields_are : (undefined bytes : List ℕ) → constants_at (common_fields undefined) bytes
+    ≡ ((constants_at common_front bytes >>= constants_at (undefines undefined)) >>= constants_at (replicate (nops undefined) 0))
+fields_are undefined bytes =
+    constants_append (common_front ++ undefines undefined) (replicate (nops undefined) 0) bytes
+    ∙ ap (λ r. r >>= constants_at (replicate (nops undefined) 0)) (constants_append common_front (undefines undefined) bytes)
+
+pub nops_are : (undefined : List ℕ) → nops undefined ≡ (8 - (10 + 2 * length undefined) % 8) % 8
+nops_are undefined =
+    ap (λ n. (8 - n % 8) % 8)
+    (length-append common_front (undefines undefined) ∙ ap (λ n. 10 + n) (length-undefines undefined))
+
+-- the bytes behind the padding, read piece by piece
+pub fields_end : (undefined bytes opcodes padded padding : List ℕ) → constants_at common_front bytes ≡ Ok opcodes
+    → constants_at (undefines undefined) opcodes ≡ Ok padded → padding ≡ take ((8 - (10 + 2 * length undefined) % 8) % 8) (replicate 8 0)
+    → constants_at padding padded ≡ constants_at (common_fields undefined) bytes
+fields_end undefined bytes opcodes padded padding front more is =
+    let few : (8 - (10 + 2 * length undefined) % 8) % 8 ≤ 8 = omega arith in
+    ap (λ x. constants_at x padded)
+    (is ∙ take-replicate ((8 - (10 + 2 * length undefined) % 8) % 8) 8 0 few ∙ ap (λ n. replicate n 0) (sym (nops_are undefined)))
+    ∙ sym (fields_are undefined bytes
+    ∙ ap (λ r. (r >>= constants_at (undefines undefined)) >>= constants_at (replicate (nops undefined) 0)) front
+    ∙ ap (λ r. r >>= constants_at (replicate (nops undefined) 0)) more)
+
+-- or up to a wrong field
+pub fields_fault : (undefined bytes opcodes : List ℕ) (left : ℕ) → constants_at common_front bytes ≡ Ok opcodes
+    → constants_at (undefines undefined) opcodes ≡ Err left → constants_at (common_fields undefined) bytes ≡ Err left
+fields_fault undefined bytes opcodes left front wrong =
+    fields_are undefined bytes
+    ∙ ap (λ r. (r >>= constants_at (undefines undefined)) >>= constants_at (replicate (nops undefined) 0)) front
+    ∙ ap (λ r. r >>= constants_at (replicate (nops undefined) 0)) wrong
+
 -- ---- functions
 
 abbrev function_of : Range → List Row → FrameDescription
@@ -236,18 +285,18 @@ function_none bytes address range opcodes rules e read outside = record {
         le-ltb address (range.start + range.size) (omega (arith, begins, outside begins))
 
 -- some functions of a section were read, and these are the rules of an address by them
-pub record FunctionsGoing (bytes : List ℕ) (address : ℕ) (rest : List ℕ) (found : Option FrameRow) : Type 0 where
+pub record FunctionsGoing (undefined bytes : List ℕ) (address : ℕ) (rest : List ℕ) (found : Option FrameRow) : Type 0 where
   pub behind : List ℕ
-  pub common : behind_common [] bytes ≡ Ok behind
+  pub common : behind_common undefined bytes ≡ Ok behind
   pub done : List FrameDescription
   pub are : IsBytes rest
   pub reads : (functions : List FrameDescription) → Functions rest functions → Functions behind (done ++ functions)
   pub faults : (left : ℕ) → FunctionsFault rest left → FunctionsFault behind left
   pub is : found ≡ rules_in done address
 
-pub functions_begin : (bytes : List ℕ) (address : ℕ) (rest : List ℕ) → behind_common [] bytes ≡ Ok rest → IsBytes rest
-    → FunctionsGoing bytes address rest None
-functions_begin bytes address rest e are = record {
+pub functions_begin : (undefined bytes : List ℕ) (address : ℕ) (rest : List ℕ) → behind_common undefined bytes ≡ Ok rest → IsBytes rest
+    → FunctionsGoing undefined bytes address rest None
+functions_begin undefined bytes address rest e are = record {
   behind = rest;
   common = e;
   done = [];
@@ -269,10 +318,10 @@ rules_in_push (g ∷ functions) f address =
     choose true rules all some last e = refl
     choose false rules all some last e = e
 
-pub functions_more : (bytes : List ℕ) (address : ℕ) (rest body after : List ℕ) (found rules new : Option FrameRow)
-    → FunctionsGoing bytes address rest found → entry_at rest ≡ Ok (body, after) → FunctionRead body address rules → new ≡ option_or found rules
-    → FunctionsGoing bytes address after new
-functions_more bytes address rest body after found rules new going e read new_is =
+pub functions_more : (undefined bytes : List ℕ) (address : ℕ) (rest body after : List ℕ) (found rules new : Option FrameRow)
+    → FunctionsGoing undefined bytes address rest found → entry_at rest ≡ Ok (body, after) → FunctionRead body address rules → new ≡ option_or found rules
+    → FunctionsGoing undefined bytes address after new
+functions_more undefined bytes address rest body after found rules new going e read new_is =
     let f : FrameDescription = read.function in
     let is = entry_takes rest body after going.are e in
     let are : IsBytes (body ++ after) = IsBytes-behind rest (to_le_bytes w32 (length body)) (body ++ after) is.spelled going.are in
@@ -294,9 +343,9 @@ entry_smaller rest body after are e =
     let is = entry_takes rest body after are e in
     omega (arith, ap length is.spelled, length-append body after)
 
-pub functions_end : (bytes : List ℕ) (address : ℕ) (rest : List ℕ) (found : Option FrameRow) → FunctionsGoing bytes address rest found
-    → length rest ≡ 0 → SectionRead bytes address found
-functions_end bytes address rest found going ended = record {
+pub functions_end : (undefined bytes : List ℕ) (address : ℕ) (rest : List ℕ) (found : Option FrameRow) → FunctionsGoing undefined bytes address rest found
+    → length rest ≡ 0 → SectionRead undefined bytes address found
+functions_end undefined bytes address rest found going ended = record {
   functions = going.done;
   behind = going.behind;
   common = going.common;
@@ -308,22 +357,24 @@ functions_end bytes address rest found going ended = record {
 no_more : (left : ℕ) → left + 0 ≡ left
 no_more left = omega arith
 
-pub length_fault : (bytes : List ℕ) (address : ℕ) (rest : List ℕ) (found : Option FrameRow) (left at : ℕ) → FunctionsGoing bytes address rest found
-    → rest ≢ [] → entry_at rest ≡ Err left → at ≡ length bytes - (left + 0) → FirstFault [] bytes at
-length_fault bytes address rest found left at going some e place = record {
+pub length_fault : (undefined bytes : List ℕ) (address : ℕ) (rest : List ℕ) (found : Option FrameRow) (left at : ℕ)
+    → FunctionsGoing undefined bytes address rest found
+    → rest ≢ [] → entry_at rest ≡ Err left → at ≡ length bytes - (left + 0) → FirstFault undefined bytes at
+length_fault undefined bytes address rest found left at going some e place = record {
   left = left;
   fault = InFunctions going.behind going.common (going.faults left (InLength some e));
   place = place ∙ ap (λ n. length bytes - n) (no_more left);
 }
 
-pub function_fault : (bytes : List ℕ) (address : ℕ) (rest body after : List ℕ) (found : Option FrameRow) (left at : ℕ)
-    → FunctionsGoing bytes address rest found → entry_at rest ≡ Ok (body, after) → FunctionFault body left → at ≡ length bytes - (left + length after)
-    → FirstFault [] bytes at
-function_fault bytes address rest body after found left at going e fault place = record {
+pub function_fault : (undefined bytes : List ℕ) (address : ℕ) (rest body after : List ℕ) (found : Option FrameRow) (left at : ℕ)
+    → FunctionsGoing undefined bytes address rest found → entry_at rest ≡ Ok (body, after) → FunctionFault body left → at ≡ length bytes - (left + length after)
+    → FirstFault undefined bytes at
+function_fault undefined bytes address rest body after found left at going e fault place = record {
   left = left + length after;
   fault = InFunctions going.behind going.common (going.faults (left + length after) (InFunction e fault));
   place = place;
 }
 
-pub common_fault : (bytes : List ℕ) (left at : ℕ) → behind_common [] bytes ≡ Err left → at ≡ length bytes - (left + 0) → FirstFault [] bytes at
-common_fault bytes left at e place = record { left = left; fault = InCommon e; place = place ∙ ap (λ n. length bytes - n) (no_more left) }
+pub common_fault : (undefined bytes : List ℕ) (left at : ℕ) → behind_common undefined bytes ≡ Err left → at ≡ length bytes - (left + 0)
+    → FirstFault undefined bytes at
+common_fault undefined bytes left at e place = record { left = left; fault = InCommon e; place = place ∙ ap (λ n. length bytes - n) (no_more left) }

@@ -1,8 +1,8 @@
 -- A section is read exactly where it is that of functions, and then its functions are read.
-use Rattle.std.specs.Prelude.{MatchResult, IfOk, IfErr}
+use Rattle.std.specs.Option.{option_map}
 use Rattle.std.specs.List.{AllByRecursion, flat_map}
 use Rattle.std.specs.Int.{w32, to_le_bytes}
-use Rattle.std.proofs.Common.{◌≡◌, ℕ, ◌+◌, ◌-◌, ◌%◌, ◌^◌, ◌<◌, List, [], ◌∷◌, ◌++◌, length, replicate, Option, Result, Ok, Err}
+use Rattle.std.proofs.Common.{◌≡◌, ℕ, ◌+◌, ◌*◌, ◌-◌, ◌%◌, ◌^◌, ◌<◌, List, [], ◌∷◌, ◌++◌, length, replicate, Option, Some, Result, Ok}
 use Rattle.std.proofs.Common.{arith, ap, subst, sym, ◌∙◌, refl, append_assoc, length-append, lit<}
 use Rattle.std.proofs.lemmas.Bool.{true≢false}
 use Rattle.std.proofs.lemmas.List.Elements.{recursion_from_All, All-from_recursion}
@@ -14,14 +14,16 @@ use Rattle.dwarf_line.proofs.Program.{no_fault}
 use Rattle.dwarf_frame.specs.declared.table.FrameRow.{FrameRow}
 use Rattle.dwarf_frame.specs.declared.table.Row.{Row}
 use Rattle.dwarf_frame.specs.declared.table.FrameDescription.{FrameDescription}
+use Rattle.dwarf_frame.specs.declared.table.UnwindingRules.{UnwindingRules}
 use Rattle.dwarf_frame.specs.declared.fault.FrameFault.{FrameFault}
-use Rattle.dwarf_frame.specs.Table.{initial, IsDescription}
-use Rattle.dwarf_frame.specs.Spelling.{rows_after, padded, common_fields, common_entry, instructions, fields, description, spelling}
+use Rattle.dwarf_frame.specs.Table.{initial, IsDescription, AreUndefined}
+use Rattle.dwarf_frame.specs.Spelling.{rows_after, padded, undefines, common_front, common_fields, common_entry, instructions, fields, description}
+use Rattle.dwarf_frame.specs.Spelling.{spelling}
 use Rattle.dwarf_frame.specs.FirstFault.{value_at, behind_common, padding_at, next_row_at, entry_at, range_at}
 use Rattle.dwarf_frame.specs.FirstFault.{Rows, NoRow, NextRow, RowsFault, InPadding, InRow, InLaterRow, FunctionAt, FunctionFault, InRange, InRows}
 use Rattle.dwarf_frame.specs.FirstFault.{Functions, NoFunction, NextFunction, FunctionsFault, InLength, InFunction, InLaterFunction}
 use Rattle.dwarf_frame.specs.FirstFault.{SectionFault, InCommon, InFunctions, FirstFault, HasSize, IsSection}
-use Rattle.dwarf_frame.specs.Rows.{rules_in}
+use Rattle.dwarf_frame.specs.Rows.{rules_in, unwinding, unwinding_in}
 use Rattle.dwarf_frame.specs.steps.Read.{SectionRead}
 use Rattle.dwarf_frame.proofs.Entries.{IsBytes-front, initial_rules, rows_take, rows_again, value_takes, value_again, range_bytes, range_takes, range_again}
 use Rattle.dwarf_frame.proofs.Entries.{entry_takes, entry_again, length-zeros}
@@ -190,93 +192,133 @@ functions_one {bytes} (NextFunction {body = a} {rest = x} {f = f} {functions = f
 
 -- ---- the common information entry
 
-abbrev after_id : List ℕ → Result (List ℕ) ℕ
-after_id fields = constants_at (common_fields []) fields
+abbrev after_id : (undefined fields : List ℕ) → Result (List ℕ) ℕ
+after_id undefined fields = constants_at (common_fields undefined) fields
 
-abbrev after_length : List ℕ → Result (List ℕ) ℕ
-after_length id = value_at w32 0xffffffff id >>= after_id
+abbrev after_length : (undefined id : List ℕ) → Result (List ℕ) ℕ
+after_length undefined id = value_at w32 0xffffffff id >>= after_id undefined
 
-common_takes : (bytes rest : List ℕ) → IsBytes bytes → behind_common [] bytes ≡ Ok rest → bytes ≡ common_entry [] ++ rest
+abbrev common_length : (undefined : List ℕ) → ℕ
+common_length undefined = 4 + length (common_fields undefined)
+
+pub length-undefines : (undefined : List ℕ) → length (undefines undefined) ≡ 2 * length undefined
+length-undefines [] = refl
+length-undefines (register ∷ undefined) = omega (arith, length-undefines undefined)
+
+pub common_is : (undefined : List ℕ)
+    → common_length undefined ≡ 4 + (10 + 2 * length undefined) + (8 - (10 + 2 * length undefined) % 8) % 8
+common_is undefined =
+    let opcodes : length (common_front ++ undefines undefined) ≡ 10 + 2 * length undefined =
+    omega (arith, length-append common_front (undefines undefined), length-undefines undefined) in
+    omega (arith, length-padded (common_front ++ undefines undefined), opcodes)
+
+common_fits : (undefined : List ℕ) → AreUndefined undefined → common_length undefined < 2 ^ 32
+common_fits undefined lost = omega (arith, common_is undefined, lost.few)
+
+common_takes : (undefined bytes rest : List ℕ) → IsBytes bytes → behind_common undefined bytes ≡ Ok rest
+    → bytes ≡ common_entry undefined ++ rest
 unfolding behind_common
-common_takes bytes rest are e =
-    let size = bind_ok (value_at w32 20 bytes) after_length rest e in
-    let front = value_takes w32 (2 ^ 32) wide32 20 bytes size.0 are size.1 in
-    let are_id : IsBytes size.0 = IsBytes-behind bytes (to_le_bytes w32 20) size.0 front are in
-    let id = bind_ok (value_at w32 0xffffffff size.0) after_id rest size.2 in
+common_takes undefined bytes rest are e =
+    let n : ℕ = common_length undefined in
+    let size = bind_ok (value_at w32 n bytes) (after_length undefined) rest e in
+    let front = value_takes w32 (2 ^ 32) wide32 n bytes size.0 are size.1 in
+    let are_id : IsBytes size.0 = IsBytes-behind bytes (to_le_bytes w32 n) size.0 front are in
+    let id = bind_ok (value_at w32 0xffffffff size.0) (after_id undefined) rest size.2 in
     let middle = value_takes w32 (2 ^ 32) wide32 0xffffffff size.0 id.0 are_id id.1 in
-    let last = constants_take (common_fields []) id.0 rest id.2 in
-    front ∙ ap (λ x. to_le_bytes w32 20 ++ x) (middle ∙ ap (λ x. to_le_bytes w32 0xffffffff ++ x) last)
+    let last = constants_take (common_fields undefined) id.0 rest id.2 in
+    front ∙ ap (λ x. to_le_bytes w32 n ++ x) (middle ∙ ap (λ x. to_le_bytes w32 0xffffffff ++ x) last)
+    ∙ nested (to_le_bytes w32 n) (to_le_bytes w32 0xffffffff) (common_fields undefined) rest
+  where
+    nested : (a b c d : List ℕ) → a ++ (b ++ (c ++ d)) ≡ (a ++ b ++ c) ++ d
+    nested a b c d = simp append_assoc
 
-pub common_bytes : (bytes rest : List ℕ) → IsBytes bytes → behind_common [] bytes ≡ Ok rest → IsBytes rest
-common_bytes bytes rest are e = IsBytes-behind bytes (common_entry []) rest (common_takes bytes rest are e) are
+pub common_bytes : (undefined bytes rest : List ℕ) → IsBytes bytes → behind_common undefined bytes ≡ Ok rest → IsBytes rest
+common_bytes undefined bytes rest are e =
+    IsBytes-behind bytes (common_entry undefined) rest (common_takes undefined bytes rest are e) are
 
-common_again : (rest : List ℕ) → behind_common [] (common_entry [] ++ rest) ≡ Ok rest
+common_again : (undefined rest : List ℕ) → AreUndefined undefined → behind_common undefined (common_entry undefined ++ rest) ≡ Ok rest
 unfolding behind_common
-common_again rest =
-    let fields : List ℕ = common_fields [] ++ rest in
+common_again undefined rest lost =
+    let n : ℕ = common_length undefined in
+    let fields : List ℕ = common_fields undefined ++ rest in
     let id : List ℕ = to_le_bytes w32 0xffffffff ++ fields in
-    step (value_at w32 20 (to_le_bytes w32 20 ++ id)) after_length id (value_again w32 (2 ^ 32) wide32 20 id (lit< tt))
-    ∙ step (value_at w32 0xffffffff id) after_id fields (value_again w32 (2 ^ 32) wide32 0xffffffff fields (lit< tt))
-    ∙ constants_again (common_fields []) rest
+    ap (behind_common undefined) (nested (to_le_bytes w32 n) (to_le_bytes w32 0xffffffff) (common_fields undefined) rest)
+    ∙ step (value_at w32 n (to_le_bytes w32 n ++ id)) (after_length undefined) id (value_again w32 (2 ^ 32) wide32 n id (common_fits undefined lost))
+    ∙ step (value_at w32 0xffffffff id) (after_id undefined) fields (value_again w32 (2 ^ 32) wide32 0xffffffff fields (lit< tt))
+    ∙ constants_again (common_fields undefined) rest
+  where
+    nested : (a b c d : List ℕ) → (a ++ b ++ c) ++ d ≡ a ++ (b ++ (c ++ d))
+    nested a b c d = simp append_assoc
 
 -- ---- the section
 
-pub section_found : (bytes rest : List ℕ) (functions : List FrameDescription) → IsBytes bytes → behind_common [] bytes ≡ Ok rest
-    → Functions rest functions → IsSection [] bytes functions
+pub section_found : (undefined bytes rest : List ℕ) (functions : List FrameDescription) → AreUndefined undefined → IsBytes bytes
+    → behind_common undefined bytes ≡ Ok rest → Functions rest functions → IsSection undefined bytes functions
 unfolding spelling
-section_found bytes rest functions are e reads =
-    let front = common_takes bytes rest are e in
-    let is = functions_take (IsBytes-behind bytes (common_entry []) rest front are) reads in
+section_found undefined bytes rest functions lost are e reads =
+    let front = common_takes undefined bytes rest are e in
+    let is = functions_take (IsBytes-behind bytes (common_entry undefined) rest front are) reads in
     record {
-      spelled = front ∙ ap (λ x. common_entry [] ++ x) is.spelled;
+      lost = lost;
+      spelled = front ∙ ap (λ x. common_entry undefined ++ x) is.spelled;
       sizes = All-from_recursion HasSize functions is.sizes;
       are = All-from_recursion IsDescription functions is.are;
     }
 
-section_common : (bytes : List ℕ) (functions : List FrameDescription) → IsSection [] bytes functions
-    → behind_common [] bytes ≡ Ok (flat_map description functions)
+section_common : (undefined bytes : List ℕ) (functions : List FrameDescription) → IsSection undefined bytes functions
+    → behind_common undefined bytes ≡ Ok (flat_map description functions)
 unfolding spelling
-section_common bytes functions is = ap (behind_common []) is.spelled ∙ common_again (flat_map description functions)
+section_common undefined bytes functions is =
+    ap (behind_common undefined) is.spelled ∙ common_again undefined (flat_map description functions) is.lost
 
-section_functions : (bytes : List ℕ) (functions : List FrameDescription) → IsSection [] bytes functions
+section_functions : (undefined bytes : List ℕ) (functions : List FrameDescription) → IsSection undefined bytes functions
     → Functions (flat_map description functions) functions
-section_functions bytes functions is =
+section_functions undefined bytes functions is =
     functions_again functions (recursion_from_All IsDescription functions is.are) (recursion_from_All HasSize functions is.sizes)
 
-section_apart : (bytes : List ℕ) (left : ℕ) (functions : List FrameDescription) → SectionFault [] bytes left → IsSection [] bytes functions → ⊥
-section_apart bytes left functions (InCommon e) is = not_ok left (flat_map description functions) (sym e ∙ section_common bytes functions is)
-section_apart bytes left functions (InFunctions rest e fault) is =
-    let same : rest ≡ flat_map description functions = ok_is rest (flat_map description functions) (sym e ∙ section_common bytes functions is) in
-    functions_apart fault (subst (λ x. Functions x functions) (sym same) (section_functions bytes functions is))
+section_apart : (undefined bytes : List ℕ) (left : ℕ) (functions : List FrameDescription) → SectionFault undefined bytes left
+    → IsSection undefined bytes functions → ⊥
+section_apart undefined bytes left functions (InCommon e) is =
+    not_ok left (flat_map description functions) (sym e ∙ section_common undefined bytes functions is)
+section_apart undefined bytes left functions (InFunctions rest e fault) is =
+    let same : rest ≡ flat_map description functions =
+    ok_is rest (flat_map description functions) (sym e ∙ section_common undefined bytes functions is) in
+    functions_apart fault (subst (λ x. Functions x functions) (sym same) (section_functions undefined bytes functions is))
 
-section_one : (bytes rest : List ℕ) (fs gs : List FrameDescription) → behind_common [] bytes ≡ Ok rest → Functions rest fs → IsSection [] bytes gs → fs ≡ gs
-section_one bytes rest fs gs e reads is =
-    let same : rest ≡ flat_map description gs = ok_is rest (flat_map description gs) (sym e ∙ section_common bytes gs is) in
-    functions_one reads (subst (λ x. Functions x gs) (sym same) (section_functions bytes gs is))
+section_one : (undefined bytes rest : List ℕ) (fs gs : List FrameDescription) → behind_common undefined bytes ≡ Ok rest → Functions rest fs
+    → IsSection undefined bytes gs → fs ≡ gs
+section_one undefined bytes rest fs gs e reads is =
+    let same : rest ≡ flat_map description gs = ok_is rest (flat_map description gs) (sym e ∙ section_common undefined bytes gs is) in
+    functions_one reads (subst (λ x. Functions x gs) (sym same) (section_functions undefined bytes gs is))
 
-pub one_section : (bytes : List ℕ) (fs gs : List FrameDescription) → IsSection [] bytes fs → IsSection [] bytes gs → fs ≡ gs
-one_section bytes fs gs is is' =
-    section_one bytes (flat_map description fs) fs gs (section_common bytes fs is) (section_functions bytes fs is) is'
+pub one_section : (undefined bytes : List ℕ) (fs gs : List FrameDescription) → IsSection undefined bytes fs → IsSection undefined bytes gs → fs ≡ gs
+one_section undefined bytes fs gs is is' =
+    section_one undefined bytes (flat_map description fs) fs gs (section_common undefined bytes fs is) (section_functions undefined bytes fs is) is'
 
 -- ---- the reader's result
 
-abbrev found : Option FrameRow → Result (Option FrameRow) FrameFault
+abbrev pub found : Option UnwindingRules → Result (Option UnwindingRules) FrameFault
 found rules = Ok rules
 
-pub read_found : (bytes : List ℕ) (address : ℕ) (r : Result (Option FrameRow) FrameFault) → IsBytes bytes
-    → MatchResult r (λ rules. SectionRead bytes address rules) (λ f. FirstFault [] bytes f.at)
-    → IfOk r (λ rules. (functions : List FrameDescription) × IsSection [] bytes functions × (rules ≡ rules_in functions address))
-read_found bytes address (Ok rules) are read = (read.functions, section_found bytes read.behind read.functions are read.common read.reads, read.is)
-read_found bytes address (Err f) are read = tt
+abbrev pub some : UnwindingRules → Option UnwindingRules
+some rules = Some rules
 
-pub read_only : (bytes : List ℕ) (address : ℕ) (r : Result (Option FrameRow) FrameFault) (functions : List FrameDescription)
-    → MatchResult r (λ rules. SectionRead bytes address rules) (λ f. FirstFault [] bytes f.at) → IsSection [] bytes functions
-    → r ≡ Ok (rules_in functions address)
-read_only bytes address (Ok rules) functions read is =
-    ap found (read.is ∙ ap (λ fs. rules_in fs address) (section_one bytes read.behind read.functions functions read.common read.reads is))
-read_only bytes address (Err f) functions fault is = absurd (section_apart bytes fault.left functions fault.fault is)
+pub read_found : (undefined bytes : List ℕ) (address : ℕ) (rules : Option FrameRow) → AreUndefined undefined → IsBytes bytes
+    → SectionRead undefined bytes address rules → (functions : List FrameDescription) × IsSection undefined bytes functions
+    × (option_map (unwinding undefined) rules ≡ unwinding_in undefined functions address)
+read_found undefined bytes address rules lost are read = (
+  read.functions,
+  section_found undefined bytes read.behind read.functions lost are read.common read.reads,
+  ap (option_map (unwinding undefined)) read.is,
+)
 
-pub read_fault : (bytes : List ℕ) (address : ℕ) (r : Result (Option FrameRow) FrameFault)
-    → MatchResult r (λ rules. SectionRead bytes address rules) (λ f. FirstFault [] bytes f.at) → IfErr r (λ f. FirstFault [] bytes f.at)
-read_fault bytes address (Ok rules) read = tt
-read_fault bytes address (Err f) fault = fault
+pub read_only : (undefined bytes : List ℕ) (address : ℕ) (rules : Option FrameRow) (functions : List FrameDescription)
+    → SectionRead undefined bytes address rules → IsSection undefined bytes functions
+    → option_map (unwinding undefined) rules ≡ unwinding_in undefined functions address
+read_only undefined bytes address rules functions read is =
+    ap (option_map (unwinding undefined))
+    (read.is ∙ ap (λ fs. rules_in fs address) (section_one undefined bytes read.behind read.functions functions read.common read.reads is))
+
+pub not_faulty : (undefined bytes : List ℕ) (at : ℕ) (functions : List FrameDescription) → FirstFault undefined bytes at
+    → IsSection undefined bytes functions → ⊥
+not_faulty undefined bytes at functions fault is = section_apart undefined bytes fault.left functions fault.fault is

@@ -11,8 +11,8 @@ use Rattle.dwarf_base.specs.Size.{capped}
 use Rattle.dwarf_frame.specs.declared.table.Row.{Row}
 use Rattle.dwarf_frame.specs.declared.table.FrameDescription.{FrameDescription}
 use Rattle.dwarf_frame.specs.Table.{IsNext, AreRows}
-use Rattle.dwarf_frame.specs.Spelling.{saves, restores, row, rows_after, common_fields, common_entry, instructions, fields, description}
-use Rattle.dwarf_frame.specs.Spelling.{spelling}
+use Rattle.dwarf_frame.specs.Spelling.{saves, restores, row, rows_after, undefines, padded, common_front, common_fields, common_entry, instructions}
+use Rattle.dwarf_frame.specs.Spelling.{fields, description, spelling}
 use Rattle.dwarf_frame.specs.FirstFault.{HasSize}
 
 -- ---- saved registers
@@ -132,11 +132,19 @@ appended (Err f) new old x y e same = tt
 nested : (o a b c : List ℕ) → ((o ++ a) ++ b) ++ c ≡ o ++ ((a ++ b) ++ c)
 nested o a b c = simp append_assoc
 
-pub common_written : (o o1 o2 x y : List ℕ) → o1 ≡ o ++ x → o2 ≡ o1 ++ y → x ≡ to_le_bytes w32 20 → y ≡ to_le_bytes w32 0xffffffff
-    → o2 ++ common_fields [] ≡ o ++ common_entry []
-common_written o o1 o2 x y e1 e2 x_is y_is =
-    ap (λ z. z ++ common_fields []) (e2 ∙ ap (λ z. z ++ y) (e1 ∙ ap (λ z. o ++ z) x_is) ∙ ap (λ z. (o ++ to_le_bytes w32 20) ++ z) y_is)
-    ∙ nested o (to_le_bytes w32 20) (to_le_bytes w32 0xffffffff) (common_fields [])
+pub common_written : (undefined o o1 o2 x y all : List ℕ) (size : ℕ) → o1 ≡ o ++ x → o2 ≡ o1 ++ y → x ≡ to_le_bytes w32 size
+    → y ≡ to_le_bytes w32 0xffffffff → size ≡ 4 + length (common_fields undefined) → all ≡ common_fields undefined
+    → o2 ++ all ≡ o ++ common_entry undefined
+common_written undefined o o1 o2 x y all size e1 e2 x_is y_is size_is all_is =
+    ap (λ z. o2 ++ z) all_is
+    ∙ ap (λ z. z ++ common_fields undefined) (e2 ∙ ap (λ z. z ++ y) (e1 ∙ ap (λ z. o ++ z) (x_is ∙ ap (to_le_bytes w32) size_is))
+    ∙ ap (λ z. (o ++ to_le_bytes w32 (4 + length (common_fields undefined))) ++ z) y_is)
+    ∙ nested o (to_le_bytes w32 (4 + length (common_fields undefined))) (to_le_bytes w32 0xffffffff) (common_fields undefined)
+
+pub front_written : (undefined none one two : List ℕ) → none ≡ [] → one ≡ none ++ common_front → two ≡ one ++ undefines undefined
+    → padded two ≡ common_fields undefined
+front_written undefined none one two empty front more =
+    ap padded (more ∙ ap (λ x. x ++ undefines undefined) (front ∙ ap (λ x. x ++ common_front) empty))
 
 pub fields_written : (o o1 o2 o3 a b c d : List ℕ) (opcodes start size : ℕ) → o1 ≡ o ++ a → o2 ≡ o1 ++ b → o3 ≡ o2 ++ c
     → a ≡ to_le_bytes w32 (20 + opcodes) → b ≡ to_le_bytes w32 0 → c ≡ to_le_bytes w64 start → d ≡ to_le_bytes w64 size
@@ -162,22 +170,27 @@ sizes_within (f ∷ functions) size =
     let both = length-append (description f) (flat_map description functions) in
     (omega (arith, both, size), sizes_within functions (omega (arith, both, size)))
 
-pub sizes_fit : (functions : List FrameDescription) → length (spelling [] functions) < 2 ^ 31 → All HasSize functions
+pub sizes_fit : (undefined : List ℕ) (functions : List FrameDescription) → length (spelling undefined functions) < 2 ^ 31 → All HasSize functions
 unfolding spelling
-sizes_fit functions size =
+sizes_fit undefined functions size =
     All-from_recursion HasSize functions
-    (sizes_within functions (omega (arith, length-append (common_entry []) (flat_map description functions), size)))
+    (sizes_within functions (omega (arith, length-append (common_entry undefined) (flat_map description functions), size)))
 
-pub size_done : (size : ℕ) (functions : List FrameDescription) (i : ℕ) → length functions ≤ i
-    → size ≡ capped (24 + length (flat_map description (take i functions))) → size ≡ capped (length (spelling [] functions))
-unfolding spelling
-size_done size functions i past so_far =
-    let whole : length (spelling [] functions) ≡ 24 + length (flat_map description functions) =
-    omega (arith, length-append (common_entry []) (flat_map description functions)) in
-    so_far ∙ ap (λ fs. capped (24 + length (flat_map description fs))) (take_all i functions past) ∙ ap capped (sym whole)
+length-common : (undefined : List ℕ) → length (common_entry undefined) ≡ 8 + length (common_fields undefined)
+length-common undefined = omega arith
 
-pub section_written : (items : List ℕ) (functions : List FrameDescription) (i : ℕ) → length functions ≤ i
-    → items ≡ common_entry [] ++ flat_map description (take i functions) → items ≡ spelling [] functions
+pub size_done : (undefined : List ℕ) (size : ℕ) (functions : List FrameDescription) (i : ℕ) → length functions ≤ i
+    → size ≡ capped (8 + length (common_fields undefined) + length (flat_map description (take i functions)))
+    → size ≡ capped (length (spelling undefined functions))
 unfolding spelling
-section_written items functions i past so_far =
-    so_far ∙ ap (λ fs. common_entry [] ++ flat_map description fs) (take_all i functions past)
+size_done undefined size functions i past so_far =
+    let whole : length (spelling undefined functions) ≡ 8 + length (common_fields undefined) + length (flat_map description functions) =
+    omega (arith, length-append (common_entry undefined) (flat_map description functions), length-common undefined) in
+    so_far ∙ ap (λ fs. capped (8 + length (common_fields undefined) + length (flat_map description fs))) (take_all i functions past)
+    ∙ ap capped (sym whole)
+
+pub section_written : (undefined items : List ℕ) (functions : List FrameDescription) (i : ℕ) → length functions ≤ i
+    → items ≡ common_entry undefined ++ flat_map description (take i functions) → items ≡ spelling undefined functions
+unfolding spelling
+section_written undefined items functions i past so_far =
+    so_far ∙ ap (λ fs. common_entry undefined ++ flat_map description fs) (take_all i functions past)

@@ -9,7 +9,7 @@ use Rattle.dwarf_line.specs.FirstFault.{register_at}
 use Rattle.dwarf_frame.specs.declared.table.Row.{Row}
 use Rattle.dwarf_frame.specs.declared.table.FrameDescription.{FrameDescription}
 use Rattle.dwarf_frame.specs.Standard.{CIE_ID, DW_CFA_advance_loc, DW_CFA_advance_loc4, DW_CFA_offset, DW_CFA_restore, DW_CFA_nop, DW_CFA_def_cfa_offset}
-use Rattle.dwarf_frame.specs.Table.{is_saved, none_saved, initial, IsDescription}
+use Rattle.dwarf_frame.specs.Table.{is_saved, none_saved, initial, is_fixed, IsDescription, AreUndefined}
 use Rattle.dwarf_frame.specs.Spelling.{restores, common_fields, description, spelling}
 
 -- the bytes after a little-endian number that has one value
@@ -37,11 +37,15 @@ address_at from end (b ∷ bytes) =
     else Err (suc (length bytes))
 
 -- the distance of a register below the CFA, and None without its opcode
-unfoldable pub save_at : (register : ℕ) → List ℕ → Result (Option ℕ × List ℕ) ℕ
-save_at register [] = Ok (None, [])
-save_at register (b ∷ bytes) =
+unfoldable pub distance_at : (register : ℕ) → List ℕ → Result (Option ℕ × List ℕ) ℕ
+distance_at register [] = Ok (None, [])
+distance_at register (b ∷ bytes) =
     if b == DW_CFA_offset + register then uleb_at (2 ^ 29) bytes >>= (λ distance. Ok (Some (8 * distance.0), distance.1))
     else Ok (None, b ∷ bytes)
+
+-- the same of a register that may be saved, and None of another one
+unfoldable pub save_at : (register : ℕ) → List ℕ → Result (Option ℕ × List ℕ) ℕ
+save_at register bytes = if is_fixed register then Ok (None, bytes) else distance_at register bytes
 
 -- the distances of this number of registers, from this one on
 unfoldable pub saves_at : (count register : ℕ) → List ℕ → Result (List (Option ℕ) × List ℕ) ℕ
@@ -157,6 +161,7 @@ HasSize f = length (description f) < 4 + LENGTH_LIMIT
 
 -- the bytes are the section of these functions, with these registers undefined in the common information entry
 pub record IsSection (undefined bytes : List ℕ) (functions : List FrameDescription) : Type 0 where
+  pub lost : AreUndefined undefined
   pub spelled : bytes ≡ spelling undefined functions
   pub sizes : All HasSize functions
   pub are : All IsDescription functions

@@ -1,28 +1,56 @@
 -- The unwinding rules of an address (DWARF 5 section 6.4.1).
-use Rattle.std.specs.Prelude.{◌≡◌, ◌≢◌, ℕ, ◌+◌, ◌≤◌, List, [], ◌∷◌, Option, Some, None, nat_le, nat_lt, ◌&&◌, if◌then◌else◌}
+use Rattle.std.specs.Prelude.{◌≡◌, ◌≢◌, ℕ, ◌+◌, ◌≤◌, List, [], ◌∷◌, Option, Some, None, suc, nat_le, nat_lt, ◌&&◌, ◌==◌}
+use Rattle.std.specs.Prelude.{if◌then◌else◌}
+use Rattle.std.specs.Option.{option_map}
+use Rattle.std.specs.List.{list_any}
 use Rattle.dwarf_frame.specs.declared.table.FrameRow.{FrameRow}
 use Rattle.dwarf_frame.specs.declared.table.Row.{Row}
 use Rattle.dwarf_frame.specs.declared.table.FrameDescription.{FrameDescription}
+use Rattle.dwarf_frame.specs.declared.table.RegisterRule.{RegisterRule}
+use Rattle.dwarf_frame.specs.declared.table.RegisterRule.TheVariants.{SameValue, Below, FrameAddress, Undefined}
+use Rattle.dwarf_frame.specs.declared.table.UnwindingRules.{UnwindingRules}
+use Rattle.dwarf_frame.specs.Standard.{STACK_POINTER}
 use Rattle.dwarf_frame.specs.Table.{initial}
 use Rattle.dwarf_frame.specs.FirstFault.{IsSection}
 
--- the rules of an address: those of the last row at or before it, and without such a row `before`
+-- what rows say of an address: what the last one says at or before it, and without such a row `before`
 abbrev pub rules_after : FrameRow → List Row → ℕ → FrameRow
 rules_after before [] address = before
 rules_after before (r ∷ rows) address = rules_after (if nat_le r.address address then r.rules else before) rows address
 
--- the rules of an address by the first function whose range contains it, and None if there is none
+-- what a row says of an address, by the first function whose range contains it, and None if there is none
 abbrev pub rules_in : List FrameDescription → ℕ → Option FrameRow
 rules_in [] address = None
 rules_in (f ∷ functions) address =
     if nat_le f.start address && nat_lt address (f.start + f.size) then Some (rules_after (initial f.start).rules f.rows address)
     else rules_in functions address
 
+-- the rule of a register by where it is saved, with the registers whose values a function may lose (section 6.4.1)
+abbrev pub rule_of : (undefined : List ℕ) (register : ℕ) → Option ℕ → RegisterRule
+rule_of undefined register (Some distance) = Below distance
+rule_of undefined register None =
+    if register == STACK_POINTER then FrameAddress
+    else if list_any (λ lost. lost == register) undefined then Undefined
+    else SameValue
+
+-- the rules of registers from this one on
+abbrev pub rules_from : (undefined : List ℕ) (register : ℕ) → List (Option ℕ) → List RegisterRule
+rules_from undefined register [] = []
+rules_from undefined register (saved ∷ others) = rule_of undefined register saved ∷ rules_from undefined (suc register) others
+
+-- the rules that a row stands for
+abbrev pub unwinding : (undefined : List ℕ) → FrameRow → UnwindingRules
+unwinding undefined row = record { cfa_offset = row.cfa_offset; registers = rules_from undefined 0 row.saved }
+
+-- the rules of an address by the first function whose range contains it, and None if there is none
+abbrev pub unwinding_in : (undefined : List ℕ) → List FrameDescription → ℕ → Option UnwindingRules
+unwinding_in undefined functions address = option_map (unwinding undefined) (rules_in functions address)
+
 -- the rules of an address by a section
-pub record RulesAt (undefined bytes : List ℕ) (address : ℕ) (rules : FrameRow) : Type 0 where
+pub record RulesAt (undefined bytes : List ℕ) (address : ℕ) (rules : UnwindingRules) : Type 0 where
   pub functions : List FrameDescription
   pub section : IsSection undefined bytes functions
-  pub found : rules_in functions address ≡ Some rules
+  pub found : unwinding_in undefined functions address ≡ Some rules
 
 -- the rows of the rules at successive addresses, after an address with rules `before`: one where the rules change
 pub data Changes : (before : FrameRow) (entries rows : List Row) → Type 0 where

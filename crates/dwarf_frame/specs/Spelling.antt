@@ -52,12 +52,21 @@ rows_after before (r ∷ rows) = row before r ++ rows_after r rows
 abbrev pub padded : List ℕ → List ℕ
 padded bytes = bytes ++ replicate ((8 - length bytes % 8) % 8) DW_CFA_nop
 
--- the fields of the common information entry after the CIE_id (section 6.4.1), from the version to the initial instructions: the
--- CFA is x2, and registers whose values a function loses have no rule
+-- DW_CFA_undefined for each register whose value a function may lose: in ULEB128 it is one byte (section 6.4.2.3)
+abbrev pub undefines : (undefined : List ℕ) → List ℕ
+undefines [] = []
+undefines (register ∷ undefined) = DW_CFA_undefined ∷ register ∷ undefines undefined
+
+-- the fields of the common information entry after the CIE_id (section 6.4.1), from the version to the first of the initial
+-- instructions: the CFA is x2
+abbrev pub common_front : List ℕ
+common_front =
+    VERSION ∷ 0 ∷ ADDRESS_SIZE ∷ SEGMENT_SELECTOR_SIZE ∷ CODE_ALIGNMENT_FACTOR ∷ DATA_ALIGNMENT_FACTOR ∷ RETURN_ADDRESS_REGISTER
+    ∷ DW_CFA_def_cfa ∷ STACK_POINTER ∷ 0 ∷ []
+
+-- and with the other initial instructions: registers whose values a function may lose are undefined
 abbrev pub common_fields : (undefined : List ℕ) → List ℕ
-common_fields undefined =
-    padded (VERSION ∷ 0 ∷ ADDRESS_SIZE ∷ SEGMENT_SELECTOR_SIZE ∷ CODE_ALIGNMENT_FACTOR ∷ DATA_ALIGNMENT_FACTOR ∷ RETURN_ADDRESS_REGISTER
-    ∷ DW_CFA_def_cfa ∷ STACK_POINTER ∷ 0 ∷ flat_map (λ register. DW_CFA_undefined ∷ uleb_of register) undefined)
+common_fields undefined = padded (common_front ++ undefines undefined)
 
 -- the common information entry: the length of what follows it, the CIE_id, and the other fields
 abbrev pub common_entry : (undefined : List ℕ) → List ℕ

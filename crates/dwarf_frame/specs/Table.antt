@@ -1,8 +1,10 @@
 -- The content of a table of call frame information, without its encoding (DWARF 5 section 6.4.1).
-use Rattle.std.specs.Prelude.{◌≡◌, ◌≢◌, ℕ, ◌+◌, ◌-◌, ◌%◌, ◌^◌, ◌<◌, ◌≤◌, Bool, true, false, List, [], ◌∷◌, length, All, Option, Some, None, replicate}
+use Rattle.std.specs.Prelude.{◌≡◌, ◌≢◌, ℕ, ◌+◌, ◌-◌, ◌%◌, ◌^◌, ◌<◌, ◌≤◌, Bool, true, false, List, [], ◌∷◌, length, All, Option, Some, None, replicate, get_or}
+use Rattle.std.specs.Prelude.{◌==◌, ◌||◌}
 use Rattle.dwarf_frame.specs.declared.table.FrameRow.{FrameRow}
 use Rattle.dwarf_frame.specs.declared.table.Row.{Row}
 use Rattle.dwarf_frame.specs.declared.table.FrameDescription.{FrameDescription}
+use Rattle.dwarf_frame.specs.Standard.{STACK_POINTER}
 
 -- whether a register is saved
 abbrev pub is_saved : List (Option ℕ) → Bool
@@ -23,11 +25,27 @@ abbrev pub IsDistance : Option ℕ → Type 0
 IsDistance None = Unit {0}
 IsDistance (Some distance) = (distance % 8 ≡ 0) × (distance < 2 ^ 32)
 
--- rules that can be written: the offset and the distances are below 2^32, and each of x0 to x31 has its place
+-- the registers that are never saved: x0 is always zero, and x2's value at the entry is the CFA
+abbrev pub is_fixed : ℕ → Bool
+is_fixed register = register == 0 || register == STACK_POINTER
+
+-- a register whose value a function may lose
+abbrev pub MayBeLost : ℕ → Type 0
+MayBeLost register = (register < 32) × (is_fixed register ≡ false)
+
+-- registers whose values functions may lose
+pub record AreUndefined (registers : List ℕ) : Type 0 where
+  pub each : All MayBeLost registers
+  pub few : length registers ≤ 32
+
+-- rules that can be written: the offset and the distances are below 2^32, and each of x0 to x31 has its place, which is empty for x0
+-- and x2
 pub record AreRules (rules : FrameRow) : Type 0 where
   pub offset : rules.cfa_offset < 2 ^ 32
   pub registers : length rules.saved ≡ 32
   pub distances : All IsDistance rules.saved
+  pub zero : get_or rules.saved 0 None ≡ None
+  pub pointer : get_or rules.saved STACK_POINTER None ≡ None
 
 -- a row after another, in a function that ends at an address: it is later by instructions of four bytes, and its rules are
 -- others. Registers are saved if none was, and if some were, they stay so or none is any more

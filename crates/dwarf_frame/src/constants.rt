@@ -27,6 +27,8 @@ pub const DW_CFA_offset: u8 = 0x80;
 pub const DW_CFA_restore: u8 = 0xc0;
 /// Does nothing: padding (sections 6.4.2.5 and 7.24).
 pub const DW_CFA_nop: u8 = 0x00;
+/// A register's value can't be found; the operand is the register (sections 6.4.2.3 and 7.24).
+pub const DW_CFA_undefined: u8 = 0x07;
 /// Advances the address by a number of four bytes (sections 6.4.2.1 and 7.24).
 pub const DW_CFA_advance_loc4: u8 = 0x04;
 /// The CFA is a register plus an offset (sections 6.4.2.2 and 7.24).
@@ -36,11 +38,9 @@ pub const DW_CFA_def_cfa_offset: u8 = 0x0e;
 
 /// The offset of the common information entry, in the CIE_pointer of each frame description entry (section 6.4.1).
 pub const COMMON_POINTER: u32 = 0;
-/// The length of the common information entry, which doesn't count its own four bytes.
-pub const COMMON_LENGTH: u32 = 20;
 /// The fields of the common information entry after the CIE_id: the version, an empty augmentation, sizes, factors, the
-/// register of the return address, and the initial instructions with their padding (section 6.4.1).
-pub static COMMON_FIELDS: [u8; 16] = [
+/// register of the return address, and the first of the initial instructions (section 6.4.1).
+pub static COMMON_FRONT: [u8; 10] = [
     VERSION,
     0,
     ADDRESS_SIZE,
@@ -51,12 +51,6 @@ pub static COMMON_FIELDS: [u8; 16] = [
     DW_CFA_def_cfa,
     STACK_POINTER,
     0,
-    DW_CFA_nop,
-    DW_CFA_nop,
-    DW_CFA_nop,
-    DW_CFA_nop,
-    DW_CFA_nop,
-    DW_CFA_nop,
 ];
 
 /// The padding of an entry is fewer bytes than these.
@@ -74,6 +68,7 @@ pub fn standard_numbers()
     ensures offset { DW_CFA_offset ≡ Standard.DW_CFA_offset }
     ensures restore { DW_CFA_restore ≡ Standard.DW_CFA_restore }
     ensures nop { DW_CFA_nop ≡ Standard.DW_CFA_nop }
+    ensures undefined { DW_CFA_undefined ≡ Standard.DW_CFA_undefined }
     ensures advance_loc4 { DW_CFA_advance_loc4 ≡ Standard.DW_CFA_advance_loc4 }
     ensures def_cfa { DW_CFA_def_cfa ≡ Standard.DW_CFA_def_cfa }
     ensures def_cfa_offset { DW_CFA_def_cfa_offset ≡ Standard.DW_CFA_def_cfa_offset }

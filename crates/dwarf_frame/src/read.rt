@@ -1,24 +1,28 @@
 //! The reader of a section, from the left.
 
-ghost use Rattle.std.specs.Prelude.{◌≡◌, ◌+◌, ◌-◌, ◌^◌, ◌≤◌, ◌<◌, [], length, ℕ, List, IfOk, IfErr, Ok, MatchResult, IsTrue};
+ghost use Rattle.std.specs.Prelude.{◌≡◌, ◌+◌, ◌-◌, ◌^◌, ◌≤◌, ◌<◌, length, ℕ, List, IfOk, IfErr, Ok};
+ghost use Rattle.std.specs.Prelude.{MatchResult, IsTrue};
 ghost use Rattle.std.specs.Int.{w32, w64};
 ghost use Rattle.dwarf_line.specs.Fields.{constants_at, number_at, uleb_at};
 ghost use Rattle.dwarf_line.specs.FirstFault.{register_at};
 ghost use Rattle.dwarf_frame.specs.declared.table.FrameDescription.{FrameDescription};
 ghost use Rattle.dwarf_frame.specs.Table;
-ghost use Rattle.dwarf_frame.specs.Spelling.{restores};
-ghost use Rattle.dwarf_frame.specs.FirstFault.{value_at, behind_common, address_at, save_at, saves_at, registers_at};
+ghost use Rattle.dwarf_frame.specs.Table.{AreUndefined};
+ghost use Rattle.dwarf_frame.specs.Spelling.{restores, undefines, common_fields};
+ghost use Rattle.dwarf_frame.specs.FirstFault.{value_at, behind_common, address_at, distance_at, save_at};
+ghost use Rattle.dwarf_frame.specs.FirstFault.{saves_at, registers_at};
 ghost use Rattle.dwarf_frame.specs.FirstFault.{next_row_at, begins_row, padding_at, entry_at, range_at, RowsFault};
 ghost use Rattle.dwarf_frame.specs.FirstFault.{FirstFault, FunctionFault, IsSection, advanced_at};
-ghost use Rattle.dwarf_frame.specs.Rows.{rules_in};
+ghost use Rattle.dwarf_frame.specs.Rows.{rules_in, unwinding_in};
 ghost use Rattle.dwarf_frame.specs.steps.Gives.{Gives};
 ghost use Rattle.dwarf_frame.specs.steps.Read.{RulesRead, FunctionRead, SectionRead};
 ghost use Rattle.dwarf_frame.specs.Standard;
 
 use crate::constants::*;
 use crate::fault::FrameFault;
-use crate::rows::{NONE_SAVED, has_saved, initial};
-use crate::table::{FrameRow, Row};
+use crate::rows::{NONE_SAVED, has_saved, initial, is_fixed, unwinding};
+use crate::size::common_len;
+use crate::table::{FrameRow, Row, UnwindingRules};
 use dwarf_base::front::{split_u32, split_uleb};
 
 /// The limit on an entry's length in the 32-bit format, exclusive (DWARF 5 section 7.4).
@@ -32,25 +36,35 @@ const DISTANCE_LIMIT: u64 = 0x2000_0000;
 /// The greatest end of a function's code.
 const ADDRESS_LIMIT: u128 = 0x1_0000_0000_0000_0000;
 
-/// The unwinding rules of an address by a section `.debug_frame`, as `write_frame` writes it: those of the first
-/// function whose code contains the address, and `None` if there is none (DWARF 5 section 6.4.1). It takes no memory, and
-/// reads each byte a bounded number of times.
-pub fn row_at(bytes: &[u8], address: u64) -> Result<Option<FrameRow>, FrameFault>
+/// The unwinding rules of an address by a section `.debug_frame`, as `write_frame` writes it with these registers whose
+/// values functions may lose: those of the first function whose code contains the address, and `None` if there is none
+/// (DWARF 5 section 6.4.1). It takes no memory, and reads each byte a bounded number of times.
+pub fn row_at(
+    undefined: &[u8],
+    bytes: &[u8],
+    address: u64,
+) -> Result<Option<UnwindingRules>, FrameFault>
+    requires { AreUndefined undefined.now }
     // What is read is the section of functions, and the rules are theirs.
-    ensures found { IfOk result (λ rules. (functions : List FrameDescription) × IsSection [] bytes.now functions
-        × (rules ≡ rules_in functions address)) }
+    ensures found { IfOk result (λ rules. (functions : List FrameDescription)
+        × IsSection undefined.now bytes.now functions × (rules ≡ unwinding_in undefined.now functions address)) }
     // What is the section of functions is read.
-    ensures only { (functions : List FrameDescription) → IsSection [] bytes.now functions
-        → result ≡ Ok (rules_in functions address) }
+    ensures only { (functions : List FrameDescription) → IsSection undefined.now bytes.now functions
+        → result ≡ Ok (unwinding_in undefined.now functions address) }
     // Of anything else the error is the first wrong field.
-    ensures fault { IfErr result (λ f. FirstFault [] bytes.now f.at) }
+    ensures fault { IfErr result (λ f. FirstFault undefined.now bytes.now f.at) }
 {
-    rules_of_section(bytes, address)
+    match rules_of_section(undefined, bytes, address) {
+        Ok(Some(row)) => Ok(Some(unwinding(undefined, &row))),
+        Ok(None) => Ok(None),
+        Err(fault) => Err(fault),
+    }
 }
 
 /// The functions of a section are unique.
 pub fn one_reading()
-    ensures { (bytes : List ℕ) (a b : List FrameDescription) → IsSection [] bytes a → IsSection [] bytes b → a ≡ b }
+    ensures { (undefined bytes : List ℕ) (a b : List FrameDescription) → IsSection undefined bytes a
+        → IsSection undefined bytes b → a ≡ b }
 {}
 
 /// A wrong field of a section.
@@ -144,12 +158,35 @@ fn uleb_below(limit: u64, bytes: &[u8]) -> Result<(u64, &[u8]), WrongField>
 
 /// The bytes after the common information entry.
 #[tactic(auto, unfolding(crate::specs::FirstFault::behind_common))]
-fn after_common(bytes: &[u8]) -> Result<&[u8], WrongField>
-    ensures { Gives (λ x. x.now) result (behind_common [] bytes.now) }
+fn after_common<'a>(undefined: &[u8], bytes: &'a [u8]) -> Result<&'a [u8], WrongField>
+    requires { AreUndefined undefined.now }
+    ensures { Gives (λ x. x.now) result (behind_common undefined.now bytes.now) }
 {
-    let id = after_u32(bytes, COMMON_LENGTH)?;
+    let id = after_u32(bytes, common_len(undefined))?;
     let fields = after_u32(id, CIE_ID)?;
-    constants(fields, &COMMON_FIELDS)
+    after_fields(undefined, fields)
+}
+
+/// The bytes after the fields of the common information entry that follow the CIE_id.
+fn after_fields<'a>(undefined: &[u8], bytes: &'a [u8]) -> Result<&'a [u8], WrongField>
+    requires { AreUndefined undefined.now }
+    ensures { Gives (λ x. x.now) result (constants_at (common_fields undefined.now) bytes.now) }
+{
+    let opcodes = constants(bytes, &COMMON_FRONT)?;
+    let nops = after_undefined(undefined, opcodes)?;
+    let (padding, _) = PADDING.split_at((8 - (COMMON_FRONT.len() + 2 * undefined.len()) % 8) % 8);
+    constants(nops, padding)
+}
+
+/// The bytes after the opcodes of registers whose values functions may lose.
+fn after_undefined<'a>(undefined: &[u8], bytes: &'a [u8]) -> Result<&'a [u8], WrongField>
+    ensures { Gives (λ x. x.now) result (constants_at (undefines undefined.now) bytes.now) }
+{
+    let mut rest = bytes;
+    for register in undefined {
+        rest = constants(rest, &[DW_CFA_undefined, *register])?;
+    }
+    Ok(rest)
 }
 
 /// The address after an advance by a number of instructions, in a function that ends at an address.
@@ -216,11 +253,24 @@ fn next_offset(before: u64, bytes: &[u8]) -> Result<(u64, &[u8]), WrongField>
     }
 }
 
-/// The distance of a register below the CFA, if its opcode is next, and the bytes after that.
+/// The distance of a register below the CFA, if it may be saved and its opcode is next, and the bytes after that.
 #[tactic(auto, unfolding(crate::specs::FirstFault::save_at))]
 fn save(register: u8, bytes: &[u8]) -> Result<(Option<u64>, &[u8]), WrongField>
     requires { register < 32 }
     ensures { Gives (λ x. (x.0, x.1.now)) result (save_at register bytes.now) }
+{
+    if is_fixed(register) {
+        Ok((None, bytes))
+    } else {
+        distance(register, bytes)
+    }
+}
+
+/// The distance of a register below the CFA, if its opcode is next, and the bytes after that.
+#[tactic(auto, unfolding(crate::specs::FirstFault::distance_at))]
+fn distance(register: u8, bytes: &[u8]) -> Result<(Option<u64>, &[u8]), WrongField>
+    requires { register < 32 }
+    ensures { Gives (λ x. (x.0, x.1.now)) result (distance_at register bytes.now) }
 {
     match bytes {
         [opcode, operand @ ..] if *opcode == DW_CFA_offset + register => {
@@ -396,10 +446,16 @@ fn fault(bytes: &[u8], field: WrongField, after: usize) -> FrameFault
 }
 
 /// The rules of an address by a section.
-fn rules_of_section(bytes: &[u8], address: u64) -> Result<Option<FrameRow>, FrameFault>
-    ensures { MatchResult result (λ rules. SectionRead bytes.now address rules) (λ f. FirstFault [] bytes.now f.at) }
+fn rules_of_section(
+    undefined: &[u8],
+    bytes: &[u8],
+    address: u64,
+) -> Result<Option<FrameRow>, FrameFault>
+    requires { AreUndefined undefined.now }
+    ensures { MatchResult result (λ rules. SectionRead undefined.now bytes.now address rules)
+        (λ f. FirstFault undefined.now bytes.now f.at) }
 {
-    let mut rest = match after_common(bytes) {
+    let mut rest = match after_common(undefined, bytes) {
         Ok(rest) => rest,
         Err(field) => return Err(fault(bytes, field, 0)),
     };

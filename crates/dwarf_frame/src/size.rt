@@ -1,30 +1,33 @@
 //! The size of a section in bytes.
 
-ghost use Rattle.std.specs.Prelude.{◌≡◌, ◌+◌, ◌*◌, ◌-◌, ◌^◌, ◌≤◌, ◌<◌, ◌↔◌, [], length, All, IsNone, IfSome};
+ghost use Rattle.std.specs.Prelude.{◌≡◌, ◌+◌, ◌*◌, ◌-◌, ◌^◌, ◌≤◌, ◌<◌, ◌↔◌, length, All, IsNone, IfSome};
 ghost use Rattle.dwarf_line.specs.Spelling.{changing};
 ghost use Rattle.dwarf_base.specs.Size.{capped};
 ghost use Rattle.dwarf_frame.specs.Table;
-ghost use Rattle.dwarf_frame.specs.Table.{IsDescription};
+ghost use Rattle.dwarf_frame.specs.Table.{IsDescription, AreUndefined};
 ghost use Rattle.dwarf_frame.specs.Spelling;
-ghost use Rattle.dwarf_frame.specs.Spelling.{def_cfa_offset, saves, restores, rows_after, description, spelling};
+ghost use Rattle.dwarf_frame.specs.Spelling.{def_cfa_offset, saves, restores, rows_after, common_fields};
+ghost use Rattle.dwarf_frame.specs.Spelling.{description, spelling};
 
 use crate::rows::{has_saved, initial};
 use crate::table::{FrameDescription, Row};
 use dwarf_base::leb::uleb;
 use dwarf_base::limits::SECTION_LIMIT;
 
-/// The bytes of the common information entry.
-const COMMON: usize = 24;
+/// The bytes of the common information entry after the CIE_id, before the registers whose values functions may lose.
+const COMMON: u32 = 10;
 /// The bytes of a frame description entry before its call frame instructions.
 const FIELDS: usize = 24;
 
-/// The size of the functions' section in bytes, and `None` if and only if it is 2^31 or more. It takes no memory.
-pub fn frame_size(functions: &[FrameDescription]) -> Option<u32>
-    requires { All IsDescription functions.now }
-    ensures none { IsNone result ↔ (2 ^ 31 ≤ length (spelling [] functions.now)) }
-    ensures size { IfSome result (λ size. size ≡ length (spelling [] functions.now)) }
+/// The size of the functions' section in bytes, with the registers whose values they may lose, and `None` if and only
+/// if it is 2^31 or more. It takes no memory.
+pub fn frame_size(undefined: &[u8], functions: &[FrameDescription]) -> Option<u32>
+    requires undefined { AreUndefined undefined.now }
+    requires functions { All IsDescription functions.now }
+    ensures none { IsNone result ↔ (2 ^ 31 ≤ length (spelling undefined.now functions.now)) }
+    ensures size { IfSome result (λ size. size ≡ length (spelling undefined.now functions.now)) }
 {
-    let mut size = COMMON;
+    let mut size = 4 + common_len(undefined) as usize;
     for function in functions {
         size = size.saturating_add(description_len(function));
     }
@@ -33,6 +36,15 @@ pub fn frame_size(functions: &[FrameDescription]) -> Option<u32>
     } else {
         None
     }
+}
+
+/// The length of the common information entry, which doesn't count its own four bytes.
+pub(crate) fn common_len(undefined: &[u8]) -> u32
+    requires { AreUndefined undefined.now }
+    ensures { result ≡ 4 + length (common_fields undefined.now) }
+{
+    let opcodes = COMMON + 2 * undefined.len() as u32;
+    4 + opcodes + (8 - opcodes % 8) % 8
 }
 
 /// The bytes of a function's entry.

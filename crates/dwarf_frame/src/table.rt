@@ -6,15 +6,37 @@ use base_list::List;
 /// Rows, in order.
 pub type RowList = List<Row>;
 
-/// The unwinding rules of an instruction (DWARF 5 section 6.4.1).
+/// What a row says of an instruction (DWARF 5 section 6.4.1).
 #[derive(Clone, Copy, Debug, PartialEq, Eq)]
 pub struct FrameRow {
     /// The offset of the canonical frame address (CFA) from the stack pointer x2, in bytes. The CFA is the stack
     /// pointer's value at the function's entry.
     pub cfa_offset: u64,
-    /// For each of x0 to x31, if its value at the entry is in memory, the distance of that doubleword below the CFA, in
-    /// bytes. `None` if the register itself has that value.
+    /// For each of x0 to x31, if it is saved in the frame, the distance of that doubleword below the CFA, in bytes.
+    /// `None` if it isn't, as x0 and x2 never are.
     pub saved: [Option<u64>; 32],
+}
+
+/// Where the value is that a register had at the function's entry (DWARF 5 section 6.4.1, "register rules").
+#[derive(Clone, Copy, Debug, PartialEq, Eq)]
+pub enum RegisterRule {
+    /// In the register itself: "same value".
+    SameValue,
+    /// In the doubleword at this distance below the CFA, in bytes: "offset(N)".
+    Below(u64),
+    /// The value is the CFA: "val_offset(0)", the rule of the stack pointer x2.
+    FrameAddress,
+    /// Nowhere: "undefined".
+    Undefined,
+}
+
+/// The rules of an instruction, as a debugger applies them (DWARF 5 section 6.4.1).
+#[derive(Clone, Copy, Debug, PartialEq, Eq)]
+pub struct UnwindingRules {
+    /// The offset of the CFA from x2, in bytes.
+    pub cfa_offset: u64,
+    /// The rule of each of x0 to x31.
+    pub registers: [RegisterRule; 32],
 }
 
 /// A row of the table: the rules of the instructions from an address on (DWARF 5 section 6.4.1).

@@ -1,16 +1,17 @@
 //! The writer of a table's section.
 
-ghost use Rattle.std.specs.Prelude.{◌≡◌, ◌+◌, ◌-◌, ◌^◌, ◌≤◌, ◌<◌, ◌++◌, [], length, All, OnOk, IfOk};
+ghost use Rattle.std.specs.Prelude.{◌≡◌, ◌+◌, ◌-◌, ◌^◌, ◌≤◌, ◌<◌, ◌++◌, length, All, OnOk, IfOk};
 ghost use Rattle.dwarf_line.specs.Spelling.{changing};
 ghost use Rattle.dwarf_frame.specs.Table;
-ghost use Rattle.dwarf_frame.specs.Table.{IsDescription};
+ghost use Rattle.dwarf_frame.specs.Table.{IsDescription, AreUndefined};
 ghost use Rattle.dwarf_frame.specs.FirstFault.{HasSize, IsSection};
 ghost use Rattle.dwarf_frame.specs.Spelling;
-ghost use Rattle.dwarf_frame.specs.Spelling.{def_cfa_offset, saves, restores, padded, common_entry, instructions};
+ghost use Rattle.dwarf_frame.specs.Spelling.{def_cfa_offset, saves, restores, undefines, padded, common_entry};
 ghost use Rattle.dwarf_frame.specs.Spelling.{description, spelling};
 
 use crate::constants::*;
 use crate::rows::{has_saved, initial};
+use crate::size::common_len;
 use crate::table::{FrameDescription, Row};
 use base_list::List;
 use dwarf_base::leb::{Leb, uleb};
@@ -22,30 +23,53 @@ pub type Bytes = List<u8>;
 /// The bytes of a frame description entry after its length, without the call frame instructions.
 const FIELDS: u32 = 20;
 
-/// The section `.debug_frame` of functions, in their order (DWARF 5 section 6.4.1). The error is out of memory.
-pub fn write_frame(alloc: Global, functions: &[FrameDescription]) -> Result<Bytes, AllocError>
+/// The section `.debug_frame` of functions, in their order, with the registers whose values they may lose (DWARF 5
+/// section 6.4.1). The error is out of memory.
+pub fn write_frame(
+    alloc: Global,
+    undefined: &[u8],
+    functions: &[FrameDescription],
+) -> Result<Bytes, AllocError>
+    requires undefined { AreUndefined undefined.now }
     // The address ranges are in 64 bits. Rows ascend, and in each one something changes that the section can say.
     requires functions { All IsDescription functions.now }
-    requires size { length (spelling [] functions.now) < 2 ^ 31 }
-    ensures bytes { IfOk result (λ bytes. bytes ≡ spelling [] functions.now) }
+    requires size { length (spelling undefined.now functions.now) < 2 ^ 31 }
+    ensures bytes { IfOk result (λ bytes. bytes ≡ spelling undefined.now functions.now) }
     // It is in the grammar, and its functions are these.
-    ensures section { IfOk result (λ bytes. IsSection [] bytes functions.now) }
+    ensures section { IfOk result (λ bytes. IsSection undefined.now bytes functions.now) }
 {
     let mut out = Vec::new(alloc);
-    push_common(&mut out)?;
+    push_common(alloc, &mut out, undefined)?;
     for function in functions {
         push_description(alloc, &mut out, function)?;
     }
     Ok(List::from(out))
 }
 
-/// Appends the common information entry, with which a section begins (DWARF 5 section 6.4.1).
-pub fn push_common(out: &mut Vec<u8>) -> Result<(), AllocError>
-    ensures { OnOk result (out.new.items ≡ out.old.items ++ common_entry []) }
+/// Appends the common information entry, with which a section begins, with the registers whose values functions may
+/// lose (DWARF 5 section 6.4.1).
+pub fn push_common(alloc: Global, out: &mut Vec<u8>, undefined: &[u8]) -> Result<(), AllocError>
+    requires { AreUndefined undefined.now }
+    ensures { OnOk result (out.new.items ≡ out.old.items ++ common_entry undefined.now) }
 {
-    out.extend_from_slice(&COMMON_LENGTH.to_le_bytes())?;
+    let mut opcodes = Vec::new(alloc);
+    opcodes.extend_from_slice(&COMMON_FRONT)?;
+    push_undefined(&mut opcodes, undefined)?;
+    push_padding(&mut opcodes)?;
+    out.extend_from_slice(&common_len(undefined).to_le_bytes())?;
     out.extend_from_slice(&CIE_ID.to_le_bytes())?;
-    out.extend_from_slice(&COMMON_FIELDS)
+    out.extend_from_slice(opcodes.as_slice())
+}
+
+/// Appends the opcodes of registers whose values functions may lose.
+fn push_undefined(out: &mut Vec<u8>, undefined: &[u8]) -> Result<(), AllocError>
+    ensures { OnOk result (out.new.items ≡ out.old.items ++ undefines undefined.now) }
+{
+    for register in undefined {
+        out.push(DW_CFA_undefined)?;
+        out.push(*register)?;
+    }
+    Ok(())
 }
 
 /// Appends a function's frame description entry (DWARF 5 section 6.4.1).

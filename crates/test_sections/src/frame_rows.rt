@@ -1,9 +1,10 @@
 //! Whether call frame information can be written.
 
-ghost use Rattle.std.specs.Prelude.{◌≡◌, ◌≢◌, true, length, IsTrue, All};
-ghost use Rattle.dwarf_frame.specs.Table.{is_saved, IsDistance, AreRules, IsNext, AreRows, IsDescription};
+ghost use Rattle.std.specs.Prelude.{◌≡◌, ◌≢◌, true, length, get_or, None, IsTrue, All};
+ghost use Rattle.dwarf_frame.specs.Table.{is_saved, IsDistance, AreUndefined, AreRules, IsNext, AreRows};
+ghost use Rattle.dwarf_frame.specs.Table.{IsDescription};
 
-use dwarf_frame::rows::{has_saved, initial};
+use dwarf_frame::rows::{has_saved, initial, is_fixed};
 use dwarf_frame::table::{FrameDescription, FrameRow, Row};
 
 /// The limit on an offset and on a distance, exclusive.
@@ -34,11 +35,34 @@ fn are_distances(saved: &[Option<u64>; 32]) -> bool
     true
 }
 
+/// Whether x0 and x2 aren't saved.
+fn spare_fixed(saved: &[Option<u64>; 32]) -> bool
+    ensures zero { IsTrue result → get_or saved.now 0 None ≡ None }
+    ensures pointer { IsTrue result → get_or saved.now 2 None ≡ None }
+{
+    saved[0].is_none() && saved[2].is_none()
+}
+
+/// Whether registers are such as functions may lose.
+pub(crate) fn are_undefined(registers: &[u8]) -> bool
+    ensures { IsTrue result → AreUndefined registers.now }
+{
+    if registers.len() > 32 {
+        return false;
+    }
+    for register in registers {
+        if *register >= 32 || is_fixed(*register) {
+            return false;
+        }
+    }
+    true
+}
+
 /// Whether rules can be written.
 fn are_rules(rules: &FrameRow) -> bool
     ensures { IsTrue result → AreRules rules.now }
 {
-    rules.cfa_offset < OFFSET_LIMIT && are_distances(&rules.saved)
+    rules.cfa_offset < OFFSET_LIMIT && are_distances(&rules.saved) && spare_fixed(&rules.saved)
 }
 
 /// Whether the rules of two rows differ in their offset or in whether a register is saved, and at most one of the two

@@ -2,13 +2,13 @@
 //! one byte changed.
 
 use crate::changed::changed;
-use crate::frame_rows::are_descriptions;
+use crate::frame_rows::{are_descriptions, are_undefined};
 use base_list::List;
 use dwarf_frame::fault::FrameFault;
 use dwarf_frame::read::row_at;
 use dwarf_frame::rows::NONE_SAVED;
 use dwarf_frame::size::frame_size;
-use dwarf_frame::table::{FrameDescription, FrameRow, Row, RowList};
+use dwarf_frame::table::{FrameDescription, FrameRow, RegisterRule, Row, RowList, UnwindingRules};
 use dwarf_frame::write::write_frame;
 use std::alloc::{AllocError, Global};
 use std::test::Fail;
@@ -18,6 +18,15 @@ static SECTION: [u8; 64] = [
     0x14, 0, 0, 0, 0xff, 0xff, 0xff, 0xff, 4, 0, 8, 0, 4, 0x78, 1, 0x0c, 2, 0, 0, 0, 0, 0, 0, 0,
     0x24, 0, 0, 0, 0, 0, 0, 0, 0, 0, 0, 0, 0, 0, 0, 0, 0x2c, 0, 0, 0, 0, 0, 0, 0, 0x41, 0x0e, 0x10,
     0x42, 0x81, 2, 0x92, 1, 0x47, 0x0e, 0, 0xc1, 0xd2, 0, 0, 0,
+];
+
+/// The registers that a callee may write (RISC-V ELF psABI, "Integer Register Convention").
+static TEMPORARY: [u8; 15] = [5, 6, 7, 10, 11, 12, 13, 14, 15, 16, 17, 28, 29, 30, 31];
+
+/// The common information entry of sections in which those are undefined.
+static TEMPORARY_COMMON: [u8; 48] = [
+    0x2c, 0, 0, 0, 0xff, 0xff, 0xff, 0xff, 4, 0, 8, 0, 4, 0x78, 1, 0x0c, 2, 0, 7, 5, 7, 6, 7, 7, 7,
+    10, 7, 11, 7, 12, 7, 13, 7, 14, 7, 15, 7, 16, 7, 17, 7, 28, 7, 29, 7, 30, 7, 31,
 ];
 
 /// A byte of the section that is changed, what it becomes, and the first wrong field's first byte: the section's length
@@ -37,8 +46,10 @@ const DAMAGED: &[(usize, u8, usize)] = &[
     (48, 0x40, 48),
     (50, 0x20, 64),
     (50, 0, 50),
-    // Registers out of order, and restored that weren't saved
+    // Registers out of order, one that is never saved, and restored that weren't saved
     (54, 0x81, 54),
+    (52, 0x80, 52),
+    (52, 0x82, 52),
     (59, 0xc2, 59),
     (60, 0xd3, 60),
     // An advance to the end, and padding that isn't zero
@@ -73,17 +84,43 @@ fn saving() -> FrameRow {
     }
 }
 
-/// Whether these are the rules of an address by a section.
-fn is_at(bytes: &[u8], address: u64, wanted: &FrameRow) -> bool {
-    match row_at(bytes, address) {
-        Ok(Some(rules)) => rules == *wanted,
-        _ => false,
+/// The rules of an address by a section with these registers undefined, if it has some.
+fn rules_at(undefined: &[u8], bytes: &[u8], address: u64) -> Option<UnwindingRules> {
+    if !are_undefined(undefined) {
+        return None;
+    }
+    match row_at(undefined, bytes, address) {
+        Ok(rules) => rules,
+        Err(_) => None,
+    }
+}
+
+/// The rules of a row: each register but x2 has its own value where it isn't saved.
+fn wanted(row: &FrameRow) -> UnwindingRules {
+    let mut registers = [RegisterRule::SameValue; 32];
+    registers[2] = RegisterRule::FrameAddress;
+    for register in 0..32 {
+        if let Some(distance) = row.saved[register] {
+            registers[register] = RegisterRule::Below(distance);
+        }
+    }
+    UnwindingRules {
+        cfa_offset: row.cfa_offset,
+        registers,
+    }
+}
+
+/// Whether these are the rules of an address by a section without undefined registers.
+fn is_at(bytes: &[u8], address: u64, row: &FrameRow) -> bool {
+    match rules_at(&[], bytes, address) {
+        Some(rules) => rules == wanted(row),
+        None => false,
     }
 }
 
 /// Whether a section has no rules for an address.
 fn is_none_at(bytes: &[u8], address: u64) -> bool {
-    match row_at(bytes, address) {
+    match row_at(&[], bytes, address) {
         Ok(None) => true,
         _ => false,
     }
@@ -91,7 +128,7 @@ fn is_none_at(bytes: &[u8], address: u64) -> bool {
 
 /// Where a section's first wrong field is, and its length where none is.
 fn fault(bytes: &[u8]) -> usize {
-    match row_at(bytes, 0) {
+    match row_at(&[], bytes, 0) {
         Err(FrameFault { at }) => at,
         Ok(_) => bytes.len(),
     }
@@ -133,15 +170,20 @@ fn function(alloc: Global) -> Result<FrameDescription, AllocError> {
     })
 }
 
-/// Whether the section of functions is this one, and its size is as told.
-fn is_section(alloc: Global, functions: &[FrameDescription], bytes: &[u8]) -> bool {
-    if !are_descriptions(functions) {
+/// Whether the section of functions, with these registers undefined, is this one, and its size is as told.
+fn is_section(
+    alloc: Global,
+    undefined: &[u8],
+    functions: &[FrameDescription],
+    bytes: &[u8],
+) -> bool {
+    if !are_descriptions(functions) || !are_undefined(undefined) {
         return false;
     }
-    let Some(size) = frame_size(functions) else {
+    let Some(size) = frame_size(undefined, functions) else {
         return false;
     };
-    match write_frame(alloc, functions) {
+    match write_frame(alloc, undefined, functions) {
         Ok(written) => written.as_slice() == bytes && bytes.len() == size as usize,
         Err(_) => false,
     }
@@ -158,6 +200,28 @@ fn frames_are_read_and_written(rt: HostRuntime) -> Result<(), Fail> {
     assert!(rt; is_none_at(bytes, 0x2c));
     assert_eq!(rt; other_fault(alloc, bytes, DAMAGED)?, None);
     let functions = vec![in alloc; function(alloc)?]?;
-    assert!(rt; is_section(alloc, &functions, bytes));
+    assert!(rt; is_section(alloc, &[], &functions, bytes));
+    Ok(())
+}
+
+#[test]
+fn lost_registers_are_undefined(rt: HostRuntime) -> Result<(), Fail> {
+    let alloc = rt.alloc();
+    let mut section = List::new(alloc);
+    section.extend_from_slice(&TEMPORARY_COMMON)?;
+    section.extend_from_slice(&SECTION[24..])?;
+    let bytes = section.as_slice();
+    let functions = vec![in alloc; function(alloc)?]?;
+    assert!(rt; is_section(alloc, &TEMPORARY, &functions, bytes));
+    let Some(rules) = rules_at(&TEMPORARY, bytes, 0x0c) else {
+        assert!(rt; false);
+        return Ok(());
+    };
+    assert!(rt; rules.registers[0] == RegisterRule::SameValue);
+    assert!(rt; rules.registers[1] == RegisterRule::Below(16));
+    assert!(rt; rules.registers[2] == RegisterRule::FrameAddress);
+    assert!(rt; rules.registers[8] == RegisterRule::SameValue);
+    assert!(rt; rules.registers[10] == RegisterRule::Undefined);
+    assert!(rt; rules.registers[18] == RegisterRule::Below(8));
     Ok(())
 }

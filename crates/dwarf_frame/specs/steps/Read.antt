@@ -19,9 +19,9 @@ pub record FunctionRead (bytes : List ℕ) (address : ℕ) (rules : Option Frame
   pub is : rules ≡ rules_in (function ∷ []) address
 
 -- a section was read, and these are the rules of an address by it
-pub record SectionRead (bytes : List ℕ) (address : ℕ) (rules : Option FrameRow) : Type 0 where
+pub record SectionRead (undefined bytes : List ℕ) (address : ℕ) (rules : Option FrameRow) : Type 0 where
   pub functions : List FrameDescription
   pub behind : List ℕ
-  pub common : behind_common [] bytes ≡ Ok behind
+  pub common : behind_common undefined bytes ≡ Ok behind
   pub reads : Functions behind functions
   pub is : rules ≡ rules_in functions address
