@@ -1,7 +1,7 @@
 //! Whether call frame information can be written.
 
 ghost use Rattle.std.specs.Prelude.{◌≡◌, ◌≢◌, true, length, get_or, None, IsTrue, All};
-ghost use Rattle.dwarf_frame.specs.Table.{is_saved, IsDistance, AreUndefined, AreRules, IsNext, AreRows};
+ghost use Rattle.dwarf_frame.specs.Table.{is_saved, IsDistance, MayBeLost, AreUndefined, AreRules, IsNext, AreRows};
 ghost use Rattle.dwarf_frame.specs.Table.{IsDescription};
 
 use dwarf_frame::rows::{has_saved, initial, is_fixed};
@@ -43,19 +43,30 @@ fn spare_fixed(saved: &[Option<u64>; 32]) -> bool
     saved[0].is_none() && saved[2].is_none()
 }
 
-/// Whether registers are such as functions may lose.
-pub(crate) fn are_undefined(registers: &[u8]) -> bool
-    ensures { IsTrue result → AreUndefined registers.now }
+/// Whether a function may lose the value of a register.
+fn may_be_lost(register: u8) -> bool
+    ensures { IsTrue result → MayBeLost register }
 {
-    if registers.len() > 32 {
-        return false;
-    }
+    register < 32 && !is_fixed(register)
+}
+
+/// Whether functions may lose the values of registers.
+fn may_be_all_lost(registers: &[u8]) -> bool
+    ensures { IsTrue result → All MayBeLost registers.now }
+{
     for register in registers {
-        if *register >= 32 || is_fixed(*register) {
+        if !may_be_lost(*register) {
             return false;
         }
     }
     true
+}
+
+/// Whether registers are such as functions may lose, and few.
+pub(crate) fn are_undefined(registers: &[u8]) -> bool
+    ensures { IsTrue result → AreUndefined registers.now }
+{
+    registers.len() <= 32 && may_be_all_lost(registers)
 }
 
 /// Whether rules can be written.
