@@ -15,7 +15,7 @@ use Rattle.sem_simulation.specs.MatchStates.{ShowsSame, since_item}
 use Rattle.sem_simulation.specs.Refinement.{waiting, Walk, there, on, past, IsDoomed, faults, later, later_past, Passes, FaultsAt, Lingers, IsStuck, doomed}
 use Rattle.sem_simulation.specs.Refinement.{halted}
 use Rattle.sem_simulation.specs.Refinement.{IsStuckFrom}
-use Rattle.sem_simulation.specs.InPlace.{FallsOrTraps, IsIdleAt, MayTrap, ended, both, taken, passed, added, paired}
+use Rattle.sem_simulation.specs.InPlace.{FallsOrTraps, IsIdleAt, MayTrap, ended, both, bolder, taken, passed, added, paired}
 use Rattle.sem_mir.proofs.Outcomes.{step_item}
 use Rattle.sem_simulation.proofs.Order.{cases_pos, rank_high, rank_next, same_pos, IsDone, done_more, waits_after, waits_until, done_code, IsNoLater, IsFrom}
 use Rattle.sem_simulation.proofs.Order.{IsUntil, from_less, until_more, may_pass}
@@ -323,6 +323,7 @@ module _ (change : Change) where
   unfolding goes_f passes_code passes_debug
   catches n last0 t u r xs ys ef eg ended le = stands last0 t u r xs ys ef eg ended tt
   catches n last0 t u r xs ys ef eg (both a b c d e h) le = stands last0 t u r xs ys ef eg (both a b c d e h) tt
+  catches n last0 t u r xs ys ef eg (bolder a b c d e h) le = stands last0 t u r xs ys ef eg (bolder a b c d e h) tt
   catches n last0 t u r xs ys ef eg (added a b c) le = stands last0 t u r xs ys ef eg (added a b c) tt
   catches n last0 t u r xs ys ef eg (paired a b c d) le = stands last0 t u r xs ys ef eg (paired a b c d) tt
   catches zero last0 t u r xs ys ef eg (taken c j s h) le = absurd (omega (arith, le))

@@ -12,7 +12,7 @@ use Rattle.sem_mir.specs.Align.{position_of, is_code, SyncPoint, Count, ByEnds, 
 use Rattle.sem_mir.specs.Follow.{rank, next_rank, InOrder}
 use Rattle.sem_simulation.specs.MatchStates.{Sides, MatchStates, IsPastItems}
 use Rattle.sem_simulation.specs.Refinement.{Passes, still, pass}
-use Rattle.sem_simulation.specs.InPlace.{View, ended, both, taken, passed, added, paired, InPlace}
+use Rattle.sem_simulation.specs.InPlace.{View, ended, both, bolder, taken, passed, added, paired, InPlace}
 use Rattle.sem_mir.proofs.Edges.{step_edge, goes_to_start}
 use Rattle.sem_simulation.proofs.Order.{rank_high, rank_low, rank_next, IsNoLater, no_later, IsFrom}
 use Rattle.sem_simulation.proofs.Stations.{not_code, debug_below, end_is_sync_point, code_is_some, IsSyncPointOf, of_item, of_end, sync_point_is_of}
@@ -67,6 +67,7 @@ module _ (change : Change) where
   pub first_from : (m b n : ℕ) (k : Stage) (xs ys : List Item) → Seen b k xs ys → InOrder b n xs → length xs + length ys ≤ m → IsFirstFrom n ys
   first_from m b n k xs ys ended ord le = tt
   first_from m b n k xs ys (both {x = x} {y = y} cx cy o j s h) ord le = (λ c. subst (λ (z : Origin). n ≤ rank z) o ord.1, λ c. not_code y c cy)
+  first_from m b n k xs ys (bolder {x = x} {y = y} cx cy o j s h) ord le = (λ c. subst (λ (z : Origin). n ≤ rank z) o ord.1, λ c. not_code y c cy)
   first_from zero b n k xs ys (taken c j s h) ord le = absurd (omega (arith, le))
   first_from zero b n k xs ys (passed c s h) ord le = absurd (omega (arith, le))
   first_from zero b n k xs ys (added cy s h) ord le = absurd (omega (arith, le))

@@ -11,14 +11,14 @@ use Rattle.sem_mir.specs.Align.{RunsMatch}
 use Rattle.sem_mir.specs.Follow.{rank, next_rank, InOrder}
 use Rattle.sem_simulation.specs.MatchStates.{MatchStates, IsPastItems, since_item}
 use Rattle.sem_simulation.specs.Refinement.{waiting, Walk, there, on, later, still, IsStuck, IsStuckFrom, Meets, Refines}
-use Rattle.sem_simulation.specs.InPlace.{DoAlike, ended, both, taken, passed, added, paired, InPlaceFollows}
+use Rattle.sem_simulation.specs.InPlace.{DoAlike, TrapsAlone, ended, both, bolder, taken, passed, added, paired, InPlaceFollows}
 use Rattle.sem_mir.proofs.Alignment.{went_once}
 use Rattle.sem_mir.proofs.Outcomes.{step_item, step_end}
 use Rattle.sem_simulation.proofs.Refinement.{still_follows}
 use Rattle.sem_simulation.proofs.Order.{done_next, rank_high, rank_low, rank_next, same_pos, done_more, waits_after, done_self, waits_until, done_code}
 use Rattle.sem_simulation.proofs.Order.{IsNoLater}
 use Rattle.sem_simulation.proofs.Order.{no_later, from_less, until_more, until_next, from_next}
-use Rattle.sem_simulation.proofs.Outcomes.{both_return, both_fault, alike_gives, alike_traps}
+use Rattle.sem_simulation.proofs.Outcomes.{both_return, both_fault, alike_gives, alike_traps, alone_trap, alone_after, alone_gives}
 use Rattle.sem_simulation.proofs.Between.{Change, fs, gs, Seen, IsNext}
 use Rattle.sem_simulation.proofs.Beside.{Beside, at_start, dynamic_at, static_at, IsReady, ready}
 use Rattle.sem_simulation.proofs.Stations.{not_code, code_sync_point, debug_sync_point, end_is_sync_point, code_is_some, code_is, debug_is_none, IsSyncPointOf}
@@ -124,6 +124,8 @@ module _ (change : Change) where
       (w : Seen change r.v.pos.block r.stage xs ys) → IsReady change w → gs change t.pos ≡ None → (t' : State) → step g t ≡ Went t' → Beside change last0 t' u
   between_at last0 t u r xs ys ef eg ended rd none t' st = goes_end last0 t u r ef eg (g.fetch t.pos) refl none (facts.laid_g.nil t.pos eg).0 t' st
   between_at last0 t u r xs ys ef eg (both {y = y} {ys = ts} cx cy o j s h) rd none t' st =
+      absurd (code_is_some count g t.pos y none (facts.laid_g.cons t.pos y ts eg).0 cy)
+  between_at last0 t u r xs ys ef eg (bolder {y = y} {ys = ts} cx cy o j s h) rd none t' st =
       absurd (code_is_some count g t.pos y none (facts.laid_g.cons t.pos y ts eg).0 cy)
   between_at last0 t u r xs ys ef eg (taken c j s h) rd none t' st = absurd rd
   between_at last0 t u r xs ys ef eg (passed c s h) rd none t' st = absurd rd
@@ -248,12 +250,14 @@ module _ (change : Change) where
       subst (λ (z : SyncPoint). Meeting last0 t u z) (sym is) (r.v, r.walks p ok r.v there, made)
 
   -- both at code of one origin
-  meets_code : (last0 : Option Pos) (t u : State) (r : Beside change last0 t u) (k' : Stage) (x y : Item) (xs ys : List Item) → rest_f r.v.pos ≡ x ∷ xs →
-      rest_g t.pos ≡ y ∷ ys → is_code x.kind ≡ true → is_code y.kind ≡ true → x.origin ≡ y.origin → moves_on count x.kind ≡ moves_on count y.kind →
-      MatchItems k' r.v.pos.block xs ys →
-      DoAlike count src sides match_states r.v.pos.block xs ys (since_item count x) k' (do_item f x.kind r.v.core) (do_item g y.kind t.core) →
-      Meeting last0 t u (sync_point_of count y)
-  meets_code last0 t u r k' x y xs ys ef eg cx cy o j s al =
+  meets_code : (last0 : Option Pos) (t u : State) (r : Beside change last0 t u) (x y : Item) (xs ys : List Item) → rest_f r.v.pos ≡ x ∷ xs →
+      rest_g t.pos ≡ y ∷ ys → is_code x.kind ≡ true → x.origin ≡ y.origin → since_item count x ≡ since_item count y →
+      ((v : List ℕ) → do_item g y.kind t.core ≡ Gives v → do_item f x.kind r.v.core ≡ Gives v) →
+      (do_item g y.kind t.core ≡ Traps → do_item f x.kind r.v.core ≡ Traps) →
+      ((t' : State) → step g t ≡ Went t' →
+      ((w' : State) × (step f r.v ≡ Went w') × Beside change (waiting (since_item count y) (position_of y.origin)) t' w') ⊎
+      ((since_item count y ≡ After) × (step f r.v ≡ Faulted))) → Meeting last0 t u (sync_point_of count y)
+  meets_code last0 t u r x y xs ys ef eg cx o since gives traps goes =
       let b = r.v.pos.block in
       let fe = facts.laid_f.cons r.v.pos x xs ef in
       let ge = facts.laid_g.cons t.pos y ys eg in
@@ -262,8 +266,6 @@ module _ (change : Change) where
       let go_f = step_item f r.v x a fe.0 refl in
       let go = step_item g t y c ge.0 refl in
       let shows = facts.shows r.stage b (rest_f r.v.pos) (rest_g t.pos) r.v.core t.core r.dynamic in
-      let since : since_item count x ≡ since_item count y = ap (λ (z : Bool). since_of (waits_at z x.origin)) j ∙
-      ap (λ (z : Origin). since_of (waits_at (moves_on count y.kind) z)) o in
       let ord = subst (InOrder b r.n) ef r.order_f in
       let ord_g = subst (InOrder b r.m) eg r.order_g in
       let p = position_of y.origin in
@@ -279,12 +281,44 @@ module _ (change : Change) where
         since = since;
         events = shows.events;
         told = shows.told;
-        returns = both_return f g r.v t a c go_f go (alike_gives _ _ a c al);
-        faults = both_fault f g r.v t a c go_f go (alike_traps _ _ a c al);
-        goes = λ t' h. let z = goes_on last0 t u r k' x y xs ys ef eg o since s a c (λ d e. falls_stays count g y.kind t.core d e) al t' (sym go ∙ h) in
-            inl (z.0, go_f ∙ z.1, z.2);
+        returns = both_return f g r.v t a c go_f go gives;
+        faults = both_fault f g r.v t a c go_f go traps;
+        goes = goes;
       } in
       (r.v, r.walks p (inl (ord_g.0, here), ahead_ok, λ q k n ce qb fq. (ord_g.0, facts.within t.pos q y k n ge.0 fq (r.block ∙ sym qb))) r.v there, made)
+
+  same_since : (x y : Item) → x.origin ≡ y.origin → moves_on count x.kind ≡ moves_on count y.kind → since_item count x ≡ since_item count y
+  same_since x y o j = ap (λ (z : Bool). since_of (waits_at z x.origin)) j ∙ ap (λ (z : Origin). since_of (waits_at (moves_on count y.kind) z)) o
+
+  -- code that is alike
+  meets_alike : (last0 : Option Pos) (t u : State) (r : Beside change last0 t u) (k' : Stage) (x y : Item) (xs ys : List Item) → rest_f r.v.pos ≡ x ∷ xs →
+      rest_g t.pos ≡ y ∷ ys → is_code x.kind ≡ true → x.origin ≡ y.origin → moves_on count x.kind ≡ moves_on count y.kind →
+      MatchItems k' r.v.pos.block xs ys →
+      DoAlike count src sides match_states r.v.pos.block xs ys (since_item count x) k' (do_item f x.kind r.v.core) (do_item g y.kind t.core) →
+      Meeting last0 t u (sync_point_of count y)
+  meets_alike last0 t u r k' x y xs ys ef eg cx o j s al =
+      let a = do_item f x.kind r.v.core in
+      let c = do_item g y.kind t.core in
+      let since : since_item count x ≡ since_item count y = same_since x y o j in
+      let go_f = step_item f r.v x a (facts.laid_f.cons r.v.pos x xs ef).0 refl in
+      let go = step_item g t y c (facts.laid_g.cons t.pos y ys eg).0 refl in
+      meets_code last0 t u r x y xs ys ef eg cx o since (alike_gives _ _ a c al) (alike_traps _ _ a c al)
+      (λ t' h. let z = goes_on last0 t u r k' x y xs ys ef eg o since s a c (λ d e. falls_stays count g y.kind t.core d e) al t' (sym go ∙ h) in
+      inl (z.0, go_f ∙ z.1, z.2))
+
+  -- code of which f's alone traps
+  meets_trap : (last0 : Option Pos) (t u : State) (r : Beside change last0 t u) (x y : Item) (xs ys : List Item) → rest_f r.v.pos ≡ x ∷ xs →
+      rest_g t.pos ≡ y ∷ ys → is_code x.kind ≡ true → x.origin ≡ y.origin → moves_on count x.kind ≡ moves_on count y.kind →
+      TrapsAlone (since_item count x) (do_item f x.kind r.v.core) (do_item g y.kind t.core) → Meeting last0 t u (sync_point_of count y)
+  meets_trap last0 t u r x y xs ys ef eg cx o j alone =
+      let a = do_item f x.kind r.v.core in
+      let c = do_item g y.kind t.core in
+      let since : since_item count x ≡ since_item count y = same_since x y o j in
+      let traps : a ≡ Traps = alone_trap (since_item count x) a c alone in
+      let faulted : step f r.v ≡ Faulted =
+      step_item f r.v x a (facts.laid_f.cons r.v.pos x xs ef).0 refl ∙ ap (moved f.enter r.v.pos) traps in
+      meets_code last0 t u r x y xs ys ef eg cx o since (alone_gives (since_item count x) a c alone) (λ h. traps)
+      (λ t' h. inr (sym since ∙ alone_after (since_item count x) a c alone, faulted))
 
   meets_at_view : (last0 : Option Pos) (t u : State) (r : Beside change last0 t u) (xs ys : List Item) → rest_f r.v.pos ≡ xs → rest_g t.pos ≡ ys →
       (w : Seen change r.v.pos.block r.stage xs ys) → IsReady change w → (i : SyncPoint) → gs change t.pos ≡ Some i → Meeting last0 t u i
@@ -297,7 +331,13 @@ module _ (change : Change) where
       absurd (debug_is_none count g t.pos y i e (facts.laid_g.cons t.pos y ts eg).0 cy)
   meets_at_view last0 t u r xs ys ef eg (both {k' = k'} {x = x} {y = y} {xs = rest} {ys = ts} cx cy o j s h) rd i e =
       subst (λ (z : SyncPoint). Meeting last0 t u z) (code_is count g t.pos y i e (facts.laid_g.cons t.pos y ts eg).0 cy)
-      (meets_code last0 t u r k' x y rest ts ef eg cx cy o j s (h r.v.core t.core (dynamic_at change last0 t u r xs ys ef eg)))
+      (meets_alike last0 t u r k' x y rest ts ef eg cx o j s (h r.v.core t.core (dynamic_at change last0 t u r xs ys ef eg)))
+  meets_at_view last0 t u r xs ys ef eg (bolder {k' = k'} {x = x} {y = y} {xs = rest} {ys = ts} cx cy o j s h) rd i e =
+      subst (λ (z : SyncPoint). Meeting last0 t u z) (code_is count g t.pos y i e (facts.laid_g.cons t.pos y ts eg).0 cy)
+      (elim (h r.v.core t.core (dynamic_at change last0 t u r xs ys ef eg)) as (λ _. Meeting last0 t u (sync_point_of count y)) [
+        | inl al ↦ meets_alike last0 t u r k' x y rest ts ef eg cx o j s al
+        | inr alone ↦ meets_trap last0 t u r x y rest ts ef eg cx o j alone
+      ])
 
   meets : (last0 : Option Pos) (t u : State) (i : SyncPoint) → Beside change last0 t u → gs change t.pos ≡ Some i → Meeting last0 t u i ⊎
       IsStuck src f g s0 (fs change) (gs change) last0 t u i

@@ -5,7 +5,9 @@ use Rattle.sem_mir.specs.State.{Core, State}
 use Rattle.sem_mir.specs.Step.{Returned, Faulted, Outcome, Falls, Goes, Gives, Traps, Asks, Breaks, moved, step}
 use Rattle.mir_func.specs.Graph.{Program}
 use Rattle.sem_mir.specs.Effects.{EndAlike}
+use Rattle.sem_mir.specs.Align.{Since, After}
 use Rattle.sem_simulation.specs.MatchStates.{OutcomesAlike}
+use Rattle.sem_simulation.specs.InPlace.{TrapsAlone}
 
 pub returns_gives : (enter : ℕ → ℕ) (p : Pos) (o : Outcome) (v : List ℕ) → moved enter p o ≡ Returned v → o ≡ Gives v
 returns_gives enter p (Gives w) v e = cc
@@ -61,3 +63,27 @@ module _ (P : Core → Core → Type 0) (J : ℕ → Core → Core → Type 0) w
   alike_of R Asks Asks falls goes h = tt
   alike_of R Breaks Breaks falls goes h = tt
   alike_of R _ _ falls goes h = absurd h
+
+-- where f's outcome alone is a trap
+module _ (m : Since) where
+  pub alone_trap : (x y : Outcome) → TrapsAlone m x y → x ≡ Traps
+  alone_trap Traps y h = refl
+  alone_trap _ y h = absurd h
+
+  pub alone_after : (x y : Outcome) → TrapsAlone m x y → m ≡ After
+  alone_after Traps (Gives v) h = absurd h
+  alone_after Traps (Falls d) h = h
+  alone_after Traps (Goes i d) h = h
+  alone_after Traps Traps h = h
+  alone_after Traps Asks h = h
+  alone_after Traps Breaks h = h
+  alone_after _ y h = absurd h
+
+  pub alone_gives : (x y : Outcome) → TrapsAlone m x y → (v : List ℕ) → y ≡ Gives v → x ≡ Gives v
+  alone_gives Traps (Gives w) h v e = absurd h
+  alone_gives Traps (Falls d) h v e = cc
+  alone_gives Traps (Goes i d) h v e = cc
+  alone_gives Traps Traps h v e = cc
+  alone_gives Traps Asks h v e = cc
+  alone_gives Traps Breaks h v e = cc
+  alone_gives _ y h v e = absurd h

@@ -26,6 +26,12 @@ ShowsNoMore m d (Goes n e) = m ≡ After
 ShowsNoMore m d (Gives v) = ⊥
 ShowsNoMore m d _ = Unit {0}
 
+-- f's outcome is a trap and g's isn't a return; the source must leave the position
+abbrev pub TrapsAlone : Since → (of_f of_g : Outcome) → Type 0
+TrapsAlone m Traps (Gives v) = ⊥
+TrapsAlone m Traps y = m ≡ After
+TrapsAlone m x y = ⊥
+
 -- the item is kept from p, which is before its block's end, and never returns
 pub record IsNoReturn (g : Program) (p : Pos) (y : Item) : Type 0 where
   pub kept : y.origin ≡ Kept p
@@ -54,14 +60,18 @@ module _ (count : Count) (src : Program) (sides : Sides) (match_states : MatchSt
   MayTrap x ys = (since_item count x ≡ After) ⊎
       (FaultsAt src s0 (position_of x.origin) → All (IsIdleAt count g (position_of x.origin)) ys)
 
-  -- how the rests of a block begin: both are empty; with code of both; with code of f alone; or with a debug item of f
-  -- alone, of g alone, or of each
+  -- how the rests of a block begin: both are empty; with code of both, which is alike, or which is alike unless f's alone
+  -- traps; with code of f alone; or with a debug item of f alone, of g alone, or of each
   pub data View (b : ℕ) : Stage → List Item → List Item → Type 0 where
     ended : {k : Stage} → View b k [] []
     both : {k k' : Stage} {x y : Item} {xs ys : List Item} → is_code x.kind ≡ true → is_code y.kind ≡ true → x.origin ≡ y.origin →
         moves_on count x.kind ≡ moves_on count y.kind → MatchItems k' b xs ys →
         ((c d : Core) → MatchCores k b (x ∷ xs) (y ∷ ys) c d → DoAlike b xs ys (since_item count x) k' (do_item f x.kind c) (do_item g y.kind d)) →
         View b k (x ∷ xs) (y ∷ ys)
+    bolder : {k k' : Stage} {x y : Item} {xs ys : List Item} → is_code x.kind ≡ true → is_code y.kind ≡ true → x.origin ≡ y.origin →
+        moves_on count x.kind ≡ moves_on count y.kind → MatchItems k' b xs ys →
+        ((c d : Core) → MatchCores k b (x ∷ xs) (y ∷ ys) c d → DoAlike b xs ys (since_item count x) k' (do_item f x.kind c) (do_item g y.kind d) ⊎
+        TrapsAlone (since_item count x) (do_item f x.kind c) (do_item g y.kind d)) → View b k (x ∷ xs) (y ∷ ys)
     taken : {k k' : Stage} {x : Item} {xs ys : List Item} → is_code x.kind ≡ true → moves_on count x.kind ≡ false → MatchItems k' b xs ys →
         ((c d : Core) → MatchCores k b (x ∷ xs) ys c d → FallsOrTraps (MayTrap x ys) (λ e. MatchCores k' b xs ys e d) (do_item f x.kind c)) →
         View b k (x ∷ xs) ys
