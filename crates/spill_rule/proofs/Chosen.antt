@@ -349,7 +349,6 @@ module _ (reserve : List ℕ) (live : ℕ → Bool) (f : Function) (resolve : Op
     first = saved s.first pair.first.0;
     second = saved s.second pair.second.0;
     apart = λ e. (let lt = pair.apart in omega (arith, lt, e));
-    real = λ r n e. reservable_real r (reserved r n e);
     kept = λ r n e. kept_registers r (reserved r n e);
     no_zero = small 0 (omega arith);
     no_pointer = small 2 (omega arith);
@@ -464,11 +463,15 @@ module _ (reserve : List ℕ) (live : ℕ → Bool) (f : Function) (resolve : Op
     stored = λ h k. home_slot (next_slot f.slots) (chosen reserve live f)
         (distinct_take (room f) (candidates reserve live f) (distinct_filter (λ r. is_named f r && is_free (reason_of f live r)) reserve distinct)) h
         (kept_home live hs h k).0;
+    real = λ h k.
+        (let w = kept_home live hs h k in
+        let r = taken_of h.register (home_register (next_slot f.slots) (chosen reserve live f) h w.0) in
+        reservable_real h.register (real h.register r.reserved));
     lives = λ h k.
         (let w = kept_home live hs h k in
         let r = taken_of h.register (home_register (next_slot f.slots) (chosen reserve live f) h w.0) in
         live_any f.blocks (λ q. None) resolve (Register h.register) ((decides h.register r.reserved).0 w.1));
-    all = λ r n e alive.
+    all = λ r n e lt alive.
         (let w = home_there (next_slot f.slots) (chosen reserve live f) r n e in
         let t : live r ≡ true = (decides r (taken r n e).reserved).1 (live_any f.blocks resolve (λ q. None) (Register r) alive) in
         (w.0, keeps_home live hs w.0 w.1 (ap live w.2 ∙ t), w.2));

@@ -240,8 +240,8 @@ module _ (objects : List Object) (src : List Block) (f : Function) (subs fsubs :
     by_blocks : (bs : List Block) → f.blocks ≡ bs → LastCloses bs → RunsMatch srcp gp (sync_point_at count gp) (AnyOrigin (sync_point_at count gp)) s0 s0
     by_blocks [] e closes = absurd closes
     by_blocks (b ∷ more) e closes =
-        spilled_runs s f.slots homes entry f.blocks fsubs count counts srcp s0 goods shape.order at (never_back s0 start.pos) free start.slots written may.all
-        may.stored b more e (runs s0 start)
+        spilled_runs s f.slots homes entry f.blocks fsubs count counts srcp s0 goods shape.order at (never_back s0 start.pos) free start.slots written
+        start.virtual may.all may.stored may.real b more e (runs s0 start)
 
   -- ---- ends of blocks
 

@@ -1,5 +1,7 @@
 -- The function with spilled registers runs along where the function does: the record of added code, of the views.
-use Rattle.std.proofs.Common.{◌≡◌, ◌⊎◌, ℕ, zero, suc, ◌+◌, ◌<◌, List, [], ◌∷◌, ◌++◌, length, All, Contains, Option, Some, None, IsSome, true, false, refl}
+use Rattle.std.proofs.Common.{◌≡◌, ◌⊎◌, ℕ, zero, suc, ◌+◌, ◌<◌, ◌≤◌, List, [], ◌∷◌, ◌++◌, length, All, Contains, Option, Some, None, IsSome, true, false}
+use Rattle.std.proofs.Common.{refl}
+use Rattle.std.proofs.lemmas.Bool.{cases_lt}
 use Rattle.std.proofs.Common.{sym, ap, ◌∙◌, subst, inl, inr, arith}
 use Rattle.std.proofs.lemmas.List.Elements.{Contains-append_cases}
 use Rattle.rv64_instr.specs.declared.place.Place.TheVariants.{Register}
@@ -318,9 +320,10 @@ module _ (s : Spilling) (slots : List ℕ) (homes : AreHomes s slots) (entry : L
 
     -- no spilled register is live at the start but those that are stored, and the slots are unwritten
     module _ (cold : (n : ℕ) → s0.core.slots n ≡ None) (warm : (r : ℕ) → r < 32 → IsSome (content s0.core.regs r))
-        (lives : (r n : ℕ) → slot_of s.homes r ≡ Some n → Live f (Register r) (block_start (first_of blocks)) →
+        (virtual : (r : ℕ) → 32 ≤ r → content s0.core.regs r ≡ None)
+        (lives : (r n : ℕ) → slot_of s.homes r ≡ Some n → r < 32 → Live f (Register r) (block_start (first_of blocks)) →
         (h : SlotAssignment) × Contains entry h × (h.register ≡ r)) (stored : (h : SlotAssignment) → Contains entry h →
-        slot_of s.homes h.register ≡ Some h.slot) where
+        slot_of s.homes h.register ≡ Some h.slot) (real : (h : SlotAssignment) → Contains entry h → h.register < 32) where
       near_start : (hs : List SlotAssignment) → ((h : SlotAssignment) → Contains entry h → Contains hs h) →
           Near s slots (Alive s slots homes entry blocks resolve s0.pos.block 0) (λ q. (h : SlotAssignment) × Contains hs h × (h.register ≡ q)) s0.core s0.core
       near_start hs all = record {
@@ -328,13 +331,18 @@ module _ (s : Spilling) (slots : List ℕ) (homes : AreHomes s slots) (entry : L
         regs = λ r h. refl;
         slots_alike = λ n k. refl;
         under = λ r n e out v k. (let bad : None ≡ Some v = sym (cold n) ∙ k in cc);
-        alive = λ r n e out live.
-            (let first : s0.pos.block ≡ first_of blocks = ap (λ (p : Pos). p.block) start in
-            let w = lives r n e (subst (λ (b : ℕ). Live f (Register r) (block_start b)) first live) in
-            absurd (out (w.0, all w.0 w.1, w.2)));
+        alive = λ r n e out live. by_kind r n e out live (cases_lt r 32);
         pairs = λ k o v e. e;
         marks = λ v x e. e;
-      }
+      } where
+        -- a virtual register has no value, nor has its slot
+        by_kind : (r n : ℕ) → slot_of s.homes r ≡ Some n → ((h : SlotAssignment) × Contains hs h × (h.register ≡ r) → ⊥) →
+            Alive s slots homes entry blocks resolve s0.pos.block 0 r → (r < 32) ⊎ (32 ≤ r) → s0.core.slots n ≡ content s0.core.regs r
+        by_kind r n e out live (inl lt) =
+            let first : s0.pos.block ≡ first_of blocks = ap (λ (p : Pos). p.block) start in
+            let w = lives r n e lt (subst (λ (b : ℕ). Live f (Register r) (block_start b)) first live) in
+            absurd (out (w.0, all w.0 w.1, w.2))
+        by_kind r n e out live (inr ge) = cold n ∙ sym (virtual r ge)
 
       at_start : rf s0.pos ≡ rf (block_start s0.pos.block)
       at_start = ap rf (start ∙ ap block_start (sym (ap (λ (p : Pos). p.block) start)))
@@ -384,7 +392,7 @@ module _ (s : Spilling) (slots : List ℕ) (homes : AreHomes s slots) (entry : L
                 at_block,
                 sym at_start,
                 rest_at ∙ ap (λ (js : List SlotAssignment). entry_stores s0.pos.block js ++ spilled_items s (rf s0.pos)) e,
-                λ j k. stored j (subst (λ (js : List SlotAssignment). Contains js j) (sym e) k),
+                λ j k. (let among = subst (λ (js : List SlotAssignment). Contains js j) (sym e) k in (stored j among, real j among)),
               )
               (record {
                 near = near_start (h ∷ hs) (λ j k. subst (λ (js : List SlotAssignment). Contains js j) e k);

@@ -181,7 +181,7 @@ module _ (s : Spilling) (slots : List ℕ) (homes : AreHomes s slots) (entry : L
     pub pos : position_of o ≡ p
 
   abbrev pub AreLive : List SlotAssignment → Type 0
-  AreLive hs = (h : SlotAssignment) → Contains hs h → slot_of s.homes h.register ≡ Some h.slot
+  AreLive hs = (h : SlotAssignment) → Contains hs h → (slot_of s.homes h.register ≡ Some h.slot) × (h.register < 32)
 
   abbrev pub MatchItems : Stage → ℕ → List Item → List Item → Type 0
   MatchItems (Opened h hs) b xs ys = (b ≡ first_of blocks) × (rf (block_start b) ≡ xs) × (ys ≡ entry_stores b (h ∷ hs) ++ spilled_items s xs) × AreLive (h ∷ hs)
@@ -783,10 +783,10 @@ module _ (s : Spilling) (slots : List ℕ) (homes : AreHomes s slots) (entry : L
           near_store s slots homes resolve (Alive b i) (λ q. q ≡ r) (λ _. ⊥) r n v.0 c d home v.1 (λ q out ne same. ne same) h.0,
         )))
 
-    begun_store : (b : ℕ) (h : SlotAssignment) (hs : List SlotAssignment) (c d : Core) → slot_of s.homes h.register ≡ Some h.slot → Begun b (h ∷ hs) c d →
-        (e : Core) × (do_item g (Code (store h.register h.slot) None) d ≡ Falls e) × Begun b hs c e
-    begun_store b h hs c d home begun =
-        let v = some_is (content c.regs h.register) (begun.written h.register (homes.real h.register h.slot home)) in (
+    begun_store : (b : ℕ) (h : SlotAssignment) (hs : List SlotAssignment) (c d : Core) → slot_of s.homes h.register ≡ Some h.slot →
+        h.register < 32 → Begun b (h ∷ hs) c d → (e : Core) × (do_item g (Code (store h.register h.slot) None) d ≡ Falls e) × Begun b hs c e
+    begun_store b h hs c d home lt begun =
+        let v = some_is (content c.regs h.register) (begun.written h.register lt) in (
           record d { slots = updated h.slot (Some v.0) d.slots },
           store_does s slots homes resolve g h.register h.slot v.0 d (sym (begun.regs h.register) ∙ v.1),
           record {
@@ -808,7 +808,7 @@ module _ (s : Spilling) (slots : List ℕ) (homes : AreHomes s slots) (entry : L
       opened_view b h [] xs first here live =
           opening {k' = Evenly 0} {y = added (block_start b) (store h.register h.slot)} refl refl (ap block_start first ∙ sym start)
           (store_since (block_start b) h.register h.slot) refl (here, refl)
-          (λ c d k. (let w = begun_store b h [] c d (live h (contains_head h [])) k in (
+          (λ c d k. (let w = begun_store b h [] c d (live h (contains_head h [])).0 (live h (contains_head h [])).1 k in (
             w.0,
             w.1,
             near_on s slots homes resolve (Alive b 0) (λ q. (j : SlotAssignment) × Contains [] j × (j.register ≡ q)) (Alive b 0) (λ _. ⊥) c w.0 w.2.near
@@ -817,7 +817,7 @@ module _ (s : Spilling) (slots : List ℕ) (homes : AreHomes s slots) (entry : L
       opened_view b h (h' ∷ hs) xs first here live =
           opening {k' = Opened h' hs} {y = added (block_start b) (store h.register h.slot)} refl refl (ap block_start first ∙ sym start)
           (store_since (block_start b) h.register h.slot) tt (first, here, refl, λ j k. live j (contains_tail h j (h' ∷ hs) k))
-          (λ c d k. begun_store b h (h' ∷ hs) c d (live h (contains_head h (h' ∷ hs))) k)
+          (λ c d k. (let here = live h (contains_head h (h' ∷ hs)) in begun_store b h (h' ∷ hs) c d here.0 here.1 k))
 
       pub view : (k : Stage) (b : ℕ) (xs ys : List Item) → MatchItems k b xs ys → Seen b k xs ys
       view (Opened h hs) b xs ys w = subst (Seen b (Opened h hs) xs) (sym w.2) (opened_view b h hs xs w.0 w.1 w.3)

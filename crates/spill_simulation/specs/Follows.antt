@@ -1,5 +1,5 @@
 -- Spilling registers that satisfy the conditions preserves the simulation.
-use Rattle.std.specs.Prelude.{◌≡◌, ◌⊎◌, ℕ, List, [], Contains, Option, Some, false}
+use Rattle.std.specs.Prelude.{◌≡◌, ◌⊎◌, ℕ, ◌<◌, List, [], Contains, Option, Some, false}
 use Rattle.rv64_instr.specs.declared.place.Place.TheVariants.{Register}
 use Rattle.mir_func.specs.declared.debug_substitution.OperandPair.{OperandPair}
 use Rattle.mir_func.specs.declared.object.Object.{Object}
@@ -20,10 +20,13 @@ use Rattle.spill_simulation.specs.MaySpill.{Fits, AreHomes}
 pub record MaySpill (s : Spilling) (entry : List SlotAssignment) (f : Function) (resolve : OperandPair → Option OperandPair) : Type 0 where
   pub homes : AreHomes s f.slots
   pub fits : AllItems (λ i. Fits s i.kind i.origin) f.blocks
-  -- at the function's start exactly the spilled registers are stored that are live there
+  -- At the function's start exactly the spilled physical registers are stored that are live there. A virtual register has no
+  -- value there, nor has its slot.
   pub stored : (h : SlotAssignment) → Contains entry h → slot_of s.homes h.register ≡ Some h.slot
+  pub real : (h : SlotAssignment) → Contains entry h → h.register < 32
   pub lives : (h : SlotAssignment) → Contains entry h → Live (program_of false f.blocks resolve) (Register h.register) (block_start (first_of f.blocks))
-  pub all : (r n : ℕ) → slot_of s.homes r ≡ Some n → Live (program_of false f.blocks resolve) (Register r) (block_start (first_of f.blocks)) →
+  pub all : (r n : ℕ) → slot_of s.homes r ≡ Some n → r < 32 →
+      Live (program_of false f.blocks resolve) (Register r) (block_start (first_of f.blocks)) →
       (h : SlotAssignment) × Contains entry h × (h.register ≡ r)
   -- and if there are any, no branch goes to the first block
   pub once : (entry ≡ []) ⊎ ((p : Pos) (i : Item) → (program_of false f.blocks resolve).fetch p ≡ Here i → OnRow (GoesTo (first_of f.blocks)) i.kind → ⊥)

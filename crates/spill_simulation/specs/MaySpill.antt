@@ -65,13 +65,12 @@ Fits s (Phi (Some (Register r)) k) o = IsNoScratch s r
 Fits s (Phi (Some (Slot n)) k) o = Unit {0}
 Fits s (Phi (Some (Const c)) k) o = Unit {0}
 
--- The conditions on the registers: the scratch registers are distinct and caller-saved, spilled registers are real and not
--- caller-saved, neither x0 nor x2 is spilled, and each spilled register has a slot of its own that is new to the function
+-- The conditions on the registers: the scratch registers are distinct and caller-saved, spilled registers, physical or virtual,
+-- aren't caller-saved, neither x0 nor x2 is spilled, and each spilled register has a slot of its own that is new to the function
 pub record AreHomes (s : Spilling) (slots : List ℕ) : Type 0 where
   pub first : Contains caller_saved s.first
   pub second : Contains caller_saved s.second
   pub apart : s.first ≡ s.second → ⊥
-  pub real : (r n : ℕ) → slot_of s.homes r ≡ Some n → r < 32
   pub kept : (r n : ℕ) → slot_of s.homes r ≡ Some n → Contains caller_saved r → ⊥
   pub no_zero : slot_of s.homes 0 ≡ None
   pub no_pointer : slot_of s.homes 2 ≡ None
