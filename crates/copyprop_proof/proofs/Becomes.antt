@@ -1,6 +1,6 @@
 -- What each item becomes, by its line in the ledger.
 use Rattle.std.proofs.Common.{◌≡◌, ℕ, zero, suc, ◌+◌, ◌<◌, ◌≤◌, List, [], ◌∷◌, ◌++◌, All, Contains, Option, Some, None, Bool, true}
-use Rattle.std.proofs.Common.{cond, ◌&&◌, count_by, eq-eqb, ne_eqb, slice_get, refl, sym, ap, ◌∙◌, subst, arith}
+use Rattle.std.proofs.Common.{cond, ◌&&◌, count_by, eq-eqb, ne_eqb, slice_get, refl, sym, ap, ◌∙◌, subst, inl, arith}
 use Rattle.std.proofs.lemmas.List.Sums.{sum_by-append}
 use Rattle.std.proofs.lemmas.List.Elements.{All-contains}
 use Rattle.rv64_instr.specs.declared.place.Place.{Place}
@@ -151,7 +151,7 @@ module _ (f : Function) (sound : IsSound f) (subs : List DebugSubstitution) wher
   becomes at x l has (code {n = None}) gone = code_unnumbered (no_number at l has refl)
   becomes at x l has (code {n = Some k}) gone = code_stays (λ why h. h)
   becomes at x l has numbered gone = code_numbered (l, has, refl)
-  becomes at x l has out gone = code_goes (no_number at l has refl)
+  becomes at x l has out gone = code_goes (no_number at l has refl) (inl (gone refl refl).0)
   becomes at x l has (out_entered {k = k} copy e) gone = substituted k e.0 copy (gone refl refl) refl e.1 (λ why h. h)
   becomes at x l has (out_phi {k = k} {s = s} {o = o} copy) gone =
       salvaged copy (gone refl (no_phi o k s)) refl (l, s, has, refl, refl) (λ why h. h) where

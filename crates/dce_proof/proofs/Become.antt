@@ -229,6 +229,7 @@ module _ (f : Function) (subs : List DebugSubstitution) (dead : List (List Bool)
   pub gone : (at : Pos) (k : ItemKind) (o : Origin) (d : Loc) (q : Pos) → Stood at (item k o d) (line_of (item k o d)) q → is_dead_at judged.ends f at ≡ true →
       is_code k ≡ true → numbered_copy k ≡ None → Becomes dead_rule (c f subs dead sound judged wrong) at (item k o d) []
   gone at (Code i None) o d q w dies coded no_copy = code_goes (no_number at (line_of (item (Code i None) o d)) w.has (bare_not i o d))
+      (inl (removed_at f subs dead sound judged wrong at (item (Code i None) o d) w.stands dies).0)
   gone at (Code i (Some n)) o d q w dies coded no_copy =
       number_goes n Removed refl refl (item (Code i (Some n)) o d, w.stands, number dead judged dies (copied_not i n no_copy))
   gone at (Mark v m) o d q w dies coded no_copy = cc

@@ -214,7 +214,7 @@ module _ (f : Function) (sound : IsSound f) (subs : List DebugSubstitution) (end
   becomes_dead : (at : Pos) (k : ItemKind) (o : Origin) (l : Loc) (is : List Item) → StandsAt f at (item k o l) →
       is_dead k (needed_at is (ends at.block)) ≡ true →
       is_dead_at ends f at ≡ true → Becomes (out_rule ends) c at (item k o l) []
-  becomes_dead at (Code i None) o l is stands d dead = code_goes (λ k h. h)
+  becomes_dead at (Code i None) o l is stands d dead = code_goes (λ k h. h) (inl (removed_at at _ stands dead).0)
   becomes_dead at (Code i (Some n)) o l is stands d dead = number_goes n Removed refl refl (item (Code i (Some n)) o l, stands, (dead, refl))
   becomes_dead at (Mark v m) o l is stands d dead = cc
   becomes_dead at (Phi p n) o l is stands d dead = cc

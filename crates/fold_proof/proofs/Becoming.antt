@@ -24,7 +24,7 @@ use Rattle.mir_func.specs.Sound.{IsJumpAtMost, MayFollow, EndsWell, Closes}
 use Rattle.sem_mir.specs.Align.{position_of, is_code, is_jump, is_jump_row}
 use Rattle.pass_trait.specs.Change.{Change}
 use Rattle.pass_trait.specs.Rule.{IsJump, item}
-use Rattle.pass_trait.specs.Causes.{IsFewer}
+use Rattle.pass_trait.specs.Causes.{IsFewer, IsMore}
 use Rattle.pass_trait.specs.Debug.{is_other_code, RegisterStays, ValueStays, PlaceStays, Becomes}
 use Rattle.pass_trait.specs.Debug.{mark_stays, phi_stays, code_stays, code_unnumbered, jump_stays}
 use Rattle.pass_trait.specs.Debug.{code_goes, idle_goes, BecomeAll, over, next as step, added}
@@ -69,6 +69,11 @@ code_test k e = e
 
 other_test : OfCode is_other_code
 other_test k e = ap (λ (z : Bool). z && not (is_jump k)) e
+
+jumps_test : OfCode is_jump
+jumps_test (Code i n) e = cc
+jumps_test (Mark v m) e = refl
+jumps_test (Phi p n) e = refl
 
 module _ (c : Change) (b : ℕ) (unlost : (n : ℕ) (loss : Loss) → IsLostAt c.old (record { block = b; item = n }) loss → ⊥) where
   abbrev Become : ℕ → Item → List Item → Type 0
@@ -120,7 +125,7 @@ module _ (c : Change) (b : ℕ) (unlost : (n : ℕ) (loss : Loss) → IsLostAt c
 
   -- a branch or a jump goes
   gone_kind : (n : ℕ) (k : ItemKind) (o : Origin) (l : Loc) → Leads (exit_of k) → IsFewer c is_code o ⊎ IsFewer c is_other_code o → Become n (item k o l) []
-  gone_kind n (Code i None) o l leads less = code_goes (λ k z. z)
+  gone_kind n (Code i None) o l leads less = code_goes (λ k z. z) less
   gone_kind n (Code i (Some k)) o l leads less = idle_goes (no_sets (row_of i) leads) less
   gone_kind n (Mark v m) o l leads less = absurd leads
   gone_kind n (Phi p k) o l leads less = absurd leads
@@ -132,10 +137,12 @@ module _ (c : Change) (b : ℕ) (unlost : (n : ℕ) (loss : Loss) → IsLostAt c
   nothing_more n [] e = over
   nothing_more n (x ∷ xs) e = cc
 
-  -- less code of these origins is less of the function
-  abbrev pub Less : List Item → List Item → Type 0
-  Less ys xs = (test : ItemKind → Bool) (o : Origin) → OfCode test → (position_of o).block ≡ b → count_by (Passes test o) ys < count_by (Passes test o) xs →
-      IsFewer c test o
+  -- less or more code of these origins is less or more of the function
+  pub record Counts (ys xs : List Item) : Type 0 where
+    pub less : (test : ItemKind → Bool) (o : Origin) → OfCode test → (position_of o).block ≡ b →
+        count_by (Passes test o) ys < count_by (Passes test o) xs → IsFewer c test o
+    pub more : (test : ItemKind → Bool) (o : Origin) → OfCode test → (position_of o).block ≡ b →
+        count_by (Passes test o) xs < count_by (Passes test o) ys → IsMore c test o
 
   abbrev pub Home : Item → Type 0
   Home i = (position_of i.origin).block ≡ b
@@ -190,63 +197,71 @@ module _ (c : Change) (b : ℕ) (unlost : (n : ℕ) (loss : Loss) → IsLostAt c
         (cond z (turned v x ∷ []) (sent u x ∷ jump_at_end source_end rest v ∷ [])))
 
     -- a branch alone at the end
-    branch_alone : (x : Item) (n t u v : ℕ) → exit_of x.kind ≡ Perhaps t → Home x → (q r z s : Bool) → Less (branch_items x None u v q r z s) (x ∷ []) →
-        Whole n (x ∷ []) (branch_items x None u v q r z s)
-    branch_alone x n t u v e home true r z true less =
+    branch_alone : (x : Item) (n t u v : ℕ) → exit_of x.kind ≡ Perhaps t → source_end.block ≡ b → Home x → (q r z s : Bool) →
+        Counts (branch_items x None u v q r z s) (x ∷ []) → Whole n (x ∷ []) (branch_items x None u v q r z s)
+    branch_alone x n t u v e ours home true r z true counted =
         let leads = leads_by (exit_of x.kind) t e in
-        step (gone n x leads (inl (less is_code x.origin code_test home (fewer_none is_code x [] (code_leads x.kind leads))))) over
-    branch_alone x n t u v e home true r z false less =
+        step (gone n x leads (inl (counted.less is_code x.origin code_test home (fewer_none is_code x [] (code_leads x.kind leads))))) over
+    branch_alone x n t u v e ours home true r z false counted =
         let leads = leads_by (exit_of x.kind) t e in
-        added (step (gone n x leads (inr (less is_other_code x.origin other_test home
-        (fewer_one is_other_code x (jump_for_branch source_end x None v) [] (other_some x.kind t e) refl)))) over)
-    branch_alone x n t u v e home false true z s less = step (changed (to_block u) n x) over
-    branch_alone x n t u v e home false false true s less = step (changed (inverse_to v) n x) over
-    branch_alone x n t u v e home false false false s less = step (changed (to_block u) n x) (added over)
+        let jump : Item = jump_for_branch source_end x None v in
+        added (inr (counted.more is_jump x.origin jumps_test home (fewer_one is_jump jump x [] refl (branch_no_jump x.kind t e)), tt))
+        (step (gone n x leads (inr (counted.less is_other_code x.origin other_test home
+        (fewer_one is_other_code x jump [] (other_some x.kind t e) refl)))) over)
+    branch_alone x n t u v e ours home false true z s counted = step (changed (to_block u) n x) over
+    branch_alone x n t u v e ours home false false true s counted = step (changed (inverse_to v) n x) over
+    branch_alone x n t u v e ours home false false false s counted =
+        let same = still_code (to_block u) x.kind in
+        step (changed (to_block u) n x) (added (inl (counted.more is_code (Before source_end) code_test ours
+        (fewer_after (sent u x) (jump_at_end source_end None v) x refl (sym same) refl))) over)
 
     -- a branch with a jump after it
     branch_jump : (x j : Item) (n t m u v : ℕ) → exit_of x.kind ≡ Perhaps t → exit_of j.kind ≡ Always m → Home x → Home j → (q r z s : Bool) →
-        Less (branch_items x (Some j) u v q r z s) (x ∷ j ∷ []) → Whole n (x ∷ j ∷ []) (branch_items x (Some j) u v q r z s)
-    branch_jump x j n t m u v e d home home' true r z true less =
+        Counts (branch_items x (Some j) u v q r z s) (x ∷ j ∷ []) → Whole n (x ∷ j ∷ []) (branch_items x (Some j) u v q r z s)
+    branch_jump x j n t m u v e d home home' true r z true counted =
         let leads = leads_by (exit_of x.kind) t e in
         let code = code_leads j.kind (leads_always (exit_of j.kind) m d) in
-        step (gone n x leads (inl (less is_code x.origin code_test home (fewer_none is_code x (j ∷ []) (code_leads x.kind leads)))))
-        (step (gone (suc n) j (leads_always (exit_of j.kind) m d) (inl (less is_code j.origin code_test home' (fewer_second x j code)))) over)
-    branch_jump x j n t m u v e d home home' true r z false less =
+        step (gone n x leads (inl (counted.less is_code x.origin code_test home (fewer_none is_code x (j ∷ []) (code_leads x.kind leads)))))
+        (step (gone (suc n) j (leads_always (exit_of j.kind) m d) (inl (counted.less is_code j.origin code_test home' (fewer_second x j code)))) over)
+    branch_jump x j n t m u v e d home home' true r z false counted =
         let leads = leads_by (exit_of x.kind) t e in
         let went = sent_jump j.kind m v d in
-        step (gone n x leads (inr (less is_other_code x.origin other_test home
+        step (gone n x leads (inr (counted.less is_other_code x.origin other_test home
         (fewer_one is_other_code x (jump_for_branch source_end x (Some j) v) (j ∷ []) (other_some x.kind t e) (other_none (sent v j).kind v went)))))
         (step (moved_kind (to_block v) (suc n) m v j.kind j.origin x.origin j.loc x.loc d went) over)
-    branch_jump x j n t m u v e d home home' false true z s less =
+    branch_jump x j n t m u v e d home home' false true z s counted =
         let code = code_leads j.kind (leads_always (exit_of j.kind) m d) in
         step (changed (to_block u) n x) (step (gone (suc n) j (leads_always (exit_of j.kind) m d)
-        (inl (less is_code j.origin code_test home' (fewer_after x j (sent u x) code (still_code (to_block u) x.kind) refl)))) over)
-    branch_jump x j n t m u v e d home home' false false true s less =
+        (inl (counted.less is_code j.origin code_test home' (fewer_after x j (sent u x) code (still_code (to_block u) x.kind) refl)))) over)
+    branch_jump x j n t m u v e d home home' false false true s counted =
         let code = code_leads j.kind (leads_always (exit_of j.kind) m d) in
         step (changed (inverse_to v) n x) (step (gone (suc n) j (leads_always (exit_of j.kind) m d)
-        (inl (less is_code j.origin code_test home' (fewer_after x j (turned v x) code (still_code (inverse_to v) x.kind) refl)))) over)
-    branch_jump x j n t m u v e d home home' false false false s less = step (changed (to_block u) n x) (step (changed (to_block v) (suc n) j) over)
+        (inl (counted.less is_code j.origin code_test home' (fewer_after x j (turned v x) code (still_code (inverse_to v) x.kind) refl)))) over)
+    branch_jump x j n t m u v e d home home' false false false s counted = step (changed (to_block u) n x) (step (changed (to_block v) (suc n) j) over)
 
-    branch_becomes : (x : Item) (xs : List Item) (n t u v : ℕ) → exit_of x.kind ≡ Perhaps t → IsJumpAtMost xs → Home x → All Home xs →
-        Less (branch_tail next source_end x (first_of xs) u v) (x ∷ xs) → Whole n (x ∷ xs) (branch_tail next source_end x (first_of xs) u v)
-    branch_becomes x [] n t u v e may home homes less =
-        branch_alone x n t u v e home (nat_eq u v) (is_number next v) (is_number next u) (is_number next v) less
-    branch_becomes x (j ∷ []) n t u v e may home homes less =
+    branch_becomes : (x : Item) (xs : List Item) (n t u v : ℕ) → exit_of x.kind ≡ Perhaps t → IsJumpAtMost xs → source_end.block ≡ b → Home x → All Home xs →
+        Counts (branch_tail next source_end x (first_of xs) u v) (x ∷ xs) → Whole n (x ∷ xs) (branch_tail next source_end x (first_of xs) u v)
+    branch_becomes x [] n t u v e may ours home homes counted =
+        branch_alone x n t u v e ours home (nat_eq u v) (is_number next v) (is_number next u) (is_number next v) counted
+    branch_becomes x (j ∷ []) n t u v e may ours home homes counted =
         let w = always_some (exit_of j.kind) may in
-        branch_jump x j n t w.0 u v e w.1 home (All-head Home j [] homes) (nat_eq u v) (is_number next v) (is_number next u) (is_number next v) less
-    branch_becomes x (j ∷ y ∷ ys) n t u v e may home homes less = absurd may
+        branch_jump x j n t w.0 u v e w.1 home (All-head Home j [] homes) (nat_eq u v) (is_number next v) (is_number next u) (is_number next v) counted
+    branch_becomes x (j ∷ y ∷ ys) n t u v e may ours home homes counted = absurd may
 
-    pub become : (xs : List Item) (n : ℕ) → EndsWell xs → (fall ≡ None → Closes xs) → All Home xs → Less (anew xs) xs → Whole n xs (anew xs)
-    become [] n ends onto homes less = by_fall fall where
-      by_test : (m : ℕ) (z : Bool) → Whole n [] (cond z [] (made_jump m (Before source_end) Absent ∷ []))
-      by_test m true = over
-      by_test m false = added over
+    pub become : (xs : List Item) (n : ℕ) → source_end.block ≡ b → EndsWell xs → (fall ≡ None → Closes xs) → All Home xs → Counts (anew xs) xs →
+        Whole n xs (anew xs)
+    become [] n ours ends onto homes counted = by_fall fall counted where
+      by_test : (m : ℕ) (z : Bool) → Counts (cond z [] (made_jump m (Before source_end) Absent ∷ [])) [] →
+          Whole n [] (cond z [] (made_jump m (Before source_end) Absent ∷ []))
+      by_test m true k = over
+      by_test m false k = added (inl (k.more is_code (Before source_end) code_test ours
+          (fewer_none is_code (made_jump m (Before source_end) Absent) [] refl))) over
 
-      by_fall : (o : Option ℕ) → Whole n [] (plain_tail end next fall source_end None o)
-      by_fall None = over
-      by_fall (Some m) = by_test (end m) (is_number next (end m))
-    become (x ∷ xs) n ends onto homes less =
-        by_exit (exit_of x.kind) refl ends.0 less (λ o k. become xs (suc n) ends.1 o (All-tail Home x xs homes) k) where
+      by_fall : (o : Option ℕ) → Counts (plain_tail end next fall source_end None o) [] → Whole n [] (plain_tail end next fall source_end None o)
+      by_fall None k = over
+      by_fall (Some m) k = by_test (end m) (is_number next (end m)) k
+    become (x ∷ xs) n ours ends onto homes counted =
+        by_exit (exit_of x.kind) refl ends.0 counted (λ o k. become xs (suc n) ours ends.1 o (All-tail Home x xs homes) k) where
           home : Home x
           home = All-head Home x xs homes
 
@@ -256,25 +271,30 @@ module _ (c : Change) (b : ℕ) (unlost : (n : ℕ) (loss : Loss) → IsLostAt c
             by_rest [] h = absurd (subst Leaves e h)
             by_rest (y ∷ ys) h = h
 
-          lifted : Less (x ∷ anew xs) (x ∷ xs) → Less (anew xs) xs
-          lifted k test o code at lt = k test o code at
-              (let a = count_first (Passes test o) x (anew xs) in let d = count_first (Passes test o) x xs in omega (arith, a, d, lt))
+          lifted : Counts (x ∷ anew xs) (x ∷ xs) → Counts (anew xs) xs
+          lifted k = record {
+            less = λ test o code at lt. k.less test o code at
+                (let a = count_first (Passes test o) x (anew xs) in let d = count_first (Passes test o) x xs in omega (arith, a, d, lt));
+            more = λ test o code at lt. k.more test o code at
+                (let a = count_first (Passes test o) x (anew xs) in let d = count_first (Passes test o) x xs in omega (arith, a, d, lt));
+          }
 
-          jump_test : (m t : ℕ) → exit_of x.kind ≡ Always t → xs ≡ [] → (z : Bool) → Less (cond z [] (sent m x ∷ [])) (x ∷ xs) →
+          jump_test : (m t : ℕ) → exit_of x.kind ≡ Always t → xs ≡ [] → (z : Bool) → Counts (cond z [] (sent m x ∷ [])) (x ∷ xs) →
               Whole n (x ∷ xs) (cond z [] (sent m x ∷ []))
           jump_test m t e none true k =
               let leads = leads_always (exit_of x.kind) t e in
-              step (gone n x leads (inl (k is_code x.origin code_test home (fewer_none is_code x xs (code_leads x.kind leads))))) (nothing_more (suc n) xs none)
+              step (gone n x leads (inl (k.less is_code x.origin code_test home (fewer_none is_code x xs (code_leads x.kind leads)))))
+              (nothing_more (suc n) xs none)
           jump_test m t e none false k = step (changed (to_block m) n x) (nothing_more (suc n) xs none)
 
           by_to : (t : ℕ) (o : Option ℕ) (m : ℕ) → o ≡ Some m → exit_of x.kind ≡ Perhaps t → IsJumpAtMost xs →
-              Less (branch_tail_to end next fall source_end x (first_of xs) t o) (x ∷ xs) →
+              Counts (branch_tail_to end next fall source_end x (first_of xs) t o) (x ∷ xs) →
               Whole n (x ∷ xs) (branch_tail_to end next fall source_end x (first_of xs) t o)
           by_to t None m e at may k = cc
-          by_to t (Some m) m' e at may k = branch_becomes x xs n t (end t) (end m) at may home (All-tail Home x xs homes) k
+          by_to t (Some m) m' e at may k = branch_becomes x xs n t (end t) (end m) at may ours home (All-tail Home x xs homes) k
 
-          by_exit : (q : Exit) → exit_of x.kind ≡ q → MayFollow q xs → Less (tail_by end next fall source_end q x (first_of xs) (anew xs)) (x ∷ xs) →
-              ((fall ≡ None → Closes xs) → Less (anew xs) xs → Whole (suc n) xs (anew xs)) →
+          by_exit : (q : Exit) → exit_of x.kind ≡ q → MayFollow q xs → Counts (tail_by end next fall source_end q x (first_of xs) (anew xs)) (x ∷ xs) →
+              ((fall ≡ None → Closes xs) → Counts (anew xs) xs → Whole (suc n) xs (anew xs)) →
               Whole n (x ∷ xs) (tail_by end next fall source_end q x (first_of xs) (anew xs))
           by_exit Onward e may k rest = step (kept n x) (rest (below e) (lifted k))
           by_exit (Perhaps t) e may k rest =

@@ -17,7 +17,7 @@ use Rattle.mir_func.specs.Function.{Function}
 use Rattle.mir_func.specs.Graph.{from_block}
 use Rattle.mir_func.specs.Sound.{AreApart, ids_of, items_of, OriginIn, IsSound}
 use Rattle.sem_mir.specs.Align.{position_of, is_code}
-use Rattle.pass_trait.specs.Causes.{is_position, is_origin, IsFewer}
+use Rattle.pass_trait.specs.Causes.{is_position, is_origin, IsFewer, IsMore}
 use Rattle.fold_targets.specs.Leads.{first_id}
 use Rattle.fold_targets.proofs.Ways.{test_of}
 use Rattle.fold_targets.proofs.Blocks.{apart_tail}
@@ -167,12 +167,11 @@ module _ (test : ItemKind → Bool) (o : Origin) where
     abbrev homes : All (λ (b : Block). All (λ (i : Item). OriginIn b i.origin) b.items) g.blocks
     homes = (sound_killed f g sound h).origins
 
-    -- code of a block that stays
-    pub fewer_staying : (b : Block) (rest : List Block) → from_block f.blocks b.id ≡ b ∷ rest → Contains f.blocks b → h.folded.stays b.id ≡ true →
-        (position_of o).block ≡ b.id →
-        count_by p (folded_block h.folded.end (first_id (staying h.folded.stays rest)) (first_id rest) b).items < count_by p b.items →
-        IsFewer (c f g subs sound h) test o
-    fewer_staying b rest at member s home less =
+    -- how much such code there is now, where its block stays
+    left_in : (b : Block) (rest : List Block) → from_block f.blocks b.id ≡ b ∷ rest → h.folded.stays b.id ≡ true → (position_of o).block ≡ b.id →
+        count_by p (items_of g.blocks) ≡
+        count_by p (folded_block h.folded.end (first_id (staying h.folded.stays rest)) (first_id rest) b).items
+    left_in b rest at s home =
         let bare = folded_block h.folded.end (first_id (staying h.folded.stays rest)) (first_id rest) b in
         let made_b = made_block h.folded.end h.folded.stays h.was f.blocks b rest in
         let more = made h.folded.end h.folded.stays h.was f.blocks rest in
@@ -183,9 +182,29 @@ module _ (test : ItemKind → Bool) (o : Origin) where
         one_there g.blocks made_b more there (sound_killed f g sound h).blocks_apart homes in
         let parts = count_both p ks bare.items in
         let none = kills_none code b.id ks (each_kill h.folded.end h.was f.blocks b.id) in
+        omega (arith, total, parts, none)
+
+    -- less code of a block that stays
+    pub fewer_staying : (b : Block) (rest : List Block) → from_block f.blocks b.id ≡ b ∷ rest → Contains f.blocks b → h.folded.stays b.id ≡ true →
+        (position_of o).block ≡ b.id →
+        count_by p (folded_block h.folded.end (first_id (staying h.folded.stays rest)) (first_id rest) b).items < count_by p b.items →
+        IsFewer (c f g subs sound h) test o
+    fewer_staying b rest at member s home less =
+        let left = left_in b rest at s home in
         let below_all = among_all f.blocks b member in
-        let fewer : count_by p (items_of g.blocks) < count_by p (items_of f.blocks) = omega (arith, less, total, parts, none, below_all) in
+        let fewer : count_by p (items_of g.blocks) < count_by p (items_of f.blocks) = omega (arith, less, left, below_all) in
         fewer
+
+    -- more code of one
+    pub more_staying : (b : Block) (rest : List Block) → from_block f.blocks b.id ≡ b ∷ rest → h.folded.stays b.id ≡ true →
+        (position_of o).block ≡ b.id →
+        count_by p b.items < count_by p (folded_block h.folded.end (first_id (staying h.folded.stays rest)) (first_id rest) b).items →
+        IsMore (c f g subs sound h) test o
+    more_staying b rest at s home grown =
+        let left = left_in b rest at s home in
+        let all = one_there f.blocks b rest (ap (from_block f.blocks) home ∙ at) sound.blocks_apart sound.origins in
+        let more : count_by p (items_of f.blocks) < count_by p (items_of g.blocks) = omega (arith, grown, left, all) in
+        more
 
     -- code of a block that is gone
     pub fewer_gone : (b : Block) (x : Item) → Contains f.blocks b → Contains b.items x → h.folded.stays b.id ≡ false → (position_of o).block ≡ b.id →

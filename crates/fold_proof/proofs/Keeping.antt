@@ -1,10 +1,11 @@
 -- A folded function with its kills keeps each debug item, or its loss is told.
-use Rattle.std.proofs.Common.{◌≡◌, ◌⊎◌, ℕ, suc, ◌+◌, List, [], ◌∷◌, map, slice_get, All, Contains, Some, None, Bool, true, false}
+use Rattle.std.proofs.Common.{◌≡◌, ◌⊎◌, ℕ, suc, ◌+◌, List, [], ◌∷◌, map, slice_get, All, Contains, Option, Some, None, Bool, true, false}
 use Rattle.std.proofs.Common.{cond, not, nat_eq, append-nil, refl, sym, ap, ◌∙◌, subst, inl, inr, eqb-true, eq-eqb, arith}
 use Rattle.std.specs.Option.{is_some}
 use Rattle.std.proofs.lemmas.List.Elements.{All-nil, All-head, All-tail, All-weaker, All-contains}
 use Rattle.std.proofs.lemmas.Option.{slice_get-get_or}
 use Rattle.rv64_instr.specs.DefsAndUses.{sets}
+use Rattle.rv64_instr.specs.Instruction.{Instruction}
 use Rattle.rv64_instr.specs.Row.{Row, Jumps, row_of}
 use Rattle.mir_func.specs.declared.block.Block.{Block}
 use Rattle.mir_func.specs.declared.debug_substitution.DebugSubstitution.{DebugSubstitution}
@@ -21,7 +22,7 @@ use Rattle.mir_func.specs.Sound.{AreApart, ids_of, OriginIn, EndsWell, Closes, L
 use Rattle.sem_mir.specs.Align.{position_of, is_code}
 use Rattle.pass_trait.specs.declared.loss.Reason.TheVariants.{Bypassed, Unreachable}
 use Rattle.pass_trait.specs.Rule.{IsJump, item}
-use Rattle.pass_trait.specs.Causes.{IsJumpOrDebug}
+use Rattle.pass_trait.specs.Causes.{IsJumpOrDebug, IsFewer}
 use Rattle.pass_trait.specs.Debug.{IsKillAt, Becomes, code_goes, idle_goes, number_goes, mark_goes}
 use Rattle.pass_trait.specs.Debug.{phi_goes, BecomeAll, over, next as step, BlocksBecome, none, stays as block_stays}
 use Rattle.pass_trait.specs.Debug.{goes as block_goes, IsLoss}
@@ -37,7 +38,7 @@ use Rattle.fold_proof.proofs.Placed.{place_of, made_block, made}
 use Rattle.fold_proof.specs.Debug.{IsPassed, IsLostFor, fold_debug}
 use Rattle.fold_proof.specs.Keeps.{FoldedKeepsItems}
 use Rattle.fold_proof.proofs.Passing.{c, new_is, gone_reason, passed_jumps, stays_unlost}
-use Rattle.fold_proof.proofs.Fewer.{same_origin, home_of, fewer_staying, fewer_gone}
+use Rattle.fold_proof.proofs.Fewer.{same_origin, home_of, fewer_staying, more_staying, fewer_gone}
 use Rattle.fold_proof.proofs.Becoming.{become}
 use Rattle.fold_proof.proofs.Losing.{stands_in, told, said, caused}
 use Rattle.fold_proof.proofs.Growing.{all_of}
@@ -112,25 +113,32 @@ module _ (f g : Function) (subs : List DebugSubstitution) (sound : IsSound f) (h
     abbrev Gone : ℕ → Item → Type 0
     Gone n x = Becomes fold_debug ch (place n) x []
 
+    -- less code of its origin is left
+    fewer : (n : ℕ) (i : Instruction) (k : Option ℕ) (o : Origin) (l : Loc) → slice_get b.items n ≡ Some (item (Code i k) o l) → IsFewer ch is_code o
+    fewer n i k o l e =
+        let x : Item = item (Code i k) o l in
+        let inside = contains_at b.items n x e in
+        let homes = All-contains (λ (d : Block). All (λ (j : Item). OriginIn d j.origin) d.items) old b sound.origins member in
+        let home = home_of b o (All-contains (λ (j : Item). OriginIn b j.origin) b.items x homes inside) in
+        fewer_gone is_code o f g subs sound h (λ k t. t) b x member inside out home (same_origin o)
+
     passed_item : (n : ℕ) → IsPassed old b.id → (k : ItemKind) (o : Origin) (l : Loc) → slice_get b.items n ≡ Some (item k o l) →
         Rattle.pass_trait.specs.Rule.StandsAt f (place n) (item k o l) → Gone n (item k o l)
     passed_item n p (Mark v m) o l e s = mark_goes Bypassed refl (record { found = item (Mark v m) o l; stands = s; why = p; is = refl })
     passed_item n p (Phi q k) o l e s = phi_goes Bypassed refl (record { found = item (Phi q k) o l; stands = s; why = p; is = refl })
-    passed_item n p (Code i None) o l e s = code_goes (λ k z. z)
+    passed_item n p (Code i None) o l e s = code_goes (λ k z. z) (inl (fewer n i None o l e))
     passed_item n p (Code i (Some k)) o l e s =
         let x : Item = item (Code i (Some k)) o l in
         let inside = contains_at b.items n x e in
         let jump : IsJump (row_of i) = All-contains (λ (j : Item). IsJumpOrDebug j.kind) b.items x (passed_jumps f g subs sound h b.id p b rest at) inside in
-        let homes = All-contains (λ (d : Block). All (λ (j : Item). OriginIn d j.origin) d.items) old b sound.origins member in
-        let home = home_of b o (All-contains (λ (j : Item). OriginIn b j.origin) b.items x homes inside) in
-        idle_goes (jump_sets (row_of i) jump) (inl (fewer_gone is_code o f g subs sound h (λ k t. t) b x member inside out home (same_origin o)))
+        idle_goes (jump_sets (row_of i) jump) (inl (fewer n i (Some k) o l e))
 
-    unreached_item : (n : ℕ) → IsLostFor old b.id Unreachable → (k : ItemKind) (o : Origin) (l : Loc) →
+    unreached_item : (n : ℕ) → IsLostFor old b.id Unreachable → (k : ItemKind) (o : Origin) (l : Loc) → slice_get b.items n ≡ Some (item k o l) →
         Rattle.pass_trait.specs.Rule.StandsAt f (place n) (item k o l) → Gone n (item k o l)
-    unreached_item n p (Mark v m) o l s = mark_goes Unreachable refl (record { found = item (Mark v m) o l; stands = s; why = p; is = refl })
-    unreached_item n p (Phi q k) o l s = phi_goes Unreachable refl (record { found = item (Phi q k) o l; stands = s; why = p; is = refl })
-    unreached_item n p (Code i None) o l s = code_goes (λ k z. z)
-    unreached_item n p (Code i (Some k)) o l s =
+    unreached_item n p (Mark v m) o l e s = mark_goes Unreachable refl (record { found = item (Mark v m) o l; stands = s; why = p; is = refl })
+    unreached_item n p (Phi q k) o l e s = phi_goes Unreachable refl (record { found = item (Phi q k) o l; stands = s; why = p; is = refl })
+    unreached_item n p (Code i None) o l e s = code_goes (λ k z. z) (inl (fewer n i None o l e))
+    unreached_item n p (Code i (Some k)) o l e s =
         number_goes k Unreachable refl refl (record { found = item (Code i (Some k)) o l; stands = s; why = p; is = refl })
 
     gone_item : (n : ℕ) (x : Item) → slice_get b.items n ≡ Some x → Gone n x
@@ -138,7 +146,7 @@ module _ (f g : Function) (subs : List DebugSubstitution) (sound : IsSound f) (h
         let s = stands_in f g subs sound h b member n x e in
         elim (gone_reason f g subs sound h b.id out) as (λ z. Gone n x) [
           | inl p ↦ passed_item n p x.kind x.origin x.loc e s
-          | inr p ↦ unreached_item n p x.kind x.origin x.loc s
+          | inr p ↦ unreached_item n p x.kind x.origin x.loc e s
         ]
 
     all_gone : (xs : List Item) (n : ℕ) → ((k : ℕ) (x : Item) → slice_get xs k ≡ Some x → slice_get b.items (n + k) ≡ Some x) →
@@ -201,11 +209,14 @@ module _ (f g : Function) (subs : List DebugSubstitution) (sound : IsSound f) (h
         stay s rest = block_stays (kills end was old b.id) anew refl refl refl (end, was, h.folded.ends, h.reached, refl)
             (All-weaker (ComesFrom end was old b.id) (IsKillAt fold_debug ch b.id) (kill_at b.id) (kills end was old b.id) (each_from end was old b.id))
             (become ch b.id (λ n loss l. stays_unlost f g subs sound h b.id loss.reason s l.why) end (first_id (staying stays bs))
-            (first_id bs) source_end b.items 0
+            (first_id bs) source_end b.items 0 refl
             (All-head (λ (b : Block). EndsWell b.items) b bs ends) (onto b bs (closing b bs last))
             (All-weaker (λ (i : Item). OriginIn b i.origin) (λ (i : Item). (position_of i.origin).block ≡ b.id) (λ i o. home_of b i.origin o) b.items
             (All-contains (λ (d : Block). All (λ (i : Item). OriginIn d i.origin) d.items) old b sound.origins member))
-            (λ test o code home less. fewer_staying test o f g subs sound h code b bs at member s home less)) rest
+            (record {
+              less = λ test o code home less. fewer_staying test o f g subs sound h code b bs at member s home less;
+              more = λ test o code home more. more_staying test o f g subs sound h code b bs at s home more;
+            })) rest
 
         by_stay : (z : Bool) → stays b.id ≡ z → BlocksBecome fold_debug ch bs (made end stays was old bs) →
             BlocksBecome fold_debug ch (b ∷ bs) (map put (cond z (folded_block end (first_id (staying stays bs)) (first_id bs) b ∷ folded_blocks end stays bs)

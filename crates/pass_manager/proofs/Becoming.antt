@@ -76,7 +76,7 @@ module _ (rule : Rule) (c : Change) where
     becomes_shown there (code_numbered {i} {j} {k} {o} {l} number) = alone _ (code_shown j (Some k) o l)
     becomes_shown there (code_unnumbered {i} {j} {o} {l} number) = alone _ (code_shown j None o l)
     becomes_shown there (jump_stays {j} {k} {o'} {l'} was is unlost) = alone _ (code_shown j k o' l')
-    becomes_shown there (code_goes number) = All-nil WasShown
+    becomes_shown there (code_goes number fewer) = All-nil WasShown
     becomes_shown there (idle_goes sets fewer) = All-nil WasShown
     becomes_shown there (number_goes k why gone has lost) = All-nil WasShown
     becomes_shown there (substituted k e copy removed has entry unlost) = All-nil WasShown
@@ -98,7 +98,7 @@ module _ (rule : Rule) (c : Change) where
     all_shown there (next {n} {x} {xs} {ys} {zs} one rest) =
         All-append WasShown ys zs (becomes_shown (there x (Contains-append_left (x ∷ []) xs x (0, omega arith, refl))) one)
         (all_shown (λ i is. there i (Contains-append_right (x ∷ []) xs i is)) rest)
-    all_shown there (added {n} {i} {o} {l} {xs} {ys} rest) = All-cons WasShown _ ys (code_shown i None o l) (all_shown there rest)
+    all_shown there (added {n} {i} {o} {l} {xs} {ys} more rest) = All-cons WasShown _ ys (code_shown i None o l) (all_shown there rest)
 
     pub blocks_shown : {xs ys : List Block} → ((i : Item) → Contains (items_of xs) i → WasThere i) → BlocksBecome rule c xs ys → All WasShown (items_of ys)
     blocks_shown there none = All-nil WasShown

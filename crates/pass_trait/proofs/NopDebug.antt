@@ -285,7 +285,7 @@ module _ (f : Function) (sound : IsSound f) (subs : List DebugSubstitution) wher
   becomes at (Code i None) o l stands true stay = code_unnumbered (λ k h. h)
   becomes at (Code i (Some k)) o l stands true stay =
       code_stays (λ why h. (let e : false ≡ true = sym h.1.out ∙ ap (stays busy) (taken_is at h.0 _ stands h.1) ∙ stay in cc))
-  becomes at (Code i None) o l stands false out = code_goes (λ k h. h)
+  becomes at (Code i None) o l stands false out = code_goes (λ k h. h) (inl (removed_at at _ stands refl out).0)
   becomes at (Code i (Some k)) o l stands false out = number_goes k Removed refl refl (k, record { item = _; stands = stands; out = out; number = refl }, refl)
 
   module _ (b : Block) (member : Contains f.blocks b) where

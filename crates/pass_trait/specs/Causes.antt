@@ -123,6 +123,11 @@ module _ (c : Change) where
   IsFewer test o = count_by (λ i. test i.kind && is_origin i.origin o) (items_of c.new.blocks) <
       count_by (λ i. test i.kind && is_origin i.origin o) (items_of c.old.blocks)
 
+  -- the same with more items after the pass
+  abbrev pub IsMore : (ItemKind → Bool) → Origin → Type 0
+  IsMore test o = count_by (λ i. test i.kind && is_origin i.origin o) (items_of c.old.blocks) <
+      count_by (λ i. test i.kind && is_origin i.origin o) (items_of c.new.blocks)
+
   -- Fewer code items have this origin after the pass than before, and the new function still has the block of its position. In
   -- a function that a source simulates, at most one item has a given `Kept` origin, so then none has it any more
   abbrev pub IsRemoved : Origin → Type 0

@@ -27,7 +27,7 @@ use Rattle.pass_trait.specs.Order.{IsInOrder}
 use Rattle.pass_trait.specs.Rule.{Rule, IsCopy, IsJump, number_lost, mark_lost, register_lost, item, item_before, first_operand, StandsAt, numbers_on}
 use Rattle.pass_trait.specs.Rule.{Has}
 use Rattle.sem_mir.specs.Align.{is_code, is_jump}
-use Rattle.pass_trait.specs.Causes.{HasCause, IsFirstCause, IsFewer, IsRemoved}
+use Rattle.pass_trait.specs.Causes.{HasCause, IsFirstCause, IsFewer, IsMore, IsRemoved}
 
 -- what a loss means for what is lost: it is deleted; or it stays and is undef; or it is a register that stays unspilled
 pub data LossEffect : Type 0 where
@@ -103,9 +103,10 @@ module _ (rule : Rule) (c : Change) where
     -- an unconditional branch is kept as one, with its number, perhaps with the origin of another branch
     jump_stays : {i j : Instruction} {k : Option ℕ} {o o' : Origin} {l l' : Loc} → IsJump (row_of i) → IsJump (row_of j) →
         ((n : ℕ) → k ≡ Some n → IsUnlost at (number_lost n)) → Becomes at (item (Code i k) o l) (item (Code j k) o' l' ∷ [])
-    -- code without a number is deleted, if the pass assigns it none; or numbered code that defines nothing, if fewer code items have its
-    -- origin after the pass than before, or fewer that are no unconditional branches: such a branch may have got that origin
-    code_goes : {i : Instruction} {o : Origin} {l : Loc} → ((k : ℕ) → rule.numbers c at k → ⊥) → Becomes at (item (Code i None) o l) []
+    -- code without a number is deleted, if the pass assigns it none, or numbered code that defines nothing: if fewer code items have its
+    -- origin after the pass than before, or fewer that are no unconditional branches, since such a branch may have got that origin
+    code_goes : {i : Instruction} {o : Origin} {l : Loc} → ((k : ℕ) → rule.numbers c at k → ⊥) → IsFewer c is_code o ⊎ IsFewer c is_other_code o →
+        Becomes at (item (Code i None) o l) []
     idle_goes : {i : Instruction} {k : ℕ} {o : Origin} {l : Loc} → sets (row_of i) ≡ [] → IsFewer c is_code o ⊎ IsFewer c is_other_code o →
         Becomes at (item (Code i (Some k)) o l) []
     -- code is deleted, and its number, or the one that the pass assigns it, is lost
@@ -141,13 +142,15 @@ module _ (rule : Rule) (c : Change) where
     phi_renamed : {r now k : ℕ} {o : Origin} {l : Loc} → IsUnlost at (number_lost k) → rule.renames c r now →
         Becomes at (item (Phi (Some (Register r)) k) o l) (item (Phi (Some (Register now)) k) o l ∷ [])
 
-  -- what the items of a block become, from the one with index n on. Code without a number may be added in between
+  -- What the items of a block become, from the one with index n on. Code without a number may be added in between, if more code items
+  -- have its origin after the pass than before; an unconditional branch also if more such branches have it: it may have got the origin of
+  -- a deleted branch
   pub data BecomeAll (block : ℕ) : (n : ℕ) → List Item → List Item → Type 0 where
     over : {n : ℕ} → BecomeAll block n [] []
     next : {n : ℕ} {x : Item} {xs ys zs : List Item} → Becomes (record { block = block; item = n }) x ys → BecomeAll block (suc n) xs zs →
         BecomeAll block n (x ∷ xs) (ys ++ zs)
-    added : {n : ℕ} {i : Instruction} {o : Origin} {l : Loc} {xs ys : List Item} → BecomeAll block n xs ys →
-        BecomeAll block n xs (item (Code i None) o l ∷ ys)
+    added : {n : ℕ} {i : Instruction} {o : Origin} {l : Loc} {xs ys : List Item} → IsMore c is_code o ⊎ (IsMore c is_jump o × IsJump (row_of i)) →
+        BecomeAll block n xs ys → BecomeAll block n xs (item (Code i None) o l ∷ ys)
 
   -- what the blocks become: a block is kept, with the declared kills at its start, or it is deleted with all its items
   pub data BlocksBecome : List Block → List Block → Type 0 where

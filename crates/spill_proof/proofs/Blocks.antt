@@ -1,9 +1,10 @@
 -- What becomes of the blocks.
-use Rattle.std.proofs.Common.{◌≡◌, ℕ, suc, ◌+◌, List, [], ◌∷◌, ◌++◌, map, take, drop, Option, Some, None, Bool, refl, sym, ap, ◌∙◌, subst}
+use Rattle.std.proofs.Common.{◌≡◌, ℕ, suc, ◌+◌, ◌<◌, List, [], ◌∷◌, ◌++◌, map, take, drop, Option, Some, None, Bool, refl, sym, ap, ◌∙◌, subst, inl}
 use Rattle.std.proofs.lemmas.List.Elements.{All-nil}
 use Rattle.std.proofs.lemmas.Grind.{flat_map-append}
 use Rattle.rv64_instr.specs.declared.place.Place.{Place}
 use Rattle.rv64_instr.specs.declared.place.Place.TheVariants.{Register, Slot, Const}
+use Rattle.rv64_instr.specs.Instruction.{Instruction}
 use Rattle.mir_func.specs.declared.block.Block.{Block}
 use Rattle.mir_func.specs.declared.debug_substitution.DebugSubstitution.{DebugSubstitution}
 use Rattle.mir_func.specs.declared.item.Item.{Item}
@@ -11,10 +12,13 @@ use Rattle.mir_func.specs.declared.item.ItemKind.{ItemKind}
 use Rattle.mir_func.specs.declared.item.ItemKind.TheVariants.{Code, Mark, Phi}
 use Rattle.mir_func.specs.declared.location.Loc.{Loc}
 use Rattle.mir_func.specs.declared.position.Origin.{Origin}
+use Rattle.mir_func.specs.declared.position.Origin.TheVariants.{Before}
 use Rattle.mir_func.specs.declared.position.Pos.{Pos}
 use Rattle.mir_func.specs.declared.variable.MarkValue.{MarkValue}
 use Rattle.mir_func.specs.declared.variable.MarkValue.TheVariants.{Nothing, Constant, At, Pair}
 use Rattle.mir_func.specs.Function.{Function}
+use Rattle.mir_func.specs.Graph.{block_start}
+use Rattle.mir_func.specs.Sound.{items_of}
 use Rattle.pass_trait.specs.declared.loss.Loss.{Loss}
 use Rattle.pass_trait.specs.Debug.{ValueStays, PlaceStays, IsKillAt, Becomes, mark_stays, phi_stays, code_stays, code_unnumbered}
 use Rattle.pass_trait.specs.Debug.{BecomeAll, over, next, added as code_added, BlocksBecome, none, stays as block_stays}
@@ -23,7 +27,7 @@ use Rattle.pass_trait.specs.Rule.{Rule, item}
 use Rattle.pass_trait.specs.Sizes.{greatest_number}
 use Rattle.spill_code.specs.declared.spilling.SlotAssignment.{SlotAssignment}
 use Rattle.spill_code.specs.declared.spilling.Spilling.{Spilling}
-use Rattle.spill_code.specs.Rewrite.{slot_of, spilled_item, spilled_items, spilled_block, entry_stores, spilled_blocks}
+use Rattle.spill_code.specs.Rewrite.{slot_of, store, added, spilled_item, spilled_items, spilled_block, entry_stores, spilled_blocks}
 use Rattle.spill_debug.specs.Asked.{kind_asked, next_number, number_behind, items_asked, blocks_asked}
 use Rattle.spill_rule.specs.Choice.{homes_of, spilling_of, entry_of}
 use Rattle.spill_rule.specs.Rule.{Decides}
@@ -32,6 +36,8 @@ use Rattle.spill_proof.specs.Step.{AsksForHome, spill_debug}
 use Rattle.spill_proof.specs.Become.{ItemsBecome}
 use Rattle.spill_proof.proofs.Agree.{homes_same}
 use Rattle.spill_proof.proofs.Places.{IsLeftOf, at_first, further, stands, number_is, drop_next, number_next}
+use Rattle.spill_proof.proofs.More.{count, Grows, Adds, in_more, one_added, more_first, more_behind, more_in, more_later, more_stored}
+use Rattle.spill_proof.proofs.More.{more_in_first, more_after_first}
 use Rattle.spill_proof.proofs.Items.{register_stays, kind_all}
 
 module _ (reserve : List ℕ) (live : ℕ → Bool) (f : Function) (subs : List DebugSubstitution) (new : Function) (decides : Decides reserve f live) where
@@ -57,17 +63,20 @@ module _ (reserve : List ℕ) (live : ℕ → Bool) (f : Function) (subs : List 
 
   module _ (some : homes ≡ [] → ⊥) where
     items_all : (m : ℕ) (b : Block) (bs : List Block) → Left m (b ∷ bs) → (n : ℕ) (xs : List Item) → drop n b.items ≡ xs → (k : ℕ) →
-        k ≡ number_behind homes m (take n b.items) → BecomeAll rule c b.id n xs (spilled_items s (items_asked s k xs))
-    items_all m b bs h n [] e k is = over
-    items_all m b bs h n (x ∷ xs) e k is =
+        k ≡ number_behind homes m (take n b.items) → Grows c (spilled_items s (items_asked s k xs)) xs →
+        BecomeAll rule c b.id n xs (spilled_items s (items_asked s k xs))
+    items_all m b bs h n [] e k is more = over
+    items_all m b bs h n (x ∷ xs) e k is more =
         let later : ℕ = next_number homes k x.kind in
         let here : List Item = kind_asked s k x.kind x.origin x.loc in
         let rest : List Item = items_asked s later xs in
         subst (BecomeAll rule c b.id n (x ∷ xs)) (sym (flat_map-append (spilled_item s) here rest))
         (kind_all reserve live f subs new decides b.id n xs some k x.kind x.origin x.loc (spilled_items s rest)
         (stands homes first f.blocks m b bs h n x xs e) (is ∙ sym (number_is homes first f.blocks m b bs h n))
+        (λ o lt. more o (more_first s o k x xs lt))
         (items_all m b bs h (suc n) xs (drop_next b.items n x xs e) later
-        (ap (λ (z : ℕ). next_number homes z x.kind) is ∙ sym (number_next homes m b.items n x xs e))))
+        (ap (λ (z : ℕ). next_number homes z x.kind) is ∙ sym (number_next homes m b.items n x xs e))
+        (λ o lt. more o (more_behind s o k x xs lt))))
 
     drop_none : (xs : List Item) → drop 0 xs ≡ xs
     drop_none [] = refl
@@ -77,24 +86,32 @@ module _ (reserve : List ℕ) (live : ℕ → Bool) (f : Function) (subs : List 
     take_none m [] = refl
     take_none m (x ∷ xs) = refl
 
-    others_become : (m : ℕ) (bs : List Block) → Left m bs → BlocksBecome rule c bs (map (spilled_block s) (blocks_asked s m bs))
-    others_become m [] h = none
-    others_become m (b ∷ bs) h =
+    others_become : (m : ℕ) (bs : List Block) → Left m bs → Grows c (items_of (map (spilled_block s) (blocks_asked s m bs))) (items_of bs) →
+        BlocksBecome rule c bs (map (spilled_block s) (blocks_asked s m bs))
+    others_become m [] h more = none
+    others_become m (b ∷ bs) h more =
         block_stays [] (spilled_items s (items_asked s m b.items)) refl refl refl refl (All-nil (IsKillAt rule c b.id))
-        (items_all m b bs h 0 b.items (drop_none b.items) m (take_none m b.items))
-        (others_become (number_behind homes m b.items) bs (further homes first f.blocks m b bs h))
+        (items_all m b bs h 0 b.items (drop_none b.items) m (take_none m b.items) (λ o lt. more o (more_in s o m b bs lt)))
+        (others_become (number_behind homes m b.items) bs (further homes first f.blocks m b bs h) (λ o lt. more o (more_later s o m b bs lt)))
 
-    add_entry : (b : ℕ) (entry : List SlotAssignment) (xs ys : List Item) → BecomeAll rule c b 0 xs ys → BecomeAll rule c b 0 xs (entry_stores b entry ++ ys)
-    add_entry b [] xs ys h = h
-    add_entry b (e ∷ es) xs ys h = code_added (add_entry b es xs ys h)
+    add_entry : (b : ℕ) (entry : List SlotAssignment) (xs ys : List Item) → Adds c (entry_stores b entry) → BecomeAll rule c b 0 xs ys →
+        BecomeAll rule c b 0 xs (entry_stores b entry ++ ys)
+    add_entry b [] xs ys more h = h
+    add_entry b (e ∷ es) xs ys more h =
+        let here : Instruction = store e.register e.slot in
+        code_added (inl (more (Before (block_start b)) (one_added (block_start b) here (entry_stores b es))))
+        (add_entry b es xs ys (λ o lt. more o (in_more o (added (block_start b) here) (entry_stores b es) lt)) h)
 
-    spilled_become : (entry : List SlotAssignment) (bs : List Block) → Left first bs → BlocksBecome rule c bs (spilled_blocks s entry (blocks_asked s first bs))
-    spilled_become entry [] h = none
-    spilled_become entry (b ∷ bs) h =
+    spilled_become : (entry : List SlotAssignment) (bs : List Block) → Left first bs →
+        Grows c (items_of (spilled_blocks s entry (blocks_asked s first bs))) (items_of bs) →
+        BlocksBecome rule c bs (spilled_blocks s entry (blocks_asked s first bs))
+    spilled_become entry [] h more = none
+    spilled_become entry (b ∷ bs) h more =
         block_stays [] (entry_stores b.id entry ++ spilled_items s (items_asked s first b.items)) refl refl refl refl (All-nil (IsKillAt rule c b.id))
-        (add_entry b.id entry b.items (spilled_items s (items_asked s first b.items))
-        (items_all first b bs h 0 b.items (drop_none b.items) first (take_none first b.items)))
-        (others_become (number_behind homes first b.items) bs (further homes first f.blocks first b bs h))
+        (add_entry b.id entry b.items (spilled_items s (items_asked s first b.items)) (λ o lt. more o (more_stored s o entry first b bs lt))
+        (items_all first b bs h 0 b.items (drop_none b.items) first (take_none first b.items) (λ o lt. more o (more_in_first s o entry first b bs lt))))
+        (others_become (number_behind homes first b.items) bs (further homes first f.blocks first b bs h)
+        (λ o lt. more o (more_after_first s o entry first b bs lt)))
 
   -- ---- where none is
 
@@ -158,4 +175,9 @@ items_become reserve live f subs sound decides = by_homes (homes_of reserve live
   by_homes [] e = blocks_stay reserve live f subs now decides e f.blocks
   by_homes (h ∷ hs) e =
       spilled_become reserve live f subs now decides (λ none. (let bad : h ∷ hs ≡ [] = sym e ∙ none in cc)) (entry_of live (homes_of reserve live f)) f.blocks
-      (at_first (homes_of reserve live f) k f.blocks sound.blocks_apart)
+      (at_first (homes_of reserve live f) k f.blocks sound.blocks_apart) grows where
+        new_is : (where_spilled (h ∷ hs) f made).blocks ≡ now.blocks
+        new_is = sym (ap (λ (zs : List SlotAssignment). (where_spilled zs f made).blocks) e)
+
+        grows : Grows (change f subs now subs) (items_of (where_spilled (h ∷ hs) f made).blocks) (items_of f.blocks)
+        grows o lt = subst (λ (bs : List Block). count o (items_of f.blocks) < count o (items_of bs)) new_is lt

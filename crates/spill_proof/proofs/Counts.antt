@@ -51,7 +51,7 @@ length_measure = record { none = refl; more = λ xs ys. length-append xs ys }
 -- ---- one item
 
 module _ (s : Spilling) where
-  one_item : (x : Item) → spilled_items s (x ∷ []) ≡ spilled_item s x
+  pub one_item : (x : Item) → spilled_items s (x ∷ []) ≡ spilled_item s x
   one_item x = flat_map-cons (spilled_item s) x [] ∙ append-nil (spilled_item s x)
 
   two_items : (x y : Item) → spilled_items s (x ∷ y ∷ []) ≡ spilled_item s x ++ spilled_item s y

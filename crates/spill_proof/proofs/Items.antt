@@ -1,6 +1,6 @@
 -- What becomes of an item.
-use Rattle.std.proofs.Common.{◌≡◌, ℕ, suc, ◌+◌, List, [], ◌∷◌, ◌++◌, Option, Some, None, Bool, true, false, cond, refl, sym, ap, ◌∙◌, subst}
-use Rattle.std.proofs.Common.{append-nil, append_assoc}
+use Rattle.std.proofs.Common.{◌≡◌, ℕ, suc, ◌+◌, ◌<◌, List, [], ◌∷◌, ◌++◌, Option, Some, None, Bool, true, false, cond, refl, sym, ap, ◌∙◌, subst}
+use Rattle.std.proofs.Common.{append-nil, append_assoc, inl}
 use Rattle.std.proofs.lemmas.List.Concat.{flat_map-cons}
 use Rattle.rv64_instr.specs.declared.operand.Operand.{Operand}
 use Rattle.rv64_instr.specs.declared.place.Place.{Place}
@@ -12,6 +12,7 @@ use Rattle.mir_func.specs.declared.item.ItemKind.{ItemKind}
 use Rattle.mir_func.specs.declared.item.ItemKind.TheVariants.{Code, Mark, Phi}
 use Rattle.mir_func.specs.declared.location.Loc.{Loc}
 use Rattle.mir_func.specs.declared.position.Origin.{Origin}
+use Rattle.mir_func.specs.declared.position.Origin.TheVariants.{Before}
 use Rattle.mir_func.specs.declared.position.Pos.{Pos}
 use Rattle.mir_func.specs.declared.variable.MarkValue.TheVariants.{Nothing, Constant, At, Pair}
 use Rattle.mir_func.specs.declared.variable.VarId.{VarId}
@@ -29,8 +30,8 @@ use Rattle.pass_trait.specs.Rule.{Rule, item, item_before, first_operand, number
 use Rattle.pass_trait.specs.Sizes.{greatest_number}
 use Rattle.spill_code.specs.declared.spilling.SlotAssignment.{SlotAssignment}
 use Rattle.spill_code.specs.declared.spilling.Spilling.{Spilling}
-use Rattle.spill_code.specs.Rewrite.{slot_of, first_used, other_used, first_defined, spilled_code, loads, two_loads, stores, code_items, place_in}
-use Rattle.spill_code.specs.Rewrite.{spilled_place, spilled_item, spilled_items}
+use Rattle.spill_code.specs.Rewrite.{slot_of, first_used, other_used, first_defined, spilled_code, load, store, added, loads, two_loads, stores, code_items}
+use Rattle.spill_code.specs.Rewrite.{place_in, spilled_place, spilled_item, spilled_items}
 use Rattle.spill_debug.specs.Asked.{is_scratch, value_left, place_left, mark_asked, kind_asked}
 use Rattle.spill_debug.specs.Lost.{LosesScratch, is_silent}
 use Rattle.spill_rule.specs.Choice.{homes_of, first_scratch, second_scratch, spilling_of}
@@ -38,6 +39,7 @@ use Rattle.pass_trait.specs.Causes.{scratch_of}
 use Rattle.spill_rule.specs.Rule.{Decides}
 use Rattle.spill_proof.specs.Step.{AsksForHome, number_at, spill_debug}
 use Rattle.spill_proof.proofs.Agree.{homes_same}
+use Rattle.spill_proof.proofs.More.{count, Grows, Adds, in_more, one_added, more_loaded, more_behind_code}
 
 module _ (reserve : List ℕ) (live : ℕ → Bool) (f : Function) (subs : List DebugSubstitution) (new : Function) (decides : Decides reserve f live) where
   abbrev pub c : Change
@@ -88,17 +90,21 @@ module _ (reserve : List ℕ) (live : ℕ → Bool) (f : Function) (subs : List 
     abbrev Rest : ℕ → List Item → List Item → Type 0
     Rest m zs ys = BecomeAll rule c block m zs ys
 
-    add_loads : (m : ℕ) (zs ys : List Item) (p : Pos) (r : ℕ) (z : Option ℕ) → Rest m zs ys → Rest m zs (loads p r z ++ ys)
-    add_loads m zs ys p r None h = h
-    add_loads m zs ys p r (Some k) h = code_added h
+    add_loads : (m : ℕ) (zs ys : List Item) (p : Pos) (r : ℕ) (z : Option ℕ) → Adds c (loads p r z) → Rest m zs ys → Rest m zs (loads p r z ++ ys)
+    add_loads m zs ys p r None more h = h
+    add_loads m zs ys p r (Some k) more h = code_added (inl (more (Before p) (one_added p (load r k) []))) h
 
-    add_two : (m : ℕ) (zs ys : List Item) (p : Pos) (os : List Operand) (z : Option ℕ) → Rest m zs ys → Rest m zs (two_loads s p os z ++ ys)
-    add_two m zs ys p os None h = h
-    add_two m zs ys p os (Some k) h = code_added (add_loads m zs ys p s.second (other_used s.homes k os) h)
+    add_two : (m : ℕ) (zs ys : List Item) (p : Pos) (os : List Operand) (z : Option ℕ) → Adds c (two_loads s p os z) → Rest m zs ys →
+        Rest m zs (two_loads s p os z ++ ys)
+    add_two m zs ys p os None more h = h
+    add_two m zs ys p os (Some k) more h =
+        let second : List Item = loads p s.second (other_used s.homes k os) in
+        code_added (inl (more (Before p) (one_added p (load s.first k) second)))
+        (add_loads m zs ys p s.second (other_used s.homes k os) (λ q lt. more q (in_more q (added p (load s.first k)) second lt)) h)
 
-    add_stores : (m : ℕ) (zs ys : List Item) (p : Pos) (r : ℕ) (z : Option ℕ) → Rest m zs ys → Rest m zs (stores p r z ++ ys)
-    add_stores m zs ys p r None h = h
-    add_stores m zs ys p r (Some k) h = code_added h
+    add_stores : (m : ℕ) (zs ys : List Item) (p : Pos) (r : ℕ) (z : Option ℕ) → Adds c (stores p r z) → Rest m zs ys → Rest m zs (stores p r z ++ ys)
+    add_stores m zs ys p r None more h = h
+    add_stores m zs ys p r (Some k) more h = code_added (inl (more (Before p) (one_added p (store r k) []))) h
 
     abbrev at : Pos
     at = record { block = block; item = n }
@@ -108,16 +114,19 @@ module _ (reserve : List ℕ) (live : ℕ → Bool) (f : Function) (subs : List 
     code_becomes i j None o l there = code_unnumbered (no_number at (Code i None) o l there (λ h. h))
     code_becomes i j (Some k) o l there = code_stays (λ why h. loses_by at (Code i (Some k)) o l (number_lost k why) there h)
 
-    code_all : (i : Instruction) (k : Option ℕ) (o : Origin) (l : Loc) (ys : List Item) → StandsAt f at (item (Code i k) o l) → Rest (suc n) xs ys →
+    code_all : (i : Instruction) (k : Option ℕ) (o : Origin) (l : Loc) (ys : List Item) → StandsAt f at (item (Code i k) o l) →
+        Grows c (code_items s i k o l) (item (Code i k) o l ∷ []) → Rest (suc n) xs ys →
         Rest n (item (Code i k) o l ∷ xs) (code_items s i k o l ++ ys)
-    code_all i k o l ys there rest =
+    code_all i k o l ys there more rest =
         let before : List Item = two_loads s (position_of o) i.operands (first_used s.homes i.operands) in
         let after : List Item = stores (below (position_of o)) s.first (first_defined s.homes i.operands) in
         let now : Item = item (Code (spilled_code s i) k) o l in
         subst (Rest n (item (Code i k) o l ∷ xs)) (sym (append_assoc before (now ∷ after) ys))
         (add_two n (item (Code i k) o l ∷ xs) (now ∷ (after ++ ys)) (position_of o) i.operands (first_used s.homes i.operands)
+        (λ q lt. more q (more_loaded s q i k o l lt))
         (next (code_becomes i (spilled_code s i) k o l there)
-        (add_stores (suc n) xs ys (below (position_of o)) s.first (first_defined s.homes i.operands) rest)))
+        (add_stores (suc n) xs ys (below (position_of o)) s.first (first_defined s.homes i.operands)
+        (λ q lt. more q (more_behind_code s q i k o l lt)) rest)))
 
     -- ---- debug items
 
@@ -199,17 +208,19 @@ module _ (reserve : List ℕ) (live : ℕ → Bool) (f : Function) (subs : List 
           (phi_stays (λ why h. loses_by at (Phi (Some (Const z)) k) o l (number_lost k why) there h) tt) rest
 
       pub kind_all : (k : ℕ) (x : ItemKind) (o : Origin) (l : Loc) (ys : List Item) → StandsAt f at (item x o l) →
-          k ≡ number_at homes (greatest_number f subs + 1) f.blocks at → Rest (suc n) xs ys → Rest n (item x o l ∷ xs)
-          (spilled_items s (kind_asked s k x o l) ++ ys)
-      kind_all k (Code i m) o l ys there number rest =
-          subst (λ (zs : List Item). Rest n (item (Code i m) o l ∷ xs) (zs ++ ys)) (sym (one_item (item (Code i m) o l))) (code_all i m o l ys there rest)
-      kind_all k (Phi p m) o l ys there number rest = phi_all p m o l ys there rest
-      kind_all k (Mark v Nothing) o l ys there number rest =
+          k ≡ number_at homes (greatest_number f subs + 1) f.blocks at → Grows c (spilled_items s (kind_asked s k x o l)) (item x o l ∷ []) →
+          Rest (suc n) xs ys → Rest n (item x o l ∷ xs) (spilled_items s (kind_asked s k x o l) ++ ys)
+      kind_all k (Code i m) o l ys there number more rest =
+          let x : Item = item (Code i m) o l in
+          subst (λ (zs : List Item). Rest n (x ∷ xs) (zs ++ ys)) (sym (one_item x))
+          (code_all i m o l ys there (λ q lt. more q (subst (λ (zs : List Item). count q (x ∷ []) < count q zs) (sym (one_item x)) lt)) rest)
+      kind_all k (Phi p m) o l ys there number more rest = phi_all p m o l ys there rest
+      kind_all k (Mark v Nothing) o l ys there number more rest =
           one_all (Mark v Nothing) o l (item (Mark v Nothing) o l) ys (mark_stays (λ why h. loses_by at (Mark v Nothing) o l (mark_lost o why) there h) tt) rest
-      kind_all k (Mark v (Constant z)) o l ys there number rest =
+      kind_all k (Mark v (Constant z)) o l ys there number more rest =
           one_all (Mark v (Constant z)) o l (item (Mark v (Constant z)) o l) ys
           (mark_stays (λ why h. loses_by at (Mark v (Constant z)) o l (mark_lost o why) there h) tt) rest
-      kind_all k (Mark v (Pair q)) o l ys there number rest =
+      kind_all k (Mark v (Pair q)) o l ys there number more rest =
           one_all (Mark v (Pair q)) o l (item (Mark v (Pair q)) o l) ys (mark_stays (λ why h. loses_by at (Mark v (Pair q)) o l (mark_lost o why) there h) tt)
           rest
-      kind_all k (Mark v (At r)) o l ys there number rest = mark_all v r k (slot_of homes r) o l ys refl there number rest
+      kind_all k (Mark v (At r)) o l ys there number more rest = mark_all v r k (slot_of homes r) o l ys refl there number rest

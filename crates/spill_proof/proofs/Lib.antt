@@ -15,6 +15,7 @@ pub mod Joined
 pub mod Measures
 pub mod Calls
 pub mod Counts
+pub mod More
 pub mod Numbers
 pub mod Physical
 pub mod Sizes

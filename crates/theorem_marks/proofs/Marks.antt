@@ -67,7 +67,7 @@ module _ (p : Pos) (v : VarId) where
     becomes_mark is (code_numbered number) = absurd (let e = is.marks.1 in cc)
     becomes_mark is (code_unnumbered number) = absurd (let e = is.marks.1 in cc)
     becomes_mark is (jump_stays was now unlost) = absurd (let e = is.marks.1 in cc)
-    becomes_mark is (code_goes number) = absurd (let e = is.marks.1 in cc)
+    becomes_mark is (code_goes number fewer) = absurd (let e = is.marks.1 in cc)
     becomes_mark is (idle_goes sets fewer) = absurd (let e = is.marks.1 in cc)
     becomes_mark is (number_goes k why gone has loses) = absurd (let e = is.marks.1 in cc)
     becomes_mark is (substituted k e copy removed has entry unlost) = absurd (let e = is.marks.1 in cc)
@@ -96,7 +96,7 @@ module _ (p : Pos) (v : VarId) where
       alone : (x i : Item) → Contains (x ∷ []) i → x ≡ i
       alone x i (zero, lt, e) = e
       alone x i (suc k, lt, e) = absurd (omega (arith, lt))
-    become_all (added {i = i} {o} {l} {xs} {ys} rest) h = right_of (item (Code i None) o l ∷ []) ys (become_all rest h)
+    become_all (added {i = i} {o} {l} {xs} {ys} more rest) h = right_of (item (Code i None) o l ∷ []) ys (become_all rest h)
 
     blocks_become : {xs ys : List Block} → BlocksBecome rule c xs ys → (b : Block) → Contains xs b → HasMark b.items → HaveMark ys
     blocks_become none b (k, lt, e) h = absurd (omega (arith, lt))
