@@ -27,7 +27,7 @@ use Rattle.pass_trait.specs.Rule.{IsJump, item}
 use Rattle.pass_trait.specs.Causes.{IsFewer, IsMore}
 use Rattle.pass_trait.specs.Debug.{is_other_code, RegisterStays, ValueStays, PlaceStays, Becomes}
 use Rattle.pass_trait.specs.Debug.{mark_stays, phi_stays, code_stays, code_unnumbered, jump_stays}
-use Rattle.pass_trait.specs.Debug.{code_goes, idle_goes, BecomeAll, over, next as step, added}
+use Rattle.pass_trait.specs.Debug.{code_goes, idle_goes, BecomeAll, over, next as step, added_jump}
 use Rattle.pass_trait.specs.declared.loss.Loss.{Loss}
 use Rattle.fold_rule.specs.Turned.{to_block, inverse_to, with_code, sent, turned, made_jump}
 use Rattle.fold_rule.specs.Tails.{first_of, else_way, is_number, jump_at_end}
@@ -205,15 +205,14 @@ module _ (c : Change) (b : ℕ) (unlost : (n : ℕ) (loss : Loss) → IsLostAt c
     branch_alone x n t u v e ours home true r z false counted =
         let leads = leads_by (exit_of x.kind) t e in
         let jump : Item = jump_for_branch source_end x None v in
-        added (inr (counted.more is_jump x.origin jumps_test home (fewer_one is_jump jump x [] refl (branch_no_jump x.kind t e)), tt))
-        (step (gone n x leads (inr (counted.less is_other_code x.origin other_test home
-        (fewer_one is_other_code x jump [] (other_some x.kind t e) refl)))) over)
+        step (gone n x leads (inr (counted.less is_other_code x.origin other_test home (fewer_one is_other_code x jump [] (other_some x.kind t e) refl))))
+        (added_jump tt (inr (counted.more is_jump x.origin jumps_test home (fewer_one is_jump jump x [] refl (branch_no_jump x.kind t e)))))
     branch_alone x n t u v e ours home false true z s counted = step (changed (to_block u) n x) over
     branch_alone x n t u v e ours home false false true s counted = step (changed (inverse_to v) n x) over
     branch_alone x n t u v e ours home false false false s counted =
         let same = still_code (to_block u) x.kind in
-        step (changed (to_block u) n x) (added (inl (counted.more is_code (Before source_end) code_test ours
-        (fewer_after (sent u x) (jump_at_end source_end None v) x refl (sym same) refl))) over)
+        step (changed (to_block u) n x) (added_jump tt (inl (counted.more is_code (Before source_end) code_test ours
+        (fewer_after (sent u x) (jump_at_end source_end None v) x refl (sym same) refl))))
 
     -- a branch with a jump after it
     branch_jump : (x j : Item) (n t m u v : ℕ) → exit_of x.kind ≡ Perhaps t → exit_of j.kind ≡ Always m → Home x → Home j → (q r z s : Bool) →
@@ -254,8 +253,8 @@ module _ (c : Change) (b : ℕ) (unlost : (n : ℕ) (loss : Loss) → IsLostAt c
       by_test : (m : ℕ) (z : Bool) → Counts (cond z [] (made_jump m (Before source_end) Absent ∷ [])) [] →
           Whole n [] (cond z [] (made_jump m (Before source_end) Absent ∷ []))
       by_test m true k = over
-      by_test m false k = added (inl (k.more is_code (Before source_end) code_test ours
-          (fewer_none is_code (made_jump m (Before source_end) Absent) [] refl))) over
+      by_test m false k = added_jump tt (inl (k.more is_code (Before source_end) code_test ours
+          (fewer_none is_code (made_jump m (Before source_end) Absent) [] refl)))
 
       by_fall : (o : Option ℕ) → Counts (plain_tail end next fall source_end None o) [] → Whole n [] (plain_tail end next fall source_end None o)
       by_fall None k = over

@@ -1,5 +1,5 @@
 -- The third law of passes, the debug rule: each debug value, DBG_PHI, number and substitution is kept, or its loss is reported.
-use Rattle.std.specs.Prelude.{◌≡◌, ◌⊎◌, ℕ, ◌<◌, ◌≤◌, suc, List, [], ◌∷◌, ◌++◌, Option, Some, None, Bool, not, ◌&&◌, All, Contains}
+use Rattle.std.specs.Prelude.{◌≡◌, ◌⊎◌, ℕ, ◌<◌, ◌≤◌, suc, List, [], ◌∷◌, ◌++◌, Option, Some, None, Bool, true, not, ◌&&◌, All, Contains}
 use Rattle.rv64_instr.specs.declared.place.Place.{Place}
 use Rattle.rv64_instr.specs.declared.place.Place.TheVariants.{Register, Slot, Const}
 use Rattle.rv64_instr.specs.Instruction.{Instruction}
@@ -18,6 +18,7 @@ use Rattle.mir_func.specs.declared.item.ItemKind.TheVariants.{Code, Mark, Phi}
 use Rattle.mir_func.specs.declared.block.Block.{Block}
 use Rattle.mir_func.specs.declared.debug_substitution.OperandPair.{OperandPair}
 use Rattle.mir_func.specs.declared.debug_substitution.DebugSubstitution.{DebugSubstitution}
+use Rattle.mir_func.specs.Graph.{below, block_start}
 use Rattle.mir_func.specs.Resolve.{entry_of, Ends}
 use Rattle.pass_trait.specs.declared.loss.Reason.{Reason}
 use Rattle.pass_trait.specs.declared.loss.Reason.TheVariants.{Removed, WrongPlace, Scratch, Bypassed, Unreachable, NoScratch, CallNamed, EntryLoop, NoSlot}
@@ -26,7 +27,7 @@ use Rattle.pass_trait.specs.Change.{Change}
 use Rattle.pass_trait.specs.Order.{IsInOrder}
 use Rattle.pass_trait.specs.Rule.{Rule, IsCopy, IsJump, number_lost, mark_lost, register_lost, item, item_before, first_operand, StandsAt, numbers_on}
 use Rattle.pass_trait.specs.Rule.{Has}
-use Rattle.sem_mir.specs.Align.{is_code, is_jump}
+use Rattle.sem_mir.specs.Align.{position_of, is_code, is_jump}
 use Rattle.pass_trait.specs.Causes.{HasCause, IsFirstCause, IsFewer, IsMore, IsRemoved}
 
 -- what a loss means for what is lost: it is deleted; or it stays and is undef; or it is a register that stays unspilled
@@ -142,15 +143,25 @@ module _ (rule : Rule) (c : Change) where
     phi_renamed : {r now k : ℕ} {o : Origin} {l : Loc} → IsUnlost at (number_lost k) → rule.renames c r now →
         Becomes at (item (Phi (Some (Register r)) k) o l) (item (Phi (Some (Register now)) k) o l ∷ [])
 
-  -- What the items of a block become, from the one with index n on. Code without a number may be added in between, if more code items
-  -- have its origin after the pass than before; an unconditional branch also if more such branches have it: it may have got the origin of
-  -- a deleted branch
+  -- What the items of a block become, from the one with index n on. Code without a number may be added where more code items have its
+  -- origin after the pass than before: at the block's start, or next to code whose position its origin is before or right below. So no
+  -- phi before the same position can come to stand in front of it
   pub data BecomeAll (block : ℕ) : (n : ℕ) → List Item → List Item → Type 0 where
     over : {n : ℕ} → BecomeAll block n [] []
     next : {n : ℕ} {x : Item} {xs ys zs : List Item} → Becomes (record { block = block; item = n }) x ys → BecomeAll block (suc n) xs zs →
         BecomeAll block n (x ∷ xs) (ys ++ zs)
-    added : {n : ℕ} {i : Instruction} {o : Origin} {l : Loc} {xs ys : List Item} → IsMore c is_code o ⊎ (IsMore c is_jump o × IsJump (row_of i)) →
-        BecomeAll block n xs ys → BecomeAll block n xs (item (Code i None) o l ∷ ys)
+    added_first : {i : Instruction} {l : Loc} {xs ys : List Item} → IsMore c is_code (Before (block_start block)) → BecomeAll block 0 xs ys →
+        BecomeAll block 0 xs (item (Code i None) (Before (block_start block)) l ∷ ys)
+    added_before : {n : ℕ} {i : Instruction} {l : Loc} {y : Item} {xs ys : List Item} → is_code y.kind ≡ true →
+        IsMore c is_code (Before (position_of y.origin)) → BecomeAll block n xs (y ∷ ys) →
+        BecomeAll block n xs (item (Code i None) (Before (position_of y.origin)) l ∷ y ∷ ys)
+    added_after : {n : ℕ} {i : Instruction} {l : Loc} {x y : Item} {xs zs : List Item} → is_code y.kind ≡ true →
+        IsMore c is_code (Before (below (position_of y.origin))) → Becomes (record { block = block; item = n }) x (y ∷ []) →
+        BecomeAll block (suc n) xs zs →
+        BecomeAll block n (x ∷ xs) (y ∷ item (Code i None) (Before (below (position_of y.origin))) l ∷ zs)
+    -- at the end an unconditional branch may be added, which may get the origin of a deleted branch
+    added_jump : {n : ℕ} {i : Instruction} {o : Origin} {l : Loc} → IsJump (row_of i) → IsMore c is_code o ⊎ IsMore c is_jump o →
+        BecomeAll block n [] (item (Code i None) o l ∷ [])
 
   -- what the blocks become: a block is kept, with the declared kills at its start, or it is deleted with all its items
   pub data BlocksBecome : List Block → List Block → Type 0 where

@@ -1,6 +1,6 @@
 -- What becomes of an item.
 use Rattle.std.proofs.Common.{◌≡◌, ℕ, suc, ◌+◌, ◌<◌, List, [], ◌∷◌, ◌++◌, Option, Some, None, Bool, true, false, cond, refl, sym, ap, ◌∙◌, subst}
-use Rattle.std.proofs.Common.{append-nil, append_assoc, inl}
+use Rattle.std.proofs.Common.{append-nil, append_assoc}
 use Rattle.std.proofs.lemmas.List.Concat.{flat_map-cons}
 use Rattle.rv64_instr.specs.declared.operand.Operand.{Operand}
 use Rattle.rv64_instr.specs.declared.place.Place.{Place}
@@ -18,14 +18,14 @@ use Rattle.mir_func.specs.declared.variable.MarkValue.TheVariants.{Nothing, Cons
 use Rattle.mir_func.specs.declared.variable.VarId.{VarId}
 use Rattle.mir_func.specs.Function.{Function}
 use Rattle.mir_func.specs.Graph.{Here, below}
-use Rattle.sem_mir.specs.Align.{position_of}
+use Rattle.sem_mir.specs.Align.{position_of, is_code}
 use Rattle.pass_trait.specs.declared.loss.Loss.{Loss}
 use Rattle.pass_trait.specs.declared.loss.Reason.{Reason}
 use Rattle.pass_trait.specs.declared.loss.Reason.TheVariants.{Scratch}
 use Rattle.pass_trait.specs.Change.{Change, change}
 use Rattle.pass_trait.specs.Debug.{RegisterStays, Becomes, mark_stays, phi_stays, code_stays, code_unnumbered, mark_silenced, phi_silenced}
 use Rattle.pass_trait.specs.Debug.{mark_spilled, phi_spilled}
-use Rattle.pass_trait.specs.Debug.{BecomeAll, next, added as code_added}
+use Rattle.pass_trait.specs.Debug.{BecomeAll, next, added_before, added_after}
 use Rattle.pass_trait.specs.Rule.{Rule, item, item_before, first_operand, number_lost, mark_lost, StandsAt}
 use Rattle.pass_trait.specs.Sizes.{greatest_number}
 use Rattle.spill_code.specs.declared.spilling.SlotAssignment.{SlotAssignment}
@@ -35,11 +35,11 @@ use Rattle.spill_code.specs.Rewrite.{place_in, spilled_place, spilled_item, spil
 use Rattle.spill_debug.specs.Asked.{is_scratch, value_left, place_left, mark_asked, kind_asked}
 use Rattle.spill_debug.specs.Lost.{LosesScratch, is_silent}
 use Rattle.spill_rule.specs.Choice.{homes_of, first_scratch, second_scratch, spilling_of}
-use Rattle.pass_trait.specs.Causes.{scratch_of}
+use Rattle.pass_trait.specs.Causes.{scratch_of, IsMore}
 use Rattle.spill_rule.specs.Rule.{Decides}
 use Rattle.spill_proof.specs.Step.{AsksForHome, number_at, spill_debug}
 use Rattle.spill_proof.proofs.Agree.{homes_same}
-use Rattle.spill_proof.proofs.More.{count, Grows, Adds, in_more, one_added, more_loaded, more_behind_code}
+use Rattle.spill_proof.proofs.More.{count, Grows, Adds, one_added, more_loaded, more_behind_code}
 
 module _ (reserve : List ℕ) (live : ℕ → Bool) (f : Function) (subs : List DebugSubstitution) (new : Function) (decides : Decides reserve f live) where
   abbrev pub c : Change
@@ -90,21 +90,22 @@ module _ (reserve : List ℕ) (live : ℕ → Bool) (f : Function) (subs : List 
     abbrev Rest : ℕ → List Item → List Item → Type 0
     Rest m zs ys = BecomeAll rule c block m zs ys
 
-    add_loads : (m : ℕ) (zs ys : List Item) (p : Pos) (r : ℕ) (z : Option ℕ) → Adds c (loads p r z) → Rest m zs ys → Rest m zs (loads p r z ++ ys)
-    add_loads m zs ys p r None more h = h
-    add_loads m zs ys p r (Some k) more h = code_added (inl (more (Before p) (one_added p (load r k) []))) h
+    add_two : (m : ℕ) (zs : List Item) (y : Item) (ys : List Item) (os : List Operand) (z : Option ℕ) → is_code y.kind ≡ true →
+        Adds c (two_loads s (position_of y.origin) os z) → Rest m zs (y ∷ ys) → Rest m zs (two_loads s (position_of y.origin) os z ++ (y ∷ ys))
+    add_two m zs y ys os None code more h = h
+    add_two m zs y ys os (Some k) code more h = by_second (other_used s.homes k os) more where
+      p : Pos
+      p = position_of y.origin
 
-    add_two : (m : ℕ) (zs ys : List Item) (p : Pos) (os : List Operand) (z : Option ℕ) → Adds c (two_loads s p os z) → Rest m zs ys →
-        Rest m zs (two_loads s p os z ++ ys)
-    add_two m zs ys p os None more h = h
-    add_two m zs ys p os (Some k) more h =
-        let second : List Item = loads p s.second (other_used s.homes k os) in
-        code_added (inl (more (Before p) (one_added p (load s.first k) second)))
-        (add_loads m zs ys p s.second (other_used s.homes k os) (λ q lt. more q (in_more q (added p (load s.first k)) second lt)) h)
+      first : Item
+      first = added p (load s.first k)
 
-    add_stores : (m : ℕ) (zs ys : List Item) (p : Pos) (r : ℕ) (z : Option ℕ) → Adds c (stores p r z) → Rest m zs ys → Rest m zs (stores p r z ++ ys)
-    add_stores m zs ys p r None more h = h
-    add_stores m zs ys p r (Some k) more h = code_added (inl (more (Before p) (one_added p (store r k) []))) h
+      by_second : (z : Option ℕ) → Adds c (first ∷ loads p s.second z) → Rest m zs (first ∷ (loads p s.second z ++ (y ∷ ys)))
+      by_second None grows = added_before {y = y} code (grows (Before p) (one_added p (load s.first k) [])) h
+      by_second (Some j) grows =
+          let second : Item = added p (load s.second j) in
+          let more : IsMore c is_code (Before p) = grows (Before p) (one_added p (load s.first k) (second ∷ [])) in
+          added_before {y = second} refl more (added_before {y = y} code more h)
 
     abbrev at : Pos
     at = record { block = block; item = n }
@@ -114,6 +115,16 @@ module _ (reserve : List ℕ) (live : ℕ → Bool) (f : Function) (subs : List 
     code_becomes i j None o l there = code_unnumbered (no_number at (Code i None) o l there (λ h. h))
     code_becomes i j (Some k) o l there = code_stays (λ why h. loses_by at (Code i (Some k)) o l (number_lost k why) there h)
 
+    -- the code itself, with its store
+    code_stored : (i : Instruction) (k : Option ℕ) (o : Origin) (l : Loc) (ys : List Item) (z : Option ℕ) → StandsAt f at (item (Code i k) o l) →
+        Adds c (stores (below (position_of o)) s.first z) → Rest (suc n) xs ys →
+        Rest n (item (Code i k) o l ∷ xs) (item (Code (spilled_code s i) k) o l ∷ (stores (below (position_of o)) s.first z ++ ys))
+    code_stored i k o l ys None there more rest = next (code_becomes i (spilled_code s i) k o l there) rest
+    code_stored i k o l ys (Some d) there more rest =
+        let p : Pos = below (position_of o) in
+        added_after {y = item (Code (spilled_code s i) k) o l} refl (more (Before p) (one_added p (store s.first d) []))
+        (code_becomes i (spilled_code s i) k o l there) rest
+
     code_all : (i : Instruction) (k : Option ℕ) (o : Origin) (l : Loc) (ys : List Item) → StandsAt f at (item (Code i k) o l) →
         Grows c (code_items s i k o l) (item (Code i k) o l ∷ []) → Rest (suc n) xs ys →
         Rest n (item (Code i k) o l ∷ xs) (code_items s i k o l ++ ys)
@@ -122,11 +133,10 @@ module _ (reserve : List ℕ) (live : ℕ → Bool) (f : Function) (subs : List 
         let after : List Item = stores (below (position_of o)) s.first (first_defined s.homes i.operands) in
         let now : Item = item (Code (spilled_code s i) k) o l in
         subst (Rest n (item (Code i k) o l ∷ xs)) (sym (append_assoc before (now ∷ after) ys))
-        (add_two n (item (Code i k) o l ∷ xs) (now ∷ (after ++ ys)) (position_of o) i.operands (first_used s.homes i.operands)
+        (add_two n (item (Code i k) o l ∷ xs) now (after ++ ys) i.operands (first_used s.homes i.operands) refl
         (λ q lt. more q (more_loaded s q i k o l lt))
-        (next (code_becomes i (spilled_code s i) k o l there)
-        (add_stores (suc n) xs ys (below (position_of o)) s.first (first_defined s.homes i.operands)
-        (λ q lt. more q (more_behind_code s q i k o l lt)) rest)))
+        (code_stored i k o l ys (first_defined s.homes i.operands) there
+        (λ q lt. more q (more_behind_code s q i k o l lt)) rest))
 
     -- ---- debug items
 
