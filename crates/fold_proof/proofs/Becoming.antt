@@ -1,6 +1,6 @@
 -- What the items of a block become: those of a block that stays stay, but for its end, which is written anew.
 use Rattle.std.proofs.Common.{◌≡◌, ◌⊎◌, ℕ, suc, ◌<◌, List, [], ◌∷◌, count_by, All, Option, Some, None, Bool, true, false, cond}
-use Rattle.std.proofs.Common.{not, ◌&&◌, nat_eq, refl, ap, subst, inl, inr, arith}
+use Rattle.std.proofs.Common.{not, ◌&&◌, nat_eq, refl, sym, ap, subst, inl, inr, arith}
 use Rattle.std.proofs.lemmas.List.Elements.{All-head, All-tail}
 use Rattle.rv64_instr.specs.declared.place.Place.{Place}
 use Rattle.rv64_instr.specs.declared.place.Place.TheVariants.{Register, Slot, Const}
@@ -27,7 +27,7 @@ use Rattle.pass_trait.specs.Rule.{IsJump, item}
 use Rattle.pass_trait.specs.Causes.{IsFewer, IsMore}
 use Rattle.pass_trait.specs.Debug.{is_other_code, RegisterStays, ValueStays, PlaceStays, Becomes}
 use Rattle.pass_trait.specs.Debug.{mark_stays, phi_stays, code_stays, code_unnumbered, jump_stays}
-use Rattle.pass_trait.specs.Debug.{code_goes, idle_goes, BecomeAll, over, next as step, added_jump}
+use Rattle.pass_trait.specs.Debug.{code_goes, idle_goes, BecomeAll, over, next as step, added_at_end}
 use Rattle.pass_trait.specs.declared.loss.Loss.{Loss}
 use Rattle.fold_rule.specs.Turned.{to_block, inverse_to, with_code, sent, turned, made_jump}
 use Rattle.fold_rule.specs.Tails.{first_of, else_way, is_number, jump_at_end}
@@ -133,6 +133,10 @@ module _ (c : Change) (b : ℕ) (unlost : (n : ℕ) (loss : Loss) → IsLostAt c
   gone : (n : ℕ) (x : Item) → Leads (exit_of x.kind) → IsFewer c is_code x.origin ⊎ IsFewer c is_other_code x.origin → Become n x []
   gone n x leads less = gone_kind n x.kind x.origin x.loc leads less
 
+  -- a jump is added at the end
+  jump_added : (n m : ℕ) (o : Origin) (l : Loc) → IsMore c is_code o ⊎ IsMore c is_jump o → Whole n [] (made_jump m o l ∷ [])
+  jump_added n m o l more = added_at_end tt more
+
   nothing_more : (n : ℕ) (xs : List Item) → xs ≡ [] → Whole n xs []
   nothing_more n [] e = over
   nothing_more n (x ∷ xs) e = cc
@@ -206,13 +210,14 @@ module _ (c : Change) (b : ℕ) (unlost : (n : ℕ) (loss : Loss) → IsLostAt c
         let leads = leads_by (exit_of x.kind) t e in
         let jump : Item = jump_for_branch source_end x None v in
         step (gone n x leads (inr (counted.less is_other_code x.origin other_test home (fewer_one is_other_code x jump [] (other_some x.kind t e) refl))))
-        (added_jump tt (inr (counted.more is_jump x.origin jumps_test home (fewer_one is_jump jump x [] refl (branch_no_jump x.kind t e)))))
+        (jump_added (suc n) v x.origin x.loc
+        (inr (counted.more is_jump x.origin jumps_test home (fewer_one is_jump jump x [] refl (branch_no_jump x.kind t e)))))
     branch_alone x n t u v e ours home false true z s counted = step (changed (to_block u) n x) over
     branch_alone x n t u v e ours home false false true s counted = step (changed (inverse_to v) n x) over
     branch_alone x n t u v e ours home false false false s counted =
         let same = still_code (to_block u) x.kind in
-        step (changed (to_block u) n x) (added_jump tt (inl (counted.more is_code (Before source_end) code_test ours
-        (fewer_after (sent u x) (jump_at_end source_end None v) x refl (sym same) refl))))
+        step (changed (to_block u) n x) (jump_added (suc n) v (Before source_end) Absent
+        (inl (counted.more is_code (Before source_end) code_test ours (fewer_after (sent u x) (jump_at_end source_end None v) x refl (sym same) refl))))
 
     -- a branch with a jump after it
     branch_jump : (x j : Item) (n t m u v : ℕ) → exit_of x.kind ≡ Perhaps t → exit_of j.kind ≡ Always m → Home x → Home j → (q r z s : Bool) →
@@ -253,8 +258,8 @@ module _ (c : Change) (b : ℕ) (unlost : (n : ℕ) (loss : Loss) → IsLostAt c
       by_test : (m : ℕ) (z : Bool) → Counts (cond z [] (made_jump m (Before source_end) Absent ∷ [])) [] →
           Whole n [] (cond z [] (made_jump m (Before source_end) Absent ∷ []))
       by_test m true k = over
-      by_test m false k = added_jump tt (inl (k.more is_code (Before source_end) code_test ours
-          (fewer_none is_code (made_jump m (Before source_end) Absent) [] refl)))
+      by_test m false k = jump_added n m (Before source_end) Absent
+          (inl (k.more is_code (Before source_end) code_test ours (fewer_none is_code (made_jump m (Before source_end) Absent) [] refl)))
 
       by_fall : (o : Option ℕ) → Counts (plain_tail end next fall source_end None o) [] → Whole n [] (plain_tail end next fall source_end None o)
       by_fall None k = over

@@ -18,7 +18,8 @@ use Rattle.mir_func.specs.declared.variable.VarId.{VarId}
 use Rattle.mir_func.specs.Sound.{items_of}
 use Rattle.pass_trait.specs.Change.{Change}
 use Rattle.pass_trait.specs.Rule.{Rule, item, first_operand}
-use Rattle.pass_trait.specs.Debug.{Becomes, BecomeAll, BlocksBecome, over, next, added_first, added_before, added_after, added_jump, none, stays, goes}
+use Rattle.pass_trait.specs.Debug.{Becomes, BecomeAll, BlocksBecome, over, next, none, stays, goes}
+use Rattle.pass_trait.specs.Debug.{added_at_start, added_before, added_after, added_at_end}
 use Rattle.pass_trait.specs.Debug.{mark_stays, phi_stays, code_stays, code_numbered, code_unnumbered, jump_stays, code_goes, idle_goes, number_goes}
 use Rattle.pass_trait.specs.Debug.{substituted, salvaged, salvaged_wrong, mark_silenced, phi_silenced, mark_goes, phi_goes, mark_spilled, phi_spilled}
 use Rattle.pass_trait.specs.Debug.{mark_renamed, phi_renamed}
@@ -66,6 +67,11 @@ module _ (rule : Rule) (c : Change) where
   alone : (j : Item) → WasShown j → All WasShown (j ∷ [])
   alone j is = All-cons WasShown j [] is (All-nil WasShown)
 
+  code_behind : (j : Item) (i : Instruction) (o : Origin) (l : Loc) (js : List Item) → All WasShown (j ∷ []) → All WasShown js →
+      All WasShown (j ∷ item (Code i None) o l ∷ js)
+  code_behind j i o l js is rest =
+      All-append WasShown (j ∷ []) (item (Code i None) o l ∷ js) is (All-cons WasShown (item (Code i None) o l) js (code_shown i None o l) rest)
+
   -- the rule gives no phi x0, and puts kills for what was there
   module _ (renames : (r now : ℕ) → rule.renames c r now → 0 < now) (salvages : (at : Pos) (p : Place) → rule.salvages c at p → IsGiven p)
       (kills : (b : ℕ) (ks : List Item) → rule.kills c b ks → All WasShown ks) where
@@ -98,12 +104,12 @@ module _ (rule : Rule) (c : Change) where
     all_shown there (next {n} {x} {xs} {ys} {zs} one rest) =
         All-append WasShown ys zs (becomes_shown (there x (Contains-append_left (x ∷ []) xs x (0, omega arith, refl))) one)
         (all_shown (λ i is. there i (Contains-append_right (x ∷ []) xs i is)) rest)
-    all_shown there (added_first {i} {l} {xs} {ys} more rest) = All-cons WasShown _ ys (code_shown i None _ l) (all_shown there rest)
+    all_shown there (added_at_start {i} {l} {xs} {ys} more rest) = All-cons WasShown _ ys (code_shown i None _ l) (all_shown there rest)
     all_shown there (added_before {n} {i} {l} {y} {xs} {ys} code more rest) = All-cons WasShown _ (y ∷ ys) (code_shown i None _ l) (all_shown there rest)
     all_shown there (added_after {n} {i} {l} {x} {y} {xs} {zs} code more one rest) =
-        All-append WasShown (y ∷ []) _ (becomes_shown (there x (Contains-append_left (x ∷ []) xs x (0, omega arith, refl))) one)
-        (All-cons WasShown _ zs (code_shown i None _ l) (all_shown (λ j is. there j (Contains-append_right (x ∷ []) xs j is)) rest))
-    all_shown there (added_jump {n} {i} {o} {l} jump more) = alone _ (code_shown i None o l)
+        code_behind y i _ l zs (becomes_shown (there x (Contains-append_left (x ∷ []) xs x (0, omega arith, refl))) one)
+        (all_shown (λ j is. there j (Contains-append_right (x ∷ []) xs j is)) rest)
+    all_shown there (added_at_end {n} {i} {o} {l} jump more) = alone _ (code_shown i None o l)
 
     pub blocks_shown : {xs ys : List Block} → ((i : Item) → Contains (items_of xs) i → WasThere i) → BlocksBecome rule c xs ys → All WasShown (items_of ys)
     blocks_shown there none = All-nil WasShown

@@ -123,7 +123,7 @@ module _ (c : Change) where
   IsFewer test o = count_by (λ i. test i.kind && is_origin i.origin o) (items_of c.new.blocks) <
       count_by (λ i. test i.kind && is_origin i.origin o) (items_of c.old.blocks)
 
-  -- the same with more items after the pass
+  -- among that code, more items have this origin after the pass than before
   abbrev pub IsMore : (ItemKind → Bool) → Origin → Type 0
   IsMore test o = count_by (λ i. test i.kind && is_origin i.origin o) (items_of c.old.blocks) <
       count_by (λ i. test i.kind && is_origin i.origin o) (items_of c.new.blocks)

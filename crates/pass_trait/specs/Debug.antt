@@ -104,8 +104,8 @@ module _ (rule : Rule) (c : Change) where
     -- an unconditional branch is kept as one, with its number, perhaps with the origin of another branch
     jump_stays : {i j : Instruction} {k : Option ℕ} {o o' : Origin} {l l' : Loc} → IsJump (row_of i) → IsJump (row_of j) →
         ((n : ℕ) → k ≡ Some n → IsUnlost at (number_lost n)) → Becomes at (item (Code i k) o l) (item (Code j k) o' l' ∷ [])
-    -- code without a number is deleted, if the pass assigns it none, or numbered code that defines nothing: if fewer code items have its
-    -- origin after the pass than before, or fewer that are no unconditional branches, since such a branch may have got that origin
+    -- Code without a number that gets none, or numbered code that defines nothing, is deleted. Fewer code items then have its origin after
+    -- the pass than before, or fewer that are no unconditional branches, since such a branch may have got that origin
     code_goes : {i : Instruction} {o : Origin} {l : Loc} → ((k : ℕ) → rule.numbers c at k → ⊥) → IsFewer c is_code o ⊎ IsFewer c is_other_code o →
         Becomes at (item (Code i None) o l) []
     idle_goes : {i : Instruction} {k : ℕ} {o : Origin} {l : Loc} → sets (row_of i) ≡ [] → IsFewer c is_code o ⊎ IsFewer c is_other_code o →
@@ -143,24 +143,26 @@ module _ (rule : Rule) (c : Change) where
     phi_renamed : {r now k : ℕ} {o : Origin} {l : Loc} → IsUnlost at (number_lost k) → rule.renames c r now →
         Becomes at (item (Phi (Some (Register r)) k) o l) (item (Phi (Some (Register now)) k) o l ∷ [])
 
-  -- What the items of a block become, from the one with index n on. Code without a number may be added where more code items have its
-  -- origin after the pass than before: at the block's start, or next to code whose position its origin is before or right below. So no
-  -- phi before the same position can come to stand in front of it
+  -- What the items of a block become, from the one with index n on. Code without a number is added only where more code items have its
+  -- origin after the pass than before, and no debug item stands between it and what it was added for
   pub data BecomeAll (block : ℕ) : (n : ℕ) → List Item → List Item → Type 0 where
     over : {n : ℕ} → BecomeAll block n [] []
     next : {n : ℕ} {x : Item} {xs ys zs : List Item} → Becomes (record { block = block; item = n }) x ys → BecomeAll block (suc n) xs zs →
         BecomeAll block n (x ∷ xs) (ys ++ zs)
-    added_first : {i : Instruction} {l : Loc} {xs ys : List Item} → IsMore c is_code (Before (block_start block)) → BecomeAll block 0 xs ys →
+    -- code is added at the block's start
+    added_at_start : {i : Instruction} {l : Loc} {xs ys : List Item} → IsMore c is_code (Before (block_start block)) → BecomeAll block 0 xs ys →
         BecomeAll block 0 xs (item (Code i None) (Before (block_start block)) l ∷ ys)
+    -- code is added right before other code, with an origin before that code's position
     added_before : {n : ℕ} {i : Instruction} {l : Loc} {y : Item} {xs ys : List Item} → is_code y.kind ≡ true →
         IsMore c is_code (Before (position_of y.origin)) → BecomeAll block n xs (y ∷ ys) →
         BecomeAll block n xs (item (Code i None) (Before (position_of y.origin)) l ∷ y ∷ ys)
+    -- code is added right after the code that an item becomes, with an origin before the position below
     added_after : {n : ℕ} {i : Instruction} {l : Loc} {x y : Item} {xs zs : List Item} → is_code y.kind ≡ true →
         IsMore c is_code (Before (below (position_of y.origin))) → Becomes (record { block = block; item = n }) x (y ∷ []) →
         BecomeAll block (suc n) xs zs →
         BecomeAll block n (x ∷ xs) (y ∷ item (Code i None) (Before (below (position_of y.origin))) l ∷ zs)
-    -- at the end an unconditional branch may be added, which may get the origin of a deleted branch
-    added_jump : {n : ℕ} {i : Instruction} {o : Origin} {l : Loc} → IsJump (row_of i) → IsMore c is_code o ⊎ IsMore c is_jump o →
+    -- an unconditional branch is added at the block's end, perhaps with the origin of a deleted branch
+    added_at_end : {n : ℕ} {i : Instruction} {o : Origin} {l : Loc} → IsJump (row_of i) → IsMore c is_code o ⊎ IsMore c is_jump o →
         BecomeAll block n [] (item (Code i None) o l ∷ [])
 
   -- what the blocks become: a block is kept, with the declared kills at its start, or it is deleted with all its items

@@ -21,7 +21,7 @@ use Rattle.mir_func.specs.Graph.{block_start}
 use Rattle.mir_func.specs.Sound.{items_of}
 use Rattle.pass_trait.specs.declared.loss.Loss.{Loss}
 use Rattle.pass_trait.specs.Debug.{ValueStays, PlaceStays, IsKillAt, Becomes, mark_stays, phi_stays, code_stays, code_unnumbered}
-use Rattle.pass_trait.specs.Debug.{BecomeAll, over, next, added_first, BlocksBecome, none, stays as block_stays}
+use Rattle.pass_trait.specs.Debug.{BecomeAll, over, next, added_at_start, BlocksBecome, none, stays as block_stays}
 use Rattle.pass_trait.specs.Change.{Change, change}
 use Rattle.pass_trait.specs.Rule.{Rule, item}
 use Rattle.pass_trait.specs.Sizes.{greatest_number}
@@ -99,7 +99,7 @@ module _ (reserve : List ℕ) (live : ℕ → Bool) (f : Function) (subs : List 
     add_entry b [] xs ys more h = h
     add_entry b (e ∷ es) xs ys more h =
         let here : Instruction = store e.register e.slot in
-        added_first (more (Before (block_start b)) (one_added (block_start b) here (entry_stores b es)))
+        added_at_start (more (Before (block_start b)) (one_added (block_start b) here (entry_stores b es)))
         (add_entry b es xs ys (λ o lt. more o (in_more o (added (block_start b) here) (entry_stores b es) lt)) h)
 
     spilled_become : (entry : List SlotAssignment) (bs : List Block) → Left first bs →

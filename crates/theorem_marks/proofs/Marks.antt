@@ -7,17 +7,20 @@ use Rattle.mir_func.specs.declared.item.Item.{Item}
 use Rattle.mir_func.specs.declared.item.ItemKind.TheVariants.{Code, Mark}
 use Rattle.mir_func.specs.declared.location.Loc.{Loc}
 use Rattle.mir_func.specs.declared.position.Origin.{Origin}
-use Rattle.mir_func.specs.declared.position.Origin.TheVariants.{Kept}
+use Rattle.mir_func.specs.declared.position.Origin.TheVariants.{Kept, Before}
 use Rattle.mir_func.specs.declared.position.Pos.{Pos}
 use Rattle.mir_func.specs.declared.variable.MarkValue.{MarkValue}
 use Rattle.mir_func.specs.declared.variable.MarkValue.TheVariants.{At, Pair}
 use Rattle.mir_func.specs.declared.variable.VarId.{VarId}
 use Rattle.mir_func.specs.Function.{Function}
+use Rattle.mir_func.specs.Graph.{below, block_start}
+use Rattle.sem_mir.specs.Align.{position_of}
 use Rattle.pass_trait.specs.declared.loss.Loss.{Loss}
 use Rattle.pass_trait.specs.declared.loss.Reason.{Reason}
 use Rattle.pass_trait.specs.Change.{Change}
 use Rattle.pass_trait.specs.Rule.{Rule, item, first_operand, mark_lost}
-use Rattle.pass_trait.specs.Debug.{IsLoss, Becomes, BecomeAll, BlocksBecome, over, next, added_first, added_before, added_after, added_jump, none, stays, goes}
+use Rattle.pass_trait.specs.Debug.{IsLoss, Becomes, BecomeAll, BlocksBecome, over, next, none, stays, goes}
+use Rattle.pass_trait.specs.Debug.{added_at_start, added_before, added_after, added_at_end}
 use Rattle.pass_trait.specs.Debug.{mark_stays, phi_stays, code_stays, code_numbered, code_unnumbered, jump_stays, code_goes, idle_goes, number_goes}
 use Rattle.pass_trait.specs.Debug.{substituted, salvaged, salvaged_wrong, mark_silenced, phi_silenced, mark_goes, phi_goes, mark_spilled, phi_spilled}
 use Rattle.pass_trait.specs.Debug.{mark_renamed, phi_renamed}
@@ -91,22 +94,23 @@ module _ (p : Pos) (v : VarId) where
     only x i (zero, lt, e) = e
     only x i (suc k, lt, e) = absurd (omega (arith, lt))
 
-    behind : (y : Item) (ys : List Item) → HasMark ys → HasMark (y ∷ ys)
-    behind y ys h = right_of (y ∷ []) ys h
-
     become_all : {block n : ℕ} {xs ys : List Item} → BecomeAll rule c block n xs ys → HasMark xs → HasMark ys
     become_all over h = h
     become_all (next {x = x} {xs} {ys} {zs} one rest) (i, at, m) = elim (Contains-append_cases (x ∷ []) xs i at) [
       | inl here ↦ left_of ys zs (becomes_mark (subst IsMark (sym (only x i here)) m) one)
       | inr more ↦ right_of ys zs (become_all rest (i, more, m))
     ]
-    become_all (added_first {i = i} {l} {xs} {ys} more rest) h = behind _ ys (become_all rest h)
-    become_all (added_before {i = i} {l} {y} {xs} {ys} code more rest) h = behind _ (y ∷ ys) (become_all rest h)
-    become_all (added_after {l = l} {x} {y} {xs} {zs} code more one rest) (i, at, m) = elim (Contains-append_cases (x ∷ []) xs i at) [
-      | inl here ↦ left_of (y ∷ []) (_ ∷ zs) (becomes_mark (subst IsMark (sym (only x i here)) m) one)
-      | inr later ↦ behind y (_ ∷ zs) (behind _ zs (become_all rest (i, later, m)))
-    ]
-    become_all (added_jump jump more) h = absurd (none_in h)
+    become_all {block} (added_at_start {i = i} {l} {xs} {ys} more rest) h =
+        right_of (item (Code i None) (Before (block_start block)) l ∷ []) ys (become_all rest h)
+    become_all (added_before {i = i} {l} {y} {xs} {ys} code more rest) h =
+        right_of (item (Code i None) (Before (position_of y.origin)) l ∷ []) (y ∷ ys) (become_all rest h)
+    become_all (added_after {i = j} {l} {x} {y} {xs} {zs} code more one rest) (i, at, m) =
+        let new : Item = item (Code j None) (Before (below (position_of y.origin))) l in
+        elim (Contains-append_cases (x ∷ []) xs i at) [
+          | inl here ↦ left_of (y ∷ []) (new ∷ zs) (becomes_mark (subst IsMark (sym (only x i here)) m) one)
+          | inr later ↦ right_of (y ∷ new ∷ []) zs (become_all rest (i, later, m))
+        ]
+    become_all (added_at_end jump more) h = absurd (none_in h)
 
     blocks_become : {xs ys : List Block} → BlocksBecome rule c xs ys → (b : Block) → Contains xs b → HasMark b.items → HaveMark ys
     blocks_become none b (k, lt, e) h = absurd (omega (arith, lt))
