@@ -86,17 +86,14 @@ module _ (s : Spilling) (o : Origin) where
       count o (item (Code i n) q l ∷ []) < count o (code_items s i n q l)
   more_behind_code i n q l lt = let e = code_is i n q l in omega (arith, e, lt)
 
-  le_none : (a b : ℕ) → a ≡ 0 → a ≤ b
-  le_none a b e = omega (arith, e)
-
   kept_code : (i : Instruction) (n : Option ℕ) (q : Origin) (l : Loc) → count o (item (Code i n) q l ∷ []) ≤ count o (code_items s i n q l)
   kept_code i n q l = let e = code_is i n q l in omega (arith, e)
 
   kept_kind : (k : ℕ) (x : ItemKind) (q : Origin) (l : Loc) → count o (item x q l ∷ []) ≤ count o (spilled_items s (kind_asked s k x q l))
   kept_kind k (Code i n) q l =
       subst (λ (xs : List Item). count o (item (Code i n) q l ∷ []) ≤ count o xs) (sym (one_item s (item (Code i n) q l))) (kept_code i n q l)
-  kept_kind k (Phi p n) q l = le_none _ _ (no_code o (Phi p n) q l refl)
-  kept_kind k (Mark v m) q l = le_none _ _ (no_code o (Mark v m) q l refl)
+  kept_kind k (Phi p n) q l = let none = no_code o (Phi p n) q l refl in omega (arith, none)
+  kept_kind k (Mark v m) q l = let none = no_code o (Mark v m) q l refl in omega (arith, none)
 
   -- an item and those behind it
   abbrev now_of : ℕ → Item → List Item
@@ -111,7 +108,7 @@ module _ (s : Spilling) (o : Origin) where
       count_both o (now_of k x) (now_behind k x xs)
 
   kept_items : (k : ℕ) (xs : List Item) → count o xs ≤ count o (spilled_items s (items_asked s k xs))
-  kept_items k [] = le_none _ _ refl
+  kept_items k [] = omega arith
   kept_items k (x ∷ xs) =
       let was : count o (x ∷ xs) ≡ count o (x ∷ []) + count o xs = count_both o (x ∷ []) xs in
       let now = items_are k x xs in
@@ -151,7 +148,7 @@ module _ (s : Spilling) (o : Origin) where
       blocks_were (record { id = b.id; items = now_in k b; source_end = b.source_end }) (blocks_now (number_behind s.homes k b.items) bs)
 
   kept_blocks : (k : ℕ) (bs : List Block) → count o (items_of bs) ≤ count o (items_of (blocks_now k bs))
-  kept_blocks k [] = le_none _ _ refl
+  kept_blocks k [] = omega arith
   kept_blocks k (b ∷ bs) =
       let was = blocks_were b bs in
       let now = blocks_are k b bs in
