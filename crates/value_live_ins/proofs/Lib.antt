@@ -9,4 +9,5 @@ pub mod Paths
 pub mod Quiet
 pub mod Solving
 pub mod Starting
+pub mod Used
 pub mod Walking

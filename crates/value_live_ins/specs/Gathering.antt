@@ -1,5 +1,5 @@
 -- The list of a function's tracked entities while it is collected.
-use Rattle.std.specs.Prelude.{◌≡◌, ◌↔◌, ℕ, ◌<◌, List, [], ◌∷◌, ◌++◌, map, Contains, Option, None, Some, Bool, true, false, slice_get}
+use Rattle.std.specs.Prelude.{◌≡◌, ◌↔◌, ◌⊎◌, ℕ, ◌<◌, List, [], ◌∷◌, ◌++◌, map, Contains, Option, None, Some, Bool, true, false, slice_get}
 use Rattle.std.specs.HashSet.{contains}
 use Rattle.rv64_instr.specs.declared.place.Place.{Place}
 use Rattle.rv64_instr.specs.declared.place.Place.TheVariants.{Register as InRegister, Slot as InSlot, Const}
@@ -16,10 +16,7 @@ use Rattle.value_solver.specs.Entry.{thing}
 use Rattle.value_tracker.specs.Things.{IsOffset}
 use Rattle.value_live_ins.specs.declared.gather.TrackedItemSet.{TrackedItemSet}
 use Rattle.value_live_ins.specs.Keys.{key_of, is_key}
-
--- a register that is tracked: a physical one but x0 and x2
-abbrev pub IsTrackedRegister : ℕ → Type 0
-IsTrackedRegister r = (r < 32) × (r ≡ 0 → ⊥) × (r ≡ 2 → ⊥)
+use Rattle.value_live_ins.specs.Used.{IsTrackedRegister}
 
 -- an entity that may be tracked: a register but x0 and x2, a doubleword of the frame, or any other entity that is no register or
 -- slot
@@ -58,6 +55,18 @@ pub record Grows (old new : List Tracked) : Type 0 where
   pub more : List Tracked
   pub is : new ≡ old ++ more
   pub others : (i : ℕ) (x : Tracked) → slice_get more i ≡ Some x → IsNoPart x
+
+-- no other entities were appended than those with the property
+abbrev pub AppendsOnly : (Tracked → Type 0) → (old new : List Tracked) → Type 0
+AppendsOnly P old new = (x : Tracked) → Contains new x → Contains old x ⊎ P x
+
+-- the entity is a register
+abbrev pub IsRegister : Tracked → Type 0
+IsRegister x = (r : ℕ) × (x ≡ Register r)
+
+-- the entity is one of these pairs
+abbrev pub IsPairOf : List OperandPair → Tracked → Type 0
+IsPairOf pairs x = (q : OperandPair) × Contains pairs q × (x ≡ Pair q)
 
 -- a slot that is accessed is a doubleword of the frame
 abbrev pub AccessHasOffset : Access → Type 0

@@ -1,4 +1,5 @@
 pub mod Keys
+pub mod Used
 pub mod Gathering
 pub mod Walking
 pub mod Known

@@ -1,8 +1,10 @@
 //! The entities that items copy.
 
-ghost use Rattle.std.specs.Prelude.{Option, Some, OnOk, All, map, Contains};
+ghost use Rattle.std.specs.Prelude.{◌≡◌, ℕ, Option, Some, OnOk, All, map, Contains};
 ghost use Rattle.rv64_instr.specs.Row.{row_of};
-ghost use Rattle.mir_func.specs.declared.item.ItemKind.TheVariants.{Code};
+ghost use Rattle.mir_func.specs.declared.debug_substitution.OperandPair.{OperandPair};
+ghost use Rattle.mir_func.specs.declared.item.ItemKind.TheVariants.{Code, Mark, Phi};
+ghost use Rattle.mir_func.specs.declared.variable.VarId.{VarId};
 ghost use Rattle.mir_func.specs.Resolve.{resolve};
 ghost use Rattle.mir_func.specs.SoundFrame.{IsPhysical, HasPhysical, ValueIsPhysical, PlaceIsPhysical};
 ghost use Rattle.value_proof.specs.Classes.{KnowsValue, KnowsPlace, KnowsRow};
@@ -12,11 +14,13 @@ ghost use Rattle.value_live_ins.specs.Gathering.{
   IsNoPart,
   IsGathered,
   Grows,
+  AppendsOnly,
   HasOffsets,
   RowHasOffset,
   PlaceHasOffset,
   KnowsPassed,
 };
+ghost use Rattle.value_live_ins.specs.Used.{Names};
 
 use crate::gather::TrackedItemSet;
 use mir_func::item::ItemKind;
@@ -36,6 +40,7 @@ impl TrackedItemSet {
         requires other { IsNoPart thing }
         ensures gathered { OnOk result (IsGathered self.new) }
         ensures grows { OnOk result (Grows self.old.things self.new.things) }
+        ensures only { OnOk result (AppendsOnly (λ x. x ≡ thing) self.old.things self.new.things) }
         ensures has { OnOk result (Contains self.new.things thing) }
     {
         self.add(thing)?;
@@ -49,6 +54,8 @@ impl TrackedItemSet {
         requires physical { All IsPhysical instr.now.operands }
         ensures gathered { OnOk result (IsGathered self.new) }
         ensures grows { OnOk result (Grows self.old.things self.new.things) }
+        ensures only { OnOk result ((ends : OperandPair → Option OperandPair) (k : Option ℕ) →
+            AppendsOnly (Names ends (Code instr.now k)) self.old.things self.new.things) }
         ensures knows { OnOk result (KnowsRow (map thing self.new.things) (row_of instr.now)) }
     {
         match instr.decoded() {
@@ -73,6 +80,8 @@ impl TrackedItemSet {
         requires physical { ValueIsPhysical value.now }
         ensures gathered { OnOk result (IsGathered self.new) }
         ensures grows { OnOk result (Grows self.old.things self.new.things) }
+        ensures only { OnOk result ((v : VarId) →
+            AppendsOnly (Names (resolve subs.now) (Mark v value.now)) self.old.things self.new.things) }
         ensures knows { OnOk result (KnowsValue (map thing self.new.things) (resolve subs.now) value.now) }
     {
         match value {
@@ -93,6 +102,8 @@ impl TrackedItemSet {
         requires physical { PlaceIsPhysical place.now }
         ensures gathered { OnOk result (IsGathered self.new) }
         ensures grows { OnOk result (Grows self.old.things self.new.things) }
+        ensures only { OnOk result ((ends : OperandPair → Option OperandPair) (k : ℕ) →
+            AppendsOnly (Names ends (Phi place.now k)) self.old.things self.new.things) }
         ensures knows { OnOk result (KnowsPlace (map thing self.new.things) place.now) }
     {
         match place {
@@ -110,6 +121,7 @@ impl TrackedItemSet {
         requires physical { HasPhysical kind.now }
         ensures gathered { OnOk result (IsGathered self.new) }
         ensures grows { OnOk result (Grows self.old.things self.new.things) }
+        ensures only { OnOk result (AppendsOnly (Names (resolve subs.now) kind.now) self.old.things self.new.things) }
         ensures knows { OnOk result (KnowsPassed self.new.things (resolve subs.now) kind.now) }
     {
         match kind {

@@ -1,6 +1,7 @@
 //! The tracked entities of a function.
 
-ghost use Rattle.std.specs.Prelude.{◌≡◌, ◌≤◌, List, IfOk, OnOk, All, [], map, Contains, length};
+ghost use Rattle.std.specs.Prelude.{◌≡◌, ◌≤◌, List, Option, IfOk, OnOk, All, [], map, Contains, length};
+ghost use Rattle.mir_func.specs.declared.debug_substitution.OperandPair.{OperandPair};
 ghost use Rattle.mir_func.specs.declared.variable.VarId.{VarId};
 ghost use Rattle.mir_func.specs.Resolve.{resolve};
 ghost use Rattle.mir_func.specs.Sound.{AllItems};
@@ -11,6 +12,8 @@ ghost use Rattle.value_solver.specs.Entry.{thing};
 ghost use Rattle.value_tracker.specs.Things.{AreThings};
 ghost use Rattle.value_live_ins.specs.Gathering.{IsGathered, Grows, HasOffsets, HasPart, KnowsPassed};
 ghost use Rattle.value_live_ins.specs.Gathering.{HasRegister, HasRegistersBelow};
+ghost use Rattle.value_live_ins.specs.Gathering.{AppendsOnly, IsRegister, IsPairOf};
+ghost use Rattle.value_live_ins.specs.Used.{Names, IsNamedIn, IsNamed, IsUsed};
 ghost use Rattle.value_live_ins.specs.Walking.{AreTracked};
 
 use crate::gather::TrackedItemSet;
@@ -48,6 +51,8 @@ fn add_part(
     ensures parts { OnOk result (gathered.new.things ≡ map Part variables.new) }
     ensures kept { OnOk result ((v : VarId) → Contains variables.old v → Contains variables.new v) }
     ensures has { OnOk result (HasPart variables.new kind.now) }
+    ensures only { OnOk result ((ends : OperandPair → Option OperandPair) →
+        AppendsOnly (Names ends kind.now) gathered.old.things gathered.new.things) }
 {
     match kind {
         ItemKind::Mark(v, _) => {
@@ -73,6 +78,8 @@ fn add_parts(
     ensures parts { OnOk result (gathered.new.things ≡ map Part variables.new) }
     ensures kept { OnOk result ((v : VarId) → Contains variables.old v → Contains variables.new v) }
     ensures has { OnOk result (All (λ i. HasPart variables.new i.kind) items.now) }
+    ensures only { OnOk result ((ends : OperandPair → Option OperandPair) →
+        AppendsOnly (IsNamedIn ends items.now) gathered.old.things gathered.new.things) }
 {
     for item in items {
         add_part(gathered, variables, &item.kind)?;
@@ -86,6 +93,7 @@ fn add_registers(gathered: &mut TrackedItemSet) -> Result<(), AllocError>
     ensures gathered { OnOk result (IsGathered gathered.new) }
     ensures grows { OnOk result (Grows gathered.old.things gathered.new.things) }
     ensures has { OnOk result (HasRegistersBelow 32 gathered.new.things) }
+    ensures only { OnOk result (AppendsOnly IsRegister gathered.old.things gathered.new.things) }
 {
     for n in 0..32u32 {
         add_register(gathered, n)?;
@@ -99,6 +107,7 @@ fn add_register(gathered: &mut TrackedItemSet, n: u32) -> Result<(), AllocError>
     ensures gathered { OnOk result (IsGathered gathered.new) }
     ensures grows { OnOk result (Grows gathered.old.things gathered.new.things) }
     ensures has { OnOk result (HasRegister n gathered.new.things) }
+    ensures only { OnOk result (AppendsOnly IsRegister gathered.old.things gathered.new.things) }
 {
     if n == 0 || n == 2 {
         return Ok(());
@@ -121,6 +130,8 @@ fn note_items(
     ensures gathered { OnOk result (IsGathered gathered.new) }
     ensures grows { OnOk result (Grows gathered.old.things gathered.new.things) }
     ensures knows { OnOk result (All (λ i. KnowsPassed gathered.new.things (resolve subs.now) i.kind) items.now) }
+    ensures only { OnOk result
+        (AppendsOnly (IsNamedIn (resolve subs.now) items.now) gathered.old.things gathered.new.things) }
 {
     for item in items {
         gathered.note(subs, &item.kind)?;
@@ -139,6 +150,8 @@ fn parts_of(
     ensures gathered { OnOk result (IsGathered gathered.new) }
     ensures parts { IfOk result (λ vs. gathered.new.things ≡ map Part vs) }
     ensures has { IfOk result (λ vs. AllItems (λ i. HasPart vs i.kind) blocks.now) }
+    ensures only { OnOk result ((ends : OperandPair → Option OperandPair) →
+        AppendsOnly (IsNamed ends blocks.now) [] gathered.new.things) }
 {
     let mut variables = Variables::new(alloc);
     for block in blocks {
@@ -160,6 +173,8 @@ fn note_blocks(
     ensures grows { OnOk result (Grows gathered.old.things gathered.new.things) }
     ensures knows { OnOk result (AllItems
         (λ i. KnowsPassed gathered.new.things (resolve subs.now) i.kind) blocks.now) }
+    ensures only { OnOk result
+        (AppendsOnly (IsNamed (resolve subs.now) blocks.now) gathered.old.things gathered.new.things) }
 {
     for block in blocks {
         note_items(gathered, subs, block.items.as_slice())?;
@@ -173,6 +188,7 @@ fn note_pairs(gathered: &mut TrackedItemSet, pairs: &[OperandPair]) -> Result<()
     ensures gathered { OnOk result (IsGathered gathered.new) }
     ensures grows { OnOk result (Grows gathered.old.things gathered.new.things) }
     ensures has { OnOk result (All (λ q. Contains gathered.new.things (Pair q)) pairs.now) }
+    ensures only { OnOk result (AppendsOnly (IsPairOf pairs.now) gathered.old.things gathered.new.things) }
 {
     for pair in pairs {
         gathered.note_thing(Tracked::Pair(*pair))?;
@@ -197,6 +213,7 @@ pub fn things_of(
     ensures knows { IfOk result (λ t. AllItems
         (λ i. KnowsItem (map thing t.things) (resolve subs.now) i.kind) blocks.now) }
     ensures asked { IfOk result (λ t. All (λ q. Contains t.things (Pair q)) asked.now) }
+    ensures used { IfOk result (λ t. All (IsUsed blocks.now (resolve subs.now) asked.now) t.things) }
 {
     let mut gathered = TrackedItemSet::new(alloc);
     let variables = parts_of(alloc, &mut gathered, blocks)?;

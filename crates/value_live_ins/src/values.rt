@@ -1,6 +1,6 @@
 //! The live-in values of all blocks of a function with its frame.
 
-ghost use Rattle.std.specs.Prelude.{◌≡◌, ◌≤◌, ◌<◌, ◌+◌, ◌*◌, ℕ, IfOk, length, map, slice_get, All, Contains, Some};
+ghost use Rattle.std.specs.Prelude.{◌≡◌, ◌≤◌, ◌<◌, ◌+◌, ◌*◌, ℕ, IfOk, [], length, map, slice_get, All, Contains, Some};
 ghost use Rattle.mir_func.specs.Graph.{framed_program};
 ghost use Rattle.mir_func.specs.Resolve.{resolve};
 ghost use Rattle.value_solver.specs.declared.entry.BlockEntry.{BlockEntry};
@@ -89,7 +89,7 @@ pub fn solve(
     framed: &Framed,
     subs: &Substitutions,
 ) -> Result<MachineValues, AllocError>
-    ensures { IfOk result (AreMachineValues framed.now.blocks (resolve subs.now)) }
+    ensures { IfOk result (AreMachineValues framed.now.blocks (resolve subs.now) []) }
 {
     solve_asking(alloc, framed, subs, &[])
 }
@@ -101,7 +101,7 @@ pub fn solve_asking(
     subs: &Substitutions,
     asked: &[OperandPair],
 ) -> Result<MachineValues, AllocError>
-    ensures values { IfOk result (AreMachineValues framed.now.blocks (resolve subs.now)) }
+    ensures values { IfOk result (AreMachineValues framed.now.blocks (resolve subs.now) asked.now) }
     ensures asked { IfOk result (λ v. All (λ q. Contains v.things (Pair q)) asked.now) }
 {
     let blocks = framed.blocks.as_slice();

@@ -1,4 +1,6 @@
 use Rattle.value_live_ins.proofs.Gathering.{grows_then, registers_more}
+use Rattle.value_live_ins.specs.Gathering.{IsRegister}
+use Rattle.value_live_ins.proofs.Used.{only_then}
 use Rattle.value_live_ins.proofs.things.add_registers.Goals as goal
 
 pub loop-n-preserved : goal.loop-n-preserved
@@ -10,4 +12,5 @@ loop-n-preserved c =
       gathered = did.gathered;
       grows = grows_then c.args.gathered.now.things old new c.loop-n.invariant.grows did.grows;
       has = registers_more c.loop-n.n old new did.grows c.loop-n.invariant.has did.has;
+      only = only_then IsRegister c.args.gathered.now.things old new c.loop-n.invariant.only did.only;
     }

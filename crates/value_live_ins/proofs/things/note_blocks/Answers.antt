@@ -3,9 +3,11 @@ use Rattle.std.specs.Prelude.{All}
 use Rattle.mir_func.specs.declared.block.Block.{Block}
 use Rattle.mir_func.specs.declared.item.Item.{Item}
 use Rattle.mir_func.specs.Resolve.{resolve}
-use Rattle.value_live_ins.specs.Gathering.{KnowsPassed}
+use Rattle.value_live_ins.specs.Gathering.{AppendsOnly, KnowsPassed}
+use Rattle.value_live_ins.specs.Used.{IsNamedIn}
 use Rattle.value_live_ins.proofs.Each.{each_more, each_weaker, each_all}
 use Rattle.value_live_ins.proofs.Gathering.{grows_then, passed_grows}
+use Rattle.value_live_ins.proofs.Used.{only_block}
 use Rattle.value_live_ins.proofs.things.note_blocks.Goals as goal
 
 pub loop-block-preserved : goal.loop-block-preserved
@@ -23,6 +25,9 @@ loop-block-preserved c =
           (λ b h k i lt. passed_grows old new did.grows (resolve c.args.subs.now) (get_or b.items k i).kind (h k i lt)) c.loop-block.invariant.knows)
           c.loop-block-test.true c.block-item.is
           (subst (λ (items : List Item). All (λ (i : Item). KnowsPassed new (resolve c.args.subs.now) i.kind) items) c.as_slice.ensures did.knows);
+      only = only_block c.loop-block.block-index c.args.gathered.now.things old new (resolve c.args.subs.now) c.args.blocks.now c.block-item.result
+          c.loop-block-test.true c.block-item.is c.loop-block.invariant.only
+          (subst (λ (items : List Item). AppendsOnly (IsNamedIn (resolve c.args.subs.now) items) old new) c.as_slice.ensures did.only);
     }
 
 pub returns-clause-knows : goal.returns-clause-knows

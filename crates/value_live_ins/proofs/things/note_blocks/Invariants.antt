@@ -1,7 +1,8 @@
 use Rattle.std.specs.Prelude.{All}
 use Rattle.mir_func.specs.declared.block.Block.{Block}
 use Rattle.mir_func.specs.Resolve.{resolve}
-use Rattle.value_live_ins.specs.Gathering.{IsGathered, Grows, KnowsPassed}
+use Rattle.value_live_ins.specs.Gathering.{IsGathered, Grows, AppendsOnly, KnowsPassed}
+use Rattle.value_live_ins.specs.Used.{IsNamed}
 use Rattle.value_live_ins.proofs.Each.{EachBelow}
 use Rattle.value_live_ins.proofs.things.note_blocks.Given as goal
 
@@ -10,4 +11,5 @@ invariant-loop-block l = record {
   gathered : IsGathered l.gathered;
   grows : Grows l.initial.gathered.things l.gathered.things;
   knows : EachBelow (λ (b : Block). All (λ i. KnowsPassed l.gathered.things (resolve l.subs) i.kind) b.items) l.block-index l.blocks;
+  only : AppendsOnly (IsNamed (resolve l.subs) l.blocks) l.initial.gathered.things l.gathered.things;
 }

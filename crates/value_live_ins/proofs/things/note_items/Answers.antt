@@ -3,6 +3,7 @@ use Rattle.mir_func.specs.Resolve.{resolve}
 use Rattle.value_live_ins.specs.Gathering.{KnowsPassed}
 use Rattle.value_live_ins.proofs.Each.{each_more, each_weaker, each_all}
 use Rattle.value_live_ins.proofs.Gathering.{grows_then, passed_grows}
+use Rattle.value_live_ins.proofs.Used.{only_item}
 use Rattle.value_live_ins.proofs.things.note_items.Goals as goal
 
 pub loop-item-preserved : goal.loop-item-preserved
@@ -19,6 +20,8 @@ loop-item-preserved c =
           (each_weaker P Q c.loop-item.item-index c.args.items.now (λ i h. passed_grows old new did.grows (resolve c.args.subs.now) i.kind h)
           c.loop-item.invariant.knows)
           c.loop-item-test.true c.item-item.is did.knows;
+      only = only_item c.loop-item.item-index c.args.gathered.now.things old new (resolve c.args.subs.now) c.args.items.now c.item-item.result
+          c.loop-item-test.true c.item-item.is c.loop-item.invariant.only did.only;
     }
 
 pub returns-clause-knows : goal.returns-clause-knows

@@ -3,6 +3,7 @@ use Rattle.mir_func.specs.declared.debug_substitution.OperandPair.{OperandPair}
 use Rattle.value_solver.specs.declared.tracked.Tracked.TheVariants.{Pair}
 use Rattle.value_live_ins.proofs.Each.{each_more, each_weaker, each_all}
 use Rattle.value_live_ins.proofs.Gathering.{grows_then, grows_has}
+use Rattle.value_live_ins.proofs.Used.{only_pair}
 use Rattle.value_live_ins.proofs.things.note_pairs.Goals as goal
 
 pub loop-pair-preserved : goal.loop-pair-preserved
@@ -18,6 +19,8 @@ loop-pair-preserved c =
       has = each_more Q c.loop-pair.pair-index c.args.pairs.now c.pair-item.result
           (each_weaker P Q c.loop-pair.pair-index c.args.pairs.now (λ q h. grows_has old new (Pair q) did.grows h) c.loop-pair.invariant.has)
           c.loop-pair-test.true c.pair-item.is did.has;
+      only = only_pair c.loop-pair.pair-index c.args.gathered.now.things old new c.args.pairs.now c.pair-item.result c.loop-pair-test.true
+          c.pair-item.is c.loop-pair.invariant.only did.only;
     }
 
 pub returns-clause-has : goal.returns-clause-has

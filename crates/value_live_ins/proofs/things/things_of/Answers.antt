@@ -4,6 +4,7 @@ use Rattle.mir_func.specs.Resolve.{resolve}
 use Rattle.value_solver.specs.declared.tracked.Tracked.{Tracked}
 use Rattle.value_solver.specs.declared.tracked.Tracked.TheVariants.{Pair}
 use Rattle.value_live_ins.proofs.Gathering.{things_done, tracked_done, knows_done, fewer_variables, grows_then, grows_has}
+use Rattle.value_live_ins.proofs.Used.{all_used}
 use Rattle.value_live_ins.proofs.things.things_of.Goals as goal
 
 pub returns-clause-things : goal.returns-clause-things
@@ -50,3 +51,10 @@ returns-clause-asked c = λ k d lt.
     let q = Pair (get_or c.args.asked.now k d) in
     subst (λ (z : List Tracked). Contains z q) (sym c.into_things.ensures)
     (grows_has c.note_pairs.new.gathered.things c.note_blocks.new.gathered.things q c.in_ok-note_blocks.ensures.grows (c.in_ok-note_pairs.ensures.has k d lt))
+
+pub returns-clause-used : goal.returns-clause-used
+returns-clause-used c =
+    all_used c.args.blocks.now (resolve c.args.subs.now) c.args.asked.now c.parts_of.new.gathered.things c.add_registers.new.gathered.things
+    c.note_thing.new.self.things c.note_pairs.new.gathered.things c.note_blocks.new.gathered c.in_ok-note_blocks.ensures.gathered
+    (c.in_ok-variables.ensures.only (resolve c.args.subs.now)) c.in_ok-add_registers.ensures.only c.in_ok-note_thing.ensures.only
+    c.in_ok-note_pairs.ensures.only c.in_ok-note_blocks.ensures.only c.into_things.result c.into_things.ensures

@@ -1,5 +1,5 @@
 use Rattle.std.proofs.Common.{◌≤◌, ◌+◌, ◌*◌, List, length, sym, ap, ◌∙◌, subst}
-use Rattle.std.specs.Prelude.{map}
+use Rattle.std.specs.Prelude.{map, All}
 use Rattle.mir_func.specs.declared.block.Block.{Block}
 use Rattle.mir_func.specs.Function.{FramedFunction}
 use Rattle.mir_func.specs.Graph.{framed_program}
@@ -8,6 +8,7 @@ use Rattle.value_proof.specs.Wanted.{AreThingsOf}
 use Rattle.value_solver.specs.declared.tracked.Tracked.{Tracked}
 use Rattle.value_solver.specs.Entry.{thing, IsEntry}
 use Rattle.value_live_ins.specs.steps.Framing.{AreBlocks}
+use Rattle.value_live_ins.specs.Used.{IsUsed}
 use Rattle.value_live_ins.proofs.Framing.{are_blocks}
 use Rattle.value_live_ins.proofs.Solving.{things_are}
 use Rattle.value_live_ins.proofs.values.solve_asking.Goals as goal
@@ -25,6 +26,7 @@ returns-clause-values c =
       fewer = c.in_ok-variables.ensures.fewer;
       all = subst (λ (z : List Block). AreThingsOf (framed_program z (resolve c.args.subs.now)) (map thing tracked)) same
           (things_are blocks c.args.subs.now c.in_ok-variables.field-0.variables tracked c.in_ok-variables.ensures.things c.in_ok-variables.ensures.knows);
+      used = subst (λ (z : List Block). All (IsUsed z (resolve c.args.subs.now) c.args.asked.now) tracked) same c.in_ok-variables.ensures.used;
       entries = λ b e at.
           subst (λ (xs : List Tracked). IsEntry (framed_program c.args.framed.now.blocks (resolve c.args.subs.now)) xs b e) c.as_slice-2.ensures
           (subst (λ (z : List Block). IsEntry (framed_program z (resolve c.args.subs.now)) c.as_slice-2.result.now b e) same

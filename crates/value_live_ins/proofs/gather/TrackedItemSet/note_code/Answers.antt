@@ -1,5 +1,8 @@
+use Rattle.std.proofs.Common.{ap}
 use Rattle.std.proofs.lemmas.Result.{on_ok_weaker}
+use Rattle.rv64_instr.specs.View.{access_of}
 use Rattle.value_live_ins.proofs.Gathering.{row_knows_number, row_knows_loaded, row_knows_stored, row_knows_moved}
+use Rattle.value_live_ins.proofs.Used.{only_fixed, only_accessed}
 use Rattle.value_live_ins.proofs.gather.TrackedItemSet.note_code.Goals as goal
 
 pub returns-in-Fixes-clause-knows : goal.returns-in-Fixes-clause-knows
@@ -18,3 +21,18 @@ returns-in-StoresSlot-clause-knows c =
 
 pub returns-in-Moves-clause-knows : goal.returns-in-Moves-clause-knows
 returns-in-Moves-clause-knows c = row_knows_moved c.args.instr.now _ _ _ c.requires.physical c.in-Moves.ensures.row
+
+pub returns-in-Fixes-clause-only : goal.returns-in-Fixes-clause-only
+returns-in-Fixes-clause-only c =
+    on_ok_weaker c.note_thing.result (only_fixed c.args.instr.now c.in-Fixes.c c.args.self.now.things c.note_thing.new.self.things _
+    c.in-Fixes.ensures.row) c.note_thing.ensures.only
+
+pub returns-in-LoadsSlot-clause-only : goal.returns-in-LoadsSlot-clause-only
+returns-in-LoadsSlot-clause-only c =
+    on_ok_weaker c.note_thing-in-LoadsSlot.result (only_accessed c.args.instr.now c.in-LoadsSlot.n c.args.self.now.things
+    c.note_thing-in-LoadsSlot.new.self.things (ap access_of c.in-LoadsSlot.ensures.row)) c.note_thing-in-LoadsSlot.ensures.only
+
+pub returns-in-StoresSlot-clause-only : goal.returns-in-StoresSlot-clause-only
+returns-in-StoresSlot-clause-only c =
+    on_ok_weaker c.note_thing-in-StoresSlot.result (only_accessed c.args.instr.now c.in-StoresSlot.n c.args.self.now.things
+    c.note_thing-in-StoresSlot.new.self.things (ap access_of c.in-StoresSlot.ensures.row)) c.note_thing-in-StoresSlot.ensures.only
