@@ -1,0 +1,24 @@
+use Rattle.std.proofs.Common.{[], ◌∙◌, arith}
+use Rattle.std.proofs.lemmas.List.{get_or_default}
+use Rattle.std.proofs.lemmas.List.Elements.{Contains-get_or}
+use Rattle.dataflow.specs.Graph.{ways_at}
+use Rattle.dataflow.proofs.Preds.{preds_begin, preds_more, preds_all}
+use Rattle.dataflow.proofs.graph.predecessors.Goals as goal
+
+pub loop-block-init : goal.loop-block-init
+loop-block-init c = preds_begin _ _ c.in_ok-preds.ensures.long c.in_ok-preds.ensures.none
+
+pub note-requires : goal.note-requires
+note-requires c =
+    let at = c.index-successors-block.is ∙ get_or_default c.args.successors.now c.loop-block.block _ [] c.loop-block-test.true in
+    rw (c.as_slice.ensures, at, c.loop-block.invariant.long)
+    (λ k d less. c.requires.graph c.loop-block.block _ (Contains-get_or (ways_at c.args.successors.now c.loop-block.block) k d less))
+
+pub loop-block-preserved : goal.loop-block-preserved
+loop-block-preserved c =
+    let at = c.index-successors-block.is ∙ get_or_default c.args.successors.now c.loop-block.block _ [] c.loop-block-test.true in
+    preds_more _ _ c.loop-block.preds.items _ c.as_slice.result.now (c.as_slice.ensures ∙ at) c.in_ok-note.ensures.long c.in_ok-note.ensures.noted
+    c.loop-block.invariant
+
+pub returns : goal.returns
+returns c = preds_all _ _ _ (omega arith) c.loop-block.invariant
