@@ -3,7 +3,6 @@ use Rattle.std.proofs.Common.{◌≡◌, ◌↔◌, ◌⊎◌, ℕ, zero, suc, �
 use Rattle.std.proofs.Common.{List, [], ◌∷◌, length, drop, map, get_or, cond, nat_eq, Option, Some, None}
 use Rattle.std.proofs.Common.{refl, sym, ap, ◌∙◌, inl, inr, arith, subst}
 use Rattle.std.specs.Prelude.{slice_get, Contains, All, option_map}
-use Rattle.std.proofs.lemmas.Bool.{cases_eq}
 use Rattle.rv64_instr.specs.declared.place.Place.{Place}
 use Rattle.rv64_instr.specs.Row.{Row, Branches, Jumps, row_of}
 use Rattle.mir_func.specs.declared.block.Block.{Block}
@@ -14,10 +13,11 @@ use Rattle.mir_func.specs.declared.position.Pos.{Pos}
 use Rattle.mir_func.specs.Exits.{row_exit, exit_of}
 use Rattle.mir_func.specs.Function.{Function}
 use Rattle.mir_func.specs.Graph.{Fetch, Here, Edge, FetchEdge, block_start, from_block, front, fetch_in, end_of}
-use Rattle.mir_func.specs.Sound.{IsSound, AreApart, TargetIn, TargetsIn, ids_of}
+use Rattle.mir_func.specs.Sound.{IsSound, AllItems, SlotsIn, AreApart, TargetIn, TargetsIn, ids_of}
 use Rattle.mir_func.specs.Successors.{pos_in}
 use Rattle.mir_func.proofs.Ways.{IsOut}
 use Rattle.sem_mir.specs.Live.{Defines}
+use Rattle.dataflow.specs.Fixpoint.{Visited}
 use Rattle.pass_liveness.specs.Index.{index_in}
 use Rattle.pass_liveness.specs.Sets.{has}
 use Rattle.pass_liveness.specs.Liveness.{set_at, items_at}
@@ -30,7 +30,7 @@ use Rattle.dce_rule.specs.Dead.{Places, Ends, paths_of}
 use Rattle.dce_rule.specs.Wrong.{is_dead_at, IsWrongAt, made, on}
 use Rattle.dce_mark.specs.Judged.{verdicts}
 use Rattle.dce_stale.specs.Flow.{wrong_past, wrong_over, wrong_at, goes_on, IsHanded, IsHandedDown}
-use Rattle.dce_stale.specs.Sets.{AreVerdicts, Handed, HandsOn, IsClosed, AreFound, SweepStep, Fixpoint, wrong_in, wrong_of, StaleSets, starts_of, AreStaleSets}
+use Rattle.dce_stale.specs.Sets.{AreVerdicts, Handed, HandsOn, IsClosed, AreFound, IsState, wrong_in, wrong_of, StaleSets, starts_of, AreStaleSets}
 use Rattle.dce_stale.proofs.Handing.{found_index}
 use Rattle.dce_stale.proofs.Exact.{and_true, down_goes, drop_at, drop_past, get_drop}
 use Rattle.dce_stale.proofs.Exact.{at_within, at_wrong, handed_wrong, handed_down_wrong, wrong_made, wrong_on}
@@ -103,85 +103,30 @@ module _ (slots ids : List ℕ) (f : Function) (dead : List (List Bool)) (apart 
       IsClosed slots ids f dead new b
   closed_visit old new b grown h e = subst (λ (s : List (List ℕ)). IsClosed slots ids f dead s b) (sym (h.same e)) (λ n x c v. h.all e n x c v)
 
--- ---- a sweep
+-- ---- a visit
 
-pub record Sweeping (slots ids : List ℕ) (f : Function) (dead : List (List Bool)) (old new : List (List ℕ)) (order : List ℕ) (k : ℕ)
-    (grown : Bool) : Type 0 where
-  pub long : length new ≡ length old
-  pub found : AreFound slots ids f dead old → AreFound slots ids f dead new
-  pub fuller : grown ≡ true → gap_of new < gap_of old
-  pub same : grown ≡ false → new ≡ old
-  pub closed : grown ≡ false → (j : ℕ) → j < k → IsClosed slots ids f dead new (get_or order j 0)
-
-module _ {slots ids : List ℕ} {f : Function} {dead : List (List Bool)} where
-  pub sweep_begins : (old : List (List ℕ)) (order : List ℕ) → Sweeping slots ids f dead old old order 0 false
-  sweep_begins old order = record { long = refl; found = λ h. h; fuller = λ e. cc; same = λ e. refl; closed = λ e j l. absurd (omega arith) }
-
-  pub sweep_grows : {old mid new : List (List ℕ)} {order : List ℕ} {k b : ℕ} {grown more : Bool} → AreApart (ids_of f.blocks) → ids ≡ ids_of f.blocks →
-      b < length f.blocks → Sweeping slots ids f dead old mid order k grown → more ≡ true →
-      Handed slots ids mid new (HandsOn slots ids f dead mid b) more → Sweeping slots ids f dead old new order (k + 1) true
-  sweep_grows {old} {mid} {new} {order} {k} {b} {grown} {more} apart names inside s g h = record {
+pub visited : (slots ids : List ℕ) (f : Function) (dead : List (List Bool)) (old new : List (List ℕ)) (b : ℕ) (grown : Bool) →
+    IsState slots ids f dead old → b < length f.blocks → Handed slots ids old new (HandsOn slots ids f dead old b) grown →
+    Visited (IsState slots ids f dead) (IsClosed slots ids f dead) gap_of old new b grown
+visited slots ids f dead old new b grown s inside h = record {
+  valid = record {
+    known = s.known;
+    names = s.names;
+    apart = s.apart;
     long = h.long ∙ s.long;
-    found = λ found. found_visit slots ids f dead apart names mid new b more inside h (s.found found);
-    fuller = λ e.
-        let less : gap_of new < gap_of mid = h.fuller g in
-        let most : gap_of mid ≤ gap_of old = by_grown grown s.fuller s.same in omega arith;
-    same = λ e. cc;
-    closed = λ e. cc;
-  } where
-    by_grown : (g : Bool) → (g ≡ true → gap_of mid < gap_of old) → (g ≡ false → mid ≡ old) → gap_of mid ≤ gap_of old
-    by_grown true f e = let l : gap_of mid < gap_of old = f refl in omega arith
-    by_grown false f e = let l : gap_of mid ≡ gap_of old = ap gap_of (e refl) in omega arith
+    found = found_visit slots ids f dead apart s.names old new b grown inside h s.found;
+  };
+  level = by_grown grown h.fuller h.same;
+  lower = h.fuller;
+  closed = λ e. closed_visit slots ids f dead apart s.names old new b grown h e;
+  kept = λ e c closed. subst (λ (st : List (List ℕ)). IsClosed slots ids f dead st c) (sym (h.same e)) closed;
+} where
+  apart : AreApart (ids_of f.blocks)
+  apart = subst AreApart s.names s.apart
 
-  pub sweep_stays : {old mid new : List (List ℕ)} {order : List ℕ} {k : ℕ} {grown more : Bool} → AreApart (ids_of f.blocks) → ids ≡ ids_of f.blocks →
-      get_or order k 0 < length f.blocks → Sweeping slots ids f dead old mid order k grown → more ≡ false →
-      Handed slots ids mid new (HandsOn slots ids f dead mid (get_or order k 0)) more → Sweeping slots ids f dead old new order (k + 1) grown
-  sweep_stays {old} {mid} {new} {order} {k} {grown} {more} apart names inside s g h = record {
-    long = h.long ∙ s.long;
-    found = λ found. found_visit slots ids f dead apart names mid new (get_or order k 0) more inside h (s.found found);
-    fuller = λ e. let less : gap_of mid < gap_of old = s.fuller e in let kept : gap_of new ≡ gap_of mid = ap gap_of (h.same g) in omega arith;
-    same = λ e. h.same g ∙ s.same e;
-    closed = λ e j l. elim (cases_eq j k) [
-      | inl i ↦ subst (λ (m : ℕ). IsClosed slots ids f dead new (get_or order m 0)) (sym i)
-          (closed_visit slots ids f dead apart names mid new (get_or order k 0) more h g)
-      | inr ne ↦ subst (λ (st : List (List ℕ)). IsClosed slots ids f dead st (get_or order j 0)) (sym (h.same g)) (s.closed e j (omega (arith, l, ne)))
-    ];
-  }
-
-  pub sweep_ends : {old new : List (List ℕ)} {order : List ℕ} {k : ℕ} {grown : Bool} → Sweeping slots ids f dead old new order k grown → length order ≤ k →
-      SweepStep slots ids f dead old new order grown
-  sweep_ends {old} {new} {order} {k} {grown} s end = record {
-    long = s.long;
-    found = s.found;
-    fuller = s.fuller;
-    same = s.same;
-    closed = λ e b there.
-        let at : get_or order there.0 0 ≡ b = any order there.0 0 b there.1 ∙ there.2 in
-        let l : there.0 < length order = there.1 in
-        subst (λ (c : ℕ). IsClosed slots ids f dead new c) at (s.closed e there.0 (omega arith));
-  } where
-    any : (xs : List ℕ) (k d e : ℕ) → k < length xs → get_or xs k d ≡ get_or xs k e
-    any [] k d e l = absurd (omega arith)
-    any (x ∷ xs) zero d e l = refl
-    any (x ∷ xs) (suc k) d e l = any xs k d e (omega arith)
-
--- ---- sweeps until nothing grows
-
-pub record Settling (slots ids : List ℕ) (f : Function) (dead : List (List Bool)) (old new : List (List ℕ)) : Type 0 where
-  pub long : length new ≡ length old
-  pub found : AreFound slots ids f dead old → AreFound slots ids f dead new
-
-module _ {slots ids : List ℕ} {f : Function} {dead : List (List Bool)} where
-  pub settling_begins : (old : List (List ℕ)) → Settling slots ids f dead old old
-  settling_begins old = record { long = refl; found = λ h. h }
-
-  pub settling_goes_on : {old mid new : List (List ℕ)} {order : List ℕ} {grown : Bool} → Settling slots ids f dead old mid →
-      SweepStep slots ids f dead mid new order grown → Settling slots ids f dead old new
-  settling_goes_on s w = record { long = w.long ∙ s.long; found = λ h. w.found (s.found h) }
-
-  pub settling_ends : {old mid new : List (List ℕ)} {order : List ℕ} {grown : Bool} → Settling slots ids f dead old mid →
-      SweepStep slots ids f dead mid new order grown → grown ≡ false → ((b : ℕ) → b < length f.blocks → Contains order b) → Fixpoint slots ids f dead old new
-  settling_ends s w g each = record { long = w.long ∙ s.long; found = λ h. w.found (s.found h); closed = λ b l. w.closed g b (each b l) }
+  by_grown : (g : Bool) → (g ≡ true → gap_of new < gap_of old) → (g ≡ false → new ≡ old) → gap_of new ≤ gap_of old
+  by_grown true less same = let l : gap_of new < gap_of old = less refl in omega arith
+  by_grown false less same = let l : gap_of new ≡ gap_of old = ap gap_of (same refl) in omega arith
 
 -- ---- what was found is all that is wrong
 
@@ -406,19 +351,30 @@ module _ (f : Function) (sound : IsSound f) (dead : List (List Bool)) (w : Stale
   pub exactly : (p : Pos) (x : Place) → (wrong_of ends f (starts_of w) p x ≡ true) ↔ IsWrongAt ends f x p
   exactly p x = (is_wrong p x, all_said x p)
 
-pub solved : (f : Function) → IsSound f → (dead : List (List Bool)) (slots ids : List ℕ) (begun starts : List (List ℕ)) → slots ≡ f.slots →
-    ids ≡ ids_of f.blocks →
-    length begun ≡ length f.blocks → ((slots : List ℕ) (b : ℕ) (x : Place) → has slots (get_or begun b []) x ≡ false) → Fixpoint slots ids f dead begun starts →
-    AreStaleSets f dead (record { slots = slots; ids = ids; starts = starts })
-solved f sound dead slots ids begun starts same names long none s = record {
-  slots = same;
-  ids = names;
-  apart = subst AreApart (sym names) sound.blocks_apart;
-  long = s.long ∙ long;
-  exact = λ ends judged p x. exactly f sound dead (record { slots = slots; ids = ids; starts = starts }) names (s.found empty) s.closed ends judged p x;
+-- the sets at first: nothing is found
+pub begun : (slots ids : List ℕ) (f : Function) (dead : List (List Bool)) (starts : List (List ℕ)) → AllItems (λ i. SlotsIn slots i.kind) f.blocks →
+    ids ≡ ids_of f.blocks → AreApart (ids_of f.blocks) → length starts ≡ length f.blocks →
+    ((slots : List ℕ) (b : ℕ) (x : Place) → has slots (get_or starts b []) x ≡ false) → IsState slots ids f dead starts
+begun slots ids f dead starts known names apart long none = record {
+  known = known;
+  names = names;
+  apart = subst AreApart (sym names) apart;
+  long = long;
+  found = empty;
 } where
-  empty : AreFound slots ids f dead begun
+  empty : AreFound slots ids f dead starts
   empty ends judged n x = by_index (index_in ids n) where
-    by_index : (o : Option ℕ) → has slots (set_at begun o) x ≡ true → IsWrongAt ends f x (block_start n)
+    by_index : (o : Option ℕ) → has slots (set_at starts o) x ≡ true → IsWrongAt ends f x (block_start n)
     by_index None e = let c : false ≡ true = sym (has_nothing slots x) ∙ e in absurd cc
     by_index (Some i) e = let c : false ≡ true = sym (none slots i x) ∙ e in absurd cc
+
+pub solved : (f : Function) → IsSound f → (dead : List (List Bool)) (slots ids : List ℕ) (starts : List (List ℕ)) → slots ≡ f.slots →
+    IsState slots ids f dead starts → ((b : ℕ) → b < length f.blocks → IsClosed slots ids f dead starts b) →
+    AreStaleSets f dead (record { slots = slots; ids = ids; starts = starts })
+solved f sound dead slots ids starts same s closed = record {
+  slots = same;
+  ids = s.names;
+  apart = s.apart;
+  long = s.long;
+  exact = λ ends judged p x. exactly f sound dead (record { slots = slots; ids = ids; starts = starts }) s.names s.found closed ends judged p x;
+}

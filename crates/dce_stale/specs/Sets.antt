@@ -5,7 +5,7 @@ use Rattle.mir_func.specs.declared.block.Block.{Block}
 use Rattle.mir_func.specs.declared.position.Pos.{Pos}
 use Rattle.mir_func.specs.Function.{Function}
 use Rattle.mir_func.specs.Graph.{block_start, from_block}
-use Rattle.mir_func.specs.Sound.{ids_of, AreApart}
+use Rattle.mir_func.specs.Sound.{AllItems, SlotsIn, ids_of, AreApart}
 use Rattle.pass_liveness.specs.Sets.{has}
 use Rattle.pass_liveness.specs.Liveness.{has_at_start, items_at}
 use Rattle.pass_liveness.specs.Solving.{gap_of}
@@ -41,19 +41,13 @@ module _ (slots ids : List ℕ) (f : Function) (dead : List (List Bool)) where
   abbrev pub AreFound : (sets : List (List ℕ)) → Type 0
   AreFound sets = (ends : Ends) → AreVerdicts ends f dead → (n : ℕ) (x : Place) → has_at_start slots ids sets n x ≡ true → IsWrongAt ends f x (block_start n)
 
-  -- the result of visiting some blocks, in order; `grown` is whether any set grew
-  pub record SweepStep (old new : List (List ℕ)) (order : List ℕ) (grown : Bool) : Type 0 where
-    pub long : length new ≡ length old
-    pub found : AreFound old → AreFound new
-    pub fuller : grown ≡ true → gap_of new < gap_of old
-    pub same : grown ≡ false → new ≡ old
-    pub closed : grown ≡ false → (b : ℕ) → Contains order b → IsClosed new b
-
-  -- the fixpoint: blocks were visited until no set grew
-  pub record Fixpoint (old new : List (List ℕ)) : Type 0 where
-    pub long : length new ≡ length old
-    pub found : AreFound old → AreFound new
-    pub closed : (b : ℕ) → b < length f.blocks → IsClosed new b
+  -- the invariant of the sets while they are computed
+  pub record IsState (sets : List (List ℕ)) : Type 0 where
+    pub known : AllItems (λ i. SlotsIn slots i.kind) f.blocks
+    pub names : ids ≡ ids_of f.blocks
+    pub apart : AreApart ids
+    pub long : length sets ≡ length f.blocks
+    pub found : AreFound sets
 
 -- the wrong places at each index of a block, by those at the starts of blocks
 abbrev pub wrong_in : (ends : Ends) → List Block → (starts : ℕ → Places) → (index : ℕ) → Places

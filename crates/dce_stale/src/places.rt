@@ -7,7 +7,7 @@ ghost use Rattle.dce_stale.specs.Flow.{wrong_past, goes_on};
 ghost use Rattle.pass_liveness.specs.Sets.{has};
 ghost use Rattle.dce_stale.specs.Sets.{AreStaleSets};
 
-use crate::sweep::settle;
+use crate::solve::settle;
 use crate::walk::{go_on, step_down};
 use base_list::List;
 use mir_func::exit::Exit;
@@ -37,16 +37,13 @@ impl Model for StaleLocations {
 
 impl StaleLocations {
     /// Computes the wrong places of a function, for these dead items: for each block and each of its items whether it
-    /// is dead. Each block is visited a number of times that doesn't grow with the function, except with the nesting of
-    /// loops.
+    /// is dead. A block is visited again only where a predecessor's visit made a set grow, and once more at the end.
     pub fn solve(alloc: Global, f: &Func, dead: &[List<bool>]) -> Result<StaleLocations, AllocError>
         ensures { IfOk result (AreStaleSets f.now dead.now) }
     {
         let names = names_of(alloc, f)?;
-        let mut order = names.order(alloc, f)?;
-        order.reverse();
         let mut starts = empty_sets(alloc, f.blocks.len())?;
-        settle(&names, f, dead, &mut starts, order.as_slice());
+        settle(alloc, &names, f, dead, &mut starts)?;
         Ok(StaleLocations { names, starts })
     }
 

@@ -9,14 +9,14 @@ use Rattle.mir_func.specs.declared.item.Item.{Item}
 use Rattle.mir_func.specs.Exits.{exit_of}
 use Rattle.mir_func.specs.Function.{Function}
 use Rattle.mir_func.specs.Graph.{program_of, block_start}
-use Rattle.mir_func.specs.Sound.{AreApart, ids_of}
+use Rattle.mir_func.specs.Sound.{AllItems, SlotsIn, AreApart, ids_of}
 use Rattle.mir_func.specs.Successors.{pos_in, GoesTo}
 use Rattle.sem_mir.specs.Live.{Live}
 use Rattle.pass_liveness.specs.Index.{index_in}
 use Rattle.pass_liveness.specs.Sets.{has}
 use Rattle.pass_liveness.specs.Walk.{live_from, live_across}
 use Rattle.pass_liveness.specs.Liveness.{LiveSets, AreLiveSets, DecidesIn, LivePast, LiveOut, has_at_start, set_at, items_at}
-use Rattle.pass_liveness.specs.Solving.{AreFound, Fixpoint}
+use Rattle.pass_liveness.specs.Solving.{AreFound, IsState, IsClosed}
 use Rattle.pass_liveness.proofs.Places.{has_nothing}
 use Rattle.pass_liveness.proofs.Blocks.{get_or_any, id_is, index_at, items_at_is}
 use Rattle.pass_liveness.proofs.Answers.{live_at_position, live_past_position, live_out_by}
@@ -162,19 +162,24 @@ module _ (f : Function) (l : LiveSets) (sets : AreLiveSets f l) (b : ℕ) (x : P
 
 -- ---- what was settled
 
-pub solved : (f : Function) (slots ids : List ℕ) (begun starts : List (List ℕ)) → slots ≡ f.slots → ids ≡ ids_of f.blocks → AreApart (ids_of f.blocks) →
-    length begun ≡ length f.blocks → ((slots : List ℕ) (b : ℕ) (x : Place) → has slots (get_or begun b []) x ≡ false) → Fixpoint slots ids f.blocks begun
-    starts →
+-- the sets at first: nothing is found
+pub begun : (f : Function) (slots ids : List ℕ) (starts : List (List ℕ)) → AllItems (λ i. SlotsIn slots i.kind) f.blocks →
+    length starts ≡ length f.blocks → ((slots : List ℕ) (b : ℕ) (x : Place) → has slots (get_or starts b []) x ≡ false) →
+    IsState slots ids f.blocks starts
+begun f slots ids starts known long none = record { known = known; long = long; found = λ apart names. empty } where
+  empty : AreFound slots ids f.blocks starts
+  empty sp resolve n x = by_index (index_in ids n) where
+    by_index : (o : Option ℕ) → has slots (set_at starts o) x ≡ true → Live (program_of sp f.blocks resolve) x (block_start n)
+    by_index None e = let c : false ≡ true = sym (has_nothing slots x) ∙ e in absurd cc
+    by_index (Some i) e = let c : false ≡ true = sym (none slots i x) ∙ e in absurd cc
+
+pub solved : (f : Function) (slots ids : List ℕ) (starts : List (List ℕ)) → slots ≡ f.slots → ids ≡ ids_of f.blocks → AreApart (ids_of f.blocks) →
+    IsState slots ids f.blocks starts → ((b : ℕ) → b < length f.blocks → IsClosed slots ids f.blocks starts b) →
     AreLiveSets f (record { slots = slots; blocks = ids; starts = starts })
-solved f slots ids begun starts same names apart long none s = record {
+solved f slots ids starts same names apart s closed = record {
   slots = same;
   blocks = names;
   apart = subst AreApart (sym names) apart;
-  long = s.long ∙ long;
-  starts = λ n x sp resolve. (s.found apart names empty sp resolve n x, live_is_found slots ids f.blocks starts names s.closed sp resolve x n);
-} where
-  empty : AreFound slots ids f.blocks begun
-  empty sp resolve n x = by_index (index_in ids n) where
-    by_index : (o : Option ℕ) → has slots (set_at begun o) x ≡ true → Live (program_of sp f.blocks resolve) x (block_start n)
-    by_index None e = let c : false ≡ true = sym (has_nothing slots x) ∙ e in absurd cc
-    by_index (Some i) e = let c : false ≡ true = sym (none slots i x) ∙ e in absurd cc
+  long = s.long;
+  starts = λ n x sp resolve. (s.found apart names sp resolve n x, live_is_found slots ids f.blocks starts names closed sp resolve x n);
+}

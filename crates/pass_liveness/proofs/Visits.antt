@@ -2,7 +2,7 @@
 use Rattle.std.proofs.Common.{◌≡◌, ◌⊎◌, ℕ, zero, suc, ◌+◌, ◌<◌, ◌≤◌, Bool, true, false, ◌||◌, List, [], ◌∷◌, length, drop, get_or, slice_set, Option}
 use Rattle.std.proofs.Common.{Some, None}
 use Rattle.std.proofs.Common.{refl, sym, ap, ◌∙◌, inl, inr, arith, subst}
-use Rattle.std.specs.Prelude.{slice_get, Contains}
+use Rattle.std.specs.Prelude.{slice_get}
 use Rattle.std.proofs.lemmas.Bool.{cases_eq}
 use Rattle.std.proofs.lemmas.List.{get_or-set_other, get_or-set_same, length-set, set-get_or}
 use Rattle.std.proofs.lemmas.List.Sums.{sum_by-set}
@@ -11,14 +11,15 @@ use Rattle.mir_func.specs.declared.block.Block.{Block}
 use Rattle.mir_func.specs.declared.debug_substitution.OperandPair.{OperandPair}
 use Rattle.mir_func.specs.declared.item.Item.{Item}
 use Rattle.mir_func.specs.Graph.{program_of, block_start, from_block, front, fetch_in}
-use Rattle.mir_func.specs.Sound.{AreApart, ids_of}
+use Rattle.mir_func.specs.Sound.{AllItems, SlotsIn, AreApart, ids_of}
 use Rattle.mir_func.specs.Successors.{pos_in}
 use Rattle.sem_mir.specs.Live.{Live}
+use Rattle.dataflow.specs.Fixpoint.{Visited}
 use Rattle.pass_liveness.specs.Index.{index_in}
 use Rattle.pass_liveness.specs.Sets.{has, has_bit, gap}
 use Rattle.pass_liveness.specs.Walk.{live_from}
 use Rattle.pass_liveness.specs.Liveness.{has_at_start, set_at}
-use Rattle.pass_liveness.specs.Solving.{AreFound, IsClosed, gap_of, Visited, Settling, SweepStep, Fixpoint}
+use Rattle.pass_liveness.specs.Solving.{AreFound, IsClosed, IsState, gap_of}
 use Rattle.pass_liveness.proofs.Indices.{index_is}
 use Rattle.pass_liveness.proofs.Places.{has_united, has_nothing}
 use Rattle.pass_liveness.proofs.Paths.{LiveFrom, WalkedIn, next_of, walk_is_live, live_is_walked}
@@ -114,108 +115,30 @@ module _ (slots ids : List ℕ) (blocks : List Block) (old : List (List ℕ)) (b
         (sym one_block) ∙ walk) in
         ap (λ (w : List ℕ). has slots w x) (is ∙ sym (same e)) ∙ (both x ∙ (ap (λ (t : Bool). has slots was x || t) there ∙ or_true (has slots was x)))
 
-  pub visited : Visited slots ids blocks old (slice_set old b now) b grown
-  visited = record {
-    long = length-set old b now;
-    found = found_new;
-    fuller = λ e.
+  pub visited : AllItems (λ i. SlotsIn slots i.kind) blocks → (AreApart (ids_of blocks) → ids ≡ ids_of blocks → AreFound slots ids blocks old) →
+      Visited (IsState slots ids blocks) (IsClosed slots ids blocks) gap_of old (slice_set old b now) b grown
+  visited known found = record {
+    valid = record {
+      known = known;
+      long = length-set old b now ∙ long;
+      found = λ apart names. found_new apart names (found apart names);
+    };
+    level = by_grown grown fuller same;
+    lower = λ e.
         let put : gap_of (slice_set old b now) + gap (get_or old b []) ≡ gap_of old + gap now = sum_by-set gap old b now [] here in
         let less : gap now < gap was = fuller e in
         let was_is : gap (get_or old b []) ≡ gap was = ap gap is in omega arith;
-    same = same_new;
     closed = closed_new;
-  }
-
--- ---- a sweep
-
-pub record Sweeping (slots ids : List ℕ) (blocks : List Block) (old new : List (List ℕ)) (order : List ℕ) (k : ℕ) (grown : Bool) : Type 0 where
-  pub long : length new ≡ length old
-  pub found : AreApart (ids_of blocks) → ids ≡ ids_of blocks → AreFound slots ids blocks old → AreFound slots ids blocks new
-  pub fuller : grown ≡ true → gap_of new < gap_of old
-  pub same : grown ≡ false → new ≡ old
-  pub closed : grown ≡ false → (j : ℕ) → j < k → IsClosed slots ids blocks new (get_or order j 0)
-
-pub sweep_begins : (slots ids : List ℕ) (blocks : List Block) (old : List (List ℕ)) (order : List ℕ) → Sweeping slots ids blocks old old order 0 false
-sweep_begins slots ids blocks old order = record {
-  long = refl;
-  found = λ a n f. f;
-  fuller = λ e. cc;
-  same = λ e. refl;
-  closed = λ e j l. absurd (omega arith);
-}
-
-pub sweep_grows : {slots ids : List ℕ} {blocks : List Block} {old mid : List (List ℕ)} {order : List ℕ} {k : ℕ} {grown : Bool} →
-    Sweeping slots ids blocks old mid order k grown → {new : List (List ℕ)} {b : ℕ} {more : Bool} → more ≡ true → Visited slots ids blocks mid new b more →
-    Sweeping slots ids blocks old new order (k + 1) true
-sweep_grows {slots} {ids} {blocks} {old} {mid} {order} {k} {grown} s {new} {b} {more} g v = record {
-  long = v.long ∙ s.long;
-  found = λ a n f. v.found a n (s.found a n f);
-  fuller = λ e.
-      let less : gap_of new < gap_of mid = v.fuller g in
-      let most : gap_of mid ≤ gap_of old = by_grown grown s.fuller s.same in omega arith;
-  same = λ e. cc;
-  closed = λ e. cc;
-} where
-  by_grown : (grown : Bool) → (grown ≡ true → gap_of mid < gap_of old) → (grown ≡ false → mid ≡ old) → gap_of mid ≤ gap_of old
-  by_grown true f e = let l : gap_of mid < gap_of old = f refl in omega arith
-  by_grown false f e = let l : gap_of mid ≡ gap_of old = ap gap_of (e refl) in omega arith
-
-pub sweep_stays : {slots ids : List ℕ} {blocks : List Block} {old mid : List (List ℕ)} {order : List ℕ} {k : ℕ} {grown : Bool} →
-    Sweeping slots ids blocks old mid order k grown → {new : List (List ℕ)} {more : Bool} → more ≡ false →
-    Visited slots ids blocks mid new (get_or order k 0) more → Sweeping slots ids blocks old new order (k + 1) grown
-sweep_stays {slots} {ids} {blocks} {old} {mid} {order} {k} {grown} s {new} {more} g v = record {
-  long = v.long ∙ s.long;
-  found = λ a n f. v.found a n (s.found a n f);
-  fuller = λ e. let less : gap_of mid < gap_of old = s.fuller e in let kept : gap_of new ≡ gap_of mid = ap gap_of (v.same g) in omega arith;
-  same = λ e. v.same g ∙ s.same e;
-  closed = λ e j l. elim (cases_eq j k) [
-    | inl i ↦ subst (λ (m : ℕ). IsClosed slots ids blocks new (get_or order m 0)) (sym i) (v.closed g)
-    | inr ne ↦ subst (λ (st : List (List ℕ)). IsClosed slots ids blocks st (get_or order j 0)) (sym (v.same g)) (s.closed e j (omega arith))
-  ];
-}
-
-pub sweep_ends : {slots ids : List ℕ} {blocks : List Block} {old new : List (List ℕ)} {order : List ℕ} {k : ℕ} {grown : Bool} →
-    Sweeping slots ids blocks old new order k grown → length order ≤ k → SweepStep slots ids blocks old new order grown
-sweep_ends {slots} {ids} {blocks} {old} {new} {order} {k} {grown} s end = record {
-  long = s.long;
-  found = s.found;
-  fuller = s.fuller;
-  same = s.same;
-  closed = λ e b there.
-      let at : get_or order there.0 0 ≡ b = any order there.0 0 b there.1 ∙ there.2 in
-      let l : there.0 < length order = there.1 in
-      subst (λ (c : ℕ). IsClosed slots ids blocks new c) at (s.closed e there.0 (omega arith));
-} where
-  any : (xs : List ℕ) (k d e : ℕ) → k < length xs → get_or xs k d ≡ get_or xs k e
-  any [] k d e l = absurd (omega arith)
-  any (x ∷ xs) zero d e l = refl
-  any (x ∷ xs) (suc k) d e l = any xs k d e (omega arith)
-
--- ---- visits in any order, and sweeps until nothing grows
-
-pub settling_begins : (slots ids : List ℕ) (blocks : List Block) (old : List (List ℕ)) → Settling slots ids blocks old old
-settling_begins slots ids blocks old = record { long = refl; found = λ a n f. f }
-
-pub settling_visited : {slots ids : List ℕ} {blocks : List Block} {old new : List (List ℕ)} {b : ℕ} {grown : Bool} →
-    Visited slots ids blocks old new b grown → Settling slots ids blocks old new
-settling_visited v = record { long = v.long; found = v.found }
-
-pub settling_then : {slots ids : List ℕ} {blocks : List Block} {old mid new : List (List ℕ)} →
-    Settling slots ids blocks old mid → Settling slots ids blocks mid new → Settling slots ids blocks old new
-settling_then s t = record { long = t.long ∙ s.long; found = λ a n f. t.found a n (s.found a n f) }
-
-pub settled_then : {slots ids : List ℕ} {blocks : List Block} {old mid new : List (List ℕ)} →
-    Settling slots ids blocks old mid → Fixpoint slots ids blocks mid new → Fixpoint slots ids blocks old new
-settled_then s w = record { long = w.long ∙ s.long; found = λ a n f. w.found a n (s.found a n f); closed = w.closed }
-
-pub settling_goes_on : {slots ids : List ℕ} {blocks : List Block} {old mid new : List (List ℕ)} {order : List ℕ} {grown : Bool} →
-    Settling slots ids blocks old mid → SweepStep slots ids blocks mid new order grown → Settling slots ids blocks old new
-settling_goes_on s w = record { long = w.long ∙ s.long; found = λ a n f. w.found a n (s.found a n f) }
-
-pub settling_ends : {slots ids : List ℕ} {blocks : List Block} {old mid new : List (List ℕ)} {order : List ℕ} {grown : Bool} →
-    Settling slots ids blocks old mid → SweepStep slots ids blocks mid new order grown → grown ≡ false → ((b : ℕ) → b < length blocks → Contains order b) →
-    Fixpoint slots ids blocks old new
-settling_ends s w g each = record { long = w.long ∙ s.long; found = λ a n f. w.found a n (s.found a n f); closed = λ b l. w.closed g b (each b l) }
+    kept = λ e c closed. subst (λ (s : List (List ℕ)). IsClosed slots ids blocks s c) (sym (same_new e)) closed;
+  } where
+    by_grown : (z : Bool) → (z ≡ true → gap now < gap was) → (z ≡ false → now ≡ was) → gap_of (slice_set old b now) ≤ gap_of old
+    by_grown z more equal =
+        let put : gap_of (slice_set old b now) + gap (get_or old b []) ≡ gap_of old + gap now = sum_by-set gap old b now [] here in
+        let was_is : gap (get_or old b []) ≡ gap was = ap gap is in
+        let less : gap now ≤ gap was = at_most z more equal in omega arith where
+          at_most : (z : Bool) → (z ≡ true → gap now < gap was) → (z ≡ false → now ≡ was) → gap now ≤ gap was
+          at_most true more equal = let l : gap now < gap was = more refl in omega arith
+          at_most false more equal = let l : gap now ≡ gap was = ap gap (equal refl) in omega arith
 
 -- ---- what was found is all that is live
 

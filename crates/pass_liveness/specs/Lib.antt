@@ -4,3 +4,4 @@ pub mod Walk
 pub mod Steps
 pub mod Liveness
 pub mod Solving
+pub mod Ways

@@ -1,5 +1,5 @@
 -- The invariants of the liveness solver, which visits blocks in any order.
-use Rattle.std.specs.Prelude.{◌≡◌, ℕ, ◌+◌, ◌<◌, List, [], length, slice_get, slice_index_or, Bool, true, false, Option, Some, Contains}
+use Rattle.std.specs.Prelude.{◌≡◌, ℕ, ◌+◌, ◌<◌, List, [], length, slice_get, slice_index_or, Bool, true, Option, Some}
 use Rattle.std.specs.List.{sum_by}
 use Rattle.rv64_instr.specs.declared.place.Place.{Place}
 use Rattle.mir_func.specs.declared.block.Block.{Block}
@@ -30,29 +30,8 @@ IsClosed slots ids blocks starts b = (block : Block) (x : Place) → slice_get b
 abbrev pub gap_of : List (List ℕ) → ℕ
 gap_of starts = sum_by gap starts
 
--- the result of visiting one block; `grown` is whether its set grew
-pub record Visited (slots ids : List ℕ) (blocks : List Block) (old new : List (List ℕ)) (b : ℕ) (grown : Bool) : Type 0 where
-  pub long : length new ≡ length old
-  pub found : AreApart (ids_of blocks) → ids ≡ ids_of blocks → AreFound slots ids blocks old → AreFound slots ids blocks new
-  pub fuller : grown ≡ true → gap_of new < gap_of old
-  pub same : grown ≡ false → new ≡ old
-  pub closed : grown ≡ false → IsClosed slots ids blocks new b
-
--- the result of any visits
-pub record Settling (slots ids : List ℕ) (blocks : List Block) (old new : List (List ℕ)) : Type 0 where
-  pub long : length new ≡ length old
-  pub found : AreApart (ids_of blocks) → ids ≡ ids_of blocks → AreFound slots ids blocks old → AreFound slots ids blocks new
-
--- the result of visiting some blocks, in order; `grown` is whether any set grew
-pub record SweepStep (slots ids : List ℕ) (blocks : List Block) (old new : List (List ℕ)) (order : List ℕ) (grown : Bool) : Type 0 where
-  pub long : length new ≡ length old
-  pub found : AreApart (ids_of blocks) → ids ≡ ids_of blocks → AreFound slots ids blocks old → AreFound slots ids blocks new
-  pub fuller : grown ≡ true → gap_of new < gap_of old
-  pub same : grown ≡ false → new ≡ old
-  pub closed : grown ≡ false → (b : ℕ) → Contains order b → IsClosed slots ids blocks new b
-
--- the fixpoint: blocks were visited until no set grew
-pub record Fixpoint (slots ids : List ℕ) (blocks : List Block) (old new : List (List ℕ)) : Type 0 where
-  pub long : length new ≡ length old
-  pub found : AreApart (ids_of blocks) → ids ≡ ids_of blocks → AreFound slots ids blocks old → AreFound slots ids blocks new
-  pub closed : (b : ℕ) → b < length blocks → IsClosed slots ids blocks new b
+-- the invariant of the sets while they are computed
+pub record IsState (slots ids : List ℕ) (blocks : List Block) (starts : List (List ℕ)) : Type 0 where
+  pub known : AllItems (λ i. SlotsIn slots i.kind) blocks
+  pub long : length starts ≡ length blocks
+  pub found : AreApart (ids_of blocks) → ids ≡ ids_of blocks → AreFound slots ids blocks starts

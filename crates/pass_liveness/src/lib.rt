@@ -9,11 +9,9 @@
 pub mod index;
 pub mod live;
 pub mod names;
-mod neighbours;
-mod order;
 pub mod set;
 mod solve;
 mod step;
+pub mod successors;
 mod walk;
 mod words;
-mod worklist;

@@ -44,13 +44,8 @@ impl Live {
         ensures { IfOk result (AreLiveSets f.now) }
     {
         let names = names_of(alloc, f)?;
-        let order = names.order(alloc, f)?;
-        let predecessors = names.predecessors(alloc, f)?;
         let mut starts = empty_sets(alloc, f.blocks.len())?;
-        let blocks = f.blocks.as_slice();
-        let visits = order.as_slice();
-        names.propagate(alloc, blocks, &mut starts, visits, predecessors.as_slice())?;
-        names.settle(blocks, &mut starts, visits);
+        names.settle(alloc, f, &mut starts)?;
         Ok(Live { names, starts })
     }
 

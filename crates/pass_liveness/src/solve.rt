@@ -1,31 +1,59 @@
 //! The fixpoint solver for the live-in sets.
 
-ghost use Rattle.std.specs.Prelude.{◌≡◌, ℕ, ◌+◌, ◌<◌, ◌≤◌, length, drop, All, Contains, slice_get, Some, OnOk};
+ghost use Rattle.std.specs.Prelude.{◌≡◌, ℕ, ◌+◌, ◌<◌, ◌≤◌, length, drop, All, slice_get, Some, OnOk};
 ghost use Rattle.rv64_instr.specs.declared.place.Place.{Place};
 ghost use Rattle.mir_func.specs.declared.item.Item.{Item};
 ghost use Rattle.mir_func.specs.Exits.{exit_of};
-ghost use Rattle.mir_func.specs.Sound.{AllItems, SlotsIn, ids_of};
+ghost use Rattle.mir_func.specs.Sound.{SlotsIn, ids_of};
+ghost use Rattle.dataflow.specs.Fixpoint.{Visited};
 ghost use Rattle.pass_liveness.specs.Sets.{has};
 ghost use Rattle.pass_liveness.specs.Walk.{live_across, live_from};
 ghost use Rattle.pass_liveness.specs.Liveness.{has_at_start, items_at};
-ghost use Rattle.pass_liveness.specs.Solving.{IsKnownBlock, Visited, Settling, SweepStep, Fixpoint};
+ghost use Rattle.pass_liveness.specs.Solving.{IsKnownBlock, IsState, IsClosed, gap_of};
 
 use crate::names::SlotAndBlockNumbers;
 use crate::set::PlaceSet;
-use crate::worklist::Worklist;
 use base_ids::code::BlockId;
+use dataflow::fixpoint::{Analysis, solve};
+use dataflow::graph::predecessors;
+use dataflow::order::post_order;
 use mir_func::block::Block;
+use mir_func::func::Func;
 use mir_func::item::Item;
 use mir_func::successors::id_at;
 use std::alloc::{AllocError, Global};
+
+/// The liveness equations of a function's blocks.
+#[derive(Drop)]
+struct Equations<'a> {
+    names: &'a SlotAndBlockNumbers,
+    blocks: &'a [Block],
+}
+
+impl<'a> Analysis for Equations<'a> {
+    type State = Vec<PlaceSet>;
+
+    ghost blocks = { λ e. length e.blocks.now };
+
+    ghost IsValid = { λ e starts. IsState e.names.now.slots e.names.now.blocks e.blocks.now starts.items };
+
+    ghost IsClosed = { λ e starts b. IsClosed e.names.now.slots e.names.now.blocks e.blocks.now starts.items b };
+
+    ghost height = { λ e starts. gap_of starts.items };
+
+    fn visit(&self, state: &mut Vec<PlaceSet>, block: usize) -> Result<bool, AllocError> {
+        Ok(self.names.visit(self.blocks, state, block))
+    }
+}
 
 impl SlotAndBlockNumbers {
     /// Adds to a block's set what is live at its start according to the sets of its successors, and returns whether it
     /// grew.
     fn visit(&self, blocks: &[Block], starts: &mut Vec<PlaceSet>, block: usize) -> bool
         requires known { IsKnownBlock self.now.slots blocks.now block }
-        requires long { length starts.old.items ≡ length blocks.now }
-        ensures { Visited self.now.slots self.now.blocks blocks.now starts.old.items starts.new.items block result }
+        requires state { IsState self.now.slots self.now.blocks blocks.now starts.old.items }
+        ensures { Visited (IsState self.now.slots self.now.blocks blocks.now)
+            (IsClosed self.now.slots self.now.blocks blocks.now) gap_of starts.old.items starts.new.items block result }
     {
         let next = id_at(blocks, block + 1);
         let live = self.live_from(starts.as_slice(), blocks[block].items.as_slice(), next);
@@ -33,78 +61,32 @@ impl SlotAndBlockNumbers {
         start.unite(&live)
     }
 
-    /// Visits a block of the worklist. If its set grew, its predecessors wait.
-    fn turn(
-        &self,
-        blocks: &[Block],
-        starts: &mut Vec<PlaceSet>,
-        predecessors: &[Vec<u32>],
-        worklist: &mut Worklist,
-        block: usize,
-    ) -> Result<(), AllocError>
-        requires slots { AllItems (λ i. SlotsIn self.now.slots i.kind) blocks.now }
-        requires long { length starts.old.items ≡ length blocks.now }
-        ensures { OnOk result
-            (Settling self.now.slots self.now.blocks blocks.now starts.old.items starts.new.items) }
-    {
-        if block >= blocks.len() {
-            return Ok(());
-        }
-        if self.visit(blocks, starts, block) {
-            worklist.add_all(predecessors, block)?;
-        }
-        Ok(())
-    }
-
-    /// Visits all blocks in this order, and again each block of which a successor's set grew.
-    pub fn propagate(
+    /// Visits all blocks, successors first, and again those of which a successor's set grew, until no set grows. The
+    /// error is out of memory.
+    pub fn settle(
         &self,
         alloc: Global,
-        blocks: &[Block],
+        f: &Func,
         starts: &mut Vec<PlaceSet>,
-        order: &[u32],
-        predecessors: &[Vec<u32>],
     ) -> Result<(), AllocError>
-        requires slots { AllItems (λ i. SlotsIn self.now.slots i.kind) blocks.now }
-        requires long { length starts.old.items ≡ length blocks.now }
-        ensures { OnOk result
-            (Settling self.now.slots self.now.blocks blocks.now starts.old.items starts.new.items) }
+        requires names { self.now.blocks ≡ ids_of f.now.blocks }
+        requires state { IsState self.now.slots self.now.blocks f.now.blocks starts.old.items }
+        ensures state { OnOk result (IsState self.now.slots self.now.blocks f.now.blocks starts.new.items) }
+        ensures closed { OnOk result ((b : ℕ) → b < length f.now.blocks
+            → IsClosed self.now.slots self.now.blocks f.now.blocks starts.new.items b) }
     {
-        let mut worklist = Worklist::new(alloc, order)?;
-        for _ in 0..u64::MAX {
-            let Some(block) = worklist.take() else {
-                break;
-            };
-            self.turn(blocks, starts, predecessors, &mut worklist, block)?;
-        }
+        let ways = self.successors(alloc, f)?;
+        let successors = ways.as_slice();
+        let preds = predecessors(alloc, successors)?;
+        let mut order = post_order(alloc, successors)?;
+        let blocks = f.blocks.as_slice();
+        let dependents = preds.as_slice();
+        let equations = Equations {
+            names: self,
+            blocks,
+        };
+        solve(alloc, &equations, starts, &mut order, dependents)?;
         Ok(())
-    }
-
-    /// Visits all blocks in this order, and returns whether any set grew.
-    fn sweep(&self, blocks: &[Block], starts: &mut Vec<PlaceSet>, order: &[u32]) -> bool
-        requires slots { AllItems (λ i. SlotsIn self.now.slots i.kind) blocks.now }
-        requires long { length starts.old.items ≡ length blocks.now }
-        requires within { All (λ b. b < length blocks.now) order.now }
-        ensures { SweepStep self.now.slots self.now.blocks blocks.now starts.old.items starts.new.items order.now result }
-    {
-        let mut grown = false;
-        for block in order {
-            if self.visit(blocks, starts, *block as usize) {
-                grown = true;
-            }
-        }
-        grown
-    }
-
-    /// Repeats the visits until no set grows.
-    pub fn settle(&self, blocks: &[Block], starts: &mut Vec<PlaceSet>, order: &[u32])
-        requires slots { AllItems (λ i. SlotsIn self.now.slots i.kind) blocks.now }
-        requires long { length starts.old.items ≡ length blocks.now }
-        requires within { All (λ b. b < length blocks.now) order.now }
-        requires all { (b : ℕ) → b < length blocks.now → Contains order.now b }
-        ensures { Fixpoint self.now.slots self.now.blocks blocks.now starts.old.items starts.new.items }
-    {
-        while self.sweep(blocks, starts, order) {}
     }
 
     /// What is live before the item of this index in the block of this index, or at the block's end.

@@ -3,7 +3,7 @@ use Rattle.std.specs.Prelude.{slice_index_or}
 use Rattle.rv64_instr.specs.declared.place.Place.{Place}
 use Rattle.pass_liveness.specs.Sets.{has}
 use Rattle.pass_liveness.proofs.Places.{has_none, has_nothing}
-use Rattle.pass_liveness.proofs.Pushed.{at_push}
+use Rattle.dataflow.proofs.Pushed.{at_push}
 use Rattle.pass_liveness.proofs.live.empty_sets.Goals as goal
 
 abbrev AreEmpty : List (List ℕ) → Type 0

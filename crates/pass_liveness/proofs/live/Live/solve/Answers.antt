@@ -1,31 +1,18 @@
-use Rattle.std.proofs.Common.{◌≡◌, length, sym, ap, subst, List, ◌∙◌}
-use Rattle.mir_func.specs.declared.block.Block.{Block}
+use Rattle.std.proofs.Common.{ℕ, length, ap, subst, List, ◌∙◌, sym}
 use Rattle.mir_func.specs.Function.{Function}
-use Rattle.mir_func.specs.Sound.{AreApart, ids_of}
-use Rattle.pass_liveness.specs.Solving.{Settling, Fixpoint}
-use Rattle.pass_liveness.proofs.Ready.{solved}
-use Rattle.pass_liveness.proofs.Visits.{settled_then}
+use Rattle.mir_func.specs.Sound.{IsSound, AllItems, SlotsIn}
+use Rattle.pass_liveness.proofs.Ready.{begun, solved}
 use Rattle.pass_liveness.proofs.live.Live.solve.Goals as goal
 
-pub settle-requires-clause-all : goal.settle-requires-clause-all
-settle-requires-clause-all c =
-    let view : c.f.inside.blocks ≡ c.args.f.now.blocks = ap (λ (g : Function). g.blocks) c.f.view_is in
-    let blocks : c.as_slice-blocks.result.now ≡ c.args.f.now.blocks = c.as_slice-blocks.ensures ∙ view in
-    rw (blocks, c.as_slice-visits.ensures.value) c.in_ok-order.ensures.all
-
-pub settle-requires-clause-long : goal.settle-requires-clause-long
-settle-requires-clause-long c =
-    c.in_ok-propagate.ensures.long ∙ (c.in_ok-starts.ensures.long ∙ (c.len.ensures ∙ ap (length {A = Block}) (sym c.as_slice-blocks.ensures)))
+pub settle-requires-clause-state : goal.settle-requires-clause-state
+settle-requires-clause-state c =
+    let sound : IsSound c.args.f.now = subst IsSound c.f.view_is c.f.invariant in
+    begun c.args.f.now c.in_ok-names.names.slots c.in_ok-names.names.blocks c.in_ok-starts.starts.items
+    (subst (λ (slots : List ℕ). AllItems (λ i. SlotsIn slots i.kind) c.args.f.now.blocks) (sym c.in_ok-names.ensures.slots) sound.slots)
+    (c.in_ok-starts.ensures.long ∙ (c.len.ensures ∙ ap (λ (g : Function). length g.blocks) c.f.view_is)) c.in_ok-starts.ensures.none
 
 pub returns : goal.returns
 returns c =
-    let view : c.f.inside.blocks ≡ c.args.f.now.blocks = ap (λ (g : Function). g.blocks) c.f.view_is in
-    let blocks : c.as_slice-blocks.result.now ≡ c.args.f.now.blocks = c.as_slice-blocks.ensures ∙ view in
-    let apart : AreApart (ids_of c.args.f.now.blocks) = subst (λ (bs : List Block). AreApart (ids_of bs)) view c.f.invariant.blocks_apart in
-    let long : length c.in_ok-starts.starts.items ≡ length c.args.f.now.blocks = c.in_ok-starts.ensures.long ∙ (c.len.ensures ∙ ap (length {A = Block}) view) in
-    let begun = subst (λ (bs : List Block). Settling c.in_ok-names.names.slots c.in_ok-names.names.blocks bs c.in_ok-starts.starts.items
-    c.propagate.new.starts.items) blocks c.in_ok-propagate.ensures in
-    let settled = subst (λ (bs : List Block). Fixpoint c.in_ok-names.names.slots c.in_ok-names.names.blocks bs c.propagate.new.starts.items
-    c.settle.new.starts.items) blocks c.settle.ensures in
-    solved c.args.f.now c.in_ok-names.names.slots c.in_ok-names.names.blocks c.in_ok-starts.starts.items c.settle.new.starts.items c.in_ok-names.ensures.slots
-    c.in_ok-names.ensures.blocks apart long c.in_ok-starts.ensures.none (settled_then begun settled)
+    let sound : IsSound c.args.f.now = subst IsSound c.f.view_is c.f.invariant in
+    solved c.args.f.now c.in_ok-names.names.slots c.in_ok-names.names.blocks c.settle.new.starts.items c.in_ok-names.ensures.slots
+    c.in_ok-names.ensures.blocks sound.blocks_apart c.in_ok-settle.ensures.state c.in_ok-settle.ensures.closed
