@@ -7,12 +7,12 @@ ghost use Rattle.mir_func.specs.Successors.{ways};
 ghost use Rattle.value_live_ins.specs.steps.Ways.{enter_by, FindsIds};
 
 use base_ids::code::BlockId;
+use dataflow::graph::Ways;
 use mir_func::block::Block;
 use mir_func::exit::Exit;
 use mir_func::item::Item;
 use std::alloc::{AllocError, Global};
 use std::collections::HashMap;
-use value_solver::flow::Ways;
 
 /// The indices of blocks by their numbers. The prologue's number leads to the block after it.
 pub type Indices = HashMap<u32, u32>;

@@ -1,10 +1,7 @@
 -- The join of nothing.
-use Rattle.std.proofs.Common.{◌≡◌, ℕ, zero, suc, ◌+◌, ◌<◌, List, [], ◌∷◌, ◌++◌, length, Bool, true, false, refl, sym, subst, inl, arith, length-append, eqb}
-use Rattle.std.proofs.Common.{ltb-true, ltb-false}
-use Rattle.std.specs.Prelude.{slice_index, slice_index_or, nat_eq, nat_lt}
-use Rattle.std.proofs.lemmas.List.{get_or_append_left, get_or_past}
-use Rattle.std.proofs.Math.Seq.{get_or-append_seam}
-use Rattle.std.proofs.lemmas.Bool.{eqb-true, eqb-false}
+use Rattle.std.proofs.Common.{◌≡◌, ℕ, zero, suc, ◌+◌, ◌<◌, List, [], ◌∷◌, ◌++◌, length, Bool, true, false, refl, inl, arith, length-append}
+use Rattle.std.specs.Prelude.{slice_index, slice_index_or, nat_eq}
+use Rattle.dataflow.proofs.Pushed.{at_push}
 use Rattle.value_solver.specs.Numbering.{class_in, IsNumbered}
 use Rattle.value_solver.specs.Joining.{IsJoin}
 use Rattle.value_solver.proofs.Numbers.{numbered_push}
@@ -18,19 +15,6 @@ pub record IsEmptyJoin (n : ℕ) (cs : List ℕ) (gs : List Bool) : Type 0 where
 
 pub empty_none : IsEmptyJoin 0 [] []
 empty_none = record { classes = refl; bits = refl; zero_all = λ i. refl; set_all = λ i h. absurd (omega arith); numbered = refl }
-
--- what stands at an index of a list with one more at its end
-pub at_push : {A : Type 0} (xs : List A) (y d : A) (i : ℕ) → (P : A → Type 0) → (i < length xs → P (slice_index_or xs i d)) → (i ≡ length xs → P y) →
-    (length xs < i → P d) → P (slice_index_or (xs ++ y ∷ []) i d)
-at_push xs y d i P below here above = by_case (eqb i (length xs)) (nat_lt i (length xs)) refl refl where
-  by_case : (e l : Bool) → eqb i (length xs) ≡ e → nat_lt i (length xs) ≡ l → P (slice_index_or (xs ++ y ∷ []) i d)
-  by_case true l e h =
-      let same = eqb-true i (length xs) e in
-      subst (λ (k : ℕ). P (slice_index_or (xs ++ y ∷ []) k d)) (sym same) (subst P (sym (get_or-append_seam xs y [] d)) (here same))
-  by_case false true e h = let less = ltb-true i (length xs) h in subst P (sym (get_or_append_left xs (y ∷ []) d i less)) (below less)
-  by_case false false e h =
-      let far : length xs < i = omega (arith, eqb-false i (length xs) e, ltb-false i (length xs) h) in
-      subst P (sym (get_or_past (xs ++ y ∷ []) i d (simp length-append (omega arith)))) (above far)
 
 pub empty_next : (n : ℕ) (cs : List ℕ) (gs : List Bool) → IsEmptyJoin n cs gs → IsEmptyJoin (n + 1) (cs ++ 0 ∷ []) (gs ++ true ∷ [])
 empty_next n cs gs s = record {

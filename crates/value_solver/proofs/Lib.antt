@@ -1,11 +1,11 @@
 pub mod Numbers
 pub mod Empty
+pub mod Edges
 pub mod Exits
 pub mod Handing
 pub mod Passing
 pub mod Proven
 pub mod Weights
 pub mod Tables
-pub mod Sweeps
-pub mod Preds
+pub mod Marks
 pub mod Settling

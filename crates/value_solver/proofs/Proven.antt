@@ -18,6 +18,7 @@ use Rattle.value_solver.specs.Joining.{Hand, hand_class, hand_bit, agree, alike,
 use Rattle.value_solver.specs.Hands.{hand_by, hand_of, hands_of, handed, preds_at, IsShaped}
 use Rattle.value_solver.specs.Flows.{token_at, thing_token, told, AreFlows, Comes, Begins}
 use Rattle.value_solver.specs.Invariants.{Differ, Lacks, IsProven, IsSettled, AreProven, Facts}
+use Rattle.value_solver.proofs.Edges.{edge_flow, flow_edge}
 use Rattle.value_solver.proofs.Passing.{Apart, Missing, apart_past, missing_past, one_past, given_past, source_fit}
 
 -- ---- who hands on
@@ -187,7 +188,7 @@ module _ (g : Program) (xs : List Tracked) (start : BlockEntry) (flows : List Fl
 
   way : (b : ℕ) (h : Handing flows entries (preds_at preds b)) → Contains h.flow.ways b
   way b h =
-      let (f, at, way) = (facts.are_preds.each b h.block).0 h.among in
+      let (f, at, way) = edge_flow flows h.block b ((facts.are_preds.each b h.block).0 h.among) in
       let same : Some f ≡ Some h.flow = sym at ∙ h.here in
       let flow : f ≡ h.flow = cc in
       subst (λ (z : Flow). Contains z.ways b) flow way
@@ -291,7 +292,7 @@ module _ (g : Program) (xs : List Tracked) (start : BlockEntry) (flows : List Fl
   at_way b m e t s c x at h =
       let k = shaped_known (length xs) x (shaped c.block x at) h.known_here in
       let w = (facts.are_sound c.block c.flow c.here).0 in
-      let among = (facts.are_preds.each b c.block).1 (c.flow, c.here, c.way) in
+      let among = (facts.are_preds.each b c.block).1 (flow_edge flows c.block b c.flow c.here c.way) in
       record {
         known_here = s.reached (some_hands _ (nonempty (list_all (λ q. false) (handed start flows entries b (preds_at preds b))) refl among h.known_here));
         one = λ y z same.

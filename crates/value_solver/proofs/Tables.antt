@@ -7,6 +7,7 @@ use Rattle.std.proofs.lemmas.Bool.{false≢true, eqb-true, eqb-false, eq-eqb, ne
 use Rattle.std.proofs.lemmas.Option.{get_or_from_slice_get}
 use Rattle.std.proofs.lemmas.List.{get_or-set_same, get_or-set_other, get_or_past}
 use Rattle.std.proofs.Math.ListN.{length-set}
+use Rattle.dataflow.specs.Graph.{ArePredecessors}
 use Rattle.mir_func.specs.Graph.{Program}
 use Rattle.value_solver.specs.declared.tracked.Tracked.{Tracked}
 use Rattle.value_solver.specs.declared.entry.BlockEntry.{BlockEntry}
@@ -15,8 +16,9 @@ use Rattle.value_solver.specs.declared.flow.Source.TheVariants.{Was, New, Namele
 use Rattle.value_solver.specs.declared.flow.Flow.{Flow}
 use Rattle.value_solver.specs.Numbering.{IsNumbered}
 use Rattle.value_solver.specs.Joining.{Hand, hand_bit, agree, IsJoin, IsKnown, source_at, class_past, bit_past}
-use Rattle.value_solver.specs.Hands.{hand_by, hands_of, handed, first_hand, preds_at, ArePredecessors, AreSoundFlows, IsShaped, Visited}
+use Rattle.value_solver.specs.Hands.{hand_by, hands_of, handed, first_hand, preds_at, ways_of, AreSoundFlows, IsShaped, Visited}
 use Rattle.value_solver.specs.Invariants.{IsProven, IsSettled, IsRefined, AreProven, Facts, IsTable, Turned, weight, weight_of, classes_from, count_off}
+use Rattle.value_solver.proofs.Edges.{edge_flow}
 use Rattle.value_solver.proofs.Passing.{finer_past, less_past, source_fit}
 use Rattle.value_solver.proofs.Proven.{Handing, hand_from, who_fails, hand_passes, start_passes, some_hands, no_hands, shaped_known, join_proven}
 use Rattle.value_solver.proofs.Weights.{IsFiner, heavier, heavy, heavier_table, numbered_below, numbered_few}
@@ -137,7 +139,7 @@ join_known n start flows entries b ps e known shaped j r = record {
 -- ---- the entry that a visit gives
 
 module _ (n : ℕ) (start : BlockEntry) (flows : List Flow) (preds : List (List ℕ)) (old : List BlockEntry) (before : List Bool) (known : IsKnown n start)
-    (sound : AreSoundFlows n flows) (are_preds : ArePredecessors flows preds) (t : IsTable n start flows preds old before)
+    (sound : AreSoundFlows n flows) (are_preds : ArePredecessors (ways_of flows) preds) (t : IsTable n start flows preds old before)
     (b : ℕ) (e : BlockEntry) (less : b < length flows) (join : IsJoin n (handed start flows old b (preds_at preds b)) e) (r : e.reached ≡ true) where
   here : b < length old
   here = omega (arith, t.long, less)
@@ -263,7 +265,7 @@ module _ (n : ℕ) (start : BlockEntry) (flows : List Flow) (preds : List (List 
 
 pub changed_turn : (n : ℕ) (start : BlockEntry) (flows : List Flow) (preds : List (List ℕ)) (old new : List BlockEntry) (before after : List Bool) (b : ℕ)
     (f : Flow) →
-    IsKnown n start → length start.classes ≡ n → AreSoundFlows n flows → ArePredecessors flows preds → IsTable n start flows preds old before →
+    IsKnown n start → length start.classes ≡ n → AreSoundFlows n flows → ArePredecessors (ways_of flows) preds → IsTable n start flows preds old before →
     b < length flows → 0 < n →
     Visited start flows preds old new b true → slice_get flows b ≡ Some f → length after ≡ length flows →
     ((c : ℕ) → slice_index_or after c true ≡ false → ((c ≡ b) ⊎ (slice_index_or before c true ≡ false)) × (Contains f.ways c → ⊥)) →
@@ -271,7 +273,8 @@ pub changed_turn : (n : ℕ) (start : BlockEntry) (flows : List Flow) (preds : L
 changed_turn n start flows preds old new before after b f known is sound are_preds t less some (e, r, differ, set, join) at long marks =
     let j = subst (λ (m : ℕ). IsJoin m (handed start flows old b (preds_at preds b)) e) is join in
     let no_way : (c : ℕ) → (Contains f.ways c → ⊥) → Contains (preds_at preds c) b → ⊥ =
-    λ c none among. let (f', at', way) = (are_preds.each c b).0 among in none (subst (λ (q : Flow). Contains q.ways c) (same_flow f' f (sym at' ∙ at)) way) in
+    λ c none among. let (f', at', way) = edge_flow flows b c ((are_preds.each c b).0 among) in
+    none (subst (λ (q : Flow). Contains q.ways c) (same_flow f' f (sym at' ∙ at)) way) in
     subst (λ (q : List BlockEntry). Turned n start flows preds old q before after b true) (sym set) (record {
       table = changed_table n start flows preds old before known sound are_preds t b e less j r after long (λ c clean. (
         (marks c clean).0,

@@ -1,5 +1,5 @@
 -- What the predecessors of a block propagate into it, by a table of entries.
-use Rattle.std.specs.Prelude.{◌≡◌, ◌≢◌, ◌↔◌, ◌⊎◌, ℕ, zero, suc, ◌<◌, List, [], ◌∷◌, ◌++◌, length, slice_get, slice_index_or, slice_set, Bool, true, false}
+use Rattle.std.specs.Prelude.{◌≡◌, ◌≢◌, ◌⊎◌, ℕ, zero, suc, ◌<◌, List, [], ◌∷◌, ◌++◌, length, map, slice_get, slice_index_or, slice_set, Bool, true, false}
 use Rattle.std.specs.Prelude.{cond, Option, None, Some, Contains}
 use Rattle.value_solver.specs.declared.entry.BlockEntry.{BlockEntry}
 use Rattle.value_solver.specs.declared.flow.Flow.{Flow}
@@ -33,10 +33,9 @@ handed start flows entries b ps = first_hand start b ++ hands_of flows entries p
 abbrev pub preds_at : List (List ℕ) → ℕ → List ℕ
 preds_at preds b = slice_index_or preds b []
 
--- the lists of predecessors are exact: p is listed for b if and only if b is a successor in the flow of p
-pub record ArePredecessors (flows : List Flow) (preds : List (List ℕ)) : Type 0 where
-  pub long : length preds ≡ length flows
-  pub each : (b p : ℕ) → Contains (preds_at preds b) p ↔ ((f : Flow) × (slice_get flows p ≡ Some f) × Contains f.ways b)
+-- the successors of each block, by the flows
+abbrev pub ways_of : List Flow → List (List ℕ)
+ways_of flows = map (λ f. f.ways) flows
 
 -- the flows are over this many tracked entities, and all successors exist
 abbrev pub AreSoundFlows : (things : ℕ) → List Flow → Type 0

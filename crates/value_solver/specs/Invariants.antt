@@ -1,7 +1,8 @@
 -- Invariants of the table of entries while blocks are visited, in any order.
-use Rattle.std.specs.Prelude.{◌≡◌, ℕ, suc, ◌+◌, ◌-◌, ◌<◌, ◌≤◌, max, cond, List, [], ◌∷◌, length, slice_get, slice_index_or, Bool, true, false, not, nat_eq}
-use Rattle.std.specs.Prelude.{None, Some, All, Contains}
+use Rattle.std.specs.Prelude.{◌≡◌, ℕ, suc, ◌+◌, ◌-◌, ◌<◌, max, cond, List, [], ◌∷◌, length, slice_get, slice_index_or, Bool, true, false, not, nat_eq}
+use Rattle.std.specs.Prelude.{None, Some}
 use Rattle.std.specs.List.{list_all}
+use Rattle.dataflow.specs.Graph.{ArePredecessors}
 use Rattle.mir_func.specs.Graph.{Program}
 use Rattle.sem_mir.specs.ValueId.{Tokens}
 use Rattle.value_solver.specs.declared.tracked.Tracked.{Tracked}
@@ -10,7 +11,7 @@ use Rattle.value_solver.specs.Entry.{PathTo, IsReached}
 use Rattle.value_solver.specs.declared.flow.Flow.{Flow}
 use Rattle.value_solver.specs.Numbering.{IsNumbered}
 use Rattle.value_solver.specs.Joining.{IsKnown, Hand, agree, hand_bit, alike}
-use Rattle.value_solver.specs.Hands.{handed, preds_at, IsShaped, AreSoundFlows, ArePredecessors}
+use Rattle.value_solver.specs.Hands.{handed, preds_at, ways_of, IsShaped, AreSoundFlows}
 use Rattle.value_solver.specs.Flows.{token_at, AreFlows, IsStart}
 
 -- on some path to the block's start the tokens of two entities differ
@@ -61,7 +62,7 @@ pub record Facts (g : Program) (xs : List Tracked) (start : BlockEntry) (flows :
   pub are_flows : AreFlows g xs flows
   pub is_start : IsStart xs start
   pub are_sound : AreSoundFlows (length xs) flows
-  pub are_preds : ArePredecessors flows preds
+  pub are_preds : ArePredecessors (ways_of flows) preds
 
 -- a dataflow problem: a known start entry over at least one tracked entity, and flows between existing blocks with their
 -- predecessors
@@ -70,12 +71,7 @@ pub record IsProblem (start : BlockEntry) (flows : List Flow) (preds : List (Lis
   pub some : 0 < length start.classes
   pub known : IsKnown (length start.classes) start
   pub sound : AreSoundFlows (length start.classes) flows
-  pub predecessors : ArePredecessors flows preds
-
--- an order for a sweep: it contains each block, and only blocks
-pub record IsOrder (flows : List Flow) (order : List ℕ) : Type 0 where
-  pub within : All (λ b. b < length flows) order
-  pub all : (b : ℕ) → b < length flows → Contains order b
+  pub predecessors : ArePredecessors (ways_of flows) preds
 
 -- the number of classes other than 0, if they are numbered by first appearance and `used` of them, with 0, come before the list
 abbrev pub classes_from : (used : ℕ) → List ℕ → ℕ
@@ -116,24 +112,8 @@ pub record Turned (n : ℕ) (start : BlockEntry) (flows : List Flow) (preds : Li
   pub unmarked : changed ≡ false → slice_index_or after b true ≡ false
   pub fewer : changed ≡ false → (c : ℕ) → slice_index_or before c true ≡ false → slice_index_or after c true ≡ false
 
--- the worklist is empty
-abbrev pub AllClean : List Bool → Type 0
-AllClean dirty = (c : ℕ) → c < length dirty → slice_index_or dirty c true ≡ false
-
--- a sweep over all blocks. It preserves the invariants; if an entry changed the measure has grown, otherwise the worklist is
--- empty
-pub record SweepStep (n : ℕ) (start : BlockEntry) (flows : List Flow) (preds : List (List ℕ)) (old new : List BlockEntry) (after : List Bool)
-    (changed : Bool) : Type 0 where
-  pub table : IsTable n start flows preds new after
-  pub proven : (g : Program) (xs : List Tracked) → length xs ≡ n → Facts g xs start flows preds → AreProven g xs old → AreProven g xs new
-  pub heavier : changed ≡ true → weight_of old < weight_of new
-  pub kept : weight_of old ≤ weight_of new
-  pub clean : changed ≡ false → AllClean after
-
--- the fixpoint: an invariant table with an empty worklist, after a number of sweeps that is at most the table's measure plus 1
-pub record Fixpoint (n : ℕ) (start : BlockEntry) (flows : List Flow) (preds : List (List ℕ)) (old new : List BlockEntry) (after : List Bool)
-    (sweeps : ℕ) : Type 0 where
-  pub table : IsTable n start flows preds new after
-  pub proven : (g : Program) (xs : List Tracked) → length xs ≡ n → Facts g xs start flows preds → AreProven g xs old → AreProven g xs new
-  pub clean : AllClean after
-  pub few : sweeps ≤ weight_of new + 1
+-- the invariant while the problem is solved
+pub record IsState (n : ℕ) (start : BlockEntry) (flows : List Flow) (preds : List (List ℕ)) (entries : List BlockEntry) (dirty : List Bool) : Type 0 where
+  pub problem : IsProblem start flows preds
+  pub table : IsTable n start flows preds entries dirty
+  pub proven : (g : Program) (xs : List Tracked) → length xs ≡ n → Facts g xs start flows preds → AreProven g xs entries

@@ -1,6 +1,7 @@
 //! A block's effect on the tokens of tracked entities, and its successors.
 
 use base_list::List;
+use dataflow::graph::Ways;
 use rv64_instr::reg::Reg;
 
 /// The source of an entity's token at a block's end. Entities are named by their indices.
@@ -25,9 +26,6 @@ pub struct Change {
 
 /// The changes of a block, the last of which counts for each entity. All other entities keep their tokens.
 pub type Changes = List<Change>;
-
-/// Indices of blocks.
-pub type Ways = List<u32>;
 
 /// A block's transfer function for tokens, and its successors.
 #[derive(Debug, Drop)]

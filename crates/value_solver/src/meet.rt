@@ -6,7 +6,7 @@ ghost use Rattle.value_solver.specs.Numbering.{IsMeet};
 use indexmap::IndexSet;
 use std::alloc::{AllocError, Global};
 
-/// The pairs of classes that a join numbers, by their index. One set serves all joins of a sweep.
+/// The pairs of classes that a join numbers, by their index. One set serves all joins.
 pub type Pairs = IndexSet<(u32, u64)>;
 
 /// Numbers pairs of classes by first appearance, the pair of 0 and 0 first. The set is emptied before.

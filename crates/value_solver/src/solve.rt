@@ -1,6 +1,6 @@
 //! The entries of all blocks, as a fixpoint of sweeps.
 
-ghost use Rattle.std.specs.Prelude.{◌≡◌, ℕ, ◌+◌, ◌*◌, ◌<◌, ◌≤◌, length, slice_get, slice_index_or, IfOk};
+ghost use Rattle.std.specs.Prelude.{◌≡◌, ℕ, ◌+◌, ◌-◌, ◌*◌, ◌<◌, ◌≤◌, length, slice_get, slice_index_or, IfOk};
 ghost use Rattle.std.specs.Prelude.{List, Some, true, false, []};
 ghost use Rattle.mir_func.specs.Graph.{Program};
 ghost use Rattle.value_solver.specs.declared.tracked.Tracked.{Tracked};
@@ -8,15 +8,18 @@ ghost use Rattle.value_solver.specs.declared.entry.BlockEntry.{BlockEntry};
 ghost use Rattle.value_solver.specs.declared.flow.Flow.{Flow};
 ghost use Rattle.value_solver.specs.Entry.{IsEntry};
 ghost use Rattle.value_solver.specs.Joining.{IsKnown};
-ghost use Rattle.value_solver.specs.Hands.{AreSoundFlows};
+ghost use Rattle.value_solver.specs.Hands.{ways_of, AreSoundFlows};
 ghost use Rattle.value_solver.specs.Flows.{AreFlows, IsStart};
-ghost use Rattle.value_solver.specs.Invariants.{IsProblem, IsOrder, IsTable, Fixpoint};
+ghost use Rattle.value_solver.specs.Invariants.{IsState, weight_of};
 
 use crate::entry::{BlockEntries, BlockEntry};
-use crate::flow::{Flow, Ways};
-use crate::order::{order, predecessors};
-use crate::turn::sweep;
+use crate::flow::Flow;
+use crate::meet::Pairs;
+use crate::turn::turn;
 use base_list::List;
+use dataflow::fixpoint::{Analysis, settle};
+use dataflow::graph::{Ways, predecessors};
+use dataflow::order::reverse_post_order;
 use std::alloc::{AllocError, Global};
 
 /// The entries of all blocks, and the number of sweeps.
@@ -28,45 +31,61 @@ pub struct Solved {
     pub sweeps: u64,
 }
 
-/// The number of sweeps in reverse post-order before every other one goes the opposite way. Most functions need no
-/// more.
-const SWEEPS_FORWARD: u64 = 3;
-
-/// The order of the sweep with this number, from that of the sweep before. In reverse post-order a value that comes
-/// along edges to earlier blocks gets one block further in a sweep; in post-order one sweep takes it along all of them.
-fn turn_round(order: &mut Vec<u32>, sweep: u64)
-    ensures { (flows : List Flow) → IsOrder flows order.old.items → IsOrder flows order.new.items }
-{
-    if sweep <= SWEEPS_FORWARD {
-        return;
-    }
-    order.reverse();
+/// The equations of the entries of a function's blocks.
+#[derive(Drop)]
+struct Equations<'a> {
+    alloc: Global,
+    start: &'a BlockEntry,
+    flows: &'a [Flow],
+    preds: &'a [Ways],
 }
 
-/// Sweeps until nothing changes. The result is the number of sweeps.
-fn settle(
-    alloc: Global,
-    start: &BlockEntry,
-    flows: &[Flow],
-    preds: &[Ways],
-    order: &mut Vec<u32>,
-    entries: &mut Vec<BlockEntry>,
-    dirty: &mut Vec<bool>,
-) -> Result<u64, AllocError>
-    requires problem { IsProblem start.now flows.now preds.now }
-    requires table { IsTable (length start.now.classes) start.now flows.now preds.now entries.old.items
-        dirty.old.items }
-    requires order { IsOrder flows.now order.old.items }
-    ensures { IfOk result (λ sweeps.
-        Fixpoint (length start.now.classes) start.now flows.now preds.now entries.old.items entries.new.items
-        dirty.new.items sweeps) }
-{
-    let mut sweeps = 1u64;
-    while sweep(alloc, start, flows, preds, order.as_slice(), entries, dirty)? {
-        sweeps = sweeps.saturating_add(1);
-        turn_round(order, sweeps);
+/// The entries of all blocks while they are computed.
+#[derive(Drop)]
+struct Table {
+    entries: Vec<BlockEntry>,
+    /// Whether each block is in the worklist.
+    dirty: Vec<bool>,
+    pairs: Pairs,
+}
+
+impl<'a> Analysis for Equations<'a> {
+    type State = Table;
+
+    ghost blocks = { λ e. length e.flows.now };
+
+    ghost IsValid = { λ e t. IsState (length e.start.now.classes) e.start.now e.flows.now e.preds.now t.entries.items
+        t.dirty.items };
+
+    ghost IsClosed = { λ e t b. slice_index_or t.dirty.items b true ≡ false };
+
+    ghost height = { λ e t. 2 * length e.start.now.classes * length e.flows.now - weight_of t.entries.items };
+
+    fn visit(&self, state: &mut Table, block: usize) -> Result<bool, AllocError> {
+        let changed = turn(
+            self.alloc,
+            &mut state.pairs,
+            self.start,
+            self.flows,
+            self.preds,
+            &mut state.entries,
+            &mut state.dirty,
+            block,
+        )?;
+        Ok(changed)
     }
-    Ok(sweeps)
+}
+
+/// The successors of each block.
+fn successors_of(alloc: Global, flows: &[Flow]) -> Result<Vec<Ways>, AllocError>
+    ensures { IfOk result (λ ways. ways.items ≡ ways_of flows.now) }
+{
+    let mut ways = Vec::with_capacity(alloc, flows.len())?;
+    for flow in flows {
+        let copy = flow.ways.copy()?;
+        ways.push(copy)?;
+    }
+    Ok(ways)
 }
 
 /// The entries at first: all blocks are unreached.
@@ -113,19 +132,30 @@ pub fn solve(alloc: Global, start: &BlockEntry, flows: &[Flow]) -> Result<Solved
     ensures long { IfOk result (λ s. length s.entries ≡ length flows.now) }
     ensures sweeps { IfOk result (λ s. s.sweeps ≤ 2 * length start.now.classes * length flows.now + 1) }
 {
-    let preds = predecessors(alloc, flows)?;
-    let mut order = order(alloc, flows)?;
-    let mut entries = unreached(alloc, flows.len())?;
-    let mut dirty = all_marked(alloc, flows.len())?;
-    let sweeps = settle(
+    let successors = successors_of(alloc, flows)?;
+    let ways = successors.as_slice();
+    let preds = predecessors(alloc, ways)?;
+    let mut order = reverse_post_order(alloc, ways)?;
+    let entries = unreached(alloc, flows.len())?;
+    let dirty = all_marked(alloc, flows.len())?;
+    let mut table = Table {
+        entries,
+        dirty,
+        pairs: Pairs::new(alloc),
+    };
+    let listed = preds.as_slice();
+    let equations = Equations {
         alloc,
         start,
         flows,
-        preds.as_slice(),
-        &mut order,
-        &mut entries,
-        &mut dirty,
-    )?;
+        preds: listed,
+    };
+    let sweeps = settle(&equations, &mut table, &mut order)?;
+    let Table {
+        entries,
+        dirty: _,
+        pairs: _,
+    } = table;
     Ok(Solved {
         entries: List::from(entries),
         sweeps,

@@ -2,15 +2,17 @@
 
 ghost use Rattle.std.specs.Prelude.{◌≡◌, ◌↔◌, ◌<◌, List, ◌++◌, Some, length, IfOk};
 ghost use Rattle.std.specs.Prelude.{All, IsTrue, true, false, []};
+ghost use Rattle.dataflow.specs.Graph.{ArePredecessors};
 ghost use Rattle.value_solver.specs.Joining.{IsKnown, AreWithin, IsJoin, Hand};
 ghost use Rattle.value_solver.specs.Hands.{IsShaped, AreSoundFlows, handed, first_hand, hand_by};
-ghost use Rattle.value_solver.specs.Hands.{ArePredecessors, Visited};
+ghost use Rattle.value_solver.specs.Hands.{ways_of, Visited};
 
 use crate::entry::BlockEntry;
-use crate::flow::{Flow, Ways};
+use crate::flow::Flow;
 use crate::hand::{Exit, hand_on};
 use crate::join::{empty_join, join};
 use crate::meet::Pairs;
+use dataflow::graph::Ways;
 use std::alloc::{AllocError, Global};
 
 /// The join of what the start entry propagates into a block.
@@ -113,7 +115,7 @@ pub fn visit(
     requires few { length start.now.classes < 4294967295 }
     requires known { IsKnown (length start.now.classes) start.now }
     requires sound { AreSoundFlows (length start.now.classes) flows.now }
-    requires preds { ArePredecessors flows.now preds.now }
+    requires preds { ArePredecessors (ways_of flows.now) preds.now }
     requires shaped { All (IsShaped (length start.now.classes)) entries.old.items }
     requires long { length entries.old.items ≡ length flows.now }
     requires block { block < length flows.now }

@@ -1,6 +1,6 @@
 use Rattle.std.proofs.Common.{◌≡◌, ◌+◌, ℕ, List, length, Bool, true, refl, sym, ap, ◌∙◌, subst, length-append}
 use Rattle.std.specs.Prelude.{slice_index_or}
-use Rattle.value_solver.proofs.Empty.{at_push}
+use Rattle.dataflow.proofs.Pushed.{at_push}
 use Rattle.value_solver.proofs.solve.all_marked.Goals as goal
 
 pub loop-preserved : goal.loop-preserved

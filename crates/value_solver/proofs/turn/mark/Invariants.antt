@@ -1,4 +1,4 @@
-use Rattle.value_solver.proofs.Sweeps.{IsMarked}
+use Rattle.value_solver.proofs.Marks.{IsMarked}
 use Rattle.value_solver.proofs.turn.mark.Given as goal
 
 abbrev pub invariant-loop-c : goal.invariant-loop-c
