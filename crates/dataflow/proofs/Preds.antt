@@ -111,6 +111,9 @@ noting_all block ways k old new all n c p = (λ h. there ((n.noted c p).0 h), λ
   back (inr (e, (j, l, s))) = inr (e, (j, omega (arith, all), get_or_default ways j 0 c l ∙ s))
 
 -- ---- all blocks
+none_in : (b : ℕ) → Contains [] b → ⊥
+none_in b (j, less, is) = absurd (omega arith)
+
 pub record SoFarPreds (successors : List (List ℕ)) (k : ℕ) (preds : List (List ℕ)) : Type 0 where
   pub long : length preds ≡ length successors
   pub each : (c p : ℕ) → Contains (ways_at preds c) p ↔ ((p < k) × IsEdge successors p c)
@@ -148,5 +151,4 @@ preds_all successors k preds all s = record {
   within : (b p : ℕ) → IsEdge successors p b → (z : Bool) → nat_lt p (length successors) ≡ z → p < k
   within b p edge true h = omega (arith, all, ltb-true p (length successors) h)
   within b p edge false h =
-      let (j, less, is) = subst (λ (z : List ℕ). Contains z b) (get_or_past successors p [] (ltb-false p (length successors) h)) edge in
-      absurd (omega arith)
+      absurd (none_in b (subst (λ (z : List ℕ). Contains z b) (get_or_past successors p [] (ltb-false p (length successors) h)) edge))

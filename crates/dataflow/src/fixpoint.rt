@@ -44,9 +44,11 @@ fn turn<A: Analysis>(
     if block >= dependents.len() {
         return Ok(());
     }
-    if analysis.visit(state, block)? {
-        worklist.add_all(dependents[block].as_slice())?;
+    let changed = analysis.visit(state, block)?;
+    if !changed {
+        return Ok(());
     }
+    worklist.add_all(dependents[block].as_slice())?;
     Ok(())
 }
 

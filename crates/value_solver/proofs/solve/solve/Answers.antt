@@ -11,7 +11,8 @@ use Rattle.value_solver.proofs.solve.solve.Goals as goal
 
 pub predecessors-requires-clause-few : goal.predecessors-requires-clause-few
 predecessors-requires-clause-few c =
-    rw (c.as_slice-ways.ensures.value, c.in_ok-successors.ensures, length-map) c.requires.few_blocks
+    let long = ap (length {A = List ℕ}) (c.as_slice-ways.ensures.value ∙ c.in_ok-successors.ensures) ∙ length-map c.args.flows.now (λ (f : Flow). f.ways) in
+    omega (arith, long, c.requires.few_blocks)
 
 pub predecessors-requires-clause-graph : goal.predecessors-requires-clause-graph
 predecessors-requires-clause-graph c =
@@ -19,7 +20,8 @@ predecessors-requires-clause-graph c =
 
 pub reverse_post_order-requires : goal.reverse_post_order-requires
 reverse_post_order-requires c =
-    rw (c.as_slice-ways.ensures.value, c.in_ok-successors.ensures, length-map) c.requires.few_blocks
+    let long = ap (length {A = List ℕ}) (c.as_slice-ways.ensures.value ∙ c.in_ok-successors.ensures) ∙ length-map c.args.flows.now (λ (f : Flow). f.ways) in
+    omega (arith, long, c.requires.few_blocks)
 
 pub settle-requires-clause-valid : goal.settle-requires-clause-valid
 settle-requires-clause-valid c =
