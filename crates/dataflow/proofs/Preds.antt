@@ -1,27 +1,26 @@
 -- Predecessors, noted one after the other.
 use Rattle.std.proofs.Common.{◌≡◌, ℕ, ◌+◌, ◌<◌, List, [], ◌∷◌, ◌++◌, length, Bool, true, false, refl, sym, ap, ◌∙◌, subst, inl, inr, arith, eqb}
-use Rattle.std.proofs.Common.{ltb-true, ltb-false, length-append}
+use Rattle.std.proofs.Common.{ltb-true, ltb-false}
 use Rattle.std.specs.Prelude.{◌⊎◌, ◌↔◌, slice_index_or, slice_set, nat_lt, Contains}
 use Rattle.std.proofs.lemmas.Bool.{eqb-true, eqb-false}
-use Rattle.std.proofs.lemmas.List.{get_or-set_same, get_or-set_other, get_or_default, get_or_append_left, get_or_past}
-use Rattle.std.proofs.Math.Seq.{get_or-append_seam}
+use Rattle.std.proofs.lemmas.List.{get_or-set_same, get_or-set_other, get_or_default, get_or_past}
+use Rattle.std.proofs.lemmas.List.Elements.{Contains-push, Contains-push_cases, Contains-append_left}
 use Rattle.std.proofs.Math.ListN.{length-set}
 use Rattle.dataflow.specs.Graph.{ways_at, IsEdge, ArePredecessors}
 
+-- the empty list has no block
+pub none_in : (b : ℕ) → Contains [] b → ⊥
+none_in b (j, less, is) = absurd (omega arith)
+
 in_push : (xs : List ℕ) (y p : ℕ) → Contains (xs ++ y ∷ []) p ↔ (Contains xs p ⊎ (p ≡ y))
-in_push xs y p = (there, back) where
-  there : Contains (xs ++ y ∷ []) p → Contains xs p ⊎ (p ≡ y)
-  there (k, less, is) = by_case (nat_lt k (length xs)) refl where
-    by_case : (z : Bool) → nat_lt k (length xs) ≡ z → Contains xs p ⊎ (p ≡ y)
-    by_case true h = let low = ltb-true k (length xs) h in inl (k, low, sym (get_or_append_left xs (y ∷ []) p k low) ∙ is)
-    by_case false h =
-        let size : length (xs ++ y ∷ []) ≡ length xs + 1 = length-append xs (y ∷ []) in
-        let last : k ≡ length xs = omega (arith, ltb-false k (length xs) h, size) in
-        inr (sym is ∙ ap (λ (i : ℕ). slice_index_or (xs ++ y ∷ []) i p) last ∙ get_or-append_seam xs y [] p)
+in_push xs y p = (λ h. there (Contains-push_cases xs y p h), back) where
+  there : Contains xs p ⊎ (y ≡ p) → Contains xs p ⊎ (p ≡ y)
+  there (inl h) = inl h
+  there (inr e) = inr (sym e)
 
   back : Contains xs p ⊎ (p ≡ y) → Contains (xs ++ y ∷ []) p
-  back (inl (k, less, is)) = (k, simp length-append (omega arith), get_or_append_left xs (y ∷ []) p k less ∙ is)
-  back (inr same) = (length xs, simp length-append (omega arith), get_or-append_seam xs y [] p ∙ sym same)
+  back (inl h) = Contains-append_left xs (y ∷ []) p h
+  back (inr e) = subst (λ (z : ℕ). Contains (xs ++ y ∷ []) z) (sym e) (Contains-push xs y)
 
 -- a block is noted for one other
 set_noted : (preds : List (List ℕ)) (w block : ℕ) (xs : List ℕ) → w < length preds → xs ≡ slice_index_or preds w xs → (c p : ℕ) →
@@ -111,9 +110,6 @@ noting_all block ways k old new all n c p = (λ h. there ((n.noted c p).0 h), λ
   back (inr (e, (j, l, s))) = inr (e, (j, omega (arith, all), get_or_default ways j 0 c l ∙ s))
 
 -- ---- all blocks
-none_in : (b : ℕ) → Contains [] b → ⊥
-none_in b (j, less, is) = absurd (omega arith)
-
 pub record SoFarPreds (successors : List (List ℕ)) (k : ℕ) (preds : List (List ℕ)) : Type 0 where
   pub long : length preds ≡ length successors
   pub each : (c p : ℕ) → Contains (ways_at preds c) p ↔ ((p < k) × IsEdge successors p c)

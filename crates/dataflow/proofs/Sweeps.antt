@@ -1,4 +1,4 @@
--- Visits, sweeps and the fixpoint, of any analysis.
+-- Sweeps and the fixpoint, of any analysis.
 use Rattle.std.proofs.Common.{◌≡◌, ℕ, ◌+◌, ◌<◌, ◌≤◌, List, length, Bool, true, false, cond, refl, sym, ◌∙◌, subst, arith, get_or, ltb-true, ltb-false}
 use Rattle.std.specs.Prelude.{nat_lt}
 use Rattle.std.proofs.lemmas.Bool.{false≢true}
@@ -6,7 +6,7 @@ use Rattle.std.proofs.lemmas.List.{get_or_default}
 use Rattle.std.specs.List.Sorted.{IsPermutation}
 use Rattle.std.proofs.lemmas.List.Sorted.{All-permutation, Contains-permutation}
 use Rattle.dataflow.specs.Graph.{IsOrder}
-use Rattle.dataflow.specs.Fixpoint.{Visited, Settling, SweepStep, Fixpoint}
+use Rattle.dataflow.specs.Fixpoint.{Visited, SweepStep, Fixpoint}
 
 -- an order in another order
 pub order_permuted : (blocks : ℕ) (old new : List ℕ) → IsPermutation old new → IsOrder blocks old → IsOrder blocks new
@@ -14,17 +14,6 @@ order_permuted blocks old new p o = record {
   within = All-permutation (λ (b : ℕ). b < blocks) old new p o.within;
   all = λ b less. Contains-permutation old new b p (o.all b less);
 }
-
--- ---- visits by the worklist
-
-module _ {S : Type 0} (IsValid : S → Type 0) (height : S → ℕ) where
-  pub settling_begins : (old : S) → IsValid old → Settling IsValid height old old
-  settling_begins old valid = record { valid = valid; level = omega arith }
-
-  pub settling_then : (old now new : S) → Settling IsValid height old now → Settling IsValid height now new → Settling IsValid height old new
-  settling_then old now new s t = record { valid = t.valid; level = omega (arith, s.level, t.level) }
-
--- ---- sweeps
 
 module _ {S : Type 0} (IsValid : S → Type 0) (IsClosed : S → ℕ → Type 0) (height : S → ℕ) where
   -- a sweep past the first k blocks of an order
@@ -70,9 +59,6 @@ module _ {S : Type 0} (IsValid : S → Type 0) (IsClosed : S → ℕ → Type 0)
     lower = s.lower;
     closed = λ e b (j, less, is). subst (IsClosed new) (get_or_default order j 0 b less ∙ is) (s.closed e j (omega arith));
   }
-
-  pub visited_settling : (old new : S) (block : ℕ) (changed : Bool) → Visited IsValid IsClosed height old new block changed → Settling IsValid height old new
-  visited_settling old new block changed v = record { valid = v.valid; level = v.level }
 
   -- so many sweeps were begun
   pub record Solving (old new : S) (sweeps : ℕ) : Type 0 where

@@ -24,8 +24,3 @@ module _ {S : Type 0} (IsValid : S → Type 0) (IsClosed : S → (block : ℕ) �
     pub valid : IsValid new
     pub closed : (b : ℕ) → b < blocks → IsClosed new b
     pub few : sweeps + height new ≤ height old + 1
-
--- any visits
-pub record Settling {S : Type 0} (IsValid : S → Type 0) (height : S → ℕ) (old new : S) : Type 0 where
-  pub valid : IsValid new
-  pub level : height new ≤ height old

@@ -1,8 +1,9 @@
 //! The fixpoint of a dataflow analysis.
 
-ghost use Rattle.std.specs.Prelude.{◌≡◌, ℕ, ◌<◌, length, IfOk, OnOk, cond, true};
-ghost use Rattle.dataflow.specs.Graph.{IsOrder};
-ghost use Rattle.dataflow.specs.Fixpoint.{Visited, Settling, SweepStep, Fixpoint};
+ghost use Rattle.std.specs.Prelude.{◌≡◌, ℕ, ◌+◌, ◌*◌, ◌<◌, ◌≤◌, length, IfOk, OnOk, cond, true};
+ghost use Rattle.std.specs.VecDeque.{deque_len};
+ghost use Rattle.dataflow.specs.Graph.{IsOrder, AreAtMost};
+ghost use Rattle.dataflow.specs.Fixpoint.{Visited, SweepStep, Fixpoint};
 
 use crate::graph::Ways;
 use crate::worklist::Worklist;
@@ -39,7 +40,10 @@ fn turn<A: Analysis>(
 ) -> Result<(), AllocError>
     requires valid { A.IsValid analysis.now state.old }
     requires long { length dependents.now ≡ A.blocks analysis.now }
-    ensures { OnOk result (Settling (A.IsValid analysis.now) (A.height analysis.now) state.old state.new) }
+    ensures valid { OnOk result (A.IsValid analysis.now state.new) }
+    ensures waiting { OnOk result ((most : ℕ) → AreAtMost most dependents.now →
+        deque_len worklist.new.queue + most * A.height analysis.now state.new
+        ≤ deque_len worklist.old.queue + most * A.height analysis.now state.old) }
 {
     if block >= dependents.len() {
         return Ok(());
@@ -63,8 +67,9 @@ fn propagate<A: Analysis>(
 ) -> Result<u64, AllocError>
     requires valid { A.IsValid analysis.now state.old }
     requires long { length dependents.now ≡ A.blocks analysis.now }
-    ensures { IfOk result (λ visits.
-        Settling (A.IsValid analysis.now) (A.height analysis.now) state.old state.new) }
+    ensures valid { OnOk result (A.IsValid analysis.now state.new) }
+    ensures visits { IfOk result (λ visits. (most : ℕ) → AreAtMost most dependents.now →
+        visits ≤ length order.now + most * A.height analysis.now state.old) }
 {
     let mut worklist = Worklist::new(alloc, order)?;
     let mut visits = 0u64;
@@ -138,7 +143,8 @@ pub fn settle<A: Analysis>(
 
 /// Finds the fixpoint by a worklist: visits all blocks in an order, and again each block that depends on one whose visit
 /// changed the state. Sweeps over all blocks end it, as a rule one, in which nothing changes. Returns the number of
-/// visits before the sweeps. The error is out of memory.
+/// visits before the sweeps: one for each block of the order, and one at most for each dependent of a block whose visit
+/// changed the state. The error is out of memory.
 pub fn solve<A: Analysis>(
     alloc: Global,
     analysis: &A,
@@ -149,8 +155,10 @@ pub fn solve<A: Analysis>(
     requires valid { A.IsValid analysis.now state.old }
     requires order { IsOrder (A.blocks analysis.now) order.old.items }
     requires long { length dependents.now ≡ A.blocks analysis.now }
-    ensures valid { IfOk result (λ visits. A.IsValid analysis.now state.new) }
-    ensures closed { IfOk result (λ visits. (b : ℕ) → b < A.blocks analysis.now → A.IsClosed analysis.now state.new b) }
+    ensures valid { OnOk result (A.IsValid analysis.now state.new) }
+    ensures closed { OnOk result ((b : ℕ) → b < A.blocks analysis.now → A.IsClosed analysis.now state.new b) }
+    ensures visits { IfOk result (λ visits. (most : ℕ) → AreAtMost most dependents.now →
+        visits ≤ length order.old.items + most * A.height analysis.now state.old) }
 {
     let visits = propagate(alloc, analysis, state, order.as_slice(), dependents)?;
     settle(analysis, state, order)?;

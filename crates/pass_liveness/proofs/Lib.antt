@@ -4,7 +4,6 @@ pub mod Indices
 pub mod Places
 pub mod Edges
 pub mod Paths
-pub mod Ways
 pub mod Walking
 pub mod Facts
 pub mod Blocks

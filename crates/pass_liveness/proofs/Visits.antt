@@ -115,30 +115,22 @@ module _ (slots ids : List ℕ) (blocks : List Block) (old : List (List ℕ)) (b
         (sym one_block) ∙ walk) in
         ap (λ (w : List ℕ). has slots w x) (is ∙ sym (same e)) ∙ (both x ∙ (ap (λ (t : Bool). has slots was x || t) there ∙ or_true (has slots was x)))
 
+  put : gap_of (slice_set old b now) + gap (get_or old b []) ≡ gap_of old + gap now
+  put = sum_by-set gap old b now [] here
+
+  by_grown : (z : Bool) → (z ≡ true → gap now < gap was) → (z ≡ false → now ≡ was) → gap_of (slice_set old b now) ≤ gap_of old
+  by_grown true more equal = omega (arith, put, more refl, ap gap is)
+  by_grown false more equal = omega (arith, put, ap gap (equal refl), ap gap is)
+
   pub visited : AllItems (λ i. SlotsIn slots i.kind) blocks → (AreApart (ids_of blocks) → ids ≡ ids_of blocks → AreFound slots ids blocks old) →
       Visited (IsState slots ids blocks) (IsClosed slots ids blocks) gap_of old (slice_set old b now) b grown
   visited known found = record {
-    valid = record {
-      known = known;
-      long = length-set old b now ∙ long;
-      found = λ apart names. found_new apart names (found apart names);
-    };
+    valid = record { known = known; long = length-set old b now ∙ long; found = λ apart names. found_new apart names (found apart names) };
     level = by_grown grown fuller same;
-    lower = λ e.
-        let put : gap_of (slice_set old b now) + gap (get_or old b []) ≡ gap_of old + gap now = sum_by-set gap old b now [] here in
-        let less : gap now < gap was = fuller e in
-        let was_is : gap (get_or old b []) ≡ gap was = ap gap is in omega arith;
+    lower = λ e. omega (arith, put, fuller e, ap gap is);
     closed = closed_new;
     kept = λ e c closed. subst (λ (s : List (List ℕ)). IsClosed slots ids blocks s c) (sym (same_new e)) closed;
-  } where
-    by_grown : (z : Bool) → (z ≡ true → gap now < gap was) → (z ≡ false → now ≡ was) → gap_of (slice_set old b now) ≤ gap_of old
-    by_grown z more equal =
-        let put : gap_of (slice_set old b now) + gap (get_or old b []) ≡ gap_of old + gap now = sum_by-set gap old b now [] here in
-        let was_is : gap (get_or old b []) ≡ gap was = ap gap is in
-        let less : gap now ≤ gap was = at_most z more equal in omega arith where
-          at_most : (z : Bool) → (z ≡ true → gap now < gap was) → (z ≡ false → now ≡ was) → gap now ≤ gap was
-          at_most true more equal = let l : gap now < gap was = more refl in omega arith
-          at_most false more equal = let l : gap now ≡ gap was = ap gap (equal refl) in omega arith
+  }
 
 -- ---- what was found is all that is live
 

@@ -4,4 +4,3 @@ pub mod Walk
 pub mod Steps
 pub mod Liveness
 pub mod Solving
-pub mod Ways

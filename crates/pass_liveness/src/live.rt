@@ -39,14 +39,23 @@ impl Model for Live {
 }
 
 impl Live {
-    /// Computes the live-in sets of a function.
+    /// Computes the live-in sets of a function. The error is out of memory.
     pub fn solve(alloc: Global, f: &Func) -> Result<Live, AllocError>
         ensures { IfOk result (AreLiveSets f.now) }
     {
+        let (live, _) = Live::solve_counting(alloc, f)?;
+        Ok(live)
+    }
+
+    /// Computes the live-in sets of a function, and counts the visits of its blocks, without those of the last sweeps.
+    /// The error is out of memory.
+    pub fn solve_counting(alloc: Global, f: &Func) -> Result<(Live, u64), AllocError>
+        ensures { IfOk result (λ solved. AreLiveSets f.now solved.0) }
+    {
         let names = names_of(alloc, f)?;
         let mut starts = empty_sets(alloc, f.blocks.len())?;
-        names.settle(alloc, f, &mut starts)?;
-        Ok(Live { names, starts })
+        let visits = names.settle(alloc, f, &mut starts)?;
+        Ok((Live { names, starts }, visits))
     }
 
     /// Whether a place is in a set. It takes no memory.

@@ -61,14 +61,14 @@ impl SlotAndBlockNumbers {
         start.unite(&live)
     }
 
-    /// Visits all blocks, successors first, and again those of which a successor's set grew, until no set grows. The
-    /// error is out of memory.
+    /// Visits all blocks, successors first, and again those of which a successor's set grew, until no set grows. Returns
+    /// the number of visits, without those of the last sweeps. The error is out of memory.
     pub fn settle(
         &self,
         alloc: Global,
         f: &Func,
         starts: &mut Vec<PlaceSet>,
-    ) -> Result<(), AllocError>
+    ) -> Result<u64, AllocError>
         requires names { self.now.blocks ≡ ids_of f.now.blocks }
         requires state { IsState self.now.slots self.now.blocks f.now.blocks starts.old.items }
         ensures state { OnOk result (IsState self.now.slots self.now.blocks f.now.blocks starts.new.items) }
@@ -85,8 +85,8 @@ impl SlotAndBlockNumbers {
             names: self,
             blocks,
         };
-        solve(alloc, &equations, starts, &mut order, dependents)?;
-        Ok(())
+        let visits = solve(alloc, &equations, starts, &mut order, dependents)?;
+        Ok(visits)
     }
 
     /// What is live before the item of this index in the block of this index, or at the block's end.

@@ -1,8 +1,10 @@
 -- The edges of the flows' graph.
 use Rattle.std.proofs.Common.{◌≡◌, ℕ, zero, suc, ◌<◌, List, [], ◌∷◌, length, Some, refl, sym, subst, arith}
-use Rattle.std.specs.Prelude.{slice_get, Contains}
+use Rattle.std.specs.Prelude.{slice_get, slice_index_or, Contains}
 use Rattle.std.proofs.lemmas.List.{length-map}
-use Rattle.dataflow.specs.Graph.{IsEdge, IsGraph}
+use Rattle.std.proofs.lemmas.List.Elements.{All-map, Contains-get_or}
+use Rattle.std.proofs.lemmas.Option.{slice_get-get_or}
+use Rattle.dataflow.specs.Graph.{IsEdge, AreBlocks, IsGraph}
 use Rattle.value_solver.specs.declared.flow.Flow.{Flow}
 use Rattle.value_solver.specs.Hands.{ways_of, AreSoundFlows}
 
@@ -19,7 +21,8 @@ flow_edge (g ∷ flows) (suc b) c f at h = flow_edge flows b c f at h
 
 -- sound flows are a graph
 pub flow_graph : (n : ℕ) (flows : List Flow) → AreSoundFlows n flows → IsGraph (ways_of flows)
-flow_graph n flows sound b c edge =
-    let (f, at, way) = edge_flow flows b c edge in
-    let less : c < length flows = (sound b f at).1 c way in
-    let long : length (ways_of flows) ≡ length flows = length-map flows (λ (f : Flow). f.ways) in omega (arith, less, long)
+flow_graph n flows sound =
+    All-map (AreBlocks (length (ways_of flows))) (λ (f : Flow). f.ways) flows (λ k d less j e within.
+    let inside : slice_index_or (slice_index_or flows k d).ways j e < length flows =
+    (sound k _ (slice_get-get_or flows k d less)).1 _ (Contains-get_or (slice_index_or flows k d).ways j e within) in
+    omega (arith, inside, length-map flows (λ (f : Flow). f.ways)))

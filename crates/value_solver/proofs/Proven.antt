@@ -15,7 +15,8 @@ use Rattle.value_solver.specs.Entry.{PathTo, IsReached, AreClasses, IsEntry}
 use Rattle.value_solver.specs.declared.flow.Flow.{Flow}
 use Rattle.value_solver.specs.Numbering.{class_in}
 use Rattle.value_solver.specs.Joining.{Hand, hand_class, hand_bit, agree, alike, IsJoin, IsKnown, AreWithin, source_at}
-use Rattle.value_solver.specs.Hands.{hand_by, hand_of, hands_of, handed, preds_at, IsShaped}
+use Rattle.dataflow.specs.Graph.{ways_at}
+use Rattle.value_solver.specs.Hands.{hand_by, hand_of, hands_of, handed, IsShaped}
 use Rattle.value_solver.specs.Flows.{token_at, thing_token, told, AreFlows, Comes, Begins}
 use Rattle.value_solver.specs.Invariants.{Differ, Lacks, IsProven, IsSettled, AreProven, Facts}
 use Rattle.value_solver.proofs.Edges.{edge_flow, flow_edge}
@@ -186,7 +187,7 @@ module _ (g : Program) (xs : List Tracked) (start : BlockEntry) (flows : List Fl
   known : {ps : List ℕ} (h : Handing flows entries ps) → IsKnown (length xs) h.entry
   known h = shaped_known (length xs) h.entry (shaped h.block h.entry h.known) h.reached
 
-  way : (b : ℕ) (h : Handing flows entries (preds_at preds b)) → Contains h.flow.ways b
+  way : (b : ℕ) (h : Handing flows entries (ways_at preds b)) → Contains h.flow.ways b
   way b h =
       let (f, at, way) = edge_flow flows h.block b ((facts.are_preds.each b h.block).0 h.among) in
       let same : Some f ≡ Some h.flow = sym at ∙ h.here in
@@ -197,7 +198,7 @@ module _ (g : Program) (xs : List Tracked) (start : BlockEntry) (flows : List Fl
   within h = (facts.are_sound h.block h.flow h.here).0
 
   by_apart : (b : ℕ) (x y : ℕ) → AreProven g xs entries →
-      ((b ≡ 0) × (agree x y (record { entry = start; changes = [] }) ≡ false)) ⊎ ((h : Handing flows entries (preds_at preds b))
+      ((b ≡ 0) × (agree x y (record { entry = start; changes = [] }) ≡ false)) ⊎ ((h : Handing flows entries (ways_at preds b))
       × (agree x y (hand_from h) ≡ false)) →
       Differ g xs b x y
   by_apart b x y proven (inl (first, e)) =
@@ -217,7 +218,7 @@ module _ (g : Program) (xs : List Tracked) (start : BlockEntry) (flows : List Fl
       (eqb-false _ _ e))
 
   by_missing : (b i : ℕ) → AreProven g xs entries →
-      ((b ≡ 0) × (hand_bit (record { entry = start; changes = [] }) i ≡ false)) ⊎ ((h : Handing flows entries (preds_at preds b))
+      ((b ≡ 0) × (hand_bit (record { entry = start; changes = [] }) i ≡ false)) ⊎ ((h : Handing flows entries (ways_at preds b))
       × (hand_bit (hand_from h) i ≡ false)) →
       Lacks g xs b (suc i)
   by_missing b i proven (inl (first, e)) =
@@ -239,7 +240,7 @@ module _ (g : Program) (xs : List Tracked) (start : BlockEntry) (flows : List Fl
         }
         lacking p n t path j false less off = record { steps = n; tokens = t; path = path; none = beyond_none xs j t (ltb-false j (length xs) less) }
 
-  by_reached : (b : ℕ) → AreProven g xs entries → ((b ≡ 0) × (false ≡ false)) ⊎ ((h : Handing flows entries (preds_at preds b)) × (false ≡ false)) →
+  by_reached : (b : ℕ) → AreProven g xs entries → ((b ≡ 0) × (false ≡ false)) ⊎ ((h : Handing flows entries (ways_at preds b)) × (false ≡ false)) →
       IsReached g b
   by_reached b proven (inl (first, e)) = subst (IsReached g) (sym first) (0, entry_tokens, begin)
   by_reached b proven (inr (h, e)) =
@@ -248,13 +249,13 @@ module _ (g : Program) (xs : List Tracked) (start : BlockEntry) (flows : List Fl
       (r.steps, r.tokens, r.path)
 
   -- the join of what is handed on is proven
-  pub join_proven : (b : ℕ) (e : BlockEntry) → AreProven g xs entries → IsJoin (length xs) (handed start flows entries b (preds_at preds b)) e →
+  pub join_proven : (b : ℕ) (e : BlockEntry) → AreProven g xs entries → IsJoin (length xs) (handed start flows entries b (ways_at preds b)) e →
       e.reached ≡ true →
       IsProven g xs b e
   join_proven b e proven j r = record {
-    reached = by_reached b proven (who_fails (λ h. false) start flows entries b (preds_at preds b) (no_hands _ (sym j.reached ∙ r)));
-    apart = λ x y d. by_apart b x y proven (who_fails (agree x y) start flows entries b (preds_at preds b) (sym (j.one x y) ∙ d));
-    off = λ i less d. by_missing b i proven (who_fails (λ h. hand_bit h i) start flows entries b (preds_at preds b) (sym (j.bit i less) ∙ d));
+    reached = by_reached b proven (who_fails (λ h. false) start flows entries b (ways_at preds b) (no_hands _ (sym j.reached ∙ r)));
+    apart = λ x y d. by_apart b x y proven (who_fails (agree x y) start flows entries b (ways_at preds b) (sym (j.one x y) ∙ d));
+    off = λ i less d. by_missing b i proven (who_fails (λ h. hand_bit h i) start flows entries b (ways_at preds b) (sym (j.bit i less) ∙ d));
   }
 
   -- ---- what is never split is one on every path
@@ -265,20 +266,20 @@ module _ (g : Program) (xs : List Tracked) (start : BlockEntry) (flows : List Fl
     pub bit : (i : ℕ) → i < length xs → slice_index_or e.given i false ≡ true → IsSome (token_at xs (suc i) t)
 
   abbrev AllSettled : Type 0
-  AllSettled = (b : ℕ) (e : BlockEntry) → slice_get entries b ≡ Some e → IsSettled (length xs) (handed start flows entries b (preds_at preds b)) e
+  AllSettled = (b : ℕ) (e : BlockEntry) → slice_get entries b ≡ Some e → IsSettled (length xs) (handed start flows entries b (ways_at preds b)) e
 
-  at_start : (b : ℕ) (e : BlockEntry) (t : Tokens) → IsSettled (length xs) (handed start flows entries b (preds_at preds b)) e → Begins xs b t → Tells e t
+  at_start : (b : ℕ) (e : BlockEntry) (t : Tokens) → IsSettled (length xs) (handed start flows entries b (ways_at preds b)) e → Begins xs b t → Tells e t
   at_start b e t s (first, same) = record {
     known_here = s.reached (started b first);
     one = λ x y c.
-        let agreed = start_passes (agree x y) start flows entries b (preds_at preds b) first (s.one x y (eq-eqb _ _ c)) in
+        let agreed = start_passes (agree x y) start flows entries b (ways_at preds b) first (s.one x y (eq-eqb _ _ c)) in
         same x ∙ (facts.is_start.one x y).0 (eqb-true _ _ (sym (start_agrees start x y) ∙ agreed)) ∙ sym (same y);
     bit = λ i less g.
-        let set = start_passes (λ h. hand_bit h i) start flows entries b (preds_at preds b) first (s.bit i less g) in
+        let set = start_passes (λ h. hand_bit h i) start flows entries b (ways_at preds b) first (s.bit i less g) in
         subst IsSome (sym (same (suc i))) ((facts.is_start.bit i).0 set);
   } where
-    started : (c : ℕ) → c ≡ 0 → not (nat_eq (length (handed start flows entries c (preds_at preds b))) 0) ≡ true
-    started zero z = some_hands (handed start flows entries zero (preds_at preds b)) refl
+    started : (c : ℕ) → c ≡ 0 → not (nat_eq (length (handed start flows entries c (ways_at preds b))) 0) ≡ true
+    started zero z = some_hands (handed start flows entries zero (ways_at preds b)) refl
     started (suc c) z = absurd (omega arith)
 
   given_or_beyond : (x : BlockEntry) (u : Tokens) → Tells x u → IsKnown (length xs) x → (j : ℕ) (z : Bool) → nat_lt j (length xs) ≡ z →
@@ -287,16 +288,16 @@ module _ (g : Program) (xs : List Tracked) (start : BlockEntry) (flows : List Fl
   given_or_beyond x u h k j false less e =
       absurd (false≢true (sym (get_or_past x.given j false (omega (arith, k.bits, ltb-false j (length xs) less))) ∙ e))
 
-  at_way : (b m : ℕ) (e : BlockEntry) (t : Tokens) → IsSettled (length xs) (handed start flows entries b (preds_at preds b)) e → (c : Comes g xs flows b m t) →
+  at_way : (b m : ℕ) (e : BlockEntry) (t : Tokens) → IsSettled (length xs) (handed start flows entries b (ways_at preds b)) e → (c : Comes g xs flows b m t) →
       (x : BlockEntry) → slice_get entries c.block ≡ Some x → Tells x c.tokens → Tells e t
   at_way b m e t s c x at h =
       let k = shaped_known (length xs) x (shaped c.block x at) h.known_here in
       let w = (facts.are_sound c.block c.flow c.here).0 in
       let among = (facts.are_preds.each b c.block).1 (flow_edge flows c.block b c.flow c.here c.way) in
       record {
-        known_here = s.reached (some_hands _ (nonempty (list_all (λ q. false) (handed start flows entries b (preds_at preds b))) refl among h.known_here));
+        known_here = s.reached (some_hands _ (nonempty (list_all (λ q. false) (handed start flows entries b (ways_at preds b))) refl among h.known_here));
         one = λ y z same.
-            let agreed = hand_passes (agree y z) start flows entries b (preds_at preds b) c.block x c.flow among at c.here h.known_here (s.one y z
+            let agreed = hand_passes (agree y z) start flows entries b (ways_at preds b) c.block x c.flow among at c.here h.known_here (s.one y z
             (eq-eqb _ _ same)) in
             c.told y
             ∙ one_past (length x.classes) c.steps x.classes xs c.tokens (source_at c.flow.changes y) (source_at c.flow.changes z)
@@ -304,14 +305,14 @@ module _ (g : Program) (xs : List Tracked) (start : BlockEntry) (flows : List Fl
             (source_fit (length xs) c.flow.changes z w) h.one (eqb-true _ _ agreed)
             ∙ sym (c.told z);
         bit = λ i less g.
-            let set = hand_passes (λ q. hand_bit q i) start flows entries b (preds_at preds b) c.block x c.flow among at c.here h.known_here (s.bit i less g) in
+            let set = hand_passes (λ q. hand_bit q i) start flows entries b (ways_at preds b) c.block x c.flow among at c.here h.known_here (s.bit i less g) in
             subst IsSome (sym (c.told (suc i)))
             (given_past c.steps x.given xs c.tokens (source_at c.flow.changes (suc i)) (λ j. given_or_beyond x c.tokens h k j (nat_lt j (length xs)) refl) set);
       } where
-        nonempty : (z : Bool) → list_all (λ q. false) (handed start flows entries b (preds_at preds b)) ≡ z → Contains (preds_at preds b) c.block →
+        nonempty : (z : Bool) → list_all (λ q. false) (handed start flows entries b (ways_at preds b)) ≡ z → Contains (ways_at preds b) c.block →
             x.reached ≡ true →
-            list_all (λ q. false) (handed start flows entries b (preds_at preds b)) ≡ false
-        nonempty true e among r = absurd (false≢true (hand_passes (λ q. false) start flows entries b (preds_at preds b) c.block x c.flow among at c.here r e))
+            list_all (λ q. false) (handed start flows entries b (ways_at preds b)) ≡ false
+        nonempty true e among r = absurd (false≢true (hand_passes (λ q. false) start flows entries b (ways_at preds b) c.block x c.flow among at c.here r e))
         nonempty false e among r = e
 
   there : length entries ≡ length flows → (b : ℕ) (f : Flow) → slice_get flows b ≡ Some f → (x : BlockEntry) × (slice_get entries b ≡ Some x)
@@ -320,7 +321,7 @@ module _ (g : Program) (xs : List Tracked) (start : BlockEntry) (flows : List Fl
     found (Some x) e = (x, e)
     found None e = absurd (some_here entries b e (omega (arith, long, slice_get_within flows b f at)))
 
-  step : (b m : ℕ) (e : BlockEntry) (t : Tokens) → length entries ≡ length flows → IsSettled (length xs) (handed start flows entries b (preds_at preds b)) e →
+  step : (b m : ℕ) (e : BlockEntry) (t : Tokens) → length entries ≡ length flows → IsSettled (length xs) (handed start flows entries b (ways_at preds b)) e →
       ((p k : ℕ) (u : Tokens) (x : BlockEntry) → PathTo g p k u → k < m → slice_get entries p ≡ Some x → Tells x u) →
       Begins xs b t ⊎ Comes g xs flows b m t → Tells e t
   step b m e t long s before (inl begins) = at_start b e t s begins

@@ -4,14 +4,14 @@ use Rattle.std.specs.Prelude.{slice_get, slice_index_or}
 use Rattle.std.proofs.lemmas.Bool.{false≢true}
 use Rattle.std.proofs.lemmas.Option.{slice_get_within}
 use Rattle.dataflow.specs.Fixpoint.{Visited}
-use Rattle.dataflow.specs.Graph.{ArePredecessors}
+use Rattle.dataflow.specs.Graph.{ways_at, ArePredecessors}
 use Rattle.mir_func.specs.Graph.{Program}
 use Rattle.value_solver.specs.declared.tracked.Tracked.{Tracked}
 use Rattle.value_solver.specs.declared.entry.BlockEntry.{BlockEntry}
 use Rattle.value_solver.specs.Entry.{IsEntry}
 use Rattle.value_solver.specs.declared.flow.Flow.{Flow}
 use Rattle.value_solver.specs.declared.solve.Table.{Table}
-use Rattle.value_solver.specs.Hands.{ways_of, AreSoundFlows, IsShaped, handed, preds_at}
+use Rattle.value_solver.specs.Hands.{ways_of, AreSoundFlows, IsShaped, handed}
 use Rattle.value_solver.specs.Flows.{AreFlows, IsStart}
 use Rattle.value_solver.specs.Invariants.{IsProblem, IsTable, Turned, IsState, AreProven, Facts, IsSettled, weight_of}
 use Rattle.value_solver.proofs.Weights.{light, light_table}
@@ -98,7 +98,7 @@ settled_is_exact n start flows preds entries dirty sound are_preds s clean g xs 
       shaped : (c : ℕ) (x : BlockEntry) → slice_get entries c ≡ Some x → IsShaped (length xs) x
       shaped c x at = subst (λ (m : ℕ). IsShaped m x) (sym is) (s.table.shaped c x at)
 
-      settled : (c : ℕ) (x : BlockEntry) → slice_get entries c ≡ Some x → IsSettled (length xs) (handed start flows entries c (preds_at preds c)) x
+      settled : (c : ℕ) (x : BlockEntry) → slice_get entries c ≡ Some x → IsSettled (length xs) (handed start flows entries c (ways_at preds c)) x
       settled c x at =
-          subst (λ (m : ℕ). IsSettled m (handed start flows entries c (preds_at preds c)) x) (sym is)
+          subst (λ (m : ℕ). IsSettled m (handed start flows entries c (ways_at preds c)) x) (sym is)
           (s.table.settled c x at (clean c (omega (arith, slice_get_within entries c x at, s.table.long))))

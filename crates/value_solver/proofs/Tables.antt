@@ -7,7 +7,7 @@ use Rattle.std.proofs.lemmas.Bool.{false≢true, eqb-true, eqb-false, eq-eqb, ne
 use Rattle.std.proofs.lemmas.Option.{get_or_from_slice_get}
 use Rattle.std.proofs.lemmas.List.{get_or-set_same, get_or-set_other, get_or_past}
 use Rattle.std.proofs.Math.ListN.{length-set}
-use Rattle.dataflow.specs.Graph.{ArePredecessors}
+use Rattle.dataflow.specs.Graph.{ways_at, ArePredecessors}
 use Rattle.mir_func.specs.Graph.{Program}
 use Rattle.value_solver.specs.declared.tracked.Tracked.{Tracked}
 use Rattle.value_solver.specs.declared.entry.BlockEntry.{BlockEntry}
@@ -16,7 +16,7 @@ use Rattle.value_solver.specs.declared.flow.Source.TheVariants.{Was, New, Namele
 use Rattle.value_solver.specs.declared.flow.Flow.{Flow}
 use Rattle.value_solver.specs.Numbering.{IsNumbered}
 use Rattle.value_solver.specs.Joining.{Hand, hand_bit, agree, IsJoin, IsKnown, source_at, class_past, bit_past}
-use Rattle.value_solver.specs.Hands.{hand_by, hands_of, handed, first_hand, preds_at, ways_of, AreSoundFlows, IsShaped, Visited}
+use Rattle.value_solver.specs.Hands.{hand_by, hands_of, handed, first_hand, ways_of, AreSoundFlows, IsShaped, Visited}
 use Rattle.value_solver.specs.Invariants.{IsProven, IsSettled, IsRefined, AreProven, Facts, IsTable, Turned, weight, weight_of, classes_from, count_off}
 use Rattle.value_solver.proofs.Edges.{edge_flow}
 use Rattle.value_solver.proofs.Passing.{finer_past, less_past, source_fit}
@@ -140,12 +140,12 @@ join_known n start flows entries b ps e known shaped j r = record {
 
 module _ (n : ℕ) (start : BlockEntry) (flows : List Flow) (preds : List (List ℕ)) (old : List BlockEntry) (before : List Bool) (known : IsKnown n start)
     (sound : AreSoundFlows n flows) (are_preds : ArePredecessors (ways_of flows) preds) (t : IsTable n start flows preds old before)
-    (b : ℕ) (e : BlockEntry) (less : b < length flows) (join : IsJoin n (handed start flows old b (preds_at preds b)) e) (r : e.reached ≡ true) where
+    (b : ℕ) (e : BlockEntry) (less : b < length flows) (join : IsJoin n (handed start flows old b (ways_at preds b)) e) (r : e.reached ≡ true) where
   here : b < length old
   here = omega (arith, t.long, less)
 
   fit : IsKnown n e
-  fit = join_known n start flows old b (preds_at preds b) e known t.shaped join r
+  fit = join_known n start flows old b (ways_at preds b) e known t.shaped join r
 
   -- it is finer than the one before
   finer : (o : BlockEntry) → slice_get old b ≡ Some o → o.reached ≡ true → IsFiner n e o
@@ -174,28 +174,28 @@ module _ (n : ℕ) (start : BlockEntry) (flows : List Flow) (preds : List (List 
   never_falls : Falls (λ h. false) flows old b e
   never_falls o f at ro is absent = absent
 
-  refined_by : (c : ℕ) (x : BlockEntry) → IsRefined n (handed start flows old c (preds_at preds c)) x →
-      IsRefined n (handed start flows (slice_set old b e) c (preds_at preds c)) x
+  refined_by : (c : ℕ) (x : BlockEntry) → IsRefined n (handed start flows old c (ways_at preds c)) x →
+      IsRefined n (handed start flows (slice_set old b e) c (ways_at preds c)) x
   refined_by c x f = record {
-    reached = λ h. some_hands _ (not_all (list_all (λ q. false) (handed start flows (slice_set old b e) c (preds_at preds c))) refl (no_hands _ (f.reached h)));
-    one = λ y z all. f.one y z (all_fall (agree y z) start flows old b e c (preds_at preds c) here r (agree_falls y z) all);
-    bit = λ i h all. f.bit i h (all_fall (λ q. hand_bit q i) start flows old b e c (preds_at preds c) here r (bit_falls i) all);
+    reached = λ h. some_hands _ (not_all (list_all (λ q. false) (handed start flows (slice_set old b e) c (ways_at preds c))) refl (no_hands _ (f.reached h)));
+    one = λ y z all. f.one y z (all_fall (agree y z) start flows old b e c (ways_at preds c) here r (agree_falls y z) all);
+    bit = λ i h all. f.bit i h (all_fall (λ q. hand_bit q i) start flows old b e c (ways_at preds c) here r (bit_falls i) all);
   } where
-    not_all : (z : Bool) → list_all (λ q. false) (handed start flows (slice_set old b e) c (preds_at preds c)) ≡ z →
-        list_all (λ q. false) (handed start flows old c (preds_at preds c)) ≡ false → list_all (λ q. false)
-        (handed start flows (slice_set old b e) c (preds_at preds c)) ≡ false
-    not_all true all before = absurd (false≢true (sym before ∙ all_fall (λ q. false) start flows old b e c (preds_at preds c) here r never_falls all))
+    not_all : (z : Bool) → list_all (λ q. false) (handed start flows (slice_set old b e) c (ways_at preds c)) ≡ z →
+        list_all (λ q. false) (handed start flows old c (ways_at preds c)) ≡ false → list_all (λ q. false)
+        (handed start flows (slice_set old b e) c (ways_at preds c)) ≡ false
+    not_all true all before = absurd (false≢true (sym before ∙ all_fall (λ q. false) start flows old b e c (ways_at preds c) here r never_falls all))
     not_all false all before = all
 
-  join_refined : IsRefined n (handed start flows old b (preds_at preds b)) e
+  join_refined : IsRefined n (handed start flows old b (ways_at preds b)) e
   join_refined = record { reached = λ h. sym join.reached ∙ h; one = λ x y all. join.one x y ∙ all; bit = λ i h all. join.bit i h ∙ all }
 
-  join_settled : IsSettled n (handed start flows old b (preds_at preds b)) e
+  join_settled : IsSettled n (handed start flows old b (ways_at preds b)) e
   join_settled = record { reached = λ h. r; one = λ x y same. sym (join.one x y) ∙ same; bit = λ i h set. sym (join.bit i h) ∙ set }
 
   -- a table with this entry
   pub changed_table : (after : List Bool) → length after ≡ length flows →
-      ((c : ℕ) → slice_index_or after c true ≡ false → ((c ≡ b) ⊎ (slice_index_or before c true ≡ false)) × (Contains (preds_at preds c) b → ⊥)) →
+      ((c : ℕ) → slice_index_or after c true ≡ false → ((c ≡ b) ⊎ (slice_index_or before c true ≡ false)) × (Contains (ways_at preds c) b → ⊥)) →
       IsTable n start flows preds (slice_set old b e) after
   changed_table after long marks = record {
     long = length-set old b e ∙ t.long;
@@ -213,24 +213,24 @@ module _ (n : ℕ) (start : BlockEntry) (flows : List Flow) (preds : List (List 
       by_case false other = old_ones x (set_there old b e x c (eqb-false c b other) at)
 
     settled : (c : ℕ) (x : BlockEntry) → slice_get (slice_set old b e) c ≡ Some x →
-        ((c ≡ b) ⊎ (slice_index_or before c true ≡ false)) × (Contains (preds_at preds c) b → ⊥) → (z : Bool) → eqb c b ≡ z →
-        IsSettled n (handed start flows (slice_set old b e) c (preds_at preds c)) x
+        ((c ≡ b) ⊎ (slice_index_or before c true ≡ false)) × (Contains (ways_at preds c) b → ⊥) → (z : Bool) → eqb c b ≡ z →
+        IsSettled n (handed start flows (slice_set old b e) c (ways_at preds c)) x
     settled c x at (was, none) true same =
         let is = eqb-true c b same in
-        subst (λ (hs : List Hand). IsSettled n hs x) (sym (same_handed start flows old b e c (preds_at preds c) here none))
-        (subst (IsSettled n (handed start flows old c (preds_at preds c))) (set_here old b e x c here is at)
-        (subst (λ (k : ℕ). IsSettled n (handed start flows old k (preds_at preds k)) e) (sym is) join_settled))
+        subst (λ (hs : List Hand). IsSettled n hs x) (sym (same_handed start flows old b e c (ways_at preds c) here none))
+        (subst (IsSettled n (handed start flows old c (ways_at preds c))) (set_here old b e x c here is at)
+        (subst (λ (k : ℕ). IsSettled n (handed start flows old k (ways_at preds k)) e) (sym is) join_settled))
     settled c x at (inl is, none) false other = absurd (eqb-false c b other is)
     settled c x at (inr clean, none) false other =
-        subst (λ (hs : List Hand). IsSettled n hs x) (sym (same_handed start flows old b e c (preds_at preds c) here none))
+        subst (λ (hs : List Hand). IsSettled n hs x) (sym (same_handed start flows old b e c (ways_at preds c) here none))
         (t.settled c x (set_there old b e x c (eqb-false c b other) at) clean)
 
     refined : (c : ℕ) (x : BlockEntry) → slice_get (slice_set old b e) c ≡ Some x → x.reached ≡ true → (z : Bool) → eqb c b ≡ z →
-        IsRefined n (handed start flows (slice_set old b e) c (preds_at preds c)) x
+        IsRefined n (handed start flows (slice_set old b e) c (ways_at preds c)) x
     refined c x at rx true same =
         let is = eqb-true c b same in
-        refined_by c x (subst (IsRefined n (handed start flows old c (preds_at preds c))) (set_here old b e x c here is at)
-        (subst (λ (k : ℕ). IsRefined n (handed start flows old k (preds_at preds k)) e) (sym is) join_refined))
+        refined_by c x (subst (IsRefined n (handed start flows old c (ways_at preds c))) (set_here old b e x c here is at)
+        (subst (λ (k : ℕ). IsRefined n (handed start flows old k (ways_at preds k)) e) (sym is) join_refined))
     refined c x at rx false other = refined_by c x (t.refined c x (set_there old b e x c (eqb-false c b other) at) rx)
 
   -- which is proven
@@ -245,7 +245,7 @@ module _ (n : ℕ) (start : BlockEntry) (flows : List Flow) (preds : List (List 
         let here_now = eqb-true c b same in
         subst (IsProven g xs c) (set_here old b e x c here here_now at)
         (subst (λ (k : ℕ). IsProven g xs k e) (sym here_now)
-        (join_proven g xs start flows preds facts old shaped_xs b e proven (subst (λ (m : ℕ). IsJoin m (handed start flows old b (preds_at preds b)) e)
+        (join_proven g xs start flows preds facts old shaped_xs b e proven (subst (λ (m : ℕ). IsJoin m (handed start flows old b (ways_at preds b)) e)
         (sym is) join) r))
     by_case false other = proven c x (set_there old b e x c (eqb-false c b other) at) rx
 
@@ -271,8 +271,8 @@ pub changed_turn : (n : ℕ) (start : BlockEntry) (flows : List Flow) (preds : L
     ((c : ℕ) → slice_index_or after c true ≡ false → ((c ≡ b) ⊎ (slice_index_or before c true ≡ false)) × (Contains f.ways c → ⊥)) →
     Turned n start flows preds old new before after b true
 changed_turn n start flows preds old new before after b f known is sound are_preds t less some (e, r, differ, set, join) at long marks =
-    let j = subst (λ (m : ℕ). IsJoin m (handed start flows old b (preds_at preds b)) e) is join in
-    let no_way : (c : ℕ) → (Contains f.ways c → ⊥) → Contains (preds_at preds c) b → ⊥ =
+    let j = subst (λ (m : ℕ). IsJoin m (handed start flows old b (ways_at preds b)) e) is join in
+    let no_way : (c : ℕ) → (Contains f.ways c → ⊥) → Contains (ways_at preds c) b → ⊥ =
     λ c none among. let (f', at', way) = edge_flow flows b c ((are_preds.each c b).0 among) in
     none (subst (λ (q : Flow). Contains q.ways c) (same_flow f' f (sym at' ∙ at)) way) in
     subst (λ (q : List BlockEntry). Turned n start flows preds old q before after b true) (sym set) (record {
@@ -294,7 +294,7 @@ pub unchanged_turn : (n : ℕ) (start : BlockEntry) (flows : List Flow) (preds :
     after ≡ slice_set before b false →
     Turned n start flows preds old new before after b false
 unchanged_turn n start flows preds old new before after b is t less (same, (e, join, how)) set =
-    let j = subst (λ (m : ℕ). IsJoin m (handed start flows old b (preds_at preds b)) e) is join in
+    let j = subst (λ (m : ℕ). IsJoin m (handed start flows old b (ways_at preds b)) e) is join in
     let there : b < length before = omega (arith, t.marks, less) in
     subst (λ (q : List BlockEntry). Turned n start flows preds old q before after b false) (sym same)
     (subst (λ (d : List Bool). Turned n start flows preds old old before d b false) (sym set) (record {
@@ -321,22 +321,22 @@ unchanged_turn n start flows preds old new before after b is t less (same, (e, j
           ))
       fewer c clean false other = get_or-set_other before b c false true (eqb-false c b other) ∙ clean
 
-      settled_here : IsJoin n (handed start flows old b (preds_at preds b)) e → (e.reached ≡ false) ⊎ (slice_get old b ≡ Some e) → (x : BlockEntry) →
+      settled_here : IsJoin n (handed start flows old b (ways_at preds b)) e → (e.reached ≡ false) ⊎ (slice_get old b ≡ Some e) → (x : BlockEntry) →
           slice_get old b ≡ Some x →
-          IsSettled n (handed start flows old b (preds_at preds b)) x
+          IsSettled n (handed start flows old b (ways_at preds b)) x
       settled_here j (inl unknown) x at =
-          let empty : not (nat_eq (length (handed start flows old b (preds_at preds b))) 0) ≡ false = sym j.reached ∙ unknown in
+          let empty : not (nat_eq (length (handed start flows old b (ways_at preds b))) 0) ≡ false = sym j.reached ∙ unknown in
           record {
             reached = λ h. absurd (false≢true (sym empty ∙ h));
-            one = λ y z same. no_hand (λ h. agree y z h) (handed start flows old b (preds_at preds b)) empty;
-            bit = λ i h on. no_hand (λ q. hand_bit q i) (handed start flows old b (preds_at preds b)) empty;
+            one = λ y z same. no_hand (λ h. agree y z h) (handed start flows old b (ways_at preds b)) empty;
+            bit = λ i h on. no_hand (λ q. hand_bit q i) (handed start flows old b (ways_at preds b)) empty;
           } where
             no_hand : (q : Hand → Bool) (hs : List Hand) → not (nat_eq (length hs) 0) ≡ false → list_all q hs ≡ true
             no_hand q [] z = refl
             no_hand q (h ∷ hs) z = absurd (false≢true (sym z ∙ ap not (ne_eqb (suc (length hs)) 0 (λ k. absurd (omega (arith, k))))))
       settled_here j (inr stays) x at =
           let is_e : e ≡ x = same_entry e x (sym stays ∙ at) in
-          subst (IsSettled n (handed start flows old b (preds_at preds b))) is_e (record {
+          subst (IsSettled n (handed start flows old b (ways_at preds b))) is_e (record {
             reached = λ h. j.reached ∙ h;
             one = λ y z same. sym (j.one y z) ∙ same;
             bit = λ i h on. sym (j.bit i h) ∙ on;
@@ -344,10 +344,10 @@ unchanged_turn n start flows preds old new before after b is t less (same, (e, j
             same_entry : (p q : BlockEntry) → Some p ≡ Some q → p ≡ q
             same_entry p q z = cc
 
-      settled : IsJoin n (handed start flows old b (preds_at preds b)) e → (c : ℕ) (x : BlockEntry) → slice_get old c ≡ Some x →
-          slice_index_or (slice_set before b false) c true ≡ false → (z : Bool) → eqb c b ≡ z → IsSettled n (handed start flows old c (preds_at preds c)) x
+      settled : IsJoin n (handed start flows old b (ways_at preds b)) e → (c : ℕ) (x : BlockEntry) → slice_get old c ≡ Some x →
+          slice_index_or (slice_set before b false) c true ≡ false → (z : Bool) → eqb c b ≡ z → IsSettled n (handed start flows old c (ways_at preds c)) x
       settled j c x at clean true is_b =
           let here_now = eqb-true c b is_b in
-          subst (λ (k : ℕ). IsSettled n (handed start flows old k (preds_at preds k)) x) (sym here_now)
+          subst (λ (k : ℕ). IsSettled n (handed start flows old k (ways_at preds k)) x) (sym here_now)
           (settled_here j how x (subst (λ (k : ℕ). slice_get old k ≡ Some x) here_now at))
       settled j c x at clean false other = t.settled c x at (sym (get_or-set_other before b c false true (eqb-false c b other)) ∙ clean)

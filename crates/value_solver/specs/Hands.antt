@@ -1,6 +1,7 @@
 -- What the predecessors of a block propagate into it, by a table of entries.
 use Rattle.std.specs.Prelude.{◌≡◌, ◌≢◌, ◌⊎◌, ℕ, zero, suc, ◌<◌, List, [], ◌∷◌, ◌++◌, length, map, slice_get, slice_index_or, slice_set, Bool, true, false}
 use Rattle.std.specs.Prelude.{cond, Option, None, Some, Contains}
+use Rattle.dataflow.specs.Graph.{ways_at}
 use Rattle.value_solver.specs.declared.entry.BlockEntry.{BlockEntry}
 use Rattle.value_solver.specs.declared.flow.Flow.{Flow}
 use Rattle.value_solver.specs.Joining.{Hand, AreWithin, IsKnown, IsJoin}
@@ -29,10 +30,6 @@ first_hand start (suc b) = []
 abbrev pub handed : BlockEntry → List Flow → List BlockEntry → (block : ℕ) → List ℕ → List Hand
 handed start flows entries b ps = first_hand start b ++ hands_of flows entries ps
 
--- the predecessors of the block with this index
-abbrev pub preds_at : List (List ℕ) → ℕ → List ℕ
-preds_at preds b = slice_index_or preds b []
-
 -- the successors of each block, by the flows
 abbrev pub ways_of : List Flow → List (List ℕ)
 ways_of flows = map (λ f. f.ways) flows
@@ -49,6 +46,6 @@ IsShaped n e = ((e.reached ≡ true) × IsKnown n e) ⊎ ((e.reached ≡ false) 
 -- becomes the entry, and the flag reports the change
 abbrev pub Visited : BlockEntry → List Flow → List (List ℕ) → (old new : List BlockEntry) → (block : ℕ) → (changed : Bool) → Type 0
 Visited start flows preds old new b true = (e : BlockEntry) × (e.reached ≡ true) × (slice_index_or old b e ≢ e) × (new ≡ slice_set old b e)
-    × IsJoin (length start.classes) (handed start flows old b (preds_at preds b)) e
+    × IsJoin (length start.classes) (handed start flows old b (ways_at preds b)) e
 Visited start flows preds old new b false = (new ≡ old)
-    × ((e : BlockEntry) × IsJoin (length start.classes) (handed start flows old b (preds_at preds b)) e × ((e.reached ≡ false) ⊎ (slice_get old b ≡ Some e)))
+    × ((e : BlockEntry) × IsJoin (length start.classes) (handed start flows old b (ways_at preds b)) e × ((e.reached ≡ false) ⊎ (slice_get old b ≡ Some e)))

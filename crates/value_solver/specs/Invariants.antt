@@ -2,7 +2,7 @@
 use Rattle.std.specs.Prelude.{◌≡◌, ℕ, suc, ◌+◌, ◌-◌, ◌<◌, max, cond, List, [], ◌∷◌, length, slice_get, slice_index_or, Bool, true, false, not, nat_eq}
 use Rattle.std.specs.Prelude.{None, Some}
 use Rattle.std.specs.List.{list_all}
-use Rattle.dataflow.specs.Graph.{ArePredecessors}
+use Rattle.dataflow.specs.Graph.{ways_at, ArePredecessors}
 use Rattle.mir_func.specs.Graph.{Program}
 use Rattle.sem_mir.specs.ValueId.{Tokens}
 use Rattle.value_solver.specs.declared.tracked.Tracked.{Tracked}
@@ -11,7 +11,7 @@ use Rattle.value_solver.specs.Entry.{PathTo, IsReached}
 use Rattle.value_solver.specs.declared.flow.Flow.{Flow}
 use Rattle.value_solver.specs.Numbering.{IsNumbered}
 use Rattle.value_solver.specs.Joining.{IsKnown, Hand, agree, hand_bit, alike}
-use Rattle.value_solver.specs.Hands.{handed, preds_at, ways_of, IsShaped, AreSoundFlows}
+use Rattle.value_solver.specs.Hands.{handed, ways_of, IsShaped, AreSoundFlows}
 use Rattle.value_solver.specs.Flows.{token_at, AreFlows, IsStart}
 
 -- on some path to the block's start the tokens of two entities differ
@@ -50,12 +50,12 @@ AreProven g xs entries = (b : ℕ) (e : BlockEntry) → slice_get entries b ≡ 
 -- each entry of a block outside the worklist (`dirty`) satisfies `IsSettled`
 abbrev pub AreSettled : (n : ℕ) → BlockEntry → List Flow → List (List ℕ) → List BlockEntry → (dirty : List Bool) → Type 0
 AreSettled n start flows preds entries dirty = (b : ℕ) (e : BlockEntry) → slice_get entries b ≡ Some e → slice_index_or dirty b true ≡ false →
-    IsSettled n (handed start flows entries b (preds_at preds b)) e
+    IsSettled n (handed start flows entries b (ways_at preds b)) e
 
 -- each reached entry satisfies `IsRefined`
 abbrev pub AreRefined : (n : ℕ) → BlockEntry → List Flow → List (List ℕ) → List BlockEntry → Type 0
 AreRefined n start flows preds entries = (b : ℕ) (e : BlockEntry) → slice_get entries b ≡ Some e → e.reached ≡ true →
-    IsRefined n (handed start flows entries b (preds_at preds b)) e
+    IsRefined n (handed start flows entries b (ways_at preds b)) e
 
 -- the flows, the start entry and the predecessors are those of a program
 pub record Facts (g : Program) (xs : List Tracked) (start : BlockEntry) (flows : List Flow) (preds : List (List ℕ)) : Type 0 where

@@ -1,8 +1,14 @@
-use Rattle.dataflow.proofs.Sweeps.{settling_begins, settling_then}
+use Rattle.std.proofs.Common.{arith}
 use Rattle.dataflow.proofs.fixpoint.propagate.Goals as goal
 
 pub loop-init : goal.loop-init
-loop-init g c = settling_begins _ _ _ c.requires.valid
+loop-init g c = record { valid = c.requires.valid; visits = λ most few. omega (arith, c.in_ok-worklist.ensures) }
 
 pub loop-preserved : goal.loop-preserved
-loop-preserved g c = settling_then _ _ _ _ _ c.loop.invariant c.in_ok-turn.ensures
+loop-preserved g c = record {
+  valid = c.in_ok-turn.ensures.valid;
+  visits = λ most few. omega (arith, c.loop.invariant.visits most few, c.in_ok-turn.ensures.waiting most few, c.in-Some.ensures, c.saturating_add-visits.ensures);
+}
+
+pub returns-clause-visits : goal.returns-clause-visits
+returns-clause-visits g c = λ most few. omega (arith, c.loop.invariant.visits most few)

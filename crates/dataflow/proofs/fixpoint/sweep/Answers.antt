@@ -1,4 +1,4 @@
-use Rattle.std.proofs.Common.{refl, arith}
+use Rattle.std.proofs.Common.{arith}
 use Rattle.dataflow.proofs.Sweeps.{sweep_begins, sweep_more, sweep_ends}
 use Rattle.dataflow.proofs.fixpoint.sweep.Goals as goal
 

@@ -1,11 +1,18 @@
-use Rattle.dataflow.proofs.Sweeps.{settling_begins, visited_settling}
+use Rattle.std.proofs.Common.{◌<◌, ℕ, length, ap, ◌∙◌, arith}
+use Rattle.std.proofs.Math.Nat.{mul-le-mul_left}
 use Rattle.dataflow.proofs.fixpoint.turn.Goals as goal
 
-pub returns-then-block-dependents : goal.returns-then-block-dependents
-returns-then-block-dependents g c = settling_begins _ _ _ c.requires.valid
+pub returns-then-not-changed-clause-waiting : goal.returns-then-not-changed-clause-waiting
+returns-then-not-changed-clause-waiting g c = λ most few. omega (arith, mul-le-mul_left most c.in_ok-changed.ensures.level)
 
-pub returns-then-not-changed : goal.returns-then-not-changed
-returns-then-not-changed g c = visited_settling _ _ _ _ _ _ _ c.in_ok-changed.ensures
-
-pub returns : goal.returns
-returns g c = visited_settling _ _ _ _ _ _ _ c.in_ok-changed.ensures
+pub returns-clause-waiting : goal.returns-clause-waiting
+returns-clause-waiting g c = λ most few.
+    let less : c.args.block < length c.args.dependents.now = omega arith in
+    let at = ap (length {A = ℕ}) (c.as_slice.ensures ∙ c.index-dependents-block.is) in
+    omega (
+      arith,
+      c.in_ok-add_all.ensures,
+      at,
+      few c.args.block c.index-dependents-block.result less,
+      mul-le-mul_left most (c.in_ok-changed.ensures.lower c.if-not-changed.false),
+    )

@@ -1,11 +1,9 @@
-use Rattle.std.proofs.Common.{◌≡◌, ◌+◌, ℕ, List, [], ◌∷◌, ◌++◌, length, sym, ap, ◌∙◌, subst, arith, length-append}
+use Rattle.std.proofs.Common.{◌≡◌, ◌+◌, ℕ, List, [], ◌∷◌, ◌++◌, length, sym, ap, ◌∙◌, subst, length-append}
 use Rattle.std.specs.Prelude.{Contains}
 use Rattle.dataflow.specs.Graph.{ways_at}
+use Rattle.dataflow.proofs.Preds.{none_in}
 use Rattle.dataflow.proofs.Pushed.{at_push}
 use Rattle.dataflow.proofs.graph.none.Goals as goal
-
-none_in : (q : ℕ) → Contains [] q → ⊥
-none_in q (k, less, is) = absurd (omega arith)
 
 more : (preds : List (List ℕ)) (xs : List ℕ) → xs ≡ [] → ((c q : ℕ) → Contains (ways_at preds c) q → ⊥) → (c q : ℕ) →
     Contains (ways_at (preds ++ xs ∷ []) c) q → ⊥

@@ -1,7 +1,5 @@
 use Rattle.std.proofs.Common.{[], ◌∙◌, arith}
 use Rattle.std.proofs.lemmas.List.{get_or_default}
-use Rattle.std.proofs.lemmas.List.Elements.{Contains-get_or}
-use Rattle.dataflow.specs.Graph.{ways_at}
 use Rattle.dataflow.proofs.Preds.{preds_begin, preds_more, preds_all}
 use Rattle.dataflow.proofs.graph.predecessors.Goals as goal
 
@@ -10,9 +8,8 @@ loop-block-init c = preds_begin _ _ c.in_ok-preds.ensures.long c.in_ok-preds.ens
 
 pub note-requires : goal.note-requires
 note-requires c =
-    let at = c.index-successors-block.is ∙ get_or_default c.args.successors.now c.loop-block.block _ [] c.loop-block-test.true in
-    rw (c.as_slice.ensures, at, c.loop-block.invariant.long)
-    (λ k d less. c.requires.graph c.loop-block.block _ (Contains-get_or (ways_at c.args.successors.now c.loop-block.block) k d less))
+    rw (c.as_slice.ensures ∙ c.index-successors-block.is, c.loop-block.invariant.long)
+    (c.requires.graph c.loop-block.block c.index-successors-block.result c.loop-block-test.true)
 
 pub loop-block-preserved : goal.loop-block-preserved
 loop-block-preserved c =

@@ -1,18 +1,14 @@
-use Rattle.std.proofs.Common.{ℕ, List, length, ap, ◌∙◌, subst, arith}
-use Rattle.mir_func.specs.Sound.{IsSound}
+use Rattle.std.proofs.Common.{ℕ, List, length, ap, ◌∙◌, subst}
 use Rattle.dataflow.specs.Graph.{IsOrder}
 use Rattle.dce_stale.proofs.solve.settle.Goals as goal
 
 pub reverse_post_order-requires : goal.reverse_post_order-requires
-reverse_post_order-requires c =
-    let sound : IsSound c.args.f.now = subst IsSound c.f.view_is c.f.invariant in
-    let long = ap (length {A = List ℕ}) c.as_slice-successors.ensures.value ∙ c.in_ok-ways.ensures.ways.long in
-    omega (arith, long, sound.few_blocks)
+reverse_post_order-requires c = rw c.as_slice-successors.ensures.value c.in_ok-ways.ensures.few
 
 pub solve-requires-clause-order : goal.solve-requires-clause-order
 solve-requires-clause-order c =
-    let long = ap (length {A = List ℕ}) c.as_slice-successors.ensures.value ∙ c.in_ok-ways.ensures.ways.long in
+    let long = ap (length {A = List ℕ}) c.as_slice-successors.ensures.value ∙ c.in_ok-ways.ensures.long in
     subst (λ (n : ℕ). IsOrder n c.in_ok-order.order.items) long c.in_ok-order.ensures
 
 pub solve-requires-clause-long : goal.solve-requires-clause-long
-solve-requires-clause-long c = ap (length {A = List ℕ}) c.as_slice-successors.ensures.value ∙ c.in_ok-ways.ensures.ways.long
+solve-requires-clause-long c = ap (length {A = List ℕ}) c.as_slice-successors.ensures.value ∙ c.in_ok-ways.ensures.long

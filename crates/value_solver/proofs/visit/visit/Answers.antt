@@ -3,9 +3,9 @@ use Rattle.std.specs.Prelude.{slice_index_or, Contains}
 use Rattle.std.proofs.lemmas.List.Elements.{Contains-get_or}
 use Rattle.std.proofs.lemmas.Option.{slice_get_within}
 use Rattle.value_solver.specs.declared.flow.Flow.{Flow}
-use Rattle.value_solver.specs.Hands.{ways_of, preds_at}
+use Rattle.value_solver.specs.Hands.{ways_of}
 use Rattle.std.proofs.lemmas.List.{get_or_default, length-map}
-use Rattle.dataflow.specs.Graph.{ArePredecessors}
+use Rattle.dataflow.specs.Graph.{ways_at, ArePredecessors}
 use Rattle.value_solver.proofs.Edges.{edge_flow}
 use Rattle.value_solver.proofs.visit.visit.Goals as goal
 
@@ -14,7 +14,7 @@ inside : (flows : List Flow) (preds : List (List ℕ)) (b : ℕ) (ps : List ℕ)
     k < length ps → slice_index_or ps k d < length flows
 inside flows preds b ps k d a is less h =
     let p = slice_index_or ps k d in
-    let same : ps ≡ preds_at preds b = is ∙ get_or_default preds b ps [] less in
+    let same : ps ≡ ways_at preds b = is ∙ get_or_default preds b ps [] less in
     let (f, at, way) = edge_flow flows p b ((a.each b p).0 (subst (λ (z : List ℕ). Contains z p) same (Contains-get_or ps k d h))) in
     slice_get_within flows p f at
 

@@ -13,4 +13,6 @@ pub visit-requires-clause-inside : goal.visit-requires-clause-inside
 visit-requires-clause-inside c = omega (arith, c.requires.inside, c.requires.valid.long)
 
 pub returns : goal.returns
-returns c = visited _ _ _ _ _ _ _ _ c.requires.valid c.requires.inside c.visit.ensures
+returns c =
+    let v = visited _ _ _ _ _ _ _ _ c.requires.valid c.requires.inside c.visit.ensures in
+    record { valid = v.valid; level = v.level; lower = v.lower; closed = v.closed; kept = v.kept }

@@ -1,33 +1,43 @@
-use Rattle.std.proofs.Common.{◌≡◌, ℕ, length, ap, ◌∙◌, subst, arith}
+use Rattle.std.proofs.Common.{◌≡◌, ◌+◌, ℕ, List, length, sym, ap, ◌∙◌, subst, arith, length-append}
+use Rattle.std.specs.Prelude.{All}
 use Rattle.std.proofs.lemmas.List.{length-map}
+use Rattle.std.proofs.lemmas.List.Elements.{All-push}
 use Rattle.mir_func.specs.declared.block.Block.{Block}
 use Rattle.mir_func.specs.Sound.{IsSound}
-use Rattle.pass_liveness.proofs.Ways.{ways_none, ways_more, ways_all, ways_graph}
+use Rattle.dataflow.specs.Graph.{AreBlocks}
 use Rattle.pass_liveness.proofs.names.SlotAndBlockNumbers.successors.Goals as goal
 
 pub loop-block-init : goal.loop-block-init
-loop-block-init c = ways_none _ _ _ c.in_ok-ways.ensures.items
+loop-block-init c =
+    let e = c.in_ok-ways.ensures.items in record { long = ap (length {A = List ℕ}) e; within = rw e (λ k d less. absurd (omega arith)) }
 
-pub indices-requires : goal.indices-requires
-indices-requires c =
+pub add_all-requires-clause-few : goal.add_all-requires-clause-few
+add_all-requires-clause-few c =
     let sound : IsSound c.args.f.now = subst IsSound c.f.view_is c.f.invariant in
-    let long : length c.args.self.now.blocks ≡ length c.args.f.now.blocks =
-    ap (length {A = ℕ}) c.requires ∙ length-map c.args.f.now.blocks (λ (b : Block). b.id) in
+    let long = ap (length {A = ℕ}) c.requires ∙ length-map c.args.f.now.blocks (λ (b : Block). b.id) in
     omega (arith, long, sound.few_blocks)
+
+pub add_all-requires-clause-blocks : goal.add_all-requires-clause-blocks
+add_all-requires-clause-blocks c = rw c.new-indices.ensures (λ k d less. absurd (omega arith))
 
 pub loop-block-preserved : goal.loop-block-preserved
 loop-block-preserved c =
-    ways_more c.args.self.now.blocks c.args.f.now c.loop-block.block c.successors.result c.in_ok-indices.indices c.loop-block.ways.items _ c.successors.ensures
-    c.in_ok-indices.ensures c.in_ok-push.ensures.items c.loop-block.invariant
+    let e = c.in_ok-push.ensures.items in
+    record {
+      long = ap length e ∙ length-append c.loop-block.ways.items _ ∙ ap (λ (z : ℕ). z + 1) c.loop-block.invariant.long;
+      within = rw e (All-push (AreBlocks (length c.args.self.now.blocks)) c.loop-block.ways.items _ c.loop-block.invariant.within c.in_ok-add_all.ensures);
+    }
 
-pub returns-clause-ways : goal.returns-clause-ways
-returns-clause-ways c =
+pub returns-clause-long : goal.returns-clause-long
+returns-clause-long c =
     let view : c.f.inside.blocks ≡ c.args.f.now.blocks = cc in
-    let long : length c.f.inside.blocks ≡ length c.args.f.now.blocks = ap (length {A = Block}) view in
-    ways_all _ _ _ _ (omega (arith, long, c.len-count.ensures)) c.loop-block.invariant
+    omega (arith, ap (length {A = Block}) view, c.len-count.ensures, c.loop-block.invariant.long)
+
+pub returns-clause-few : goal.returns-clause-few
+returns-clause-few c =
+    let sound : IsSound c.args.f.now = subst IsSound c.f.view_is c.f.invariant in omega (arith, returns-clause-long c, sound.few_blocks)
 
 pub returns-clause-graph : goal.returns-clause-graph
 returns-clause-graph c =
-    let view : c.f.inside.blocks ≡ c.args.f.now.blocks = cc in
-    let long : length c.f.inside.blocks ≡ length c.args.f.now.blocks = ap (length {A = Block}) view in
-    ways_graph _ c.args.f.now _ c.requires (ways_all _ _ _ _ (omega (arith, long, c.len-count.ensures)) c.loop-block.invariant)
+    let long = ap (length {A = ℕ}) c.requires ∙ length-map c.args.f.now.blocks (λ (b : Block). b.id) in
+    subst (λ (n : ℕ). All (AreBlocks n) c.loop-block.ways.items) (long ∙ sym (returns-clause-long c)) c.loop-block.invariant.within

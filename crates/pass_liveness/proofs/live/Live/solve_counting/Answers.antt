@@ -2,7 +2,7 @@ use Rattle.std.proofs.Common.{ℕ, length, ap, subst, List, ◌∙◌, sym}
 use Rattle.mir_func.specs.Function.{Function}
 use Rattle.mir_func.specs.Sound.{IsSound, AllItems, SlotsIn}
 use Rattle.pass_liveness.proofs.Ready.{begun, solved}
-use Rattle.pass_liveness.proofs.live.Live.solve.Goals as goal
+use Rattle.pass_liveness.proofs.live.Live.solve_counting.Goals as goal
 
 pub settle-requires-clause-state : goal.settle-requires-clause-state
 settle-requires-clause-state c =
@@ -15,4 +15,4 @@ pub returns : goal.returns
 returns c =
     let sound : IsSound c.args.f.now = subst IsSound c.f.view_is c.f.invariant in
     solved c.args.f.now c.in_ok-names.names.slots c.in_ok-names.names.blocks c.settle.new.starts.items c.in_ok-names.ensures.slots
-    c.in_ok-names.ensures.blocks sound.blocks_apart c.in_ok-settle.ensures.state c.in_ok-settle.ensures.closed
+    c.in_ok-names.ensures.blocks sound.blocks_apart c.in_ok-visits.ensures.state c.in_ok-visits.ensures.closed
