@@ -30,6 +30,15 @@ pub trait Analysis {
             Visited (IsValid self.now) (IsClosed self.now) (height self.now) state.old state.new block changed) };
 }
 
+/// What finding a fixpoint took.
+#[derive(Clone, Copy)]
+pub struct Statistics {
+    /// The number of visits by the worklist.
+    pub visits: u64,
+    /// The number of sweeps after it, with the last one, in which nothing changed.
+    pub sweeps: u64,
+}
+
 /// Visits a block of the worklist. If the state changed, the blocks that depend on it wait.
 fn turn<A: Analysis>(
     analysis: &A,
@@ -142,25 +151,25 @@ pub fn settle<A: Analysis>(
 }
 
 /// Finds the fixpoint by a worklist: visits all blocks in an order, and again each block that depends on one whose visit
-/// changed the state. Sweeps over all blocks end it, as a rule one, in which nothing changes. Returns the number of
-/// visits before the sweeps: one for each block of the order, and one at most for each dependent of a block whose visit
-/// changed the state. The error is out of memory.
+/// changed the state. Sweeps over all blocks end it, as a rule one, in which nothing changes. The worklist makes a visit
+/// for each block of the order, and one at most for each dependent of a block whose visit changed the state. The error
+/// is out of memory.
 pub fn solve<A: Analysis>(
     alloc: Global,
     analysis: &A,
     state: &mut A::State,
     order: &mut Vec<u32>,
     dependents: &[Ways],
-) -> Result<u64, AllocError>
+) -> Result<Statistics, AllocError>
     requires valid { A.IsValid analysis.now state.old }
     requires order { IsOrder (A.blocks analysis.now) order.old.items }
     requires long { length dependents.now ≡ A.blocks analysis.now }
     ensures valid { OnOk result (A.IsValid analysis.now state.new) }
     ensures closed { OnOk result ((b : ℕ) → b < A.blocks analysis.now → A.IsClosed analysis.now state.new b) }
-    ensures visits { IfOk result (λ visits. (most : ℕ) → AreAtMost most dependents.now →
-        visits ≤ length order.old.items + most * A.height analysis.now state.old) }
+    ensures visits { IfOk result (λ took. (most : ℕ) → AreAtMost most dependents.now →
+        took.visits ≤ length order.old.items + most * A.height analysis.now state.old) }
 {
     let visits = propagate(alloc, analysis, state, order.as_slice(), dependents)?;
-    settle(analysis, state, order)?;
-    Ok(visits)
+    let sweeps = settle(analysis, state, order)?;
+    Ok(Statistics { visits, sweeps })
 }

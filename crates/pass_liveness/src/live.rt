@@ -15,6 +15,7 @@ use crate::index::Index;
 use crate::names::SlotAndBlockNumbers;
 use crate::set::PlaceSet;
 use base_ids::code::SlotId;
+use dataflow::fixpoint::Statistics;
 use mir_func::block::Block;
 use mir_func::func::Func;
 use mir_func::item::ItemKind;
@@ -47,15 +48,14 @@ impl Live {
         Ok(live)
     }
 
-    /// Computes the live-in sets of a function, and counts the visits of its blocks, without those of the last sweeps.
-    /// The error is out of memory.
-    pub fn solve_counting(alloc: Global, f: &Func) -> Result<(Live, u64), AllocError>
+    /// Computes the live-in sets of a function, and tells what it took. The error is out of memory.
+    pub fn solve_counting(alloc: Global, f: &Func) -> Result<(Live, Statistics), AllocError>
         ensures { IfOk result (λ solved. AreLiveSets f.now solved.0) }
     {
         let names = names_of(alloc, f)?;
         let mut starts = empty_sets(alloc, f.blocks.len())?;
-        let visits = names.settle(alloc, f, &mut starts)?;
-        Ok((Live { names, starts }, visits))
+        let took = names.settle(alloc, f, &mut starts)?;
+        Ok((Live { names, starts }, took))
     }
 
     /// Whether a place is in a set. It takes no memory.

@@ -14,7 +14,7 @@ ghost use Rattle.pass_liveness.specs.Solving.{IsKnownBlock, IsState, IsClosed, g
 use crate::names::SlotAndBlockNumbers;
 use crate::set::PlaceSet;
 use base_ids::code::BlockId;
-use dataflow::fixpoint::{Analysis, solve};
+use dataflow::fixpoint::{Analysis, Statistics, solve};
 use dataflow::graph::predecessors;
 use dataflow::order::post_order;
 use mir_func::block::Block;
@@ -61,14 +61,14 @@ impl SlotAndBlockNumbers {
         start.unite(&live)
     }
 
-    /// Visits all blocks, successors first, and again those of which a successor's set grew, until no set grows. Returns
-    /// the number of visits, without those of the last sweeps. The error is out of memory.
+    /// Visits all blocks, successors first, and again those of which a successor's set grew, until no set grows. The
+    /// error is out of memory.
     pub fn settle(
         &self,
         alloc: Global,
         f: &Func,
         starts: &mut Vec<PlaceSet>,
-    ) -> Result<u64, AllocError>
+    ) -> Result<Statistics, AllocError>
         requires names { self.now.blocks ≡ ids_of f.now.blocks }
         requires state { IsState self.now.slots self.now.blocks f.now.blocks starts.old.items }
         ensures state { OnOk result (IsState self.now.slots self.now.blocks f.now.blocks starts.new.items) }
@@ -85,8 +85,8 @@ impl SlotAndBlockNumbers {
             names: self,
             blocks,
         };
-        let visits = solve(alloc, &equations, starts, &mut order, dependents)?;
-        Ok(visits)
+        let took = solve(alloc, &equations, starts, &mut order, dependents)?;
+        Ok(took)
     }
 
     /// What is live before the item of this index in the block of this index, or at the block's end.

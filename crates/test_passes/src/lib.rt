@@ -10,3 +10,5 @@ mod rows;
 mod shown;
 #[cfg(test)]
 mod tests;
+#[cfg(test)]
+mod visits;

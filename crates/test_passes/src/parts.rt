@@ -54,7 +54,8 @@ pub fn made(alloc: Global, part: &Part, text: &str) -> Result<Text, Fail> {
     Ok(made)
 }
 
-fn function_of(alloc: Global, text: &str) -> Result<Parsed, Fail> {
+/// The first function of a text.
+pub fn function_of(alloc: Global, text: &str) -> Result<Parsed, Fail> {
     let bytes = text.as_bytes();
     if 10_000 < bytes.len() {
         return Err(Fail::from("a long text"));

@@ -15,4 +15,4 @@ pub returns : goal.returns
 returns c =
     let sound : IsSound c.args.f.now = subst IsSound c.f.view_is c.f.invariant in
     solved c.args.f.now c.in_ok-names.names.slots c.in_ok-names.names.blocks c.settle.new.starts.items c.in_ok-names.ensures.slots
-    c.in_ok-names.ensures.blocks sound.blocks_apart c.in_ok-visits.ensures.state c.in_ok-visits.ensures.closed
+    c.in_ok-names.ensures.blocks sound.blocks_apart c.in_ok-took.ensures.state c.in_ok-took.ensures.closed

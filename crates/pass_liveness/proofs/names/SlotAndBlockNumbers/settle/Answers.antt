@@ -34,10 +34,10 @@ solve-requires-clause-long c =
 pub returns-clause-state : goal.returns-clause-state
 returns-clause-state c =
     let blocks : c.as_slice-blocks.result.now ≡ c.args.f.now.blocks = c.as_slice-blocks.ensures ∙ ap (λ (g : Function). g.blocks) c.f.view_is in
-    subst (λ (bs : List Block). IsState c.args.self.now.slots c.args.self.now.blocks bs c.solve.new.state.items) blocks c.in_ok-visits.ensures.valid
+    subst (λ (bs : List Block). IsState c.args.self.now.slots c.args.self.now.blocks bs c.solve.new.state.items) blocks c.in_ok-took.ensures.valid
 
 pub returns-clause-closed : goal.returns-clause-closed
 returns-clause-closed c =
     let blocks : c.as_slice-blocks.result.now ≡ c.args.f.now.blocks = c.as_slice-blocks.ensures ∙ ap (λ (g : Function). g.blocks) c.f.view_is in
     subst (λ (bs : List Block). (b : ℕ) → b < length bs → IsClosed c.args.self.now.slots c.args.self.now.blocks bs c.solve.new.state.items b) blocks
-    c.in_ok-visits.ensures.closed
+    c.in_ok-took.ensures.closed
