@@ -12,7 +12,7 @@ use Rattle.mir_func.specs.declared.item.ItemKind.TheVariants.{Code, Mark, Phi}
 use Rattle.mir_func.specs.declared.variable.VarId.{VarId}
 use Rattle.mir_func.specs.Sound.{items_of}
 use Rattle.mir_func.specs.Variables.{is_same_variable}
-use Rattle.compile_theorem.specs.Promise.{variable_lines, variable_listed}
+use Rattle.compile_theorem.specs.OutputProperties.{variable_lines, variable_listed}
 use Rattle.compile_function.specs.Emitted.{names_of}
 use Rattle.dwarf_line_table.specs.Files.{first_uses, with_new}
 use Rattle.dwarf_unit.specs.Variables.{marked, marks_of, variables_of_function}

@@ -18,7 +18,7 @@ use Rattle.mir_func.specs.Graph.{block_start, framed_program}
 use Rattle.mir_func.specs.Resolve.{resolve}
 use Rattle.read_program.specs.declared.closing.Parsed.{Parsed}
 use Rattle.compile_theorem.specs.Compiled.{IsLayoutOf}
-use Rattle.compile_theorem.specs.Promise.{variable_lines}
+use Rattle.compile_theorem.specs.OutputProperties.{variable_lines}
 use Rattle.compile_theorem.specs.Source.{SourceFunction, PassedFunction}
 use Rattle.compile_function.proofs.Listed.{variables_few, lines_same}
 use Rattle.compile_function.proofs.Located.{places}

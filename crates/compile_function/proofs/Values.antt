@@ -8,7 +8,7 @@ use Rattle.mir_func.specs.Resolve.{resolve}
 use Rattle.value_solver.specs.declared.tracked.Tracked.{Tracked}
 use Rattle.value_solver.specs.declared.entry.BlockEntry.{BlockEntry}
 use Rattle.value_solver.specs.Entry.{thing, IsEntry}
-use Rattle.value_proof.specs.Wanted.{AreThingsOf}
+use Rattle.value_proof.specs.PreferredByClass.{AreThingsOf}
 use Rattle.value_tracker.specs.Things.{AreThings}
 use Rattle.location_ranges.specs.declared.values.Values.{Values}
 use Rattle.location_ranges.specs.Stands.{AreValuesOf}

@@ -20,7 +20,7 @@ use Rattle.mir_func.specs.SoundFrame.{IsFramed}
 use Rattle.read_program.specs.declared.closing.Parsed.{Parsed}
 use Rattle.mir_printer.specs.Printable.{IsNumber}
 use Rattle.compile_theorem.specs.Compiled.{bytes_of, IsCompiledFunction, AreCompiled}
-use Rattle.compile_theorem.specs.Promise.{variable_lines}
+use Rattle.compile_theorem.specs.OutputProperties.{variable_lines}
 use Rattle.compile_theorem.proofs.Functions.{words_length}
 use Rattle.compile_theorem.specs.Source.{SourceFunction, PassedFunction}
 use Rattle.compile_program.specs.Program.{ArePassed, source_of, IsCompilable, names_of}

@@ -25,7 +25,7 @@ use Rattle.mir_func.specs.Sound.{AllItems}
 use Rattle.read_program.specs.declared.closing.Parsed.{Parsed}
 use Rattle.read_program.specs.declared.program.Program.{Program}
 use Rattle.compile_theorem.specs.Compiled.{bytes_of, IsCompiledFunction, AreCompiled}
-use Rattle.compile_theorem.specs.Promise.{variable_lines}
+use Rattle.compile_theorem.specs.OutputProperties.{variable_lines}
 use Rattle.compile_theorem.proofs.Framing.{forms_framed}
 use Rattle.compile_theorem.proofs.Functions.{words_length}
 use Rattle.compile_theorem.specs.Source.{SourceFunction, PassedFunction}

@@ -32,7 +32,7 @@ use Rattle.listing_text.specs.declared.output.ListedVariable.{ListedVariable}
 use Rattle.listing_text.specs.declared.output.ListedFunction.{ListedFunction}
 use Rattle.listing_text.specs.declared.output.Output.{Output}
 use Rattle.location_ranges.specs.Lists.{point_of, HasByte, AreRangesOf, AreListsOf}
-use Rattle.compile_theorem.specs.Promise.{GivesPart, Gives, variable_lines, variable_listed}
+use Rattle.compile_theorem.specs.OutputProperties.{GivesPart, Gives, variable_lines, variable_listed}
 use Rattle.dwarf_unit.specs.Variables.{whole, variables_of_function}
 use Rattle.compile_theorem.proofs.Framing.{marks_framed}
 use Rattle.compile_theorem.proofs.Telling.{Tells, TellsWanted, location_tells}

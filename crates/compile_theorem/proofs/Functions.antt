@@ -9,7 +9,7 @@ use Rattle.dwarf_loclists.specs.declared.range.Range.{Range}
 use Rattle.listing_text.specs.declared.output.ListedFunction.{ListedFunction}
 use Rattle.listing_text.specs.declared.output.Output.{Output}
 use Rattle.compile_theorem.specs.Compiled.{bytes_of, IsCompiledFunction, AreCompiled, IsCompiledProgram}
-use Rattle.compile_theorem.specs.Promise.{FunctionsLie}
+use Rattle.compile_theorem.specs.OutputProperties.{FunctionsLie}
 use Rattle.compile_theorem.specs.Source.{SourceFunction, PassedFunction, sources_among, OfEach}
 
 -- ---- lists

@@ -56,7 +56,7 @@ use Rattle.listing_meaning.proofs.Forms.{FormView, one, call, long, viewed}
 use Rattle.listing_meaning.proofs.Framing.{blocks_whole}
 use Rattle.listing_meaning.proofs.Sizes.{is_call_form, calls_listed}
 use Rattle.compile_theorem.specs.Laws.{CompiledHasWords}
-use Rattle.compile_theorem.specs.Promise.{variable_lines}
+use Rattle.compile_theorem.specs.OutputProperties.{variable_lines}
 use Rattle.compile_theorem.specs.Source.{PassedFunction, IsPassedFunction}
 use Rattle.dwarf_unit.specs.Variables.{variables_of_function}
 use Rattle.compile_theorem.specs.Words.{target_of, IsOffset, bytes_at, HasBytes, HasSkip, HaveWordsOf}

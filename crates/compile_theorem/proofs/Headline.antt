@@ -29,7 +29,7 @@ use Rattle.listing_meaning.specs.Program.{image_of}
 use Rattle.listing_meaning.proofs.Images.{image_shown}
 use Rattle.compile_theorem.specs.Compiled.{bytes_of}
 use Rattle.compile_theorem.specs.Laws.{CompiledPromises}
-use Rattle.compile_theorem.specs.Promise.{Gives, MeetsHeadline, variable_lines}
+use Rattle.compile_theorem.specs.OutputProperties.{Gives, MeetsHeadline, variable_lines}
 use Rattle.dwarf_unit.specs.Variables.{variables_of_function}
 use Rattle.compile_theorem.specs.Source.{PassedFunction, IsPassedFunction}
 use Rattle.compile_theorem.proofs.Exact.{IsByteOf, exact_at_entries}

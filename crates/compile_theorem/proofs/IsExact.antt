@@ -27,7 +27,7 @@ use Rattle.listing_meaning.specs.Program.{IsListedAt, blocks_shown}
 use Rattle.listing_meaning.specs.Settled.{settled}
 use Rattle.listing_meaning.proofs.Places.{places_are_points}
 use Rattle.compile_theorem.specs.Laws.{AreCompiledTo, CompiledIsExact}
-use Rattle.compile_theorem.specs.Promise.{Gives, IsExactFor, variable_lines}
+use Rattle.compile_theorem.specs.OutputProperties.{Gives, IsExactFor, variable_lines}
 use Rattle.compile_theorem.specs.Source.{PassedFunction, IsPassedFunction}
 use Rattle.dwarf_unit.specs.Variables.{variables_of_function}
 use Rattle.compile_theorem.proofs.Alike.{IsGood, wanted_to, wanted_from, none_to, none_from}

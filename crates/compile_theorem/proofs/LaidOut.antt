@@ -17,7 +17,7 @@ use Rattle.listing_meaning.proofs.Framing.{function_shown}
 use Rattle.listing_meaning.proofs.Lying.{listings_lie}
 use Rattle.compile_theorem.specs.Compiled.{AreCompiled}
 use Rattle.compile_theorem.specs.Laws.{CompiledIsLaidOut, CompiledListsPassed}
-use Rattle.compile_theorem.specs.Promise.{IsLaidOut, ListVariables, variable_lines, ListsFramed}
+use Rattle.compile_theorem.specs.OutputProperties.{IsLaidOut, ListVariables, variable_lines, ListsFramed}
 use Rattle.compile_theorem.specs.Source.{PassedFunction, sources_among, IsPassedFunction}
 use Rattle.dwarf_unit.specs.Variables.{variables_of_function}
 use Rattle.compile_theorem.proofs.Functions.{IsCompiledIn, compiled_in, as_many, functions_lie, of_sources}

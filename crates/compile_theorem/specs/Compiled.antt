@@ -18,7 +18,7 @@ use Rattle.location_ranges.specs.Lists.{AreListsOf}
 use Rattle.listing_text.specs.declared.output.ListedFunction.{ListedFunction}
 use Rattle.listing_text.specs.declared.output.Output.{Output}
 use Rattle.listing_meaning.specs.Listing.{listing_of}
-use Rattle.compile_theorem.specs.Promise.{variable_lines}
+use Rattle.compile_theorem.specs.OutputProperties.{variable_lines}
 use Rattle.compile_theorem.specs.Source.{PassedFunction}
 use Rattle.dwarf_unit.specs.Variables.{variables_of_function}
 

@@ -15,7 +15,7 @@ use Rattle.listing_text.specs.declared.output.ListedFunction.{ListedFunction}
 use Rattle.listing_meaning.specs.Listing.{listing_of}
 use Rattle.listing_text.specs.declared.output.Output.{Output}
 use Rattle.compile_theorem.specs.Compiled.{bytes_of, IsCompiledFunction, IsCompiledProgram}
-use Rattle.compile_theorem.specs.Promise.{variable_lines, Promises, IsExact, AreLaidOut, ListsPassed}
+use Rattle.compile_theorem.specs.OutputProperties.{variable_lines, Promises, IsExact, AreLaidOut, ListsPassed}
 use Rattle.compile_theorem.specs.Source.{SourceFunction, IsSourceFunction, PassedFunction, unpassed, sources_among, IsPassedFunction}
 use Rattle.compile_theorem.specs.Words.{HaveWords}
 

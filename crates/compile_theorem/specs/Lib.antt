@@ -1,5 +1,5 @@
 pub mod Source
-pub mod Promise
+pub mod OutputProperties
 pub mod Words
 pub mod Compiled
 pub mod Laws

@@ -12,9 +12,9 @@ use Rattle.mir_func.specs.declared.position.Origin.{Origin}
 use Rattle.pass_salvage.specs.declared.above.Above.{Above}
 use Rattle.pass_salvage.specs.declared.lookup.Lookup.{Lookup}
 use Rattle.pass_salvage.specs.declared.lookup.Lookup.TheVariants.{Index}
-use Rattle.pass_salvage.specs.declared.way.SalvageAction.{SalvageAction}
-use Rattle.pass_salvage.specs.declared.way.SalvageAction.TheVariants.{GetsPhi}
-use Rattle.pass_salvage.specs.Way.{way}
+use Rattle.pass_salvage.specs.declared.salvage_action.SalvageAction.{SalvageAction}
+use Rattle.pass_salvage.specs.declared.salvage_action.SalvageAction.TheVariants.{GetsPhi}
+use Rattle.pass_salvage.specs.SalvageAction.{salvage_action}
 use Rattle.pass_salvage.specs.Salvage.{above_after, put_for, entries_for, fresh_after, phi_for}
 use Rattle.pass_salvage.specs.Above.{IsIndexOf}
 use Rattle.pass_salvage.specs.Lookup.{IsLookupOf}
@@ -179,12 +179,13 @@ module _ (xs : List Item) (kept at : ℕ) (subs : List DebugSubstitution) (fresh
   -- a copy with a number that goes
   pub taken_stands : (y : Item) (k s more : ℕ) (zs : List Item) (subs' : List DebugSubstitution) (fresh' : ℕ) → fate_of roots y.kind ≡ GoesWith k s →
       Stands (salvaged (record { done = take kept (set xs at y); roots = roots; subs = subs; fresh = fresh }) k s y.origin
-      (way [] subs fresh k s (take kept (set xs at y)))) more (at + 1) zs (set xs at y) roots subs' fresh' →
+      (salvage_action [] subs fresh k s (take kept (set xs at y)))) more (at + 1) zs (set xs at y) roots subs' fresh' →
       Stands (and_renamed so_far y) more (at + 1) zs xs roots subs' fresh'
   taken_stands y k s more zs subs' fresh' fate h =
       let front : take kept (set xs at y) ≡ take kept xs = take-set-le kept xs at y le in
       subst (λ (z : CopyAction). Stands (by_fate so_far y z) more (at + 1) zs xs roots subs' fresh') (sym fate)
-      (subst (λ (ys : List Item). Stands (salvaged (record { done = ys; roots = roots; subs = subs; fresh = fresh }) k s y.origin (way [] subs fresh k s ys))
+      (subst (λ (ys : List Item). Stands (salvaged (record { done = ys; roots = roots; subs = subs; fresh = fresh }) k s y.origin
+      (salvage_action [] subs fresh k s ys))
       more
       (at + 1) zs xs roots subs' fresh') front (record {
         done = h.done;

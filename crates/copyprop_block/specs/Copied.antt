@@ -7,8 +7,8 @@ use Rattle.mir_func.specs.declared.item.Item.{Item}
 use Rattle.mir_func.specs.declared.item.ItemKind.{ItemKind}
 use Rattle.mir_func.specs.declared.item.ItemKind.TheVariants.{Code, Mark, Phi}
 use Rattle.mir_func.specs.declared.position.Origin.{Origin}
-use Rattle.pass_salvage.specs.declared.way.SalvageAction.{SalvageAction}
-use Rattle.pass_salvage.specs.Way.{way}
+use Rattle.pass_salvage.specs.declared.salvage_action.SalvageAction.{SalvageAction}
+use Rattle.pass_salvage.specs.SalvageAction.{salvage_action}
 use Rattle.pass_salvage.specs.Salvage.{above_after, put_for, entries_for, fresh_after}
 use Rattle.copyprop_block.specs.declared.roots.Root.{Root}
 use Rattle.copyprop_block.specs.declared.copies.CopyAction.{CopyAction}
@@ -69,7 +69,7 @@ salvaged a k s o w = record {
 abbrev pub by_fate : SoFar → Item → CopyAction → SoFar
 by_fate a x Stays = record { done = a.done ++ x ∷ []; roots = roots_with x.kind a.roots; subs = a.subs; fresh = a.fresh }
 by_fate a x Goes = a
-by_fate a x (GoesWith k s) = salvaged a k s x.origin (way [] a.subs a.fresh k s a.done)
+by_fate a x (GoesWith k s) = salvaged a k s x.origin (salvage_action [] a.subs a.fresh k s a.done)
 
 -- the state after one more item that is renamed already
 abbrev pub and_renamed : SoFar → Item → SoFar

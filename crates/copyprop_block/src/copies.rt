@@ -3,7 +3,7 @@
 ghost use Rattle.std.specs.Prelude.{◌≡◌, ◌+◌, ◌<◌, ◌≤◌, ◌^◌, [], List, length, take, slice_index_or, IfOk, OnOk};
 ghost use Rattle.mir_func.specs.declared.item.Item.{Item};
 ghost use Rattle.copyprop_block.specs.declared.roots.Root.{Root};
-ghost use Rattle.pass_salvage.specs.Way.{way};
+ghost use Rattle.pass_salvage.specs.SalvageAction.{salvage_action};
 ghost use Rattle.pass_salvage.specs.Lookup.{IsLookupOf};
 ghost use Rattle.copyprop_block.specs.Copied.{renamed_item, fate_of, goes_with, roots_with, salvaged, next_item};
 ghost use Rattle.copyprop_block.specs.Copied.{over_items, at_block};
@@ -16,7 +16,7 @@ use mir_substitution::substitutions::Substitutions;
 use pass_salvage::above::Above;
 use pass_salvage::lookup::Lookup;
 use pass_salvage::salvage::{put_phi, salvage};
-use pass_salvage::way::SalvageAction;
+use pass_salvage::salvage_action::SalvageAction;
 use rv64_instr::reg::Reg;
 use std::alloc::{AllocError, Global};
 
@@ -137,7 +137,7 @@ fn take_out(
           fresh =
               fresh.old;
         }) number source x.origin
-        (way [] subs.old fresh.old number source (take kept items.old.items)))
+        (salvage_action [] subs.old fresh.old number source (take kept items.old.items)))
         more (at + 1) items.new.items items.old.items roots subs.new fresh.new) }
     ensures lookup { IfOk result (λ more. IsLookupOf lookup.new subs.new (take more items.new.items)) }
     ensures counted { OnOk result (fresh.new ≤ fresh.old + 1) }

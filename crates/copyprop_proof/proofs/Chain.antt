@@ -19,9 +19,9 @@ use Rattle.mir_func.specs.Function.{Function}
 use Rattle.mir_func.specs.Sound.{IsSound}
 use Rattle.pass_trait.specs.Change.{change}
 use Rattle.pass_trait.specs.Rule.{item}
-use Rattle.pass_salvage.specs.declared.way.SalvageAction.{SalvageAction}
-use Rattle.pass_salvage.specs.declared.way.SalvageAction.TheVariants.{HasEntry, GetsEntry, GetsPhi}
-use Rattle.pass_salvage.specs.Way.{or_fresh, way}
+use Rattle.pass_salvage.specs.declared.salvage_action.SalvageAction.{SalvageAction}
+use Rattle.pass_salvage.specs.declared.salvage_action.SalvageAction.TheVariants.{HasEntry, GetsEntry, GetsPhi}
+use Rattle.pass_salvage.specs.SalvageAction.{or_fresh, salvage_action}
 use Rattle.pass_salvage.specs.Salvage.{with_number, numbered_at, phi_for, entry_for, fresh_after}
 use Rattle.pass_salvage.proofs.Chosen.{IsEntered, entered}
 use Rattle.pass_edits.specs.WeakSimulation.{PreservesWeakSimulation}
@@ -226,7 +226,7 @@ module _ (f : Function) (above : List Block) (id source_end : ℕ) (behind : Lis
       (far_of a.fresh a.fresh (le_refl a.fresh) a.done rest r.in_above r.in_done (All-tail (U a.fresh) x rest r.in_rest) r.in_behind))
 
   with_number_gone : (a : SoFar) (i : Instruction) (k : ℕ) (o : Origin) (l : Loc) (rest : List Item) (rd s : ℕ) → row_of i ≡ Moves (suc rd) s →
-      root_of a.roots (suc rd) ≡ s → Ready a (item (Code i (Some k)) o l ∷ rest) → (w : SalvageAction) → way [] a.subs a.fresh k s a.done ≡ w →
+      root_of a.roots (suc rd) ≡ s → Ready a (item (Code i (Some k)) o l ∷ rest) → (w : SalvageAction) → salvage_action [] a.subs a.fresh k s a.done ≡ w →
       Went a (salvaged a k s o w) (item (Code i (Some k)) o l) rest
   with_number_gone a i k o l rest rd s row root r HasEntry is =
       let x : Item = item (Code i (Some k)) o l in
@@ -293,7 +293,7 @@ module _ (f : Function) (above : List Block) (id source_end : ℕ) (behind : Lis
       let w = known_moves a.roots (row_of (renamed a.roots i)) s is in without_number a (renamed a.roots i) o l rest w.0 s w.1 w.2 r
   by_source a i (Some k) o l rest r (Some s) is =
       let w = known_moves a.roots (row_of (renamed a.roots i)) s is in
-      with_number_gone a (renamed a.roots i) k o l rest w.0 s w.1 w.2 r (way [] a.subs a.fresh k s a.done) refl
+      with_number_gone a (renamed a.roots i) k o l rest w.0 s w.1 w.2 r (salvage_action [] a.subs a.fresh k s a.done) refl
 
   pub by_kind : (a : SoFar) (k : ItemKind) (o : Origin) (l : Loc) (rest : List Item) → Ready a (item (renamed_kind a.roots k) o l ∷ rest) →
       Went a (next_item a (item k o l)) (item (renamed_kind a.roots k) o l) rest

@@ -20,7 +20,7 @@ use Rattle.mir_func.specs.Resolve.{is_pair, entry_of}
 use Rattle.mir_func.specs.Sound.{items_of, code_number}
 use Rattle.pass_trait.specs.Rule.{item, first_operand}
 use Rattle.mir_substitution.proofs.Entries.{entry_of-push, is_pair-true}
-use Rattle.pass_salvage.specs.Way.{or_fresh, has_entry, asks_for, may_stand}
+use Rattle.pass_salvage.specs.SalvageAction.{or_fresh, has_entry, asks_for, may_stand}
 use Rattle.pass_salvage.specs.Salvage.{with_number, numbered_at, entry_for}
 use Rattle.pass_salvage.proofs.Chosen.{IsEntered}
 use Rattle.pass_edits.proofs.Numbers.{IsUnlike, AreUnlike, all_second, not_unlike, HasCode}

@@ -20,9 +20,9 @@ use Rattle.mir_func.specs.Sound.{items_of}
 use Rattle.pass_trait.specs.Change.{Change, change}
 use Rattle.pass_trait.specs.Rule.{item}
 use Rattle.pass_trait.specs.Debug.{IsFor, KeepsItems}
-use Rattle.pass_salvage.specs.declared.way.SalvageAction.{SalvageAction}
-use Rattle.pass_salvage.specs.declared.way.SalvageAction.TheVariants.{HasEntry, GetsEntry, GetsPhi}
-use Rattle.pass_salvage.specs.Way.{way}
+use Rattle.pass_salvage.specs.declared.salvage_action.SalvageAction.{SalvageAction}
+use Rattle.pass_salvage.specs.declared.salvage_action.SalvageAction.TheVariants.{HasEntry, GetsEntry, GetsPhi}
+use Rattle.pass_salvage.specs.SalvageAction.{salvage_action}
 use Rattle.pass_salvage.specs.Salvage.{numbered_at, phi_for, entry_for}
 use Rattle.pass_salvage.proofs.Chosen.{entered}
 use Rattle.pass_edits.proofs.Numbers.{IsUnlike, AreUnlike, all_second, code_is_number, number_not, number_in}
@@ -69,7 +69,7 @@ module _ (f : Function) (above : List Block) (id source_end : ℕ) (behind : Lis
 
   by_way : (a : SoFar) (i : Instruction) (k s : ℕ) (o : Origin) (l : Loc) (rest : List Item) → Ready f above id source_end behind a
       (item (Code i (Some k)) o l ∷ rest) →
-      Added a (item (Code i (Some k)) o l ∷ rest) → (w : SalvageAction) → way [] a.subs a.fresh k s a.done ≡ w → Added (salvaged a k s o w) rest
+      Added a (item (Code i (Some k)) o l ∷ rest) → (w : SalvageAction) → salvage_action [] a.subs a.fresh k s a.done ≡ w → Added (salvaged a k s o w) rest
   by_way a i k s o l rest ready h HasEntry is =
       with_nil a (a.done ++ []) rest
       (same_entries a (a.done ++ []) a.roots (item (Code i (Some k)) o l ∷ rest) rest h
@@ -100,7 +100,7 @@ module _ (f : Function) (above : List Block) (id source_end : ℕ) (behind : Lis
       subst (λ (xs : List Item). Added (record { done = xs; roots = a.roots; subs = a.subs; fresh = a.fresh }) rest) (append-nil a.done)
       (same_entries a (a.done ++ []) a.roots (item (Code i None) o l ∷ rest) rest h
       (stand_goes f above id source_end behind h.more a (item (Code i None) o l) rest [] h.stand (λ m u. All-nil (λ (y : Item). IsUnlike m y.kind))))
-  by_source a i (Some k) o l rest (Some s) ready h = by_way a i k s o l rest ready h (way [] a.subs a.fresh k s a.done) refl
+  by_source a i (Some k) o l rest (Some s) ready h = by_way a i k s o l rest ready h (salvage_action [] a.subs a.fresh k s a.done) refl
 
   next_added : (a : SoFar) (k : ItemKind) (o : Origin) (l : Loc) (rest : List Item) → Ready f above id source_end behind a
       (item (renamed_kind a.roots k) o l ∷ rest) →
@@ -148,7 +148,7 @@ source_grows : (a : SoFar) (i : Instruction) (n : Option ℕ) (o : Origin) (l : 
     (more : List DebugSubstitution) × ((by_fate a (item (Code i n) o l) (goes_by n s)).subs ≡ a.subs ++ more)
 source_grows a i n o l None = ([], sym (append-nil a.subs))
 source_grows a i None o l (Some s) = ([], sym (append-nil a.subs))
-source_grows a i (Some k) o l (Some s) = way_grows a k s o (way [] a.subs a.fresh k s a.done)
+source_grows a i (Some k) o l (Some s) = way_grows a k s o (salvage_action [] a.subs a.fresh k s a.done)
 
 item_grows : (a : SoFar) (k : ItemKind) (o : Origin) (l : Loc) → (more : List DebugSubstitution) × ((next_item a (item k o l)).subs ≡ a.subs ++ more)
 item_grows a (Code i n) o l = source_grows a (renamed a.roots i) n o l (known_source a.roots (row_of (renamed a.roots i)))

@@ -20,9 +20,10 @@ use Rattle.mir_func.specs.Resolve.{entry_of}
 use Rattle.sem_mir.specs.Align.{is_code}
 use Rattle.pass_trait.specs.Causes.{is_origin}
 use Rattle.pass_trait.specs.Rule.{IsCopy, item, first_operand}
-use Rattle.pass_salvage.specs.declared.way.SalvageAction.{SalvageAction}
-use Rattle.pass_salvage.specs.declared.way.SalvageAction.TheVariants.{HasEntry, GetsEntry, GetsPhi}
-use Rattle.pass_salvage.specs.Way.{has_entry, or_fresh, may_stand, way_by, way_of_kind, way_at, way_from, way, first_definition, last_definition}
+use Rattle.pass_salvage.specs.declared.salvage_action.SalvageAction.{SalvageAction}
+use Rattle.pass_salvage.specs.declared.salvage_action.SalvageAction.TheVariants.{HasEntry, GetsEntry, GetsPhi}
+use Rattle.pass_salvage.specs.SalvageAction.{has_entry, or_fresh, may_stand, action_by, action_of_kind}
+use Rattle.pass_salvage.specs.SalvageAction.{action_at, action_from, salvage_action, first_definition, last_definition}
 use Rattle.pass_salvage.specs.Salvage.{numbered_at, phi_for, entry_for, put_for}
 use Rattle.pass_salvage.proofs.Chosen.{entered}
 use Rattle.pass_edits.proofs.Entered.{entered_more, entry_added, none_there}
@@ -170,29 +171,29 @@ has_some (Some e) h = (e, refl)
 
 -- no other way is that it has an entry
 module _ (subs : List DebugSubstitution) (fresh k s : ℕ) (done : List Item) where
-  no_operand : (d : ℕ) (n : Option ℕ) (p : Option ℕ) (behind : List Item) → way_by [] subs fresh k d n p behind ≡ HasEntry → ⊥
+  no_operand : (d : ℕ) (n : Option ℕ) (p : Option ℕ) (behind : List Item) → action_by [] subs fresh k d n p behind ≡ HasEntry → ⊥
   no_operand d n None behind e = cc
   no_operand d n (Some o) behind e = by_test (may_stand [] subs k d n o behind) e where
     by_test : (z : Bool) → cond z (GetsEntry d o (or_fresh fresh n)) GetsPhi ≡ HasEntry → ⊥
     by_test true e = cc
     by_test false e = cc
 
-  no_kind : (d : ℕ) (kind : ItemKind) → way_of_kind [] subs fresh k s d done kind ≡ HasEntry → ⊥
+  no_kind : (d : ℕ) (kind : ItemKind) → action_of_kind [] subs fresh k s d done kind ≡ HasEntry → ⊥
   no_kind d (Code i n) e = no_operand d n (first_definition (is_call (row_of i)) s i.operands) (drop (suc d) done) e
   no_kind d (Mark v m) e = cc
   no_kind d (Phi p m) e = cc
 
-  no_item : (d : ℕ) (x : Option Item) → way_at [] subs fresh k s d done x ≡ HasEntry → ⊥
+  no_item : (d : ℕ) (x : Option Item) → action_at [] subs fresh k s d done x ≡ HasEntry → ⊥
   no_item d None e = cc
   no_item d (Some x) e = no_kind d x.kind e
 
-  no_from : (o : Option ℕ) → way_from [] subs fresh k s done o ≡ HasEntry → ⊥
+  no_from : (o : Option ℕ) → action_from [] subs fresh k s done o ≡ HasEntry → ⊥
   no_from None e = cc
   no_from (Some d) e = no_item d (slice_get done d) e
 
-  entry_there : way [] subs fresh k s done ≡ HasEntry → IsEnteredIn subs k
+  entry_there : salvage_action [] subs fresh k s done ≡ HasEntry → IsEnteredIn subs k
   entry_there is = by_test (has_entry subs (Some k) 0) refl is where
-    by_test : (z : Bool) → has_entry subs (Some k) 0 ≡ z → cond z HasEntry (way_from [] subs fresh k s done (last_definition s done)) ≡ HasEntry →
+    by_test : (z : Bool) → has_entry subs (Some k) 0 ≡ z → cond z HasEntry (action_from [] subs fresh k s done (last_definition s done)) ≡ HasEntry →
         IsEnteredIn subs k
     by_test true h e = has_some (entry_of subs (first_operand k)) h
     by_test false h e = absurd (no_from (last_definition s done) e)
@@ -212,7 +213,7 @@ module _ (xs : List Item) (ls : List Line) (a : SoFar) (clean : IsClean a.roots)
     now = now_push ls (line [] None) a.done w.now ∙ append-nil a.done;
   }
 
-  way_line : (i : Instruction) (k s : ℕ) (o : Origin) (l : Loc) → IsCopy (row_of i) → (v : SalvageAction) → way [] a.subs a.fresh k s a.done ≡ v →
+  way_line : (i : Instruction) (k s : ℕ) (o : Origin) (l : Loc) → IsCopy (row_of i) → (v : SalvageAction) → salvage_action [] a.subs a.fresh k s a.done ≡ v →
       Written (xs ++ item (Code i (Some k)) o l ∷ []) (lines_above v ls ++ line (put_for v k s o) (phi_of v s) ∷ []) (salvaged a k s o v)
   way_line i k s o l copy HasEntry is = record {
     lines = lines_more a.subs [] (xs ++ item (Code i (Some k)) o l ∷ []) (ls ++ line [] None ∷ [])
@@ -241,7 +242,7 @@ module _ (xs : List Item) (ls : List Line) (a : SoFar) (clean : IsClean a.roots)
   source_line i None o l (Some s) is = out_line i o l
   source_line i (Some k) o l (Some s) is =
       let m = known_moves a.roots (row_of (renamed a.roots i)) s is in
-      way_line i k s o l (copy_back a.roots clean i m.0 s m.1) (way [] a.subs a.fresh k s a.done) refl
+      way_line i k s o l (copy_back a.roots clean i m.0 s m.1) (salvage_action [] a.subs a.fresh k s a.done) refl
 
   pub one_line : (k : ItemKind) (o : Origin) (l : Loc) → Written (xs ++ item k o l ∷ []) (next_lines ls a (item k o l)) (next_item a (item k o l))
   one_line (Code i n) o l = source_line i n o l (known_source a.roots (row_of (renamed a.roots i))) refl

@@ -24,9 +24,9 @@ use Rattle.sem_mir.specs.Follow.{OnRow, Counts, IsMetApart, KindFits, MayAdd}
 use Rattle.sem_mir.proofs.Reading.{found, found_in, front_item, item_front}
 use Rattle.pass_trait.specs.Rule.{item}
 use Rattle.pass_trait.proofs.NopDebug.{of_get}
-use Rattle.pass_salvage.specs.declared.way.SalvageAction.{SalvageAction}
-use Rattle.pass_salvage.specs.declared.way.SalvageAction.TheVariants.{HasEntry, GetsEntry, GetsPhi}
-use Rattle.pass_salvage.specs.Way.{way}
+use Rattle.pass_salvage.specs.declared.salvage_action.SalvageAction.{SalvageAction}
+use Rattle.pass_salvage.specs.declared.salvage_action.SalvageAction.TheVariants.{HasEntry, GetsEntry, GetsPhi}
+use Rattle.pass_salvage.specs.SalvageAction.{salvage_action}
 use Rattle.pass_salvage.specs.Salvage.{with_number, numbered_at, phi_for}
 use Rattle.pass_salvage.proofs.Kin.{Kin, code_kin, mark_kin, phi_kin, kin_itself}
 use Rattle.pass_salvage.proofs.Edits.{Edits, Edited, over, pair, out, put, BlocksEdited, no_blocks, next_block}
@@ -363,7 +363,7 @@ next_laid a hs (Code i n) o l h = by_source (known_source a.roots (row_of (renam
   by_source (Some s) None is =
       subst (λ (ys : List Item). Laid (hs ++ selfed_item a.roots (item (Code i None) o l) ∷ []) ys) (append-nil a.done)
       (one_goes hs a.done (selfed_item a.roots (item (Code i None) o l)) h (self_is s None is))
-  by_source (Some s) (Some k) is = by_way k s (way [] a.subs a.fresh k s a.done) is
+  by_source (Some s) (Some k) is = by_way k s (salvage_action [] a.subs a.fresh k s a.done) is
 
 next_known : (a : SoFar) (k : ItemKind) (o : Origin) (l : Loc) → (next_item a (item k o l)).roots ≡ known_after a.roots (renamed_kind a.roots k)
 next_known a k o l = next_roots a k o l

@@ -7,9 +7,9 @@ use Rattle.mir_func.specs.declared.item.Item.{Item}
 use Rattle.mir_func.specs.declared.item.ItemKind.{ItemKind}
 use Rattle.mir_func.specs.declared.item.ItemKind.TheVariants.{Code, Mark, Phi}
 use Rattle.mir_func.specs.Function.{Function}
-use Rattle.pass_salvage.specs.declared.way.SalvageAction.{SalvageAction}
-use Rattle.pass_salvage.specs.declared.way.SalvageAction.TheVariants.{HasEntry, GetsEntry, GetsPhi}
-use Rattle.pass_salvage.specs.Way.{way}
+use Rattle.pass_salvage.specs.declared.salvage_action.SalvageAction.{SalvageAction}
+use Rattle.pass_salvage.specs.declared.salvage_action.SalvageAction.TheVariants.{HasEntry, GetsEntry, GetsPhi}
+use Rattle.pass_salvage.specs.SalvageAction.{salvage_action}
 use Rattle.pass_salvage.specs.Salvage.{with_number, put_for}
 use Rattle.copyprop_block.specs.declared.copies.CopyAction.{CopyAction}
 use Rattle.copyprop_block.specs.declared.copies.CopyAction.TheVariants.{Stays, Goes, GoesWith}
@@ -62,8 +62,8 @@ abbrev pub lines_by_fate : List Line → SoFar → Item → CopyAction → List 
 lines_by_fate ls a x Stays = ls ++ line (x ∷ []) None ∷ []
 lines_by_fate ls a x Goes = ls ++ line [] None ∷ []
 lines_by_fate ls a x (GoesWith k s) =
-    lines_above (way [] a.subs a.fresh k s a.done) ls ++ line (put_for (way [] a.subs a.fresh k s a.done) k s x.origin)
-    (phi_of (way [] a.subs a.fresh k s a.done) s) ∷ []
+    lines_above (salvage_action [] a.subs a.fresh k s a.done) ls ++ line (put_for (salvage_action [] a.subs a.fresh k s a.done) k s x.origin)
+    (phi_of (salvage_action [] a.subs a.fresh k s a.done) s) ∷ []
 
 -- the lines after one more item, which is renamed by the available copies
 abbrev pub next_lines : List Line → SoFar → Item → List Line

@@ -15,9 +15,9 @@ use Rattle.mir_func.specs.declared.location.Loc.{Loc}
 use Rattle.mir_func.specs.declared.position.Origin.{Origin}
 use Rattle.mir_func.specs.Sound.{items_of, AllItems}
 use Rattle.pass_trait.specs.Rule.{item}
-use Rattle.pass_salvage.specs.declared.way.SalvageAction.{SalvageAction}
-use Rattle.pass_salvage.specs.declared.way.SalvageAction.TheVariants.{HasEntry, GetsEntry, GetsPhi}
-use Rattle.pass_salvage.specs.Way.{way}
+use Rattle.pass_salvage.specs.declared.salvage_action.SalvageAction.{SalvageAction}
+use Rattle.pass_salvage.specs.declared.salvage_action.SalvageAction.TheVariants.{HasEntry, GetsEntry, GetsPhi}
+use Rattle.pass_salvage.specs.SalvageAction.{salvage_action}
 use Rattle.pass_salvage.specs.Salvage.{with_number, numbered_at, above_after, put_for, phi_for}
 use Rattle.copyprop_block.specs.declared.roots.Root.{Root}
 use Rattle.copyprop_block.specs.Roots.{renamed, known_source}
@@ -67,7 +67,7 @@ module _ (P : ItemKind → Type 0) (R : List Root → Type 0) (stays : Stays P R
   each_fate a i n o l h p None is = (stays.taught a.roots (Code i n) h.0 p, each_stays a (Code i n) o l h p)
   each_fate a i None o l h p (Some s) is = h
   each_fate a i (Some k) o l h p (Some s) is =
-      let w = way [] a.subs a.fresh k s a.done in
+      let w = salvage_action [] a.subs a.fresh k s a.done in
       (h.0, All-append Q (above_after w a.done) (put_for w k s o) (each_above w a.done h.1) (each_put w k s o (stays.phi a.roots i (Some k) s k h.0 p is)))
 
   each_kind : (a : SoFar) (k : ItemKind) (o : Origin) (l : Loc) → Each a → P k → Each (next_item a (item k o l))
@@ -148,7 +148,7 @@ module _ (p : ItemKind → Bool) (tests : Tests p) where
   count_fate a i n o l None = count_stays a (Code i n) o l
   count_fate a i None o l (Some s) = omega arith
   count_fate a i (Some k) o l (Some s) =
-      let w = way [] a.subs a.fresh k s a.done in
+      let w = salvage_action [] a.subs a.fresh k s a.done in
       let e = count_two (above_after w a.done) (put_for w k s o) in
       let f = count_above w a.done in
       let g = count_put w k s o in

@@ -27,9 +27,9 @@ use Rattle.sem_mir.specs.Align.{is_code}
 use Rattle.pass_trait.specs.Change.{change}
 use Rattle.pass_trait.specs.Rule.{item}
 use Rattle.pass_trait.specs.Sizes.{greatest, numbers_of, greatest_number, item_count, calls, KeepsSizes}
-use Rattle.pass_salvage.specs.declared.way.SalvageAction.{SalvageAction}
-use Rattle.pass_salvage.specs.declared.way.SalvageAction.TheVariants.{HasEntry, GetsEntry, GetsPhi}
-use Rattle.pass_salvage.specs.Way.{or_fresh, way}
+use Rattle.pass_salvage.specs.declared.salvage_action.SalvageAction.{SalvageAction}
+use Rattle.pass_salvage.specs.declared.salvage_action.SalvageAction.TheVariants.{HasEntry, GetsEntry, GetsPhi}
+use Rattle.pass_salvage.specs.SalvageAction.{or_fresh, salvage_action}
 use Rattle.pass_salvage.specs.Salvage.{with_number, numbered_at, put_for, entry_for}
 use Rattle.pass_salvage.proofs.Chosen.{IsEntered, entered}
 use Rattle.copyprop_block.specs.declared.roots.Root.{Root}
@@ -226,7 +226,7 @@ stays_under a k o l e h p = record {
 same_under : (a : SoFar) → AreUnder a → Counts a a
 same_under a h = record { under = h; least = le_refl a.fresh; most = omega arith }
 
-salvage_under : (a : SoFar) (k s : ℕ) (o : Origin) → AreUnder a → k < a.fresh → (w : SalvageAction) → way [] a.subs a.fresh k s a.done ≡ w →
+salvage_under : (a : SoFar) (k s : ℕ) (o : Origin) → AreUnder a → k < a.fresh → (w : SalvageAction) → salvage_action [] a.subs a.fresh k s a.done ≡ w →
     Counts a (salvaged a k s o w)
 salvage_under a k s o h lt HasEntry is = record {
   under = record { items = items_two a.fresh a.done [] h.items tt; entries = entries_two a.fresh a.subs [] h.entries tt };
@@ -271,7 +271,7 @@ fate_under : (a : SoFar) (i : Instruction) (n : Option ℕ) (o : Origin) (l : Lo
     Counts a (by_fate a (item (Code i n) o l) (goes_by n s))
 fate_under a i n o l h p None = stays_under a (Code i n) o l (roots_after (row_of i) a.roots) h p
 fate_under a i None o l h p (Some s) = same_under a h
-fate_under a i (Some k) o l h p (Some s) = salvage_under a k s o h p.0 (way [] a.subs a.fresh k s a.done) refl
+fate_under a i (Some k) o l h p (Some s) = salvage_under a k s o h p.0 (salvage_action [] a.subs a.fresh k s a.done) refl
 
 number_renamed : (b : ℕ) (e : List Root) (i : Instruction) (n : Option ℕ) → Under b (numbers_of (Code i n)) → Under b (numbers_of (Code (renamed e i) n))
 number_renamed b e i None h = h

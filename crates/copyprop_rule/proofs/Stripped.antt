@@ -13,9 +13,9 @@ use Rattle.mir_func.specs.declared.position.Origin.{Origin}
 use Rattle.mir_func.specs.Function.{Function}
 use Rattle.mir_func.specs.Strip.{stripped_item, stripped_items, stripped_block, stripped_blocks, stripped}
 use Rattle.pass_trait.specs.Rule.{item}
-use Rattle.pass_salvage.specs.declared.way.SalvageAction.{SalvageAction}
-use Rattle.pass_salvage.specs.declared.way.SalvageAction.TheVariants.{HasEntry, GetsEntry, GetsPhi}
-use Rattle.pass_salvage.specs.Way.{way}
+use Rattle.pass_salvage.specs.declared.salvage_action.SalvageAction.{SalvageAction}
+use Rattle.pass_salvage.specs.declared.salvage_action.SalvageAction.TheVariants.{HasEntry, GetsEntry, GetsPhi}
+use Rattle.pass_salvage.specs.SalvageAction.{salvage_action}
 use Rattle.pass_salvage.specs.Salvage.{numbered_at, above_after, put_for}
 use Rattle.copyprop_block.specs.Roots.{renamed, known_source, roots_after}
 use Rattle.copyprop_block.specs.Copied.{SoFar, goes_by, by_fate, next_item, over_items, at_block, BlocksSoFar, next_block, over_blocks}
@@ -71,7 +71,7 @@ one_stripped a (Code i n) o l xs = by_source (known_source a.roots (row_of (rena
       stripped_items a.done ++ copied_items a.roots (stripped_items xs)
   by_number None s = refl
   by_number (Some k) s =
-      ap (λ (ys : List Item). ys ++ copied_items a.roots (stripped_items xs)) (put_stripped (way [] a.subs a.fresh k s a.done) k s o a.done)
+      ap (λ (ys : List Item). ys ++ copied_items a.roots (stripped_items xs)) (put_stripped (salvage_action [] a.subs a.fresh k s a.done) k s o a.done)
 
   by_source : (s : Option ℕ) →
       stripped_items (by_fate a (item (Code (renamed a.roots i) n) o l) (goes_by n s)).done ++

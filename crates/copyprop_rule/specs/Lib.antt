@@ -1,3 +1,3 @@
 pub mod Rule
 pub mod Laws
-pub mod Made
+pub mod CodeRule

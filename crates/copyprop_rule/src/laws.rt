@@ -2,7 +2,7 @@
 
 ghost use Rattle.pass_trait.specs.Code.{HasOneResult, SeesCodeAlone};
 ghost use Rattle.copyprop_rule.specs.Rule.{IsCopied};
-ghost use Rattle.copyprop_rule.specs.Made.{CodeIsCopied, CopiesKeepSizes};
+ghost use Rattle.copyprop_rule.specs.CodeRule.{CodeIsCopied, CopiesKeepSizes};
 
 /// The rule is functional, and doesn't depend on debug items.
 pub fn copies_make_code_alone()

@@ -8,7 +8,7 @@ use Rattle.pass_trait.specs.Change.{change}
 use Rattle.pass_trait.specs.Sizes.{code_count}
 use Rattle.pass_trait.specs.Steps.{KeepsStep, KeepsSteps}
 use Rattle.dce_rule.specs.Dead.{IsRound}
-use Rattle.dce_proof.specs.Rule.{dead_rule}
+use Rattle.dce_proof.specs.DebugRule.{dead_rule}
 use Rattle.dce_proof.proofs.Whole.{round_keeps}
 use Rattle.dce_proof.proofs.Idle.{idle_keeps}
 use Rattle.dce_pass.proofs.Follows.{round_follows, round_code}

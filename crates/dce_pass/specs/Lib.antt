@@ -2,6 +2,6 @@ pub mod Rounds
 pub mod RoundsLaws
 pub use Rattle.dce_proof.specs.Round
 pub mod Steps
-pub use Rattle.dce_proof.specs.Ledger
-pub use Rattle.dce_proof.specs.Rule
+pub use Rattle.dce_proof.specs.SalvageLedger
+pub use Rattle.dce_proof.specs.DebugRule
 pub mod PassLaws

@@ -5,7 +5,7 @@ use Rattle.pass_trait.specs.Code.{CodeRule, HasOneResult, SeesCodeAlone}
 use Rattle.pass_trait.specs.Steps.{EachCode}
 use Rattle.dce_rule.specs.Dead.{IsRound}
 use Rattle.dce_rule.proofs.Rounds.{one_round, round_alike}
-use Rattle.dce_proof.specs.Rule.{dead_rule}
+use Rattle.dce_proof.specs.DebugRule.{dead_rule}
 use Rattle.dce_pass.specs.Steps.{repeated, round_step, most_rounds, dead_steps}
 
 -- n rounds have a property of code rules if one round has it

@@ -10,7 +10,7 @@ use Rattle.pass_trait.specs.Sizes.{code_count}
 use Rattle.pass_trait.specs.Steps.{PassStep, KeepsSteps}
 use Rattle.dce_rule.specs.Dead.{IsRound}
 use Rattle.dce_pass.specs.Rounds.{AreDeadRounds}
-use Rattle.dce_proof.specs.Rule.{dead_rule}
+use Rattle.dce_proof.specs.DebugRule.{dead_rule}
 
 -- the same step n times
 abbrev pub repeated : ℕ → PassStep → List PassStep

@@ -17,16 +17,17 @@ use Rattle.rv64_instr.specs.Instruction.{Instruction}
 use Rattle.mir_func.specs.Sound.{items_of, IsSound}
 use Rattle.pass_trait.specs.Rule.{item}
 use Rattle.pass_trait.specs.Sizes.{numbers_of, greatest_number}
-use Rattle.pass_salvage.specs.declared.way.SalvageAction.{SalvageAction}
-use Rattle.pass_salvage.specs.declared.way.SalvageAction.TheVariants.{HasEntry, GetsEntry, GetsPhi}
-use Rattle.pass_salvage.specs.Way.{way}
+use Rattle.pass_salvage.specs.declared.salvage_action.SalvageAction.{SalvageAction}
+use Rattle.pass_salvage.specs.declared.salvage_action.SalvageAction.TheVariants.{HasEntry, GetsEntry, GetsPhi}
+use Rattle.pass_salvage.specs.SalvageAction.{salvage_action}
 use Rattle.pass_salvage.specs.Salvage.{entry_for, entries_for, above_after, fresh_after}
 use Rattle.pass_edits.proofs.Numbers.{AreUnlike, all_first, all_second, HasCode}
 use Rattle.pass_edits.proofs.Under.{KindUnder, EntryUnder, greatest_under, items_under, blocks_under, entries_under}
-use Rattle.dce_copies.specs.declared.off.Copied.{Copied}
-use Rattle.dce_copies.specs.Off.{numbered_copy, put_off, behind_off, items_off, SoFar, off_by, off_copy, copy_in, off_at, off_down}
-use Rattle.dce_copies.specs.Blocks.{going_from, BlocksSoFar, in_block, block_off, next_off, blocks_off}
-use Rattle.dce_copies.proofs.Down.{off_long}
+use Rattle.dce_salvage.specs.declared.salvage_numbers.Copied.{Copied}
+use Rattle.dce_salvage.specs.SalvageNumbers.{numbered_copy, added_by_salvage, salvaged_from, salvaged_items, SoFar}
+use Rattle.dce_salvage.specs.SalvageNumbers.{salvage_by, salvage_copy, copy_in, salvage_at, salvage_down}
+use Rattle.dce_salvage.specs.SalvageBlocks.{going_from, BlocksSoFar, in_block, salvage_block, salvage_next, salvage_blocks}
+use Rattle.dce_salvage.proofs.Down.{off_long}
 use Rattle.dce_salvage_proof.specs.SalvageLaws.{begins_off, all_off}
 use Rattle.dce_salvage_proof.proofs.Copy.{copy_of, split_at, Ready, copy_goes}
 use Rattle.dce_salvage_proof.proofs.Chain.{BlocksReady}
@@ -57,7 +58,7 @@ module _ (f : Function) (fs : List Block) (id source_end : ℕ) (gs : List Block
   }
 
   step_copy : (n : ℕ) (a : SoFar) (x : Item) (c : Copied) → slice_get a.items n ≡ Some x → numbered_copy x.kind ≡ Some c → get_or dead n false ≡ true →
-      Going (suc n) a → Going n (off_by n c a (way (going_from 0 dead) a.subs a.fresh c.number c.source (take n a.items)))
+      Going (suc n) a → Going n (salvage_by n c a (salvage_action (going_from 0 dead) a.subs a.fresh c.number c.source (take n a.items)))
   step_copy n a x c at is goes g =
       let s = split_at a.items n x at in
       let w = copy_of x.kind c is in
@@ -69,13 +70,13 @@ module _ (f : Function) (fs : List Block) (id source_end : ℕ) (gs : List Block
       let rest : drop n a.items ≡ copy ∷ down = s.behind ∙ ap (λ (y : Item). y ∷ down) same in
       let lt : n < length a.items = slice_get_within a.items n x at in
       let long : length up ≡ n = length-take-le n a.items (omega (arith, lt)) in
-      let v : SalvageAction = way (going_from 0 dead) a.subs a.fresh c.number c.source (take n a.items) in
+      let v : SalvageAction = salvage_action (going_from 0 dead) a.subs a.fresh c.number c.source (take n a.items) in
       let r : Ready f fs id source_end gs (up ++ copy ∷ down) a.subs a.fresh =
       subst (λ (xs : List Item). Ready f fs id source_end gs xs a.subs a.fresh) whole g.ready in
       let one = copy_goes f fs id source_end gs c.number c.source w.target up w.code x.origin x.loc down a.subs a.fresh 0 w.row r (going_from 0 dead)
       c.own v refl in
-      let items : List Item = above_after v up ++ (put_off v c x.origin ++ item (Code w.code None) x.origin x.loc ∷ down) in
-      let made : items ≡ items_off v n c a.items = ap (λ (ys : List Item). above_after v up ++ behind_off v c ys) (sym rest) in
+      let items : List Item = above_after v up ++ (added_by_salvage v c x.origin ++ item (Code w.code None) x.origin x.loc ∷ down) in
+      let made : items ≡ salvaged_items v n c a.items = ap (λ (ys : List Item). above_after v up ++ salvaged_from v c ys) (sym rest) in
       let under : All (EntryUnder a.fresh) g.more = all_second (EntryUnder a.fresh) old g.more (subst (All (EntryUnder a.fresh)) g.is r.in_entries) in
       let before : All (Stands f fs id source_end gs dead (up ++ copy ∷ down) a.subs (suc n)) g.more =
       subst (λ (xs : List Item). All (Stands f fs id source_end gs dead xs a.subs (suc n)) g.more) whole g.stand in
@@ -94,12 +95,13 @@ module _ (f : Function) (fs : List Block) (id source_end : ℕ) (gs : List Block
       } where
         by_way : (i : Instruction) (up down : List Item) (long : length up ≡ n)
             (r : Ready f fs id source_end gs (up ++ item (Code i (Some c.number)) x.origin x.loc ∷ down) a.subs a.fresh) (v : SalvageAction) →
-            way (going_from 0 dead) a.subs a.fresh c.number c.source up ≡ v →
-            All (Stands f fs id source_end gs dead (above_after v up ++ (put_off v c x.origin ++ item (Code i None) x.origin x.loc ∷ down))
+            salvage_action (going_from 0 dead) a.subs a.fresh c.number c.source up ≡ v →
+            All (Stands f fs id source_end gs dead (above_after v up ++ (added_by_salvage v c x.origin ++ item (Code i None) x.origin x.loc ∷ down))
             (a.subs ++ entries_for v c.number) n) (entries_for v c.number)
         by_way i up down long r HasEntry e = All-nil (Stands f fs id source_end gs dead (up ++ item (Code i None) x.origin x.loc ∷ down) (a.subs ++ []) n)
         by_way i up down long r GetsPhi e =
-            All-nil (Stands f fs id source_end gs dead (up ++ (put_off GetsPhi c x.origin ++ item (Code i None) x.origin x.loc ∷ down)) (a.subs ++ []) n)
+            All-nil (Stands f fs id source_end gs dead (up ++ (added_by_salvage GetsPhi c x.origin ++ item (Code i None) x.origin x.loc ∷ down))
+            (a.subs ++ []) n)
         by_way i up down long r (GetsEntry d p m) e =
             let made : List Item = above_after (GetsEntry d p m) up ++ item (Code i None) x.origin x.loc ∷ down in
             All-cons (Stands f fs id source_end gs dead made (a.subs ++ entry_for c.number m p ∷ []) n) (entry_for c.number m p) []
@@ -111,32 +113,32 @@ module _ (f : Function) (fs : List Block) (id source_end : ℕ) (gs : List Block
     pub long : n ≤ length a.items
 
   step : (n : ℕ) (goes : Bool) (a : SoFar) → get_or dead n false ≡ goes → n < length a.items → Going (suc n) a →
-      Next n (off_at (going_from 0 dead) n goes a)
+      Next n (salvage_at (going_from 0 dead) n goes a)
   step n goes a is lt g = by_item (get_there a.items n lt) where
-    by_item : (x : Item) × (slice_get a.items n ≡ Some x) → Next n (off_at (going_from 0 dead) n goes a)
+    by_item : (x : Item) × (slice_get a.items n ≡ Some x) → Next n (salvage_at (going_from 0 dead) n goes a)
     by_item (x, at) = by_goes goes is where
       stays : Next n a
       stays = record { going = step_on n a x at g; long = omega (arith, lt) }
 
-      state : (c : Option Copied) → numbered_copy x.kind ≡ c → off_at (going_from 0 dead) n true a ≡ off_copy (going_from 0 dead) n a c
-      state c e = ap (λ (o : Option Item). off_copy (going_from 0 dead) n a (copy_in o)) at ∙ ap (off_copy (going_from 0 dead) n a) e
+      state : (c : Option Copied) → numbered_copy x.kind ≡ c → salvage_at (going_from 0 dead) n true a ≡ salvage_copy (going_from 0 dead) n a c
+      state c e = ap (λ (o : Option Item). salvage_copy (going_from 0 dead) n a (copy_in o)) at ∙ ap (salvage_copy (going_from 0 dead) n a) e
 
-      by_copy : get_or dead n false ≡ true → (c : Option Copied) → numbered_copy x.kind ≡ c → Next n (off_at (going_from 0 dead) n true a)
+      by_copy : get_or dead n false ≡ true → (c : Option Copied) → numbered_copy x.kind ≡ c → Next n (salvage_at (going_from 0 dead) n true a)
       by_copy dies None e = subst (Next n) (sym (state None e)) stays
       by_copy dies (Some c) e =
-          let v : SalvageAction = way (going_from 0 dead) a.subs a.fresh c.number c.source (take n a.items) in
+          let v : SalvageAction = salvage_action (going_from 0 dead) a.subs a.fresh c.number c.source (take n a.items) in
           let more = off_long v n c a.items in
           subst (Next n) (sym (state (Some c) e)) (record { going = step_copy n a x c at e dies g; long = omega (arith, lt, more) })
 
-      by_goes : (z : Bool) → get_or dead n false ≡ z → Next n (off_at (going_from 0 dead) n z a)
+      by_goes : (z : Bool) → get_or dead n false ≡ z → Next n (salvage_at (going_from 0 dead) n z a)
       by_goes false h = stays
       by_goes true h = by_copy h (numbered_copy x.kind) refl
 
-  pub all_steps : (n : ℕ) (a : SoFar) → n ≤ length a.items → Going n a → Going 0 (off_down (going_from 0 dead) dead n a)
+  pub all_steps : (n : ℕ) (a : SoFar) → n ≤ length a.items → Going n a → Going 0 (salvage_down (going_from 0 dead) dead n a)
   all_steps zero a le g = g
   all_steps (suc n) a le g =
       let k = step n (get_or dead n false) a refl (omega (arith, le)) g in
-      all_steps n (off_at (going_from 0 dead) n (get_or dead n false) a) k.long k.going
+      all_steps n (salvage_at (going_from 0 dead) n (get_or dead n false) a) k.long k.going
 
 -- ---- all blocks
 
@@ -160,7 +162,7 @@ module _ (f : Function) (old : List DebugSubstitution) where
   all_items above b gs = flat_map-append (λ (c : Block). c.items) above (b ∷ gs)
 
   one_block : (above : List Block) (b : Block) (d : List Bool) (m : BlocksSoFar) → Through (above ++ b ∷ []) m.blocks m.subs m.fresh →
-      Through above (next_off d b m).blocks (next_off d b m).subs (next_off d b m).fresh
+      Through above (salvage_next d b m).blocks (salvage_next d b m).subs (salvage_next d b m).fresh
   one_block above b d m t =
       let same : (above ++ b ∷ []) ++ m.blocks ≡ above ++ b ∷ m.blocks = append_assoc above (b ∷ []) m.blocks in
       let r : BlocksReady f (above ++ b ∷ m.blocks) m.subs m.fresh = subst (λ (cs : List Block). BlocksReady f cs m.subs m.fresh) same t.ready in
@@ -183,8 +185,8 @@ module _ (f : Function) (old : List DebugSubstitution) where
               end = h.end;
             }) t.more t.stand;
       } in
-      let e : SoFar = block_off d b m in
-      let g : Going f above b.id b.source_end m.blocks d old 0 (block_off d b m) =
+      let e : SoFar = salvage_block d b m in
+      let g : Going f above b.id b.source_end m.blocks d old 0 (salvage_block d b m) =
       all_steps f above b.id b.source_end m.blocks d old (length b.items) (in_block b m) (le_refl (length b.items)) start in
       record {
         ready = record {
@@ -209,7 +211,7 @@ module _ (f : Function) (old : List DebugSubstitution) where
         by_given k items (inr h) = absurd (let lt = h.2 in omega (arith, lt))
 
   pub through : (above bs : List Block) (ds : List (List Bool)) (a : BlocksSoFar) → a.blocks ≡ [] → a.subs ≡ old → BlocksReady f (above ++ bs) a.subs a.fresh →
-      Through above (blocks_off ds bs a).blocks (blocks_off ds bs a).subs (blocks_off ds bs a).fresh
+      Through above (salvage_blocks ds bs a).blocks (salvage_blocks ds bs a).subs (salvage_blocks ds bs a).fresh
   through above [] ds a none start r = record {
     ready = subst (λ (cs : List Block). BlocksReady f (above ++ cs) a.subs a.fresh) (sym none) r;
     more = [];
@@ -217,7 +219,7 @@ module _ (f : Function) (old : List DebugSubstitution) where
     stand = All-nil (StandsIn above a.blocks a.subs);
   }
   through above (b ∷ bs) ds a none start r =
-      one_block above b (get_or ds 0 []) (blocks_off (drop 1 ds) bs a)
+      one_block above b (get_or ds 0 []) (salvage_blocks (drop 1 ds) bs a)
       (through (above ++ b ∷ []) bs (drop 1 ds) a none start
       (subst (λ (cs : List Block). BlocksReady f cs a.subs a.fresh) (sym (append_assoc above (b ∷ []) bs)) r))
 

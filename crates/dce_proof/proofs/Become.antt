@@ -32,13 +32,13 @@ use Rattle.pass_trait.specs.Debug.{number_goes, substituted, salvaged, salvaged_
 use Rattle.dce_rule.specs.Dead.{Places, Ends, is_dead, needed_at, paths_of}
 use Rattle.dce_rule.specs.Wrong.{silenced, is_dead_at, IsWrongAt, made, on}
 use Rattle.dce_rule.proofs.Lists.{quiet}
-use Rattle.dce_mark.specs.Judged.{AreJudged}
-use Rattle.dce_copies.specs.declared.off.Copied.{Copied}
-use Rattle.dce_copies.specs.Off.{copied_by, numbered_copy, phi_by, phi_off}
+use Rattle.dce_analysis.specs.IsDead.{AreJudged}
+use Rattle.dce_salvage.specs.declared.salvage_numbers.Copied.{Copied}
+use Rattle.dce_salvage.specs.SalvageNumbers.{copied_by, numbered_copy, phi_by_own, salvage_phi}
 use Rattle.dce_salvage_proof.specs.SalvageLaws.{all_off}
 use Rattle.dce_salvage_proof.proofs.Copy.{copy_of}
-use Rattle.dce_proof.specs.Ledger.{Line, line_of}
-use Rattle.dce_proof.specs.Rule.{HasLine, Loses, number, copy, mark, phi, IsNumbered, dead_rule}
+use Rattle.dce_proof.specs.SalvageLedger.{Line, line_of}
+use Rattle.dce_proof.specs.DebugRule.{HasLine, Loses, number, copy, mark, phi, IsNumbered, dead_rule}
 use Rattle.dce_proof.proofs.Lines.{LineIs, as_it_was, by_entry, by_phi}
 use Rattle.dce_proof.proofs.Places.{edge_ways}
 use Rattle.dce_proof.proofs.Here.{c, dead_one, PlaceLine, place_line, one_line, removed_at, comes_wrong}
@@ -269,12 +269,12 @@ module _ (f : Function) (subs : List DebugSubstitution) (dead : List (List Bool)
 
   pub phi_put : (at : Pos) (i : Instruction) (k rd s : ℕ) (o : Origin) (d : Loc) (q : Pos) (z : Copied) → z.number ≡ k → z.source ≡ s →
       z.own ≡ nat_eq (suc rd) s → row_of i ≡ Moves (suc rd) s →
-      Stood at (item (Code i (Some k)) o d) (record { now = phi_off z o ∷ item (Code i None) o d ∷ []; phi = Some z.source }) q →
+      Stood at (item (Code i (Some k)) o d) (record { now = salvage_phi z o ∷ item (Code i None) o d ∷ []; phi = Some z.source }) q →
       is_dead_at judged.ends f at ≡ true → Becomes dead_rule (c f subs dead sound judged wrong) at (item (Code i (Some k)) o d)
-      (quiet (wrong q) (phi_by (nat_eq (suc rd) s) k s o) ∷ [])
+      (quiet (wrong q) (phi_by_own (nat_eq (suc rd) s) k s o) ∷ [])
   phi_put at i k rd s o d q z num src own row w dies = by_own (nat_eq (suc rd) s) refl where
     l : Line
-    l = record { now = phi_off z o ∷ item (Code i None) o d ∷ []; phi = Some z.source }
+    l = record { now = salvage_phi z o ∷ item (Code i None) o d ∷ []; phi = Some z.source }
 
     some : Some z.source ≡ Some s
     some = ap Some src
@@ -286,7 +286,7 @@ module _ (f : Function) (subs : List DebugSubstitution) (dead : List (List Bool)
         Becomes dead_rule (c f subs dead sound judged wrong) at (item (Code i (Some k)) o d) (item_before (Phi None k) o ∷ [])
     wrong_phi bad =
         salvaged_wrong (is_copy i rd s row) gone_copy refl (
-          record { now = phi_off z o ∷ item (Code i None) o d ∷ []; phi = Some z.source },
+          record { now = salvage_phi z o ∷ item (Code i None) o d ∷ []; phi = Some z.source },
           w.has,
           s,
           some,
@@ -294,12 +294,12 @@ module _ (f : Function) (subs : List DebugSubstitution) (dead : List (List Bool)
         ) (
           item (Code i (Some k)) o d,
           w.stands,
-          copy (record { now = phi_off z o ∷ item (Code i None) o d ∷ []; phi = Some z.source }) w.has some
+          copy (record { now = salvage_phi z o ∷ item (Code i None) o d ∷ []; phi = Some z.source }) w.has some
               (subst (λ (e : Ends). IsWrongAt e f (Register s) (below at)) (sym (ends_are w.has.dead w.has.judged)) bad),
         )
 
     by_own : (b : Bool) → nat_eq (suc rd) s ≡ b →
-        Becomes dead_rule (c f subs dead sound judged wrong) at (item (Code i (Some k)) o d) (quiet (wrong q) (phi_by b k s o) ∷ [])
+        Becomes dead_rule (c f subs dead sound judged wrong) at (item (Code i (Some k)) o d) (quiet (wrong q) (phi_by_own b k s o) ∷ [])
     by_own true e = wrong_phi (own_wrong at i k rd s o d row (sym (eqb-true (suc rd) s e)) w.stands dies)
     by_own false e = by_test (wrong q (Register s)) refl where
       right : (wrong q (Register s) ≡ false) → IsWrongAt judged.ends f (Register s) (below at) → ⊥
@@ -312,8 +312,9 @@ module _ (f : Function) (subs : List DebugSubstitution) (dead : List (List Bool)
           (item_before (cond b (Phi None k) (Phi (Some (Register s)) k)) o ∷ [])
       by_test true bad = wrong_phi (wrong_below at i k rd s o d row w.stands dies ((w.wrongs (Register s)).0 bad))
       by_test false clear =
-          salvaged (is_copy i rd s row) gone_copy refl (record { now = phi_off z o ∷ item (Code i None) o d ∷ []; phi = Some z.source }, w.has, s, some, refl)
-          (λ why h. phi_unlost at i (Some k) o (record { now = phi_off z o ∷ item (Code i None) o d ∷ []; phi = Some z.source }) s w.has some
+          salvaged (is_copy i rd s row) gone_copy refl
+          (record { now = salvage_phi z o ∷ item (Code i None) o d ∷ []; phi = Some z.source }, w.has, s, some, refl)
+          (λ why h. phi_unlost at i (Some k) o (record { now = salvage_phi z o ∷ item (Code i None) o d ∷ []; phi = Some z.source }) s w.has some
           (is_copy i rd s row) (right clear) (number_lost k why) (lost_here at (item (Code i (Some k)) o d) (number_lost k why) w.stands h))
 
   -- ---- causes

@@ -14,9 +14,9 @@ use Rattle.sem_mir.proofs.Reading.{apart_tail}
 use Rattle.pass_trait.specs.declared.loss.Loss.{Loss}
 use Rattle.dce_rule.specs.Dead.{Ends}
 use Rattle.dce_rule.proofs.Lists.{drop_all}
-use Rattle.dce_mark.specs.Judged.{verdicts}
-use Rattle.dce_copies.specs.Blocks.{going_from, BlocksSoFar, in_block, block_off, blocks_off}
-use Rattle.dce_proof.specs.Ledger.{Line, lines_down, lines_in}
+use Rattle.dce_analysis.specs.IsDead.{verdicts}
+use Rattle.dce_salvage.specs.SalvageBlocks.{going_from, BlocksSoFar, in_block, salvage_block, salvage_blocks}
+use Rattle.dce_proof.specs.SalvageLedger.{Line, lines_down, lines_in}
 use Rattle.dce_proof.proofs.Lines.{LinesAre, LineAt, lines_from, lines_more, all_now, Own, Done, down}
 
 abbrev pub verdicts_of : Ends → List Block → List (List Bool)
@@ -26,7 +26,7 @@ verdicts_of ends bs = map (λ (b : Block). verdicts b.items (ends b.id)) bs
 abbrev pub all_lines : (dead : List (List Bool)) → List Block → BlocksSoFar → List (List Line)
 all_lines dead [] a = []
 all_lines dead (b ∷ bs) a =
-    lines_down (going_from 0 (get_or dead 0 [])) (get_or dead 0 []) (length b.items) (in_block b (blocks_off (drop 1 dead) bs a)) ∷
+    lines_down (going_from 0 (get_or dead 0 [])) (get_or dead 0 []) (length b.items) (in_block b (salvage_blocks (drop 1 dead) bs a)) ∷
     all_lines (drop 1 dead) bs a
 
 -- what the blocks are then
@@ -43,10 +43,10 @@ drop_zero (x ∷ xs) = refl
 
 -- what is known of a block when it is done
 pub record OneBlock (ends : Ends) (d : List Bool) (b : Block) (m : BlocksSoFar) : Type 0 where
-  pub lines : LinesAre (block_off d b m).subs (ends b.id) b.items (lines_down (going_from 0 d) d (length b.items) (in_block b m))
-  pub items : (block_off d b m).items ≡ all_now (lines_down (going_from 0 d) d (length b.items) (in_block b m))
+  pub lines : LinesAre (salvage_block d b m).subs (ends b.id) b.items (lines_down (going_from 0 d) d (length b.items) (in_block b m))
+  pub items : (salvage_block d b m).items ≡ all_now (lines_down (going_from 0 d) d (length b.items) (in_block b m))
   pub more : List DebugSubstitution
-  pub grown : (block_off d b m).subs ≡ m.subs ++ more
+  pub grown : (salvage_block d b m).subs ≡ m.subs ++ more
 
 block_done : (d : List Bool) (b : Block) (m : BlocksSoFar) → Done b.items d (length b.items) (in_block b m)
 block_done d b m = down b.items d (length b.items) (in_block b m) (le_refl (length b.items)) (λ j x lt at. (x, at, inl refl))
@@ -56,8 +56,8 @@ one_block ends d b m is =
     let done = block_done d b m in
     let ls : List Line = lines_down (going_from 0 d) d (length b.items) (in_block b m) in
     record {
-      lines = lines_from (block_off d b m).subs (ends b.id) b.items ls done.long
-          (λ j x at. subst (λ (vs : List Bool). LineAt (block_off d b m).subs vs ls j x) is (done.lines j x (slice_get_within b.items j x at) at));
+      lines = lines_from (salvage_block d b m).subs (ends b.id) b.items ls done.long
+          (λ j x at. subst (λ (vs : List Bool). LineAt (salvage_block d b m).subs vs ls j x) is (done.lines j x (slice_get_within b.items j x at) at));
       items = sym done.now ∙ (λ t. all_now ls ++ drop_all b.items t) ∙ append-nil (all_now ls);
       more = done.more;
       grown = done.grown;
@@ -66,24 +66,25 @@ one_block ends d b m is =
 -- ---- all blocks
 
 pub blocks_are : (ends : Ends) (bs : List Block) (ds : List (List Bool)) (a : BlocksSoFar) → ds ≡ verdicts_of ends bs → a.blocks ≡ [] →
-    (final more : List DebugSubstitution) → final ≡ (blocks_off ds bs a).subs ++ more → BlocksAre final ends bs (all_lines ds bs a) (blocks_off ds bs a).blocks
+    (final more : List DebugSubstitution) → final ≡ (salvage_blocks ds bs a).subs ++ more →
+    BlocksAre final ends bs (all_lines ds bs a) (salvage_blocks ds bs a).blocks
 blocks_are ends [] ds a e none final more is = subst (λ (cs : List Block). BlocksAre final ends [] [] cs) (sym none) no_blocks
 blocks_are ends (b ∷ bs) ds a e none final more is =
     let d : List Bool = get_or ds 0 [] in
-    let m : BlocksSoFar = blocks_off (drop 1 ds) bs a in
+    let m : BlocksSoFar = salvage_blocks (drop 1 ds) bs a in
     let one = one_block ends d b m (ap (λ (z : List (List Bool)). get_or z 0 []) e) in
     and_block refl refl one.items
     (subst (λ (es : List DebugSubstitution). LinesAre es (ends b.id) b.items (lines_down (going_from 0 d) d (length b.items) (in_block b m))) (sym is)
-    (lines_more (block_off d b m).subs more (ends b.id) b.items (lines_down (going_from 0 d) d (length b.items) (in_block b m)) one.lines))
+    (lines_more (salvage_block d b m).subs more (ends b.id) b.items (lines_down (going_from 0 d) d (length b.items) (in_block b m)) one.lines))
     (blocks_are ends bs (drop 1 ds) a (ap (drop 1) e ∙ drop_zero (verdicts_of ends bs)) none final (one.more ++ more)
     (is ∙ ap (λ (es : List DebugSubstitution). es ++ more) one.grown ∙ append_assoc m.subs one.more more))
 
 pub subs_grow : (ends : Ends) (bs : List Block) (ds : List (List Bool)) (a : BlocksSoFar) → ds ≡ verdicts_of ends bs →
-    (more : List DebugSubstitution) × ((blocks_off ds bs a).subs ≡ a.subs ++ more)
+    (more : List DebugSubstitution) × ((salvage_blocks ds bs a).subs ≡ a.subs ++ more)
 subs_grow ends [] ds a e = ([], sym (append-nil a.subs))
 subs_grow ends (b ∷ bs) ds a e =
     let d : List Bool = get_or ds 0 [] in
-    let m : BlocksSoFar = blocks_off (drop 1 ds) bs a in
+    let m : BlocksSoFar = salvage_blocks (drop 1 ds) bs a in
     let one = one_block ends d b m (ap (λ (z : List (List Bool)). get_or z 0 []) e) in
     let rest = subs_grow ends bs (drop 1 ds) a (ap (drop 1) e ∙ drop_zero (verdicts_of ends bs)) in
     (rest.0 ++ one.more, one.grown ∙ ap (λ (es : List DebugSubstitution). es ++ one.more) rest.1 ∙ append_assoc a.subs rest.0 one.more)
@@ -101,13 +102,13 @@ lines_at [] ds a apart j b ls at at' = cc
 lines_at (x ∷ xs) ds a apart zero b ls at at' =
     let same : x ≡ b = cc in
     let here : List Line =
-    lines_down (going_from 0 (get_or ds 0 [])) (get_or ds 0 []) (length x.items) (in_block x (blocks_off (drop 1 ds) xs a)) in
+    lines_down (going_from 0 (get_or ds 0 [])) (get_or ds 0 []) (length x.items) (in_block x (salvage_blocks (drop 1 ds) xs a)) in
     let s : Some here ≡ Some ls = at' in
     let is : here ≡ ls = cc in
     ap (λ (z : Bool). cond z here (lines_in (drop 1 ds) xs a b.id)) (eq-eqb x.id b.id (ap (λ (z : Block). z.id) same)) ∙ is
 lines_at (x ∷ xs) ds a apart (suc j) b ls at at' =
     let far : x.id ≡ b.id → ⊥ = λ same. (let e : zero ≡ suc j = apart zero (suc j) b.id (ap Some same) (id_at xs j b at) in omega (arith, e)) in
-    ap (λ (z : Bool). cond z (lines_down (going_from 0 (get_or ds 0 [])) (get_or ds 0 []) (length x.items) (in_block x (blocks_off (drop 1 ds) xs a)))
+    ap (λ (z : Bool). cond z (lines_down (going_from 0 (get_or ds 0 [])) (get_or ds 0 []) (length x.items) (in_block x (salvage_blocks (drop 1 ds) xs a)))
     (lines_in (drop 1 ds) xs a b.id)) (ne_eqb x.id b.id far) ∙
     lines_at xs (drop 1 ds) a (apart_tail x.id (ids_of xs) apart) j b ls at at'
 
@@ -132,7 +133,7 @@ pub lines_for_is : (bs : List Block) (ds : List (List Bool)) (a : BlocksSoFar) (
 lines_for_is [] ds a n = refl
 lines_for_is (b ∷ bs) ds a n =
     ap (λ (ls : List Line). cond (nat_eq b.id n)
-    (lines_down (going_from 0 (get_or ds 0 [])) (get_or ds 0 []) (length b.items) (in_block b (blocks_off (drop 1 ds) bs a))) ls)
+    (lines_down (going_from 0 (get_or ds 0 [])) (get_or ds 0 []) (length b.items) (in_block b (salvage_blocks (drop 1 ds) bs a))) ls)
     (lines_for_is bs (drop 1 ds) a n)
 
 pub found_at : (subs : List DebugSubstitution) (ends : Ends) (bs cs : List Block) (lss : List (List Line)) → BlocksAre subs ends bs lss cs → (n : ℕ) →
@@ -160,12 +161,12 @@ OwnIn bs lss loss = (j : ℕ) × (b : Block) × (ls : List Line) × (n : ℕ) ×
 own_later : (b : Block) (bs : List Block) (ls : List Line) (lss : List (List Line)) (loss : Loss) → OwnIn bs lss loss → OwnIn (b ∷ bs) (ls ∷ lss) loss
 own_later b bs ls lss loss (j, c, ms, n, x, l, at, at', here, here', own) = (suc j, c, ms, n, x, l, at, at', here, here', own)
 
-pub lost_there : (bs : List Block) (ds : List (List Bool)) (a : BlocksSoFar) (loss : Loss) → Contains (blocks_off ds bs a).lost loss →
+pub lost_there : (bs : List Block) (ds : List (List Bool)) (a : BlocksSoFar) (loss : Loss) → Contains (salvage_blocks ds bs a).lost loss →
     Contains a.lost loss ⊎ OwnIn bs (all_lines ds bs a) loss
 lost_there [] ds a loss k = inl k
 lost_there (b ∷ bs) ds a loss k =
     let d : List Bool = get_or ds 0 [] in
-    let m : BlocksSoFar = blocks_off (drop 1 ds) bs a in
+    let m : BlocksSoFar = salvage_blocks (drop 1 ds) bs a in
     let ls : List Line = lines_down (going_from 0 d) d (length b.items) (in_block b m) in
     elim (((block_done d b m).lost loss).0 k) [
       | inl old ↦ elim (lost_there bs (drop 1 ds) a loss old) [
@@ -176,11 +177,11 @@ lost_there (b ∷ bs) ds a loss k =
     ]
 
 pub there_lost : (bs : List Block) (ds : List (List Bool)) (a : BlocksSoFar) (loss : Loss) → OwnIn bs (all_lines ds bs a) loss →
-    Contains (blocks_off ds bs a).lost loss
+    Contains (salvage_blocks ds bs a).lost loss
 there_lost [] ds a loss (j, b, ls, n, x, l, at, at', here, here', own) = cc
 there_lost (b ∷ bs) ds a loss (zero, c, ms, n, x, l, at, at', here, here', own) =
     let d : List Bool = get_or ds 0 [] in
-    let m : BlocksSoFar = blocks_off (drop 1 ds) bs a in
+    let m : BlocksSoFar = salvage_blocks (drop 1 ds) bs a in
     let ls : List Line = lines_down (going_from 0 d) d (length b.items) (in_block b m) in
     let s : Some b ≡ Some c = at in
     let same : c ≡ b = cc in
@@ -191,5 +192,5 @@ there_lost (b ∷ bs) ds a loss (zero, c, ms, n, x, l, at, at', here, here', own
     (inr (n, x, l, slice_get_within b.items n x here_b, here_b, ap (λ (z : List Line). slice_get z n) (sym is) ∙ here', own))
 there_lost (b ∷ bs) ds a loss (suc j, c, ms, n, x, l, at, at', here, here', own) =
     let d : List Bool = get_or ds 0 [] in
-    let m : BlocksSoFar = blocks_off (drop 1 ds) bs a in
+    let m : BlocksSoFar = salvage_blocks (drop 1 ds) bs a in
     ((block_done d b m).lost loss).1 (inl (there_lost bs (drop 1 ds) a loss (j, c, ms, n, x, l, at, at', here, here', own)))

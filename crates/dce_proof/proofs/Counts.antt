@@ -19,7 +19,7 @@ use Rattle.pass_trait.specs.Sizes.{calls}
 use Rattle.rv64_instr.specs.Parts.{is_call}
 use Rattle.dce_rule.specs.Dead.{Places, Ends, is_dead, is_dead_row, needed_before, needed_at}
 use Rattle.dce_rule.specs.Wrong.{silenced, silenced_left, silenced_block}
-use Rattle.dce_mark.specs.Judged.{verdicts}
+use Rattle.dce_analysis.specs.IsDead.{verdicts}
 
 -- ---- verdicts
 

@@ -21,18 +21,18 @@ use Rattle.mir_func.specs.Resolve.{is_pair, entry_of}
 use Rattle.mir_func.specs.Sound.{items_of, code_number}
 use Rattle.pass_trait.specs.Rule.{item, first_operand}
 use Rattle.mir_substitution.proofs.Entries.{entry_of-push, is_pair-true}
-use Rattle.pass_salvage.specs.declared.way.SalvageAction.{SalvageAction}
-use Rattle.pass_salvage.specs.declared.way.SalvageAction.TheVariants.{HasEntry, GetsEntry, GetsPhi}
-use Rattle.pass_salvage.specs.Way.{or_fresh, has_entry, asks_for, way}
+use Rattle.pass_salvage.specs.declared.salvage_action.SalvageAction.{SalvageAction}
+use Rattle.pass_salvage.specs.declared.salvage_action.SalvageAction.TheVariants.{HasEntry, GetsEntry, GetsPhi}
+use Rattle.pass_salvage.specs.SalvageAction.{or_fresh, has_entry, asks_for, salvage_action}
 use Rattle.pass_salvage.specs.Salvage.{with_number, numbered_at, entry_for, entries_for, above_after}
 use Rattle.pass_salvage.proofs.Chosen.{IsEntered, entered}
 use Rattle.pass_edits.proofs.Numbers.{IsUnlike, AreUnlike, all_first, all_second, not_unlike, HasCode}
 use Rattle.pass_edits.proofs.Others.{flat_unlike, Others, others_of}
 use Rattle.pass_edits.proofs.Under.{KindUnder, no_entry}
 use Rattle.pass_edits.proofs.Found.{last_two, not_is}
-use Rattle.dce_copies.specs.declared.off.Copied.{Copied}
-use Rattle.dce_copies.specs.Off.{phi_by, put_off}
-use Rattle.dce_copies.specs.Blocks.{going_from}
+use Rattle.dce_salvage.specs.declared.salvage_numbers.Copied.{Copied}
+use Rattle.dce_salvage.specs.SalvageNumbers.{phi_by_own, added_by_salvage}
+use Rattle.dce_salvage.specs.SalvageBlocks.{going_from}
 use Rattle.pass_salvage.proofs.Placed.{above_length}
 use Rattle.dce_salvage_proof.proofs.Copy.{Ready}
 use Rattle.dce_proof.proofs.Lines.{giver_stays, number_other, number_same, get_left}
@@ -159,13 +159,13 @@ module _ (f : Function) (fs : List Block) (id source_end : ℕ) (gs : List Block
         (All-append (N j) (up' ++ (put ++ bare ∷ down)) (items_of gs)
         (All-append (N j) up' (put ++ bare ∷ down) b (All-append (N j) put (bare ∷ down) p (All-cons (N j) bare down (bare_unlike j) d))) g)
 
-    put_unlike : (j : ℕ) (w : SalvageAction) → IsUnlike j (Code i (Some k)) → AreUnlike j (put_off w (record { number = k; source = s; own = own }) o)
+    put_unlike : (j : ℕ) (w : SalvageAction) → IsUnlike j (Code i (Some k)) → AreUnlike j (added_by_salvage w (record { number = k; source = s; own = own }) o)
     put_unlike j HasEntry h = All-nil (N j)
     put_unlike j (GetsEntry d p m) h = All-nil (N j)
     put_unlike j GetsPhi h = by_own own where
-      by_own : (z : Bool) → AreUnlike j (phi_by z k s o ∷ [])
-      by_own true = All-cons (N j) (phi_by true k s o) [] (λ m e same. h m e same) (All-nil (N j))
-      by_own false = All-cons (N j) (phi_by false k s o) [] (λ m e same. h m e same) (All-nil (N j))
+      by_own : (z : Bool) → AreUnlike j (phi_by_own z k s o ∷ [])
+      by_own true = All-cons (N j) (phi_by_own true k s o) [] (λ m e same. h m e same) (All-nil (N j))
+      by_own false = All-cons (N j) (phi_by_own false k s o) [] (λ m e same. h m e same) (All-nil (N j))
 
     -- a number that isn't above and is less than the fresh one isn't what code gets
     other : (j d p m : ℕ) → IsEntered (going_from 0 dead) subs fresh k s up d p m → AreUnlike j up → j < fresh → j ≡ m → ⊥
@@ -188,19 +188,20 @@ module _ (f : Function) (fs : List Block) (id source_end : ℕ) (gs : List Block
         (all_second (λ (x : Item). KindUnder fresh x.kind) up (copy ∷ down) r.in_items)
 
     -- the items above, and what is known of numbers there
-    up_unlike : (j : ℕ) (w : SalvageAction) → way (going_from 0 dead) subs fresh k s up ≡ w → AreUnlike j up → j < fresh → AreUnlike j (above_after w up)
+    up_unlike : (j : ℕ) (w : SalvageAction) → salvage_action (going_from 0 dead) subs fresh k s up ≡ w → AreUnlike j up → j < fresh →
+        AreUnlike j (above_after w up)
     up_unlike j HasEntry is h lt = h
     up_unlike j GetsPhi is h lt = h
     up_unlike j (GetsEntry d p m) is h lt =
         unlike_numbered j d m up (other j d p m (entered (going_from 0 dead) subs fresh k s up d p m is) h lt) h
 
-    up_has : (m : ℕ) (w : SalvageAction) → way (going_from 0 dead) subs fresh k s up ≡ w → (rest : List Item) → (q : ℕ) (y : Item) → q < n →
+    up_has : (m : ℕ) (w : SalvageAction) → salvage_action (going_from 0 dead) subs fresh k s up ≡ w → (rest : List Item) → (q : ℕ) (y : Item) → q < n →
         slice_get up q ≡ Some y → code_number y.kind ≡ Some m → (z : Item) × (slice_get (above_after w up ++ rest) q ≡ Some z) × (code_number z.kind ≡ Some m)
     up_has m w is rest q y lt at code = by_way w is where
       left : (ys : List Item) → length ys ≡ length up → slice_get (ys ++ rest) q ≡ slice_get ys q
       left ys e = get_left ys rest q (omega (arith, e, long, lt))
 
-      by_way : (w : SalvageAction) → way (going_from 0 dead) subs fresh k s up ≡ w →
+      by_way : (w : SalvageAction) → salvage_action (going_from 0 dead) subs fresh k s up ≡ w →
           (z : Item) × (slice_get (above_after w up ++ rest) q ≡ Some z) × (code_number z.kind ≡ Some m)
       by_way HasEntry is = (y, left up refl ∙ at, code)
       by_way GetsPhi is = (y, left up refl ∙ at, code)
@@ -219,10 +220,10 @@ module _ (f : Function) (fs : List Block) (id source_end : ℕ) (gs : List Block
       ]
 
     abbrev after : SalvageAction → List Item
-    after w = above_after w up ++ (put_off w (record { number = k; source = s; own = own }) o ++ item (Code i None) o l ∷ down)
+    after w = above_after w up ++ (added_by_salvage w (record { number = k; source = s; own = own }) o ++ item (Code i None) o l ∷ down)
 
-    rest_after : (w : SalvageAction) → drop n (after w) ≡ put_off w (record { number = k; source = s; own = own }) o ++ item (Code i None) o l ∷ down
-    rest_after w = drop_past (above_after w up) (put_off w (record { number = k; source = s; own = own }) o ++ item (Code i None) o l ∷ down) n
+    rest_after : (w : SalvageAction) → drop n (after w) ≡ added_by_salvage w (record { number = k; source = s; own = own }) o ++ item (Code i None) o l ∷ down
+    rest_after w = drop_past (above_after w up) (added_by_salvage w (record { number = k; source = s; own = own }) o ++ item (Code i None) o l ∷ down) n
         (above_length w up ∙ long)
 
     rest_before : drop (suc n) (up ++ item (Code i (Some k)) o l ∷ down) ≡ down
@@ -239,11 +240,12 @@ module _ (f : Function) (fs : List Block) (id source_end : ℕ) (gs : List Block
           by_test false is = none
 
     -- the entries that were there
-    pub old_stand : (w : SalvageAction) → way (going_from 0 dead) subs fresh k s up ≡ w → (e : DebugSubstitution) → e.src.number < fresh →
+    pub old_stand : (w : SalvageAction) → salvage_action (going_from 0 dead) subs fresh k s up ≡ w → (e : DebugSubstitution) → e.src.number < fresh →
         Stands (up ++ item (Code i (Some k)) o l ∷ down) subs (suc n) e → Stands (after w) (subs ++ entries_for w k) n e
     old_stand w is e lt h = record {
       whole = h.whole;
-      gone = together e.src.number (above_after w up) (put_off w c o) p.above (up_unlike e.src.number w is p.first lt) (put_unlike e.src.number w p.here)
+      gone = together e.src.number (above_after w up) (added_by_salvage w c o) p.above (up_unlike e.src.number w is p.first lt)
+          (put_unlike e.src.number w p.here)
           p.later p.behind;
       given = given_after;
       end = by_way w is;
@@ -270,8 +272,8 @@ module _ (f : Function) (fs : List Block) (id source_end : ℕ) (gs : List Block
         in_rest : (y : Item) → Contains (down ++ items_of gs) y → Contains (drop n (after w) ++ items_of gs) y
         in_rest y k' =
             subst (λ (zs : List Item). Contains (zs ++ items_of gs) y) (sym (rest_after w))
-            (subst (λ (zs : List Item). Contains zs y) (sym (append_assoc (put_off w c o) (bare ∷ down) (items_of gs)))
-            (Contains-append_right (put_off w c o) (bare ∷ (down ++ items_of gs)) y (suc k'.0, (let lt = k'.1 in omega (arith, lt)), k'.2)))
+            (subst (λ (zs : List Item). Contains zs y) (sym (append_assoc (added_by_salvage w c o) (bare ∷ down) (items_of gs)))
+            (Contains-append_right (added_by_salvage w c o) (bare ∷ (down ++ items_of gs)) y (suc k'.0, (let lt = k'.1 in omega (arith, lt)), k'.2)))
 
         by_given : HasCode e.dst.number (drop (suc n) (up ++ copy ∷ down) ++ items_of gs) ⊎ HasAbove dead (up ++ copy ∷ down) (suc n) e.dst.number →
             HasCode e.dst.number (drop n (after w) ++ items_of gs) ⊎ HasAbove dead (after w) n e.dst.number
@@ -282,12 +284,12 @@ module _ (f : Function) (fs : List Block) (id source_end : ℕ) (gs : List Block
           | inl is ↦ (let bad : false ≡ true = sym stays ∙ ap (λ (z : ℕ). get_or dead z false) is ∙ goes in cc)
           | inr ne ↦ (
               let at_up = sym (get_left up (copy ∷ down) d (omega (arith, lt, ne, long))) ∙ at in
-              let u = up_has e.dst.number w is (put_off w c o ++ bare ∷ down) d y (omega (arith, lt, ne)) at_up code in
+              let u = up_has e.dst.number w is (added_by_salvage w c o ++ bare ∷ down) d y (omega (arith, lt, ne)) at_up code in
               inr (d, u.0, omega (arith, lt, ne), stays, u.1, u.2)
               )
         ]
 
-      by_way : (w : SalvageAction) → way (going_from 0 dead) subs fresh k s up ≡ w → entry_of (subs ++ entries_for w k) e.dst ≡ None
+      by_way : (w : SalvageAction) → salvage_action (going_from 0 dead) subs fresh k s up ≡ w → entry_of (subs ++ entries_for w k) e.dst ≡ None
       by_way HasEntry is = ap (λ (es : List DebugSubstitution). entry_of es e.dst) (append-nil subs) ∙ h.end
       by_way GetsPhi is = ap (λ (es : List DebugSubstitution). entry_of es e.dst) (append-nil subs) ∙ h.end
       by_way (GetsEntry d q m) is =
@@ -295,7 +297,7 @@ module _ (f : Function) (fs : List Block) (id source_end : ℕ) (gs : List Block
           push_none m q e.dst (none_of (entry_of subs (first_operand k)) v.none) h.end apart
 
     -- the one that is added
-    pub new_stands : (d p m : ℕ) → way (going_from 0 dead) subs fresh k s up ≡ GetsEntry d p m →
+    pub new_stands : (d p m : ℕ) → salvage_action (going_from 0 dead) subs fresh k s up ≡ GetsEntry d p m →
         Stands (after (GetsEntry d p m)) (subs ++ entry_for k m p ∷ []) n (entry_for k m p)
     new_stands d p m is = record {
       whole = (refl, refl);

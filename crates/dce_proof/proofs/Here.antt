@@ -31,12 +31,12 @@ use Rattle.dce_rule.proofs.Fewer.{fewer_of}
 use Rattle.dce_rule.proofs.Sound.{ids_taken}
 use Rattle.dce_rule.proofs.Rounds.{ends_one, blocks_self}
 use Rattle.dce_rule.proofs.Debug.{in_drop, quiet_defines, quiet_code}
-use Rattle.dce_mark.specs.Judged.{AreJudged}
-use Rattle.dce_copies.specs.declared.off.Copied.{Copied}
-use Rattle.dce_copies.specs.Off.{without_number, phi_off}
+use Rattle.dce_analysis.specs.IsDead.{AreJudged}
+use Rattle.dce_salvage.specs.declared.salvage_numbers.Copied.{Copied}
+use Rattle.dce_salvage.specs.SalvageNumbers.{without_number, salvage_phi}
 use Rattle.dce_salvage_proof.specs.SalvageLaws.{begins_off, all_off, function_off}
-use Rattle.dce_proof.specs.Ledger.{Line, ledger}
-use Rattle.dce_proof.specs.Rule.{HasLine}
+use Rattle.dce_proof.specs.SalvageLedger.{Line, ledger}
+use Rattle.dce_proof.specs.DebugRule.{HasLine}
 use Rattle.dce_proof.proofs.Lines.{bare_of, LineIs, as_it_was, numbered, by_entry, by_phi, LinesAre, no_lines, next_line, all_now}
 use Rattle.dce_proof.proofs.Blocks.{verdicts_of, all_lines, BlocksAre, no_blocks, and_block, blocks_are}
 use Rattle.dce_proof.proofs.Blocks.{Found, nowhere, there, lines_for, lines_for_is, found_at}
@@ -71,11 +71,11 @@ module _ (p : ItemKind → Bool) (o : Origin) where
         count_one (record x { kind = Code i (Some k) }) ∙ same_weight x (record x { kind = Code i (Some k) }) (code i None (Some k)) refl
     count_line subs goes x l (by_entry c dead is entry) = count_one (bare_of x) ∙ same_weight x (bare_of x) (alike_bare x.kind) refl
     count_line subs goes x l (by_phi c dead is) =
-        let a = count_first (phi_off c x.origin) (bare_of x ∷ []) in
+        let a = count_first (salvage_phi c x.origin) (bare_of x ∷ []) in
         let b = count_one (bare_of x) in
         let e = same_weight x (bare_of x) (alike_bare x.kind) refl in
-        let z : weight (tested (phi_off c x.origin)) ≡ 0 =
-        (λ t. weight (quiet_no (phi_off c x.origin).kind (phi_quiet c x.origin) t && is_origin (phi_off c x.origin).origin o)) in
+        let z : weight (tested (salvage_phi c x.origin)) ≡ 0 =
+        (λ t. weight (quiet_no (salvage_phi c x.origin).kind (phi_quiet c x.origin) t && is_origin (salvage_phi c x.origin).origin o)) in
         omega (arith, a, b, e, z)
 
     count_lines : (subs : List DebugSubstitution) (needed : Places) (xs : List Item) (ls : List Line) → LinesAre subs needed xs ls →
@@ -235,7 +235,7 @@ module _ (f : Function) (subs : List DebugSubstitution) (dead : List (List Bool)
   -- by what a line says: one item, or a phi and the copy
   by_line : {R : Type 0} (goes : Bool) (x : Item) (l : Line) (ys zs : List Item) → LineIs (all_off f subs dead).subs goes x l → ys ≡ l.now ++ zs →
       ((y : Item) → ys ≡ y ∷ zs → Alike x.kind y.kind → y.origin ≡ x.origin → R) →
-      ((z : Copied) → ys ≡ phi_off z x.origin ∷ bare_of x ∷ zs → R) → R
+      ((z : Copied) → ys ≡ salvage_phi z x.origin ∷ bare_of x ∷ zs → R) → R
   by_line goes x l ys zs (as_it_was w) e first second = first x e (alike_itself x.kind) refl
   by_line goes x l ys zs (numbered {i} {k} {o} {l = d} stays) e first second = first (record x { kind = Code i (Some k) }) e (code i None (Some k)) refl
   by_line goes x l ys zs (by_entry z dies is entry) e first second = first (bare_of x) e (alike_bare x.kind) refl
@@ -260,12 +260,12 @@ module _ (f : Function) (subs : List DebugSubstitution) (dead : List (List Bool)
           verdict = ap (is_dead y.kind) p.needs ∙ sym (alike_dead x.kind y.kind (needed_at p.us (judged.ends at.block)) a) ∙ sym (dead_is at x p);
         }
 
-        second : (z : Copied) → rest_of (function_off f subs dead).blocks q ≡ phi_off z x.origin ∷ bare_of x ∷ p.zs → CodeThere at x
+        second : (z : Copied) → rest_of (function_off f subs dead).blocks q ≡ salvage_phi z x.origin ∷ bare_of x ∷ p.zs → CodeThere at x
         second z e = record {
           pos = below q;
           item = bare_of x;
           rest = p.zs;
-          there = ((laid_out false (function_off f subs dead).blocks (λ w. None)).cons q (phi_off z x.origin) (bare_of x ∷ p.zs) e).1;
+          there = ((laid_out false (function_off f subs dead).blocks (λ w. None)).cons q (salvage_phi z x.origin) (bare_of x ∷ p.zs) e).1;
           block = refl;
           alike = alike_bare x.kind;
           origin = refl;

@@ -12,13 +12,13 @@ use Rattle.pass_trait.specs.Change.{change}
 use Rattle.pass_trait.specs.Debug.{KeepsItems}
 use Rattle.dce_rule.specs.Dead.{Places, Ends, is_dead, needed_at, without_dead, thinned_block}
 use Rattle.dce_rule.specs.Wrong.{taken_out}
-use Rattle.dce_rule.specs.Out.{LosesAt, AreWrong}
-use Rattle.dce_mark.specs.Judged.{verdicts, AreJudged}
-use Rattle.dce_copies.specs.Off.{SoFar, off_at, off_down}
-use Rattle.dce_copies.specs.Blocks.{going_from, BlocksSoFar, in_block, block_off, with_front, blocks_off}
+use Rattle.dce_rule.specs.RemovalDebugRule.{LosesAt, AreWrong}
+use Rattle.dce_analysis.specs.IsDead.{verdicts, AreJudged}
+use Rattle.dce_salvage.specs.SalvageNumbers.{SoFar, salvage_at, salvage_down}
+use Rattle.dce_salvage.specs.SalvageBlocks.{going_from, BlocksSoFar, in_block, salvage_block, with_front, salvage_blocks}
 use Rattle.dce_salvage_proof.specs.SalvageLaws.{begins_off, all_off, function_off}
 use Rattle.dce_sweep.proofs.None.{some_true, some_dead, blocks_same, never_wrong, loses_none, right_false}
-use Rattle.dce_proof.specs.Rule.{dead_rule}
+use Rattle.dce_proof.specs.DebugRule.{dead_rule}
 use Rattle.dce_proof.specs.DebugLaws.{IdleKeepsItems}
 use Rattle.dce_proof.proofs.Blocks.{verdicts_of}
 use Rattle.dce_proof.proofs.Here.{c}
@@ -61,10 +61,10 @@ none_at (true ∷ vs) k e = cc
 none_at (false ∷ vs) zero e = refl
 none_at (false ∷ vs) (suc k) e = none_at vs k e
 
-down_none : (removed : List ℕ) (dead : List Bool) (n : ℕ) (a : SoFar) → some_true dead ≡ false → off_down removed dead n a ≡ a
+down_none : (removed : List ℕ) (dead : List Bool) (n : ℕ) (a : SoFar) → some_true dead ≡ false → salvage_down removed dead n a ≡ a
 down_none removed dead zero a e = refl
 down_none removed dead (suc n) a e =
-    ap (λ (z : Bool). off_down removed dead n (off_at removed n z a)) (none_at dead n e) ∙ down_none removed dead n a e
+    ap (λ (z : Bool). salvage_down removed dead n (salvage_at removed n z a)) (none_at dead n e) ∙ down_none removed dead n a e
 
 first_none : (vs : List Bool) (vss : List (List Bool)) → some_dead (vs ∷ vss) ≡ false → some_true vs ≡ false
 first_none vs vss e = by_test (some_true vs) refl e where
@@ -85,12 +85,12 @@ rest_none [] e = refl
 rest_none (vs ∷ vss) e = ap some_dead (drop_zero vss) ∙ right_false (some_true vs) (some_dead vss) e
 
 off_none : (ds : List (List Bool)) (bs : List Block) (a : BlocksSoFar) → some_dead ds ≡ false → a.blocks ≡ [] →
-    blocks_off ds bs a ≡ record { blocks = bs; subs = a.subs; fresh = a.fresh; lost = a.lost }
+    salvage_blocks ds bs a ≡ record { blocks = bs; subs = a.subs; fresh = a.fresh; lost = a.lost }
 off_none ds [] a e none = λ t. record { blocks = none t; subs = a.subs; fresh = a.fresh; lost = a.lost }
 off_none ds (b ∷ bs) a e none =
     let d : List Bool = get_or ds 0 [] in
-    let m : BlocksSoFar = blocks_off (drop 1 ds) bs a in
-    let here : block_off d b m ≡ in_block b m = down_none (going_from 0 d) d (length b.items) (in_block b m) (head_none ds e) in
+    let m : BlocksSoFar = salvage_blocks (drop 1 ds) bs a in
+    let here : salvage_block d b m ≡ in_block b m = down_none (going_from 0 d) d (length b.items) (in_block b m) (head_none ds e) in
     let rest = off_none (drop 1 ds) bs a (rest_none ds e) none in
     ap (with_front b m) here ∙ ap (λ (z : BlocksSoFar). with_front b z (in_block b z)) rest
 

@@ -25,17 +25,17 @@ use Rattle.pass_trait.specs.Rule.{StandsAt, item, first_operand}
 use Rattle.pass_trait.specs.Debug.{IsKillAt, Becomes, BecomeAll, over, next, BlocksBecome, none, stays as block_stays}
 use Rattle.dce_rule.specs.Dead.{Places, is_dead, needed_at}
 use Rattle.dce_rule.specs.Wrong.{begins_dead, silenced, silenced_left, is_dead_at, IsWrongAt}
-use Rattle.dce_rule.specs.Out.{AreWrong}
+use Rattle.dce_rule.specs.RemovalDebugRule.{AreWrong}
 use Rattle.dce_rule.proofs.Lists.{quiet, taken}
-use Rattle.dce_mark.specs.Judged.{AreJudged}
-use Rattle.dce_copies.specs.declared.off.Copied.{Copied}
-use Rattle.dce_copies.specs.Off.{without_number, phi_by, phi_off}
+use Rattle.dce_analysis.specs.IsDead.{AreJudged}
+use Rattle.dce_salvage.specs.declared.salvage_numbers.Copied.{Copied}
+use Rattle.dce_salvage.specs.SalvageNumbers.{without_number, phi_by_own, salvage_phi}
 use Rattle.dce_salvage_proof.specs.SalvageLaws.{begins_off, all_off, function_off}
 use Rattle.dce_salvage_proof.proofs.Copy.{copy_of as copy_is}
 use Rattle.dce_sweep.proofs.Steps.{drop_next}
 use Rattle.dce_sweep.proofs.None.{dead_is_code}
-use Rattle.dce_proof.specs.Ledger.{Line, line_of, ledger}
-use Rattle.dce_proof.specs.Rule.{number, phi, dead_rule}
+use Rattle.dce_proof.specs.SalvageLedger.{Line, line_of, ledger}
+use Rattle.dce_proof.specs.DebugRule.{number, phi, dead_rule}
 use Rattle.dce_proof.proofs.Lines.{LineIs, as_it_was, numbered, by_entry, by_phi, LinesAre, all_now}
 use Rattle.dce_proof.proofs.Blocks.{all_lines, BlocksAre, no_blocks, and_block, lines_at, lines_for, lines_for_is}
 use Rattle.dce_proof.proofs.Places.{ahead, ahead_zero, over_now, line_here, past_here}
@@ -159,38 +159,38 @@ module _ (f : Function) (subs : List DebugSubstitution) (dead : List (List Bool)
     abbrev PhiCase : (n : ℕ) → Item → (xs zs : List Item) → Copied → ItemKind → Type 0
     PhiCase n x xs zs z kk =
         drop n b.items ≡ item kk x.origin x.loc ∷ xs →
-        slice_get ls n ≡ Some (record { now = phi_off z x.origin ∷ item (without_number kk) x.origin x.loc ∷ []; phi = Some z.source }) →
+        slice_get ls n ≡ Some (record { now = salvage_phi z x.origin ∷ item (without_number kk) x.origin x.loc ∷ []; phi = Some z.source }) →
         is_dead_at judged.ends f (pos_in b.id n) ≡ true → is_dead kk (needed_at zs (judged.ends b.id)) ≡ true →
         BecomeAll dead_rule (c f subs dead sound judged wrong) b.id n (item kk x.origin x.loc ∷ xs)
-        (silenced_left (λ m. wrong (pos_in b.id m)) (ahead ls n) (phi_off z x.origin ∷ item (without_number kk) x.origin x.loc ∷ zs) (judged.ends b.id))
+        (silenced_left (λ m. wrong (pos_in b.id m)) (ahead ls n) (salvage_phi z x.origin ∷ item (without_number kk) x.origin x.loc ∷ zs) (judged.ends b.id))
 
     phi_first : (own : Bool) (k s : ℕ) (o : Origin) (m : ℕ) (ys : List Item) →
-        silenced_left (λ m. wrong (pos_in b.id m)) m (phi_by own k s o ∷ ys) (judged.ends b.id) ≡
-        quiet (wrong (pos_in b.id m)) (phi_by own k s o) ∷ silenced_left (λ m. wrong (pos_in b.id m)) (suc m) ys (judged.ends b.id)
+        silenced_left (λ m. wrong (pos_in b.id m)) m (phi_by_own own k s o ∷ ys) (judged.ends b.id) ≡
+        quiet (wrong (pos_in b.id m)) (phi_by_own own k s o) ∷ silenced_left (λ m. wrong (pos_in b.id m)) (suc m) ys (judged.ends b.id)
     phi_first true k s o m ys = refl
     phi_first false k s o m ys = refl
 
     phi_line : (n : ℕ) (i : Instruction) (rd : ℕ) (o : Origin) (d : Loc) (xs zs : List Item) (z : Copied) → z.own ≡ nat_eq (suc rd) z.source →
         row_of i ≡ Moves (suc rd) z.source → drop n b.items ≡ item (Code i (Some z.number)) o d ∷ xs →
-        slice_get ls n ≡ Some (record { now = phi_off z o ∷ item (Code i None) o d ∷ []; phi = Some z.source }) →
+        slice_get ls n ≡ Some (record { now = salvage_phi z o ∷ item (Code i None) o d ∷ []; phi = Some z.source }) →
         is_dead_at judged.ends f (pos_in b.id n) ≡ true → is_dead (Code i (Some z.number)) (needed_at zs (judged.ends b.id)) ≡ true →
         BecomeAll dead_rule (c f subs dead sound judged wrong) b.id (suc n) xs
         (silenced_left (λ m. wrong (pos_in b.id m)) (suc (suc (ahead ls n))) zs (judged.ends b.id)) →
         BecomeAll dead_rule (c f subs dead sound judged wrong) b.id n (item (Code i (Some z.number)) o d ∷ xs)
-        (silenced_left (λ m. wrong (pos_in b.id m)) (ahead ls n) (phi_off z o ∷ item (Code i None) o d ∷ zs) (judged.ends b.id))
+        (silenced_left (λ m. wrong (pos_in b.id m)) (ahead ls n) (salvage_phi z o ∷ item (Code i None) o d ∷ zs) (judged.ends b.id))
     phi_line n i rd o d xs zs z own row e at dies dead_zs more =
         subst (BecomeAll dead_rule (c f subs dead sound judged wrong) b.id n (item (Code i (Some z.number)) o d ∷ xs))
         (sym (phi_first z.own z.number z.source o (ahead ls n) (item (Code i None) o d ∷ zs)))
         (by_test (is_dead (Code i None) (needed_at zs (judged.ends b.id))) dead_zs) where
           by_test : (v : Bool) → v ≡ true → BecomeAll dead_rule (c f subs dead sound judged wrong) b.id n (item (Code i (Some z.number)) o d ∷ xs)
-              (quiet (wrong (pos_in b.id (ahead ls n))) (phi_by z.own z.number z.source o) ∷
+              (quiet (wrong (pos_in b.id (ahead ls n))) (phi_by_own z.own z.number z.source o) ∷
               cond v (silenced_left (λ m. wrong (pos_in b.id m)) (suc (suc (ahead ls n))) zs (judged.ends b.id))
               (item (Code i None) o d ∷ silenced_left (λ m. wrong (pos_in b.id m)) (suc (suc (ahead ls n))) zs (judged.ends b.id)))
           by_test true h =
               next (subst (λ (b' : Bool). Becomes dead_rule (c f subs dead sound judged wrong) (pos_in b.id n) (item (Code i (Some z.number)) o d)
-              (quiet (wrong (pos_in b.id (ahead ls n))) (phi_by b' z.number z.source o) ∷ [])) (sym own)
+              (quiet (wrong (pos_in b.id (ahead ls n))) (phi_by_own b' z.number z.source o) ∷ [])) (sym own)
               (phi_put f subs dead sound judged wrong (pos_in b.id n) i z.number rd z.source o d (pos_in b.id (ahead ls n)) z refl refl own row
-              (stood n (item (Code i (Some z.number)) o d) xs e (record { now = phi_off z o ∷ item (Code i None) o d ∷ []; phi = Some z.source }) at)
+              (stood n (item (Code i (Some z.number)) o d) xs e (record { now = salvage_phi z o ∷ item (Code i None) o d ∷ []; phi = Some z.source }) at)
               dies)) more
           by_test false h = cc
 

@@ -1,5 +1,5 @@
 mod Counts
-mod Off
+mod SalvagedNumbers
 mod Numbers
 pub mod Round
 pub use Rattle.dce_round.proofs.Follows

@@ -20,22 +20,23 @@ use Rattle.mir_func.specs.Resolve.{entry_of}
 use Rattle.pass_trait.specs.Rule.{item, first_operand, number_lost}
 use Rattle.pass_trait.specs.declared.loss.Reason.TheVariants.{WrongPlace}
 use Rattle.pass_trait.specs.declared.loss.Loss.{Loss}
-use Rattle.pass_salvage.specs.declared.way.SalvageAction.{SalvageAction}
-use Rattle.pass_salvage.specs.declared.way.SalvageAction.TheVariants.{HasEntry, GetsEntry, GetsPhi}
-use Rattle.pass_salvage.specs.Way.{has_entry, or_fresh, asks_for, may_stand, way_by, way_of_kind, way_at, way_from, way, first_definition, last_definition}
+use Rattle.pass_salvage.specs.declared.salvage_action.SalvageAction.{SalvageAction}
+use Rattle.pass_salvage.specs.declared.salvage_action.SalvageAction.TheVariants.{HasEntry, GetsEntry, GetsPhi}
+use Rattle.pass_salvage.specs.SalvageAction.{has_entry, or_fresh, asks_for, may_stand, action_by}
+use Rattle.pass_salvage.specs.SalvageAction.{action_of_kind, action_at, action_from, salvage_action, first_definition, last_definition}
 use Rattle.pass_salvage.specs.Salvage.{with_number, numbered_at, entry_for, entries_for, above_after}
 use Rattle.pass_salvage.proofs.Chosen.{IsEntered, entered}
 use Rattle.pass_edits.proofs.Found.{not_is}
 use Rattle.pass_edits.proofs.Entered.{entered_more, entry_added, none_there}
 use Rattle.dce_rule.specs.Dead.{Places, is_dead, needed_at}
-use Rattle.dce_mark.specs.Judged.{verdicts}
-use Rattle.dce_copies.specs.declared.off.Copied.{Copied}
-use Rattle.dce_copies.specs.Off.{without_number, numbered_copy, phi_off, put_off, lost_if_own, lost_off, behind_off}
-use Rattle.dce_copies.specs.Off.{SoFar, off_by, off_copy, copy_in, off_at, off_down}
-use Rattle.dce_copies.specs.Blocks.{going_from}
+use Rattle.dce_analysis.specs.IsDead.{verdicts}
+use Rattle.dce_salvage.specs.declared.salvage_numbers.Copied.{Copied}
+use Rattle.dce_salvage.specs.SalvageNumbers.{without_number, numbered_copy, salvage_phi, added_by_salvage, lost_if_own, lost_by_salvage, salvaged_from}
+use Rattle.dce_salvage.specs.SalvageNumbers.{SoFar, salvage_by, salvage_copy, copy_in, salvage_at, salvage_down}
+use Rattle.dce_salvage.specs.SalvageBlocks.{going_from}
 use Rattle.pass_salvage.proofs.Placed.{numbered_length, above_length}
 use Rattle.dce_salvage_proof.proofs.Copy.{split_at}
-use Rattle.dce_proof.specs.Ledger.{Line, line_by, line_of, line_of_copy, lines_of, lines_down}
+use Rattle.dce_proof.specs.SalvageLedger.{Line, line_by, line_of, line_of_copy, lines_of, lines_down}
 use Rattle.rv64_instr.specs.Row.{row_of}
 use Rattle.rv64_instr.specs.Parts.{is_call}
 use Rattle.dce_sweep.proofs.None.{right_false}
@@ -56,7 +57,7 @@ pub data LineIs (subs : List DebugSubstitution) (goes : Bool) : Item → Line �
   by_entry : {x : Item} (c : Copied) → goes ≡ true → numbered_copy x.kind ≡ Some c → IsEnteredIn subs c.number →
       LineIs subs goes x (record { now = bare_of x ∷ []; phi = None })
   by_phi : {x : Item} (c : Copied) → goes ≡ true → numbered_copy x.kind ≡ Some c →
-      LineIs subs goes x (record { now = phi_off c x.origin ∷ bare_of x ∷ []; phi = Some c.source })
+      LineIs subs goes x (record { now = salvage_phi c x.origin ∷ bare_of x ∷ []; phi = Some c.source })
 
 -- the lines of items, at the end of which these places are needed
 pub data LinesAre (subs : List DebugSubstitution) (needed : Places) : List Item → List Line → Type 0 where
@@ -193,29 +194,29 @@ has_some None h = cc
 has_some (Some e) h = (e, refl)
 
 module _ (removed : List ℕ) (subs : List DebugSubstitution) (fresh k s : ℕ) (done : List Item) where
-  no_operand : (d : ℕ) (n : Option ℕ) (p : Option ℕ) (behind : List Item) → way_by removed subs fresh k d n p behind ≡ HasEntry → ⊥
+  no_operand : (d : ℕ) (n : Option ℕ) (p : Option ℕ) (behind : List Item) → action_by removed subs fresh k d n p behind ≡ HasEntry → ⊥
   no_operand d n None behind e = cc
   no_operand d n (Some o) behind e = by_test (may_stand removed subs k d n o behind) e where
     by_test : (z : Bool) → cond z (GetsEntry d o (or_fresh fresh n)) GetsPhi ≡ HasEntry → ⊥
     by_test true e = cc
     by_test false e = cc
 
-  no_kind : (d : ℕ) (kind : ItemKind) → way_of_kind removed subs fresh k s d done kind ≡ HasEntry → ⊥
+  no_kind : (d : ℕ) (kind : ItemKind) → action_of_kind removed subs fresh k s d done kind ≡ HasEntry → ⊥
   no_kind d (Code i n) e = no_operand d n (first_definition (is_call (row_of i)) s i.operands) (drop (suc d) done) e
   no_kind d (Mark v m) e = cc
   no_kind d (Phi p m) e = cc
 
-  no_item : (d : ℕ) (x : Option Item) → way_at removed subs fresh k s d done x ≡ HasEntry → ⊥
+  no_item : (d : ℕ) (x : Option Item) → action_at removed subs fresh k s d done x ≡ HasEntry → ⊥
   no_item d None e = cc
   no_item d (Some x) e = no_kind d x.kind e
 
-  no_from : (o : Option ℕ) → way_from removed subs fresh k s done o ≡ HasEntry → ⊥
+  no_from : (o : Option ℕ) → action_from removed subs fresh k s done o ≡ HasEntry → ⊥
   no_from None e = cc
   no_from (Some d) e = no_item d (slice_get done d) e
 
-  entry_there : way removed subs fresh k s done ≡ HasEntry → IsEnteredIn subs k
+  entry_there : salvage_action removed subs fresh k s done ≡ HasEntry → IsEnteredIn subs k
   entry_there is = by_test (has_entry subs (Some k) 0) refl is where
-    by_test : (z : Bool) → has_entry subs (Some k) 0 ≡ z → cond z HasEntry (way_from removed subs fresh k s done (last_definition s done)) ≡ HasEntry →
+    by_test : (z : Bool) → has_entry subs (Some k) 0 ≡ z → cond z HasEntry (action_from removed subs fresh k s done (last_definition s done)) ≡ HasEntry →
         IsEnteredIn subs k
     by_test true h e = has_some (entry_of subs (first_operand k)) h
     by_test false h e = absurd (no_from (last_definition s done) e)
@@ -245,7 +246,7 @@ module _ (xs : List Item) (dead : List Bool) where
 
   now_above : (items : List Item) (subs : List DebugSubstitution) (fresh k s n : ℕ) (rest : List Item) → n ≤ length items → AreNow items n →
       (w : SalvageAction) →
-      way (going_from 0 dead) subs fresh k s (take n items) ≡ w → AreNow (above_after w (take n items) ++ rest) n
+      salvage_action (going_from 0 dead) subs fresh k s (take n items) ≡ w → AreNow (above_after w (take n items) ++ rest) n
   now_above items subs fresh k s n rest le h w is j x lt at = by_way w is where
     up : List Item
     up = take n items
@@ -262,7 +263,7 @@ module _ (xs : List Item) (dead : List Bool) where
     same_up : slice_get (take n items) j ≡ Some (h j x lt at).0
     same_up = get_taken items n j lt ∙ (h j x lt at).1
 
-    by_way : (w : SalvageAction) → way (going_from 0 dead) subs fresh k s (take n items) ≡ w →
+    by_way : (w : SalvageAction) → salvage_action (going_from 0 dead) subs fresh k s (take n items) ≡ w →
         (y : Item) × (slice_get (above_after w (take n items) ++ rest) j ≡ Some y) × Now (get_or dead j false) x y
     by_way HasEntry is = (u.0, left (take n items) refl ∙ same_up, u.2)
     by_way GetsPhi is = (u.0, left (take n items) refl ∙ same_up, u.2)
@@ -326,26 +327,26 @@ module _ (xs : List Item) (dead : List Bool) where
   lost_own false k loss t e = cc
 
   one_copy : (n : ℕ) (a : SoFar) (x : Item) (c : Copied) → slice_get a.items n ≡ Some x → numbered_copy x.kind ≡ Some c → (w : SalvageAction) →
-      way (going_from 0 dead) a.subs a.fresh c.number c.source (take n a.items) ≡ w → OneLine n true a (off_by n c a w) x
+      salvage_action (going_from 0 dead) a.subs a.fresh c.number c.source (take n a.items) ≡ w → OneLine n true a (salvage_by n c a w) x
   one_copy n a x c at is w way_is = record {
     line = line_by w c x;
     is = ap (λ (o : Option Item). lines_of (going_from 0 dead) n true a o) at ∙
         ap (λ (o : Option Copied). line_of_copy (going_from 0 dead) n a x o ∷ []) is ∙ ap (λ (v : SalvageAction). line_by v c x ∷ []) way_is;
     fits = by_way w way_is;
-    now = append_assoc (put_off w c x.origin) (bare_of x ∷ []) (drop (suc n) a.items) ∙
-        ap (λ (ys : List Item). behind_off w c ys) (sym (split_at a.items n x at).behind) ∙
-        sym (drop_past (above_after w (take n a.items)) (behind_off w c (drop n a.items)) n
+    now = append_assoc (added_by_salvage w c x.origin) (bare_of x ∷ []) (drop (suc n) a.items) ∙
+        ap (λ (ys : List Item). salvaged_from w c ys) (sym (split_at a.items n x at).behind) ∙
+        sym (drop_past (above_after w (take n a.items)) (salvaged_from w c (drop n a.items)) n
         (above_length w (take n a.items) ∙ length-take-le n a.items (omega (arith, inside))));
     more = entries_for w c.number;
     grown = refl;
-    above = λ all. now_above a.items a.subs a.fresh c.number c.source n (behind_off w c (drop n a.items)) (omega (arith, inside))
+    above = λ all. now_above a.items a.subs a.fresh c.number c.source n (salvaged_from w c (drop n a.items)) (omega (arith, inside))
         (λ j z lt there. all j z (omega (arith, lt)) there) w way_is;
     lost = λ loss. (lost_there w loss, there_lost w loss);
   } where
     inside : n < length a.items
     inside = slice_get_within a.items n x at
 
-    by_way : (w : SalvageAction) → way (going_from 0 dead) a.subs a.fresh c.number c.source (take n a.items) ≡ w →
+    by_way : (w : SalvageAction) → salvage_action (going_from 0 dead) a.subs a.fresh c.number c.source (take n a.items) ≡ w →
         LineIs (a.subs ++ entries_for w c.number) true x (line_by w c x)
     by_way HasEntry e =
         let k = entry_there (going_from 0 dead) a.subs a.fresh c.number c.source (take n a.items) e in
@@ -355,17 +356,17 @@ module _ (xs : List Item) (dead : List Bool) where
         by_entry c refl is (entry_for c.number m p, entry_added a.subs c.number m p (none_there (entry_of a.subs (first_operand c.number)) k.none))
     by_way GetsPhi e = by_phi c refl is
 
-    lost_there : (w : SalvageAction) (loss : Loss) → Contains (a.lost ++ lost_off w c) loss → Contains a.lost loss ⊎ Own x (line_by w c x) loss
-    lost_there w loss k = elim (Contains-append_cases a.lost (lost_off w c) loss k) [ inl old ↦ inl old | inr new ↦ inr (by_new w new) ] where
-      by_new : (w : SalvageAction) → Contains (lost_off w c) loss → Own x (line_by w c x) loss
+    lost_there : (w : SalvageAction) (loss : Loss) → Contains (a.lost ++ lost_by_salvage w c) loss → Contains a.lost loss ⊎ Own x (line_by w c x) loss
+    lost_there w loss k = elim (Contains-append_cases a.lost (lost_by_salvage w c) loss k) [ inl old ↦ inl old | inr new ↦ inr (by_new w new) ] where
+      by_new : (w : SalvageAction) → Contains (lost_by_salvage w c) loss → Own x (line_by w c x) loss
       by_new HasEntry (j, lt, e) = absurd (omega (arith, lt))
       by_new (GetsEntry d p m) (j, lt, e) = absurd (omega (arith, lt))
       by_new GetsPhi h = let o = own_lost c.own c.number loss h in (c, is, o.0, refl, o.1)
 
-    there_lost : (w : SalvageAction) (loss : Loss) → Contains a.lost loss ⊎ Own x (line_by w c x) loss → Contains (a.lost ++ lost_off w c) loss
-    there_lost w loss (inl k) = Contains-append_left a.lost (lost_off w c) loss k
-    there_lost w loss (inr h) = Contains-append_right a.lost (lost_off w c) loss (by_way_lost w h) where
-      by_way_lost : (w : SalvageAction) → Own x (line_by w c x) loss → Contains (lost_off w c) loss
+    there_lost : (w : SalvageAction) (loss : Loss) → Contains a.lost loss ⊎ Own x (line_by w c x) loss → Contains (a.lost ++ lost_by_salvage w c) loss
+    there_lost w loss (inl k) = Contains-append_left a.lost (lost_by_salvage w c) loss k
+    there_lost w loss (inr h) = Contains-append_right a.lost (lost_by_salvage w c) loss (by_way_lost w h) where
+      by_way_lost : (w : SalvageAction) → Own x (line_by w c x) loss → Contains (lost_by_salvage w c) loss
       by_way_lost HasEntry o = let bad = o.3 in cc
       by_way_lost (GetsEntry d p m) o = let bad = o.3 in cc
       by_way_lost GetsPhi (c', is', own, phi, e) =
@@ -373,15 +374,15 @@ module _ (xs : List Item) (dead : List Bool) where
           let one : c' ≡ c = cc in
           lost_own c.own c.number loss (ap (λ (z : Copied). z.own) (sym one) ∙ own) (e ∙ (λ t. number_lost (one t).number WrongPlace))
 
-  one_goes : (n : ℕ) (a : SoFar) (x : Item) → slice_get a.items n ≡ Some x → OneLine n true a (off_at (going_from 0 dead) n true a) x
+  one_goes : (n : ℕ) (a : SoFar) (x : Item) → slice_get a.items n ≡ Some x → OneLine n true a (salvage_at (going_from 0 dead) n true a) x
   one_goes n a x at = by_copy (numbered_copy x.kind) refl where
-    state : (c : Option Copied) → numbered_copy x.kind ≡ c → off_at (going_from 0 dead) n true a ≡ off_copy (going_from 0 dead) n a c
-    state c is = ap (λ (o : Option Item). off_copy (going_from 0 dead) n a (copy_in o)) at ∙ ap (off_copy (going_from 0 dead) n a) is
+    state : (c : Option Copied) → numbered_copy x.kind ≡ c → salvage_at (going_from 0 dead) n true a ≡ salvage_copy (going_from 0 dead) n a c
+    state c is = ap (λ (o : Option Item). salvage_copy (going_from 0 dead) n a (copy_in o)) at ∙ ap (salvage_copy (going_from 0 dead) n a) is
 
-    by_copy : (c : Option Copied) → numbered_copy x.kind ≡ c → OneLine n true a (off_at (going_from 0 dead) n true a) x
+    by_copy : (c : Option Copied) → numbered_copy x.kind ≡ c → OneLine n true a (salvage_at (going_from 0 dead) n true a) x
     by_copy (Some c) is =
         subst (λ (b : SoFar). OneLine n true a b x) (sym (state (Some c) is))
-        (one_copy n a x c at is (way (going_from 0 dead) a.subs a.fresh c.number c.source (take n a.items)) refl)
+        (one_copy n a x c at is (salvage_action (going_from 0 dead) a.subs a.fresh c.number c.source (take n a.items)) refl)
     by_copy None is = subst (λ (b : SoFar). OneLine n true a b x) (sym (state None is)) (record {
       line = line_of x;
       is = ap (λ (o : Option Item). lines_of (going_from 0 dead) n true a o) at ∙
@@ -395,7 +396,7 @@ module _ (xs : List Item) (dead : List Bool) where
     })
 
   one_line : (n : ℕ) (goes : Bool) (a : SoFar) (x y : Item) → slice_get a.items n ≡ Some y → Now goes x y →
-      OneLine n goes a (off_at (going_from 0 dead) n goes a) x
+      OneLine n goes a (salvage_at (going_from 0 dead) n goes a) x
   one_line n true a x y at (inl e) = one_goes n a x (at ∙ ap (λ (z : Item). Some z) e)
   one_line n true a x y at (inr (e, given)) = cc
   one_line n false a x y at h = one_stays n a x y at h
@@ -407,59 +408,59 @@ module _ (xs : List Item) (dead : List Bool) where
   pub record Done (n : ℕ) (a : SoFar) : Type 0 where
     pub long : length (lines_down (going_from 0 dead) dead n a) ≡ n
     pub lines : (j : ℕ) (x : Item) → j < n → slice_get xs j ≡ Some x →
-        LineAt (off_down (going_from 0 dead) dead n a).subs dead (lines_down (going_from 0 dead) dead n a) j x
-    pub now : all_now (lines_down (going_from 0 dead) dead n a) ++ drop n a.items ≡ (off_down (going_from 0 dead) dead n a).items
+        LineAt (salvage_down (going_from 0 dead) dead n a).subs dead (lines_down (going_from 0 dead) dead n a) j x
+    pub now : all_now (lines_down (going_from 0 dead) dead n a) ++ drop n a.items ≡ (salvage_down (going_from 0 dead) dead n a).items
     pub more : List DebugSubstitution
-    pub grown : (off_down (going_from 0 dead) dead n a).subs ≡ a.subs ++ more
+    pub grown : (salvage_down (going_from 0 dead) dead n a).subs ≡ a.subs ++ more
     pub lost : (loss : Loss) →
-        Contains (off_down (going_from 0 dead) dead n a).lost loss ↔ (Contains a.lost loss ⊎ OwnBefore n (lines_down (going_from 0 dead) dead n a) loss)
+        Contains (salvage_down (going_from 0 dead) dead n a).lost loss ↔ (Contains a.lost loss ⊎ OwnBefore n (lines_down (going_from 0 dead) dead n a) loss)
 
   down_next : (n : ℕ) (a : SoFar) (x_n : Item) → slice_get xs n ≡ Some x_n →
-      (one : OneLine n (get_or dead n false) a (off_at (going_from 0 dead) n (get_or dead n false) a) x_n) →
-      Done n (off_at (going_from 0 dead) n (get_or dead n false) a) → Done (suc n) a
+      (one : OneLine n (get_or dead n false) a (salvage_at (going_from 0 dead) n (get_or dead n false) a) x_n) →
+      Done n (salvage_at (going_from 0 dead) n (get_or dead n false) a) → Done (suc n) a
   down_next n a x_n at_n one rest = record {
-    long = ap length all_is ∙ (let e = length-append (lines_down (going_from 0 dead) dead n (off_at (going_from 0 dead) n (get_or dead n false) a))
+    long = ap length all_is ∙ (let e = length-append (lines_down (going_from 0 dead) dead n (salvage_at (going_from 0 dead) n (get_or dead n false) a))
         (one.line ∷ []) in let l = rest.long in omega (arith, e, l));
     lines = λ j x lt at. line_at j x lt at;
     now = ap (λ (ls : List Line). all_now ls ++ drop (suc n) a.items) all_is ∙
         ap (λ (ys : List Item). ys ++ drop (suc n) a.items) (flat_map-append (λ (l : Line). l.now)
-        (lines_down (going_from 0 dead) dead n (off_at (going_from 0 dead) n (get_or dead n false) a)) (one.line ∷ []) ∙
-        (λ t. all_now (lines_down (going_from 0 dead) dead n (off_at (going_from 0 dead) n (get_or dead n false) a)) ++ append-nil one.line.now t)) ∙
-        append_assoc (all_now (lines_down (going_from 0 dead) dead n (off_at (going_from 0 dead) n (get_or dead n false) a))) one.line.now
+        (lines_down (going_from 0 dead) dead n (salvage_at (going_from 0 dead) n (get_or dead n false) a)) (one.line ∷ []) ∙
+        (λ t. all_now (lines_down (going_from 0 dead) dead n (salvage_at (going_from 0 dead) n (get_or dead n false) a)) ++ append-nil one.line.now t)) ∙
+        append_assoc (all_now (lines_down (going_from 0 dead) dead n (salvage_at (going_from 0 dead) n (get_or dead n false) a))) one.line.now
         (drop (suc n) a.items) ∙
-        ap (λ (ys : List Item). all_now (lines_down (going_from 0 dead) dead n (off_at (going_from 0 dead) n (get_or dead n false) a)) ++ ys) one.now
+        ap (λ (ys : List Item). all_now (lines_down (going_from 0 dead) dead n (salvage_at (going_from 0 dead) n (get_or dead n false) a)) ++ ys) one.now
         ∙ rest.now;
     more = one.more ++ rest.more;
     grown = rest.grown ∙ ap (λ (es : List DebugSubstitution). es ++ rest.more) one.grown ∙ append_assoc a.subs one.more rest.more;
     lost = λ loss. (lost_there loss, there_lost loss);
   } where
     all_is : lines_down (going_from 0 dead) dead (suc n) a ≡
-        lines_down (going_from 0 dead) dead n (off_at (going_from 0 dead) n (get_or dead n false) a) ++ one.line ∷ []
-    all_is = ap (λ (ls : List Line). lines_down (going_from 0 dead) dead n (off_at (going_from 0 dead) n (get_or dead n false) a) ++ ls) one.is
+        lines_down (going_from 0 dead) dead n (salvage_at (going_from 0 dead) n (get_or dead n false) a) ++ one.line ∷ []
+    all_is = ap (λ (ls : List Line). lines_down (going_from 0 dead) dead n (salvage_at (going_from 0 dead) n (get_or dead n false) a) ++ ls) one.is
 
     before : (j : ℕ) → j < n → slice_get (lines_down (going_from 0 dead) dead (suc n) a) j ≡
-        slice_get (lines_down (going_from 0 dead) dead n (off_at (going_from 0 dead) n (get_or dead n false) a)) j
+        slice_get (lines_down (going_from 0 dead) dead n (salvage_at (going_from 0 dead) n (get_or dead n false) a)) j
     before j lt =
         let l = rest.long in
         ap (λ (ls : List Line). slice_get ls j) all_is ∙
-        get_left (lines_down (going_from 0 dead) dead n (off_at (going_from 0 dead) n (get_or dead n false) a)) (one.line ∷ []) j (omega (arith, lt, l))
+        get_left (lines_down (going_from 0 dead) dead n (salvage_at (going_from 0 dead) n (get_or dead n false) a)) (one.line ∷ []) j (omega (arith, lt, l))
 
     last : slice_get (lines_down (going_from 0 dead) dead (suc n) a) n ≡ Some one.line
     last = ap (λ (ls : List Line). slice_get ls n) all_is ∙
-        get_last (lines_down (going_from 0 dead) dead n (off_at (going_from 0 dead) n (get_or dead n false) a)) one.line n rest.long
+        get_last (lines_down (going_from 0 dead) dead n (salvage_at (going_from 0 dead) n (get_or dead n false) a)) one.line n rest.long
 
     line_at : (j : ℕ) (x : Item) → j < suc n → slice_get xs j ≡ Some x →
-        LineAt (off_down (going_from 0 dead) dead (suc n) a).subs dead (lines_down (going_from 0 dead) dead (suc n) a) j x
+        LineAt (salvage_down (going_from 0 dead) dead (suc n) a).subs dead (lines_down (going_from 0 dead) dead (suc n) a) j x
     line_at j x lt at = elim (cases_eq j n) [
       | inl same ↦ (
           let s : Some x ≡ Some x_n = sym at ∙ ap (slice_get xs) same ∙ at_n in
           let x_is : x ≡ x_n = cc in (
             one.line,
             ap (slice_get (lines_down (going_from 0 dead) dead (suc n) a)) same ∙ last,
-            subst (λ (z : Item). LineIs (off_down (going_from 0 dead) dead (suc n) a).subs (get_or dead j false) z one.line) (sym x_is)
-                (subst (λ (m : ℕ). LineIs (off_down (going_from 0 dead) dead (suc n) a).subs (get_or dead m false) x_n one.line) (sym same)
+            subst (λ (z : Item). LineIs (salvage_down (going_from 0 dead) dead (suc n) a).subs (get_or dead j false) z one.line) (sym x_is)
+                (subst (λ (m : ℕ). LineIs (salvage_down (going_from 0 dead) dead (suc n) a).subs (get_or dead m false) x_n one.line) (sym same)
                 (subst (λ (es : List DebugSubstitution). LineIs es (get_or dead n false) x_n one.line) (sym rest.grown)
-                (line_more (off_at (going_from 0 dead) n (get_or dead n false) a).subs rest.more (get_or dead n false) x_n one.line one.fits))),
+                (line_more (salvage_at (going_from 0 dead) n (get_or dead n false) a).subs rest.more (get_or dead n false) x_n one.line one.fits))),
           )
           )
       | inr ne ↦ (
@@ -468,11 +469,11 @@ module _ (xs : List Item) (dead : List Bool) where
           )
     ]
 
-    later_own : (loss : Loss) → OwnBefore n (lines_down (going_from 0 dead) dead n (off_at (going_from 0 dead) n (get_or dead n false) a)) loss →
+    later_own : (loss : Loss) → OwnBefore n (lines_down (going_from 0 dead) dead n (salvage_at (going_from 0 dead) n (get_or dead n false) a)) loss →
         OwnBefore (suc n) (lines_down (going_from 0 dead) dead (suc n) a) loss
     later_own loss (j, x, l, lt, at, line, own) = (j, x, l, omega (arith, lt), at, before j lt ∙ line, own)
 
-    lost_there : (loss : Loss) → Contains (off_down (going_from 0 dead) dead (suc n) a).lost loss →
+    lost_there : (loss : Loss) → Contains (salvage_down (going_from 0 dead) dead (suc n) a).lost loss →
         Contains a.lost loss ⊎ OwnBefore (suc n) (lines_down (going_from 0 dead) dead (suc n) a) loss
     lost_there loss k = elim ((rest.lost loss).0 k) [
       | inl here ↦ elim ((one.lost loss).0 here) [
@@ -483,7 +484,7 @@ module _ (xs : List Item) (dead : List Bool) where
     ]
 
     there_lost : (loss : Loss) → Contains a.lost loss ⊎ OwnBefore (suc n) (lines_down (going_from 0 dead) dead (suc n) a) loss →
-        Contains (off_down (going_from 0 dead) dead (suc n) a).lost loss
+        Contains (salvage_down (going_from 0 dead) dead (suc n) a).lost loss
     there_lost loss (inl k) = (rest.lost loss).1 (inl ((one.lost loss).1 (inl k)))
     there_lost loss (inr (j, x, l, lt, at, line, own)) = elim (cases_eq j n) [
       | inl same ↦ (
@@ -509,4 +510,4 @@ module _ (xs : List Item) (dead : List Bool) where
       let t = get_there xs n (omega (arith, le)) in
       let u = h n t.0 (omega arith) t.1 in
       let one = one_line n (get_or dead n false) a t.0 u.0 u.1 u.2 in
-      down_next n a t.0 t.1 one (down n (off_at (going_from 0 dead) n (get_or dead n false) a) (omega (arith, le)) (one.above h))
+      down_next n a t.0 t.1 one (down n (salvage_at (going_from 0 dead) n (get_or dead n false) a) (omega (arith, le)) (one.above h))

@@ -20,9 +20,9 @@ use Rattle.sem_simulation.proofs.Laid.{rest_in, rest_of}
 use Rattle.dce_rule.specs.Dead.{Places, Ends, is_dead, needed_before, needed_at, paths_of}
 use Rattle.dce_rule.specs.Wrong.{begins_dead, is_dead_at, IsWrongAt, made, on}
 use Rattle.dce_rule.proofs.Same.{debug_edge, debug_below}
-use Rattle.dce_copies.specs.declared.off.Copied.{Copied}
-use Rattle.dce_copies.specs.Off.{without_number, numbered_copy, phi_by, phi_off}
-use Rattle.dce_proof.specs.Ledger.{Line}
+use Rattle.dce_salvage.specs.declared.salvage_numbers.Copied.{Copied}
+use Rattle.dce_salvage.specs.SalvageNumbers.{without_number, numbered_copy, phi_by_own, salvage_phi}
+use Rattle.dce_proof.specs.SalvageLedger.{Line}
 use Rattle.dce_proof.proofs.Lines.{bare_of, LineIs, as_it_was, numbered, by_entry, by_phi, LinesAre, no_lines, next_line, all_now}
 use Rattle.dce_proof.proofs.Blocks.{BlocksAre, Found, nowhere, there, lines_for, found_at}
 
@@ -150,9 +150,9 @@ quiet_defines (Code i n) x e h = cc
 quiet_defines (Mark v m) x e h = h
 quiet_defines (Phi p n) x e h = h
 
-pub phi_quiet : (c : Copied) (o : Origin) → is_code (phi_off c o).kind ≡ false
+pub phi_quiet : (c : Copied) (o : Origin) → is_code (salvage_phi c o).kind ≡ false
 phi_quiet c o = by_own c.own where
-  by_own : (own : Bool) → is_code (phi_by own c.number c.source o).kind ≡ false
+  by_own : (own : Bool) → is_code (phi_by_own own c.number c.source o).kind ≡ false
   by_own true = refl
   by_own false = refl
 
@@ -174,7 +174,7 @@ needed_same subs needed (x ∷ xs) (l ∷ ls) (next_line h rest) = by_line x l h
   by_line x l (by_entry c dead is entry) e =
       alike_needed x.kind (without_number x.kind) (needed_at (all_now ls) needed) (alike_bare x.kind) ∙ ap (needed_before x.kind) e
   by_line x l (by_phi c dead is) e =
-      quiet_needed (phi_off c x.origin).kind (needed_before (without_number x.kind) (needed_at (all_now ls) needed)) (phi_quiet c x.origin) ∙
+      quiet_needed (salvage_phi c x.origin).kind (needed_before (without_number x.kind) (needed_at (all_now ls) needed)) (phi_quiet c x.origin) ∙
       alike_needed x.kind (without_number x.kind) (needed_at (all_now ls) needed) (alike_bare x.kind) ∙ ap (needed_before x.kind) e
 
 first_now : (subs : List DebugSubstitution) (goes : Bool) (x : Item) (l : Line) (further : ℕ → ℕ) → LineIs subs goes x l → in_now l.now 0 further ≡ 0
@@ -279,7 +279,7 @@ behind subs needed (x ∷ xs) (l ∷ ls) (next_line h rest) m = by_line x l h (�
       single subs needed x (record x { kind = Code i (Some k) }) None xs ls rest (code i None (Some k)) rec m
   by_line x l (by_entry c dead is entry) rec = single subs needed x (bare_of x) None xs ls rest (alike_bare x.kind) rec m
   by_line x l (by_phi c dead is) rec =
-      double subs needed x (phi_off c x.origin) (bare_of x) (Some c.source) xs ls rest (phi_quiet c x.origin) (alike_bare x.kind) rec m
+      double subs needed x (salvage_phi c x.origin) (bare_of x) (Some c.source) xs ls rest (phi_quiet c x.origin) (alike_bare x.kind) rec m
 
 -- for which item something stands afterwards: the first thing that stands for it, or the copy below its phi
 pub data Whose (subs : List DebugSubstitution) (needed : Places) (xs : List Item) (ls : List Line) (m : ℕ) (y : Item) : Type 0 where
@@ -317,12 +317,12 @@ whose subs needed (x ∷ xs) (l ∷ ls) (next_line h rest) m y vs e = by_line x 
   by_line x l (numbered {i} {k} {o} {l = d} stays) rec m e = one x (record x { kind = Code i (Some k) }) None (numbered stays) rec m e
   by_line x l (by_entry c dead is entry) rec m e = one x (bare_of x) None (by_entry c dead is entry) rec m e
   by_line x l (by_phi c dead is) rec zero e =
-      let z : Item = phi_off c x.origin in
-      first_of 0 x xs (record { now = phi_off c x.origin ∷ bare_of x ∷ []; phi = Some c.source }) refl refl (by_phi c dead is) refl (bare_of x ∷ [])
-      (let s = head_is (phi_off c x.origin) (bare_of x ∷ all_now ls) e in λ t. s t ∷ bare_of x ∷ [])
+      let z : Item = salvage_phi c x.origin in
+      first_of 0 x xs (record { now = salvage_phi c x.origin ∷ bare_of x ∷ []; phi = Some c.source }) refl refl (by_phi c dead is) refl (bare_of x ∷ [])
+      (let s = head_is (salvage_phi c x.origin) (bare_of x ∷ all_now ls) e in λ t. s t ∷ bare_of x ∷ [])
   by_line x l (by_phi c dead is) rec (suc zero) e = copy_of x c is (head_is (bare_of x) (all_now ls) e)
   by_line x l (by_phi c dead is) rec (suc (suc m)) e =
-      whose_later subs needed x xs (record { now = phi_off c x.origin ∷ bare_of x ∷ []; phi = Some c.source }) ls m (suc (suc m)) y refl (rec m e)
+      whose_later subs needed x xs (record { now = salvage_phi c x.origin ∷ bare_of x ∷ []; phi = Some c.source }) ls m (suc (suc m)) y refl (rec m e)
 
 -- ---- the paths of both functions
 
@@ -570,7 +570,7 @@ module _ (final : List DebugSubstitution) (ends : Ends) (f g : Function) (lss : 
           one_item x (record x { kind = Code i (Some k) }) us rest at front (code i None (Some k)) needs next
       by_line x us l rest at (by_entry c dead is entry) front next needs = one_item x (bare_of x) us rest at front (alike_bare x.kind) needs next
       by_line x us l rest at (by_phi c dead is) front next needs =
-          two_items x (phi_off c x.origin) (bare_of x) us rest at front (phi_quiet c x.origin) (alike_bare x.kind) needs next
+          two_items x (salvage_phi c x.origin) (bare_of x) us rest at front (phi_quiet c x.origin) (alike_bare x.kind) needs next
 
       by_rest : (zs : List Item) → drop p.item b.items ≡ zs → StepForth p p'
       by_rest (x ∷ us) at =

@@ -11,14 +11,14 @@ use Rattle.dce_rule.specs.Dead.{Ends}
 use Rattle.dce_rule.specs.Wrong.{taken_out}
 use Rattle.dce_rule.proofs.Fewer.{sizes_taken}
 use Rattle.dce_rule.proofs.Rounds.{ends_one}
-use Rattle.dce_copies.specs.Blocks.{BlocksSoFar, blocks_off}
+use Rattle.dce_salvage.specs.SalvageBlocks.{BlocksSoFar, salvage_blocks}
 use Rattle.dce_salvage_proof.specs.SalvageLaws.{begins_off, all_off, function_off, KeepsOff}
-use Rattle.dce_salvage_proof.proofs.Chain.{all_went, numbers_off}
+use Rattle.dce_salvage_proof.proofs.Chain.{all_went, salvage_numbers}
 use Rattle.dce_round.specs.Round.{IsDeadRound}
 use Rattle.dce_round.proofs.Follows.{round_code}
 use Rattle.dce_proof.specs.SizeLaws.{IsNoLarger, RoundSizes}
 use Rattle.dce_proof.proofs.Counts.{dead_in, dead_same, all_left, calls_same}
-use Rattle.dce_proof.proofs.Off.{BlocksGrow, blocks_grow, blocks_physical}
+use Rattle.dce_proof.proofs.SalvagedNumbers.{BlocksGrow, blocks_grow, blocks_physical}
 use Rattle.dce_proof.proofs.Numbers.{greatest_less}
 
 module _ (f g : Function) (subs more : List DebugSubstitution) (losses : List Loss) (sound : IsSound f) (r : IsDeadRound f subs g more losses) where
@@ -29,7 +29,7 @@ module _ (f g : Function) (subs more : List DebugSubstitution) (losses : List Lo
   end = all_off f subs r.dead
 
   off : KeepsOff f subs r.dead
-  off = numbers_off f subs r.dead sound
+  off = salvage_numbers f subs r.dead sound
 
   -- the same places are needed at blocks' ends
   ends_are : r.judged.ends ≡ r.out.ends
@@ -37,7 +37,7 @@ module _ (f g : Function) (subs more : List DebugSubstitution) (losses : List Lo
 
   grown : BlocksGrow r.judged.ends f.blocks (begins_off f subs) end
   grown =
-      subst (λ (ds : List (List Bool)). BlocksGrow r.judged.ends f.blocks (begins_off f subs) (blocks_off ds f.blocks (begins_off f subs)))
+      subst (λ (ds : List (List Bool)). BlocksGrow r.judged.ends f.blocks (begins_off f subs) (salvage_blocks ds f.blocks (begins_off f subs)))
       (sym r.judged.verdicts_are) (blocks_grow r.judged.ends f.blocks (begins_off f subs) refl)
 
   as_dead : dead_in r.out.ends mid.blocks ≡ dead_in r.judged.ends f.blocks

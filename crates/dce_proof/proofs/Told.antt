@@ -28,15 +28,15 @@ use Rattle.pass_trait.specs.declared.loss.Loss.{Loss}
 use Rattle.pass_trait.specs.Rule.{IsCopy, StandsAt, item, number_lost, mark_lost}
 use Rattle.dce_rule.specs.Dead.{Places, Ends, is_dead, needed_at}
 use Rattle.dce_rule.specs.Wrong.{begins_dead, is_dead_at, IsWrongAt}
-use Rattle.dce_rule.specs.Out.{LosesOf, LosesAt}
+use Rattle.dce_rule.specs.RemovalDebugRule.{LosesOf, LosesAt}
 use Rattle.dce_rule.proofs.Lists.{rest_at}
-use Rattle.dce_mark.specs.Judged.{AreJudged}
-use Rattle.dce_copies.specs.declared.off.Copied.{Copied}
-use Rattle.dce_copies.specs.Off.{without_number, numbered_copy, phi_by, phi_off}
+use Rattle.dce_analysis.specs.IsDead.{AreJudged}
+use Rattle.dce_salvage.specs.declared.salvage_numbers.Copied.{Copied}
+use Rattle.dce_salvage.specs.SalvageNumbers.{without_number, numbered_copy, phi_by_own, salvage_phi}
 use Rattle.dce_salvage_proof.specs.SalvageLaws.{begins_off, all_off, function_off}
 use Rattle.dce_salvage_proof.proofs.Copy.{IsCopyOf, copy_of as copy_is, split_at}
-use Rattle.dce_proof.specs.Ledger.{Line, ledger}
-use Rattle.dce_proof.specs.Rule.{HasLine, Loses, number, copy, mark, phi, dead_rule}
+use Rattle.dce_proof.specs.SalvageLedger.{Line, ledger}
+use Rattle.dce_proof.specs.DebugRule.{HasLine, Loses, number, copy, mark, phi, dead_rule}
 use Rattle.dce_proof.proofs.Lines.{bare_of, LineIs, as_it_was, numbered, by_entry, by_phi, Own}
 use Rattle.dce_proof.proofs.Blocks.{all_lines, BlocksAre, no_blocks, and_block, lines_at, lines_for, lines_for_is, Found, nowhere, there, found_at, OwnIn}
 use Rattle.dce_proof.proofs.Blocks.{there_lost}
@@ -122,11 +122,11 @@ module _ (f : Function) (subs : List DebugSubstitution) (dead : List (List Bool)
       let w = subst (λ (z : Item). LosesOf judged.ends (function_off f subs dead) q z.kind z.origin loss) (sym s) h in
       absurd (subst (λ (m : ItemKind). LosesOf judged.ends (function_off f subs dead) q (without_number m) o loss) t.is w)
   first_line at q kk o d zs l goes block verdict dead_zs (by_phi z dies is) e has stands was y more now loss h =
-      let s = head_is (phi_off z o) y (bare_of (item kk o d) ∷ []) more now in
+      let s = head_is (salvage_phi z o) y (bare_of (item kk o d) ∷ []) more now in
       let w = subst (λ (z : Item). LosesOf judged.ends (function_off f subs dead) q z.kind z.origin loss) (sym s) h in
       by_own z.own w where
-        by_own : (own : Bool) → LosesOf judged.ends (function_off f subs dead) q (phi_by own z.number z.source o).kind
-            (phi_by own z.number z.source o).origin loss → Loses (c f subs dead sound judged wrong) at kk o loss
+        by_own : (own : Bool) → LosesOf judged.ends (function_off f subs dead) q (phi_by_own own z.number z.source o).kind
+            (phi_by_own own z.number z.source o).origin loss → Loses (c f subs dead sound judged wrong) at kk o loss
         by_own true w = absurd w
         by_own false (w, is_loss) =
             let t = copy_is kk z is in
@@ -135,7 +135,7 @@ module _ (f : Function) (subs : List DebugSubstitution) (dead : List (List Bool)
             (was (Register z.source) w) in
             subst (Loses (c f subs dead sound judged wrong) at kk o) (sym is_loss)
             (subst (λ (m : ItemKind). Loses (c f subs dead sound judged wrong) at m o (number_lost z.number WrongPlace)) (sym t.is)
-            (copy (record { now = phi_off z o ∷ bare_of (item kk o d) ∷ []; phi = Some z.source }) has refl
+            (copy (record { now = salvage_phi z o ∷ bare_of (item kk o d) ∷ []; phi = Some z.source }) has refl
             (subst (λ (v : Ends). IsWrongAt v f (Register z.source) (below at)) (sym (ends_are f subs dead sound judged wrong has.dead has.judged)) bad)))
 
   first_loses : (at : Pos) (x : Item) (p : PlaceLine f subs dead sound judged wrong at x) →
@@ -312,15 +312,15 @@ module _ (f : Function) (subs : List DebugSubstitution) (dead : List (List Bool)
             (subst (λ (r : ℕ). IsWrongAt judged.ends f (Register r) (below at)) (sym s_is) bad) in
             from_out (forth (all_off f subs dead).subs judged.ends f (function_off f subs dead) (all_lines dead f.blocks (begins_off f subs)) every at)
             (number_lost k WrongPlace) (
-              phi_off z o,
-              stands_there at (item (Code i (Some k)) o d) p (phi_off z o) (bare_of (item (Code i (Some k)) o d) ∷ []) (ap (λ (m : Line). m.now) is),
+              salvage_phi z o,
+              stands_there at (item (Code i (Some k)) o d) p (salvage_phi z o) (bare_of (item (Code i (Some k)) o d) ∷ []) (ap (λ (m : Line). m.now) is),
               loses_phi z.own e (there_wrong at (Register z.source) right),
             ) where
               loses_phi : (own : Bool) → own ≡ false → IsWrongAt judged.ends (function_off f subs dead) (Register z.source)
                   (forth (all_off f subs dead).subs judged.ends f (function_off f subs dead) (all_lines dead f.blocks (begins_off f subs)) every at) →
                   LosesOf judged.ends (function_off f subs dead)
                   (forth (all_off f subs dead).subs judged.ends f (function_off f subs dead) (all_lines dead f.blocks (begins_off f subs)) every at)
-                  (phi_by own z.number z.source o).kind (phi_by own z.number z.source o).origin (number_lost k WrongPlace)
+                  (phi_by_own own z.number z.source o).kind (phi_by_own own z.number z.source o).origin (number_lost k WrongPlace)
               loses_phi true e w = cc
               loses_phi false e w = (w, (λ u. number_lost (sym k_is u) WrongPlace))
 

@@ -25,15 +25,15 @@ use Rattle.pass_trait.specs.Rule.{StandsAt, number_lost}
 use Rattle.pass_trait.specs.Debug.{IsLoss, IsFor, IsGivenOrLost, KeepsItems}
 use Rattle.dce_rule.specs.Dead.{Places, Ends, is_dead, needed_at}
 use Rattle.dce_rule.specs.Wrong.{begins_dead, silenced, silenced_left, taken_out, is_dead_at}
-use Rattle.dce_rule.specs.Out.{LosesOf, LosesAt, AreWrong}
+use Rattle.dce_rule.specs.RemovalDebugRule.{LosesOf, LosesAt, AreWrong}
 use Rattle.dce_rule.proofs.Lists.{quiet, taken}
 use Rattle.dce_rule.proofs.Rounds.{ends_one}
 use Rattle.dce_rule.proofs.Sound.{Left, none as left_none, kept as left_kept, gone as left_gone, left_items, quiet_number}
-use Rattle.dce_mark.specs.Judged.{AreJudged}
+use Rattle.dce_analysis.specs.IsDead.{AreJudged}
 use Rattle.dce_salvage_proof.specs.SalvageLaws.{begins_off, all_off, function_off, KeepsOff}
-use Rattle.dce_salvage_proof.proofs.Chain.{numbers_off}
+use Rattle.dce_salvage_proof.proofs.Chain.{salvage_numbers}
 use Rattle.pass_edits.proofs.Numbers.{IsUnlike, AreUnlike, code_is_number, number_not, number_in, HasCode}
-use Rattle.dce_proof.specs.Rule.{dead_rule}
+use Rattle.dce_proof.specs.DebugRule.{dead_rule}
 use Rattle.dce_proof.specs.DebugLaws.{RoundKeepsItems}
 use Rattle.dce_proof.proofs.Blocks.{lost_there}
 use Rattle.dce_proof.proofs.Here.{c}
@@ -111,7 +111,7 @@ module _ (f : Function) (subs : List DebugSubstitution) (dead : List (List Bool)
     (told : (l : Loss) → Contains here l ↔ ((at : Pos) × LosesAt judged.ends (function_off f subs dead) at l))
     (each : (l : Loss) → Contains losses l ↔ Contains ((all_off f subs dead).lost ++ here) l) (ordered : IsInOrder losses) where
   off : KeepsOff f subs dead
-  off = numbers_off f subs dead sound
+  off = salvage_numbers f subs dead sound
 
   from_off : (l : Loss) → Contains (all_off f subs dead).lost l → Contains losses l
   from_off l k = (each l).1 (Contains-append_left (all_off f subs dead).lost here l k)
@@ -195,7 +195,7 @@ pub round_keeps : RoundKeepsItems
 round_keeps f g subs more losses sound r =
     let dead = r.dead in
     let judged = r.judged in
-    let off : KeepsOff f subs r.dead = numbers_off f subs r.dead sound in
+    let off : KeepsOff f subs r.dead = salvage_numbers f subs r.dead sound in
     let e : r.out.ends ≡ r.judged.ends = sym (ends_one f (function_off f subs r.dead) off.same r.judged.ends r.out.ends r.judged.live r.out.live) in
     let exact : AreWrong r.judged.ends (function_off f subs r.dead) r.out.wrong =
     subst (λ (ends : Ends). AreWrong ends (function_off f subs r.dead) r.out.wrong) e r.out.exact in

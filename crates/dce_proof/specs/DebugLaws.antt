@@ -8,7 +8,7 @@ use Rattle.pass_trait.specs.Change.{change}
 use Rattle.pass_trait.specs.Debug.{KeepsItems}
 use Rattle.dce_rule.specs.Dead.{IsRound}
 use Rattle.dce_round.specs.Round.{IsDeadRound}
-use Rattle.dce_proof.specs.Rule.{dead_rule}
+use Rattle.dce_proof.specs.DebugRule.{dead_rule}
 
 -- each debug value, DBG_PHI and number is kept, or substituted or replaced by a DBG_PHI, or is among the losses with
 -- its cause

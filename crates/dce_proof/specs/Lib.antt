@@ -1,5 +1,5 @@
 pub mod SizeLaws
 pub use Rattle.dce_round.specs.Round
-pub mod Ledger
-pub mod Rule
+pub mod SalvageLedger
+pub mod DebugRule
 pub mod DebugLaws

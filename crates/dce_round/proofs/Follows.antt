@@ -17,7 +17,7 @@ use Rattle.dce_rule.proofs.Follows.{dead_follows}
 use Rattle.dce_rule.proofs.Stripped.{round_stripped}
 use Rattle.pass_edits.proofs.Loose.{then}
 use Rattle.dce_salvage_proof.specs.SalvageLaws.{all_off, function_off, KeepsOff}
-use Rattle.dce_salvage_proof.proofs.Chain.{numbers_off}
+use Rattle.dce_salvage_proof.proofs.Chain.{salvage_numbers}
 use Rattle.dce_round.specs.Round.{IsDeadRound}
 use Rattle.dce_round.specs.Laws.{RoundFollows, RoundCode}
 use Rattle.dce_round.proofs.SameCode.{code_same}
@@ -30,7 +30,7 @@ module _ (f g : Function) (subs more : List DebugSubstitution) (losses : List Lo
   mid_subs = (all_off f subs r.dead).subs
 
   off : KeepsOff f subs r.dead
-  off = numbers_off f subs r.dead sound
+  off = salvage_numbers f subs r.dead sound
 
   -- the second half of the round
   pub taken : IsSound (taken_out r.out.wrong r.out.ends mid) ×

@@ -9,11 +9,11 @@ use Rattle.pass_trait.specs.declared.loss.Loss.{Loss}
 use Rattle.pass_trait.specs.Order.{IsInOrder}
 use Rattle.dce_rule.specs.Dead.{Ends, IsRound}
 use Rattle.dce_rule.proofs.Rounds.{ends_one}
-use Rattle.dce_mark.specs.Judged.{AreJudged}
+use Rattle.dce_analysis.specs.IsDead.{AreJudged}
 use Rattle.dce_sweep.specs.Round.{has_dead, IsTakenOut}
 use Rattle.dce_sweep.proofs.None.{settled}
 use Rattle.dce_salvage_proof.specs.SalvageLaws.{all_off, function_off, KeepsOff}
-use Rattle.dce_salvage_proof.proofs.Chain.{numbers_off}
+use Rattle.dce_salvage_proof.proofs.Chain.{salvage_numbers}
 use Rattle.dce_round.specs.Round.{IsDeadRound}
 use Rattle.dce_round.proofs.SameCode.{dead_same}
 
@@ -21,7 +21,7 @@ pub sound_off : (f : Function) (subs : List DebugSubstitution) (dead : List (Lis
     IsSound (record { name = f.name; slots = f.slots; objects = f.objects; blocks = bs })
 sound_off f subs dead bs sound is =
     subst (λ (cs : List Block). IsSound (record { name = f.name; slots = f.slots; objects = f.objects; blocks = cs })) (sym is)
-    (numbers_off f subs dead sound).sound
+    (salvage_numbers f subs dead sound).sound
 
 -- some of these is true
 abbrev pub some_dead : List (List Bool) → Bool
@@ -35,7 +35,7 @@ module _ (f : Function) (subs : List DebugSubstitution) (dead : List (List Bool)
     (g : Function)
     (here : List Loss) (any : Bool) (out : IsTakenOut (function_off f subs dead) g here any) where
   off : KeepsOff f subs dead
-  off = numbers_off f subs dead sound
+  off = salvage_numbers f subs dead sound
 
   pub still : any ≡ true
   still =

@@ -7,8 +7,8 @@ ghost use Rattle.dce_salvage_proof.specs.SalvageLaws.{all_off, function_off};
 ghost use Rattle.dce_round.specs.Round.{IsRoundWith};
 
 use base_list::List;
-use dce_copies::blocks::blocks_off;
-use dce_mark::judge::judge;
+use dce_analysis::judge::judge;
+use dce_salvage::salvage_blocks::salvage_blocks;
 use dce_sweep::round::{has_dead, sweep_dead};
 use mir_func::block::{Blocks, copy_blocks};
 use mir_func::func::Func;
@@ -79,6 +79,6 @@ fn blocks_without_numbers(
 {
     let mut fresh = fresh_number(f, subs);
     let mut blocks = copy_blocks(alloc, f.blocks.as_slice())?;
-    blocks_off(alloc, &mut blocks.items, dead, subs, &mut fresh, lost)?;
+    salvage_blocks(alloc, &mut blocks.items, dead, subs, &mut fresh, lost)?;
     Ok(blocks)
 }

@@ -35,7 +35,7 @@ use Rattle.pass_trait.specs.Debug.{mark_stays, phi_stays, code_stays, code_unnum
 use Rattle.pass_trait.specs.Debug.{mark_silenced, phi_silenced, BecomeAll, over, next, BlocksBecome, none, stays as block_stays, IsLoss, IsFor, KeepsItems}
 use Rattle.dce_rule.specs.Dead.{Places, Ends, is_dead, needed_at, paths_of}
 use Rattle.dce_rule.specs.Wrong.{begins_dead, silenced, silenced_left, taken_out, is_dead_at, IsWrongAt, made, on}
-use Rattle.dce_rule.specs.Out.{LosesOf, LosesAt, NoCopies, AreLosses, AreWrong, out_rule}
+use Rattle.dce_rule.specs.RemovalDebugRule.{LosesOf, LosesAt, NoCopies, AreLosses, AreWrong, out_rule}
 use Rattle.dce_rule.proofs.Lists.{quiet, quiet_is, taken, rest_at}
 use Rattle.dce_rule.proofs.Fewer.{fewer_of}
 use Rattle.dce_rule.proofs.Sound.{ids_taken}

@@ -14,7 +14,7 @@ use Rattle.pass_trait.specs.declared.loss.Loss.{Loss}
 use Rattle.pass_trait.specs.Debug.{KeepsItems}
 use Rattle.pass_trait.specs.Sizes.{KeepsSizes}
 use Rattle.pass_edits.specs.WeakSimulation.{WeakSimulation, PreservesWeakSimulation}
-use Rattle.dce_rule.specs.Out.{NoCopies, AreLosses, AreWrong, out_rule}
+use Rattle.dce_rule.specs.RemovalDebugRule.{NoCopies, AreLosses, AreWrong, out_rule}
 
 -- the test has exactly the places that are live out of each block of the function
 abbrev pub AreLive : Ends → Function → Type 0

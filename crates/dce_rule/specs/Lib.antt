@@ -1,7 +1,7 @@
 pub mod Dead
 pub mod Wrong
 pub mod Gone
-pub mod Out
+pub mod RemovalDebugRule
 pub mod Rounds
 pub mod Same
 pub mod CodeLaws

@@ -15,8 +15,8 @@ use Rattle.pass_edits.specs.WeakSimulation.{PreservesWeakSimulation}
 use Rattle.pass_edits.proofs.Numbers.{all_first, all_second}
 use Rattle.pass_edits.proofs.Under.{KindUnder, BlocksUnder, EntryUnder, greatest_under, items_under, blocks_under, entries_under}
 use Rattle.pass_edits.proofs.Loose.{then}
-use Rattle.dce_copies.specs.Off.{SoFar}
-use Rattle.dce_copies.specs.Blocks.{going_from, BlocksSoFar, in_block, block_off, next_off, blocks_off}
+use Rattle.dce_salvage.specs.SalvageNumbers.{SoFar}
+use Rattle.dce_salvage.specs.SalvageBlocks.{going_from, BlocksSoFar, in_block, salvage_block, salvage_next, salvage_blocks}
 use Rattle.dce_salvage_proof.specs.SalvageLaws.{begins_off, all_off, NumbersGoOff}
 use Rattle.dce_salvage_proof.proofs.Copy.{all_down}
 use Rattle.dce_salvage_proof.proofs.Same.{blocks_same, off_stripped}
@@ -41,10 +41,10 @@ module _ (f : Function) where
 
   -- one block
   one_block : (above : List Block) (b : Block) (dead : List Bool) (a : BlocksSoFar) → BlocksReady (above ++ b ∷ a.blocks) a.subs a.fresh →
-      BlocksWent (above ++ b ∷ a.blocks) a.subs (above ++ (next_off dead b a).blocks) (next_off dead b a).subs (next_off dead b a).fresh
+      BlocksWent (above ++ b ∷ a.blocks) a.subs (above ++ (salvage_next dead b a).blocks) (salvage_next dead b a).subs (salvage_next dead b a).fresh
   one_block above b dead a r =
       let rest = all_second (B a.fresh) above (b ∷ a.blocks) r.in_blocks in
-      let e : SoFar = block_off dead b a in
+      let e : SoFar = salvage_block dead b a in
       let w = all_down f above b.id b.source_end a.blocks (going_from 0 dead) dead (length b.items)
       (in_block b a)
       (record {
@@ -65,21 +65,21 @@ module _ (f : Function) where
       }
 
   all_blocks : (above bs : List Block) (dead : List (List Bool)) (a : BlocksSoFar) → a.blocks ≡ [] → BlocksReady (above ++ bs) a.subs a.fresh →
-      BlocksWent (above ++ bs) a.subs (above ++ (blocks_off dead bs a).blocks) (blocks_off dead bs a).subs (blocks_off dead bs a).fresh
+      BlocksWent (above ++ bs) a.subs (above ++ (salvage_blocks dead bs a).blocks) (salvage_blocks dead bs a).subs (salvage_blocks dead bs a).fresh
   all_blocks above [] dead a none r =
       subst (λ (cs : List Block). BlocksWent (above ++ []) a.subs (above ++ cs) a.subs a.fresh) (sym none)
       (record { ready = r; follows = record { follows = λ src h. h; ends = λ src h w. w } })
   all_blocks above (b ∷ bs) dead a none r =
       let up : List Block = above ++ b ∷ [] in
       let same : (cs : List Block) → up ++ cs ≡ above ++ b ∷ cs = λ cs. append_assoc above (b ∷ []) cs in
-      let m : BlocksSoFar = blocks_off (drop 1 dead) bs a in
+      let m : BlocksSoFar = salvage_blocks (drop 1 dead) bs a in
       let d : List Bool = get_or dead 0 [] in
       let deeper = all_blocks up bs (drop 1 dead) a none (subst (λ (cs : List Block). BlocksReady cs a.subs a.fresh) (sym (same bs)) r) in
       let first : BlocksWent (above ++ b ∷ bs) a.subs (above ++ b ∷ m.blocks) m.subs m.fresh =
       subst (λ (cs : List Block). BlocksWent cs a.subs (above ++ b ∷ m.blocks) m.subs m.fresh) (same bs)
       (subst (λ (cs : List Block). BlocksWent (up ++ bs) a.subs cs m.subs m.fresh) (same m.blocks) deeper) in
       let second = one_block above b d m first.ready in
-      let n : BlocksSoFar = next_off d b m in
+      let n : BlocksSoFar = salvage_next d b m in
       record {
         ready = second.ready;
         follows = then (of (above ++ b ∷ bs)) (of (above ++ b ∷ m.blocks)) (of (above ++ n.blocks)) a.subs m.subs n.subs first.follows second.follows;
@@ -99,8 +99,8 @@ all_went f subs dead sound =
       in_entries = entries_under (m + 1) subs (all_second (λ (n : ℕ). n < m + 1) on_items in_subs all);
     })
 
-pub numbers_off : NumbersGoOff
-numbers_off f subs dead sound =
+pub salvage_numbers : NumbersGoOff
+salvage_numbers f subs dead sound =
     let w = all_went f subs dead sound in
     record {
       sound = w.ready.sound;

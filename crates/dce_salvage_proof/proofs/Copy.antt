@@ -16,9 +16,9 @@ use Rattle.mir_func.specs.Function.{Function}
 use Rattle.mir_func.specs.Sound.{IsSound}
 use Rattle.pass_trait.specs.Change.{change}
 use Rattle.pass_trait.specs.Rule.{item}
-use Rattle.pass_salvage.specs.declared.way.SalvageAction.{SalvageAction}
-use Rattle.pass_salvage.specs.declared.way.SalvageAction.TheVariants.{HasEntry, GetsEntry, GetsPhi}
-use Rattle.pass_salvage.specs.Way.{way}
+use Rattle.pass_salvage.specs.declared.salvage_action.SalvageAction.{SalvageAction}
+use Rattle.pass_salvage.specs.declared.salvage_action.SalvageAction.TheVariants.{HasEntry, GetsEntry, GetsPhi}
+use Rattle.pass_salvage.specs.SalvageAction.{salvage_action}
 use Rattle.pass_salvage.specs.Salvage.{numbered_at, phi_for, entry_for, entries_for, fresh_after, above_after}
 use Rattle.pass_salvage.proofs.Chosen.{IsEntered, entered}
 use Rattle.pass_edits.specs.WeakSimulation.{PreservesWeakSimulation}
@@ -28,8 +28,9 @@ use Rattle.pass_edits.proofs.Under.{KindUnder, AreUnder, BlocksUnder, EntryUnder
 use Rattle.pass_edits.proofs.Loose.{Step}
 use Rattle.pass_edits.proofs.ToPhi.{to_phi}
 use Rattle.pass_edits.proofs.ToCode.{to_code}
-use Rattle.dce_copies.specs.declared.off.Copied.{Copied}
-use Rattle.dce_copies.specs.Off.{copied_by, numbered_copy, phi_by, put_off, behind_off, items_off, SoFar, off_copy, copy_in, off_at, off_down}
+use Rattle.dce_salvage.specs.declared.salvage_numbers.Copied.{Copied}
+use Rattle.dce_salvage.specs.SalvageNumbers.{copied_by, numbered_copy, phi_by_own, added_by_salvage, salvaged_from}
+use Rattle.dce_salvage.specs.SalvageNumbers.{salvaged_items, SoFar, salvage_copy, copy_in, salvage_at, salvage_down}
 use Rattle.dce_salvage_proof.proofs.SalvageNowhere.{phi_none, to_nowhere, to_phi_none}
 use Rattle.dce_salvage_proof.proofs.Under.{with_none, Counted, counted}
 
@@ -134,7 +135,7 @@ module _ (f : Function) (above : List Block) (id source_end : ℕ) (behind : Lis
       under_bare = All-cons (U fresh) bare down tt under_down
 
       -- by the phi that is put, if one is
-      phi_goes : (own : Bool) → Went (up ++ copy ∷ down) subs (up ++ phi_by own k s o ∷ bare ∷ down) subs fresh
+      phi_goes : (own : Bool) → Went (up ++ copy ∷ down) subs (up ++ phi_by_own own k s o ∷ bare ∷ down) subs fresh
       phi_goes true =
           it_went (up ++ copy ∷ down) subs fresh (up ++ phi_none k o ∷ bare ∷ down) subs fresh r (le_refl fresh)
           (All-append (U fresh) up (phi_none k o ∷ bare ∷ down) under_up (All-cons (U fresh) (phi_none k o) (bare ∷ down) under_copy under_bare)) r.in_entries
@@ -144,15 +145,15 @@ module _ (f : Function) (above : List Block) (id source_end : ℕ) (behind : Lis
           (All-append (U fresh) up (phi_for k s o ∷ bare ∷ down) under_up (All-cons (U fresh) (phi_for k s o) (bare ∷ down) under_copy under_bare)) r.in_entries
           (to_phi f above id source_end behind k rd s up i o l down subs r.sound row)
 
-      pub copy_goes : (removed : List ℕ) (own : Bool) (w : SalvageAction) → way removed subs fresh k s up ≡ w →
-          Went (up ++ copy ∷ down) subs (above_after w up ++ (put_off w (record { number = k; source = s; own = own }) o ++ bare ∷ down))
+      pub copy_goes : (removed : List ℕ) (own : Bool) (w : SalvageAction) → salvage_action removed subs fresh k s up ≡ w →
+          Went (up ++ copy ∷ down) subs (above_after w up ++ (added_by_salvage w (record { number = k; source = s; own = own }) o ++ bare ∷ down))
           (subs ++ entries_for w k) (fresh_after w fresh)
       copy_goes removed own HasEntry is =
           subst (λ (es : List DebugSubstitution). Went (up ++ copy ∷ down) subs (up ++ bare ∷ down) es fresh) (sym (append-nil subs))
           (it_went (up ++ copy ∷ down) subs fresh (up ++ bare ∷ down) subs fresh r (le_refl fresh)
           (All-append (U fresh) up (bare ∷ down) under_up under_bare) r.in_entries (to_nowhere f above id source_end behind k up i o l down subs r.sound))
       copy_goes removed own GetsPhi is =
-          subst (λ (es : List DebugSubstitution). Went (up ++ copy ∷ down) subs (up ++ phi_by own k s o ∷ bare ∷ down) es fresh) (sym (append-nil subs))
+          subst (λ (es : List DebugSubstitution). Went (up ++ copy ∷ down) subs (up ++ phi_by_own own k s o ∷ bare ∷ down) es fresh) (sym (append-nil subs))
           (phi_goes own)
       copy_goes removed own (GetsEntry d p n) is =
           let e : IsEntered [] subs fresh k s up d p n = with_none removed subs fresh k s up d p n (entered removed subs fresh k s up d p n is) in
@@ -184,9 +185,9 @@ module _ (f : Function) (above : List Block) (id source_end : ℕ) (behind : Lis
     };
   }
 
-  copy_off : (removed : List ℕ) (at : ℕ) (a : SoFar) (x : Item) (c : Copied) → slice_get a.items at ≡ Some x → numbered_copy x.kind ≡ Some c →
-      Ready a.items a.subs a.fresh → WentOn a (off_copy removed at a (Some c))
-  copy_off removed at a x c there is r =
+  salvage_item : (removed : List ℕ) (at : ℕ) (a : SoFar) (x : Item) (c : Copied) → slice_get a.items at ≡ Some x → numbered_copy x.kind ≡ Some c →
+      Ready a.items a.subs a.fresh → WentOn a (salvage_copy removed at a (Some c))
+  salvage_item removed at a x c there is r =
       let s = split_at a.items at x there in
       let w = copy_of x.kind c is in
       let up : List Item = take at a.items in
@@ -195,30 +196,30 @@ module _ (f : Function) (above : List Block) (id source_end : ℕ) (behind : Lis
       let same : x ≡ copy = (λ j. item (w.is j) x.origin x.loc) in
       let whole : a.items ≡ up ++ copy ∷ down = s.whole ∙ ap (λ (y : Item). up ++ y ∷ down) same in
       let rest : drop at a.items ≡ copy ∷ down = s.behind ∙ ap (λ (y : Item). y ∷ down) same in
-      let v : SalvageAction = way removed a.subs a.fresh c.number c.source up in
+      let v : SalvageAction = salvage_action removed a.subs a.fresh c.number c.source up in
       let one = copy_goes c.number c.source w.target up w.code x.origin x.loc down a.subs a.fresh 0 w.row
       (subst (λ (xs : List Item). Ready xs a.subs a.fresh) whole r) removed c.own v refl in
-      let made : above_after v up ++ (put_off v c x.origin ++ item (Code w.code None) x.origin x.loc ∷ down) ≡ items_off v at c a.items =
-      ap (λ (ys : List Item). above_after v up ++ behind_off v c ys) (sym rest) in
-      subst (λ (ys : List Item). Went ys a.subs (items_off v at c a.items) (a.subs ++ entries_for v c.number) (fresh_after v a.fresh)) (sym whole)
+      let made : above_after v up ++ (added_by_salvage v c x.origin ++ item (Code w.code None) x.origin x.loc ∷ down) ≡ salvaged_items v at c a.items =
+      ap (λ (ys : List Item). above_after v up ++ salvaged_from v c ys) (sym rest) in
+      subst (λ (ys : List Item). Went ys a.subs (salvaged_items v at c a.items) (a.subs ++ entries_for v c.number) (fresh_after v a.fresh)) (sym whole)
       (subst (λ (ys : List Item). Went (up ++ copy ∷ down) a.subs ys (a.subs ++ entries_for v c.number) (fresh_after v a.fresh)) made one)
 
   at_goes : (removed : List ℕ) (at : ℕ) (a : SoFar) (x : Option Item) → slice_get a.items at ≡ x → Ready a.items a.subs a.fresh →
-      WentOn a (off_copy removed at a (copy_in x))
+      WentOn a (salvage_copy removed at a (copy_in x))
   at_goes removed at a None there r = itself a r
   at_goes removed at a (Some x) there r = by_copy (numbered_copy x.kind) refl where
-    by_copy : (c : Option Copied) → numbered_copy x.kind ≡ c → WentOn a (off_copy removed at a c)
+    by_copy : (c : Option Copied) → numbered_copy x.kind ≡ c → WentOn a (salvage_copy removed at a c)
     by_copy None is = itself a r
-    by_copy (Some c) is = copy_off removed at a x c there is r
+    by_copy (Some c) is = salvage_item removed at a x c there is r
 
-  at_index : (removed : List ℕ) (at : ℕ) (goes : Bool) (a : SoFar) → Ready a.items a.subs a.fresh → WentOn a (off_at removed at goes a)
+  at_index : (removed : List ℕ) (at : ℕ) (goes : Bool) (a : SoFar) → Ready a.items a.subs a.fresh → WentOn a (salvage_at removed at goes a)
   at_index removed at true a r = at_goes removed at a (slice_get a.items at) refl r
   at_index removed at false a r = itself a r
 
-  pub all_down : (removed : List ℕ) (dead : List Bool) (n : ℕ) (a : SoFar) → Ready a.items a.subs a.fresh → WentOn a (off_down removed dead n a)
+  pub all_down : (removed : List ℕ) (dead : List Bool) (n : ℕ) (a : SoFar) → Ready a.items a.subs a.fresh → WentOn a (salvage_down removed dead n a)
   all_down removed dead zero a r = itself a r
   all_down removed dead (suc n) a r =
       let goes : Bool = get_or dead n false in
       let one = at_index removed n goes a r in
-      let b : SoFar = off_at removed n goes a in
-      and_then a b (off_down removed dead n b) one (all_down removed dead n b one.ready)
+      let b : SoFar = salvage_at removed n goes a in
+      and_then a b (salvage_down removed dead n b) one (all_down removed dead n b one.ready)

@@ -15,14 +15,15 @@ use Rattle.mir_func.specs.declared.item.ItemKind.TheVariants.{Code, Mark, Phi}
 use Rattle.mir_func.specs.Function.{Function}
 use Rattle.mir_func.specs.Strip.{bare, stripped_item, stripped_items, stripped_blocks, stripped}
 use Rattle.pass_trait.specs.Rule.{item}
-use Rattle.pass_salvage.specs.declared.way.SalvageAction.{SalvageAction}
-use Rattle.pass_salvage.specs.declared.way.SalvageAction.TheVariants.{HasEntry, GetsEntry, GetsPhi}
-use Rattle.pass_salvage.specs.Way.{way}
+use Rattle.pass_salvage.specs.declared.salvage_action.SalvageAction.{SalvageAction}
+use Rattle.pass_salvage.specs.declared.salvage_action.SalvageAction.TheVariants.{HasEntry, GetsEntry, GetsPhi}
+use Rattle.pass_salvage.specs.SalvageAction.{salvage_action}
 use Rattle.pass_salvage.specs.Salvage.{with_number, numbered_at, above_after}
 use Rattle.dce_rule.specs.Same.{SameItems, none, both, first, second, SameBlocks, no_blocks, one_more}
-use Rattle.dce_copies.specs.declared.off.Copied.{Copied}
-use Rattle.dce_copies.specs.Off.{without_number, numbered_copy, phi_by, behind_off, items_off, SoFar, off_copy, copy_in, off_at, off_down}
-use Rattle.dce_copies.specs.Blocks.{going_from, BlocksSoFar, in_block, block_off, blocks_off}
+use Rattle.dce_salvage.specs.declared.salvage_numbers.Copied.{Copied}
+use Rattle.dce_salvage.specs.SalvageNumbers.{without_number, numbered_copy, phi_by_own, salvaged_from, salvaged_items}
+use Rattle.dce_salvage.specs.SalvageNumbers.{SoFar, salvage_copy, copy_in, salvage_at, salvage_down}
+use Rattle.dce_salvage.specs.SalvageBlocks.{going_from, BlocksSoFar, in_block, salvage_block, salvage_blocks}
 use Rattle.dce_salvage_proof.specs.SalvageLaws.{begins_off, function_off}
 
 -- ---- items with the same code
@@ -89,49 +90,49 @@ code_above GetsPhi xs = refl
 code_first : (x : Item) (xs : List Item) → stripped_items (record x { kind = without_number x.kind } ∷ xs) ≡ stripped_items (x ∷ xs)
 code_first x xs = ap (λ (o : Option Item). cons_option o (stripped_items xs)) (bare_without x.kind x.origin x.loc)
 
-code_behind : (w : SalvageAction) (c : Copied) (xs : List Item) → stripped_items (behind_off w c xs) ≡ stripped_items xs
+code_behind : (w : SalvageAction) (c : Copied) (xs : List Item) → stripped_items (salvaged_from w c xs) ≡ stripped_items xs
 code_behind w c [] = refl
 code_behind HasEntry c (x ∷ xs) = code_first x xs
 code_behind (GetsEntry d o n) c (x ∷ xs) = code_first x xs
 code_behind GetsPhi c (x ∷ xs) = by_own c.own where
-  by_own : (own : Bool) → stripped_items (phi_by own c.number c.source x.origin ∷ record x { kind = without_number x.kind } ∷ xs) ≡ stripped_items (x ∷ xs)
+  by_own : (own : Bool) → stripped_items (phi_by_own own c.number c.source x.origin ∷ record x { kind = without_number x.kind } ∷ xs) ≡ stripped_items (x ∷ xs)
   by_own true = code_first x xs
   by_own false = code_first x xs
 
-code_off : (w : SalvageAction) (at : ℕ) (c : Copied) (xs : List Item) → stripped_items (items_off w at c xs) ≡ stripped_items xs
+code_off : (w : SalvageAction) (at : ℕ) (c : Copied) (xs : List Item) → stripped_items (salvaged_items w at c xs) ≡ stripped_items xs
 code_off w at c xs =
-    code_append (above_after w (take at xs)) (behind_off w c (drop at xs)) ∙ (λ j. code_above w (take at xs) j ++ code_behind w c (drop at xs) j) ∙
+    code_append (above_after w (take at xs)) (salvaged_from w c (drop at xs)) ∙ (λ j. code_above w (take at xs) j ++ code_behind w c (drop at xs) j) ∙
     sym (code_append (take at xs) (drop at xs)) ∙ ap (λ (ys : List Item). stripped_items ys) (take-append-drop at xs)
 
-code_at : (removed : List ℕ) (at : ℕ) (goes : Bool) (a : SoFar) → stripped_items (off_at removed at goes a).items ≡ stripped_items a.items
+code_at : (removed : List ℕ) (at : ℕ) (goes : Bool) (a : SoFar) → stripped_items (salvage_at removed at goes a).items ≡ stripped_items a.items
 code_at removed at false a = refl
 code_at removed at true a = by_item (slice_get a.items at) where
-  by_copy : (c : Option Copied) → stripped_items (off_copy removed at a c).items ≡ stripped_items a.items
+  by_copy : (c : Option Copied) → stripped_items (salvage_copy removed at a c).items ≡ stripped_items a.items
   by_copy None = refl
-  by_copy (Some c) = code_off (way removed a.subs a.fresh c.number c.source (take at a.items)) at c a.items
+  by_copy (Some c) = code_off (salvage_action removed a.subs a.fresh c.number c.source (take at a.items)) at c a.items
 
-  by_item : (x : Option Item) → stripped_items (off_copy removed at a (copy_in x)).items ≡ stripped_items a.items
+  by_item : (x : Option Item) → stripped_items (salvage_copy removed at a (copy_in x)).items ≡ stripped_items a.items
   by_item None = refl
   by_item (Some x) = by_copy (numbered_copy x.kind)
 
-code_down : (removed : List ℕ) (dead : List Bool) (n : ℕ) (a : SoFar) → stripped_items (off_down removed dead n a).items ≡ stripped_items a.items
+code_down : (removed : List ℕ) (dead : List Bool) (n : ℕ) (a : SoFar) → stripped_items (salvage_down removed dead n a).items ≡ stripped_items a.items
 code_down removed dead zero a = refl
 code_down removed dead (suc n) a =
-    code_down removed dead n (off_at removed n (get_or dead n false) a) ∙ code_at removed n (get_or dead n false) a
+    code_down removed dead n (salvage_at removed n (get_or dead n false) a) ∙ code_at removed n (get_or dead n false) a
 
-pub blocks_same : (dead : List (List Bool)) (bs : List Block) (a : BlocksSoFar) → a.blocks ≡ [] → SameBlocks bs (blocks_off dead bs a).blocks
+pub blocks_same : (dead : List (List Bool)) (bs : List Block) (a : BlocksSoFar) → a.blocks ≡ [] → SameBlocks bs (salvage_blocks dead bs a).blocks
 blocks_same dead [] a empty = subst (λ (cs : List Block). SameBlocks [] cs) (sym empty) no_blocks
 blocks_same dead (b ∷ bs) a empty =
-    let m : BlocksSoFar = blocks_off (drop 1 dead) bs a in
+    let m : BlocksSoFar = salvage_blocks (drop 1 dead) bs a in
     let d : List Bool = get_or dead 0 [] in
-    one_more b (record b { items = (block_off d b m).items }) refl
-    (same_of b.items (block_off d b m).items (sym (code_down (going_from 0 d) d (length b.items) (in_block b m)))) (blocks_same (drop 1 dead) bs a empty)
+    one_more b (record b { items = (salvage_block d b m).items }) refl
+    (same_of b.items (salvage_block d b m).items (sym (code_down (going_from 0 d) d (length b.items) (in_block b m)))) (blocks_same (drop 1 dead) bs a empty)
 
 blocks_stripped : (dead : List (List Bool)) (bs : List Block) (a : BlocksSoFar) → a.blocks ≡ [] →
-    stripped_blocks (blocks_off dead bs a).blocks ≡ stripped_blocks bs
+    stripped_blocks (salvage_blocks dead bs a).blocks ≡ stripped_blocks bs
 blocks_stripped dead [] a empty = ap stripped_blocks empty
 blocks_stripped dead (b ∷ bs) a empty =
-    let m : BlocksSoFar = blocks_off (drop 1 dead) bs a in
+    let m : BlocksSoFar = salvage_blocks (drop 1 dead) bs a in
     let d : List Bool = get_or dead 0 [] in
     let here = code_down (going_from 0 d) d (length b.items) (in_block b m) in
     let rest = blocks_stripped (drop 1 dead) bs a empty in

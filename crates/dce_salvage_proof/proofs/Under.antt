@@ -9,9 +9,9 @@ use Rattle.mir_func.specs.declared.debug_substitution.DebugSubstitution.{DebugSu
 use Rattle.mir_func.specs.declared.item.Item.{Item}
 use Rattle.mir_func.specs.declared.item.ItemKind.TheVariants.{Code}
 use Rattle.pass_trait.specs.Rule.{item}
-use Rattle.pass_salvage.specs.declared.way.SalvageAction.TheVariants.{GetsEntry}
+use Rattle.pass_salvage.specs.declared.salvage_action.SalvageAction.TheVariants.{GetsEntry}
 use Rattle.pass_salvage.specs.Salvage.{numbered_at, fresh_after}
-use Rattle.pass_salvage.specs.Way.{has_entry, or_fresh, asks_for}
+use Rattle.pass_salvage.specs.SalvageAction.{has_entry, or_fresh, asks_for}
 use Rattle.pass_salvage.proofs.Chosen.{IsEntered}
 use Rattle.pass_edits.proofs.Numbers.{all_first, all_second}
 use Rattle.pass_edits.proofs.Found.{Split, split_at}

@@ -8,7 +8,7 @@ use Rattle.pass_trait.specs.Change.{change}
 use Rattle.pass_trait.specs.Sizes.{greatest_number}
 use Rattle.pass_edits.specs.WeakSimulation.{PreservesWeakSimulation}
 use Rattle.dce_rule.specs.Same.{SameBlocks}
-use Rattle.dce_copies.specs.Blocks.{BlocksSoFar, blocks_off}
+use Rattle.dce_salvage.specs.SalvageBlocks.{BlocksSoFar, salvage_blocks}
 
 -- the initial state: the first fresh number is above all numbers
 abbrev pub begins_off : Function → List DebugSubstitution → BlocksSoFar
@@ -16,7 +16,7 @@ begins_off f subs = record { blocks = []; subs = subs; fresh = greatest_number f
 
 -- the state once all dead copies have lost their numbers
 abbrev pub all_off : Function → List DebugSubstitution → (dead : List (List Bool)) → BlocksSoFar
-all_off f subs dead = blocks_off dead f.blocks (begins_off f subs)
+all_off f subs dead = salvage_blocks dead f.blocks (begins_off f subs)
 
 -- the function in that state
 abbrev pub function_off : Function → List DebugSubstitution → (dead : List (List Bool)) → Function

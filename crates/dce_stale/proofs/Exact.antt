@@ -24,7 +24,7 @@ use Rattle.pass_liveness.proofs.Edges.{Stays, down_edge, out_edge}
 use Rattle.pass_liveness.proofs.Paths.{next_of}
 use Rattle.dce_rule.specs.Dead.{Places, Ends, paths_of}
 use Rattle.dce_rule.specs.Wrong.{begins_dead, is_dead_at, IsWrongAt, made, on}
-use Rattle.dce_mark.specs.Judged.{verdicts}
+use Rattle.dce_analysis.specs.IsDead.{verdicts}
 use Rattle.dce_stale.specs.Flow.{wrong_past, wrong_over, wrong_at, goes_on, IsHanded, IsHandedDown}
 
 and_both : (a b : Bool) → (a && b) ≡ true → (a ≡ true) × (b ≡ true)

@@ -10,8 +10,8 @@ use Rattle.pass_trait.specs.Sizes.{code_count}
 use Rattle.dce_rule.specs.Dead.{Places, Ends, IsRound}
 use Rattle.dce_rule.specs.CodeLaws.{AreLive}
 use Rattle.dce_rule.specs.Wrong.{taken_out}
-use Rattle.dce_rule.specs.Out.{LosesAt, AreWrong}
-use Rattle.dce_mark.specs.Judged.{verdicts}
+use Rattle.dce_rule.specs.RemovalDebugRule.{LosesAt, AreWrong}
+use Rattle.dce_analysis.specs.IsDead.{verdicts}
 
 -- some item of the blocks is dead code
 abbrev pub has_dead : Ends → List Block → Bool

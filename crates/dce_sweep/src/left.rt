@@ -12,7 +12,7 @@ ghost use Rattle.dce_sweep.specs.Left.{asks_wrong, left_of, lost_of, left_from, 
 
 use base_ids::code::DebugNumber;
 use base_list::List;
-use dce_copies::verdicts::{verdict, verdicts_at};
+use dce_salvage::dead_items::{verdict, verdicts_at};
 use dce_stale::places::StaleLocations;
 use mir_func::block::Block;
 use mir_func::func::Func;

@@ -20,7 +20,7 @@ use Rattle.dwarf_loclists.specs.declared.range.Part.{Part}
 use Rattle.dwarf_loclists.specs.declared.range.Location.{Location}
 use Rattle.dwarf_loclists.specs.declared.range.Location.TheVariants.{Whole, Parts}
 use Rattle.location_of_variable.specs.Groups.{part_of}
-use Rattle.location_of_variable.specs.Wanted.{bytes_of, AreWantedPieces, IsWantedLocation}
+use Rattle.location_of_variable.specs.VariableLocation.{bytes_of, AreWantedPieces, IsWantedLocation}
 use Rattle.location_of_variable.specs.Gives.{GivesPart, GivesWanted, WantedLocationsGiveParts}
 use Rattle.location_of_variable.proofs.Gathering.{at_index}
 use Rattle.location_of_variable.proofs.Locating.{is_same_itself, same_or, and_false}

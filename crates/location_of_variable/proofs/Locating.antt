@@ -25,7 +25,7 @@ use Rattle.dwarf_loclists.specs.Ranges.{IsListed, ArePieces}
 use Rattle.location_of_variable.specs.declared.group.Group.{Group}
 use Rattle.location_of_variable.specs.declared.group.Piece.{Piece}
 use Rattle.location_of_variable.specs.Groups.{part_of, IsPieceOf, IsWholeOf, IsGroupOf}
-use Rattle.location_of_variable.specs.Wanted.{IsWantedPlace, bytes_of, AreWantedPieces, IsWantedLocation, MayBeListed, AreWantedPlaces}
+use Rattle.location_of_variable.specs.VariableLocation.{IsWantedPlace, bytes_of, AreWantedPieces, IsWantedLocation, MayBeListed, AreWantedPlaces}
 use Rattle.location_of_variable.specs.steps.Telling.{place_at, piece_told, end_past, pieces_from, whole_place, in_pieces}
 
 -- ---- bytes

@@ -9,7 +9,7 @@ use Rattle.sem_mir.specs.PreferredLocation.{IsWanted, NoneIsWanted}
 use Rattle.dwarf_loclists.specs.declared.range.Location.{Location}
 use Rattle.dwarf_loclists.specs.Ranges.{whole_place, nth_piece}
 use Rattle.location_of_variable.specs.Groups.{part_of}
-use Rattle.location_of_variable.specs.Wanted.{IsWantedLocation}
+use Rattle.location_of_variable.specs.VariableLocation.{IsWantedLocation}
 
 -- the place of a part by a location: that of the whole variable, or that of the piece with exactly the fragment's bytes
 abbrev pub GivesPart : Option Location → Option Bytes → Place → Type 0

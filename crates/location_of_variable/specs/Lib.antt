@@ -1,4 +1,4 @@
 pub mod Groups
-pub mod Wanted
+pub mod VariableLocation
 pub mod Gives
 pub mod steps

@@ -2,7 +2,7 @@
 
 ghost use Rattle.std.specs.Prelude.{◌≡◌, ◌++◌, ◌+◌, Option, IfOk, OnOk, All, option_to_list};
 ghost use Rattle.mir_func.specs.Parts.{IsPart};
-ghost use Rattle.location_of_variable.specs.Wanted.{IsLocationBy};
+ghost use Rattle.location_of_variable.specs.VariableLocation.{IsLocationBy};
 ghost use Rattle.location_of_variable.specs.steps.Telling.{
   place_at,
   piece_told,

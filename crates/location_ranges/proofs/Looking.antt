@@ -20,14 +20,14 @@ use Rattle.value_solver.specs.declared.tracked.Tracked.{Tracked}
 use Rattle.value_solver.specs.declared.tracked.Tracked.TheVariants.{Pair, Part, Number}
 use Rattle.value_solver.specs.declared.tracked.Tracked.TheVariants as tracked
 use Rattle.value_solver.specs.Entry.{thing}
-use Rattle.value_proof.specs.Wanted.{HasItsClass, IsFirstByClass, IsWantedOrNone}
+use Rattle.value_proof.specs.PreferredByClass.{HasItsClass, IsFirstByClass, IsWantedOrNone}
 use Rattle.value_proof.proofs.Wanted.{first_by_class_is_wanted, unmarked_is_nowhere}
 use Rattle.value_tracker.proofs.Constants.{place_is_first}
 use Rattle.value_tracker.specs.declared.index.TrackedIndex.{TrackedIndex}
 use Rattle.value_tracker.specs.LowestLocation.{AreFirsts}
-use Rattle.value_tracker.specs.PreferredLocation.{place_of}
+use Rattle.value_tracker.specs.ClassLocation.{place_of}
 use Rattle.dwarf_loclists.specs.Ranges.{IsListed}
-use Rattle.location_of_variable.specs.Wanted.{IsWantedPlace, AreWantedPlaces}
+use Rattle.location_of_variable.specs.VariableLocation.{IsWantedPlace, AreWantedPlaces}
 use Rattle.location_ranges.specs.declared.transfer_tracker.TransferTracker.{TransferTracker}
 use Rattle.location_ranges.specs.declared.values.Values.{Values}
 use Rattle.location_ranges.specs.Stands.{program, AreValuesOf, Reaches, Stands}

@@ -16,7 +16,7 @@ use Rattle.emit_code.specs.Laid.{StandFrom}
 use Rattle.dwarf_loclists.specs.declared.range.Location.{Location}
 use Rattle.dwarf_loclists.specs.declared.range.Range.{Range}
 use Rattle.dwarf_loclists.specs.Ranges.{Ascend, ArePlaces, IsLocated, location_in}
-use Rattle.location_of_variable.specs.Wanted.{IsWantedLocation, MayBeListed}
+use Rattle.location_of_variable.specs.VariableLocation.{IsWantedLocation, MayBeListed}
 use Rattle.location_ranges.specs.declared.track.Open.{Open}
 use Rattle.location_ranges.specs.declared.track.Track.{Track}
 use Rattle.location_ranges.specs.Covered.{range, closed, opened, covered, Turns, stays, turns, AscendTo, IsTrackTo}

@@ -16,7 +16,7 @@ use Rattle.dwarf_loclists.specs.declared.range.Range.{Range}
 use Rattle.dwarf_loclists.specs.Ranges.{Ascend}
 use Rattle.location_of_variable.specs.declared.group.Group.{Group}
 use Rattle.location_of_variable.specs.Groups.{AreGroupsOf}
-use Rattle.location_of_variable.specs.Wanted.{AreWantedPlaces}
+use Rattle.location_of_variable.specs.VariableLocation.{AreWantedPlaces}
 use Rattle.location_ranges.specs.declared.ranges.Walk.{Walk}
 use Rattle.location_ranges.specs.declared.track.Track.{Track}
 use Rattle.location_ranges.specs.declared.values.Values.{Values}

@@ -7,7 +7,7 @@ use Rattle.mir_func.specs.Successors.{pos_in}
 use Rattle.emit_code.specs.declared.code.EncodedInstruction.{EncodedInstruction}
 use Rattle.dwarf_loclists.specs.declared.range.Range.{Range}
 use Rattle.dwarf_loclists.specs.Ranges.{Ascend, ArePlaces, location_in}
-use Rattle.location_of_variable.specs.Wanted.{IsWantedLocation}
+use Rattle.location_of_variable.specs.VariableLocation.{IsWantedLocation}
 
 -- the point of an entry's item
 abbrev pub point_of : EncodedInstruction → Pos

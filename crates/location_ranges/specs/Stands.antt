@@ -11,7 +11,7 @@ use Rattle.mir_func.specs.Successors.{pos_in}
 use Rattle.value_solver.specs.declared.entry.BlockEntry.{BlockEntry}
 use Rattle.value_solver.specs.Entry.{thing, IsEntry}
 use Rattle.value_proof.specs.Classes.{Classes, AreClasses, IsReached}
-use Rattle.value_proof.specs.Wanted.{AreThingsOf}
+use Rattle.value_proof.specs.PreferredByClass.{AreThingsOf}
 use Rattle.value_tracker.specs.declared.index.TrackedIndex.{TrackedIndex}
 use Rattle.value_tracker.specs.Things.{AreThings}
 use Rattle.value_tracker.specs.LocationTracker.{PLACES, Holds}

@@ -2,14 +2,14 @@
 
 ghost use Rattle.std.specs.Prelude.{◌≡◌, ◌<◌, ◌≤◌, ℕ, Some, None, OnOk, length, cond, slice_index, slice_index_or};
 ghost use Rattle.value_tracker.specs.LocationTracker.{PLACES};
-ghost use Rattle.value_tracker.specs.PreferredLocation.{place_of};
+ghost use Rattle.value_tracker.specs.ClassLocation.{place_of};
 ghost use Rattle.location_ranges.specs.steps.Places.{IsEmpty, ArePlacesAt};
 
 use crate::transfer_tracker::TransferTracker;
 use rv64_instr::place::Place;
 use std::alloc::AllocError;
+use value_tracker::class_location::place_of;
 use value_tracker::lowest_location::{empty, fill};
-use value_tracker::preferred_location::place_of;
 
 /// Looks up the place of each part of a variable before an item: the first location of its class, and None at an
 /// unreached item. A table of first locations is filled for it, and emptied again. The error is out of memory.

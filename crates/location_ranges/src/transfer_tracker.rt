@@ -14,10 +14,10 @@ use crate::values::Values;
 use mir_func::exit::Exit;
 use mir_func::item::{Item, ItemKind};
 use std::alloc::{AllocError, Global};
+use value_tracker::class_location::constants;
 use value_tracker::index::TrackedIndex;
 use value_tracker::location_tracker::LocationTracker;
 use value_tracker::pass::Block as Fixed;
-use value_tracker::preferred_location::constants;
 use value_tracker::start::{settle, start};
 
 /// The state before an item (LLVM: `TransferTracker`).

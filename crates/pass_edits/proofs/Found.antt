@@ -9,7 +9,7 @@ use Rattle.mir_func.specs.declared.item.Item.{Item}
 use Rattle.sem_mir.specs.Step.{defined}
 use Rattle.pass_trait.specs.Causes.{defines}
 use Rattle.pass_salvage.specs.Salvage.{with_number, numbered_at}
-use Rattle.pass_salvage.specs.Way.{further, last_definition, is_register, here_or, first_definition}
+use Rattle.pass_salvage.specs.SalvageAction.{further, last_definition, is_register, here_or, first_definition}
 
 -- what stands above an item of a list and behind it
 pub record Split (xs : List Item) (d n : ℕ) (x : Item) : Type 0 where

@@ -29,7 +29,7 @@ use Rattle.pass_trait.specs.Causes.{defines}
 use Rattle.pass_trait.specs.Rule.{item, first_operand}
 use Rattle.mir_substitution.proofs.Entries.{is_pair-same}
 use Rattle.pass_salvage.specs.Salvage.{numbered_at, entry_for}
-use Rattle.pass_salvage.specs.Way.{has_entry, or_fresh, asks_for, is_just}
+use Rattle.pass_salvage.specs.SalvageAction.{has_entry, or_fresh, asks_for, is_just}
 use Rattle.pass_salvage.proofs.Chosen.{IsEntered}
 use Rattle.pass_salvage.proofs.Kin.{row_itself, code_kin}
 use Rattle.pass_salvage.proofs.Edits.{Edits, Edited, pair}

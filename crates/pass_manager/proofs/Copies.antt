@@ -13,9 +13,9 @@ use Rattle.mir_func.specs.declared.item.ItemKind.{ItemKind}
 use Rattle.mir_func.specs.declared.item.ItemKind.TheVariants.{Code, Mark, Phi}
 use Rattle.mir_func.specs.declared.position.Pos.{Pos}
 use Rattle.pass_trait.specs.Change.{Change}
-use Rattle.pass_salvage.specs.declared.way.SalvageAction.{SalvageAction}
-use Rattle.pass_salvage.specs.declared.way.SalvageAction.TheVariants.{HasEntry, GetsEntry, GetsPhi}
-use Rattle.pass_salvage.specs.Way.{way}
+use Rattle.pass_salvage.specs.declared.salvage_action.SalvageAction.{SalvageAction}
+use Rattle.pass_salvage.specs.declared.salvage_action.SalvageAction.TheVariants.{HasEntry, GetsEntry, GetsPhi}
+use Rattle.pass_salvage.specs.SalvageAction.{salvage_action}
 use Rattle.pass_salvage.specs.Salvage.{put_for}
 use Rattle.copyprop_block.specs.declared.copies.CopyAction.{CopyAction}
 use Rattle.copyprop_block.specs.declared.copies.CopyAction.TheVariants.{Stays, Goes, GoesWith}
@@ -83,7 +83,7 @@ by_fate : (ls : List Line) (a : SoFar) (x : Item) (fate : CopyAction) → IsReal
 by_fate ls a x Stays real h = All-append HasReal ls (line (x ∷ []) None ∷ []) h (All-cons HasReal _ [] (no_phi (x ∷ [])) (All-nil HasReal))
 by_fate ls a x Goes real h = All-append HasReal ls (line [] None ∷ []) h (All-cons HasReal _ [] (no_phi []) (All-nil HasReal))
 by_fate ls a x (GoesWith k s) real h =
-    let w : SalvageAction = way [] a.subs a.fresh k s a.done in
+    let w : SalvageAction = salvage_action [] a.subs a.fresh k s a.done in
     All-append HasReal (lines_above w ls) (line (put_for w k s x.origin) (phi_of w s) ∷ []) (above w ls h)
     (All-cons HasReal _ [] (phi_real w s (put_for w k s x.origin) real) (All-nil HasReal))
 

@@ -13,16 +13,16 @@ use Rattle.mir_func.specs.declared.item.ItemKind.{ItemKind}
 use Rattle.mir_func.specs.declared.item.ItemKind.TheVariants.{Code, Mark, Phi}
 use Rattle.mir_func.specs.declared.position.Pos.{Pos}
 use Rattle.pass_trait.specs.Change.{Change}
-use Rattle.pass_salvage.specs.declared.way.SalvageAction.{SalvageAction}
-use Rattle.pass_salvage.specs.declared.way.SalvageAction.TheVariants.{HasEntry, GetsEntry, GetsPhi}
-use Rattle.pass_salvage.specs.Way.{way}
+use Rattle.pass_salvage.specs.declared.salvage_action.SalvageAction.{SalvageAction}
+use Rattle.pass_salvage.specs.declared.salvage_action.SalvageAction.TheVariants.{HasEntry, GetsEntry, GetsPhi}
+use Rattle.pass_salvage.specs.SalvageAction.{salvage_action}
 use Rattle.rv64_instr.proofs.Moves.{moves_by}
-use Rattle.dce_copies.specs.declared.off.Copied.{Copied}
-use Rattle.dce_copies.specs.Off.{copied_by, numbered_copy, SoFar, off_at}
-use Rattle.dce_copies.specs.Blocks.{going_from, BlocksSoFar, in_block, blocks_off}
+use Rattle.dce_salvage.specs.declared.salvage_numbers.Copied.{Copied}
+use Rattle.dce_salvage.specs.SalvageNumbers.{copied_by, numbered_copy, SoFar, salvage_at}
+use Rattle.dce_salvage.specs.SalvageBlocks.{going_from, BlocksSoFar, in_block, salvage_blocks}
 use Rattle.dce_salvage_proof.specs.SalvageLaws.{begins_off}
-use Rattle.dce_pass.specs.Ledger.{Line, line_by, line_of, line_of_copy, lines_of, lines_down, lines_in, ledger}
-use Rattle.dce_pass.specs.Rule.{dead_rule}
+use Rattle.dce_pass.specs.SalvageLedger.{Line, line_by, line_of, line_of_copy, lines_of, lines_down, lines_in, ledger}
+use Rattle.dce_pass.specs.DebugRule.{dead_rule}
 use Rattle.pass_manager.specs.Shown.{IsGiven}
 
 -- the register of its phi isn't x0
@@ -55,7 +55,7 @@ by_way GetsPhi c x real s e = let same : c.source ≡ s = cc in subst (λ (z : �
 
 module _ (removed : List ℕ) where
   of_copy : (at : ℕ) (a : SoFar) (x : Item) (c : Option Copied) → IsReal c → HasReal (line_of_copy removed at a x c)
-  of_copy at a x (Some c) real = by_way (way removed a.subs a.fresh c.number c.source (take at a.items)) c x real
+  of_copy at a x (Some c) real = by_way (salvage_action removed a.subs a.fresh c.number c.source (take at a.items)) c x real
   of_copy at a x None real = no_phi x
 
   here : (at : ℕ) (goes : Bool) (a : SoFar) (o : Option Item) → All HasReal (lines_of removed at goes a o)
@@ -68,16 +68,16 @@ module _ (removed : List ℕ) where
   down dead zero a = All-nil HasReal
   down dead (suc n) a =
       let goes : Bool = slice_index_or dead n false in
-      All-append HasReal (lines_down removed dead n (off_at removed n goes a)) (lines_of removed n goes a (slice_get a.items n))
-      (down dead n (off_at removed n goes a)) (here n goes a (slice_get a.items n))
+      All-append HasReal (lines_down removed dead n (salvage_at removed n goes a)) (lines_of removed n goes a (slice_get a.items n))
+      (down dead n (salvage_at removed n goes a)) (here n goes a (slice_get a.items n))
 
 in_all : (dead : List (List Bool)) (bs : List Block) (a : BlocksSoFar) (n : ℕ) → All HasReal (lines_in dead bs a n)
 in_all dead [] a n = All-nil HasReal
 in_all dead (b ∷ bs) a n =
     let own : List Bool = slice_index_or dead 0 [] in
-    let first : List Line = lines_down (going_from 0 own) own (length b.items) (in_block b (blocks_off (drop 1 dead) bs a)) in
+    let first : List Line = lines_down (going_from 0 own) own (length b.items) (in_block b (salvage_blocks (drop 1 dead) bs a)) in
     by_test (nat_eq b.id n) first (lines_in (drop 1 dead) bs a n)
-    (down (going_from 0 own) own (length b.items) (in_block b (blocks_off (drop 1 dead) bs a))) (in_all (drop 1 dead) bs a n) where
+    (down (going_from 0 own) own (length b.items) (in_block b (salvage_blocks (drop 1 dead) bs a))) (in_all (drop 1 dead) bs a n) where
       by_test : (z : Bool) (xs ys : List Line) → All HasReal xs → All HasReal ys → All HasReal (cond z xs ys)
       by_test true xs ys here later = here
       by_test false xs ys here later = later

@@ -7,7 +7,7 @@ use Rattle.pass_trait.specs.Change.{Change}
 use Rattle.pass_trait.specs.declared.loss.Loss.{Loss}
 use Rattle.pass_trait.specs.Steps.{KeepsSteps}
 use Rattle.copyprop_proof.specs.Rule.{copy_step}
-use Rattle.dce_pass.specs.Rule.{dead_rule}
+use Rattle.dce_pass.specs.DebugRule.{dead_rule}
 use Rattle.dce_pass.specs.Steps.{repeated, round_step, most_rounds}
 use Rattle.fold_proof.specs.Debug.{fold_step}
 use Rattle.pass_list.specs.declared.kind.PassKind.{PassKind}

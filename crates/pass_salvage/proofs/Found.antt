@@ -10,7 +10,7 @@ use Rattle.mir_func.specs.declared.item.Item.{Item}
 use Rattle.mir_func.specs.Resolve.{entry_of, resolve, Ends, at, by}
 use Rattle.sem_mir.specs.Step.{defined}
 use Rattle.pass_trait.specs.Causes.{defines}
-use Rattle.pass_salvage.specs.Way.{last_definition, is_register, here_or, first_definition, has_entry}
+use Rattle.pass_salvage.specs.SalvageAction.{last_definition, is_register, here_or, first_definition, has_entry}
 use Rattle.mir_substitution.proofs.Chains.{chain_end-none, resolve_ends}
 use Rattle.pass_salvage.proofs.Last.{last_more as one_more}
 

@@ -19,10 +19,10 @@ use Rattle.mir_substitution.proofs.Entries.{is_pair-true, is_pair-same}
 use Rattle.pass_salvage.specs.declared.above.Above.{Above}
 use Rattle.pass_salvage.specs.declared.lookup.Lookup.{Lookup}
 use Rattle.pass_salvage.specs.declared.lookup.Lookup.TheVariants.{Index, Walk}
-use Rattle.pass_salvage.specs.declared.way.SalvageAction.TheVariants.{GetsEntry, GetsPhi}
-use Rattle.pass_salvage.specs.Way.{further, last_definition, is_just, asks_for, has_entry, or_fresh, way_by}
+use Rattle.pass_salvage.specs.declared.salvage_action.SalvageAction.TheVariants.{GetsEntry, GetsPhi}
+use Rattle.pass_salvage.specs.SalvageAction.{further, last_definition, is_just, asks_for, has_entry, or_fresh, action_by}
 use Rattle.pass_salvage.specs.Salvage.{with_number, numbered_at, entry_for}
-use Rattle.pass_salvage.specs.Above.{last_question, IsIndexOf, is_past, later, moved, way_unless}
+use Rattle.pass_salvage.specs.Above.{last_question, IsIndexOf, is_past, later, moved, action_unless}
 use Rattle.pass_salvage.specs.Lookup.{IsLookupOf}
 use Rattle.pass_salvage.proofs.OneMore.{one_more}
 use Rattle.pass_salvage.proofs.Found.{last_more}
@@ -291,8 +291,8 @@ bars true false true b = refl
 bars true false false b = refl
 
 pub way_is : (removed : List ℕ) (subs : List DebugSubstitution) (fresh k d : ℕ) (number operand : Option ℕ) (behind : List Item) →
-    way_by removed subs fresh k d number operand behind ≡
-    way_unless (list_any (nat_eq d) removed || list_any (λ (x : Item). asks_for subs k x.kind) behind) subs fresh d number operand
+    action_by removed subs fresh k d number operand behind ≡
+    action_unless (list_any (nat_eq d) removed || list_any (λ (x : Item). asks_for subs k x.kind) behind) subs fresh d number operand
 way_is removed subs fresh k d number None behind = refl
 way_is removed subs fresh k d number (Some o) behind =
     ap (λ (z : Bool). cond z (GetsEntry d o (or_fresh fresh number)) GetsPhi)

@@ -4,7 +4,7 @@ use Rattle.std.proofs.Common.{nat_lt, refl, sym, ap, ◌∙◌, arith}
 use Rattle.std.proofs.lemmas.Bool.{ltb-true, ltb-false, lt-ltb, le-ltb}
 use Rattle.std.specs.List.{list_any}
 use Rattle.mir_func.specs.declared.item.Item.{Item}
-use Rattle.pass_salvage.specs.Way.{further}
+use Rattle.pass_salvage.specs.SalvageAction.{further}
 use Rattle.pass_salvage.specs.Above.{is_past}
 use Rattle.pass_salvage.specs.Salvage.{with_number, numbered_at}
 

@@ -6,9 +6,9 @@ use Rattle.mir_func.specs.declared.debug_substitution.DebugSubstitution.{DebugSu
 use Rattle.mir_func.specs.declared.item.Item.{Item}
 use Rattle.pass_trait.specs.Rule.{first_operand}
 use Rattle.pass_salvage.specs.declared.above.Above.{Above}
-use Rattle.pass_salvage.specs.declared.way.SalvageAction.{SalvageAction}
-use Rattle.pass_salvage.specs.declared.way.SalvageAction.TheVariants.{GetsEntry, GetsPhi}
-use Rattle.pass_salvage.specs.Way.{further, last_definition, asks_for, is_just, has_entry, or_fresh}
+use Rattle.pass_salvage.specs.declared.salvage_action.SalvageAction.{SalvageAction}
+use Rattle.pass_salvage.specs.declared.salvage_action.SalvageAction.TheVariants.{GetsEntry, GetsPhi}
+use Rattle.pass_salvage.specs.SalvageAction.{further, last_definition, asks_for, is_just, has_entry, or_fresh}
 
 -- the index of the last debug value of a pair that resolves to operand 0 of the number
 abbrev pub last_question : List DebugSubstitution → (k : ℕ) → List Item → Option ℕ
@@ -38,6 +38,6 @@ moved f k n o q = cond (nat_eq q k) None (cond (is_just (first_operand q) (Some 
 
 -- the salvage by code at index d with this number, by this operand, unless it is barred, the operand's index is too
 -- large or the pair has a substitution
-abbrev pub way_unless : (barred : Bool) → List DebugSubstitution → (fresh d : ℕ) → (number operand : Option ℕ) → SalvageAction
-way_unless barred subs fresh d n None = GetsPhi
-way_unless barred subs fresh d n (Some o) = cond (nat_lt o (2 ^ 32) && not (has_entry subs n o) && not barred) (GetsEntry d o (or_fresh fresh n)) GetsPhi
+abbrev pub action_unless : (barred : Bool) → List DebugSubstitution → (fresh d : ℕ) → (number operand : Option ℕ) → SalvageAction
+action_unless barred subs fresh d n None = GetsPhi
+action_unless barred subs fresh d n (Some o) = cond (nat_lt o (2 ^ 32) && not (has_entry subs n o) && not barred) (GetsEntry d o (or_fresh fresh n)) GetsPhi

@@ -1,5 +1,5 @@
 pub mod Fresh
-pub mod Way
+pub mod SalvageAction
 pub mod Salvage
 pub mod Above
 pub mod Lookup

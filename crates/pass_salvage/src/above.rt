@@ -13,12 +13,12 @@ ghost use Rattle.mir_func.specs.declared.debug_substitution.DebugSubstitution.{D
 ghost use Rattle.rv64_instr.specs.declared.place.Place.TheVariants as place;
 ghost use Rattle.pass_trait.specs.Causes.{defines};
 ghost use Rattle.pass_trait.specs.Rule.{first_operand};
-ghost use Rattle.pass_salvage.specs.Way.{has_entry, asks_for, is_just, last_definition};
+ghost use Rattle.pass_salvage.specs.SalvageAction.{has_entry, asks_for, is_just, last_definition};
 ghost use Rattle.pass_salvage.specs.Salvage.{entry_for};
 ghost use Rattle.pass_salvage.specs.Above.{IsIndexOf, is_past, later, moved};
 
 use crate::salvage::entry_for;
-use crate::way::has_entry;
+use crate::salvage_action::has_entry;
 use base_ids::code::{DebugNumber, OperandIndex};
 use mir_func::debug_substitution::OperandPair;
 use mir_func::item::{Item, ItemKind};

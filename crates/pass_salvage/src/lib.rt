@@ -10,4 +10,4 @@ pub mod above;
 pub mod fresh;
 pub mod lookup;
 pub mod salvage;
-pub mod way;
+pub mod salvage_action;

@@ -4,15 +4,15 @@ ghost use Rattle.std.specs.Prelude.{◌≡◌, ◌++◌, ◌<◌, ◌||◌, [], 
 ghost use Rattle.std.specs.List.{list_any};
 ghost use Rattle.mir_func.specs.declared.debug_substitution.DebugSubstitution.{DebugSubstitution};
 ghost use Rattle.mir_func.specs.declared.item.Item.{Item};
-ghost use Rattle.pass_salvage.specs.declared.way.SalvageAction.TheVariants as chosen;
-ghost use Rattle.pass_salvage.specs.Way.{last_definition, asks_for, has_entry, way};
+ghost use Rattle.pass_salvage.specs.declared.salvage_action.SalvageAction.TheVariants as chosen;
+ghost use Rattle.pass_salvage.specs.SalvageAction.{last_definition, asks_for, has_entry, salvage_action};
 ghost use Rattle.pass_salvage.specs.Salvage.{entry_for};
 ghost use Rattle.pass_salvage.specs.Lookup.{IsLookupOf};
 
 use crate::above::{Above, substitute};
 use crate::salvage::entry_for;
-use crate::way::{
-    SalvageAction, ask_for, first_definition, has_entry, is_among, last_definition, way_unless,
+use crate::salvage_action::{
+    SalvageAction, action_unless, ask_for, first_definition, has_entry, is_among, last_definition,
 };
 use base_ids::code::{DebugNumber, OperandIndex};
 use mir_func::item::{Item, ItemKind};
@@ -112,7 +112,7 @@ pub(crate) fn choose_way(
     fresh: DebugNumber,
 ) -> SalvageAction
     requires { IsLookupOf lookup.now subs.now above.now }
-    ensures chosen { result ≡ way removed.now subs.now fresh number source above.now }
+    ensures chosen { result ≡ salvage_action removed.now subs.now fresh number source above.now }
     ensures within { (d o n : ℕ) → result ≡ chosen.GetsEntry d o n → d < length above.now }
 {
     if has_entry(subs, &Some(number), OperandIndex(0)) {
@@ -140,13 +140,13 @@ fn choose_by(
     requires free { has_entry subs.now (Some number) 0 ≡ false }
     requires last { last_definition source above.now ≡ Some d }
     requires at { d < length above.now }
-    ensures { result ≡ way removed.now subs.now fresh number source above.now }
+    ensures { result ≡ salvage_action removed.now subs.now fresh number source above.now }
 {
     match &above[d].kind {
         ItemKind::Code(i, n) => {
             let barred = is_barred(lookup, above, subs, removed, number, d);
             let operand = first_definition(i, source);
-            way_unless(barred, subs, fresh, d, n, operand)
+            action_unless(barred, subs, fresh, d, n, operand)
         }
         ItemKind::Mark(_, _) => SalvageAction::GetsPhi,
         ItemKind::Phi(_, _) => SalvageAction::GetsPhi,

@@ -2,13 +2,13 @@
 
 ghost use Rattle.std.specs.Prelude.{◌≡◌, ◌++◌, ◌+◌, ◌<◌, ◌≤◌, ◌^◌, [], ◌∷◌, Some, length, take, drop};
 ghost use Rattle.std.specs.Prelude.{cond, nat_eq, false, IfOk, OnOk};
-ghost use Rattle.pass_salvage.specs.Way.{has_entry, way};
+ghost use Rattle.pass_salvage.specs.SalvageAction.{has_entry, salvage_action};
 ghost use Rattle.pass_salvage.specs.Salvage.{with_number, numbered_at, above_after, entry_for, entries_for};
 ghost use Rattle.pass_salvage.specs.Salvage.{fresh_after, phi_for};
 ghost use Rattle.pass_salvage.specs.Lookup.{IsLookupOf};
 
 use crate::lookup::{Lookup, choose_way};
-use crate::way::SalvageAction;
+use crate::salvage_action::SalvageAction;
 use base_ids::code::{DebugNumber, OperandIndex};
 use mir_func::debug_substitution::{DebugSubstitution, OperandPair};
 use mir_func::item::{Item, ItemKind};
@@ -39,7 +39,7 @@ pub fn salvage(
     requires fresh { fresh.old < 2 ^ 31 }
     requires lookup { IsLookupOf lookup.old subs.old (take at items.old.items) }
     ensures action { IfOk result (λ w.
-        w ≡ way removed.now subs.old fresh.old number source (take at items.old.items)) }
+        w ≡ salvage_action removed.now subs.old fresh.old number source (take at items.old.items)) }
     ensures items { IfOk result (λ w.
         items.new.items ≡ above_after w (take at items.old.items) ++ drop at items.old.items) }
     ensures size { length items.new.items ≡ length items.old.items }

@@ -10,7 +10,7 @@ use Rattle.dwarf_loclists.specs.Ranges.{Ascend, ArePlaces}
 use Rattle.mir_func.specs.declared.variable.VarId.{VarId}
 use Rattle.compile_theorem.proofs.Functions.{words_length}
 use Rattle.compile_theorem.specs.Compiled.{AreCompiled, bytes_of}
-use Rattle.compile_theorem.specs.Promise.{variable_lines, variable_listed}
+use Rattle.compile_theorem.specs.OutputProperties.{variable_lines, variable_listed}
 use Rattle.compile_theorem.specs.Source.{PassedFunction}
 use Rattle.emit_code.specs.Rule.{words_of}
 use Rattle.read_program.specs.declared.program.Program.{Program}

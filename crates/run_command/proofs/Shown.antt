@@ -13,7 +13,7 @@ use Rattle.compile_theorem.proofs.Functions.{IsCompiledIn, compiled_in}
 use Rattle.compile_theorem.proofs.Headline.{formed}
 use Rattle.compile_theorem.proofs.Telling.{all_at}
 use Rattle.compile_theorem.specs.Compiled.{AreCompiled, IsCompiledProgram, bytes_of}
-use Rattle.compile_theorem.specs.Promise.{variable_lines}
+use Rattle.compile_theorem.specs.OutputProperties.{variable_lines}
 use Rattle.compile_theorem.specs.Source.{PassedFunction, IsPassedFunction}
 use Rattle.pass_list.specs.declared.kind.PassKind.{PassKind}
 use Rattle.report_command.proofs.Passed.{all_passed}

@@ -26,7 +26,7 @@ use Rattle.compile_theorem.proofs.Headline.{compiled_promises}
 use Rattle.compile_theorem.proofs.LaidOut.{compiled_is_laid_out}
 use Rattle.compile_theorem.proofs.Telling.{all_at}
 use Rattle.compile_theorem.specs.Laws.{AreCompiledTo}
-use Rattle.compile_theorem.specs.Promise.{Gives, IsLaidOut, AreLaidOut, MeetsHeadline, Promises}
+use Rattle.compile_theorem.specs.OutputProperties.{Gives, IsLaidOut, AreLaidOut, MeetsHeadline, Promises}
 use Rattle.compile_theorem.specs.Source.{SourceFunction, OfEach, sources_among}
 use Rattle.pass_list.specs.declared.kind.PassKind.{PassKind}
 use Rattle.report_command.proofs.Passed.{all_passed, passed_sources}
@@ -37,7 +37,7 @@ use Rattle.sim_machine.specs.Shown.{ShowsCode}
 use Rattle.listing_meaning.specs.Program.{image_of}
 use Rattle.dwarf_unit.specs.Variables.{whole}
 use Rattle.location_of_variable.specs.Groups.{part_of}
-use Rattle.location_of_variable.specs.Wanted.{bytes_of}
+use Rattle.location_of_variable.specs.VariableLocation.{bytes_of}
 use Rattle.run_command.proofs.Runs.{compilation_can_run}
 use Rattle.run_command.proofs.Shown.{compilation_shows_code}
 use Rattle.run_command.specs.Runs.{HasNone, IsFirstNamed, IsRunOf}

@@ -30,7 +30,7 @@ use Rattle.sim_trace.specs.Variables.{variable_of}
 use Rattle.listing_meaning.specs.Program.{image_of}
 use Rattle.dwarf_unit.specs.Variables.{whole}
 use Rattle.location_of_variable.specs.Groups.{part_of}
-use Rattle.location_of_variable.specs.Wanted.{bytes_of}
+use Rattle.location_of_variable.specs.VariableLocation.{bytes_of}
 use Rattle.run_command.specs.Runs.{HasNone, IsRunOf}
 
 -- ---- the function

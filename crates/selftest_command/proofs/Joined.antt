@@ -51,14 +51,14 @@ use Rattle.compile_theorem.proofs.Functions.{words_length}
 use Rattle.compile_theorem.proofs.Headline.{compiled_promises}
 use Rattle.compile_theorem.proofs.Variables.{own_marks}
 use Rattle.compile_theorem.specs.Compiled.{IsCompiledFunction, AreCompiled, bytes_of}
-use Rattle.compile_theorem.specs.Promise.{Gives, MeetsHeadline, Promises, variable_lines, variable_listed}
+use Rattle.compile_theorem.specs.OutputProperties.{Gives, MeetsHeadline, Promises, variable_lines, variable_listed}
 use Rattle.compile_theorem.specs.Source.{SourceFunction, PassedFunction, MarksOneOf}
 use Rattle.pass_list.specs.declared.kind.PassKind.{PassKind}
 use Rattle.sim_machine.specs.Shown.{ShowsCode}
 use Rattle.listing_meaning.specs.Program.{image_of}
 use Rattle.dwarf_unit.specs.Variables.{whole, variables_of_function}
 use Rattle.location_of_variable.specs.Groups.{part_of}
-use Rattle.location_of_variable.specs.Wanted.{bytes_of as piece_bytes}
+use Rattle.location_of_variable.specs.VariableLocation.{bytes_of as piece_bytes}
 use Rattle.invariance_code.proofs.Settled.{same_layout}
 use Rattle.selftest_command.specs.steps.First.{TestsFirst, FirstGoesApart}
 use Rattle.selftest_command.specs.Tested.{IsSelfTestOf}

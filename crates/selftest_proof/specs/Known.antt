@@ -14,7 +14,7 @@ use Rattle.dwarf_loclists.specs.declared.range.Location.TheVariants.{Whole, Part
 use Rattle.dwarf_loclists.specs.declared.range.Range.{Range}
 use Rattle.dwarf_loclists.specs.Ranges.{ArePlaces, location_in}
 use Rattle.location_of_variable.specs.Groups.{part_of}
-use Rattle.location_of_variable.specs.Wanted.{bytes_of}
+use Rattle.location_of_variable.specs.VariableLocation.{bytes_of}
 use Rattle.sem_machine.specs.Headline.{Headline}
 use Rattle.sem_machine.specs.Image.{Image}
 use Rattle.emit_code.specs.Laid.{LaidCode}

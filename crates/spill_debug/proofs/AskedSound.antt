@@ -24,8 +24,8 @@ use Rattle.sem_mir.specs.Align.{position_of}
 use Rattle.pass_trait.specs.Rule.{item, item_before, first_operand}
 use Rattle.spill_code.specs.declared.spilling.Spilling.{Spilling}
 use Rattle.spill_code.specs.Rewrite.{slot_of}
-use Rattle.spill_debug.specs.Asked.{is_scratch_place, value_left, place_left, mark_asked, kind_asked, number_past, next_number}
-use Rattle.spill_debug.specs.Asked.{number_behind, items_asked, blocks_asked, asked}
+use Rattle.spill_debug.specs.RewrittenDebugItems.{is_scratch_place, value_left, place_left, mark_asked, kind_asked, number_past, next_number}
+use Rattle.spill_debug.specs.RewrittenDebugItems.{number_behind, items_asked, blocks_asked, asked}
 use Rattle.spill_debug.specs.Laws.{AskedIsSound}
 use Rattle.spill_debug.proofs.Grown.{IsExtra, IsLike, Grown, none, grows, BlocksGrow, no_blocks, next_block, sound_grown}
 

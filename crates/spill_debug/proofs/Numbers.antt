@@ -8,7 +8,7 @@ use Rattle.mir_func.specs.declared.item.ItemKind.{ItemKind}
 use Rattle.mir_func.specs.declared.item.ItemKind.TheVariants.{Code, Mark, Phi}
 use Rattle.spill_code.specs.declared.spilling.SlotAssignment.{SlotAssignment}
 use Rattle.spill_code.specs.Rewrite.{slot_of}
-use Rattle.spill_debug.specs.Asked.{number_past, next_number, number_behind, number_beyond}
+use Rattle.spill_debug.specs.RewrittenDebugItems.{number_past, next_number, number_behind, number_beyond}
 
 module _ (homes : List SlotAssignment) where
   past_up : (k : ℕ) (home : Option ℕ) → k ≤ number_past k home

@@ -24,7 +24,7 @@ use Rattle.pass_trait.specs.Order.{LossComesBefore, IsInOrder}
 use Rattle.pass_trait.specs.Rule.{number_lost, AreNumbersLost}
 use Rattle.spill_code.specs.declared.spilling.Spilling.{Spilling}
 use Rattle.spill_code.specs.Rewrite.{slot_of}
-use Rattle.spill_debug.specs.Asked.{is_scratch}
+use Rattle.spill_debug.specs.RewrittenDebugItems.{is_scratch}
 use Rattle.spill_debug.specs.Lost.{mark_from, AreMarksLost, is_silent, LosesScratch, AreScratchLosses, number_silenced, mark_silenced}
 use Rattle.spill_debug.specs.Lost.{all_numbers_silenced, all_marks_silenced}
 

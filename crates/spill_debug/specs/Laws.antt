@@ -3,7 +3,7 @@ use Rattle.std.specs.Prelude.{◌≡◌, ℕ, ◌<◌, Some}
 use Rattle.mir_func.specs.Function.{Function}
 use Rattle.mir_func.specs.Sound.{AllItems, number_of, IsSound}
 use Rattle.spill_code.specs.declared.spilling.Spilling.{Spilling}
-use Rattle.spill_debug.specs.Asked.{asked}
+use Rattle.spill_debug.specs.RewrittenDebugItems.{asked}
 
 -- no item has a number from k on
 abbrev pub AreBelow : (k : ℕ) → Function → Type 0

@@ -1,3 +1,3 @@
-pub mod Asked
+pub mod RewrittenDebugItems
 pub mod Lost
 pub mod Laws

@@ -18,7 +18,7 @@ use Rattle.pass_trait.specs.declared.loss.Reason.TheVariants.{Scratch}
 use Rattle.pass_trait.specs.Rule.{number_lost}
 use Rattle.spill_code.specs.declared.spilling.Spilling.{Spilling}
 use Rattle.spill_code.specs.Rewrite.{slot_of}
-use Rattle.spill_debug.specs.Asked.{is_scratch}
+use Rattle.spill_debug.specs.RewrittenDebugItems.{is_scratch}
 
 -- the loss of the debug value whose origin has this position
 abbrev pub mark_from : Pos → Reason → Loss

@@ -3,9 +3,9 @@
 ghost use Rattle.std.specs.Prelude.{◌≡◌, ◌++◌, ◌+◌, ◌<◌, ◌^◌, Some, IfOk, OnOk};
 ghost use Rattle.pass_trait.specs.Rule.{item, item_before, first_operand};
 ghost use Rattle.spill_code.specs.Rewrite.{slot_of};
-ghost use Rattle.spill_debug.specs.Asked.{is_scratch, is_scratch_place, value_left, place_left, phi_and_mark};
-ghost use Rattle.spill_debug.specs.Asked.{mark_asked, kind_asked, number_past, next_number};
-ghost use Rattle.spill_debug.specs.Asked.{number_behind, items_asked, number_beyond, blocks_asked};
+ghost use Rattle.spill_debug.specs.RewrittenDebugItems.{is_scratch, is_scratch_place, value_left, place_left, phi_and_mark};
+ghost use Rattle.spill_debug.specs.RewrittenDebugItems.{mark_asked, kind_asked, number_past, next_number};
+ghost use Rattle.spill_debug.specs.RewrittenDebugItems.{number_behind, items_asked, number_beyond, blocks_asked};
 
 use base_ids::code::{DebugNumber, OperandIndex};
 use mir_func::block::{Block, Blocks};

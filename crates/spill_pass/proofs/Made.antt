@@ -10,7 +10,7 @@ use Rattle.pass_trait.specs.Sizes.{greatest_number, item_count}
 use Rattle.spill_code.specs.declared.spilling.SlotAssignment.{SlotAssignment}
 use Rattle.spill_code.specs.declared.spilling.Spilling.{Spilling}
 use Rattle.spill_code.specs.Room.{HaveRoom}
-use Rattle.spill_debug.specs.Asked.{number_beyond, blocks_asked}
+use Rattle.spill_debug.specs.RewrittenDebugItems.{number_beyond, blocks_asked}
 use Rattle.spill_debug.specs.Lost.{AreScratchLosses}
 use Rattle.spill_select.specs.Left.{registers_left}
 use Rattle.spill_rule.specs.Choice.{homes_of, spilling_of, entry_of}

@@ -5,7 +5,7 @@ ghost use Rattle.mir_func.specs.Limits.{MAX_SLOTS};
 ghost use Rattle.pass_trait.specs.Sizes.{greatest};
 ghost use Rattle.spill_code.specs.Rewrite.{spilled_blocks};
 ghost use Rattle.spill_code.specs.Room.{HaveRoom};
-ghost use Rattle.spill_debug.specs.Asked.{number_beyond, blocks_asked};
+ghost use Rattle.spill_debug.specs.RewrittenDebugItems.{number_beyond, blocks_asked};
 ghost use Rattle.spill_rule.specs.Choice.{entry_of};
 ghost use Rattle.spill_select.specs.Incoming.{is_among};
 ghost use Rattle.spill_pass.specs.Plan.{IsPlan, AreAllLosses};

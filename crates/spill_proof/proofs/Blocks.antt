@@ -28,7 +28,7 @@ use Rattle.pass_trait.specs.Sizes.{greatest_number}
 use Rattle.spill_code.specs.declared.spilling.SlotAssignment.{SlotAssignment}
 use Rattle.spill_code.specs.declared.spilling.Spilling.{Spilling}
 use Rattle.spill_code.specs.Rewrite.{slot_of, store, added, spilled_item, spilled_items, spilled_block, entry_stores, spilled_blocks}
-use Rattle.spill_debug.specs.Asked.{kind_asked, next_number, number_behind, items_asked, blocks_asked}
+use Rattle.spill_debug.specs.RewrittenDebugItems.{kind_asked, next_number, number_behind, items_asked, blocks_asked}
 use Rattle.spill_rule.specs.Choice.{homes_of, spilling_of, entry_of}
 use Rattle.spill_rule.specs.Rule.{Decides}
 use Rattle.spill_proof.specs.Whole.{spilled_by, where_spilled, whole}

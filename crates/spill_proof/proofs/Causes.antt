@@ -21,7 +21,7 @@ use Rattle.pass_trait.specs.Rule.{StandsAt}
 use Rattle.spill_code.specs.declared.spilling.SlotAssignment.{SlotAssignment}
 use Rattle.spill_code.specs.declared.spilling.Spilling.{Spilling}
 use Rattle.spill_code.specs.Rewrite.{slot_of}
-use Rattle.spill_debug.specs.Asked.{is_scratch}
+use Rattle.spill_debug.specs.RewrittenDebugItems.{is_scratch}
 use Rattle.spill_debug.specs.Lost.{LosesScratch, is_silent}
 use Rattle.spill_rule.specs.Choice.{lacks_scratch, is_bound, is_looped, reason_of, is_free, candidates, room, chosen, next_slot, homes_from, homes_of}
 use Rattle.spill_rule.specs.Choice.{first_scratch, second_scratch, spilling_of, entry_of}

@@ -29,7 +29,7 @@ use Rattle.spill_code.specs.declared.spilling.Spilling.{Spilling}
 use Rattle.spill_code.specs.Rewrite.{slot_of, first_used, other_used, first_defined, use_now, def_now, spilled_code, load, store, added, loads}
 use Rattle.spill_code.specs.Rewrite.{stores, two_loads, code_items}
 use Rattle.spill_code.specs.Rewrite.{spilled_place, spilled_item, spilled_items, entry_stores}
-use Rattle.spill_debug.specs.Asked.{value_left, place_left, mark_asked, kind_asked}
+use Rattle.spill_debug.specs.RewrittenDebugItems.{value_left, place_left, mark_asked, kind_asked}
 use Rattle.spill_proof.proofs.Calls.{call_renamed}
 use Rattle.spill_proof.proofs.Measures.{IsMeasure}
 

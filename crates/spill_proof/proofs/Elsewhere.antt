@@ -16,7 +16,8 @@ use Rattle.mir_func.specs.Sound.{AllItems, HasForm}
 use Rattle.pass_trait.specs.Rule.{item, item_before, first_operand}
 use Rattle.spill_code.specs.declared.spilling.Spilling.{Spilling}
 use Rattle.spill_code.specs.Rewrite.{slot_of}
-use Rattle.spill_debug.specs.Asked.{is_scratch, is_scratch_place, place_left, mark_asked, kind_asked, next_number, number_behind, items_asked, blocks_asked}
+use Rattle.spill_debug.specs.RewrittenDebugItems.{is_scratch, is_scratch_place, place_left, mark_asked}
+use Rattle.spill_debug.specs.RewrittenDebugItems.{kind_asked, next_number, number_behind, items_asked, blocks_asked}
 use Rattle.spill_debug.proofs.AskedSound.{each_block}
 use Rattle.spill_simulation.specs.MaySpill.{IsNoScratch}
 use Rattle.spill_rule.specs.Chosen.{AsksElsewhere}

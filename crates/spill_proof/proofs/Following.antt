@@ -27,7 +27,7 @@ use Rattle.sem_mir.specs.Follow.Among.{same as still}
 use Rattle.pass_trait.specs.Change.{change}
 use Rattle.pass_trait.specs.Simulation.{PreservesSimulation}
 use Rattle.pass_trait.specs.Rule.{item, first_operand}
-use Rattle.spill_debug.specs.Asked.{blocks_asked, asked}
+use Rattle.spill_debug.specs.RewrittenDebugItems.{blocks_asked, asked}
 use Rattle.spill_debug.specs.Laws.{AreBelow}
 use Rattle.spill_debug.proofs.AskedSound.{asked_is_sound}
 use Rattle.spill_proof.specs.Follows.{AskedFollows}

@@ -32,7 +32,7 @@ use Rattle.spill_code.specs.declared.spilling.SlotAssignment.{SlotAssignment}
 use Rattle.spill_code.specs.declared.spilling.Spilling.{Spilling}
 use Rattle.spill_code.specs.Rewrite.{slot_of, first_used, other_used, first_defined, spilled_code, load, store, added, loads, two_loads, stores, code_items}
 use Rattle.spill_code.specs.Rewrite.{place_in, spilled_place, spilled_item, spilled_items}
-use Rattle.spill_debug.specs.Asked.{is_scratch, value_left, place_left, mark_asked, kind_asked}
+use Rattle.spill_debug.specs.RewrittenDebugItems.{is_scratch, value_left, place_left, mark_asked, kind_asked}
 use Rattle.spill_debug.specs.Lost.{LosesScratch, is_silent}
 use Rattle.spill_rule.specs.Choice.{homes_of, first_scratch, second_scratch, spilling_of}
 use Rattle.pass_trait.specs.Causes.{scratch_of, IsMore}

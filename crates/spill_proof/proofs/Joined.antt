@@ -9,7 +9,7 @@ use Rattle.pass_trait.specs.Change.{change}
 use Rattle.pass_trait.specs.Simulation.{PreservesSimulation}
 use Rattle.spill_code.specs.declared.spilling.SlotAssignment.{SlotAssignment}
 use Rattle.spill_code.specs.declared.spilling.Spilling.{Spilling}
-use Rattle.spill_debug.specs.Asked.{asked}
+use Rattle.spill_debug.specs.RewrittenDebugItems.{asked}
 use Rattle.spill_debug.proofs.AskedSound.{asked_is_sound}
 use Rattle.spill_proof.proofs.Stripped.{asked_is_stripped}
 use Rattle.spill_simulation.specs.Follows.{MaySpill}

@@ -11,7 +11,7 @@ use Rattle.pass_trait.specs.Simulation.{PreservesSimulation}
 use Rattle.pass_trait.specs.Sizes.{greatest_number, KeepsSizes}
 use Rattle.pass_trait.specs.Steps.{KeepsSteps}
 use Rattle.spill_select.specs.Left.{registers_left}
-use Rattle.spill_debug.specs.Asked.{asked}
+use Rattle.spill_debug.specs.RewrittenDebugItems.{asked}
 use Rattle.spill_proof.proofs.Stripped.{asked_is_stripped}
 use Rattle.spill_rule.specs.Choice.{homes_of, spilling_of}
 use Rattle.spill_rule.specs.Chosen.{AreDistinct}

@@ -6,7 +6,7 @@ use Rattle.mir_func.specs.Strip.{stripped_blocks, stripped}
 use Rattle.spill_code.specs.declared.spilling.SlotAssignment.{SlotAssignment}
 use Rattle.spill_code.specs.declared.spilling.Spilling.{Spilling}
 use Rattle.spill_code.specs.Rewrite.{spilled_blocks}
-use Rattle.spill_debug.specs.Asked.{blocks_asked}
+use Rattle.spill_debug.specs.RewrittenDebugItems.{blocks_asked}
 use Rattle.spill_proof.proofs.Stripped.{asked_is_stripped, spilled_is_stripped}
 use Rattle.spill_rule.specs.Choice.{homes_of, spilling_of, entry_of, spilled}
 use Rattle.spill_proof.specs.Whole.{spilled_by, where_spilled}

@@ -9,7 +9,7 @@ use Rattle.mir_func.specs.Sound.{items_of}
 use Rattle.spill_code.specs.declared.spilling.SlotAssignment.{SlotAssignment}
 use Rattle.spill_code.specs.declared.spilling.Spilling.{Spilling}
 use Rattle.spill_code.specs.Rewrite.{spilled_item, spilled_items, spilled_block, entry_stores, spilled_blocks}
-use Rattle.spill_debug.specs.Asked.{kind_asked, next_number, number_behind, items_asked, blocks_asked}
+use Rattle.spill_debug.specs.RewrittenDebugItems.{kind_asked, next_number, number_behind, items_asked, blocks_asked}
 
 pub record IsMeasure (m : List Item → ℕ) : Type 0 where
   pub none : m [] ≡ 0

@@ -24,7 +24,7 @@ use Rattle.spill_code.specs.declared.spilling.SlotAssignment.{SlotAssignment}
 use Rattle.spill_code.specs.declared.spilling.Spilling.{Spilling}
 use Rattle.spill_code.specs.Rewrite.{first_used, first_defined, spilled_code, added, two_loads, stores, code_items, spilled_item, spilled_items}
 use Rattle.spill_code.specs.Rewrite.{spilled_block, entry_stores, spilled_blocks}
-use Rattle.spill_debug.specs.Asked.{kind_asked, next_number, number_behind, items_asked, blocks_asked}
+use Rattle.spill_debug.specs.RewrittenDebugItems.{kind_asked, next_number, number_behind, items_asked, blocks_asked}
 use Rattle.spill_proof.proofs.Counts.{one_item}
 
 -- how much code has an origin

@@ -28,8 +28,8 @@ use Rattle.spill_code.specs.declared.spilling.Spilling.{Spilling}
 use Rattle.spill_code.specs.Rewrite.{slot_of, first_used, other_used, first_defined, spilled_code, load, store, added, loads, stores, two_loads}
 use Rattle.spill_code.specs.Rewrite.{code_items, spilled_place}
 use Rattle.spill_code.specs.Rewrite.{spilled_item, spilled_items, spilled_block, entry_stores, spilled_blocks}
-use Rattle.spill_debug.specs.Asked.{is_scratch, value_left, place_left, mark_asked, kind_asked, number_past, next_number}
-use Rattle.spill_debug.specs.Asked.{number_behind, items_asked, number_beyond, blocks_asked}
+use Rattle.spill_debug.specs.RewrittenDebugItems.{is_scratch, value_left, place_left, mark_asked, kind_asked, number_past, next_number}
+use Rattle.spill_debug.specs.RewrittenDebugItems.{number_behind, items_asked, number_beyond, blocks_asked}
 
 abbrev pub nums : List Item → List ℕ
 nums xs = flat_map (λ (i : Item). numbers_of i.kind) xs

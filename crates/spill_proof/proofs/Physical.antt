@@ -28,8 +28,8 @@ use Rattle.spill_code.specs.Rewrite.{slot_of, first_used, other_used, first_defi
 use Rattle.spill_code.specs.Rewrite.{spilled_code, load, store, added}
 use Rattle.spill_code.specs.Rewrite.{loads, stores, two_loads, place_in, spilled_place, spilled_item, spilled_items, spilled_block}
 use Rattle.spill_code.specs.Rewrite.{entry_stores, spilled_blocks}
-use Rattle.spill_debug.specs.Asked.{is_scratch, is_scratch_place, value_left, place_left, mark_asked, kind_asked, next_number, number_behind}
-use Rattle.spill_debug.specs.Asked.{items_asked, blocks_asked}
+use Rattle.spill_debug.specs.RewrittenDebugItems.{is_scratch, is_scratch_place, value_left, place_left, mark_asked, kind_asked, next_number, number_behind}
+use Rattle.spill_debug.specs.RewrittenDebugItems.{items_asked, blocks_asked}
 
 module _ (s : Spilling) (first : s.first < 32) (second : s.second < 32) where
   abbrev Each : Item → Type 0

@@ -8,7 +8,7 @@ use Rattle.mir_func.specs.declared.position.Pos.{Pos}
 use Rattle.mir_func.specs.Graph.{Here, front, fetch_in, from_block}
 use Rattle.mir_func.specs.Sound.{AreApart, ids_of}
 use Rattle.spill_code.specs.declared.spilling.SlotAssignment.{SlotAssignment}
-use Rattle.spill_debug.specs.Asked.{next_number, number_behind}
+use Rattle.spill_debug.specs.RewrittenDebugItems.{next_number, number_behind}
 use Rattle.spill_proof.specs.Step.{number_at}
 
 -- the blocks that are left, of all: what stands in them, and which number comes next there

@@ -17,7 +17,7 @@ use Rattle.mir_func.specs.Sound.{AllItems}
 use Rattle.pass_trait.specs.Rule.{item, item_before}
 use Rattle.spill_code.specs.declared.spilling.Spilling.{Spilling}
 use Rattle.spill_code.specs.Rewrite.{slot_of}
-use Rattle.spill_debug.specs.Asked.{is_scratch, is_scratch_place, value_left, place_left, next_number, number_behind}
+use Rattle.spill_debug.specs.RewrittenDebugItems.{is_scratch, is_scratch_place, value_left, place_left, next_number, number_behind}
 use Rattle.spill_debug.proofs.AskedSound.{low_next}
 use Rattle.pass_salvage.proofs.Kin.{mark_kin, phi_kin, kin_itself}
 use Rattle.pass_salvage.proofs.Edits.{Edits, Edited, over, pair, put, BlocksEdited, no_blocks, next_block}

@@ -17,7 +17,7 @@ use Rattle.mir_func.specs.Sound.{AllItems, ids_of, OriginIn, TargetsIn, SlotsIn,
 use Rattle.pass_trait.specs.Rule.{item, item_before, first_operand}
 use Rattle.spill_code.specs.declared.spilling.Spilling.{Spilling}
 use Rattle.spill_code.specs.Rewrite.{slot_of}
-use Rattle.spill_debug.specs.Asked.{mark_asked, kind_asked, next_number, number_behind, items_asked, blocks_asked}
+use Rattle.spill_debug.specs.RewrittenDebugItems.{mark_asked, kind_asked, next_number, number_behind, items_asked, blocks_asked}
 use Rattle.spill_debug.proofs.AskedSound.{low_next}
 use Rattle.spill_debug.proofs.Grown.{IsExtra, IsLike, Grown, none, grows, BlocksGrow, no_blocks, next_block, sound_grown}
 use Rattle.spill_proof.proofs.Put.{mark_put, kind_put, items_put, blocks_put, behind_low}

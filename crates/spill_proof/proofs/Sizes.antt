@@ -19,7 +19,7 @@ use Rattle.pass_salvage.proofs.Greatest.{greatest_append}
 use Rattle.spill_code.specs.declared.spilling.SlotAssignment.{SlotAssignment}
 use Rattle.spill_code.specs.declared.spilling.Spilling.{Spilling}
 use Rattle.spill_code.specs.Rewrite.{entry_stores, spilled_blocks}
-use Rattle.spill_debug.specs.Asked.{blocks_asked, number_beyond}
+use Rattle.spill_debug.specs.RewrittenDebugItems.{blocks_asked, number_beyond}
 use Rattle.spill_rule.specs.Choice.{is_free, reason_of, candidates, room, chosen, next_slot, homes_from, homes_of, first_scratch, second_scratch}
 use Rattle.spill_rule.specs.Choice.{spilling_of, entry_of}
 use Rattle.spill_rule.specs.Chosen.{IsReservable}

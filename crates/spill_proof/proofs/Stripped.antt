@@ -22,7 +22,7 @@ use Rattle.spill_code.specs.declared.spilling.Spilling.{Spilling}
 use Rattle.spill_code.specs.Rewrite.{slot_of, first_used, other_used, first_defined, spilled_code, load, store, added, loads, stores, two_loads}
 use Rattle.spill_code.specs.Rewrite.{code_items, kind_items}
 use Rattle.spill_code.specs.Rewrite.{spilled_item, spilled_items, spilled_block, entry_stores, spilled_blocks}
-use Rattle.spill_debug.specs.Asked.{mark_asked, kind_asked, next_number, number_behind, items_asked, blocks_asked}
+use Rattle.spill_debug.specs.RewrittenDebugItems.{mark_asked, kind_asked, next_number, number_behind, items_asked, blocks_asked}
 use Rattle.spill_proof.specs.Stripped.{AskedIsStripped, SpilledIsStripped}
 
 module _ (s : Spilling) where

@@ -6,7 +6,7 @@ use Rattle.mir_func.specs.Sound.{AllItems, IsSound, HasForm}
 use Rattle.pass_trait.specs.Change.{change}
 use Rattle.pass_trait.specs.Simulation.{PreservesSimulation}
 use Rattle.pass_trait.specs.Sizes.{greatest_number}
-use Rattle.spill_debug.specs.Asked.{asked}
+use Rattle.spill_debug.specs.RewrittenDebugItems.{asked}
 use Rattle.spill_rule.specs.Choice.{spilling_of}
 use Rattle.spill_rule.specs.Chosen.{IsReservable, AreDistinct}
 use Rattle.spill_rule.specs.Rule.{Decides}

@@ -14,7 +14,7 @@ use Rattle.pass_trait.specs.Sizes.{greatest_number}
 use Rattle.pass_trait.specs.Steps.{PassStep}
 use Rattle.spill_code.specs.declared.spilling.SlotAssignment.{SlotAssignment}
 use Rattle.spill_code.specs.Rewrite.{slot_of}
-use Rattle.spill_debug.specs.Asked.{number_behind}
+use Rattle.spill_debug.specs.RewrittenDebugItems.{number_behind}
 use Rattle.spill_debug.specs.Lost.{LosesScratch}
 use Rattle.spill_rule.specs.Choice.{homes_of, spilling_of}
 use Rattle.spill_rule.specs.Rule.{Decides, IsSpilled}

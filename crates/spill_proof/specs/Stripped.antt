@@ -6,7 +6,7 @@ use Rattle.mir_func.specs.Strip.{stripped_blocks, stripped}
 use Rattle.spill_code.specs.declared.spilling.SlotAssignment.{SlotAssignment}
 use Rattle.spill_code.specs.declared.spilling.Spilling.{Spilling}
 use Rattle.spill_code.specs.Rewrite.{spilled_blocks}
-use Rattle.spill_debug.specs.Asked.{asked}
+use Rattle.spill_debug.specs.RewrittenDebugItems.{asked}
 
 -- rewriting debug values changes no code
 abbrev pub AskedIsStripped : Type 0

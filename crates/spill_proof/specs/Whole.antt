@@ -4,7 +4,7 @@ use Rattle.mir_func.specs.Function.{Function}
 use Rattle.spill_code.specs.declared.spilling.SlotAssignment.{SlotAssignment}
 use Rattle.spill_code.specs.declared.spilling.Spilling.{Spilling}
 use Rattle.spill_code.specs.Rewrite.{spilled_blocks}
-use Rattle.spill_debug.specs.Asked.{blocks_asked}
+use Rattle.spill_debug.specs.RewrittenDebugItems.{blocks_asked}
 use Rattle.spill_proof.specs.Sound.{slots_now}
 use Rattle.spill_rule.specs.Choice.{homes_of, spilling_of, entry_of}
 

@@ -4,7 +4,7 @@ use Rattle.mir_func.specs.Function.{Function}
 use Rattle.mir_func.specs.Limits.{MAX_SLOTS}
 use Rattle.mir_func.specs.Sound.{AreApart, AllItems, IsSound}
 use Rattle.mir_func.specs.Strip.{stripped}
-use Rattle.spill_debug.specs.Asked.{asked}
+use Rattle.spill_debug.specs.RewrittenDebugItems.{asked}
 use Rattle.spill_rule.specs.Choice.{spilling_of}
 use Rattle.spill_rule.specs.Chosen.{IsReservable, AsksElsewhere}
 use Rattle.spill_proof.specs.Sound.{slots_now}

@@ -8,7 +8,7 @@ ghost use Rattle.pass_trait.specs.Sizes.{greatest, greatest_number, most_numbers
 use crate::shown::{push_blocks, push_entries, push_items, push_losses};
 use base_ids::code::{DebugNumber, SlotId};
 use base_list::List;
-use dce_mark::judge::judge;
+use dce_analysis::judge::judge;
 use fold_pass::fold::fold;
 use mir_func::block::copy_blocks;
 use mir_func::func::Func;
@@ -21,7 +21,7 @@ use pass_salvage::above::Above;
 use pass_salvage::fresh::greatest_in_blocks;
 use pass_salvage::lookup::Lookup;
 use pass_salvage::salvage::{put_phi, salvage};
-use pass_salvage::way::SalvageAction;
+use pass_salvage::salvage_action::SalvageAction;
 use pass_trait::pass::Pass;
 use read_program::closing::Parsed;
 use read_program::program::read_program;

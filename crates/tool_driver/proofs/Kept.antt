@@ -7,7 +7,7 @@ use Rattle.listing_text.specs.declared.output.Output.{Output}
 use Rattle.pass_trait.specs.Steps.{PassStep}
 use Rattle.read_program.specs.declared.program.Program.{Program}
 use Rattle.compile_theorem.specs.Laws.{AreCompiledTo}
-use Rattle.compile_theorem.specs.Promise.{Promises, IsExact, AreLaidOut}
+use Rattle.compile_theorem.specs.OutputProperties.{Promises, IsExact, AreLaidOut}
 use Rattle.compile_theorem.specs.Words.{HaveWords}
 use Rattle.compile_theorem.proofs.HaveWords.{compiled_has_words}
 use Rattle.compile_theorem.proofs.Headline.{compiled_promises}

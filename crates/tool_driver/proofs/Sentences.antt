@@ -11,7 +11,7 @@ use Rattle.listing_proof.specs.Laws.{inlined_in}
 use Rattle.read_program.specs.declared.program.Program.{Program}
 use Rattle.compile_output_proof.specs.Laws.{OutputsArePrintable}
 use Rattle.compile_theorem.specs.Laws.{AreCompiledTo}
-use Rattle.compile_theorem.specs.Promise.{Promises, IsExactFor, IsExact}
+use Rattle.compile_theorem.specs.OutputProperties.{Promises, IsExactFor, IsExact}
 use Rattle.compile_theorem.specs.Source.{SourceFunction, sources_among}
 use Rattle.listing_meaning.specs.Program.{program_shown}
 use Rattle.run_command.specs.Program.{sources_of, IsOutputOf, names_of}

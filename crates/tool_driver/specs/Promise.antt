@@ -18,7 +18,7 @@ use Rattle.sem_machine.specs.MachineStep.{Comes, Ends, IsWell, machine_step}
 use Rattle.listing_text.specs.declared.output.ListedFunction.{ListedFunction}
 use Rattle.listing_text.specs.declared.output.Output.{Output}
 use Rattle.value_proof.specs.Kept.{IsToldAndKept}
-use Rattle.compile_theorem.specs.Promise.{Gives}
+use Rattle.compile_theorem.specs.OutputProperties.{Gives}
 use Rattle.compile_theorem.specs.Source.{SourceFunction, OfEach}
 use Rattle.listing_meaning.specs.Program.{IsListedAt, image_of, program_shown}
 

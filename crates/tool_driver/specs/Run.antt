@@ -25,7 +25,7 @@ use Rattle.tool_driver.specs.Limits.{INPUT_LIMIT}
 use Rattle.tool_driver.specs.Compiled.{plan_steps}
 use Rattle.tool_driver.specs.Answer.{HasFunctions, IsReader, AnswersText, IsAnswered, RefusesProgram, RefusesText}
 use Rattle.tool_driver.specs.Answer.{IsTestText, IsTestable, FailsToTest}
-use Rattle.compile_theorem.specs.Promise.{AreLaidOut, Promises, IsExact, ListsPassed}
+use Rattle.compile_theorem.specs.OutputProperties.{AreLaidOut, Promises, IsExact, ListsPassed}
 use Rattle.compile_theorem.specs.Source.{PassedFunction}
 use Rattle.compile_theorem.specs.Words.{HaveWords}
 use Rattle.object_command.specs.Object.{IsObjectOf}

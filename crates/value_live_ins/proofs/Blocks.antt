@@ -16,7 +16,7 @@ use Rattle.mir_func.proofs.Ways.{out_way, contains_first}
 use Rattle.sem_mir.specs.ValueId.{Tokens, Path, begin, onward, after_fetch, after_item}
 use Rattle.sem_value_ids.specs.Pullback.{InRegister, token_of, after_items}
 use Rattle.sem_value_ids.specs.Pullback as path
-use Rattle.value_proof.specs.Wanted.{AreThingsOf}
+use Rattle.value_proof.specs.PreferredByClass.{AreThingsOf}
 use Rattle.value_proof.proofs.Known.{path_bare, pointer}
 use Rattle.value_solver.specs.declared.tracked.Tracked.{Tracked}
 use Rattle.value_solver.specs.Entry.{thing, PathTo}

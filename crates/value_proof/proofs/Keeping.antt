@@ -12,7 +12,7 @@ use Rattle.sem_mir.specs.ValueId.{Token, Tokens, onward, after_fetch, Sits, mark
 use Rattle.sem_mir.specs.PreferredLocation.{SitsIn}
 use Rattle.sem_value_ids.specs.Pullback.{OfVariable, token_back, Was, back}
 use Rattle.sem_value_ids.proofs.Backwards.{tokens_pull_back}
-use Rattle.value_proof.specs.Wanted.{thing_at}
+use Rattle.value_proof.specs.PreferredByClass.{thing_at}
 use Rattle.value_proof.proofs.Passing.{path_above}
 use Rattle.value_proof.specs.Kept.{LeavesAlone, IsKept, here, down, KeptValuesSit, KeptValuesAreWanted}
 use Rattle.value_proof.proofs.Leaving.{place_kept, part_kept, mark_told, mark_keeps, place_thing}

@@ -39,7 +39,7 @@ use Rattle.sem_value_ids.specs.Pullback.{
 }
 use Rattle.sem_value_ids.proofs.Backwards.{tokens_pull_back}
 use Rattle.value_proof.specs.Classes.{IsKnown, KnowsRow, KnowsItem}
-use Rattle.value_proof.specs.Wanted.{AreThingsOf}
+use Rattle.value_proof.specs.PreferredByClass.{AreThingsOf}
 use Rattle.value_proof.proofs.Passing.{Knows, known_back}
 
 -- a number's token is held by what has a class only if the number has one

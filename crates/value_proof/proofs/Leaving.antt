@@ -40,7 +40,7 @@ use Rattle.sem_value_ids.specs.Pullback.{
   back_value,
   back_mark,
 }
-use Rattle.value_proof.specs.Wanted.{thing_at}
+use Rattle.value_proof.specs.PreferredByClass.{thing_at}
 use Rattle.value_proof.specs.Kept.{LeavesPlace, LeavesAlone}
 
 -- ---- registers

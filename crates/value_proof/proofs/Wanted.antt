@@ -11,7 +11,7 @@ use Rattle.sem_mir.specs.ValueId.{Fixed, Tokens, place_token, variable_token}
 use Rattle.sem_mir.specs.PreferredLocation.{IsPlace, SitsIn}
 use Rattle.sem_value_ids.specs.Pullback.{Tracked, InSlot, OfVariable, token_of}
 use Rattle.value_proof.specs.Classes.{Classes, IsKnown, ShareOnPaths, AreClasses}
-use Rattle.value_proof.specs.Wanted.{thing_at, HasItsClass, IsFirstByClass, IsWantedOrNone, AreThingsOf, FirstByClassIsWanted, UnmarkedIsNowhere}
+use Rattle.value_proof.specs.PreferredByClass.{thing_at, HasItsClass, IsFirstByClass, IsWantedOrNone, AreThingsOf, FirstByClassIsWanted, UnmarkedIsNowhere}
 use Rattle.value_proof.proofs.Known.{path_knows, path_bare, slot, variable}
 
 -- a place's token is that of what it holds

@@ -1,3 +1,3 @@
 pub mod Classes
-pub mod Wanted
+pub mod PreferredByClass
 pub mod Kept

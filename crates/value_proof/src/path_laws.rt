@@ -1,7 +1,7 @@
 //! Laws about class numbers, each the contract of a function that does nothing.
 
 ghost use Rattle.value_proof.specs.Classes.{ClassesPassItems, PathsComeFromAbove};
-ghost use Rattle.value_proof.specs.Wanted.{FirstByClassIsWanted, UnmarkedIsNowhere};
+ghost use Rattle.value_proof.specs.PreferredByClass.{FirstByClassIsWanted, UnmarkedIsNowhere};
 
 /// The classes computed past an item from those before it are classes there.
 pub fn classes_pass_items()

@@ -7,7 +7,7 @@ use Rattle.mir_func.specs.declared.position.Pos.{Pos}
 use Rattle.mir_func.specs.Graph.{block_start}
 use Rattle.mir_func.specs.Successors.{pos_in}
 use Rattle.value_tracker.specs.declared.index.TrackedIndex.{TrackedIndex}
-use Rattle.location_of_variable.specs.Wanted.{AreWantedPlaces}
+use Rattle.location_of_variable.specs.VariableLocation.{AreWantedPlaces}
 use Rattle.location_ranges.specs.declared.transfer_tracker.TransferTracker.{TransferTracker}
 use Rattle.location_ranges.specs.declared.values.Values.{Values}
 use Rattle.location_ranges.specs.Stands.{program, AreValuesOf, Stands}

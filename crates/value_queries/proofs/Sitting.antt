@@ -12,7 +12,7 @@ use Rattle.sem_mir.specs.ValueId.{Token, Tokens, Sits, place_token}
 use Rattle.sem_mir.specs.PreferredLocation.{IsPlace}
 use Rattle.sem_value_ids.specs.Pullback.{Tracked, InSlot, token_of}
 use Rattle.value_proof.specs.Classes.{Classes, IsKnown, AreClasses}
-use Rattle.value_proof.specs.Wanted.{thing_at, AreThingsOf}
+use Rattle.value_proof.specs.PreferredByClass.{thing_at, AreThingsOf}
 use Rattle.value_proof.proofs.Known.{IsBare, slot, path_knows, path_bare}
 
 -- a class of a thing: 0 where it isn't tracked, and then it has no token

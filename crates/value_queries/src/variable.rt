@@ -10,7 +10,7 @@ ghost use Rattle.sem_mir.specs.ValueId.{variable_token};
 ghost use Rattle.value_tracker.specs.Things.{AreThings};
 ghost use Rattle.location_ranges.specs.Stands.{AreValuesOf, Fits, program};
 ghost use Rattle.location_ranges.specs.steps.Places.{ArePlacesAt};
-ghost use Rattle.location_of_variable.specs.Wanted.{AreWantedPlaces, IsWantedPlace};
+ghost use Rattle.location_of_variable.specs.VariableLocation.{AreWantedPlaces, IsWantedPlace};
 ghost use Rattle.value_queries.specs.Sitting.{IsPointOf, SitsAt, position};
 
 use crate::point::QueryPoint;

@@ -38,14 +38,14 @@ use Rattle.value_solver.specs.declared.tracked.Tracked.{Tracked}
 use Rattle.value_solver.specs.declared.tracked.Tracked.TheVariants.{Register, Slot, Pair, Part, Number}
 use Rattle.value_solver.specs.Entry.{thing}
 use Rattle.value_proof.specs.Classes.{Classes}
-use Rattle.value_proof.specs.Wanted.{HasItsClass, IsFirstByClass}
+use Rattle.value_proof.specs.PreferredByClass.{HasItsClass, IsFirstByClass}
 use Rattle.value_tracker.specs.declared.index.TrackedIndex.{TrackedIndex}
 use Rattle.value_tracker.specs.declared.location_tracker.LocationTracker.{LocationTracker}
 use Rattle.value_tracker.specs.Things.{Settle}
 use Rattle.value_tracker.specs.LocationTracker.{slot_place, Holds}
 use Rattle.value_tracker.specs.LowestLocation.{IsFirstBelow, AreFirsts}
 use Rattle.value_tracker.specs.Start.{IsConstantOf, AreConstantsBelow, AreConstants, constant_past, ConstantsNow}
-use Rattle.value_tracker.specs.PreferredLocation.{place_by, constant_or, place_of}
+use Rattle.value_tracker.specs.ClassLocation.{place_by, constant_or, place_of}
 use Rattle.value_tracker.proofs.Starting.{stands, contained, is_number}
 
 module _ (things : List Tracked) (settled : List ℕ) (class : Classes) (settle : Settle things settled class) (i : ℕ) (old new : List (Option ℤ))

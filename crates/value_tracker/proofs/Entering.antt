@@ -43,7 +43,7 @@ use Rattle.value_solver.specs.declared.entry.BlockEntry.{BlockEntry}
 use Rattle.value_solver.specs.Entry as entry
 use Rattle.value_solver.specs.Entry.{thing, IsReached, AreAlike, IsGiven, HasNone}
 use Rattle.value_proof.specs.Classes.{Classes, IsKnown, HaveOneClass, ShareOnPaths, AreClasses}
-use Rattle.value_proof.specs.Wanted.{AreThingsOf}
+use Rattle.value_proof.specs.PreferredByClass.{AreThingsOf}
 use Rattle.value_proof.proofs.Known.{path_bare, pointer}
 use Rattle.value_tracker.specs.Things.{AreThings, Settle, settled_at}
 use Rattle.value_tracker.specs.Entering.{EntriesGiveClasses}

@@ -6,7 +6,7 @@ use Rattle.value_solver.specs.declared.tracked.Tracked.{Tracked}
 use Rattle.value_solver.specs.declared.entry.BlockEntry.{BlockEntry}
 use Rattle.value_solver.specs.Entry.{thing, IsEntry}
 use Rattle.value_proof.specs.Classes.{Classes, AreClasses}
-use Rattle.value_proof.specs.Wanted.{AreThingsOf}
+use Rattle.value_proof.specs.PreferredByClass.{AreThingsOf}
 use Rattle.value_tracker.specs.Things.{AreThings, Settle, settled_at}
 
 -- The live-in values of a reached block define classes of the tracked entities at its start.

@@ -2,5 +2,5 @@ pub mod Things
 pub mod LocationTracker
 pub mod LowestLocation
 pub mod Start
-pub mod PreferredLocation
+pub mod ClassLocation
 pub mod Entering

@@ -5,11 +5,11 @@
 //! value on every path, so a variable's location is looked up by its class.
 #![tactic(auto)]
 
+pub mod class_location;
 pub mod index;
 pub mod laws;
 pub mod location_tracker;
 pub mod lowest_location;
 pub mod pass;
-pub mod preferred_location;
 pub mod row;
 pub mod start;

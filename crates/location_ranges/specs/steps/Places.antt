@@ -2,7 +2,7 @@
 use Rattle.std.specs.Prelude.{◌≡◌, ℕ, ◌<◌, List, length, Option, None, cond, slice_index, slice_index_or}
 use Rattle.rv64_instr.specs.declared.place.Place.{Place}
 use Rattle.value_tracker.specs.LowestLocation.{AreFirsts}
-use Rattle.value_tracker.specs.PreferredLocation.{place_of}
+use Rattle.value_tracker.specs.ClassLocation.{place_of}
 use Rattle.location_ranges.specs.declared.transfer_tracker.TransferTracker.{TransferTracker}
 
 -- the table of first locations is empty

@@ -9,7 +9,7 @@ use Rattle.dwarf_loclists.specs.declared.range.Location.{Location}
 use Rattle.dwarf_loclists.specs.declared.range.Range.{Range}
 use Rattle.dwarf_loclists.specs.Ranges.{ArePlaces, location_in}
 use Rattle.location_of_variable.specs.declared.group.Group.{Group}
-use Rattle.location_of_variable.specs.Wanted.{IsWantedLocation, IsLocationBy}
+use Rattle.location_of_variable.specs.VariableLocation.{IsWantedLocation, IsLocationBy}
 use Rattle.location_ranges.specs.declared.track.Track.{Track}
 use Rattle.location_ranges.specs.Covered.{covered, Turns, IsTrackTo}
 use Rattle.location_ranges.specs.Lists.{HasByte, point_of}

@@ -2,7 +2,7 @@ use Rattle.std.proofs.Common.{◌≡◌, ◌<◌, ◌+◌, ◌++◌, List, lengt
 use Rattle.std.specs.List.{swap}
 use Rattle.std.proofs.lemmas.List.{take-append-drop}
 use Rattle.mir_func.specs.declared.item.Item.{Item}
-use Rattle.pass_salvage.specs.declared.way.SalvageAction.{SalvageAction}
+use Rattle.pass_salvage.specs.declared.salvage_action.SalvageAction.{SalvageAction}
 use Rattle.pass_salvage.specs.Salvage.{above_after, put_for, phi_for}
 use Rattle.copyprop_block.specs.Copied.{salvaged}
 use Rattle.copyprop_block.specs.Next.{Stands}

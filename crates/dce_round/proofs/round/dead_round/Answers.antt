@@ -6,7 +6,7 @@ use Rattle.pass_trait.specs.declared.loss.Loss.{Loss}
 use Rattle.dce_salvage_proof.specs.SalvageLaws.{all_off, function_off}
 use Rattle.dce_round.specs.Round.{IsDeadRound}
 use Rattle.pass_liveness.specs.Liveness.{AreLiveSets}
-use Rattle.dce_salvage_proof.proofs.Chain.{numbers_off}
+use Rattle.dce_salvage_proof.proofs.Chain.{salvage_numbers}
 use Rattle.dce_round.proofs.Live.{still_live}
 use Rattle.dce_round.proofs.Made.{some_dead, none_dead, round_made}
 use Rattle.dce_round.proofs.round.dead_round.Goals as goal
@@ -42,4 +42,4 @@ sweep_dead-requires c =
     let mid_is : c.copies_off.new.f ≡ function_off f subs dead = c.in_ok-lost.ensures.function ∙ ap (function_off f subs) c.as_slice-2.ensures in
     let sound : IsSound f = subst IsSound c.f.view_is c.f.invariant in
     subst (λ (z : Function). AreLiveSets z c.in_ok-live.live) (sym mid_is)
-    (still_live f (function_off f subs dead) c.in_ok-live.live (numbers_off f subs dead sound).same refl c.in_ok-live.ensures)
+    (still_live f (function_off f subs dead) c.in_ok-live.live (salvage_numbers f subs dead sound).same refl c.in_ok-live.ensures)

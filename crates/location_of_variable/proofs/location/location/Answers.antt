@@ -2,7 +2,7 @@ use Rattle.std.proofs.Common.{sym, ◌∙◌, ap, subst}
 use Rattle.std.specs.Prelude.{All}
 use Rattle.mir_func.specs.Parts.{IsPart}
 use Rattle.location_of_variable.specs.declared.group.Piece.{Piece}
-use Rattle.location_of_variable.specs.Wanted.{IsWantedLocation, MayBeListed}
+use Rattle.location_of_variable.specs.VariableLocation.{IsWantedLocation, MayBeListed}
 use Rattle.location_of_variable.specs.steps.Telling.{place_at, pieces_from, in_pieces}
 use Rattle.location_of_variable.proofs.Locating.{whole_wanted, whole_listed, pieces_wanted, pieces_listed}
 use Rattle.location_of_variable.proofs.location.location.Goals as goal

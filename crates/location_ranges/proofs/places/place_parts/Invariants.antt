@@ -1,6 +1,6 @@
 use Rattle.std.proofs.Common.{◌≡◌, ◌<◌, ℕ}
 use Rattle.std.specs.Prelude.{None, cond, slice_index, slice_index_or}
-use Rattle.value_tracker.specs.PreferredLocation.{place_of}
+use Rattle.value_tracker.specs.ClassLocation.{place_of}
 use Rattle.location_ranges.proofs.places.place_parts.Given as goal
 
 abbrev pub invariant-loop-j : goal.invariant-loop-j

@@ -1,8 +1,8 @@
 use Rattle.std.proofs.Common.{drop, suc, sym, ◌∙◌}
 use Rattle.rv64_instr.specs.Row.{row_of}
 use Rattle.rv64_instr.specs.Parts.{is_call}
-use Rattle.pass_salvage.specs.Way.{first_definition}
-use Rattle.pass_salvage.specs.Above.{way_unless}
+use Rattle.pass_salvage.specs.SalvageAction.{first_definition}
+use Rattle.pass_salvage.specs.Above.{action_unless}
 use Rattle.pass_salvage.proofs.Chosen.{chosen_at}
 use Rattle.pass_salvage.proofs.Indexed.{way_is}
 use Rattle.pass_salvage.proofs.lookup.choose_by.Goals as goal
@@ -15,8 +15,8 @@ returns-in-Code c =
     let d = c.args.d in
     let way-is = chosen_at removed subs c.args.fresh c.args.number c.args.source above d c.index-above-d.result _
     c.requires.free c.requires.last c.requires.at c.in-Code.is in
-    c.way_unless.ensures ∙
-    (λ i. way_unless (c.is_barred-barred.ensures c.requires.lookup i) subs c.args.fresh d c.in-Code.n (c.first_definition-operand.ensures i)) ∙
+    c.action_unless.ensures ∙
+    (λ i. action_unless (c.is_barred-barred.ensures c.requires.lookup i) subs c.args.fresh d c.in-Code.n (c.first_definition-operand.ensures i)) ∙
     sym (way_is removed subs c.args.fresh c.args.number d c.in-Code.n
     (first_definition (is_call (row_of c.in-Code.i)) c.args.source c.in-Code.i.operands) (drop (suc d) above)) ∙ sym way-is
 

@@ -1,5 +1,5 @@
 use Rattle.std.proofs.Common.{◌≡◌, Some, sym, ◌∙◌}
-use Rattle.pass_salvage.specs.Way.{last_definition}
+use Rattle.pass_salvage.specs.SalvageAction.{last_definition}
 use Rattle.pass_salvage.proofs.Chosen.{entered_within}
 use Rattle.pass_salvage.proofs.Indexed.{definition_within}
 use Rattle.pass_salvage.proofs.lookup.choose_way.Goals as goal

@@ -1,9 +1,9 @@
 use Rattle.std.proofs.Common.{◌≡◌, ◌<◌, ◌≤◌, ◌++◌, ℕ, List, length, take, drop, append-nil, sym, ap, ◌∙◌, subst, arith}
 use Rattle.std.proofs.lemmas.List.{length-take-le, take-append-drop}
 use Rattle.mir_func.specs.declared.item.Item.{Item}
-use Rattle.pass_salvage.specs.declared.way.SalvageAction.{SalvageAction}
+use Rattle.pass_salvage.specs.declared.salvage_action.SalvageAction.{SalvageAction}
 use Rattle.pass_salvage.specs.Salvage.{above_after, entries_for, fresh_after}
-use Rattle.pass_salvage.specs.Way.{way}
+use Rattle.pass_salvage.specs.SalvageAction.{salvage_action}
 use Rattle.pass_salvage.specs.Lookup.{IsLookupOf}
 use Rattle.pass_salvage.proofs.Chosen.{entered}
 use Rattle.pass_salvage.proofs.salvage.salvage.Goals as goal
@@ -43,7 +43,8 @@ returns-in-HasEntry-clause-fresh c = sym (ap (λ (w : SalvageAction). fresh_afte
 pub returns-in-HasEntry-clause-action : goal.returns-in-HasEntry-clause-action
 returns-in-HasEntry-clause-action c =
     c.choose_way-action.ensures.chosen ∙
-    ap (λ (ys : List Item). way c.args.removed.now c.args.subs.now c.args.fresh.now c.args.number c.args.source (take c.args.at ys)) c.deref.ensures.value
+    ap (λ (ys : List Item). salvage_action c.args.removed.now c.args.subs.now c.args.fresh.now c.args.number c.args.source (take c.args.at ys))
+    c.deref.ensures.value
 
 pub returns-in-GetsPhi-clause-items : goal.returns-in-GetsPhi-clause-items
 returns-in-GetsPhi-clause-items c =
@@ -60,7 +61,8 @@ returns-in-GetsPhi-clause-fresh c = sym (ap (λ (w : SalvageAction). fresh_after
 pub returns-in-GetsPhi-clause-action : goal.returns-in-GetsPhi-clause-action
 returns-in-GetsPhi-clause-action c =
     c.choose_way-action.ensures.chosen ∙
-    ap (λ (ys : List Item). way c.args.removed.now c.args.subs.now c.args.fresh.now c.args.number c.args.source (take c.args.at ys)) c.deref.ensures.value
+    ap (λ (ys : List Item). salvage_action c.args.removed.now c.args.subs.now c.args.fresh.now c.args.number c.args.source (take c.args.at ys))
+    c.deref.ensures.value
 
 pub returns-in_ok-put_entry-in-GetsEntry-clause-items : goal.returns-in_ok-put_entry-in-GetsEntry-clause-items
 returns-in_ok-put_entry-in-GetsEntry-clause-items c = c.in_ok-put_entry-in-GetsEntry.ensures.items
@@ -74,4 +76,5 @@ returns-in_ok-put_entry-in-GetsEntry-clause-fresh c = c.use_fresh.ensures.value
 pub returns-in_ok-put_entry-in-GetsEntry-clause-action : goal.returns-in_ok-put_entry-in-GetsEntry-clause-action
 returns-in_ok-put_entry-in-GetsEntry-clause-action c =
     sym c.in-GetsEntry.is ∙ c.choose_way-action.ensures.chosen ∙
-    ap (λ (ys : List Item). way c.args.removed.now c.args.subs.now c.args.fresh.now c.args.number c.args.source (take c.args.at ys)) c.deref.ensures.value
+    ap (λ (ys : List Item). salvage_action c.args.removed.now c.args.subs.now c.args.fresh.now c.args.number c.args.source (take c.args.at ys))
+    c.deref.ensures.value

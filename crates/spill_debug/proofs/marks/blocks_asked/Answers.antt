@@ -1,7 +1,7 @@
 use Rattle.std.proofs.Common.{◌≡◌, ℕ, suc, List, ◌∷◌, drop, drop-cons, ap, sym, ◌∙◌, arith}
 use Rattle.mir_func.specs.declared.block.Block.{Block}
 use Rattle.spill_code.specs.declared.spilling.SlotAssignment.{SlotAssignment}
-use Rattle.spill_debug.specs.Asked.{number_behind, number_beyond}
+use Rattle.spill_debug.specs.RewrittenDebugItems.{number_behind, number_beyond}
 use Rattle.spill_debug.proofs.Numbers.{beyond_up}
 use Rattle.spill_debug.proofs.marks.blocks_asked.Goals as goal
 

@@ -1,5 +1,5 @@
 use Rattle.std.proofs.Common.{◌≡◌, ◌++◌, drop}
-use Rattle.spill_debug.specs.Asked.{blocks_asked, number_beyond}
+use Rattle.spill_debug.specs.RewrittenDebugItems.{blocks_asked, number_beyond}
 use Rattle.spill_debug.proofs.marks.blocks_asked.Given as goal
 
 abbrev pub invariant-loop-b : goal.invariant-loop-b

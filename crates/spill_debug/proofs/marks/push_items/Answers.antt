@@ -1,7 +1,7 @@
 use Rattle.std.proofs.Common.{◌≡◌, ℕ, suc, List, ◌∷◌, drop, drop-cons, ap, sym, ◌∙◌, arith}
 use Rattle.mir_func.specs.declared.item.Item.{Item}
 use Rattle.spill_code.specs.declared.spilling.SlotAssignment.{SlotAssignment}
-use Rattle.spill_debug.specs.Asked.{next_number, number_behind}
+use Rattle.spill_debug.specs.RewrittenDebugItems.{next_number, number_behind}
 use Rattle.spill_debug.proofs.Numbers.{behind_up}
 use Rattle.spill_debug.proofs.marks.push_items.Goals as goal
 

@@ -1,5 +1,5 @@
 use Rattle.std.proofs.Common.{◌≡◌, ◌++◌, drop}
-use Rattle.spill_debug.specs.Asked.{items_asked, number_behind}
+use Rattle.spill_debug.specs.RewrittenDebugItems.{items_asked, number_behind}
 use Rattle.spill_debug.proofs.marks.push_items.Given as goal
 
 abbrev pub invariant-loop-i : goal.invariant-loop-i

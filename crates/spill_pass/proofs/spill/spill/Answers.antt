@@ -8,7 +8,7 @@ use Rattle.spill_code.specs.declared.spilling.SlotAssignment.{SlotAssignment}
 use Rattle.spill_code.specs.declared.spilling.Spilling.{Spilling}
 use Rattle.spill_code.specs.Rewrite.{spilled_blocks}
 use Rattle.spill_code.specs.Room.{HaveRoom}
-use Rattle.spill_debug.specs.Asked.{number_beyond, blocks_asked}
+use Rattle.spill_debug.specs.RewrittenDebugItems.{number_beyond, blocks_asked}
 use Rattle.spill_debug.specs.Lost.{AreScratchLosses}
 use Rattle.spill_select.specs.Incoming.{is_among}
 use Rattle.spill_rule.specs.Choice.{entry_of}

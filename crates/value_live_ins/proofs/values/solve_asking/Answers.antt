@@ -4,7 +4,7 @@ use Rattle.mir_func.specs.declared.block.Block.{Block}
 use Rattle.mir_func.specs.Function.{FramedFunction}
 use Rattle.mir_func.specs.Graph.{framed_program}
 use Rattle.mir_func.specs.Resolve.{resolve}
-use Rattle.value_proof.specs.Wanted.{AreThingsOf}
+use Rattle.value_proof.specs.PreferredByClass.{AreThingsOf}
 use Rattle.value_solver.specs.declared.tracked.Tracked.{Tracked}
 use Rattle.value_solver.specs.Entry.{thing, IsEntry}
 use Rattle.value_live_ins.specs.steps.Framing.{AreBlocks}

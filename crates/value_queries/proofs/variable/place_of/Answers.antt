@@ -1,7 +1,7 @@
 use Rattle.std.proofs.Common.{arith, refl, sym, ap, ◌∙◌, subst}
 use Rattle.std.specs.Prelude.{Some, None}
 use Rattle.std.proofs.lemmas.Option.{slice_get-get_or, slice_get_within, get_or_from_slice_get}
-use Rattle.location_of_variable.specs.Wanted.{IsWantedPlace}
+use Rattle.location_of_variable.specs.VariableLocation.{IsWantedPlace}
 use Rattle.value_queries.proofs.variable.place_of.Goals as goal
 
 pub returns-in-None : goal.returns-in-None

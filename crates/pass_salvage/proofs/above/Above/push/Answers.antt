@@ -2,7 +2,7 @@ use Rattle.std.proofs.Common.{Some, cond, nat_eq, sym, ◌∙◌}
 use Rattle.std.specs.HashMap.{get}
 use Rattle.rv64_instr.specs.declared.place.Place.TheVariants.{Register}
 use Rattle.pass_trait.specs.Causes.{defines}
-use Rattle.pass_salvage.specs.Way.{asks_for}
+use Rattle.pass_salvage.specs.SalvageAction.{asks_for}
 use Rattle.pass_salvage.proofs.Indexed.{pushed}
 use Rattle.pass_salvage.proofs.above.Above.push.Goals as goal
 

@@ -2,7 +2,7 @@ use Rattle.std.proofs.Common.{ap, ◌∙◌, subst}
 use Rattle.std.specs.List.{list_any}
 use Rattle.mir_func.specs.declared.item.Item.{Item}
 use Rattle.pass_salvage.specs.declared.lookup.Lookup.{Lookup}
-use Rattle.pass_salvage.specs.Way.{asks_for}
+use Rattle.pass_salvage.specs.SalvageAction.{asks_for}
 use Rattle.pass_salvage.specs.Lookup.{IsLookupOf}
 use Rattle.pass_salvage.proofs.Chosen.{all_behind}
 use Rattle.pass_salvage.proofs.lookup.Lookup.asks_behind.Goals as goal

@@ -1,2 +1,0 @@
-pub mod Off
-pub mod Blocks

@@ -1,0 +1,2 @@
+pub mod SalvageNumbers
+pub mod SalvageBlocks

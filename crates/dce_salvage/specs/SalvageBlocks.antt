@@ -1,0 +1,40 @@
+-- The blocks of a function whose dead copies lose their numbers.
+use Rattle.std.specs.Prelude.{ℕ, suc, List, [], ◌∷◌, drop, length, Bool, true, false, slice_index_or}
+use Rattle.mir_func.specs.declared.block.Block.{Block}
+use Rattle.mir_func.specs.declared.debug_substitution.DebugSubstitution.{DebugSubstitution}
+use Rattle.pass_trait.specs.declared.loss.Loss.{Loss}
+use Rattle.dce_salvage.specs.SalvageNumbers.{SoFar, salvage_down}
+
+-- the indices of the dead items, counted from this one on
+abbrev pub going_from : (index : ℕ) → (dead : List Bool) → List ℕ
+going_from n [] = []
+going_from n (true ∷ ds) = n ∷ going_from (suc n) ds
+going_from n (false ∷ ds) = going_from (suc n) ds
+
+-- the state between blocks: the blocks that are done, the substitutions, the next fresh number and the losses so far
+pub record BlocksSoFar : Type 0 where
+  pub blocks : List Block
+  pub subs : List DebugSubstitution
+  pub fresh : ℕ
+  pub lost : List Loss
+
+-- the state at the start of a block, from the state after the later blocks
+abbrev pub in_block : Block → BlocksSoFar → SoFar
+in_block b a = record { items = b.items; subs = a.subs; fresh = a.fresh; lost = a.lost }
+
+-- a block's dead copies lose their numbers
+abbrev pub salvage_block : (dead : List Bool) → Block → BlocksSoFar → SoFar
+salvage_block dead b a = salvage_down (going_from 0 dead) dead (length b.items) (in_block b a)
+
+-- the block is put before the later ones
+abbrev pub with_front : Block → BlocksSoFar → SoFar → BlocksSoFar
+with_front b a e = record { blocks = record b { items = e.items } ∷ a.blocks; subs = e.subs; fresh = e.fresh; lost = e.lost }
+
+-- one more block
+abbrev pub salvage_next : (dead : List Bool) → Block → BlocksSoFar → BlocksSoFar
+salvage_next dead b a = with_front b a (salvage_block dead b a)
+
+-- all blocks, from the last to the first; `dead` has for each block whether each of its items is dead
+abbrev pub salvage_blocks : (dead : List (List Bool)) → List Block → BlocksSoFar → BlocksSoFar
+salvage_blocks dead [] a = a
+salvage_blocks dead (b ∷ bs) a = salvage_next (slice_index_or dead 0 []) b (salvage_blocks (drop 1 dead) bs a)

@@ -1,6 +1,0 @@
-use Rattle.std.proofs.Common.{◌≡◌, take, None}
-use Rattle.pass_salvage.specs.Way.{first_definition}
-use Rattle.pass_salvage.proofs.way.first_in.Given as goal
-
-abbrev pub invariant-loop-o : goal.invariant-loop-o
-invariant-loop-o l = first_definition l.call l.s (take l.o l.operands) ≡ None
