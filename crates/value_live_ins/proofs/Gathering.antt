@@ -17,27 +17,7 @@ use Rattle.rv64_instr.specs.declared.operand.Operand.{Operand}
 use Rattle.rv64_instr.specs.declared.operand.Operand.TheVariants.{Def, Use, ImplicitDef, Imm, Slot as OfSlot, Object, Block as ToBlock, Symbol}
 use Rattle.rv64_instr.specs.declared.place.Place.{Place}
 use Rattle.rv64_instr.specs.declared.place.Place.TheVariants.{Register as AtRegister, Slot as AtSlot, Const}
-use Rattle.rv64_instr.specs.Row.{
-  Row,
-  Fixes,
-  Moves,
-  Sets,
-  Addresses,
-  Loads,
-  Stores,
-  LoadsSlot,
-  StoresSlot,
-  Branches,
-  Jumps,
-  Calls,
-  Returns,
-  Unfit,
-  row_of,
-  row_by,
-  immediate_row,
-  object_row,
-  move_row,
-}
+use Rattle.rv64_instr.specs.Row.{Row, Fixes, Moves, LoadsSlot, StoresSlot, row_of, row_by, immediate_row, object_row, move_row}
 use Rattle.mir_func.specs.declared.debug_substitution.OperandPair.{OperandPair}
 use Rattle.mir_func.specs.declared.item.ItemKind.{ItemKind}
 use Rattle.mir_func.specs.declared.item.ItemKind.TheVariants.{Code, Mark, Phi}

@@ -24,12 +24,6 @@ use Rattle.value_live_ins.proofs.Gathering.{stands_at}
 
 -- ---- what is appended
 
-pub only_none : (P : Tracked → Type 0) (xs : List Tracked) → AppendsOnly P xs xs
-only_none P xs x h = inl h
-
-pub only_empty : (P : Tracked → Type 0) (xs : List Tracked) → xs ≡ [] → AppendsOnly P [] xs
-only_empty P xs e x h = inl (subst (λ (z : List Tracked). Contains z x) e h)
-
 pub only_added : (old new : List Tracked) (x : Tracked) (b : Bool) → Added old new x b → AppendsOnly (λ y. y ≡ x) old new
 only_added old new x true e y h = elim (Contains-push_cases old x y (subst (λ (z : List Tracked). Contains z y) e h)) [ inl k ↦ inl k | inr k ↦ inr (sym k) ]
 only_added old new x false e y h = inl (subst (λ (z : List Tracked). Contains z y) e.0 h)
@@ -60,8 +54,10 @@ module _ (ends : OperandPair → Option OperandPair) (old new : List Tracked) wh
   pub only_part : (v : VarId) (m : MarkValue) (b : Bool) → Added old new (Part v) b → AppendsOnly (Names ends (Mark v m)) old new
   only_part v m b e = only_is (Names ends (Mark v m)) (Part v) assigned old new (only_added old new (Part v) b e)
 
-  pub only_constant : (v : VarId) (c : ℤ) → AppendsOnly (λ x. x ≡ Number (word c)) old new → AppendsOnly (Names ends (Mark v (Constant c))) old new
-  only_constant v c a = only_is (Names ends (Mark v (Constant c))) (Number (word c)) constant old new a
+  pub only_constant : (v : VarId) (c : ℤ) (n : ℕ) → n ≡ word c → AppendsOnly (λ x. x ≡ Number n) old new →
+      AppendsOnly (Names ends (Mark v (Constant c))) old new
+  only_constant v c n e =
+      only_is (Names ends (Mark v (Constant c))) (Number n) (subst (λ (k : ℕ). Names ends (Mark v (Constant c)) (Number k)) (sym e) constant) old new
 
   pub only_resolved : (v : VarId) (q end : OperandPair) → ends q ≡ Some end → AppendsOnly (λ x. x ≡ Pair end) old new →
       AppendsOnly (Names ends (Mark v (OfPair q))) old new
@@ -70,8 +66,9 @@ module _ (ends : OperandPair → Option OperandPair) (old new : List Tracked) wh
   pub only_read : (n k : ℕ) → AppendsOnly (λ x. x ≡ Slot n) old new → AppendsOnly (Names ends (Phi (Some (AtSlot n)) k)) old new
   only_read n k a = only_is (Names ends (Phi (Some (AtSlot n)) k)) (Slot n) read old new a
 
-  pub only_read_constant : (c : ℤ) (k : ℕ) → AppendsOnly (λ x. x ≡ Number (word c)) old new → AppendsOnly (Names ends (Phi (Some (Const c)) k)) old new
-  only_read_constant c k a = only_is (Names ends (Phi (Some (Const c)) k)) (Number (word c)) read_constant old new a
+  pub only_read_constant : (c : ℤ) (k n : ℕ) → n ≡ word c → AppendsOnly (λ x. x ≡ Number n) old new → AppendsOnly (Names ends (Phi (Some (Const c)) k)) old new
+  only_read_constant c k n e =
+      only_is (Names ends (Phi (Some (Const c)) k)) (Number n) (subst (λ (m : ℕ). Names ends (Phi (Some (Const c)) k) (Number m)) (sym e) read_constant) old new
 
 pub only_register : (r : ℕ) (old new : List Tracked) → AppendsOnly (λ x. x ≡ Register r) old new → AppendsOnly IsRegister old new
 only_register r old new a = only_weaker (λ x. x ≡ Register r) IsRegister (λ x same. (r, same)) old new a
