@@ -102,7 +102,10 @@ def sentence(name):
             break
         lines.append(line[3:].strip())
     words = " ".join(lines).split("  ")[0]
-    first = re.split(r"(?<=[.:])\s+(?=[A-Z`])", words + " ")[0].strip().rstrip(".:")
+    ends = [it.start() for it in re.finditer(r"(?<=[.:])\s+(?=[A-Z`])", words)]
+    # not within brackets
+    end = next((it for it in ends if words.count("(", 0, it) == words.count(")", 0, it)), len(words))
+    first = words[:end].strip().rstrip(".:")
     return re.sub(r"[:,] (?:a law|laws|the laws of reading), (?:each )?the contract of a function that does nothing$", "", first)
 
 
