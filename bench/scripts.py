@@ -3,7 +3,7 @@
 
   bench/scripts.py [PROGRAM]
 
-PROGRAM is the built program where it isn't crates/mirdwarf/out/mirdwarf. Debian's packages: llvm, gdb-multiarch, qemu-user. The last line is
+PROGRAM is the built program where it isn't crates/mirdwarf/out/mirdwarf. Debian's packages: llvm-19 (or llvm), gdb-multiarch, qemu-user. The last line is
 'N passed, M failed'."""
 import os
 import re

@@ -16,7 +16,7 @@ The sections go into an ELF file for 64-bit RISC-V as they are; beside them come
 a function of OUTPUT is called, the two words of the call get its distance, as a linker does it. Then llvm-dwarfdump verifies the sections, and gdb
 steps through the function on qemu's processor, line by line, and prints its variables: `-` is one without a place, `*` stands behind each that
 differs from the stop before. The last line says the result if the function returned, else where it stopped and why.
-Debian's packages: llvm, gdb-multiarch, qemu-user.
+Debian's packages: llvm-19 (or llvm), gdb-multiarch, qemu-user.
 """
 import json
 import os
@@ -37,7 +37,7 @@ START, MEMORY = 0x100000, 0x200000
 # How many words gdb steps over at most, and how many seconds it takes at most.
 STEPS, SECONDS = 2000, 120
 
-TOOLS = {"llvm-dwarfdump": "llvm", "gdb-multiarch": "gdb-multiarch", "qemu-riscv64": "qemu-user"}
+TOOLS = {"gdb-multiarch": "gdb-multiarch", "qemu-riscv64": "qemu-user"}
 
 
 def output_of(text):
@@ -397,6 +397,7 @@ def main():
     for tool, package in TOOLS.items():
         if not shutil.which(tool):
             sys.exit(f"{tool} is missing: Debian's package {package} has it")
+    dwarfdump = dwarf.dwarfdump()
     with open(words[0], encoding="utf-8", errors="replace") as it:
         try:
             sections, functions, calls = output_of(it.read())
@@ -424,7 +425,7 @@ def main():
         os.chmod(file, 0o755)
         if not has_debug_information(file):
             sys.exit(f"{words[0]}: no function has debug information: compile the C file with clang -g")
-        verified = subprocess.run(["llvm-dwarfdump", "--verify", file], capture_output=True, text=True)
+        verified = subprocess.run([dwarfdump, "--verify", file], capture_output=True, text=True)
         print(f"llvm-dwarfdump --verify: {(verified.stdout.strip() or verified.stderr.strip()).splitlines()[-1]}")
         script = os.path.join(room, "show.py")
         asked = {"low": low, "high": high, "back": back, "steps": STEPS, "calls": [at for at, _ in calls], "absent": others, "answers": given["answers"],

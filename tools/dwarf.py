@@ -1,4 +1,4 @@
-"""What llvm-dwarfdump (Debian's package llvm) says of an object: its functions, their variables with the ranges in which each has a place, and lines."""
+"""What llvm-dwarfdump (Debian's packages llvm, llvm-19) says of an object: its functions, their variables with the ranges in which each has a place, and lines."""
 import os
 import re
 import shutil
@@ -64,11 +64,16 @@ def writable(option, path):
         sys.exit(f"{option} names {path}, which can't be written")
 
 
-def dumped(what, path):
+def dwarfdump():
+    """The program llvm-dwarfdump, or the script's end where it isn't there."""
     program = shutil.which("llvm-dwarfdump") or shutil.which("llvm-dwarfdump-19")
     if not program:
-        sys.exit("llvm-dwarfdump is missing: Debian's package llvm has it")
-    ran = subprocess.run([program, what, path], capture_output=True, text=True)
+        sys.exit("llvm-dwarfdump is missing: Debian's packages llvm and llvm-19 have it")
+    return program
+
+
+def dumped(what, path):
+    ran = subprocess.run([dwarfdump(), what, path], capture_output=True, text=True)
     if ran.returncode:
         sys.exit(f"llvm-dwarfdump: {ran.stderr.strip()}")
     return ran.stdout

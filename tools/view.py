@@ -12,7 +12,7 @@
     --plain            text without colours
 
 A row is a source line, a column a variable. Of the machine words of the line, the variable can be found at all of them (a full block), at some
-(how many of how many), or at none (a dot); by the location lists alone, whatever is said of their truth. Debian's package: llvm."""
+(how many of how many), or at none (a dot); by the location lists alone, whatever is said of their truth. Debian's package: llvm-19 (or llvm)."""
 import html
 import os
 import re
