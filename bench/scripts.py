@@ -189,7 +189,11 @@ def wrapper(room):
     with open(file, "w", encoding="utf-8") as it:
         it.write(BODY % ("stack:\n  - { id: 0, size: 2033 }\n", ""))
     status, _, told = run("./mirdwarf", "listing", file)
-    check("a large frame", status == 1 and "FrameTooLarge, in function f\n" in told, told)
+    check("a large frame", status == 1 and "FrameTooLarge, in function f\n" in told and "Of the file's 2 functions 1 can be read.\n" in told, told)
+    with open(file, "w", encoding="utf-8") as it:
+        it.write(BODY % ("", "    UNIMP\n") + BODY.split("...\n", 1)[1].replace("name: f", "name: g") % ("", "    $x10 = MUL $x10, $x11\n"))
+    status, _, told = run("./mirdwarf", "listing", file)
+    check("two refused functions", status == 1 and "Of the file's 4 functions 2 can be read; refused besides: g (line 26: UnknownOpcode).\n" in told, told)
     with open(file, "w", encoding="utf-8") as it:
         it.write(BODY % ("fixedStack:\n  - { id: 0, type: default, offset: 0, size: 8 }\n", ""))
     status, _, told = run("./mirdwarf", "listing", file)
