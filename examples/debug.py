@@ -10,7 +10,8 @@ address of what the Nth --bytes or --longs puts into memory.
   --longs N,N,..     these numbers, eight bytes each
   --answers N,N,..   what calls of functions give that OUTPUT doesn't have, one each
   --source FILE.c    where the C source is; else it is looked for beside OUTPUT, here and beside this script
-  --elf FILE         keeps the ELF file
+  --elf FILE         keeps the ELF file, for other tools, and for gdb by hand: `qemu-riscv64 -g 1234 FILE &`, then
+                     `gdb-multiarch -ex 'set trust-readonly-sections on' -ex 'target remote :1234' FILE`
 
 The sections go into an ELF file for 64-bit RISC-V as they are; beside them comes a start that calls the function and ends with its result. Where
 a function of OUTPUT is called, the two words of the call get its distance, as a linker does it. Then llvm-dwarfdump verifies the sections, and gdb
