@@ -27,7 +27,7 @@ WIDE = 80
 WORD = re.compile(r"[A-Za-z_][\w']*")
 # Words in backquotes that no code of this repository has: of LLVM, of debuggers, of the toolchain's commands and files.
 OTHERS = set("""ADDI LD SD LUI COPY FENCE PseudoTAIL DBG_VALUE DBG_INSTR_REF DBG_PHI alloca switch clang llc rt gdb qemu python3 binutils valgrind
-backtrace virtregrewriter gen echo __muldi3 DW_AT_type MachineFunction MachineBasicBlock MachineInstr DebugVariable InstrRefBasedLDV up void""".split())
+backtrace virtregrewriter gen echo __muldi3 DW_AT_type MachineFunction MachineBasicBlock MachineInstr DebugVariable InstrRefBasedLDV ValueIDNum up void""".split())
 
 
 def sources():
