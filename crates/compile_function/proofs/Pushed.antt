@@ -1,11 +1,12 @@
 -- A function that is compiled behind others, in an output's words: its layout is that of its machine code.
-use Rattle.std.proofs.Common.{◌≡◌, ℕ, ◌<◌, ◌≤◌, List, [], ◌∷◌, ◌++◌, length, sym, ap, ◌∙◌, subst, arith}
+use Rattle.std.proofs.Common.{◌≡◌, ℕ, ◌+◌, ◌<◌, ◌≤◌, List, [], ◌∷◌, ◌++◌, length, refl, sym, ap, ◌∙◌, subst, arith}
 use Rattle.std.specs.List.{flat_map}
 use Rattle.std.specs.Int.{w32, to_le_bytes}
 use Rattle.emit_code.specs.Counts.{MAX_WORDS, MAX_BASE, count_of}
 use Rattle.emit_code.specs.declared.code.EncodedInstruction.{EncodedInstruction}
 use Rattle.emit_code.specs.Rule.{Layout, entries_of}
 use Rattle.listing_text.specs.declared.output.ListedFunction.{ListedFunction}
+use Rattle.pass_trait.specs.declared.loss.Loss.{Loss}
 use Rattle.frame_rule.specs.Rule.{framed_of}
 use Rattle.compile_function.specs.declared.compile.CompiledFunction.{CompiledFunction}
 use Rattle.listing_function.specs.Laid.{IsLaid}
@@ -31,18 +32,26 @@ use Rattle.location_ranges.specs.Lists.{AreListsOf}
 use Rattle.dwarf_unit.specs.Variables.{variables_of_function}
 
 -- it has as many variables as its source has items or fewer
-pub few_variables : (meta : Maps) (q : Parsed) (p : PassedFunction) (base : ℕ) (c : CompiledFunction) → p.source ≡ source_of q → IsReadFunction meta q.func →
-    IsOneCompiled p base c → length c.variables ≤ MAX_ITEMS
-few_variables meta q p base c of read one =
+pub few_variables : (meta : Maps) (q : Parsed) (p : PassedFunction) (losses : List Loss) (base : ℕ) (c : CompiledFunction) → p.source ≡ source_of q →
+    IsReadFunction meta q.func → IsOneCompiled p losses base c → length c.variables ≤ MAX_ITEMS
+few_variables meta q p losses base c of read one =
     let is : length c.variables ≡ length (variables_of_function q.func.blocks) =
     ap length one.variables ∙ ap (λ (s : SourceFunction). length (variables_of_function s.function.blocks)) of in
     let few = variables_few q.func.blocks in
     let items = read.few_items in
     omega (arith, is, few, items)
 
-module _ (meta : Maps) (q : Parsed) (p : PassedFunction) (m : EmittedFunctions) (c : CompiledFunction) (of : p.source ≡ source_of q)
+-- and as many lists as variables
+pub few_lists : (meta : Maps) (q : Parsed) (p : PassedFunction) (losses : List Loss) (base : ℕ) (c : CompiledFunction) → p.source ≡ source_of q →
+    IsReadFunction meta q.func → IsOneCompiled p losses base c → length c.lists ≤ MAX_ITEMS
+few_lists meta q p losses base c of read one =
+    let same = one.lists.for_all in
+    let below = few_variables meta q p losses base c of read one in
+    omega (arith, same, below)
+
+module _ (meta : Maps) (q : Parsed) (p : PassedFunction) (losses : List Loss) (m : EmittedFunctions) (c : CompiledFunction) (of : p.source ≡ source_of q)
     (read : IsReadFunction meta q.func)
-    (one : IsOneCompiled p (length m.text) c) (low : length m.text < MAX_BASE) where
+    (one : IsOneCompiled p losses (length m.text) c) (low : length m.text < MAX_BASE) where
   abbrev vs : List VarId
   vs = variables_of_function p.source.function.blocks
 
@@ -80,17 +89,15 @@ module _ (meta : Maps) (q : Parsed) (p : PassedFunction) (m : EmittedFunctions) 
 
   pub pushed : (listed : ListedFunction) (after : EmittedFunctions) →
       length c.code.words < MAX_WORDS →
-      (first : ℕ) → first ≡ length m.lists →
-      ((l : Layout) → IsLaid l c.code → listed ≡ listing_of l (variables_listed meta first c.variables) p.substitutions) →
+      ((l : Layout) → IsLaid l c.code → listed ≡ listing_of l (variables_listed meta m.list_count c.variables) p.substitutions) →
       after.text ≡ m.text ++ flat_map (to_le_bytes w32) c.code.words →
-      after.lists ≡ m.lists ++ c.lists →
-      after.functions ≡ m.functions ++ listed ∷ [] →
-      after.codes ≡ m.codes ++ c.code ∷ [] →
-      IsPushed meta p m after
-  pushed listed after few first is_first listed_is text_is lists_are functions_are codes_are =
-      let told : variables_listed meta first c.variables ≡ variable_lines (names_of meta) (length m.lists) vs =
-      ap (λ (k : ℕ). variables_listed meta k c.variables) is_first
-      ∙ lines_same meta (length m.lists) c.variables ∙ ap (variable_lines (names_of meta) (length m.lists)) one.variables in
+      after.list_count ≡ m.list_count + length c.lists →
+      after.listings ≡ m.listings ++ listed ∷ [] →
+      after.functions ≡ m.functions ++ c ∷ [] →
+      IsPushed meta p losses m after
+  pushed listed after few listed_is text_is count_is listings_are functions_are =
+      let told : variables_listed meta m.list_count c.variables ≡ variable_lines (names_of meta) m.list_count vs =
+      lines_same meta m.list_count c.variables ∙ ap (variable_lines (names_of meta) m.list_count) one.variables in
       record {
         listed = listed;
         compiled = record {
@@ -100,17 +107,20 @@ module _ (meta : Maps) (q : Parsed) (p : PassedFunction) (m : EmittedFunctions) 
           lists = c.lists;
           located = are_located;
         };
-        code = c.code;
-        coded = one.code;
+        made = c;
+        code = one.code;
         words = one.code.words;
         few_words = few;
-        few_lists = let same = one.lists.for_all in let below = few_variables meta q p (length m.text) c of read one in omega (arith, same, below);
+        variables = one.variables;
+        lists = refl;
+        few_lists = few_lists meta q p losses (length m.text) c of read one;
         writable = record {
           ascend = one.ascend;
           places = places (framed_program (framed_of p.function).blocks (resolve p.substitutions)) c.code.entries c.variables c.lists one.lists;
         };
-        text = text_is ∙ ap (λ (ws : List ℕ). m.text ++ flat_map (to_le_bytes w32) ws) one.code.words;
-        lists = lists_are;
+        losses = one.losses;
+        text = text_is;
+        list_count = count_is;
+        listings = listings_are;
         functions = functions_are;
-        codes = codes_are;
       }

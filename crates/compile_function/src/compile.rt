@@ -14,12 +14,14 @@ ghost use Rattle.location_ranges.specs.Lists.{AreListsOf};
 ghost use Rattle.dwarf_unit.specs.Variables.{variables_of_function};
 
 use crate::location_lists::location_lists;
+use base_list::List;
 use dwarf_loclists::range::RangeLists;
 use dwarf_unit::variables::{VarIds, variables};
 use emit_code::code::Code;
 use emit_function::code::{CodeError, code_of};
 use mir_func::func::Func;
 use mir_substitution::substitutions::Substitutions;
+use pass_trait::loss::Losses;
 use std::alloc::Global;
 
 /// A compiled function.
@@ -31,15 +33,22 @@ pub struct CompiledFunction {
     pub variables: VarIds,
     /// A location list for each of them, in their order.
     pub lists: RangeLists,
+    /// What passes lost of it.
+    pub losses: Losses,
 }
 
+/// Compiled functions, in their order.
+pub type CompiledFunctions = List<CompiledFunction>;
+
 /// Compiles a function from an address on, a multiple of 4, with a location list for each variable of its source: the
-/// function as it was before passes, or the function itself. It has the errors of `code_of`.
+/// function as it was before passes, or the function itself. `losses` is what these passes lost. It has the errors of
+/// `code_of`.
 pub fn compile_function(
     alloc: Global,
     source: &Func,
     f: &Func,
     subs: &Substitutions,
+    losses: Losses,
     base: u64,
 ) -> Result<CompiledFunction, CodeError>
     requires aligned { base % 4 ≡ 0 }
@@ -51,6 +60,7 @@ pub fn compile_function(
     ensures lists { IfOk result (λ c.
         AreListsOf (framed_program (framed_of f.now).blocks (resolve subs.now)) (block_start 0) c.code.entries
         c.variables c.lists) }
+    ensures losses { IfOk result (λ c. c.losses ≡ losses) }
     ensures ascend { IfOk result (λ c. All Ascend c.lists) }
     ensures not_physical { IsErrOf result CodeError.Virtual → AllItems (λ i. HasPhysical i.kind) f.now.blocks → ⊥ }
     ensures too_large { IsErrOf result CodeError.FrameTooLarge → MAX_FRAME < size_of f.now }
@@ -63,5 +73,6 @@ pub fn compile_function(
         code,
         variables,
         lists,
+        losses,
     })
 }

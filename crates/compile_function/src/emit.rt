@@ -6,7 +6,6 @@ ghost use Rattle.std.specs.Int.{w32, to_le_bytes};
 ghost use Rattle.emit_code.specs.Counts.{MAX_WORDS, MAX_BASE};
 ghost use Rattle.emit_code.specs.Rule.{Layout};
 ghost use Rattle.frame_rule.specs.Rule.{size_of};
-ghost use Rattle.compile_function.specs.declared.emit.EmitError.TheVariants.{Memory};
 ghost use Rattle.compile_function.specs.Emitted.{IsOneCompiled, IsPushed};
 ghost use Rattle.listing_function.specs.Laid.{IsLaid};
 ghost use Rattle.listing_function.specs.Variables.{variables_listed};
@@ -18,57 +17,34 @@ ghost use Rattle.mir_func.specs.SoundFrame.{HasPhysical};
 ghost use Rattle.read_proof.specs.Read.{IsReadFunction};
 ghost use Rattle.listing_meaning.specs.Listing.{listing_of};
 
-use crate::compile::{CompiledFunction, compile_function};
+use crate::compile::{CompiledFunction, CompiledFunctions, compile_function};
+use crate::error::CompileError;
 use base_list::List;
-use dwarf_loclists::range::RangeLists;
-use emit_code::code::Code;
 use emit_function::code::CodeError;
 use listing_function::listing::listing;
 use listing_function::variables::variable_lines;
 use listing_text::output::{Bytes, ListedFunction, ListedFunctions};
 use mir_func::func::Func;
 use mir_substitution::substitutions::Substitutions;
+use pass_trait::loss::Losses;
 use read_metadata::metadata::Metadata;
 use read_program::closing::Parsed;
 use std::alloc::{AllocError, Global};
-use thiserror::Error;
-
-/// Machine code of functions, in their order.
-pub type Codes = List<Code>;
 
 /// The compiled functions of a program so far.
 #[derive(Drop)]
 pub struct EmittedFunctions {
     /// The bytes of their words.
     pub text: Bytes,
-    /// Their location lists.
-    pub lists: RangeLists,
+    /// The number of their location lists.
+    pub list_count: u32,
     /// Their listings.
-    pub functions: ListedFunctions,
-    /// Their machine code.
-    pub codes: Codes,
+    pub listings: ListedFunctions,
+    /// What is made of each.
+    pub functions: CompiledFunctions,
 }
 
-/// Why a function can't be compiled.
-#[derive(Clone, Copy, Debug, PartialEq, Eq, Error)]
-pub enum EmitError {
-    /// Its frame would have more than 2,032 bytes.
-    #[error("the frame is too large")]
-    FrameTooLarge,
-    /// Memory ran out.
-    #[error("out of memory")]
-    Memory,
-}
-
-impl From<AllocError> for EmitError {
-    ghost from_gives = { λ _ e. e ≡ Memory };
-
-    fn from(_: AllocError) -> EmitError {
-        EmitError::Memory
-    }
-}
-
-/// Compiles a function that passes made of a source, and appends it to the functions before it.
+/// Compiles a function that passes made of a source, with these losses, and appends it to the functions before it.
 pub fn push_function(
     alloc: Global,
     made: &mut EmittedFunctions,
@@ -76,22 +52,23 @@ pub fn push_function(
     source: &Parsed,
     function: &Func,
     subs: &Substitutions,
-) -> Result<(), EmitError>
+    losses: Losses,
+) -> Result<(), CompileError>
     requires aligned { length made.old.text % 4 ≡ 0 }
     requires room { length made.old.text + 4 * MAX_WORDS < MAX_BASE }
-    requires numbers { length made.old.lists + MAX_ITEMS < 2 ^ 32 }
+    requires numbers { made.old.list_count + MAX_ITEMS < 2 ^ 32 }
     requires read { IsReadFunction meta.now source.now.func }
     requires sound { IsSound function.now }
     requires few { length (items_of function.now.blocks) ≤ MAX_PASSED }
     requires physical { AllItems (λ i. HasPhysical i.kind) function.now.blocks }
     ensures pushed { OnOk result
-        (IsPushed meta.now (passed_of source.now function.now subs.now) made.old made.new) }
-    ensures too_large { IsErrOf result EmitError.FrameTooLarge → MAX_FRAME < size_of function.now }
+        (IsPushed meta.now (passed_of source.now function.now subs.now) losses made.old made.new) }
+    ensures too_large { IsErrOf result CompileError.FrameTooLarge → MAX_FRAME < size_of function.now }
+    ensures no_section { IsErrOf result CompileError.SectionTooLarge → ⊥ }
 {
     let base = made.text.len() as u64;
-    let first = made.lists.len() as u32;
-    let compiled = compiled(alloc, source, function, subs, base)?;
-    let listed = listed(alloc, meta, first, subs, &compiled)?;
+    let compiled = compiled(alloc, source, function, subs, losses, base)?;
+    let listed = listed(alloc, meta, made.list_count, subs, &compiled)?;
     push_compiled(made, compiled, listed)?;
     Ok(())
 }
@@ -120,42 +97,41 @@ fn push_compiled(
     compiled: CompiledFunction,
     listed: ListedFunction,
 ) -> Result<(), AllocError>
+    requires { made.old.list_count + length compiled.lists < 2 ^ 32 }
     ensures text { OnOk result (made.new.text ≡ made.old.text ++ flat_map (to_le_bytes w32) compiled.code.words) }
-    ensures lists { OnOk result (made.new.lists ≡ made.old.lists ++ compiled.lists) }
-    ensures functions { OnOk result (made.new.functions ≡ made.old.functions ++ listed ∷ []) }
-    ensures codes { OnOk result (made.new.codes ≡ made.old.codes ++ compiled.code ∷ []) }
+    ensures list_count { OnOk result (made.new.list_count ≡ made.old.list_count + length compiled.lists) }
+    ensures listings { OnOk result (made.new.listings ≡ made.old.listings ++ listed ∷ []) }
+    ensures functions { OnOk result (made.new.functions ≡ made.old.functions ++ compiled ∷ []) }
 {
-    let CompiledFunction {
-        code,
-        variables: _,
-        lists,
-    } = compiled;
-    push_words(&mut made.text, code.words.as_slice())?;
-    push_lists(&mut made.lists, lists)?;
-    made.functions.push(listed)?;
-    made.codes.push(code)
+    push_words(&mut made.text, compiled.code.words.as_slice())?;
+    made.list_count += compiled.lists.len() as u32;
+    made.listings.push(listed)?;
+    made.functions.push(compiled)
 }
 
-/// A function that passes made of a source, compiled from an address on, with location lists of the source's variables.
+/// A function that passes made of a source, with these losses, compiled from an address on, with location lists of the
+/// source's variables.
 fn compiled(
     alloc: Global,
     source: &Parsed,
     function: &Func,
     subs: &Substitutions,
+    losses: Losses,
     base: u64,
-) -> Result<CompiledFunction, EmitError>
+) -> Result<CompiledFunction, CompileError>
     requires aligned { base % 4 ≡ 0 }
     requires low { base < MAX_BASE }
     requires sound { IsSound function.now }
     requires few { length (items_of function.now.blocks) ≤ MAX_PASSED }
     requires physical { AllItems (λ i. HasPhysical i.kind) function.now.blocks }
-    ensures compiled { IfOk result (IsOneCompiled (passed_of source.now function.now subs.now) base) }
-    ensures too_large { IsErrOf result EmitError.FrameTooLarge → MAX_FRAME < size_of function.now }
+    ensures compiled { IfOk result (IsOneCompiled (passed_of source.now function.now subs.now) losses base) }
+    ensures too_large { IsErrOf result CompileError.FrameTooLarge → MAX_FRAME < size_of function.now }
+    ensures no_section { IsErrOf result CompileError.SectionTooLarge → ⊥ }
 {
-    match compile_function(alloc, &source.func, function, subs, base) {
+    match compile_function(alloc, &source.func, function, subs, losses, base) {
         Ok(compiled) => Ok(compiled),
-        Err(CodeError::FrameTooLarge) => Err(EmitError::FrameTooLarge),
-        Err(CodeError::Memory) => Err(EmitError::Memory),
+        Err(CodeError::FrameTooLarge) => Err(CompileError::FrameTooLarge),
+        Err(CodeError::Memory) => Err(CompileError::Memory),
         // Its registers are physical.
         Err(CodeError::Virtual) => unreachable!(),
         // Its items are few.
@@ -169,16 +145,6 @@ fn push_words(text: &mut Bytes, words: &[u32]) -> Result<(), AllocError>
 {
     for word in words {
         text.extend_from_slice(&word.to_le_bytes())?;
-    }
-    Ok(())
-}
-
-/// Appends location lists.
-fn push_lists(lists: &mut RangeLists, more: RangeLists) -> Result<(), AllocError>
-    ensures { OnOk result (lists.new ≡ lists.old ++ more) }
-{
-    for ranges in more.into_vec() {
-        lists.push(ranges)?;
     }
     Ok(())
 }

@@ -4,11 +4,15 @@
 //!   values of its blocks over all paths, and writes where each variable is at each address in one walk over its code.
 //!
 //! - `emit`: Compiles a function after others: its machine code from the end of theirs, the location lists of its
-//!   source's variables, and its listing.
+//!   source's variables, and its listing. `lists`: The location lists of all of them.
+//!
+//! - `error`: Why functions have no output.
 #![tactic(auto)]
 
 pub mod compile;
 pub mod emit;
+pub mod error;
+pub mod lists;
 pub mod location_lists;
 
 pub use compile_passes::passed as passed;

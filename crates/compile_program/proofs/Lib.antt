@@ -1,3 +1,4 @@
 pub mod Listed
 pub mod Behind
+pub mod Compiled
 pub mod Passed

@@ -1,13 +1,21 @@
 -- Functions that passes made, and their sources.
-use Rattle.std.proofs.Common.{◌≡◌, ◌∙◌, ℕ, zero, suc, List, [], ◌∷◌, map, All, Some, refl, ap, sym, subst}
+use Rattle.std.proofs.Common.{◌≡◌, ◌∙◌, ℕ, zero, suc, ◌<◌, List, [], ◌∷◌, map, All, Some, refl, ap, sym, subst}
 use Rattle.std.specs.Prelude.{slice_get}
 use Rattle.std.proofs.lemmas.List.Elements.{All-nil, All-cons}
 use Rattle.emit_code.specs.Laid.{LaidCode}
-use Rattle.compile_function.specs.Passed.{source_of, IsCompilable}
+use Rattle.pass_trait.specs.declared.loss.Loss.{Loss}
+use Rattle.frame_rule.specs.Rule.{size_of}
+use Rattle.mir_func.specs.declared.debug_substitution.DebugSubstitution.{DebugSubstitution}
+use Rattle.mir_func.specs.Function.{Function}
+use Rattle.mir_func.specs.Limits.{MAX_FRAME}
+use Rattle.pass_list.specs.declared.kind.PassKind.{PassKind}
+use Rattle.compile_function.proofs.AfterPasses.{made_by}
+use Rattle.compile_function.specs.Passed.{source_of, passed_of, steps_of, IsCompilable, IsMadeLosing}
 use Rattle.read_metadata.specs.Maps.{Maps}
 use Rattle.read_program.specs.declared.closing.Parsed.{Parsed}
 use Rattle.compile_theorem.specs.Source.{SourceFunction, PassedFunction, IsPassedFunction, sources_among}
 use Rattle.compile_program.specs.Program.{sources_of, ArePassed, AreCoded, HaveCode}
+use Rattle.compile_program.specs.steps.Made.{IsTooLarge}
 use Rattle.dwarf_line_table.specs.declared.compiled.Compiled.{Compiled}
 
 -- ---- the sources of what passes made
@@ -30,6 +38,12 @@ passed_functions meta (f ∷ fs) (p ∷ ps) are =
     let here : f.func ≡ p.source.function = ap (λ (s : SourceFunction). s.function) (sym are.0) in
     let rest = passed_functions meta fs ps are.2 in
     λ i. here i ∷ rest i
+
+-- a function that passes made has a frame above the limit
+pub made_too_large : (reserve : List ℕ) (passes : List PassKind) (q : Parsed) (f : Function) (subs : List DebugSubstitution) (losses : List Loss) →
+    IsMadeLosing reserve passes (passed_of q f subs) losses → MAX_FRAME < size_of f → IsTooLarge (steps_of reserve passes) q
+made_too_large reserve passes q f subs losses by large =
+    record { passed = passed_of q f subs; source = refl; made = made_by reserve passes (passed_of q f subs) losses by; large = large }
 
 -- functions that were read, with the machine code of what passes made of them
 pub have_code : (meta : Maps) (fs : List Parsed) (ps : List PassedFunction) (cs : List Compiled) (codes : List LaidCode) → ArePassed meta fs ps →

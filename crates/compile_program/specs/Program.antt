@@ -1,6 +1,7 @@
 -- The output of compiling a program.
 use Rattle.std.specs.Prelude.{◌≡◌, ℕ, ◌+◌, ◌*◌, ◌<◌, ◌≤◌, ◌⊎◌, List, [], ◌∷◌, length, map, All, Contains}
 use Rattle.emit_code.specs.Laid.{LaidCode, IsCodeOf}
+use Rattle.emit_code.specs.Rule.{words_of}
 use Rattle.listing_text.specs.declared.output.ListedFunction.{ListedFunction}
 use Rattle.listing_text.specs.declared.output.Output.{Output}
 use Rattle.dwarf_base.specs.Limits.{SECTION_LIMIT}
@@ -10,23 +11,24 @@ use Rattle.dwarf_line.specs.Spelling.{spelling as rows_spelling}
 use Rattle.dwarf_loclists.specs.declared.range.Range.{Range}
 use Rattle.dwarf_loclists.specs.Grammar.{IsSection}
 use Rattle.dwarf_loclists.specs.Spelling.{spelling as lists_spelling}
-use Rattle.pass_trait.specs.declared.loss.Loss.{Loss}
 use Rattle.pass_trait.specs.Steps.{PassStep}
 use Rattle.frame_rule.specs.Rule.{size_of, framed_of}
-pub use Rattle.compile_function.specs.Emitted.{names_of, AreWritable}
+pub use Rattle.compile_function.specs.Emitted.{names_of, text_of, lists_of, AreWritable}
+use Rattle.compile_function.specs.declared.compile.CompiledFunction.{CompiledFunction}
 pub use Rattle.compile_function.specs.Passed.{source_of, IsMadeBy, IsMadeLosing, IsCompilable, steps_of, passes_of}
 use Rattle.read_metadata.specs.Maps.{Maps}
 use Rattle.mir_func.specs.Function.{Function}
 use Rattle.mir_func.specs.Limits.{MAX_FRAME}
 use Rattle.read_program.specs.declared.closing.Parsed.{Parsed}
 use Rattle.read_program.specs.declared.program.Program.{Program}
-use Rattle.compile_theorem.specs.Compiled.{AreCompiled, IsCompiledProgram}
+use Rattle.compile_theorem.specs.Compiled.{IsCompiledFunction, AreCompiled, IsCompiledProgram}
 use Rattle.compile_theorem.specs.Source.{SourceFunction, PassedFunction}
 use Rattle.pass_list.specs.declared.kind.PassKind.{PassKind}
 use Rattle.compile_program.specs.declared.compile.Compilation.{Compilation}
 use Rattle.dwarf_line_table.specs.declared.compiled.Compiled.{Compiled}
 use Rattle.dwarf_line_table.specs.Program.{table_of}
 use Rattle.dwarf_unit.specs.Unit.{unit_of}
+use Rattle.dwarf_unit.specs.Variables.{variables_of_function}
 
 -- ---- sources
 
@@ -43,13 +45,6 @@ ArePassed meta [] (p ∷ ps) = ⊥
 ArePassed meta (f ∷ fs) [] = ⊥
 ArePassed meta (f ∷ fs) (p ∷ ps) = (p.source ≡ source_of f) × IsCompilable meta p × ArePassed meta fs ps
 
--- The passes made each function, with these losses of each.
-abbrev pub AreMadeLosing : (reserve : List ℕ) → List PassKind → List PassedFunction → (told : List (List Loss)) → Type 0
-AreMadeLosing reserve passes [] [] = Unit {0}
-AreMadeLosing reserve passes [] (l ∷ ls) = ⊥
-AreMadeLosing reserve passes (p ∷ ps) [] = ⊥
-AreMadeLosing reserve passes (p ∷ ps) (l ∷ ls) = IsMadeLosing reserve passes p l × AreMadeLosing reserve passes ps ls
-
 -- ---- machine code
 
 -- machine code of functions with their frames, one after the other from an address on
@@ -63,6 +58,31 @@ AreCoded base (f ∷ fs) (c ∷ cs) = IsCodeOf (framed_of f) base c × AreCoded 
 pub record HaveCode (functions : List PassedFunction) (compiled : List Compiled) : Type 0 where
   pub sources : map (λ c. c.source.now) compiled ≡ map (λ p. p.source.function) functions
   pub coded : AreCoded 0 (map (λ p. p.function) functions) (map (λ c. c.code.now) compiled)
+
+-- ---- functions
+
+-- The function, which these passes made of its source, is compiled at address `base` with location lists numbered from `first`. What is made of it is
+-- its machine code, the variables of its source, their location lists, which can be encoded, and the losses of the passes.
+pub record IsCompiledAs (names : ℕ → List ℕ) (reserve : List ℕ) (passes : List PassKind) (p : PassedFunction) (base first : ℕ) (f : ListedFunction)
+    (c : CompiledFunction) : Type 0 where
+  pub compiled : IsCompiledFunction names p base first f
+  pub code : IsCodeOf (framed_of p.function) base c.code
+  pub words : c.code.words ≡ words_of compiled.layout
+  pub variables : c.variables ≡ variables_of_function p.source.function.blocks
+  pub lists : c.lists ≡ compiled.lists
+  pub writable : AreWritable c.lists
+  pub lost : IsMadeLosing reserve passes p c.losses
+
+-- Functions are compiled so one after the other.
+abbrev pub AreCompiledAs : (names : ℕ → List ℕ) → (reserve : List ℕ) → List PassKind → (base first : ℕ) → List PassedFunction → List ListedFunction →
+    List CompiledFunction → Type 0
+AreCompiledAs names reserve passes base first [] [] [] = Unit {0}
+AreCompiledAs names reserve passes base first [] [] (c ∷ cs) = ⊥
+AreCompiledAs names reserve passes base first [] (f ∷ fs) cs = ⊥
+AreCompiledAs names reserve passes base first (p ∷ ps) [] cs = ⊥
+AreCompiledAs names reserve passes base first (p ∷ ps) (f ∷ fs) [] = ⊥
+AreCompiledAs names reserve passes base first (p ∷ ps) (f ∷ fs) (c ∷ cs) =
+    IsCompiledAs names reserve passes p base first f c × AreCompiledAs names reserve passes f.high (first + length c.lists) ps fs cs
 
 -- ---- sections
 
@@ -89,18 +109,14 @@ pub record IsOutputOf (steps : List PassStep) (p : Program) (o : Output) : Type 
   pub compiled : IsCompiledProgram (names_of p.meta) functions o
   pub sections : HasSections p.meta functions o
 
--- The result of compiling a program: the output, the machine code of each function, the location lists of all variables, function by function, and
--- the losses of each function.
+-- The result of compiling a program: the output, and what is made of each function.
 pub record IsCompilationOf (reserve : List ℕ) (passes : List PassKind) (p : Program) (c : Compilation) : Type 0 where
   pub functions : List PassedFunction
   pub passed : ArePassed p.meta p.functions functions
-  pub made : All (IsMadeBy (steps_of reserve passes)) functions
-  pub lost : AreMadeLosing reserve passes functions c.losses
-  pub section : IsSection c.output.loclists c.lists
-  pub compiled : AreCompiled (names_of p.meta) 0 0 c.output.text c.lists functions c.output.functions
+  pub compiled : AreCompiledAs (names_of p.meta) reserve passes 0 0 functions c.output.functions c.functions
+  pub text : c.output.text ≡ text_of c.functions
+  pub section : IsSection c.output.loclists (lists_of c.functions)
   pub small : length c.output.text < SECTION_LIMIT
-  pub coded : AreCoded 0 (map (λ q. q.function) functions) c.codes
-  pub writable : AreWritable c.lists
 
 -- ---- programs that have no output
 

@@ -1,6 +1,6 @@
 //! Compilation of the functions of a program, one after the other.
 
-ghost use Rattle.std.specs.Prelude.{◌+◌, ◌*◌, ◌%◌, ◌<◌, ◌≤◌, ◌^◌, ◌≡◌, All, IfOk, IsErrOf, length};
+ghost use Rattle.std.specs.Prelude.{◌+◌, ◌*◌, ◌%◌, ◌<◌, ◌≤◌, ◌^◌, ◌≡◌, All, IfOk, OnOk, IsErrOf, length};
 ghost use Rattle.emit_code.specs.Counts.{MAX_WORDS, MAX_BASE};
 ghost use Rattle.read_body.specs.Limits.{MAX_ITEMS};
 ghost use Rattle.read_program.specs.declared.closing.Parsed.{Parsed};
@@ -11,51 +11,48 @@ ghost use Rattle.compile_program.specs.Program.{HasLargeFrame};
 ghost use Rattle.compile_program.specs.steps.Made.{IsSourcePushed, IsTooLarge, AreMade};
 ghost use Rattle.read_proof.specs.Read.{IsReadFunction, EntryIsLimited};
 
-use crate::compile::{CompileError, FunctionLosses};
-use compile_function::emit::{Codes, EmittedFunctions, push_function};
+use compile_function::compile::CompiledFunctions;
+use compile_function::emit::{EmittedFunctions, push_function};
+use compile_function::error::CompileError;
 use compile_function::passed::after_passes;
-use dwarf_loclists::range::RangeLists;
 use listing_text::output::{Bytes, ListedFunctions};
 use pass_list::kind::PassKind;
-use pass_trait::loss::Losses;
 use read_metadata::metadata::Metadata;
 use read_program::closing::Parsed;
 use rv64_instr::reg::Reg;
 use std::alloc::Global;
 
-/// Runs passes on each function and compiles it, from address 0 on. Returns also the losses of each function. `reserve`
-/// is the registers that may be spilled.
+/// Runs passes on each function and compiles it, from address 0 on. `reserve` is the registers that may be spilled.
 pub fn made_of(
     alloc: Global,
     meta: &Metadata,
     functions: &[Parsed],
     passes: &[PassKind],
     reserve: &[Reg],
-) -> Result<(EmittedFunctions, FunctionLosses), CompileError>
+) -> Result<EmittedFunctions, CompileError>
     requires few { length functions.now ≤ MAX_FUNCTIONS }
     requires read { All (λ (p : Parsed). IsReadFunction meta.now p.func) functions.now }
     requires substitutions { All (λ (p : Parsed). All EntryIsLimited p.subs) functions.now }
     requires distinct { AreDistinct passes.now }
-    ensures made { IfOk result (λ r. AreMade meta.now reserve.now passes.now functions.now r.1 r.0) }
+    ensures made { IfOk result (AreMade meta.now reserve.now passes.now functions.now) }
     ensures too_large { IsErrOf result CompileError.FrameTooLarge →
         HasLargeFrame (steps_of reserve.now passes.now) functions.now }
     ensures no_section { IsErrOf result CompileError.SectionTooLarge → ⊥ }
 {
     let mut made = EmittedFunctions {
         text: Bytes::new(alloc),
-        lists: RangeLists::new(alloc),
-        functions: ListedFunctions::new(alloc),
-        codes: Codes::new(alloc),
+        list_count: 0,
+        listings: ListedFunctions::new(alloc),
+        functions: CompiledFunctions::new(alloc),
     };
-    let mut losses = FunctionLosses::new(alloc);
     for source in functions {
-        let lost = push_source(alloc, &mut made, meta, source, passes, reserve)?;
-        losses.push(lost)?;
+        push_source(alloc, &mut made, meta, source, passes, reserve)?;
     }
-    Ok((made, losses))
+    Ok(made)
 }
 
-/// Runs passes on a function, appends its code, listing and location lists, and returns the losses.
+/// Runs passes on a function, and appends its listing and what is made of it.
+#[tactic(auto, using(crate::proofs::Passed::made_too_large))]
 fn push_source(
     alloc: Global,
     made: &mut EmittedFunctions,
@@ -63,20 +60,21 @@ fn push_source(
     source: &Parsed,
     passes: &[PassKind],
     reserve: &[Reg],
-) -> Result<Losses, CompileError>
+) -> Result<(), CompileError>
     requires aligned { length made.old.text % 4 ≡ 0 }
     requires room { length made.old.text + 4 * MAX_WORDS < MAX_BASE }
-    requires numbers { length made.old.lists + MAX_ITEMS < 2 ^ 32 }
+    requires numbers { made.old.list_count + MAX_ITEMS < 2 ^ 32 }
     requires read { IsReadFunction meta.now source.now.func }
     requires substitutions { All EntryIsLimited source.now.subs }
     requires distinct { AreDistinct passes.now }
-    ensures pushed { IfOk result (λ losses.
-        IsSourcePushed meta.now reserve.now passes.now source.now losses made.old made.new) }
+    ensures pushed { OnOk result
+        (IsSourcePushed meta.now reserve.now passes.now source.now made.old made.new) }
     ensures too_large { IsErrOf result CompileError.FrameTooLarge →
         IsTooLarge (steps_of reserve.now passes.now) source.now }
     ensures no_section { IsErrOf result CompileError.SectionTooLarge → ⊥ }
 {
     let passed = after_passes(alloc, meta, source, passes, reserve)?;
+    let losses = passed.losses;
     push_function(
         alloc,
         made,
@@ -84,6 +82,7 @@ fn push_source(
         source,
         &passed.function,
         &passed.substitutions,
+        losses,
     )?;
-    Ok(passed.losses)
+    Ok(())
 }

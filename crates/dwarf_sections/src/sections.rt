@@ -1,6 +1,6 @@
 //! The debug sections of functions and their machine code.
 
-ghost use Rattle.std.specs.Prelude.{◌≡◌, ◌-◌, ◌<◌, ◌≤◌, ◌^◌, All, IfOk, IsErrOf, length, map};
+ghost use Rattle.std.specs.Prelude.{◌≡◌, ◌-◌, ◌<◌, ◌≤◌, ◌^◌, All, IfOk, IsErrOf, length};
 ghost use Rattle.dwarf_info.specs.Entries.{spelling as entries_spelling};
 ghost use Rattle.dwarf_line.specs.Spelling.{spelling as rows_spelling};
 ghost use Rattle.dwarf_loclists.specs.Spelling.{spelling as lists_spelling};
@@ -20,10 +20,8 @@ use dwarf_line_table::line_table::line_table;
 use dwarf_loclists::range::RangeLists;
 use dwarf_loclists::section::{lists_size, write_lists};
 use dwarf_unit::unit::make_unit;
-use emit_code::code::Code;
 use listing_text::output::Bytes;
 use read_metadata::metadata::Metadata;
-use read_program::closing::Parsed;
 use std::alloc::{AllocError, Global};
 use thiserror::Error;
 
@@ -44,27 +42,6 @@ impl From<AllocError> for SectionError {
     fn from(_: AllocError) -> SectionError {
         SectionError::Memory
     }
-}
-
-/// Pairs the functions with their machine code.
-pub fn with_code<'a>(
-    alloc: Global,
-    functions: &'a [Parsed],
-    codes: &'a [Code],
-) -> Result<Vec<Compiled<'a>>, AllocError>
-    requires { length functions.now ≡ length codes.now }
-    ensures sources { IfOk result (λ compiled.
-        map (λ c. c.source.now) compiled.items ≡ map (λ p. p.func) functions.now) }
-    ensures codes { IfOk result (λ compiled. map (λ c. c.code.now) compiled.items ≡ codes.now) }
-{
-    let mut compiled = Vec::new(alloc);
-    for index in 0..functions.len() {
-        compiled.push(Compiled {
-            source: &functions[index].func,
-            code: &codes[index],
-        })?;
-    }
-    Ok(compiled)
 }
 
 /// The section `.debug_info` of functions, with `text_len` bytes of code. It is `TooLarge` exactly from 2^31 bytes on.

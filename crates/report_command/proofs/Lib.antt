@@ -1,2 +1,1 @@
 pub mod Reported
-pub use Rattle.compile_program.proofs.Passed

@@ -1,7 +1,8 @@
 -- Each function of a compilation has its code, at low addresses, and each variable its list.
-use Rattle.std.proofs.Common.{◌≡◌, ℕ, suc, ◌+◌, ◌*◌, ◌<◌, ◌≤◌, ◌^◌, List, [], ◌∷◌, map, length, All, ap, ◌∙◌, subst, sym, arith, length-append}
+use Rattle.std.proofs.Common.{◌≡◌, ℕ, suc, ◌+◌, ◌*◌, ◌<◌, ◌≤◌, ◌^◌, List, [], ◌∷◌, length, All, ap, ◌∙◌, subst, sym, arith, length-append}
+use Rattle.std.specs.List.{flat_map}
+use Rattle.std.specs.Int.{w32, to_le_bytes}
 use Rattle.std.proofs.lemmas.List.Elements.{All-nil, All-cons, All-head, All-tail}
-use Rattle.emit_code.specs.Laid.{LaidCode}
 use Rattle.listing_text.specs.declared.output.ListedFunction.{ListedFunction}
 use Rattle.listing_text.specs.declared.output.ListedVariable.{ListedVariable}
 use Rattle.dwarf_base.specs.Limits.{SECTION_LIMIT}
@@ -9,20 +10,20 @@ use Rattle.dwarf_loclists.specs.declared.range.Range.{Range}
 use Rattle.dwarf_loclists.specs.Ranges.{Ascend, ArePlaces}
 use Rattle.mir_func.specs.declared.variable.VarId.{VarId}
 use Rattle.compile_theorem.proofs.Functions.{words_length}
-use Rattle.compile_theorem.specs.Compiled.{AreCompiled, bytes_of}
+use Rattle.compile_theorem.specs.Compiled.{AreCompiled}
 use Rattle.compile_theorem.specs.OutputProperties.{variable_lines, variable_listed}
 use Rattle.compile_theorem.specs.Source.{PassedFunction}
-use Rattle.emit_code.specs.Rule.{words_of}
 use Rattle.read_program.specs.declared.program.Program.{Program}
 use Rattle.pass_list.specs.declared.kind.PassKind.{PassKind}
-use Rattle.report_command.specs.Compilation.{Compilation}
-use Rattle.report_command.specs.Program.{AreCoded, IsCompilationOf, names_of}
+use Rattle.compile_function.specs.declared.compile.CompiledFunction.{CompiledFunction}
+use Rattle.compile_program.specs.declared.compile.Compilation.{Compilation}
+use Rattle.compile_program.specs.Program.{AreCompiledAs, IsCompilationOf, names_of, text_of, lists_of}
 use Rattle.dwarf_unit.specs.Variables.{variables_of_function}
-use Rattle.report_command.proofs.Reported.{ends}
+use Rattle.compile_program.proofs.Compiled.{ends, all_compiled, all_writable, as_many_compiled}
 use Rattle.run_command.specs.Runs.{CanRun, CompilationsCanRun}
 
-abbrev IsLow : LaidCode → Type 0
-IsLow k = k.base + 4 * length k.words ≤ 2 ^ 32
+abbrev IsLow : CompiledFunction → Type 0
+IsLow k = k.code.base + 4 * length k.code.words ≤ 2 ^ 32
 
 abbrev IsBelow : ℕ → ListedVariable → Type 0
 IsBelow total v = v.list < total
@@ -32,37 +33,21 @@ AreBelow total f = All (IsBelow total) f.variables
 
 -- ---- code
 
-as_many_codes : (names : ℕ → List ℕ) (base first : ℕ) (text : List ℕ) (lists : List (List Range)) (at : ℕ) (ps : List PassedFunction)
-    (fs : List ListedFunction) (cs : List LaidCode) → AreCompiled names base first text lists ps fs → AreCoded at (map (λ p. p.function) ps) cs →
-    length cs ≡ length fs
-as_many_codes names base first text lists at [] [] [] are coded = omega arith
-as_many_codes names base first text lists at [] [] (c ∷ cs) are coded = absurd coded
-as_many_codes names base first text lists at [] (f ∷ fs) cs are coded = absurd are
-as_many_codes names base first text lists at (p ∷ ps) [] cs are coded = absurd are
-as_many_codes names base first text lists at (p ∷ ps) (f ∷ fs) [] are coded = absurd coded
-as_many_codes names base first text lists at (p ∷ ps) (f ∷ fs) (c ∷ cs) (is, more, rest, text_is, lists_is, onward) coded =
-    ap (λ (n : ℕ). suc n)
-    (as_many_codes names f.high (first + length is.lists) more rest (at + 4 * length c.words) ps fs cs onward coded.1)
-
-low : (names : ℕ → List ℕ) (base first : ℕ) (text : List ℕ) (lists : List (List Range)) (ps : List PassedFunction) (fs : List ListedFunction)
-    (cs : List LaidCode) → AreCompiled names base first text lists ps fs → AreCoded base (map (λ p. p.function) ps) cs →
-    base + length text ≤ 2 ^ 32 → All IsLow cs
-low names base first text lists [] [] [] are coded small = All-nil IsLow
-low names base first text lists [] [] (c ∷ cs) are coded small = absurd coded
-low names base first text lists [] (f ∷ fs) cs are coded small = absurd are
-low names base first text lists (p ∷ ps) [] cs are coded small = absurd are
-low names base first text lists (p ∷ ps) (f ∷ fs) [] are coded small = absurd coded
-low names base first text lists (p ∷ ps) (f ∷ fs) (c ∷ cs) (is, more, rest, text_is, lists_is, onward) coded small =
-    let high : base + 4 * length c.words ≡ f.high = ends names p base first f is c coded.0 in
-    let whole : length text ≡ length (bytes_of is.layout) + length more = ap length text_is ∙ length-append (bytes_of is.layout) more in
-    let words : length (bytes_of is.layout) ≡ 4 * length (words_of is.layout) = words_length (words_of is.layout) in
-    let listed : f.high ≡ is.layout.base + 4 * length (words_of is.layout) = ap (λ (g : ListedFunction). g.high) is.listed in
-    let from = is.laid.from in
-    let kept = coded.0.base_kept in
-    let after : f.high + length more ≤ 2 ^ 32 = omega (arith, whole, words, listed, from, small) in
-    All-cons IsLow c cs (omega (arith, high, kept, after))
-    (low names f.high (first + length is.lists) more rest ps fs cs onward
-    (subst (λ (b : ℕ). AreCoded b (map (λ q. q.function) ps) cs) high coded.1) after)
+low : (names : ℕ → List ℕ) (reserve : List ℕ) (passes : List PassKind) (base first : ℕ) (ps : List PassedFunction) (fs : List ListedFunction)
+    (cs : List CompiledFunction) → AreCompiledAs names reserve passes base first ps fs cs → base + length (text_of cs) ≤ 2 ^ 32 → All IsLow cs
+low names reserve passes base first [] [] [] are small = All-nil IsLow
+low names reserve passes base first [] [] (c ∷ cs) are small = absurd are
+low names reserve passes base first [] (f ∷ fs) cs are small = absurd are
+low names reserve passes base first (p ∷ ps) [] cs are small = absurd are
+low names reserve passes base first (p ∷ ps) (f ∷ fs) [] are small = absurd are
+low names reserve passes base first (p ∷ ps) (f ∷ fs) (c ∷ cs) (is, onward) small =
+    let high : base + 4 * length c.code.words ≡ f.high = ends names reserve passes p base first f c is in
+    let whole : length (text_of (c ∷ cs)) ≡ length (flat_map (to_le_bytes w32) c.code.words) + length (text_of cs) =
+    length-append (flat_map (to_le_bytes w32) c.code.words) (text_of cs) in
+    let words : length (flat_map (to_le_bytes w32) c.code.words) ≡ 4 * length c.code.words = words_length c.code.words in
+    let kept = is.code.base_kept in
+    let after : f.high + length (text_of cs) ≤ 2 ^ 32 = omega (arith, high, whole, words, small) in
+    All-cons IsLow c cs (omega (arith, high, kept, after)) (low names reserve passes f.high (first + length c.lists) ps fs cs onward after)
 
 -- ---- lists
 
@@ -93,12 +78,19 @@ readable (l ∷ ls) ascend places =
 
 pub compilation_can_run : (reserve : List ℕ) (passes : List PassKind) (p : Program) (c : Compilation) → IsCompilationOf reserve passes p c → CanRun c
 compilation_can_run reserve passes p c is =
-    let small : 0 + length c.output.text ≤ 2 ^ 32 = let below_limit : length c.output.text < SECTION_LIMIT = is.small in omega (arith, below_limit) in
+    let names = names_of p.meta in
+    let fs = c.output.functions in
+    let small : 0 + length (text_of c.functions) ≤ 2 ^ 32 =
+    let below_limit : length c.output.text < SECTION_LIMIT = is.small in
+    let same : length c.output.text ≡ length (text_of c.functions) = ap length is.text in
+    omega (arith, below_limit, same) in
+    let writable = all_writable names reserve passes 0 0 is.functions fs c.functions is.compiled in
     record {
-      codes = as_many_codes (names_of p.meta) 0 0 c.output.text c.lists 0 is.functions c.output.functions c.codes is.compiled is.coded;
-      low = low (names_of p.meta) 0 0 c.output.text c.lists is.functions c.output.functions c.codes is.compiled is.coded small;
-      listed = below (names_of p.meta) (length c.lists) 0 0 c.output.text c.lists is.functions c.output.functions is.compiled (omega arith);
-      readable = readable c.lists is.writable.ascend is.writable.places;
+      functions = (as_many_compiled names reserve passes 0 0 is.functions fs c.functions is.compiled).1;
+      low = low names reserve passes 0 0 is.functions fs c.functions is.compiled small;
+      listed = below names (length (lists_of c.functions)) 0 0 (text_of c.functions) (lists_of c.functions) is.functions fs
+          (all_compiled names reserve passes 0 0 is.functions fs c.functions is.compiled) (omega arith);
+      readable = readable (lists_of c.functions) writable.ascend writable.places;
     }
 
 pub compilations_can_run : CompilationsCanRun

@@ -1,5 +1,5 @@
 -- The image that the sections show of a function is that of its layout, and the layout's image shows its code.
-use Rattle.std.proofs.Common.{◌≡◌, ℕ, zero, suc, ◌+◌, List, [], ◌∷◌, ◌++◌, drop, map, length, Some, ap, ◌∙◌, sym, subst}
+use Rattle.std.proofs.Common.{◌≡◌, ℕ, zero, suc, ◌+◌, List, [], ◌∷◌, ◌++◌, drop, length, Some, ap, ◌∙◌, sym, subst}
 use Rattle.std.specs.Prelude.{slice_get}
 use Rattle.emit_code.specs.Laid.{LaidCode, IsCodeOf}
 use Rattle.emit_code.specs.Rule.{Layout}
@@ -16,17 +16,18 @@ use Rattle.compile_theorem.specs.Compiled.{AreCompiled, IsCompiledProgram, bytes
 use Rattle.compile_theorem.specs.OutputProperties.{variable_lines}
 use Rattle.compile_theorem.specs.Source.{PassedFunction, IsPassedFunction}
 use Rattle.pass_list.specs.declared.kind.PassKind.{PassKind}
-use Rattle.report_command.proofs.Passed.{all_passed}
+use Rattle.compile_program.proofs.Passed.{all_passed}
 use Rattle.read_program.specs.declared.program.Program.{Program}
-use Rattle.report_command.specs.Compilation.{Compilation}
-use Rattle.report_command.specs.Program.{AreCoded, IsCompilationOf, names_of}
+use Rattle.compile_function.specs.declared.compile.CompiledFunction.{CompiledFunction}
+use Rattle.compile_program.specs.declared.compile.Compilation.{Compilation}
+use Rattle.compile_program.specs.Program.{AreCompiledAs, IsCompilationOf, names_of, lists_of}
 use Rattle.sim_machine.specs.Shown.{ShowsCode}
 use Rattle.listing_meaning.proofs.Images.{image_shown}
 use Rattle.listing_meaning.specs.Program.{image_of}
 use Rattle.sim_proof.proofs.Shows.{images_show_code}
 use Rattle.dwarf_unit.specs.Variables.{variables_of_function}
 use Rattle.invariance_code.proofs.Settled.{same_layout}
-use Rattle.report_command.proofs.Reported.{ends}
+use Rattle.compile_program.proofs.Compiled.{all_compiled}
 use Rattle.run_command.specs.Runs.{CompilationsShowCode}
 
 -- ---- one function
@@ -50,54 +51,65 @@ module _ (names : ℕ → List ℕ) (o : Output) (lists : List (List Range)) (se
 
 -- ---- the code of a function, which begins where the listing says
 
-record CodeAt (p : PassedFunction) (f : ListedFunction) (code : LaidCode) : Type 0 where
+record CodeAt (p : PassedFunction) (f : ListedFunction) (k : CompiledFunction) : Type 0 where
   base : ℕ
   begins : f.low ≡ base
-  coded : IsCodeOf (framed_of p.function) base code
+  coded : IsCodeOf (framed_of p.function) base k.code
 
-record Found (ps : List PassedFunction) (n : ℕ) (f : ListedFunction) (code : LaidCode) : Type 0 where
+record Found (ps : List PassedFunction) (n : ℕ) (f : ListedFunction) (k : CompiledFunction) : Type 0 where
   passed : PassedFunction
   stands : slice_get ps n ≡ Some passed
-  here : CodeAt passed f code
+  here : CodeAt passed f k
 
-code_at : (names : ℕ → List ℕ) (base first : ℕ) (text : List ℕ) (lists : List (List Range)) (ps : List PassedFunction) (fs : List ListedFunction)
-    (cs : List LaidCode) → AreCompiled names base first text lists ps fs → AreCoded base (map (λ p. p.function) ps) cs → (n : ℕ) (f : ListedFunction)
-    (code : LaidCode) → slice_get fs n ≡ Some f → slice_get cs n ≡ Some code → Found ps n f code
-code_at names base first text lists [] [] cs are coded n f code f_is code_is = absurd cc
-code_at names base first text lists [] (g ∷ fs) cs are coded n f code f_is code_is = absurd are
-code_at names base first text lists (p ∷ ps) [] cs are coded n f code f_is code_is = absurd are
-code_at names base first text lists (p ∷ ps) (g ∷ fs) [] are coded n f code f_is code_is = absurd coded
-code_at names base first text lists (p ∷ ps) (g ∷ fs) (c ∷ cs) (is, more, rest, text_is, lists_is, onward) coded zero f code f_is code_is =
+code_at : (names : ℕ → List ℕ) (reserve : List ℕ) (passes : List PassKind) (base first : ℕ) (ps : List PassedFunction) (fs : List ListedFunction)
+    (cs : List CompiledFunction) → AreCompiledAs names reserve passes base first ps fs cs → (n : ℕ) (f : ListedFunction) (k : CompiledFunction) →
+    slice_get fs n ≡ Some f → slice_get cs n ≡ Some k → Found ps n f k
+code_at names reserve passes base first [] [] cs are n f k f_is k_is = absurd cc
+code_at names reserve passes base first [] (g ∷ fs) cs are n f k f_is k_is = absurd are
+code_at names reserve passes base first (p ∷ ps) [] cs are n f k f_is k_is = absurd are
+code_at names reserve passes base first (p ∷ ps) (g ∷ fs) [] are n f k f_is k_is = absurd are
+code_at names reserve passes base first (p ∷ ps) (g ∷ fs) (c ∷ cs) (is, onward) zero f k f_is k_is =
     let same : g ≡ f = cc in
-    let one : c ≡ code = cc in
+    let one : c ≡ k = cc in
     record {
       passed = p;
       stands = cc;
       here = record {
         base = base;
-        begins = ap (λ (x : ListedFunction). x.low) (sym same) ∙ ap (λ (x : ListedFunction). x.low) is.listed ∙ is.laid.from;
-        coded = subst (λ (x : LaidCode). IsCodeOf (framed_of p.function) base x) one coded.0;
+        begins =
+            ap (λ (x : ListedFunction). x.low) (sym same) ∙ ap (λ (x : ListedFunction). x.low) is.compiled.listed ∙ is.compiled.laid.from;
+        coded = subst (λ (x : CompiledFunction). IsCodeOf (framed_of p.function) base x.code) one is.code;
       };
     }
-code_at names base first text lists (p ∷ ps) (g ∷ fs) (c ∷ cs) (is, more, rest, text_is, lists_is, onward) coded (suc n) f code f_is code_is =
-    let later =
-    code_at names g.high (first + length is.lists) more rest ps fs cs onward
-    (subst (λ (b : ℕ). AreCoded b (map (λ q. q.function) ps) cs) (ends names p base first g is c coded.0) coded.1) n f code f_is code_is in
+code_at names reserve passes base first (p ∷ ps) (g ∷ fs) (c ∷ cs) (is, onward) (suc n) f k f_is k_is =
+    let later = code_at names reserve passes g.high (first + length c.lists) ps fs cs onward n f k f_is k_is in
     record { passed = later.passed; stands = later.stands; here = later.here }
 
+-- a compilation's output is compiled
+pub compiled_whole : (reserve : List ℕ) (passes : List PassKind) (p : Program) (c : Compilation) (is : IsCompilationOf reserve passes p c) →
+    IsCompiledProgram (names_of p.meta) is.functions c.output
+compiled_whole reserve passes p c is =
+    let names = names_of p.meta in
+    record {
+      lists = lists_of c.functions;
+      section = is.section;
+      functions = subst (λ (t : List ℕ). AreCompiled names 0 0 t (lists_of c.functions) is.functions c.output.functions) (sym is.text)
+          (all_compiled names reserve passes 0 0 is.functions c.output.functions c.functions is.compiled);
+    }
+
 pub compilation_shows_code : (reserve : List ℕ) (passes : List PassKind) (p : Program) (c : Compilation) → IsCompilationOf reserve passes p c →
-    (number : ℕ) (f : ListedFunction)
-    (code : LaidCode) → slice_get c.output.functions number ≡ Some f → slice_get c.codes number ≡ Some code → ShowsCode code (image_of c.output f)
-compilation_shows_code reserve passes p c is n f code f_is code_is =
-    let found = code_at (names_of p.meta) 0 0 c.output.text c.lists is.functions c.output.functions c.codes is.compiled is.coded n f code f_is code_is in
-    let whole : IsCompiledProgram (names_of p.meta) is.functions c.output =
-    record { lists = c.lists; section = is.section; functions = is.compiled } in
-    let at = compiled_in (names_of p.meta) is.functions c.output whole n found.passed f found.stands f_is in
+    (number : ℕ) (f : ListedFunction) (k : CompiledFunction) → slice_get c.output.functions number ≡ Some f → slice_get c.functions number ≡ Some k →
+    ShowsCode k.code (image_of c.output f)
+unfolding compiled_whole
+compilation_shows_code reserve passes p c is n f k f_is k_is =
+    let names = names_of p.meta in
+    let found = code_at names reserve passes 0 0 is.functions c.output.functions c.functions is.compiled n f k f_is k_is in
+    let at = compiled_in names is.functions c.output (compiled_whole reserve passes p c is) n found.passed f found.stands f_is in
     let sound = all_at IsPassedFunction is.functions n found.passed found.stands (all_passed p.meta p.functions is.functions is.passed) in
     let base : found.here.base ≡ at.base =
     sym found.here.begins ∙ ap (λ (x : ListedFunction). x.low) at.compiled.listed ∙ at.compiled.laid.from in
-    shows (names_of p.meta) c.output c.lists is.section found.passed f sound at code
-    (subst (λ (b : ℕ). IsCodeOf (framed_of found.passed.function) b code) base found.here.coded)
+    shows names c.output (lists_of c.functions) is.section found.passed f sound at k.code
+    (subst (λ (b : ℕ). IsCodeOf (framed_of found.passed.function) b k.code) base found.here.coded)
 
 pub compilations_show_code : CompilationsShowCode
-compilations_show_code reserve passes p c is n f code f_is code_is = compilation_shows_code reserve passes p c is n f code f_is code_is
+compilations_show_code reserve passes p c is n f k f_is k_is = compilation_shows_code reserve passes p c is n f k f_is k_is

@@ -29,9 +29,9 @@ use Rattle.compile_theorem.specs.Laws.{AreCompiledTo}
 use Rattle.compile_theorem.specs.OutputProperties.{Gives, IsLaidOut, AreLaidOut, MeetsHeadline, Promises}
 use Rattle.compile_theorem.specs.Source.{SourceFunction, OfEach, sources_among}
 use Rattle.pass_list.specs.declared.kind.PassKind.{PassKind}
-use Rattle.report_command.proofs.Passed.{all_passed, passed_sources}
-use Rattle.report_command.specs.Compilation.{Compilation}
-use Rattle.report_command.specs.Program.{sources_of, IsCompilationOf, IsOutputOf, steps_of, source_of, names_of}
+use Rattle.compile_program.proofs.Passed.{all_passed, passed_sources}
+use Rattle.compile_program.specs.declared.compile.Compilation.{Compilation}
+use Rattle.compile_program.specs.Program.{sources_of, IsCompilationOf, IsOutputOf, steps_of, source_of, names_of, lists_of}
 use Rattle.sim_trace.specs.Variables.{variable_of}
 use Rattle.sim_machine.specs.Shown.{ShowsCode}
 use Rattle.listing_meaning.specs.Program.{image_of}
@@ -187,10 +187,12 @@ module _ (reserve : List ℕ) (passes : List PassKind) (p : Program) (c : Compil
       let read : IsFirstRead name p.functions run.number = first_read name c.output.functions p.functions names_stay run.number run.named in
       let source : slice_get (sources_of p.functions) run.number ≡ Some (source_of read.function) =
       slice_get-map source_of p.functions run.number ∙ ap (option_map source_of) read.stands in
-      let shows : ShowsCode run.code (image_of c.output f) = compilation_shows_code reserve passes p c is run.number f run.code run.named.stands run.coded in
+      let shows : ShowsCode run.compiled.code (image_of c.output f) =
+      compilation_shows_code reserve passes p c is run.number f run.compiled run.named.stands run.stands in
       let can = compilation_can_run reserve passes p c is in
-      let below : All (λ (v : ListedVariable). v.list < length c.lists) f.variables =
-      all_at (λ (g : ListedFunction). All (λ (v : ListedVariable). v.list < length c.lists) g.variables) c.output.functions run.number f
+      let lists = lists_of c.functions in
+      let below : All (λ (v : ListedVariable). v.list < length lists) f.variables =
+      all_at (λ (g : ListedFunction). All (λ (v : ListedVariable). v.list < length lists) g.variables) c.output.functions run.number f
       run.named.stands can.listed in
       let headline : MeetsHeadline c.output (source_of read.function) f =
       promised.each run.number (source_of read.function) f source run.named.stands in
@@ -201,7 +203,7 @@ module _ (reserve : List ℕ) (passes : List PassKind) (p : Program) (c : Compil
         is = output;
         listed = f;
         stands = run.named.stands;
-        lists = c.lists;
+        lists = lists;
         section = is.section;
         runs = λ s begins. run.runs (image_of c.output f) (machine_start (image_of c.output f) s) shows
             (record {
@@ -212,7 +214,7 @@ module _ (reserve : List ℕ) (passes : List PassKind) (p : Program) (c : Compil
               memory = begins.memory;
               events = refl;
             }) begins.script;
-        source = tells_source c.output f c.lists is.section below (source_of read.function) headline;
+        source = tells_source c.output f lists is.section below (source_of read.function) headline;
       }
 
 pub runs_are_of_programs : RunsAreOfPrograms

@@ -1,14 +1,14 @@
 -- Runs of the functions of a compiled program.
 use Rattle.std.specs.Prelude.{◌≡◌, ◌≢◌, ℕ, ◌+◌, ◌*◌, ◌<◌, ◌≤◌, ◌^◌, List, length, map, take, All, Some, slice_get}
-use Rattle.emit_code.specs.Laid.{LaidCode}
 use Rattle.listing_text.specs.declared.output.ListedFunction.{ListedFunction}
 use Rattle.listing_text.specs.declared.output.ListedVariable.{ListedVariable}
 use Rattle.dwarf_loclists.specs.declared.range.Range.{Range}
 use Rattle.dwarf_loclists.specs.Ranges.{Ascend, ArePlaces}
 use Rattle.read_program.specs.declared.program.Program.{Program}
 use Rattle.pass_list.specs.declared.kind.PassKind.{PassKind}
-use Rattle.report_command.specs.Compilation.{Compilation}
-use Rattle.report_command.specs.Program.{IsCompilationOf}
+use Rattle.compile_function.specs.declared.compile.CompiledFunction.{CompiledFunction}
+use Rattle.compile_program.specs.declared.compile.Compilation.{Compilation}
+use Rattle.compile_program.specs.Program.{IsCompilationOf, lists_of}
 use Rattle.sim_start.specs.Asked.{IsTextOfAskedRun}
 use Rattle.sim_trace.specs.Variables.{variable_of}
 use Rattle.sim_machine.specs.Shown.{ShowsCode}
@@ -29,16 +29,16 @@ pub record IsFirstNamed (name : List ℕ) (functions : List ListedFunction) (num
 pub record IsRunOf (c : Compilation) (name : List ℕ) (limit : ℕ) (arguments values : List ℕ) (text : List ℕ) : Type 0 where
   pub number : ℕ
   pub named : IsFirstNamed name c.output.functions number
-  pub code : LaidCode
-  pub coded : slice_get c.codes number ≡ Some code
-  pub runs : IsTextOfAskedRun code arguments values (map (variable_of c.lists) named.function.variables) limit text
+  pub compiled : CompiledFunction
+  pub stands : slice_get c.functions number ≡ Some compiled
+  pub runs : IsTextOfAskedRun compiled.code arguments values (map (variable_of (lists_of c.functions)) named.function.variables) limit text
 
 -- Each function has its code, at 32-bit addresses, and each variable has a location list that can be read.
 pub record CanRun (c : Compilation) : Type 0 where
-  pub codes : length c.codes ≡ length c.output.functions
-  pub low : All (λ (k : LaidCode). k.base + 4 * length k.words ≤ 2 ^ 32) c.codes
-  pub listed : All (λ (f : ListedFunction). All (λ (v : ListedVariable). v.list < length c.lists) f.variables) c.output.functions
-  pub readable : All (λ (ranges : List Range). Ascend ranges × ArePlaces ranges) c.lists
+  pub functions : length c.functions ≡ length c.output.functions
+  pub low : All (λ (k : CompiledFunction). k.code.base + 4 * length k.code.words ≤ 2 ^ 32) c.functions
+  pub listed : All (λ (f : ListedFunction). All (λ (v : ListedVariable). v.list < length (lists_of c.functions)) f.variables) c.output.functions
+  pub readable : All (λ (ranges : List Range). Ascend ranges × ArePlaces ranges) (lists_of c.functions)
 
 -- Every compilation of a program can be run.
 abbrev pub CompilationsCanRun : Type 0
@@ -47,5 +47,5 @@ CompilationsCanRun = (reserve : List ℕ) (passes : List PassKind) (p : Program)
 -- The image of a function in the output, of which the headline holds, is one of the code that runs.
 abbrev pub CompilationsShowCode : Type 0
 CompilationsShowCode = (reserve : List ℕ) (passes : List PassKind) (p : Program) (c : Compilation) → IsCompilationOf reserve passes p c →
-    (number : ℕ) (f : ListedFunction) (code : LaidCode) → slice_get c.output.functions number ≡ Some f → slice_get c.codes number ≡ Some code →
-    ShowsCode code (image_of c.output f)
+    (number : ℕ) (f : ListedFunction) (k : CompiledFunction) → slice_get c.output.functions number ≡ Some f → slice_get c.functions number ≡ Some k →
+    ShowsCode k.code (image_of c.output f)

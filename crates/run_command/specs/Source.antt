@@ -22,8 +22,8 @@ use Rattle.read_program.specs.declared.closing.Parsed.{Parsed}
 use Rattle.read_program.specs.declared.program.Program.{Program}
 use Rattle.compile_theorem.specs.Source.{SourceFunction}
 use Rattle.pass_list.specs.declared.kind.PassKind.{PassKind}
-use Rattle.report_command.specs.Compilation.{Compilation}
-use Rattle.report_command.specs.Program.{IsCompilationOf, IsOutputOf, steps_of, source_of}
+use Rattle.compile_program.specs.declared.compile.Compilation.{Compilation}
+use Rattle.compile_program.specs.Program.{IsCompilationOf, IsOutputOf, steps_of, source_of}
 use Rattle.sim_start.specs.Asked.{start_register, replies}
 use Rattle.sim_trace.specs.Run.{IsRunText}
 use Rattle.sim_trace.specs.Variables.{variable_of}

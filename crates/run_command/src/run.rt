@@ -3,6 +3,7 @@
 ghost use Rattle.std.specs.Prelude.{◌≡◌, ◌↔◌, IfOk, IsTrue, MatchOption};
 ghost use Rattle.run_command.specs.Runs.{IsFirstNamed, HasNone, IsRunOf, CanRun};
 
+use compile_function::lists::all_lists;
 use compile_program::compile::Compilation;
 use listing_text::output::ListedFunction;
 use mir_printer::text::Text;
@@ -30,8 +31,9 @@ pub fn run(
         return Ok(None);
     };
     let listed = functions[number].variables.as_slice();
-    let variables = variables_of(alloc, listed, compilation.lists.as_slice())?;
-    let code = &compilation.codes.as_slice()[number];
+    let lists = all_lists(alloc, compilation.functions.as_slice())?;
+    let variables = variables_of(alloc, listed, lists.as_slice())?;
+    let code = &compilation.functions.as_slice()[number].code;
     let text = run_text(alloc, code, &variables, limit, arguments, values)?;
     Ok(Some(text))
 }

@@ -1,17 +1,19 @@
 -- The self-test of a generated function, by the headline of what is compiled.
-use Rattle.std.proofs.Common.{◌≡◌, ℕ, zero, suc, ◌+◌, ◌*◌, ◌<◌, ◌≤◌, ◌^◌, List, [], ◌∷◌, ◌++◌, map, length, All, Contains, Option, Some, None, refl, sym, ap}
+use Rattle.std.proofs.Common.{◌≡◌, ℕ, zero, suc, ◌+◌, ◌*◌, ◌<◌, ◌≤◌, ◌^◌, List, [], ◌∷◌, length, All, Contains, Option, Some, None, refl, sym, ap}
 use Rattle.std.proofs.Common.{◌∙◌, subst, arith, append-nil}
 use Rattle.std.specs.Prelude.{slice_get, true, false, IfSome, IfNone}
 use Rattle.std.proofs.lemmas.List.Elements.{All-nil, All-cons, All-head, All-tail, All-weaker}
 use Rattle.rv64_instr.specs.declared.place.Place.{Place}
-use Rattle.emit_code.specs.Laid.{LaidCode, IsCodeOf}
-use Rattle.emit_code.specs.Rule.{Layout, words_of}
-use Rattle.run_command.proofs.Passed.{all_passed, passed_sources}
+use Rattle.std.specs.List.{flat_map}
+use Rattle.std.specs.Int.{w32, to_le_bytes}
+use Rattle.emit_code.specs.Laid.{LaidCode}
+use Rattle.compile_program.proofs.Passed.{all_passed, passed_sources}
 use Rattle.run_command.proofs.Runs.{compilation_can_run}
-use Rattle.run_command.proofs.Shown.{compilation_shows_code}
-use Rattle.run_command.specs.Compilation.{Compilation}
-use Rattle.run_command.specs.Program.{ArePassed, AreCoded, sources_of, IsCompilationOf, IsOutputOf, HasLargeFrame, HasLargeSection}
-use Rattle.run_command.specs.Program.{names_of, source_of, IsCompilable, steps_of}
+use Rattle.run_command.proofs.Shown.{compiled_whole, compilation_shows_code}
+use Rattle.compile_function.specs.declared.compile.CompiledFunction.{CompiledFunction}
+use Rattle.compile_program.specs.declared.compile.Compilation.{Compilation}
+use Rattle.compile_program.specs.Program.{ArePassed, IsCompiledAs, AreCompiledAs, sources_of, IsCompilationOf, IsOutputOf, HasLargeFrame, HasLargeSection}
+use Rattle.compile_program.specs.Program.{names_of, source_of, text_of, lists_of, IsCompilable, steps_of}
 use Rattle.listing_text.specs.declared.output.ListedFunction.{ListedFunction}
 use Rattle.listing_text.specs.declared.output.ListedVariable.{ListedVariable}
 use Rattle.selftest_count.specs.Runs.{GoApart}
@@ -20,10 +22,9 @@ use Rattle.dwarf_loclists.specs.declared.range.Location.{Location}
 use Rattle.dwarf_loclists.specs.declared.range.Location.TheVariants.{Whole, Parts}
 use Rattle.dwarf_loclists.specs.declared.range.Part.{Part}
 use Rattle.dwarf_loclists.specs.declared.range.Range.{Range}
-use Rattle.dwarf_loclists.specs.Grammar.{LocationAt}
+use Rattle.dwarf_loclists.specs.Grammar.{IsSection, LocationAt}
 use Rattle.dwarf_loclists.specs.Ranges.{Ascend, ArePlaces, location_in}
 use Rattle.pass_trait.specs.Steps.{PassStep}
-use Rattle.frame_rule.specs.Rule.{framed_of}
 use Rattle.gen_program.specs.Program.{generated_program}
 use Rattle.gen_program.specs.Laws.{MarksWhole}
 use Rattle.gen_program.proofs.Made.{IsMadeBlock}
@@ -50,7 +51,6 @@ use Rattle.sem_interpreter.specs.StandsFor.{AreCounted}
 use Rattle.compile_theorem.proofs.Functions.{words_length}
 use Rattle.compile_theorem.proofs.Headline.{compiled_promises}
 use Rattle.compile_theorem.proofs.Variables.{own_marks}
-use Rattle.compile_theorem.specs.Compiled.{IsCompiledFunction, AreCompiled, bytes_of}
 use Rattle.compile_theorem.specs.OutputProperties.{Gives, MeetsHeadline, Promises, variable_lines, variable_listed}
 use Rattle.compile_theorem.specs.Source.{SourceFunction, PassedFunction, MarksOneOf}
 use Rattle.pass_list.specs.declared.kind.PassKind.{PassKind}
@@ -59,7 +59,6 @@ use Rattle.listing_meaning.specs.Program.{image_of}
 use Rattle.dwarf_unit.specs.Variables.{whole, variables_of_function}
 use Rattle.location_of_variable.specs.Groups.{part_of}
 use Rattle.location_of_variable.specs.VariableLocation.{bytes_of as piece_bytes}
-use Rattle.invariance_code.proofs.Settled.{same_layout}
 use Rattle.selftest_command.specs.steps.First.{TestsFirst, FirstGoesApart}
 use Rattle.selftest_command.specs.Tested.{IsSelfTestOf}
 use Rattle.selftest_command.proofs.NoCalls.{code_calls_nothing}
@@ -67,41 +66,39 @@ use Rattle.selftest_command.proofs.Uses.{variables_apart, variables_whole}
 
 -- ---- the compilation of a program of one function
 
-record IsOne (names : ℕ → List ℕ) (meta : Maps) (q : Parsed) (text : List ℕ) (lists : List (List Range)) (ps : List PassedFunction) (fs : List ListedFunction)
-    (cs : List LaidCode) : Type 0 where
+-- the location lists of a function can be read
+abbrev ReadsLists : CompiledFunction → Type 0
+ReadsLists f = All (λ (ranges : List Range). Ascend ranges × ArePlaces ranges) f.lists
+
+record IsOne (names : ℕ → List ℕ) (reserve : List ℕ) (passes : List PassKind) (meta : Maps) (q : Parsed) (ps : List PassedFunction) (fs : List ListedFunction)
+    (cs : List CompiledFunction) : Type 0 where
   passed : PassedFunction
   listed : ListedFunction
-  code : LaidCode
+  function : CompiledFunction
   listed_is : fs ≡ listed ∷ []
-  code_is : cs ≡ code ∷ []
+  function_is : cs ≡ function ∷ []
   source : passed.source ≡ source_of q
   compilable : IsCompilable meta passed
-  compiled : IsCompiledFunction names passed 0 0 listed
-  text_is : text ≡ bytes_of compiled.layout
-  lists_is : lists ≡ compiled.lists
-  coded : IsCodeOf (framed_of passed.function) 0 code
+  is : IsCompiledAs names reserve passes passed 0 0 listed function
 
-is_one : (names : ℕ → List ℕ) (meta : Maps) (q : Parsed) (text : List ℕ) (lists : List (List Range)) (ps : List PassedFunction) (fs : List ListedFunction)
-    (cs : List LaidCode) → ArePassed meta (q ∷ []) ps → AreCompiled names 0 0 text lists ps fs → AreCoded 0 (map (λ p. p.function) ps) cs →
-    IsOne names meta q text lists ps fs cs
-is_one names meta q text lists [] fs cs are compiled coded = absurd are
-is_one names meta q text lists (p ∷ r ∷ ps) fs cs are compiled coded = absurd are.2
-is_one names meta q text lists (p ∷ []) [] cs are compiled coded = absurd compiled
-is_one names meta q text lists (p ∷ []) (f ∷ g ∷ fs) cs are (is, more, rest, text_is, lists_is, onward) coded = absurd onward
-is_one names meta q text lists (p ∷ []) (f ∷ []) [] are compiled coded = absurd coded
-is_one names meta q text lists (p ∷ []) (f ∷ []) (c ∷ d ∷ cs) are compiled coded = absurd coded.1
-is_one names meta q text lists (p ∷ []) (f ∷ []) (c ∷ []) are (is, more, rest, text_is, lists_is, onward) coded = record {
+is_one : (names : ℕ → List ℕ) (reserve : List ℕ) (passes : List PassKind) (meta : Maps) (q : Parsed) (ps : List PassedFunction) (fs : List ListedFunction)
+    (cs : List CompiledFunction) → ArePassed meta (q ∷ []) ps → AreCompiledAs names reserve passes 0 0 ps fs cs →
+    IsOne names reserve passes meta q ps fs cs
+is_one names reserve passes meta q [] fs cs are compiled = absurd are
+is_one names reserve passes meta q (p ∷ r ∷ ps) fs cs are compiled = absurd are.2
+is_one names reserve passes meta q (p ∷ []) [] cs are compiled = absurd compiled
+is_one names reserve passes meta q (p ∷ []) (f ∷ fs) [] are compiled = absurd compiled
+is_one names reserve passes meta q (p ∷ []) (f ∷ g ∷ fs) (c ∷ cs) are compiled = absurd compiled.1
+is_one names reserve passes meta q (p ∷ []) (f ∷ []) (c ∷ d ∷ cs) are compiled = absurd compiled.1
+is_one names reserve passes meta q (p ∷ []) (f ∷ []) (c ∷ []) are compiled = record {
   passed = p;
   listed = f;
-  code = c;
+  function = c;
   listed_is = refl;
-  code_is = refl;
+  function_is = refl;
   source = are.0;
   compilable = are.1;
-  compiled = is;
-  text_is = text_is ∙ ap (λ (x : List ℕ). bytes_of is.layout ++ x) onward.0 ∙ append-nil (bytes_of is.layout);
-  lists_is = lists_is ∙ ap (λ (x : List (List Range)). is.lists ++ x) onward.1 ∙ append-nil is.lists;
-  coded = coded.0;
+  is = compiled.0;
 }
 
 -- ---- lines of variables
@@ -152,14 +149,26 @@ module _ (number count : ℕ) (some : 1 ≤ count) (few : count ≤ 512) (reserv
   abbrev vs : List VarId
   vs = variables_of_function source.blocks
 
-  one : IsOne names program.meta parsed c.output.text c.lists is.functions c.output.functions c.codes
-  one = is_one names program.meta parsed c.output.text c.lists is.functions c.output.functions c.codes is.passed is.compiled is.coded
+  one : IsOne names reserve passes program.meta parsed is.functions c.output.functions c.functions
+  one = is_one names reserve passes program.meta parsed is.functions c.output.functions c.functions is.passed is.compiled
+
+  abbrev code : LaidCode
+  code = one.function.code
+
+  abbrev lists : List (List Range)
+  lists = one.function.lists
 
   listed_first : slice_get c.output.functions 0 ≡ Some one.listed
   listed_first = ap (λ (fs : List ListedFunction). slice_get fs 0) one.listed_is
 
-  code_first : slice_get c.codes 0 ≡ Some one.code
-  code_first = ap (λ (cs : List LaidCode). slice_get cs 0) one.code_is
+  function_first : slice_get c.functions 0 ≡ Some one.function
+  function_first = ap (λ (cs : List CompiledFunction). slice_get cs 0) one.function_is
+
+  lists_are : lists_of c.functions ≡ lists
+  lists_are = ap lists_of one.function_is ∙ append-nil lists
+
+  section : IsSection c.output.loclists lists
+  section = subst (IsSection c.output.loclists) lists_are is.section
 
   abbrev gives : VarId → (address : ℕ) → Place → Type 0
   gives = Gives c.output one.listed
@@ -169,34 +178,30 @@ module _ (number count : ℕ) (some : 1 ≤ count) (few : count ≤ 512) (reserv
       subst (λ (ss : List SourceFunction). Promises ss c.output) (sym (passed_sources program.meta program.functions is.functions is.passed))
       (compiled_promises names is.functions c.output (record {
         passed = all_passed program.meta program.functions is.functions is.passed;
-        compiled = record { lists = c.lists; section = is.section; functions = is.compiled };
+        compiled = compiled_whole reserve passes program c is;
       }))
 
   headline : MeetsHeadline c.output (source_of parsed) one.listed
   headline = promised.each 0 (source_of parsed) one.listed refl listed_first
 
-  shows : ShowsCode one.code (image_of c.output one.listed)
-  shows = compilation_shows_code reserve passes program c is 0 one.listed one.code listed_first code_first
+  shows : ShowsCode code (image_of c.output one.listed)
+  shows = compilation_shows_code reserve passes program c is 0 one.listed one.function listed_first function_first
 
-  words : length c.output.text ≡ 4 * length one.code.words
+  words : length c.output.text ≡ 4 * length code.words
   words =
-      let laid = one.compiled.laid in
-      let same : one.coded.layout ≡ one.compiled.layout =
-      same_layout one.coded.layout one.compiled.layout (one.coded.of ∙ sym laid.framed) (one.coded.from ∙ sym laid.from) one.coded.settled laid.settled in
-      let count : length one.code.words ≡ length (words_of one.compiled.layout) =
-      ap length one.coded.words ∙ ap (λ (l : Layout). length (words_of l)) same in
-      ap length one.text_is ∙ words_length (words_of one.compiled.layout) ∙ ap (λ (n : ℕ). 4 * n) (sym count)
+      ap length is.text ∙ ap (λ (cs : List CompiledFunction). length (text_of cs)) one.function_is
+      ∙ ap length (append-nil (flat_map (to_le_bytes w32) code.words)) ∙ words_length code.words
 
   -- ---- what the lists tell
 
   listed_lines : one.listed.variables ≡ variable_lines names 0 vs
   listed_lines =
-      ap (λ (g : ListedFunction). g.variables) one.compiled.listed
+      ap (λ (g : ListedFunction). g.variables) one.is.compiled.listed
       ∙ ap (λ (s : SourceFunction). variable_lines names 0 (variables_of_function s.function.blocks)) one.source
 
-  as_many : length c.lists ≡ length vs
+  as_many : length lists ≡ length vs
   as_many =
-      ap length one.lists_is ∙ one.compiled.located.for_all ∙ ap (λ (s : SourceFunction). length (variables_of_function s.function.blocks)) one.source
+      ap length one.is.lists ∙ one.is.compiled.located.for_all ∙ ap (λ (s : SourceFunction). length (variables_of_function s.function.blocks)) one.source
 
   line_at : (k : ℕ) (v : VarId) → slice_get vs k ≡ Some v → slice_get one.listed.variables k ≡ Some (variable_listed names k v)
   line_at k v e =
@@ -205,9 +210,9 @@ module _ (number count : ℕ) (some : 1 ≤ count) (few : count ≤ 512) (reserv
         zero_plus : 0 + k ≡ k
         zero_plus = omega arith
 
-  module _ (k : ℕ) (v : VarId) (ranges : List Range) (a : ℕ) (v_is : slice_get vs k ≡ Some v) (ranges_are : slice_get c.lists k ≡ Some ranges) where
+  module _ (k : ℕ) (v : VarId) (ranges : List Range) (a : ℕ) (v_is : slice_get vs k ≡ Some v) (ranges_are : slice_get lists k ≡ Some ranges) where
     located : (l : Location) → location_in ranges a ≡ Some l → LocationAt c.output.loclists k a (Some l)
-    located l at = record { lists = c.lists; ranges = ranges; section = is.section; list = ranges_are; found = sym at }
+    located l at = record { lists = lists; ranges = ranges; section = section; list = ranges_are; found = sym at }
 
     named : v ≡ whole v
     named = holds_at (λ (w : VarId). w ≡ whole w) vs k v v_is (variables_whole source.blocks)
@@ -233,11 +238,11 @@ module _ (number count : ℕ) (some : 1 ≤ count) (few : count ≤ 512) (reserv
   marked = λ k d l k' d' l'.
       mark_part vs _ (own_marks source.blocks k d l k' d' l') (generated_functions_mark_wholes number count some few k d l k' d' l')
 
-  are_given : AreGiven gives source vs vs c.lists
+  are_given : AreGiven gives source vs vs lists
   are_given = record {
     for_all = as_many;
     apart = variables_apart source.blocks;
-    places = is.writable.places;
+    places = one.is.writable.places;
     each = λ k v ranges a l v_is ranges_are at. given k v ranges a v_is ranges_are l at;
     marked = marked;
   }
@@ -247,7 +252,7 @@ module _ (number count : ℕ) (some : 1 ≤ count) (few : count ≤ 512) (reserv
   no_fault : HasNoFault source (resolve [])
   no_fault s begins n e = generated_runs_dont_fault number count some few (resolve []) s (starts_at source s begins) n e
 
-  no_call : HasNoCall one.code
+  no_call : HasNoCall code
   no_call =
       let p = one.passed in
       let fp : Graph = program_of false p.function.blocks (resolve p.substitutions) in
@@ -255,48 +260,55 @@ module _ (number count : ℕ) (some : 1 ≤ count) (few : count ≤ 512) (reserv
       subst (λ (s : SourceFunction). Shape s.function.blocks p.function.blocks
       (program_of true s.function.blocks (resolve s.substitutions)) fp) one.source
       one.compilable.passed.follower.follows.shape in
-      code_calls_nothing source p.function (resolve []) fp (of_made (λ i. IsMild i.kind) (λ i m. made_mild m.made) number count few) shape 0 one.code one.coded
+      code_calls_nothing source p.function (resolve []) fp (of_made (λ i. IsMild i.kind) (λ i m. made_mild m.made) number count few) shape 0 code one.is.code
 
   -- ---- the test
 
   same_source : (p : Parsed) → slice_get program.functions 0 ≡ Some p → parsed ≡ p
   same_source p e = cc
 
-  same_code : (k : LaidCode) → slice_get c.codes 0 ≡ Some k → one.code ≡ k
-  same_code k e = let both : Some one.code ≡ Some k = sym code_first ∙ e in cc
+  same_function : (k : CompiledFunction) → slice_get c.functions 0 ≡ Some k → one.function ≡ k
+  same_function k e = let both : Some one.function ≡ Some k = sym function_first ∙ e in cc
 
   pub tested : (output : IsOutputOf (steps_of reserve passes) (generated_program number count) c.output) (text : List ℕ) →
       TestsFirst (generated_program number count) c text → IsSelfTestOf reserve passes number count text
   tested output text t =
-      let tests : IsSelfTest source (resolve []) one.code c.lists vs text =
-      subst (λ (k : LaidCode). IsSelfTest source (resolve []) k c.lists vs text) (sym (same_code t.code t.first.coded))
-      (subst (λ (p : Parsed). IsSelfTest p.func (resolve p.subs) t.code c.lists (variables_of_function p.func.blocks) text)
+      let tests : IsSelfTest source (resolve []) code lists vs text =
+      subst (λ (k : CompiledFunction). IsSelfTest source (resolve []) k.code k.lists vs text) (sym (same_function t.function t.first.compiled))
+      (subst (λ (p : Parsed). IsSelfTest p.func (resolve p.subs) t.function.code t.function.lists (variables_of_function p.func.blocks) text)
       (sym (same_source t.source t.first.read)) t.tests) in
       record {
         compilation = c;
         output = output;
         compiled = is;
-        code = one.code;
-        codes = one.code_is;
+        function = one.function;
+        functions = one.function_is;
         listed = one.listed;
-        functions = one.listed_is;
+        listings = one.listed_is;
         shows = shows;
         words = words;
         tests = tests;
-        known = reads_are_known gives source (resolve []) (image_of c.output one.listed) one.code c.lists vs vs MAX_STEPS tests.counts headline shows are_given
+        known = reads_are_known gives source (resolve []) (image_of c.output one.listed) code lists vs vs MAX_STEPS tests.counts headline shows are_given
             tests.counted;
       }
 
   pub runs_long : FirstGoesApart (generated_program number count) c → RunsLong (generated number count) (resolve [])
   runs_long t =
       let apart =
-      subst (λ (k : LaidCode). GoApart source (resolve []) k c.lists vs MAX_STEPS) (sym (same_code t.code t.first.coded))
-      (subst (λ (p : Parsed). GoApart p.func (resolve p.subs) t.code c.lists (variables_of_function p.func.blocks) MAX_STEPS)
+      subst (λ (k : CompiledFunction). GoApart source (resolve []) k.code k.lists vs MAX_STEPS) (sym (same_function t.function t.first.compiled))
+      (subst (λ (p : Parsed). GoApart p.func (resolve p.subs) t.function.code t.function.lists (variables_of_function p.func.blocks) MAX_STEPS)
       (sym (same_source t.source t.first.read)) t.apart) in
-      runs_go_together gives source (resolve []) (image_of c.output one.listed) one.code c.lists vs MAX_STEPS headline shows no_fault no_call apart
+      runs_go_together gives source (resolve []) (image_of c.output one.listed) code lists vs MAX_STEPS headline shows no_fault no_call apart
 
-  pub has_code : 0 < length c.codes
-  has_code = let e = ap length one.code_is in omega (arith, e)
+  pub has_function_compiled : 0 < length c.functions
+  has_function_compiled = let e = ap length one.function_is in omega (arith, e)
+
+  pub can_be_read_one : All ReadsLists c.functions
+  can_be_read_one =
+      subst (All ReadsLists) (sym one.function_is)
+      (All-cons ReadsLists one.function []
+      (subst (All (λ (ranges : List Range). Ascend ranges × ArePlaces ranges)) lists_are (compilation_can_run reserve passes program c is).readable)
+      (All-nil ReadsLists))
 
 -- ---- what the test needs
 
@@ -309,10 +321,6 @@ is_counted number count few =
     let parsed : Parsed = record { func = generated number count; subs = [] } in
     All-cons P parsed [] (All-weaker (IsMadeBlock TOP) (λ (b : Block). length b.items < 2 ^ 32) block_counted (generated number count).blocks
     (generated_made number count few)) (All-nil P)
-
-pub can_be_read : (reserve : List ℕ) (passes : List PassKind) (p : Program) (c : Compilation) → IsCompilationOf reserve passes p c →
-    All (λ (ranges : List Range). Ascend ranges × ArePlaces ranges) c.lists
-can_be_read reserve passes p c is = (compilation_can_run reserve passes p c is).readable
 
 -- ---- the same of a program that is the generated one
 
@@ -333,11 +341,14 @@ module _ (number count : ℕ) (p : Program) (same : p ≡ generated_program numb
     compiled : IsCompilationOf reserve passes (generated_program number count) c
     compiled = subst (λ (x : Program). IsCompilationOf reserve passes x c) same is
 
-    pub codes_there : 0 < length c.codes
-    codes_there = has_code number count some few reserve passes c compiled
+    pub function_compiled : 0 < length c.functions
+    function_compiled = has_function_compiled number count some few reserve passes c compiled
 
-    text_of : (text : List ℕ) → IsOutputOf (steps_of reserve passes) p c.output → TestsFirst p c text → IsSelfTestOf reserve passes number count text
-    text_of text output t =
+    pub can_be_read : All ReadsLists c.functions
+    can_be_read = can_be_read_one number count some few reserve passes c compiled
+
+    one_text_of : (text : List ℕ) → IsOutputOf (steps_of reserve passes) p c.output → TestsFirst p c text → IsSelfTestOf reserve passes number count text
+    one_text_of text output t =
         tested number count some few reserve passes c compiled (subst (λ (x : Program). IsOutputOf (steps_of reserve passes) x c.output) same output) text
         (subst (λ (x : Program). TestsFirst x c text) same t)
 
@@ -346,7 +357,7 @@ module _ (number count : ℕ) (p : Program) (same : p ≡ generated_program numb
 
     pub texts_of : (o : Option (List ℕ)) → IsOutputOf (steps_of reserve passes) p c.output → IfSome o (TestsFirst p c) →
         IfSome o (IsSelfTestOf reserve passes number count)
-    texts_of (Some text) output t = text_of text output t
+    texts_of (Some text) output t = one_text_of text output t
     texts_of None output t = tt
 
     pub longs_of : (o : Option (List ℕ)) → IfNone o (FirstGoesApart p c) → IfNone o (RunsLong (generated number count) (resolve []))
@@ -354,4 +365,4 @@ module _ (number count : ℕ) (p : Program) (same : p ≡ generated_program numb
     longs_of None t = long_of t
 
 -- what the self-test of a compilation rests on
-pub ruleset joined = (has_function, all_counted, codes_there, can_be_read, texts_of, longs_of, frame_of, section_of)
+pub ruleset joined = (has_function, all_counted, function_compiled, can_be_read, texts_of, longs_of, frame_of, section_of)

@@ -1,14 +1,14 @@
 -- The self-test of a generated function.
 use Rattle.std.specs.Prelude.{◌≡◌, ℕ, ◌*◌, ◌≤◌, List, [], ◌∷◌, length}
-use Rattle.emit_code.specs.Laid.{LaidCode}
 use Rattle.listing_text.specs.declared.output.ListedFunction.{ListedFunction}
 use Rattle.selftest_count.specs.Text.{IsSelfTest}
 use Rattle.gen_program.specs.Program.{generated_program}
 use Rattle.mir_func.specs.Resolve.{resolve}
 use Rattle.gen_function.specs.Generator.{generated}
 use Rattle.pass_list.specs.declared.kind.PassKind.{PassKind}
-use Rattle.run_command.specs.Compilation.{Compilation}
-use Rattle.run_command.specs.Program.{IsCompilationOf, IsOutputOf, steps_of}
+use Rattle.compile_function.specs.declared.compile.CompiledFunction.{CompiledFunction}
+use Rattle.compile_program.specs.declared.compile.Compilation.{Compilation}
+use Rattle.compile_program.specs.Program.{IsCompilationOf, IsOutputOf, steps_of}
 use Rattle.sim_machine.specs.Shown.{ShowsCode}
 use Rattle.listing_meaning.specs.Program.{image_of}
 use Rattle.dwarf_unit.specs.Variables.{variables_of_function}
@@ -21,11 +21,11 @@ pub record IsSelfTestOf (reserve : List ℕ) (passes : List PassKind) (number bl
   pub compilation : Compilation
   pub output : IsOutputOf (steps_of reserve passes) (generated_program number blocks) compilation.output
   pub compiled : IsCompilationOf reserve passes (generated_program number blocks) compilation
-  pub code : LaidCode
-  pub codes : compilation.codes ≡ code ∷ []
+  pub function : CompiledFunction
+  pub functions : compilation.functions ≡ function ∷ []
   pub listed : ListedFunction
-  pub functions : compilation.output.functions ≡ listed ∷ []
-  pub shows : ShowsCode code (image_of compilation.output listed)
-  pub words : length compilation.output.text ≡ 4 * length code.words
-  pub tests : IsSelfTest (generated number blocks) (resolve []) code compilation.lists (variables_of_function (generated number blocks).blocks) text
+  pub listings : compilation.output.functions ≡ listed ∷ []
+  pub shows : ShowsCode function.code (image_of compilation.output listed)
+  pub words : length compilation.output.text ≡ 4 * length function.code.words
+  pub tests : IsSelfTest (generated number blocks) (resolve []) function.code function.lists (variables_of_function (generated number blocks).blocks) text
   pub known : tests.counts.reads ≤ tests.counts.known

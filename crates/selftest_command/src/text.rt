@@ -7,13 +7,15 @@ ghost use Rattle.gen_program.specs.Program.{generated_program};
 ghost use Rattle.mir_func.specs.Resolve.{resolve};
 ghost use Rattle.gen_function.specs.Generator.{generated};
 ghost use Rattle.read_program.specs.declared.closing.Parsed.{Parsed};
+ghost use Rattle.compile_function.specs.declared.compile.CompiledFunction.{CompiledFunction};
 ghost use Rattle.sem_interpreter.specs.StandsFor.{AreCounted};
 ghost use Rattle.pass_list.specs.Names.{AreDistinct};
 ghost use Rattle.compile_program.specs.Program.{HasLargeFrame, HasLargeSection, steps_of};
 ghost use Rattle.selftest_command.specs.Tested.{IsSelfTestOf};
 ghost use Rattle.selftest_command.specs.steps.First.{TestsFirst, FirstGoesApart};
 
-use compile_program::compile::{Compilation, CompileError, compile};
+use compile_function::error::CompileError;
+use compile_program::compile::{Compilation, compile};
 use dwarf_unit::variables::variables;
 use gen_program::program::generated_program;
 use mir_printer::text::Text;
@@ -59,21 +61,22 @@ fn first_tested(
     compilation: &Compilation,
 ) -> Result<Option<Text>, AllocError>
     requires functions { 0 < length program.now.functions }
-    requires codes { 0 < length compilation.now.codes }
+    requires compiled { 0 < length compilation.now.functions }
     requires counted { All (λ (p : Parsed). AreCounted p.func.blocks) program.now.functions }
-    requires readable { All (λ ranges. Ascend ranges × ArePlaces ranges) compilation.now.lists }
+    requires readable { All (λ (f : CompiledFunction). All (λ ranges. Ascend ranges × ArePlaces ranges) f.lists)
+        compilation.now.functions }
     ensures text { IfOk result (λ o. IfSome o (TestsFirst program.now compilation.now)) }
     ensures apart { IfOk result (λ o. IfNone o (FirstGoesApart program.now compilation.now)) }
 {
     let source = &program.functions.as_slice()[0];
-    let code = &compilation.codes.as_slice()[0];
+    let function = &compilation.functions.as_slice()[0];
     let parts = variables(alloc, source.func.blocks.as_slice())?;
     self_test_text(
         alloc,
         &source.func,
         &source.subs,
-        code,
-        &compilation.lists,
+        &function.code,
+        &function.lists,
         parts.as_slice(),
     )
 }

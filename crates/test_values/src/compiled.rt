@@ -3,6 +3,7 @@
 use crate::text::{function_of, register};
 use compile_function::compile::compile_function;
 use dwarf_loclists::range::{Location, Range, Ranges};
+use pass_trait::loss::Losses;
 use rv64_instr::place::Place;
 use std::alloc::Global;
 use std::test::Fail;
@@ -39,7 +40,8 @@ fn are_ranges(list: &Ranges, wanted: &[(u64, u64, u32)]) -> Result<bool, Fail> {
 /// Whether the ranges of a function's first variable are these.
 fn has_ranges(alloc: Global, body: &str, wanted: &[(u64, u64, u32)]) -> Result<bool, Fail> {
     let parsed = function_of(alloc, body)?;
-    let compiled = compile_function(alloc, &parsed.func, &parsed.func, &parsed.subs, 0)?;
+    let losses = Losses::new(alloc);
+    let compiled = compile_function(alloc, &parsed.func, &parsed.func, &parsed.subs, losses, 0)?;
     match compiled.lists.as_slice().first() {
         Some(list) => are_ranges(list, wanted),
         None => Ok(false),

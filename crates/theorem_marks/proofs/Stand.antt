@@ -1,5 +1,5 @@
 -- The law.
-use Rattle.std.proofs.Common.{◌≡◌, ◌⊎◌, inl, inr, ℕ, zero, suc, ◌<◌, List, [], ◌∷◌, length, All, Some, slice_get, true, false}
+use Rattle.std.proofs.Common.{◌≡◌, ◌⊎◌, inl, inr, ℕ, zero, suc, ◌+◌, ◌<◌, List, [], ◌∷◌, length, All, Some, slice_get, true, false}
 use Rattle.std.proofs.Common.{refl, sym, ap, ◌∙◌, arith}
 use Rattle.std.specs.Prelude.{slice_index_or}
 use Rattle.std.proofs.lemmas.List.Elements.{All-contains}
@@ -18,13 +18,14 @@ use Rattle.sem_mir.specs.Align.{is_code, position_of}
 use Rattle.sem_mir.specs.Follow.{InOrder, IsRead}
 use Rattle.sem_mir.proofs.Reading.{found_in, front_item, within_list}
 use Rattle.pass_trait.specs.Change.{change}
-use Rattle.pass_trait.specs.declared.loss.Loss.{Loss}
+use Rattle.listing_text.specs.declared.output.ListedFunction.{ListedFunction}
 use Rattle.pass_trait.specs.Rule.{StandsAt}
 use Rattle.read_metadata.specs.Maps.{Maps}
 use Rattle.read_program.specs.declared.closing.Parsed.{Parsed}
 use Rattle.compile_theorem.specs.Source.{PassedFunction}
 use Rattle.pass_list.specs.declared.kind.PassKind.{PassKind}
-use Rattle.compile_program.specs.Program.{ArePassed, AreMadeLosing, passes_of}
+use Rattle.compile_function.specs.declared.compile.CompiledFunction.{CompiledFunction}
+use Rattle.compile_program.specs.Program.{ArePassed, AreCompiledAs, names_of, passes_of}
 use Rattle.theorem_marks.specs.Stand.{KeepsDebugValue, MarksStand, AllStand, CompiledMarksStand}
 use Rattle.theorem_marks.proofs.Marks.{IsMark, HaveMark, passes_keep}
 use Rattle.theorem_marks.proofs.Order.{at_least, kept_later}
@@ -122,14 +123,19 @@ marks_stand reserve passes p told passed made at i v m stands is untold =
     (passes_keep at v (passes_of reserve passes) (change f p.source.substitutions g p.substitutions) told made untold
     (read_mark f passed.follower.read at i v m stands is))
 
-all_stand : (reserve : List ℕ) (passes : List PassKind) (meta : Maps) (read : List Parsed) (ps : List PassedFunction) (told : List (List Loss)) →
-    ArePassed meta read ps → AreMadeLosing reserve passes ps told → AllStand ps told
-all_stand reserve passes meta read [] [] passed made = tt
-all_stand reserve passes meta read [] (l ∷ ls) passed made = made
-all_stand reserve passes meta read (p ∷ ps) [] passed made = made
-all_stand reserve passes meta [] (p ∷ ps) (l ∷ ls) passed made = absurd passed
-all_stand reserve passes meta (f ∷ fs) (p ∷ ps) (l ∷ ls) passed made =
-    (marks_stand reserve passes p l passed.1.passed made.0, all_stand reserve passes meta fs ps ls passed.2 made.1)
+all_stand : (names : ℕ → List ℕ) (reserve : List ℕ) (passes : List PassKind) (meta : Maps) (base first : ℕ) (read : List Parsed) (ps : List PassedFunction)
+    (fs : List ListedFunction) (cs : List CompiledFunction) → ArePassed meta read ps → AreCompiledAs names reserve passes base first ps fs cs → AllStand ps cs
+all_stand names reserve passes meta base first read [] [] [] passed are = tt
+all_stand names reserve passes meta base first read [] [] (c ∷ cs) passed are = are
+all_stand names reserve passes meta base first read [] (f ∷ fs) cs passed are = absurd are
+all_stand names reserve passes meta base first read (p ∷ ps) [] cs passed are = absurd are
+all_stand names reserve passes meta base first read (p ∷ ps) (f ∷ fs) [] passed are = are
+all_stand names reserve passes meta base first [] (p ∷ ps) (f ∷ fs) (c ∷ cs) passed are = absurd passed
+all_stand names reserve passes meta base first (q ∷ qs) (p ∷ ps) (f ∷ fs) (c ∷ cs) passed are = (
+  marks_stand reserve passes p c.losses passed.1.passed are.0.lost,
+  all_stand names reserve passes meta f.high (first + length c.lists) qs ps fs cs passed.2 are.1,
+)
 
 pub compiled_stand : CompiledMarksStand
-compiled_stand reserve passes p c is = all_stand reserve passes p.meta p.functions is.functions c.losses is.passed is.lost
+compiled_stand reserve passes p c is =
+    all_stand (names_of p.meta) reserve passes p.meta 0 0 p.functions is.functions c.output.functions c.functions is.passed is.compiled

@@ -15,6 +15,7 @@ use Rattle.pass_trait.specs.Rule.{StandsAt, mark_lost}
 use Rattle.read_program.specs.declared.program.Program.{Program}
 use Rattle.compile_theorem.specs.Source.{PassedFunction, IsPassedFunction}
 use Rattle.pass_list.specs.declared.kind.PassKind.{PassKind}
+use Rattle.compile_function.specs.declared.compile.CompiledFunction.{CompiledFunction}
 use Rattle.compile_program.specs.declared.compile.Compilation.{Compilation}
 use Rattle.compile_program.specs.Program.{IsCompilationOf, IsMadeLosing}
 
@@ -47,13 +48,13 @@ MarksStand = (reserve : List ℕ) (passes : List PassKind) (p : PassedFunction) 
     IsMadeLosing reserve passes p told → MarksStandIn p told
 
 -- For each of these functions, all debug values of its source are there, except those that its losses report.
-abbrev pub AllStand : List PassedFunction → (told : List (List Loss)) → Type 0
+abbrev pub AllStand : List PassedFunction → List CompiledFunction → Type 0
 AllStand [] [] = Unit {0}
-AllStand [] (l ∷ ls) = ⊥
+AllStand [] (c ∷ cs) = ⊥
 AllStand (p ∷ ps) [] = ⊥
-AllStand (p ∷ ps) (l ∷ ls) = MarksStandIn p l × AllStand ps ls
+AllStand (p ∷ ps) (c ∷ cs) = MarksStandIn p c.losses × AllStand ps cs
 
--- This holds for every compilation of a program, for its passed functions and their losses.
+-- This holds for every compilation of a program, for its passed functions and what is made of them.
 abbrev pub CompiledMarksStand : Type 0
 CompiledMarksStand = (reserve : List ℕ) (passes : List PassKind) (p : Program) (c : Compilation) →
-    (is : IsCompilationOf reserve passes p c) → AllStand is.functions c.losses
+    (is : IsCompilationOf reserve passes p c) → AllStand is.functions c.functions

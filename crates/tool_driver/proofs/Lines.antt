@@ -13,7 +13,7 @@ use Rattle.dwarf_line_table.specs.Laws.{LieFrom}
 use Rattle.mir_func.specs.Function.{Function, FramedFunction}
 use Rattle.read_metadata.specs.Maps.{Maps}
 use Rattle.compile_theorem.specs.Source.{PassedFunction}
-use Rattle.run_command.specs.Program.{AreCoded, HasSections}
+use Rattle.compile_program.specs.Program.{AreCoded, HasSections}
 use Rattle.dwarf_line_table.specs.declared.compiled.Compiled.{Compiled}
 use Rattle.tool_driver.specs.Lines.{GivesLines}
 

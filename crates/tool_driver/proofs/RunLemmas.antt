@@ -17,7 +17,7 @@ use Rattle.cli.specs.Fault.{status_of, line_of}
 use Rattle.read_program.specs.declared.program.Program.{Program}
 use Rattle.listing_text.specs.declared.output.Output.{Output}
 use Rattle.compile_output_proof.proofs.Functions.{printable}
-use Rattle.run_command.specs.Program.{IsOutputOf}
+use Rattle.compile_program.specs.Program.{IsOutputOf}
 use Rattle.read_proof.proofs.Texts.{programs_are_as_read}
 use Rattle.tool_driver.specs.Limits.{INPUT_LIMIT}
 use Rattle.tool_driver.specs.Compiled.{IsCompiledText, plan_steps}

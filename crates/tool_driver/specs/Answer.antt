@@ -5,7 +5,7 @@ use Rattle.read_refusal.specs.declared.first.Refusal.{Refusal}
 use Rattle.read_program.specs.declared.program.Program.{Program}
 use Rattle.read_program.specs.declared.error.ParseError.TheVariants as errors
 use Rattle.read_program.specs.Program.{ReadsText}
-use Rattle.run_command.specs.Program.{HasLargeFrame, HasLargeSection}
+use Rattle.compile_program.specs.Program.{HasLargeFrame, HasLargeSection}
 use Rattle.strip_command.specs.StripText.{stripped_text}
 use Rattle.cli.specs.declared.command.Command.{Command}
 use Rattle.cli.specs.declared.command.Command.TheVariants.{Compile, Listing, Report, Object, Run, Strip, Gen, SelfTest}
@@ -15,7 +15,7 @@ use Rattle.cli.specs.declared.fault.Fault.TheVariants.{FrameTooLarge, SymbolName
 use Rattle.cli.specs.declared.command.PassPipeline.{PassPipeline}
 use Rattle.cli.specs.declared.command.RunPlan.{RunPlan}
 use Rattle.cli.specs.declared.command.TestPlan.{TestPlan}
-use Rattle.run_command.specs.Reported.{IsReportText}
+use Rattle.report_command.specs.Reported.{IsReportText}
 use Rattle.run_command.specs.Source.{IsUnknown, IsRunOfProgram}
 use Rattle.gen_program.specs.Program.{generated_program}
 use Rattle.selftest_command.specs.Tested.{IsSelfTestOf}

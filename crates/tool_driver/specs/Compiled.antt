@@ -6,7 +6,7 @@ use Rattle.cli.specs.declared.command.PassPipeline.{PassPipeline}
 use Rattle.pass_trait.specs.Steps.{PassStep}
 use Rattle.read_program.specs.declared.program.Program.{Program}
 use Rattle.object_command.specs.Object.{HaveSymbolNames, IsObjectOf, HasLargeObject}
-use Rattle.run_command.specs.Program.{IsOutputOf, HasLargeSection, steps_of}
+use Rattle.compile_program.specs.Program.{IsOutputOf, HasLargeSection, steps_of}
 
 -- the steps of a plan: its passes, with the registers that may be spilled
 abbrev pub plan_steps : PassPipeline → List PassStep

@@ -15,7 +15,7 @@ use Rattle.cli.specs.declared.fault.Fault.TheVariants.{Usage, Read, TooLong, Ref
 use Rattle.cli.specs.declared.fault.Fault.TheVariants.{FrameTooLarge, SymbolName, SectionTooLarge, Write, Memory}
 use Rattle.cli.specs.Command.{IsCommand}
 use Rattle.cli.specs.Fault.{line_of}
-use Rattle.run_command.specs.Reported.{IsReportText}
+use Rattle.report_command.specs.Reported.{IsReportText}
 use Rattle.run_command.specs.Source.{IsRunOfProgram}
 use Rattle.gen_text.specs.GeneratedText.{generated_text}
 use Rattle.readback_functions.specs.Bytes.{AreBytes}
@@ -29,7 +29,7 @@ use Rattle.compile_theorem.specs.OutputProperties.{AreLaidOut, Promises, IsExact
 use Rattle.compile_theorem.specs.Source.{PassedFunction}
 use Rattle.compile_theorem.specs.Words.{HaveWords}
 use Rattle.object_command.specs.Object.{IsObjectOf}
-use Rattle.run_command.specs.Program.{sources_of, ArePassed, HasSections, IsMadeBy, IsOutputOf, names_of}
+use Rattle.compile_program.specs.Program.{sources_of, ArePassed, HasSections, IsMadeBy, IsOutputOf, names_of}
 use Rattle.tool_driver.specs.Lines.{GivesLines}
 use Rattle.tool_driver.specs.Promise.{AllGiveBack, AllStopWell, AllListKept}
 use Rattle.tool_driver.specs.Stream.{Change, MetFault, IsUnread, IsReadWhole, IsReadFor, IsWrittenWhole, IsWrittenInPart, IsTold}

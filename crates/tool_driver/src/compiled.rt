@@ -11,7 +11,8 @@ ghost use Rattle.read_proof.specs.Read.{IsReadProgram};
 
 use cli::command::{PassPipeline, RunPlan, TestPlan};
 use cli::fault::Fault;
-use compile_program::compile::{Compilation, CompileError, compile};
+use compile_function::error::CompileError;
+use compile_program::compile::{Compilation, compile};
 use listing_text::print::{print_listing, print_output};
 use mir_printer::text::Text;
 use object_command::object::{ObjectError, object};
@@ -77,9 +78,7 @@ fn object_in(
 {
     let Compilation {
         output,
-        codes: _,
-        lists: _,
-        losses: _,
+        functions: _,
     } = compilation;
     match object(alloc, output) {
         Ok(bytes) => Ok(bytes),

@@ -1,29 +1,29 @@
 -- A self-test of the first function of a compiled program.
 use Rattle.std.specs.Prelude.{◌≡◌, ℕ, List, Some, slice_get}
-use Rattle.emit_code.specs.Laid.{LaidCode}
 use Rattle.selftest_count.specs.Runs.{GoApart}
 use Rattle.selftest_count.specs.Text.{MAX_STEPS, IsSelfTest}
 use Rattle.mir_func.specs.Resolve.{resolve}
 use Rattle.read_program.specs.declared.closing.Parsed.{Parsed}
 use Rattle.read_program.specs.declared.program.Program.{Program}
-use Rattle.run_command.specs.Compilation.{Compilation}
+use Rattle.compile_function.specs.declared.compile.CompiledFunction.{CompiledFunction}
+use Rattle.compile_program.specs.declared.compile.Compilation.{Compilation}
 use Rattle.dwarf_unit.specs.Variables.{variables_of_function}
 
--- the first function of a program and its machine code
-pub record IsFirst (p : Program) (c : Compilation) (source : Parsed) (code : LaidCode) : Type 0 where
+-- the first function of a program, and what is made of it
+pub record IsFirst (p : Program) (c : Compilation) (source : Parsed) (function : CompiledFunction) : Type 0 where
   pub read : slice_get p.functions 0 ≡ Some source
-  pub coded : slice_get c.codes 0 ≡ Some code
+  pub compiled : slice_get c.functions 0 ≡ Some function
 
 -- the text is that of a self-test of the first function
 pub record TestsFirst (p : Program) (c : Compilation) (text : List ℕ) : Type 0 where
   pub source : Parsed
-  pub code : LaidCode
-  pub first : IsFirst p c source code
-  pub tests : IsSelfTest source.func (resolve source.subs) code c.lists (variables_of_function source.func.blocks) text
+  pub function : CompiledFunction
+  pub first : IsFirst p c source function
+  pub tests : IsSelfTest source.func (resolve source.subs) function.code function.lists (variables_of_function source.func.blocks) text
 
 -- the runs of the first function and of its machine code diverge
 pub record FirstGoesApart (p : Program) (c : Compilation) : Type 0 where
   pub source : Parsed
-  pub code : LaidCode
-  pub first : IsFirst p c source code
-  pub apart : GoApart source.func (resolve source.subs) code c.lists (variables_of_function source.func.blocks) MAX_STEPS
+  pub function : CompiledFunction
+  pub first : IsFirst p c source function
+  pub apart : GoApart source.func (resolve source.subs) function.code function.lists (variables_of_function source.func.blocks) MAX_STEPS

@@ -1,18 +1,21 @@
-use Rattle.std.proofs.Common.{◌≡◌, map, arith, rules}
-use Rattle.std.proofs.lemmas.List.{length-map}
+use Rattle.std.proofs.Common.{◌≡◌, ◌<◌, ◌∙◌, ap, map, length, arith, rules, refl}
+use Rattle.dwarf_base.specs.Limits.{SECTION_LIMIT}
+use Rattle.dwarf_info.specs.Entries.{spelling as entries_spelling}
+use Rattle.dwarf_unit.specs.Unit.{unit_of}
+use Rattle.listing_text.specs.declared.output.Output.{Output}
 use Rattle.read_program.specs.declared.closing.Parsed.{Parsed}
-use Rattle.compile_theorem.specs.Source.{PassedFunction}
 use Rattle.dwarf_line_table.specs.declared.compiled.Compiled.{Compiled}
-use Rattle.compile_program.proofs.Behind.{coded_length, passed_length}
+use Rattle.compile_function.specs.declared.compile.CompiledFunction.{CompiledFunction}
+use Rattle.compile_function.specs.Emitted.{lists_of}
+use Rattle.compile_program.specs.Program.{IsLarge}
+use Rattle.compile_program.proofs.Compiled.{emitted_length, emitted_ascend, emitted_places, large_section, whole_output}
 use Rattle.compile_program.proofs.Listed.{program_few}
 use Rattle.compile_program.proofs.compile.compiled.Goals as goal
 
 pub with_code-requires : goal.with_code-requires
 with_code-requires c =
-    let many = coded_length 0 _ _ c.requires.made.coded in
-    let as_many = passed_length _ _ _ c.requires.made.are in
-    let same = length-map c.requires.made.passed (λ (p : PassedFunction). p.function) in
-    search (rules, many, as_many, same)
+    let as_many = emitted_length _ _ _ _ _ c.requires.made in
+    search (rules, as_many)
 
 pub info-requires : goal.info-requires
 info-requires c =
@@ -21,3 +24,63 @@ info-requires c =
     let few = program_few c.args.program.now.meta c.as_slice-compiled.result.now c.args.program.now.functions same c.requires.read.functions in
     let functions = c.requires.read.few in
     omega (arith, few, functions)
+
+pub loclists-requires-clause-ascend : goal.loclists-requires-clause-ascend
+loclists-requires-clause-ascend c =
+    emitted_ascend _ _ _ _ _ c.requires.made c.in_ok-lists.lists (c.in_ok-lists.ensures ∙ ap lists_of c.as_slice-3.ensures)
+
+pub loclists-requires-clause-places : goal.loclists-requires-clause-places
+loclists-requires-clause-places c =
+    emitted_places _ _ _ _ _ c.requires.made c.in_ok-lists.lists (c.in_ok-lists.ensures ∙ ap lists_of c.as_slice-3.ensures)
+
+pub returns-in_err-info-clause-section_too_large : goal.returns-in_err-info-clause-section_too_large
+returns-in_err-info-clause-section_too_large c is =
+    let sources : map (λ (x : Compiled). x.source.now) c.as_slice-compiled.result.now ≡ map (λ (p : Parsed). p.func) c.args.program.now.functions =
+    search rules in
+    let codes : map (λ (x : Compiled). x.code.now) c.as_slice-compiled.result.now ≡ map (λ (f : CompiledFunction). f.code) c.args.made.functions =
+    search rules in
+    let large : IsLarge c.args.program.now.meta (length c.args.made.text) c.in_ok-lists.lists c.as_slice-compiled.result.now = search (rules, is) in
+    large_section c.args.program.now _ _ c.args.made c.requires.made c.in_ok-lists.lists (c.in_ok-lists.ensures ∙ ap lists_of c.as_slice-3.ensures)
+    c.as_slice-compiled.result.now sources codes large
+
+pub returns-in_err-rows-clause-section_too_large : goal.returns-in_err-rows-clause-section_too_large
+returns-in_err-rows-clause-section_too_large c is =
+    let sources : map (λ (x : Compiled). x.source.now) c.as_slice-compiled.result.now ≡ map (λ (p : Parsed). p.func) c.args.program.now.functions =
+    search rules in
+    let codes : map (λ (x : Compiled). x.code.now) c.as_slice-compiled.result.now ≡ map (λ (f : CompiledFunction). f.code) c.args.made.functions =
+    search rules in
+    let large : IsLarge c.args.program.now.meta (length c.args.made.text) c.in_ok-lists.lists c.as_slice-compiled.result.now = search (rules, is) in
+    large_section c.args.program.now _ _ c.args.made c.requires.made c.in_ok-lists.lists (c.in_ok-lists.ensures ∙ ap lists_of c.as_slice-3.ensures)
+    c.as_slice-compiled.result.now sources codes large
+
+pub returns-in_err-loclists-clause-section_too_large : goal.returns-in_err-loclists-clause-section_too_large
+returns-in_err-loclists-clause-section_too_large c is =
+    let sources : map (λ (x : Compiled). x.source.now) c.as_slice-compiled.result.now ≡ map (λ (p : Parsed). p.func) c.args.program.now.functions =
+    search rules in
+    let codes : map (λ (x : Compiled). x.code.now) c.as_slice-compiled.result.now ≡ map (λ (f : CompiledFunction). f.code) c.args.made.functions =
+    search rules in
+    let large : IsLarge c.args.program.now.meta (length c.args.made.text) c.in_ok-lists.lists c.as_slice-compiled.result.now = search (rules, is) in
+    large_section c.args.program.now _ _ c.args.made c.requires.made c.in_ok-lists.lists (c.in_ok-lists.ensures ∙ ap lists_of c.as_slice-3.ensures)
+    c.as_slice-compiled.result.now sources codes large
+
+pub returns-clause-output : goal.returns-clause-output
+returns-clause-output c =
+    let sources : map (λ (x : Compiled). x.source.now) c.as_slice-compiled.result.now ≡ map (λ (p : Parsed). p.func) c.args.program.now.functions =
+    search rules in
+    let codes : map (λ (x : Compiled). x.code.now) c.as_slice-compiled.result.now ≡ map (λ (f : CompiledFunction). f.code) c.args.made.functions =
+    search rules in
+    let o : Output = record {
+      text = c.args.made.text;
+      abbreviations = c.in_ok-write_abbrev.field-0;
+      info = c.in_ok-info.field-0;
+      rows = c.in_ok-rows.field-0;
+      loclists = c.in_ok-loclists.field-0;
+      functions = c.args.made.listings;
+    } in
+    let bytes : o.info ≡ entries_spelling (unit_of c.args.program.now.meta (length o.text) c.as_slice-compiled.result.now) = search rules in
+    let few_bytes = c.requires.made.few_bytes in
+    let few = c.requires.read.few in
+    let small : length o.text < SECTION_LIMIT = omega (arith, few_bytes, few) in
+    whole_output c.args.program.now _ _ c.args.made c.requires.made c.in_ok-lists.lists (c.in_ok-lists.ensures ∙ ap lists_of c.as_slice-3.ensures)
+    c.as_slice-compiled.result.now sources codes o refl refl c.in_ok-loclists.ensures.section c.in_ok-write_abbrev.ensures bytes
+    c.in_ok-rows.ensures.bytes small c.in_ok-info.ensures.small c.in_ok-rows.ensures.small c.in_ok-loclists.ensures.small

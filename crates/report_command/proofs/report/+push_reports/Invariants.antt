@@ -2,4 +2,4 @@ use Rattle.std.proofs.Common.{length}
 use Rattle.report_command.proofs.report.+push_reports.Given as goal
 
 abbrev pub decreases-push_reports : goal.decreases-push_reports
-decreases-push_reports l = length l.functions.now
+decreases-push_reports l = length l.listings.now

@@ -1,9 +1,11 @@
-use Rattle.std.proofs.Common.{◌≡◌, ℕ, ◌<◌, List, take, length, map, Some, refl, ap, ◌∙◌, subst, get_or, arith}
+use Rattle.std.proofs.Common.{◌≡◌, ℕ, ◌<◌, List, take, length, map, Some, refl, sym, ap, ◌∙◌, subst, get_or, arith}
 use Rattle.std.specs.Prelude.{slice_get}
 use Rattle.std.proofs.lemmas.Option.{get_or_from_slice_get, slice_get_read, slice_get_within}
-use Rattle.emit_code.specs.Laid.{LaidCode}
 use Rattle.listing_text.specs.declared.output.ListedFunction.{ListedFunction}
-use Rattle.report_command.specs.Compilation.{Compilation}
+use Rattle.dwarf_loclists.specs.declared.range.Range.{Range}
+use Rattle.compile_function.specs.declared.compile.CompiledFunction.{CompiledFunction}
+use Rattle.compile_program.specs.declared.compile.Compilation.{Compilation}
+use Rattle.compile_program.specs.Program.{lists_of}
 use Rattle.sim_start.specs.Asked.{IsTextOfAskedRun}
 use Rattle.sim_trace.specs.declared.variable.Variable.{Variable}
 use Rattle.sim_trace.specs.Variables.{variable_of}
@@ -12,19 +14,20 @@ use Rattle.run_command.proofs.run.run.Goals as goal
 
 -- the run of a function that was found, with its code and its variables
 module _ (c : Compilation) (name : List ℕ) (limit : ℕ) (arguments values text : List ℕ) (number : ℕ) (functions : List ListedFunction)
-    (codes : List LaidCode) (function : ListedFunction) (code : LaidCode) (variables : List Variable) where
-  run_found : functions ≡ c.output.functions → codes ≡ c.codes → length c.codes ≡ length c.output.functions → IsFirstNamed name functions number →
-      code ≡ get_or codes number code → variables ≡ map (variable_of c.lists) (get_or functions number function).variables →
-      IsTextOfAskedRun code arguments values variables limit text → IsRunOf c name limit arguments values text
-  run_found same same_codes as_many found code_is made runs =
+    (compiled : List CompiledFunction) (function : ListedFunction) (one : CompiledFunction) (lists : List (List Range)) (variables : List Variable) where
+  run_found : functions ≡ c.output.functions → compiled ≡ c.functions → length c.functions ≡ length c.output.functions →
+      IsFirstNamed name functions number → one ≡ get_or compiled number one → lists ≡ lists_of c.functions →
+      variables ≡ map (variable_of lists) (get_or functions number function).variables →
+      IsTextOfAskedRun one.code arguments values variables limit text → IsRunOf c name limit arguments values text
+  run_found same same_compiled as_many found one_is lists_are made runs =
       let stands : slice_get c.output.functions number ≡ Some found.function =
       subst (λ (fs : List ListedFunction). slice_get fs number ≡ Some found.function) same found.stands in
       let within : number < length c.output.functions = slice_get_within c.output.functions number found.function stands in
-      let one : get_or functions number function ≡ found.function = get_or_from_slice_get functions number found.function function found.stands in
-      let below : number < length codes = let many = ap length same_codes in omega (arith, within, as_many, many) in
-      let code_stands : slice_get codes number ≡ Some code = slice_get_read codes (length codes) number code refl below code_is in
-      let listed : variables ≡ map (variable_of c.lists) found.function.variables =
-      made ∙ ap (λ (f : ListedFunction). map (variable_of c.lists) f.variables) one in
+      let named_is : get_or functions number function ≡ found.function = get_or_from_slice_get functions number found.function function found.stands in
+      let below : number < length compiled = let many = ap length same_compiled in omega (arith, within, as_many, many) in
+      let one_stands : slice_get compiled number ≡ Some one = slice_get_read compiled (length compiled) number one refl below one_is in
+      let listed : variables ≡ map (variable_of (lists_of c.functions)) found.function.variables =
+      made ∙ (λ i. map (variable_of (lists_are i)) (named_is i).variables) in
       record {
         number = number;
         named = record {
@@ -33,15 +36,17 @@ module _ (c : Compilation) (name : List ℕ) (limit : ℕ) (arguments values tex
           named = found.named;
           first = subst (λ (fs : List ListedFunction). HasNone name (take number fs)) same found.first;
         };
-        code = code;
-        coded = subst (λ (cs : List LaidCode). slice_get cs number ≡ Some code) same_codes code_stands;
-        runs = subst (λ (vs : List Variable). IsTextOfAskedRun code arguments values vs limit text) listed runs;
+        compiled = one;
+        stands = subst (λ (cs : List CompiledFunction). slice_get cs number ≡ Some one) same_compiled one_stands;
+        runs = subst (λ (vs : List Variable). IsTextOfAskedRun one.code arguments values vs limit text) listed runs;
       }
 
 pub returns : goal.returns
 returns c =
-    let made = c.in_ok-variables.ensures.made ∙ (λ i. map (variable_of (c.as_slice.ensures i)) (c.as_slice-listed.ensures i)) in
+    let made = c.in_ok-variables.ensures.made ∙ (λ i. map (variable_of (c.as_slice-2.ensures i)) (c.as_slice-listed.ensures i)) in
     run_found c.args.compilation.now c.args.name.now c.args.limit c.args.arguments.now c.args.values c.in_ok-text.text c.in-Some.number
-    c.as_slice-functions.result.now c.as_slice-2.result.now c.index-functions-number.result c.index-as_slice-number.result
-    c.in_ok-variables.variables c.as_slice-functions.ensures c.as_slice-2.ensures c.requires.codes c.in-Some.ensures
-    c.index-as_slice-number.is made c.in_ok-text.ensures
+    c.as_slice-functions.result.now c.as_slice-3.result.now c.index-functions-number.result c.index-as_slice-number.result c.in_ok-lists.lists
+    c.in_ok-variables.variables c.as_slice-functions.ensures c.as_slice-3.ensures c.requires.functions c.in-Some.ensures
+    c.index-as_slice-number.is (c.in_ok-lists.ensures ∙ ap lists_of c.as_slice.ensures) made
+    (subst (λ (k : CompiledFunction). IsTextOfAskedRun k.code c.args.arguments.now c.args.values c.in_ok-variables.variables c.args.limit c.in_ok-text.text)
+    (sym c.index-as_slice-number.is) c.in_ok-text.ensures)

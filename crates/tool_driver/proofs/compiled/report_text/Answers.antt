@@ -1,17 +1,17 @@
 -- The report of a compilation is the program's.
 use Rattle.std.proofs.Common.{◌≡◌, ℕ, List, sym, subst}
-use Rattle.run_command.proofs.Reported.{compilation_reported}
-use Rattle.run_command.specs.Reported.{IsReportText, compilation_report}
+use Rattle.report_command.proofs.Reported.{compilation_reported}
+use Rattle.report_command.specs.Reported.{IsReportText, compilation_report}
 use Rattle.read_program.specs.declared.program.Program.{Program}
 use Rattle.pass_list.specs.declared.kind.PassKind.{PassKind}
-use Rattle.run_command.specs.Compilation.{Compilation}
-use Rattle.run_command.specs.Program.{IsCompilationOf}
+use Rattle.compile_program.specs.declared.compile.Compilation.{Compilation}
+use Rattle.compile_program.specs.Program.{IsCompilationOf}
 use Rattle.tool_driver.proofs.compiled.report_text.Goals as goal
 
 pub report-requires : goal.report-requires
 report-requires c =
     (compilation_reported c.args.plan.now.reserve c.args.plan.now.passes c.args.program.now c.in_ok-compilation.compilation
-    c.in_ok-compilation.ensures.compilation).parts
+    c.in_ok-compilation.ensures.compilation).lists
 
 reported : (reserve : List ℕ) (passes : List PassKind) (p : Program) (c : Compilation) (text : List ℕ) → IsCompilationOf reserve passes p c →
     text ≡ compilation_report c → IsReportText reserve passes p text

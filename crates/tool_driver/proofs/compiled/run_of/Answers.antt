@@ -7,8 +7,8 @@ use Rattle.run_command.proofs.Source.{run_of_program, names_are_read}
 use Rattle.run_command.specs.Runs.{HasNone, IsRunOf}
 use Rattle.run_command.specs.Source.{IsUnknown, IsRunOfProgram}
 use Rattle.read_program.specs.declared.program.Program.{Program}
-use Rattle.run_command.specs.Compilation.{Compilation}
-use Rattle.run_command.specs.Program.{IsCompilationOf, IsOutputOf}
+use Rattle.compile_program.specs.declared.compile.Compilation.{Compilation}
+use Rattle.compile_program.specs.Program.{IsCompilationOf, IsOutputOf}
 use Rattle.tool_driver.specs.Compiled.{plan_steps}
 use Rattle.tool_driver.proofs.compiled.run_of.Goals as goal
 

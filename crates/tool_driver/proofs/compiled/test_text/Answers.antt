@@ -2,7 +2,7 @@
 use Rattle.std.proofs.Common.{◌≡◌, ℕ, List, Option, Some, sym, subst, rules}
 use Rattle.std.specs.Prelude.{IfSome}
 use Rattle.cli.specs.declared.command.TestPlan.{TestPlan}
-use Rattle.run_command.specs.Program.{HasLargeFrame, HasLargeSection, steps_of}
+use Rattle.compile_program.specs.Program.{HasLargeFrame, HasLargeSection, steps_of}
 use Rattle.pass_list.specs.Names.{AreDistinct}
 use Rattle.pass_list.specs.declared.kind.PassKind.{PassKind}
 use Rattle.selftest_command.specs.Tested.{IsSelfTestOf}
