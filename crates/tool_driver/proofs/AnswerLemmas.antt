@@ -1,6 +1,6 @@
 -- What a command writes of an input, by what it writes of the program that was read.
-use Rattle.std.specs.Prelude.{Result, Ok, Err, IfOk, IfErr}
-use Rattle.std.proofs.Common.{◌≡◌, ℕ, List, inl, inr}
+use Rattle.std.specs.Prelude.{Option, Some, Result, Ok, Err, IfOk, IfErr}
+use Rattle.std.proofs.Common.{◌≡◌, ℕ, List, refl, sym, subst}
 use Rattle.read_program.specs.declared.program.Program.{Program}
 use Rattle.cli.specs.declared.command.Command.{Command}
 use Rattle.cli.specs.declared.command.PassPipeline.{PassPipeline}
@@ -11,65 +11,45 @@ use Rattle.cli.specs.declared.fault.Fault.{Fault}
 use Rattle.cli.specs.declared.fault.Fault.TheVariants.{Usage, Read, TooLong, Refused, NoFunction, UnknownFunction}
 use Rattle.cli.specs.declared.fault.Fault.TheVariants.{FrameTooLarge, SymbolName, SectionTooLarge, Write, Memory}
 use Rattle.run_command.specs.Source.{IsUnknown}
-use Rattle.tool_driver.specs.Answer.{IsReader, Answers, IsTestText, RefusesToCompile, RefusesToTest, RefusesToWrite, RefusesToRun, RefusesObject}
-use Rattle.tool_driver.specs.Run.{HasReadProgram, HasReadNone, AnswersRead, AnswersInput, ReadingEnds}
+use Rattle.tool_driver.specs.Answer.{IsReader, Answers, IsTestText, IsNamed, plan_of, tested_program}
+use Rattle.tool_driver.specs.Answer.{frame_too_large, section_too_large}
+use Rattle.tool_driver.specs.Run.{HasReadProgram, AnswersRead, AnswersInput, WorksOn, on_input, on_generated}
+use Rattle.tool_driver.specs.Run.{too_long, refused_at, no_function, refused_program}
+use Rattle.tool_driver.specs.steps.Ends.{RefusesToCompile, RefusesToTest, RefusesToWrite, HasReadNone, ReadingEnds}
 use Rattle.tool_driver.specs.Stream.{Change, IsUnread}
 use Rattle.tool_driver.specs.Compiled.{plan_steps}
 
 -- ---- a program was read
 
-module _ (command : Command) (input : Change) (program : Program) (read : HasReadProgram input program) where
-  -- what a command writes of it
-  read_answers : (output : List ℕ) → Answers command program output → AnswersRead command input output
-  read_answers output answers =
-      record { text = read.text; read = read.read; answers = record { program = program; has = read.has; answers = answers } }
+-- what a command writes of it
+read_answers : (command : Command) (input : Change) (program : Program) → HasReadProgram input program → (output : List ℕ) →
+    Answers command program output → AnswersRead command input output
+read_answers command input program read output answers =
+    record { text = read.text; read = read.read; answers = record { program = program; has = read.has; answers = answers } }
 
-  -- or why it writes nothing
-  held_back : IsReader command → (fault : Fault) → RefusesToWrite command program fault → ReadingEnds command input fault
-  held_back reads UnknownFunction refused =
-      record {
-        reads = reads;
-        text = read.text;
-        read = read.read;
-        refused = record { program = program; has = read.has; refused = refused };
-      }
-  held_back reads FrameTooLarge refused =
-      inl (record {
-        reads = reads;
-        text = read.text;
-        read = read.read;
-        refused = record { program = program; has = read.has; refused = refused };
-      })
-  held_back reads SymbolName refused =
-      record {
-        reads = reads;
-        text = read.text;
-        read = read.read;
-        refused = record { program = program; has = read.has; refused = refused };
-      }
-  held_back reads SectionTooLarge refused =
-      inl (record {
-        reads = reads;
-        text = read.text;
-        read = read.read;
-        refused = record { program = program; has = read.has; refused = refused };
-      })
-  held_back reads Memory refused = tt
-  held_back reads (Refused r) refused = absurd refused
-  held_back reads NoFunction refused = absurd refused
-  held_back reads Usage refused = absurd refused
-  held_back reads Read refused = absurd refused
-  held_back reads TooLong refused = absurd refused
-  held_back reads Write refused = absurd refused
+-- why it writes nothing of the program on which it works
+held_back : (command : Command) (input : Change) (program : Program) → WorksOn (HasReadProgram input) command program → (fault : Fault) →
+    RefusesToWrite command program fault → ReadingEnds command input fault
+held_back command input program works UnknownFunction refused = refused_program program works refused
+held_back command input program works FrameTooLarge refused = refused_program program works refused
+held_back command input program works SymbolName refused = refused_program program works refused
+held_back command input program works SectionTooLarge refused = refused_program program works refused
+held_back command input program works Memory refused = tt
+held_back command input program works (Refused r) refused = absurd refused
+held_back command input program works NoFunction refused = absurd refused
+held_back command input program works Usage refused = absurd refused
+held_back command input program works Read refused = absurd refused
+held_back command input program works TooLong refused = absurd refused
+held_back command input program works Write refused = absurd refused
 
 -- ---- none was read
 
 pub read_none : (command : Command) → IsReader command → (input : Change) (fault : Fault) → HasReadNone input fault → ReadingEnds command input fault
 read_none command reads input Read none = (reads, none)
 read_none command reads input Memory none = tt
-read_none command reads input TooLong none = (reads, none)
-read_none command reads input (Refused r) none = record { reads = reads; text = none.text; read = none.read; refused = none.refused }
-read_none command reads input NoFunction none = record { reads = reads; text = none.text; read = none.read; refused = none.refused }
+read_none command reads input TooLong none = too_long reads none
+read_none command reads input (Refused r) none = refused_at none.text r reads none.read none.refused
+read_none command reads input NoFunction none = no_function none.text reads none.read none.refused
 read_none command reads input UnknownFunction none = absurd none
 read_none command reads input FrameTooLarge none = absurd none
 read_none command reads input SymbolName none = absurd none
@@ -79,93 +59,63 @@ read_none command reads input Write none = absurd none
 
 -- ---- the commands that compile
 
-by_compile : (plan : PassPipeline) (program : Program) (fault : Fault) → RefusesToCompile (plan_steps plan) program fault →
-    RefusesToWrite (Compile plan) program fault
-by_compile plan program FrameTooLarge refused = refused
-by_compile plan program SymbolName refused = refused
-by_compile plan program SectionTooLarge refused = refused
-by_compile plan program Memory refused = tt
-by_compile plan program (Refused r) refused = refused
-by_compile plan program NoFunction refused = refused
-by_compile plan program UnknownFunction refused = refused
-by_compile plan program Usage refused = refused
-by_compile plan program Read refused = refused
-by_compile plan program TooLong refused = refused
-by_compile plan program Write refused = refused
+-- a program that can't be compiled is refused
+pub by_compiling : (command : Command) (program : Program) (plan : PassPipeline) → plan_of command ≡ Some plan → IsNamed command program →
+    (fault : Fault) → RefusesToCompile (plan_steps plan) program fault → RefusesToWrite command program fault
+by_compiling command program plan is named FrameTooLarge refused = frame_too_large plan is named refused
+by_compiling command program plan is named SectionTooLarge refused = section_too_large plan is named refused
+by_compiling command program plan is named Memory refused = tt
+by_compiling command program plan is named SymbolName refused = absurd refused
+by_compiling command program plan is named UnknownFunction refused = absurd refused
+by_compiling command program plan is named (Refused r) refused = refused
+by_compiling command program plan is named NoFunction refused = refused
+by_compiling command program plan is named Usage refused = refused
+by_compiling command program plan is named Read refused = refused
+by_compiling command program plan is named TooLong refused = refused
+by_compiling command program plan is named Write refused = refused
 
-by_listing : (plan : PassPipeline) (program : Program) (fault : Fault) → RefusesToCompile (plan_steps plan) program fault →
-    RefusesToWrite (Listing plan) program fault
-by_listing plan program FrameTooLarge refused = refused
-by_listing plan program SymbolName refused = refused
-by_listing plan program SectionTooLarge refused = refused
-by_listing plan program Memory refused = tt
-by_listing plan program (Refused r) refused = refused
-by_listing plan program NoFunction refused = refused
-by_listing plan program UnknownFunction refused = refused
-by_listing plan program Usage refused = refused
-by_listing plan program Read refused = refused
-by_listing plan program TooLong refused = refused
-by_listing plan program Write refused = refused
+module _ (plan : PassPipeline) (program : Program) where
+  compile_named : IsNamed (Compile plan) program
+  compile_named run same unknown = absurd cc
 
-by_report : (plan : PassPipeline) (program : Program) (fault : Fault) → RefusesToCompile (plan_steps plan) program fault →
-    RefusesToWrite (Report plan) program fault
-by_report plan program FrameTooLarge refused = refused
-by_report plan program SymbolName refused = refused
-by_report plan program SectionTooLarge refused = refused
-by_report plan program Memory refused = tt
-by_report plan program (Refused r) refused = refused
-by_report plan program NoFunction refused = refused
-by_report plan program UnknownFunction refused = refused
-by_report plan program Usage refused = refused
-by_report plan program Read refused = refused
-by_report plan program TooLong refused = refused
-by_report plan program Write refused = refused
+  listing_named : IsNamed (Listing plan) program
+  listing_named run same unknown = absurd cc
 
-pub by_object : (plan : PassPipeline) (program : Program) (fault : Fault) → RefusesToCompile (plan_steps plan) program fault →
-    RefusesObject plan program fault
-by_object plan program FrameTooLarge refused = refused
-by_object plan program SymbolName refused = absurd refused
-by_object plan program SectionTooLarge refused = inl refused
-by_object plan program Memory refused = tt
-by_object plan program (Refused r) refused = refused
-by_object plan program NoFunction refused = refused
-by_object plan program UnknownFunction refused = refused
-by_object plan program Usage refused = refused
-by_object plan program Read refused = refused
-by_object plan program TooLong refused = refused
-by_object plan program Write refused = refused
+  report_named : IsNamed (Report plan) program
+  report_named run same unknown = absurd cc
+
+  pub object_named : IsNamed (Object plan) program
+  object_named run same unknown = absurd cc
+
+test_named : (test : TestPlan) (program : Program) → IsNamed (SelfTest test) program
+test_named test program run same unknown = absurd cc
 
 -- a run compiles a program that has the function
-pub by_run : (run : RunPlan) (program : Program) (fault : Fault) → (IsUnknown run.name program.functions → ⊥) →
-    RefusesToCompile (plan_steps run.plan) program fault → RefusesToRun run program fault
-by_run run program FrameTooLarge known refused = (known, refused)
-by_run run program SymbolName known refused = refused
-by_run run program SectionTooLarge known refused = (known, refused)
-by_run run program Memory known refused = tt
-by_run run program (Refused r) known refused = refused
-by_run run program NoFunction known refused = refused
-by_run run program UnknownFunction known refused = absurd refused
-by_run run program Usage known refused = refused
-by_run run program Read known refused = refused
-by_run run program TooLong known refused = refused
-by_run run program Write known refused = refused
+pub run_named : (run : RunPlan) (program : Program) → (IsUnknown run.name program.functions → ⊥) → IsNamed (Run run) program
+run_named run program known other same unknown =
+    let one : run ≡ other = cc in
+    known (subst (λ (r : RunPlan). IsUnknown r.name program.functions) (sym one) unknown)
 
 module _ (plan : PassPipeline) (input : Change) (program : Program) (read : HasReadProgram input program) where
   pub compile_ok : (r : Result (List ℕ) Fault) → IfOk r (Answers (Compile plan) program) → IfOk r (AnswersInput (Compile plan) input)
   compile_ok (Ok output) answers = read_answers (Compile plan) input program read output answers
   compile_ok (Err fault) answers = tt
 
+  pub compile_err : (r : Result (List ℕ) Fault) → IfErr r (RefusesToCompile (plan_steps plan) program) → IfErr r (ReadingEnds (Compile plan) input)
+  compile_err (Ok output) refused = tt
+  compile_err (Err fault) refused =
+      held_back (Compile plan) input program (on_input tt read) fault
+      (by_compiling (Compile plan) program plan refl (compile_named plan program) fault refused)
+
   pub listing_ok : (r : Result (List ℕ) Fault) → IfOk r (Answers (Listing plan) program) → IfOk r (AnswersInput (Listing plan) input)
   listing_ok (Ok output) answers = read_answers (Listing plan) input program read output answers
   listing_ok (Err fault) answers = tt
 
-  pub compile_err : (r : Result (List ℕ) Fault) → IfErr r (RefusesToCompile (plan_steps plan) program) → IfErr r (ReadingEnds (Compile plan) input)
-  compile_err (Ok output) refused = tt
-  compile_err (Err fault) refused = held_back (Compile plan) input program read tt fault (by_compile plan program fault refused)
-
   pub listing_err : (r : Result (List ℕ) Fault) → IfErr r (RefusesToCompile (plan_steps plan) program) → IfErr r (ReadingEnds (Listing plan) input)
   listing_err (Ok output) refused = tt
-  listing_err (Err fault) refused = held_back (Listing plan) input program read tt fault (by_listing plan program fault refused)
+  listing_err (Err fault) refused =
+      held_back (Listing plan) input program (on_input tt read) fault
+      (by_compiling (Listing plan) program plan refl (listing_named plan program) fault refused)
 
   pub report_ok : (r : Result (List ℕ) Fault) → IfOk r (Answers (Report plan) program) → IfOk r (AnswersInput (Report plan) input)
   report_ok (Ok output) answers = read_answers (Report plan) input program read output answers
@@ -173,39 +123,28 @@ module _ (plan : PassPipeline) (input : Change) (program : Program) (read : HasR
 
   pub report_err : (r : Result (List ℕ) Fault) → IfErr r (RefusesToCompile (plan_steps plan) program) → IfErr r (ReadingEnds (Report plan) input)
   report_err (Ok output) refused = tt
-  report_err (Err fault) refused = held_back (Report plan) input program read tt fault (by_report plan program fault refused)
+  report_err (Err fault) refused =
+      held_back (Report plan) input program (on_input tt read) fault
+      (by_compiling (Report plan) program plan refl (report_named plan program) fault refused)
 
   pub object_ok : (r : Result (List ℕ) Fault) → IfOk r (Answers (Object plan) program) → IfOk r (AnswersInput (Object plan) input)
   object_ok (Ok output) answers = read_answers (Object plan) input program read output answers
   object_ok (Err fault) answers = tt
 
-  pub object_err : (r : Result (List ℕ) Fault) → IfErr r (RefusesObject plan program) → IfErr r (ReadingEnds (Object plan) input)
+  pub object_err : (r : Result (List ℕ) Fault) → IfErr r (RefusesToWrite (Object plan) program) → IfErr r (ReadingEnds (Object plan) input)
   object_err (Ok output) refused = tt
-  object_err (Err fault) refused = held_back (Object plan) input program read tt fault refused
+  object_err (Err fault) refused = held_back (Object plan) input program (on_input tt read) fault refused
 
 module _ (run : RunPlan) (input : Change) (program : Program) (read : HasReadProgram input program) where
   pub run_ok : (r : Result (List ℕ) Fault) → IfOk r (Answers (Run run) program) → IfOk r (AnswersInput (Run run) input)
   run_ok (Ok output) answers = read_answers (Run run) input program read output answers
   run_ok (Err fault) answers = tt
 
-  pub run_err : (r : Result (List ℕ) Fault) → IfErr r (RefusesToRun run program) → IfErr r (ReadingEnds (Run run) input)
+  pub run_err : (r : Result (List ℕ) Fault) → IfErr r (RefusesToWrite (Run run) program) → IfErr r (ReadingEnds (Run run) input)
   run_err (Ok output) refused = tt
-  run_err (Err fault) refused = held_back (Run run) input program read tt fault refused
+  run_err (Err fault) refused = held_back (Run run) input program (on_input tt read) fault refused
 
 -- ---- self-tests
-
-test_fails : (test : TestPlan) (input : Change) (fault : Fault) → RefusesToTest test fault → ReadingEnds (SelfTest test) input fault
-test_fails test input FrameTooLarge refused = inr refused
-test_fails test input SymbolName refused = absurd refused
-test_fails test input SectionTooLarge refused = inr refused
-test_fails test input Memory refused = tt
-test_fails test input (Refused r) refused = absurd refused
-test_fails test input NoFunction refused = absurd refused
-test_fails test input UnknownFunction refused = absurd refused
-test_fails test input Usage refused = absurd refused
-test_fails test input Read refused = absurd refused
-test_fails test input TooLong refused = absurd refused
-test_fails test input Write refused = absurd refused
 
 module _ (test : TestPlan) (input : Change) where
   pub test_ok : IsUnread input → (r : Result (List ℕ) Fault) → IfOk r (IsTestText test) → IfOk r (AnswersInput (SelfTest test) input)
@@ -214,7 +153,9 @@ module _ (test : TestPlan) (input : Change) where
 
   pub test_err : (r : Result (List ℕ) Fault) → IfErr r (RefusesToTest test) → IfErr r (ReadingEnds (SelfTest test) input)
   test_err (Ok output) refused = tt
-  test_err (Err fault) refused = test_fails test input fault refused
+  test_err (Err fault) refused =
+      held_back (SelfTest test) input (tested_program test) (on_generated test refl refl) fault
+      (by_compiling (SelfTest test) (tested_program test) test.plan refl (test_named test (tested_program test)) fault refused)
 
 -- ---- the others
 

@@ -1,12 +1,13 @@
 -- Why a run ended as it did.
-use Rattle.std.specs.Prelude.{Option, Some}
-use Rattle.std.proofs.Common.{◌≡◌, ℕ, List, ◌+◌, ap, sym, ◌∙◌, refl, subst, inl, inr, arith}
+use Rattle.std.specs.Prelude.{Option, Some, Ok}
+use Rattle.std.proofs.Common.{◌≡◌, ℕ, List, ◌+◌, ap, sym, ◌∙◌, refl, subst, arith}
 use Rattle.base_io.specs.Told.{Takes, TakesCount}
 use Rattle.base_io.proofs.ToldLemmas.{Takes-told, TakesCount-told}
 use Rattle.cli.specs.declared.command.Command.{Command}
 use Rattle.cli.specs.declared.command.PassPipeline.{PassPipeline}
 use Rattle.cli.specs.declared.command.TestPlan.{TestPlan}
-use Rattle.cli.specs.declared.command.Command.TheVariants.{Compile, Listing, Report, Object, Run, Strip, Gen, SelfTest}
+use Rattle.cli.specs.declared.command.Command.TheVariants.{Compile, Gen, SelfTest}
+use Rattle.cli_numbers.specs.declared.generation.Generation.{Generation}
 use Rattle.cli.specs.Command.{IsCommand}
 use Rattle.cli.proofs.CommandWords.{one_command}
 use Rattle.cli.specs.declared.fault.Fault.{Fault}
@@ -14,16 +15,20 @@ use Rattle.cli.specs.declared.fault.Fault.TheVariants.{Usage, Read, TooLong, Ref
 use Rattle.cli.specs.declared.fault.Fault.TheVariants.{FrameTooLarge, SymbolName, SectionTooLarge, Write, Memory}
 use Rattle.cli.specs.declared.status.Status.TheVariants as status
 use Rattle.cli.specs.Fault.{status_of, line_of}
+use Rattle.read_refusal.specs.declared.first.Refusal.{Refusal}
 use Rattle.read_program.specs.declared.program.Program.{Program}
+use Rattle.read_program.specs.Program.{ReadsText}
 use Rattle.listing_text.specs.declared.output.Output.{Output}
 use Rattle.compile_output_proof.proofs.Functions.{printable}
 use Rattle.compile_program.specs.Program.{IsOutputOf}
 use Rattle.read_proof.proofs.Texts.{programs_are_as_read}
 use Rattle.tool_driver.specs.Limits.{INPUT_LIMIT}
 use Rattle.tool_driver.specs.Compiled.{IsCompiledText, plan_steps}
-use Rattle.tool_driver.specs.Answer.{HasFunctions, IsReader, IsAnswered, IsTestable, FailsToTest, RefusesToTest, RefusesToWrite, RefusesText}
-use Rattle.tool_driver.specs.Run.{Finishes, HasWritten, Explains, IsTooLarge, IsTooLong, AnswersRead, AnswersInput}
-use Rattle.tool_driver.specs.Run.{Refuses, RefusesRead, ReadingEnds, ReadingEnded, TellsRefusal, IsAnswerableText, IsAnswerable, HasRead}
+use Rattle.tool_driver.specs.Answer.{HasFunctions, HasNoFunction, IsReader, IsRefusedAt, IsAnswered, RefusesProgram, tested_program}
+use Rattle.tool_driver.specs.Run.{Finishes, HasWritten, IsTooLong, AnswersRead, AnswersInput, HasRead, HasReadProgram}
+use Rattle.tool_driver.specs.Run.{WorksOn, on_input, on_generated, Refuses, too_long, refused_at, no_function, refused_program, TellsRefusal}
+use Rattle.tool_driver.specs.Run.{IsInputOf, IsAnswerable, generates, answers}
+use Rattle.tool_driver.specs.steps.Ends.{Explains, ReadingEnds, ReadingEnded}
 use Rattle.tool_driver.specs.Stream.{Change, MetFault, IsReadWhole, IsWrittenWhole, IsTold}
 use Rattle.tool_driver.proofs.OneProgram.{program_not_refused, programs_one}
 use Rattle.tool_driver.proofs.Sentences.{of_shown}
@@ -165,104 +170,87 @@ refusal words input output faults Memory e ended told = absurd cc
 
 -- ---- what is answered isn't refused
 
-writes_or_memory : (command : Command) (program : Program) (fault : Fault) → IsAnswered command program → RefusesToWrite command program fault → fault ≡ Memory
-writes_or_memory command program UnknownFunction answered refused = absurd (answered.named refused)
-writes_or_memory command program FrameTooLarge answered refused = absurd (answered.frames refused)
-writes_or_memory command program SymbolName answered refused = absurd (answered.symbols refused)
-writes_or_memory command program SectionTooLarge answered refused = absurd (answered.sections refused)
-writes_or_memory command program Memory answered refused = refl
-writes_or_memory command program (Refused r) answered refused = absurd refused
-writes_or_memory command program NoFunction answered refused = absurd refused
-writes_or_memory command program Usage answered refused = absurd refused
-writes_or_memory command program Read answered refused = absurd refused
-writes_or_memory command program TooLong answered refused = absurd refused
-writes_or_memory command program Write answered refused = absurd refused
-
-answered_or_memory : (command : Command) (text : List ℕ) (program : Program) (fault : Fault) → HasFunctions text program → IsAnswered command program →
-    RefusesText command text fault → fault ≡ Memory
-answered_or_memory command text program (Refused r) has answered refused = absurd (program_not_refused text program r has.reads refused)
-answered_or_memory command text program NoFunction has answered refused =
-    let same : program ≡ refused.program = programs_one text program refused.program has.reads refused.reads in
-    absurd (has.some (ap (λ (p : Program). p.functions) same ∙ refused.no_one))
-answered_or_memory command text program UnknownFunction has answered refused =
-    let same : refused.program ≡ program = programs_one text refused.program program refused.has.reads has.reads in
-    writes_or_memory command program UnknownFunction answered (subst (λ (p : Program). RefusesToWrite command p UnknownFunction) same refused.refused)
-answered_or_memory command text program FrameTooLarge has answered refused =
-    let same : refused.program ≡ program = programs_one text refused.program program refused.has.reads has.reads in
-    writes_or_memory command program FrameTooLarge answered (subst (λ (p : Program). RefusesToWrite command p FrameTooLarge) same refused.refused)
-answered_or_memory command text program SymbolName has answered refused =
-    let same : refused.program ≡ program = programs_one text refused.program program refused.has.reads has.reads in
-    writes_or_memory command program SymbolName answered (subst (λ (p : Program). RefusesToWrite command p SymbolName) same refused.refused)
-answered_or_memory command text program SectionTooLarge has answered refused =
-    let same : refused.program ≡ program = programs_one text refused.program program refused.has.reads has.reads in
-    writes_or_memory command program SectionTooLarge answered (subst (λ (p : Program). RefusesToWrite command p SectionTooLarge) same refused.refused)
-answered_or_memory command text program Memory has answered refused = refl
-answered_or_memory command text program Usage has answered refused = absurd refused
-answered_or_memory command text program Read has answered refused = absurd refused
-answered_or_memory command text program TooLong has answered refused = absurd refused
-answered_or_memory command text program Write has answered refused = absurd refused
-
 -- the text that was read is the one that is told
 read_told : (input : Change) (bytes text : List ℕ) → IsReadWhole input bytes → input.before.bytes ≡ Some text → bytes ≡ text
 read_told input bytes text read told =
     let takes : Takes (Some text) input.after.bytes bytes = subst (λ (b : Option (List ℕ)). Takes b input.after.bytes bytes) told read.takes in
     sym (Takes-told text bytes input.after.bytes takes read.ended)
 
-not_too_long : (command : Command) (input : Change) → IsAnswerableText command input.before.bytes → IsTooLong input → ⊥
-not_too_long command input form long =
-    let P : Option (List ℕ) → Type 0 = λ b. TakesCount b input.after.bytes (INPUT_LIMIT + 1) in
-    omega (arith, form.within, TakesCount-told form.text input.after.bytes (INPUT_LIMIT + 1) (subst P form.told long.takes))
+-- the commands that make a function up read nothing
+generates_unread : (command : Command) (g : Generation) → command ≡ Gen g → IsReader command → ⊥
+generates_unread command g same reads = subst IsReader same reads
 
--- a command that reads is answered by its text
-by_text : (command : Command) (left : Option (List ℕ)) → IsReader command → IsAnswerable command left → IsAnswerableText command left
-by_text (Compile plan) left reads form = form
-by_text (Listing plan) left reads form = form
-by_text (Report plan) left reads form = form
-by_text (Object plan) left reads form = form
-by_text (Run run) left reads form = form
-by_text Strip left reads form = form
-by_text (Gen g) left reads form = absurd reads
-by_text (SelfTest test) left reads form = absurd reads
+tests_unread : (command : Command) (test : TestPlan) → command ≡ SelfTest test → IsReader command → ⊥
+tests_unread command test same reads = subst IsReader same reads
 
-not_refused : (command : Command) (input : Change) (fault : Fault) → IsAnswerable command input.before.bytes → RefusesRead command input fault →
-    fault ≡ Memory
-not_refused command input fault answerable refused =
-    let form = by_text command input.before.bytes refused.reads answerable in
-    let text : refused.text ≡ form.text = read_told input refused.text form.text refused.read.whole form.told in
-    answered_or_memory command form.text form.program fault form.has form.answered
-    (subst (λ (t : List ℕ). RefusesText command t fault) text refused.refused)
+one_test : (command : Command) (a b : TestPlan) → command ≡ SelfTest a → command ≡ SelfTest b → a ≡ b
+one_test command a b first second =
+    let same : SelfTest a ≡ SelfTest b = sym first ∙ second in
+    cc
 
--- nor does a self-test fail whose function can be compiled
-tests_or_memory : (test : TestPlan) (fault : Fault) → IsTestable test → RefusesToTest test fault → fault ≡ Memory
-tests_or_memory test FrameTooLarge testable refused = absurd (testable.frames refused)
-tests_or_memory test SymbolName testable refused = absurd refused
-tests_or_memory test SectionTooLarge testable refused = absurd (testable.sections refused)
-tests_or_memory test Memory testable refused = refl
-tests_or_memory test (Refused r) testable refused = absurd refused
-tests_or_memory test NoFunction testable refused = absurd refused
-tests_or_memory test UnknownFunction testable refused = absurd refused
-tests_or_memory test Usage testable refused = absurd refused
-tests_or_memory test Read testable refused = absurd refused
-tests_or_memory test TooLong testable refused = absurd refused
-tests_or_memory test Write testable refused = absurd refused
+module _ (command : Command) (input : Change) where
+  -- what a command that reads is to answer
+  record Asked : Type 0 where
+    program : Program
+    has : IsInputOf input.before.bytes program
+    answered : IsAnswered command program
 
-no_test_fails : (command : Command) (left : Option (List ℕ)) (fault : Fault) → IsAnswerable command left → FailsToTest command fault → fault ≡ Memory
-no_test_fails (Compile plan) left fault form fails = absurd fails
-no_test_fails (Listing plan) left fault form fails = absurd fails
-no_test_fails (Report plan) left fault form fails = absurd fails
-no_test_fails (Object plan) left fault form fails = absurd fails
-no_test_fails (Run run) left fault form fails = absurd fails
-no_test_fails Strip left fault form fails = absurd fails
-no_test_fails (Gen g) left fault form fails = absurd fails
-no_test_fails (SelfTest test) left fault form fails = tests_or_memory test fault form fails
+  asked_of : IsReader command → IsAnswerable command input.before.bytes → Asked
+  asked_of reads (generates g same) = absurd (generates_unread command g same reads)
+  asked_of reads (answers program (on_input reader has) answered) = record { program = program; has = has; answered = answered }
+  asked_of reads (answers program (on_generated test same is) answered) = absurd (tests_unread command test same reads)
 
-not_too_large : (command : Command) (input : Change) (fault : Fault) → IsAnswerable command input.before.bytes → IsTooLarge command input fault →
-    fault ≡ Memory
-not_too_large command input fault answerable large =
-    elim large [
-      | inl refused ↦ not_refused command input fault answerable refused
-      | inr fails ↦ no_test_fails command input.before.bytes fault answerable fails
-    ]
+  -- the text that was read is that of the program that is to be answered
+  text_asked : (asked : Asked) (text : List ℕ) → HasRead input text → text ≡ asked.has.text
+  text_asked asked text read = read_told input text asked.has.text read.whole asked.has.told
+
+  not_too_long : Asked → IsTooLong input → ⊥
+  not_too_long asked long =
+      let P : Option (List ℕ) → Type 0 = λ b. TakesCount b input.after.bytes (INPUT_LIMIT + 1) in
+      omega (arith, asked.has.within, TakesCount-told asked.has.text input.after.bytes (INPUT_LIMIT + 1) (subst P asked.has.told long.takes))
+
+  not_refused_at : (asked : Asked) (text : List ℕ) (r : Refusal) → HasRead input text → IsRefusedAt text r → ⊥
+  not_refused_at asked text r read refused =
+      program_not_refused asked.has.text asked.program r asked.has.has.reads
+      (subst (λ (t : List ℕ). IsRefusedAt t r) (text_asked asked text read) refused)
+
+  has_function : (asked : Asked) (text : List ℕ) → HasRead input text → HasNoFunction text → ⊥
+  has_function asked text read none =
+      let reads : ReadsText asked.has.text (Ok none.program) =
+      subst (λ (t : List ℕ). ReadsText t (Ok none.program)) (text_asked asked text read) none.reads in
+      let same : asked.program ≡ none.program = programs_one asked.has.text asked.program none.program asked.has.has.reads reads in
+      asked.has.has.some (ap (λ (p : Program). p.functions) same ∙ none.no_one)
+
+  program_answered : (asked : Asked) (program : Program) (fault : Fault) → HasReadProgram input program → RefusesProgram command program fault → ⊥
+  program_answered asked program fault read refused =
+      let reads : ReadsText asked.has.text (Ok program) =
+      subst (λ (t : List ℕ). ReadsText t (Ok program)) (text_asked asked read.text read.read) read.has.reads in
+      let same : program ≡ asked.program = programs_one asked.has.text program asked.program reads asked.has.has.reads in
+      asked.answered fault (subst (λ (p : Program). RefusesProgram command p fault) same refused)
+
+  -- nor is the function of a self-test
+  test_answered : (test : TestPlan) → command ≡ SelfTest test → IsAnswerable command input.before.bytes → (fault : Fault) →
+      RefusesProgram command (tested_program test) fault → ⊥
+  test_answered test same (generates g other) fault refused =
+      let both : SelfTest test ≡ Gen g = sym same ∙ other in
+      absurd cc
+  test_answered test same (answers program (on_input reads has) answered) fault refused = absurd (tests_unread command test same reads)
+  test_answered test same (answers program (on_generated other again is) answered) fault refused =
+      let one : test ≡ other = one_test command test other same again in
+      let program_same : tested_program test ≡ program = ap tested_program one ∙ sym is in
+      answered fault (subst (λ (p : Program). RefusesProgram command p fault) program_same refused)
+
+  work_answered : (program : Program) → WorksOn (HasReadProgram input) command program → IsAnswerable command input.before.bytes → (fault : Fault) →
+      RefusesProgram command program fault → ⊥
+  work_answered program (on_input reads read) form fault refused = program_answered (asked_of reads form) program fault read refused
+  work_answered program (on_generated test same is) form fault refused =
+      test_answered test same form fault (subst (λ (p : Program). RefusesProgram command p fault) is refused)
+
+  not_refused : {fault : Fault} → IsAnswerable command input.before.bytes → Refuses command input fault → ⊥
+  not_refused form (too_long reads long) = not_too_long (asked_of reads form) long
+  not_refused form (refused_at text r reads read refused) = not_refused_at (asked_of reads form) text r read refused
+  not_refused form (no_function text reads read none) = has_function (asked_of reads form) text read none
+  not_refused {fault = f} form (refused_program program works refused) = work_answered program works form f refused
 
 -- the command that ended is the one that was asked for
 ended_as_asked : (command : Command) (words : List (List ℕ)) (input : Change) (fault : Fault) → IsCommand words command → ReadingEnded words input fault →
@@ -279,17 +267,13 @@ module _ (command : Command) (words : List (List ℕ)) (input output : Change) (
   memory_alone Write explains = absurd (no_write explains.1)
   memory_alone Read explains = absurd (no_read (ended_as_asked command words input Read asked explains).1)
   memory_alone Memory explains = refl
-  memory_alone TooLong explains =
-      let ended = ended_as_asked command words input TooLong asked explains in
-      absurd (not_too_long command input (by_text command input.before.bytes ended.0 form) ended.1)
-  memory_alone (Refused r) explains = not_refused command input (Refused r) form (ended_as_asked command words input (Refused r) asked explains)
-  memory_alone NoFunction explains = not_refused command input NoFunction form (ended_as_asked command words input NoFunction asked explains)
-  memory_alone UnknownFunction explains =
-      not_refused command input UnknownFunction form (ended_as_asked command words input UnknownFunction asked explains)
-  memory_alone FrameTooLarge explains = not_too_large command input FrameTooLarge form (ended_as_asked command words input FrameTooLarge asked explains)
-  memory_alone SymbolName explains = not_refused command input SymbolName form (ended_as_asked command words input SymbolName asked explains)
-  memory_alone SectionTooLarge explains =
-      not_too_large command input SectionTooLarge form (ended_as_asked command words input SectionTooLarge asked explains)
+  memory_alone TooLong explains = absurd (not_refused command input form (ended_as_asked command words input TooLong asked explains))
+  memory_alone (Refused r) explains = absurd (not_refused command input form (ended_as_asked command words input (Refused r) asked explains))
+  memory_alone NoFunction explains = absurd (not_refused command input form (ended_as_asked command words input NoFunction asked explains))
+  memory_alone UnknownFunction explains = absurd (not_refused command input form (ended_as_asked command words input UnknownFunction asked explains))
+  memory_alone FrameTooLarge explains = absurd (not_refused command input form (ended_as_asked command words input FrameTooLarge asked explains))
+  memory_alone SymbolName explains = absurd (not_refused command input form (ended_as_asked command words input SymbolName asked explains))
+  memory_alone SectionTooLarge explains = absurd (not_refused command input form (ended_as_asked command words input SectionTooLarge asked explains))
 
   pub complete : (fault : Fault) → Explains words input output fault → status_of fault ≡ status.Memory
   complete fault explains = ap status_of (memory_alone fault explains)

@@ -1,12 +1,12 @@
 -- What the commands `compile`, `listing` and `object` write for a program, and programs without an object.
-use Rattle.std.specs.Prelude.{◌≡◌, ◌⊎◌, ℕ, List}
+use Rattle.std.specs.Prelude.{◌≡◌, ℕ, List}
 use Rattle.listing_text.specs.declared.output.Output.{Output}
 use Rattle.listing_text.specs.Output.{spelling, listing_text}
 use Rattle.cli.specs.declared.command.PassPipeline.{PassPipeline}
 use Rattle.pass_trait.specs.Steps.{PassStep}
 use Rattle.read_program.specs.declared.program.Program.{Program}
 use Rattle.object_command.specs.Object.{HaveSymbolNames, IsObjectOf, HasLargeObject}
-use Rattle.compile_program.specs.Program.{IsOutputOf, HasLargeSection, steps_of}
+use Rattle.compile_program.specs.Program.{IsOutputOf, steps_of}
 
 -- the steps of a plan: its passes, with the registers that may be spilled
 abbrev pub plan_steps : PassPipeline → List PassStep
@@ -41,7 +41,3 @@ pub record IsLargeObjectOf (steps : List PassStep) (program : Program) : Type 0 
   pub output : Output
   pub is : IsOutputOf steps program output
   pub large : HasLargeObject output
-
--- a section of the program or its object would be too large
-abbrev pub HasLargeFile : List PassStep → Program → Type 0
-HasLargeFile steps program = HasLargeSection steps program ⊎ IsLargeObjectOf steps program

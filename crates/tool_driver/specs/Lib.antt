@@ -5,3 +5,4 @@ pub mod Lines
 pub mod Stream
 pub mod Answer
 pub mod Run
+pub mod steps

@@ -1,9 +1,10 @@
--- What a run of the tool did to its input and its output, and the faults that it reports.
-use Rattle.std.specs.Prelude.{◌≡◌, ◌⊎◌, ℕ, ◌+◌, ◌≤◌, List, length, All, Option, Some}
+-- What a run of the tool did to its input and its output, and the refusals that it reports.
+use Rattle.std.specs.Prelude.{◌≡◌, ℕ, ◌+◌, ◌≤◌, List, length, All, Option, Some}
 use Rattle.listing_text.specs.declared.output.Output.{Output}
 use Rattle.pass_trait.specs.Steps.{PassStep}
 use Rattle.listing_text.specs.Shown.{OfShown}
 use Rattle.listing_proof.specs.Laws.{inlined_in}
+use Rattle.read_refusal.specs.declared.first.Refusal.{Refusal}
 use Rattle.read_program.specs.declared.program.Program.{Program}
 use Rattle.cli.specs.declared.command.Command.{Command}
 use Rattle.cli.specs.declared.command.Command.TheVariants.{Compile, Listing, Report, Object, Run, Strip, Gen, SelfTest}
@@ -11,8 +12,8 @@ use Rattle.cli.specs.declared.command.PassPipeline.{PassPipeline}
 use Rattle.cli.specs.declared.command.RunPlan.{RunPlan}
 use Rattle.cli.specs.declared.command.TestPlan.{TestPlan}
 use Rattle.cli.specs.declared.fault.Fault.{Fault}
-use Rattle.cli.specs.declared.fault.Fault.TheVariants.{Usage, Read, TooLong, Refused, NoFunction, UnknownFunction}
-use Rattle.cli.specs.declared.fault.Fault.TheVariants.{FrameTooLarge, SymbolName, SectionTooLarge, Write, Memory}
+use Rattle.cli.specs.declared.fault.Fault.TheVariants.{TooLong, Refused, NoFunction}
+use Rattle.cli_numbers.specs.declared.generation.Generation.{Generation}
 use Rattle.cli.specs.Command.{IsCommand}
 use Rattle.cli.specs.Fault.{line_of}
 use Rattle.report_command.specs.Reported.{IsReportText}
@@ -23,8 +24,8 @@ use Rattle.readback_strip.specs.Text.{stripped_program}
 use Rattle.strip_command.specs.StripText.{stripped_text}
 use Rattle.tool_driver.specs.Limits.{INPUT_LIMIT}
 use Rattle.tool_driver.specs.Compiled.{plan_steps}
-use Rattle.tool_driver.specs.Answer.{HasFunctions, IsReader, AnswersText, IsAnswered, RefusesProgram, RefusesText}
-use Rattle.tool_driver.specs.Answer.{IsTestText, IsTestable, FailsToTest}
+use Rattle.tool_driver.specs.Answer.{HasFunctions, IsReader, AnswersText, IsAnswered, RefusesProgram, IsRefusedAt, HasNoFunction}
+use Rattle.tool_driver.specs.Answer.{IsTestText, tested_program}
 use Rattle.compile_theorem.specs.OutputProperties.{AreLaidOut, Promises, IsExact, ListsPassed}
 use Rattle.compile_theorem.specs.Source.{PassedFunction}
 use Rattle.compile_theorem.specs.Words.{HaveWords}
@@ -89,50 +90,18 @@ pub record IsCutOff (words : List (List ℕ)) (input output : Change) : Type 0 w
 abbrev pub IsTooLong : (input : Change) → Type 0
 IsTooLong input = IsReadFor input (INPUT_LIMIT + 1)
 
--- the input was read, but it is no program with a function, for this fault
-pub record RefusesInput (input : Change) (fault : Fault) : Type 0 where
-  pub text : List ℕ
-  pub read : HasRead input text
-  pub refused : RefusesProgram text fault
+-- a command works on the program that it reads, for which this holds, or on the function of a self-test
+pub data WorksOn (IsReadAs : Program → Type 0) (command : Command) (program : Program) : Type 0 where
+  on_input : IsReader command → IsReadAs program → WorksOn IsReadAs command program
+  on_generated : (test : TestPlan) → command ≡ SelfTest test → program ≡ tested_program test → WorksOn IsReadAs command program
 
--- the faults for which no program is read from an input
-abbrev pub HasReadNone : (input : Change) → Fault → Type 0
-HasReadNone input Read = MetFault input
-HasReadNone input Memory = Unit {0}
-HasReadNone input TooLong = IsTooLong input
-HasReadNone input (Refused r) = RefusesInput input (Refused r)
-HasReadNone input NoFunction = RefusesInput input NoFunction
-HasReadNone input UnknownFunction = ⊥
-HasReadNone input FrameTooLarge = ⊥
-HasReadNone input SymbolName = ⊥
-HasReadNone input SectionTooLarge = ⊥
-HasReadNone input Usage = ⊥
-HasReadNone input Write = ⊥
-
--- the command reads its input, and refuses the text for this fault
-pub record RefusesRead (command : Command) (input : Change) (fault : Fault) : Type 0 where
-  pub reads : IsReader command
-  pub text : List ℕ
-  pub read : HasRead input text
-  pub refused : RefusesText command text fault
-
--- the program is too large for a command: the one in its input, or the function of a self-test
-abbrev pub IsTooLarge : Command → (input : Change) → Fault → Type 0
-IsTooLarge command input fault = RefusesRead command input fault ⊎ FailsToTest command fault
-
--- the faults for which a command refuses its input: it is too long, or its text is refused; or a self-test can't be compiled
-abbrev pub Refuses : Command → (input : Change) → Fault → Type 0
-Refuses command input TooLong = IsReader command × IsTooLong input
-Refuses command input (Refused r) = RefusesRead command input (Refused r)
-Refuses command input NoFunction = RefusesRead command input NoFunction
-Refuses command input UnknownFunction = RefusesRead command input UnknownFunction
-Refuses command input FrameTooLarge = IsTooLarge command input FrameTooLarge
-Refuses command input SymbolName = RefusesRead command input SymbolName
-Refuses command input SectionTooLarge = IsTooLarge command input SectionTooLarge
-Refuses command input Usage = ⊥
-Refuses command input Read = ⊥
-Refuses command input Write = ⊥
-Refuses command input Memory = ⊥
+-- Why a command is refused: its input is too long, is refused at a line or has no function; or the program on which it works is refused.
+pub data Refuses (command : Command) (input : Change) : Fault → Type 0 where
+  too_long : IsReader command → IsTooLong input → Refuses command input TooLong
+  refused_at : (text : List ℕ) (r : Refusal) → IsReader command → HasRead input text → IsRefusedAt text r → Refuses command input (Refused r)
+  no_function : (text : List ℕ) → IsReader command → HasRead input text → HasNoFunction text → Refuses command input NoFunction
+  refused_program : {fault : Fault} (program : Program) → WorksOn (HasReadProgram input) command program → RefusesProgram command program fault →
+      Refuses command input fault
 
 -- the words are a command, its input is refused, and the line for that fault is written to `faults`
 pub record TellsRefusal (words : List (List ℕ)) (input faults : Change) : Type 0 where
@@ -142,25 +111,17 @@ pub record TellsRefusal (words : List (List ℕ)) (input faults : Change) : Type
   pub refused : Refuses command input fault
   pub told : IsTold faults (line_of fault)
 
--- the bytes of the input are known, within the limit, and a program with a function for which the command writes output
-pub record IsAnswerableText (command : Command) (left : Option (List ℕ)) : Type 0 where
+-- the bytes of the input are known, within the limit, and read as this program, which has a function
+pub record IsInputOf (left : Option (List ℕ)) (program : Program) : Type 0 where
   pub text : List ℕ
   pub told : left ≡ Some text
   pub within : length text ≤ INPUT_LIMIT
-  pub program : Program
   pub has : HasFunctions text program
-  pub answered : IsAnswered command program
 
--- the inputs for which a command writes output; one without an input always does, a self-test if its function can be compiled
-abbrev pub IsAnswerable : Command → (left : Option (List ℕ)) → Type 0
-IsAnswerable (Compile plan) left = IsAnswerableText (Compile plan) left
-IsAnswerable (Listing plan) left = IsAnswerableText (Listing plan) left
-IsAnswerable (Report plan) left = IsAnswerableText (Report plan) left
-IsAnswerable (Object plan) left = IsAnswerableText (Object plan) left
-IsAnswerable (Run run) left = IsAnswerableText (Run run) left
-IsAnswerable Strip left = IsAnswerableText Strip left
-IsAnswerable (Gen g) left = Unit {0}
-IsAnswerable (SelfTest test) left = IsTestable test
+-- the inputs for which a command writes output: it generates a function, or nothing refuses the program on which it works
+pub data IsAnswerable (command : Command) (left : Option (List ℕ)) : Type 0 where
+  generates : (g : Generation) → command ≡ Gen g → IsAnswerable command left
+  answers : (program : Program) → WorksOn (IsInputOf left) command program → IsAnswered command program → IsAnswerable command left
 
 -- the input was read as a program with a function, bytes were written, and `P` holds of every output that they are the text of (there is one)
 pub record HasWritten (P : Program → Output → Type 0) (input output : Change) : Type 0 where
@@ -277,37 +238,3 @@ pub record WroteStripped (input output : Change) : Type 0 where
   pub written : IsWrittenWhole output (stripped_text program.functions)
   pub reads : HasFunctions (stripped_text program.functions) (stripped_program program)
   pub again : AnswersText Strip (stripped_text program.functions) (stripped_text program.functions)
-
--- the faults of a command before it writes: want of memory; or, for a command with an input, a failed read or a refusal
-abbrev pub ReadingEnds : Command → (input : Change) → Fault → Type 0
-ReadingEnds command input Read = IsReader command × MetFault input
-ReadingEnds command input Memory = Unit {0}
-ReadingEnds command input TooLong = Refuses command input TooLong
-ReadingEnds command input (Refused r) = Refuses command input (Refused r)
-ReadingEnds command input NoFunction = Refuses command input NoFunction
-ReadingEnds command input UnknownFunction = Refuses command input UnknownFunction
-ReadingEnds command input FrameTooLarge = Refuses command input FrameTooLarge
-ReadingEnds command input SymbolName = Refuses command input SymbolName
-ReadingEnds command input SectionTooLarge = Refuses command input SectionTooLarge
-ReadingEnds command input Usage = ⊥
-ReadingEnds command input Write = ⊥
-
--- the words are a command, which had this fault before it wrote anything
-pub record ReadingEnded (words : List (List ℕ)) (input : Change) (fault : Fault) : Type 0 where
-  pub command : Command
-  pub asked : IsCommand words command
-  pub ended : ReadingEnds command input fault
-
--- what holds if a run ended in this fault
-abbrev pub Explains : (words : List (List ℕ)) → (input output : Change) → Fault → Type 0
-Explains words input output Usage = AreCommand words → ⊥
-Explains words input output Write = IsCutOff words input output × MetFault output
-Explains words input output Read = ReadingEnded words input Read
-Explains words input output Memory = Unit {0}
-Explains words input output TooLong = ReadingEnded words input TooLong
-Explains words input output (Refused r) = ReadingEnded words input (Refused r)
-Explains words input output NoFunction = ReadingEnded words input NoFunction
-Explains words input output UnknownFunction = ReadingEnded words input UnknownFunction
-Explains words input output FrameTooLarge = ReadingEnded words input FrameTooLarge
-Explains words input output SymbolName = ReadingEnded words input SymbolName
-Explains words input output SectionTooLarge = ReadingEnded words input SectionTooLarge

@@ -4,7 +4,9 @@ ghost use Rattle.std.specs.Prelude.{IfOk, IfErr};
 ghost use Rattle.report_command.specs.Reported.{IsReportText};
 ghost use Rattle.run_command.specs.Source.{IsRunOfProgram};
 ghost use Rattle.cli.specs.Command.{IsWithin};
-ghost use Rattle.tool_driver.specs.Answer.{IsTestText, RefusesToCompile, RefusesObject, RefusesToRun, RefusesToTest};
+ghost use Rattle.cli.specs.declared.command.Command.TheVariants as command;
+ghost use Rattle.tool_driver.specs.Answer.{IsTestText};
+ghost use Rattle.tool_driver.specs.steps.Ends.{RefusesToCompile, RefusesToTest, RefusesToWrite};
 ghost use Rattle.tool_driver.specs.Compiled.{plan_steps, IsCompiledText, IsListingText, IsObjectFile};
 ghost use Rattle.compile_program.specs.Program.{IsOutputOf, IsCompilationOf};
 ghost use Rattle.read_proof.specs.Read.{IsReadProgram};
@@ -57,7 +59,7 @@ pub fn report_text(alloc: Global, program: &Program, plan: &PassPipeline) -> Res
 pub fn object_file(alloc: Global, program: &Program, plan: &PassPipeline) -> Result<Text, Fault>
     requires { IsReadProgram program.now }
     ensures ok { IfOk result (IsObjectFile (plan_steps plan.now) program.now) }
-    ensures err { IfErr result (RefusesObject plan.now program.now) }
+    ensures err { IfErr result (RefusesToWrite (command.Object plan.now) program.now) }
 {
     match compilation(alloc, program, plan) {
         Ok(compilation) => object_in(alloc, program, plan, compilation),
@@ -74,7 +76,7 @@ fn object_in(
 ) -> Result<Text, Fault>
     requires { IsOutputOf (plan_steps _plan.now) _program.now compilation.output }
     ensures ok { IfOk result (IsObjectFile (plan_steps _plan.now) _program.now) }
-    ensures err { IfErr result (RefusesObject _plan.now _program.now) }
+    ensures err { IfErr result (RefusesToWrite (command.Object _plan.now) _program.now) }
 {
     let Compilation {
         output,
@@ -93,7 +95,7 @@ pub fn run_text(alloc: Global, program: &Program, asked: RunPlan) -> Result<Text
     requires { IsReadProgram program.now }
     ensures ok { IfOk result (IsRunOfProgram (plan_steps asked.plan) program.now asked.name asked.steps
         asked.arguments asked.answers) }
-    ensures err { IfErr result (RefusesToRun asked program.now) }
+    ensures err { IfErr result (RefusesToWrite (command.Run asked) program.now) }
 {
     if is_unknown(program.functions.as_slice(), asked.name.as_slice()) {
         return Err(Fault::UnknownFunction);
@@ -115,7 +117,7 @@ fn run_of(
     requires compilation { IsCompilationOf asked.plan.reserve asked.plan.passes _program.now compilation.now }
     ensures ok { IfOk result (IsRunOfProgram (plan_steps asked.plan) _program.now asked.name asked.steps
         asked.arguments asked.answers) }
-    ensures err { IfErr result (RefusesToRun asked _program.now) }
+    ensures err { IfErr result (RefusesToWrite (command.Run asked) _program.now) }
 {
     let RunPlan {
         name,

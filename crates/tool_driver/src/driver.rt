@@ -13,7 +13,8 @@ ghost use Rattle.tool_driver.specs.Run.{AreCommand, AnswersInput, Finishes, IsCu
 ghost use Rattle.tool_driver.specs.Run.{KeepsHeadline, KeepsRegisters, StopsAtReturns, WroteExactly, WroteLaidOut};
 ghost use Rattle.tool_driver.specs.Run.{WroteKept, WroteWords, WrotePassed, WroteReport, WroteObject, WroteRun};
 ghost use Rattle.tool_driver.specs.Run.{WroteTest, WroteStripped};
-ghost use Rattle.tool_driver.specs.Run.{HasReadProgram, HasReadNone, Explains, ReadingEnds};
+ghost use Rattle.tool_driver.specs.Run.{HasReadProgram};
+ghost use Rattle.tool_driver.specs.steps.Ends.{HasReadNone, Explains, ReadingEnds};
 ghost use Rattle.tool_driver.specs.Stream.{change, MetFault, IsWrittenWhole, IsTold};
 
 use crate::compiled::{compiled_text, listing_text, object_file, report_text, run_text, test_text};

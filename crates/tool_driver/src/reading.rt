@@ -1,7 +1,8 @@
 //! The program in a text.
 
 ghost use Rattle.std.specs.Prelude.{◌^◌, ◌<◌, length, Ok, IfOk, IfErr};
-ghost use Rattle.tool_driver.specs.Answer.{HasFunctions, RefusesProgram};
+ghost use Rattle.tool_driver.specs.Answer.{HasFunctions};
+ghost use Rattle.tool_driver.specs.steps.Ends.{RefusesText};
 ghost use Rattle.read_program.specs.Program.{ReadsText};
 ghost use Rattle.readback_functions.specs.Bytes.{AreBytes};
 
@@ -14,7 +15,7 @@ use std::alloc::Global;
 pub fn program_of(alloc: Global, text: &[u8]) -> Result<Program, Fault>
     requires { length text.now < 2 ^ 31 }
     ensures ok { IfOk result (HasFunctions text.now) }
-    ensures err { IfErr result (RefusesProgram text.now) }
+    ensures err { IfErr result (RefusesText text.now) }
     ensures bytes { AreBytes text.now }
 {
     are_bytes(text);
@@ -34,7 +35,7 @@ fn are_bytes(text: &[u8])
 fn any_program(alloc: Global, text: &[u8]) -> Result<Program, Fault>
     requires { length text.now < 2 ^ 31 }
     ensures ok { IfOk result (λ program. ReadsText text.now (Ok program)) }
-    ensures err { IfErr result (RefusesProgram text.now) }
+    ensures err { IfErr result (RefusesText text.now) }
 {
     match read_program(alloc, text) {
         Ok(program) => Ok(program),

@@ -1,5 +1,5 @@
 -- The run of a compilation is that of the program's function.
-use Rattle.std.proofs.Common.{◌≡◌, ℕ, List, Option, Some, None, subst, rules}
+use Rattle.std.proofs.Common.{◌≡◌, ℕ, List, Option, Some, None, refl, subst, rules}
 use Rattle.std.specs.Prelude.{MatchOption}
 use Rattle.cli.specs.declared.command.RunPlan.{RunPlan}
 use Rattle.run_command.proofs.Runs.{compilation_can_run}
@@ -9,6 +9,7 @@ use Rattle.run_command.specs.Source.{IsUnknown, IsRunOfProgram}
 use Rattle.read_program.specs.declared.program.Program.{Program}
 use Rattle.compile_program.specs.declared.compile.Compilation.{Compilation}
 use Rattle.compile_program.specs.Program.{IsCompilationOf, IsOutputOf}
+use Rattle.tool_driver.specs.Answer.{unknown_function}
 use Rattle.tool_driver.specs.Compiled.{plan_steps}
 use Rattle.tool_driver.proofs.compiled.run_of.Goals as goal
 
@@ -49,7 +50,8 @@ returns-in-Ok-Some-clause-ok c =
 pub returns-in-Ok-None-clause-err : goal.returns-in-Ok-None-clause-err
 returns-in-Ok-None-clause-err c =
     let same : ◌≡◌ {A = Option (List ℕ)} c.in-Ok-None.field-0 None = first_of (cc, search rules) in
-    unknown c.args.asked c.args._program.now c.args.compilation.now c.requires.output c.as_slice.result.now c.as_slice.ensures
+    unknown_function c.args.asked refl
+    (unknown c.args.asked c.args._program.now c.args.compilation.now c.requires.output c.as_slice.result.now c.as_slice.ensures
     (none_given c.in-Ok-None.field-0 (HasNone c.as_slice.result.now c.args.compilation.now.output.functions)
     (IsRunOf c.args.compilation.now c.as_slice.result.now c.args.asked.steps c.as_slice-2.result.now c.args.asked.answers) same
-    c.in-Ok-None.ensures)
+    c.in-Ok-None.ensures))

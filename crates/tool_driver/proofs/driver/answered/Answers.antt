@@ -1,13 +1,16 @@
 -- What each command writes: those that read, of the program that was read.
 use Rattle.std.proofs.Common.{sym, ap, ◌∙◌, subst, refl, IfOk, IfErr}
+use Rattle.std.proofs.lemmas.Result.{err_from_is_err_and}
 use Rattle.read_proof.proofs.Texts.{programs_are_as_read}
 use Rattle.strip_command.specs.StripText.{stripped_text}
 use Rattle.cli.specs.Command.{AreWithin}
 use Rattle.cli.specs.declared.command.Command.{Command}
-use Rattle.tool_driver.specs.Run.{AnswersInput, ReadingEnds}
+use Rattle.cli.specs.declared.command.Command.TheVariants.{Compile, Listing, Report, Object, Run, Strip}
+use Rattle.tool_driver.specs.Run.{AnswersInput}
+use Rattle.tool_driver.specs.steps.Ends.{ReadingEnds}
 use Rattle.tool_driver.specs.Stream.{change}
 use Rattle.tool_driver.proofs.AnswerLemmas.{compile_ok, compile_err, listing_ok, listing_err, report_ok, report_err, object_ok, object_err}
-use Rattle.tool_driver.proofs.AnswerLemmas.{run_ok, run_err, strip_ok, test_ok, test_err}
+use Rattle.tool_driver.proofs.AnswerLemmas.{run_ok, run_err, strip_ok, test_ok, test_err, read_none}
 use Rattle.tool_driver.proofs.driver.answered.Goals as goal
 
 pub compiled_text-requires : goal.compiled_text-requires
@@ -126,3 +129,47 @@ returns-in-SelfTest-clause-err g c =
     let input = change g.S.Source.left g.S.Source.faults c.args.input.now c.args.input.now in
     subst (λ (k : Command). IfErr c.test_text.result (ReadingEnds k input)) (sym c.in-SelfTest.is)
     (test_err c.in-SelfTest.asked input c.test_text.result c.test_text.ensures.err)
+
+-- ---- no program was read
+
+pub returns-in_err-program-in-Compile-clause-err : goal.returns-in_err-program-in-Compile-clause-err
+returns-in_err-program-in-Compile-clause-err g c =
+    let p = err_from_is_err_and c.from_residual.result c.from_residual.ensures.1 in
+    rw (p.1, p.2, c.in-Compile.is)
+    (read_none (Compile c.in-Compile.plan) tt (change g.S.Source.left g.S.Source.faults c.args.input.now c.read.new.input)
+    c.in_err-program-in-Compile.field-0.0 c.in_err-program-in-Compile.ensures.err)
+
+pub returns-in_err-program-in-Listing-clause-err : goal.returns-in_err-program-in-Listing-clause-err
+returns-in_err-program-in-Listing-clause-err g c =
+    let p = err_from_is_err_and c.from_residual-in_err-program-in-Listing.result c.from_residual-in_err-program-in-Listing.ensures.1 in
+    rw (p.1, p.2, c.in-Listing.is)
+    (read_none (Listing c.in-Listing.plan) tt (change g.S.Source.left g.S.Source.faults c.args.input.now c.read-in-Listing.new.input)
+    c.in_err-program-in-Listing.field-0.0 c.in_err-program-in-Listing.ensures.err)
+
+pub returns-in_err-program-in-Report-clause-err : goal.returns-in_err-program-in-Report-clause-err
+returns-in_err-program-in-Report-clause-err g c =
+    let p = err_from_is_err_and c.from_residual-in_err-program-in-Report.result c.from_residual-in_err-program-in-Report.ensures.1 in
+    rw (p.1, p.2, c.in-Report.is)
+    (read_none (Report c.in-Report.plan) tt (change g.S.Source.left g.S.Source.faults c.args.input.now c.read-in-Report.new.input)
+    c.in_err-program-in-Report.field-0.0 c.in_err-program-in-Report.ensures.err)
+
+pub returns-in_err-program-in-Object-clause-err : goal.returns-in_err-program-in-Object-clause-err
+returns-in_err-program-in-Object-clause-err g c =
+    let p = err_from_is_err_and c.from_residual-in_err-program-in-Object.result c.from_residual-in_err-program-in-Object.ensures.1 in
+    rw (p.1, p.2, c.in-Object.is)
+    (read_none (Object c.in-Object.plan) tt (change g.S.Source.left g.S.Source.faults c.args.input.now c.read-in-Object.new.input)
+    c.in_err-program-in-Object.field-0.0 c.in_err-program-in-Object.ensures.err)
+
+pub returns-in_err-program-in-Run-clause-err : goal.returns-in_err-program-in-Run-clause-err
+returns-in_err-program-in-Run-clause-err g c =
+    let p = err_from_is_err_and c.from_residual-in_err-program-in-Run.result c.from_residual-in_err-program-in-Run.ensures.1 in
+    rw (p.1, p.2, c.in-Run.is)
+    (read_none (Run c.in-Run.plan) tt (change g.S.Source.left g.S.Source.faults c.args.input.now c.read-in-Run.new.input)
+    c.in_err-program-in-Run.field-0.0 c.in_err-program-in-Run.ensures.err)
+
+pub returns-in_err-program-in-Strip-clause-err : goal.returns-in_err-program-in-Strip-clause-err
+returns-in_err-program-in-Strip-clause-err g c =
+    let p = err_from_is_err_and c.from_residual-in_err-program-in-Strip.result c.from_residual-in_err-program-in-Strip.ensures.1 in
+    rw (p.1, p.2, c.in-Strip.is)
+    (read_none Strip tt (change g.S.Source.left g.S.Source.faults c.args.input.now c.read-in-Strip.new.input)
+    c.in_err-program-in-Strip.field-0.0 c.in_err-program-in-Strip.ensures.err)
