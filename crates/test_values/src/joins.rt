@@ -229,6 +229,21 @@ fn sweeps_in(alloc: Global, body: &str) -> Result<(u64, u64, u64), Fail> {
     ))
 }
 
+/// 64 blocks, of which each but block 1 jumps to the one before it in the text, and block 0 to the last. So the order
+/// of the text is against that of the path.
+fn upward(alloc: Global) -> Result<String, Fail> {
+    let mut body = String::new(alloc);
+    body.push_str(
+        "  bb.0:\n    DBG_VALUE $x10, $noreg, !4, !DIExpression()\n    PseudoBR %bb.63\n",
+    )?;
+    body.push_str("  bb.1:\n    PseudoRET implicit $x10\n")?;
+    for n in 1..63u32 {
+        let block = n + 1;
+        write!(body, "  bb.{block}:\n    PseudoBR %bb.{n}\n")?;
+    }
+    Ok(body)
+}
+
 #[test]
 fn paths_join(rt: HostRuntime) -> Result<(), Fail> {
     let alloc = rt.alloc();
@@ -250,5 +265,8 @@ fn paths_join(rt: HostRuntime) -> Result<(), Fail> {
             .saturating_add(1);
         assert!(rt; blocks < sweeps && sweeps <= most, "{sweeps} sweeps");
     }
+    // Where no path comes back, one sweep by the order of paths finds all, and a second one sees that.
+    let (_, _, sweeps) = sweeps_in(alloc, upward(alloc)?.as_str())?;
+    assert_eq!(rt; sweeps, 2);
     Ok(())
 }
