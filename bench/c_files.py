@@ -87,7 +87,7 @@ def main():
     with tempfile.TemporaryDirectory() as room:
         for what, text, without, name, cause, helps in REFUSED:
             status, told, lines = said_of(room, text, without)
-            place = re.search(r"it\.mir(?::(\d+))?: (\w+), in function f\n(?:    (.*)\n)?  (.*)\n  What helps: (.*)\.$", told)
+            place = re.search(r"it\.mir(?::(\d+))?: (\w+), in function f\n(?:    (.*)\n)?  (.*)\n  What helps: (.*)\.\n", told)
             holds = status == 1 and place and name in place[2] and cause.lower() in place[4].lower() and helps.lower() in place[5].lower()
             if holds and place[1]:
                 holds = lines[int(place[1]) - 1].strip().startswith(place[3].removesuffix(" ..")[:100])
