@@ -12,7 +12,9 @@
     --plain            text without colours
 
 A row is a source line, a column a variable. Of the machine words of the line, the variable can be found at all of them (a full block), at some
-(how many of how many), or at none (a dot); by the location lists alone, whatever is said of their truth. Debian's package: llvm-19 (or llvm)."""
+(how many of how many), or at none (a dot); by the location lists alone, whatever is said of their truth. docs/coverage.png is a page of two files in a
+browser: what `compile --passes=none` writes of examples/ledger.mir, and what llc-19 makes of the same file by -mtriple=riscv64 -mattr=-relax
+-start-after=virtregrewriter,1 -filetype=obj. Debian's package: llvm-19 (or llvm)."""
 import html
 import os
 import re
