@@ -2,6 +2,7 @@
 """What one run of the gate takes, by crates: processor seconds of proofs, tests, edits and all else.
 
     bench/gate.py COMMAND..        runs the command, as `rt ci`, and prints the table when it has ended
+    bench/gate.py --join LOG..     one table of those in the logs of runs that went on from one another: of each crate the largest of each number
 
 A run that is interrupted (SIGINT, SIGTERM) is ended, and the table tells of what it had done.
 It looks twice a second at the processes that the command has started, and adds up what each took by the crate that it
@@ -16,6 +17,7 @@ import time
 TICKS = os.sysconf("SC_CLK_TCK")
 CRATE = re.compile(r"--crate-name[= ]([a-z0-9_]+)")
 FOLDER = re.compile(r"/crates/([a-z0-9_]+)")
+COLUMNS = ("proof", "tests", "edits", "else")
 
 
 def seen(pid):
@@ -49,7 +51,32 @@ def is_below(pid, top, parents):
     return pid == top
 
 
+def show(table, least=0):
+    """Prints a table, dearest crate first, without the crates below so many seconds."""
+    print("\n| crate | proof | tests | edits | else | all |\n|---|---|---|---|---|---|")
+    for crate, row in sorted(table.items(), key=lambda it: -sum(it[1].values())):
+        cells = [row.get(what, 0) for what in COLUMNS]
+        if sum(cells) >= least:
+            print(f"| `{crate}` | " + " | ".join(f"{it:.0f}" if it >= 0.5 or not least else "·" for it in [*cells, sum(cells)]) + " |")
+    sums = [sum(row.get(what, 0) for row in table.values()) for what in COLUMNS]
+    print(f"\nAll: {sum(sums):.0f}, of which " + ", ".join(f"{what} {it:.0f}" for what, it in zip(COLUMNS, sums)))
+
+
+def join(logs):
+    table = {}
+    for log in logs:
+        with open(log, encoding="utf-8", errors="replace") as it:
+            text = it.read()
+        for crate, cells in re.findall(r"^\| `(\w+)` \|((?: *\d+ *\|){5})$", text, re.M):
+            row = table.setdefault(crate, {})
+            for what, seconds in zip(COLUMNS, cells.split("|")):
+                row[what] = max(row.get(what, 0), int(seconds))
+    show(table, 10)
+
+
 def main():
+    if sys.argv[1:2] == ["--join"]:
+        return join(sys.argv[2:])
     spent = {}
     run = subprocess.Popen(sys.argv[1:])
     for it in (signal.SIGINT, signal.SIGTERM):
@@ -66,12 +93,7 @@ def main():
     for (crate, what), seconds in spent.values():
         row = table.setdefault(crate, {})
         row[what] = row.get(what, 0) + seconds
-    print("\n| crate | proof | tests | edits | else | all |\n|---|---|---|---|---|---|")
-    for crate, row in sorted(table.items(), key=lambda it: -sum(it[1].values())):
-        cells = [row.get(what, 0) for what in ("proof", "tests", "edits", "else")]
-        print(f"| `{crate}` | " + " | ".join(f"{it:.0f}" for it in [*cells, sum(cells)]) + " |")
-    total = sum(sum(row.values()) for row in table.values())
-    print(f"\nAll: {total:.0f}")
+    show(table)
     sys.exit(run.returncode)
 
 
