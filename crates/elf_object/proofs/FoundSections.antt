@@ -16,15 +16,15 @@ use Rattle.elf_object.proofs.OneReading.{Sized, is_sized, length-all, table_fits
 
 -- ---- numbers at offsets
 
-drop_past : (p q : List ℕ) (m n : ℕ) → length p ≡ m → drop (m + n) (p ++ q) ≡ drop n q
+pub drop_past : (p q : List ℕ) (m n : ℕ) → length p ≡ m → drop (m + n) (p ++ q) ≡ drop n q
 drop_past p q m n long = sym (drop-drop n m (p ++ q)) ∙ ap (drop n) (drop_at p q m long)
 
-number_front : (w : Width) (at : ℕ) (p q : List ℕ) → at + byte_len w ≤ length p → number_at w at (p ++ q) ≡ number_at w at p
+pub number_front : (w : Width) (at : ℕ) (p q : List ℕ) → at + byte_len w ≤ length p → number_at w at (p ++ q) ≡ number_at w at p
 number_front w at p q within =
     ap (λ ys. from_le_bytes w (take (byte_len w) ys)) (drop-append-le at p q (omega (arith, within)))
     ∙ ap (from_le_bytes w) (take-append-le (byte_len w) (drop at p) q (omega (arith, within, length-drop at p)))
 
-number_past : (w : Width) (at n : ℕ) (bytes p q : List ℕ) → drop at bytes ≡ p ++ q → n + byte_len w ≤ length p
+pub number_past : (w : Width) (at n : ℕ) (bytes p q : List ℕ) → drop at bytes ≡ p ++ q → n + byte_len w ≤ length p
     → number_at w (at + n) bytes ≡ number_at w n p
 number_past w at n bytes p q here within =
     ap (λ ys. from_le_bytes w (take (byte_len w) ys)) (sym (drop-drop n at bytes) ∙ ap (drop n) here) ∙ number_front w n p q within
@@ -138,7 +138,7 @@ push_last [] last = refl
 push_last (t ∷ ss) last = push_last ss last
 
 -- the names of all sections are those in the table of names
-names_all : (o : Object) → names_of (all_sections o) ≡ names_of o.sections ++ codes ".shstrtab" ∷ []
+pub names_all : (o : Object) → names_of (all_sections o) ≡ names_of o.sections ++ codes ".shstrtab" ∷ []
 names_all o = map-append (λ (s : Section). s.name) o.sections (section_names o.sections ∷ [])
 
 pub names_long : (o : Object) → 1 + length (flat_map text (names_of (all_sections o))) ≡ length (section_names o.sections).bytes
@@ -162,21 +162,21 @@ record Found (bytes : List ℕ) (k : ℕ) (s : Section) (place sh_name sh_offset
   pub alignment : number_at w64 (place + 48) bytes ≡ s.alignment
   pub entry_size : number_at w64 (place + 56) bytes ≡ s.entry_size
 
-abbrev head_of : Object → List ℕ
+abbrev pub head_of : Object → List ℕ
 head_of o = file_header o.flags (table_of (all_sections o)) (length (all_sections o) + 1)
 
-abbrev body_of : Object → List ℕ
+abbrev pub body_of : Object → List ℕ
 body_of o = contents 64 (all_sections o) ++ replicate (padding (64 + length (contents 64 (all_sections o)))) 0
 
-abbrev table_bytes : Object → List ℕ
+abbrev pub table_bytes : Object → List ℕ
 table_bytes o = replicate 64 0 ++ headers 1 64 (all_sections o)
 
-whole : (bytes : List ℕ) (o : Object) → IsObject o bytes → bytes ≡ head_of o ++ (body_of o ++ table_bytes o)
+pub whole : (bytes : List ℕ) (o : Object) → IsObject o bytes → bytes ≡ head_of o ++ (body_of o ++ table_bytes o)
 unfolding spelling
 whole bytes o is = is.spelled ∙ grouped o.flags (all_sections o)
 
 -- a number in the ELF header
-in_head : (w : Width) (at : ℕ) (bytes : List ℕ) (o : Object) → IsObject o bytes → at + byte_len w ≤ 64
+pub in_head : (w : Width) (at : ℕ) (bytes : List ℕ) (o : Object) → IsObject o bytes → at + byte_len w ≤ 64
     → number_at w at bytes ≡ number_at w at (head_of o)
 in_head w at bytes o is within =
     let long : length (head_of o) ≡ 64 = length-file_header o.flags (table_of (all_sections o)) (length (all_sections o) + 1) in

@@ -170,6 +170,10 @@ pub offset_in : (name_at offset : ℕ) (s : Section) → offset < 2 ^ 64 → xwo
 unfolding section_header
 offset_in name_at offset s fits = from_le_bytes-to_le_bytes_8 offset fits
 
+pub address_in : (name_at offset : ℕ) (s : Section) → xword_at 16 (section_header name_at offset s) ≡ 0
+unfolding section_header
+address_in name_at offset s = from_le_bytes-to_le_bytes_8 0 (omega arith)
+
 -- the fields of a section's header that its record determines
 pub record Fields (bytes : List ℕ) (s : Section) : Type 0 where
   pub section_type : word_at 4 bytes ≡ s.section_type

@@ -5,3 +5,9 @@ pub mod OneReading
 pub mod FoundSections
 pub mod OneTable
 pub mod TableLemmas
+pub mod FaultLemmas
+pub mod ToldLemmas
+pub mod ObjectRight
+pub mod OneFault
+pub mod ReadLoops
+pub mod FaultLoops

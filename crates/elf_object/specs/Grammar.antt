@@ -1,5 +1,5 @@
 -- The grammar of objects: the bytes are the encoding of some sections.
-use Rattle.std.specs.Prelude.{◌≡◌, ℕ, ◌+◌, ◌^◌, ◌<◌, List, length, All}
+use Rattle.std.specs.Prelude.{◌≡◌, ℕ, ◌+◌, ◌^◌, ◌<◌, Bool, IsTrue, ◌==◌, ◌||◌, List, length, All}
 use Rattle.elf_object.specs.declared.object.Section.{Section}
 use Rattle.elf_object.specs.declared.object.Object.{Object}
 use Rattle.elf_object.specs.Standard.{SHN_LORESERVE}
@@ -12,6 +12,14 @@ IsName name = All (λ byte. 0 < byte) name
 -- a section whose name is a string
 abbrev pub IsNamed : Section → Type 0
 IsNamed s = IsName s.name
+
+-- each multiple of 8 is one of this alignment ("Section Header", sh_addralign: a power of two, or 0, which is as 1)
+abbrev pub is_alignment : ℕ → Bool
+is_alignment n = (n == 0) || ((n == 1) || ((n == 2) || ((n == 4) || (n == 8))))
+
+-- a section whose bytes may begin at any multiple of 8
+abbrev pub IsAligned : Section → Type 0
+IsAligned s = IsTrue (is_alignment s.alignment)
 
 -- the fields of a section that its header has fit there
 pub record FitsHeader (s : Section) : Type 0 where
@@ -27,6 +35,7 @@ pub record FitsHeader (s : Section) : Type 0 where
 pub record IsObject (o : Object) (bytes : List ℕ) : Type 0 where
   pub spelled : bytes ≡ spelling o
   pub named : All IsNamed o.sections
+  pub aligned : All IsAligned o.sections
   pub fits : All FitsHeader o.sections
   pub flags : o.flags < 2 ^ 32
   pub count : length o.sections + 2 < SHN_LORESERVE

@@ -4,3 +4,5 @@ pub mod Grammar
 pub mod Sections
 pub mod Symbols
 pub mod Relocations
+pub mod FirstFault
+pub mod steps

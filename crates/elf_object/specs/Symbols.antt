@@ -1,5 +1,5 @@
 -- The bytes of a symbol table and of the table of its names (System V gABI, chapter 4, "Symbol Table").
-use Rattle.std.specs.Prelude.{◌≡◌, ℕ, ◌+◌, ◌*◌, ◌^◌, ◌<◌, List, [], ◌∷◌, ◌++◌, length, replicate, All}
+use Rattle.std.specs.Prelude.{◌≡◌, ℕ, ◌+◌, ◌*◌, ◌^◌, ◌<◌, Bool, true, false, IsTrue, if◌then◌else◌, List, [], ◌∷◌, ◌++◌, length, replicate, All, count_by}
 use Rattle.std.specs.List.{flat_map}
 use Rattle.std.specs.Int.{w16, w32, w64, to_le_bytes}
 use Rattle.elf_object.specs.declared.symbols.Binding.{Binding}
@@ -22,6 +22,30 @@ abbrev pub type_number : SymbolType → ℕ
 type_number NoType = STT_NOTYPE
 type_number Function = STT_FUNC
 type_number Section = STT_SECTION
+
+-- whether a binding is that of local symbols
+abbrev pub is_local : Binding → Bool
+is_local Local = true
+is_local Global = false
+is_local Weak = false
+
+-- no symbol is local
+abbrev pub none_local : List Symbol → Bool
+none_local [] = true
+none_local (s ∷ rest) = if is_local s.binding then false else none_local rest
+
+-- local symbols stand before all others ("Symbol Table", "Symbol Binding")
+abbrev pub locals_first : List Symbol → Bool
+locals_first [] = true
+locals_first (s ∷ rest) = if is_local s.binding then locals_first rest else none_local rest
+
+abbrev pub LocalsFirst : List Symbol → Type 0
+LocalsFirst symbols = IsTrue (locals_first symbols)
+
+-- the number of the first symbol that isn't local, where they stand so: sh_info of the section of the symbols ("Section Header"). The
+-- null symbol has number 0, and is local
+abbrev pub first_global : List Symbol → ℕ
+first_global symbols = 1 + count_by (λ s. is_local s.binding) symbols
 
 -- the bytes of a name in the table of names: a name without bytes has none
 abbrev pub name_text : List ℕ → List ℕ
@@ -64,4 +88,5 @@ pub record AreSymbols (symbols : List Symbol) (bytes strings : List ℕ) : Type 
   pub table : bytes ≡ symbol_table symbols
   pub names : strings ≡ symbol_names symbols
   pub fits : All FitsSymbol symbols
+  pub locals : LocalsFirst symbols
   pub long : length strings < 2 ^ 32

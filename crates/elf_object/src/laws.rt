@@ -7,6 +7,7 @@ ghost use Rattle.elf_object.specs.declared.object.Object.{Object};
 ghost use Rattle.elf_object.specs.declared.relocations.Relocation.{Relocation};
 ghost use Rattle.elf_object.specs.declared.symbols.Symbol.{Symbol};
 ghost use Rattle.elf_object.specs.Grammar.{IsObject};
+ghost use Rattle.elf_object.specs.FirstFault.{FirstFault};
 ghost use Rattle.elf_object.specs.Relocations.{AreRelocations};
 ghost use Rattle.elf_object.specs.Symbols.{AreSymbols};
 ghost use Rattle.elf_object.specs.Sections.{number_at, IsSectionAt};
@@ -14,6 +15,12 @@ ghost use Rattle.elf_object.specs.Sections.{number_at, IsSectionAt};
 /// Bytes are an object of at most one list of sections.
 pub fn one_reading()
     ensures { (bytes : List ℕ) (a b : Object) → IsObject a bytes → IsObject b bytes → a ≡ b }
+{}
+
+/// The bytes of an object have no wrong field, and of other bytes at most one field is the first that is wrong.
+pub fn one_verdict()
+    ensures right { (bytes : List ℕ) (o : Object) (at : ℕ) → IsObject o bytes → FirstFault bytes at → ⊥ }
+    ensures first { (bytes : List ℕ) (a b : ℕ) → FirstFault bytes a → FirstFault bytes b → a ≡ b }
 {}
 
 /// Bytes are the relocations of at most one list, and those of two tables the symbols of at most one.

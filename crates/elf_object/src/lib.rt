@@ -4,11 +4,15 @@
 //! records. Each record has one encoding, so an object determines its bytes, and the bytes determine the object.
 #![tactic(auto)]
 
+pub mod alignment;
 pub mod constants;
+mod fault;
 mod header;
 pub mod laws;
 pub mod names;
+mod number;
 pub mod object;
+pub mod read;
 pub mod relocations;
 pub mod size;
 pub mod symbols;

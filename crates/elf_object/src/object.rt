@@ -22,7 +22,7 @@ pub struct Section {
     pub link: u32,
     /// More about it, by its type (sh_info).
     pub info: u32,
-    /// What its address in memory is a multiple of, in bytes (sh_addralign).
+    /// What its address in memory is a multiple of, in bytes: 1, 2, 4 or 8, or 0, which is as 1 (sh_addralign).
     pub alignment: u64,
     /// The size in bytes of an entry of a table; 0 if it is none (sh_entsize).
     pub entry_size: u64,

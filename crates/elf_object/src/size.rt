@@ -47,7 +47,7 @@ pub fn padding(at: usize) -> usize
 
 /// The next multiple of 8.
 pub fn aligned(at: usize) -> usize
-    requires { at < 2 ^ 40 }
+    requires { at < 2 ^ 63 }
     ensures { result ≡ Spelling.aligned at }
 {
     at + padding(at)

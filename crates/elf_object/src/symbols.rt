@@ -4,7 +4,7 @@ ghost use Rattle.std.specs.Prelude.{◌≡◌, ◌+◌, ◌*◌, ◌^◌, ◌<�
 ghost use Rattle.elf_object.specs.Spelling.{text};
 ghost use Rattle.elf_object.specs.Symbols;
 ghost use Rattle.elf_object.specs.Symbols.{binding_number, type_number, name_text, name_offset, symbols_from};
-ghost use Rattle.elf_object.specs.Symbols.{symbol_names, symbol_table};
+ghost use Rattle.elf_object.specs.Symbols.{is_local, locals_first, LocalsFirst, symbol_names, symbol_table};
 
 use crate::constants::*;
 use crate::object::{Bytes, Name};
@@ -51,6 +51,31 @@ pub struct Symbol {
     pub size: u64,
 }
 
+/// Whether local symbols stand before all others.
+pub fn are_locals_first(symbols: &[Symbol]) -> bool
+    ensures { result ≡ locals_first symbols.now }
+{
+    let mut others = false;
+    for symbol in symbols {
+        if !is_local(symbol.binding) {
+            others = true;
+        } else if others {
+            return false;
+        }
+    }
+    true
+}
+
+/// Whether a binding is that of local symbols.
+fn is_local(binding: Binding) -> bool
+    ensures { result ≡ is_local binding }
+{
+    match binding {
+        Binding::Local => true,
+        Binding::Global | Binding::Weak => false,
+    }
+}
+
 /// The size of the table of the symbols' names in bytes. `None` if and only if it is 2^31 or more. It takes no memory.
 pub fn symbol_names_size(symbols: &[Symbol]) -> Option<u32>
     ensures none { IsNone result ↔ (2 ^ 31 ≤ length (symbol_names symbols.now)) }
@@ -78,9 +103,10 @@ pub fn write_symbol_names(alloc: Global, symbols: &[Symbol]) -> Result<Bytes, Al
     Ok(List::from(out))
 }
 
-/// The bytes of the symbol table. The error is out of memory.
+/// The bytes of the symbol table. The first symbols are the local ones. The error is out of memory.
 pub fn write_symbols(alloc: Global, symbols: &[Symbol]) -> Result<Bytes, AllocError>
-    requires { length (symbol_names symbols.now) < 2 ^ 32 }
+    requires locals { LocalsFirst symbols.now }
+    requires names { length (symbol_names symbols.now) < 2 ^ 32 }
     ensures { IfOk result (λ bytes. bytes ≡ symbol_table symbols.now) }
 {
     let mut out = Vec::new(alloc);

@@ -4,7 +4,7 @@ ghost use Rattle.std.specs.Prelude.{◌≡◌, ◌+◌, ◌^◌, ◌<◌, ◌++�
 ghost use Rattle.elf_object.specs.Standard;
 ghost use Rattle.elf_object.specs.Spelling;
 ghost use Rattle.elf_object.specs.Spelling.{text, contents, headers, spelling};
-ghost use Rattle.elf_object.specs.Grammar.{IsNamed, FitsHeader, IsObject};
+ghost use Rattle.elf_object.specs.Grammar.{IsNamed, IsAligned, FitsHeader, IsObject};
 
 use crate::constants::*;
 use crate::header::{push_file_header, push_section_header};
@@ -22,6 +22,8 @@ static NULL_HEADER: [u8; 64] = [0; 64];
 pub fn write_object(alloc: Global, o: &Object) -> Result<Bytes, AllocError>
     // The sections' names have no zero byte.
     requires names { All IsNamed o.now.sections }
+    // They may begin at any multiple of 8.
+    requires alignments { All IsAligned o.now.sections }
     // These two are what `object_size` tests.
     requires count { length o.now.sections + 2 < Standard.SHN_LORESERVE }
     requires size { length (spelling o.now) < 2 ^ 31 }

@@ -1,3 +1,4 @@
 mod SymbolLemmas
 mod SizeLemmas
 mod ObjectLemmas
+mod GlobalSymbols

@@ -6,7 +6,7 @@ use Rattle.std.proofs.lemmas.List.Elements.{All-from_recursion}
 use Rattle.listing_text.specs.declared.output.Output.{Output}
 use Rattle.elf_object.specs.declared.object.Section.{Section}
 use Rattle.elf_object.specs.declared.object.Object.{Object}
-use Rattle.elf_object.specs.Grammar.{IsName, IsNamed, IsObject}
+use Rattle.elf_object.specs.Grammar.{IsName, IsNamed, IsAligned, IsObject}
 use Rattle.object_command.specs.declared.object.ObjectError.{ObjectError}
 use Rattle.object_command.specs.Object.{object_of, HaveSymbolNames, IsObjectOf}
 
@@ -50,6 +50,9 @@ sections_named o =
         ),
       ),
     )
+
+pub sections_aligned : (o : Output) → All IsAligned (object_of o).sections
+sections_aligned o = All-from_recursion IsAligned (object_of o).sections (refl, (refl, (refl, (refl, (refl, (refl, (refl, (refl, tt))))))))
 
 pub sections_few : (o : Output) → length (object_of o).sections + 2 < 0xff00
 sections_few o = omega arith

@@ -99,7 +99,7 @@ relocation_section relocations = record {
   bytes = relocation_table relocations;
 }
 
--- the symbols, whose names are in the section with index 8. Only the null symbol is local
+-- the symbols, whose names are in the section with index 8. The first that isn't local has number 1
 abbrev pub symbol_section : List Symbol → Section
 symbol_section symbols = record {
   name = codes ".symtab";

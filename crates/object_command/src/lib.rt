@@ -3,6 +3,7 @@
 #![tactic(auto)]
 
 pub mod calls;
+pub mod laws;
 mod names;
 pub mod object;
 mod sections;

@@ -3,7 +3,7 @@
 ghost use Rattle.std.specs.Prelude.{◌≡◌, ◌+◌, ◌<◌, ◌≤◌, ◌^◌, length, All, IfOk, IsErrOf};
 ghost use Rattle.elf_object.specs.Standard.{SHN_LORESERVE};
 ghost use Rattle.elf_object.specs.Spelling.{spelling};
-ghost use Rattle.elf_object.specs.Grammar.{IsNamed, IsObject};
+ghost use Rattle.elf_object.specs.Grammar.{IsNamed, IsAligned, IsObject};
 ghost use Rattle.object_command.specs.Calls;
 ghost use Rattle.object_command.specs.Object.{symbols_of, relocations_of, object_of};
 ghost use Rattle.object_command.specs.Object.{HaveSymbolNames, IsObjectOf, HasLargeObject};
@@ -73,10 +73,11 @@ fn write(alloc: Global, output: Output, sites: &[CallSite]) -> Result<Bytes, Obj
     }
 }
 
-/// The file of an object, whose sections' names have no zero byte. The error `TooLarge` is that it would have 2^31 bytes
+/// The file of an object, whose sections' names have no zero byte and whose alignments multiples of 8 meet. The error `TooLarge` is that it would have 2^31 bytes
 /// or more.
 fn file(alloc: Global, object: &Object) -> Result<Bytes, ObjectError>
     requires names { All IsNamed object.now.sections }
+    requires alignments { All IsAligned object.now.sections }
     requires count { length object.now.sections + 2 < SHN_LORESERVE }
     ensures object { IfOk result (IsObject object.now) }
     ensures named { IsErrOf result ObjectError.SymbolName → ⊥ }

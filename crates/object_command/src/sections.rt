@@ -75,7 +75,8 @@ pub fn push_symbols(
     sections: &mut Sections,
     symbols: &[Symbol],
 ) -> Result<(), AllocError>
-    requires { length (Symbols.symbol_names symbols.now) < 2 ^ 32 }
+    requires locals { Symbols.LocalsFirst symbols.now }
+    requires names { length (Symbols.symbol_names symbols.now) < 2 ^ 32 }
     ensures { OnOk result (sections.new
         ≡ sections.old ++ Object.symbol_section symbols.now ∷ Object.name_section symbols.now ∷ []) }
 {
@@ -135,7 +136,8 @@ fn debug_section(alloc: Global, name: &[u8], bytes: Bytes) -> Result<Section, Al
 
 /// The section of symbols.
 fn symbol_section(alloc: Global, symbols: &[Symbol]) -> Result<Section, AllocError>
-    requires { length (Symbols.symbol_names symbols.now) < 2 ^ 32 }
+    requires locals { Symbols.LocalsFirst symbols.now }
+    requires names { length (Symbols.symbol_names symbols.now) < 2 ^ 32 }
     ensures { IfOk result (λ s. s ≡ Object.symbol_section symbols.now) }
 {
     let bytes = write_symbols(alloc, symbols)?;

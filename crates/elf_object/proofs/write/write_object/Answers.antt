@@ -6,6 +6,7 @@ pub returns-clause-object : goal.returns-clause-object
 returns-clause-object c = record {
   spelled = c.in_ok-bytes.ensures.bytes;
   named = c.requires.names;
+  aligned = c.requires.alignments;
   fits = c.in_ok-bytes.ensures.fits;
   flags = c.in_ok-bytes.ensures.flags;
   count = c.requires.count;

@@ -2,14 +2,17 @@ use Rattle.std.specs.Prelude.{All, Err}
 use Rattle.std.proofs.Common.{◌≡◌, ◌≤◌, ◌<◌, ◌+◌, ◌^◌, length, ap, sym, subst}
 use Rattle.elf_object.specs.declared.object.Object.{Object}
 use Rattle.elf_object.specs.Spelling.{spelling}
-use Rattle.elf_object.specs.Grammar.{IsNamed}
+use Rattle.elf_object.specs.Grammar.{IsNamed, IsAligned}
 use Rattle.object_command.specs.declared.object.ObjectError.{ObjectError}
 use Rattle.object_command.specs.declared.object.ObjectError.TheVariants.{TooLarge}
-use Rattle.object_command.proofs.ObjectLemmas.{sections_named, sections_few, is_object}
+use Rattle.object_command.proofs.ObjectLemmas.{sections_named, sections_aligned, sections_few, is_object}
 use Rattle.object_command.proofs.object.write.Goals as goal
 
 pub file-requires-clause-names : goal.file-requires-clause-names
 file-requires-clause-names c = subst (λ (x : Object). All IsNamed x.sections) (sym c.in-Ok.ensures.object) (sections_named c.args.output)
+
+pub file-requires-clause-alignments : goal.file-requires-clause-alignments
+file-requires-clause-alignments c = subst (λ (x : Object). All IsAligned x.sections) (sym c.in-Ok.ensures.object) (sections_aligned c.args.output)
 
 pub file-requires-clause-count : goal.file-requires-clause-count
 file-requires-clause-count c = subst (λ (x : Object). length x.sections + 2 < 0xff00) (sym c.in-Ok.ensures.object) (sections_few c.args.output)
