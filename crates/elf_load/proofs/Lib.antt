@@ -1,0 +1,4 @@
+mod CallSteps
+mod Patches
+mod Relocated
+mod Addresses

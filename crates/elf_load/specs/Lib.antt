@@ -1,0 +1,3 @@
+pub mod Auipc
+pub mod Load
+pub mod steps
