@@ -14,6 +14,8 @@ mod leb128;
 #[cfg(test)]
 mod line_tables;
 #[cfg(test)]
+mod loaded;
+#[cfg(test)]
 mod location_lists;
 #[cfg(test)]
 mod no_functions;

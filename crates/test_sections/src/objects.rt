@@ -1,13 +1,18 @@
 //! An object by the System V gABI and the RISC-V psABI, compared with readelf and llvm-readobj: a function `f` with a
 //! call of `g`, which the file doesn't define, and its debug sections.
 
+use crate::changed::changed;
 use base_list::List;
+use elf_object::alignment::are_aligned;
 use elf_object::constants::*;
 use elf_object::names::are_named;
 use elf_object::object::{Object, Section};
+use elf_object::read::{ReadError, read_object};
 use elf_object::relocations::{Relocation, write_relocations};
 use elf_object::size::object_size;
-use elf_object::symbols::{Binding, Symbol, SymbolType, write_symbol_names, write_symbols};
+use elf_object::symbols::{
+    Binding, Symbol, SymbolType, are_locals_first, write_symbol_names, write_symbols,
+};
 use elf_object::write::write_object;
 use std::alloc::{AllocError, Global};
 use std::test::Fail;
@@ -206,6 +211,9 @@ fn is_file(alloc: Global, o: &Object, bytes: &[u8]) -> bool {
     if !are_named(o.sections.as_slice()) {
         return false;
     }
+    if !are_aligned(o.sections.as_slice()) {
+        return false;
+    }
     let Some(size) = object_size(o) else {
         return false;
     };
@@ -243,6 +251,9 @@ fn symbol(
 
 /// Whether symbols have these names and this table.
 fn are_symbols(alloc: Global, symbols: &[Symbol], names: &[u8], table: &[u8]) -> bool {
+    if !are_locals_first(symbols) {
+        return false;
+    }
     let written = match write_symbol_names(alloc, symbols) {
         Ok(written) => written,
         Err(_) => return false,
@@ -271,5 +282,183 @@ fn symbols_and_relocations_are_written_byte_for_byte(rt: HostRuntime) -> Result<
     };
     let relocations = write_relocations(alloc, &[call])?;
     assert!(rt; relocations.as_slice() == &OBJECT[112..136]);
+    Ok(())
+}
+
+/// A symbol without a name, with this binding.
+fn bound(alloc: Global, binding: Binding) -> Symbol {
+    Symbol {
+        name: List::new(alloc),
+        binding,
+        symbol_type: SymbolType::NoType,
+        section: 1,
+        value: 0,
+        size: 0,
+    }
+}
+
+#[test]
+fn local_symbols_stand_first(rt: HostRuntime) -> Result<(), Fail> {
+    let alloc = rt.alloc();
+    let right = [
+        bound(alloc, Binding::Local),
+        bound(alloc, Binding::Local),
+        bound(alloc, Binding::Weak),
+        bound(alloc, Binding::Global),
+    ];
+    assert!(rt; are_locals_first(&right));
+    let wrong = [bound(alloc, Binding::Weak), bound(alloc, Binding::Local)];
+    assert!(rt; !are_locals_first(&wrong));
+    Ok(())
+}
+
+/// A byte of the file that becomes another, and the first wrong field then.
+struct Damage {
+    at: usize,
+    byte: u8,
+    fault: usize,
+}
+
+/// Each kind of field, in the order in which they are judged.
+static DAMAGES: &[Damage] = &[
+    // e_ident, e_machine, e_shoff, e_ehsize and e_shstrndx
+    Damage {
+        at: 1,
+        byte: 0,
+        fault: 0,
+    },
+    Damage {
+        at: 9,
+        byte: 1,
+        fault: 9,
+    },
+    Damage {
+        at: 18,
+        byte: 0x3e,
+        fault: 18,
+    },
+    Damage {
+        at: 41,
+        byte: 3,
+        fault: 40,
+    },
+    Damage {
+        at: 52,
+        byte: 65,
+        fault: 52,
+    },
+    Damage {
+        at: 62,
+        byte: 8,
+        fault: 62,
+    },
+    // the null section's header
+    Damage {
+        at: 600,
+        byte: 1,
+        fault: 600,
+    },
+    // the header of `.text`: its name, address, offset and size
+    Damage {
+        at: 656,
+        byte: 2,
+        fault: 656,
+    },
+    Damage {
+        at: 672,
+        byte: 1,
+        fault: 672,
+    },
+    Damage {
+        at: 680,
+        byte: 0x48,
+        fault: 680,
+    },
+    Damage {
+        at: 695,
+        byte: 1,
+        fault: 688,
+    },
+    // its alignment, which no multiple of 8 needs to meet
+    Damage {
+        at: 704,
+        byte: 3,
+        fault: 704,
+    },
+    Damage {
+        at: 704,
+        byte: 16,
+        fault: 704,
+    },
+    // `.rela.text` would overlap `.text`; the bytes between the two
+    Damage {
+        at: 744,
+        byte: 0x68,
+        fault: 744,
+    },
+    Damage {
+        at: 109,
+        byte: 1,
+        fault: 109,
+    },
+    // the header of `.shstrtab`: its type, size and alignment
+    Damage {
+        at: 1172,
+        byte: 1,
+        fault: 1172,
+    },
+    Damage {
+        at: 1200,
+        byte: 0x63,
+        fault: 1200,
+    },
+    Damage {
+        at: 1217,
+        byte: 1,
+        fault: 1216,
+    },
+    // its first byte and the last name, and the bytes before the section header table
+    Damage {
+        at: 488,
+        byte: 1,
+        fault: 488,
+    },
+    Damage {
+        at: 577,
+        byte: 0x74,
+        fault: 577,
+    },
+    Damage {
+        at: 587,
+        byte: 1,
+        fault: 587,
+    },
+];
+
+/// Whether the object that is read of bytes has them as its file.
+fn is_read(alloc: Global, bytes: &[u8]) -> bool {
+    match read_object(alloc, bytes) {
+        Ok(o) => is_file(alloc, &o, bytes),
+        Err(_) => false,
+    }
+}
+
+/// The first wrong field of bytes.
+fn fault_of(alloc: Global, bytes: &[u8]) -> Option<usize> {
+    match read_object(alloc, bytes) {
+        Err(ReadError::Fault(at)) => Some(at),
+        _ => None,
+    }
+}
+
+#[test]
+fn the_file_is_read_and_none_that_is_damaged(rt: HostRuntime) -> Result<(), Fail> {
+    let alloc = rt.alloc();
+    assert!(rt; is_read(alloc, &OBJECT));
+    for damage in DAMAGES {
+        let bytes = changed(alloc, &OBJECT, damage.at, damage.byte)?;
+        assert!(rt; fault_of(alloc, bytes.as_slice()) == Some(damage.fault));
+    }
+    assert!(rt; fault_of(alloc, part(0, 30)) == Some(24));
     Ok(())
 }
