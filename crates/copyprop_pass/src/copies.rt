@@ -50,6 +50,15 @@ impl Pass for CopyPass {
     ghost grows = { Prim.search rules };
 }
 
+/// What the pass states of itself: it needs no matched block ends and keeps them, and its bounds on sizes.
+pub fn copy_pass_keeps_block_ends()
+    ensures asks { ⟦<CopyPass as Pass>⟧.asks ≡ false }
+    ensures keeps { ⟦<CopyPass as Pass>⟧.keeps ≡ true }
+    ensures fits { ⟦<CopyPass as Pass>⟧.fits ≡ true }
+    ensures factor { ⟦<CopyPass as Pass>⟧.factor ≡ 1 }
+    ensures count { ⟦<CopyPass as Pass>⟧.count ≡ 1 }
+{}
+
 /// Removes the redundant copies of a function, and salvages their numbers. After an error the function is unchanged,
 /// and the substitutions may only be dropped.
 fn take_copies_out(alloc: Global, f: &mut Func, subs: &mut Substitutions) -> Result<(), AllocError>

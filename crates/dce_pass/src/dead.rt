@@ -1,6 +1,6 @@
 //! The dead code elimination pass.
 
-ghost use Rattle.std.specs.Prelude.{false, true};
+ghost use Rattle.std.specs.Prelude.{◌≡◌, false, true};
 ghost use Rattle.dce_pass.specs.Steps.{dead_steps};
 ghost use Rattle.dce_pass.specs.PassLaws.{rounds_have_one_result, rounds_see_code_alone};
 ghost use Rattle.std.proofs.Common.{rules};
@@ -50,3 +50,12 @@ impl Pass for DeadPass {
 
     ghost grows = { Prim.search rules };
 }
+
+/// What the pass states of itself: it needs no matched block ends and keeps them, and its bounds on sizes.
+pub fn dead_pass_keeps_block_ends()
+    ensures asks { ⟦<DeadPass as Pass>⟧.asks ≡ false }
+    ensures keeps { ⟦<DeadPass as Pass>⟧.keeps ≡ true }
+    ensures fits { ⟦<DeadPass as Pass>⟧.fits ≡ true }
+    ensures factor { ⟦<DeadPass as Pass>⟧.factor ≡ 1 }
+    ensures count { ⟦<DeadPass as Pass>⟧.count ≡ 1 }
+{}

@@ -60,6 +60,15 @@ impl Pass for FoldPass {
     ghost grows = { Prim.search rules };
 }
 
+/// What the pass states of itself: it needs matched block ends and doesn't keep them, and its bounds on sizes.
+pub fn fold_pass_needs_matched_block_ends()
+    ensures asks { ⟦<FoldPass as Pass>⟧.asks ≡ true }
+    ensures keeps { ⟦<FoldPass as Pass>⟧.keeps ≡ false }
+    ensures fits { ⟦<FoldPass as Pass>⟧.fits ≡ true }
+    ensures factor { ⟦<FoldPass as Pass>⟧.factor ≡ 1 }
+    ensures count { ⟦<FoldPass as Pass>⟧.count ≡ 1 }
+{}
+
 /// Folds a function, and returns the losses. After an error the function is unchanged.
 pub fn fold(alloc: Global, f: &mut Func) -> Result<Losses, AllocError>
     ensures folded { IfOk result (λ losses. AreFoldedWithLosses f.old.blocks f.new.blocks losses) }

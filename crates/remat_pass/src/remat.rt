@@ -58,6 +58,15 @@ impl Pass for RematPass {
     ghost grows = { Prim.search rules };
 }
 
+/// What the pass states of itself: it needs no matched block ends and keeps them, and its bounds on sizes.
+pub fn remat_pass_keeps_block_ends()
+    ensures asks { ⟦<RematPass as Pass>⟧.asks ≡ false }
+    ensures keeps { ⟦<RematPass as Pass>⟧.keeps ≡ true }
+    ensures fits { ⟦<RematPass as Pass>⟧.fits ≡ true }
+    ensures factor { ⟦<RematPass as Pass>⟧.factor ≡ 1 }
+    ensures count { ⟦<RematPass as Pass>⟧.count ≡ 1 }
+{}
+
 /// Rematerializes the constants of a function. After an error, some of them.
 fn set_constants(alloc: Global, f: &mut Func) -> Result<(), AllocError>
     ensures code { OnOk result (f.new ≡ rematerialized f.old) }

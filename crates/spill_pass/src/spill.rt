@@ -1,6 +1,6 @@
 //! The spilling pass.
 
-ghost use Rattle.std.specs.Prelude.{◌+◌, ◌<◌, ◌^◌, [], ◌∷◌, false, true, IfOk};
+ghost use Rattle.std.specs.Prelude.{◌≡◌, ◌+◌, ◌<◌, ◌^◌, [], ◌∷◌, false, true, IfOk};
 ghost use Rattle.mir_func.specs.Limits.{MAX_SLOTS};
 ghost use Rattle.mir_func.specs.Sound.{AllItems, IsSound, HasForm};
 ghost use Rattle.pass_trait.specs.Sizes.{greatest, greatest_number, item_count};
@@ -63,6 +63,15 @@ impl Pass for SpillPass {
 
     ghost grows = { Prim.search rules };
 }
+
+/// What the pass states of itself: it needs no matched block ends and keeps them, and its bounds on sizes.
+pub fn spill_pass_keeps_block_ends()
+    ensures asks { ⟦<SpillPass as Pass>⟧.asks ≡ false }
+    ensures keeps { ⟦<SpillPass as Pass>⟧.keeps ≡ true }
+    ensures fits { ⟦<SpillPass as Pass>⟧.fits ≡ true }
+    ensures factor { ⟦<SpillPass as Pass>⟧.factor ≡ 4 }
+    ensures count { ⟦<SpillPass as Pass>⟧.count ≡ 1 }
+{}
 
 /// Spills registers of a reserve, and returns the losses. After an error the function is unchanged.
 pub fn spill(
