@@ -18,6 +18,21 @@ def lines_of(text):
     return re.findall(r"[^\n]*\n|[^\n]+\Z", text)
 
 
+def number_at(term, turn):
+    """The turn's number times the factor behind `*`, the rest of this by the number behind `%`, and the one behind `+` more."""
+    factor, modulus, summand = re.fullmatch(r"(?:\*(\d+))?(?:%(\d+))?(?:\+(\d+))?", term).groups()
+    product = turn * int(factor or 1)
+    return (product % int(modulus) if modulus else product) + int(summand or 0)
+
+
+def repeated(text, count):
+    """A text so many times, in which `{n}` stands for a number of the turn."""
+    if "{n" not in text:
+        return (text * count).encode()
+    turns = (re.sub(r"\{n([^}]*)\}", lambda found: str(number_at(found[1], turn)), text) for turn in range(count))
+    return "".join(turns).encode()
+
+
 def bytes_of(lines, texts):
     """What the lines of a part stand for."""
     out = b""
@@ -27,8 +42,10 @@ def bytes_of(lines, texts):
             out = out.removesuffix(b"\n")
         elif found := re.fullmatch(r"@hex ([0-9a-f]*)", body):
             out += bytes.fromhex(found[1])
+        elif found := re.fullmatch(r"@(\d+) @(.*)", body):
+            out += repeated(texts[found[2]].decode(), int(found[1]))
         elif found := re.fullmatch(r"@(\d+) (.*)", body):
-            out += (found[2] + "\n").encode() * int(found[1])
+            out += repeated(found[2] + "\n", int(found[1]))
         elif body.startswith("@"):
             out += texts[body[1:]]
         else:

@@ -64,34 +64,84 @@ impl Texts {
             return Ok(());
         }
         let Some(asked) = line.strip_prefix('@') else {
-            return add_repeated(line, 1, bytes);
+            return add_copies(line.as_bytes(), b"\n", 1, bytes);
         };
         match asked.split_once(' ') {
-            None => self.add_named(asked, bytes),
+            None => add_copies(self.text_of(asked)?, b"", 1, bytes),
             Some(("hex", digits)) => add_hex(digits, bytes),
-            Some((count, line)) => add_repeated(line, count.parse::<u32>()?, bytes),
+            Some((count, line)) => self.add_repeated(line, count.parse::<u32>()?, bytes),
         }
     }
 
-    /// Adds the text of a name.
-    fn add_named(&self, name: &str, bytes: &mut Vec<u8>) -> anyhow::Result<()> {
+    /// Adds a line, or the text that it names, so many times, numbered.
+    fn add_repeated(&self, line: &str, count: u32, bytes: &mut Vec<u8>) -> anyhow::Result<()> {
+        match line.strip_prefix('@') {
+            None => add_turns(line, b"\n", count, bytes),
+            Some(name) => add_turns(str::from_utf8(self.text_of(name)?)?, b"", count, bytes),
+        }
+    }
+
+    /// The text of a name.
+    fn text_of(&self, name: &str) -> anyhow::Result<&[u8]> {
         for (other, text) in &self.named {
             if other.as_str() == name {
-                bytes.extend_from_slice(text.as_slice())?;
-                return Ok(());
+                return Ok(text.as_slice());
             }
         }
         bail!("no text is called {name}")
     }
 }
 
-/// Adds a line so many times.
-fn add_repeated(line: &str, count: u32, bytes: &mut Vec<u8>) -> anyhow::Result<()> {
+/// Adds a text and its end so many times.
+fn add_copies(text: &[u8], end: &[u8], count: u32, bytes: &mut Vec<u8>) -> anyhow::Result<()> {
     for _ in 0..count {
-        bytes.extend_from_slice(line.as_bytes())?;
-        bytes.push(b'\n')?;
+        bytes.extend_from_slice(text)?;
+        bytes.extend_from_slice(end)?;
     }
     Ok(())
+}
+
+/// The same with the numbers of each turn. Turns are counted from 0.
+fn add_turns(text: &str, end: &[u8], count: u32, bytes: &mut Vec<u8>) -> anyhow::Result<()> {
+    if !text.contains("{n") {
+        return add_copies(text.as_bytes(), end, count, bytes);
+    }
+    for turn in 0..count {
+        add_turn(text, turn, bytes)?;
+        bytes.extend_from_slice(end)?;
+    }
+    Ok(())
+}
+
+/// Adds a text in which `{n}`, or `{n*7%224+1}`, stands for a number of the turn.
+fn add_turn(text: &str, turn: u32, bytes: &mut Vec<u8>) -> anyhow::Result<()> {
+    let alloc = *bytes.allocator();
+    let (first, _) = text.split_once("{n").unwrap_or((text, ""));
+    bytes.extend_from_slice(first.as_bytes())?;
+    for piece in text.split("{n").skip(1) {
+        let (term, rest) = piece.split_once('}').context("a number without an end")?;
+        let number = number_at(term, turn).context(format_args!("n{term}"))?;
+        let digits = format!(in alloc; "{number}")?;
+        bytes.extend_from_slice(digits.as_bytes())?;
+        bytes.extend_from_slice(rest.as_bytes())?;
+    }
+    Ok(())
+}
+
+/// The turn's number times the factor behind `*`, the rest of this by the number behind `%`, and the one behind `+`
+/// more.
+fn number_at(term: &str, turn: u32) -> anyhow::Result<u64> {
+    let (term, summand) = term.split_once('+').unwrap_or((term, "0"));
+    let (factor, modulus) = term.split_once('%').unwrap_or((term, ""));
+    let factor = factor.strip_prefix('*').unwrap_or("1").parse::<u64>()?;
+    let product = u64::from(turn).checked_mul(factor).context("a product")?;
+    let rest = if modulus.is_empty() {
+        product
+    } else {
+        let modulus = modulus.parse::<u64>()?;
+        product.checked_rem(modulus).context("a rest")?
+    };
+    rest.checked_add(summand.parse::<u64>()?).context("a sum")
 }
 
 /// Adds bytes of two hexadecimal digits each.
