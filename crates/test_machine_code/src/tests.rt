@@ -13,7 +13,7 @@ use std::alloc::Global;
 use std::test::Fail;
 
 /// A function of one word, which returns.
-const RETURN: &[u8] = b"---\nname: g\nbody: |\n  bb.0:\n    PseudoRET\n...\n";
+pub(crate) const RETURN: &[u8] = b"---\nname: g\nbody: |\n  bb.0:\n    PseudoRET\n...\n";
 
 /// A loop that calls `g` until its first argument is counted down, and sums what it gives.
 const SUM: &[u8] = b"---
@@ -60,7 +60,7 @@ impl CallAnswers for Odd {
 }
 
 /// The machine code of the first function of a text, from address 0 on.
-fn code(alloc: Global, text: &[u8]) -> Result<Code, Fail> {
+pub(crate) fn code(alloc: Global, text: &[u8]) -> Result<Code, Fail> {
     if 16_777_216 < text.len() {
         return Err(Fail::from("a long text"));
     }
