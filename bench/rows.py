@@ -9,8 +9,8 @@ import re
 import subprocess
 import sys
 
-NUMBERS = ("status", "read", "write", "room", "reads")
-FAULTS = {"read", "write", "room"}
+NUMBERS = ("status", "read", "write", "gives", "takes", "room", "tells", "reads", "writes")
+FAULTS = {"read", "write", "gives", "takes", "room", "tells"}
 
 
 def lines_of(text):
@@ -76,13 +76,15 @@ def rows_of(path):
         if word == "let":
             texts[rest] = bytes_of(lines, texts)
         elif word == "row":
-            rows.append({"name": rest, "words": [], "outputs": []})
+            rows.append({"name": rest, "words": [], "texts": [], "outputs": []})
         elif word == "words":
             rows[-1]["words"].append(["" if it == '""' else it for it in rest.split(" ")] if rest else [])
         elif word == "output":
             rows[-1]["outputs"].append((rest, bytes_of(lines, texts)))
-        elif word in ("text", "told"):
-            rows[-1][word] = bytes_of(lines, texts)
+        elif word == "text":
+            rows[-1]["texts"].append(bytes_of(lines, texts))
+        elif word == "told":
+            rows[-1]["told"] = bytes_of(lines, texts)
         elif word in NUMBERS:
             rows[-1][word] = int(rest)
         elif word in ("rooms", "differs"):
@@ -109,11 +111,12 @@ def main():
     program, as_written, others, passed_over = sys.argv[1], 0, 0, 0
     for path in sys.argv[2:]:
         for row in rows_of(path):
+            runs = [(words, text) for words in row["words"] for text in row["texts"] or [b""]]
             if FAULTS & row.keys():
-                passed_over += len(row["words"])
+                passed_over += len(runs)
                 continue
-            for words in row["words"]:
-                ended = subprocess.run([program, *words], input=row.get("text", b""), capture_output=True)
+            for words, text in runs:
+                ended = subprocess.run([program, *words], input=text, capture_output=True)
                 if is_as_written(row, ended) != row.get("differs", False):
                     as_written += 1
                     continue

@@ -3,6 +3,7 @@
 #![tactic(auto)]
 
 mod part;
+mod pieces;
 mod row;
 mod run;
 

@@ -7,13 +7,19 @@ use std::alloc::{AllocError, Global};
 /// Room for every output.
 const ROOM: usize = 1 << 20;
 
-/// Faults of a run: which call of its input fails, which call of its output, and how many bytes its output has room
-/// for. No call has the number 0.
+/// Room for all that is told.
+const TOLD: usize = 1 << 10;
+
+/// Faults of a run: which call of its input fails, and which call of its output; how many bytes a call of each moves
+/// at most; and how many bytes its output and its errors have room for. No call has the number 0.
 #[derive(Clone, Copy, Debug)]
 pub struct Faulty {
     pub read: u64,
     pub write: u64,
+    pub gives: usize,
+    pub takes: usize,
     pub room: usize,
+    pub tells: usize,
 }
 
 impl Faulty {
@@ -21,7 +27,10 @@ impl Faulty {
     pub const NONE: Faulty = Faulty {
         read: 0,
         write: 0,
+        gives: usize::MAX,
+        takes: usize::MAX,
         room: ROOM,
+        tells: TOLD,
     };
 }
 
@@ -56,13 +65,16 @@ pub struct Row {
     pub name: String,
     /// The words of each run, apart by one space.
     pub words: Vec<String>,
-    pub text: Vec<u8>,
+    /// The text of each run: none is the text of no bytes.
+    pub texts: Vec<Vec<u8>>,
     pub faulty: Faulty,
     pub ending: Ending,
     /// Whether it is run with each room that is less than the output's length too.
     pub rooms: bool,
     /// With how many calls of the input failing, one after the other, it is run too.
     pub reads: u32,
+    /// With how many calls of the output failing, one after the other, it is run too.
+    pub writes: u32,
     /// Whether each run is to end otherwise than it says.
     pub differs: bool,
 }
@@ -108,7 +120,7 @@ impl Row {
         Ok(Row {
             name: String::from_str(alloc, name)?,
             words: Vec::new(alloc),
-            text: Vec::new(alloc),
+            texts: Vec::new(alloc),
             faulty: Faulty::NONE,
             ending: Ending {
                 status: 0,
@@ -117,6 +129,7 @@ impl Row {
             },
             rooms: false,
             reads: 0,
+            writes: 0,
             differs: false,
         })
     }
@@ -129,10 +142,16 @@ impl Row {
                 let words = String::from_str(*self.words.allocator(), rest)?;
                 self.words.push(words)?;
             }
-            "text" => self.text = texts.bytes(part)?,
+            "text" => {
+                let text = texts.bytes(part)?;
+                self.texts.push(text)?;
+            }
             "read" => self.faulty.read = rest.parse::<u64>()?,
             "write" => self.faulty.write = rest.parse::<u64>()?,
+            "gives" => self.faulty.gives = rest.parse::<usize>()?,
+            "takes" => self.faulty.takes = rest.parse::<usize>()?,
             "room" => self.faulty.room = rest.parse::<usize>()?,
+            "tells" => self.faulty.tells = rest.parse::<usize>()?,
             "status" => self.ending.status = rest.parse::<u8>()?,
             "output" => {
                 let place = place_named(rest).context("whole, begins, ends or holds")?;
@@ -142,6 +161,7 @@ impl Row {
             "told" => self.ending.told = texts.bytes(part)?,
             "rooms" => self.rooms = true,
             "reads" => self.reads = rest.parse::<u32>()?,
+            "writes" => self.writes = rest.parse::<u32>()?,
             "differs" => self.differs = true,
             word => bail!("no part is called {word}"),
         }

@@ -1,15 +1,15 @@
 //! The runs of a row.
 
+use crate::pieces::{PieceReader, PieceWriter};
 use crate::row::{Ending, Faulty, Output, Place, Row};
 use anyhow::Context;
 use base_io::bytes::{Bytes, CallNumbers};
 use base_io::memory_sink::MemorySink;
 use base_io::memory_source::MemorySource;
+use base_io::std_sink::StdSink;
+use base_io::std_source::StdSource;
 use std::alloc::{AllocError, Global};
 use tool_driver::driver::mirdwarf;
-
-/// Room for what is told.
-const TOLD: usize = 1 << 10;
 
 /// How many runs came out as written, and how many others there are.
 #[derive(Clone, Copy, Default)]
@@ -22,7 +22,7 @@ pub struct Tally {
 #[derive(Drop)]
 struct Ended {
     status: u8,
-    output: MemorySink,
+    output: PieceWriter,
     told: MemorySink,
 }
 
@@ -48,10 +48,19 @@ fn calls(alloc: Global, number: u64) -> Result<CallNumbers, AllocError> {
 fn run_on(alloc: Global, words: &str, text: &[u8], faulty: Faulty) -> Result<Ended, AllocError> {
     let words = words_of(alloc, words)?;
     let text = Bytes::from_slice(alloc, text)?;
-    let mut input = MemorySource::new(text, calls(alloc, faulty.read)?);
-    let mut output = MemorySink::new(alloc, faulty.room, calls(alloc, faulty.write)?)?;
-    let mut told = MemorySink::new(alloc, TOLD, CallNumbers::new(alloc))?;
-    let status = mirdwarf(alloc, &words, &mut input, &mut output, &mut told).number();
+    let source = MemorySource::new(text, calls(alloc, faulty.read)?);
+    let mut input = StdSource::new(PieceReader {
+        source,
+        most: faulty.gives,
+    });
+    let sink = MemorySink::new(alloc, faulty.room, calls(alloc, faulty.write)?)?;
+    let mut output = PieceWriter {
+        sink,
+        most: faulty.takes,
+    };
+    let mut told = MemorySink::new(alloc, faulty.tells, CallNumbers::new(alloc))?;
+    let mut written = StdSink::new(&mut output);
+    let status = mirdwarf(alloc, &words, &mut input, &mut written, &mut told).number();
     Ok(Ended {
         status,
         output,
@@ -72,7 +81,7 @@ fn stands(output: &Output, written: &[u8]) -> bool {
 
 /// Whether a run ended as it should.
 fn is_as_written(ended: &Ended, want: &Ending) -> bool {
-    let written = ended.output.written();
+    let written = ended.output.sink.written();
     let is_said = written.is_empty() || !want.outputs.is_empty();
     let is_told = ended.told.written() == want.told.as_slice();
     let all_stand = want.outputs.iter().all(|it| stands(it, written));
@@ -84,6 +93,7 @@ fn is_as_written(ended: &Ended, want: &Ending) -> bool {
 struct Run<'a> {
     row: &'a Row,
     words: &'a str,
+    text: &'a [u8],
     faulty: Faulty,
     want: &'a Ending,
 }
@@ -95,15 +105,19 @@ fn tell(rt: &impl Print, alloc: Global, run: &Run<'_>, ended: &Ended) -> anyhow:
     let faulty = run.faulty;
     let status = ended.status;
     let told = String::from_utf8_lossy(alloc, ended.told.written())?;
-    let output = String::from_utf8_lossy(alloc, ended.output.written())?;
+    let output = String::from_utf8_lossy(alloc, ended.output.sink.written())?;
     println!(rt; "{name}: {words}: {faulty:?}: status {status}, told {told:?}, output:")?;
     println!(rt; "{output}")?;
+    if run.row.texts.len() > 1 {
+        let text = String::from_utf8_lossy(alloc, run.text)?;
+        println!(rt; "of the text {text:?}")?;
+    }
     Ok(())
 }
 
 /// Makes a run and counts it; one that doesn't end as it should is printed.
 fn make_run(rt: &impl Print, alloc: Global, run: Run<'_>, tally: &mut Tally) -> anyhow::Result<()> {
-    let ended = run_on(alloc, run.words, run.row.text.as_slice(), run.faulty)?;
+    let ended = run_on(alloc, run.words, run.text, run.faulty)?;
     if is_as_written(&ended, run.want) != run.row.differs {
         tally.as_written = tally.as_written.saturating_add(1);
         return Ok(());
@@ -124,6 +138,39 @@ fn fail_reads(
         let read = u64::from(earlier) + 1;
         let faulty = Faulty { read, ..run.faulty };
         let want = &want;
+        let failing = Run {
+            faulty,
+            want,
+            ..run
+        };
+        make_run(rt, alloc, failing, tally)?;
+    }
+    Ok(())
+}
+
+/// Makes a run again with each call of its output failing, up to that of this number. The calls before it have taken
+/// as much as they do.
+fn fail_writes(
+    rt: &impl Print,
+    alloc: Global,
+    run: Run<'_>,
+    tally: &mut Tally,
+) -> anyhow::Result<()> {
+    if run.row.writes == 0 {
+        return Ok(());
+    }
+    let whole = run.want.whole().context("writes without a whole output")?;
+    for earlier in 0..run.row.writes {
+        let write = u64::from(earlier) + 1;
+        let faulty = Faulty {
+            write,
+            ..run.faulty
+        };
+        let taken = faulty
+            .takes
+            .saturating_mul(earlier as usize)
+            .min(whole.len());
+        let want = &Ending::new(alloc, 5, &whole[..taken], b"mirdwarf: write\n")?;
         let failing = Run {
             faulty,
             want,
@@ -155,19 +202,39 @@ fn fill_rooms(
     Ok(())
 }
 
+/// Makes all runs of a row with these words on this text.
+fn run_text(
+    rt: &impl Print,
+    alloc: Global,
+    row: &Row,
+    words: &str,
+    text: &[u8],
+    tally: &mut Tally,
+) -> anyhow::Result<()> {
+    let run = Run {
+        row,
+        words,
+        text,
+        faulty: row.faulty,
+        want: &row.ending,
+    };
+    make_run(rt, alloc, run, tally)?;
+    fail_reads(rt, alloc, run, tally)?;
+    fail_writes(rt, alloc, run, tally)?;
+    if row.rooms {
+        fill_rooms(rt, alloc, run, tally)?;
+    }
+    Ok(())
+}
+
 /// Makes all runs of a row.
 pub fn run_row(rt: &impl Print, alloc: Global, row: &Row, tally: &mut Tally) -> anyhow::Result<()> {
     for words in &row.words {
-        let run = Run {
-            row,
-            words: words.as_str(),
-            faulty: row.faulty,
-            want: &row.ending,
-        };
-        make_run(rt, alloc, run, tally)?;
-        fail_reads(rt, alloc, run, tally)?;
-        if row.rooms {
-            fill_rooms(rt, alloc, run, tally)?;
+        if row.texts.is_empty() {
+            run_text(rt, alloc, row, words.as_str(), b"", tally)?;
+        }
+        for text in &row.texts {
+            run_text(rt, alloc, row, words.as_str(), text.as_slice(), tally)?;
         }
     }
     Ok(())
