@@ -31,6 +31,42 @@ const DAMAGED: &[(usize, u8, usize)] = &[
     (21, 1, 21),
 ];
 
+/// A byte of it, which of its bits are turned over, one at a time, and where the first wrong field is then: nowhere, if
+/// the section still says something.
+const TURNED: &[(usize, u8, Option<usize>)] = &[
+    (0, 0xff, Some(0)),
+    (1, 0xff, Some(0)),
+    (2, 0xff, Some(0)),
+    (3, 0xff, Some(0)),
+    (4, 0xff, Some(4)),
+    (5, 0xff, Some(4)),
+    (6, 0xff, Some(6)),
+    (7, 0xff, Some(7)),
+    (8, 0xfe, Some(8)),
+    (8, 0x01, Some(12)),
+    (9, 0xff, Some(8)),
+    (10, 0xff, Some(8)),
+    (11, 0xff, Some(8)),
+    (12, 0xff, Some(12)),
+    (13, 0xff, Some(12)),
+    (14, 0xff, Some(12)),
+    (15, 0xff, Some(12)),
+    (16, 0xfb, Some(16)),
+    (16, 0x04, Some(17)),
+    (17, 0x78, Some(18)),
+    (17, 0x80, Some(19)),
+    (17, 0x07, None),
+    (18, 0x08, Some(18)),
+    (18, 0x80, Some(21)),
+    (18, 0x77, None),
+    (19, 0x7f, Some(20)),
+    (19, 0x80, Some(21)),
+    (20, 0xf8, Some(20)),
+    (20, 0x07, None),
+    (21, 0xfb, Some(21)),
+    (21, 0x04, Some(22)),
+];
+
 /// Sections of one range, of which a number is beyond its bounds: an end at 2^64, and a constant of 2^63.
 const BEYOND: &[(&[u8], usize)] = &[
     (
@@ -59,6 +95,48 @@ static TWO: [u8; 42] = [
 static PIECES: [u8; 34] = [
     0x1e, 0, 0, 0, 5, 0, 8, 0, 1, 0, 0, 0, 4, 0, 0, 0, 4, 4, 8, 1, 0x5b, 4, 8, 16, 8, 0x93, 2,
     0x5a, 0x93, 4, 0x5b, 0x93, 1, 0,
+];
+
+/// The same of the bytes of this list.
+const TURNED_PIECES: &[(usize, u8, Option<usize>)] = &[
+    (16, 0xfb, Some(16)),
+    (16, 0x04, Some(17)),
+    (17, 0x78, Some(18)),
+    (17, 0x80, Some(19)),
+    (17, 0x07, None),
+    (18, 0x08, Some(18)),
+    (18, 0x80, Some(21)),
+    (18, 0x77, Some(22)),
+    (19, 0x7f, Some(20)),
+    (19, 0x80, Some(21)),
+    (20, 0xf0, Some(20)),
+    (20, 0x0f, None),
+    (21, 0xfb, Some(21)),
+    (21, 0x04, Some(22)),
+    (22, 0x08, Some(22)),
+    (22, 0x70, Some(23)),
+    (22, 0x80, Some(24)),
+    (22, 0x07, None),
+    (23, 0x10, Some(23)),
+    (23, 0x80, Some(27)),
+    (23, 0x6f, None),
+    (24, 0x7f, Some(25)),
+    (24, 0x80, Some(27)),
+    (25, 0xff, Some(25)),
+    (26, 0x82, Some(25)),
+    (26, 0x7d, None),
+    (27, 0xf8, Some(25)),
+    (27, 0x07, None),
+    (28, 0xff, Some(25)),
+    (29, 0xfc, Some(25)),
+    (29, 0x03, None),
+    (30, 0xf0, Some(25)),
+    (30, 0x0f, None),
+    (31, 0xff, Some(25)),
+    (32, 0xf9, Some(25)),
+    (32, 0x06, None),
+    (33, 0xfb, Some(33)),
+    (33, 0x04, Some(34)),
 ];
 
 /// Addresses, and the number of the register that has the whole there, or 0.
@@ -134,6 +212,27 @@ fn other_fault(
     Ok(None)
 }
 
+/// The first byte of a table where the fault is another one with a bit turned over.
+fn other_turn(
+    alloc: Global,
+    bytes: &[u8],
+    turned: &[(usize, u8, Option<usize>)],
+) -> Result<Option<usize>, Fail> {
+    for (at, bits, wanted) in turned {
+        let byte = *bytes.get(*at).ok_or("a byte")?;
+        for bit in [1u8, 2, 4, 8, 16, 32, 64, 128] {
+            if *bits & bit == 0 {
+                continue;
+            }
+            let bytes = changed(alloc, bytes, *at, byte ^ bit)?;
+            if fault(&bytes) != *wanted {
+                return Ok(Some(*at));
+            }
+        }
+    }
+    Ok(None)
+}
+
 #[test]
 fn lists_are_read_and_written(rt: HostRuntime) -> Result<(), Fail> {
     let one: &[u8] = &ONE;
@@ -143,6 +242,8 @@ fn lists_are_read_and_written(rt: HostRuntime) -> Result<(), Fail> {
     assert_eq!(rt; list_count(two), Ok(2));
     assert_eq!(rt; list_count(pieces), Ok(1));
     assert_eq!(rt; other_fault(rt.alloc(), one, DAMAGED)?, None);
+    assert_eq!(rt; other_turn(rt.alloc(), one, TURNED)?, None);
+    assert_eq!(rt; other_turn(rt.alloc(), pieces, TURNED_PIECES)?, None);
     for (bytes, at) in BEYOND {
         assert!(rt; fault(bytes) == Some(*at), "{at}");
     }
