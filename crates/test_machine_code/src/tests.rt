@@ -78,12 +78,12 @@ fn with_word(alloc: Global, code: Code, word: u32) -> Result<Code, Fail> {
     Ok(Code { words, ..code })
 }
 
-/// A machine at the start of a code, where x1 is 4294967296, x2 is 1048576, x10 is 2 and every other register is 7.
-fn machine<'a>(alloc: Global, code: &'a Code) -> Result<MachineSimulator<'a, Odd>, Fail> {
+/// A machine at the start of a code, where x1 is 4294967296, x2 is 1048576, x10 is given and every other register is 7.
+fn machine<'a>(alloc: Global, code: &'a Code, x10: u64) -> Result<MachineSimulator<'a, Odd>, Fail> {
     let mut regs = [7u64; 32];
     regs[1] = 4_294_967_296;
     regs[2] = 1_048_576;
-    regs[10] = 2;
+    regs[10] = x10;
     let start = Start {
         regs,
         memory: Cells::new(alloc),
@@ -131,8 +131,8 @@ fn stands(machine: &MachineSimulator<Odd>, address: u64, n: Option<u64>, s: Opti
     machine.counter() == address && give(machine, &LISTS, n, s)
 }
 
-/// Whether the next step returns, with 12 in x10 and what was saved in x8, x9, x1 and x2.
-fn returns(machine: &mut MachineSimulator<Odd>) -> bool {
+/// Whether the next step returns, with the sum in x10 and what was saved in x8, x9, x1 and x2.
+fn returns(machine: &mut MachineSimulator<Odd>, sum: u64) -> bool {
     matches!(machine.step(), Ok(Stepped::Stopped(Stop::Returned)))
         && machine.counter() == 0x44
         && register(machine, 0) == Some(0)
@@ -140,12 +140,12 @@ fn returns(machine: &mut MachineSimulator<Odd>) -> bool {
         && register(machine, 2) == Some(1_048_576)
         && register(machine, 8) == Some(7)
         && register(machine, 9) == Some(7)
-        && register(machine, 10) == Some(12)
+        && register(machine, 10) == Some(sum)
 }
 
 /// Whether a run of the sum stands where it should between its steps; what it holds before each is a row of `run.rows`.
 fn sums(alloc: Global, code: &Code) -> Result<bool, Fail> {
-    let mut machine = machine(alloc, code)?;
+    let mut machine = machine(alloc, code, 2)?;
     Ok(
         stands(&machine, 0x00, None, None)
             && goes_on(&mut machine, 4)
@@ -157,13 +157,19 @@ fn sums(alloc: Global, code: &Code) -> Result<bool, Fail> {
             && goes_on(&mut machine, 6)
             && stands(&machine, 0x40, None, Some(12))
             && goes_on(&mut machine, 1)
-            && returns(&mut machine),
+            && returns(&mut machine, 12),
     )
+}
+
+/// Whether a run of the sum returns after a hundred calls, which give 5, 7, .., 203.
+fn sums_a_hundred(alloc: Global, code: &Code) -> Result<bool, Fail> {
+    let mut machine = machine(alloc, code, 100)?;
+    Ok(goes_on(&mut machine, 511) && returns(&mut machine, 10_400))
 }
 
 /// Whether two steps of a code of one word end so.
 fn stops(alloc: Global, code: &Code, first: Stepped, second: Stepped) -> Result<bool, Fail> {
-    let mut machine = machine(alloc, code)?;
+    let mut machine = machine(alloc, code, 2)?;
     Ok(machine.step()? == first && machine.step()? == second)
 }
 
@@ -177,6 +183,7 @@ fn stops_at(alloc: Global, word: u32, first: Stepped, second: Stepped) -> Result
 fn runs_a_loop_with_calls(rt: HostRuntime) -> Result<(), Fail> {
     let code = code(rt.alloc(), SUM)?;
     assert!(rt; sums(rt.alloc(), &code)?);
+    assert!(rt; sums_a_hundred(rt.alloc(), &code)?);
     Ok(())
 }
 
