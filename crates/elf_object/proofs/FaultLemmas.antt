@@ -117,6 +117,9 @@ pub xword_stands : (at : ℕ) (bytes : List ℕ) → IsBytes bytes → at + 8 �
     → drop at bytes ≡ to_le_bytes w64 (number_at w64 at bytes) ++ drop (at + 8) bytes
 xword_stands = number_stands w64 (2 ^ 64) wide64
 
+pub half_fits : (at : ℕ) (bytes : List ℕ) → IsBytes bytes → number_at w16 at bytes < 2 ^ 16
+half_fits at bytes are = wide16.below (take 2 (drop at bytes)) (IsBytes-take 2 (drop at bytes) (IsBytes-drop at bytes are))
+
 pub word_fits : (at : ℕ) (bytes : List ℕ) → IsBytes bytes → number_at w32 at bytes < 2 ^ 32
 word_fits at bytes are = wide32.below (take 4 (drop at bytes)) (IsBytes-take 4 (drop at bytes) (IsBytes-drop at bytes are))
 

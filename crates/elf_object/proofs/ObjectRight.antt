@@ -32,7 +32,7 @@ use Rattle.elf_object.proofs.ToldLemmas.{contents_append, headers_append, names_
 
 -- ---- fields that are right
 
-right_first : (fault : Option ℕ) (faults : List (Option ℕ)) → fault ≡ None → first faults ≡ None → first (fault ∷ faults) ≡ None
+pub right_first : (fault : Option ℕ) (faults : List (Option ℕ)) → fault ≡ None → first faults ≡ None → first (fault ∷ faults) ≡ None
 right_first fault faults e later = subst (λ f. first (f ∷ faults) ≡ None) (sym e) later
 
 right5 : (a b c d e : Option ℕ) → a ≡ None → b ≡ None → c ≡ None → d ≡ None → e ≡ None → first (a ∷ b ∷ c ∷ d ∷ e ∷ []) ≡ None
@@ -50,15 +50,15 @@ right9 a b c d e f g h i p q r s t u v w x =
     right_first a (b ∷ c ∷ d ∷ e ∷ f ∷ g ∷ h ∷ i ∷ []) p (right_first b (c ∷ d ∷ e ∷ f ∷ g ∷ h ∷ i ∷ []) q
     (right_first c (d ∷ e ∷ f ∷ g ∷ h ∷ i ∷ []) r (right_first d (e ∷ f ∷ g ∷ h ∷ i ∷ []) s (right5 e f g h i t u v w x))))
 
-right_judged : (at : ℕ) (right : Bool) → right ≡ true → judged at right ≡ None
+pub right_judged : (at : ℕ) (right : Bool) → right ≡ true → judged at right ≡ None
 right_judged at true e = refl
 right_judged at false e = absurd cc
 
-right_both : (a b : Bool) → a ≡ true → b ≡ true → (a && b) ≡ true
+pub right_both : (a b : Bool) → a ≡ true → b ≡ true → (a && b) ≡ true
 right_both true b e f = f
 right_both false b e f = absurd cc
 
-right_constants : (at : ℕ) (sizes right bytes rest : List ℕ) → total sizes ≡ length right → bytes ≡ right ++ rest → constants at sizes right bytes ≡ None
+pub right_constants : (at : ℕ) (sizes right bytes rest : List ℕ) → total sizes ≡ length right → bytes ≡ right ++ rest → constants at sizes right bytes ≡ None
 right_constants at [] right bytes rest long e = refl
 right_constants at (n ∷ sizes) right bytes rest long e =
     let field : List ℕ = take n right in
@@ -314,7 +314,7 @@ string_at o bytes xs ys s is e =
     plus : (n : ℕ) → suc n ≡ 1 + n
     plus n = omega arith
 
-zero_after : (name rest : List ℕ) → AllByRecursion (λ byte. 0 < byte) name → before_zero (text name ++ rest) ≡ length name
+pub zero_after : (name rest : List ℕ) → AllByRecursion (λ byte. 0 < byte) name → before_zero (text name ++ rest) ≡ length name
 zero_after [] rest named = refl
 zero_after (zero ∷ name) rest named = absurd (omega (arith, named.0))
 zero_after (suc b ∷ name) rest named = before_suc b (text name ++ rest) ∙ ap suc (zero_after name rest named.1)

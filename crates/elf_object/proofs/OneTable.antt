@@ -17,7 +17,7 @@ use Rattle.elf_object.proofs.OneReading.{cut, HasNoZero, text_one, tails_one}
 
 -- ---- relocations
 
-length-relocation : (r : Relocation) → length (relocation r) ≡ 24
+pub length-relocation : (r : Relocation) → length (relocation r) ≡ 24
 unfolding relocation
 length-relocation r = refl
 
@@ -148,7 +148,7 @@ offset_small : (at : ℕ) (name : List ℕ) → at < 2 ^ 32 → name_offset at n
 offset_small at [] small = omega arith
 offset_small at (byte ∷ name) small = small
 
-abbrev names_after : List Symbol → List ℕ
+abbrev pub names_after : List Symbol → List ℕ
 names_after symbols = flat_map (λ (s : Symbol). name_text s.name) symbols
 
 symbols_one : (at : ℕ) (xs ys : List Symbol) → 0 < at → at + length (names_after xs) < 2 ^ 32 → AllByRecursion FitsSymbol xs

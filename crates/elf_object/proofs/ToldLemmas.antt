@@ -71,7 +71,7 @@ before_zero xs = position_or_len (λ b. b == 0) xs
 pub before_suc : (b : ℕ) (xs : List ℕ) → before_zero (suc b ∷ xs) ≡ suc (before_zero xs)
 before_suc b xs = grind (arith, nat_tests)
 
-string_stands : (xs : List ℕ) → before_zero xs < length xs → xs ≡ text (take (before_zero xs) xs) ++ drop (before_zero xs + 1) xs
+pub string_stands : (xs : List ℕ) → before_zero xs < length xs → xs ≡ text (take (before_zero xs) xs) ++ drop (before_zero xs + 1) xs
 string_stands [] closed = absurd (omega arith)
 string_stands (zero ∷ xs) closed = refl
 string_stands (suc b ∷ xs) closed =
@@ -85,7 +85,7 @@ string_stands (suc b ∷ xs) closed =
     plus : (n : ℕ) → suc (n + 1) ≡ suc n + 1
     plus n = omega arith
 
-string_named : (xs : List ℕ) → AllByRecursion (λ byte. 0 < byte) (take (before_zero xs) xs)
+pub string_named : (xs : List ℕ) → AllByRecursion (λ byte. 0 < byte) (take (before_zero xs) xs)
 string_named [] = tt
 string_named (zero ∷ xs) = tt
 string_named (suc b ∷ xs) =

@@ -87,7 +87,7 @@ static NAME: [u8; 10] = *b".shstrtab\0";
 
 /// The first wrong field among those from an offset on, if each has one right value. They have these sizes, and together
 /// these bytes.
-fn constants(bytes: &[u8], at: usize, sizes: &[u8], right: &[u8]) -> Option<usize>
+pub fn constants(bytes: &[u8], at: usize, sizes: &[u8], right: &[u8]) -> Option<usize>
     requires at { at ≤ length bytes.now }
     requires right { total sizes.now ≤ length right.now }
     ensures { result ≡ FirstFault.constants at sizes.now right.now (drop at bytes.now) }

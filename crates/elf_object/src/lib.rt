@@ -6,11 +6,11 @@
 
 pub mod alignment;
 pub mod constants;
-mod fault;
+pub mod fault;
 mod header;
 pub mod laws;
 pub mod names;
-mod number;
+pub mod number;
 pub mod object;
 pub mod read;
 pub mod relocations;

@@ -17,8 +17,8 @@ pub struct Relocation {
     pub symbol: u32,
     /// How the bytes are computed, a constant `R_RISCV_..`.
     pub relocation_type: u32,
-    /// What is added to the symbol's address. It is never negative here.
-    pub addend: u32,
+    /// What is added to the symbol's address, modulo 2^64 (r_addend, a signed number in two's complement).
+    pub addend: u64,
 }
 
 /// The bytes of relocations, in order. The error is out of memory.
@@ -40,6 +40,6 @@ fn push_relocation(out: &mut Vec<u8>, relocation: &Relocation) -> Result<(), All
     out.extend_from_slice(&relocation.offset.to_le_bytes())?;
     out.extend_from_slice(&relocation.relocation_type.to_le_bytes())?;
     out.extend_from_slice(&relocation.symbol.to_le_bytes())?;
-    out.extend_from_slice(&(relocation.addend as u64).to_le_bytes())?;
+    out.extend_from_slice(&relocation.addend.to_le_bytes())?;
     Ok(())
 }
