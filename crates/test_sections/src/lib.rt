@@ -22,4 +22,6 @@ mod no_functions;
 #[cfg(test)]
 mod objects;
 #[cfg(test)]
+mod symbol_tables;
+#[cfg(test)]
 mod table;

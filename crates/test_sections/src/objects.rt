@@ -11,7 +11,8 @@ use elf_object::read::{ReadError, read_object};
 use elf_object::relocations::{Relocation, write_relocations};
 use elf_object::size::object_size;
 use elf_object::symbols::{
-    Binding, Symbol, SymbolType, are_locals_first, write_symbol_names, write_symbols,
+    Binding, Symbol, SymbolType, are_locals_first, symbol_names_size, write_symbol_names,
+    write_symbols,
 };
 use elf_object::write::write_object;
 use std::alloc::{AllocError, Global};
@@ -250,8 +251,14 @@ fn symbol(
 }
 
 /// Whether symbols have these names and this table.
-fn are_symbols(alloc: Global, symbols: &[Symbol], names: &[u8], table: &[u8]) -> bool {
+pub(crate) fn are_symbols(alloc: Global, symbols: &[Symbol], names: &[u8], table: &[u8]) -> bool {
     if !are_locals_first(symbols) {
+        return false;
+    }
+    let Some(size) = symbol_names_size(symbols) else {
+        return false;
+    };
+    if size as usize != names.len() {
         return false;
     }
     let written = match write_symbol_names(alloc, symbols) {
