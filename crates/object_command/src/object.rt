@@ -73,8 +73,8 @@ fn write(alloc: Global, output: Output, sites: &[CallSite]) -> Result<Bytes, Obj
     }
 }
 
-/// The file of an object, whose sections' names have no zero byte and whose alignments multiples of 8 meet. The error `TooLarge` is that it would have 2^31 bytes
-/// or more.
+/// The file of an object, whose sections' names have no zero byte and whose alignments multiples of 8 meet. The error
+/// `TooLarge` is that it would have 2^31 bytes or more.
 fn file(alloc: Global, object: &Object) -> Result<Bytes, ObjectError>
     requires names { All IsNamed object.now.sections }
     requires alignments { All IsAligned object.now.sections }
