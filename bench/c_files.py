@@ -88,11 +88,11 @@ def main():
         for what, text, without, name, cause, helps in REFUSED:
             status, told, lines = said_of(room, text, without)
             place = re.search(r"it\.mir(?::(\d+))?: (\w+), in function f\n(?:    (.*)\n)?  (.*)\n  What helps: (.*)\.\n", told)
-            holds = status == 1 and place and name in place[2] and cause.lower() in place[4].lower() and helps.lower() in place[5].lower()
-            if holds and place[1]:
+            holds = status == 1 and place and place[1] and name in place[2] and cause.lower() in place[4].lower() and helps.lower() in place[5].lower()
+            if holds:
                 holds = lines[int(place[1]) - 1].strip().startswith(place[3].removesuffix(" ..")[:100])
             check(what, holds, told)
-            print(f"| {what} | {without or ''} | {place and f'line {place[1] or 0}: {place[2]}: {place[4]} {place[5]}'} |")
+            print(f"| {what} | {without or ''} | {place and f'line {place[1]}: {place[2]}: {place[4]} {place[5]}'} |")
             if without:
                 status, told, _ = said_of(room, text, None)
                 check(f"{what}, with {without}", status == 0, told)

@@ -1,5 +1,5 @@
 #!/usr/bin/env python3
-"""Tests of ./mirdwarf, examples/debug.py and tools/view.py, run by hand.
+"""Tests of ./mirdwarf, examples/debug.py, tools/view.py and tools/marks.py, run by hand.
 
   bench/scripts.py [PROGRAM]
 
@@ -263,8 +263,32 @@ def view(room, ledger):
         check("view.py --html", status == 0 and not said and "item: 4 of 6 words" in it.read(), told)
 
 
+def marks(room):
+    wanted = {
+        "DBG_VALUE renamable $x10, $noreg, !5, !DIExpression(DW_OP_LLVM_fragment, 0, 32)": "none",
+        "DBG_VALUE -1, $noreg, !5, !DIExpression()": "none",
+        "DBG_VALUE $noreg, $noreg, !5, !DIExpression()": "1 (the compiler says that it has none)",
+        "DBG_VALUE %stack.0, 0, !5, !DIExpression()": "1 (the value is in memory)",
+        "DBG_VALUE $x10, 0, !5, !DIExpression()": "1 (the value is in memory)",
+        "DBG_VALUE $x10, $noreg, !5, !DIExpression(DW_OP_plus_uconst, 3, DW_OP_stack_value)": "1 (an expression over the value)",
+        "DBG_VALUE $x2, $noreg, !5, !DIExpression()": "1 (no register of RV64I, x2, or no number of 64 bits)",
+        "DBG_VALUE_LIST !5, !DIExpression(DW_OP_LLVM_arg, 0, DW_OP_LLVM_arg, 1, DW_OP_plus), $x10, $x11": "1 (several values together (DBG_VALUE_LIST))",
+        "DBG_INSTR_REF !5, !DIExpression(DW_OP_LLVM_arg, 0), dbg-instr-ref(1, 0)": "none",
+        "DBG_INSTR_REF !5, !DIExpression(DW_OP_LLVM_arg, 0, DW_OP_deref), dbg-instr-ref(1, 0)": "1 (an expression over the value)",
+    }
+    for line, cause in wanted.items():
+        file = os.path.join(room, "marks.mir")
+        with open(file, "w", encoding="utf-8") as it:
+            it.write(f'  !5 = !DILocalVariable(name: "v", scope: !3)\n---\nname: f\nbody: |\n    {line}, debug-location !7\n...\n')
+        status, said, told = run("tools/marks.py", file)
+        check(f"marks.py {line}", status == 0 and not told and f"f v: marks 1, without a value {cause}\n" in said, said + told)
+    status, said, told = run("tools/marks.py", "nosuch")
+    check("marks.py nosuch", status == 1 and not said and told == "marks.py: nosuch: No such file or directory\n", told)
+
+
 def main():
     with tempfile.TemporaryDirectory() as room:
+        marks(room)
         wrapper(room)
         view(room, debugger(room))
     print(f"{passed} passed, {failed} failed")
