@@ -8,7 +8,7 @@ use Rattle.emit_code.specs.Rule.{Layout, entries_of}
 use Rattle.listing_text.specs.declared.output.ListedFunction.{ListedFunction}
 use Rattle.pass_trait.specs.declared.loss.Loss.{Loss}
 use Rattle.frame_rule.specs.Rule.{framed_of}
-use Rattle.compile_function.specs.declared.compile.CompiledFunction.{CompiledFunction}
+use Rattle.compile_function.specs.declared.compiled_function.CompiledFunction.{CompiledFunction}
 use Rattle.listing_function.specs.Laid.{IsLaid}
 use Rattle.listing_function.specs.Variables.{variables_listed}
 use Rattle.read_metadata.specs.Maps.{Maps}

@@ -17,7 +17,7 @@ ghost use Rattle.mir_func.specs.SoundFrame.{HasPhysical};
 ghost use Rattle.read_proof.specs.Read.{IsReadFunction};
 ghost use Rattle.listing_meaning.specs.Listing.{listing_of};
 
-use crate::compile::{CompiledFunction, CompiledFunctions, compile_function};
+use crate::compiled_function::{CompiledFunction, CompiledFunctions, compile_function};
 use crate::error::CompileError;
 use base_list::List;
 use emit_function::code::CodeError;

@@ -1,7 +1,8 @@
 //! Compiles one function: its code, its location lists and its listing.
 //!
-//! - `compile`, `location_lists`: Adds the frame to a function, lays it out from an address on, solves the live-in
-//!   values of its blocks over all paths, and writes where each variable is at each address in one walk over its code.
+//! - `compiled_function`, `location_lists`: Adds the frame to a function, lays it out from an address on, solves the
+//!   live-in values of its blocks over all paths, and writes where each variable is at each address in one walk over
+//!   its code.
 //!
 //! - `emit`: Compiles a function after others: its machine code from the end of theirs, the location lists of its
 //!   source's variables, and its listing. `lists`: The location lists of all of them.
@@ -9,7 +10,7 @@
 //! - `error`: Why functions have no output.
 #![tactic(auto)]
 
-pub mod compile;
+pub mod compiled_function;
 pub mod emit;
 pub mod error;
 pub mod lists;

@@ -3,7 +3,7 @@
 ghost use Rattle.std.specs.Prelude.{◌≡◌, ◌++◌, IfOk, OnOk};
 ghost use Rattle.compile_function.specs.Emitted.{lists_of};
 
-use crate::compile::CompiledFunction;
+use crate::compiled_function::CompiledFunction;
 use dwarf_loclists::range::{Range, RangeLists, Ranges};
 use std::alloc::{AllocError, Global};
 

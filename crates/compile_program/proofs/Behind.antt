@@ -8,7 +8,7 @@ use Rattle.std.proofs.lemmas.List.{flat_map_more}
 use Rattle.emit_code.specs.Counts.{MAX_WORDS}
 use Rattle.listing_text.specs.declared.output.ListedFunction.{ListedFunction}
 use Rattle.pass_trait.specs.declared.loss.Loss.{Loss}
-use Rattle.compile_function.specs.declared.compile.CompiledFunction.{CompiledFunction}
+use Rattle.compile_function.specs.declared.compiled_function.CompiledFunction.{CompiledFunction}
 use Rattle.compile_function.specs.declared.emit.EmittedFunctions.{EmittedFunctions}
 use Rattle.compile_function.specs.Emitted.{names_of, text_of, IsPushed}
 use Rattle.compile_function.specs.Passed.{source_of, IsMadeLosing, IsCompilable}

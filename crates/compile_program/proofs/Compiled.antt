@@ -14,7 +14,7 @@ use Rattle.dwarf_line.specs.Spelling.{spelling as rows_spelling}
 use Rattle.dwarf_loclists.specs.declared.range.Range.{Range}
 use Rattle.dwarf_loclists.specs.Grammar.{IsSection}
 use Rattle.dwarf_loclists.specs.Ranges.{Ascend, ArePlaces}
-use Rattle.compile_function.specs.declared.compile.CompiledFunction.{CompiledFunction}
+use Rattle.compile_function.specs.declared.compiled_function.CompiledFunction.{CompiledFunction}
 use Rattle.compile_function.specs.declared.emit.EmittedFunctions.{EmittedFunctions}
 use Rattle.compile_function.specs.Emitted.{names_of, text_of, lists_of, AreWritable}
 use Rattle.compile_function.specs.Passed.{IsMadeBy, steps_of}

@@ -14,7 +14,7 @@ use Rattle.dwarf_loclists.specs.Spelling.{spelling as lists_spelling}
 use Rattle.pass_trait.specs.Steps.{PassStep}
 use Rattle.frame_rule.specs.Rule.{size_of, framed_of}
 pub use Rattle.compile_function.specs.Emitted.{names_of, text_of, lists_of, AreWritable}
-use Rattle.compile_function.specs.declared.compile.CompiledFunction.{CompiledFunction}
+use Rattle.compile_function.specs.declared.compiled_function.CompiledFunction.{CompiledFunction}
 pub use Rattle.compile_function.specs.Passed.{source_of, IsMadeBy, IsMadeLosing, IsCompilable, steps_of, passes_of}
 use Rattle.read_metadata.specs.Maps.{Maps}
 use Rattle.mir_func.specs.Function.{Function}

@@ -8,7 +8,7 @@ ghost use Rattle.compile_program.specs.steps.Made.{AreMade};
 ghost use Rattle.read_proof.specs.Read.{IsReadProgram};
 
 use crate::function::made_of;
-use compile_function::compile::{CompiledFunction, CompiledFunctions};
+use compile_function::compiled_function::{CompiledFunction, CompiledFunctions};
 use compile_function::emit::EmittedFunctions;
 use compile_function::error::CompileError;
 use compile_function::lists::all_lists;

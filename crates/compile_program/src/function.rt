@@ -11,7 +11,7 @@ ghost use Rattle.compile_program.specs.Program.{HasLargeFrame};
 ghost use Rattle.compile_program.specs.steps.Made.{IsSourcePushed, IsTooLarge, AreMade};
 ghost use Rattle.read_proof.specs.Read.{IsReadFunction, EntryIsLimited};
 
-use compile_function::compile::CompiledFunctions;
+use compile_function::compiled_function::CompiledFunctions;
 use compile_function::emit::{EmittedFunctions, push_function};
 use compile_function::error::CompileError;
 use compile_function::passed::after_passes;

@@ -4,7 +4,7 @@ ghost use Rattle.std.specs.Prelude.{◌≡◌, ◌++◌, IfOk, OnOk, map};
 ghost use Rattle.report_command.specs.Reported.{HasLists, HaveLists, part_of, parts_of, compilation_report};
 ghost use Rattle.report_function.specs.ProgramReport.{function_report, program_report};
 
-use compile_function::compile::CompiledFunction;
+use compile_function::compiled_function::CompiledFunction;
 use compile_program::compile::Compilation;
 use listing_text::output::{ListedFunction, ListedVariable};
 use mir_printer::text::Text;

@@ -10,7 +10,7 @@ use Rattle.emit_code.specs.Laid.{LaidCode}
 use Rattle.compile_program.proofs.Passed.{all_passed, passed_sources}
 use Rattle.run_command.proofs.Runs.{compilation_can_run}
 use Rattle.run_command.proofs.Shown.{compiled_whole, compilation_shows_code}
-use Rattle.compile_function.specs.declared.compile.CompiledFunction.{CompiledFunction}
+use Rattle.compile_function.specs.declared.compiled_function.CompiledFunction.{CompiledFunction}
 use Rattle.compile_program.specs.declared.compile.Compilation.{Compilation}
 use Rattle.compile_program.specs.Program.{ArePassed, IsCompiledAs, AreCompiledAs, sources_of, IsCompilationOf, IsOutputOf, HasLargeFrame, HasLargeSection}
 use Rattle.compile_program.specs.Program.{names_of, source_of, text_of, lists_of, IsCompilable, steps_of}

@@ -7,7 +7,7 @@ ghost use Rattle.gen_program.specs.Program.{generated_program};
 ghost use Rattle.mir_func.specs.Resolve.{resolve};
 ghost use Rattle.gen_function.specs.Generator.{generated};
 ghost use Rattle.read_program.specs.declared.closing.Parsed.{Parsed};
-ghost use Rattle.compile_function.specs.declared.compile.CompiledFunction.{CompiledFunction};
+ghost use Rattle.compile_function.specs.declared.compiled_function.CompiledFunction.{CompiledFunction};
 ghost use Rattle.sem_interpreter.specs.StandsFor.{AreCounted};
 ghost use Rattle.pass_list.specs.Names.{AreDistinct};
 ghost use Rattle.compile_program.specs.Program.{HasLargeFrame, HasLargeSection, steps_of};

@@ -1,7 +1,7 @@
 //! A function that is compiled by the call by which the program compiles each function.
 
 use crate::text::{function_of, register};
-use compile_function::compile::compile_function;
+use compile_function::compiled_function::compile_function;
 use dwarf_loclists::range::{Location, Range, Ranges};
 use pass_trait::loss::Losses;
 use rv64_instr::place::Place;

@@ -5,7 +5,7 @@ use Rattle.dwarf_unit.specs.Unit.{unit_of}
 use Rattle.listing_text.specs.declared.output.Output.{Output}
 use Rattle.read_program.specs.declared.closing.Parsed.{Parsed}
 use Rattle.dwarf_line_table.specs.declared.compiled.Compiled.{Compiled}
-use Rattle.compile_function.specs.declared.compile.CompiledFunction.{CompiledFunction}
+use Rattle.compile_function.specs.declared.compiled_function.CompiledFunction.{CompiledFunction}
 use Rattle.compile_function.specs.Emitted.{lists_of}
 use Rattle.compile_program.specs.Program.{IsLarge}
 use Rattle.compile_program.proofs.Compiled.{emitted_length, emitted_ascend, emitted_places, large_section, whole_output}
