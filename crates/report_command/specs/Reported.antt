@@ -8,17 +8,17 @@ use Rattle.pass_list.specs.declared.kind.PassKind.{PassKind}
 use Rattle.compile_function.specs.declared.compiled_function.CompiledFunction.{CompiledFunction}
 use Rattle.compile_program.specs.declared.compile.Compilation.{Compilation}
 use Rattle.compile_program.specs.Program.{ArePassed, AreCompiledAs, IsCompilationOf, names_of}
-use Rattle.report_function.specs.declared.compiled.Compiled.{Compiled}
+use Rattle.report_function.specs.declared.reported_function.ReportedFunction.{ReportedFunction}
 use Rattle.report_function.specs.ProgramReport.{program_report}
 
 -- ---- the text
 
 -- what is reported of a function: its machine code, the names of its listed variables, their location lists, and its losses
-abbrev pub part_of : ListedFunction → CompiledFunction → Compiled
+abbrev pub part_of : ListedFunction → CompiledFunction → ReportedFunction
 part_of f c = record { code = c.code; names = map (λ v. v.name) f.variables; lists = c.lists; losses = c.losses }
 
 -- what is reported of functions
-abbrev pub parts_of : List ListedFunction → List CompiledFunction → List Compiled
+abbrev pub parts_of : List ListedFunction → List CompiledFunction → List ReportedFunction
 parts_of [] cs = []
 parts_of (f ∷ fs) [] = []
 parts_of (f ∷ fs) (c ∷ cs) = part_of f c ∷ parts_of fs cs

@@ -4,11 +4,11 @@
 //!   of its machine words are in the location list of each variable, and which debug instruction numbers, debug values
 //!   and registers the passes gave up, and why. The losses are in the order of the passes.
 //!
-//! - `compiled`: What is reported of one function of a program.
+//! - `reported_function`: What is reported of one function of a program.
 #![tactic(auto)]
 
-pub mod compiled;
 mod covers;
 pub mod make;
 pub mod report;
+pub mod reported_function;
 pub mod text;

@@ -7,7 +7,7 @@ use pass_trait::loss::Losses;
 
 /// A function that was compiled, and what was lost on the way.
 #[derive(Debug, Drop)]
-pub struct Compiled {
+pub struct ReportedFunction {
     /// Its machine code, with the function with its frame.
     pub code: Code,
     /// The names of its variables, in the order of their lists.
