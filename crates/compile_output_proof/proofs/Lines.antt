@@ -31,7 +31,7 @@ use Rattle.compile_theorem.proofs.Functions.{words_length}
 use Rattle.compile_theorem.specs.Source.{SourceFunction, PassedFunction}
 use Rattle.compile_program.proofs.Passed.{passed_functions, passed_at}
 use Rattle.compile_program.specs.Program.{ArePassed, AreCoded, HaveCode, source_of, IsCompilable, names_of}
-use Rattle.dwarf_line_table.specs.declared.compiled.Compiled.{Compiled}
+use Rattle.dwarf_line_table.specs.declared.source_and_code.SourceAndCode.{SourceAndCode}
 use Rattle.dwarf_line_table.specs.declared.file.SourceFile.{SourceFile}
 use Rattle.dwarf_line_table.specs.Files.{unit_file}
 use Rattle.dwarf_line_table.specs.SourcePosition.{scope_line, loc_of, position_of, line_of}
@@ -65,7 +65,7 @@ same_layout l m framed base is others =
 
 -- ---- functions that lie one after the other
 
-code_stands : (f : Function) (base : ℕ) (c : Compiled) → IsCodeOf (framed_of f) base c.code.now → StandFrom base c.code.now.entries (function_end c)
+code_stands : (f : Function) (base : ℕ) (c : SourceAndCode) → IsCodeOf (framed_of f) base c.code.now → StandFrom base c.code.now.entries (function_end c)
 code_stands f base c is =
     let l = is.layout in
     let filled = words_fill l is.worded in
@@ -77,7 +77,7 @@ code_stands f base c is =
     (subst (λ (es : List EncodedInstruction). StandFrom l.base es (function_end c)) (sym is.entries)
     (subst (λ (x : ℕ). StandFrom l.base (entries_of l) x) end (stands l)))
 
-codes_lie : (base : ℕ) (fs : List Function) (cs : List Compiled) → AreCoded base fs (map (λ (c : Compiled). c.code.now) cs) → LieFrom base cs
+codes_lie : (base : ℕ) (fs : List Function) (cs : List SourceAndCode) → AreCoded base fs (map (λ (c : SourceAndCode). c.code.now) cs) → LieFrom base cs
 codes_lie base [] [] are = tt
 codes_lie base [] (c ∷ cs) are = absurd are
 codes_lie base (f ∷ fs) [] are = absurd are
@@ -89,20 +89,20 @@ codes_lie base (f ∷ fs) (c ∷ cs) are =
 -- ---- each function with its code
 
 -- a function that passes made, what is compiled of it, and its machine code
-record Paired (names : ℕ → List ℕ) (passed : PassedFunction) (f : ListedFunction) (all : List Compiled) : Type 0 where
+record Paired (names : ℕ → List ℕ) (passed : PassedFunction) (f : ListedFunction) (all : List SourceAndCode) : Type 0 where
   base : ℕ
   first : ℕ
   function : IsCompiledFunction names passed base first f
-  code : Compiled
+  code : SourceAndCode
   among : Contains all code
   source_is : code.source.now ≡ passed.source.function
   entries : code.code.now.entries ≡ entries_of function.layout
 
-abbrev sources : List Compiled → List Function
-sources cs = map (λ (c : Compiled). c.source.now) cs
+abbrev sources : List SourceAndCode → List Function
+sources cs = map (λ (c : SourceAndCode). c.source.now) cs
 
-abbrev codes : List Compiled → List LaidCode
-codes cs = map (λ (c : Compiled). c.code.now) cs
+abbrev codes : List SourceAndCode → List LaidCode
+codes cs = map (λ (c : SourceAndCode). c.code.now) cs
 
 abbrev functions : List PassedFunction → List Function
 functions ps = map (λ (p : PassedFunction). p.function) ps
@@ -111,7 +111,7 @@ abbrev read_of : List PassedFunction → List Function
 read_of ps = map (λ (p : PassedFunction). p.source.function) ps
 
 paired : (names : ℕ → List ℕ) (base first : ℕ) (text : List ℕ) (lists : List (List Range)) (ps : List PassedFunction) (fs : List ListedFunction)
-    (cs : List Compiled) →
+    (cs : List SourceAndCode) →
     sources cs ≡ read_of ps → AreCoded base (functions ps) (codes cs) → AreCompiled names base first text lists ps fs →
     (n : ℕ) (passed : PassedFunction) (f : ListedFunction) → slice_get ps n ≡ Some passed → slice_get fs n ≡ Some f → Paired names passed f cs
 paired names base first text lists [] fs cs same coded are n passed f s_is f_is = absurd cc
@@ -156,8 +156,8 @@ paired names base first text lists (p ∷ ps) (g ∷ fs) (c ∷ cs) same coded (
 
 -- the code of each ends within the text
 ends_within : (names : ℕ → List ℕ) (base first : ℕ) (text : List ℕ) (lists : List (List Range)) (ps : List PassedFunction) (fs : List ListedFunction)
-    (cs : List Compiled) → AreCoded base (functions ps) (codes cs) → AreCompiled names base first text lists ps fs →
-    (c : Compiled) → Contains cs c → function_end c ≤ base + length text
+    (cs : List SourceAndCode) → AreCoded base (functions ps) (codes cs) → AreCompiled names base first text lists ps fs →
+    (c : SourceAndCode) → Contains cs c → function_end c ≤ base + length text
 ends_within names base first text lists ps fs [] coded are c is = absurd (no_member c is)
 ends_within names base first text lists [] fs (d ∷ cs) coded are c is = absurd coded
 ends_within names base first text lists (p ∷ ps) [] (d ∷ cs) coded are c is = absurd are
@@ -173,7 +173,7 @@ ends_within names base first text lists (p ∷ ps) (g ∷ fs) (d ∷ cs) coded (
     let size = words_length (words_of made.layout) in
     let next : base + 4 * length d.code.now.words ≡ g.high = omega (arith, words, high, from) in
     elim (member_cases d c cs is) [
-      | inl same ↦ subst (λ (x : Compiled). function_end x ≤ base + length text) same (omega (arith, kept, words, both, size))
+      | inl same ↦ subst (λ (x : SourceAndCode). function_end x ≤ base + length text) same (omega (arith, kept, words, both, size))
       | inr later ↦ (let more_within = ends_within names g.high (first + length made.lists) more rest ps fs cs
           (subst (λ (x : ℕ). AreCoded x (functions ps) (codes cs)) next coded.1) onward c later in
           omega (arith, more_within, high, from, both, size))
@@ -181,18 +181,18 @@ ends_within names base first text lists (p ∷ ps) (g ∷ fs) (d ∷ cs) coded (
 
 -- ---- lines
 
-names_same : (cs : List Compiled) (ps : List Parsed) → sources cs ≡ map (λ (p : Parsed). p.func) ps →
-    map (λ (c : Compiled). c.source.now.name) cs ≡ map (λ (p : Parsed). p.func.name) ps
+names_same : (cs : List SourceAndCode) (ps : List Parsed) → sources cs ≡ map (λ (p : Parsed). p.func) ps →
+    map (λ (c : SourceAndCode). c.source.now.name) cs ≡ map (λ (p : Parsed). p.func.name) ps
 names_same [] [] same = refl
 names_same [] (p ∷ ps) same = absurd cc
 names_same (c ∷ cs) [] same = absurd cc
 names_same (c ∷ cs) (p ∷ ps) same =
     let func_same : c.source.now ≡ p.func = cc in
     let tails : sources cs ≡ map (λ (q : Parsed). q.func) ps = cc in
-    ap (λ (f : Function). f.name ∷ map (λ (x : Compiled). x.source.now.name) cs) func_same
+    ap (λ (f : Function). f.name ∷ map (λ (x : SourceAndCode). x.source.now.name) cs) func_same
     ∙ ap (λ (ns : List (List ℕ)). p.func.name ∷ ns) (names_same cs ps tails)
 
-module _ (p : Program) (ps : List PassedFunction) (passed : ArePassed p.meta p.functions ps) (cs : List Compiled) (coded : HaveCode ps cs) where
+module _ (p : Program) (ps : List PassedFunction) (passed : ArePassed p.meta p.functions ps) (cs : List SourceAndCode) (coded : HaveCode ps cs) where
   lie : LieFrom 0 cs
   lie = codes_lie 0 (functions ps) cs coded.coded
 
@@ -240,8 +240,9 @@ module _ (p : Program) (ps : List PassedFunction) (passed : ArePassed p.meta p.f
     }
 
 -- a row is of an address below the end of one of the functions
-nothing_beyond : (p : Program) (ps : List PassedFunction) (cs : List Compiled) → HaveCode ps cs → (a : ℕ) (row : Row) → IsRowAt (table_of p.meta cs) a row →
-    (c : Compiled) × Contains cs c × (a < function_end c)
+nothing_beyond : (p : Program) (ps : List PassedFunction) (cs : List SourceAndCode) → HaveCode ps cs → (a : ℕ) (row : Row) →
+    IsRowAt (table_of p.meta cs) a row →
+    (c : SourceAndCode) × Contains cs c × (a < function_end c)
 unfolding table_of
 nothing_beyond p ps cs coded a row is =
     let lies = codes_lie 0 (functions ps) cs coded.coded in

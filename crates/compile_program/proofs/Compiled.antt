@@ -29,7 +29,7 @@ use Rattle.pass_list.specs.declared.kind.PassKind.{PassKind}
 use Rattle.compile_program.specs.Program.{ArePassed, AreCoded, HaveCode, IsCompiledAs, AreCompiledAs, IsOutputOf, IsLarge, HasLargeSection}
 use Rattle.compile_program.specs.steps.Made.{AreMade}
 use Rattle.compile_program.proofs.Passed.{have_code}
-use Rattle.dwarf_line_table.specs.declared.compiled.Compiled.{Compiled}
+use Rattle.dwarf_line_table.specs.declared.source_and_code.SourceAndCode.{SourceAndCode}
 use Rattle.dwarf_line_table.specs.Program.{table_of}
 use Rattle.dwarf_unit.specs.Unit.{unit_of}
 use Rattle.dwarf_unit.specs.Variables.{variables_of_function}
@@ -143,7 +143,7 @@ module _ (meta : Maps) (reserve : List ℕ) (passes : List PassKind) (functions 
       (subst (λ (ls : List (List Range)). AreCompiled (names_of meta) 0 0 (text_of m.functions) ls are.passed m.listings) (sym same)
       (all_compiled (names_of meta) reserve passes 0 0 are.passed m.listings m.functions are.compiled))
 
-  pub emitted_code : (cs : List Compiled) → map (λ c. c.source.now) cs ≡ map (λ f. f.func) functions →
+  pub emitted_code : (cs : List SourceAndCode) → map (λ c. c.source.now) cs ≡ map (λ f. f.func) functions →
       map (λ c. c.code.now) cs ≡ map (λ c. c.code) m.functions → HaveCode are.passed cs
   emitted_code cs sources_are codes_are =
       have_code meta functions are.passed cs (map (λ (c : CompiledFunction). c.code) m.functions) are.are sources_are codes_are
@@ -170,7 +170,7 @@ module _ (meta : Maps) (reserve : List ℕ) (passes : List PassKind) (functions 
 -- ---- its sections
 
 module _ (p : Program) (reserve : List ℕ) (passes : List PassKind) (m : EmittedFunctions) (are : AreMade p.meta reserve passes p.functions m)
-    (lists : List (List Range)) (same : lists ≡ lists_of m.functions) (cs : List Compiled)
+    (lists : List (List Range)) (same : lists ≡ lists_of m.functions) (cs : List SourceAndCode)
     (sources_are : map (λ c. c.source.now) cs ≡ map (λ f. f.func) p.functions) (codes_are : map (λ c. c.code.now) cs ≡ map (λ c. c.code) m.functions) where
   pub large_section : IsLarge p.meta (length m.text) lists cs → HasLargeSection (steps_of reserve passes) p
   large_section large = record {

@@ -9,10 +9,10 @@ use Rattle.mir_func.specs.Function.{Function}
 use Rattle.mir_func.specs.Sound.{items_of}
 use Rattle.read_program.specs.declared.closing.Parsed.{Parsed}
 use Rattle.read_proof.specs.Read.{IsReadFunction}
-use Rattle.dwarf_line_table.specs.declared.compiled.Compiled.{Compiled}
+use Rattle.dwarf_line_table.specs.declared.source_and_code.SourceAndCode.{SourceAndCode}
 use Rattle.dwarf_unit.specs.Unit.{program_variables, function_variables}
 
-pub program_few : (meta : Maps) (compiled : List Compiled) (functions : List Parsed) → map (λ c. c.source.now) compiled ≡ map (λ p. p.func) functions →
+pub program_few : (meta : Maps) (compiled : List SourceAndCode) (functions : List Parsed) → map (λ c. c.source.now) compiled ≡ map (λ p. p.func) functions →
     All (λ (p : Parsed). IsReadFunction meta p.func) functions → length (program_variables compiled) ≤ length functions * MAX_ITEMS
 program_few meta [] functions same read = omega arith
 program_few meta (c ∷ cs) [] same read = absurd cc

@@ -16,7 +16,7 @@ use Rattle.read_program.specs.declared.closing.Parsed.{Parsed}
 use Rattle.compile_theorem.specs.Source.{SourceFunction, PassedFunction, IsPassedFunction, sources_among}
 use Rattle.compile_program.specs.Program.{sources_of, ArePassed, AreCoded, HaveCode}
 use Rattle.compile_program.specs.steps.Made.{IsTooLarge}
-use Rattle.dwarf_line_table.specs.declared.compiled.Compiled.{Compiled}
+use Rattle.dwarf_line_table.specs.declared.source_and_code.SourceAndCode.{SourceAndCode}
 
 -- ---- the sources of what passes made
 
@@ -46,7 +46,7 @@ made_too_large reserve passes q f subs losses by large =
     record { passed = passed_of q f subs; source = refl; made = made_by reserve passes (passed_of q f subs) losses by; large = large }
 
 -- functions that were read, with the machine code of what passes made of them
-pub have_code : (meta : Maps) (fs : List Parsed) (ps : List PassedFunction) (cs : List Compiled) (codes : List LaidCode) → ArePassed meta fs ps →
+pub have_code : (meta : Maps) (fs : List Parsed) (ps : List PassedFunction) (cs : List SourceAndCode) (codes : List LaidCode) → ArePassed meta fs ps →
     map (λ c. c.source.now) cs ≡ map (λ f. f.func) fs → map (λ c. c.code.now) cs ≡ codes → AreCoded 0 (map (λ p. p.function) ps) codes → HaveCode ps cs
 have_code meta fs ps cs codes are sources_are codes_are coded = record {
   sources = sources_are ∙ passed_functions meta fs ps are;

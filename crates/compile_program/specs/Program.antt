@@ -25,7 +25,7 @@ use Rattle.compile_theorem.specs.Compiled.{IsCompiledFunction, AreCompiled, IsCo
 use Rattle.compile_theorem.specs.Source.{SourceFunction, PassedFunction}
 use Rattle.pass_list.specs.declared.kind.PassKind.{PassKind}
 use Rattle.compile_program.specs.declared.compile.Compilation.{Compilation}
-use Rattle.dwarf_line_table.specs.declared.compiled.Compiled.{Compiled}
+use Rattle.dwarf_line_table.specs.declared.source_and_code.SourceAndCode.{SourceAndCode}
 use Rattle.dwarf_line_table.specs.Program.{table_of}
 use Rattle.dwarf_unit.specs.Unit.{unit_of}
 use Rattle.dwarf_unit.specs.Variables.{variables_of_function}
@@ -55,7 +55,7 @@ AreCoded base (f ∷ fs) [] = ⊥
 AreCoded base (f ∷ fs) (c ∷ cs) = IsCodeOf (framed_of f) base c × AreCoded (base + 4 * length c.words) fs cs
 
 -- The functions that were read, each with the machine code of its passed function. The code begins at address 0.
-pub record HaveCode (functions : List PassedFunction) (compiled : List Compiled) : Type 0 where
+pub record HaveCode (functions : List PassedFunction) (compiled : List SourceAndCode) : Type 0 where
   pub sources : map (λ c. c.source.now) compiled ≡ map (λ p. p.source.function) functions
   pub coded : AreCoded 0 (map (λ p. p.function) functions) (map (λ c. c.code.now) compiled)
 
@@ -89,7 +89,7 @@ AreCompiledAs names reserve passes base first (p ∷ ps) (f ∷ fs) (c ∷ cs) =
 -- `.debug_abbrev`, `.debug_info` and `.debug_line` encode the abbreviations, the unit and the line number table of the program. `.text`,
 -- `.debug_info`, `.debug_line` and `.debug_loclists` are below the size limit.
 pub record HasSections (meta : Maps) (functions : List PassedFunction) (o : Output) : Type 0 where
-  pub compiled : List Compiled
+  pub compiled : List SourceAndCode
   pub coded : HaveCode functions compiled
   pub abbreviations : o.abbreviations ≡ abbreviations
   pub info : o.info ≡ entries_spelling (unit_of meta (length o.text) compiled)
@@ -130,7 +130,7 @@ pub record HasLargeFrame (steps : List PassStep) (functions : List Parsed) : Typ
   pub large : MAX_FRAME < size_of passed.function
 
 -- A section of the location lists, of the unit or of the line number table would be too large.
-abbrev pub IsLarge : (meta : Maps) → (text_len : ℕ) → List (List Range) → List Compiled → Type 0
+abbrev pub IsLarge : (meta : Maps) → (text_len : ℕ) → List (List Range) → List SourceAndCode → Type 0
 IsLarge meta text_len lists compiled = (SECTION_LIMIT ≤ length (lists_spelling lists)) ⊎
     ((SECTION_LIMIT ≤ length (entries_spelling (unit_of meta text_len compiled))) ⊎ (SECTION_LIMIT ≤ length (rows_spelling (table_of meta compiled))))
 
@@ -142,7 +142,7 @@ pub record HasLargeSection (steps : List PassStep) (p : Program) : Type 0 where
   pub text : List ℕ
   pub lists : List (List Range)
   pub listed : List ListedFunction
-  pub compiled : List Compiled
+  pub compiled : List SourceAndCode
   pub laid : AreCompiled (names_of p.meta) 0 0 text lists functions listed
   pub coded : HaveCode functions compiled
   pub large : IsLarge p.meta (length text) lists compiled

@@ -13,7 +13,7 @@ use compile_function::emit::EmittedFunctions;
 use compile_function::error::CompileError;
 use compile_function::lists::all_lists;
 use dwarf_info::abbreviation::write_abbrev;
-use dwarf_line_table::compiled::Compiled;
+use dwarf_line_table::source_and_code::SourceAndCode;
 use dwarf_sections::sections::{info, loclists, rows};
 use listing_text::output::Output;
 use pass_list::kind::PassKind;
@@ -105,7 +105,7 @@ fn with_code<'a>(
     alloc: Global,
     sources: &'a [Parsed],
     functions: &'a [CompiledFunction],
-) -> Result<Vec<Compiled<'a>>, AllocError>
+) -> Result<Vec<SourceAndCode<'a>>, AllocError>
     requires { length sources.now ≡ length functions.now }
     ensures sources { IfOk result (λ compiled.
         map (λ c. c.source.now) compiled.items ≡ map (λ p. p.func) sources.now) }
@@ -114,7 +114,7 @@ fn with_code<'a>(
 {
     let mut compiled = Vec::new(alloc);
     for index in 0..sources.len() {
-        compiled.push(Compiled {
+        compiled.push(SourceAndCode {
             source: &sources[index].func,
             code: &functions[index].code,
         })?;

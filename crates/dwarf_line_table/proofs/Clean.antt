@@ -14,7 +14,7 @@ use Rattle.read_metadata.specs.Maps.{Maps}
 use Rattle.read_metadata.specs.declared.node.FileNode.{FileNode}
 use Rattle.mir_func.specs.declared.block.Block.{Block}
 use Rattle.emit_code.specs.declared.code.EncodedInstruction.{EncodedInstruction}
-use Rattle.dwarf_line_table.specs.declared.compiled.Compiled.{Compiled}
+use Rattle.dwarf_line_table.specs.declared.source_and_code.SourceAndCode.{SourceAndCode}
 use Rattle.dwarf_line_table.specs.declared.file.SourceFile.{SourceFile}
 use Rattle.dwarf_line_table.specs.Files.{file_or, function_file, unit_file, is_file, is_name, with_new, first_uses, dirs_of, entry_in, entry_zero}
 use Rattle.std.specs.Option.{option_and_then}
@@ -62,13 +62,13 @@ uses_clean meta unit blocks (e ∷ es) clean = All-cons IsClean _ (uses_in meta 
     (or_clean (option_and_then (file_of_scope_at meta) (scope_line meta (loc_of blocks (position_of e.origin))).scope) unit clean)
     (uses_clean meta unit blocks es clean)
 
-all_uses_clean : (meta : Maps) (unit : SourceFile) (functions : List Compiled) → IsClean unit → All IsClean (flat_map (function_uses meta unit) functions)
+all_uses_clean : (meta : Maps) (unit : SourceFile) (functions : List SourceAndCode) → IsClean unit → All IsClean (flat_map (function_uses meta unit) functions)
 all_uses_clean meta unit [] clean = All-nil IsClean
 all_uses_clean meta unit (f ∷ fs) clean =
     All-append IsClean (function_uses meta unit f) (flat_map (function_uses meta unit) fs)
     (uses_clean meta unit f.source.now.blocks f.code.now.entries clean) (all_uses_clean meta unit fs clean)
 
-files_clean : (meta : Maps) (functions : List Compiled) → All IsClean (program_files meta functions)
+files_clean : (meta : Maps) (functions : List SourceAndCode) → All IsClean (program_files meta functions)
 files_clean meta functions =
     let clean = unit_clean meta (map (λ f. f.source.now.name) functions) in
     first_all IsClean is_file _ _ (All-cons IsClean _ [] clean (All-nil IsClean)) (all_uses_clean meta _ functions clean)
@@ -77,7 +77,7 @@ zero_clean : (files : List SourceFile) → All IsClean files → All IsNamed (en
 zero_clean [] clean = All-nil IsNamed
 zero_clean (f ∷ files) clean = All-cons IsNamed _ [] (All-head IsClean f files clean).name (All-nil IsNamed)
 
-pub table_names : (meta : Maps) (functions : List Compiled) → HasNames (table_of meta functions)
+pub table_names : (meta : Maps) (functions : List SourceAndCode) → HasNames (table_of meta functions)
 unfolding table_of
 table_names meta functions =
     let files = program_files meta functions in

@@ -4,7 +4,7 @@ use Rattle.std.specs.List.{flat_map}
 use Rattle.emit_code.specs.declared.code.EncodedInstruction.{EncodedInstruction}
 use Rattle.dwarf_line.specs.declared.table.Row.{Row}
 use Rattle.read_metadata.specs.Maps.{Maps}
-use Rattle.dwarf_line_table.specs.declared.compiled.Compiled.{Compiled}
+use Rattle.dwarf_line_table.specs.declared.source_and_code.SourceAndCode.{SourceAndCode}
 use Rattle.dwarf_line_table.specs.declared.file.SourceFile.{SourceFile}
 use Rattle.dwarf_line_table.specs.Files.{number_in}
 use Rattle.dwarf_line_table.specs.SourcePosition.{SourceLine, no_line, in_file, scope_line, loc_of, position_of}
@@ -17,7 +17,7 @@ use Rattle.dwarf_line_table.proofs.LineNames.{used_named, unit_is_one}
 use Rattle.dwarf_line_table.proofs.LineRows.{SamePlace, last_in, last_at}
 use Rattle.dwarf_line_table.proofs.Sequences.{all, entry_row, some_row, each_row, row_has_code}
 
-module _ (meta : Maps) (functions : List Compiled) where
+module _ (meta : Maps) (functions : List SourceAndCode) where
   abbrev unit : SourceFile
   unit = program_file meta functions
 
@@ -28,10 +28,10 @@ module _ (meta : Maps) (functions : List Compiled) where
   uses = flat_map (function_uses meta unit) functions
 
   -- the place of an entry
-  abbrev place : Compiled → EncodedInstruction → SourceLine
+  abbrev place : SourceAndCode → EncodedInstruction → SourceLine
   place f e = entry_line meta unit f.source.now.blocks e
 
-  module _ (base : ℕ) (lie : LieFrom base functions) (a : ℕ) (f : Compiled) (e : EncodedInstruction) (has : HasCodeAt functions a f e) where
+  module _ (base : ℕ) (lie : LieFrom base functions) (a : ℕ) (f : SourceAndCode) (e : EncodedInstruction) (has : HasCodeAt functions a f e) where
     same_place : (r : Row) → IsRowAt (table_of meta functions) a r → SamePlace r (entry_row files meta unit f e)
     unfolding table_of
     same_place r is = each_row files meta unit base functions lie f has.function e has.entry a has.from has.below is.sequence is.among r

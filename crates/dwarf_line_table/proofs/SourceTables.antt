@@ -8,7 +8,7 @@ use Rattle.dwarf_line.specs.declared.table.Sequence.{Sequence}
 use Rattle.read_metadata.specs.Maps.{Maps}
 use Rattle.emit_code.specs.declared.code.EncodedInstruction.{EncodedInstruction}
 use Rattle.emit_code.specs.Laid.{StandFrom}
-use Rattle.dwarf_line_table.specs.declared.compiled.Compiled.{Compiled}
+use Rattle.dwarf_line_table.specs.declared.source_and_code.SourceAndCode.{SourceAndCode}
 use Rattle.dwarf_line_table.specs.declared.file.SourceFile.{SourceFile}
 use Rattle.dwarf_line.specs.declared.table.FileEntry.{FileEntry}
 use Rattle.dwarf_line_table.specs.Files.{first_uses, is_file, unit_in, files_of, dirs_of, entries_of}
@@ -32,7 +32,8 @@ entries_within base words es listed stand e =
     let same : length listed ≡ length es = ap length e in
     omega (arith, few, same)
 
-pub record TableSoFar (meta : Maps) (unit : SourceFile) (functions rest : List Compiled) (files : List SourceFile) (sequences : List Sequence) : Type 0 where
+pub record TableSoFar (meta : Maps) (unit : SourceFile) (functions rest : List SourceAndCode) (files : List SourceFile)
+    (sequences : List Sequence) : Type 0 where
   pub some : 0 < length files
   pub led : unit_in files ≡ unit
   pub few : length files + 262144 * length rest ≤ 1 + 262144 * length functions
@@ -40,7 +41,7 @@ pub record TableSoFar (meta : Maps) (unit : SourceFile) (functions rest : List C
   pub listed : (more : List SourceFile) → sequences ++ flat_map (sequences_of (files ++ more) meta unit) rest ≡ flat_map
       (sequences_of (files ++ more) meta unit) functions
 
-pub table_starts : (meta : Maps) (unit : SourceFile) (functions : List Compiled) (files : List SourceFile) → files ≡ unit ∷ [] → TableSoFar meta unit
+pub table_starts : (meta : Maps) (unit : SourceFile) (functions : List SourceAndCode) (files : List SourceFile) → files ≡ unit ∷ [] → TableSoFar meta unit
     functions functions files []
 table_starts meta unit functions files e = record {
   some = let n : length files ≡ 1 = ap length e in omega (arith, n);
@@ -54,7 +55,7 @@ longer_unit : (files more : List SourceFile) → 0 < length files → (unit_in (
 longer_unit [] more some = absurd (omega (arith, some))
 longer_unit (f ∷ fs) more some = (refl, omega arith)
 
-pub table_next : (meta : Maps) (unit : SourceFile) (functions rest : List Compiled) (f : Compiled) (files files_ : List SourceFile)
+pub table_next : (meta : Maps) (unit : SourceFile) (functions rest : List SourceAndCode) (f : SourceAndCode) (files files_ : List SourceFile)
     (sequences sequences_ : List Sequence)
     → TableSoFar meta unit functions (f ∷ rest) files sequences
     → files_ ≡ first_uses is_file files (function_uses meta (unit_in files) f)
@@ -83,7 +84,7 @@ table_next meta unit functions rest f files files_ sequences sequences_ so joins
           ∙ subst P (sym all) (so.listed (longer.0 ++ more));
     }
 
-pub table_done : (meta : Maps) (functions : List Compiled) (unit : SourceFile) (files : List SourceFile) (sequences : List Sequence) (dirs : List (List ℕ))
+pub table_done : (meta : Maps) (functions : List SourceAndCode) (unit : SourceFile) (files : List SourceFile) (sequences : List Sequence) (dirs : List (List ℕ))
     (entries : List FileEntry)
     → unit ≡ program_file meta functions → TableSoFar meta unit functions [] files sequences → dirs ≡ dirs_of files → entries ≡ entries_of files
     → record { dirs = dirs; files = entries; sequences = sequences } ≡ table_of meta functions

@@ -5,7 +5,7 @@ use Rattle.dwarf_line.specs.declared.table.Row.{Row}
 use Rattle.dwarf_line.specs.declared.table.Sequence.{Sequence}
 use Rattle.dwarf_line.specs.declared.table.LineTable.{LineTable}
 use Rattle.read_metadata.specs.Maps.{Maps}
-use Rattle.dwarf_line_table.specs.declared.compiled.Compiled.{Compiled}
+use Rattle.dwarf_line_table.specs.declared.source_and_code.SourceAndCode.{SourceAndCode}
 use Rattle.dwarf_line_table.specs.declared.file.SourceFile.{SourceFile}
 use Rattle.dwarf_line_table.specs.Files.{unit_file, files_of, dirs_of, entries_of}
 use Rattle.dwarf_line_table.specs.Table.{changes, uses_in, rows_in}
@@ -15,20 +15,20 @@ abbrev pub MAX_FUNCTIONS : ℕ
 MAX_FUNCTIONS = 4096
 
 -- the file of a program's unit
-abbrev pub program_file : Maps → List Compiled → SourceFile
+abbrev pub program_file : Maps → List SourceAndCode → SourceFile
 program_file meta functions = unit_file meta (map (λ f. f.source.now.name) functions)
 
 -- the files of a function's entries, in the entries' order
-abbrev pub function_uses : Maps → (unit : SourceFile) → Compiled → List SourceFile
+abbrev pub function_uses : Maps → (unit : SourceFile) → SourceAndCode → List SourceFile
 function_uses meta unit f = uses_in meta unit f.source.now.blocks f.code.now.entries
 
 -- the rows of a function: one at its first entry, and one at each entry whose file, line or column differs from that of the entry
 -- before
-abbrev pub rows_of : List SourceFile → Maps → (unit : SourceFile) → Compiled → List Row
+abbrev pub rows_of : List SourceFile → Maps → (unit : SourceFile) → SourceAndCode → List Row
 rows_of files meta unit f = changes None (rows_in files meta unit f.source.now.blocks f.code.now.entries)
 
 -- the address after a function's words
-abbrev pub function_end : Compiled → ℕ
+abbrev pub function_end : SourceAndCode → ℕ
 function_end f = f.code.now.base + 4 * length f.code.now.words
 
 -- the sequence of these rows, if there is one
@@ -37,15 +37,15 @@ sequence_if [] end = []
 sequence_if (r ∷ rows) end = record { rows = r ∷ rows; end = end } ∷ []
 
 -- the sequence of a function, if it has code
-abbrev pub sequences_of : List SourceFile → Maps → (unit : SourceFile) → Compiled → List Sequence
+abbrev pub sequences_of : List SourceFile → Maps → (unit : SourceFile) → SourceAndCode → List Sequence
 sequences_of files meta unit f = sequence_if (rows_of files meta unit f) (function_end f)
 
 -- the files of a program's table, from number 1 on
-abbrev pub program_files : Maps → List Compiled → List SourceFile
+abbrev pub program_files : Maps → List SourceAndCode → List SourceFile
 program_files meta functions = files_of (program_file meta functions) (flat_map (function_uses meta (program_file meta functions)) functions)
 
 -- the table of a program
-unfoldable pub table_of : Maps → List Compiled → LineTable
+unfoldable pub table_of : Maps → List SourceAndCode → LineTable
 table_of meta functions = record {
   dirs = dirs_of (program_files meta functions);
   files = entries_of (program_files meta functions);

@@ -8,11 +8,11 @@ ghost use Rattle.dwarf_line_table.specs.Files.{first_uses, is_file, unit_in};
 ghost use Rattle.dwarf_line_table.specs.Program.{MAX_FUNCTIONS, function_uses, sequences_of, function_end, table_of};
 ghost use Rattle.emit_code.specs.Counts.{MAX_WORDS};
 
-use crate::compiled::Compiled;
 use crate::debug_locations::Places;
 use crate::entries::Entries;
 use crate::file::Files;
 use crate::rows::rows;
+use crate::source_and_code::SourceAndCode;
 use crate::unit_file::unit_file;
 use dwarf_line::table::{LineTable, Sequence, Sequences};
 use read_metadata::metadata::Metadata;
@@ -23,7 +23,7 @@ use std::alloc::{AllocError, Global};
 /// entry before. The error is out of memory.
 pub fn line_table(
     alloc: Global,
-    functions: &[Compiled],
+    functions: &[SourceAndCode],
     meta: &Metadata,
 ) -> Result<LineTable, AllocError>
     requires { length functions.now ≤ MAX_FUNCTIONS }
@@ -54,7 +54,7 @@ fn push_sequence(
     sequences: &mut Sequences,
     files: &mut Files,
     meta: &Metadata,
-    function: &Compiled,
+    function: &SourceAndCode,
 ) -> Result<(), AllocError>
     requires unit { 0 < length files.old }
     requires room { length files.old + MAX_WORDS < 2 ^ 32 - 2 }

@@ -6,8 +6,8 @@ ghost use Rattle.read_metadata.specs.declared.node.FileNode.{FileNode};
 ghost use Rattle.dwarf_line_table.specs.Files.{file_of_node, function_file};
 ghost use Rattle.dwarf_line_table.specs.Program.{program_file};
 
-use crate::compiled::Compiled;
 use crate::file::SourceFile;
+use crate::source_and_code::SourceAndCode;
 use base_list::List;
 use dwarf_info::entry::text_of;
 use read_metadata::metadata::Metadata;
@@ -19,7 +19,7 @@ use std::alloc::{AllocError, Global};
 /// none has.
 pub fn unit_file(
     alloc: Global,
-    functions: &[Compiled],
+    functions: &[SourceAndCode],
     meta: &Metadata,
 ) -> Result<SourceFile, AllocError>
     ensures { IfOk result (λ file. file ≡ program_file meta.now functions.now) }

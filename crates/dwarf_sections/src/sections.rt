@@ -15,8 +15,8 @@ use dwarf_info::size::info_size;
 use dwarf_info::write::write_info;
 use dwarf_line::size::line_size;
 use dwarf_line::write::write_line;
-use dwarf_line_table::compiled::Compiled;
 use dwarf_line_table::line_table::line_table;
+use dwarf_line_table::source_and_code::SourceAndCode;
 use dwarf_loclists::range::RangeLists;
 use dwarf_loclists::section::{lists_size, write_lists};
 use dwarf_unit::unit::make_unit;
@@ -47,7 +47,7 @@ impl From<AllocError> for SectionError {
 /// The section `.debug_info` of functions, with `text_len` bytes of code. It is `TooLarge` exactly from 2^31 bytes on.
 pub fn info(
     alloc: Global,
-    functions: &[Compiled],
+    functions: &[SourceAndCode],
     meta: &Metadata,
     text_len: u32,
 ) -> Result<Bytes, SectionError>
@@ -65,7 +65,11 @@ pub fn info(
 }
 
 /// The section `.debug_line` of functions. It is `TooLarge` exactly from 2^31 bytes on.
-pub fn rows(alloc: Global, functions: &[Compiled], meta: &Metadata) -> Result<Bytes, SectionError>
+pub fn rows(
+    alloc: Global,
+    functions: &[SourceAndCode],
+    meta: &Metadata,
+) -> Result<Bytes, SectionError>
     requires { length functions.now ≤ MAX_FUNCTIONS }
     ensures bytes { IfOk result (λ bytes. bytes ≡ rows_spelling (table_of meta.now functions.now)) }
     ensures small { IfOk result (λ bytes. length bytes < SECTION_LIMIT) }

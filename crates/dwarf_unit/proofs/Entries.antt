@@ -8,7 +8,7 @@ use Rattle.dwarf_info.specs.declared.unit.VariableEntry.{VariableEntry}
 use Rattle.dwarf_info.specs.declared.unit.FunctionEntry.{FunctionEntry}
 use Rattle.read_metadata.specs.Maps.{Maps}
 use Rattle.mir_func.specs.declared.variable.VarId.{VarId}
-use Rattle.dwarf_line_table.specs.declared.compiled.Compiled.{Compiled}
+use Rattle.dwarf_line_table.specs.declared.source_and_code.SourceAndCode.{SourceAndCode}
 use Rattle.dwarf_line_table.specs.declared.file.SourceFile.{SourceFile}
 use Rattle.dwarf_line_table.specs.Files.{first_uses}
 use Rattle.dwarf_line_table.specs.Program.{program_file}
@@ -48,16 +48,17 @@ variables_next meta start types types_ first list all rest v entries entries_ en
           ∙ subst P (sym joined) (so.listed (more_types.0 ++ more));
     }
 
-pub record FunctionsSoFar (meta : Maps) (types : List ℕ) (list : ℕ) (all rest : List Compiled) (entries : List FunctionEntry) : Type 0 where
+pub record FunctionsSoFar (meta : Maps) (types : List ℕ) (list : ℕ) (all rest : List SourceAndCode) (entries : List FunctionEntry) : Type 0 where
   pub few : length types + length (program_variables rest) ≤ length (program_variables all)
   pub count : list + length (program_variables rest) ≡ length (program_variables all)
   pub known : first_uses nat_eq types (flat_map (λ f. flat_map (type_uses meta) (function_variables f)) rest) ≡ program_types meta all
   pub listed : (more : List ℕ) → entries ++ functions_from meta (types ++ more) list rest ≡ functions_from meta (types ++ more) 0 all
 
-pub functions_start : (meta : Maps) (all : List Compiled) → FunctionsSoFar meta [] 0 all all []
+pub functions_start : (meta : Maps) (all : List SourceAndCode) → FunctionsSoFar meta [] 0 all all []
 functions_start meta all = record { few = omega arith; count = omega arith; known = refl; listed = λ more. refl }
 
-pub functions_next : (meta : Maps) (types types_ : List ℕ) (list list_ : ℕ) (all rest : List Compiled) (f : Compiled) (entries entries_ : List FunctionEntry)
+pub functions_next : (meta : Maps) (types types_ : List ℕ) (list list_ : ℕ) (all rest : List SourceAndCode) (f : SourceAndCode)
+    (entries entries_ : List FunctionEntry)
     (entry : FunctionEntry)
     → FunctionsSoFar meta types list all (f ∷ rest) entries
     → types_ ≡ first_uses nat_eq types (flat_map (type_uses meta) (function_variables f))
@@ -86,7 +87,7 @@ functions_next meta types types_ list list_ all rest f entries entries_ entry so
           ∙ subst P (sym joined) (so.listed (more_types.0 ++ more));
     }
 
-pub unit_done : (meta : Maps) (text_len : ℕ) (functions : List Compiled) (file : SourceFile) (types : List ℕ) (list : ℕ) (entries : List FunctionEntry)
+pub unit_done : (meta : Maps) (text_len : ℕ) (functions : List SourceAndCode) (file : SourceFile) (types : List ℕ) (list : ℕ) (entries : List FunctionEntry)
     (bases : List BaseEntry)
     → file ≡ program_file meta functions → FunctionsSoFar meta types list functions [] entries → bases ≡ base_entries meta types
     → record { name = file.name; dir = file.dir; text_len = text_len; types = bases; functions = entries } ≡ unit_of meta text_len functions
@@ -103,7 +104,7 @@ variables_length meta types k [] = refl
 variables_length meta types k (v ∷ vs) = ap suc (variables_length meta types (suc k) vs)
 
 -- there is room for the next function's variables
-pub functions_room : (meta : Maps) (types : List ℕ) (list : ℕ) (all rest : List Compiled) (f : Compiled) (entries : List FunctionEntry)
+pub functions_room : (meta : Maps) (types : List ℕ) (list : ℕ) (all rest : List SourceAndCode) (f : SourceAndCode) (entries : List FunctionEntry)
     → FunctionsSoFar meta types list all (f ∷ rest) entries
     → (length types + length (function_variables f) ≤ length (program_variables all)) × (list + length (function_variables f) ≤ length (program_variables all))
 functions_room meta types list all rest f entries so =
@@ -114,8 +115,8 @@ functions_room meta types list all rest f entries so =
     (omega (arith, so_few, split), omega (arith, so_count, split))
 
 -- the variables of an entry are as many as those of its function
-pub entry_length : (meta : Maps) (types : List ℕ) (k : ℕ) (f : Compiled) (entry : FunctionEntry) (n : ℕ) → n ≡ length entry.variables → entry ≡ function_entry
-    meta types k f
+pub entry_length : (meta : Maps) (types : List ℕ) (k : ℕ) (f : SourceAndCode) (entry : FunctionEntry) (n : ℕ) → n ≡ length entry.variables →
+    entry ≡ function_entry meta types k f
     → n ≡ length (function_variables f)
 entry_length meta types k f entry n counted is =
     counted ∙ ap (λ (e : FunctionEntry). length e.variables) is ∙ variables_length meta types k (function_variables f)

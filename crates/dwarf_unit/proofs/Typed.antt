@@ -12,7 +12,7 @@ use Rattle.read_metadata.specs.Maps.{Maps}
 use Rattle.read_metadata.specs.Metadata.{variable_at}
 use Rattle.read_metadata.specs.declared.node.VariableNode.{VariableNode}
 use Rattle.mir_func.specs.declared.variable.VarId.{VarId}
-use Rattle.dwarf_line_table.specs.declared.compiled.Compiled.{Compiled}
+use Rattle.dwarf_line_table.specs.declared.source_and_code.SourceAndCode.{SourceAndCode}
 use Rattle.dwarf_line_table.specs.Files.{with_new, first_uses}
 use Rattle.dwarf_line_table.proofs.FirstUses.{joined, lengthened}
 use Rattle.dwarf_unit.specs.Unit.{type_uses, node_uses, listed, readable_type, type_in, node_entry, variables_from, function_variables}
@@ -75,7 +75,7 @@ typed_variables meta types k count (v ∷ vs) e all =
     (typed_node meta types (variable_at meta v.node) k count e (front (Below types) (type_uses meta v) (flat_map (type_uses meta) vs) all))
     (typed_variables meta types (suc k) count vs e (back (Below types) (type_uses meta v) (flat_map (type_uses meta) vs) all))
 
-typed_functions : (meta : Maps) (types : List ℕ) (k count : ℕ) (fs : List Compiled) → count ≡ length types
+typed_functions : (meta : Maps) (types : List ℕ) (k count : ℕ) (fs : List SourceAndCode) → count ≡ length types
     → All (Below types) (flat_map (λ f. flat_map (type_uses meta) (function_variables f)) fs) → All (HasTypes count) (functions_from meta types k fs)
 typed_functions meta types k count [] e all = All-nil _
 typed_functions meta types k count (f ∷ fs) e all =
@@ -85,7 +85,7 @@ typed_functions meta types k count (f ∷ fs) e all =
     (typed_variables meta types k count (function_variables f) e (front (Below types) own others all))
     (typed_functions meta types (k + length (function_variables f)) count fs e (back (Below types) own others all))
 
-pub unit_typed : (meta : Maps) (text_len : ℕ) (functions : List Compiled) → All (HasTypes (length (unit_of meta text_len functions).types))
+pub unit_typed : (meta : Maps) (text_len : ℕ) (functions : List SourceAndCode) → All (HasTypes (length (unit_of meta text_len functions).types))
     (unit_of meta text_len functions).functions
 unfolding unit_of
 unit_typed meta text_len functions =

@@ -11,7 +11,7 @@ use Rattle.read_metadata.specs.Metadata.{variable_at, base_type_at}
 use Rattle.read_metadata.specs.declared.node.VariableNode.{VariableNode}
 use Rattle.read_metadata.specs.declared.node.BaseTypeNode.{BaseTypeNode}
 use Rattle.mir_func.specs.declared.variable.VarId.{VarId}
-use Rattle.dwarf_line_table.specs.declared.compiled.Compiled.{Compiled}
+use Rattle.dwarf_line_table.specs.declared.source_and_code.SourceAndCode.{SourceAndCode}
 use Rattle.dwarf_line_table.specs.Files.{first_uses}
 use Rattle.dwarf_line_table.specs.Program.{program_file}
 use Rattle.dwarf_unit.specs.Variables.{variables_of_function}
@@ -60,15 +60,15 @@ variables_from meta types k [] = []
 variables_from meta types k (v ∷ vs) = variable_entry meta types k v ∷ variables_from meta types (suc k) vs
 
 -- the variables of a function, as it was read
-abbrev pub function_variables : Compiled → List VarId
+abbrev pub function_variables : SourceAndCode → List VarId
 function_variables f = variables_of_function f.source.now.blocks
 
 -- the length of its code in bytes
-abbrev pub code_length : Compiled → ℕ
+abbrev pub code_length : SourceAndCode → ℕ
 code_length f = 4 * length f.code.now.words
 
 -- the content of a function's DW_TAG_subprogram, with its variables' location lists numbered from this index on
-abbrev pub function_entry : Maps → (types : List ℕ) → (list : ℕ) → Compiled → FunctionEntry
+abbrev pub function_entry : Maps → (types : List ℕ) → (list : ℕ) → SourceAndCode → FunctionEntry
 function_entry meta types k f = record {
   name = f.source.now.name;
   lo = f.code.now.base;
@@ -77,16 +77,16 @@ function_entry meta types k f = record {
 }
 
 -- the entries of functions, with their variables' location lists numbered from this index on
-abbrev pub functions_from : Maps → (types : List ℕ) → (list : ℕ) → List Compiled → List FunctionEntry
+abbrev pub functions_from : Maps → (types : List ℕ) → (list : ℕ) → List SourceAndCode → List FunctionEntry
 functions_from meta types k [] = []
 functions_from meta types k (f ∷ fs) = function_entry meta types k f ∷ functions_from meta types (k + length (function_variables f)) fs
 
 -- all variables of a program, in the order of their location lists
-abbrev pub program_variables : List Compiled → List VarId
+abbrev pub program_variables : List SourceAndCode → List VarId
 program_variables functions = flat_map function_variables functions
 
 -- the nodes of the base types of a program, in the order of their first use by variables
-abbrev pub program_types : Maps → List Compiled → List ℕ
+abbrev pub program_types : Maps → List SourceAndCode → List ℕ
 program_types meta functions = first_uses nat_eq [] (flat_map (λ f. flat_map (type_uses meta) (function_variables f)) functions)
 
 -- a base type's entry, with the size capped at 255
@@ -99,7 +99,7 @@ abbrev pub base_entries : Maps → (types : List ℕ) → List BaseEntry
 base_entries meta types = map (λ node. base_entry (base_type_at meta node)) types
 
 -- the unit of a program, with the length of its code in bytes
-unfoldable pub unit_of : Maps → (text_len : ℕ) → List Compiled → CompilationUnit
+unfoldable pub unit_of : Maps → (text_len : ℕ) → List SourceAndCode → CompilationUnit
 unit_of meta text_len functions = record {
   name = (program_file meta functions).name;
   dir = (program_file meta functions).dir;

@@ -9,7 +9,7 @@ use crate::types::Types;
 use crate::variable::variables_from;
 use crate::variables::variables;
 use dwarf_info::unit::FunctionEntry;
-use dwarf_line_table::compiled::Compiled;
+use dwarf_line_table::source_and_code::SourceAndCode;
 use read_metadata::metadata::Metadata;
 use std::alloc::{AllocError, Global};
 
@@ -19,7 +19,7 @@ pub fn function_entry(
     types: &mut Types,
     meta: &Metadata,
     first: u32,
-    function: &Compiled,
+    function: &SourceAndCode,
 ) -> Result<FunctionEntry, AllocError>
     requires room { length types.old + length (function_variables function.now) < 2 ^ 32 - 2 }
     requires lists { first + length (function_variables function.now) < 2 ^ 32 }

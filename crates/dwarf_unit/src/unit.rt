@@ -7,7 +7,7 @@ ghost use Rattle.dwarf_unit.specs.Unit.{program_variables, unit_of};
 use crate::function::function_entry;
 use crate::types::Types;
 use dwarf_info::unit::{FunctionEntries, Unit};
-use dwarf_line_table::compiled::Compiled;
+use dwarf_line_table::source_and_code::SourceAndCode;
 use dwarf_line_table::unit_file::unit_file;
 use read_metadata::metadata::Metadata;
 use std::alloc::{AllocError, Global};
@@ -16,7 +16,7 @@ use std::alloc::{AllocError, Global};
 /// is out of memory.
 pub fn make_unit(
     alloc: Global,
-    functions: &[Compiled],
+    functions: &[SourceAndCode],
     meta: &Metadata,
     text_len: u32,
 ) -> Result<Unit, AllocError>

@@ -14,7 +14,7 @@ use Rattle.mir_func.specs.Function.{Function, FramedFunction}
 use Rattle.read_metadata.specs.Maps.{Maps}
 use Rattle.compile_theorem.specs.Source.{PassedFunction}
 use Rattle.compile_program.specs.Program.{AreCoded, HasSections}
-use Rattle.dwarf_line_table.specs.declared.compiled.Compiled.{Compiled}
+use Rattle.dwarf_line_table.specs.declared.source_and_code.SourceAndCode.{SourceAndCode}
 use Rattle.tool_driver.specs.Lines.{GivesLines}
 
 code_stands : (f : FramedFunction) (base : ℕ) (c : LaidCode) → IsCodeOf f base c → StandFrom c.base c.entries (c.base + 4 * length c.words)
@@ -28,7 +28,7 @@ code_stands f base c is =
     (subst (λ (es : List EncodedInstruction). StandFrom is.layout.base es (c.base + 4 * length c.words)) (sym is.entries)
     (subst (λ (x : ℕ). StandFrom is.layout.base (entries_of is.layout) x) end (stands is.layout)))
 
-lie : (base : ℕ) (fs : List Function) (cs : List Compiled) → AreCoded base fs (map (λ c. c.code.now) cs) → LieFrom base cs
+lie : (base : ℕ) (fs : List Function) (cs : List SourceAndCode) → AreCoded base fs (map (λ c. c.code.now) cs) → LieFrom base cs
 lie base [] [] coded = tt
 lie base [] (c ∷ cs) coded = absurd coded
 lie base (f ∷ fs) [] coded = absurd coded

@@ -4,7 +4,7 @@ use Rattle.dwarf_info.specs.Entries.{spelling as entries_spelling}
 use Rattle.dwarf_unit.specs.Unit.{unit_of}
 use Rattle.listing_text.specs.declared.output.Output.{Output}
 use Rattle.read_program.specs.declared.closing.Parsed.{Parsed}
-use Rattle.dwarf_line_table.specs.declared.compiled.Compiled.{Compiled}
+use Rattle.dwarf_line_table.specs.declared.source_and_code.SourceAndCode.{SourceAndCode}
 use Rattle.compile_function.specs.declared.compiled_function.CompiledFunction.{CompiledFunction}
 use Rattle.compile_function.specs.Emitted.{lists_of}
 use Rattle.compile_program.specs.Program.{IsLarge}
@@ -19,7 +19,7 @@ with_code-requires c =
 
 pub info-requires : goal.info-requires
 info-requires c =
-    let same : map (λ (x : Compiled). x.source.now) c.as_slice-compiled.result.now ≡ map (λ (p : Parsed). p.func) c.args.program.now.functions =
+    let same : map (λ (x : SourceAndCode). x.source.now) c.as_slice-compiled.result.now ≡ map (λ (p : Parsed). p.func) c.args.program.now.functions =
     search rules in
     let few = program_few c.args.program.now.meta c.as_slice-compiled.result.now c.args.program.now.functions same c.requires.read.functions in
     let functions = c.requires.read.few in
@@ -35,9 +35,9 @@ loclists-requires-clause-places c =
 
 pub returns-in_err-info-clause-section_too_large : goal.returns-in_err-info-clause-section_too_large
 returns-in_err-info-clause-section_too_large c is =
-    let sources : map (λ (x : Compiled). x.source.now) c.as_slice-compiled.result.now ≡ map (λ (p : Parsed). p.func) c.args.program.now.functions =
+    let sources : map (λ (x : SourceAndCode). x.source.now) c.as_slice-compiled.result.now ≡ map (λ (p : Parsed). p.func) c.args.program.now.functions =
     search rules in
-    let codes : map (λ (x : Compiled). x.code.now) c.as_slice-compiled.result.now ≡ map (λ (f : CompiledFunction). f.code) c.args.made.functions =
+    let codes : map (λ (x : SourceAndCode). x.code.now) c.as_slice-compiled.result.now ≡ map (λ (f : CompiledFunction). f.code) c.args.made.functions =
     search rules in
     let large : IsLarge c.args.program.now.meta (length c.args.made.text) c.in_ok-lists.lists c.as_slice-compiled.result.now = search (rules, is) in
     large_section c.args.program.now _ _ c.args.made c.requires.made c.in_ok-lists.lists (c.in_ok-lists.ensures ∙ ap lists_of c.as_slice-3.ensures)
@@ -45,9 +45,9 @@ returns-in_err-info-clause-section_too_large c is =
 
 pub returns-in_err-rows-clause-section_too_large : goal.returns-in_err-rows-clause-section_too_large
 returns-in_err-rows-clause-section_too_large c is =
-    let sources : map (λ (x : Compiled). x.source.now) c.as_slice-compiled.result.now ≡ map (λ (p : Parsed). p.func) c.args.program.now.functions =
+    let sources : map (λ (x : SourceAndCode). x.source.now) c.as_slice-compiled.result.now ≡ map (λ (p : Parsed). p.func) c.args.program.now.functions =
     search rules in
-    let codes : map (λ (x : Compiled). x.code.now) c.as_slice-compiled.result.now ≡ map (λ (f : CompiledFunction). f.code) c.args.made.functions =
+    let codes : map (λ (x : SourceAndCode). x.code.now) c.as_slice-compiled.result.now ≡ map (λ (f : CompiledFunction). f.code) c.args.made.functions =
     search rules in
     let large : IsLarge c.args.program.now.meta (length c.args.made.text) c.in_ok-lists.lists c.as_slice-compiled.result.now = search (rules, is) in
     large_section c.args.program.now _ _ c.args.made c.requires.made c.in_ok-lists.lists (c.in_ok-lists.ensures ∙ ap lists_of c.as_slice-3.ensures)
@@ -55,9 +55,9 @@ returns-in_err-rows-clause-section_too_large c is =
 
 pub returns-in_err-loclists-clause-section_too_large : goal.returns-in_err-loclists-clause-section_too_large
 returns-in_err-loclists-clause-section_too_large c is =
-    let sources : map (λ (x : Compiled). x.source.now) c.as_slice-compiled.result.now ≡ map (λ (p : Parsed). p.func) c.args.program.now.functions =
+    let sources : map (λ (x : SourceAndCode). x.source.now) c.as_slice-compiled.result.now ≡ map (λ (p : Parsed). p.func) c.args.program.now.functions =
     search rules in
-    let codes : map (λ (x : Compiled). x.code.now) c.as_slice-compiled.result.now ≡ map (λ (f : CompiledFunction). f.code) c.args.made.functions =
+    let codes : map (λ (x : SourceAndCode). x.code.now) c.as_slice-compiled.result.now ≡ map (λ (f : CompiledFunction). f.code) c.args.made.functions =
     search rules in
     let large : IsLarge c.args.program.now.meta (length c.args.made.text) c.in_ok-lists.lists c.as_slice-compiled.result.now = search (rules, is) in
     large_section c.args.program.now _ _ c.args.made c.requires.made c.in_ok-lists.lists (c.in_ok-lists.ensures ∙ ap lists_of c.as_slice-3.ensures)
@@ -65,9 +65,9 @@ returns-in_err-loclists-clause-section_too_large c is =
 
 pub returns-clause-output : goal.returns-clause-output
 returns-clause-output c =
-    let sources : map (λ (x : Compiled). x.source.now) c.as_slice-compiled.result.now ≡ map (λ (p : Parsed). p.func) c.args.program.now.functions =
+    let sources : map (λ (x : SourceAndCode). x.source.now) c.as_slice-compiled.result.now ≡ map (λ (p : Parsed). p.func) c.args.program.now.functions =
     search rules in
-    let codes : map (λ (x : Compiled). x.code.now) c.as_slice-compiled.result.now ≡ map (λ (f : CompiledFunction). f.code) c.args.made.functions =
+    let codes : map (λ (x : SourceAndCode). x.code.now) c.as_slice-compiled.result.now ≡ map (λ (f : CompiledFunction). f.code) c.args.made.functions =
     search rules in
     let o : Output = record {
       text = c.args.made.text;

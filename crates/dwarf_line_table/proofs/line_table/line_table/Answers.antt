@@ -4,7 +4,7 @@ use Rattle.std.proofs.lemmas.List.{drop_all}
 use Rattle.std.proofs.lemmas.List.Elements.{All-append}
 use Rattle.dwarf_line.specs.declared.table.Sequence.{Sequence}
 use Rattle.dwarf_line.specs.Table.{HasNames, IsSequence}
-use Rattle.dwarf_line_table.specs.declared.compiled.Compiled.{Compiled}
+use Rattle.dwarf_line_table.specs.declared.source_and_code.SourceAndCode.{SourceAndCode}
 use Rattle.dwarf_line_table.specs.Files.{unit_in}
 use Rattle.dwarf_line_table.proofs.Ascending.{sequence_is}
 use Rattle.dwarf_line_table.proofs.Clean.{table_names}
@@ -14,7 +14,7 @@ use Rattle.dwarf_line_table.proofs.line_table.line_table.Goals as goal
 
 pub loop-function-preserved : goal.loop-function-preserved
 loop-function-preserved c =
-    let P : List Compiled → Type 0 = λ rest. TableSoFar c.args.meta.now c.in_ok-unit.unit c.args.functions.now rest c.loop-function.files
+    let P : List SourceAndCode → Type 0 = λ rest. TableSoFar c.args.meta.now c.in_ok-unit.unit c.args.functions.now rest c.loop-function.files
     c.loop-function.sequences in
     let so = subst P (split_at c.args.functions.now c.loop-function.function-index c.function-item.result c.loop-function-test.true c.function-item.is)
     c.loop-function.invariant.so in
@@ -29,7 +29,7 @@ loop-function-preserved c =
 
 pub returns : goal.returns
 returns c =
-    let P : List Compiled → Type 0 = λ rest. TableSoFar c.args.meta.now c.in_ok-unit.unit c.args.functions.now rest c.loop-function.files
+    let P : List SourceAndCode → Type 0 = λ rest. TableSoFar c.args.meta.now c.in_ok-unit.unit c.args.functions.now rest c.loop-function.files
     c.loop-function.sequences in
     let so = subst P (drop_all c.loop-function.function-index c.args.functions.now c.loop-function-test.false) c.loop-function.invariant.so in
     let is = table_done _ _ _ _ _ _ _ c.in_ok-unit.ensures so c.in_ok-dirs.ensures.dirs c.in_ok-dirs.ensures.files in

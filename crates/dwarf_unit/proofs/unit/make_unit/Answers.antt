@@ -1,6 +1,6 @@
 use Rattle.std.proofs.Common.{◌+◌, ◌++◌, ℕ, [], List, length, subst, sym, ap, arith}
 use Rattle.std.proofs.lemmas.List.{drop_all}
-use Rattle.dwarf_line_table.specs.declared.compiled.Compiled.{Compiled}
+use Rattle.dwarf_line_table.specs.declared.source_and_code.SourceAndCode.{SourceAndCode}
 use Rattle.dwarf_line_table.proofs.Split.{split_at}
 use Rattle.dwarf_unit.proofs.Entries.{FunctionsSoFar, functions_next, functions_room, unit_done, entry_length}
 use Rattle.std.specs.Prelude.{All}
@@ -11,7 +11,7 @@ use Rattle.dwarf_unit.proofs.unit.make_unit.Goals as goal
 
 pub function_entry-requires-clause-room : goal.function_entry-requires-clause-room
 function_entry-requires-clause-room c =
-    let P : List Compiled → Type 0 = λ rest. FunctionsSoFar c.args.meta.now c.loop-function.types c.loop-function.list c.args.functions.now rest
+    let P : List SourceAndCode → Type 0 = λ rest. FunctionsSoFar c.args.meta.now c.loop-function.types c.loop-function.list c.args.functions.now rest
     c.loop-function.entries in
     let so = subst P (split_at c.args.functions.now c.loop-function.function-index c.function-item.result c.loop-function-test.true c.function-item.is)
     c.loop-function.invariant in
@@ -21,7 +21,7 @@ function_entry-requires-clause-room c =
 
 pub function_entry-requires-clause-lists : goal.function_entry-requires-clause-lists
 function_entry-requires-clause-lists c =
-    let P : List Compiled → Type 0 = λ rest. FunctionsSoFar c.args.meta.now c.loop-function.types c.loop-function.list c.args.functions.now rest
+    let P : List SourceAndCode → Type 0 = λ rest. FunctionsSoFar c.args.meta.now c.loop-function.types c.loop-function.list c.args.functions.now rest
     c.loop-function.entries in
     let so = subst P (split_at c.args.functions.now c.loop-function.function-index c.function-item.result c.loop-function-test.true c.function-item.is)
     c.loop-function.invariant in
@@ -31,7 +31,7 @@ function_entry-requires-clause-lists c =
 
 pub overflow_cast-list : goal.overflow_cast-list
 overflow_cast-list c =
-    let P : List Compiled → Type 0 = λ rest. FunctionsSoFar c.args.meta.now c.loop-function.types c.loop-function.list c.args.functions.now rest
+    let P : List SourceAndCode → Type 0 = λ rest. FunctionsSoFar c.args.meta.now c.loop-function.types c.loop-function.list c.args.functions.now rest
     c.loop-function.entries in
     let so = subst P (split_at c.args.functions.now c.loop-function.function-index c.function-item.result c.loop-function-test.true c.function-item.is)
     c.loop-function.invariant in
@@ -43,7 +43,7 @@ overflow_cast-list c =
 
 pub overflow_add-list : goal.overflow_add-list
 overflow_add-list c =
-    let P : List Compiled → Type 0 = λ rest. FunctionsSoFar c.args.meta.now c.loop-function.types c.loop-function.list c.args.functions.now rest
+    let P : List SourceAndCode → Type 0 = λ rest. FunctionsSoFar c.args.meta.now c.loop-function.types c.loop-function.list c.args.functions.now rest
     c.loop-function.entries in
     let so = subst P (split_at c.args.functions.now c.loop-function.function-index c.function-item.result c.loop-function-test.true c.function-item.is)
     c.loop-function.invariant in
@@ -55,7 +55,7 @@ overflow_add-list c =
 
 pub loop-function-preserved : goal.loop-function-preserved
 loop-function-preserved c =
-    let P : List Compiled → Type 0 = λ rest. FunctionsSoFar c.args.meta.now c.loop-function.types c.loop-function.list c.args.functions.now rest
+    let P : List SourceAndCode → Type 0 = λ rest. FunctionsSoFar c.args.meta.now c.loop-function.types c.loop-function.list c.args.functions.now rest
     c.loop-function.entries in
     let so = subst P (split_at c.args.functions.now c.loop-function.function-index c.function-item.result c.loop-function-test.true c.function-item.is)
     c.loop-function.invariant in
@@ -66,7 +66,7 @@ loop-function-preserved c =
 
 pub returns : goal.returns
 returns c =
-    let P : List Compiled → Type 0 = λ rest. FunctionsSoFar c.args.meta.now c.loop-function.types c.loop-function.list c.args.functions.now rest
+    let P : List SourceAndCode → Type 0 = λ rest. FunctionsSoFar c.args.meta.now c.loop-function.types c.loop-function.list c.args.functions.now rest
     c.loop-function.entries in
     let so = subst P (drop_all c.loop-function.function-index c.args.functions.now c.loop-function-test.false) c.loop-function.invariant in
     let is = unit_done _ _ _ _ _ _ _ _ c.in_ok-file.ensures so c.in_ok-entries.ensures in
