@@ -7,7 +7,6 @@ use Rattle.read_program.specs.declared.closing.Parsed.{Parsed}
 use Rattle.dwarf_line_table.specs.declared.source_and_code.SourceAndCode.{SourceAndCode}
 use Rattle.compile_function.specs.declared.compiled_function.CompiledFunction.{CompiledFunction}
 use Rattle.compile_function.specs.Emitted.{lists_of}
-use Rattle.compile_program.specs.Program.{IsLarge}
 use Rattle.compile_program.proofs.Compiled.{emitted_length, emitted_ascend, emitted_places, large_section, whole_output}
 use Rattle.compile_program.proofs.Listed.{program_few}
 use Rattle.compile_program.proofs.compile.compiled.Goals as goal
@@ -35,33 +34,18 @@ loclists-requires-clause-places c =
 
 pub returns-in_err-info-clause-section_too_large : goal.returns-in_err-info-clause-section_too_large
 returns-in_err-info-clause-section_too_large c is =
-    let sources : map (λ (x : SourceAndCode). x.source.now) c.as_slice-compiled.result.now ≡ map (λ (p : Parsed). p.func) c.args.program.now.functions =
-    search rules in
-    let codes : map (λ (x : SourceAndCode). x.code.now) c.as_slice-compiled.result.now ≡ map (λ (f : CompiledFunction). f.code) c.args.made.functions =
-    search rules in
-    let large : IsLarge c.args.program.now.meta (length c.args.made.text) c.in_ok-lists.lists c.as_slice-compiled.result.now = search (rules, is) in
     large_section c.args.program.now _ _ c.args.made c.requires.made c.in_ok-lists.lists (c.in_ok-lists.ensures ∙ ap lists_of c.as_slice-3.ensures)
-    c.as_slice-compiled.result.now sources codes large
+    c.as_slice-compiled.result.now (search rules) (search rules) (search (rules, is))
 
 pub returns-in_err-rows-clause-section_too_large : goal.returns-in_err-rows-clause-section_too_large
 returns-in_err-rows-clause-section_too_large c is =
-    let sources : map (λ (x : SourceAndCode). x.source.now) c.as_slice-compiled.result.now ≡ map (λ (p : Parsed). p.func) c.args.program.now.functions =
-    search rules in
-    let codes : map (λ (x : SourceAndCode). x.code.now) c.as_slice-compiled.result.now ≡ map (λ (f : CompiledFunction). f.code) c.args.made.functions =
-    search rules in
-    let large : IsLarge c.args.program.now.meta (length c.args.made.text) c.in_ok-lists.lists c.as_slice-compiled.result.now = search (rules, is) in
     large_section c.args.program.now _ _ c.args.made c.requires.made c.in_ok-lists.lists (c.in_ok-lists.ensures ∙ ap lists_of c.as_slice-3.ensures)
-    c.as_slice-compiled.result.now sources codes large
+    c.as_slice-compiled.result.now (search rules) (search rules) (search (rules, is))
 
 pub returns-in_err-loclists-clause-section_too_large : goal.returns-in_err-loclists-clause-section_too_large
 returns-in_err-loclists-clause-section_too_large c is =
-    let sources : map (λ (x : SourceAndCode). x.source.now) c.as_slice-compiled.result.now ≡ map (λ (p : Parsed). p.func) c.args.program.now.functions =
-    search rules in
-    let codes : map (λ (x : SourceAndCode). x.code.now) c.as_slice-compiled.result.now ≡ map (λ (f : CompiledFunction). f.code) c.args.made.functions =
-    search rules in
-    let large : IsLarge c.args.program.now.meta (length c.args.made.text) c.in_ok-lists.lists c.as_slice-compiled.result.now = search (rules, is) in
     large_section c.args.program.now _ _ c.args.made c.requires.made c.in_ok-lists.lists (c.in_ok-lists.ensures ∙ ap lists_of c.as_slice-3.ensures)
-    c.as_slice-compiled.result.now sources codes large
+    c.as_slice-compiled.result.now (search rules) (search rules) (search (rules, is))
 
 pub returns-clause-output : goal.returns-clause-output
 returns-clause-output c =
