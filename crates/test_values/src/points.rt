@@ -3,7 +3,8 @@
 ghost use Rattle.std.specs.Prelude.{◌≡◌, ◌≤◌, length};
 ghost use Rattle.value_tracker.specs.Things.{AreThings};
 
-use crate::text::{framed_of, function_of, pair, register, variable};
+use crate::text::{framed_of, function_of, pair, register, variable, with_frame};
+use gen_function::generator::generate;
 use location_ranges::values::Values;
 use mir_func::debug_substitution::OperandPair;
 use mir_func::framed::Framed;
@@ -220,6 +221,20 @@ fn kept_numbers(alloc: Global) -> Result<u64, Fail> {
     Ok(kept(known.entries.as_slice()))
 }
 
+/// How many class numbers are kept of a generated function of 512 blocks, and twice as many as each of its blocks, the
+/// prologue among them, has things that are tracked.
+fn generated_numbers(alloc: Global) -> Result<(u64, u64), Fail> {
+    let f = generate(alloc, 0, 512)?;
+    let framed = with_frame(alloc, &f)?;
+    let subs = Substitutions::new(alloc);
+    let known = solve(alloc, &framed, &subs)?;
+    let blocks = known.entries.len() as u64;
+    let most = blocks
+        .saturating_mul(known.things.len() as u64)
+        .saturating_mul(2);
+    Ok((kept(known.entries.as_slice()), most))
+}
+
 #[test]
 fn values_sit_in_places(rt: HostRuntime) -> Result<(), Fail> {
     let alloc = rt.alloc();
@@ -228,5 +243,7 @@ fn values_sit_in_places(rt: HostRuntime) -> Result<(), Fail> {
     assert_eq!(rt; other_places(alloc, FIRST)?, None);
     // The prologue and the block keep a class number for each of two variables, 30 registers, a number and a pair.
     assert_eq!(rt; kept_numbers(alloc)?, 68);
+    let (numbers, most) = generated_numbers(alloc)?;
+    assert!(rt; 0 < numbers && numbers <= most, "{numbers} of {most}");
     Ok(())
 }

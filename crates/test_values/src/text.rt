@@ -6,6 +6,7 @@ use frame_lowering::lower::lower;
 use frame_lowering::physical::is_physical;
 use mir_func::debug_substitution::OperandPair;
 use mir_func::framed::Framed;
+use mir_func::func::Func;
 use mir_func::variable::{Fragment, VarId};
 use read_program::closing::Parsed;
 use read_program::program::read_program;
@@ -26,10 +27,15 @@ pub(crate) fn function_of(alloc: Global, body: &str) -> Result<Parsed, Fail> {
     Ok(functions.pop().ok_or("a function")?)
 }
 
-/// A function with its frame.
+/// The function of a text, with its frame.
 pub(crate) fn framed_of(alloc: Global, parsed: &Parsed) -> Result<Framed, Fail> {
-    if is_physical(&parsed.func) {
-        Ok(lower(alloc, &parsed.func)?)
+    with_frame(alloc, &parsed.func)
+}
+
+/// A function with its frame.
+pub(crate) fn with_frame(alloc: Global, f: &Func) -> Result<Framed, Fail> {
+    if is_physical(f) {
+        Ok(lower(alloc, f)?)
     } else {
         Err(Fail::from("virtual registers"))
     }
