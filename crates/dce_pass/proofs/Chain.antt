@@ -16,7 +16,7 @@ use Rattle.dce_pass.specs.Rounds.{AreDeadRounds, ended, and_round}
 use Rattle.dce_pass.proofs.Keeps.{settled_stripped}
 use Rattle.dce_pass.specs.Steps.{repeated, round_step, most_rounds, dead_steps, RoundsKeepSteps}
 
-most_is : most_rounds ≡ 2 ^ 31
+pub most_is : most_rounds ≡ 2 ^ 31
 unfolding most_rounds
 most_is = refl
 

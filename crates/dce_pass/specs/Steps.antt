@@ -3,12 +3,13 @@ use Rattle.std.specs.Prelude.{ℕ, zero, suc, ◌^◌, ◌<◌, List, [], ◌∷
 use Rattle.mir_func.specs.declared.debug_substitution.DebugSubstitution.{DebugSubstitution}
 use Rattle.mir_func.specs.Function.{Function}
 use Rattle.mir_func.specs.Sound.{IsSound}
+use Rattle.mir_func.specs.Strip.{stripped}
 use Rattle.pass_trait.specs.declared.loss.Loss.{Loss}
-use Rattle.pass_trait.specs.Change.{change}
+use Rattle.pass_trait.specs.Change.{Change, change}
 use Rattle.pass_trait.specs.Rule.{Rule}
-use Rattle.pass_trait.specs.Sizes.{code_count}
+use Rattle.pass_trait.specs.Sizes.{code_count, item_count}
 use Rattle.pass_trait.specs.Steps.{PassStep, KeepsSteps}
-use Rattle.dce_rule.specs.Dead.{IsRound}
+use Rattle.dce_rule.specs.Dead.{IsRound, IsThinnedOut}
 use Rattle.dce_pass.specs.Rounds.{AreDeadRounds}
 use Rattle.dce_proof.specs.DebugRule.{dead_rule}
 
@@ -33,3 +34,8 @@ dead_steps = repeated most_rounds (round_step dead_rule)
 abbrev pub RoundsKeepSteps : Type 0
 RoundsKeepSteps = (f g : Function) (subs more : List DebugSubstitution) (losses : List Loss) → IsSound f → code_count f < 2 ^ 31 →
     AreDeadRounds f subs g more losses → KeepsSteps dead_steps (change f subs g more) losses
+
+-- what has taken these steps is what rounds leave until one removes nothing
+abbrev pub StepsThinOut : Type 0
+StepsThinOut = (c : Change) (losses : List Loss) → item_count (stripped c.old) < 2 ^ 31 → KeepsSteps dead_steps c losses →
+    IsThinnedOut (stripped c.old) (stripped c.new)

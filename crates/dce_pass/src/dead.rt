@@ -16,7 +16,8 @@ use std::alloc::{AllocError, Global};
 
 /// Removes dead code in rounds, until nothing is dead (LLVM: dead machine instruction elimination). The losses are the
 /// numbers of removed code, except those of copies that are salvaged, and debug values and DBG_PHIs of places that
-/// become wrong. The losses of each round are in order, and come before those of later rounds.
+/// become wrong. The losses of each round are in order, and come before those of later rounds; `pass_manager` makes the
+/// report of the whole pass of them, in order and each once.
 #[derive(Drop)]
 pub struct DeadPass;
 
