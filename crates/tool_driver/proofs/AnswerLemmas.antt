@@ -11,10 +11,10 @@ use Rattle.cli.specs.declared.fault.Fault.{Fault}
 use Rattle.cli.specs.declared.fault.Fault.TheVariants.{Usage, Read, TooLong, Refused, NoFunction, UnknownFunction}
 use Rattle.cli.specs.declared.fault.Fault.TheVariants.{FrameTooLarge, SymbolName, SectionTooLarge, Write, Memory}
 use Rattle.run_command.specs.Source.{IsUnknown}
-use Rattle.tool_driver.specs.Answer.{IsReader, Answers, IsTestText, IsNamed, plan_of, tested_program}
-use Rattle.tool_driver.specs.Answer.{frame_too_large, section_too_large}
-use Rattle.tool_driver.specs.Run.{HasReadProgram, AnswersRead, AnswersInput, WorksOn, on_input, on_generated}
-use Rattle.tool_driver.specs.Run.{too_long, refused_at, no_function, refused_program}
+use Rattle.tool_driver.specs.Answer.{Answers, IsTestText}
+use Rattle.tool_driver.specs.Run.{HasReadProgram, AnswersRead, AnswersInput}
+use Rattle.tool_driver.specs.Refusals.{IsReader, IsNamed, plan_of, tested_program, frame_too_large, section_too_large, WorksOn, on_input, on_generated}
+use Rattle.tool_driver.specs.Refusals.{too_long, refused_at, no_function, refused_program}
 use Rattle.tool_driver.specs.steps.Ends.{RefusesToCompile, RefusesToTest, RefusesToWrite, HasReadNone, ReadingEnds}
 use Rattle.tool_driver.specs.Stream.{Change, IsUnread}
 use Rattle.tool_driver.specs.Compiled.{plan_steps}

@@ -20,7 +20,7 @@ use Rattle.read_program.specs.declared.error.ParseError.TheVariants as errors
 use Rattle.read_program.specs.BodyLines.{body_of}
 use Rattle.read_program.specs.Closing.{EndWell, closing_cause, function_of, ClosesWith, ParsesParts, Parses}
 use Rattle.read_program.specs.Program.{MAX_FUNCTIONS, Goes, too_many, FunctionsFrom, program_of, ReadsText}
-use Rattle.tool_driver.specs.Answer.{IsRefusedAt}
+use Rattle.tool_driver.specs.Refusals.{IsRefusedAt}
 
 -- ---- one document
 

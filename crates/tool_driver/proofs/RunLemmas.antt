@@ -24,10 +24,11 @@ use Rattle.compile_program.specs.Program.{IsOutputOf}
 use Rattle.read_proof.proofs.Texts.{programs_are_as_read}
 use Rattle.tool_driver.specs.Limits.{INPUT_LIMIT}
 use Rattle.tool_driver.specs.Compiled.{IsCompiledText, plan_steps}
-use Rattle.tool_driver.specs.Answer.{HasFunctions, HasNoFunction, IsReader, IsRefusedAt, IsAnswered, RefusesProgram, tested_program}
-use Rattle.tool_driver.specs.Run.{Finishes, HasWritten, IsTooLong, AnswersRead, AnswersInput, HasRead, HasReadProgram}
-use Rattle.tool_driver.specs.Run.{WorksOn, on_input, on_generated, Refuses, too_long, refused_at, no_function, refused_program, TellsRefusal}
-use Rattle.tool_driver.specs.Run.{IsInputOf, IsAnswerable, generates, answers}
+use Rattle.tool_driver.specs.Answer.{HasFunctions}
+use Rattle.tool_driver.specs.Run.{Finishes, HasWritten, AnswersRead, AnswersInput, HasRead, HasReadProgram}
+use Rattle.tool_driver.specs.Refusals.{HasNoFunction, IsReader, IsRefusedAt, IsAnswered, RefusesProgram, tested_program, IsTooLong, WorksOn, on_input}
+use Rattle.tool_driver.specs.Refusals.{on_generated, Refuses, too_long, refused_at, no_function, refused_program, TellsRefusal, IsInputOf, IsAnswerable}
+use Rattle.tool_driver.specs.Refusals.{generates, answers}
 use Rattle.tool_driver.specs.steps.Ends.{Explains, ReadingEnds, ReadingEnded}
 use Rattle.tool_driver.specs.Stream.{Change, MetFault, IsReadWhole, IsWrittenWhole, IsTold}
 use Rattle.tool_driver.proofs.OneProgram.{program_not_refused, programs_one}

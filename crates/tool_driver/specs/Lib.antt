@@ -5,4 +5,5 @@ pub mod Lines
 pub mod Stream
 pub mod Answer
 pub mod Run
+pub mod Refusals
 pub mod steps

@@ -1,21 +1,16 @@
--- What a run of the tool did to its input and its output, and the refusals that it reports.
-use Rattle.std.specs.Prelude.{◌≡◌, ℕ, ◌+◌, ◌≤◌, List, length, All, Option, Some}
+-- What a run of the tool did to its input and its output.
+use Rattle.std.specs.Prelude.{◌≡◌, ℕ, ◌≤◌, List, length, All}
 use Rattle.listing_text.specs.declared.output.Output.{Output}
 use Rattle.pass_trait.specs.Steps.{PassStep}
 use Rattle.listing_text.specs.Shown.{OfShown}
 use Rattle.listing_proof.specs.Laws.{inlined_in}
-use Rattle.read_refusal.specs.declared.first.Refusal.{Refusal}
 use Rattle.read_program.specs.declared.program.Program.{Program}
 use Rattle.cli.specs.declared.command.Command.{Command}
 use Rattle.cli.specs.declared.command.Command.TheVariants.{Compile, Listing, Report, Object, Run, Strip, Gen, SelfTest}
 use Rattle.cli.specs.declared.command.PassPipeline.{PassPipeline}
 use Rattle.cli.specs.declared.command.RunPlan.{RunPlan}
 use Rattle.cli.specs.declared.command.TestPlan.{TestPlan}
-use Rattle.cli.specs.declared.fault.Fault.{Fault}
-use Rattle.cli.specs.declared.fault.Fault.TheVariants.{TooLong, Refused, NoFunction}
-use Rattle.cli_numbers.specs.declared.generation.Generation.{Generation}
 use Rattle.cli.specs.Command.{IsCommand}
-use Rattle.cli.specs.Fault.{line_of}
 use Rattle.report_command.specs.Reported.{IsReportText}
 use Rattle.run_command.specs.Source.{IsRunOfProgram}
 use Rattle.gen_text.specs.GeneratedText.{generated_text}
@@ -24,8 +19,7 @@ use Rattle.readback_strip.specs.Text.{stripped_program}
 use Rattle.strip_command.specs.StripText.{stripped_text}
 use Rattle.tool_driver.specs.Limits.{INPUT_LIMIT}
 use Rattle.tool_driver.specs.Compiled.{plan_steps}
-use Rattle.tool_driver.specs.Answer.{HasFunctions, IsReader, AnswersText, IsAnswered, RefusesProgram, IsRefusedAt, HasNoFunction}
-use Rattle.tool_driver.specs.Answer.{IsTestText, tested_program}
+use Rattle.tool_driver.specs.Answer.{HasFunctions, AnswersText, IsTestText}
 use Rattle.compile_theorem.specs.OutputProperties.{AreLaidOut, Promises, IsExact, ListsPassed}
 use Rattle.compile_theorem.specs.Source.{PassedFunction}
 use Rattle.compile_theorem.specs.Words.{HaveWords}
@@ -33,7 +27,7 @@ use Rattle.object_command.specs.Object.{IsObjectOf}
 use Rattle.compile_program.specs.Program.{sources_of, ArePassed, HasSections, IsMadeBy, IsOutputOf, names_of}
 use Rattle.tool_driver.specs.Lines.{GivesLines}
 use Rattle.tool_driver.specs.Promise.{AllGiveBack, AllStopWell, AllListKept}
-use Rattle.tool_driver.specs.Stream.{Change, MetFault, IsUnread, IsReadWhole, IsReadFor, IsWrittenWhole, IsWrittenInPart, IsTold}
+use Rattle.tool_driver.specs.Stream.{Change, IsUnread, IsReadWhole, IsWrittenWhole, IsWrittenInPart}
 
 -- the words are a command
 abbrev pub AreCommand : (words : List (List ℕ)) → Type 0
@@ -85,43 +79,6 @@ pub record IsCutOff (words : List (List ℕ)) (input output : Change) : Type 0 w
   pub text : List ℕ
   pub accepted : Accepts words input text
   pub front : IsWrittenInPart output text
-
--- the input is longer than the limit: one byte more than the limit was read, without a fault
-abbrev pub IsTooLong : (input : Change) → Type 0
-IsTooLong input = IsReadFor input (INPUT_LIMIT + 1)
-
--- a command works on the program that it reads, for which this holds, or on the function of a self-test
-pub data WorksOn (IsReadAs : Program → Type 0) (command : Command) (program : Program) : Type 0 where
-  on_input : IsReader command → IsReadAs program → WorksOn IsReadAs command program
-  on_generated : (test : TestPlan) → command ≡ SelfTest test → program ≡ tested_program test → WorksOn IsReadAs command program
-
--- Why a command is refused: its input is too long, is refused at a line or has no function; or the program on which it works is refused.
-pub data Refuses (command : Command) (input : Change) : Fault → Type 0 where
-  too_long : IsReader command → IsTooLong input → Refuses command input TooLong
-  refused_at : (text : List ℕ) (r : Refusal) → IsReader command → HasRead input text → IsRefusedAt text r → Refuses command input (Refused r)
-  no_function : (text : List ℕ) → IsReader command → HasRead input text → HasNoFunction text → Refuses command input NoFunction
-  refused_program : {fault : Fault} (program : Program) → WorksOn (HasReadProgram input) command program → RefusesProgram command program fault →
-      Refuses command input fault
-
--- the words are a command, its input is refused, and the line for that fault is written to `faults`
-pub record TellsRefusal (words : List (List ℕ)) (input faults : Change) : Type 0 where
-  pub command : Command
-  pub asked : IsCommand words command
-  pub fault : Fault
-  pub refused : Refuses command input fault
-  pub told : IsTold faults (line_of fault)
-
--- the bytes of the input are known, within the limit, and read as this program, which has a function
-pub record IsInputOf (left : Option (List ℕ)) (program : Program) : Type 0 where
-  pub text : List ℕ
-  pub told : left ≡ Some text
-  pub within : length text ≤ INPUT_LIMIT
-  pub has : HasFunctions text program
-
--- the inputs for which a command writes output: it generates a function, or nothing refuses the program on which it works
-pub data IsAnswerable (command : Command) (left : Option (List ℕ)) : Type 0 where
-  generates : (g : Generation) → command ≡ Gen g → IsAnswerable command left
-  answers : (program : Program) → WorksOn (IsInputOf left) command program → IsAnswered command program → IsAnswerable command left
 
 -- the input was read as a program with a function, bytes were written, and `P` holds of every output that they are the text of (there is one)
 pub record HasWritten (P : Program → Output → Type 0) (input output : Change) : Type 0 where

@@ -9,11 +9,12 @@ ghost use Rattle.cli_numbers.specs.declared.generation.Generation.{Generation};
 ghost use Rattle.gen_text.specs.GeneratedText.{generated_text};
 ghost use Rattle.tool_driver.specs.Compiled.{plan_steps};
 ghost use Rattle.cli.specs.Fault.{line_of};
-ghost use Rattle.tool_driver.specs.Run.{AreCommand, AnswersInput, Finishes, IsCutOff, TellsRefusal, IsAnswerable};
+ghost use Rattle.tool_driver.specs.Run.{AreCommand, AnswersInput, Finishes, IsCutOff};
 ghost use Rattle.tool_driver.specs.Run.{KeepsHeadline, KeepsRegisters, StopsAtReturns, WroteExactly, WroteLaidOut};
 ghost use Rattle.tool_driver.specs.Run.{WroteKept, WroteWords, WrotePassed, WroteReport, WroteObject, WroteRun};
 ghost use Rattle.tool_driver.specs.Run.{WroteTest, WroteStripped};
 ghost use Rattle.tool_driver.specs.Run.{HasReadProgram};
+ghost use Rattle.tool_driver.specs.Refusals.{TellsRefusal, IsAnswerable};
 ghost use Rattle.tool_driver.specs.steps.Ends.{HasReadNone, Explains, ReadingEnds};
 ghost use Rattle.tool_driver.specs.Stream.{change, MetFault, IsWrittenWhole, IsTold};
 
@@ -118,10 +119,8 @@ pub fn mirdwarf<S: Source, K: Sink, E: Sink>(
 
     // What `run` writes is the run of the machine on the code of the first function of the name, line by line: it runs
     // along with the source that was read, whose values are those that the lines tell.
-    ensures ran { (plan : RunPlan) → result ≡ Status.Done →
-        IsCommand (map string_bytes words.now) (Command.Run plan) →
-        WroteRun plan (change S.left S.faults input.old input.new)
-        (change K.written K.faults output.old output.new) }
+    ensures ran { (plan : RunPlan) → result ≡ Status.Done → IsCommand (map string_bytes words.now) (Command.Run plan) →
+        WroteRun plan (change S.left S.faults input.old input.new) (change K.written K.faults output.old output.new) }
 
     // What `strip` writes is read in turn: it stands for the program without its debug items, and `strip` writes the
     // same text of it again.
@@ -146,8 +145,7 @@ pub fn mirdwarf<S: Source, K: Sink, E: Sink>(
 
     // A text that the command answers is answered, unless a fault is met or memory runs out.
     ensures complete { (command : Command) → IsCommand (map string_bytes words.now) command →
-        IsAnswerable command (S.left input.old) →
-        ¬ MetFault (change S.left S.faults input.old input.new) →
+        IsAnswerable command (S.left input.old) → ¬ MetFault (change S.left S.faults input.old input.new) →
         ¬ MetFault (change K.written K.faults output.old output.new) →
         (result ≡ Status.Done) ⊎ (result ≡ Status.Memory) }
 

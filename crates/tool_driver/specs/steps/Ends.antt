@@ -9,9 +9,9 @@ use Rattle.cli.specs.declared.command.TestPlan.{TestPlan}
 use Rattle.cli.specs.declared.fault.Fault.{Fault}
 use Rattle.cli.specs.declared.fault.Fault.TheVariants.{Usage, Read, TooLong, Refused, NoFunction, UnknownFunction}
 use Rattle.cli.specs.declared.fault.Fault.TheVariants.{FrameTooLarge, SymbolName, SectionTooLarge, Write, Memory}
-use Rattle.tool_driver.specs.Answer.{IsReader, IsRefusedAt, HasNoFunction, RefusesProgram, tested_program}
 use Rattle.tool_driver.specs.Compiled.{plan_steps}
-use Rattle.tool_driver.specs.Run.{AreCommand, HasRead, IsCutOff, IsTooLong, Refuses}
+use Rattle.tool_driver.specs.Run.{AreCommand, HasRead, IsCutOff}
+use Rattle.tool_driver.specs.Refusals.{IsReader, IsRefusedAt, HasNoFunction, RefusesProgram, tested_program, IsTooLong, Refuses}
 use Rattle.tool_driver.specs.Stream.{Change, MetFault}
 
 -- ---- reading

@@ -1,6 +1,6 @@
 -- The object of a compilation is that of an output of the program.
 use Rattle.std.proofs.Common.{refl}
-use Rattle.tool_driver.specs.Answer.{no_symbol_name, object_too_large}
+use Rattle.tool_driver.specs.Refusals.{no_symbol_name, object_too_large}
 use Rattle.tool_driver.proofs.compiled.object_in.Goals as goal
 
 pub returns-in-Ok-clause-ok : goal.returns-in-Ok-clause-ok

@@ -9,7 +9,7 @@ use Rattle.run_command.specs.Source.{IsUnknown, IsRunOfProgram}
 use Rattle.read_program.specs.declared.program.Program.{Program}
 use Rattle.compile_program.specs.declared.compile.Compilation.{Compilation}
 use Rattle.compile_program.specs.Program.{IsCompilationOf, IsOutputOf}
-use Rattle.tool_driver.specs.Answer.{unknown_function}
+use Rattle.tool_driver.specs.Refusals.{unknown_function}
 use Rattle.tool_driver.specs.Compiled.{plan_steps}
 use Rattle.tool_driver.proofs.compiled.run_of.Goals as goal
 

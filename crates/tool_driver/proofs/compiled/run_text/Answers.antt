@@ -3,7 +3,7 @@ use Rattle.std.proofs.Common.{◌≡◌, ℕ, List, refl, sym, subst}
 use Rattle.run_command.specs.Source.{IsUnknown}
 use Rattle.read_program.specs.declared.closing.Parsed.{Parsed}
 use Rattle.cli.specs.declared.command.Command.TheVariants.{Run}
-use Rattle.tool_driver.specs.Answer.{unknown_function}
+use Rattle.tool_driver.specs.Refusals.{unknown_function}
 use Rattle.tool_driver.proofs.AnswerLemmas.{by_compiling, run_named}
 use Rattle.tool_driver.proofs.compiled.run_text.Goals as goal
 

@@ -6,7 +6,8 @@ use Rattle.compile_program.specs.Program.{HasLargeFrame, HasLargeSection, steps_
 use Rattle.pass_list.specs.Names.{AreDistinct}
 use Rattle.pass_list.specs.declared.kind.PassKind.{PassKind}
 use Rattle.selftest_command.specs.Tested.{IsSelfTestOf}
-use Rattle.tool_driver.specs.Answer.{IsTestText, tested_program}
+use Rattle.tool_driver.specs.Answer.{IsTestText}
+use Rattle.tool_driver.specs.Refusals.{tested_program}
 use Rattle.tool_driver.specs.Compiled.{plan_steps}
 use Rattle.tool_driver.proofs.Plans.{by_plan}
 use Rattle.tool_driver.proofs.compiled.test_text.Goals as goal

@@ -1,0 +1,117 @@
+-- Why a command is refused, and that it is answered where nothing refuses it.
+use Rattle.std.specs.Prelude.{◌≡◌, ℕ, ◌+◌, ◌≤◌, List, [], length, Option, Some, None, Ok, Err}
+use Rattle.read_refusal.specs.declared.first.Refusal.{Refusal}
+use Rattle.read_program.specs.declared.program.Program.{Program}
+use Rattle.read_program.specs.declared.error.ParseError.TheVariants as errors
+use Rattle.read_program.specs.Program.{ReadsText}
+use Rattle.compile_program.specs.Program.{HasLargeFrame, HasLargeSection}
+use Rattle.cli.specs.declared.command.Command.{Command}
+use Rattle.cli.specs.declared.fault.Fault.{Fault}
+use Rattle.cli.specs.declared.command.PassPipeline.{PassPipeline}
+use Rattle.cli.specs.declared.command.RunPlan.{RunPlan}
+use Rattle.cli.specs.declared.command.TestPlan.{TestPlan}
+use Rattle.cli.specs.Command.{IsCommand}
+use Rattle.cli.specs.Fault.{line_of}
+use Rattle.cli.specs.declared.command.Command.TheVariants.{Compile, Listing, Report, Object, Run, Strip, Gen, SelfTest}
+use Rattle.cli.specs.declared.fault.Fault.TheVariants.{TooLong, Refused, NoFunction, UnknownFunction, FrameTooLarge, SymbolName, SectionTooLarge}
+use Rattle.cli_numbers.specs.declared.generation.Generation.{Generation}
+use Rattle.run_command.specs.Source.{IsUnknown}
+use Rattle.gen_program.specs.Program.{generated_program}
+use Rattle.tool_driver.specs.Limits.{INPUT_LIMIT}
+use Rattle.tool_driver.specs.Compiled.{plan_steps, HasInvalidName, IsLargeObjectOf}
+use Rattle.tool_driver.specs.Stream.{Change, IsReadFor, IsTold}
+use Rattle.tool_driver.specs.Answer.{HasFunctions}
+use Rattle.tool_driver.specs.Run.{HasRead, HasReadProgram}
+
+-- the commands that read the input
+abbrev pub IsReader : Command → Type 0
+IsReader (Compile plan) = Unit {0}
+IsReader (Listing plan) = Unit {0}
+IsReader (Report plan) = Unit {0}
+IsReader (Object plan) = Unit {0}
+IsReader (Run run) = Unit {0}
+IsReader Strip = Unit {0}
+IsReader (Gen g) = ⊥
+IsReader (SelfTest test) = ⊥
+
+-- the input is longer than the limit: one byte more than the limit was read, without a fault
+abbrev pub IsTooLong : (input : Change) → Type 0
+IsTooLong input = IsReadFor input (INPUT_LIMIT + 1)
+
+-- the text is refused at a line, for a cause
+abbrev pub IsRefusedAt : (text : List ℕ) → Refusal → Type 0
+IsRefusedAt text r = ReadsText text (Err (errors.Refused r))
+
+-- the text is read as a program without functions
+pub record HasNoFunction (text : List ℕ) : Type 0 where
+  pub program : Program
+  pub reads : ReadsText text (Ok program)
+  pub no_one : program.functions ≡ []
+
+-- the passes by which a command compiles, if it does
+abbrev pub plan_of : Command → Option PassPipeline
+plan_of (Compile plan) = Some plan
+plan_of (Listing plan) = Some plan
+plan_of (Report plan) = Some plan
+plan_of (Object plan) = Some plan
+plan_of (Run run) = Some run.plan
+plan_of Strip = None
+plan_of (Gen g) = None
+plan_of (SelfTest test) = Some test.plan
+
+-- a run is of a function that the program has
+abbrev pub IsNamed : Command → Program → Type 0
+IsNamed command program = (run : RunPlan) → command ≡ Run run → IsUnknown run.name program.functions → ⊥
+
+-- Why a command writes nothing for a program: it names a function that isn't there; the frame of a function is above the limit after the passes; a
+-- section is, or the object; or a name can't be a symbol's.
+pub data RefusesProgram (command : Command) (program : Program) : Fault → Type 0 where
+  unknown_function : (run : RunPlan) → command ≡ Run run → IsUnknown run.name program.functions → RefusesProgram command program UnknownFunction
+  frame_too_large : (plan : PassPipeline) → plan_of command ≡ Some plan → IsNamed command program →
+      HasLargeFrame (plan_steps plan) program.functions → RefusesProgram command program FrameTooLarge
+  section_too_large : (plan : PassPipeline) → plan_of command ≡ Some plan → IsNamed command program → HasLargeSection (plan_steps plan) program →
+      RefusesProgram command program SectionTooLarge
+  object_too_large : (plan : PassPipeline) → command ≡ Object plan → IsLargeObjectOf (plan_steps plan) program →
+      RefusesProgram command program SectionTooLarge
+  no_symbol_name : (plan : PassPipeline) → command ≡ Object plan → HasInvalidName (plan_steps plan) program → RefusesProgram command program SymbolName
+
+-- the program with the generated function of a self-test
+abbrev pub tested_program : TestPlan → Program
+tested_program test = generated_program test.function.number test.function.blocks
+
+-- a command works on the program that it reads, for which this holds, or on the function of a self-test
+pub data WorksOn (IsReadAs : Program → Type 0) (command : Command) (program : Program) : Type 0 where
+  on_input : IsReader command → IsReadAs program → WorksOn IsReadAs command program
+  on_generated : (test : TestPlan) → command ≡ SelfTest test → program ≡ tested_program test → WorksOn IsReadAs command program
+
+-- Why a command is refused: its input is too long, is refused at a line or has no function; or the program on which it works is refused.
+pub data Refuses (command : Command) (input : Change) : Fault → Type 0 where
+  too_long : IsReader command → IsTooLong input → Refuses command input TooLong
+  refused_at : (text : List ℕ) (r : Refusal) → IsReader command → HasRead input text → IsRefusedAt text r → Refuses command input (Refused r)
+  no_function : (text : List ℕ) → IsReader command → HasRead input text → HasNoFunction text → Refuses command input NoFunction
+  refused_program : {fault : Fault} (program : Program) → WorksOn (HasReadProgram input) command program → RefusesProgram command program fault →
+      Refuses command input fault
+
+-- the words are a command, which is refused, and the line for that fault is written to `faults`
+pub record TellsRefusal (words : List (List ℕ)) (input faults : Change) : Type 0 where
+  pub command : Command
+  pub asked : IsCommand words command
+  pub fault : Fault
+  pub refused : Refuses command input fault
+  pub told : IsTold faults (line_of fault)
+
+-- the programs for which a command writes output: nothing refuses them
+abbrev pub IsAnswered : Command → Program → Type 0
+IsAnswered command program = (fault : Fault) → RefusesProgram command program fault → ⊥
+
+-- the bytes of the input are known, within the limit, and read as this program, which has a function
+pub record IsInputOf (left : Option (List ℕ)) (program : Program) : Type 0 where
+  pub text : List ℕ
+  pub told : left ≡ Some text
+  pub within : length text ≤ INPUT_LIMIT
+  pub has : HasFunctions text program
+
+-- the inputs for which a command writes output: it generates a function, or nothing refuses the program on which it works
+pub data IsAnswerable (command : Command) (left : Option (List ℕ)) : Type 0 where
+  generates : (g : Generation) → command ≡ Gen g → IsAnswerable command left
+  answers : (program : Program) → WorksOn (IsInputOf left) command program → IsAnswered command program → IsAnswerable command left
