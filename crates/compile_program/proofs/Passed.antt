@@ -1,9 +1,10 @@
 -- Functions that passes made, and their sources.
-use Rattle.std.proofs.Common.{◌≡◌, ◌∙◌, ℕ, zero, suc, ◌<◌, List, [], ◌∷◌, map, All, Some, refl, ap, sym, subst}
+use Rattle.std.proofs.Common.{◌≡◌, ◌∙◌, ℕ, zero, suc, ◌<◌, List, [], ◌∷◌, map, All, Contains, Some, refl, ap, sym, subst}
 use Rattle.std.specs.Prelude.{slice_get}
 use Rattle.std.proofs.lemmas.List.Elements.{All-nil, All-cons}
 use Rattle.emit_code.specs.Laid.{LaidCode}
 use Rattle.pass_trait.specs.declared.loss.Loss.{Loss}
+use Rattle.pass_trait.specs.Steps.{PassStep}
 use Rattle.frame_rule.specs.Rule.{size_of}
 use Rattle.mir_func.specs.declared.debug_substitution.DebugSubstitution.{DebugSubstitution}
 use Rattle.mir_func.specs.Function.{Function}
@@ -14,7 +15,7 @@ use Rattle.compile_function.specs.Passed.{source_of, passed_of, steps_of, IsComp
 use Rattle.read_metadata.specs.Maps.{Maps}
 use Rattle.read_program.specs.declared.closing.Parsed.{Parsed}
 use Rattle.compile_theorem.specs.Source.{SourceFunction, PassedFunction, IsPassedFunction, sources_among}
-use Rattle.compile_program.specs.Program.{sources_of, ArePassed, AreCoded, HaveCode}
+use Rattle.compile_program.specs.Program.{sources_of, ArePassed, AreCoded, HaveCode, HasLargeFrame}
 use Rattle.compile_program.specs.steps.Made.{IsTooLarge}
 use Rattle.dwarf_line_table.specs.declared.source_and_code.SourceAndCode.{SourceAndCode}
 
@@ -40,10 +41,28 @@ passed_functions meta (f ∷ fs) (p ∷ ps) are =
     λ i. here i ∷ rest i
 
 -- a function that passes made has a frame above the limit
-pub made_too_large : (reserve : List ℕ) (passes : List PassKind) (q : Parsed) (f : Function) (subs : List DebugSubstitution) (losses : List Loss) →
-    IsMadeLosing reserve passes (passed_of q f subs) losses → MAX_FRAME < size_of f → IsTooLarge (steps_of reserve passes) q
-made_too_large reserve passes q f subs losses by large =
-    record { passed = passed_of q f subs; source = refl; made = made_by reserve passes (passed_of q f subs) losses by; large = large }
+pub made_too_large : (reserve : List ℕ) (passes : List PassKind) (q : Parsed) (f : Function) (subs : List DebugSubstitution) (losses : List Loss) (meta : Maps) →
+    IsMadeLosing reserve passes (passed_of q f subs) losses → IsCompilable meta (passed_of q f subs) → MAX_FRAME < size_of f →
+    IsTooLarge (steps_of reserve passes) q
+made_too_large reserve passes q f subs losses meta by is large = record {
+  passed = passed_of q f subs;
+  source = refl;
+  keeps = is.passed;
+  made = made_by reserve passes (passed_of q f subs) losses by;
+  large = large;
+}
+
+-- one of the functions has a frame above the limit
+pub one_too_large : (steps : List PassStep) (functions : List Parsed) (q : Parsed) → IsTooLarge steps q → Contains functions q → HasLargeFrame steps functions
+one_too_large steps functions q is among = record {
+  function = q;
+  among = among;
+  passed = is.passed;
+  source = is.source;
+  keeps = is.keeps;
+  made = is.made;
+  large = is.large;
+}
 
 -- functions that were read, with the machine code of what passes made of them
 pub have_code : (meta : Maps) (fs : List Parsed) (ps : List PassedFunction) (cs : List SourceAndCode) (codes : List LaidCode) → ArePassed meta fs ps →

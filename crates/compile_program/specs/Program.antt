@@ -22,7 +22,7 @@ use Rattle.mir_func.specs.Limits.{MAX_FRAME}
 use Rattle.read_program.specs.declared.closing.Parsed.{Parsed}
 use Rattle.read_program.specs.declared.program.Program.{Program}
 use Rattle.compile_theorem.specs.Compiled.{IsCompiledFunction, AreCompiled, IsCompiledProgram}
-use Rattle.compile_theorem.specs.Source.{SourceFunction, PassedFunction}
+use Rattle.compile_theorem.specs.Source.{SourceFunction, PassedFunction, IsPassedFunction}
 use Rattle.pass_list.specs.declared.kind.PassKind.{PassKind}
 use Rattle.compile_program.specs.declared.compile.Compilation.{Compilation}
 use Rattle.dwarf_line_table.specs.declared.source_and_code.SourceAndCode.{SourceAndCode}
@@ -120,12 +120,13 @@ pub record IsCompilationOf (reserve : List ℕ) (passes : List PassKind) (p : Pr
 
 -- ---- programs that have no output
 
--- Some function, after the steps of passes, has a frame above the limit.
+-- Some function, after the steps of passes, refines its source, and has a frame above the limit.
 pub record HasLargeFrame (steps : List PassStep) (functions : List Parsed) : Type 0 where
   pub function : Parsed
   pub among : Contains functions function
   pub passed : PassedFunction
   pub source : passed.source ≡ source_of function
+  pub keeps : IsPassedFunction passed
   pub made : IsMadeBy steps passed
   pub large : MAX_FRAME < size_of passed.function
 

@@ -23,6 +23,7 @@ use rv64_instr::reg::Reg;
 use std::alloc::Global;
 
 /// Runs passes on each function and compiles it, from address 0 on. `reserve` is the registers that may be spilled.
+#[tactic(auto, using(crate::proofs::Passed::one_too_large))]
 pub fn made_of(
     alloc: Global,
     meta: &Metadata,

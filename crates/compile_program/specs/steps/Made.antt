@@ -10,7 +10,7 @@ use Rattle.compile_function.specs.Passed.{source_of, IsMadeBy, IsMadeLosing, IsC
 use Rattle.read_metadata.specs.Maps.{Maps}
 use Rattle.mir_func.specs.Limits.{MAX_FRAME}
 use Rattle.read_program.specs.declared.closing.Parsed.{Parsed}
-use Rattle.compile_theorem.specs.Source.{PassedFunction}
+use Rattle.compile_theorem.specs.Source.{PassedFunction, IsPassedFunction}
 use Rattle.pass_list.specs.declared.kind.PassKind.{PassKind}
 use Rattle.compile_program.specs.Program.{ArePassed, AreCompiledAs}
 
@@ -23,10 +23,11 @@ pub record IsSourcePushed (meta : Maps) (reserve : List ℕ) (passes : List Pass
   pub lost : IsMadeLosing reserve passes passed losses
   pub pushed : IsPushed meta passed losses before after
 
--- The function, after the steps of passes, has a frame above the limit.
+-- The function, after the steps of passes, refines its source, and has a frame above the limit.
 pub record IsTooLarge (steps : List PassStep) (q : Parsed) : Type 0 where
   pub passed : PassedFunction
   pub source : passed.source ≡ source_of q
+  pub keeps : IsPassedFunction passed
   pub made : IsMadeBy steps passed
   pub large : MAX_FRAME < size_of passed.function
 

@@ -1,0 +1,56 @@
+-- The frame of a function without stack objects isn't above the limit: it has at most 224 slots and 13 saved registers. Passes keep the objects.
+use Rattle.std.proofs.Common.{◌≡◌, ◌∙◌, ℕ, ◌+◌, ◌*◌, ◌<◌, ◌≤◌, List, [], ◌∷◌, length, filter, count_by, All, refl, ap, arith}
+use Rattle.std.proofs.lemmas.List.Elements.{All-nil, All-cons, All-contains}
+use Rattle.std.proofs.lemmas.List.Sums.{length-filter, count_by-le-length}
+use Rattle.mir_func.specs.declared.block.Block.{Block}
+use Rattle.mir_func.specs.declared.object.Object.{Object}
+use Rattle.mir_func.specs.Function.{Function}
+use Rattle.mir_func.specs.Objects.{up_to, area_of}
+use Rattle.mir_func.specs.Sound.{IsSound}
+use Rattle.mir_func.specs.SoundFrame.{SAVED}
+use Rattle.gen_function.specs.Generator.{generated}
+use Rattle.frame_rule.specs.Rule.{is_set, saved_registers, own_size_of, size_of}
+use Rattle.pass_trait.specs.Steps.{PassStep}
+use Rattle.read_program.specs.declared.closing.Parsed.{Parsed}
+use Rattle.compile_theorem.specs.Source.{SourceFunction}
+use Rattle.compile_program.specs.Program.{HasLargeFrame, steps_of}
+use Rattle.gen_sizes.specs.Laws.{GeneratedFramesAreSmall}
+
+-- 13 registers may be saved
+few_saved : (blocks : List Block) → length (saved_registers blocks) ≤ 13
+few_saved blocks =
+    let counted : length (filter (is_set blocks) SAVED) ≡ count_by (is_set blocks) SAVED = length-filter (is_set blocks) SAVED in
+    let few : count_by (is_set blocks) SAVED ≤ 13 = count_by-le-length (is_set blocks) SAVED in
+    omega (arith, counted, few)
+
+up_to_small : (n : ℕ) → up_to 16 n ≤ n + 15
+up_to_small n = omega arith
+
+-- a sound function without objects has a frame of at most 1911 bytes
+pub small_frame : (f : Function) → IsSound f → f.objects ≡ [] → size_of f ≤ 2032
+small_frame f sound none =
+    let slots : length f.slots + length f.objects ≤ 224 = sound.few_slots in
+    let saved : length (saved_registers f.blocks) ≤ 13 = few_saved f.blocks in
+    let own : own_size_of f ≤ 8 * (length f.slots + length (saved_registers f.blocks)) + 15 =
+    up_to_small (8 * (length f.slots + length (saved_registers f.blocks))) in
+    let area : area_of f.objects ≡ 0 = ap (λ (os : List Object). area_of os) none in
+    by_parts (own_size_of f) (area_of f.objects) (length f.slots) (length f.objects) (length (saved_registers f.blocks)) slots saved own area where
+      by_parts : (size area slots objects saved : ℕ) → slots + objects ≤ 224 → saved ≤ 13 → size ≤ 8 * (slots + saved) + 15 → area ≡ 0 → size + area ≤ 2032
+      by_parts size area slots objects saved few kept own none = omega (arith, few, kept, own, none)
+
+-- so passes make no large frame of a function without objects
+pub small_after : (steps : List PassStep) (q : Parsed) → q.func.objects ≡ [] → HasLargeFrame steps (q ∷ []) → ⊥
+small_after steps q bare large =
+    let P : Parsed → Type 0 = λ x. x.func.objects ≡ [] in
+    let among : large.function.func.objects ≡ [] = All-contains P (q ∷ []) large.function (All-cons P q [] bare (All-nil P)) large.among in
+    let read : large.passed.source.function.objects ≡ large.function.func.objects = ap (λ (s : SourceFunction). s.function.objects) large.source in
+    let none : large.passed.function.objects ≡ [] = large.keeps.follower.objects ∙ (read ∙ among) in
+    let fits : size_of large.passed.function ≤ 2032 = small_frame large.passed.function large.keeps.follower.sound none in
+    let above : 2032 < size_of large.passed.function = large.large in
+    apart (size_of large.passed.function) fits above where
+      apart : (n : ℕ) → n ≤ 2032 → 2032 < n → ⊥
+      apart n low high = omega (arith, low, high)
+
+pub generated_frames_are_small : GeneratedFramesAreSmall
+generated_frames_are_small number count reserve passes large =
+    small_after (steps_of reserve passes) (record { func = generated number count; subs = [] }) refl large

@@ -1,0 +1,6 @@
+//! Theorems on what generated functions are compiled to: none has a frame above the limit, whatever passes run.
+//!
+//! - `laws`: The theorems, each the contract of an empty function.
+#![tactic(auto)]
+
+pub mod laws;
