@@ -9,7 +9,7 @@ use Rattle.dwarf_loclists.specs.declared.range.Range.{Range}
 use Rattle.dwarf_loclists.specs.Ranges.{ArePlaces}
 use Rattle.location_ranges.specs.Lists.{AreListsOf}
 
-all_each : {X Y : Type 0} (P : Y → Type 0) (xs : List X) (ys : List Y) → length ys ≡ length xs →
+pub all_each : {X Y : Type 0} (P : Y → Type 0) (xs : List X) (ys : List Y) → length ys ≡ length xs →
     ((k : ℕ) (x : X) (y : Y) → slice_get xs k ≡ Some x → slice_get ys k ≡ Some y → P y) → All P ys
 all_each P [] [] same each = All-nil P
 all_each P [] (y ∷ ys) same each = absurd cc

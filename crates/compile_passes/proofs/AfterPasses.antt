@@ -54,13 +54,13 @@ use Rattle.dwarf_unit.specs.Variables.{variables_of_function}
 all_items : (P Q : Item → Type 0) → ((i : Item) → P i → Q i) → (bs : List Block) → AllItems P bs → AllItems Q bs
 all_items P Q to bs all = All-weaker (λ (b : Block). All P b.items) (λ (b : Block). All Q b.items) (λ b is. All-weaker P Q to b.items is) bs all
 
-in_order : (P : Item → Type 0) (bs : List Block) → AllItems P bs → All P (items_of bs)
+pub in_order : (P : Item → Type 0) (bs : List Block) → AllItems P bs → All P (items_of bs)
 in_order P [] all = All-nil P
 in_order P (b ∷ bs) all =
     All-append P b.items (items_of bs) (All-head (λ (x : Block). All P x.items) b bs all)
     (in_order P bs (All-tail (λ (x : Block). All P x.items) b bs all))
 
-in_blocks : (P : Item → Type 0) (bs : List Block) → ((i : Item) → Contains (items_of bs) i → P i) → AllItems P bs
+pub in_blocks : (P : Item → Type 0) (bs : List Block) → ((i : Item) → Contains (items_of bs) i → P i) → AllItems P bs
 in_blocks P [] each = All-nil (λ (b : Block). All P b.items)
 in_blocks P (b ∷ bs) each =
     All-cons (λ (x : Block). All P x.items) b bs
@@ -255,6 +255,7 @@ module _ (meta : Maps) (q : Parsed) (passes : List PassKind) (f : Function) (sub
       physical = growth.physical read.physical;
       marks = in_blocks (λ i. MarksOneOf vs i.kind) f.blocks (λ i among. marks_one i i.kind refl among);
     };
+    shown = shown;
     printable = record {
       objects = subst (λ (os : List Object). All (λ o. IsNumber o.id) os) (sym follows.objects) (read_bodies meta q.func read).objects;
       blocks = blocks_print f.blocks typed prints;

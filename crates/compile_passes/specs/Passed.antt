@@ -12,6 +12,7 @@ use Rattle.read_program.specs.declared.closing.Parsed.{Parsed}
 use Rattle.compile_theorem.specs.Source.{SourceFunction, PassedFunction, IsPassedFunction}
 use Rattle.pass_list.specs.declared.kind.PassKind.{PassKind}
 pub use Rattle.pass_manager.specs.Passes.{steps_of, passes_of}
+use Rattle.pass_manager.specs.Shown.{KeepsShown}
 use Rattle.pass_manager.specs.Told.{KeepsPasses}
 
 -- the most items that a function has after passes
@@ -36,8 +37,10 @@ abbrev pub IsMadeLosing : (reserve : List ℕ) → List PassKind → PassedFunct
 IsMadeLosing reserve passes p told =
     KeepsPasses (passes_of reserve passes) (change p.source.function p.source.substitutions p.function p.substitutions) told
 
--- The function refines its source, has what every pass preserves, and has a printable listing.
+-- The function refines its source, has what every pass preserves, has debug values only of the source's parts of variables, and has a printable
+-- listing.
 pub record IsCompilable (meta : Maps) (p : PassedFunction) : Type 0 where
   pub passed : IsPassedFunction p
+  pub shown : KeepsShown p.source.function p.function
   pub printable : IsPrintableBody (inlined_in meta) p.function
   pub substitutions : All IsPrintableEntry p.substitutions

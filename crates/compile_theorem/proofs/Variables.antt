@@ -225,6 +225,47 @@ own_marks blocks =
 
 -- ---- paths
 
+-- a debug value is for another part
+abbrev pub MarksOther : VarId → ItemKind → Type 0
+MarksOther v (Mark w m) = is_same v w ≡ false
+MarksOther v (Code i k) = Unit {0}
+MarksOther v (Phi p k) = Unit {0}
+
+module _ (g : Program) (v : VarId) (others : (p : Pos) (i : Item) → g.fetch p ≡ Here i → MarksOther v i.kind) where
+  past_mark : (w : VarId) (x : Option Token) (ms : List (VarId × Option Token)) → is_same v w ≡ false → assigned v ms ≡ None → assigned v ((w, x) ∷ ms) ≡ None
+  past_mark w x ms apart none =
+      ap (λ (b : Bool). cond b x (cond (overlaps v w) None (assigned v ms))) apart ∙ by_test (overlaps v w) where
+        by_test : (b : Bool) → cond b None (assigned v ms) ≡ None
+        by_test true = refl
+        by_test false = none
+
+  -- code and phis leave marks
+  past_code : (n : ℕ) (i : Item) (t : Tokens) (k : ItemKind) → i.kind ≡ k → MarksOther v k → variable_token v t ≡ None →
+      variable_token v (after_item g.resolve n k t) ≡ None
+  past_code n i t (Mark w m) is apart none = past_mark w (mark_token g.resolve m t) t.marks apart none
+  past_code n i t (Phi p k) is apart none = none
+  past_code n i t (Code c None) is apart none = tokens_pull_back g.resolve n (record i { kind = Code c None } ∷ []) t (OfVariable v) ∙ none
+  past_code n i t (Code c (Some k)) is apart none = tokens_pull_back g.resolve n (record i { kind = Code c (Some k) } ∷ []) t (OfVariable v) ∙ none
+
+  past : (n : ℕ) (p : Pos) (t : Tokens) (f : Fetch) → g.fetch p ≡ f → variable_token v t ≡ None → variable_token v (after_fetch g.resolve n f t) ≡ None
+  past n p t (Here i) here none = past_code n i t i.kind refl (others p i here) none
+  past n p t (EndOfBlock k m) here none = none
+  past n p t Outside here none = none
+
+  no_token : {start : Pos} {n : ℕ} {p : Pos} {t : Tokens} → Path g start n p t → variable_token v t ≡ None
+  no_token begin = refl
+  no_token (onward {n = n} {p = p} {t = t} path edge) = past n p t (g.fetch p) refl (no_token path)
+
+  -- so no place is wanted for the part
+  pub nowhere : (start p : Pos) → NoneIsWanted g start v p
+  nowhere start p place named sits =
+      let r = sits.reached in
+      let k = sits.same r.0 r.1 r.2 in
+      let none = no_token r.2 in
+      let some : variable_token v r.1 ≡ Some k.0 = k.1 in
+      cc
+
+-- nor is one for a part of a variable that isn't among those of which all marks are
 module _ (g : Program) (vs : List VarId) (among : (p : Pos) (i : Item) → g.fetch p ≡ Here i → MarkIn vs i.kind) (v : VarId)
     (other : list_any (is_same_variable v) vs ≡ false) where
   not_marked : (w : VarId) → Has vs w → is_same v w ≡ false
@@ -235,35 +276,10 @@ module _ (g : Program) (vs : List VarId) (among : (p : Pos) (i : Item) → g.fet
         let both : true ≡ false = sym (any_has vs v (subst (Has vs) (sym (same_is v w e)) has)) ∙ other in
         absurd cc
 
-  past_mark : (w : VarId) (x : Option Token) (ms : List (VarId × Option Token)) → is_same v w ≡ false → assigned v ms ≡ None → assigned v ((w, x) ∷ ms) ≡ None
-  past_mark w x ms apart none =
-      ap (λ (b : Bool). cond b x (cond (overlaps v w) None (assigned v ms))) apart ∙ by_test (overlaps v w) where
-        by_test : (b : Bool) → cond b None (assigned v ms) ≡ None
-        by_test true = refl
-        by_test false = none
+  marks_other : (k : ItemKind) → MarkIn vs k → MarksOther v k
+  marks_other (Mark w m) has = not_marked w has
+  marks_other (Code i k) is = tt
+  marks_other (Phi p k) is = tt
 
-  -- code and phis leave marks
-  past_code : (n : ℕ) (i : Item) (t : Tokens) (k : ItemKind) → i.kind ≡ k → MarkIn vs k → variable_token v t ≡ None →
-      variable_token v (after_item g.resolve n k t) ≡ None
-  past_code n i t (Mark w m) is has none = past_mark w (mark_token g.resolve m t) t.marks (not_marked w has) none
-  past_code n i t (Phi p k) is has none = none
-  past_code n i t (Code c None) is has none = tokens_pull_back g.resolve n (record i { kind = Code c None } ∷ []) t (OfVariable v) ∙ none
-  past_code n i t (Code c (Some k)) is has none = tokens_pull_back g.resolve n (record i { kind = Code c (Some k) } ∷ []) t (OfVariable v) ∙ none
-
-  past : (n : ℕ) (p : Pos) (t : Tokens) (f : Fetch) → g.fetch p ≡ f → variable_token v t ≡ None → variable_token v (after_fetch g.resolve n f t) ≡ None
-  past n p t (Here i) here none = past_code n i t i.kind refl (among p i here) none
-  past n p t (EndOfBlock k m) here none = none
-  past n p t Outside here none = none
-
-  no_token : {start : Pos} {n : ℕ} {p : Pos} {t : Tokens} → Path g start n p t → variable_token v t ≡ None
-  no_token begin = refl
-  no_token (onward {n = n} {p = p} {t = t} path edge) = past n p t (g.fetch p) refl (no_token path)
-
-  -- so none is wanted for it
   pub unmarked : (start p : Pos) → NoneIsWanted g start v p
-  unmarked start p place named sits =
-      let r = sits.reached in
-      let k = sits.same r.0 r.1 r.2 in
-      let none = no_token r.2 in
-      let some : variable_token v r.1 ≡ Some k.0 = k.1 in
-      cc
+  unmarked start p = nowhere g v (λ q i here. marks_other i.kind (among q i here)) start p

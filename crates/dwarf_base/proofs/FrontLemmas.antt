@@ -126,10 +126,10 @@ septet_more b v z fits fits_z is =
     let same : to_z w64 (of_z w64 z) ≡ z = to_z-of_z w64 z fits_z in
     rw same (omega (arith, ints))
 
-length-uleb_of : (n : ℕ) → n < 2 ^ 64 → length (uleb_of n) ≤ 10
+pub length-uleb_of : (n : ℕ) → n < 2 ^ 64 → length (uleb_of n) ≤ 10
 length-uleb_of n fits = rw (uleb_of-groups n fits) (length-groups 9 128 false n)
 
-length-sleb_of : (v : ℤ) → FitsSigned w64 v → length (sleb_of v) ≤ 10
+pub length-sleb_of : (v : ℤ) → FitsSigned w64 v → length (sleb_of v) ≤ 10
 length-sleb_of (pos n) fits = rw (sleb_of-groups (pos n) false n (record { is = refl; fits = omega (arith, ints) })) (length-groups 9 64 false n)
 length-sleb_of (negsuc n) fits = rw (sleb_of-groups (negsuc n) true n (record { is = refl; fits = omega (arith, ints) })) (length-groups 9 64 true n)
 

@@ -114,10 +114,10 @@ written u o0 o1 o2 o3 o4 o5 offsets types functions after e0 e1 after_is e2 type
 
 -- ---- how long an entry of a variable is
 
-parts_len : (a b c : List ℕ) → length (a ++ (b ++ (c ++ []))) ≡ length a + length b + length c
+pub parts_len : (a b c : List ℕ) → length (a ++ (b ++ (c ++ []))) ≡ length a + length b + length c
 parts_len a b c = omega (arith, length-append a (b ++ (c ++ [])), length-append b (c ++ []), length-append c [])
 
-typed_len : (a b c d : List ℕ) → length (a ++ (b ++ (c ++ (d ++ [])))) ≡ length a + length b + length c + length d
+pub typed_len : (a b c d : List ℕ) → length (a ++ (b ++ (c ++ (d ++ [])))) ≡ length a + length b + length c + length d
 typed_len a b c d = omega (arith, length-append a (b ++ (c ++ (d ++ []))), parts_len b c d)
 
 -- the bytes of the code and the type's offset

@@ -26,7 +26,7 @@ seam n m le = by (eqb n m) refl
     by true e = let k : n ≡ m = eqb-true n m e in omega (arith, k)
     by false e = refl
 
-position_le : {X : Type 0} (p : X → Bool) (xs : List X) → position_or_len p xs ≤ length xs
+pub position_le : {X : Type 0} (p : X → Bool) (xs : List X) → position_or_len p xs ≤ length xs
 position_le p xs = prefix_len-le-length _ xs
 
 module _ {X : Type 0} (is : X → X → Bool) (same : (x : X) → is x x ≡ true) where

@@ -16,6 +16,11 @@ before r rest address below = grind (arith, nat_tests)
 after : (r : Range) (rest : List Range) (address : ℕ) → r.hi ≤ address → location_in (r ∷ rest) address ≡ location_in rest address
 after r rest address above = grind (arith, nat_tests)
 
+-- a range isn't empty
+first : (s : Range) (rest : List Range) → Ascend (s ∷ rest) → s.lo < s.hi
+first s [] ascend = ascend
+first s (t ∷ rest) ascend = ascend.0
+
 -- a later range begins where an earlier one ends, or after
 later : (s : Range) (rest : List Range) (r : Range) → Ascend (s ∷ rest) → Contains rest r → s.hi ≤ r.lo
 later s [] r ascend (k, inside, at) = absurd (omega arith)
@@ -23,14 +28,17 @@ later s (t ∷ rest) r ascend (zero, inside, at) = omega (arith, ascend.1, ap (�
 later s (t ∷ rest) r ascend (suc k, inside, at) =
     let t_first = later t rest r ascend.3 (k, omega arith, at) in
     omega (arith, ascend.1, first t rest ascend.3, t_first)
-  where
-    first : (t : Range) (rest : List Range) → Ascend (t ∷ rest) → t.lo < t.hi
-    first t [] ascend = ascend
-    first t (u ∷ rest) ascend = ascend.0
 
 rest_ascends : (s : Range) (rest : List Range) → Ascend (s ∷ rest) → Ascend rest
 rest_ascends s [] ascend = tt
 rest_ascends s (t ∷ rest) ascend = ascend.3
+
+pub nonempty : (ranges : List Range) (r : Range) → Ascend ranges → Contains ranges r → r.lo < r.hi
+nonempty [] r ascend (k, inside, at) = absurd (omega arith)
+nonempty (s ∷ rest) r ascend (zero, inside, at) = omega (arith, first s rest ascend, ap (λ (x : Range). x.lo) at, ap (λ (x : Range). x.hi) at)
+nonempty (s ∷ rest) r ascend (suc k, inside, at) =
+    let more : k < length rest = omega arith in
+    nonempty rest r (rest_ascends s rest ascend) (k, more, at)
 
 pub found : (ranges : List Range) (r : Range) (address : ℕ) → Ascend ranges → Contains ranges r → r.lo ≤ address → address < r.hi
     → location_in ranges address ≡ Some r.location
