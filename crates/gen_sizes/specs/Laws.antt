@@ -1,10 +1,15 @@
 -- The statements of the theorems on sizes.
-use Rattle.std.specs.Prelude.{ℕ, List}
+use Rattle.std.specs.Prelude.{ℕ, ◌≤◌, List}
 use Rattle.pass_list.specs.declared.kind.PassKind.{PassKind}
-use Rattle.compile_program.specs.Program.{HasLargeFrame, steps_of}
+use Rattle.compile_program.specs.Program.{HasLargeFrame, HasLargeSection, steps_of}
 use Rattle.gen_program.specs.Program.{generated_program}
 
 -- No generated function has a frame above the limit after passes.
 abbrev pub GeneratedFramesAreSmall : Type 0
 GeneratedFramesAreSmall = (number count : ℕ) (reserve : List ℕ) (passes : List PassKind) →
     HasLargeFrame (steps_of reserve passes) (generated_program number count).functions → ⊥
+
+-- No section of a generated function is above the limit after passes.
+abbrev pub GeneratedSectionsAreSmall : Type 0
+GeneratedSectionsAreSmall = (number count : ℕ) (reserve : List ℕ) (passes : List PassKind) → 1 ≤ count → count ≤ 512 →
+    HasLargeSection (steps_of reserve passes) (generated_program number count) → ⊥

@@ -1,4 +1,5 @@
-//! Theorems on what generated functions are compiled to: none has a frame above the limit, whatever passes run.
+//! Theorems on what generated functions are compiled to: none has a frame or a section above the limit, whatever passes
+//! run.
 //!
 //! - `laws`: The theorems, each the contract of an empty function.
 #![tactic(auto)]
