@@ -33,7 +33,7 @@ use Rattle.location_ranges.specs.Lists.{point_of, AreRangesOf}
 
 -- ---- how long an entry is
 
-named_fits : (c : ℤ) → IsPlace (Const c) → FitsSigned w64 c
+pub named_fits : (c : ℤ) → IsPlace (Const c) → FitsSigned w64 c
 named_fits (pos n) named = record { sfits = named }
 named_fits (negsuc n) named = record { sfits = named }
 

@@ -13,9 +13,9 @@ use Rattle.cli.specs.declared.fault.Fault.TheVariants.{FrameTooLarge, SymbolName
 use Rattle.run_command.specs.Source.{IsUnknown}
 use Rattle.tool_driver.specs.Answer.{Answers, IsTestText}
 use Rattle.tool_driver.specs.Run.{HasReadProgram, AnswersRead, AnswersInput}
-use Rattle.tool_driver.specs.Refusals.{IsReader, IsNamed, plan_of, tested_program, frame_too_large, section_too_large, WorksOn, on_input, on_generated}
+use Rattle.tool_driver.specs.Refusals.{IsReader, IsNamed, plan_of, frame_too_large, section_too_large}
 use Rattle.tool_driver.specs.Refusals.{too_long, refused_at, no_function, refused_program}
-use Rattle.tool_driver.specs.steps.Ends.{RefusesToCompile, RefusesToTest, RefusesToWrite, HasReadNone, ReadingEnds}
+use Rattle.tool_driver.specs.steps.Ends.{RefusesToCompile, RefusesToWrite, HasReadNone, ReadingEnds}
 use Rattle.tool_driver.specs.Stream.{Change, IsUnread}
 use Rattle.tool_driver.specs.Compiled.{plan_steps}
 
@@ -27,20 +27,20 @@ read_answers : (command : Command) (input : Change) (program : Program) → HasR
 read_answers command input program read output answers =
     record { text = read.text; read = read.read; answers = record { program = program; has = read.has; answers = answers } }
 
--- why it writes nothing of the program on which it works
-held_back : (command : Command) (input : Change) (program : Program) → WorksOn (HasReadProgram input) command program → (fault : Fault) →
+-- why it writes nothing of the program
+held_back : (command : Command) → IsReader command → (input : Change) (program : Program) → HasReadProgram input program → (fault : Fault) →
     RefusesToWrite command program fault → ReadingEnds command input fault
-held_back command input program works UnknownFunction refused = refused_program program works refused
-held_back command input program works FrameTooLarge refused = refused_program program works refused
-held_back command input program works SymbolName refused = refused_program program works refused
-held_back command input program works SectionTooLarge refused = refused_program program works refused
-held_back command input program works Memory refused = tt
-held_back command input program works (Refused r) refused = absurd refused
-held_back command input program works NoFunction refused = absurd refused
-held_back command input program works Usage refused = absurd refused
-held_back command input program works Read refused = absurd refused
-held_back command input program works TooLong refused = absurd refused
-held_back command input program works Write refused = absurd refused
+held_back command reads input program read UnknownFunction refused = refused_program program reads read refused
+held_back command reads input program read FrameTooLarge refused = refused_program program reads read refused
+held_back command reads input program read SymbolName refused = refused_program program reads read refused
+held_back command reads input program read SectionTooLarge refused = refused_program program reads read refused
+held_back command reads input program read Memory refused = tt
+held_back command reads input program read (Refused r) refused = absurd refused
+held_back command reads input program read NoFunction refused = absurd refused
+held_back command reads input program read Usage refused = absurd refused
+held_back command reads input program read Read refused = absurd refused
+held_back command reads input program read TooLong refused = absurd refused
+held_back command reads input program read Write refused = absurd refused
 
 -- ---- none was read
 
@@ -87,9 +87,6 @@ module _ (plan : PassPipeline) (program : Program) where
   pub object_named : IsNamed (Object plan) program
   object_named run same unknown = absurd cc
 
-test_named : (test : TestPlan) (program : Program) → IsNamed (SelfTest test) program
-test_named test program run same unknown = absurd cc
-
 -- a run compiles a program that has the function
 pub run_named : (run : RunPlan) (program : Program) → (IsUnknown run.name program.functions → ⊥) → IsNamed (Run run) program
 run_named run program known other same unknown =
@@ -104,7 +101,7 @@ module _ (plan : PassPipeline) (input : Change) (program : Program) (read : HasR
   pub compile_err : (r : Result (List ℕ) Fault) → IfErr r (RefusesToCompile (plan_steps plan) program) → IfErr r (ReadingEnds (Compile plan) input)
   compile_err (Ok output) refused = tt
   compile_err (Err fault) refused =
-      held_back (Compile plan) input program (on_input tt read) fault
+      held_back (Compile plan) tt input program read fault
       (by_compiling (Compile plan) program plan refl (compile_named plan program) fault refused)
 
   pub listing_ok : (r : Result (List ℕ) Fault) → IfOk r (Answers (Listing plan) program) → IfOk r (AnswersInput (Listing plan) input)
@@ -114,7 +111,7 @@ module _ (plan : PassPipeline) (input : Change) (program : Program) (read : HasR
   pub listing_err : (r : Result (List ℕ) Fault) → IfErr r (RefusesToCompile (plan_steps plan) program) → IfErr r (ReadingEnds (Listing plan) input)
   listing_err (Ok output) refused = tt
   listing_err (Err fault) refused =
-      held_back (Listing plan) input program (on_input tt read) fault
+      held_back (Listing plan) tt input program read fault
       (by_compiling (Listing plan) program plan refl (listing_named plan program) fault refused)
 
   pub report_ok : (r : Result (List ℕ) Fault) → IfOk r (Answers (Report plan) program) → IfOk r (AnswersInput (Report plan) input)
@@ -124,7 +121,7 @@ module _ (plan : PassPipeline) (input : Change) (program : Program) (read : HasR
   pub report_err : (r : Result (List ℕ) Fault) → IfErr r (RefusesToCompile (plan_steps plan) program) → IfErr r (ReadingEnds (Report plan) input)
   report_err (Ok output) refused = tt
   report_err (Err fault) refused =
-      held_back (Report plan) input program (on_input tt read) fault
+      held_back (Report plan) tt input program read fault
       (by_compiling (Report plan) program plan refl (report_named plan program) fault refused)
 
   pub object_ok : (r : Result (List ℕ) Fault) → IfOk r (Answers (Object plan) program) → IfOk r (AnswersInput (Object plan) input)
@@ -133,7 +130,7 @@ module _ (plan : PassPipeline) (input : Change) (program : Program) (read : HasR
 
   pub object_err : (r : Result (List ℕ) Fault) → IfErr r (RefusesToWrite (Object plan) program) → IfErr r (ReadingEnds (Object plan) input)
   object_err (Ok output) refused = tt
-  object_err (Err fault) refused = held_back (Object plan) input program (on_input tt read) fault refused
+  object_err (Err fault) refused = held_back (Object plan) tt input program read fault refused
 
 module _ (run : RunPlan) (input : Change) (program : Program) (read : HasReadProgram input program) where
   pub run_ok : (r : Result (List ℕ) Fault) → IfOk r (Answers (Run run) program) → IfOk r (AnswersInput (Run run) input)
@@ -142,20 +139,7 @@ module _ (run : RunPlan) (input : Change) (program : Program) (read : HasReadPro
 
   pub run_err : (r : Result (List ℕ) Fault) → IfErr r (RefusesToWrite (Run run) program) → IfErr r (ReadingEnds (Run run) input)
   run_err (Ok output) refused = tt
-  run_err (Err fault) refused = held_back (Run run) input program (on_input tt read) fault refused
-
--- ---- self-tests
-
-module _ (test : TestPlan) (input : Change) where
-  pub test_ok : IsUnread input → (r : Result (List ℕ) Fault) → IfOk r (IsTestText test) → IfOk r (AnswersInput (SelfTest test) input)
-  test_ok unread (Ok output) is = (unread, is)
-  test_ok unread (Err fault) is = tt
-
-  pub test_err : (r : Result (List ℕ) Fault) → IfErr r (RefusesToTest test) → IfErr r (ReadingEnds (SelfTest test) input)
-  test_err (Ok output) refused = tt
-  test_err (Err fault) refused =
-      held_back (SelfTest test) input (tested_program test) (on_generated test refl refl) fault
-      (by_compiling (SelfTest test) (tested_program test) test.plan refl (test_named test (tested_program test)) fault refused)
+  run_err (Err fault) refused = held_back (Run run) tt input program read fault refused
 
 -- ---- the others
 
@@ -175,3 +159,14 @@ memory_ends command input Usage is = absurd cc
 memory_ends command input Read is = absurd cc
 memory_ends command input TooLong is = absurd cc
 memory_ends command input Write is = absurd cc
+
+-- ---- self-tests
+
+module _ (test : TestPlan) (input : Change) where
+  pub test_ok : IsUnread input → (r : Result (List ℕ) Fault) → IfOk r (IsTestText test) → IfOk r (AnswersInput (SelfTest test) input)
+  test_ok unread (Ok output) is = (unread, is)
+  test_ok unread (Err fault) is = tt
+
+  pub test_err : (r : Result (List ℕ) Fault) → IfErr r (λ f. f ≡ Memory) → IfErr r (ReadingEnds (SelfTest test) input)
+  test_err (Ok output) is = tt
+  test_err (Err fault) is = memory_ends (SelfTest test) input fault is

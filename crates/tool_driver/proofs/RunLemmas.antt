@@ -26,9 +26,9 @@ use Rattle.tool_driver.specs.Limits.{INPUT_LIMIT}
 use Rattle.tool_driver.specs.Compiled.{IsCompiledText, plan_steps}
 use Rattle.tool_driver.specs.Answer.{HasFunctions}
 use Rattle.tool_driver.specs.Run.{Finishes, HasWritten, AnswersRead, AnswersInput, HasRead, HasReadProgram}
-use Rattle.tool_driver.specs.Refusals.{HasNoFunction, IsReader, IsRefusedAt, IsAnswered, RefusesProgram, tested_program, IsTooLong, WorksOn, on_input}
-use Rattle.tool_driver.specs.Refusals.{on_generated, Refuses, too_long, refused_at, no_function, refused_program, TellsRefusal, IsInputOf, IsAnswerable}
-use Rattle.tool_driver.specs.Refusals.{generates, answers}
+use Rattle.tool_driver.specs.Refusals.{HasNoFunction, IsReader, IsRefusedAt, IsAnswered, RefusesProgram, IsTooLong}
+use Rattle.tool_driver.specs.Refusals.{Refuses, too_long, refused_at, no_function, refused_program, TellsRefusal, IsInputOf, IsAnswerable}
+use Rattle.tool_driver.specs.Refusals.{generates, tests, answers}
 use Rattle.tool_driver.specs.steps.Ends.{Explains, ReadingEnds, ReadingEnded}
 use Rattle.tool_driver.specs.Stream.{Change, MetFault, IsReadWhole, IsWrittenWhole, IsTold}
 use Rattle.tool_driver.proofs.OneProgram.{program_not_refused, programs_one}
@@ -184,11 +184,6 @@ generates_unread command g same reads = subst IsReader same reads
 tests_unread : (command : Command) (test : TestPlan) → command ≡ SelfTest test → IsReader command → ⊥
 tests_unread command test same reads = subst IsReader same reads
 
-one_test : (command : Command) (a b : TestPlan) → command ≡ SelfTest a → command ≡ SelfTest b → a ≡ b
-one_test command a b first second =
-    let same : SelfTest a ≡ SelfTest b = sym first ∙ second in
-    cc
-
 module _ (command : Command) (input : Change) where
   -- what a command that reads is to answer
   record Asked : Type 0 where
@@ -198,8 +193,8 @@ module _ (command : Command) (input : Change) where
 
   asked_of : IsReader command → IsAnswerable command input.before.bytes → Asked
   asked_of reads (generates g same) = absurd (generates_unread command g same reads)
-  asked_of reads (answers program (on_input reader has) answered) = record { program = program; has = has; answered = answered }
-  asked_of reads (answers program (on_generated test same is) answered) = absurd (tests_unread command test same reads)
+  asked_of reads (tests test same) = absurd (tests_unread command test same reads)
+  asked_of reads (answers program reader has answered) = record { program = program; has = has; answered = answered }
 
   -- the text that was read is that of the program that is to be answered
   text_asked : (asked : Asked) (text : List ℕ) → HasRead input text → text ≡ asked.has.text
@@ -229,29 +224,11 @@ module _ (command : Command) (input : Change) where
       let same : program ≡ asked.program = programs_one asked.has.text program asked.program reads asked.has.has.reads in
       asked.answered fault (subst (λ (p : Program). RefusesProgram command p fault) same refused)
 
-  -- nor is the function of a self-test
-  test_answered : (test : TestPlan) → command ≡ SelfTest test → IsAnswerable command input.before.bytes → (fault : Fault) →
-      RefusesProgram command (tested_program test) fault → ⊥
-  test_answered test same (generates g other) fault refused =
-      let both : SelfTest test ≡ Gen g = sym same ∙ other in
-      absurd cc
-  test_answered test same (answers program (on_input reads has) answered) fault refused = absurd (tests_unread command test same reads)
-  test_answered test same (answers program (on_generated other again is) answered) fault refused =
-      let one : test ≡ other = one_test command test other same again in
-      let program_same : tested_program test ≡ program = ap tested_program one ∙ sym is in
-      answered fault (subst (λ (p : Program). RefusesProgram command p fault) program_same refused)
-
-  work_answered : (program : Program) → WorksOn (HasReadProgram input) command program → IsAnswerable command input.before.bytes → (fault : Fault) →
-      RefusesProgram command program fault → ⊥
-  work_answered program (on_input reads read) form fault refused = program_answered (asked_of reads form) program fault read refused
-  work_answered program (on_generated test same is) form fault refused =
-      test_answered test same form fault (subst (λ (p : Program). RefusesProgram command p fault) is refused)
-
   not_refused : {fault : Fault} → IsAnswerable command input.before.bytes → Refuses command input fault → ⊥
   not_refused form (too_long reads long) = not_too_long (asked_of reads form) long
   not_refused form (refused_at text r reads read refused) = not_refused_at (asked_of reads form) text r read refused
   not_refused form (no_function text reads read none) = has_function (asked_of reads form) text read none
-  not_refused {fault = f} form (refused_program program works refused) = work_answered program works form f refused
+  not_refused {fault = f} form (refused_program program reads read refused) = program_answered (asked_of reads form) program f read refused
 
 -- the command that ended is the one that was asked for
 ended_as_asked : (command : Command) (words : List (List ℕ)) (input : Change) (fault : Fault) → IsCommand words command → ReadingEnded words input fault →

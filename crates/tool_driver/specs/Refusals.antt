@@ -16,7 +16,6 @@ use Rattle.cli.specs.declared.command.Command.TheVariants.{Compile, Listing, Rep
 use Rattle.cli.specs.declared.fault.Fault.TheVariants.{TooLong, Refused, NoFunction, UnknownFunction, FrameTooLarge, SymbolName, SectionTooLarge}
 use Rattle.cli_numbers.specs.declared.generation.Generation.{Generation}
 use Rattle.run_command.specs.Source.{IsUnknown}
-use Rattle.gen_program.specs.Program.{generated_program}
 use Rattle.tool_driver.specs.Limits.{INPUT_LIMIT}
 use Rattle.tool_driver.specs.Compiled.{plan_steps, HasInvalidName, IsLargeObjectOf}
 use Rattle.tool_driver.specs.Stream.{Change, IsReadFor, IsTold}
@@ -48,7 +47,7 @@ pub record HasNoFunction (text : List ℕ) : Type 0 where
   pub reads : ReadsText text (Ok program)
   pub no_one : program.functions ≡ []
 
--- the passes by which a command compiles, if it does
+-- the passes by which a command compiles what it reads, if it does
 abbrev pub plan_of : Command → Option PassPipeline
 plan_of (Compile plan) = Some plan
 plan_of (Listing plan) = Some plan
@@ -57,7 +56,7 @@ plan_of (Object plan) = Some plan
 plan_of (Run run) = Some run.plan
 plan_of Strip = None
 plan_of (Gen g) = None
-plan_of (SelfTest test) = Some test.plan
+plan_of (SelfTest test) = None
 
 -- a run is of a function that the program has
 abbrev pub IsNamed : Command → Program → Type 0
@@ -75,21 +74,12 @@ pub data RefusesProgram (command : Command) (program : Program) : Fault → Type
       RefusesProgram command program SectionTooLarge
   no_symbol_name : (plan : PassPipeline) → command ≡ Object plan → HasInvalidName (plan_steps plan) program → RefusesProgram command program SymbolName
 
--- the program with the generated function of a self-test
-abbrev pub tested_program : TestPlan → Program
-tested_program test = generated_program test.function.number test.function.blocks
-
--- a command works on the program that it reads, for which this holds, or on the function of a self-test
-pub data WorksOn (IsReadAs : Program → Type 0) (command : Command) (program : Program) : Type 0 where
-  on_input : IsReader command → IsReadAs program → WorksOn IsReadAs command program
-  on_generated : (test : TestPlan) → command ≡ SelfTest test → program ≡ tested_program test → WorksOn IsReadAs command program
-
--- Why a command is refused: its input is too long, is refused at a line or has no function; or the program on which it works is refused.
+-- Why a command is refused: its input is too long, is refused at a line or has no function; or the program that was read is refused.
 pub data Refuses (command : Command) (input : Change) : Fault → Type 0 where
   too_long : IsReader command → IsTooLong input → Refuses command input TooLong
   refused_at : (text : List ℕ) (r : Refusal) → IsReader command → HasRead input text → IsRefusedAt text r → Refuses command input (Refused r)
   no_function : (text : List ℕ) → IsReader command → HasRead input text → HasNoFunction text → Refuses command input NoFunction
-  refused_program : {fault : Fault} (program : Program) → WorksOn (HasReadProgram input) command program → RefusesProgram command program fault →
+  refused_program : {fault : Fault} (program : Program) → IsReader command → HasReadProgram input program → RefusesProgram command program fault →
       Refuses command input fault
 
 -- the words are a command, which is refused, and the line for that fault is written to `faults`
@@ -111,7 +101,8 @@ pub record IsInputOf (left : Option (List ℕ)) (program : Program) : Type 0 whe
   pub within : length text ≤ INPUT_LIMIT
   pub has : HasFunctions text program
 
--- the inputs for which a command writes output: it generates a function, or nothing refuses the program on which it works
+-- the inputs for which a command writes output: any, if it makes its function up; else those that are read as a program that nothing refuses
 pub data IsAnswerable (command : Command) (left : Option (List ℕ)) : Type 0 where
   generates : (g : Generation) → command ≡ Gen g → IsAnswerable command left
-  answers : (program : Program) → WorksOn (IsInputOf left) command program → IsAnswered command program → IsAnswerable command left
+  tests : (test : TestPlan) → command ≡ SelfTest test → IsAnswerable command left
+  answers : (program : Program) → IsReader command → IsInputOf left program → IsAnswered command program → IsAnswerable command left

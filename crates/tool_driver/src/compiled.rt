@@ -1,12 +1,12 @@
 //! The output texts of the commands that compile.
 
-ghost use Rattle.std.specs.Prelude.{IfOk, IfErr};
+ghost use Rattle.std.specs.Prelude.{◌≡◌, IfOk, IfErr};
 ghost use Rattle.report_command.specs.Reported.{IsReportText};
 ghost use Rattle.run_command.specs.Source.{IsRunOfProgram};
 ghost use Rattle.cli.specs.Command.{IsWithin};
 ghost use Rattle.cli.specs.declared.command.Command.TheVariants as command;
 ghost use Rattle.tool_driver.specs.Answer.{IsTestText};
-ghost use Rattle.tool_driver.specs.steps.Ends.{RefusesToCompile, RefusesToTest, RefusesToWrite};
+ghost use Rattle.tool_driver.specs.steps.Ends.{RefusesToCompile, RefusesToWrite};
 ghost use Rattle.tool_driver.specs.Compiled.{plan_steps, IsCompiledText, IsListingText, IsObjectFile};
 ghost use Rattle.compile_program.specs.Program.{IsOutputOf, IsCompilationOf};
 ghost use Rattle.read_proof.specs.Read.{IsReadProgram};
@@ -140,12 +140,12 @@ fn run_of(
     }
 }
 
-/// The text of `selftest`: the requested self-test. The error is also `Memory` if its function takes 2^64 - 1 steps
-/// before it reaches a line of its machine code.
+/// The text of `selftest`: the requested self-test. The error is always `Memory`, also if its function takes 2^64 - 1
+/// steps before it reaches a line of its machine code: no generated function has a frame or a section that is too large.
 pub fn test_text(alloc: Global, asked: &TestPlan) -> Result<Text, Fault>
     requires { IsWithin asked.now.function }
     ensures ok { IfOk result (IsTestText asked.now) }
-    ensures err { IfErr result (RefusesToTest asked.now) }
+    ensures err { IfErr result (λ f. f ≡ Fault.Memory) }
 {
     match self_test(
         alloc,

@@ -5,13 +5,11 @@ use Rattle.read_program.specs.declared.program.Program.{Program}
 use Rattle.compile_program.specs.Program.{HasLargeFrame, HasLargeSection}
 use Rattle.cli.specs.Command.{IsCommand}
 use Rattle.cli.specs.declared.command.Command.{Command}
-use Rattle.cli.specs.declared.command.TestPlan.{TestPlan}
 use Rattle.cli.specs.declared.fault.Fault.{Fault}
 use Rattle.cli.specs.declared.fault.Fault.TheVariants.{Usage, Read, TooLong, Refused, NoFunction, UnknownFunction}
 use Rattle.cli.specs.declared.fault.Fault.TheVariants.{FrameTooLarge, SymbolName, SectionTooLarge, Write, Memory}
-use Rattle.tool_driver.specs.Compiled.{plan_steps}
 use Rattle.tool_driver.specs.Run.{AreCommand, HasRead, IsCutOff}
-use Rattle.tool_driver.specs.Refusals.{IsReader, IsRefusedAt, HasNoFunction, RefusesProgram, tested_program, IsTooLong, Refuses}
+use Rattle.tool_driver.specs.Refusals.{IsReader, IsRefusedAt, HasNoFunction, RefusesProgram, IsTooLong, Refuses}
 use Rattle.tool_driver.specs.Stream.{Change, MetFault}
 
 -- ---- reading
@@ -65,10 +63,6 @@ RefusesToCompile steps program Usage = ⊥
 RefusesToCompile steps program Read = ⊥
 RefusesToCompile steps program TooLong = ⊥
 RefusesToCompile steps program Write = ⊥
-
--- the faults of a self-test: those of compiling its function
-abbrev pub RefusesToTest : TestPlan → Fault → Type 0
-RefusesToTest test fault = RefusesToCompile (plan_steps test.plan) (tested_program test) fault
 
 -- the faults of a command on a program
 abbrev pub RefusesToWrite : Command → Program → Fault → Type 0

@@ -2,13 +2,12 @@
 use Rattle.std.proofs.Common.{◌≡◌, ℕ, List, Option, Some, sym, subst, rules}
 use Rattle.std.specs.Prelude.{IfSome}
 use Rattle.cli.specs.declared.command.TestPlan.{TestPlan}
-use Rattle.compile_program.specs.Program.{HasLargeFrame, HasLargeSection, steps_of}
+use Rattle.gen_sizes.proofs.Frames.{generated_frames_are_small}
+use Rattle.gen_sizes.proofs.Sections.{generated_sections_are_small}
 use Rattle.pass_list.specs.Names.{AreDistinct}
 use Rattle.pass_list.specs.declared.kind.PassKind.{PassKind}
 use Rattle.selftest_command.specs.Tested.{IsSelfTestOf}
 use Rattle.tool_driver.specs.Answer.{IsTestText}
-use Rattle.tool_driver.specs.Refusals.{tested_program}
-use Rattle.tool_driver.specs.Compiled.{plan_steps}
 use Rattle.tool_driver.proofs.Plans.{by_plan}
 use Rattle.tool_driver.proofs.compiled.test_text.Goals as goal
 
@@ -18,15 +17,6 @@ module _ (asked : TestPlan) (passes : List PassKind) (reserve : List ℕ) (same 
   tests o text is given =
       by_plan (λ r l. IsSelfTestOf r l asked.function.number asked.function.blocks text) passes asked.plan.passes reserve asked.plan.reserve same kept
       (subst (λ (x : Option (List ℕ)). IfSome x (IsSelfTestOf reserve passes asked.function.number asked.function.blocks)) is given)
-
-  large_frame : HasLargeFrame (steps_of reserve passes) (tested_program asked).functions →
-      HasLargeFrame (plan_steps asked.plan) (tested_program asked).functions
-  large_frame large =
-      by_plan (λ r l. HasLargeFrame (steps_of r l) (tested_program asked).functions) passes asked.plan.passes reserve asked.plan.reserve same kept large
-
-  large_section : HasLargeSection (steps_of reserve passes) (tested_program asked) → HasLargeSection (plan_steps asked.plan) (tested_program asked)
-  large_section large =
-      by_plan (λ r l. HasLargeSection (steps_of r l) (tested_program asked)) passes asked.plan.passes reserve asked.plan.reserve same kept large
 
 pub self_test-requires-clause-distinct : goal.self_test-requires-clause-distinct
 self_test-requires-clause-distinct c = subst AreDistinct (sym c.as_slice.ensures.value) c.as_slice.ensures.distinct
@@ -40,11 +30,11 @@ returns-in-Ok-Some-clause-ok c =
 pub returns-in-FrameTooLarge-clause-err : goal.returns-in-FrameTooLarge-clause-err
 returns-in-FrameTooLarge-clause-err c =
     let is = c.in-FrameTooLarge.is in
-    large_frame c.args.asked.now c.as_slice.result.now c.as_slice-2.result.now c.as_slice.ensures.value c.as_slice-2.ensures
-    (c.in-Err.ensures.frame_too_large cc)
+    absurd (generated_frames_are_small c.args.asked.now.function.number c.args.asked.now.function.blocks c.as_slice-2.result.now c.as_slice.result.now
+    (c.in-Err.ensures.frame_too_large cc))
 
 pub returns-in-SectionTooLarge-clause-err : goal.returns-in-SectionTooLarge-clause-err
 returns-in-SectionTooLarge-clause-err c =
     let is = c.in-SectionTooLarge.is in
-    large_section c.args.asked.now c.as_slice.result.now c.as_slice-2.result.now c.as_slice.ensures.value c.as_slice-2.ensures
-    (c.in-Err.ensures.section_too_large cc)
+    absurd (generated_sections_are_small c.args.asked.now.function.number c.args.asked.now.function.blocks c.as_slice-2.result.now c.as_slice.result.now
+    c.requires.some c.requires.few (c.in-Err.ensures.section_too_large cc))
