@@ -25,7 +25,7 @@ use Rattle.dwarf_line.specs.Spelling.{text, file, tables, registers_at, set_addr
 use Rattle.dwarf_line.specs.Spelling.{row, sequence, program, spelling}
 use Rattle.dwarf_line.specs.Standard.{DW_LNS_copy, instruction_fields, directory_format, file_format}
 use Rattle.dwarf_line.proofs.SpellingLemmas.{length-spelling}
-use Rattle.dwarf_line_table.specs.declared.compiled.Compiled.{Compiled}
+use Rattle.dwarf_line_table.specs.declared.source_and_code.SourceAndCode.{SourceAndCode}
 use Rattle.dwarf_line_table.specs.declared.file.SourceFile.{SourceFile}
 use Rattle.dwarf_line_table.specs.Files.{no_file, is_file, is_name, with_new, first_uses, files_of, number_in, dirs_of, entries_of}
 use Rattle.dwarf_line_table.specs.Program.{program_file, program_files, function_uses, function_end, sequence_if, sequences_of, table_of}
@@ -216,7 +216,7 @@ tables_short sequences =
 section_sum : (whole tables program : ℕ) → whole ≡ 12 + tables + program → tables ≤ 69 → program ≤ 70 → whole < 2 ^ 31
 section_sum whole tables program is few more = omega (arith, is, few, more)
 
-module _ (meta : Maps) (c : Compiled) (absent : AllItems (λ i. i.loc ≡ Absent) c.source.now.blocks) (low : function_end c < 2 ^ 64)
+module _ (meta : Maps) (c : SourceAndCode) (absent : AllItems (λ i. i.loc ≡ Absent) c.source.now.blocks) (low : function_end c < 2 ^ 64)
     (none : program_file meta (c ∷ []) ≡ no_file) where
   abbrev unit : SourceFile
   unit = program_file meta (c ∷ [])

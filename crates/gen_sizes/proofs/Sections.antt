@@ -21,7 +21,7 @@ use Rattle.dwarf_info.specs.Entries.{spelling as entries_spelling}
 use Rattle.dwarf_line.specs.Spelling.{spelling as rows_spelling}
 use Rattle.dwarf_loclists.specs.declared.range.Range.{Range}
 use Rattle.dwarf_loclists.specs.Spelling.{spelling as lists_spelling}
-use Rattle.dwarf_line_table.specs.declared.compiled.Compiled.{Compiled}
+use Rattle.dwarf_line_table.specs.declared.source_and_code.SourceAndCode.{SourceAndCode}
 use Rattle.dwarf_line_table.specs.Files.{no_file, file_or}
 use Rattle.dwarf_line_table.specs.Program.{program_file, function_end, table_of}
 use Rattle.dwarf_unit.specs.Unit.{unit_of}
@@ -49,7 +49,7 @@ no_subprogram : (name : List ℕ) → subprogram_at (metadata_of []) name ≡ No
 unfolding metadata_of
 no_subprogram name = get-from_entries nat_list_cmp_total [] name
 
-no_unit : (c : Compiled) → program_file (metadata_of []) (c ∷ []) ≡ no_file
+no_unit : (c : SourceAndCode) → program_file (metadata_of []) (c ∷ []) ≡ no_file
 no_unit c =
     ap (λ (o : Option ℕ). file_or (option_and_then (file_of_scope_at (metadata_of [])) o) no_file) (no_subprogram c.source.now.name)
 
@@ -74,7 +74,7 @@ module _ (number count : ℕ) (some : 1 ≤ count) (few : count ≤ 512) where
   abbrev HasFew : Function → Type 0
   HasFew f = length (variables_of_function f.blocks) ≤ 4
 
-  module _ (p : PassedFunction) (f : ListedFunction) (c : Compiled) (of : p.source ≡ source_of parsed) (is : IsCompilable meta p)
+  module _ (p : PassedFunction) (f : ListedFunction) (c : SourceAndCode) (of : p.source ≡ source_of parsed) (is : IsCompilable meta p)
       (k : IsCompiledFunction (names_of meta) p 0 0 f) (code : IsCodeOf (framed_of p.function) 0 c.code.now)
       (sources : c.source.now ∷ [] ≡ p.source.function ∷ []) where
     source_is : c.source.now ≡ source
@@ -108,7 +108,7 @@ module _ (number count : ℕ) (some : 1 ≤ count) (few : count ≤ 512) where
         unit_small meta no_variable n c (no_unit c) (subst (λ (g : Function). length g.name ≤ 3) (sym source_is) (lit≤ tt))
         (subst HasFew (sym source_is) (few_variables number count few))
 
-  none_large : (ps : List PassedFunction) (fs : List ListedFunction) (cs : List Compiled) (text : List ℕ) (lists : List (List Range)) →
+  none_large : (ps : List PassedFunction) (fs : List ListedFunction) (cs : List SourceAndCode) (text : List ℕ) (lists : List (List Range)) →
       ArePassed meta (parsed ∷ []) ps → AreCompiled (names_of meta) 0 0 text lists ps fs → HaveCode ps cs → IsLarge meta (length text) lists cs → ⊥
   none_large [] fs cs text lists are laid coded large = are
   none_large (p ∷ r ∷ ps) fs cs text lists are laid coded large = are.2

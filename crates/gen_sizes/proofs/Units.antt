@@ -16,7 +16,7 @@ use Rattle.dwarf_info.specs.declared.unit.Unit.{Unit as CompilationUnit}
 use Rattle.dwarf_info.specs.Entries.{named, entry, variable, subprogram, compile_unit, type_offset, spelling}
 use Rattle.dwarf_info.specs.steps.Parts.{variable_bytes, function_bytes}
 use Rattle.dwarf_info.proofs.TreeLemmas.{typed_len, length-variable_by, length-spelling}
-use Rattle.dwarf_line_table.specs.declared.compiled.Compiled.{Compiled}
+use Rattle.dwarf_line_table.specs.declared.source_and_code.SourceAndCode.{SourceAndCode}
 use Rattle.dwarf_line_table.specs.declared.file.SourceFile.{SourceFile}
 use Rattle.dwarf_line_table.specs.Files.{no_file, first_uses}
 use Rattle.dwarf_line_table.specs.Program.{program_file}
@@ -114,7 +114,7 @@ module _ (meta : Maps) (bare : (node : ℕ) → variable_at meta node ≡ None) 
   no_types [] = refl
   no_types (v ∷ vs) = ap (λ (o : Option VariableNode). node_uses meta o ++ flat_map (type_uses meta) vs) (bare v.node) ∙ no_types vs
 
-  types_are : (c : Compiled) → program_types meta (c ∷ []) ≡ []
+  types_are : (c : SourceAndCode) → program_types meta (c ∷ []) ≡ []
   types_are c = ap (λ (ns : List ℕ). first_uses nat_eq [] (ns ++ [])) (no_types (function_variables c))
 
   -- ---- the section
@@ -131,7 +131,7 @@ module _ (meta : Maps) (bare : (node : ℕ) → variable_at meta node ≡ None) 
   four_low : (n : ℕ) → n ≤ 4 → 0 + n ≤ 10
   four_low n few = omega (arith, few)
 
-  module _ (n : ℕ) (c : Compiled) (none : program_file meta (c ∷ []) ≡ no_file) (name : length c.source.now.name ≤ 3)
+  module _ (n : ℕ) (c : SourceAndCode) (none : program_file meta (c ∷ []) ≡ no_file) (name : length c.source.now.name ≤ 3)
       (few : length (function_variables c) ≤ 4) where
     abbrev Small : SourceFile → List ℕ → Type 0
     Small file types =
