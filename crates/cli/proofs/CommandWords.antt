@@ -9,15 +9,16 @@ use Rattle.cli_numbers.specs.declared.generation.Generation.{Generation}
 use Rattle.cli_numbers.specs.Numbers.{IsGeneration}
 use Rattle.cli.specs.declared.given.Options.{Options}
 use Rattle.cli.specs.declared.option.CommandOption.{CommandOption}
-use Rattle.cli.specs.declared.option.CommandOption.TheVariants.{Passes, Reserve, Arguments, Answers}
+use Rattle.cli.specs.declared.option.CommandOption.TheVariants.{Passes, Reserve, Arguments, Answers, Frame}
 use Rattle.cli.specs.Options.{none_given, IsWith, GivesOption, GiveOptions}
 use Rattle.cli.proofs.OptionWords.{the_option}
 use Rattle.cli.specs.declared.command.Command.{Command}
 use Rattle.cli.specs.declared.command.Command.TheVariants.{Compile, Listing, Report, Object, Run, Strip, Gen, SelfTest}
 use Rattle.cli.specs.declared.command.PassPipeline.{PassPipeline}
+use Rattle.cli.specs.declared.command.CompilePlan.{CompilePlan}
 use Rattle.cli.specs.declared.command.RunPlan.{RunPlan}
 use Rattle.cli.specs.declared.command.TestPlan.{TestPlan}
-use Rattle.cli.specs.Command.{MAX_STEPS, IsPlanOf, GivesPlan, IsRunPlanOf, GivesSteps, GivesRun, GivesTestOf, GivesTest}
+use Rattle.cli.specs.Command.{MAX_STEPS, IsPlanOf, GivesPlan, IsCompileOf, GivesCompile, IsRunPlanOf, GivesSteps, GivesRun, GivesTestOf, GivesTest}
 use Rattle.cli.specs.Command.{IsWithin, IsCommand, AreWithin}
 
 -- ---- one plan for words
@@ -30,6 +31,7 @@ one_next given (Passes list) a b ha hb = ha.1 ∙ sym hb.1
 one_next given (Reserve registers) a b ha hb = ha.1 ∙ sym hb.1
 one_next given (Arguments values) a b ha hb = ha.1 ∙ sym hb.1
 one_next given (Answers values) a b ha hb = ha.1 ∙ sym hb.1
+one_next given Frame a b ha hb = ha.1 ∙ sym hb.1
 
 one_more : (given : Options) (word : List ℕ) (a b : Options) → GivesOption given word a → GivesOption given word b → a ≡ b
 one_more given word a b ha hb =
@@ -53,6 +55,18 @@ pub one_plan : (words : List (List ℕ)) (p q : PassPipeline) → GivesPlan word
 one_plan words p q hp hq =
     let same : hp.0 ≡ hq.0 = one_given words none_given hp.0 hq.0 hp.1 hq.1 in
     plan_by hq.0 p q (subst (λ (o : Options). IsPlanOf o p) same hp.2) hq.2
+
+compile_by : (given : Options) (c d : CompilePlan) → IsCompileOf given c → IsCompileOf given d → c ≡ d
+compile_by given c d hc hd =
+    let passes : c.plan.passes ≡ d.plan.passes = hc.passes ∙ sym hd.passes in
+    let reserve : c.plan.reserve ≡ d.plan.reserve = hc.reserve ∙ sym hd.reserve in
+    let frame : c.frame ≡ d.frame = hc.frame ∙ sym hd.frame in
+    λ i. record { plan = record { passes = passes i; reserve = reserve i }; frame = frame i }
+
+one_compile : (words : List (List ℕ)) (c d : CompilePlan) → GivesCompile words c → GivesCompile words d → c ≡ d
+one_compile words c d hc hd =
+    let same : hc.0 ≡ hd.0 = one_given words none_given hc.0 hd.0 hc.1 hd.1 in
+    compile_by hd.0 c d (subst (λ (o : Options). IsCompileOf o c) same hc.2) hd.2
 
 run_by : (name : List ℕ) (count : ℕ) (given : Options) (r s : RunPlan) → IsRunPlanOf name count given r → IsRunPlanOf name count given s → r ≡ s
 run_by name count given r s hr hs =
@@ -150,7 +164,7 @@ other : (name : List ℕ) (words : List (List ℕ)) (a b : Command) → IsComman
 other name words a b ha hb = sym (named_by name words a ha) ∙ named_by name words b hb
 
 by_name : (name : List ℕ) (words : List (List ℕ)) (a b : Command) → sign_of a ≡ sign_of b → IsCommand (name ∷ words) a → IsCommand (name ∷ words) b → a ≡ b
-by_name name words (Compile p) (Compile q) e ha hb = ap (λ (x : PassPipeline). Compile x) (one_plan words p q ha.1 hb.1)
+by_name name words (Compile p) (Compile q) e ha hb = ap (λ (x : CompilePlan). Compile x) (one_compile words p q ha.1 hb.1)
 by_name name words (Compile p) (Listing q) e ha hb = absurd (omega (arith, e))
 by_name name words (Compile p) (Report q) e ha hb = absurd (omega (arith, e))
 by_name name words (Compile p) (Object q) e ha hb = absurd (omega (arith, e))
@@ -222,7 +236,7 @@ one_command (name ∷ words) a b ha hb = by_name name words a b (other name word
 
 -- ---- names whose options aren't given
 
-pub no_compile : (name : List ℕ) (words : List (List ℕ)) → name ≡ codes "compile" → ((p : PassPipeline) → GivesPlan words p → ⊥) →
+pub no_compile : (name : List ℕ) (words : List (List ℕ)) → name ≡ codes "compile" → ((p : CompilePlan) → GivesCompile words p → ⊥) →
     (c : Command) → IsCommand (name ∷ words) c → ⊥
 no_compile name words is none (Compile p) h = none p h.1
 no_compile name words is none (Listing p) h = let e : 321 ≡ 318 = sym (ap sign is) ∙ ap sign h.0 in omega (arith, e)
@@ -300,6 +314,24 @@ the_command words a is b = (
   λ e. subst (IsCommand words) (one_of a b e) is,
   λ other. ap (λ (x : Command). Some x) (one_command words a b is other),
 )
+
+-- what these options make is what the words ask for
+pub the_made : {A : Type 0} (Is : Options → A → Type 0) (words : List (List ℕ)) (o : Option Options) (given : Options) (made : Option A) → o ≡ Some given →
+    ((g : Options) → (o ≡ Some g) ↔ GiveOptions none_given words g) → ((a : A) → (made ≡ Some a) ↔ Is given a) → (a : A) →
+    (made ≡ Some a) ↔ ((g : Options) × GiveOptions none_given words g × Is g a)
+the_made Is words o given made some gives is a = (
+  λ e. (given, (gives given).0 some, (is a).0 e),
+  λ h. (
+      let same : h.0 ≡ given = one_of h.0 given (sym ((gives h.0).1 h.1) ∙ some) in
+      (is a).1 (subst (λ (g : Options). Is g a) same h.2)),
+)
+
+-- words with `--frame` ask for no run
+pub no_steps : (name word : List ℕ) (words : List (List ℕ)) (given : Options) → GiveOptions none_given words given → given.frame ≡ true → (run : RunPlan) →
+    GivesSteps name word words run → ⊥
+no_steps name word words given give framed run h =
+    let one : h.given ≡ given = one_given words none_given h.given given h.give give in
+    let none : given.frame ≡ false = ap (λ (g : Options). g.frame) (sym one) ∙ h.is.no_frame in cc
 
 -- words whose options ask for these runs ask for them too
 pub the_steps : (name named word : List ℕ) (words : List (List ℕ)) (count : ℕ) (given : Options) (found : RunPlan) → named ≡ name →

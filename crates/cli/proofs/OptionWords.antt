@@ -1,5 +1,5 @@
 -- Words tell their option and its value.
-use Rattle.std.proofs.Common.{◌≡◌, ◌↔◌, ℕ, ◌<◌, ◌^◌, List, ◌++◌, get_or, drop, Option, Some, None, refl, sym, ap, ◌∙◌, subst, arith}
+use Rattle.std.proofs.Common.{◌≡◌, ◌↔◌, ℕ, ◌<◌, ◌^◌, List, ◌++◌, codes, get_or, drop, Option, Some, None, refl, sym, ap, ◌∙◌, subst, arith}
 use Rattle.std.specs.List.{Contains}
 use Rattle.std.specs.Fmt.{decimal}
 use Rattle.cli_numbers.specs.Numbers.{AreListed, IsOption}
@@ -11,7 +11,7 @@ use Rattle.rv64_instr.specs.Reserve.{RESERVABLE}
 use Rattle.cli_numbers.specs.Reserve.{register_name, IsReserveText}
 use Rattle.cli_numbers.proofs.Names.{names}
 use Rattle.cli.specs.declared.option.CommandOption.{CommandOption}
-use Rattle.cli.specs.declared.option.CommandOption.TheVariants.{Passes, Reserve, Arguments, Answers}
+use Rattle.cli.specs.declared.option.CommandOption.TheVariants.{Passes, Reserve, Arguments, Answers, Frame}
 use Rattle.cli.specs.Options.{registers_text, numbers_text, word_of, IsAllowed, IsWordOf}
 
 -- ---- one option for a word
@@ -48,23 +48,44 @@ answers_reserve a r = differ 2 97 114 (word_of (Answers a)) (word_of (Reserve r)
 answers_arguments : (a b : List ℕ) → (word_of (Answers a) ≡ word_of (Arguments b) → ⊥) × (word_of (Arguments b) ≡ word_of (Answers a) → ⊥)
 answers_arguments a b = differ 3 110 114 (word_of (Answers a)) (word_of (Arguments b)) refl refl (omega arith)
 
+frame_passes : (l : List PassKind) → (word_of Frame ≡ word_of (Passes l) → ⊥) × (word_of (Passes l) ≡ word_of Frame → ⊥)
+frame_passes l = differ 2 102 112 (word_of Frame) (word_of (Passes l)) refl refl (omega arith)
+
+frame_reserve : (r : List ℕ) → (word_of Frame ≡ word_of (Reserve r) → ⊥) × (word_of (Reserve r) ≡ word_of Frame → ⊥)
+frame_reserve r = differ 2 102 114 (word_of Frame) (word_of (Reserve r)) refl refl (omega arith)
+
+arguments_frame : (a : List ℕ) → (word_of (Arguments a) ≡ word_of Frame → ⊥) × (word_of Frame ≡ word_of (Arguments a) → ⊥)
+arguments_frame a = differ 2 97 102 (word_of (Arguments a)) (word_of Frame) refl refl (omega arith)
+
+answers_frame : (a : List ℕ) → (word_of (Answers a) ≡ word_of Frame → ⊥) × (word_of Frame ≡ word_of (Answers a) → ⊥)
+answers_frame a = differ 2 97 102 (word_of (Answers a)) (word_of Frame) refl refl (omega arith)
+
 one_option : (a b : CommandOption) → IsAllowed a → IsAllowed b → word_of a ≡ word_of b → a ≡ b
 one_option (Passes l) (Passes m) ha hb e = ap (λ (x : List PassKind). Passes x) (one_list l m (ap (drop 9) e))
 one_option (Passes l) (Reserve r) ha hb e = absurd ((passes_reserve l r).0 e)
 one_option (Passes l) (Arguments a) ha hb e = absurd ((arguments_passes a l).1 e)
 one_option (Passes l) (Answers a) ha hb e = absurd ((answers_passes a l).1 e)
+one_option (Passes l) Frame ha hb e = absurd ((frame_passes l).1 e)
 one_option (Reserve r) (Passes l) ha hb e = absurd ((passes_reserve l r).1 e)
 one_option (Reserve r) (Reserve s) ha hb e = ap (λ (x : List ℕ). Reserve x) (one_reserve r s ha hb (ap (drop 10) e))
 one_option (Reserve r) (Arguments a) ha hb e = absurd ((arguments_reserve a r).1 e)
 one_option (Reserve r) (Answers a) ha hb e = absurd ((answers_reserve a r).1 e)
+one_option (Reserve r) Frame ha hb e = absurd ((frame_reserve r).1 e)
 one_option (Arguments a) (Passes l) ha hb e = absurd ((arguments_passes a l).0 e)
 one_option (Arguments a) (Reserve r) ha hb e = absurd ((arguments_reserve a r).0 e)
 one_option (Arguments a) (Arguments b) ha hb e = ap (λ (x : List ℕ). Arguments x) (one_numbers 8 a b ha hb (ap (drop 7) e))
 one_option (Arguments a) (Answers b) ha hb e = absurd ((answers_arguments b a).1 e)
+one_option (Arguments a) Frame ha hb e = absurd ((arguments_frame a).0 e)
 one_option (Answers a) (Passes l) ha hb e = absurd ((answers_passes a l).0 e)
 one_option (Answers a) (Reserve r) ha hb e = absurd ((answers_reserve a r).0 e)
 one_option (Answers a) (Arguments b) ha hb e = absurd ((answers_arguments a b).0 e)
 one_option (Answers a) (Answers b) ha hb e = ap (λ (x : List ℕ). Answers x) (one_numbers 64 a b ha hb (ap (drop 10) e))
+one_option (Answers a) Frame ha hb e = absurd ((answers_frame a).0 e)
+one_option Frame (Passes l) ha hb e = absurd ((frame_passes l).0 e)
+one_option Frame (Reserve r) ha hb e = absurd ((frame_reserve r).0 e)
+one_option Frame (Arguments a) ha hb e = absurd ((arguments_frame a).1 e)
+one_option Frame (Answers a) ha hb e = absurd ((answers_frame a).1 e)
+one_option Frame Frame ha hb e = refl
 
 one_value : (a b : CommandOption) → ◌≡◌ {A = Option CommandOption} (Some a) (Some b) → a ≡ b
 one_value a b e = cc
@@ -77,14 +98,16 @@ the_option word a is b = (
   λ other. ap (λ (x : CommandOption). Some x) (one_option a b is.1 other.1 (sym is.0 ∙ other.0)),
 )
 
--- a word that is no option with a value of any kind is none
-pub no_option : (word : List ℕ) → ((l : List PassKind) → IsWordOf (Passes l) word → ⊥) → ((r : List ℕ) → IsWordOf (Reserve r) word → ⊥) →
+-- a word that is no option of any kind is none
+pub no_option : (word : List ℕ) → (word ≡ codes "--frame" → ⊥) → ((l : List PassKind) → IsWordOf (Passes l) word → ⊥) →
+    ((r : List ℕ) → IsWordOf (Reserve r) word → ⊥) →
     ((a : List ℕ) → IsWordOf (Arguments a) word → ⊥) → ((a : List ℕ) → IsWordOf (Answers a) word → ⊥) → (b : CommandOption) →
     (◌≡◌ {A = Option CommandOption} None (Some b)) ↔ IsWordOf b word
-no_option word p r n a (Passes l) = (λ e. absurd cc, λ h. absurd (p l h))
-no_option word p r n a (Reserve s) = (λ e. absurd cc, λ h. absurd (r s h))
-no_option word p r n a (Arguments b) = (λ e. absurd cc, λ h. absurd (n b h))
-no_option word p r n a (Answers b) = (λ e. absurd cc, λ h. absurd (a b h))
+no_option word f p r n a (Passes l) = (λ e. absurd cc, λ h. absurd (p l h))
+no_option word f p r n a (Reserve s) = (λ e. absurd cc, λ h. absurd (r s h))
+no_option word f p r n a (Arguments b) = (λ e. absurd cc, λ h. absurd (n b h))
+no_option word f p r n a (Answers b) = (λ e. absurd cc, λ h. absurd (a b h))
+no_option word f p r n a Frame = (λ e. absurd cc, λ h. absurd (f h.0))
 
 -- ---- numbers and registers as they are read
 

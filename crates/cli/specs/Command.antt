@@ -1,5 +1,5 @@
 -- The commands, and the words of a command line that are each of them.
-use Rattle.std.specs.Prelude.{◌≡◌, ℕ, ◌≤◌, List, [], ◌∷◌, codes, Option, Some, None}
+use Rattle.std.specs.Prelude.{◌≡◌, ℕ, ◌≤◌, false, List, [], ◌∷◌, codes, Option, Some, None}
 use Rattle.std.specs.Fmt.{decimal}
 use Rattle.cli_numbers.specs.declared.generation.Generation.{Generation}
 use Rattle.cli_numbers.specs.Numbers.{IsGeneration}
@@ -8,6 +8,7 @@ use Rattle.cli.specs.Options.{none_given, GiveOptions}
 use Rattle.cli.specs.declared.command.Command.{Command}
 use Rattle.cli.specs.declared.command.Command.TheVariants.{Compile, Listing, Report, Object, Run, Strip, Gen, SelfTest}
 use Rattle.cli.specs.declared.command.PassPipeline.{PassPipeline}
+use Rattle.cli.specs.declared.command.CompilePlan.{CompilePlan}
 use Rattle.cli.specs.declared.command.RunPlan.{RunPlan}
 use Rattle.cli.specs.declared.command.TestPlan.{TestPlan}
 use Rattle.pass_list.specs.declared.kind.PassKind.{PassKind}
@@ -28,18 +29,31 @@ abbrev pub passes_in : Option (List PassKind) → List PassKind
 passes_in None = STANDARD
 passes_in (Some passes) = passes
 
--- the plan of these options, which may include `--passes` and `--reserve` but no numbers
+-- the plan of these options, which may include `--passes` and `--reserve` but no other
 pub record IsPlanOf (given : Options) (plan : PassPipeline) : Type 0 where
   pub passes : plan.passes ≡ passes_in given.passes
   pub reserve : plan.reserve ≡ reserve_in given.reserve
   pub no_arguments : given.arguments ≡ None
   pub no_answers : given.answers ≡ None
+  pub no_frame : given.frame ≡ false
+
+-- what `compile` writes with these options, which may include `--passes`, `--reserve` and `--frame` but no numbers
+pub record IsCompileOf (given : Options) (c : CompilePlan) : Type 0 where
+  pub passes : c.plan.passes ≡ passes_in given.passes
+  pub reserve : c.plan.reserve ≡ reserve_in given.reserve
+  pub frame : c.frame ≡ given.frame
+  pub no_arguments : given.arguments ≡ None
+  pub no_answers : given.answers ≡ None
+
+-- the words are options, in any order and each at most once, and this is what `compile` writes with them
+abbrev pub GivesCompile : (words : List (List ℕ)) → CompilePlan → Type 0
+GivesCompile words c = (given : Options) × GiveOptions none_given words given × IsCompileOf given c
 
 -- the words are options, in any order and each at most once, with this plan
 abbrev pub GivesPlan : (words : List (List ℕ)) → PassPipeline → Type 0
 GivesPlan words plan = (given : Options) × GiveOptions none_given words given × IsPlanOf given plan
 
--- the run of the function with this name, for at most `count` steps, with these options, which may be any
+-- the run of the function with this name, for at most `count` steps, with these options, which may be any but `--frame`
 pub record IsRunPlanOf (name : List ℕ) (count : ℕ) (given : Options) (run : RunPlan) : Type 0 where
   pub named : run.name ≡ name
   pub steps : run.steps ≡ count
@@ -47,6 +61,7 @@ pub record IsRunPlanOf (name : List ℕ) (count : ℕ) (given : Options) (run : 
   pub reserve : run.plan.reserve ≡ reserve_in given.reserve
   pub arguments : run.arguments ≡ numbers_in given.arguments
   pub answers : run.answers ≡ numbers_in given.answers
+  pub no_frame : given.frame ≡ false
 
 -- the greatest number of steps of a run
 abbrev pub MAX_STEPS : ℕ
@@ -87,7 +102,7 @@ GivesTest (number ∷ blocks ∷ words) test = GivesTestOf number blocks words t
 -- the words are a command: its name, and then what it needs
 abbrev pub IsCommand : (words : List (List ℕ)) → Command → Type 0
 IsCommand [] command = ⊥
-IsCommand (name ∷ words) (Compile plan) = (name ≡ codes "compile") × GivesPlan words plan
+IsCommand (name ∷ words) (Compile c) = (name ≡ codes "compile") × GivesCompile words c
 IsCommand (name ∷ words) (Listing plan) = (name ≡ codes "listing") × GivesPlan words plan
 IsCommand (name ∷ words) (Report plan) = (name ≡ codes "report") × GivesPlan words plan
 IsCommand (name ∷ words) (Object plan) = (name ≡ codes "object") × GivesPlan words plan

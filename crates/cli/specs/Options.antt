@@ -1,12 +1,12 @@
 -- The options of a command.
-use Rattle.std.specs.Prelude.{◌≡◌, ℕ, List, [], ◌∷◌, ◌++◌, codes, map, Some, None}
+use Rattle.std.specs.Prelude.{◌≡◌, ℕ, true, false, List, [], ◌∷◌, ◌++◌, codes, map, Some, None}
 use Rattle.std.specs.List.{join_with_byte}
 use Rattle.std.specs.Fmt.{decimal}
 use Rattle.cli_numbers.specs.Numbers.{AreListed}
 use Rattle.pass_list.specs.Names.{text_of, AreDistinct}
 use Rattle.cli_numbers.specs.Reserve.{register_name, IsReserveText}
 use Rattle.cli.specs.declared.option.CommandOption.{CommandOption}
-use Rattle.cli.specs.declared.option.CommandOption.TheVariants.{Passes, Reserve, Arguments, Answers}
+use Rattle.cli.specs.declared.option.CommandOption.TheVariants.{Passes, Reserve, Arguments, Answers, Frame}
 use Rattle.cli.specs.declared.given.Options.{Options}
 
 -- the text of registers: their names, separated by commas
@@ -17,12 +17,13 @@ registers_text registers = join_with_byte 44 (map register_name registers)
 abbrev pub numbers_text : List ℕ → List ℕ
 numbers_text values = join_with_byte 44 (map decimal values)
 
--- the word for an option and its value
+-- the word for an option and its value, if it has one
 abbrev pub word_of : CommandOption → List ℕ
 word_of (Passes list) = codes "--passes=" ++ text_of list
 word_of (Reserve registers) = codes "--reserve=" ++ registers_text registers
 word_of (Arguments values) = codes "--args=" ++ numbers_text values
 word_of (Answers values) = codes "--answers=" ++ numbers_text values
+word_of Frame = codes "--frame"
 
 -- the values that an option may have: passes, each once; one or more registers that may be reserved, each once; one to eight numbers of 64 bits; one to 64
 -- numbers of 64 bits
@@ -31,6 +32,7 @@ IsAllowed (Passes list) = AreDistinct list
 IsAllowed (Reserve registers) = IsReserveText (registers_text registers) registers
 IsAllowed (Arguments values) = AreListed 8 (numbers_text values) values
 IsAllowed (Answers values) = AreListed 64 (numbers_text values) values
+IsAllowed Frame = Unit {0}
 
 -- the word is this option, with a value that it may have
 abbrev pub IsWordOf : CommandOption → List ℕ → Type 0
@@ -38,7 +40,7 @@ IsWordOf option word = (word ≡ word_of option) × IsAllowed option
 
 -- no option is given
 abbrev pub none_given : Options
-none_given = record { passes = None; reserve = None; arguments = None; answers = None }
+none_given = record { passes = None; reserve = None; arguments = None; answers = None; frame = false }
 
 -- the options after adding one that isn't among them yet
 abbrev pub IsWith : Options → CommandOption → Options → Type 0
@@ -46,6 +48,7 @@ IsWith given (Passes list) next = (given.passes ≡ None) × (next ≡ record gi
 IsWith given (Reserve registers) next = (given.reserve ≡ None) × (next ≡ record given { reserve = Some registers })
 IsWith given (Arguments values) next = (given.arguments ≡ None) × (next ≡ record given { arguments = Some values })
 IsWith given (Answers values) next = (given.answers ≡ None) × (next ≡ record given { answers = Some values })
+IsWith given Frame next = (given.frame ≡ false) × (next ≡ record given { frame = true })
 
 -- the options after adding the one in a word, which isn't among them yet
 pub record GivesOption (given : Options) (word : List ℕ) (next : Options) : Type 0 where

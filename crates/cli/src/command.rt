@@ -1,9 +1,10 @@
 //! The commands, and the words of a command line that are each of them.
 
-ghost use Rattle.std.specs.Prelude.{◌≡◌, ◌↔◌, ◌∷◌, [], map, string_bytes, Some, IfOk};
+ghost use Rattle.std.specs.Prelude.{◌≡◌, ◌↔◌, ◌∷◌, [], false, map, string_bytes, Some, IfOk};
 ghost use Rattle.cli.specs.Command.{IsCommand, IsPlain, GivesPlan, IsPlanOf, reserve_in};
 ghost use Rattle.cli.specs.Command.{GivesRun, GivesSteps, IsRunPlanOf, numbers_in, passes_in};
-ghost use Rattle.cli.specs.Command.{GivesTest, GivesTestOf};
+ghost use Rattle.cli.specs.Command.{GivesTest, GivesTestOf, GivesCompile, IsCompileOf};
+ghost use Rattle.cli.specs.declared.command.CompilePlan.{CompilePlan};
 ghost use Rattle.cli.specs.declared.command.Command.{Command};
 ghost use Rattle.cli.specs.declared.command.PassPipeline.{PassPipeline};
 ghost use Rattle.cli.specs.declared.command.RunPlan.{RunPlan};
@@ -30,6 +31,15 @@ pub struct PassPipeline {
     pub passes: PassList,
     /// The registers that may be spilled.
     pub reserve: Registers,
+}
+
+/// What `compile` writes.
+#[derive(Debug, Drop)]
+pub struct CompilePlan {
+    /// The passes before compilation, and the registers that may be spilled.
+    pub plan: PassPipeline,
+    /// Whether the section `.debug_frame` is among the sections.
+    pub frame: bool,
 }
 
 /// The run of a function.
@@ -60,7 +70,7 @@ pub struct TestPlan {
 #[derive(Debug, Drop)]
 pub enum Command {
     /// Writes the sections and the listing of each function after passes.
-    Compile(PassPipeline),
+    Compile(CompilePlan),
     /// Writes the listing of each function alone after passes.
     Listing(PassPipeline),
     /// Writes at how many of each function's words each variable has a location, after passes, and what the passes
@@ -80,10 +90,10 @@ pub enum Command {
 
 /// The command that the words are; `None` if they are none. `compile`, `listing`, `report` and `object` have options
 /// in any order: a list of passes, as `--passes=copy,fold` or `--passes=none`, and registers that may be spilled, as
-/// `--reserve=x8,x18`. `run` has a function's name, its greatest number of steps, 0 to 1,000,000, and these options,
-/// as well as the function's arguments, as `--args=1,2`, and the return values of its calls, as `--answers=3`.
-/// `strip` has nothing else. `gen` has the number of a function, 0 to 65,536, and its number of blocks, 1 to 512.
-/// `selftest` has such numbers and the options of `compile`.
+/// `--reserve=x8,x18`. `compile` has the option `--frame` too. `run` has a function's name, its greatest number of
+/// steps, 0 to 1,000,000, and the options of `listing`, as well as the function's arguments, as `--args=1,2`, and the
+/// return values of its calls, as `--answers=3`. `strip` has nothing else. `gen` has the number of a function, 0 to
+/// 65,536, and its number of blocks, 1 to 512. `selftest` has such numbers and the options of `listing`.
 pub fn parse(alloc: Global, words: &[String]) -> Result<Option<Command>, AllocError>
     ensures { IfOk result (λ o. (command : Command) →
         (o ≡ Some command) ↔ IsCommand (map string_bytes words.now) command) }
@@ -100,7 +110,7 @@ fn named(alloc: Global, name: &str, words: &[String]) -> Result<Option<Command>,
         (o ≡ Some command) ↔ IsCommand (name.now ∷ map string_bytes words.now) command) }
 {
     if is_same(name, "compile") {
-        return match plan_asked(alloc, words)? {
+        return match compile_asked(alloc, words)? {
             Some(plan) => Ok(Some(Command::Compile(plan))),
             None => Ok(None),
         };
@@ -156,7 +166,41 @@ fn without_plan(name: &str, words: &[String]) -> Option<Command>
     }
 }
 
-/// The plan of options; `None` if a word is no option, an option repeats, or one has numbers.
+/// What `compile` writes with options; `None` if a word is no option, an option repeats, or one has numbers.
+fn compile_asked(alloc: Global, words: &[String]) -> Result<Option<CompilePlan>, AllocError>
+    ensures { IfOk result (λ o. (plan : CompilePlan) →
+        (o ≡ Some plan) ↔ GivesCompile (map string_bytes words.now) plan) }
+{
+    match options(alloc, words)? {
+        Some(given) => Ok(compile_of(alloc, given)),
+        None => Ok(None),
+    }
+}
+
+/// What `compile` writes with options; `None` if numbers are among them.
+fn compile_of(alloc: Global, given: Options) -> Option<CompilePlan>
+    ensures { (plan : CompilePlan) → (result ≡ Some plan) ↔ IsCompileOf given plan }
+{
+    let Options {
+        passes,
+        reserve,
+        arguments,
+        answers,
+        frame,
+    } = given;
+    if arguments.is_some() || answers.is_some() {
+        return None;
+    }
+    Some(CompilePlan {
+        plan: PassPipeline {
+            passes: passes_in(passes),
+            reserve: reserve_in(alloc, reserve),
+        },
+        frame,
+    })
+}
+
+/// The plan of options; `None` if a word is no option, an option repeats, or one isn't of a plan.
 fn plan_asked(alloc: Global, words: &[String]) -> Result<Option<PassPipeline>, AllocError>
     ensures { IfOk result (λ o. (plan : PassPipeline) → (o ≡ Some plan) ↔ GivesPlan (map string_bytes words.now) plan) }
 {
@@ -166,7 +210,7 @@ fn plan_asked(alloc: Global, words: &[String]) -> Result<Option<PassPipeline>, A
     }
 }
 
-/// The plan of options; `None` if numbers are among them.
+/// The plan of options; `None` if others are among them.
 fn plan_of(alloc: Global, given: Options) -> Option<PassPipeline>
     ensures { (plan : PassPipeline) → (result ≡ Some plan) ↔ IsPlanOf given plan }
 {
@@ -175,8 +219,9 @@ fn plan_of(alloc: Global, given: Options) -> Option<PassPipeline>
         reserve,
         arguments,
         answers,
+        frame,
     } = given;
-    if arguments.is_some() || answers.is_some() {
+    if arguments.is_some() || answers.is_some() || frame {
         return None;
     }
     Some(PassPipeline {
@@ -211,12 +256,17 @@ fn steps_asked(
     let Some(given) = options(alloc, words)? else {
         return Ok(None);
     };
+    let with_frame = given.frame;
+    if with_frame {
+        return Ok(None);
+    }
     let name = Name::from_slice(alloc, name.as_bytes())?;
     Ok(Some(run_of(alloc, name, count as u32, given)))
 }
 
 /// The run of the function with this name, for at most `steps` steps, with options.
 fn run_of(alloc: Global, name: Name, steps: u32, given: Options) -> RunPlan
+    requires { given.frame ≡ false }
     ensures { (run : RunPlan) → (result ≡ run) ↔ IsRunPlanOf name steps given run }
 {
     let Options {
@@ -224,6 +274,7 @@ fn run_of(alloc: Global, name: Name, steps: u32, given: Options) -> RunPlan
         reserve,
         arguments,
         answers,
+        frame: _,
     } = given;
     RunPlan {
         name,

@@ -20,6 +20,8 @@ pub struct Options {
     pub arguments: Option<Numbers>,
     /// The return values of the functions that it calls.
     pub answers: Option<Numbers>,
+    /// Whether the section `.debug_frame` is asked for.
+    pub frame: bool,
 }
 
 impl Options {
@@ -32,6 +34,7 @@ impl Options {
             reserve: None,
             arguments: None,
             answers: None,
+            frame: false,
         }
     }
 
@@ -66,6 +69,13 @@ impl Options {
                     return None;
                 }
                 self.answers = Some(values);
+                Some(self)
+            }
+            CommandOption::Frame => {
+                if self.frame {
+                    return None;
+                }
+                self.frame = true;
                 Some(self)
             }
         }

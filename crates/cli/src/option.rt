@@ -8,6 +8,7 @@ ghost use Rattle.cli.specs.declared.option.CommandOption.TheVariants.{Passes, Re
 
 use cli_numbers::list::{Numbers, option};
 use cli_numbers::text::reserve_list;
+use pass_list::kind::is_same;
 use pass_list::list::PassList;
 use pass_list::text::pass_list;
 use rv64_instr::reg::Registers;
@@ -30,12 +31,17 @@ pub enum CommandOption {
     Arguments(Numbers),
     /// `--answers=` and the return values of calls, one to 64.
     Answers(Numbers),
+    /// `--frame`: with the section `.debug_frame`.
+    Frame,
 }
 
 /// The option that a word is; `None` if it is none.
 pub fn command_option(alloc: Global, word: &str) -> Result<Option<CommandOption>, AllocError>
     ensures { IfOk result (λ o. (given : CommandOption) → (o ≡ Some given) ↔ IsWordOf given word.now) }
 {
+    if is_same(word, "--frame") {
+        return Ok(Some(CommandOption::Frame));
+    }
     if let Some(list) = passes(word) {
         return Ok(Some(CommandOption::Passes(list)));
     }

@@ -1,13 +1,20 @@
 use Rattle.std.proofs.Common.{◌≤◌, map, ◌∙◌, arith}
 use Rattle.std.specs.Prelude.{string_bytes}
 use Rattle.cli.specs.Command.{MAX_STEPS}
-use Rattle.cli.proofs.CommandWords.{the_steps}
+use Rattle.cli.proofs.CommandWords.{the_steps, no_steps, no_some}
 use Rattle.cli.proofs.command.steps_asked.Goals as goal
 
 pub overflow_cast-count : goal.overflow_cast-count
 overflow_cast-count c =
     let few : c.in-Some.count ≤ MAX_STEPS = ((c.number.ensures c.in-Some.count).0 c.in-Some.is).1 in
     omega (arith, few)
+
+pub returns-then-with_frame : goal.returns-then-with_frame
+returns-then-with_frame c = λ run. (
+  λ e. absurd (no_some run e),
+  λ h. absurd (no_steps c.args.name.now c.args.steps.now (map string_bytes c.args.words.now) c.in-Some-2.given
+      ((c.in_ok-given.ensures c.in-Some-2.given).0 c.in-Some-2.is) c.if-with_frame.true run h),
+)
 
 pub returns : goal.returns
 returns c =
