@@ -1,7 +1,7 @@
 -- A text shows at most one output.
 use Rattle.std.specs.Prelude.{Bool, true, false, nat_eq, nat_lt, codes, All, IfSome}
 use Rattle.std.specs.List.{flat_map}
-use Rattle.std.proofs.Common.{◌≡◌, ℕ, ◌<◌, List, [], ◌∷◌, ◌++◌, Option, Some, None, arith, ap, sym, ◌∙◌, refl, append_assoc, append-nil, subst, ◌^◌}
+use Rattle.std.proofs.Common.{◌≡◌, ℕ, ◌<◌, List, [], ◌∷◌, ◌++◌, length, Option, Some, None, arith, ap, sym, ◌∙◌, refl, append_assoc, append-nil, subst, ◌^◌}
 use Rattle.std.proofs.lemmas.Bool.{ne_eqb, lt-ltb}
 use Rattle.std.proofs.lemmas.List.Elements.{All-head, All-tail}
 use Rattle.mir_func.specs.declared.position.Origin.{Origin}
@@ -16,7 +16,7 @@ use Rattle.listing_text.specs.declared.output.Line.TheVariants.{Item, Skip}
 use Rattle.listing_text.specs.declared.output.ListedBlock.{ListedBlock}
 use Rattle.listing_text.specs.declared.output.ListedFunction.{ListedFunction}
 use Rattle.listing_text.specs.declared.output.Output.{Output}
-use Rattle.listing_text.specs.Output.{section_text, listing_text, function_line, variable_line, substitution_line, spaced_origin}
+use Rattle.listing_text.specs.Output.{section_text, section_if, listing_text, function_line, variable_line, substitution_line, spaced_origin}
 use Rattle.listing_text.specs.Output.{start_text, item_line, skip_line, skip_text, line_text, block_line, block_text, function_text, spelling, object_line}
 use Rattle.listing_text.specs.Shown.{IsPrintableLine, IsPrintableVariable, IsPrintableEntry, IsPrintableBlock, IsPrintableFunction, IsPrintableOutput, Shows}
 use Rattle.listing_text.specs.Shown.{IsPrintableObject, IsPrintableItem, IsPrintableSkip}
@@ -168,6 +168,17 @@ substitutions_tell = record {
   one = λ x y r s is others after afters e. substitution_line_one x y r s is others e;
 }
 
+-- ---- a section that may be absent
+
+section_if_one : (name : List ℕ) (a b : Option (List ℕ)) (r s : List ℕ) → IfSome a (λ bytes. IsNumber (length bytes))
+    → IfSome b (λ bytes. IsNumber (length bytes)) → begins_with 115 r ≡ false → begins_with 115 s ≡ false → section_if name a ++ r ≡ section_if name b ++ s
+    → (a ≡ b) × (r ≡ s)
+section_if_one name None None r s small other stop stops e = (refl, e)
+section_if_one name None (Some b) r s small other stop stops e = let both : false ≡ true = sym stop ∙ ap (begins_with 115) e in absurd cc
+section_if_one name (Some a) None r s small other stop stops e = let both : false ≡ true = sym stops ∙ ap (begins_with 115) (sym e) in absurd cc
+section_if_one name (Some a) (Some b) r s small other stop stops e =
+    let one = section_one name a b r s small other e in (ap (λ (bytes : List ℕ). Some bytes) one.0, one.1)
+
 -- ---- blocks
 
 abbrev EndsLines : List ℕ → Type 0
@@ -285,35 +296,41 @@ module _ (inlined : ℕ → Option ℕ) where
     one = function_one;
   }
 
+  no_section : (fs : List ListedFunction) → All (IsPrintableFunction inlined) fs → begins_with 115 (listing_text fs ++ []) ≡ false
+  no_section fs all = none_passes (IsPrintableFunction inlined) function_text (begins_with 115) (λ f r is. refl) fs [] all refl
+
   output_one : (o p : Output) → IsPrintableOutput inlined o → IsPrintableOutput inlined p → spelling o ≡ spelling p → o ≡ p
   output_one o p is others e =
       let left = output_parts (section_text (codes ".text") o.text) (section_text (codes ".debug_abbrev") o.abbreviations)
       (section_text (codes ".debug_info") o.info) (section_text (codes ".debug_line") o.rows) (section_text (codes ".debug_loclists") o.loclists)
-      (listing_text o.functions) in
+      (section_if (codes ".debug_frame") o.frame) (listing_text o.functions) in
       let right = output_parts (section_text (codes ".text") p.text) (section_text (codes ".debug_abbrev") p.abbreviations)
       (section_text (codes ".debug_info") p.info) (section_text (codes ".debug_line") p.rows) (section_text (codes ".debug_loclists") p.loclists)
-      (listing_text p.functions) in
+      (section_if (codes ".debug_frame") p.frame) (listing_text p.functions) in
       let text = section_one (codes ".text") o.text p.text _ _ is.text others.text (sym left ∙ (e ∙ right)) in
       let abbreviations = section_one (codes ".debug_abbrev") o.abbreviations p.abbreviations _ _ is.abbreviations others.abbreviations text.1 in
       let info = section_one (codes ".debug_info") o.info p.info _ _ is.info others.info abbreviations.1 in
       let rows = section_one (codes ".debug_line") o.rows p.rows _ _ is.rows others.rows info.1 in
       let lists = section_one (codes ".debug_loclists") o.loclists p.loclists _ _ is.loclists others.loclists rows.1 in
+      let frame = section_if_one (codes ".debug_frame") o.frame p.frame _ _ is.frame others.frame (no_section o.functions is.functions)
+      (no_section p.functions others.functions) lists.1 in
       let end : EndsFunction [] = record { lines = refl; blocks = refl; objects = refl; variables = refl; substitutions = refl } in
       let functions = many_one (IsPrintableFunction inlined) function_text begins_function EndsFunction functions_tell o.functions p.functions [] []
-      is.functions others.functions refl refl end end lists.1 in
+      is.functions others.functions refl refl end end frame.1 in
       λ k. record {
         text = text.0 k;
         abbreviations = abbreviations.0 k;
         info = info.0 k;
         rows = rows.0 k;
         loclists = lists.0 k;
+        frame = frame.0 k;
         functions = functions.0 k;
       }
     where
-      output_parts : (a b c d e f : List ℕ) → (a ++ b ++ c ++ d ++ e) ++ f ≡ a ++ (b ++ (c ++ (d ++ (e ++ (f ++ [])))))
-      output_parts a b c d e f =
-          let grouped : (a ++ b ++ c ++ d ++ e) ++ f ≡ a ++ (b ++ (c ++ (d ++ (e ++ f)))) = simp append_assoc in
-          grouped ∙ ap (λ (t : List ℕ). a ++ (b ++ (c ++ (d ++ (e ++ t))))) (sym (append-nil f))
+      output_parts : (a b c d e f g : List ℕ) → (a ++ b ++ c ++ d ++ e ++ f) ++ g ≡ a ++ (b ++ (c ++ (d ++ (e ++ (f ++ (g ++ []))))))
+      output_parts a b c d e f g =
+          let grouped : (a ++ b ++ c ++ d ++ e ++ f) ++ g ≡ a ++ (b ++ (c ++ (d ++ (e ++ (f ++ g))))) = simp append_assoc in
+          grouped ∙ ap (λ (t : List ℕ). a ++ (b ++ (c ++ (d ++ (e ++ (f ++ t)))))) (sym (append-nil g))
 
 pub one_reading : (inlined : ℕ → Option ℕ) (text : List ℕ) (o p : Output) → Shows inlined text o → Shows inlined text p → o ≡ p
 one_reading inlined text o p is others = output_one inlined o p is.printable others.printable (sym is.spelled ∙ others.spelled)

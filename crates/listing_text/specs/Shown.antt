@@ -103,6 +103,7 @@ pub record IsPrintableOutput (inlined : ℕ → Option ℕ) (o : Output) : Type 
   pub info : IsNumber (length o.info)
   pub rows : IsNumber (length o.rows)
   pub loclists : IsNumber (length o.loclists)
+  pub frame : IfSome o.frame (λ bytes. IsNumber (length bytes))
   pub functions : All (IsPrintableFunction inlined) o.functions
 
 -- the text is that of the output, which is printable

@@ -132,6 +132,8 @@ pub struct Output {
     pub rows: Bytes,
     /// `.debug_loclists`.
     pub loclists: Bytes,
+    /// `.debug_frame`, if it was asked for.
+    pub frame: Option<Bytes>,
     /// The functions.
     pub functions: ListedFunctions,
 }

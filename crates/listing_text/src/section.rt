@@ -1,7 +1,7 @@
 //! The text of sections.
 
 ghost use Rattle.std.specs.Prelude.{◌≡◌, ◌++◌, OnOk};
-ghost use Rattle.listing_text.specs.Output.{section_text, sections_text};
+ghost use Rattle.listing_text.specs.Output.{section_text, section_if, sections_text};
 
 use crate::hex::push_hex_lines;
 use crate::output::{Bytes, Output};
@@ -16,7 +16,18 @@ pub(crate) fn push_sections(text: &mut Text, output: &Output) -> Result<(), Allo
     push_section(text, ".debug_abbrev", &output.abbreviations)?;
     push_section(text, ".debug_info", &output.info)?;
     push_section(text, ".debug_line", &output.rows)?;
-    push_section(text, ".debug_loclists", &output.loclists)
+    push_section(text, ".debug_loclists", &output.loclists)?;
+    push_section_if(text, ".debug_frame", &output.frame)
+}
+
+/// Appends a section, if there is one.
+fn push_section_if(text: &mut Text, name: &str, bytes: &Option<Bytes>) -> Result<(), AllocError>
+    ensures { OnOk result (text.new ≡ text.old ++ section_if name.now bytes.now) }
+{
+    match bytes {
+        Some(bytes) => push_section(text, name, bytes),
+        None => Ok(()),
+    }
 }
 
 /// Appends a section: a line with its name and its length in bytes, and its bytes in hexadecimal.

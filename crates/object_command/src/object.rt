@@ -126,6 +126,7 @@ fn linked(
         info,
         rows,
         loclists,
+        frame: _,
         functions: _,
     } = output;
     let mut sections = Sections::new(alloc);

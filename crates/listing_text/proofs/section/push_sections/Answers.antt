@@ -1,6 +1,6 @@
 use Rattle.std.proofs.Common.{◌++◌, codes, refl}
 use Rattle.mir_printer.proofs.Appends.{joined, ended}
-use Rattle.listing_text.specs.Output.{section_text, sections_text}
+use Rattle.listing_text.specs.Output.{section_text, section_if, sections_text}
 use Rattle.listing_text.proofs.section.push_sections.Goals as goal
 
 pub returns : goal.returns
@@ -12,8 +12,11 @@ returns c =
     let info = section_text (codes ".debug_info") o.info in
     let rows = section_text (codes ".debug_line") o.rows in
     let lists = section_text (codes ".debug_loclists") o.loclists in
+    let frame = section_if (codes ".debug_frame") o.frame in
     let two = joined old c.push_section.new.text c.push_section-2.new.text text abbreviations c.in_ok-push_section.ensures c.in_ok-push_section-2.ensures in
     let three = joined old c.push_section-2.new.text c.push_section-3.new.text (text ++ abbreviations) info two c.in_ok-push_section-3.ensures in
     let four = joined old c.push_section-3.new.text c.push_section-4.new.text (text ++ abbreviations ++ info) rows three c.in_ok-push_section-4.ensures in
-    ended c.push_section-5.result old c.push_section-4.new.text c.push_section-5.new.text (text ++ abbreviations ++ info ++ rows) lists (sections_text o) four
-    c.push_section-5.ensures refl
+    let five = joined old c.push_section-4.new.text c.push_section-5.new.text (text ++ abbreviations ++ info ++ rows) lists four
+    c.in_ok-push_section-5.ensures in
+    ended c.push_section_if.result old c.push_section-5.new.text c.push_section_if.new.text (text ++ abbreviations ++ info ++ rows ++ lists) frame
+    (sections_text o) five c.push_section_if.ensures refl
