@@ -1,16 +1,24 @@
 //! The debug sections of functions and their machine code.
 
-ghost use Rattle.std.specs.Prelude.{◌≡◌, ◌-◌, ◌<◌, ◌≤◌, ◌^◌, All, IfOk, IsErrOf, length};
+ghost use Rattle.std.specs.Prelude.{◌≡◌, ◌-◌, ◌<◌, ◌≤◌, ◌^◌, [], All, IfOk, IsErrOf, length, map};
+ghost use Rattle.std.specs.List.{AllZip};
+ghost use Rattle.dwarf_frame.specs.Table.{IsDescription};
 ghost use Rattle.dwarf_info.specs.Entries.{spelling as entries_spelling};
 ghost use Rattle.dwarf_line.specs.Spelling.{spelling as rows_spelling};
 ghost use Rattle.dwarf_loclists.specs.Spelling.{spelling as lists_spelling};
 ghost use Rattle.dwarf_loclists.specs.Ranges.{Ascend, ArePlaces};
 ghost use Rattle.dwarf_loclists.specs.Grammar.{IsSection};
 ghost use Rattle.dwarf_sections.specs.declared.sections.SectionError.TheVariants.{Memory};
+ghost use Rattle.dwarf_sections.specs.Frame.{IsOfFunction, IsFrameSection, IsLargeFrameSection};
+ghost use Rattle.frame_table.specs.Table.{Describes};
 ghost use Rattle.dwarf_line_table.specs.Program.{MAX_FUNCTIONS, table_of};
 ghost use Rattle.dwarf_unit.specs.Unit.{program_variables, unit_of};
 ghost use Rattle.dwarf_base.specs.Limits.{SECTION_LIMIT};
 
+use base_list::List;
+use dwarf_frame::size::frame_size;
+use dwarf_frame::table::FrameDescription;
+use dwarf_frame::write::write_frame;
 use dwarf_info::size::info_size;
 use dwarf_info::write::write_info;
 use dwarf_line::size::line_size;
@@ -20,6 +28,7 @@ use dwarf_line_table::source_and_code::SourceAndCode;
 use dwarf_loclists::range::RangeLists;
 use dwarf_loclists::section::{lists_size, write_lists};
 use dwarf_unit::unit::make_unit;
+use frame_table::description::description;
 use listing_text::output::Bytes;
 use read_metadata::metadata::Metadata;
 use std::alloc::{AllocError, Global};
@@ -96,4 +105,33 @@ pub fn loclists(alloc: Global, lists: &RangeLists) -> Result<Bytes, SectionError
         return Err(SectionError::TooLarge);
     }
     Ok(write_lists(alloc, lists)?)
+}
+
+/// The section `.debug_frame` of functions, in which no register is undefined. It is `TooLarge` exactly from 2^31 bytes
+/// on.
+pub fn frame(alloc: Global, functions: &[Compiled]) -> Result<Bytes, SectionError>
+    requires { All (λ c. IsOfFunction c.code.now) functions.now }
+    ensures section { IfOk result (IsFrameSection [] (map (λ c. c.code.now) functions.now)) }
+    ensures small { IfOk result (λ bytes. length bytes < SECTION_LIMIT) }
+    ensures large { IsErrOf result SectionError.TooLarge →
+        IsLargeFrameSection [] (map (λ c. c.code.now) functions.now) }
+{
+    let table = descriptions(alloc, functions)?;
+    if frame_size(&[], table.as_slice()).is_none() {
+        return Err(SectionError::TooLarge);
+    }
+    Ok(write_frame(alloc, &[], table.as_slice())?)
+}
+
+/// The call frame information of functions' code, in their order.
+fn descriptions(alloc: Global, functions: &[Compiled]) -> Result<List<FrameDescription>, AllocError>
+    requires { All (λ c. IsOfFunction c.code.now) functions.now }
+    ensures describe { IfOk result (AllZip Describes (map (λ c. c.code.now) functions.now)) }
+    ensures writable { IfOk result (All IsDescription) }
+{
+    let mut table = List::new(alloc);
+    for function in functions {
+        table.push(description(alloc, function.code)?)?;
+    }
+    Ok(table)
 }
