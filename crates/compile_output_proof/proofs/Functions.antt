@@ -88,6 +88,10 @@ abbreviations_size = refl
 few_abbreviations : IsNumber (length abbreviations)
 few_abbreviations = let size = abbreviations_size in omega (arith, size)
 
+number_if : (o : Option (List ℕ)) → IfSome o (λ bytes. length bytes < SECTION_LIMIT) → IfSome o (λ bytes. IsNumber (length bytes))
+number_if None small = tt
+number_if (Some bytes) small = omega (arith, small)
+
 pub printable : OutputsArePrintable
 printable p functions o read passed compiled has =
     let text = has.text_small in
@@ -101,6 +105,7 @@ printable p functions o read passed compiled has =
       info = omega (arith, info);
       rows = omega (arith, rows);
       loclists = omega (arith, loclists);
+      frame = number_if o.frame has.frame_small;
       functions = functions_printable p.meta read.locations (names_of p.meta) 0 0 o.text compiled.lists p.functions functions o.functions
           read.functions passed (omega (arith, text)) (omega (arith, few)) compiled.functions;
     }

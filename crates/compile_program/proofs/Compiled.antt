@@ -1,9 +1,10 @@
--- Functions that are compiled one after the other: their code, their location lists, and the passes that made them.
+-- Functions that are compiled one after the other: their code, their location lists, the passes that made them, and their sections.
 use Rattle.std.proofs.Common.{◌≡◌, ℕ, suc, ◌+◌, ◌*◌, ◌<◌, List, [], ◌∷◌, ◌++◌, map, length, refl, sym, ap, ◌∙◌, subst, arith}
-use Rattle.std.specs.Prelude.{All}
+use Rattle.std.specs.Prelude.{All, IfSome}
 use Rattle.std.specs.List.{flat_map}
 use Rattle.std.specs.Int.{w32, to_le_bytes}
-use Rattle.std.proofs.lemmas.List.Elements.{All-nil, All-cons, All-append}
+use Rattle.std.proofs.lemmas.List.Elements.{All-nil, All-cons, All-append, All-head, All-tail}
+use Rattle.emit_code.specs.Laid.{LaidCode, IsCodeOf}
 use Rattle.emit_code.specs.Rule.{words_of}
 use Rattle.listing_text.specs.declared.output.ListedFunction.{ListedFunction}
 use Rattle.listing_text.specs.declared.output.Output.{Output}
@@ -22,16 +23,19 @@ use Rattle.compile_function.proofs.AfterPasses.{made_by}
 use Rattle.read_metadata.specs.Maps.{Maps}
 use Rattle.read_program.specs.declared.closing.Parsed.{Parsed}
 use Rattle.read_program.specs.declared.program.Program.{Program}
+use Rattle.mir_func.specs.Function.{Function, FramedFunction}
 use Rattle.compile_theorem.proofs.LaidOut.{lines_length}
 use Rattle.compile_theorem.specs.Compiled.{AreCompiled, bytes_of}
 use Rattle.compile_theorem.specs.Source.{PassedFunction}
 use Rattle.pass_list.specs.declared.kind.PassKind.{PassKind}
 use Rattle.compile_program.specs.Program.{ArePassed, AreCoded, HaveCode, IsCompiledAs, AreCompiledAs, IsOutputOf, IsLarge, HasLargeSection}
+use Rattle.compile_program.specs.Program.{HasLargeFrameSection}
 use Rattle.compile_program.specs.steps.Made.{AreMade}
 use Rattle.compile_program.proofs.Passed.{have_code}
 use Rattle.dwarf_line_table.specs.declared.source_and_code.SourceAndCode.{SourceAndCode}
 use Rattle.dwarf_line_table.specs.Program.{table_of}
 use Rattle.dwarf_unit.specs.Unit.{unit_of}
+use Rattle.dwarf_sections.specs.Frame.{IsOfFunction, IsFrameSection, IsLargeFrameSection}
 use Rattle.dwarf_unit.specs.Variables.{variables_of_function}
 
 module _ (names : ℕ → List ℕ) (reserve : List ℕ) (passes : List PassKind) where
@@ -122,6 +126,25 @@ module _ (names : ℕ → List ℕ) (reserve : List ℕ) (passes : List PassKind
       let rest = as_many_compiled f.high (first + length c.lists) ps fs cs onward in
       (ap (λ (n : ℕ). suc n) rest.0, ap (λ (n : ℕ). suc n) rest.1)
 
+-- ---- the code of each function
+
+all_of_functions : (base : ℕ) (fs : List Function) (codes : List LaidCode) → AreCoded base fs codes → All IsOfFunction codes
+all_of_functions base [] [] coded = All-nil IsOfFunction
+all_of_functions base [] (c ∷ codes) coded = absurd coded
+all_of_functions base (f ∷ fs) [] coded = absurd coded
+all_of_functions base (f ∷ fs) (c ∷ codes) (is, coded) =
+    All-cons IsOfFunction c codes (base, subst (λ (g : FramedFunction). IsCodeOf g base c) (sym is.framed) is)
+    (all_of_functions (base + 4 * length c.words) fs codes coded)
+
+abbrev code_in : Compiled → LaidCode
+code_in c = c.code.now
+
+of_each : (cs : List Compiled) → All IsOfFunction (map code_in cs) → All (λ (c : Compiled). IsOfFunction c.code.now) cs
+of_each [] all = All-nil (λ (c : Compiled). IsOfFunction c.code.now)
+of_each (c ∷ cs) all =
+    All-cons (λ (x : Compiled). IsOfFunction x.code.now) c cs (All-head IsOfFunction (code_in c) (map code_in cs) all)
+    (of_each cs (All-tail IsOfFunction (code_in c) (map code_in cs) all))
+
 -- ---- what was emitted of a program
 
 -- passes make as many functions as there are
@@ -148,6 +171,13 @@ module _ (meta : Maps) (reserve : List ℕ) (passes : List PassKind) (functions 
   emitted_code cs sources_are codes_are =
       have_code meta functions are.passed cs (map (λ (c : CompiledFunction). c.code) m.functions) are.are sources_are codes_are
       (all_coded (names_of meta) reserve passes 0 0 are.passed m.listings m.functions are.compiled)
+
+  pub emitted_of_functions : (cs : List Compiled) → map (λ c. c.code.now) cs ≡ map (λ c. c.code) m.functions →
+      All (λ (c : Compiled). IsOfFunction c.code.now) cs
+  emitted_of_functions cs codes_are =
+      of_each cs (subst (All IsOfFunction) (sym codes_are)
+      (all_of_functions 0 (map (λ p. p.function) are.passed) (map (λ c. c.code) m.functions)
+      (all_coded (names_of meta) reserve passes 0 0 are.passed m.listings m.functions are.compiled)))
 
   emitted_writable : AreWritable (lists_of m.functions)
   emitted_writable = all_writable (names_of meta) reserve passes 0 0 are.passed m.listings m.functions are.compiled
@@ -186,11 +216,22 @@ module _ (p : Program) (reserve : List ℕ) (passes : List PassKind) (m : Emitte
     large = large;
   }
 
+  pub large_frame_section : IsLargeFrameSection [] (map (λ c. c.code.now) cs) → HasLargeFrameSection (steps_of reserve passes) p
+  large_frame_section large = record {
+    functions = are.passed;
+    passed = are.are;
+    made = emitted_made p.meta reserve passes p.functions m are;
+    compiled = cs;
+    coded = emitted_code p.meta reserve passes p.functions m are cs sources_are codes_are;
+    large = large;
+  }
+
   pub whole_output : (o : Output) → o.text ≡ m.text → o.functions ≡ m.listings → IsSection o.loclists lists → o.abbreviations ≡ abbreviations →
       o.info ≡ entries_spelling (unit_of p.meta (length o.text) cs) → o.rows ≡ rows_spelling (table_of p.meta cs) →
-      length o.text < SECTION_LIMIT → length o.info < SECTION_LIMIT → length o.rows < SECTION_LIMIT → length o.loclists < SECTION_LIMIT →
+      IfSome o.frame (IsFrameSection [] (map (λ c. c.code.now) cs)) → length o.text < SECTION_LIMIT → length o.info < SECTION_LIMIT →
+      length o.rows < SECTION_LIMIT → length o.loclists < SECTION_LIMIT → IfSome o.frame (λ bytes. length bytes < SECTION_LIMIT) →
       IsOutputOf (steps_of reserve passes) p o
-  whole_output o text_is listings_are section abbreviations_are info_is rows_are text_small info_small rows_small loclists_small = record {
+  whole_output o text_is listings_are section abbreviations_are info_is rows_are frame_is text_small info_small rows_small loclists_small frame_small = record {
     functions = are.passed;
     passed = are.are;
     made = emitted_made p.meta reserve passes p.functions m are;
@@ -208,9 +249,11 @@ module _ (p : Program) (reserve : List ℕ) (passes : List PassKind) (m : Emitte
       abbreviations = abbreviations_are;
       info = info_is;
       rows = rows_are;
+      frame = frame_is;
       text_small = text_small;
       info_small = info_small;
       rows_small = rows_small;
       loclists_small = loclists_small;
+      frame_small = frame_small;
     };
   }

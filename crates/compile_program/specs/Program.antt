@@ -1,5 +1,5 @@
 -- The output of compiling a program.
-use Rattle.std.specs.Prelude.{◌≡◌, ℕ, ◌+◌, ◌*◌, ◌<◌, ◌≤◌, ◌⊎◌, List, [], ◌∷◌, length, map, All, Contains}
+use Rattle.std.specs.Prelude.{◌≡◌, ℕ, ◌+◌, ◌*◌, ◌<◌, ◌≤◌, ◌⊎◌, List, [], ◌∷◌, length, map, All, Contains, IfSome}
 use Rattle.emit_code.specs.Laid.{LaidCode, IsCodeOf}
 use Rattle.emit_code.specs.Rule.{words_of}
 use Rattle.listing_text.specs.declared.output.ListedFunction.{ListedFunction}
@@ -27,6 +27,7 @@ use Rattle.pass_list.specs.declared.kind.PassKind.{PassKind}
 use Rattle.compile_program.specs.declared.compile.Compilation.{Compilation}
 use Rattle.dwarf_line_table.specs.declared.source_and_code.SourceAndCode.{SourceAndCode}
 use Rattle.dwarf_line_table.specs.Program.{table_of}
+use Rattle.dwarf_sections.specs.Frame.{IsFrameSection, IsLargeFrameSection}
 use Rattle.dwarf_unit.specs.Unit.{unit_of}
 use Rattle.dwarf_unit.specs.Variables.{variables_of_function}
 
@@ -87,7 +88,8 @@ AreCompiledAs names reserve passes base first (p ∷ ps) (f ∷ fs) (c ∷ cs) =
 -- ---- sections
 
 -- `.debug_abbrev`, `.debug_info` and `.debug_line` encode the abbreviations, the unit and the line number table of the program. `.text`,
--- `.debug_info`, `.debug_line` and `.debug_loclists` are below the size limit.
+-- `.debug_info`, `.debug_line` and `.debug_loclists` are below the size limit. `.debug_frame`, if there is one, encodes the call frame information of the
+-- functions' machine code, and is below the limit too.
 pub record HasSections (meta : Maps) (functions : List PassedFunction) (o : Output) : Type 0 where
   pub compiled : List SourceAndCode
   pub coded : HaveCode functions compiled
@@ -98,6 +100,8 @@ pub record HasSections (meta : Maps) (functions : List PassedFunction) (o : Outp
   pub info_small : length o.info < SECTION_LIMIT
   pub rows_small : length o.rows < SECTION_LIMIT
   pub loclists_small : length o.loclists < SECTION_LIMIT
+  pub frame : IfSome o.frame (IsFrameSection [] (map (λ c. c.code.now) compiled))
+  pub frame_small : IfSome o.frame (λ bytes. length bytes < SECTION_LIMIT)
 
 -- ---- outputs
 
@@ -147,3 +151,12 @@ pub record HasLargeSection (steps : List PassStep) (p : Program) : Type 0 where
   pub laid : AreCompiled (names_of p.meta) 0 0 text lists functions listed
   pub coded : HaveCode functions compiled
   pub large : IsLarge p.meta (length text) lists compiled
+
+-- The call frame information of the program, compiled after the steps of passes, would be too large.
+pub record HasLargeFrameSection (steps : List PassStep) (p : Program) : Type 0 where
+  pub functions : List PassedFunction
+  pub passed : ArePassed p.meta p.functions functions
+  pub made : All (IsMadeBy steps) functions
+  pub compiled : List Compiled
+  pub coded : HaveCode functions compiled
+  pub large : IsLargeFrameSection [] (map (λ c. c.code.now) compiled)

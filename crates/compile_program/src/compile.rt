@@ -1,10 +1,13 @@
 //! Compilation of a program to its output.
 
-ghost use Rattle.std.specs.Prelude.{◌≡◌, ◌<◌, IfOk, IsErrOf, length, map};
+ghost use Rattle.std.specs.Prelude.{◌≡◌, ◌<◌, ◌⊎◌, [], true, false, is_some, All, IfOk, IfSome, IsErrOf, length, map};
 ghost use Rattle.pass_list.specs.Names.{AreDistinct};
 ghost use Rattle.compile_function.specs.Passed.{steps_of};
 ghost use Rattle.compile_program.specs.Program.{IsOutputOf, IsCompilationOf, HasLargeFrame, HasLargeSection};
+ghost use Rattle.compile_program.specs.Program.{HasLargeFrameSection};
 ghost use Rattle.compile_program.specs.steps.Made.{AreMade};
+ghost use Rattle.dwarf_base.specs.Limits.{SECTION_LIMIT};
+ghost use Rattle.dwarf_sections.specs.Frame.{IsOfFunction, IsFrameSection, IsLargeFrameSection};
 ghost use Rattle.read_proof.specs.Read.{IsReadProgram};
 
 use crate::function::made_of;
@@ -14,8 +17,8 @@ use compile_function::error::CompileError;
 use compile_function::lists::all_lists;
 use dwarf_info::abbreviation::write_abbrev;
 use dwarf_line_table::source_and_code::SourceAndCode;
-use dwarf_sections::sections::{info, loclists, rows};
-use listing_text::output::Output;
+use dwarf_sections::sections::{SectionError, frame, info, loclists, rows};
+use listing_text::output::{Bytes, Output};
 use pass_list::kind::PassKind;
 use read_program::closing::Parsed;
 use read_program::program::Program;
@@ -35,6 +38,7 @@ pub struct Compilation {
 /// from address 0. The location lists are those of the variables of the source function. `reserve` is the registers
 /// that may be spilled. The error is `FrameTooLarge` if some function's frame would have more than 2,032 bytes, and
 /// otherwise `SectionTooLarge`, only if a section of functions that the passes may make would have 2^31 bytes or more.
+/// The section `.debug_frame` isn't among the sections.
 pub fn compile(
     alloc: Global,
     program: &Program,
@@ -45,6 +49,7 @@ pub fn compile(
     requires distinct { AreDistinct passes.now }
     ensures output { IfOk result (λ c. IsOutputOf (steps_of reserve.now passes.now) program.now c.output) }
     ensures compilation { IfOk result (IsCompilationOf reserve.now passes.now program.now) }
+    ensures no_frame_section { IfOk result (λ c. is_some c.output.frame ≡ false) }
     ensures frame_too_large { IsErrOf result CompileError.FrameTooLarge →
         HasLargeFrame (steps_of reserve.now passes.now) program.now.functions }
     ensures section_too_large { IsErrOf result CompileError.SectionTooLarge →
@@ -57,15 +62,43 @@ pub fn compile(
         passes,
         reserve,
     )?;
-    compiled(alloc, program, made, passes, reserve)
+    compiled(alloc, program, made, false, passes, reserve)
 }
 
-/// Makes all sections of a program, of its functions as compiled after passes.
+/// Compiles a program likewise, with the section `.debug_frame`, which may be the one that is too large.
+pub fn compile_with_frame(
+    alloc: Global,
+    program: &Program,
+    passes: &[PassKind],
+    reserve: &[Reg],
+) -> Result<Compilation, CompileError>
+    requires read { IsReadProgram program.now }
+    requires distinct { AreDistinct passes.now }
+    ensures output { IfOk result (λ c. IsOutputOf (steps_of reserve.now passes.now) program.now c.output) }
+    ensures frame_section { IfOk result (λ c. is_some c.output.frame ≡ true) }
+    ensures frame_too_large { IsErrOf result CompileError.FrameTooLarge →
+        HasLargeFrame (steps_of reserve.now passes.now) program.now.functions }
+    ensures section_too_large { IsErrOf result CompileError.SectionTooLarge →
+        HasLargeSection (steps_of reserve.now passes.now) program.now
+        ⊎ HasLargeFrameSection (steps_of reserve.now passes.now) program.now }
+{
+    let made = made_of(
+        alloc,
+        &program.meta,
+        program.functions.as_slice(),
+        passes,
+        reserve,
+    )?;
+    compiled(alloc, program, made, true, passes, reserve)
+}
+
+/// Makes all sections of a program, of its functions as compiled after passes, with `.debug_frame` if it is asked for.
 #[tactic(auto, using(crate::proofs::Compiled::emitted_section))]
 fn compiled(
     alloc: Global,
     program: &Program,
     made: EmittedFunctions,
+    with_frame: bool,
     _passes: &[PassKind],
     _reserve: &[Reg],
 ) -> Result<Compilation, CompileError>
@@ -73,9 +106,11 @@ fn compiled(
     requires made { AreMade program.now.meta _reserve.now _passes.now program.now.functions made }
     ensures output { IfOk result (λ c. IsOutputOf (steps_of _reserve.now _passes.now) program.now c.output) }
     ensures compilation { IfOk result (IsCompilationOf _reserve.now _passes.now program.now) }
+    ensures frame_section { IfOk result (λ c. is_some c.output.frame ≡ with_frame) }
     ensures no_frame { IsErrOf result CompileError.FrameTooLarge → ⊥ }
     ensures section_too_large { IsErrOf result CompileError.SectionTooLarge →
-        HasLargeSection (steps_of _reserve.now _passes.now) program.now }
+        HasLargeSection (steps_of _reserve.now _passes.now) program.now
+        ⊎ ((with_frame ≡ true) × HasLargeFrameSection (steps_of _reserve.now _passes.now) program.now) }
 {
     let meta = &program.meta;
     let EmittedFunctions {
@@ -92,12 +127,33 @@ fn compiled(
             info: info(alloc, compiled, meta, text.len() as u32)?,
             rows: rows(alloc, compiled, meta)?,
             loclists: loclists(alloc, &lists)?,
+            frame: frame_if(alloc, compiled, with_frame)?,
             abbreviations: write_abbrev(alloc)?,
             text,
             functions: listings,
         }
     };
     Ok(Compilation { output, functions })
+}
+
+/// The section `.debug_frame` of functions, if it is asked for.
+fn frame_if(
+    alloc: Global,
+    functions: &[SourceAndCode],
+    with_frame: bool,
+) -> Result<Option<Bytes>, SectionError>
+    requires { All (λ c. IsOfFunction c.code.now) functions.now }
+    ensures present { IfOk result (λ o. is_some o ≡ with_frame) }
+    ensures section { IfOk result (λ o. IfSome o (IsFrameSection [] (map (λ c. c.code.now) functions.now))) }
+    ensures small { IfOk result (λ o. IfSome o (λ bytes. length bytes < SECTION_LIMIT)) }
+    ensures large { IsErrOf result SectionError.TooLarge →
+        (with_frame ≡ true) × IsLargeFrameSection [] (map (λ c. c.code.now) functions.now) }
+{
+    if with_frame {
+        Ok(Some(frame(alloc, functions)?))
+    } else {
+        Ok(None)
+    }
 }
 
 /// Pairs functions with their machine code.

@@ -1,13 +1,16 @@
-use Rattle.std.proofs.Common.{◌≡◌, ◌<◌, ◌∙◌, ap, map, length, arith, rules, refl}
+use Rattle.std.proofs.Common.{◌≡◌, ◌<◌, ◌∙◌, [], true, ap, map, length, arith, rules, refl, inl, inr}
 use Rattle.dwarf_base.specs.Limits.{SECTION_LIMIT}
 use Rattle.dwarf_info.specs.Entries.{spelling as entries_spelling}
+use Rattle.dwarf_sections.specs.Frame.{IsLargeFrameSection}
 use Rattle.dwarf_unit.specs.Unit.{unit_of}
 use Rattle.listing_text.specs.declared.output.Output.{Output}
 use Rattle.read_program.specs.declared.closing.Parsed.{Parsed}
 use Rattle.dwarf_line_table.specs.declared.source_and_code.SourceAndCode.{SourceAndCode}
 use Rattle.compile_function.specs.declared.compiled_function.CompiledFunction.{CompiledFunction}
 use Rattle.compile_function.specs.Emitted.{lists_of}
-use Rattle.compile_program.proofs.Compiled.{emitted_length, emitted_ascend, emitted_places, large_section, whole_output}
+use Rattle.compile_program.specs.Program.{IsLarge}
+use Rattle.compile_program.proofs.Compiled.{emitted_length, emitted_ascend, emitted_places, emitted_of_functions, large_section, large_frame_section}
+use Rattle.compile_program.proofs.Compiled.{whole_output}
 use Rattle.compile_program.proofs.Listed.{program_few}
 use Rattle.compile_program.proofs.compile.compiled.Goals as goal
 
@@ -34,18 +37,53 @@ loclists-requires-clause-places c =
 
 pub returns-in_err-info-clause-section_too_large : goal.returns-in_err-info-clause-section_too_large
 returns-in_err-info-clause-section_too_large c is =
-    large_section c.args.program.now _ _ c.args.made c.requires.made c.in_ok-lists.lists (c.in_ok-lists.ensures ∙ ap lists_of c.as_slice-3.ensures)
-    c.as_slice-compiled.result.now (search rules) (search rules) (search (rules, is))
+    let sources : map (λ (x : SourceAndCode). x.source.now) c.as_slice-compiled.result.now ≡ map (λ (p : Parsed). p.func) c.args.program.now.functions =
+    search rules in
+    let codes : map (λ (x : SourceAndCode). x.code.now) c.as_slice-compiled.result.now ≡ map (λ (f : CompiledFunction). f.code) c.args.made.functions =
+    search rules in
+    let large : IsLarge c.args.program.now.meta (length c.args.made.text) c.in_ok-lists.lists c.as_slice-compiled.result.now = search (rules, is) in
+    inl (large_section c.args.program.now _ _ c.args.made c.requires.made c.in_ok-lists.lists (c.in_ok-lists.ensures ∙ ap lists_of c.as_slice-3.ensures)
+    c.as_slice-compiled.result.now sources codes large)
 
 pub returns-in_err-rows-clause-section_too_large : goal.returns-in_err-rows-clause-section_too_large
 returns-in_err-rows-clause-section_too_large c is =
-    large_section c.args.program.now _ _ c.args.made c.requires.made c.in_ok-lists.lists (c.in_ok-lists.ensures ∙ ap lists_of c.as_slice-3.ensures)
-    c.as_slice-compiled.result.now (search rules) (search rules) (search (rules, is))
+    let sources : map (λ (x : SourceAndCode). x.source.now) c.as_slice-compiled.result.now ≡ map (λ (p : Parsed). p.func) c.args.program.now.functions =
+    search rules in
+    let codes : map (λ (x : SourceAndCode). x.code.now) c.as_slice-compiled.result.now ≡ map (λ (f : CompiledFunction). f.code) c.args.made.functions =
+    search rules in
+    let large : IsLarge c.args.program.now.meta (length c.args.made.text) c.in_ok-lists.lists c.as_slice-compiled.result.now = search (rules, is) in
+    inl (large_section c.args.program.now _ _ c.args.made c.requires.made c.in_ok-lists.lists (c.in_ok-lists.ensures ∙ ap lists_of c.as_slice-3.ensures)
+    c.as_slice-compiled.result.now sources codes large)
 
 pub returns-in_err-loclists-clause-section_too_large : goal.returns-in_err-loclists-clause-section_too_large
 returns-in_err-loclists-clause-section_too_large c is =
-    large_section c.args.program.now _ _ c.args.made c.requires.made c.in_ok-lists.lists (c.in_ok-lists.ensures ∙ ap lists_of c.as_slice-3.ensures)
-    c.as_slice-compiled.result.now (search rules) (search rules) (search (rules, is))
+    let sources : map (λ (x : SourceAndCode). x.source.now) c.as_slice-compiled.result.now ≡ map (λ (p : Parsed). p.func) c.args.program.now.functions =
+    search rules in
+    let codes : map (λ (x : SourceAndCode). x.code.now) c.as_slice-compiled.result.now ≡ map (λ (f : CompiledFunction). f.code) c.args.made.functions =
+    search rules in
+    let large : IsLarge c.args.program.now.meta (length c.args.made.text) c.in_ok-lists.lists c.as_slice-compiled.result.now = search (rules, is) in
+    inl (large_section c.args.program.now _ _ c.args.made c.requires.made c.in_ok-lists.lists (c.in_ok-lists.ensures ∙ ap lists_of c.as_slice-3.ensures)
+    c.as_slice-compiled.result.now sources codes large)
+
+pub frame_if-requires : goal.frame_if-requires
+frame_if-requires c =
+    let codes : map (λ (x : SourceAndCode). x.code.now) c.as_slice-compiled.result.now ≡ map (λ (f : CompiledFunction). f.code) c.args.made.functions =
+    search rules in
+    emitted_of_functions _ _ _ _ _ c.requires.made c.as_slice-compiled.result.now codes
+
+pub returns-in_err-frame_if-clause-section_too_large : goal.returns-in_err-frame_if-clause-section_too_large
+returns-in_err-frame_if-clause-section_too_large c is =
+    let sources : map (λ (x : SourceAndCode). x.source.now) c.as_slice-compiled.result.now ≡ map (λ (p : Parsed). p.func) c.args.program.now.functions =
+    search rules in
+    let codes : map (λ (x : SourceAndCode). x.code.now) c.as_slice-compiled.result.now ≡ map (λ (f : CompiledFunction). f.code) c.args.made.functions =
+    search rules in
+    let large : (c.args.with_frame ≡ true) × IsLargeFrameSection [] (map (λ (x : SourceAndCode). x.code.now) c.as_slice-compiled.result.now) =
+    search (rules, is) in
+    inr (
+      large.0,
+      large_frame_section c.args.program.now _ _ c.args.made c.requires.made c.in_ok-lists.lists (c.in_ok-lists.ensures ∙ ap lists_of c.as_slice-3.ensures)
+          c.as_slice-compiled.result.now sources codes large.1,
+    )
 
 pub returns-clause-output : goal.returns-clause-output
 returns-clause-output c =
@@ -59,6 +97,7 @@ returns-clause-output c =
       info = c.in_ok-info.field-0;
       rows = c.in_ok-rows.field-0;
       loclists = c.in_ok-loclists.field-0;
+      frame = c.in_ok-frame_if.field-0;
       functions = c.args.made.listings;
     } in
     let bytes : o.info ≡ entries_spelling (unit_of c.args.program.now.meta (length o.text) c.as_slice-compiled.result.now) = search rules in
@@ -67,4 +106,8 @@ returns-clause-output c =
     let small : length o.text < SECTION_LIMIT = omega (arith, few_bytes, few) in
     whole_output c.args.program.now _ _ c.args.made c.requires.made c.in_ok-lists.lists (c.in_ok-lists.ensures ∙ ap lists_of c.as_slice-3.ensures)
     c.as_slice-compiled.result.now sources codes o refl refl c.in_ok-loclists.ensures.section c.in_ok-write_abbrev.ensures bytes
-    c.in_ok-rows.ensures.bytes small c.in_ok-info.ensures.small c.in_ok-rows.ensures.small c.in_ok-loclists.ensures.small
+    c.in_ok-rows.ensures.bytes c.in_ok-frame_if.ensures.section small c.in_ok-info.ensures.small c.in_ok-rows.ensures.small c.in_ok-loclists.ensures.small
+    c.in_ok-frame_if.ensures.small
+
+pub returns-clause-frame_section : goal.returns-clause-frame_section
+returns-clause-frame_section c = c.in_ok-frame_if.ensures.present
