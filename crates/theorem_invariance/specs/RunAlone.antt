@@ -1,6 +1,6 @@
 -- Runs of the command `compile` on two texts that may differ in their debug items.
 use Rattle.std.specs.Prelude.{◌≡◌, ℕ, List}
-use Rattle.cli.specs.declared.command.PassPipeline.{PassPipeline}
+use Rattle.cli.specs.declared.command.CompilePlan.{CompilePlan}
 use Rattle.cli.specs.declared.command.Command.TheVariants.{Compile}
 use Rattle.cli.specs.Command.{IsCommand}
 use Rattle.tool_driver.specs.Run.{Finishes, HasWritten}
@@ -12,8 +12,8 @@ abbrev pub WroteSameText : (input output input' output' : Change) → Type 0
 WroteSameText input output input' output' =
     HasWritten (λ p o. HasWritten (λ q o'. HaveAlikeFunctions p q → o.text ≡ o'.text) input' output') input output
 
--- This holds for any two runs that finish without error, with the same plan: the same passes, and the same registers that may be spilled.
+-- This holds for any two runs that finish without error, with the same passes and the same registers that may be spilled.
 abbrev pub RunsWriteCodeAlone : Type 0
-RunsWriteCodeAlone = (plan : PassPipeline) (words words' : List (List ℕ)) (input output input' output' : Change) →
-    IsCommand words (Compile plan) → IsCommand words' (Compile plan) → Finishes words input output → Finishes words' input' output' →
+RunsWriteCodeAlone = (plan plan' : CompilePlan) (words words' : List (List ℕ)) (input output input' output' : Change) → plan'.plan ≡ plan.plan →
+    IsCommand words (Compile plan) → IsCommand words' (Compile plan') → Finishes words input output → Finishes words' input' output' →
     WroteSameText input output input' output'

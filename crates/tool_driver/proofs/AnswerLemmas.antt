@@ -1,8 +1,9 @@
 -- What a command writes of an input, by what it writes of the program that was read.
-use Rattle.std.specs.Prelude.{Option, Some, Result, Ok, Err, IfOk, IfErr}
-use Rattle.std.proofs.Common.{◌≡◌, ℕ, List, refl, sym, subst}
+use Rattle.std.specs.Prelude.{Option, Some, Result, Ok, Err, IfOk, IfErr, true}
+use Rattle.std.proofs.Common.{◌≡◌, ◌⊎◌, ℕ, List, refl, sym, subst, inl, inr}
 use Rattle.read_program.specs.declared.program.Program.{Program}
 use Rattle.cli.specs.declared.command.Command.{Command}
+use Rattle.cli.specs.declared.command.CompilePlan.{CompilePlan}
 use Rattle.cli.specs.declared.command.PassPipeline.{PassPipeline}
 use Rattle.cli.specs.declared.command.RunPlan.{RunPlan}
 use Rattle.cli.specs.declared.command.TestPlan.{TestPlan}
@@ -11,9 +12,10 @@ use Rattle.cli.specs.declared.fault.Fault.{Fault}
 use Rattle.cli.specs.declared.fault.Fault.TheVariants.{Usage, Read, TooLong, Refused, NoFunction, UnknownFunction}
 use Rattle.cli.specs.declared.fault.Fault.TheVariants.{FrameTooLarge, SymbolName, SectionTooLarge, Write, Memory}
 use Rattle.run_command.specs.Source.{IsUnknown}
+use Rattle.compile_program.specs.Program.{HasLargeSection, HasLargeFrameSection}
 use Rattle.tool_driver.specs.Answer.{Answers, IsTestText}
 use Rattle.tool_driver.specs.Run.{HasReadProgram, AnswersRead, AnswersInput}
-use Rattle.tool_driver.specs.Refusals.{IsReader, IsNamed, plan_of, frame_too_large, section_too_large}
+use Rattle.tool_driver.specs.Refusals.{IsReader, IsNamed, plan_of, RefusesProgram, frame_too_large, section_too_large, frame_section_too_large}
 use Rattle.tool_driver.specs.Refusals.{too_long, refused_at, no_function, refused_program}
 use Rattle.tool_driver.specs.steps.Ends.{RefusesToCompile, RefusesToWrite, HasReadNone, ReadingEnds}
 use Rattle.tool_driver.specs.Stream.{Change, IsUnread}
@@ -74,10 +76,24 @@ by_compiling command program plan is named Read refused = refused
 by_compiling command program plan is named TooLong refused = refused
 by_compiling command program plan is named Write refused = refused
 
-module _ (plan : PassPipeline) (program : Program) where
-  compile_named : IsNamed (Compile plan) program
-  compile_named run same unknown = absurd cc
+pub compile_named : (asked : CompilePlan) (program : Program) → IsNamed (Compile asked) program
+compile_named asked program run same unknown = absurd cc
 
+-- nor can one be compiled of which `.debug_frame` is too large
+pub large_with_frame : (asked : CompilePlan) (program : Program) → asked.frame ≡ true →
+    HasLargeSection (plan_steps asked.plan) program ⊎ HasLargeFrameSection (plan_steps asked.plan) program →
+    RefusesProgram (Compile asked) program SectionTooLarge
+large_with_frame asked program is large = elim large [
+  | inl section ↦ section_too_large asked.plan refl (compile_named asked program) section
+  | inr frame ↦ frame_section_too_large asked refl is frame
+]
+
+-- each fault of a result
+pub each_fault : {A : Type 0} (P Q : Fault → Type 0) → ((fault : Fault) → P fault → Q fault) → (r : Result A Fault) → IfErr r P → IfErr r Q
+each_fault P Q more (Ok x) holds = tt
+each_fault P Q more (Err fault) holds = more fault holds
+
+module _ (plan : PassPipeline) (program : Program) where
   listing_named : IsNamed (Listing plan) program
   listing_named run same unknown = absurd cc
 
@@ -93,17 +109,16 @@ run_named run program known other same unknown =
     let one : run ≡ other = cc in
     known (subst (λ (r : RunPlan). IsUnknown r.name program.functions) (sym one) unknown)
 
-module _ (plan : PassPipeline) (input : Change) (program : Program) (read : HasReadProgram input program) where
-  pub compile_ok : (r : Result (List ℕ) Fault) → IfOk r (Answers (Compile plan) program) → IfOk r (AnswersInput (Compile plan) input)
-  compile_ok (Ok output) answers = read_answers (Compile plan) input program read output answers
+module _ (asked : CompilePlan) (input : Change) (program : Program) (read : HasReadProgram input program) where
+  pub compile_ok : (r : Result (List ℕ) Fault) → IfOk r (Answers (Compile asked) program) → IfOk r (AnswersInput (Compile asked) input)
+  compile_ok (Ok output) answers = read_answers (Compile asked) input program read output answers
   compile_ok (Err fault) answers = tt
 
-  pub compile_err : (r : Result (List ℕ) Fault) → IfErr r (RefusesToCompile (plan_steps plan) program) → IfErr r (ReadingEnds (Compile plan) input)
+  pub compile_err : (r : Result (List ℕ) Fault) → IfErr r (RefusesToWrite (Compile asked) program) → IfErr r (ReadingEnds (Compile asked) input)
   compile_err (Ok output) refused = tt
-  compile_err (Err fault) refused =
-      held_back (Compile plan) tt input program read fault
-      (by_compiling (Compile plan) program plan refl (compile_named plan program) fault refused)
+  compile_err (Err fault) refused = held_back (Compile asked) tt input program read fault refused
 
+module _ (plan : PassPipeline) (input : Change) (program : Program) (read : HasReadProgram input program) where
   pub listing_ok : (r : Result (List ℕ) Fault) → IfOk r (Answers (Listing plan) program) → IfOk r (AnswersInput (Listing plan) input)
   listing_ok (Ok output) answers = read_answers (Listing plan) input program read output answers
   listing_ok (Err fault) answers = tt

@@ -1,6 +1,6 @@
 -- What the command that compiles wrote keeps each promise of the output that it is the text of.
-use Rattle.std.proofs.Common.{ℕ, List}
-use Rattle.cli.specs.declared.command.PassPipeline.{PassPipeline}
+use Rattle.std.proofs.Common.{◌≡◌, ℕ, List, is_some}
+use Rattle.cli.specs.declared.command.CompilePlan.{CompilePlan}
 use Rattle.cli.specs.declared.command.Command.TheVariants.{Compile}
 use Rattle.cli.specs.Command.{IsCommand}
 use Rattle.listing_text.specs.declared.output.Output.{Output}
@@ -17,10 +17,10 @@ use Rattle.compile_program.specs.Program.{sources_of, IsOutputOf, names_of}
 use Rattle.tool_driver.specs.Compiled.{plan_steps}
 use Rattle.tool_driver.specs.Promise.{AllGiveBack, AllStopWell, AllListKept}
 use Rattle.tool_driver.specs.Run.{Finishes, KeepsHeadline, KeepsRegisters, StopsAtReturns, WroteExactly, WroteLaidOut}
-use Rattle.tool_driver.specs.Run.{WroteKept, WroteWords, ShowsPassed, WrotePassed, KeepsPromises}
+use Rattle.tool_driver.specs.Run.{WroteKept, WroteWords, ShowsPassed, WrotePassed, WroteFrameSection, KeepsPromises}
 use Rattle.tool_driver.specs.Stream.{Change}
 use Rattle.tool_driver.proofs.Lines.{gives_lines}
-use Rattle.tool_driver.proofs.RunLemmas.{has_written}
+use Rattle.tool_driver.proofs.RunLemmas.{has_written, has_written_as}
 use Rattle.tool_driver.proofs.Sentences.{compiled_to, of_read, gives_back, stops_well, lists_kept}
 
 -- ---- an output of a program
@@ -62,36 +62,39 @@ module _ (steps : List PassStep) (p : Program) (o : Output) (is : IsOutputOf ste
 
 -- ---- what was written
 
-module _ (words : List (List ℕ)) (input output : Change) (finished : Finishes words input output) (plan : PassPipeline)
+module _ (words : List (List ℕ)) (input output : Change) (finished : Finishes words input output) (plan : CompilePlan)
     (asked : IsCommand words (Compile plan)) where
   pub headline_kept : KeepsHeadline input output
-  headline_kept = has_written plan (λ p. Promises (sources_of p.functions)) (promised (plan_steps plan)) words input output finished asked
+  headline_kept = has_written plan (λ p. Promises (sources_of p.functions)) (promised (plan_steps plan.plan)) words input output finished asked
 
   pub registers_kept : KeepsRegisters input output
   registers_kept =
       has_written plan (λ p. AllGiveBack (sources_of p.functions))
-      (λ p o is. gives_back (sources_of p.functions) o (promised (plan_steps plan) p o is)) words input output finished asked
+      (λ p o is. gives_back (sources_of p.functions) o (promised (plan_steps plan.plan) p o is)) words input output finished asked
 
   pub stops_at_returns : StopsAtReturns input output
   stops_at_returns =
       has_written plan (λ p. AllStopWell (sources_of p.functions))
-      (λ p o is. stops_well (sources_of p.functions) o (promised (plan_steps plan) p o is)) words input output finished asked
+      (λ p o is. stops_well (sources_of p.functions) o (promised (plan_steps plan.plan) p o is)) words input output finished asked
 
   pub wrote_exactly : WroteExactly input output
-  wrote_exactly = has_written plan (λ p. IsExact) (exact (plan_steps plan)) words input output finished asked
+  wrote_exactly = has_written plan (λ p. IsExact) (exact (plan_steps plan.plan)) words input output finished asked
 
   pub wrote_kept : WroteKept input output
   wrote_kept =
-      has_written plan (λ p. AllListKept) (λ p o is. lists_kept o (exact (plan_steps plan) p o is)) words input output finished asked
+      has_written plan (λ p. AllListKept) (λ p o is. lists_kept o (exact (plan_steps plan.plan) p o is)) words input output finished asked
 
   pub wrote_laid_out : WroteLaidOut input output
   wrote_laid_out =
-      has_written plan (λ p. AreLaidOut (names_of p.meta) (sources_of p.functions)) (laid_out (plan_steps plan)) words input output finished asked
+      has_written plan (λ p. AreLaidOut (names_of p.meta) (sources_of p.functions)) (laid_out (plan_steps plan.plan)) words input output finished asked
 
   pub wrote_words : WroteWords input output
   wrote_words =
-      has_written plan (λ p. HaveWords) (λ p o is. compiled_has_words (names_of p.meta) is.functions o (to (plan_steps plan) p o is))
+      has_written plan (λ p. HaveWords) (λ p o is. compiled_has_words (names_of p.meta) is.functions o (to (plan_steps plan.plan) p o is))
       words input output finished asked
 
-  pub wrote_passed : WrotePassed (plan_steps plan) input output
-  wrote_passed = has_written plan (ShowsPassed (plan_steps plan)) (shows_passed (plan_steps plan)) words input output finished asked
+  pub wrote_passed : WrotePassed (plan_steps plan.plan) input output
+  wrote_passed = has_written plan (ShowsPassed (plan_steps plan.plan)) (shows_passed (plan_steps plan.plan)) words input output finished asked
+
+  pub wrote_frame_section : WroteFrameSection plan.frame input output
+  wrote_frame_section = has_written_as plan (λ p o. is_some o.frame ≡ plan.frame) (λ p o is present. present) words input output finished asked

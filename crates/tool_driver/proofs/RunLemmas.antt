@@ -1,10 +1,10 @@
 -- Why a run ended as it did.
-use Rattle.std.specs.Prelude.{Option, Some, Ok}
+use Rattle.std.specs.Prelude.{Option, Some, Ok, is_some}
 use Rattle.std.proofs.Common.{◌≡◌, ℕ, List, ◌+◌, ap, sym, ◌∙◌, refl, subst, arith}
 use Rattle.base_io.specs.Told.{Takes, TakesCount}
 use Rattle.base_io.proofs.ToldLemmas.{Takes-told, TakesCount-told}
 use Rattle.cli.specs.declared.command.Command.{Command}
-use Rattle.cli.specs.declared.command.PassPipeline.{PassPipeline}
+use Rattle.cli.specs.declared.command.CompilePlan.{CompilePlan}
 use Rattle.cli.specs.declared.command.TestPlan.{TestPlan}
 use Rattle.cli.specs.declared.command.Command.TheVariants.{Compile, Gen, SelfTest}
 use Rattle.cli_numbers.specs.declared.generation.Generation.{Generation}
@@ -37,16 +37,16 @@ use Rattle.tool_driver.proofs.Sentences.{of_shown}
 -- ---- what is compiled
 
 -- what was read and written by the command that compiles
-record Compiled (plan : PassPipeline) (input output : Change) : Type 0 where
+record Compiled (plan : CompilePlan) (input output : Change) : Type 0 where
   text : List ℕ
   read : HasRead input text
   program : Program
   has : HasFunctions text program
   bytes : List ℕ
-  compiles : IsCompiledText (plan_steps plan) program bytes
+  compiles : IsCompiledText plan.frame (plan_steps plan.plan) program bytes
   written : IsWrittenWhole output bytes
 
-compiled : (plan : PassPipeline) (words : List (List ℕ)) (input output : Change) → Finishes words input output → IsCommand words (Compile plan) →
+compiled : (plan : CompilePlan) (words : List (List ℕ)) (input output : Change) → Finishes words input output → IsCommand words (Compile plan) →
     Compiled plan input output
 compiled plan words input output is asked =
     let accepted = is.accepted in
@@ -63,11 +63,11 @@ compiled plan words input output is asked =
       written = is.written;
     }
 
--- what holds of each output that is a compilation of a program that was read holds of what was written
-pub has_written : (plan : PassPipeline) (P : Program → Output → Type 0) →
-    ((program : Program) (o : Output) → IsOutputOf (plan_steps plan) program o → P program o) →
+-- what holds of each output that is a compilation of a program that was read, with `.debug_frame` exactly if it is asked for, holds of what was written
+pub has_written_as : (plan : CompilePlan) (P : Program → Output → Type 0) →
+    ((program : Program) (o : Output) → IsOutputOf (plan_steps plan.plan) program o → is_some o.frame ≡ plan.frame → P program o) →
     (words : List (List ℕ)) (input output : Change) → Finishes words input output → IsCommand words (Compile plan) → HasWritten P input output
-has_written plan P holds words input output finished asked =
+has_written_as plan P holds words input output finished asked =
     let is = compiled plan words input output finished asked in
     let read = programs_are_as_read is.text is.program is.has.reads in
     record {
@@ -77,9 +77,15 @@ has_written plan P holds words input output finished asked =
       has = is.has;
       bytes = is.bytes;
       written = is.written;
-      shown = of_shown printable (plan_steps plan) is.program is.bytes read is.compiles (P is.program)
-          (holds is.program is.compiles.output is.compiles.is);
+      shown = of_shown printable plan.frame (plan_steps plan.plan) is.program is.bytes read is.compiles (P is.program)
+          (holds is.program is.compiles.output is.compiles.is is.compiles.frame);
     }
+
+-- the same of what holds of each such output, with or without `.debug_frame`
+pub has_written : (plan : CompilePlan) (P : Program → Output → Type 0) →
+    ((program : Program) (o : Output) → IsOutputOf (plan_steps plan.plan) program o → P program o) →
+    (words : List (List ℕ)) (input output : Change) → Finishes words input output → IsCommand words (Compile plan) → HasWritten P input output
+has_written plan P holds = has_written_as plan P (λ program o is framed. holds program o is)
 
 -- ---- the fault by the status
 

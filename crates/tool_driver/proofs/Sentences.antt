@@ -1,5 +1,5 @@
 -- The text of a program's output shows it alone, so what holds of the output holds of what the text shows.
-use Rattle.std.proofs.Common.{ℕ, List, sym, subst, inl, inr}
+use Rattle.std.proofs.Common.{ℕ, Bool, List, sym, subst, inl, inr}
 use Rattle.std.proofs.lemmas.List.Elements.{All-weaker}
 use Rattle.listing_text.specs.declared.output.ListedFunction.{ListedFunction}
 use Rattle.listing_text.specs.declared.output.Output.{Output}
@@ -34,8 +34,8 @@ of_read P steps program o is holds = subst P (sym (passed_sources program.meta p
 
 -- ---- what the text shows
 
-module _ (printable : OutputsArePrintable) (steps : List PassStep) (program : Program) (text : List ℕ) (read : IsReadProgram program)
-    (is : IsCompiledText steps program text) where
+module _ (printable : OutputsArePrintable) (with_frame : Bool) (steps : List PassStep) (program : Program) (text : List ℕ) (read : IsReadProgram program)
+    (is : IsCompiledText with_frame steps program text) where
   shows : Shows (inlined_in program.meta) text is.output
   shows = record { spelled = is.spelled; printable = printable program is.is.functions is.output read is.is.passed is.is.compiled is.is.sections }
 

@@ -1,5 +1,5 @@
 -- What the commands `compile`, `listing` and `object` write for a program, and programs without an object.
-use Rattle.std.specs.Prelude.{◌≡◌, ℕ, List}
+use Rattle.std.specs.Prelude.{◌≡◌, ℕ, Bool, List, is_some}
 use Rattle.listing_text.specs.declared.output.Output.{Output}
 use Rattle.listing_text.specs.Output.{spelling, listing_text}
 use Rattle.cli.specs.declared.command.PassPipeline.{PassPipeline}
@@ -12,10 +12,11 @@ use Rattle.compile_program.specs.Program.{IsOutputOf, steps_of}
 abbrev pub plan_steps : PassPipeline → List PassStep
 plan_steps plan = steps_of plan.reserve plan.passes
 
--- the text is that of an output of the program after these passes: its sections and its listing
-pub record IsCompiledText (steps : List PassStep) (program : Program) (text : List ℕ) : Type 0 where
+-- the text is that of an output of the program after these passes: its sections, `.debug_frame` among them exactly if it is asked for, and its listing
+pub record IsCompiledText (with_frame : Bool) (steps : List PassStep) (program : Program) (text : List ℕ) : Type 0 where
   pub output : Output
   pub is : IsOutputOf steps program output
+  pub frame : is_some output.frame ≡ with_frame
   pub spelled : text ≡ spelling output
 
 -- the text is the listing alone of such an output

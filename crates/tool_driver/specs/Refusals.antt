@@ -1,12 +1,13 @@
 -- Why a command is refused, and that it is answered where nothing refuses it.
-use Rattle.std.specs.Prelude.{◌≡◌, ℕ, ◌+◌, ◌≤◌, List, [], length, Option, Some, None, Ok, Err}
+use Rattle.std.specs.Prelude.{◌≡◌, true, ℕ, ◌+◌, ◌≤◌, List, [], length, Option, Some, None, Ok, Err}
 use Rattle.read_refusal.specs.declared.first.Refusal.{Refusal}
 use Rattle.read_program.specs.declared.program.Program.{Program}
 use Rattle.read_program.specs.declared.error.ParseError.TheVariants as errors
 use Rattle.read_program.specs.Program.{ReadsText}
-use Rattle.compile_program.specs.Program.{HasLargeFrame, HasLargeSection}
+use Rattle.compile_program.specs.Program.{HasLargeFrame, HasLargeSection, HasLargeFrameSection}
 use Rattle.cli.specs.declared.command.Command.{Command}
 use Rattle.cli.specs.declared.fault.Fault.{Fault}
+use Rattle.cli.specs.declared.command.CompilePlan.{CompilePlan}
 use Rattle.cli.specs.declared.command.PassPipeline.{PassPipeline}
 use Rattle.cli.specs.declared.command.RunPlan.{RunPlan}
 use Rattle.cli.specs.declared.command.TestPlan.{TestPlan}
@@ -49,7 +50,7 @@ pub record HasNoFunction (text : List ℕ) : Type 0 where
 
 -- the passes by which a command compiles what it reads, if it does
 abbrev pub plan_of : Command → Option PassPipeline
-plan_of (Compile plan) = Some plan
+plan_of (Compile asked) = Some asked.plan
 plan_of (Listing plan) = Some plan
 plan_of (Report plan) = Some plan
 plan_of (Object plan) = Some plan
@@ -63,12 +64,14 @@ abbrev pub IsNamed : Command → Program → Type 0
 IsNamed command program = (run : RunPlan) → command ≡ Run run → IsUnknown run.name program.functions → ⊥
 
 -- Why a command writes nothing for a program: it names a function that isn't there; the frame of a function is above the limit after the passes; a
--- section is, or the object; or a name can't be a symbol's.
+-- section is, `.debug_frame` only if it is asked for, or the object; or a name can't be a symbol's.
 pub data RefusesProgram (command : Command) (program : Program) : Fault → Type 0 where
   unknown_function : (run : RunPlan) → command ≡ Run run → IsUnknown run.name program.functions → RefusesProgram command program UnknownFunction
   frame_too_large : (plan : PassPipeline) → plan_of command ≡ Some plan → IsNamed command program →
       HasLargeFrame (plan_steps plan) program.functions → RefusesProgram command program FrameTooLarge
   section_too_large : (plan : PassPipeline) → plan_of command ≡ Some plan → IsNamed command program → HasLargeSection (plan_steps plan) program →
+      RefusesProgram command program SectionTooLarge
+  frame_section_too_large : (asked : CompilePlan) → command ≡ Compile asked → asked.frame ≡ true → HasLargeFrameSection (plan_steps asked.plan) program →
       RefusesProgram command program SectionTooLarge
   object_too_large : (plan : PassPipeline) → command ≡ Object plan → IsLargeObjectOf (plan_steps plan) program →
       RefusesProgram command program SectionTooLarge

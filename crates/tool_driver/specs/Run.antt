@@ -1,5 +1,5 @@
 -- What a run of the tool did to its input and its output.
-use Rattle.std.specs.Prelude.{◌≡◌, ℕ, ◌≤◌, List, length, All}
+use Rattle.std.specs.Prelude.{◌≡◌, ℕ, ◌≤◌, Bool, List, length, All, is_some}
 use Rattle.listing_text.specs.declared.output.Output.{Output}
 use Rattle.pass_trait.specs.Steps.{PassStep}
 use Rattle.listing_text.specs.Shown.{OfShown}
@@ -123,8 +123,9 @@ abbrev pub WroteWords : (input output : Change) → Type 0
 WroteWords input output = HasWritten (λ p. HaveWords) input output
 
 -- Each function that was read was transformed by these passes, and the result, which simulates it, is the one that is compiled and listed, with its frame
--- and its substitutions. The `.debug_info`, abbreviation and line sections are the encodings of the program's unit and line table; the line table has for
--- each byte of machine code its line of the source, and no row for another address.
+-- and its substitutions. The `.debug_info`, abbreviation and line sections are the encodings of the program's unit and line table, and `.debug_frame`, if
+-- there is one, that of the call frame information of the machine code; the line table has for each byte of machine code its line of the source, and no row
+-- for another address.
 pub record ShowsPassed (steps : List PassStep) (p : Program) (o : Output) : Type 0 where
   pub functions : List PassedFunction
   pub passed : ArePassed p.meta p.functions functions
@@ -132,6 +133,10 @@ pub record ShowsPassed (steps : List PassStep) (p : Program) (o : Output) : Type
   pub lists : ListsPassed functions o
   pub sections : HasSections p.meta functions o
   pub rows : GivesLines p.meta functions o
+
+-- the sections have `.debug_frame` exactly if it is asked for
+abbrev pub WroteFrameSection : (with_frame : Bool) → (input output : Change) → Type 0
+WroteFrameSection with_frame input output = HasWritten (λ p o. is_some o.frame ≡ with_frame) input output
 
 -- the whole text of one such output was written
 abbrev pub WrotePassed : List PassStep → (input output : Change) → Type 0

@@ -1,6 +1,6 @@
 //! The output texts of the commands that compile.
 
-ghost use Rattle.std.specs.Prelude.{◌≡◌, IfOk, IfErr};
+ghost use Rattle.std.specs.Prelude.{◌≡◌, true, false, is_some, IfOk, IfErr};
 ghost use Rattle.report_command.specs.Reported.{IsReportText};
 ghost use Rattle.run_command.specs.Source.{IsRunOfProgram};
 ghost use Rattle.cli.specs.Command.{IsWithin};
@@ -11,10 +11,10 @@ ghost use Rattle.tool_driver.specs.Compiled.{plan_steps, IsCompiledText, IsListi
 ghost use Rattle.compile_program.specs.Program.{IsOutputOf, IsCompilationOf};
 ghost use Rattle.read_proof.specs.Read.{IsReadProgram};
 
-use cli::command::{PassPipeline, RunPlan, TestPlan};
+use cli::command::{CompilePlan, PassPipeline, RunPlan, TestPlan};
 use cli::fault::Fault;
 use compile_function::error::CompileError;
-use compile_program::compile::{Compilation, compile};
+use compile_program::compile::{Compilation, compile, compile_with_frame};
 use listing_text::print::{print_listing, print_output};
 use mir_printer::text::Text;
 use object_command::object::{ObjectError, object};
@@ -25,10 +25,35 @@ use run_command::run::run;
 use selftest_command::text::self_test;
 use std::alloc::Global;
 
-/// The text of `compile`: the sections and the listing of a program after passes.
-pub fn compiled_text(alloc: Global, program: &Program, plan: &PassPipeline) -> Result<Text, Fault>
+/// The text of `compile`: the sections, `.debug_frame` among them if it is asked for, and the listing of a program
+/// after passes.
+pub fn compiled_text(alloc: Global, program: &Program, asked: &CompilePlan) -> Result<Text, Fault>
     requires { IsReadProgram program.now }
-    ensures ok { IfOk result (IsCompiledText (plan_steps plan.now) program.now) }
+    ensures ok { IfOk result (IsCompiledText asked.now.frame (plan_steps asked.now.plan) program.now) }
+    ensures err { IfErr result (RefusesToWrite (command.Compile asked.now) program.now) }
+{
+    let with_frame = asked.frame;
+    if with_frame {
+        return text_with_frame(alloc, program, asked);
+    }
+    text_without_frame(alloc, program, &asked.plan)
+}
+
+/// The text with `.debug_frame` among the sections.
+fn text_with_frame(alloc: Global, program: &Program, asked: &CompilePlan) -> Result<Text, Fault>
+    requires read { IsReadProgram program.now }
+    requires asked { asked.now.frame ≡ true }
+    ensures ok { IfOk result (IsCompiledText true (plan_steps asked.now.plan) program.now) }
+    ensures err { IfErr result (RefusesToWrite (command.Compile asked.now) program.now) }
+{
+    let compilation = compilation_with_frame(alloc, program, asked)?;
+    Ok(print_output(alloc, &compilation.output)?)
+}
+
+/// The text without it.
+fn text_without_frame(alloc: Global, program: &Program, plan: &PassPipeline) -> Result<Text, Fault>
+    requires { IsReadProgram program.now }
+    ensures ok { IfOk result (IsCompiledText false (plan_steps plan.now) program.now) }
     ensures err { IfErr result (RefusesToCompile (plan_steps plan.now) program.now) }
 {
     let compilation = compilation(alloc, program, plan)?;
@@ -169,6 +194,7 @@ fn compilation(alloc: Global, program: &Program, plan: &PassPipeline) -> Result<
     requires { IsReadProgram program.now }
     ensures output { IfOk result (λ c. IsOutputOf (plan_steps plan.now) program.now c.output) }
     ensures compilation { IfOk result (IsCompilationOf plan.now.reserve plan.now.passes program.now) }
+    ensures no_frame_section { IfOk result (λ c. is_some c.output.frame ≡ false) }
     ensures err { IfErr result (RefusesToCompile (plan_steps plan.now) program.now) }
 {
     match compile(
@@ -181,5 +207,32 @@ fn compilation(alloc: Global, program: &Program, plan: &PassPipeline) -> Result<
         Err(CompileError::FrameTooLarge) => Err(Fault::FrameTooLarge),
         Err(CompileError::SectionTooLarge) => Err(Fault::SectionTooLarge),
         Err(CompileError::Memory) => Err(Fault::Memory),
+    }
+}
+
+/// A program compiled after passes, with the section `.debug_frame`.
+fn compilation_with_frame(
+    alloc: Global,
+    program: &Program,
+    asked: &CompilePlan,
+) -> Result<Compilation, Fault>
+    requires read { IsReadProgram program.now }
+    requires asked { asked.now.frame ≡ true }
+    ensures output { IfOk result (λ c. IsOutputOf (plan_steps asked.now.plan) program.now c.output) }
+    ensures frame_section { IfOk result (λ c. is_some c.output.frame ≡ true) }
+    ensures err { IfErr result (RefusesToWrite (command.Compile asked.now) program.now) }
+{
+    match compile_with_frame(
+        alloc,
+        program,
+        asked.plan.passes.as_slice(),
+        asked.plan.reserve.as_slice(),
+    ) {
+        Ok(compilation) => Ok(compilation),
+        Err(error) => match error {
+            CompileError::FrameTooLarge => Err(Fault::FrameTooLarge),
+            CompileError::SectionTooLarge => Err(Fault::SectionTooLarge),
+            CompileError::Memory => Err(Fault::Memory),
+        },
     }
 }

@@ -2,6 +2,7 @@
 
 ghost use Rattle.std.specs.Prelude.{◌≡◌, ◌≢◌, ◌≤◌, ◌⊎◌, IfOk, OnOk, IfErr, IsErrOf, map, string_bytes};
 ghost use Rattle.cli.specs.Command.{AreWithin, IsCommand};
+ghost use Rattle.cli.specs.declared.command.CompilePlan.{CompilePlan};
 ghost use Rattle.cli.specs.declared.command.PassPipeline.{PassPipeline};
 ghost use Rattle.cli.specs.declared.command.RunPlan.{RunPlan};
 ghost use Rattle.cli.specs.declared.command.TestPlan.{TestPlan};
@@ -12,7 +13,7 @@ ghost use Rattle.cli.specs.Fault.{line_of};
 ghost use Rattle.tool_driver.specs.Run.{AreCommand, AnswersInput, Finishes, IsCutOff};
 ghost use Rattle.tool_driver.specs.Run.{KeepsHeadline, KeepsRegisters, StopsAtReturns, WroteExactly, WroteLaidOut};
 ghost use Rattle.tool_driver.specs.Run.{WroteKept, WroteWords, WrotePassed, WroteReport, WroteObject, WroteRun};
-ghost use Rattle.tool_driver.specs.Run.{WroteTest, WroteStripped};
+ghost use Rattle.tool_driver.specs.Run.{WroteTest, WroteStripped, WroteFrameSection};
 ghost use Rattle.tool_driver.specs.Run.{HasReadProgram};
 ghost use Rattle.tool_driver.specs.Refusals.{TellsRefusal, IsAnswerable};
 ghost use Rattle.tool_driver.specs.steps.Ends.{HasReadNone, Explains, ReadingEnds};
@@ -40,14 +41,14 @@ pub const LIMIT: usize = 16_777_216;
 /// Runs the command that the words are: reads the input to its end, and writes the command's output for the functions
 /// in it. `compile`, with the options for a list of passes and for registers that may be spilled, writes the sections
 /// and the listing of the functions after these passes (`--passes=none`: of the functions as they were read; all
-/// passes if there is no list). `listing`, with the same options, writes the listing alone, and `report` at how many
-/// of each function's words each variable has a location, and what the passes lost. `object`, with the same options,
-/// writes the relocatable object of the functions. `run`, with a function's name, a number of steps and such options,
-/// writes a line for each step of its machine code, with the values of its variables. `strip` writes the functions
-/// without their debug items. `gen` reads nothing, and writes the text of the function that it generates from two
-/// numbers. `selftest`, with such numbers and the options of `compile`, reads nothing either, and writes how many
-/// values the location lists of such a function have along a run of its machine code. A fault is reported by a line on
-/// `faults`.
+/// passes if there is no list), and with `--frame` the section `.debug_frame` too. `listing`, with the first two
+/// options, writes the listing alone, and `report` at how many of each function's words each variable has a location,
+/// and what the passes lost. `object`, with the same two options, writes the relocatable object of the functions.
+/// `run`, with a function's name, a number of steps and such options, writes a line for each step of its machine code,
+/// with the values of its variables. `strip` writes the functions without their debug items. `gen` reads nothing, and
+/// writes the text of the function that it generates from two numbers. `selftest`, with such numbers and the options
+/// of `listing`, reads nothing either, and writes how many values the location lists of such a function have along a
+/// run of its machine code. A fault is reported by a line on `faults`.
 pub fn mirdwarf<S: Source, K: Sink, E: Sink>(
     alloc: Global,
     words: &[String],
@@ -68,39 +69,44 @@ pub fn mirdwarf<S: Source, K: Sink, E: Sink>(
 
     // What `compile` writes keeps its promise. The machine on the written code runs along with the source that was
     // read, and the written lists tell the truth.
-    ensures headline { (plan : PassPipeline) → result ≡ Status.Done →
+    ensures headline { (plan : CompilePlan) → result ≡ Status.Done →
         IsCommand (map string_bytes words.now) (Command.Compile plan) →
         KeepsHeadline (change S.left S.faults input.old input.new) (change K.written K.faults output.old output.new) }
     // At a return the machine gives back the registers that a function is to keep.
-    ensures callee_saved { (plan : PassPipeline) → result ≡ Status.Done →
+    ensures callee_saved { (plan : CompilePlan) → result ≡ Status.Done →
         IsCommand (map string_bytes words.now) (Command.Compile plan) →
         KeepsRegisters (change S.left S.faults input.old input.new) (change K.written K.faults output.old output.new) }
     // It stops nowhere but at a return, or where it waits for an answer.
-    ensures stops { (plan : PassPipeline) → result ≡ Status.Done →
+    ensures stops { (plan : CompilePlan) → result ≡ Status.Done →
         IsCommand (map string_bytes words.now) (Command.Compile plan) →
         StopsAtReturns (change S.left S.faults input.old input.new) (change K.written K.faults output.old output.new) }
     // The lists say the place of a variable's value wherever the value is in one on every path, and nothing elsewhere.
-    ensures exact { (plan : PassPipeline) → result ≡ Status.Done →
+    ensures exact { (plan : CompilePlan) → result ≡ Status.Done →
         IsCommand (map string_bytes words.now) (Command.Compile plan) →
         WroteExactly (change S.left S.faults input.old input.new) (change K.written K.faults output.old output.new) }
     // While a place keeps the value that a mark told of it, the lists give the variable a place.
-    ensures kept { (plan : PassPipeline) → result ≡ Status.Done →
+    ensures kept { (plan : CompilePlan) → result ≡ Status.Done →
         IsCommand (map string_bytes words.now) (Command.Compile plan) →
         WroteKept (change S.left S.faults input.old input.new) (change K.written K.faults output.old output.new) }
     // Functions, lines, objects and variables stand where they should, with their names.
-    ensures laid_out { (plan : PassPipeline) → result ≡ Status.Done →
+    ensures laid_out { (plan : CompilePlan) → result ≡ Status.Done →
         IsCommand (map string_bytes words.now) (Command.Compile plan) →
         WroteLaidOut (change S.left S.faults input.old input.new) (change K.written K.faults output.old output.new) }
     // At each line with an address stand the bytes of its instruction.
-    ensures words { (plan : PassPipeline) → result ≡ Status.Done →
+    ensures words { (plan : CompilePlan) → result ≡ Status.Done →
         IsCommand (map string_bytes words.now) (Command.Compile plan) →
         WroteWords (change S.left S.faults input.old input.new) (change K.written K.faults output.old output.new) }
     // The lines show the functions that passes made of those that were read, with their frames: without passes, those
-    // that were read. The other sections are those of the program's unit and of its table of lines, which gives each
-    // byte of machine code its line of the source.
-    ensures passed { (plan : PassPipeline) → result ≡ Status.Done →
+    // that were read. The other sections are those of the program's unit, of its table of lines, which gives each byte
+    // of machine code its line of the source, and of the call frame information of its machine code.
+    ensures passed { (plan : CompilePlan) → result ≡ Status.Done →
         IsCommand (map string_bytes words.now) (Command.Compile plan) →
-        WrotePassed (plan_steps plan) (change S.left S.faults input.old input.new)
+        WrotePassed (plan_steps plan.plan) (change S.left S.faults input.old input.new)
+        (change K.written K.faults output.old output.new) }
+    // `.debug_frame`, the section of call frame information, is among them with `--frame`, and isn't without it.
+    ensures frame_section { (plan : CompilePlan) → result ≡ Status.Done →
+        IsCommand (map string_bytes words.now) (Command.Compile plan) →
+        WroteFrameSection plan.frame (change S.left S.faults input.old input.new)
         (change K.written K.faults output.old output.new) }
 
     // What `report` writes is the report of what passes made of the functions that were read: of each the words of its
