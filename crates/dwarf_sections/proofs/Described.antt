@@ -6,11 +6,11 @@ use Rattle.std.proofs.lemmas.List.Elements.{All-nil, All-cons, All-append}
 use Rattle.emit_code.specs.Laid.{LaidCode}
 use Rattle.dwarf_frame.specs.declared.table.FrameDescription.{FrameDescription}
 use Rattle.dwarf_frame.specs.Table.{IsDescription}
-use Rattle.dwarf_line_table.specs.declared.compiled.Compiled.{Compiled}
+use Rattle.dwarf_line_table.specs.declared.source_and_code.SourceAndCode.{SourceAndCode}
 use Rattle.frame_table.specs.Table.{Describes}
 
 -- what is described so far, and can be written
-pub record SoFar (functions : List Compiled) (i : ℕ) (table : List FrameDescription) : Type 0 where
+pub record SoFar (functions : List SourceAndCode) (i : ℕ) (table : List FrameDescription) : Type 0 where
   pub describe : AllZip Describes (map (λ c. c.code.now) (take i functions)) table
   pub writable : All IsDescription table
 
@@ -21,16 +21,16 @@ described_push [] (t ∷ table) c d each is = absurd each
 described_push (x ∷ codes) [] c d each is = absurd each
 described_push (x ∷ codes) (t ∷ table) c d each is = (each.0, described_push codes table c d each.1 is)
 
-pub begin : (functions : List Compiled) → SoFar functions 0 []
+pub begin : (functions : List SourceAndCode) → SoFar functions 0 []
 begin functions = record { describe = tt; writable = All-nil IsDescription }
 
-pub more : (functions : List Compiled) (i : ℕ) (table next : List FrameDescription) (c : Compiled) (d : FrameDescription) → i < length functions
+pub more : (functions : List SourceAndCode) (i : ℕ) (table next : List FrameDescription) (c : SourceAndCode) (d : FrameDescription) → i < length functions
     → c ≡ get_or functions i c → SoFar functions i table → Describes c.code.now d → IsDescription d → next ≡ table ++ d ∷ [] → SoFar functions (i + 1) next
 more functions i table next c d inside at so describes writable pushed =
-    let codes : List Compiled → List LaidCode = map (λ (x : Compiled). x.code.now) in
+    let codes : List SourceAndCode → List LaidCode = map (λ (x : SourceAndCode). x.code.now) in
     let longer : codes (take (i + 1) functions) ≡ codes (take i functions) ++ c.code.now ∷ [] =
-    ap codes (take_more functions i c inside ∙ ap (λ (x : Compiled). take i functions ++ x ∷ []) (sym at))
-    ∙ map-append (λ (x : Compiled). x.code.now) (take i functions) (c ∷ []) in
+    ap codes (take_more functions i c inside ∙ ap (λ (x : SourceAndCode). take i functions ++ x ∷ []) (sym at))
+    ∙ map-append (λ (x : SourceAndCode). x.code.now) (take i functions) (c ∷ []) in
     subst (SoFar functions (i + 1)) (sym pushed)
     (record {
       describe =

@@ -109,7 +109,7 @@ pub fn loclists(alloc: Global, lists: &RangeLists) -> Result<Bytes, SectionError
 
 /// The section `.debug_frame` of functions, in which no register is undefined. It is `TooLarge` exactly from 2^31 bytes
 /// on.
-pub fn frame(alloc: Global, functions: &[Compiled]) -> Result<Bytes, SectionError>
+pub fn frame(alloc: Global, functions: &[SourceAndCode]) -> Result<Bytes, SectionError>
     requires { All (λ c. IsOfFunction c.code.now) functions.now }
     ensures section { IfOk result (IsFrameSection [] (map (λ c. c.code.now) functions.now)) }
     ensures small { IfOk result (λ bytes. length bytes < SECTION_LIMIT) }
@@ -124,7 +124,7 @@ pub fn frame(alloc: Global, functions: &[Compiled]) -> Result<Bytes, SectionErro
 }
 
 /// The call frame information of functions' code, in their order.
-fn descriptions(alloc: Global, functions: &[Compiled]) -> Result<List<FrameDescription>, AllocError>
+fn descriptions(alloc: Global, functions: &[SourceAndCode]) -> Result<List<FrameDescription>, AllocError>
     requires { All (λ c. IsOfFunction c.code.now) functions.now }
     ensures describe { IfOk result (AllZip Describes (map (λ c. c.code.now) functions.now)) }
     ensures writable { IfOk result (All IsDescription) }

@@ -1,5 +1,5 @@
 use Rattle.std.proofs.Common.{sym, subst}
-use Rattle.dwarf_line_table.specs.declared.compiled.Compiled.{Compiled}
+use Rattle.dwarf_line_table.specs.declared.source_and_code.SourceAndCode.{SourceAndCode}
 use Rattle.dwarf_sections.specs.Frame.{IsOfFunction}
 use Rattle.dwarf_sections.proofs.Described.{begin, more}
 use Rattle.dwarf_sections.proofs.sections.descriptions.Goals as goal
@@ -12,7 +12,7 @@ loop-function-preserved c =
     let functions = c.args.functions.now in
     let i = c.loop-function.function-index in
     let function = c.function-item.result in
-    let is = subst (λ (x : Compiled). IsOfFunction x.code.now) (sym c.function-item.is) (c.requires i function c.loop-function-test.true) in
+    let is = subst (λ (x : SourceAndCode). IsOfFunction x.code.now) (sym c.function-item.is) (c.requires i function c.loop-function-test.true) in
     let made = c.in_ok-description.ensures in
     more functions i c.loop-function.table c.push.new.self function c.in_ok-description.field-0 c.loop-function-test.true c.function-item.is
     c.loop-function.invariant made.describes (made.writable is.0 is.1) c.in_ok-push.ensures.ok

@@ -2,7 +2,7 @@
 use Rattle.std.proofs.Common.{◌⊎◌, refl, sym, subst}
 use Rattle.pass_list.specs.Names.{AreDistinct}
 use Rattle.compile_program.specs.Program.{IsOutputOf, HasLargeFrame, HasLargeSection, HasLargeFrameSection, steps_of}
-use Rattle.tool_driver.specs.Answer.{frame_too_large}
+use Rattle.tool_driver.specs.Refusals.{frame_too_large}
 use Rattle.tool_driver.proofs.AnswerLemmas.{compile_named, large_with_frame}
 use Rattle.tool_driver.proofs.Plans.{by_plan}
 use Rattle.tool_driver.proofs.compiled.compilation_with_frame.Goals as goal
