@@ -136,13 +136,13 @@ all_of_functions base (f ∷ fs) (c ∷ codes) (is, coded) =
     All-cons IsOfFunction c codes (base, subst (λ (g : FramedFunction). IsCodeOf g base c) (sym is.framed) is)
     (all_of_functions (base + 4 * length c.words) fs codes coded)
 
-abbrev code_in : Compiled → LaidCode
+abbrev code_in : SourceAndCode → LaidCode
 code_in c = c.code.now
 
-of_each : (cs : List Compiled) → All IsOfFunction (map code_in cs) → All (λ (c : Compiled). IsOfFunction c.code.now) cs
-of_each [] all = All-nil (λ (c : Compiled). IsOfFunction c.code.now)
+of_each : (cs : List SourceAndCode) → All IsOfFunction (map code_in cs) → All (λ (c : SourceAndCode). IsOfFunction c.code.now) cs
+of_each [] all = All-nil (λ (c : SourceAndCode). IsOfFunction c.code.now)
 of_each (c ∷ cs) all =
-    All-cons (λ (x : Compiled). IsOfFunction x.code.now) c cs (All-head IsOfFunction (code_in c) (map code_in cs) all)
+    All-cons (λ (x : SourceAndCode). IsOfFunction x.code.now) c cs (All-head IsOfFunction (code_in c) (map code_in cs) all)
     (of_each cs (All-tail IsOfFunction (code_in c) (map code_in cs) all))
 
 -- ---- what was emitted of a program
@@ -172,8 +172,8 @@ module _ (meta : Maps) (reserve : List ℕ) (passes : List PassKind) (functions 
       have_code meta functions are.passed cs (map (λ (c : CompiledFunction). c.code) m.functions) are.are sources_are codes_are
       (all_coded (names_of meta) reserve passes 0 0 are.passed m.listings m.functions are.compiled)
 
-  pub emitted_of_functions : (cs : List Compiled) → map (λ c. c.code.now) cs ≡ map (λ c. c.code) m.functions →
-      All (λ (c : Compiled). IsOfFunction c.code.now) cs
+  pub emitted_of_functions : (cs : List SourceAndCode) → map (λ c. c.code.now) cs ≡ map (λ c. c.code) m.functions →
+      All (λ (c : SourceAndCode). IsOfFunction c.code.now) cs
   emitted_of_functions cs codes_are =
       of_each cs (subst (All IsOfFunction) (sym codes_are)
       (all_of_functions 0 (map (λ p. p.function) are.passed) (map (λ c. c.code) m.functions)

@@ -157,6 +157,6 @@ pub record HasLargeFrameSection (steps : List PassStep) (p : Program) : Type 0 w
   pub functions : List PassedFunction
   pub passed : ArePassed p.meta p.functions functions
   pub made : All (IsMadeBy steps) functions
-  pub compiled : List Compiled
+  pub compiled : List SourceAndCode
   pub coded : HaveCode functions compiled
   pub large : IsLargeFrameSection [] (map (λ c. c.code.now) compiled)
