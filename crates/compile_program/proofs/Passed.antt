@@ -41,7 +41,8 @@ passed_functions meta (f ∷ fs) (p ∷ ps) are =
     λ i. here i ∷ rest i
 
 -- a function that passes made has a frame above the limit
-pub made_too_large : (reserve : List ℕ) (passes : List PassKind) (q : Parsed) (f : Function) (subs : List DebugSubstitution) (losses : List Loss) (meta : Maps) →
+pub made_too_large : (reserve : List ℕ) (passes : List PassKind) (q : Parsed) (f : Function) (subs : List DebugSubstitution) (losses : List Loss)
+    (meta : Maps) →
     IsMadeLosing reserve passes (passed_of q f subs) losses → IsCompilable meta (passed_of q f subs) → MAX_FRAME < size_of f →
     IsTooLarge (steps_of reserve passes) q
 made_too_large reserve passes q f subs losses meta by is large = record {

@@ -124,7 +124,10 @@ pub fn frame(alloc: Global, functions: &[SourceAndCode]) -> Result<Bytes, Sectio
 }
 
 /// The call frame information of functions' code, in their order.
-fn descriptions(alloc: Global, functions: &[SourceAndCode]) -> Result<List<FrameDescription>, AllocError>
+fn descriptions(
+    alloc: Global,
+    functions: &[SourceAndCode],
+) -> Result<List<FrameDescription>, AllocError>
     requires { All (λ c. IsOfFunction c.code.now) functions.now }
     ensures describe { IfOk result (AllZip Describes (map (λ c. c.code.now) functions.now)) }
     ensures writable { IfOk result (All IsDescription) }
