@@ -59,10 +59,15 @@ fn run_on(alloc: Global, words: &str, text: &[u8], faulty: Faulty) -> Result<End
         most: faulty.takes,
     };
     let mut told = MemorySink::new(alloc, faulty.tells, CallNumbers::new(alloc))?;
-    let mut written = StdSink::new(&mut output);
-    let status = mirdwarf(alloc, &words, &mut input, &mut written, &mut told).number();
+    let status = mirdwarf(
+        alloc,
+        &words,
+        &mut input,
+        &mut StdSink::new(&mut output),
+        &mut told,
+    );
     Ok(Ended {
-        status,
+        status: status.number(),
         output,
         told,
     })
