@@ -1,20 +1,22 @@
--- Nothing refuses the program of a generated function: its frame and its sections are within their limits, and `compile` asks for no more.
+-- Nothing refuses the program of a generated function: its frame and its sections are within their limits, and `compile` asks for no more
+-- without `.debug_frame`.
 use Rattle.std.proofs.Common.{◌≢◌, ℕ, ◌≤◌, [], length, refl, ap, arith}
-use Rattle.cli.specs.declared.command.Command.TheVariants.{Compile}
 use Rattle.cli.specs.declared.command.PassPipeline.{PassPipeline}
 use Rattle.cli.specs.declared.fault.Fault.{Fault}
 use Rattle.gen_program.specs.Program.{generated_program}
 use Rattle.gen_sizes.proofs.Frames.{generated_frames_are_small}
 use Rattle.gen_sizes.proofs.Sections.{generated_sections_are_small}
-use Rattle.tool_driver.specs.Refusals.{RefusesProgram, unknown_function, frame_too_large, section_too_large, object_too_large, no_symbol_name, answers}
-use Rattle.theorem_answers.specs.Laws.{GeneratedProgramsAreAnswered, GeneratedTextsAreAnswerable}
+use Rattle.tool_driver.specs.Refusals.{RefusesProgram, unknown_function, frame_too_large, section_too_large, frame_section_too_large}
+use Rattle.tool_driver.specs.Refusals.{object_too_large, no_symbol_name, answers}
+use Rattle.theorem_answers.specs.Laws.{compile_by, GeneratedProgramsAreAnswered, GeneratedTextsAreAnswerable}
 
 no_cause : {fault : Fault} (number count : ℕ) (plan : PassPipeline) → 1 ≤ count → count ≤ 512 →
-    RefusesProgram (Compile plan) (generated_program number count) fault → ⊥
+    RefusesProgram (compile_by plan) (generated_program number count) fault → ⊥
 no_cause number count plan some few (unknown_function run same unknown) = absurd cc
 no_cause number count plan some few (frame_too_large other same named large) = generated_frames_are_small number count other.reserve other.passes large
 no_cause number count plan some few (section_too_large other same named large) =
     generated_sections_are_small number count other.reserve other.passes some few large
+no_cause number count plan some few (frame_section_too_large asked same framed large) = absurd cc
 no_cause number count plan some few (object_too_large other same large) = absurd cc
 no_cause number count plan some few (no_symbol_name other same invalid) = absurd cc
 

@@ -1,18 +1,23 @@
 -- The statements of the theorems on what is answered.
-use Rattle.std.specs.Prelude.{ℕ, ◌≤◌, List, length, Some, Ok}
+use Rattle.std.specs.Prelude.{ℕ, ◌≤◌, false, List, length, Some, Ok}
 use Rattle.read_program.specs.Program.{ReadsText}
+use Rattle.cli.specs.declared.command.Command.{Command}
 use Rattle.cli.specs.declared.command.Command.TheVariants.{Compile}
 use Rattle.cli.specs.declared.command.PassPipeline.{PassPipeline}
 use Rattle.gen_program.specs.Program.{generated_program}
 use Rattle.tool_driver.specs.Limits.{INPUT_LIMIT}
 use Rattle.tool_driver.specs.Refusals.{IsAnswered, IsAnswerable}
 
--- Nothing refuses the program of a generated function, whatever passes it is compiled by.
+-- `compile` by these passes, without `.debug_frame`
+abbrev pub compile_by : PassPipeline → Command
+compile_by plan = Compile (record { plan = plan; frame = false })
+
+-- Nothing refuses the program of a generated function, whatever passes it is compiled by, without `.debug_frame`.
 abbrev pub GeneratedProgramsAreAnswered : Type 0
 GeneratedProgramsAreAnswered = (number count : ℕ) (plan : PassPipeline) → 1 ≤ count → count ≤ 512 →
-    IsAnswered (Compile plan) (generated_program number count)
+    IsAnswered (compile_by plan) (generated_program number count)
 
 -- A text within the limit that is read as the program of a generated function can be answered.
 abbrev pub GeneratedTextsAreAnswerable : Type 0
 GeneratedTextsAreAnswerable = (number count : ℕ) (plan : PassPipeline) (text : List ℕ) → 1 ≤ count → count ≤ 512 → length text ≤ INPUT_LIMIT →
-    ReadsText text (Ok (generated_program number count)) → IsAnswerable (Compile plan) (Some text)
+    ReadsText text (Ok (generated_program number count)) → IsAnswerable (compile_by plan) (Some text)
