@@ -1,11 +1,13 @@
-use Rattle.std.proofs.Common.{sym, subst}
+use Rattle.std.proofs.Common.{List, sym, subst}
+use Rattle.dwarf_frame.specs.declared.table.FrameDescription.{FrameDescription}
 use Rattle.dwarf_line_table.specs.declared.source_and_code.SourceAndCode.{SourceAndCode}
 use Rattle.dwarf_sections.specs.Frame.{IsOfFunction}
-use Rattle.dwarf_sections.proofs.Described.{begin, more}
+use Rattle.dwarf_sections.proofs.Described.{SoFar, begin, more}
 use Rattle.dwarf_sections.proofs.sections.descriptions.Goals as goal
 
 pub loop-function-init : goal.loop-function-init
-loop-function-init c = begin c.args.functions.now
+loop-function-init c =
+    subst (λ (table : List FrameDescription). SoFar c.args.functions.now 0 table) (sym c.new-table.ensures) (begin c.args.functions.now)
 
 pub loop-function-preserved : goal.loop-function-preserved
 loop-function-preserved c =
