@@ -53,7 +53,6 @@ pub fn made_of(
 }
 
 /// Runs passes on a function, and appends its listing and what is made of it.
-#[tactic(auto, using(crate::proofs::Passed::made_too_large))]
 fn push_source(
     alloc: Global,
     made: &mut EmittedFunctions,

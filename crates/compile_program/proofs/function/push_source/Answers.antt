@@ -1,5 +1,8 @@
-use Rattle.std.proofs.Common.{refl}
+use Rattle.std.proofs.Common.{◌<◌, refl, rules}
+use Rattle.frame_rule.specs.Rule.{size_of}
+use Rattle.mir_func.specs.Limits.{MAX_FRAME}
 use Rattle.compile_function.specs.Passed.{passed_of}
+use Rattle.compile_program.proofs.Passed.{made_too_large}
 use Rattle.compile_program.proofs.function.push_source.Goals as goal
 
 pub push_function-requires-clause-sound : goal.push_function-requires-clause-sound
@@ -20,3 +23,9 @@ returns-clause-pushed c = record {
   lost = c.in_ok-passed.ensures.made;
   pushed = c.in_ok-push_function.ensures.pushed;
 }
+
+pub returns-in_err-push_function-clause-too_large : goal.returns-in_err-push_function-clause-too_large
+returns-in_err-push_function-clause-too_large c is =
+    let large : MAX_FRAME < size_of c.in_ok-passed.passed.function = search (rules, is) in
+    made_too_large c.args.reserve.now c.args.passes.now c.args.source.now c.in_ok-passed.passed.function c.in_ok-passed.passed.substitutions
+    c.in_ok-passed.passed.losses c.args.meta.now c.in_ok-passed.ensures.made c.in_ok-passed.ensures.compilable large
