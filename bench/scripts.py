@@ -31,6 +31,10 @@ WORDS = [
     ("compile --reserve=x5", "`x5`, which is no register that may be reserved"),
     ("compile --reserve=s0", "`s0`, which is no register that may be reserved"),
     ("compile --args=5", "`compile` takes no --args"),
+    ("compile --frame=1", "--frame has no value"),
+    ("compile --frame --frame", "--frame is given twice"),
+    ("compile --fram", "no option `--fram`. Did you mean `--frame`?"),
+    ("report --frame", "`report` takes no --frame; compile does"),
     ("compile nofile.mir", "there is no file `nofile.mir`"),
     ("compile examples", "`examples` is a folder"),
     ("compile /dev/null", "`/dev/null` is no plain file"),
@@ -91,8 +95,17 @@ DEBUGGED = [
     ("--elf /nonexist/x.elf price 5", r"\A--elf names /nonexist/x.elf, and there is no folder /nonexist\n", r"", 1),
     ("--elf /tmp price 5", r"\A--elf names /tmp, which is a folder\n", r"", 1),
     ("--elf /dev/null price 5", r"\A--elf names /dev/null, which is no plain file\n", r"", 1),
+    ("--backtrace price price 5", r"has no section .debug_frame, by which frames are found: `compile --frame` writes it", r"", 1),
     ("--source nofile.c price 5", r"\Athere is no file nofile.c, which --source names\n\Z", r"", 1),
     ("--bytes text", r"\AFUNCTION is missing\n--bytes took the word `text`\n", r"", 1),
+]
+# The same with the file of ledger.mir by --frame.
+FRAMED = [
+    ("--backtrace price ledger 5 2 1 2 8 3 4 10", r"#0 0000 price, line 0\n     item=5 count=1 each=- left=1 whole=-\n     CFA=[0-9a-f]+ return=00f0\n",
+     r"#1 00f0 ledger, behind its call, line 19: long cost = .*\n     CFA=\w+ return=\w+ x8=3 x9=a x18=0 x19=5 x20=8 .*\n#2 \w+ the start, .*\n.*\n\Z", 0),
+    ("--backtrace 10 price 5 0", r"#0 0020 price, line 10: return whole;\n", r"\n#1 \w+ the start, behind its call\n\Z", 0),
+    ("--backtrace ledger price 5", r"No errors", r"stopped behind the function's return; the run never came to ledger\n\Z", 1),
+    ("--backtrace 99 price 5", r"--backtrace names 99, which is neither a function \(price, ledger\) nor the number of a line with code", r"", 1),
 ]
 CALLED = [
     ("total 3 4", r"\Anot in .*: price, called by total\n", r"stopped in a call of price, which the output doesn't have; .*\n\Z", 1),
@@ -174,7 +187,7 @@ def wrapper(room):
     for words, wanted in WORDS:
         status, said, told = run("./mirdwarf", *words.split(" "))
         check(words, status == 2 and not said and wanted in told.split("\n")[0], told)
-    for words in (["compile", "--passes=none"], ["report"], ["strip"], ["run", "price", "12", "--args=5,3"]):
+    for words in (["compile", "--passes=none"], ["compile", "--frame"], ["report"], ["strip"], ["run", "price", "12", "--args=5,3"]):
         with open(os.path.join(TOP, LEDGER), encoding="utf-8") as it:
             text = it.read()
         plain = subprocess.run([PROGRAM, *words], input=text, capture_output=True, text=True)
@@ -210,8 +223,8 @@ def wrapper(room):
     check("another name", status == 1 and "The file has: price, ledger. Did you mean `price`?" in told, told)
 
 
-def compiled(room, name, text):
-    status, said, told = run("./mirdwarf", "compile", "--passes=none", given=text)
+def compiled(room, name, text, *options):
+    status, said, told = run("./mirdwarf", "compile", "--passes=none", *options, given=text)
     check(f"compile of {name}", status == 0, told)
     file = os.path.join(room, name)
     with open(file, "w", encoding="utf-8") as it:
@@ -224,7 +237,9 @@ def debugger(room):
     for name in (LEDGER, TOTALS):
         with open(os.path.join(TOP, name), encoding="utf-8") as it:
             files[name] = compiled(room, os.path.basename(name) + ".txt", it.read())
-    for name, rows in ((LEDGER, DEBUGGED), (TOTALS, CALLED)):
+    with open(os.path.join(TOP, LEDGER), encoding="utf-8") as it:
+        files["framed"] = compiled(room, "framed.txt", it.read(), "--frame")
+    for name, rows in ((LEDGER, DEBUGGED), (TOTALS, CALLED), ("framed", FRAMED)):
         for words, wanted, ending, wants in rows:
             words = words.split(" ")
             options = words[:2] if words[0].startswith("--") else []

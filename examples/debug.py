@@ -9,6 +9,8 @@ address of what the Nth --bytes or --longs puts into memory.
   --bytes TEXT       these bytes and a 0 behind them; \\n, \\t, \\0, \\\\ and \\xNN stand for one byte each
   --longs N,N,..     these numbers, eight bytes each
   --answers N,N,..   what calls of functions give that OUTPUT doesn't have, one each
+  --backtrace WHERE  the frames, where the run first comes to WHERE, a function of OUTPUT or the number of a line, in place of the steps; OUTPUT has to
+                     be of `compile --frame`, since gdb finds them by .debug_frame
   --source FILE.c    where the C source is; else it is looked for beside OUTPUT, here and beside this script
   --elf FILE         keeps the ELF file, for other tools, and for gdb by hand: `qemu-riscv64 -g 1234 FILE &`, then
                      `gdb-multiarch -ex 'set trust-readonly-sections on' -ex 'target remote :1234' FILE`
@@ -16,14 +18,15 @@ address of what the Nth --bytes or --longs puts into memory.
 The sections go into an ELF file for 64-bit RISC-V as they are; beside them comes a start that calls the function and ends with its result. Where
 a function of OUTPUT is called, the two words of the call get its distance, as a linker does it. Then llvm-dwarfdump verifies the sections, and gdb
 steps through the function on qemu's processor, line by line, and prints its variables: `-` is one without a place, `*` stands behind each that
-differs from the stop before. The last line says the result if the function returned, else where it stopped and why.
+differs from the stop before. The last line says the result if the function returned, else where it stopped and why. Of a frame it prints the CFA
+(the stack pointer that the caller had at the call) and the return address; of the innermost one also the variables, and of each other one the
+registers that what it called has to give back. No variable of an outer frame is printed: its list may name a register that the callee has changed.
 Debian's packages: llvm-19 (or llvm), gdb-multiarch, qemu-user.
 """
 import json
 import os
 import re
 import shutil
-import socket
 import struct
 import subprocess
 import sys
@@ -31,9 +34,7 @@ import tempfile
 
 sys.path.insert(0, os.path.join(os.path.dirname(os.path.abspath(__file__)), "..", "tools"))
 import dwarf
-
-# Where the start stands: behind the most that `.text` may have here; and the memory that arguments point to.
-START, MEMORY = 0x100000, 0x200000
+import executable
 
 # How many words gdb steps over at most, and how many seconds it takes at most.
 STEPS, SECONDS = 2000, 120
@@ -41,103 +42,13 @@ STEPS, SECONDS = 2000, 120
 TOOLS = {"gdb-multiarch": "gdb-multiarch", "qemu-riscv64": "qemu-user"}
 
 
-def output_of(text):
-    """The sections, the functions with their addresses, and the calls: the address and the name of each."""
-    sections, functions, calls, name = {}, {}, [], None
-    for line in text.splitlines():
-        words = line.split(" ")
-        if words[0] == "section" and len(words) == 3:
-            name = words[1]
-            sections[name] = b""
-        elif words[0] == "function" and len(words) == 4:
-            name = None
-            functions[words[1]] = (int(words[2], 16), int(words[3], 16))
-        elif name is not None:
-            sections[name] += bytes.fromhex(line)
-        else:
-            called = re.match(r"([0-9a-f]{8}) \S+ PseudoCALL @([^, ]+)", line)
-            if called:
-                calls.append((int(called[1], 16), called[2]))
-    return sections, functions, calls
-
-
-def addi(rd, rs, n):
-    return (n & 0xFFF) << 20 | rs << 15 | rd << 7 | 0x13
-
-
-def constant(rd, value):
-    """Words that put a number into a register: its lowest 64 bits, eleven at a time (RISC-V Unprivileged ISA, RV64I)."""
-    value &= 2**64 - 1
-    words = [addi(rd, 0, value >> 55)]
-    for shift in (44, 33, 22, 11, 0):
-        words += [11 << 20 | rd << 15 | 1 << 12 | rd << 7 | 0x13, addi(rd, rd, value >> shift & 0x7FF)]
-    return words
-
-
-def call(distance):
-    """The two words of a call over a distance: AUIPC x1 and JALR x1."""
-    high = (distance + 0x800) >> 12
-    return [(high & 0xFFFFF) << 12 | 0x97, (distance - (high << 12) & 0xFFF) << 20 | 0xE7 | 1 << 15]
-
-
-def start_of(entry, numbers, absent):
-    """The code that calls a function with arguments and ends with its result, and behind it a word for each absent function that returns at
-    once; with the address that the function returns to, and those of the absent ones."""
-    words = [word for n, number in enumerate(numbers) for word in constant(10 + n, number)]
-    words += call(entry - START - 4 * len(words))
-    back = START + 4 * len(words)
-    words += [addi(17, 0, 93), 0x73]
-    others = {name: START + 4 * (len(words) + n) for n, name in enumerate(absent)}
-    return [*words, *(0x8067 for _ in absent)], back, others
-
-
-def linked(text, functions, calls, others):
-    """The bytes of `.text` with its calls."""
-    text = bytearray(text)
-    for at, name in calls:
-        to = functions[name][0] if name in functions else others[name]
-        text[at:at + 8] = struct.pack("<II", *call(to - at))
-    return bytes(text)
-
-
-def elf(sections, functions, start, memory):
-    """An ELF file (System V ABI): `.text` at address 0, the start and the memory behind it, and the sections for the debugger."""
-    names, symbols, strings = b"\0", [bytes(24)], b"\0"
-    for name, (low, high) in functions.items():
-        symbols.append(struct.pack("<IBBHQQ", len(strings), 0x12, 0, 1, low, high - low))
-        strings += name.encode() + b"\0"
-    loaded = [(".text", 6, 0, sections[".text"]), (".start", 6, START, start), *([(".data", 3, MEMORY, memory)] if memory else [])]
-    parts = [(n, 1, flags, at, body, 0, 0, 4, 0) for n, flags, at, body in loaded]
-    parts += [(n, 1, 0, 0, body, 0, 0, 1, 0) for n, body in sections.items() if n != ".text"]
-    parts += [(".symtab", 2, 0, 0, b"".join(symbols), len(parts) + 2, 1, 8, 24), (".strtab", 3, 0, 0, strings, 0, 0, 1, 0)]
-    parts.append((".shstrtab", 3, 0, 0, None, 0, 0, 1, 0))
-    content, header, loads = b"", [bytes(64)], []
-    first = 64 + 56 * len(loaded)
-    for name, kind, flags, address, body, link, info, align, size in parts:
-        at = len(names)
-        names += name.encode() + b"\0"
-        body = names if body is None else body
-        if flags:
-            # a loaded part stands in the file at a place that is like its address, page by page
-            content += bytes((address - first - len(content)) % 4096)
-            loads.append(struct.pack("<IIQQQQQQ", 1, 5 if flags & 4 else 6, first + len(content), address, address, len(body), len(body), 4096))
-        else:
-            content += bytes(-(first + len(content)) % align)
-        header.append(struct.pack("<IIQQQQIIQQ", at, kind, flags, address, first + len(content), len(body), link, info, align, size))
-        content += body
-    content += bytes(-(first + len(content)) % 8)
-    identity = b"\x7fELF" + bytes([2, 1, 1]) + bytes(9)
-    top = struct.pack("<16sHHIQQQIHHHHHH", identity, 2, 243, 1, START, 64, first + len(content), 0, 64, 56, len(loads), 64, len(header), len(header) - 1)
-    return top + b"".join(loads) + content + b"".join(header)
-
-
-def partly_known(file, function):
-    """The ranges in which a variable has places for some of its bytes alone, or has no type: its name, which of this name it is, the ends, and what
-    is shown."""
+def partly_known(file):
+    """The ranges in which a variable has places for some of its bytes alone, or has no type: its name, which of this name its function has it is, the
+    ends, and what is shown."""
     found = []
     for it in dwarf.functions(file):
         names = []
-        for variable in it.variables if it.name == function else []:
+        for variable in it.variables:
             nth = names.count(variable.name)
             names.append(variable.name)
             for low, high, place in variable.ranges:
@@ -155,21 +66,16 @@ def has_debug_information(file):
     return any(it.variables for it in dwarf.functions(file)) or any(line for _, _, line in dwarf.lines(file))
 
 
-def free_port():
-    with socket.socket() as it:
-        it.bind(("127.0.0.1", 0))
-        return it.getsockname()[1]
-
-
-# Steps through the function, and at each new line tells the address, the line, the file and the variables. What it was given stands in `it`.
+# Steps through the function, and at each new line tells the address, the line, the file and the variables; or tells the frames at a place. What it was
+# given stands in `it`.
 SHOW = r"""
 import gdb
-import json
-it = json.loads(%r)
 for setting in ("pagination off", "confirm off", "style enabled off", "print repeats 0"):
     gdb.execute("set " + setting)
 # qemu tells gdb nothing of address 0, where the first function is: so gdb reads code from the file
 gdb.execute("set trust-readonly-sections on")
+# what a function gives back as it was, but for x1 and x2 (RISC-V ELF psABI, "Integer Register Convention")
+KEPT = ["x8", "x9", *("x%d" % n for n in range(18, 28))]
 
 
 def tell(what, *values):
@@ -181,7 +87,7 @@ def pc():
 
 
 def run_to(place):
-    gdb.execute("tbreak *%%d" %% place, to_string=True)
+    gdb.execute("tbreak *%d" % place, to_string=True)
     gdb.execute("continue", to_string=True)
 
 
@@ -195,29 +101,80 @@ def shown(symbol, nth, frame, here):
         text = "-" if value.is_optimized_out else str(value)
         return {"<optimized out>": "-", "void": "(no type)"}.get(text, text)
     except gdb.error as error:
-        return "<%%s>" %% error
+        return "<%s>" % error
+
+
+def variables():
+    frame, here = gdb.newest_frame(), pc()
+    symbols = [s for s in frame.block() if s.is_variable or s.is_argument]
+    return [(s.name, shown(s, [s.name for s in symbols[:n]].count(s.name), frame, here)) for n, s in enumerate(symbols)]
+
+
+def go_on_to(places):
+    # to a breakpoint at one of the places; absent functions give their answers on the way, and without one this tells where it ended
+    for place in it["absent"].values():
+        gdb.execute("break *%d" % place, to_string=True)
+    while True:
+        gdb.execute("continue", to_string=True)
+        here = pc()
+        if here in places:
+            break
+        name = next((name for name, place in it["absent"].items() if place == here), None)
+        if name is None:
+            return "at %x, in a call" % here
+        if not it["answers"]:
+            return "in a call of %s, which the output doesn't have; --answers gives what it returns" % name
+        gdb.execute("set $a0 = %d" % it["answers"].pop(0))
+    for breakpoint in gdb.breakpoints():
+        breakpoint.delete()
+    return None
 
 
 def over_call(at):
     # behind a call, in this very frame: other calls of the function may come by there too
     stack = int(gdb.parse_and_eval("(unsigned long)$sp"))
-    gdb.execute("tbreak *%%d if (unsigned long)$sp == %%d" %% (at + 8, stack), to_string=True)
-    for name, place in it["absent"].items():
-        gdb.execute("break *%%d" %% place, to_string=True)
+    gdb.execute("tbreak *%d if (unsigned long)$sp == %d" % (at + 8, stack), to_string=True)
+    return go_on_to([at + 8])
+
+
+def number(frame, register):
+    return int(frame.read_register(register)) & 2**64 - 1
+
+
+def frames():
+    # from the innermost one on, as far as the output has a function for it
+    frame = gdb.newest_frame()
+    level = 0
     while True:
-        gdb.execute("continue", to_string=True)
-        here = pc()
-        if here == at + 8:
-            break
-        name = next((name for name, place in it["absent"].items() if place == here), None)
+        # behind a call may be another function already
+        inside = frame.pc() - (level > 0)
+        name = next((name for name, (low, high) in it["functions"].items() if low <= inside < high), None)
         if name is None:
-            return "at %%x, in a call" %% here
-        if not it["answers"]:
-            return "in a call of %%s, which the output doesn't have; --answers gives what it returns" %% name
-        gdb.execute("set $a0 = %%d" %% it["answers"].pop(0))
-    for breakpoint in gdb.breakpoints():
-        breakpoint.delete()
-    return None
+            tell("outside", level, frame.pc())
+            return
+        outer = frame.older()
+        if outer is None:
+            tell("stopped", "at frame %d: %s" % (level, gdb.frame_stop_reason_string(frame.unwind_stop_reason())))
+            return
+        place = frame.find_sal()
+        registers = [(register, number(frame, register)) for register in KEPT] if level else []
+        tell("frame", level, name, frame.pc(), place.line, place.symtab.filename if place.symtab else None, [] if level else variables(),
+             number(outer, "sp"), outer.pc(), registers)
+        frame, level = outer, level + 1
+
+
+def show_frames():
+    run_to(it["low"])
+    places = [*it["where"], it["back"]]
+    for place in places:
+        gdb.execute("break *%d" % place, to_string=True)
+    why = None if it["low"] in it["where"] else go_on_to(places)
+    if why:
+        tell("stopped", why)
+    elif pc() == it["back"]:
+        tell("stopped", "behind the function's return; the run never came to %s" % it["backtrace"])
+    else:
+        frames()
 
 
 def walk():
@@ -229,14 +186,12 @@ def walk():
             tell("result", int(gdb.parse_and_eval("(long)$a0")))
             return
         if not it["low"] <= here < it["high"]:
-            tell("stopped", "at %%x, outside the function" %% here)
+            tell("stopped", "at %x, outside the function" % here)
             return
         place = gdb.selected_frame().find_sal()
         if place.line != before:
-            before, frame = place.line, gdb.selected_frame()
-            symbols = [s for s in frame.block() if s.is_variable or s.is_argument]
-            names = [(s.name, shown(s, [s.name for s in symbols[:n]].count(s.name), frame, here)) for n, s in enumerate(symbols)]
-            tell("stop", here, place.line, place.symtab.filename if place.symtab else None, names)
+            before = place.line
+            tell("stop", here, place.line, place.symtab.filename if place.symtab else None, variables())
         if here in it["calls"]:
             why = over_call(here)
             if why:
@@ -244,14 +199,17 @@ def walk():
                 return
         else:
             gdb.execute("stepi", to_string=True)
-    tell("stopped", "after %%d steps, at line %%s" %% (it["steps"], before))
+    tell("stopped", "after %d steps, at line %s" % (it["steps"], before))
 
 
 try:
-    walk()
+    if it["where"]:
+        show_frames()
+    else:
+        walk()
 except gdb.error as error:
     try:
-        tell("stopped", "at %%x: %%s" %% (pc(), error))
+        tell("stopped", "at %x: %s" % (pc(), error))
     except gdb.error:
         tell("stopped", str(error))
 try:
@@ -280,7 +238,7 @@ def number_of(word, what):
 
 def read_words(words):
     """The options, the other words, and the options that took the word behind them, each with the word."""
-    given, memory, rest, taken = {"answers": []}, [], [], []
+    given, memory, rest, taken = {"answers": [], "backtrace": None}, [], [], []
     while words:
         word = words.pop(0)
         if word in ("-h", "--help"):
@@ -290,8 +248,8 @@ def read_words(words):
             rest.append(word)
             continue
         option, equals, value = word.partition("=")
-        if option not in ("--bytes", "--longs", "--answers", "--source", "--elf"):
-            sys.exit(f"there is no option {option}; the options are --bytes, --longs, --answers, --source and --elf")
+        if option not in ("--bytes", "--longs", "--answers", "--backtrace", "--source", "--elf"):
+            sys.exit(f"there is no option {option}; the options are --bytes, --longs, --answers, --backtrace, --source and --elf")
         if not equals:
             if not words:
                 sys.exit(f"{option} wants a word behind it")
@@ -319,7 +277,7 @@ def placed(memory):
     content, places = b"", []
     for part in memory:
         content += bytes(-len(content) % 16)
-        places.append(MEMORY + len(content))
+        places.append(executable.MEMORY + len(content))
         content += part
     return content, places
 
@@ -349,21 +307,42 @@ def source_of(name, given, beside):
     return []
 
 
+def show_frame(level, function, at, text, variables, cfa, back, registers):
+    """Prints a frame: where it stands or which call it waits for, the variables of the innermost one, and what is to be found by .debug_frame."""
+    print(f"#{level} {at:04x} {function}{', behind its call' if level else ''}, {text}")
+    if not level:
+        print("     " + " ".join(f"{name}={value}" for name, value in variables))
+    print("     " + " ".join([f"CFA={cfa:x} return={back:04x}", *(f"{name}={value:x}" for name, value in registers)]))
+
+
 def show(said, given, beside):
-    """Prints what gdb told, and gives whether the function returned."""
-    lines, last, known = None, {}, False
+    """Prints what gdb told, and gives whether the function returned, or all frames were found."""
+    sources, last, known = {}, {}, False
+
+    def line_of(file, number):
+        if file and file not in sources:
+            sources[file] = source_of(file, given, beside)
+        lines = sources.get(file, [])
+        text = lines[number - 1].strip() if 0 < number <= len(lines) else ""
+        return f"line {number}{': ' if text else ''}{text}"
+
     for line in said.splitlines():
         if not line.startswith("@@"):
             continue
         what, *values = json.loads(line[2:])
         if what == "stop":
             address, number, file, variables = values
-            if lines is None and file:
-                lines = source_of(file, given, beside)
-            text = lines[number - 1].strip() if lines and 0 < number <= len(lines) else ""
-            print(f"{address:04x} line {number}{': ' if text else ''}{text}")
+            print(f"{address:04x} {line_of(file, number)}")
             print("     " + " ".join(f"{name}={value}{'*' if last.get(name, value if not known else None) != value else ''}" for name, value in variables))
             last, known = dict(variables), True
+        elif what == "frame":
+            level, function, at, number, file, *others = values
+            show_frame(level, function, at, line_of(file, number), *others)
+        elif what == "outside":
+            print(f"#{values[0]} {values[1]:04x} the start, behind its call")
+            if values[0] > 1:
+                print("Variables of frames that wait for a call aren't shown: a list may name a register that the callee has changed.")
+            return True
         elif what == "result":
             print(f"result {values[0]}")
             return True
@@ -373,18 +352,16 @@ def show(said, given, beside):
     return None
 
 
-def stepped(file, script):
-    """What gdb says of the program on qemu's processor, and whether it ended in time."""
-    port = free_port()
-    machine = subprocess.Popen(["qemu-riscv64", "-g", str(port), file], stderr=subprocess.DEVNULL)
-    try:
-        target = ["-ex", "set tcp connect-timeout 60", "-ex", f"target remote 127.0.0.1:{port}"]
-        ran = subprocess.run(["gdb-multiarch", "-nx", "-batch", *target, "-x", script, file], capture_output=True, text=True, timeout=SECONDS)
-        return ran.stdout + ran.stderr, True
-    except subprocess.TimeoutExpired as late:
-        return (late.stdout or b"").decode(errors="replace"), False
-    finally:
-        machine.kill()
+def places_of(where, file, functions):
+    """The addresses that `--backtrace` names: that of a function, or those of a line."""
+    if where is None:
+        return []
+    if where in functions:
+        return [functions[where][0]]
+    places = [low for low, _, line in dwarf.lines(file) if where == str(line)]
+    if not places:
+        sys.exit(f"--backtrace names {where}, which is neither a function ({', '.join(functions)}) nor the number of a line with code")
+    return places
 
 
 def main():
@@ -401,42 +378,43 @@ def main():
     dwarfdump = dwarf.dwarfdump()
     with open(words[0], encoding="utf-8", errors="replace") as it:
         try:
-            sections, functions, calls = output_of(it.read())
+            sections, functions, calls = executable.output_of(it.read())
         except ValueError:
             sections = {}
     if ".text" not in sections:
         sys.exit(f"{words[0]} isn't what `compile` writes: it has no section .text")
     if words[1] not in functions:
         sys.exit(f"{words[0]} has no function {words[1]}; it has {', '.join(functions)}")
-    if len(sections[".text"]) > START:
-        sys.exit(f"the code has {len(sections['.text'])} bytes, and this script has room for {START}")
+    if len(sections[".text"]) > executable.START:
+        sys.exit(f"the code has {len(sections['.text'])} bytes, and this script has room for {executable.START}")
+    if given["backtrace"] and ".debug_frame" not in sections:
+        sys.exit(f"{words[0]} has no section .debug_frame, by which frames are found: `compile --frame` writes it")
     content, places = placed(memory)
     numbers = arguments(words[2:], places)
-    (low, high), absent = functions[words[1]], sorted({name for _, name in calls if name not in functions})
-    if absent:
+    if absent := executable.absent(functions, calls):
         calling = sorted({name for name, (first, end) in functions.items() for at, to in calls if to in absent and first <= at < end})
         print(f"not in {words[0]}: {', '.join(absent)}, called by {', '.join(calling)}")
-    start, back, others = start_of(low, numbers, absent)
-    sections[".text"] = linked(sections[".text"], functions, calls, others)
-    made = elf(sections, functions, struct.pack("<%dI" % len(start), *start), content)
+    made = executable.program_of(sections, functions, calls, words[1], numbers, content)
     with tempfile.TemporaryDirectory() as room:
         file = given.get("elf") or os.path.join(room, "program")
         with open(file, "wb") as it:
-            it.write(made)
+            it.write(made.content)
         os.chmod(file, 0o755)
         if not has_debug_information(file):
             sys.exit(f"{words[0]}: no function has debug information: compile the C file with clang -g")
         verified = subprocess.run([dwarfdump, "--verify", file], capture_output=True, text=True)
         print(f"llvm-dwarfdump --verify: {(verified.stdout.strip() or verified.stderr.strip()).splitlines()[-1]}")
         script = os.path.join(room, "show.py")
-        asked = {"low": low, "high": high, "back": back, "steps": STEPS, "calls": [at for at, _ in calls], "absent": others, "answers": given["answers"],
-                 "partly": partly_known(file, words[1])}
+        low, high = functions[words[1]]
+        asked = {"low": low, "high": high, "back": made.back, "steps": STEPS, "calls": [at for at, _ in calls], "absent": made.absent,
+                 "answers": given["answers"], "partly": partly_known(file), "functions": functions, "backtrace": given["backtrace"],
+                 "where": places_of(given["backtrace"], file, functions)}
         with open(script, "w", encoding="utf-8") as it:
-            it.write(SHOW % json.dumps(asked))
-        said, ended = stepped(file, script)
+            it.write(f"import json\nit = json.loads({json.dumps(asked)!r})\n{SHOW}")
+        said, ended = executable.in_gdb(file, script, SECONDS)
         if "@@" not in said and ended:
             # gdb may fail on a busy machine before it is connected
-            said, ended = stepped(file, script)
+            said, ended = executable.in_gdb(file, script, SECONDS)
         returned = show(said, given.get("source"), os.path.dirname(os.path.abspath(words[0])))
         if not ended:
             print(f"stopped after {SECONDS} seconds")

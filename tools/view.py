@@ -21,10 +21,8 @@ import re
 import sys
 import tempfile
 
-TOP = os.path.join(os.path.dirname(os.path.abspath(__file__)), "..")
-sys.path[:0] = [os.path.join(TOP, "tools"), os.path.join(TOP, "examples")]
-import debug
 import dwarf
+import executable
 
 COLOURS = {"all": "\x1b[42;30m", "some": "\x1b[43;30m", "none": "\x1b[2m"}
 
@@ -37,13 +35,13 @@ def read(path):
         content = it.read()
     if content[:4] == b"\x7fELF":
         return dwarf.functions(path), dwarf.lines(path)
-    sections, functions, _ = debug.output_of(content.decode("utf-8", "replace"))
+    sections, functions, _ = executable.output_of(content.decode("utf-8", "replace"))
     if ".text" not in sections:
         sys.exit(f"{path} is neither an ELF file nor what `compile` writes: it has no section .text")
     with tempfile.TemporaryDirectory() as room:
         file = os.path.join(room, "program")
         with open(file, "wb") as it:
-            it.write(debug.elf(sections, functions, b"", b""))
+            it.write(executable.elf(sections, functions))
         return dwarf.functions(file), dwarf.lines(file)
 
 
