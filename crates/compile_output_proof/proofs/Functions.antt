@@ -1,11 +1,12 @@
 -- The output of a program that was read is printable.
-use Rattle.std.proofs.Common.{◌≡◌, ℕ, ◌+◌, ◌*◌, ◌<◌, ◌^◌, List, [], ◌∷◌, length, All, refl, sym, subst, ap, ◌∙◌, arith}
+use Rattle.std.proofs.Common.{◌≡◌, ℕ, ◌+◌, ◌*◌, ◌<◌, ◌^◌, List, [], ◌∷◌, length, All, Option, Some, None, IfSome, refl, sym, subst, ap, ◌∙◌, arith}
 use Rattle.std.proofs.lemmas.List.{length-append}
 use Rattle.std.proofs.lemmas.List.Elements.{All-nil, All-cons, All-head, All-tail}
 use Rattle.emit_code.specs.Rule.{words_of}
 use Rattle.listing_text.specs.declared.output.ListedFunction.{ListedFunction}
 use Rattle.listing_text.specs.Shown.{IsPrintableVariable, IsPrintableFunction}
 use Rattle.dwarf_base.specs.Leb.{groups, uleb_of}
+use Rattle.dwarf_base.specs.Limits.{SECTION_LIMIT}
 use Rattle.dwarf_info.specs.Kinds.{abbreviation, abbreviations}
 use Rattle.dwarf_loclists.specs.declared.range.Range.{Range}
 use Rattle.frame_rule.proofs.Framed.{is_framed}
