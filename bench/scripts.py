@@ -56,6 +56,8 @@ WORDS = [
 # A line that a function of a text has in front of its return, and what is told of its refusal.
 REFUSED = [
     ("PseudoTAIL target-flags(riscv-call) @g, implicit $x2, implicit $x10", "UnknownOpcode", "A tail call isn't read", "-fno-optimize-sibling-calls"),
+    ("renamable $x12 = PseudoMovAddr target-flags(riscv-hi) @__const.f.w, target-flags(riscv-lo) @__const.f.w", "UnknownOpcode",
+     "a local array or struct begins with", "one by one"),
     ("PseudoCALLIndirect killed renamable $x12, csr_ilp32_lp64, implicit-def dead $x1", "UnknownOpcode", "by a pointer isn't read", "by its name"),
     ("$x10 = PseudoMovAddr target-flags(riscv-hi) @.str, target-flags(riscv-lo) @.str", "UnknownOpcode", "The address of a global", "as an argument"),
     ("$x10 = PseudoMovAddr target-flags(riscv-hi) @switch.table.f, target-flags(riscv-lo) @switch.table.f", "UnknownOpcode", "a switch", "-fno-jump-tables"),

@@ -317,7 +317,7 @@ def show_frame(level, function, at, text, variables, cfa, back, registers):
 
 def show(said, given, beside):
     """Prints what gdb told, and gives whether the function returned, or all frames were found."""
-    sources, last, known = {}, {}, False
+    sources, last = {}, {}
 
     def line_of(file, number):
         if file and file not in sources:
@@ -333,8 +333,10 @@ def show(said, given, beside):
         if what == "stop":
             address, number, file, variables = values
             print(f"{address:04x} {line_of(file, number)}")
-            print("     " + " ".join(f"{name}={value}{'*' if last.get(name, value if not known else None) != value else ''}" for name, value in variables))
-            last, known = dict(variables), True
+            # of a function's variables, by their order: several may have one name
+            before = last.get(names := tuple(name for name, _ in variables), [value for _, value in variables])
+            print("     " + " ".join(f"{name}={value}{'*' if value != was else ''}" for (name, value), was in zip(variables, before)))
+            last[names] = [value for _, value in variables]
         elif what == "frame":
             level, function, at, number, file, *others = values
             show_frame(level, function, at, line_of(file, number), *others)

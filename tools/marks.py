@@ -74,10 +74,10 @@ def main():
         print(f"{function} {names.get(node, f'!{node}')}: marks {sum(counts.values())}, without a value "
               f"{', '.join(lacking) if lacking else 'none'}")
     for it in sorted(helps):
-        print(f"What helps: {it}.")
+        print(f"What helps, if it wasn't given: {it}.")
     if not marks:
-        print(f"{sys.argv[1]} has no mark: compile with -g, and stop llc after register allocation", file=sys.stderr)
-    return 0
+        print(f"{sys.argv[1]} has no mark of MIR: compile with -g, and give the file that llc stopped at writes", file=sys.stderr)
+    return 0 if marks else 1
 
 
 sys.exit(main())

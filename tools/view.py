@@ -11,10 +11,11 @@
     --html PAGE        writes one HTML page in place of the text: standard library alone, no network, for dark and light browsers
     --plain            text without colours
 
-A row is a source line, a column a variable. Of the machine words of the line, the variable can be found at all of them (a full block), at some
+A row is a source line, a column a variable; the second of one name is called name#2, and so on. Of the machine words of the line, the variable can be found at all of them (a full block), at some
 (how many of how many), or at none (a dot); by the location lists alone, whatever is said of their truth. docs/coverage.png is a page of two files in a
 browser: what `compile --passes=none` writes of examples/ledger.mir, and what llc-19 makes of the same file by -mtriple=riscv64 -mattr=-relax
 -start-after=virtregrewriter,1 -filetype=obj. Debian's package: llvm-19 (or llvm)."""
+import collections
 import html
 import os
 import re
@@ -51,15 +52,15 @@ def coverage(function, spans):
     for address in range(function.low, function.high, 4):
         line = next((line for low, high, line in spans if low <= address < high), 0)
         words.setdefault(line, []).append(address)
-    names = []
+    # variables of one name are told apart by their order
+    counts, named = collections.Counter(), []
     for variable in function.variables:
-        if variable.name not in names:
-            names.append(variable.name)
-    found = {name: {} for name in names}
+        counts[variable.name] += 1
+        named.append((variable.name if counts[variable.name] == 1 else f"{variable.name}#{counts[variable.name]}", variable))
+    found = {name: {} for name, _ in named}
     for line, addresses in words.items():
-        for variable in function.variables:
-            seen = sum(variable.place_at(address) is not None for address in addresses)
-            found[variable.name][line] = max(seen, found[variable.name].get(line, 0))
+        for name, variable in named:
+            found[name][line] = sum(variable.place_at(address) is not None for address in addresses)
     return {line: len(addresses) for line, addresses in words.items()}, found
 
 
