@@ -2,6 +2,6 @@
 //! neither is a node's. A contract sees each as the plain number.
 #![tactic(auto)]
 
-pub mod code;
+pub mod function_ids;
 pub mod limits;
 pub mod metadata;

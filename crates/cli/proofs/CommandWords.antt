@@ -1,5 +1,6 @@
 -- Words tell their command.
-use Rattle.std.proofs.Common.{◌≡◌, ◌↔◌, ℕ, ◌+◌, ◌-◌, ◌*◌, ◌≤◌, true, false, List, [], ◌∷◌, length, get_or, take, drop, Option, Some, None, sym, ap, ◌∙◌, subst, refl, arith}
+use Rattle.std.proofs.Common.{◌≡◌, ◌↔◌, ℕ, ◌+◌, ◌-◌, ◌*◌, ◌≤◌, true, false, List, [], ◌∷◌}
+use Rattle.std.proofs.Common.{length, get_or, take, drop, Option, Some, None, sym, ap, ◌∙◌, subst, refl, arith}
 use Rattle.std.proofs.Math.Seq.{take-length}
 use Rattle.std.proofs.lemmas.List.{drop_more, length-drop}
 use Rattle.std.specs.Prelude.{codes}
@@ -7,7 +8,7 @@ use Rattle.std.specs.Fmt.{decimal}
 use Rattle.std.proofs.lemmas.Fmt.{decimal_injective}
 use Rattle.cli_numbers.specs.declared.generation.Generation.{Generation}
 use Rattle.cli_numbers.specs.Numbers.{IsGeneration}
-use Rattle.cli.specs.declared.given.Options.{Options}
+use Rattle.cli.specs.declared.options.Options.{Options}
 use Rattle.cli.specs.declared.option.CommandOption.{CommandOption}
 use Rattle.cli.specs.declared.option.CommandOption.TheVariants.{Passes, Reserve, Arguments, Answers, Frame}
 use Rattle.cli.specs.Options.{none_given, IsWith, GivesOption, GiveOptions}

@@ -1,7 +1,7 @@
 -- What words give one after the other.
 use Rattle.std.proofs.Common.{◌≡◌, ◌↔◌, ℕ, zero, suc, ◌+◌, ◌<◌, ◌≤◌, List, [], ◌∷◌, length, get_or, map, drop}
 use Rattle.std.proofs.Common.{Option, Some, None, refl, sym, ap, ◌∙◌, subst, arith, add-one}
-use Rattle.cli.specs.declared.given.Options.{Options}
+use Rattle.cli.specs.declared.options.Options.{Options}
 use Rattle.cli.specs.declared.option.CommandOption.{CommandOption}
 use Rattle.cli.specs.Options.{IsWordOf, IsWith, GivesOption, GiveOptions}
 

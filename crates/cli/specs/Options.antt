@@ -7,7 +7,7 @@ use Rattle.pass_list.specs.Names.{text_of, AreDistinct}
 use Rattle.cli_numbers.specs.Reserve.{register_name, IsReserveText}
 use Rattle.cli.specs.declared.option.CommandOption.{CommandOption}
 use Rattle.cli.specs.declared.option.CommandOption.TheVariants.{Passes, Reserve, Arguments, Answers, Frame}
-use Rattle.cli.specs.declared.given.Options.{Options}
+use Rattle.cli.specs.declared.options.Options.{Options}
 
 -- the text of registers: their names, separated by commas
 abbrev pub registers_text : List ℕ → List ℕ

@@ -10,8 +10,8 @@ ghost use Rattle.cli.specs.declared.command.PassPipeline.{PassPipeline};
 ghost use Rattle.cli.specs.declared.command.RunPlan.{RunPlan};
 ghost use Rattle.cli.specs.declared.command.TestPlan.{TestPlan};
 
-use crate::given::Options;
-use crate::options::options;
+use crate::options::Options;
+use crate::parse_options::options;
 use cli_numbers::generation::{Generation, asked};
 use cli_numbers::list::Numbers;
 use cli_numbers::number::number;

@@ -1,34 +1,83 @@
-//! All options of a command.
+//! The options in a command line.
 
-ghost use Rattle.std.specs.Prelude.{◌≡◌, ◌↔◌, map, string_bytes, Some, IfOk};
-ghost use Rattle.cli.specs.Options.{none_given, GivesOption, GiveOptions};
-ghost use Rattle.cli.specs.declared.given.Options.{Options};
+ghost use Rattle.std.specs.Prelude.{◌≡◌, ◌↔◌, Some};
+ghost use Rattle.cli.specs.Options.{none_given, IsWith};
+ghost use Rattle.cli.specs.declared.options.Options.{Options};
 
-use crate::given::Options;
-use crate::option::command_option;
-use std::alloc::{AllocError, Global};
+use crate::option::CommandOption;
+use cli_numbers::list::Numbers;
+use pass_list::list::PassList;
+use rv64_instr::reg::Registers;
 
-/// The options in these words, in any order and each at most once; `None` if a word is no option, or repeats one.
-pub fn options(alloc: Global, words: &[String]) -> Result<Option<Options>, AllocError>
-    ensures { IfOk result (λ o. (whole : Options) →
-        (o ≡ Some whole) ↔ GiveOptions none_given (map string_bytes words.now) whole) }
-{
-    let mut given = Options::none();
-    for word in words {
-        match with_word(alloc, given, word.as_str())? {
-            Some(next) => given = next,
-            None => return Ok(None),
-        }
-    }
-    Ok(Some(given))
+/// The options in a command line, each with its value.
+#[derive(Debug, Drop)]
+pub struct Options {
+    /// The passes that run.
+    pub passes: Option<PassList>,
+    /// The registers that may be spilled.
+    pub reserve: Option<Registers>,
+    /// The arguments of the function that is run.
+    pub arguments: Option<Numbers>,
+    /// The return values of the functions that it calls.
+    pub answers: Option<Numbers>,
+    /// Whether the section `.debug_frame` is asked for.
+    pub frame: bool,
 }
 
-/// The options with the one in a word; `None` if the word is no option, or one that is among them already.
-fn with_word(alloc: Global, given: Options, word: &str) -> Result<Option<Options>, AllocError>
-    ensures { IfOk result (λ o. (next : Options) → (o ≡ Some next) ↔ GivesOption given word.now next) }
-{
-    match command_option(alloc, word)? {
-        Some(option) => Ok(given.with(option)),
-        None => Ok(None),
+impl Options {
+    /// No option.
+    pub fn none() -> Options
+        ensures { result ≡ none_given }
+    {
+        Options {
+            passes: None,
+            reserve: None,
+            arguments: None,
+            answers: None,
+            frame: false,
+        }
+    }
+
+    /// The options with one more; `None` if that one is among them already.
+    pub fn with(mut self, option: CommandOption) -> Option<Options>
+        ensures { (next : Options) → (result ≡ Some next) ↔ IsWith self option next }
+    {
+        match option {
+            CommandOption::Passes(list) => {
+                if self.passes.is_some() {
+                    return None;
+                }
+                self.passes = Some(list);
+                Some(self)
+            }
+            CommandOption::Reserve(registers) => {
+                if self.reserve.is_some() {
+                    return None;
+                }
+                self.reserve = Some(registers);
+                Some(self)
+            }
+            CommandOption::Arguments(values) => {
+                if self.arguments.is_some() {
+                    return None;
+                }
+                self.arguments = Some(values);
+                Some(self)
+            }
+            CommandOption::Answers(values) => {
+                if self.answers.is_some() {
+                    return None;
+                }
+                self.answers = Some(values);
+                Some(self)
+            }
+            CommandOption::Frame => {
+                if self.frame {
+                    return None;
+                }
+                self.frame = true;
+                Some(self)
+            }
+        }
     }
 }

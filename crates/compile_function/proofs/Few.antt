@@ -1,13 +1,14 @@
 -- A function isn't too long to be laid out: with its frame it has at most fourteen items more for each of its blocks and for the prologue, and
 -- each counts as two at most.
 use Rattle.std.proofs.Common.{◌≡◌, ℕ, zero, suc, pos, ◌+◌, ◌*◌, ◌<◌, ◌≤◌, List, []}
-use Rattle.std.proofs.Common.{◌∷◌, map, length, Bool, true, false, cond, refl, ap, arith, length-append}
+use Rattle.std.proofs.Common.{◌∷◌, map, length, Bool, true, false, cond, refl, ap, arith, length-append, subst}
 use Rattle.std.proofs.lemmas.List.{length-map}
 use Rattle.std.proofs.lemmas.List.Sums.{sum_by-cons}
 use Rattle.std.specs.Prelude.{All, sum_by, filter}
 use Rattle.std.proofs.lemmas.List.Elements.{All-head, All-tail}
 use Rattle.rv64_instr.specs.Instruction.{Instruction}
-use Rattle.rv64_instr.specs.Row.{Row, Fixes, row_of}
+use Rattle.rv64_instr.specs.Row.{Row, row_of}
+use Rattle.rv64_instr.specs.LocationEffects.{has_site}
 use Rattle.mir_func.specs.declared.block.Block.{Block}
 use Rattle.mir_func.specs.declared.item.Item.{Item}
 use Rattle.mir_func.specs.declared.item.ItemKind.{ItemKind}
@@ -16,20 +17,29 @@ use Rattle.mir_func.specs.declared.position.Origin.{Origin}
 use Rattle.mir_func.specs.declared.position.Origin.TheVariants.{Before}
 use Rattle.mir_func.specs.Graph.{block_start}
 use Rattle.mir_func.specs.declared.exit.Exit.{Exit}
-use Rattle.mir_func.specs.declared.exit.Exit.TheVariants.{Onward, Perhaps, Always, Final}
-use Rattle.mir_func.specs.Exits.{exit_of, is_final}
+use Rattle.mir_func.specs.Exits.{leads_back, row_exit}
 use Rattle.mir_func.specs.Function.{Function}
 use Rattle.mir_func.specs.Sound.{items_of, MayFollow, EndsWell, IsSound}
 use Rattle.mir_func.specs.SoundFrame.{SAVED, saves, restores, adds_to_pointer, prologue_code, epilogue_code}
-use Rattle.emit_code.specs.Counts.{MAX_WORDS, row_words, kind_count, item_count, count_of}
-use Rattle.frame_rule.specs.Rule.{size_of, saved_of, saved_places, saved_registers, is_set, position_in}
+use Rattle.mir_func.proofs.Leading.{leads_out}
+use Rattle.mir_func.specs.Positions.{position_of}
+use Rattle.mir_func.specs.declared.exit.Exit.TheVariants.{Onward, Perhaps, Always, Final}
+use Rattle.emit_code.specs.Counts.{MAX_WORDS, row_words, kind_count, item_count, count_of, exit_words}
+use Rattle.frame_rule.specs.Rule.{size_of, saved_of, saved_places, saved_registers, is_set}
 use Rattle.frame_rule.specs.Rule.{added, added_all, prologue, epilogue, renamed, framed_item}
 use Rattle.frame_rule.specs.Rule.{framed_items, framed_block, prologue_block, framed_blocks, framed_of}
 use Rattle.compile_passes.specs.Passed.{MAX_PASSED}
 
+exit_few : (e : Exit) (site : Bool) → exit_words e site ≤ 2
+exit_few (Perhaps n) site = omega arith
+exit_few (Always n) site = omega arith
+exit_few Onward true = omega arith
+exit_few Onward false = omega arith
+exit_few Final true = omega arith
+exit_few Final false = omega arith
+
 row_few : (row : Row) → row_words row ≤ 2
-row_few (Fixes rd n) = omega arith
-row_few _ = omega arith
+row_few row = exit_few (row_exit row) (has_site row)
 
 kind_few : (k : ItemKind) → kind_count k ≤ 2
 kind_few (Code i k) = row_few (row_of i)
@@ -75,7 +85,7 @@ module _ (f : Function) where
 
   epilogue_few : (o : Origin) → length (epilogue f o) ≤ 14
   epilogue_few o =
-      let few = added_few (size_of f) (Before (position_in o)) (epilogue_code (size_of f) (saved_of f)) in
+      let few = added_few (size_of f) (Before (position_of o)) (epilogue_code (size_of f) (saved_of f)) in
       let code = length-append (map restores (saved_of f)) (adds_to_pointer (pos (size_of f)) ∷ []) in
       let mapped = length-map (saved_of f) restores in
       let saved = saved_few in
@@ -86,18 +96,17 @@ module _ (f : Function) where
   framed_few [] ends = omega arith
   framed_few (i ∷ items) ends =
       let both = length-append (framed_item f i) (framed_items f items) in
-      let own = length-append (cond (is_final (exit_of i.kind)) (epilogue f i.origin) []) (renamed f.slots i ∷ []) in
-      let here = by_exit (exit_of i.kind) ends.0 (framed_few items ends.1) in
+      let own = length-append (cond (leads_back i.kind) (epilogue f i.origin) []) (renamed f.slots i ∷ []) in
+      let here = by_exit (leads_back i.kind) refl (framed_few items ends.1) in
       omega (arith, both, own, here) where
-        by_exit : (x : Exit) → MayFollow x items → length (framed_items f items) ≤ length items + 14 →
-            length (cond (is_final x) (epilogue f i.origin) []) + length (framed_items f items) ≤ length items + 14
-        by_exit Final none rest =
+        by_exit : (b : Bool) → leads_back i.kind ≡ b → length (framed_items f items) ≤ length items + 14 →
+            length (cond b (epilogue f i.origin) []) + length (framed_items f items) ≤ length items + 14
+        by_exit true out rest =
             let before = epilogue_few i.origin in
+            let none : items ≡ [] = subst (λ (x : Exit). MayFollow x items) (leads_out i.kind out) ends.0 in
             let behind : length (framed_items f items) ≡ 0 = ap (λ (xs : List Item). length (framed_items f xs)) none in
             omega (arith, before, behind)
-        by_exit Onward may rest = omega (arith, rest)
-        by_exit (Perhaps n) may rest = omega (arith, rest)
-        by_exit (Always n) may rest = omega (arith, rest)
+        by_exit false on rest = omega (arith, rest)
 
   block_few : (b : Block) → EndsWell b.items → sum_by item_count (framed_items f b.items) ≤ 2 * length b.items + 28
   block_few b ends =

@@ -4,7 +4,7 @@ ghost use Rattle.std.specs.Prelude.{◌≡◌, ◌++◌, IfOk, OnOk};
 ghost use Rattle.compile_function.specs.Emitted.{lists_of};
 
 use crate::compiled_function::CompiledFunction;
-use dwarf_loclists::range::{Range, RangeLists, Ranges};
+use dwarf_loclists::range::{RangeLists, Ranges, copied};
 use std::alloc::{AllocError, Global};
 
 /// The location lists of all functions.
@@ -26,19 +26,4 @@ fn push_copies(alloc: Global, lists: &mut RangeLists, more: &[Ranges]) -> Result
         lists.push(copied(alloc, ranges.as_slice())?)?;
     }
     Ok(())
-}
-
-/// A copy of ranges.
-fn copied(alloc: Global, ranges: &[Range]) -> Result<Ranges, AllocError>
-    ensures { IfOk result (λ made. made ≡ ranges.now) }
-{
-    let mut made = Ranges::new(alloc);
-    for range in ranges {
-        made.push(Range {
-            lo: range.lo,
-            hi: range.hi,
-            location: range.location.copy()?,
-        })?;
-    }
-    Ok(made)
 }

@@ -22,6 +22,7 @@ use Rattle.dwarf_line_table.proofs.LineTables.{tables_give_lines, none_is_line_z
 use Rattle.mir_func.specs.declared.position.Origin.{Origin}
 use Rattle.mir_func.specs.Function.{Function, FramedFunction}
 use Rattle.mir_func.specs.Sound.{AllItems}
+use Rattle.mir_func.specs.Positions.{position_of}
 use Rattle.read_program.specs.declared.closing.Parsed.{Parsed}
 use Rattle.read_program.specs.declared.program.Program.{Program}
 use Rattle.compile_theorem.specs.Compiled.{bytes_of, IsCompiledFunction, AreCompiled}
@@ -34,7 +35,7 @@ use Rattle.compile_program.specs.Program.{ArePassed, AreCoded, HaveCode, source_
 use Rattle.dwarf_line_table.specs.declared.source_and_code.SourceAndCode.{SourceAndCode}
 use Rattle.dwarf_line_table.specs.declared.file.SourceFile.{SourceFile}
 use Rattle.dwarf_line_table.specs.Files.{unit_file}
-use Rattle.dwarf_line_table.specs.SourcePosition.{scope_line, loc_of, position_of, line_of}
+use Rattle.dwarf_line_table.specs.SourcePosition.{scope_line, loc_of, line_of}
 use Rattle.dwarf_line_table.specs.Program.{program_file, program_files, function_end, table_of}
 use Rattle.dwarf_unit.specs.Variables.{variables_of_function}
 use Rattle.compile_output_proof.specs.Lines.{origin_of, HasByte, file_of, TellsLinesOf, OutputsTellLines}

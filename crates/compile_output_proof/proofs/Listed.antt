@@ -11,8 +11,9 @@ use Rattle.rv64_instr.specs.declared.op.BranchOp.{BranchOp}
 use Rattle.rv64_instr.specs.declared.operand.Operand.{Operand}
 use Rattle.rv64_instr.specs.declared.operand.Operand.TheVariants.{Use, Block as OfBlock}
 use Rattle.rv64_instr.specs.Instruction.{Instruction}
-use Rattle.rv64_instr.specs.Parts.{is_call}
+use Rattle.rv64_instr.specs.LocationEffects.{has_site}
 use Rattle.rv64_instr.specs.Row.{row_of}
+use Rattle.rv64_instr.specs.Inverse.{inverse}
 use Rattle.mir_func.specs.declared.block.Block.{Block}
 use Rattle.mir_func.specs.declared.debug_substitution.DebugSubstitution as func
 use Rattle.mir_func.specs.declared.item.Item.{Item}
@@ -20,7 +21,7 @@ use Rattle.mir_func.specs.declared.item.ItemKind.{ItemKind}
 use Rattle.mir_func.specs.declared.item.ItemKind.TheVariants.{Code, Mark, Phi}
 use Rattle.mir_func.specs.Sound.{AllItems, HasForm}
 use Rattle.emit_code.specs.declared.code.EncodedInstruction.{EncodedInstruction}
-use Rattle.emit_code.specs.Inverted.{inverted, jump_to}
+use Rattle.emit_code.specs.LongBranch.{jump_to}
 use Rattle.emit_code.specs.Listed.{listed}
 use Rattle.emit_code.specs.Rule.{Layout, Site, Form, LongBranch, form_of, address_in, added_before, form_entries, entry, entries_at, entries_of}
 use Rattle.emit_code.specs.Rule.{sites_in, sites_from, sites_of}
@@ -104,7 +105,7 @@ module _ (a : ℕ) where
     skip_line at s o x y os = Skip (record {
       address = at;
       origin = added_before s.item.origin;
-      op = inverted o;
+      op = inverse o;
       first = x;
       second = y;
       implicit = implicits os;
@@ -146,9 +147,9 @@ module _ (a : ℕ) where
               }
 
     form_enters : (at : ℕ) (s : Site) (c : Instruction) (k : Option ℕ) (f : Form) → FormView c.op c.operands f →
-        is_call (row_of (listed l.framed c)) ≡ is_call_form f → Enters at s f (form_lines l at s.item c k f)
+        has_site (row_of (listed l.framed c)) ≡ is_call_form f → Enters at s f (form_lines l at s.item c k f)
     form_enters at s c k f one calls = one_line at 4 s (Code (listed l.framed c) k) false (λ x. past_word l.framed x c k calls)
-    form_enters at s c k f call calls = one_line at 8 s (Code (listed l.framed c) k) true (λ x. past_call l.framed x c k calls)
+    form_enters at s c k f (call name os os_is op_is) calls = one_line at 8 s (Code (listed l.framed c) k) true (λ x. past_call l.framed x c k calls)
     form_enters at s c k f (long b x y n os op_is os_is all) calls =
         subst (λ (op : Op). LongEnters at s k n op c.operands) (sym op_is)
         (subst (λ (ps : List Operand). LongEnters at s k n (Branch b) ps) (sym os_is) (long_enters at s k n b x y n os))

@@ -10,6 +10,7 @@ use Rattle.dwarf_line.specs.Spelling.{spelling}
 use Rattle.dwarf_line_table.specs.Laws.{IsNoLine}
 use Rattle.dwarf_line_table.specs.Rows.{IsRowAt, GivesLine}
 use Rattle.mir_func.specs.declared.position.Origin.{Origin}
+use Rattle.mir_func.specs.Positions.{position_of}
 use Rattle.read_program.specs.declared.closing.Parsed.{Parsed}
 use Rattle.read_program.specs.declared.program.Program.{Program}
 use Rattle.compile_theorem.specs.Compiled.{IsCompiledProgram}
@@ -18,7 +19,7 @@ use Rattle.compile_program.specs.Program.{ArePassed, HasSections, names_of}
 use Rattle.listing_meaning.specs.Program.{lines_of, address_of, past_line}
 use Rattle.dwarf_line_table.specs.declared.file.SourceFile.{SourceFile}
 use Rattle.dwarf_line_table.specs.Files.{unit_file}
-use Rattle.dwarf_line_table.specs.SourcePosition.{no_line, scope_line, loc_of, position_of, line_of}
+use Rattle.dwarf_line_table.specs.SourcePosition.{no_line, scope_line, loc_of, line_of}
 
 -- the origin of a line
 abbrev pub origin_of : Line → Origin

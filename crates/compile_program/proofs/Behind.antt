@@ -20,7 +20,7 @@ use Rattle.compile_theorem.specs.Source.{PassedFunction}
 use Rattle.pass_list.specs.declared.kind.PassKind.{PassKind}
 use Rattle.compile_program.proofs.Compiled.{ends}
 use Rattle.compile_program.specs.Program.{ArePassed, IsCompiledAs, AreCompiledAs}
-use Rattle.compile_program.specs.steps.Made.{AreMade}
+use Rattle.compile_program.specs.steps.CompilationState.{AreMade}
 
 pub record SoFar (meta : Maps) (reserve : List ℕ) (passes : List PassKind) (all rest : List Parsed) (m : EmittedFunctions) : Type 0 where
   pub passed : List PassedFunction

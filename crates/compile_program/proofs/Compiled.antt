@@ -30,7 +30,7 @@ use Rattle.compile_theorem.specs.Source.{PassedFunction}
 use Rattle.pass_list.specs.declared.kind.PassKind.{PassKind}
 use Rattle.compile_program.specs.Program.{ArePassed, AreCoded, HaveCode, IsCompiledAs, AreCompiledAs, IsOutputOf, IsLarge, HasLargeSection}
 use Rattle.compile_program.specs.Program.{HasLargeFrameSection}
-use Rattle.compile_program.specs.steps.Made.{AreMade}
+use Rattle.compile_program.specs.steps.CompilationState.{AreMade}
 use Rattle.compile_program.proofs.Passed.{have_code}
 use Rattle.dwarf_line_table.specs.declared.source_and_code.SourceAndCode.{SourceAndCode}
 use Rattle.dwarf_line_table.specs.Program.{table_of}

@@ -16,7 +16,7 @@ use Rattle.read_metadata.specs.Maps.{Maps}
 use Rattle.read_program.specs.declared.closing.Parsed.{Parsed}
 use Rattle.compile_theorem.specs.Source.{SourceFunction, PassedFunction, IsPassedFunction, sources_among}
 use Rattle.compile_program.specs.Program.{sources_of, ArePassed, AreCoded, HaveCode, HasLargeFrame}
-use Rattle.compile_program.specs.steps.Made.{IsTooLarge}
+use Rattle.compile_program.specs.steps.CompilationState.{IsTooLarge}
 use Rattle.dwarf_line_table.specs.declared.source_and_code.SourceAndCode.{SourceAndCode}
 
 -- ---- the sources of what passes made

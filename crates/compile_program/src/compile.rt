@@ -5,7 +5,7 @@ ghost use Rattle.pass_list.specs.Names.{AreDistinct};
 ghost use Rattle.compile_function.specs.Passed.{steps_of};
 ghost use Rattle.compile_program.specs.Program.{IsOutputOf, IsCompilationOf, HasLargeFrame, HasLargeSection};
 ghost use Rattle.compile_program.specs.Program.{HasLargeFrameSection};
-ghost use Rattle.compile_program.specs.steps.Made.{AreMade};
+ghost use Rattle.compile_program.specs.steps.CompilationState.{AreMade};
 ghost use Rattle.dwarf_base.specs.Limits.{SECTION_LIMIT};
 ghost use Rattle.dwarf_sections.specs.Frame.{IsOfFunction, IsFrameSection, IsLargeFrameSection};
 ghost use Rattle.read_proof.specs.Read.{IsReadProgram};

@@ -8,7 +8,7 @@ ghost use Rattle.read_program.specs.Program.{MAX_FUNCTIONS};
 ghost use Rattle.pass_list.specs.Names.{AreDistinct};
 ghost use Rattle.compile_function.specs.Passed.{steps_of};
 ghost use Rattle.compile_program.specs.Program.{HasLargeFrame};
-ghost use Rattle.compile_program.specs.steps.Made.{IsSourcePushed, IsTooLarge, AreMade};
+ghost use Rattle.compile_program.specs.steps.CompilationState.{IsSourcePushed, IsTooLarge, AreMade};
 ghost use Rattle.read_proof.specs.Read.{IsReadFunction, EntryIsLimited};
 
 use compile_function::compiled_function::CompiledFunctions;

@@ -11,8 +11,8 @@ use Rattle.rv64_instr.specs.declared.op.BranchOp.{BranchOp}
 use Rattle.rv64_instr.specs.declared.operand.Operand.{Operand}
 use Rattle.rv64_instr.specs.declared.operand.Operand.TheVariants.{Use, Block as OfBlock}
 use Rattle.rv64_instr.specs.Instruction.{Instruction}
-use Rattle.rv64_instr.specs.Parts.{is_call}
 use Rattle.rv64_instr.specs.Row.{row_of}
+use Rattle.rv64_instr.specs.LocationEffects.{has_site}
 use Rattle.mir_func.specs.declared.block.Block.{Block}
 use Rattle.mir_func.specs.declared.debug_substitution.DebugSubstitution.{DebugSubstitution}
 use Rattle.mir_func.specs.declared.item.Item.{Item}
@@ -21,7 +21,7 @@ use Rattle.mir_func.specs.declared.item.ItemKind.TheVariants.{Code, Mark, Phi}
 use Rattle.mir_func.specs.Graph.{index_of}
 use Rattle.mir_func.specs.Sound.{AllItems, ids_of, HasForm}
 use Rattle.mir_func.specs.SoundFrame.{body_of}
-use Rattle.emit_code.specs.Inverted.{jump_to}
+use Rattle.emit_code.specs.LongBranch.{jump_to}
 use Rattle.emit_code.specs.Listed.{listed}
 use Rattle.emit_code.specs.Rule.{Layout, Site, Form, form_of, form_size, address_in, items_size, blocks_size, items_at, sites_in, start_of}
 use Rattle.emit_code.specs.steps.Emitted.{IsFormed}
@@ -43,9 +43,9 @@ module _ (l : Layout) where
   long_past a at i k m rest b x y n os = let sum : a + 4 + 4 ≡ a + 8 = omega arith in ap (λ (z : ℕ). past_lines z rest) sum
 
   form_past : (a at : ℕ) (i : Item) (c : Instruction) (k : Option ℕ) (rest : List Line) (f : Form) → FormView c.op c.operands f →
-      is_call (row_of (listed l.framed c)) ≡ is_call_form f → past_lines a (form_lines l at i c k f ++ rest) ≡ past_lines (a + form_size f) rest
+      has_site (row_of (listed l.framed c)) ≡ is_call_form f → past_lines a (form_lines l at i c k f ++ rest) ≡ past_lines (a + form_size f) rest
   form_past a at i c k rest f one calls = ap (λ (z : ℕ). past_lines z rest) (past_word l.framed a c k calls)
-  form_past a at i c k rest f call calls = ap (λ (z : ℕ). past_lines z rest) (past_call l.framed a c k calls)
+  form_past a at i c k rest f (call name os os_is op_is) calls = ap (λ (z : ℕ). past_lines z rest) (past_call l.framed a c k calls)
   form_past a at i c k rest f (long b x y n os op_is os_is all) calls =
       subst (λ (op : Op). LongPast a at i k n rest op c.operands) (sym op_is)
       (subst (λ (ps : List Operand). LongPast a at i k n rest (Branch b) ps) (sym os_is) (long_past a at i k n rest b x y n os))

@@ -6,7 +6,7 @@ use Rattle.std.specs.Prelude.{All, slice_get}
 use Rattle.std.proofs.lemmas.Bool.{le-leb}
 use Rattle.std.proofs.lemmas.List.Elements.{All-head, All-tail}
 use Rattle.rv64_instr.specs.declared.op.Op.{Op}
-use Rattle.rv64_instr.specs.declared.decoded.Base.TheVariants.{ObjectAt}
+use Rattle.rv64_instr.specs.Row.{ObjectAt}
 use Rattle.rv64_instr.specs.declared.op.Op.TheVariants.{Immediate, Load, Store}
 use Rattle.rv64_instr.specs.declared.op.LoadOp.{LoadOp}
 use Rattle.rv64_instr.specs.declared.op.StoreOp.{StoreOp}
@@ -31,7 +31,7 @@ use Rattle.mir_func.specs.Objects.{object_of, offset_of, offset_or_zero}
 use Rattle.mir_func.specs.Sound.{AllItems, ObjectsIn, HasBytes, HasForm, contents_of}
 use Rattle.mir_func.specs.SoundFrame.{body_of, own_size}
 use Rattle.sem_mir.specs.ValueId.{Tokens, after_item, after_fetch, Path, begin, onward, moved_tokens, code_tokens}
-use Rattle.sem_mir.specs.PreferredLocation.{SitsIn, IsWanted, NoneIsWanted}
+use Rattle.sem_mir.specs.PreferredLocation.{SitsIn, IsPreferredLocation, NoneIsPreferred}
 use Rattle.sem_mir.specs.ValueId.{numbered_tokens, given_token}
 use Rattle.sem_mir.specs.State.{updated}
 use Rattle.sem_mir.specs.Step.{defined}
@@ -392,16 +392,16 @@ module _ (f : FramedFunction) where
       same = λ n t path. sits.same n t (path_to path);
     }
 
-    pub wanted_to : (v : VarId) (p : Pos) (place : Place) → IsWanted g (block_start 0) v p place → IsWanted h (block_start 0) v p place
+    pub wanted_to : (v : VarId) (p : Pos) (place : Place) → IsPreferredLocation g (block_start 0) v p place → IsPreferredLocation h (block_start 0) v p place
     wanted_to v p place w =
         record { named = w.named; sits = sits_to v p place w.sits; first = λ x named before sits. w.first x named before (sits_from v p x sits) }
 
-    pub wanted_from : (v : VarId) (p : Pos) (place : Place) → IsWanted h (block_start 0) v p place → IsWanted g (block_start 0) v p place
+    pub wanted_from : (v : VarId) (p : Pos) (place : Place) → IsPreferredLocation h (block_start 0) v p place → IsPreferredLocation g (block_start 0) v p place
     wanted_from v p place w =
         record { named = w.named; sits = sits_from v p place w.sits; first = λ x named before sits. w.first x named before (sits_to v p x sits) }
 
-    pub none_to : (v : VarId) (p : Pos) → NoneIsWanted g (block_start 0) v p → NoneIsWanted h (block_start 0) v p
+    pub none_to : (v : VarId) (p : Pos) → NoneIsPreferred g (block_start 0) v p → NoneIsPreferred h (block_start 0) v p
     none_to v p none place named sits = none place named (sits_from v p place sits)
 
-    pub none_from : (v : VarId) (p : Pos) → NoneIsWanted h (block_start 0) v p → NoneIsWanted g (block_start 0) v p
+    pub none_from : (v : VarId) (p : Pos) → NoneIsPreferred h (block_start 0) v p → NoneIsPreferred g (block_start 0) v p
     none_from v p none place named sits = none place named (sits_to v p place sits)

@@ -17,7 +17,7 @@ use Rattle.mir_func.specs.Parts.{Bytes}
 use Rattle.mir_func.specs.Resolve.{resolve}
 use Rattle.mir_func.specs.Sound.{AllItems}
 use Rattle.mir_func.specs.Variables.{is_same_variable}
-use Rattle.sem_mir.specs.PreferredLocation.{IsWanted, NoneIsWanted}
+use Rattle.sem_mir.specs.PreferredLocation.{IsPreferredLocation, NoneIsPreferred}
 use Rattle.sem_machine.specs.Exact.{AreExact}
 use Rattle.emit_code.specs.declared.code.EncodedInstruction.{EncodedInstruction}
 use Rattle.emit_code.specs.Rule.{Layout, entries_of}
@@ -165,7 +165,7 @@ module _ (names : ℕ → List ℕ) (o : Output) (lists : List (List Range)) (se
       (location_tells g (block_start 0) (whole v) (point_of at.entry) (location_in list.ranges a) v.fragment (list.are.inside at.entry at.among a at.byte))
 
   -- a variable is listed, or no part of it is wanted anywhere
-  listed_or : (v : VarId) → ListOf v ⊎ ((p : Pos) → NoneIsWanted g (block_start 0) v p)
+  listed_or : (v : VarId) → ListOf v ⊎ ((p : Pos) → NoneIsPreferred g (block_start 0) v p)
   listed_or v = by_test (list_any (is_same_variable v) vs) refl where
     are_in : AllItems (λ i. MarkIn vs i.kind) now.blocks
     are_in =
@@ -178,22 +178,25 @@ module _ (names : ℕ → List ℕ) (o : Output) (lists : List (List Range)) (se
         of_item l.framed (λ j. MarkIn vs j.kind)
         (subst (λ x. AllItems (λ j. MarkIn vs j.kind) x.blocks) (sym framed) (marks_framed now vs are_in)) p i here
 
-    by_test : (b : Bool) → list_any (is_same_variable v) vs ≡ b → ListOf v ⊎ ((p : Pos) → NoneIsWanted g (block_start 0) v p)
+    by_test : (b : Bool) → list_any (is_same_variable v) vs ≡ b → ListOf v ⊎ ((p : Pos) → NoneIsPreferred g (block_start 0) v p)
     by_test true e = let n = numbered source.blocks v (any_is vs v e) in inl (list_at v n.number n.stands)
     by_test false e = inr (λ p. unmarked g vs at_marks v e (block_start 0) p)
 
-  wanted_given : (v : VarId) (a : ℕ) (p : Pos) → IsByteOf (entries_of l) a p → (place : Place) → IsWanted g (block_start 0) v p place → Gives o f v a place
+  wanted_given : (v : VarId) (a : ℕ) (p : Pos) → IsByteOf (entries_of l) a p → (place : Place) → IsPreferredLocation g (block_start 0) v p place →
+      Gives o f v a place
   wanted_given v a p at place wanted = by_list (listed_or v) where
-    by_list : ListOf v ⊎ ((q : Pos) → NoneIsWanted g (block_start 0) v q) → Gives o f v a place
+    by_list : ListOf v ⊎ ((q : Pos) → NoneIsPreferred g (block_start 0) v q) → Gives o f v a place
     by_list (inl list) = gives v a place list ((told v a p at list).wanted place wanted)
     by_list (inr none) = absurd (none p place wanted.named wanted.sits)
 
-  given_wanted : (v : VarId) (a : ℕ) (p : Pos) → IsByteOf (entries_of l) a p → (place : Place) → Gives o f v a place → IsWanted g (block_start 0) v p place
+  given_wanted : (v : VarId) (a : ℕ) (p : Pos) → IsByteOf (entries_of l) a p → (place : Place) → Gives o f v a place →
+      IsPreferredLocation g (block_start 0) v p place
   given_wanted v a p at place given = let x = given_by v a place given in (told v a p at x.list).told place x.tells
 
-  none_wanted : (v : VarId) (a : ℕ) (p : Pos) → IsByteOf (entries_of l) a p → ((place : Place) → Gives o f v a place → ⊥) → NoneIsWanted g (block_start 0) v p
+  none_wanted : (v : VarId) (a : ℕ) (p : Pos) → IsByteOf (entries_of l) a p → ((place : Place) → Gives o f v a place → ⊥) →
+      NoneIsPreferred g (block_start 0) v p
   none_wanted v a p at source_end = by_list (listed_or v) where
-    by_list : ListOf v ⊎ ((q : Pos) → NoneIsWanted g (block_start 0) v q) → NoneIsWanted g (block_start 0) v p
+    by_list : ListOf v ⊎ ((q : Pos) → NoneIsPreferred g (block_start 0) v q) → NoneIsPreferred g (block_start 0) v p
     by_list (inl list) = (told v a p at list).none (λ place tells. source_end place (gives v a place list tells))
     by_list (inr none) = none p
 

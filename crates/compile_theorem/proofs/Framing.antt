@@ -13,7 +13,7 @@ use Rattle.mir_func.specs.declared.item.ItemKind.{ItemKind}
 use Rattle.mir_func.specs.declared.item.ItemKind.TheVariants.{Code, Mark, Phi}
 use Rattle.mir_func.specs.declared.position.Origin.{Origin}
 use Rattle.mir_func.specs.declared.variable.VarId.{VarId}
-use Rattle.mir_func.specs.Exits.{exit_of, is_final}
+use Rattle.mir_func.specs.Exits.{leads_back}
 use Rattle.mir_func.specs.Function.{Function}
 use Rattle.mir_func.specs.Limits.{MAX_FRAME}
 use Rattle.mir_func.specs.Sound.{AllItems, HasForm}
@@ -51,7 +51,7 @@ module _ (f : Function) (P : ItemKind → Type 0) (lowers : P (Code (adds_to_poi
   module _ (stays : (k : ItemKind) → P k → P (renamed_kind f.slots k)) where
     item_all : (i : Item) → Q i → All Q (framed_item f i)
     item_all i is =
-        All-append Q (cond (is_final (exit_of i.kind)) (epilogue f i.origin) []) (renamed f.slots i ∷ []) (by_exit (is_final (exit_of i.kind)))
+        All-append Q (cond (leads_back i.kind) (epilogue f i.origin) []) (renamed f.slots i ∷ []) (by_exit (leads_back i.kind))
         (All-cons Q (renamed f.slots i) [] (stays i.kind is) (All-nil Q))
       where
         by_exit : (z : Bool) → All Q (cond z (epilogue f i.origin) [])

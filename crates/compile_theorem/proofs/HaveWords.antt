@@ -1,19 +1,20 @@
 -- The bytes of `.text` at the lines of what is compiled: site by site, an item's lines have the bytes of its words.
 use Rattle.std.proofs.Common.{◌≡◌, ℕ, suc, ◌+◌, pos, Bool, true, false, List, [], ◌∷◌, ◌++◌, take, drop, length, Option, Some, None, IsSome, refl, ap, sym, ◌∙◌}
-use Rattle.std.proofs.Common.{subst, arith, append_assoc, length-append}
+use Rattle.std.proofs.Common.{subst, arith, append_assoc, length-append, ◌⊎◌, inl, inr}
 use Rattle.std.specs.Prelude.{All, slice_get, Contains}
 use Rattle.std.specs.List.{flat_map}
 use Rattle.std.specs.Int.{w32, to_le_bytes}
 use Rattle.std.proofs.lemmas.Grind.{flat_map-append}
 use Rattle.std.proofs.lemmas.List.Elements.{All-nil, All-cons, All-append}
 use Rattle.rv64_instr.specs.declared.op.Op.{Op}
-use Rattle.rv64_instr.specs.declared.op.Op.TheVariants.{Branch}
+use Rattle.rv64_instr.specs.declared.op.Op.TheVariants.{Branch, PseudoCall, PseudoTail, NoReturnCall}
 use Rattle.rv64_instr.specs.declared.op.BranchOp.{BranchOp}
 use Rattle.rv64_instr.specs.declared.operand.Operand.{Operand}
-use Rattle.rv64_instr.specs.declared.operand.Operand.TheVariants.{Use, Block as OfBlock}
+use Rattle.rv64_instr.specs.declared.operand.Operand.TheVariants.{Use, Block as OfBlock, Symbol, Slot, Object, Imm}
 use Rattle.rv64_instr.specs.Instruction.{Instruction}
-use Rattle.rv64_instr.specs.Parts.{is_call}
-use Rattle.rv64_instr.specs.Row.{row_of, row_by}
+use Rattle.rv64_instr.specs.Row.{row_of, row_by, Row, Returns, Callee, Way, Back, Tail, Never}
+use Rattle.rv64_instr.specs.LocationEffects.{has_site}
+use Rattle.rv64_instr.specs.Inverse.{inverse}
 use Rattle.rv64_word.specs.declared.machine_op.MachineOp.{MachineOp}
 use Rattle.rv64_word.specs.declared.word_op.WordOp.TheVariants.{Branch as BranchWord}
 use Rattle.rv64_word.specs.Lowering.{in_range, machine_op}
@@ -30,14 +31,15 @@ use Rattle.mir_func.specs.Graph.{Here}
 use Rattle.mir_func.specs.Sound.{AllItems, ids_of, TargetIn, TargetsIn, HasForm}
 use Rattle.mir_func.specs.SoundFrame.{body_of, IsFramed}
 use Rattle.mir_func.specs.Successors.{pos_in}
-use Rattle.emit_code.specs.Inverted.{inverted, jump_to}
+use Rattle.emit_code.specs.LongBranch.{jump_to}
 use Rattle.emit_code.specs.Laid.{IsWorded, FormWorded}
-use Rattle.emit_code.specs.Listed.{listed}
+use Rattle.emit_code.specs.Listed.{listed, by_pointer}
 use Rattle.emit_code.specs.Rule.{Layout, Site, Form, form_of, form_size, size_of, row_form, address_in, offset_to, operation_at, skip_operation}
-use Rattle.emit_code.specs.Rule.{jump_operation, word_if, call_words, form_words, kind_words, words_at, words_of, sites_in, sites_from, sites_of, start_of}
-use Rattle.emit_code.specs.Rule.{added_before}
+use Rattle.emit_code.specs.Rule.{jump_operation, word_if, form_words, kind_words, words_at, words_of, sites_in, sites_from, sites_of, start_of}
+use Rattle.emit_code.specs.Rule.{added_before, site_words, way_words}
 use Rattle.emit_code.specs.steps.Emitted.{IsFormed}
 use Rattle.emit_code.proofs.Settled as settled
+use Rattle.emit_code.proofs.Stand.{site_length}
 use Rattle.machine_steps_proof.specs.Laid.{fetched}
 use Rattle.machine_steps_proof.proofs.Points.{of_item}
 use Rattle.machine_steps_proof.proofs.Addresses.{Chained, chained}
@@ -105,15 +107,15 @@ module _ (l : Layout) (variables : List ListedVariable) (substitutions : List De
 
   -- the line's bytes stand at it
   abbrev pub HasItsBytes : Line → Type 0
-  HasItsBytes (OfItem x) = (a : ℕ) (i : Instruction) (k : Option ℕ) → x.address ≡ Some a → x.item.kind ≡ Code i k → HasBytes (is_call (row_of i)) all f a i
+  HasItsBytes (OfItem x) = (a : ℕ) (i : Instruction) (k : Option ℕ) → x.address ≡ Some a → x.item.kind ≡ Code i k → HasBytes (has_site (row_of i)) all f a i
   HasItsBytes (Skip s) = HasSkip all s
 
-  item_has : (at : ℕ) (i : Item) (c : Instruction) (k : Option ℕ) → HasBytes (is_call (row_of c)) all f at c → HasItsBytes (line_at (Some at) i (Code c k))
+  item_has : (at : ℕ) (i : Item) (c : Instruction) (k : Option ℕ) → HasBytes (has_site (row_of c)) all f at c → HasItsBytes (line_at (Some at) i (Code c k))
   item_has at i c k has = λ a j m begins kind.
       let address : at ≡ a = cc in
       let code : c ≡ j = cc in
-      subst (λ (d : Instruction). HasBytes (is_call (row_of d)) all f a d) code
-      (subst (λ (n : ℕ). HasBytes (is_call (row_of c)) all f n c) address has)
+      subst (λ (d : Instruction). HasBytes (has_site (row_of d)) all f a d) code
+      (subst (λ (n : ℕ). HasBytes (has_site (row_of c)) all f n c) address has)
 
   aimed : (x : Exit) (a : ℕ) → ExitIn ids x → IsOffset f (target_of x) a (offset_to l a x)
   aimed Onward a is = refl
@@ -123,9 +125,9 @@ module _ (l : Layout) (variables : List ListedVariable) (substitutions : List De
 
   -- ---- forms
 
-  one_has : (a : ℕ) (c : Instruction) (rest : List ℕ) → HasForm (Code c None) → TargetIn ids (row_of c) → is_call (row_of (listed l.framed c)) ≡ false →
+  one_has : (a : ℕ) (c : Instruction) (rest : List ℕ) → HasForm (Code c None) → TargetIn ids (row_of c) → has_site (row_of (listed l.framed c)) ≡ false →
       IsSome (operation_at l a c) → drop a all ≡ bytes (word_if (operation_at l a c)) ++ rest →
-      HasBytes (is_call (row_of (listed l.framed c))) all f a (listed l.framed c)
+      HasBytes (has_site (row_of (listed l.framed c))) all f a (listed l.framed c)
   one_has a c rest form target calls some text =
       let s = one_stands all a (operation_at l a c) rest some text in
       let offset = offset_to l a (row_exit (row_of c)) in
@@ -136,9 +138,39 @@ module _ (l : Layout) (variables : List ListedVariable) (substitutions : List De
         record { operation = s.operation; lowered = lowered_listed l.framed offset c form ∙ s.is; stands = s.bytes },
       )
 
-  call_has : (a : ℕ) (c : Instruction) (rest : List ℕ) → is_call (row_of (listed l.framed c)) ≡ true → drop a all ≡ bytes call_words ++ rest →
-      HasBytes (is_call (row_of (listed l.framed c))) all f a (listed l.framed c)
-  call_has a c rest calls text = subst (λ (b : Bool). HasBytes b all f a (listed l.framed c)) (sym calls) (ap (take 8) text)
+  -- the words of a site are those of the code as it is listed
+  words_listed : (c : Instruction) (name : List ℕ) (os : List Operand) → c.operands ≡ Symbol name ∷ os →
+      (c.op ≡ PseudoCall) ⊎ ((c.op ≡ PseudoTail) ⊎ (c.op ≡ NoReturnCall)) → site_words (row_of c) ≡ site_words (row_of (listed l.framed c))
+  words_listed c name os os_is op_is = by_op c.op c.operands os_is op_is where
+    by_op : (op : Op) (ps : List Operand) → ps ≡ Symbol name ∷ os → (op ≡ PseudoCall) ⊎ ((op ≡ PseudoTail) ⊎ (op ≡ NoReturnCall)) →
+        site_words (row_by op ps) ≡ site_words (row_by op (by_pointer l.framed ps))
+    by_op PseudoCall (Symbol n ∷ Slot m ∷ Imm i ∷ rest) e h = refl
+    by_op PseudoCall (Symbol n ∷ Object m ∷ Imm i ∷ rest) e h = refl
+    by_op PseudoCall (Symbol n ∷ rest) e h = refl
+    by_op PseudoTail (Symbol n ∷ Slot m ∷ Imm i ∷ rest) e h = refl
+    by_op PseudoTail (Symbol n ∷ Object m ∷ Imm i ∷ rest) e h = refl
+    by_op PseudoTail (Symbol n ∷ rest) e h = refl
+    by_op NoReturnCall (Symbol n ∷ Slot m ∷ Imm i ∷ rest) e h = refl
+    by_op NoReturnCall (Symbol n ∷ Object m ∷ Imm i ∷ rest) e h = refl
+    by_op NoReturnCall (Symbol n ∷ rest) e h = refl
+    by_op op ps e (inl h) = cc
+    by_op op ps e (inr (inl h)) = cc
+    by_op op ps e (inr (inr h)) = cc
+
+  -- and there are two of them
+  eight : (a : ℕ) (r : Row) (rest : List ℕ) → drop a all ≡ bytes (site_words r) ++ rest → bytes_at all 8 a ≡ bytes (site_words r)
+  eight a (Returns ending) rest text = by_way ending.way text where
+    by_way : (w : Way Callee) → drop a all ≡ bytes (way_words w) ++ rest → bytes_at all 8 a ≡ bytes (way_words w)
+    by_way Back text = ap (take 8) text
+    by_way (Tail callee) text = ap (take 8) text
+    by_way (Never callee) text = ap (take 8) text
+  eight a _ rest text = ap (take 8) text
+
+  call_has : (a : ℕ) (c : Instruction) (rest : List ℕ) → has_site (row_of (listed l.framed c)) ≡ true →
+      site_words (row_of c) ≡ site_words (row_of (listed l.framed c)) → drop a all ≡ bytes (site_words (row_of c)) ++ rest →
+      HasBytes (has_site (row_of (listed l.framed c))) all f a (listed l.framed c)
+  call_has a c rest calls same text = subst (λ (b : Bool). HasBytes b all f a (listed l.framed c)) (sym calls)
+      (eight a (row_of (listed l.framed c)) rest (text ∙ ap (λ (ws : List ℕ). bytes ws ++ rest) same))
 
   jump_has : (a n : ℕ) (rest : List ℕ) → Contains ids n → IsSome (operation_at l a (jump_to n)) →
       drop a all ≡ bytes (word_if (operation_at l a (jump_to n))) ++ rest → HasBytes false all f a (jump_to n)
@@ -154,7 +186,7 @@ module _ (l : Layout) (variables : List ListedVariable) (substitutions : List De
   long_has : (a : ℕ) (i : Item) (k : Option ℕ) (rest : List ℕ) (b : BranchOp) (x y n : ℕ) (os : List Operand) →
       LongHas a i k n rest (Branch b) (Use x ∷ Use y ∷ OfBlock n ∷ os)
   long_has a i k rest b x y n os skips jumps target text =
-      let m : MachineOp = machine_op (BranchWord (inverted b)) 0 x y (pos 8) in
+      let m : MachineOp = machine_op (BranchWord (inverse b)) 0 x y (pos 8) in
       let s = first_stands all a (in_range m) (word_if (jump_operation l a n)) rest skips text in
       let itself = is_itself m skips in
       let both : Some s.operation ≡ Some m = sym s.is ∙ itself in
@@ -162,7 +194,7 @@ module _ (l : Layout) (variables : List ListedVariable) (substitutions : List De
       let skip_line : Line = Skip (record {
         address = a;
         origin = added_before i.origin;
-        op = inverted b;
+        op = inverse b;
         first = x;
         second = y;
         implicit = implicits os;
@@ -175,14 +207,14 @@ module _ (l : Layout) (variables : List ListedVariable) (substitutions : List De
       (All-nil HasItsBytes))
 
   form_has : (a : ℕ) (i : Item) (c : Instruction) (k : Option ℕ) (rest : List ℕ) (g : Form) → FormView c.op c.operands g → HasForm (Code c None) →
-      TargetIn ids (row_of c) → is_call (row_of (listed l.framed c)) ≡ is_call_form g → FormWorded l a c g → drop a all ≡ bytes (form_words l a c g) ++ rest →
+      TargetIn ids (row_of c) → has_site (row_of (listed l.framed c)) ≡ is_call_form g → FormWorded l a c g → drop a all ≡ bytes (form_words l a c g) ++ rest →
       All HasItsBytes (form_lines l a i c k g)
   form_has a i c k rest g one form target calls some text =
       All-cons HasItsBytes (line_at (Some a) i (Code (listed l.framed c) k)) []
       (item_has a i (listed l.framed c) k (one_has a c rest form target calls some text)) (All-nil HasItsBytes)
-  form_has a i c k rest g call form target calls some text =
+  form_has a i c k rest g (call name os os_is op_is) form target calls some text =
       All-cons HasItsBytes (line_at (Some a) i (Code (listed l.framed c) k)) []
-      (item_has a i (listed l.framed c) k (call_has a c rest calls text)) (All-nil HasItsBytes)
+      (item_has a i (listed l.framed c) k (call_has a c rest calls (words_listed c name os os_is op_is) text)) (All-nil HasItsBytes)
   form_has a i c k rest g (long b x y n os op_is os_is implicit) form target calls some text =
       let has = subst (λ (op : Op). LongHas a i k n rest op c.operands) (sym op_is)
       (subst (λ (ps : List Operand). LongHas a i k n rest (Branch b) ps) (sym os_is) (long_has a i k rest b x y n os)) in
@@ -190,7 +222,8 @@ module _ (l : Layout) (variables : List ListedVariable) (substitutions : List De
 
   form_bytes : (a : ℕ) (c : Instruction) (g : Form) → FormView c.op c.operands g → FormWorded l a c g → length (bytes (form_words l a c g)) ≡ form_size g
   form_bytes a c g one some = words_length (word_if (operation_at l a c)) ∙ (let size = some_length (operation_at l a c) some in omega (arith, size))
-  form_bytes a c g call some = refl
+  form_bytes a c g (call name os os_is op_is) some =
+      words_length (site_words (row_of c)) ∙ (let two = site_length (row_of c) in omega (arith, two))
   form_bytes a c g (long b x y n os op_is os_is implicit) some =
       words_length (word_if (skip_operation c) ++ word_if (jump_operation l a n)) ∙
       (let first = some_length (skip_operation c) some.0 in

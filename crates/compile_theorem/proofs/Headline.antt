@@ -7,7 +7,7 @@ use Rattle.mir_func.specs.Function.{FramedFunction}
 use Rattle.mir_func.specs.Graph.{block_start, framed_program}
 use Rattle.mir_func.specs.Resolve.{resolve}
 use Rattle.mir_func.specs.Sound.{AllItems}
-use Rattle.sem_mir.specs.PreferredLocation.{IsWanted}
+use Rattle.sem_mir.specs.PreferredLocation.{IsPreferredLocation}
 use Rattle.sem_machine.specs.Exact.{AreExact}
 use Rattle.emit_code.specs.declared.code.EncodedInstruction.{EncodedInstruction}
 use Rattle.emit_code.specs.Laid.{StandFrom}
@@ -83,7 +83,8 @@ module _ (names : ℕ → List ℕ) (o : Output) (lists : List (List Range)) (se
       exact_give_wanted (framed_program c.compiled.layout.framed.blocks (resolve passed.substitutions))
       (framed_program (framed_of passed.function).blocks (resolve passed.substitutions)) (IsByteOf (entries_of c.compiled.layout))
       (IsEntryAt c.compiled.layout) (Gives o f) exact (first_byte c.compiled.layout)
-      (λ v p place wanted. subst (λ (x : FramedFunction). IsWanted (framed_program x.blocks (resolve passed.substitutions)) (block_start 0) v p place)
+      (λ v p place wanted. subst (λ (x : FramedFunction). IsPreferredLocation (framed_program x.blocks (resolve passed.substitutions)) (block_start 0) v p
+      place)
       c.compiled.laid.framed wanted)
 
   pub meets : MeetsHeadline o passed.source f

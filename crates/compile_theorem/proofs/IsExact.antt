@@ -15,7 +15,7 @@ use Rattle.mir_func.specs.Graph.{Program, block_start, framed_program}
 use Rattle.mir_func.specs.Resolve.{resolve}
 use Rattle.mir_func.specs.Sound.{AllItems, ObjectsIn, contents_of}
 use Rattle.mir_func.specs.Successors.{pos_in}
-use Rattle.sem_mir.specs.PreferredLocation.{IsWanted, NoneIsWanted}
+use Rattle.sem_mir.specs.PreferredLocation.{IsPreferredLocation, NoneIsPreferred}
 use Rattle.sem_machine.specs.Exact.{AreExact}
 use Rattle.emit_code.specs.Rule.{entries_of}
 use Rattle.emit_code.specs.steps.Emitted.{IsFormed, point_of as as_point}
@@ -41,10 +41,10 @@ use Rattle.compile_theorem.proofs.LaidOut.{framed, shown}
 
 carried : (g h : Program) (start : Pos) (points others : (address : ℕ) → Pos → Type 0) (lists : VarId → (address : ℕ) → Place → Type 0) →
     ((a : ℕ) (p : Pos) → others a p → points a p) → ((a : ℕ) (p : Pos) → points a p → others a p) →
-    ((v : VarId) (p : Pos) (place : Place) → IsWanted g start v p place → IsWanted h start v p place) →
-    ((v : VarId) (p : Pos) (place : Place) → IsWanted h start v p place → IsWanted g start v p place) →
-    ((v : VarId) (p : Pos) → NoneIsWanted g start v p → NoneIsWanted h start v p) →
-    ((v : VarId) (p : Pos) → NoneIsWanted h start v p → NoneIsWanted g start v p) → AreExact g start points lists → AreExact h start others lists
+    ((v : VarId) (p : Pos) (place : Place) → IsPreferredLocation g start v p place → IsPreferredLocation h start v p place) →
+    ((v : VarId) (p : Pos) (place : Place) → IsPreferredLocation h start v p place → IsPreferredLocation g start v p place) →
+    ((v : VarId) (p : Pos) → NoneIsPreferred g start v p → NoneIsPreferred h start v p) →
+    ((v : VarId) (p : Pos) → NoneIsPreferred h start v p → NoneIsPreferred g start v p) → AreExact g start points lists → AreExact h start others lists
 carried g h start points others lists to from wanted wants none nothing is = record {
   gives = λ v a p at place. (
     λ given. wanted v p place ((is.gives v a p (to a p at) place).0 given),

@@ -1,9 +1,14 @@
 -- Code as it is listed has the word that its layout gives it: a slot or a stack object is reached by x2 there, as the word reaches it.
-use Rattle.std.proofs.Common.{◌≡◌, ℕ, zero, suc, ℤ, pos, ◌+ℤ◌, ◌-ℤ◌, Bool, true, false, List, [], ◌∷◌, Some, None, IsSome, refl, ap, arith}
+use Rattle.std.proofs.Common.{◌≡◌, ℕ, zero, suc, ℤ, pos, ◌+ℤ◌, ◌-ℤ◌, Bool, true, false, List}
+use Rattle.std.proofs.Common.{[], ◌∷◌, Some, None, IsSome, refl, ap, arith, nat_eq, ◌||◌, sym, subst}
 use Rattle.std.specs.Prelude.{Contains, option_and_then, if◌then◌else◌}
 use Rattle.std.proofs.lemmas.Int.{ints}
+use Rattle.std.specs.List.{list_all}
+use Rattle.std.proofs.lemmas.Bool.{and_parts}
 use Rattle.rv64_instr.specs.declared.op.Op.{Op}
-use Rattle.rv64_instr.specs.declared.op.Op.TheVariants.{Registers, Immediate, Lui, Branch, Load, Store, Copy, PseudoBr, PseudoCall, PseudoRet}
+use Rattle.rv64_instr.specs.declared.op.Op.TheVariants.{Registers, Immediate, Lui, Branch, Load, Store, Copy}
+use Rattle.rv64_instr.specs.declared.op.Op.TheVariants.{PseudoBr, PseudoCall, PseudoRet, PseudoCallIndirect}
+use Rattle.rv64_instr.specs.declared.op.Op.TheVariants.{PseudoTail, PseudoTailIndirect, NoReturnCall, NoReturnCallIndirect}
 use Rattle.rv64_instr.specs.declared.op.ImmediateOp.{ImmediateOp}
 use Rattle.rv64_instr.specs.declared.op.ImmediateOp.TheVariants.{Addi, Slti}
 use Rattle.rv64_instr.specs.declared.op.LoadOp.{LoadOp}
@@ -11,15 +16,17 @@ use Rattle.rv64_instr.specs.declared.op.LoadOp.TheVariants.{Ld}
 use Rattle.rv64_instr.specs.declared.op.StoreOp.{StoreOp}
 use Rattle.rv64_instr.specs.declared.op.StoreOp.TheVariants.{Sd, Sb, Sh, Sw}
 use Rattle.rv64_instr.specs.declared.operand.Operand.{Operand}
-use Rattle.rv64_instr.specs.declared.operand.Operand.TheVariants.{Def, Use, ImplicitDef, ImplicitUse, Imm, Slot, Object as OfObject, Block, Symbol, Mask}
-use Rattle.rv64_instr.specs.Form.{has_form, fits_jump, fits_copy, fits_branch, fits_registers, fits_upper, fits_load, fits_store, fits_immediate}
+use Rattle.rv64_instr.specs.declared.operand.Operand.TheVariants.{Def, Use, ImplicitDef, ImplicitUse, Imm, Slot, Object as OfObject, Part, Block, Symbol, Mask}
+use Rattle.rv64_instr.specs.declared.symbol.Half.TheVariants.{Upper, Lower}
+use Rattle.rv64_instr.specs.Form.{has_form, fits_jump, fits_copy, fits_branch, fits_registers, fits_upper, fits_load, fits_store}
+use Rattle.rv64_instr.specs.Form.{fits_immediate, is_tail_use, is_tail_register, fits_held_call, fits_tail, fits_held_tail, fits_gone, fits_held_gone}
 use Rattle.rv64_instr.specs.Instruction.{Instruction}
 use Rattle.rv64_instr.specs.Row.{Row, Branches, Jumps, add_row}
 use Rattle.rv64_instr.specs.Row.{row_by, row_of}
 use Rattle.rv64_word.specs.declared.machine_op.MachineOp.{MachineOp}
 use Rattle.rv64_word.specs.Lowering.{fields_of, lowered, in_range}
 use Rattle.rv64_word.specs.MachineOp.{is_encodable}
-use Rattle.rv64_instr.specs.Parts.{object_named}
+use Rattle.rv64_instr.specs.LocationEffects.{object_named}
 use Rattle.mir_func.specs.declared.exit.Exit.{Exit}
 use Rattle.mir_func.specs.declared.exit.Exit.TheVariants.{Onward, Perhaps, Always, Final}
 use Rattle.mir_func.specs.Exits.{row_exit}
@@ -52,10 +59,12 @@ module _ (f : FramedFunction) (offset : ℤ) where
   immediate_same : (op : ImmediateOp) (os : List Operand) → fits_immediate op os ≡ true → SameCode f offset (Immediate op) os (by_pointer f os)
   immediate_same op (Def rd ∷ Use a ∷ Imm i ∷ rest) form = record { fields = refl; exit = refl }
   immediate_same op (Def rd ∷ OfObject n ∷ Imm i ∷ rest) form = object_same op rd n i rest form
+  immediate_same op (Def rd ∷ Use a ∷ Part Lower y ∷ rest) form = record { fields = refl; exit = refl }
   immediate_same op os form = absurd cc
 
   upper_same : (os : List Operand) → fits_upper os ≡ true → SameCode f offset Lui os (by_pointer f os)
   upper_same (Def rd ∷ Imm i ∷ rest) form = record { fields = refl; exit = refl }
+  upper_same (Def rd ∷ Part Upper y ∷ rest) form = record { fields = refl; exit = refl }
   upper_same os form = absurd cc
 
   branch_same : (op : _) (os : List Operand) → fits_branch os ≡ true → SameCode f offset (Branch op) os (by_pointer f os)
@@ -71,6 +80,7 @@ module _ (f : FramedFunction) (offset : ℤ) where
   load_same op (Def rd ∷ Use b ∷ Imm i ∷ rest) form = record { fields = refl; exit = refl }
   load_same op (Def rd ∷ Slot n ∷ Imm i ∷ rest) form = slot_load_same op rd n i rest form
   load_same op (Def rd ∷ OfObject n ∷ Imm i ∷ rest) form = record { fields = refl; exit = refl }
+  load_same op (Def rd ∷ Use b ∷ Part Lower y ∷ rest) form = record { fields = refl; exit = refl }
   load_same op os form = absurd cc
 
   slot_store_same : (op : StoreOp) (rs n : ℕ) (i : ℤ) (rest : List Operand) → fits_store op (Use rs ∷ Slot n ∷ Imm i ∷ rest) ≡ true →
@@ -84,6 +94,7 @@ module _ (f : FramedFunction) (offset : ℤ) where
   store_same op (Use rs ∷ Use b ∷ Imm i ∷ rest) form = record { fields = refl; exit = refl }
   store_same op (Use rs ∷ Slot n ∷ Imm i ∷ rest) form = slot_store_same op rs n i rest form
   store_same op (Use rs ∷ OfObject n ∷ Imm i ∷ rest) form = record { fields = refl; exit = refl }
+  store_same op (Use rs ∷ Use b ∷ Part Lower y ∷ rest) form = record { fields = refl; exit = refl }
   store_same op os form = absurd cc
 
   copy_same : (os : List Operand) → fits_copy os ≡ true → SameCode f offset Copy os (by_pointer f os)
@@ -100,6 +111,40 @@ module _ (f : FramedFunction) (offset : ℤ) where
   call_same (Symbol name ∷ Mask ∷ rest) form = record { fields = refl; exit = refl }
   call_same os form = absurd cc
 
+  behind_tail : (x : Operand) (os : List Operand) → list_all is_tail_use os ≡ true → by_pointer f (x ∷ os) ≡ x ∷ os
+  behind_tail x [] all = refl
+  behind_tail x (ImplicitUse r ∷ os) all = refl
+  behind_tail x (o ∷ os) all = absurd cc
+
+  -- operands that stay give the same code
+  stays_same : (op : Op) (os ps : List Operand) → ps ≡ os → SameCode f offset op os os → SameCode f offset op os ps
+  stays_same op os ps e h = subst (SameCode f offset op os) (sym e) h
+
+  held_call_same : (os : List Operand) → fits_held_call os ≡ true → SameCode f offset PseudoCallIndirect os (by_pointer f os)
+  held_call_same (ImplicitUse r ∷ Mask ∷ rest) form = record { fields = refl; exit = refl }
+  held_call_same os form = absurd cc
+
+  tail_same : (os : List Operand) → fits_tail os ≡ true → SameCode f offset PseudoTail os (by_pointer f os)
+  tail_same (Symbol name ∷ rest) form =
+      stays_same PseudoTail (Symbol name ∷ rest) (by_pointer f (Symbol name ∷ rest)) (behind_tail (Symbol name) rest form)
+      (record { fields = refl; exit = refl })
+  tail_same os form = absurd cc
+
+  held_tail_same : (os : List Operand) → fits_held_tail os ≡ true → SameCode f offset PseudoTailIndirect os (by_pointer f os)
+  held_tail_same (ImplicitUse r ∷ rest) form =
+      stays_same PseudoTailIndirect (ImplicitUse r ∷ rest) (by_pointer f (ImplicitUse r ∷ rest))
+      (behind_tail (ImplicitUse r) rest (and_parts (nat_eq r 6 || is_tail_register r) (list_all is_tail_use rest) form).1)
+      (record { fields = refl; exit = refl })
+  held_tail_same os form = absurd cc
+
+  gone_same : (os : List Operand) → fits_gone os ≡ true → SameCode f offset NoReturnCall os (by_pointer f os)
+  gone_same (Symbol name ∷ Mask ∷ rest) form = record { fields = refl; exit = refl }
+  gone_same os form = absurd cc
+
+  held_gone_same : (os : List Operand) → fits_held_gone os ≡ true → SameCode f offset NoReturnCallIndirect os (by_pointer f os)
+  held_gone_same (ImplicitUse r ∷ Mask ∷ rest) form = record { fields = refl; exit = refl }
+  held_gone_same os form = absurd cc
+
   code_same : (op : Op) (os : List Operand) → has_form op os ≡ true → SameCode f offset op os (by_pointer f os)
   code_same (Registers op) os form = registers_same op os form
   code_same (Immediate op) os form = immediate_same op os form
@@ -111,6 +156,11 @@ module _ (f : FramedFunction) (offset : ℤ) where
   code_same PseudoBr os form = jump_same os form
   code_same PseudoCall os form = call_same os form
   code_same PseudoRet os form = record { fields = refl; exit = refl }
+  code_same PseudoCallIndirect os form = held_call_same os form
+  code_same PseudoTail os form = tail_same os form
+  code_same PseudoTailIndirect os form = held_tail_same os form
+  code_same NoReturnCall os form = gone_same os form
+  code_same NoReturnCallIndirect os form = held_gone_same os form
 
 -- it is lowered to the same operation
 pub lowered_listed : (f : FramedFunction) (offset : ℤ) (c : Instruction) → has_form c.op c.operands ≡ true →

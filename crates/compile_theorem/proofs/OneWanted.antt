@@ -9,7 +9,7 @@ use Rattle.mir_func.specs.declared.position.Pos.{Pos}
 use Rattle.mir_func.specs.declared.variable.VarId.{VarId}
 use Rattle.mir_func.specs.Graph.{Program}
 use Rattle.sem_mir.specs.ValueId.{Token, Fixed}
-use Rattle.sem_mir.specs.PreferredLocation.{IsPlace, IsWanted, SitsIn}
+use Rattle.sem_mir.specs.PreferredLocation.{IsPlace, IsPreferredLocation, SitsIn}
 
 number_of : Token → ℕ → ℕ
 number_of (Fixed n) m = n
@@ -36,7 +36,7 @@ module _ (g : Program) (start : Pos) (v : VarId) (p : Pos) where
       let same : word a ≡ word b = cc in
       same
 
-  pub one_wanted : (a b : Place) → IsWanted g start v p a → IsWanted g start v p b → a ≡ b
+  pub one_wanted : (a b : Place) → IsPreferredLocation g start v p a → IsPreferredLocation g start v p b → a ≡ b
   one_wanted (Const a) (Const b) x y = ap Const (one_number a b x.named y.named (one_constant a b x.sits y.sits))
   one_wanted (Const a) (Register r) x y = absurd (y.first (Const a) x.named tt x.sits)
   one_wanted (Const a) (Slot n) x y = absurd (y.first (Const a) x.named tt x.sits)

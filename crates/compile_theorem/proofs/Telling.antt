@@ -12,7 +12,7 @@ use Rattle.mir_func.specs.declared.variable.VarId.{VarId}
 use Rattle.mir_func.specs.Graph.{Program}
 use Rattle.mir_func.specs.Parts.{Bytes}
 use Rattle.mir_func.specs.Variables.{is_same_variable, are_same_bytes, overlaps}
-use Rattle.sem_mir.specs.PreferredLocation.{IsWanted, NoneIsWanted, SitsIn}
+use Rattle.sem_mir.specs.PreferredLocation.{IsPreferredLocation, NoneIsPreferred, SitsIn}
 use Rattle.sem_mir.proofs.Assignments.{one_assigned, same_variable_refl}
 use Rattle.dwarf_loclists.specs.declared.range.Part.{Part}
 use Rattle.dwarf_loclists.specs.declared.range.Location.{Location}
@@ -29,9 +29,9 @@ Tells l (Some b) place = (n : ℕ) × (Some (record { offset = b.offset; length 
 
 -- what is told is wanted, what is wanted is told, and where nothing is told none is wanted
 pub record TellsWanted (g : Program) (start : Pos) (v : VarId) (p : Pos) (l : Option Location) (b : Option Bytes) : Type 0 where
-  pub told : (place : Place) → Tells l b place → IsWanted g start (part_of v b) p place
-  pub wanted : (place : Place) → IsWanted g start (part_of v b) p place → Tells l b place
-  pub none : ((place : Place) → Tells l b place → ⊥) → NoneIsWanted g start (part_of v b) p
+  pub told : (place : Place) → Tells l b place → IsPreferredLocation g start (part_of v b) p place
+  pub wanted : (place : Place) → IsPreferredLocation g start (part_of v b) p place → Tells l b place
+  pub none : ((place : Place) → Tells l b place → ⊥) → NoneIsPreferred g start (part_of v b) p
 
 -- ---- bytes of pieces
 
@@ -75,7 +75,7 @@ all_at P (y ∷ xs) (suc k) x at all = all_at P xs k x at (All-tail P y xs all)
 
 module _ (g : Program) (start : Pos) (v : VarId) (p : Pos) where
   abbrev Wanted : Option Bytes → Place → Type 0
-  Wanted b place = IsWanted g start (part_of v b) p place
+  Wanted b place = IsPreferredLocation g start (part_of v b) p place
 
   -- the whole and some bytes never both sit in a place
   not_both : (b : Bytes) (x y : Place) → SitsIn g start (part_of v None) x p → SitsIn g start (part_of v (Some b)) y p → ⊥
@@ -90,7 +90,7 @@ module _ (g : Program) (start : Pos) (v : VarId) (p : Pos) where
       not_same true = refl
       not_same false = refl
 
-  none_by : (b : Option Bytes) (l : Option Location) → NoneIsWanted g start (part_of v b) p → ((place : Place) → Tells l b place → ⊥) →
+  none_by : (b : Option Bytes) (l : Option Location) → NoneIsPreferred g start (part_of v b) p → ((place : Place) → Tells l b place → ⊥) →
       TellsWanted g start v p l b
   none_by b l none source_end = record {
     told = λ place told. absurd (source_end place told);

@@ -16,7 +16,7 @@ use Rattle.mir_func.specs.Graph.{Program, Fetch, Here, EndOfBlock, Outside}
 use Rattle.mir_func.specs.Variables.{is_same_variable, is_same, overlaps}
 use Rattle.sem_mir.specs.State.{assigned}
 use Rattle.sem_mir.specs.ValueId.{Token, Tokens, Path, begin, onward, after_item, after_fetch, mark_token, variable_token}
-use Rattle.sem_mir.specs.PreferredLocation.{NoneIsWanted}
+use Rattle.sem_mir.specs.PreferredLocation.{NoneIsPreferred}
 use Rattle.sem_mir.proofs.Assignments.{same_is, same_variable_refl}
 use Rattle.sem_value_ids.specs.Pullback.{OfVariable}
 use Rattle.sem_value_ids.proofs.Backwards.{tokens_pull_back}
@@ -257,7 +257,7 @@ module _ (g : Program) (v : VarId) (others : (p : Pos) (i : Item) → g.fetch p 
   no_token (onward {n = n} {p = p} {t = t} path edge) = past n p t (g.fetch p) refl (no_token path)
 
   -- so no place is wanted for the part
-  pub nowhere : (start p : Pos) → NoneIsWanted g start v p
+  pub nowhere : (start p : Pos) → NoneIsPreferred g start v p
   nowhere start p place named sits =
       let r = sits.reached in
       let k = sits.same r.0 r.1 r.2 in
@@ -281,5 +281,5 @@ module _ (g : Program) (vs : List VarId) (among : (p : Pos) (i : Item) → g.fet
   marks_other (Code i k) is = tt
   marks_other (Phi p k) is = tt
 
-  pub unmarked : (start p : Pos) → NoneIsWanted g start v p
+  pub unmarked : (start p : Pos) → NoneIsPreferred g start v p
   unmarked start p = nowhere g v (λ q i here. marks_other i.kind (among q i here)) start p

@@ -1,9 +1,10 @@
 -- The instruction encodings at the lines of an output.
-use Rattle.std.specs.Prelude.{◌≡◌, ℕ, ℤ, pos, ◌+ℤ◌, Bool, true, false, cond, nat_eq, List, [], ◌∷◌, ◌++◌, take, drop, Option, Some, None, slice_get, All}
+use Rattle.std.specs.Prelude.{◌≡◌, ℕ, ℤ, pos, ◌+ℤ◌, Bool, true, false, cond, nat_eq, List, [], ◌∷◌, take, drop, Option, Some, None, slice_get, All}
 use Rattle.std.specs.Int.{w32, to_le_bytes}
+use Rattle.std.specs.List.{flat_map}
 use Rattle.rv64_instr.specs.Instruction.{Instruction}
-use Rattle.rv64_instr.specs.Row.{row_of}
-use Rattle.rv64_instr.specs.Parts.{is_call}
+use Rattle.rv64_instr.specs.Row.{row_of, Row}
+use Rattle.rv64_instr.specs.LocationEffects.{has_site}
 use Rattle.rv64_word.specs.declared.machine_op.MachineOp.{MachineOp}
 use Rattle.rv64_word.specs.MachineOp.{word_of}
 use Rattle.rv64_word.specs.declared.word_op.WordOp.TheVariants.{Branch}
@@ -20,6 +21,7 @@ use Rattle.listing_text.specs.declared.output.ListedBlock.{ListedBlock}
 use Rattle.listing_text.specs.declared.output.ListedFunction.{ListedFunction}
 use Rattle.listing_text.specs.declared.output.Output.{Output}
 use Rattle.listing_meaning.specs.Program.{lines_of, past_line}
+use Rattle.emit_code.specs.Rule.{site_words}
 
 -- the address after the last of these lines, if the first begins at an address
 abbrev pub past_lines : ℕ → List Line → ℕ
@@ -55,14 +57,13 @@ pub record HasWord (text : List ℕ) (a : ℕ) (offset : ℤ) (i : Instruction) 
   pub lowered : lowered offset 0 i ≡ Some operation
   pub stands : bytes_at text 4 a ≡ to_le_bytes w32 (word_of operation)
 
--- the two words of every call: `AUIPC x1, 0` and `JALR x1, 0(x1)` (RISC-V Unprivileged ISA, "Integer Register-Immediate
--- Instructions" and "Unconditional Jumps")
-abbrev pub call_bytes : List ℕ
-call_bytes = to_le_bytes w32 0x00000097 ++ to_le_bytes w32 0x000080e7
+-- the two words by which control goes to the function that an instruction names
+abbrev pub site_bytes : Row → List ℕ
+site_bytes row = flat_map (to_le_bytes w32) (site_words row)
 
--- At an address are the bytes of an instruction: both words of a call, or one word, whose jump offset is that to its target block.
-abbrev pub HasBytes : (call : Bool) → (text : List ℕ) → ListedFunction → (address : ℕ) → Instruction → Type 0
-HasBytes true text f a i = bytes_at text 8 a ≡ call_bytes
+-- At an address are the bytes of an instruction: both words where it names a callee, or one word, whose jump offset is that to its target block.
+abbrev pub HasBytes : (site : Bool) → (text : List ℕ) → ListedFunction → (address : ℕ) → Instruction → Type 0
+HasBytes true text f a i = bytes_at text 8 a ≡ site_bytes (row_of i)
 HasBytes false text f a i = (offset : ℤ) × IsOffset f (target_of (row_exit (row_of i))) a offset × HasWord text a offset i
 
 -- the operation of a skip line: the inverted branch of a long branch, over the next word
@@ -76,7 +77,7 @@ HasSkip text s = (in_range (skip_operation s) ≡ Some (skip_operation s)) × (b
 -- At each line of a function with an address are the bytes of its instruction.
 pub record HaveWordsOf (o : Output) (f : ListedFunction) : Type 0 where
   pub items : (n : ℕ) (l : ItemLine) (a : ℕ) (i : Instruction) (k : Option ℕ) → slice_get (lines_of f) n ≡ Some (Item l) → l.address ≡ Some a →
-      l.item.kind ≡ Code i k → HasBytes (is_call (row_of i)) o.text f a i
+      l.item.kind ≡ Code i k → HasBytes (has_site (row_of i)) o.text f a i
   pub skips : (n : ℕ) (s : SkipLine) → slice_get (lines_of f) n ≡ Some (Skip s) → HasSkip o.text s
 
 -- each listed function has them

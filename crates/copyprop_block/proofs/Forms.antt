@@ -1,5 +1,5 @@
 -- Renaming keeps the form of an instruction.
-use Rattle.std.proofs.Common.{◌≡◌, List, [], ◌∷◌, map, Bool, ◌&&◌, refl, ap}
+use Rattle.std.proofs.Common.{◌≡◌, List, [], ◌∷◌, map, Bool, ◌&&◌, refl, ap, nat_le, nat_lt, nat_eq, ◌||◌}
 use Rattle.std.specs.Prelude.{pos}
 use Rattle.rv64_instr.specs.Arithmetic.{load_width, store_width}
 use Rattle.std.specs.List.{list_all}
@@ -7,11 +7,15 @@ use Rattle.rv64_instr.specs.declared.op.Op.{Op}
 use Rattle.rv64_instr.specs.declared.op.ImmediateOp.{ImmediateOp}
 use Rattle.rv64_instr.specs.declared.op.LoadOp.{LoadOp}
 use Rattle.rv64_instr.specs.declared.op.StoreOp.{StoreOp}
-use Rattle.rv64_instr.specs.declared.op.Op.TheVariants.{Registers, Immediate, Lui, Branch, Load, Store, Copy, PseudoBr, PseudoCall, PseudoRet}
+use Rattle.rv64_instr.specs.declared.op.Op.TheVariants.{Registers, Immediate, Lui, Branch, Load, Store, Copy}
+use Rattle.rv64_instr.specs.declared.op.Op.TheVariants.{PseudoBr, PseudoCall, PseudoRet, PseudoCallIndirect}
+use Rattle.rv64_instr.specs.declared.op.Op.TheVariants.{PseudoTail, PseudoTailIndirect, NoReturnCall, NoReturnCallIndirect}
 use Rattle.rv64_instr.specs.declared.operand.Operand.{Operand}
-use Rattle.rv64_instr.specs.declared.operand.Operand.TheVariants.{Def, Use, Imm, Slot, Object, Block as BlockOperand, Symbol, Mask}
+use Rattle.rv64_instr.specs.declared.operand.Operand.TheVariants.{Def, Use, Imm, Slot, Object, Part, Block as BlockOperand, Symbol, Mask, ImplicitUse}
+use Rattle.rv64_instr.specs.declared.symbol.Half.TheVariants.{Upper, Lower}
 use Rattle.rv64_instr.specs.Form.{is_implicit, is_argument, is_result, fits_registers, fits_immediate, fits_upper, fits_branch, fits_load, fits_store}
-use Rattle.rv64_instr.specs.Form.{fits_copy, fits_jump, fits_call, has_form, is_immediate, is_addi, has_12_bits, moves_slot, is_within}
+use Rattle.rv64_instr.specs.Form.{fits_copy, fits_jump, fits_call, has_form, is_immediate}
+use Rattle.rv64_instr.specs.Form.{is_addi, has_12_bits, moves_slot, is_within, is_tail_use, is_tail_register}
 use Rattle.copyprop_block.specs.declared.roots.Root.{Root}
 use Rattle.copyprop_block.specs.Roots.{renamed_operand}
 
@@ -38,6 +42,11 @@ module _ (e : List Root) where
   result_one (Def r) = refl
   result_one _ = refl
 
+  tail_one : (o : Operand) → is_tail_use (renamed_operand e o) ≡ is_tail_use o
+  tail_one (Use r) = refl
+  tail_one (Def r) = refl
+  tail_one _ = refl
+
   implicit : (os : List Operand) → list_all is_implicit (new os) ≡ list_all is_implicit os
   implicit = all_same is_implicit implicit_one
 
@@ -48,10 +57,12 @@ module _ (e : List Root) where
   immediate : (op : ImmediateOp) (os : List Operand) → fits_immediate op (new os) ≡ fits_immediate op os
   immediate op (Def rd ∷ Use a ∷ Imm i ∷ rest) = ap (λ (z : Bool). is_immediate op i && z) (implicit rest)
   immediate op (Def rd ∷ Object n ∷ Imm i ∷ rest) = ap (λ (z : Bool). is_addi op && is_immediate op i && z) (implicit rest)
+  immediate op (Def rd ∷ Use a ∷ Part Lower y ∷ rest) = ap (λ (z : Bool). is_addi op && z) (implicit rest)
   immediate op _ = refl
 
   upper : (os : List Operand) → fits_upper (new os) ≡ fits_upper os
   upper (Def rd ∷ Imm i ∷ rest) = ap (λ (z : Bool). is_within (pos 0) (pos 1048575) i && z) (implicit rest)
+  upper (Def rd ∷ Part Upper y ∷ rest) = implicit rest
   upper _ = refl
 
   branch : (os : List Operand) → fits_branch (new os) ≡ fits_branch os
@@ -62,12 +73,14 @@ module _ (e : List Root) where
   load op (Def rd ∷ Use a ∷ Imm i ∷ rest) = ap (λ (z : Bool). has_12_bits i && z) (implicit rest)
   load op (Def rd ∷ Slot n ∷ Imm i ∷ rest) = ap (λ (z : Bool). moves_slot (load_width op) i && z) (implicit rest)
   load op (Def rd ∷ Object n ∷ Imm i ∷ rest) = ap (λ (z : Bool). has_12_bits i && z) (implicit rest)
+  load op (Def rd ∷ Use a ∷ Part Lower y ∷ rest) = implicit rest
   load op _ = refl
 
   store : (op : StoreOp) (os : List Operand) → fits_store op (new os) ≡ fits_store op os
   store op (Use a ∷ Use b ∷ Imm i ∷ rest) = ap (λ (z : Bool). has_12_bits i && z) (implicit rest)
   store op (Use a ∷ Slot n ∷ Imm i ∷ rest) = ap (λ (z : Bool). moves_slot (store_width op) i && z) (implicit rest)
   store op (Use a ∷ Object n ∷ Imm i ∷ rest) = ap (λ (z : Bool). has_12_bits i && z) (implicit rest)
+  store op (Use a ∷ Use b ∷ Part Lower y ∷ rest) = implicit rest
   store op _ = refl
 
   copy : (os : List Operand) → fits_copy (new os) ≡ fits_copy os
@@ -93,3 +106,12 @@ module _ (e : List Root) where
   form_renamed PseudoBr os = jump os
   form_renamed PseudoCall os = call os
   form_renamed PseudoRet os = all_same is_result result_one os
+  form_renamed PseudoCallIndirect (ImplicitUse r ∷ Mask ∷ rest) =
+      ap (λ (z : Bool). (nat_le 5 r && nat_lt r 32) && z) (all_same is_argument argument_one rest)
+  form_renamed PseudoTail (Symbol name ∷ rest) = all_same is_tail_use tail_one rest
+  form_renamed PseudoTailIndirect (ImplicitUse r ∷ rest) =
+      ap (λ (z : Bool). (nat_eq r 6 || is_tail_register r) && z) (all_same is_tail_use tail_one rest)
+  form_renamed NoReturnCall (Symbol name ∷ Mask ∷ rest) = all_same is_tail_use tail_one rest
+  form_renamed NoReturnCallIndirect (ImplicitUse r ∷ Mask ∷ rest) =
+      ap (λ (z : Bool). (nat_eq r 6 || is_tail_register r) && z) (all_same is_tail_use tail_one rest)
+  form_renamed _ _ = refl

@@ -1,12 +1,12 @@
 -- Copies that are available along a block: registers that have the same value as another one.
 use Rattle.std.specs.Prelude.{ℕ, zero, suc, List, [], ◌∷◌, ◌++◌, map, filter, Option, Some, None, Bool, cond, not, ◌&&◌, nat_eq}
 use Rattle.rv64_instr.specs.declared.operand.Operand.{Operand}
-use Rattle.rv64_instr.specs.declared.operand.Operand.TheVariants.{Def, Use, ImplicitDef, ImplicitUse, Imm, Slot, Object, Block, Symbol, Mask}
+use Rattle.rv64_instr.specs.declared.operand.Operand.TheVariants.{Def, Use, ImplicitDef, ImplicitUse, Imm, Slot, Object, Part, Block, Symbol, Mask}
 use Rattle.rv64_instr.specs.declared.place.Place.TheVariants.{Register}
 use Rattle.rv64_instr.specs.Instruction.{Instruction}
 use Rattle.rv64_instr.specs.Row.{Row, Moves}
 use Rattle.rv64_instr.specs.View.{OfRegister, Write, SetsRegister, write_of}
-use Rattle.rv64_instr.specs.Parts.{defines_of}
+use Rattle.rv64_instr.specs.LocationEffects.{defines_of}
 use Rattle.copyprop_block.specs.declared.roots.Root.{Root}
 
 -- the register whose value r has, by its first entry: its root, or itself
@@ -23,6 +23,7 @@ renamed_operand e (ImplicitUse r) = ImplicitUse r
 renamed_operand e (Imm i) = Imm i
 renamed_operand e (Slot n) = Slot n
 renamed_operand e (Object n) = Object n
+renamed_operand e (Part half y) = Part half y
 renamed_operand e (Block n) = Block n
 renamed_operand e (Symbol name) = Symbol name
 renamed_operand e Mask = Mask

@@ -10,7 +10,7 @@ ghost use Rattle.copyprop_block.specs.Copied.{over_items, at_block};
 ghost use Rattle.copyprop_block.specs.Next.{IsCarried, Stands};
 
 use crate::roots::{Root, known_source, learn, rename};
-use base_ids::code::DebugNumber;
+use base_ids::function_ids::DebugNumber;
 use mir_func::item::{Item, ItemKind};
 use mir_substitution::substitutions::Substitutions;
 use pass_salvage::above::Above;

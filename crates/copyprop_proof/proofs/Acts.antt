@@ -2,11 +2,11 @@
 use Rattle.std.proofs.Common.{◌≡◌, ℕ, zero, suc, ◌+◌, ◌%◌, ◌^◌, List, [], ◌∷◌, map, Option, Some, None, Bool, true, false, cond, ◌&&◌, slice_get, is_some, refl}
 use Rattle.std.proofs.Common.{sym, ap, ◌∙◌}
 use Rattle.rv64_instr.specs.declared.operand.Operand.{Operand}
-use Rattle.rv64_instr.specs.declared.operand.Operand.TheVariants.{Def, Use, ImplicitDef, ImplicitUse, Imm, Slot, Object, Block, Symbol, Mask}
-use Rattle.rv64_instr.specs.declared.decoded.Input.{Input}
-use Rattle.rv64_instr.specs.declared.decoded.Input.TheVariants.{Content, Number}
-use Rattle.rv64_instr.specs.declared.decoded.Base.{Base}
-use Rattle.rv64_instr.specs.declared.decoded.Base.TheVariants.{PointedBy, ObjectAt}
+use Rattle.rv64_instr.specs.declared.operand.Operand.TheVariants.{Def, Use, ImplicitDef, ImplicitUse, Imm, Slot, Object, Part, Block, Symbol, Mask}
+use Rattle.rv64_instr.specs.declared.symbol.Half.TheVariants.{Lower}
+use Rattle.rv64_instr.specs.Linked.{linked_value}
+use Rattle.rv64_instr.specs.Row.{Input, Content, Number, PartOf}
+use Rattle.rv64_instr.specs.Row.{Base, PointedBy, ObjectAt, BesidePart}
 use Rattle.rv64_instr.specs.Arithmetic.{computed, taken}
 use Rattle.rv64_instr.specs.declared.op.LoadOp.{LoadOp}
 use Rattle.rv64_instr.specs.declared.op.LoadOp.TheVariants.{Ld}
@@ -15,7 +15,7 @@ use Rattle.rv64_instr.specs.declared.op.RegisterOp.TheVariants.{Add}
 use Rattle.rv64_instr.specs.Instruction.{Instruction}
 use Rattle.rv64_instr.specs.Row.{Row, Moves, Sets, Loads, Stores, StoresSlot, Branches, row_of}
 use Rattle.rv64_instr.specs.DefsAndUses.{reads}
-use Rattle.rv64_instr.specs.Parts.{is_call}
+use Rattle.rv64_instr.specs.LocationEffects.{is_call}
 use Rattle.mir_func.specs.declared.item.ItemKind.TheVariants.{Code}
 use Rattle.mir_func.specs.Graph.{Program}
 use Rattle.sem_mir.specs.State.{Core, content, updated}
@@ -33,10 +33,12 @@ module _ (e : List Root) (d : Core) (holds : (r : ℕ) → content d.regs r ≡ 
   input_root : (b : Input) → input_value d (rooted_input e b) ≡ input_value d b
   input_root (Content r) = read_root r
   input_root (Number n) = refl
+  input_root (PartOf half y) = refl
 
   base_root : (b : Base) → base_value d (rooted_base e b) ≡ base_value d b
   base_root (PointedBy r) = read_root r
   base_root (ObjectAt n) = refl
+  base_root (BesidePart r y) = ap (λ (z : ℕ). (z + linked_value d.symbols Lower y) % 2 ^ 64) (read_root r)
 
   address_root : (b : Base) (o : ℕ) → address_at d (rooted_base e b) o ≡ address_at d b o
   address_root b o = ap (λ (z : ℕ). (z + o) % 2 ^ 64) (base_root b)
@@ -44,14 +46,17 @@ module _ (e : List Root) (d : Core) (holds : (r : ℕ) → content d.regs r ≡ 
   fault_root : (b : Base) (a n : ℕ) → is_fault (rooted_base e b) d a n ≡ is_fault b d a n
   fault_root (PointedBy r) a n = refl
   fault_root (ObjectAt m) a n = refl
+  fault_root (BesidePart r y) a n = refl
 
   loaded_root : (rd : ℕ) (op : LoadOp) (b : Base) (a a' : ℕ) → a ≡ a' → loaded rd op (rooted_base e b) a d ≡ loaded rd op b a' d
   loaded_root rd op (PointedBy r) a a' is = ap (λ (z : ℕ). loaded rd op (PointedBy r) z d) is
   loaded_root rd op (ObjectAt n) a a' is = ap (λ (z : ℕ). loaded rd op (ObjectAt n) z d) is
+  loaded_root rd op (BesidePart r y) a a' is = ap (λ (z : ℕ). loaded rd op (BesidePart r y) z d) is
 
   stored_root : (op : StoreOp) (b : Base) (a a' v v' : ℕ) → a ≡ a' → v ≡ v' → put_in_memory op (rooted_base e b) a v d ≡ put_in_memory op b a' v' d
   stored_root op (PointedBy r) a a' v v' is same = λ i. put_in_memory op (PointedBy r) (is i) (same i) d
   stored_root op (ObjectAt n) a a' v v' is same = λ i. put_in_memory op (ObjectAt n) (is i) (same i) d
+  stored_root op (BesidePart r y) a a' v v' is same = λ i. put_in_memory op (BesidePart r y) (is i) (same i) d
 
   does_root : (r : Row) → does (rooted e r) d ≡ does r d
   unfolding does
@@ -70,10 +75,12 @@ module _ (e : List Root) (d : Core) (holds : (r : ℕ) → content d.regs r ≡ 
   input_written : (a : ℕ) (b : Input) → are_written d (reads (Sets a Add (root_of e a) (rooted_input e b))) ≡ are_written d (reads (Sets a Add a b))
   input_written a (Content r) = let x = one_written a in let y = one_written r in λ i. x i && (y i && true)
   input_written a (Number n) = let x = one_written a in λ i. x i && true
+  input_written a (PartOf half y) = let x = one_written a in λ i. x i && true
 
   base_written : (b : Base) → are_written d (reads (Loads 0 Ld (rooted_base e b) 0)) ≡ are_written d (reads (Loads 0 Ld b 0))
   base_written (PointedBy r) = let y = one_written r in λ i. y i && true
   base_written (ObjectAt n) = refl
+  base_written (BesidePart r y) = let z = one_written r in λ i. z i && true
 
   rows_written : (r : Row) → are_written d (reads (rooted e r)) ≡ are_written d (reads r)
   rows_written (Moves rd rs) = let x = one_written rs in λ i. x i && true
@@ -97,6 +104,7 @@ defined_one e false (ImplicitUse r) = refl
 defined_one e false (Imm n) = refl
 defined_one e false (Slot n) = refl
 defined_one e false (Object n) = refl
+defined_one e false (Part half y) = refl
 defined_one e false (Block n) = refl
 defined_one e false (Symbol n) = refl
 defined_one e false Mask = refl

@@ -8,7 +8,7 @@ use Rattle.rv64_instr.specs.declared.place.Place.{Place}
 use Rattle.rv64_instr.specs.declared.place.Place.TheVariants.{Register, Slot, Const}
 use Rattle.rv64_instr.specs.Instruction.{Instruction}
 use Rattle.rv64_instr.specs.Row.{Row, Fixes, Moves, Sets, Addresses, Loads, Stores, LoadsSlot, StoresSlot, Branches, Jumps, Calls, Returns, Unfit, row_of}
-use Rattle.rv64_instr.specs.Parts.{defines_of, moved_by, set_by}
+use Rattle.rv64_instr.specs.LocationEffects.{defines_of, moved_by, set_by}
 use Rattle.sem_mir.specs.State.{Core, content}
 use Rattle.sem_mir.specs.Step.{act}
 use Rattle.sem_mir.specs.Effects.{held_in, OnCore}
@@ -174,7 +174,7 @@ module _ (e : List Root) (clean : IsClean e) where
   clean_after (StoresSlot rs n) h unknown = clean_fewer e clean (outlives (StoresSlot rs n))
   clean_after (Branches op a b t) h unknown = clean_fewer e clean (outlives (Branches op a b t))
   clean_after (Jumps t) h unknown = clean_fewer e clean (outlives (Jumps t))
-  clean_after (Calls name args) h unknown = clean_fewer e clean (outlives (Calls name args))
+  clean_after (Calls call) h unknown = clean_fewer e clean (outlives (Calls call))
   clean_after (Returns v) h unknown = clean_fewer e clean (outlives (Returns v))
   clean_after Unfit h unknown = clean_fewer e clean (outlives Unfit)
 
@@ -256,8 +256,8 @@ module _ (e : List Root) (i : Instruction) (c : Core) (holds : Holds e c) where
   act_holds (Branches op a b t) is other =
       on_weaker (Leaves i c) (Holds (filter (outlives (Branches op a b t)) e)) (less_holds (Branches op a b t) is) (act (row_of i) c) (leaves i c)
   act_holds (Jumps t) is other = on_weaker (Leaves i c) (Holds (filter (outlives (Jumps t)) e)) (less_holds (Jumps t) is) (act (row_of i) c) (leaves i c)
-  act_holds (Calls name args) is other =
-      on_weaker (Leaves i c) (Holds (filter (outlives (Calls name args)) e)) (less_holds (Calls name args) is) (act (row_of i) c) (leaves i c)
+  act_holds (Calls call) is other =
+      on_weaker (Leaves i c) (Holds (filter (outlives (Calls call)) e)) (less_holds (Calls call) is) (act (row_of i) c) (leaves i c)
   act_holds (Returns v) is other = on_weaker (Leaves i c) (Holds (filter (outlives (Returns v)) e)) (less_holds (Returns v) is) (act (row_of i) c) (leaves i c)
   act_holds Unfit is other = on_weaker (Leaves i c) (Holds (filter (outlives Unfit) e)) (less_holds Unfit is) (act (row_of i) c) (leaves i c)
 

@@ -4,9 +4,8 @@ use Rattle.std.proofs.Common.{slice_get, is_some, ◌+◌, refl, sym, ap, ◌∙
 use Rattle.std.proofs.lemmas.List.{length-map, map-append}
 use Rattle.std.proofs.lemmas.List.Elements.{All-nil, All-cons, All-head, All-tail, All-map, All-weaker}
 use Rattle.rv64_instr.specs.declared.operand.Operand.{Operand}
-use Rattle.rv64_instr.specs.declared.operand.Operand.TheVariants.{Def, Use, Object}
-use Rattle.rv64_instr.specs.declared.decoded.Base.{Base}
-use Rattle.rv64_instr.specs.declared.decoded.Base.TheVariants.{PointedBy, ObjectAt}
+use Rattle.rv64_instr.specs.declared.operand.Operand.TheVariants.{Def, Use}
+use Rattle.rv64_instr.specs.Row.{Base, PointedBy, ObjectAt, BesidePart}
 use Rattle.rv64_instr.specs.Instruction.{Instruction}
 use Rattle.rv64_instr.specs.Row.{Row, Fixes, Moves, Addresses, Loads, Stores, LoadsSlot, StoresSlot, Branches, Jumps, row_of}
 use Rattle.rv64_instr.specs.Arithmetic.{load_width, store_width}
@@ -132,6 +131,7 @@ slot_rooted e slots _ h = tt
 base_rooted : (e : List Root) (objects : List StackObject) (b : Base) (n : ℕ) → BaseHasBytes objects b n → BaseHasBytes objects (rooted_base e b) n
 base_rooted e objects (PointedBy r) n h = tt
 base_rooted e objects (ObjectAt m) n h = h
+base_rooted e objects (BesidePart r y) n h = tt
 
 object_rooted : (e : List Root) (objects : List StackObject) (r : Row) → ObjectIn objects r → ObjectIn objects (rooted e r)
 object_rooted e objects (Addresses rd n o) h = h

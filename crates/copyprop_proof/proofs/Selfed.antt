@@ -6,7 +6,7 @@ use Rattle.rv64_instr.specs.declared.op.Op.TheVariants.{Copy}
 use Rattle.rv64_instr.specs.declared.operand.Operand.TheVariants.{Def, Use}
 use Rattle.rv64_instr.specs.Instruction.{Instruction}
 use Rattle.rv64_instr.specs.Row.{Row, Fixes, Moves, Sets, Addresses, Loads, Stores, LoadsSlot, StoresSlot, Branches, Jumps, Calls, Returns, Unfit, row_of}
-use Rattle.rv64_instr.specs.Parts.{IsSlotStore}
+use Rattle.rv64_instr.specs.LocationEffects.{IsSlotStore}
 use Rattle.mir_func.specs.declared.position.Pos.{Pos}
 use Rattle.mir_func.specs.declared.position.Origin.{Origin}
 use Rattle.mir_func.specs.declared.location.Loc.{Loc}
@@ -146,7 +146,7 @@ some_after (LoadsSlot rd n) e h = inr (filter_some (outlives (LoadsSlot rd n)) e
 some_after (StoresSlot rs n) e h = inr (filter_some (outlives (StoresSlot rs n)) e h)
 some_after (Branches op a b t) e h = inr (filter_some (outlives (Branches op a b t)) e h)
 some_after (Jumps t) e h = inr (filter_some (outlives (Jumps t)) e h)
-some_after (Calls name args) e h = inr (filter_some (outlives (Calls name args)) e h)
+some_after (Calls call) e h = inr (filter_some (outlives (Calls call)) e h)
 some_after (Returns v) e h = inr (filter_some (outlives (Returns v)) e h)
 some_after Unfit e h = inr (filter_some (outlives Unfit) e h)
 
@@ -199,7 +199,7 @@ module _ (e : List Root) (clean : IsClean e) where
         by_row (StoresSlot rs m) k is root = cc
         by_row (Branches op a b t) k is root = cc
         by_row (Jumps t) k is root = cc
-        by_row (Calls name args) k is root = cc
+        by_row (Calls call) k is root = cc
         by_row (Returns v) k is root = cc
         by_row Unfit k is root = cc
 

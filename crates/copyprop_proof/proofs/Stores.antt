@@ -6,7 +6,7 @@ use Rattle.std.proofs.lemmas.Bool.{cases_order}
 use Rattle.std.proofs.lemmas.List.{append_assoc}
 use Rattle.std.proofs.lemmas.List.Elements.{All-contains}
 use Rattle.rv64_instr.specs.Row.{Row, Moves, Branches, Jumps, Returns, Unfit, row_of}
-use Rattle.rv64_instr.specs.Parts.{IsSlotStore}
+use Rattle.rv64_instr.specs.LocationEffects.{IsSlotStore}
 use Rattle.mir_func.specs.declared.debug_substitution.OperandPair.{OperandPair}
 use Rattle.mir_func.specs.declared.position.Pos.{Pos}
 use Rattle.mir_func.specs.declared.position.Origin.{Origin}
@@ -19,7 +19,8 @@ use Rattle.mir_func.specs.declared.item.ItemKind.TheVariants.{Code, Mark, Phi}
 use Rattle.mir_func.specs.Graph.{Fetch, Here, EndOfBlock, Outside, Program, below, end_of, front, fetch_in, from_block, program_of, KindEdge}
 use Rattle.mir_func.specs.Graph.{RowEdge, FetchEdge, Leads, stay, go}
 use Rattle.mir_func.specs.Sound.{AreApart, ids_of, OriginIn}
-use Rattle.sem_mir.specs.Align.{position_of, is_code}
+use Rattle.mir_func.specs.Positions.{position_of}
+use Rattle.sem_mir.specs.Align.{is_code}
 use Rattle.sem_mir.specs.Follow.{OnRow, Counts, IsMetApart, KindFits, MayAdd}
 use Rattle.sem_mir.proofs.Reading.{found, found_in, front_item, item_front}
 use Rattle.pass_trait.specs.Rule.{item}

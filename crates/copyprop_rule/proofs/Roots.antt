@@ -37,6 +37,6 @@ module _ (P : ℕ → Type 0) where
   real_after (StoresSlot rs n) e source h = fewer (StoresSlot rs n) e h
   real_after (Branches op a b t) e source h = fewer (Branches op a b t) e h
   real_after (Jumps t) e source h = fewer (Jumps t) e h
-  real_after (Calls name args) e source h = fewer (Calls name args) e h
+  real_after (Calls call) e source h = fewer (Calls call) e h
   real_after (Returns v) e source h = fewer (Returns v) e h
   real_after Unfit e source h = fewer Unfit e h

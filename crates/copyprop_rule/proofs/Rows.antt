@@ -1,21 +1,22 @@
 -- What code with roots for its explicit uses does: the same rows, with other registers that are read.
 use Rattle.std.proofs.Common.{◌≡◌, ℕ, zero, suc, List, [], ◌∷◌, map, cond, nat_eq, refl, sym, ap, ◌∙◌}
 use Rattle.rv64_instr.specs.declared.op.Op.{Op}
-use Rattle.rv64_instr.specs.declared.op.Op.TheVariants.{Registers, Immediate, Lui, Branch, Load, Store, Copy, PseudoBr, PseudoCall, PseudoRet}
+use Rattle.rv64_instr.specs.declared.op.Op.TheVariants.{Registers, Immediate, Lui, Branch, Load, Store, Copy}
+use Rattle.rv64_instr.specs.declared.op.Op.TheVariants.{PseudoBr, PseudoCall, PseudoRet, PseudoCallIndirect}
+use Rattle.rv64_instr.specs.declared.op.Op.TheVariants.{PseudoTail, PseudoTailIndirect, NoReturnCall, NoReturnCallIndirect}
 use Rattle.rv64_instr.specs.declared.op.ImmediateOp.{ImmediateOp}
 use Rattle.rv64_instr.specs.declared.op.ImmediateOp.TheVariants.{Addi}
 use Rattle.rv64_instr.specs.declared.op.RegisterOp.TheVariants.{Add}
 use Rattle.rv64_instr.specs.declared.operand.Operand.{Operand}
-use Rattle.rv64_instr.specs.declared.operand.Operand.TheVariants.{Def, Use, ImplicitUse, Imm, Slot, Object, Block, Symbol}
-use Rattle.rv64_instr.specs.declared.decoded.Input.{Input}
-use Rattle.rv64_instr.specs.declared.decoded.Input.TheVariants.{Content, Number}
-use Rattle.rv64_instr.specs.declared.decoded.Base.{Base}
-use Rattle.rv64_instr.specs.declared.decoded.Base.TheVariants.{PointedBy, ObjectAt}
+use Rattle.rv64_instr.specs.declared.operand.Operand.TheVariants.{Def, Use, ImplicitUse, Imm, Slot, Object, Part, Block, Symbol}
+use Rattle.rv64_instr.specs.Row.{Input, Content, Number, PartOf}
+use Rattle.rv64_instr.specs.Row.{Base, PointedBy, ObjectAt, BesidePart}
 use Rattle.rv64_instr.specs.Arithmetic.{word}
 use Rattle.rv64_instr.specs.Instruction.{Instruction}
+use Rattle.rv64_instr.specs.declared.symbol.Half.TheVariants.{Upper}
 use Rattle.rv64_instr.specs.Row.{Row, Fixes, Moves, Sets, Addresses, Loads, Stores, LoadsSlot, StoresSlot, Branches, Jumps, Calls, Returns, Unfit, row_of}
-use Rattle.rv64_instr.specs.Row.{row_by, move_row, add_row, immediate_row, object_row, implicit_uses}
-use Rattle.rv64_instr.specs.Parts.{is_call}
+use Rattle.rv64_instr.specs.Row.{row_by, move_row, add_row, immediate_row, object_row, implicit_uses, Named, Back, held_call, held_tail, held_gone, Tail, Never}
+use Rattle.rv64_instr.specs.LocationEffects.{is_call}
 use Rattle.copyprop_block.specs.declared.roots.Root.{Root}
 use Rattle.copyprop_block.specs.Roots.{root_of, renamed_operand, renamed}
 
@@ -23,10 +24,12 @@ module _ (e : List Root) where
   abbrev pub rooted_input : Input → Input
   rooted_input (Content r) = Content (root_of e r)
   rooted_input (Number n) = Number n
+  rooted_input (PartOf half y) = PartOf half y
 
   abbrev pub rooted_base : Base → Base
   rooted_base (PointedBy r) = PointedBy (root_of e r)
   rooted_base (ObjectAt n) = ObjectAt n
+  rooted_base (BesidePart r y) = BesidePart (root_of e r) y
 
   -- the row with roots for what it reads by explicit operands
   abbrev pub rooted : Row → Row
@@ -40,7 +43,7 @@ module _ (e : List Root) where
   rooted (StoresSlot rs n) = StoresSlot (root_of e rs) n
   rooted (Branches op a b t) = Branches op (root_of e a) (root_of e b) t
   rooted (Jumps t) = Jumps t
-  rooted (Calls name args) = Calls name args
+  rooted (Calls call) = Calls call
   rooted (Returns v) = Returns v
   rooted Unfit = Unfit
 
@@ -85,11 +88,24 @@ module _ (e : List Root) where
     object_same Addi rd n o = refl
     object_same _ rd n o = refl
 
+    held_call_same : (xs : List ℕ) → held_call xs ≡ rooted (held_call xs)
+    held_call_same [] = refl
+    held_call_same (r ∷ xs) = refl
+
+    held_tail_same : (xs : List ℕ) → held_tail xs ≡ rooted (held_tail xs)
+    held_tail_same [] = refl
+    held_tail_same (r ∷ xs) = refl
+
+    held_gone_same : (xs : List ℕ) → held_gone xs ≡ rooted (held_gone xs)
+    held_gone_same [] = refl
+    held_gone_same (r ∷ xs) = refl
+
     by_op : (op : Op) (os : List Operand) → row_by op (others os) ≡ rooted (row_by op os)
     by_op (Registers op) (Def rd ∷ Use a ∷ Use b ∷ rest) = refl
     by_op (Immediate op) (Def rd ∷ Use a ∷ Imm i ∷ rest) = immediate_same op rd a (word i)
     by_op (Immediate op) (Def rd ∷ Object n ∷ Imm i ∷ rest) = object_same op rd n (word i)
     by_op Lui (Def rd ∷ Imm i ∷ rest) = refl
+    by_op Lui (Def rd ∷ Part half y ∷ rest) = ap (λ (z : ℕ). Sets rd Add z (PartOf Upper y)) (sym keeps.zero_stays)
     by_op (Branch op) (Use a ∷ Use b ∷ Block target ∷ rest) = refl
     by_op (Load op) (Def rd ∷ Use base ∷ Imm i ∷ rest) = refl
     by_op (Load op) (Def rd ∷ Slot n ∷ rest) = refl
@@ -99,8 +115,13 @@ module _ (e : List Root) where
     by_op (Store op) (Use rs ∷ Object n ∷ Imm i ∷ rest) = refl
     by_op Copy (Def rd ∷ Use rs ∷ rest) = move_same rd rs
     by_op PseudoBr (Block target ∷ rest) = refl
-    by_op PseudoCall (Symbol name ∷ rest) = ap (Calls name) (uses_same rest)
-    by_op PseudoRet os = ap Returns (uses_same os)
+    by_op PseudoCall (Symbol name ∷ rest) = ap (λ (rs : List ℕ). Calls (record { callee = Named name; args = rs })) (uses_same rest)
+    by_op PseudoRet os = ap (λ (rs : List ℕ). Returns (record { way = Back; values = rs })) (uses_same os)
+    by_op PseudoCallIndirect os = ap held_call (uses_same os) ∙ held_call_same (implicit_uses os)
+    by_op PseudoTail (Symbol name ∷ rest) = ap (λ (rs : List ℕ). Returns (record { way = Tail (Named name); values = rs })) (uses_same rest)
+    by_op PseudoTailIndirect os = ap held_tail (uses_same os) ∙ held_tail_same (implicit_uses os)
+    by_op NoReturnCall (Symbol name ∷ rest) = ap (λ (rs : List ℕ). Returns (record { way = Never (Named name); values = rs })) (uses_same rest)
+    by_op NoReturnCallIndirect os = ap held_gone (uses_same os) ∙ held_gone_same (implicit_uses os)
     by_op _ _ = refl
 
     pub row_renamed : (i : Instruction) → row_of (renamed e i) ≡ rooted (row_of i)

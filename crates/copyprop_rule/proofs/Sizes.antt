@@ -23,10 +23,11 @@ use Rattle.mir_func.specs.Function.{Function}
 use Rattle.mir_func.specs.Limits.{MAX_BLOCKS}
 use Rattle.mir_func.specs.Sound.{items_of}
 use Rattle.mir_func.specs.SoundFrame.{IsPhysical, HasPhysical}
+use Rattle.mir_func.specs.Calls.{is_call_kind}
 use Rattle.sem_mir.specs.Align.{is_code}
 use Rattle.pass_trait.specs.Change.{change}
 use Rattle.pass_trait.specs.Rule.{item}
-use Rattle.pass_trait.specs.Sizes.{greatest, numbers_of, greatest_number, item_count, calls, KeepsSizes}
+use Rattle.pass_trait.specs.Sizes.{greatest, numbers_of, greatest_number, item_count, KeepsSizes}
 use Rattle.pass_salvage.specs.declared.salvage_action.SalvageAction.{SalvageAction}
 use Rattle.pass_salvage.specs.declared.salvage_action.SalvageAction.TheVariants.{HasEntry, GetsEntry, GetsPhi}
 use Rattle.pass_salvage.specs.SalvageAction.{or_fresh, salvage_action}
@@ -59,14 +60,14 @@ code_passes = record { renamed = by_root; numbered = by_number; phi = λ i n s k
   by_number n (Mark v m) = refl
   by_number n (Phi p m) = refl
 
-calls_pass : Tests calls
+calls_pass : Tests is_call_kind
 calls_pass = record { renamed = by_root; numbered = by_number; phi = λ i n s k. omega arith } where
-  by_root : (e : List Root) (k : ItemKind) → calls (renamed_kind e k) ≡ calls k
+  by_root : (e : List Root) (k : ItemKind) → is_call_kind (renamed_kind e k) ≡ is_call_kind k
   by_root e (Code i n) = call_renamed e i
   by_root e (Mark v m) = refl
   by_root e (Phi p m) = refl
 
-  by_number : (n : ℕ) (k : ItemKind) → calls (with_number n k) ≡ calls k
+  by_number : (n : ℕ) (k : ItemKind) → is_call_kind (with_number n k) ≡ is_call_kind k
   by_number n (Code i m) = refl
   by_number n (Mark v m) = refl
   by_number n (Phi p m) = refl
@@ -363,8 +364,8 @@ sizes_copied f subs =
     let z : count_by (λ (i : Item). true) [] ≡ 0 = refl in
     let code = count_blocks is_code code_passes f.blocks (begins f subs) in
     let y : count_by (λ (i : Item). is_code i.kind) [] ≡ 0 = refl in
-    let call = count_blocks calls calls_pass f.blocks (begins f subs) in
-    let x : count_by (λ (i : Item). calls i.kind) [] ≡ 0 = refl in
+    let call = count_blocks is_call_kind calls_pass f.blocks (begins f subs) in
+    let x : count_by (λ (i : Item). is_call_kind i.kind) [] ≡ 0 = refl in
     record {
       items = le_most (length new) (length old) (omega (arith, all, a, b, z));
       code = le_most (count_by (λ i. is_code i.kind) new) (count_by (λ i. is_code i.kind) old) (omega (arith, code, y));

@@ -2,11 +2,11 @@
 //! of any analysis.
 //!
 //! - `graph`, `order`: A graph is the list of each block's successors. Blocks are named by their indices.
-//! - `fixpoint`: The solver. An analysis says what is known of all blocks and how a block is visited. Visits go on by a
+//! - `solver`: The solver. An analysis says what is known of all blocks and how a block is visited. Visits go on by a
 //!   worklist, or by sweeps over all blocks, until no visit changes anything.
 #![tactic(auto)]
 
-pub mod fixpoint;
 pub mod graph;
 pub mod order;
+pub mod solver;
 mod worklist;

@@ -9,7 +9,7 @@ use Rattle.mir_func.specs.Sound.{AreApart, ids_of}
 use Rattle.mir_func.specs.Graph.{fetch_in, from_block, FetchEdge, block_start}
 use Rattle.mir_func.specs.Successors.{pos_in}
 use Rattle.dce_rule.specs.Dead.{Places, Ends, LiveAtEnd}
-use Rattle.dce_analysis.specs.IsDead.{verdicts, AreJudged}
+use Rattle.dce_analysis.specs.Judge.{verdicts, AreJudged}
 
 -- a block's verdicts
 pub record JudgedBlock (f : Function) (b : Block) (v : List Bool) : Type 0 where

@@ -7,11 +7,11 @@ use Rattle.mir_func.specs.declared.item.Item.{Item}
 use Rattle.mir_func.specs.declared.item.ItemKind.{ItemKind}
 use Rattle.mir_func.specs.declared.item.ItemKind.TheVariants.{Code, Mark, Phi}
 use Rattle.rv64_instr.specs.Row.{row_of}
-use Rattle.rv64_instr.specs.Parts.{uses_of, defines_of}
+use Rattle.rv64_instr.specs.LocationEffects.{uses_of, defines_of}
 use Rattle.pass_liveness.specs.Sets.{has}
 use Rattle.pass_liveness.specs.Walk.{live_before}
 use Rattle.dce_rule.specs.Dead.{Places, is_dead, needed_before, needed_at}
-use Rattle.dce_analysis.specs.IsDead.{verdicts}
+use Rattle.dce_analysis.specs.Judge.{verdicts}
 
 -- the set is what is needed before the items below those that are left, and their verdicts are there, the last first
 pub record Walking (slots : List ℕ) (needed : Places) (items above : List Item) (set : List ℕ) (dead : List Bool) : Type 0 where

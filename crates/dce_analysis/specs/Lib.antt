@@ -1,1 +1,1 @@
-pub mod IsDead
+pub mod Judge

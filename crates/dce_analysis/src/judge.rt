@@ -6,9 +6,9 @@ ghost use Rattle.mir_func.specs.Sound.{SlotsIn};
 ghost use Rattle.pass_liveness.specs.Sets.{has};
 ghost use Rattle.pass_liveness.specs.Liveness.{AreLiveSets};
 ghost use Rattle.dce_rule.specs.Dead.{is_dead_row, is_dead};
-ghost use Rattle.rv64_instr.specs.Parts.{defines_of};
+ghost use Rattle.rv64_instr.specs.LocationEffects.{defines_of};
 ghost use Rattle.rv64_instr.specs.declared.place.Place.TheVariants.{Register};
-ghost use Rattle.dce_analysis.specs.IsDead.{verdicts, AreJudged};
+ghost use Rattle.dce_analysis.specs.Judge.{verdicts, AreJudged};
 
 use base_list::List;
 use mir_func::func::Func;

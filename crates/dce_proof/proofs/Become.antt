@@ -6,7 +6,7 @@ use Rattle.rv64_instr.specs.declared.place.Place.{Place}
 use Rattle.rv64_instr.specs.declared.place.Place.TheVariants.{Register, Slot, Const}
 use Rattle.rv64_instr.specs.Instruction.{Instruction}
 use Rattle.rv64_instr.specs.Row.{Row, Moves, row_of}
-use Rattle.rv64_instr.specs.Parts.{defines_of}
+use Rattle.rv64_instr.specs.LocationEffects.{defines_of}
 use Rattle.mir_func.specs.declared.position.Pos.{Pos}
 use Rattle.mir_func.specs.declared.position.Origin.{Origin}
 use Rattle.mir_func.specs.declared.location.Loc.{Loc}
@@ -32,7 +32,7 @@ use Rattle.pass_trait.specs.Debug.{number_goes, substituted, salvaged, salvaged_
 use Rattle.dce_rule.specs.Dead.{Places, Ends, is_dead, needed_at, paths_of}
 use Rattle.dce_rule.specs.Wrong.{silenced, is_dead_at, IsWrongAt, made, on}
 use Rattle.dce_rule.proofs.Lists.{quiet}
-use Rattle.dce_analysis.specs.IsDead.{AreJudged}
+use Rattle.dce_analysis.specs.Judge.{AreJudged}
 use Rattle.dce_salvage.specs.declared.salvage_numbers.Copied.{Copied}
 use Rattle.dce_salvage.specs.SalvageNumbers.{copied_by, numbered_copy, phi_by_own, salvage_phi}
 use Rattle.dce_salvage_proof.specs.SalvageLaws.{all_off}

@@ -14,12 +14,12 @@ use Rattle.mir_func.specs.declared.item.ItemKind.TheVariants.{Code, Mark, Phi}
 use Rattle.mir_func.specs.Sound.{items_of}
 use Rattle.mir_func.specs.Strip.{stripped_items, stripped_blocks}
 use Rattle.mir_func.specs.Successors.{pos_in}
+use Rattle.mir_func.specs.Calls.{is_call_kind}
 use Rattle.pass_trait.specs.Rule.{item}
-use Rattle.pass_trait.specs.Sizes.{calls}
-use Rattle.rv64_instr.specs.Parts.{is_call}
+use Rattle.rv64_instr.specs.LocationEffects.{is_call}
 use Rattle.dce_rule.specs.Dead.{Places, Ends, is_dead, is_dead_row, needed_before, needed_at}
 use Rattle.dce_rule.specs.Wrong.{silenced, silenced_left, silenced_block}
-use Rattle.dce_analysis.specs.IsDead.{verdicts}
+use Rattle.dce_analysis.specs.Judge.{verdicts}
 
 -- ---- verdicts
 
@@ -128,20 +128,20 @@ all_left wrong ends (b ∷ bs) =
 
 -- ---- calls
 
-calls_first : (x : Item) (xs : List Item) → count_by (λ (i : Item). calls i.kind) (x ∷ xs) ≡
-    cond (calls x.kind) 1 0 + count_by (λ (i : Item). calls i.kind) xs
-calls_first x xs = sum_by-cons (λ (i : Item). cond (calls i.kind) 1 0) x xs
+calls_first : (x : Item) (xs : List Item) → count_by (λ (i : Item). is_call_kind i.kind) (x ∷ xs) ≡
+    cond (is_call_kind x.kind) 1 0 + count_by (λ (i : Item). is_call_kind i.kind) xs
+calls_first x xs = sum_by-cons (λ (i : Item). cond (is_call_kind i.kind) 1 0) x xs
 
-calls_both : (xs ys : List Item) → count_by (λ (i : Item). calls i.kind) (xs ++ ys) ≡
-    count_by (λ (i : Item). calls i.kind) xs + count_by (λ (i : Item). calls i.kind) ys
-calls_both xs ys = sum_by-append (λ (i : Item). cond (calls i.kind) 1 0) xs ys
+calls_both : (xs ys : List Item) → count_by (λ (i : Item). is_call_kind i.kind) (xs ++ ys) ≡
+    count_by (λ (i : Item). is_call_kind i.kind) xs + count_by (λ (i : Item). is_call_kind i.kind) ys
+calls_both xs ys = sum_by-append (λ (i : Item). cond (is_call_kind i.kind) 1 0) xs ys
 
-calls_stripped : (xs : List Item) → count_by (λ (i : Item). calls i.kind) (stripped_items xs) ≡ count_by (λ (i : Item). calls i.kind) xs
+calls_stripped : (xs : List Item) → count_by (λ (i : Item). is_call_kind i.kind) (stripped_items xs) ≡ count_by (λ (i : Item). is_call_kind i.kind) xs
 calls_stripped [] = refl
 calls_stripped (x ∷ xs) = by_kind x.kind x.origin x.loc (calls_stripped xs) where
   by_kind : (k : ItemKind) (o : Origin) (l : Loc) →
-      count_by (λ (i : Item). calls i.kind) (stripped_items xs) ≡ count_by (λ (i : Item). calls i.kind) xs →
-      count_by (λ (i : Item). calls i.kind) (stripped_items (item k o l ∷ xs)) ≡ count_by (λ (i : Item). calls i.kind) (item k o l ∷ xs)
+      count_by (λ (i : Item). is_call_kind i.kind) (stripped_items xs) ≡ count_by (λ (i : Item). is_call_kind i.kind) xs →
+      count_by (λ (i : Item). is_call_kind i.kind) (stripped_items (item k o l ∷ xs)) ≡ count_by (λ (i : Item). is_call_kind i.kind) (item k o l ∷ xs)
   by_kind (Code i n) o l h =
       calls_first (item (Code i None) o l) (stripped_items xs) ∙ ap (λ (m : ℕ). cond (is_call (row_of i)) 1 0 + m) h ∙
       sym (calls_first (item (Code i n) o l) xs)
@@ -149,7 +149,7 @@ calls_stripped (x ∷ xs) = by_kind x.kind x.origin x.loc (calls_stripped xs) wh
   by_kind (Phi p n) o l h = let e = calls_first (item (Phi p n) o l) xs in omega (arith, h, e)
 
 blocks_calls : (bs : List Block) →
-    count_by (λ (i : Item). calls i.kind) (items_of (stripped_blocks bs)) ≡ count_by (λ (i : Item). calls i.kind) (items_of bs)
+    count_by (λ (i : Item). is_call_kind i.kind) (items_of (stripped_blocks bs)) ≡ count_by (λ (i : Item). is_call_kind i.kind) (items_of bs)
 blocks_calls [] = refl
 blocks_calls (b ∷ bs) =
     let a = calls_both b.items (items_of bs) in
@@ -159,6 +159,6 @@ blocks_calls (b ∷ bs) =
     omega (arith, a, c, d, e)
 
 pub calls_same : (bs cs : List Block) → stripped_blocks cs ≡ stripped_blocks bs →
-    count_by (λ (i : Item). calls i.kind) (items_of cs) ≡ count_by (λ (i : Item). calls i.kind) (items_of bs)
+    count_by (λ (i : Item). is_call_kind i.kind) (items_of cs) ≡ count_by (λ (i : Item). is_call_kind i.kind) (items_of bs)
 calls_same bs cs e =
-    sym (blocks_calls cs) ∙ ap (λ (ds : List Block). count_by (λ (i : Item). calls i.kind) (items_of ds)) e ∙ blocks_calls bs
+    sym (blocks_calls cs) ∙ ap (λ (ds : List Block). count_by (λ (i : Item). is_call_kind i.kind) (items_of ds)) e ∙ blocks_calls bs

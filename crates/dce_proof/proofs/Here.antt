@@ -15,7 +15,8 @@ use Rattle.mir_func.specs.declared.item.ItemKind.TheVariants.{Code, Mark, Phi}
 use Rattle.mir_func.specs.Function.{Function}
 use Rattle.mir_func.specs.Sound.{ids_of, items_of, OriginIn, IsSound}
 use Rattle.mir_func.specs.Graph.{Fetch, Here, below, from_block}
-use Rattle.sem_mir.specs.Align.{position_of, is_code}
+use Rattle.mir_func.specs.Positions.{position_of}
+use Rattle.sem_mir.specs.Align.{is_code}
 use Rattle.sem_mir.specs.Live.{Defines, KindDefines}
 use Rattle.sem_mir.proofs.Reading.{found_in}
 use Rattle.sem_simulation.proofs.Laid.{rest_in, rest_of, laid_out}
@@ -31,7 +32,7 @@ use Rattle.dce_rule.proofs.Fewer.{fewer_of}
 use Rattle.dce_rule.proofs.Sound.{ids_taken}
 use Rattle.dce_rule.proofs.Rounds.{ends_one, blocks_self}
 use Rattle.dce_rule.proofs.Debug.{in_drop, quiet_defines, quiet_code}
-use Rattle.dce_analysis.specs.IsDead.{AreJudged}
+use Rattle.dce_analysis.specs.Judge.{AreJudged}
 use Rattle.dce_salvage.specs.declared.salvage_numbers.Copied.{Copied}
 use Rattle.dce_salvage.specs.SalvageNumbers.{without_number, salvage_phi}
 use Rattle.dce_salvage_proof.specs.SalvageLaws.{begins_off, all_off, function_off}

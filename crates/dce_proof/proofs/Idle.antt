@@ -13,7 +13,7 @@ use Rattle.pass_trait.specs.Debug.{KeepsItems}
 use Rattle.dce_rule.specs.Dead.{Places, Ends, is_dead, needed_at, without_dead, thinned_block}
 use Rattle.dce_rule.specs.Wrong.{taken_out}
 use Rattle.dce_rule.specs.RemovalDebugRule.{LosesAt, AreWrong}
-use Rattle.dce_analysis.specs.IsDead.{verdicts, AreJudged}
+use Rattle.dce_analysis.specs.Judge.{verdicts, AreJudged}
 use Rattle.dce_salvage.specs.SalvageNumbers.{SoFar, salvage_at, salvage_down}
 use Rattle.dce_salvage.specs.SalvageBlocks.{going_from, BlocksSoFar, in_block, salvage_block, with_front, salvage_blocks}
 use Rattle.dce_salvage_proof.specs.SalvageLaws.{begins_off, all_off, function_off}

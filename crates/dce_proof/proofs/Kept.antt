@@ -27,7 +27,7 @@ use Rattle.dce_rule.specs.Dead.{Places, is_dead, needed_at}
 use Rattle.dce_rule.specs.Wrong.{begins_dead, silenced, silenced_left, is_dead_at, IsWrongAt}
 use Rattle.dce_rule.specs.RemovalDebugRule.{AreWrong}
 use Rattle.dce_rule.proofs.Lists.{quiet, taken}
-use Rattle.dce_analysis.specs.IsDead.{AreJudged}
+use Rattle.dce_analysis.specs.Judge.{AreJudged}
 use Rattle.dce_salvage.specs.declared.salvage_numbers.Copied.{Copied}
 use Rattle.dce_salvage.specs.SalvageNumbers.{without_number, phi_by_own, salvage_phi}
 use Rattle.dce_salvage_proof.specs.SalvageLaws.{begins_off, all_off, function_off}

@@ -29,7 +29,7 @@ use Rattle.pass_salvage.proofs.Chosen.{IsEntered, entered}
 use Rattle.pass_edits.proofs.Found.{not_is}
 use Rattle.pass_edits.proofs.Entered.{entered_more, entry_added, none_there}
 use Rattle.dce_rule.specs.Dead.{Places, is_dead, needed_at}
-use Rattle.dce_analysis.specs.IsDead.{verdicts}
+use Rattle.dce_analysis.specs.Judge.{verdicts}
 use Rattle.dce_salvage.specs.declared.salvage_numbers.Copied.{Copied}
 use Rattle.dce_salvage.specs.SalvageNumbers.{without_number, numbered_copy, salvage_phi, added_by_salvage, lost_if_own, lost_by_salvage, salvaged_from}
 use Rattle.dce_salvage.specs.SalvageNumbers.{SoFar, salvage_by, salvage_copy, copy_in, salvage_at, salvage_down}
@@ -38,7 +38,7 @@ use Rattle.pass_salvage.proofs.Placed.{numbered_length, above_length}
 use Rattle.dce_salvage_proof.proofs.Copy.{split_at}
 use Rattle.dce_proof.specs.SalvageLedger.{Line, line_by, line_of, line_of_copy, lines_of, lines_down}
 use Rattle.rv64_instr.specs.Row.{row_of}
-use Rattle.rv64_instr.specs.Parts.{is_call}
+use Rattle.rv64_instr.specs.LocationEffects.{is_call}
 use Rattle.dce_sweep.proofs.None.{right_false}
 
 -- the copy's pair has an entry

@@ -23,7 +23,7 @@ use Rattle.dce_salvage.specs.SalvageNumbers.{salvaged_items, SoFar, salvage_copy
 use Rattle.dce_salvage.specs.SalvageBlocks.{going_from, BlocksSoFar, in_block, salvage_block, salvage_next, salvage_blocks}
 use Rattle.dce_salvage.proofs.Down.{off_grows, fresh_least}
 use Rattle.dce_rule.specs.Dead.{Ends}
-use Rattle.dce_analysis.specs.IsDead.{verdicts}
+use Rattle.dce_analysis.specs.Judge.{verdicts}
 use Rattle.dce_salvage_proof.proofs.Copy.{IsCopyOf, copy_of, split_at}
 use Rattle.dce_proof.proofs.Counts.{below, below_all, dead_in}
 

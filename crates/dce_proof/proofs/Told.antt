@@ -30,7 +30,7 @@ use Rattle.dce_rule.specs.Dead.{Places, Ends, is_dead, needed_at}
 use Rattle.dce_rule.specs.Wrong.{begins_dead, is_dead_at, IsWrongAt}
 use Rattle.dce_rule.specs.RemovalDebugRule.{LosesOf, LosesAt}
 use Rattle.dce_rule.proofs.Lists.{rest_at}
-use Rattle.dce_analysis.specs.IsDead.{AreJudged}
+use Rattle.dce_analysis.specs.Judge.{AreJudged}
 use Rattle.dce_salvage.specs.declared.salvage_numbers.Copied.{Copied}
 use Rattle.dce_salvage.specs.SalvageNumbers.{without_number, numbered_copy, phi_by_own, salvage_phi}
 use Rattle.dce_salvage_proof.specs.SalvageLaws.{begins_off, all_off, function_off}

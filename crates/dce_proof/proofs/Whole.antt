@@ -29,7 +29,7 @@ use Rattle.dce_rule.specs.RemovalDebugRule.{LosesOf, LosesAt, AreWrong}
 use Rattle.dce_rule.proofs.Lists.{quiet, taken}
 use Rattle.dce_rule.proofs.Rounds.{ends_one}
 use Rattle.dce_rule.proofs.Sound.{Left, none as left_none, kept as left_kept, gone as left_gone, left_items, quiet_number}
-use Rattle.dce_analysis.specs.IsDead.{AreJudged}
+use Rattle.dce_analysis.specs.Judge.{AreJudged}
 use Rattle.dce_salvage_proof.specs.SalvageLaws.{begins_off, all_off, function_off, KeepsOff}
 use Rattle.dce_salvage_proof.proofs.Chain.{salvage_numbers}
 use Rattle.pass_edits.proofs.Numbers.{IsUnlike, AreUnlike, code_is_number, number_not, number_in, HasCode}

@@ -18,7 +18,7 @@ use Rattle.pass_trait.specs.declared.loss.Loss.{Loss}
 use Rattle.pass_trait.specs.Change.{Change}
 use Rattle.pass_trait.specs.Rule.{Rule, IsCopy, StandsAt, number_lost, mark_lost, item}
 use Rattle.dce_rule.specs.Wrong.{is_dead_at, IsWrongAt}
-use Rattle.dce_analysis.specs.IsDead.{AreJudged}
+use Rattle.dce_analysis.specs.Judge.{AreJudged}
 use Rattle.dce_salvage_proof.specs.SalvageLaws.{all_off}
 use Rattle.dce_proof.specs.SalvageLedger.{Line, ledger}
 

@@ -9,7 +9,7 @@ use Rattle.pass_trait.specs.declared.loss.Loss.{Loss}
 use Rattle.pass_trait.specs.Order.{IsInOrder}
 use Rattle.dce_rule.specs.Dead.{Ends, IsRound}
 use Rattle.dce_rule.proofs.Rounds.{ends_one}
-use Rattle.dce_analysis.specs.IsDead.{AreJudged}
+use Rattle.dce_analysis.specs.Judge.{AreJudged}
 use Rattle.dce_sweep.specs.Round.{has_dead, IsTakenOut}
 use Rattle.dce_sweep.proofs.None.{settled}
 use Rattle.dce_salvage_proof.specs.SalvageLaws.{all_off, function_off, KeepsOff}

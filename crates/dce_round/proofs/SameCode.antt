@@ -15,7 +15,7 @@ use Rattle.mir_func.specs.Strip.{stripped_items, stripped_blocks}
 use Rattle.sem_mir.specs.Align.{is_code}
 use Rattle.pass_trait.specs.Rule.{item}
 use Rattle.dce_rule.specs.Dead.{Places, Ends, is_dead_row, needed_before, needed_at}
-use Rattle.dce_analysis.specs.IsDead.{verdicts}
+use Rattle.dce_analysis.specs.Judge.{verdicts}
 use Rattle.dce_sweep.specs.Round.{has_dead}
 
 -- ---- where dead code is

@@ -1,6 +1,6 @@
 -- What taking out dead code does to debug items.
 use Rattle.std.proofs.Common.{◌≡◌, inl, inr, ℕ, zero, suc, List, [], ◌∷◌, map, drop, All, Contains, Option, Some, None, Bool, true, false}
-use Rattle.std.proofs.Common.{cond, ◌&&◌, eq-eqb, append-nil, refl, sym, ap, ◌∙◌, subst, arith}
+use Rattle.std.proofs.Common.{cond, ◌&&◌, append-nil, refl, sym, ap, ◌∙◌, subst, arith}
 use Rattle.std.proofs.lemmas.List.Elements.{All-weaker, All-contains, All-contains_itself}
 use Rattle.rv64_instr.specs.declared.place.Place.{Place}
 use Rattle.rv64_instr.specs.declared.place.Place.TheVariants.{Register, Slot, Const}
@@ -19,7 +19,8 @@ use Rattle.mir_func.specs.Function.{Function}
 use Rattle.mir_func.specs.Sound.{ids_of, OriginIn, IsSound}
 use Rattle.mir_func.specs.Graph.{Fetch, Here, front, fetch_in, from_block}
 use Rattle.mir_func.specs.Successors.{pos_in}
-use Rattle.sem_mir.specs.Align.{position_of, is_code}
+use Rattle.mir_func.specs.Positions.{position_of}
+use Rattle.sem_mir.specs.Align.{is_code}
 use Rattle.sem_mir.specs.Live.{Defines, KindDefines}
 use Rattle.sem_mir.proofs.Reading.{found, found_in}
 use Rattle.sem_simulation.proofs.Laid.{rest_in, rest_of}
@@ -27,25 +28,19 @@ use Rattle.pass_trait.specs.declared.loss.Reason.TheVariants.{Removed, WrongPlac
 use Rattle.pass_trait.specs.declared.loss.Loss.{Loss}
 use Rattle.pass_trait.specs.Change.{Change}
 use Rattle.pass_trait.specs.Rule.{item, StandsAt}
-use Rattle.pass_trait.specs.Causes.{is_position, is_origin, old_program, defines, Comes}
+use Rattle.pass_trait.specs.Causes.{is_origin, old_program, defines, Comes}
 use Rattle.pass_trait.specs.Causes.{begins, goes_on, IsFewer, IsRemoved, IsRemovedDefinition, IsKeptDefinition}
 use Rattle.pass_trait.specs.Causes.{IsAfter, IsWrong, removed, HasCause, code_removed, place_wrong}
 use Rattle.pass_trait.specs.Debug.{RegisterStays, ValueStays, PlaceStays, IsKillAt, Becomes}
 use Rattle.pass_trait.specs.Debug.{mark_stays, phi_stays, code_stays, code_unnumbered, code_goes, number_goes}
 use Rattle.pass_trait.specs.Debug.{mark_silenced, phi_silenced, BecomeAll, over, next, BlocksBecome, none, stays as block_stays, IsLoss, IsFor, KeepsItems}
+use Rattle.pass_trait.proofs.NopDebug.{same_origin}
 use Rattle.dce_rule.specs.Dead.{Places, Ends, is_dead, needed_at, paths_of}
 use Rattle.dce_rule.specs.Wrong.{begins_dead, silenced, silenced_left, taken_out, is_dead_at, IsWrongAt, made, on}
 use Rattle.dce_rule.specs.RemovalDebugRule.{LosesOf, LosesAt, NoCopies, AreLosses, AreWrong, out_rule}
 use Rattle.dce_rule.proofs.Lists.{quiet, quiet_is, taken, rest_at}
 use Rattle.dce_rule.proofs.Fewer.{fewer_of}
 use Rattle.dce_rule.proofs.Sound.{ids_taken}
-
-same_position : (p : Pos) → is_position p p ≡ true
-same_position p = let a = eq-eqb p.block p.block refl in let b = eq-eqb p.item p.item refl in λ i. a i && b i
-
-same_origin : (o : Origin) → is_origin o o ≡ true
-same_origin (Kept p) = same_position p
-same_origin (Before p) = same_position p
 
 origin_block : (b : Block) (o : Origin) → OriginIn b o → (position_of o).block ≡ b.id
 origin_block b (Kept p) h = h.0

@@ -6,7 +6,7 @@ use Rattle.std.specs.List.{flat_map}
 use Rattle.std.proofs.lemmas.Bool.{eqb-true}
 use Rattle.std.proofs.lemmas.List.{append_assoc}
 use Rattle.std.proofs.lemmas.List.Sums.{sum_by-cons}
-use Rattle.std.proofs.Math.Nat.{le-max_left, le-max_right, max-le, le_trans, le_refl}
+use Rattle.std.proofs.Math.Nat.{le_trans, le_refl}
 use Rattle.mir_func.specs.declared.position.Pos.{Pos}
 use Rattle.mir_func.specs.declared.block.Block.{Block}
 use Rattle.mir_func.specs.declared.debug_substitution.DebugSubstitution.{DebugSubstitution}
@@ -18,10 +18,12 @@ use Rattle.mir_func.specs.Sound.{items_of}
 use Rattle.mir_func.specs.SoundFrame.{HasPhysical}
 use Rattle.mir_func.specs.Graph.{from_block}
 use Rattle.mir_func.specs.Successors.{pos_in}
+use Rattle.mir_func.specs.Calls.{is_call_kind}
 use Rattle.sem_mir.specs.Align.{is_code}
 use Rattle.sem_simulation.proofs.Laid.{rest_in, rest_of}
 use Rattle.pass_trait.specs.Change.{change}
-use Rattle.pass_trait.specs.Sizes.{greatest, most_numbers, numbers_of, calls, KeepsSizes}
+use Rattle.pass_trait.specs.Sizes.{greatest, most_numbers, numbers_of, KeepsSizes}
+use Rattle.pass_trait.proofs.NopSizes.{greatest_past, greatest_front}
 use Rattle.dce_rule.specs.Dead.{Places, Ends, is_dead, needed_at}
 use Rattle.dce_rule.specs.Wrong.{silenced, silenced_left, taken_out}
 use Rattle.dce_rule.proofs.Lists.{quiet, quiet_is, taken}
@@ -113,17 +115,6 @@ length_left none = le_refl 0
 length_left (kept x w more) = let h = length_left more in omega (arith, h)
 length_left (gone x more) = let h = length_left more in omega (arith, h)
 
-greatest_more : (n : ℕ) (ns ms : List ℕ) → greatest ns ≤ greatest ms → greatest (n ∷ ns) ≤ greatest (n ∷ ms)
-greatest_more n ns ms h = max-le (le-max_left n (greatest ms)) (le_trans h (le-max_right n (greatest ms)))
-
-greatest_front : (ls ns ms : List ℕ) → greatest ns ≤ greatest ms → greatest (ls ++ ns) ≤ greatest (ls ++ ms)
-greatest_front [] ns ms h = h
-greatest_front (l ∷ ls) ns ms h = greatest_more l (ls ++ ns) (ls ++ ms) (greatest_front ls ns ms h)
-
-greatest_past : (ls ns ms : List ℕ) → greatest ns ≤ greatest ms → greatest ns ≤ greatest (ls ++ ms)
-greatest_past [] ns ms h = h
-greatest_past (l ∷ ls) ns ms h = le_trans (greatest_past ls ns ms h) (le-max_right l (greatest (ls ++ ms)))
-
 quiet_numbers : (w : Places) (k : ItemKind) → numbers_of (silenced w k) ≡ numbers_of k
 quiet_numbers w k = quiet_is (λ z. numbers_of z ≡ numbers_of k) w k refl (λ v r e. sym (ap numbers_of e)) (λ y n e. sym (ap numbers_of e))
 
@@ -151,8 +142,8 @@ le_more n m = omega arith
 pub quiet_code : (w : Places) (x : Item) → is_code (quiet w x).kind ≡ is_code x.kind
 quiet_code w x = quiet_is (λ z. is_code z ≡ is_code x.kind) w x.kind refl (λ v r e. sym (ap is_code e)) (λ y n e. sym (ap is_code e))
 
-quiet_calls : (w : Places) (x : Item) → calls (quiet w x).kind ≡ calls x.kind
-quiet_calls w x = quiet_is (λ z. calls z ≡ calls x.kind) w x.kind refl (λ v r e. sym (ap calls e)) (λ y n e. sym (ap calls e))
+quiet_calls : (w : Places) (x : Item) → is_call_kind (quiet w x).kind ≡ is_call_kind x.kind
+quiet_calls w x = quiet_is (λ z. is_call_kind z ≡ is_call_kind x.kind) w x.kind refl (λ v r e. sym (ap is_call_kind e)) (λ y n e. sym (ap is_call_kind e))
 
 pub sizes_taken : (wrong : Pos → Places) (ends : Ends) (f : Function) (subs : List DebugSubstitution) →
     KeepsSizes 1 0 (change f subs (taken_out wrong ends f) subs)
@@ -162,7 +153,7 @@ sizes_taken wrong ends f subs =
     record {
       items = (let k = length_left l in omega (arith, k));
       code = (let k = count_left (λ i. is_code i.kind) quiet_code l in omega (arith, k));
-      calls = count_left (λ i. calls i.kind) quiet_calls l;
+      calls = count_left (λ i. is_call_kind i.kind) quiet_calls l;
       physical = λ h. each_left wrong ends (λ b i. HasPhysical i.kind) (λ b i. HasPhysical i.kind)
           (λ b w x k. quiet_is HasPhysical w x.kind k (λ v r e. tt) (λ y n e. tt)) f.blocks h;
       numbers = le_trans (numbers_left l entries) (le_more (greatest (flat_map (λ (i : Item). numbers_of i.kind) (items_of f.blocks) ++ entries))

@@ -1,11 +1,10 @@
 -- What followed a source loosely follows it loosely without its dead code.
-use Rattle.std.proofs.Common.{◌≡◌, inl, inr, ℕ, zero, suc, ◌+◌, ◌*◌, ◌≤◌, List, [], ◌∷◌, map, drop, All, Contains, Option, Some, None, Bool, true, false}
+use Rattle.std.proofs.Common.{◌≡◌, inl, inr, ℕ, zero, suc, ◌+◌, ◌*◌, List, [], ◌∷◌, map, drop, All, Contains, Option, Some, None, Bool, true, false}
 use Rattle.std.proofs.Common.{cond, length, refl, sym, ap, ◌∙◌, subst, arith}
 use Rattle.std.proofs.lemmas.Bool.{cases_eq}
 use Rattle.std.proofs.lemmas.List.{length-map}
 use Rattle.std.proofs.lemmas.List.Elements.{All-cons, All-nil, All-contains, All-head, All-tail, All-map, All-weaker}
 use Rattle.std.proofs.lemmas.Option.{get_or_from_slice_get}
-use Rattle.std.proofs.Math.Nat.{le_trans}
 use Rattle.rv64_instr.specs.declared.place.Place.{Place}
 use Rattle.rv64_instr.specs.Row.{Row, Fixes, LoadsSlot, StoresSlot, Branches, Jumps, Returns, row_of}
 use Rattle.mir_func.specs.declared.debug_substitution.OperandPair.{OperandPair}
@@ -29,14 +28,15 @@ use Rattle.sem_mir.specs.Step.{Faulted, moved, do_fetch}
 use Rattle.sem_mir.specs.Align.{is_jump, is_jump_row, waits_at, moves_on, Count, ByItems, ByEnds, sync_point_at, Arrives, here, onward, AnyOrigin, RunsMatch}
 use Rattle.sem_mir.specs.Align.{After, since_of}
 use Rattle.sem_mir.specs.Follow.{MayAdd, KindFits, MarkFits, InOrder, next_rank, Among, none}
-use Rattle.sem_mir.specs.Follow.{same, left, first_of, OnRow, GoesTo, IsStart, SameEnd, ItemHasClass}
+use Rattle.sem_mir.specs.InitialState.{first_of, IsInitialState}
+use Rattle.sem_mir.specs.Follow.{same, left, OnRow, GoesTo, SameEnd, ItemHasClass}
 use Rattle.sem_mir.specs.Follow.{IsEnd, KindsEndAlike, EndIsKept, EndComesFrom, IsRead}
 use Rattle.sem_mir.proofs.Edges.{step_edge}
 use Rattle.sem_mir.proofs.Reading.{found, found_in, front_item, front_end, end_index, within_list}
 use Rattle.sem_simulation.specs.Refinement.{FaultsAt}
 use Rattle.sem_simulation.specs.MatchStates.{Laid}
 use Rattle.sem_simulation.specs.InPlace.{IsIdleAt}
-use Rattle.sem_simulation.proofs.Ahead.{idles_ahead}
+use Rattle.sem_simulation.proofs.Ahead.{idles_ahead, bare_return}
 use Rattle.sem_simulation.proofs.Order.{rank_next}
 use Rattle.sem_simulation.proofs.Written.{HasPhysicalResults, has_physical_results}
 use Rattle.sem_simulation.proofs.Laid.{rest_of, laid_out}
@@ -44,6 +44,7 @@ use Rattle.sem_agreement.proofs.Held.{held_itself}
 use Rattle.sem_agreement.proofs.Told.{tells_itself}
 use Rattle.pass_trait.specs.Change.{change}
 use Rattle.pass_trait.specs.Simulation.{Source}
+use Rattle.pass_trait.proofs.NopFollows.{order_less}
 use Rattle.dce_rule.specs.Dead.{Places, Ends, is_dead_row, is_dead, needed_at}
 use Rattle.dce_rule.specs.Wrong.{silenced, silenced_left, taken_out, IsWrongAt, IsClosed}
 use Rattle.pass_edits.specs.WeakSimulation.{LooseShape, PreservesWeakSimulation}
@@ -62,10 +63,6 @@ at_item P sp blocks resolve all p i e = by_blocks (from_block blocks p.block) re
       let at = front_item b.items p.item b.source_end bs i e in
       subst P (get_or_from_slice_get b.items p.item i i at)
       (All-contains (λ (b : Block). All P b.items) blocks b all (found_in blocks p.block b bs h).0 p.item i (within_list b.items p.item i at))
-
-order_less : (b n m : ℕ) (xs : List Item) → n ≤ m → InOrder b m xs → InOrder b n xs
-order_less b n m [] le o = tt
-order_less b n m (x ∷ xs) le o = (o.0, le_trans le o.1, o.2)
 
 order_drop : (b n k : ℕ) (xs : List Item) → InOrder b n xs → (m : ℕ) × InOrder b m (drop k xs)
 order_drop b n zero [] o = (n, o)
@@ -234,9 +231,9 @@ module _ (f : Function) (subs : List DebugSubstitution) (sound : IsSound f) (for
   laid : Laid fp rf
   laid = laid_out false f.blocks (resolve subs)
 
-  physical : (q : Pos) (i : Item) → srcp.fetch q ≡ Here i → ItemHasClass (Returns []) i.kind → OnRow HasPhysicalResults i.kind
+  physical : (q : Pos) (i : Item) → srcp.fetch q ≡ Here i → ItemHasClass bare_return i.kind → OnRow HasPhysicalResults i.kind
   physical q i e class = by_kind i.kind (at_item (λ i. HasForm i.kind) true src.function.blocks (resolve src.subs) src.form q i e) class where
-    by_kind : (k : ItemKind) → HasForm k → ItemHasClass (Returns []) k → OnRow HasPhysicalResults k
+    by_kind : (k : ItemKind) → HasForm k → ItemHasClass bare_return k → OnRow HasPhysicalResults k
     by_kind (Code c n) form class = has_physical_results c form class
     by_kind (Mark v m) form class = absurd class
     by_kind (Phi l n) form class = absurd class
@@ -254,7 +251,8 @@ module _ (f : Function) (subs : List DebugSubstitution) (sound : IsSound f) (for
         (λ b h. order_left (λ n. wrong (pos_in b.id n)) (ends b.id) b.id 0 0 b.items h) f.blocks shape.order)
 
     -- where dead code was added before a position, g may idle
-    idles : (ct : Count) (s0 : State) → IsStart src.function.objects (first_of src.function.blocks) s0 → (p : Pos) (x : Item) (xs : List Item) → rf p ≡ x ∷ xs →
+    idles : (ct : Count) (s0 : State) → IsInitialState src.function.objects (first_of src.function.blocks) s0 → (p : Pos) (x : Item) (xs : List Item) →
+        rf p ≡ x ∷ xs →
         (q : Pos) → x.origin ≡ Before q → FaultsAt srcp s0 q →
         All (IsIdleAt ct gp q) (left_at f (resolve subs) sound forms ends closed wrong covers ct srcp s0 (below p) xs)
     idles ct s0 start p x xs at q before faults =
@@ -292,7 +290,7 @@ module _ (f : Function) (subs : List DebugSubstitution) (sound : IsSound f) (for
               ap (λ (bs : List Block). fetch_in bs v.0.item) (sym (ap (from_block f.blocks) (v.1 ∙ block) ∙ u.at)) ∙ v.2 in
               sym (end_index b.source_end u.rest k n (front_end b.items v.0.item b.source_end u.rest k n there).1)
 
-    along : (ct : Count) → ((k : ItemKind) → moves_on ct k ≡ is_jump k) → (s0 : State) → IsStart src.function.objects (first_of src.function.blocks) s0 →
+    along : (ct : Count) → ((k : ItemKind) → moves_on ct k ≡ is_jump k) → (s0 : State) → IsInitialState src.function.objects (first_of src.function.blocks) s0 →
         GoesAlong f (resolve subs) sound forms ends closed wrong covers ct srcp s0
     along ct counts s0 start = record {
       moves = λ p x xs at c e n go.
@@ -307,9 +305,9 @@ module _ (f : Function) (subs : List DebugSubstitution) (sound : IsSound f) (for
     }
 
     runs_new : (ct : Count) → ((k : ItemKind) → moves_on ct k ≡ is_jump k) →
-        ((s : State) → IsStart src.function.objects (first_of src.function.blocks) s →
+        ((s : State) → IsInitialState src.function.objects (first_of src.function.blocks) s →
         RunsMatch srcp fp (sync_point_at ct fp) (AnyOrigin (sync_point_at ct fp)) s s) →
-        (s : State) → IsStart src.function.objects (first_of src.function.blocks) s →
+        (s : State) → IsInitialState src.function.objects (first_of src.function.blocks) s →
         RunsMatch srcp gp (sync_point_at ct gp) (AnyOrigin (sync_point_at ct gp)) s s
     runs_new ct counts runs s start =
         dead_runs f (resolve subs) sound forms ends closed wrong covers ct srcp s (along ct counts s start) shape.order order_new origins_new

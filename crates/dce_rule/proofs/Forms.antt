@@ -1,23 +1,29 @@
 -- What the operands of code define, by the form of its opcode.
 use Rattle.std.proofs.Common.{◌≡◌, ◌⊎◌, inl, inr, ℕ, zero, suc, ◌+◌, ◌<◌, ◌≤◌, List, [], ◌∷◌, ◌++◌, All, Contains, Option, Some, None, Bool, true, false}
-use Rattle.std.proofs.Common.{◌&&◌, ◌||◌, pos, nat_le, nat_eq, slice_get, refl, sym, ap, ◌∙◌, subst, arith}
+use Rattle.std.proofs.Common.{◌&&◌, ◌||◌, pos, nat_le, nat_eq, slice_get, refl, sym, ap, ◌∙◌, subst, arith, cond, nat_lt, ne_eqb}
 use Rattle.std.specs.List.{list_all, list_any}
 use Rattle.std.proofs.lemmas.Bool.{and_parts, cases_eq, eqb-true, leb-true}
 use Rattle.std.proofs.lemmas.List.Elements.{All-head, Contains-append_left, Contains-append_right}
 use Rattle.rv64_instr.specs.declared.op.Op.{Op}
 use Rattle.rv64_instr.specs.declared.op.ImmediateOp.{ImmediateOp}
-use Rattle.rv64_instr.specs.declared.op.Op.TheVariants.{Registers, Immediate, Lui, Branch, Load, Store, Copy, PseudoBr, PseudoCall, PseudoRet}
+use Rattle.rv64_instr.specs.declared.op.Op.TheVariants.{Registers, Immediate, Lui, Branch, Load, Store, Copy}
+use Rattle.rv64_instr.specs.declared.op.Op.TheVariants.{PseudoBr, PseudoCall, PseudoRet, PseudoCallIndirect}
+use Rattle.rv64_instr.specs.declared.op.Op.TheVariants.{PseudoTail, PseudoTailIndirect, NoReturnCall, NoReturnCallIndirect}
 use Rattle.rv64_instr.specs.declared.op.ImmediateOp.TheVariants.{Addi}
 use Rattle.rv64_instr.specs.declared.operand.Operand.{Operand}
-use Rattle.rv64_instr.specs.declared.operand.Operand.TheVariants.{Def, Use, ImplicitDef, ImplicitUse, Imm, Slot, Object, Block, Symbol, Mask}
+use Rattle.rv64_instr.specs.declared.operand.Operand.TheVariants.{Def, Use, ImplicitDef, ImplicitUse, Imm, Slot, Object, Part, Block, Symbol, Mask}
+use Rattle.rv64_instr.specs.declared.symbol.Half.TheVariants.{Upper, Lower}
 use Rattle.rv64_instr.specs.declared.place.Place.{Place}
 use Rattle.rv64_instr.specs.declared.place.Place.TheVariants.{Register}
 use Rattle.rv64_instr.specs.Instruction.{Instruction}
 use Rattle.rv64_instr.specs.Arithmetic.{word}
-use Rattle.rv64_instr.specs.Form.{is_within, has_12_bits, is_immediate, moves_slot, is_implicit, is_clobbered, is_argument, is_result, has_form}
-use Rattle.rv64_instr.specs.Row.{Row, Calls, row_by, row_of, immediate_row, object_row, move_row}
+use Rattle.rv64_instr.specs.Form.{is_within, has_12_bits, is_immediate, moves_slot, is_implicit, is_clobbered}
+use Rattle.rv64_instr.specs.Form.{is_argument, is_result, has_form, is_addi, is_tail_use, is_tail_register}
+use Rattle.rv64_instr.specs.Row.{Row, Calls, row_by, row_of, immediate_row, object_row}
+use Rattle.rv64_instr.specs.Row.{move_row, CallSite, implicit_uses, held_call, held_tail, held_gone, Held}
 use Rattle.rv64_instr.specs.DefsAndUses.{sets, caller_saved}
-use Rattle.rv64_instr.specs.Parts.{is_pure, is_call, defines_of}
+use Rattle.rv64_instr.specs.LocationEffects.{is_pure, is_call, defines_of}
+use Rattle.rv64_instr.proofs.Tails.{held_callee}
 use Rattle.mir_func.specs.Sound.{IsNotPointer}
 use Rattle.sem_mir.specs.Step.{defined}
 use Rattle.sem_mir.proofs.Parts.{row_defines}
@@ -39,6 +45,12 @@ none_result (ImplicitUse r ∷ os) h zero = refl
 none_result (ImplicitUse r ∷ os) h (suc o) = none_result os (and_parts (is_result (ImplicitUse r)) (list_all is_result os) h).1 o
 none_result (_ ∷ os) h o = cc
 
+none_tail : (os : List Operand) → list_all is_tail_use os ≡ true → (o : ℕ) → defined false (slice_get os o) ≡ None
+none_tail [] h o = refl
+none_tail (ImplicitUse r ∷ os) h zero = refl
+none_tail (ImplicitUse r ∷ os) h (suc o) = none_tail os (and_parts (is_tail_use (ImplicitUse r)) (list_all is_tail_use os) h).1 o
+none_tail (_ ∷ os) h o = cc
+
 abbrev NoneDefined : List Operand → Type 0
 NoneDefined os = (o : ℕ) → defined false (slice_get os o) ≡ None
 
@@ -52,7 +64,8 @@ past x os e h (suc o) = h o
 pub data Sets (os : List Operand) (r : Row) : Type 0 where
   one : (rd : ℕ) (rest : List Operand) → os ≡ Def rd ∷ rest → NoneDefined rest → is_call r ≡ false → sets r ≡ rd ∷ [] → Sets os r
   no_register : NoneDefined os → is_call r ≡ false → sets r ≡ [] → Sets os r
-  call : (name args : List ℕ) (rest : List Operand) → os ≡ Symbol name ∷ Mask ∷ rest → list_all is_argument rest ≡ true → r ≡ Calls name args → Sets os r
+  call : (site : CallSite) (first : Operand) (rest : List Operand) → defined true (Some first) ≡ None → os ≡ first ∷ Mask ∷ rest →
+      list_all is_argument rest ≡ true → r ≡ Calls site → Sets os r
 
 immediate_sets : (op : ImmediateOp) (rd a n : ℕ) → (is_call (immediate_row op rd a n) ≡ false) × (sets (immediate_row op rd a n) ≡ rd ∷ [])
 immediate_sets Addi rd zero n = (refl, refl)
@@ -63,6 +76,19 @@ immediate_sets _ rd a n = (refl, refl)
 move_sets : (rd rs : ℕ) → (is_call (move_row rd rs) ≡ false) × (sets (move_row rd rs) ≡ rd ∷ [])
 move_sets rd zero = (refl, refl)
 move_sets rd (suc rs) = (refl, refl)
+
+-- a call by the first of these registers
+held_call_site : (xs : List ℕ) (m : ℕ) (ys : List ℕ) → xs ≡ m ∷ ys → (site : CallSite) × (held_call xs ≡ Calls site)
+held_call_site [] m ys e = cc
+held_call_site (x ∷ xs) m ys e = (record { callee = Held x; args = xs }, refl)
+
+held_tail_sets : (xs : List ℕ) → (is_call (held_tail xs) ≡ false) × (sets (held_tail xs) ≡ [])
+held_tail_sets [] = (refl, refl)
+held_tail_sets (x ∷ xs) = (refl, refl)
+
+held_gone_sets : (xs : List ℕ) → (is_call (held_gone xs) ≡ false) × (sets (held_gone xs) ≡ [])
+held_gone_sets [] = (refl, refl)
+held_gone_sets (x ∷ xs) = (refl, refl)
 
 pub sets_by_form : (op : Op) (os : List Operand) → has_form op os ≡ true → Sets os (row_by op os)
 sets_by_form (Registers op) (Def rd ∷ Use a ∷ Use b ∷ rest) e =
@@ -78,9 +104,13 @@ sets_by_form (Immediate op) (Def rd ∷ Object n ∷ Imm i ∷ rest) e = by_op o
       let h = and_parts (is_immediate Addi i) (list_all is_implicit rest) e in
       one rd (Object n ∷ Imm i ∷ rest) refl (past (Object n) (Imm i ∷ rest) refl (past (Imm i) rest refl (none_implicit rest h.1))) refl refl
   by_op _ e = cc
+sets_by_form (Immediate op) (Def rd ∷ Use a ∷ Part Lower y ∷ rest) e =
+    let h = and_parts (is_addi op) (list_all is_implicit rest) e in
+    one rd (Use a ∷ Part Lower y ∷ rest) refl (past (Use a) (Part Lower y ∷ rest) refl (past (Part Lower y) rest refl (none_implicit rest h.1))) refl refl
 sets_by_form Lui (Def rd ∷ Imm i ∷ rest) e =
     let h = and_parts (is_within (pos 0) (pos 1048575) i) (list_all is_implicit rest) e in
     one rd (Imm i ∷ rest) refl (past (Imm i) rest refl (none_implicit rest h.1)) refl refl
+sets_by_form Lui (Def rd ∷ Part Upper y ∷ rest) e = one rd (Part Upper y ∷ rest) refl (past (Part Upper y) rest refl (none_implicit rest e)) refl refl
 sets_by_form (Branch op) (Use a ∷ Use b ∷ Block n ∷ rest) e =
     no_register (past (Use a) (Use b ∷ Block n ∷ rest) refl (past (Use b) (Block n ∷ rest) refl (past (Block n) rest refl (none_implicit rest e)))) refl refl
 sets_by_form (Load op) (Def rd ∷ Use a ∷ Imm i ∷ rest) e =
@@ -92,6 +122,8 @@ sets_by_form (Load op) (Def rd ∷ Slot n ∷ Imm i ∷ rest) e =
 sets_by_form (Load op) (Def rd ∷ Object n ∷ Imm i ∷ rest) e =
     let h = and_parts (has_12_bits i) (list_all is_implicit rest) e in
     one rd (Object n ∷ Imm i ∷ rest) refl (past (Object n) (Imm i ∷ rest) refl (past (Imm i) rest refl (none_implicit rest h.1))) refl refl
+sets_by_form (Load op) (Def rd ∷ Use a ∷ Part Lower y ∷ rest) e =
+    one rd (Use a ∷ Part Lower y ∷ rest) refl (past (Use a) (Part Lower y ∷ rest) refl (past (Part Lower y) rest refl (none_implicit rest e))) refl refl
 sets_by_form (Store op) (Use a ∷ Use b ∷ Imm i ∷ rest) e =
     let h = and_parts (has_12_bits i) (list_all is_implicit rest) e in
     no_register (past (Use a) (Use b ∷ Imm i ∷ rest) refl (past (Use b) (Imm i ∷ rest) refl (past (Imm i) rest refl (none_implicit rest h.1)))) refl refl
@@ -101,12 +133,32 @@ sets_by_form (Store op) (Use a ∷ Slot n ∷ Imm i ∷ rest) e =
 sets_by_form (Store op) (Use a ∷ Object n ∷ Imm i ∷ rest) e =
     let h = and_parts (has_12_bits i) (list_all is_implicit rest) e in
     no_register (past (Use a) (Object n ∷ Imm i ∷ rest) refl (past (Object n) (Imm i ∷ rest) refl (past (Imm i) rest refl (none_implicit rest h.1)))) refl refl
+sets_by_form (Store op) (Use a ∷ Use b ∷ Part Lower y ∷ rest) e =
+    no_register (past (Use a) (Use b ∷ Part Lower y ∷ rest) refl (past (Use b) (Part Lower y ∷ rest) refl
+    (past (Part Lower y) rest refl (none_implicit rest e)))) refl refl
 sets_by_form Copy (Def rd ∷ Use a ∷ rest) e =
     let s = move_sets rd a in
     one rd (Use a ∷ rest) refl (past (Use a) rest refl (none_implicit rest e)) s.0 s.1
 sets_by_form PseudoBr (Block n ∷ rest) e = no_register (past (Block n) rest refl (none_implicit rest e)) refl refl
-sets_by_form PseudoCall (Symbol name ∷ Mask ∷ rest) e = call name _ rest refl e refl
+sets_by_form PseudoCall (Symbol name ∷ Mask ∷ rest) e = call _ (Symbol name) rest refl refl e refl
 sets_by_form PseudoRet rest e = no_register (none_result rest e) refl refl
+sets_by_form PseudoCallIndirect (ImplicitUse r ∷ Mask ∷ rest) e =
+    let h = and_parts (nat_le 5 r && nat_lt r 32) (list_all is_argument rest) e in
+    let low = (held_callee r h.0).0 in
+    let uses : implicit_uses (ImplicitUse r ∷ Mask ∷ rest) ≡ r ∷ implicit_uses rest =
+    ap (λ (b : Bool). cond b (implicit_uses rest) (r ∷ implicit_uses rest)) (ne_eqb r 2 (λ two. omega (arith, low, two))) in
+    let s = held_call_site (implicit_uses (ImplicitUse r ∷ Mask ∷ rest)) r (implicit_uses rest) uses in
+    call s.0 (ImplicitUse r) rest refl refl h.1 s.1
+sets_by_form PseudoTail (Symbol name ∷ rest) e = no_register (past (Symbol name) rest refl (none_tail rest e)) refl refl
+sets_by_form PseudoTailIndirect (ImplicitUse r ∷ rest) e =
+    let h = and_parts (nat_eq r 6 || is_tail_register r) (list_all is_tail_use rest) e in
+    let s = held_tail_sets (implicit_uses (ImplicitUse r ∷ rest)) in
+    no_register (past (ImplicitUse r) rest refl (none_tail rest h.1)) s.0 s.1
+sets_by_form NoReturnCall (Symbol name ∷ Mask ∷ rest) e = no_register (past (Symbol name) (Mask ∷ rest) refl (past Mask rest refl (none_tail rest e))) refl refl
+sets_by_form NoReturnCallIndirect (ImplicitUse r ∷ Mask ∷ rest) e =
+    let h = and_parts (nat_eq r 6 || is_tail_register r) (list_all is_tail_use rest) e in
+    let s = held_gone_sets (implicit_uses (ImplicitUse r ∷ Mask ∷ rest)) in
+    no_register (past (ImplicitUse r) (Mask ∷ rest) refl (past Mask rest refl (none_tail rest h.1))) s.0 s.1
 sets_by_form _ _ e = cc
 
 -- ---- registers that a call names as set
@@ -165,25 +217,25 @@ module _ (i : Instruction) (Held : Place → Type 0) (zero_held : Held (Register
   abbrev Given : ℕ → Type 0
   Given r = GenDefs Held i (Register r)
 
-  by_argument : (x : Operand) (r : ℕ) (name args : List ℕ) → row_of i ≡ Calls name args → is_argument x ≡ true → defined true (Some x) ≡ Some r → Given r
-  by_argument (ImplicitDef q) r name args row fits e =
+  by_argument : (x : Operand) (r : ℕ) (site : CallSite) → row_of i ≡ Calls site → is_argument x ≡ true → defined true (Some x) ≡ Some r → Given r
+  by_argument (ImplicitDef q) r site row fits e =
       let same : q ≡ r = cc in
       subst Given same (elim (clobbered q fits) [
-        | inl k ↦ inl (ap (λ (z : Row). defines_of z (Register q)) row ∙ row_defines (Calls name args) (Register q) k)
+        | inl k ↦ inl (ap (λ (z : Row). defines_of z (Register q)) row ∙ row_defines (Calls site) (Register q) k)
         | inr other ↦ inr (elim other [
           | inl z ↦ subst (λ (n : ℕ). Held (Register n)) (sym z) zero_held
           | inr t ↦ subst (λ (n : ℕ). Held (Register n)) (sym t) pointer_held
         ])
       ])
-  by_argument (ImplicitUse q) r name args row fits e = cc
-  by_argument _ r name args row fits e = cc
+  by_argument (ImplicitUse q) r site row fits e = cc
+  by_argument _ r site row fits e = cc
 
-  by_arguments : (os : List Operand) (o r : ℕ) (name args : List ℕ) → row_of i ≡ Calls name args → list_all is_argument os ≡ true →
+  by_arguments : (os : List Operand) (o r : ℕ) (site : CallSite) → row_of i ≡ Calls site → list_all is_argument os ≡ true →
       defined true (slice_get os o) ≡ Some r → Given r
-  by_arguments [] zero r name args row fits e = cc
-  by_arguments [] (suc o) r name args row fits e = cc
-  by_arguments (x ∷ os) zero r name args row fits e = by_argument x r name args row (and_parts (is_argument x) (list_all is_argument os) fits).0 e
-  by_arguments (x ∷ os) (suc o) r name args row fits e = by_arguments os o r name args row (and_parts (is_argument x) (list_all is_argument os) fits).1 e
+  by_arguments [] zero r site row fits e = cc
+  by_arguments [] (suc o) r site row fits e = cc
+  by_arguments (x ∷ os) zero r site row fits e = by_argument x r site row (and_parts (is_argument x) (list_all is_argument os) fits).0 e
+  by_arguments (x ∷ os) (suc o) r site row fits e = by_arguments os o r site row (and_parts (is_argument x) (list_all is_argument os) fits).1 e
 
   -- it is defined, or x0 or x2
   gives_held : Sets i.operands (row_of i) → (o r : ℕ) → defined (is_call (row_of i)) (slice_get i.operands o) ≡ Some r → Given r
@@ -196,12 +248,12 @@ module _ (i : Instruction) (Held : Place → Type 0) (zero_held : Held (Register
         at (suc o) e = let bad : None ≡ Some r = sym (none o) ∙ e in cc
   gives_held (no_register none no_call sets_none) o r e =
       let bad : None ≡ Some r = sym (none o) ∙ ap (λ (z : Bool). defined z (slice_get i.operands o)) (sym no_call) ∙ e in cc
-  gives_held (call name args rest os fits row) o r e = at o (ap (λ (xs : List Operand). defined true (slice_get xs o)) (sym os) ∙
+  gives_held (call site first rest none os fits row) o r e = at o (ap (λ (xs : List Operand). defined true (slice_get xs o)) (sym os) ∙
       ap (λ (z : Row). defined (is_call z) (slice_get i.operands o)) (sym row) ∙ e) where
-        at : (o : ℕ) → defined true (slice_get (Symbol name ∷ Mask ∷ rest) o) ≡ Some r → Given r
-        at zero e = cc
+        at : (o : ℕ) → defined true (slice_get (first ∷ Mask ∷ rest) o) ≡ Some r → Given r
+        at zero e = let bad : None ≡ Some r = sym none ∙ e in cc
         at (suc zero) e = cc
-        at (suc (suc o)) e = by_arguments rest o r name args row fits e
+        at (suc (suc o)) e = by_arguments rest o r site row fits e
 
   pub numbers_held : has_form i.op i.operands ≡ true → (n : Option ℕ) → NumbersHeld Held i n
   numbers_held form None = tt
@@ -218,4 +270,4 @@ no_pointer i form plain pure e = by_sets (sets_by_form i.op i.operands form) whe
       let head : IsNotPointer (Def rd) = All-head IsNotPointer (Def rd) rest (subst (λ (xs : List Operand). All IsNotPointer xs) os plain) in
       elim (or_cases (nat_eq 2 rd) false k) [ inl t ↦ head (sym (eqb-true 2 rd t)) | inr t ↦ (let bad : false ≡ true = t in cc) ]
   by_sets (no_register none no_call sets_none) = let bad : false ≡ true = ap (λ (ns : List ℕ). list_any (nat_eq 2) ns) (sym sets_none) ∙ e in cc
-  by_sets (call name args rest os fits row) = let bad : false ≡ true = ap is_pure (sym row) ∙ pure in cc
+  by_sets (call site first rest none os fits row) = let bad : false ≡ true = ap is_pure (sym row) ∙ pure in cc

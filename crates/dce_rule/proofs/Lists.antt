@@ -18,6 +18,7 @@ use Rattle.mir_func.specs.Successors.{pos_in}
 use Rattle.mir_func.specs.Sound.{items_of}
 use Rattle.sem_mir.proofs.Reading.{found_in}
 use Rattle.sem_simulation.proofs.Laid.{rest_in, rest_of}
+use Rattle.pass_trait.proofs.Thinning.{first_of_front, none_of_front}
 use Rattle.dce_rule.specs.Dead.{Places, Ends, is_dead, needed_at}
 use Rattle.dce_rule.specs.Wrong.{silenced, silenced_left, silenced_block}
 use Rattle.dce_rule.specs.Gone.{judged, judged_of}
@@ -45,16 +46,6 @@ quiet_is P w (Phi (Some x) n) h mark phi = by_test (w x) where
   by_test false = h
 
 -- ---- lists
-
--- the first of what is left from an index on
-first_of_front : (xs : List Item) (k : ℕ) (bs : List Block) (y : Item) → front xs k bs ≡ Here y → (more : List Item) × (xs ≡ y ∷ more)
-first_of_front [] k [] y e = cc
-first_of_front [] k (b ∷ bs) y e = cc
-first_of_front (x ∷ xs) k bs y e = let w : x ≡ y = cc in (xs, λ i. w i ∷ xs)
-
-none_of_front : (xs : List Item) (k : ℕ) (bs : List Block) (j n : ℕ) → front xs k bs ≡ EndOfBlock j n → (xs ≡ []) × (end_of k bs ≡ EndOfBlock j n)
-none_of_front [] k bs j n e = (refl, e)
-none_of_front (x ∷ xs) k bs j n e = cc
 
 pub drop_all : (xs : List Item) → drop (length xs) xs ≡ []
 drop_all [] = refl

@@ -7,7 +7,7 @@ use Rattle.rv64_instr.specs.declared.place.Place.{Place}
 use Rattle.rv64_instr.specs.declared.place.Place.TheVariants.{Register, Slot, Const}
 use Rattle.rv64_instr.specs.Instruction.{Instruction}
 use Rattle.rv64_instr.specs.Row.{Row, Jumps, Unfit, row_of}
-use Rattle.rv64_instr.specs.Parts.{defines_of}
+use Rattle.rv64_instr.specs.LocationEffects.{defines_of}
 use Rattle.mir_func.specs.declared.debug_substitution.OperandPair.{OperandPair}
 use Rattle.mir_func.specs.declared.position.Pos.{Pos}
 use Rattle.mir_func.specs.declared.position.Origin.{Origin}
@@ -21,10 +21,11 @@ use Rattle.mir_func.specs.Function.{Function}
 use Rattle.mir_func.specs.Sound.{AllItems, IsSound, number_of, code_number, LeavesPointer, OriginIn, HasForm}
 use Rattle.mir_func.specs.Graph.{Fetch, Here, EndOfBlock, Program, below, block_start, from_block, index_of, program_of, Edge, FetchEdge}
 use Rattle.mir_func.specs.Successors.{pos_in}
+use Rattle.mir_func.specs.Positions.{position_of}
 use Rattle.sem_mir.specs.State.{Core, State}
 use Rattle.sem_mir.specs.Step.{Outcome, Falls, Goes, Gives, Traps, Asks, Breaks, Went, moved, do_item, do_fetch}
 use Rattle.sem_mir.specs.Step.{pair_value}
-use Rattle.sem_mir.specs.Align.{position_of, is_code, is_jump, is_jump_row, Count, moves_on}
+use Rattle.sem_mir.specs.Align.{is_code, is_jump, is_jump_row, Count, moves_on}
 use Rattle.sem_mir.specs.Align.{end_sync_point, sync_point_at, IsOrigin, Since, After, AnyOrigin, RunsMatch}
 use Rattle.sem_mir.specs.Align.{since_of, waits_at, sync_point_of}
 use Rattle.sem_mir.specs.Effects.{held_in, EndAlike, OnCore, FallsInto}

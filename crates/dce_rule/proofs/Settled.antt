@@ -6,7 +6,7 @@ use Rattle.std.proofs.lemmas.List.{drop-drop}
 use Rattle.std.proofs.lemmas.List.Elements.{All-contains}
 use Rattle.rv64_instr.specs.declared.place.Place.TheVariants.{Register, Slot}
 use Rattle.rv64_instr.specs.Row.{Row, LoadsSlot, StoresSlot, Branches, Jumps, Returns, Unfit, row_of}
-use Rattle.rv64_instr.specs.Parts.{IsSlotStore, names_slot, slot_read}
+use Rattle.rv64_instr.specs.LocationEffects.{IsSlotStore, names_slot, slot_read}
 use Rattle.mir_func.specs.declared.position.Pos.{Pos}
 use Rattle.mir_func.specs.declared.position.Origin.{Origin}
 use Rattle.mir_func.specs.declared.position.Origin.TheVariants.{Kept, Before}
@@ -22,7 +22,7 @@ use Rattle.mir_func.specs.Graph.{Fetch, Here, EndOfBlock, Outside, Program, belo
 use Rattle.mir_func.specs.Graph.{program_of, Edge, FetchEdge, KindEdge, RowEdge, Leads, stay, go}
 use Rattle.mir_func.specs.Resolve.{resolve}
 use Rattle.mir_func.specs.Successors.{pos_in, ComesDown}
-use Rattle.sem_mir.specs.Align.{position_of}
+use Rattle.mir_func.specs.Positions.{position_of}
 use Rattle.sem_mir.specs.Live.{Uses, KindUses, Live, used, later}
 use Rattle.sem_mir.specs.Follow.{MayAdd, KindFits, HasClass, OnRow, Counts, IsMetApart}
 use Rattle.sem_mir.proofs.Edges.{leads_on, leads_trans}

@@ -20,6 +20,8 @@ use Rattle.mir_func.specs.declared.exit.Exit.TheVariants.{Onward, Perhaps, Alway
 use Rattle.mir_func.specs.Exits.{row_exit, exit_of, IsAlways, Leaves}
 use Rattle.mir_func.specs.Limits.{MAX_BLOCKS}
 use Rattle.mir_func.specs.Successors.{pos_in}
+use Rattle.pass_trait.proofs.NopSound.{always_leaves}
+use Rattle.pass_edits.proofs.Numbers.{once_tail}
 use Rattle.dce_rule.specs.Dead.{Places, Ends, is_dead_row, is_dead, needed_at}
 use Rattle.dce_rule.specs.Wrong.{silenced, silenced_left, taken_out}
 use Rattle.dce_rule.proofs.Lists.{quiet, quiet_is, taken}
@@ -80,9 +82,6 @@ was (kept {xs = xs} x w more) zero y e =
 was (kept x w more) (suc k) y e = let h = was more k y e in record { index = suc h.index; item = h.item; at = h.at; number = h.number; code = h.code }
 was (gone x more) k y e = let h = was more k y e in record { index = suc h.index; item = h.item; at = h.at; number = h.number; code = h.code }
 
-once_tail : (x : Item) (xs : List Item) → NumbersOnce (x ∷ xs) → NumbersOnce xs
-once_tail x xs once i j y z k at c at' n = let e : suc i ≡ suc j = once (suc i) (suc j) y z k at c at' n in omega (arith, e)
-
 pub once_left : {xs ys : List Item} → Left xs ys → NumbersOnce xs → NumbersOnce ys
 once_left none once = once
 once_left (gone {xs = xs} x more) once = once_left more (once_tail x xs once)
@@ -104,10 +103,6 @@ once_left (kept {xs = xs} {ys = ys} x w more) once = by_index (once_left more (o
       absurd (omega (arith, e))
 
 -- ---- ends of blocks
-
-always_leaves : (e : Exit) → IsAlways e → Leaves e
-always_leaves (Always n) h = tt
-always_leaves _ h = absurd h
 
 leaving_stays : (k : ItemKind) (needed : Places) → Leaves (exit_of k) → is_dead k needed ≡ false
 leaving_stays (Code i n) needed h = by_row (row_of i) h where

@@ -8,8 +8,9 @@ use Rattle.rv64_instr.specs.declared.place.Place.{Place}
 use Rattle.rv64_instr.specs.declared.place.Place.TheVariants.{Register, Slot, Const}
 use Rattle.rv64_instr.specs.Instruction.{Instruction}
 use Rattle.rv64_instr.specs.Row.{Row, Branches, Jumps, Returns, Calls, Unfit, row_of}
-use Rattle.rv64_instr.specs.Parts.{set_by, is_pure, is_call, uses_of, defines_of, first_use, second_use, is_register, is_implicit_use, has_implicit_uses}
-use Rattle.rv64_instr.specs.Parts.{names_slot, slot_read}
+use Rattle.rv64_instr.specs.LocationEffects.{set_by, is_pure, is_call, uses_of, defines_of}
+use Rattle.rv64_instr.specs.LocationEffects.{first_use, second_use, is_register, is_implicit_use, has_implicit_uses}
+use Rattle.rv64_instr.specs.LocationEffects.{names_slot, slot_read}
 use Rattle.mir_func.specs.declared.position.Pos.{Pos}
 use Rattle.mir_func.specs.declared.block.Block.{Block}
 use Rattle.mir_func.specs.declared.item.Item.{Item}
@@ -35,7 +36,7 @@ pub dead_parts : (r : Row) (needed : Places) → is_dead_row r needed ≡ true �
 dead_parts r needed e = and_parts (is_pure r) (sets_unneeded (set_by r) r needed) e
 
 pub pure_no_call : (r : Row) → is_pure r ≡ true → is_call r ≡ false
-pure_no_call (Calls name args) e = cc
+pure_no_call (Calls call) e = cc
 pure_no_call _ e = refl
 
 pub pure_below : (r : Row) (p q : Pos) → is_pure r ≡ true → RowEdge (λ n. n) r p q → q ≡ below p

@@ -3,7 +3,7 @@ use Rattle.std.specs.Prelude.{◌≡◌, ◌↔◌, ℕ, List, [], ◌∷◌, ma
 use Rattle.rv64_instr.specs.declared.place.Place.{Place}
 use Rattle.rv64_instr.specs.declared.place.Place.TheVariants.{Register}
 use Rattle.rv64_instr.specs.Row.{Row, row_of}
-use Rattle.rv64_instr.specs.Parts.{set_by, is_pure, uses_of, defines_of}
+use Rattle.rv64_instr.specs.LocationEffects.{set_by, is_pure, uses_of, defines_of}
 use Rattle.mir_func.specs.declared.block.Block.{Block}
 use Rattle.mir_func.specs.declared.item.Item.{Item}
 use Rattle.mir_func.specs.declared.item.ItemKind.{ItemKind}

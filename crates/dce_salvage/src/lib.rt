@@ -3,6 +3,6 @@
 //! to the first, so that dead code above a copy is still there when the copy's number is salvaged.
 #![tactic(auto)]
 
-pub mod dead_items;
+pub mod dead_indices;
 pub mod salvage_blocks;
 pub mod salvage_numbers;

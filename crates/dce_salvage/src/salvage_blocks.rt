@@ -4,7 +4,7 @@ ghost use Rattle.std.specs.Prelude.{◌≡◌, ◌+◌, ◌<◌, ◌^◌, [], le
 ghost use Rattle.mir_func.specs.Sound.{items_of};
 ghost use Rattle.dce_salvage.specs.SalvageBlocks.{salvage_blocks};
 
-use crate::dead_items::{going, verdicts_at};
+use crate::dead_indices::{going, verdicts_at};
 use crate::salvage_numbers::salvage_numbers;
 use base_list::List;
 use mir_func::block::Block;

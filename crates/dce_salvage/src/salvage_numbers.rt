@@ -7,11 +7,11 @@ ghost use Rattle.pass_salvage.specs.Salvage.{above_after, entries_for, fresh_aft
 ghost use Rattle.dce_salvage.specs.SalvageNumbers.{copied_by, numbered_copy, without_number, salvage_phi, lost_by_salvage, salvaged_items};
 ghost use Rattle.dce_salvage.specs.SalvageNumbers.{salvage_at, salvage_down};
 
-use crate::dead_items::verdict;
-use base_ids::code::DebugNumber;
+use crate::dead_indices::verdict;
+use base_ids::function_ids::DebugNumber;
 use mir_func::item::{Item, ItemKind};
 use mir_func::location::Loc;
-use mir_func::position::Origin;
+use mir_func::position::{Origin, position_of};
 use mir_substitution::substitutions::Substitutions;
 use pass_salvage::lookup::Lookup;
 use pass_salvage::salvage::salvage;
@@ -21,7 +21,6 @@ use rv64_instr::decoded::Decoded;
 use rv64_instr::instr::Instr;
 use rv64_instr::place::Place;
 use rv64_instr::reg::Reg;
-use sem_mir::align::position_of;
 use std::alloc::AllocError;
 
 /// A copy with a number.

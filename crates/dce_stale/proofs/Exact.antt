@@ -5,7 +5,7 @@ use Rattle.std.proofs.Common.{refl, sym, ap, ◌∙◌, inl, inr, arith, subst}
 use Rattle.std.specs.Prelude.{slice_get}
 use Rattle.rv64_instr.specs.declared.place.Place.{Place}
 use Rattle.rv64_instr.specs.Row.{row_of}
-use Rattle.rv64_instr.specs.Parts.{defines_of}
+use Rattle.rv64_instr.specs.LocationEffects.{defines_of}
 use Rattle.mir_func.specs.declared.block.Block.{Block}
 use Rattle.mir_func.specs.declared.exit.Exit.{Exit}
 use Rattle.mir_func.specs.declared.exit.Exit.TheVariants.{Onward, Perhaps, Always, Final}
@@ -24,7 +24,7 @@ use Rattle.pass_liveness.proofs.Edges.{Stays, down_edge, out_edge}
 use Rattle.pass_liveness.proofs.Paths.{next_of}
 use Rattle.dce_rule.specs.Dead.{Places, Ends, paths_of}
 use Rattle.dce_rule.specs.Wrong.{begins_dead, is_dead_at, IsWrongAt, made, on}
-use Rattle.dce_analysis.specs.IsDead.{verdicts}
+use Rattle.dce_analysis.specs.Judge.{verdicts}
 use Rattle.dce_stale.specs.Flow.{wrong_past, wrong_over, wrong_at, goes_on, IsHanded, IsHandedDown}
 
 and_both : (a b : Bool) → (a && b) ≡ true → (a ≡ true) × (b ≡ true)

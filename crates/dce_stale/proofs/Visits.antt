@@ -28,7 +28,7 @@ use Rattle.pass_liveness.proofs.Paths.{next_of}
 use Rattle.pass_liveness.proofs.Places.{has_nothing}
 use Rattle.dce_rule.specs.Dead.{Places, Ends, paths_of}
 use Rattle.dce_rule.specs.Wrong.{is_dead_at, IsWrongAt, made, on}
-use Rattle.dce_analysis.specs.IsDead.{verdicts}
+use Rattle.dce_analysis.specs.Judge.{verdicts}
 use Rattle.dce_stale.specs.Flow.{wrong_past, wrong_over, wrong_at, goes_on, IsHanded, IsHandedDown}
 use Rattle.dce_stale.specs.Sets.{AreVerdicts, Handed, HandsOn, IsClosed, AreFound, IsState, wrong_in, wrong_of, StaleSets, starts_of, AreStaleSets}
 use Rattle.dce_stale.proofs.Handing.{found_index}

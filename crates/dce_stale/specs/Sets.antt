@@ -11,7 +11,7 @@ use Rattle.pass_liveness.specs.Liveness.{has_at_start, items_at}
 use Rattle.pass_liveness.specs.Solving.{gap_of}
 use Rattle.dce_rule.specs.Dead.{Places, Ends}
 use Rattle.dce_rule.specs.Wrong.{IsWrongAt}
-use Rattle.dce_analysis.specs.IsDead.{verdicts}
+use Rattle.dce_analysis.specs.Judge.{verdicts}
 use Rattle.dce_stale.specs.Flow.{wrong_at, IsHanded, IsHandedDown}
 
 -- for each item of the function whether it is dead, if these places are needed at the ends of its blocks

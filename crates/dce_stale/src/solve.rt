@@ -7,8 +7,8 @@ ghost use Rattle.dce_stale.specs.Sets.{IsState, IsClosed};
 
 use crate::walk::visit;
 use base_list::List;
-use dataflow::fixpoint::{Analysis, solve};
 use dataflow::order::reverse_post_order;
+use dataflow::solver::{Analysis, solve};
 use mir_func::func::Func;
 use pass_liveness::names::SlotAndBlockNumbers;
 use pass_liveness::set::PlaceSet;

@@ -9,7 +9,7 @@ ghost use Rattle.pass_liveness.specs.Sets.{has};
 ghost use Rattle.dce_stale.specs.Flow.{wrong_past, goes_on, wrong_at, IsHanded};
 ghost use Rattle.dce_stale.specs.Sets.{Handed, HandsOn};
 
-use base_ids::code::BlockId;
+use base_ids::function_ids::BlockId;
 use base_list::List;
 use mir_func::block::Block;
 use mir_func::exit::Exit;

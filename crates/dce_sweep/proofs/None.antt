@@ -26,7 +26,7 @@ use Rattle.dce_rule.specs.RemovalDebugRule.{LosesOf}
 use Rattle.dce_rule.proofs.Lists.{quiet}
 use Rattle.dce_rule.proofs.Sound.{left_of, left_items}
 use Rattle.dce_rule.proofs.Fewer.{count_left, quiet_code}
-use Rattle.dce_analysis.specs.IsDead.{verdicts, AreJudged}
+use Rattle.dce_analysis.specs.Judge.{verdicts, AreJudged}
 use Rattle.dce_stale.specs.Sets.{AreVerdicts, StaleSets, AreStaleSets, wrong_of, starts_of}
 use Rattle.dce_stale.proofs.Exact.{begins_at}
 use Rattle.dce_sweep.specs.Left.{lost_in}

@@ -24,7 +24,7 @@ use Rattle.dce_rule.specs.Dead.{Places, Ends, is_dead, needed_at}
 use Rattle.dce_rule.specs.Wrong.{begins_dead, is_dead_at}
 use Rattle.dce_rule.specs.RemovalDebugRule.{LosesOf, LosesAt, AreWrong}
 use Rattle.dce_rule.proofs.Lists.{rest_at}
-use Rattle.dce_analysis.specs.IsDead.{verdicts}
+use Rattle.dce_analysis.specs.Judge.{verdicts}
 use Rattle.dce_sweep.specs.Left.{lost_of, lost_from, lost_in_block, lost_in}
 use Rattle.dce_sweep.proofs.Steps.{verdict_is}
 

@@ -15,7 +15,7 @@ use Rattle.pass_trait.specs.declared.loss.Loss.{Loss}
 use Rattle.pass_trait.specs.Rule.{number_lost, mark_lost}
 use Rattle.dce_rule.specs.Dead.{Places, Ends}
 use Rattle.dce_rule.specs.Wrong.{silenced}
-use Rattle.dce_analysis.specs.IsDead.{verdicts}
+use Rattle.dce_analysis.specs.Judge.{verdicts}
 
 -- a DBG_PHI of this location reads a wrong place
 abbrev pub asks_wrong : (wrong : Places) → Option Place → Bool

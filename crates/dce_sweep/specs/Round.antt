@@ -11,7 +11,7 @@ use Rattle.dce_rule.specs.Dead.{Places, Ends, IsRound}
 use Rattle.dce_rule.specs.CodeLaws.{AreLive}
 use Rattle.dce_rule.specs.Wrong.{taken_out}
 use Rattle.dce_rule.specs.RemovalDebugRule.{LosesAt, AreWrong}
-use Rattle.dce_analysis.specs.IsDead.{verdicts}
+use Rattle.dce_analysis.specs.Judge.{verdicts}
 
 -- some item of the blocks is dead code
 abbrev pub has_dead : Ends → List Block → Bool

@@ -10,19 +10,18 @@ ghost use Rattle.dce_stale.specs.Flow.{wrong_at};
 ghost use Rattle.dce_stale.specs.Sets.{AreVerdicts, AreStaleSets, wrong_of, starts_of};
 ghost use Rattle.dce_sweep.specs.Left.{asks_wrong, left_of, lost_of, left_from, lost_from, lost_in};
 
-use base_ids::code::DebugNumber;
+use base_ids::function_ids::DebugNumber;
 use base_list::List;
-use dce_salvage::dead_items::{verdict, verdicts_at};
+use dce_salvage::dead_indices::{verdict, verdicts_at};
 use dce_stale::places::StaleLocations;
 use mir_func::block::Block;
 use mir_func::func::Func;
 use mir_func::item::{Item, ItemKind};
-use mir_func::position::Origin;
+use mir_func::position::{Origin, position_of};
 use mir_func::variable::{MarkValue, VarId};
 use pass_liveness::set::PlaceSet;
 use pass_trait::loss::{Loss, Lost, Reason};
 use rv64_instr::place::Place;
-use sem_mir::align::position_of;
 use std::alloc::{AllocError, Global};
 
 /// What remains of a function's blocks without the dead items, if these places are wrong. Losses are appended to

@@ -13,13 +13,14 @@ use Rattle.dwarf_line.specs.Table.{IsName, IsNamed, HasNames}
 use Rattle.read_metadata.specs.Maps.{Maps}
 use Rattle.read_metadata.specs.declared.node.FileNode.{FileNode}
 use Rattle.mir_func.specs.declared.block.Block.{Block}
+use Rattle.mir_func.specs.Positions.{position_of}
 use Rattle.emit_code.specs.declared.code.EncodedInstruction.{EncodedInstruction}
 use Rattle.dwarf_line_table.specs.declared.source_and_code.SourceAndCode.{SourceAndCode}
 use Rattle.dwarf_line_table.specs.declared.file.SourceFile.{SourceFile}
 use Rattle.dwarf_line_table.specs.Files.{file_or, function_file, unit_file, is_file, is_name, with_new, first_uses, dirs_of, entry_in, entry_zero}
 use Rattle.std.specs.Option.{option_and_then}
 use Rattle.read_metadata.specs.Metadata.{file_of_scope_at}
-use Rattle.dwarf_line_table.specs.SourcePosition.{scope_line, loc_of, position_of}
+use Rattle.dwarf_line_table.specs.SourcePosition.{scope_line, loc_of}
 use Rattle.dwarf_line_table.specs.Table.{uses_in}
 use Rattle.dwarf_line_table.specs.Program.{program_files, function_uses, table_of}
 

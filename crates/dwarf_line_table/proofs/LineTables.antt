@@ -1,13 +1,14 @@
 -- What the line number table of functions that lie one after the other says of the addresses of their code.
 use Rattle.std.proofs.Common.{◌≡◌, ℕ, List, sym, subst, ap, ◌∙◌, Contains}
 use Rattle.std.specs.List.{flat_map}
+use Rattle.mir_func.specs.Positions.{position_of}
 use Rattle.emit_code.specs.declared.code.EncodedInstruction.{EncodedInstruction}
 use Rattle.dwarf_line.specs.declared.table.Row.{Row}
 use Rattle.read_metadata.specs.Maps.{Maps}
 use Rattle.dwarf_line_table.specs.declared.source_and_code.SourceAndCode.{SourceAndCode}
 use Rattle.dwarf_line_table.specs.declared.file.SourceFile.{SourceFile}
 use Rattle.dwarf_line_table.specs.Files.{number_in}
-use Rattle.dwarf_line_table.specs.SourcePosition.{SourceLine, no_line, in_file, scope_line, loc_of, position_of}
+use Rattle.dwarf_line_table.specs.SourcePosition.{SourceLine, no_line, in_file, scope_line, loc_of}
 use Rattle.dwarf_line_table.specs.Program.{program_file, program_files, function_uses, table_of}
 use Rattle.dwarf_line_table.specs.Table.{entry_line}
 use Rattle.dwarf_line_table.specs.Laws.{LieFrom, HasCodeAt, IsNoLine, TablesGiveLines, NothingOutside, NoneIsLineZero, UnitIsFileOne}

@@ -17,7 +17,7 @@ use Rattle.mir_func.specs.declared.location.Loc.{Loc}
 use Rattle.mir_func.specs.declared.location.Loc.TheVariants.{Absent}
 use Rattle.dwarf_line_table.proofs.Split.{split_at}
 use Rattle.dwarf_line_table.specs.SourcePosition.{first_loc, loc_if_code, loc_of}
-use Rattle.dwarf_line_table.specs.steps.Places.{loc_at, loc_among, AreLocs}
+use Rattle.dwarf_line_table.specs.steps.DebugLocations.{loc_at, loc_among, AreLocs}
 
 absent_at : (n k : ℕ) → loc_at (replicate n Absent) k ≡ Absent
 absent_at n k = elim (cases_lt k n) [

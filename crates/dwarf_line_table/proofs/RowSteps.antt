@@ -8,29 +8,30 @@ use Rattle.dwarf_line.specs.declared.table.Row.{Row}
 use Rattle.read_metadata.specs.Maps.{Maps}
 use Rattle.mir_func.specs.declared.block.Block.{Block}
 use Rattle.mir_func.specs.declared.location.Loc.{Loc}
+use Rattle.mir_func.specs.Positions.{position_of}
 use Rattle.emit_code.specs.declared.code.EncodedInstruction.{EncodedInstruction}
 use Rattle.dwarf_line_table.specs.declared.file.SourceFile.{SourceFile}
-use Rattle.dwarf_line_table.specs.declared.debug_locations.Places.{Places}
+use Rattle.dwarf_line_table.specs.declared.debug_locations.DebugLocations.{DebugLocations}
 use Rattle.dwarf_line_table.specs.Files.{with_new, first_uses, is_file, unit_in}
-use Rattle.dwarf_line_table.specs.SourcePosition.{line_at, loc_of, position_of}
+use Rattle.dwarf_line_table.specs.SourcePosition.{line_at, loc_of}
 use Rattle.dwarf_line_table.specs.Table.{row_of_line, is_place_before, changes, uses_in, rows_in}
-use Rattle.dwarf_line_table.specs.steps.Places.{ArePlaces}
+use Rattle.dwarf_line_table.specs.steps.DebugLocations.{AreDebugLocations}
 use Rattle.dwarf_line_table.proofs.FirstUses.{joined_only}
 use Rattle.dwarf_line_table.proofs.Keys.{unit_stays}
 
-pub record SoFar (meta : Maps) (places : Places) (first files : List SourceFile) (entries rest : List EncodedInstruction) (before : Option Row)
+pub record SoFar (meta : Maps) (places : DebugLocations) (first files : List SourceFile) (entries rest : List EncodedInstruction) (before : Option Row)
     (rows : List Row) : Type
     0 where
   pub unit : 0 < length files
   pub led : unit_in files ≡ unit_in first
   pub few : length files + length rest ≤ length first + length entries
-  pub known : (blocks : List Block) → ArePlaces blocks places
+  pub known : (blocks : List Block) → AreDebugLocations blocks places
       → first_uses is_file files (uses_in meta (unit_in first) blocks rest) ≡ first_uses is_file first (uses_in meta (unit_in first) blocks entries)
-  pub listed : (blocks : List Block) (more : List SourceFile) → ArePlaces blocks places
+  pub listed : (blocks : List Block) (more : List SourceFile) → AreDebugLocations blocks places
       → rows ++ changes before (rows_in (files ++ more) meta (unit_in first) blocks rest) ≡ changes None
       (rows_in (files ++ more) meta (unit_in first) blocks entries)
 
-pub starts : (meta : Maps) (places : Places) (first : List SourceFile) (entries : List EncodedInstruction) → 0 < length first →
+pub starts : (meta : Maps) (places : DebugLocations) (first : List SourceFile) (entries : List EncodedInstruction) → 0 < length first →
     SoFar meta places first first entries
     entries None []
 starts meta places first entries unit = record { unit = unit; led = refl; few = omega arith; known = λ blocks are. refl; listed = λ blocks more are. refl }
@@ -44,12 +45,12 @@ row_step before rows r rr = by (is_place_before before r)
     by true = refl
     by false = sym (append_assoc rows (r ∷ []) (changes (Some r) rr))
 
-pub next : (meta : Maps) (places : Places) (first files files_ : List SourceFile) (entries rest : List EncodedInstruction) (e : EncodedInstruction)
+pub next : (meta : Maps) (places : DebugLocations) (first files files_ : List SourceFile) (entries rest : List EncodedInstruction) (e : EncodedInstruction)
     (before before_ : Option Row)
     (rows rows_ : List Row)
     (r : Row) (loc : Loc)
     → SoFar meta places first files entries (e ∷ rest) before rows
-    → ((blocks : List Block) → ArePlaces blocks places → loc ≡ loc_of blocks (position_of e.origin))
+    → ((blocks : List Block) → AreDebugLocations blocks places → loc ≡ loc_of blocks (position_of e.origin))
     → files_ ≡ with_new is_file files (line_at meta (unit_in files) loc).file
     → ((more : List SourceFile) → r ≡ row_of_line (files_ ++ more) e.address (line_at meta (unit_in files) loc))
     → length files_ ≤ length files + 1
@@ -60,7 +61,7 @@ next meta places first files files_ entries rest e before before_ rows rows_ r l
     let file = (line_at meta (unit_in files) loc).file in
     let stays = unit_stays files file so.unit in
     let more_files = joined_only is_file files file in
-    let led_line : (blocks : List Block) → ArePlaces blocks places → line_at meta (unit_in files) loc ≡ line_at meta (unit_in first)
+    let led_line : (blocks : List Block) → AreDebugLocations blocks places → line_at meta (unit_in files) loc ≡ line_at meta (unit_in first)
     (loc_of blocks (position_of e.origin)) =
     λ blocks are. λ i. line_at meta (so.led i) (found blocks are i) in
     record {

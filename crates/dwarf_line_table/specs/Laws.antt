@@ -1,11 +1,12 @@
 -- Laws of a program's line number table.
 use Rattle.std.specs.Prelude.{◌≡◌, ℕ, ◌+◌, ◌<◌, ◌≤◌, List, [], ◌∷◌, Contains}
+use Rattle.mir_func.specs.Positions.{position_of}
 use Rattle.emit_code.specs.declared.code.EncodedInstruction.{EncodedInstruction}
 use Rattle.emit_code.specs.Laid.{StandFrom}
 use Rattle.dwarf_line.specs.declared.table.Row.{Row}
 use Rattle.read_metadata.specs.Maps.{Maps}
 use Rattle.dwarf_line_table.specs.declared.source_and_code.SourceAndCode.{SourceAndCode}
-use Rattle.dwarf_line_table.specs.SourcePosition.{no_line, scope_line, loc_of, position_of}
+use Rattle.dwarf_line_table.specs.SourcePosition.{no_line, scope_line, loc_of}
 use Rattle.dwarf_line_table.specs.Program.{program_file, function_end, table_of}
 use Rattle.dwarf_line_table.specs.Table.{entry_line}
 use Rattle.dwarf_line_table.specs.Rows.{IsRowAt, GivesLine}

@@ -12,7 +12,7 @@ use Rattle.mir_func.specs.declared.location.Loc.{Loc}
 use Rattle.mir_func.specs.declared.location.Loc.TheVariants.{Absent, Node, Inline}
 use Rattle.mir_func.specs.declared.position.Pos.{Pos}
 use Rattle.mir_func.specs.declared.position.Origin.{Origin}
-use Rattle.mir_func.specs.declared.position.Origin.TheVariants.{Kept, Before}
+use Rattle.mir_func.specs.Positions.{position_of}
 use Rattle.dwarf_line_table.specs.declared.file.SourceFile.{SourceFile}
 use Rattle.dwarf_line_table.specs.declared.scope_line.ScopeLine.{ScopeLine}
 use Rattle.dwarf_line_table.specs.Files.{file_or}
@@ -65,11 +65,6 @@ first_loc (i ∷ is) = loc_if_code i.kind i.loc (first_loc is)
 abbrev pub loc_of : List Block → Pos → Loc
 loc_of [] p = Absent
 loc_of (b ∷ bs) p = cond (nat_eq b.id p.block) (first_loc (drop p.item b.items)) (loc_of bs p)
-
--- the position of an origin
-abbrev pub position_of : Origin → Pos
-position_of (Kept p) = p
-position_of (Before p) = p
 
 -- the source position of code with this origin, in the blocks of the function as it was read
 abbrev pub line_of : Maps → SourceFile → List Block → Origin → SourceLine

@@ -2,8 +2,9 @@
 
 ghost use Rattle.std.specs.Prelude.{◌≡◌, List, IfOk};
 ghost use Rattle.mir_func.specs.declared.block.Block.{Block};
-ghost use Rattle.dwarf_line_table.specs.SourcePosition.{loc_if_code, loc_of, position_of};
-ghost use Rattle.dwarf_line_table.specs.steps.Places.{AreLocs, ArePlaces, loc_at};
+ghost use Rattle.mir_func.specs.Positions.{position_of};
+ghost use Rattle.dwarf_line_table.specs.SourcePosition.{loc_if_code, loc_of};
+ghost use Rattle.dwarf_line_table.specs.steps.DebugLocations.{AreLocs, AreDebugLocations, loc_at};
 
 use mir_func::block::Block;
 use mir_func::item::{Item, ItemKind};
@@ -15,15 +16,15 @@ use std::collections::BTreeMap;
 /// The debug locations of the positions of a function: for each position that of the first code at or after it in its
 /// block.
 #[derive(Drop)]
-pub struct Places {
+pub struct DebugLocations {
     /// By the block's number, and then by the index of the item.
     pub table: BTreeMap<u32, Vec<Loc>>,
 }
 
-impl Places {
+impl DebugLocations {
     /// The debug locations of the positions of blocks. The error is out of memory.
-    pub fn new(alloc: Global, blocks: &[Block]) -> Result<Places, AllocError>
-        ensures { IfOk result (ArePlaces blocks.now) }
+    pub fn new(alloc: Global, blocks: &[Block]) -> Result<DebugLocations, AllocError>
+        ensures { IfOk result (AreDebugLocations blocks.now) }
     {
         let mut places = BTreeMap::new(alloc);
         let mut index = blocks.len();
@@ -32,12 +33,13 @@ impl Places {
             let locs = locs(alloc, blocks[index].items.as_slice())?;
             drop(places.insert(blocks[index].id.number(), locs)?);
         }
-        Ok(Places { table: places })
+        Ok(DebugLocations { table: places })
     }
 
     /// The debug location of an origin's position.
     pub fn loc(&self, origin: &Origin) -> Loc
-        ensures { (blocks : List Block) → ArePlaces blocks self.now → result ≡ loc_of blocks (position_of origin.now) }
+        ensures { (blocks : List Block) → AreDebugLocations blocks self.now →
+            result ≡ loc_of blocks (position_of origin.now) }
     {
         match *origin {
             Origin::Kept(position) | Origin::Before(position) => self.at(&position),
@@ -46,7 +48,7 @@ impl Places {
 
     /// The debug location of a position.
     fn at(&self, position: &Pos) -> Loc
-        ensures { (blocks : List Block) → ArePlaces blocks self.now → result ≡ loc_of blocks position.now }
+        ensures { (blocks : List Block) → AreDebugLocations blocks self.now → result ≡ loc_of blocks position.now }
     {
         match self.table.get(&position.block.number()) {
             Some(locs) => loc_at(locs.as_slice(), position.item as usize),

@@ -8,7 +8,7 @@ ghost use Rattle.dwarf_line_table.specs.Files.{first_uses, is_file, unit_in};
 ghost use Rattle.dwarf_line_table.specs.Program.{MAX_FUNCTIONS, function_uses, sequences_of, function_end, table_of};
 ghost use Rattle.emit_code.specs.Counts.{MAX_WORDS};
 
-use crate::debug_locations::Places;
+use crate::debug_locations::DebugLocations;
 use crate::entries::Entries;
 use crate::file::Files;
 use crate::rows::rows;
@@ -69,7 +69,7 @@ fn push_sequence(
 {
     let source = function.source;
     let code = function.code;
-    let places = Places::new(alloc, source.blocks.as_slice())?;
+    let places = DebugLocations::new(alloc, source.blocks.as_slice())?;
     let rows = rows(alloc, files, meta, &places, code.entries.as_slice())?;
     if !rows.is_empty() {
         let end = code.base + 4 * code.words.len() as u64;

@@ -8,9 +8,9 @@ ghost use Rattle.dwarf_line_table.specs.declared.file.SourceFile.{SourceFile};
 ghost use Rattle.dwarf_line_table.specs.Files.{number_in, with_new, first_uses, is_file, unit_in};
 ghost use Rattle.dwarf_line_table.specs.SourcePosition.{scope_file, line_at};
 ghost use Rattle.dwarf_line_table.specs.Table.{row_of_line, is_place, is_place_before, changes, uses_in, rows_in};
-ghost use Rattle.dwarf_line_table.specs.steps.Places.{ArePlaces};
+ghost use Rattle.dwarf_line_table.specs.steps.DebugLocations.{AreDebugLocations};
 
-use crate::debug_locations::Places;
+use crate::debug_locations::DebugLocations;
 use crate::file::Files;
 use crate::scope_line::scope_line;
 use base_ids::metadata::NodeId;
@@ -103,16 +103,17 @@ pub fn rows(
     alloc: Global,
     files: &mut Files,
     meta: &Metadata,
-    places: &Places,
+    places: &DebugLocations,
     entries: &[EncodedInstruction],
 ) -> Result<RowList, AllocError>
     requires unit { 0 < length files.old }
     requires room { length files.old + length entries.now < 2 ^ 32 - 2 }
-    ensures known { (blocks : List Block) → ArePlaces blocks places.now → OnOk result
+    ensures known { (blocks : List Block) → AreDebugLocations blocks places.now → OnOk result
         (files.new ≡ first_uses is_file files.old (uses_in meta.now (unit_in files.old) blocks entries.now)) }
     // Whatever files join later.
-    ensures rows { (blocks : List Block) (more : List SourceFile) → ArePlaces blocks places.now → IfOk result (λ rows.
-        rows ≡ changes None (rows_in (files.new ++ more) meta.now (unit_in files.old) blocks entries.now)) }
+    ensures rows { (blocks : List Block) (more : List SourceFile) → AreDebugLocations blocks places.now →
+        IfOk result (λ rows. rows ≡ changes None
+        (rows_in (files.new ++ more) meta.now (unit_in files.old) blocks entries.now)) }
     ensures few { OnOk result (length files.new ≤ length files.old + length entries.now) }
 {
     let mut rows = RowList::new(alloc);

@@ -4,7 +4,7 @@ ghost use Rattle.std.specs.Prelude.{◌≡◌, ◌↔◌, IsTrue, IfOk};
 
 use base_list::List;
 use rv64_instr::place::Place;
-use std::alloc::AllocError;
+use std::alloc::{AllocError, Global};
 
 /// A piece of a variable, with its place. Of a register or a constant the low-order bytes are taken.
 #[derive(Clone, Copy, Debug, PartialEq, Eq)]
@@ -69,3 +69,18 @@ pub type Ranges = List<Range>;
 
 /// The ranges of each variable, in the order of their numbers.
 pub type RangeLists = List<Ranges>;
+
+/// A copy of the ranges.
+pub fn copied(alloc: Global, ranges: &[Range]) -> Result<Ranges, AllocError>
+    ensures { IfOk result (λ made. made ≡ ranges.now) }
+{
+    let mut made = Ranges::new(alloc);
+    for range in ranges {
+        made.push(Range {
+            lo: range.lo,
+            hi: range.hi,
+            location: range.location.copy()?,
+        })?;
+    }
+    Ok(made)
+}

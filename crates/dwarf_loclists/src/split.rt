@@ -13,7 +13,7 @@ ghost use Rattle.dwarf_loclists.specs.Spelling.{simple_location, gap, piece, Spe
 
 use crate::constants::*;
 use crate::range::Part;
-use base_ids::code::SlotId;
+use base_ids::function_ids::SlotId;
 use dwarf_base::front::{split_sleb, split_uleb};
 use rv64_instr::place::Place;
 use rv64_instr::reg::physical;

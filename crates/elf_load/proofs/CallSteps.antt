@@ -1,11 +1,12 @@
 -- The two words of a call site call its target.
 use Rattle.std.specs.Prelude.{◌-ℤ◌, ◌==◌, ◌&&◌, Option, if◌then◌else◌}
 use Rattle.std.proofs.Common.{◌≡◌, ℕ, zero, suc, ◌+◌, ◌-◌, ◌*◌, ◌/◌, ◌%◌, ◌^◌, ◌≤◌, ◌<◌, pos, negsuc, Bool, true, false, List, cond, IsTrue, Some}
-use Rattle.std.proofs.Common.{arith, ap, ◌∙◌, refl, inl, inr, lt-ltb, le-ltb, le-leb}
+use Rattle.std.proofs.Common.{arith, ap, ◌∙◌, refl, inl, inr, le-leb}
 use Rattle.std.proofs.lemmas.Bool.{cases_lt, ne_eqb}
 use Rattle.std.proofs.lemmas.Int.{ints}
 use Rattle.rv64_instr.specs.Arithmetic.{word, extend32}
 use Rattle.rv64_instr.specs.Form.{is_within}
+use Rattle.rv64_instr.proofs.SignExtension.{extend_low, extend_high}
 use Rattle.rv64_word.specs.declared.format.EncodingField.TheVariants.{Opcode, Rd, Imm}
 use Rattle.rv64_word.specs.declared.format.Format.TheVariants.{Upper, Immediate}
 use Rattle.rv64_word.specs.declared.machine_op.MachineOp.{MachineOp}
@@ -55,16 +56,6 @@ pub jump_fits : (d : ℕ) → IsTrue (is_encodable (jump d))
 jump_fits d = lower_fits (d % 4096) (omega arith)
 
 -- ---- the number of AUIPC
-
-extend_low : (k : ℕ) → k < 2 ^ 31 → extend32 k ≡ k
-extend_low k h =
-    let e : k % 2 ^ 32 ≡ k = omega (arith, h) in
-    rw (e, lt-ltb k (2 ^ 31) h) (omega (arith, h))
-
-extend_high : (k : ℕ) → 2 ^ 31 ≤ k → k < 2 ^ 32 → extend32 k ≡ 2 ^ 64 - 2 ^ 32 + k
-extend_high k h lt =
-    let e : k % 2 ^ 32 ≡ k = omega (arith, lt) in
-    rw (e, le-ltb k (2 ^ 31) h) (omega (arith, h, lt))
 
 upper_added : (q : ℕ) → q < 2 ^ 20 → extend32 ((q + 2 ^ 19) % 2 ^ 20 * 4096) ≡ (2 ^ 64 - 2 ^ 31 + q * 4096) % 2 ^ 64
 upper_added q lt =

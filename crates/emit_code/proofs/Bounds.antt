@@ -2,16 +2,20 @@
 use Rattle.std.proofs.Common.{◌≡◌, ℕ, zero, suc, ◌+◌, ◌*◌, ◌%◌, ◌≤◌, Bool, true, false, List, [], ◌∷◌, take, refl, arith}
 use Rattle.std.specs.Prelude.{sum_by}
 use Rattle.std.proofs.lemmas.List.Sums.{sum_by-cons, sum_by-take-le}
-use Rattle.rv64_instr.specs.Row.{Row, Branches, row_of}
+use Rattle.rv64_instr.specs.Row.{Row, row_of}
+use Rattle.rv64_instr.specs.LocationEffects.{has_site}
 use Rattle.mir_func.specs.declared.block.Block.{Block}
 use Rattle.mir_func.specs.declared.item.Item.{Item}
 use Rattle.mir_func.specs.declared.item.ItemKind.{ItemKind}
 use Rattle.mir_func.specs.declared.item.ItemKind.TheVariants.{Code, Mark, Phi}
 use Rattle.mir_func.specs.declared.position.Pos.{Pos}
 use Rattle.mir_func.specs.Successors.{pos_in}
-use Rattle.emit_code.specs.Counts.{row_words, kind_count, item_count, count_of}
+use Rattle.mir_func.specs.declared.exit.Exit.{Exit}
+use Rattle.mir_func.specs.declared.exit.Exit.TheVariants.{Onward, Perhaps, Always, Final}
+use Rattle.mir_func.specs.Exits.{row_exit}
+use Rattle.emit_code.specs.Counts.{row_words, kind_count, item_count, count_of, exit_words}
 use Rattle.emit_code.specs.Rule as rule
-use Rattle.emit_code.specs.Rule.{Form, form_size, row_form, form_of, items_size, blocks_size, items_at, bytes_before}
+use Rattle.emit_code.specs.Rule.{Form, form_size, row_form, form_of, items_size, blocks_size, items_at, bytes_before, exit_form}
 
 -- ---- multiples of 4
 
@@ -35,10 +39,17 @@ bytes_aligned long blocks p =
 
 -- ---- few of them
 
+exit_small : (long : Bool) (e : Exit) (site : Bool) → form_size (exit_form long e site) ≤ 4 * exit_words e site
+exit_small true (Perhaps n) site = omega arith
+exit_small false (Perhaps n) site = omega arith
+exit_small long (Always n) site = omega arith
+exit_small long Onward true = omega arith
+exit_small long Onward false = omega arith
+exit_small long Final true = omega arith
+exit_small long Final false = omega arith
+
 row_small : (long : Bool) (row : Row) → form_size (row_form long row) ≤ 4 * row_words row
-row_small true (Branches op a b n) = omega arith
-row_small false (Branches op a b n) = omega arith
-row_small long _ = omega arith
+row_small long row = exit_small long (row_exit row) (has_site row)
 
 kind_small : (long : Bool) (kind : ItemKind) → form_size (form_of long kind) ≤ 4 * kind_count kind
 kind_small long (Code i k) = row_small long (row_of i)

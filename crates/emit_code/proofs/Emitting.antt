@@ -17,28 +17,32 @@ use Rattle.rv64_instr.specs.declared.op.BranchOp.TheVariants.{Beq}
 use Rattle.rv64_instr.specs.declared.operand.Operand.{Operand}
 use Rattle.rv64_instr.specs.declared.operand.Operand.TheVariants.{Def, Use, Imm, Slot, Object, Block as OfBlock}
 use Rattle.rv64_instr.specs.Instruction.{Instruction}
-use Rattle.rv64_instr.specs.Row.{Row, Branches, Calls, row_of}
+use Rattle.rv64_instr.specs.Row.{Row, row_of, implicit_uses}
+use Rattle.rv64_instr.specs.LocationEffects.{has_site}
+use Rattle.rv64_instr.specs.Inverse.{inverse_op, inverse}
 use Rattle.rv64_word.specs.declared.machine_op.MachineOp.{MachineOp}
 use Rattle.rv64_word.specs.declared.word_op.WordOp.{WordOp}
 use Rattle.rv64_word.specs.declared.word_op.WordOp.TheVariants.{Registers, Immediate, Lui, Branch, Load, Store, Jal, Jalr}
 use Rattle.rv64_word.specs.MachineOp.{is_encodable}
 use Rattle.rv64_word.specs.Lowering.{lowered, fields_of, register_fields, immediate_fields, object_fields, upper_fields, branch_fields, load_fields}
-use Rattle.rv64_word.specs.Lowering.{store_fields, copy_fields, jump_fields, in_range, machine_op}
+use Rattle.rv64_word.specs.Lowering.{store_fields, copy_fields, jump_fields, in_range, machine_op, held_fields}
 use Rattle.mir_func.specs.declared.block.Block.{Block}
 use Rattle.mir_func.specs.declared.item.Item.{Item}
 use Rattle.mir_func.specs.declared.item.ItemKind.{ItemKind}
 use Rattle.mir_func.specs.declared.item.ItemKind.TheVariants.{Code, Mark, Phi}
 use Rattle.mir_func.specs.declared.position.Pos.{Pos}
 use Rattle.mir_func.specs.Successors.{pos_in}
+use Rattle.mir_func.specs.declared.exit.Exit.{Exit}
+use Rattle.mir_func.specs.declared.exit.Exit.TheVariants.{Onward, Perhaps, Always, Final}
+use Rattle.mir_func.specs.Exits.{row_exit}
 use Rattle.emit_code.specs.declared.plan.ItemLayout.{ItemLayout}
 use Rattle.emit_code.specs.declared.span.Span.{Span}
 use Rattle.emit_code.specs.declared.span.Span.TheVariants.{Nothing, OneWord, CallSite, Short, Long}
-use Rattle.emit_code.specs.Inverted.{inverted, inverted_op}
 use Rattle.emit_code.specs.Rule as rule
 use Rattle.emit_code.specs.Rule.{Layout, Site, form_of, row_form, form_words, form_entries, kind_words, entries_at, address_in, start_of}
-use Rattle.emit_code.specs.Rule.{operation_at, skip_operation, word_if, entry, added_before, items_at, sites_in, sites_from}
+use Rattle.emit_code.specs.Rule.{operation_at, skip_operation, word_if, entry, added_before, items_at, sites_in, sites_from, exit_form, site_words}
 use Rattle.emit_code.specs.steps.Places.{items_count, first_of}
-use Rattle.emit_code.specs.steps.Spans.{row_span, span_of, site_span, sums_from}
+use Rattle.emit_code.specs.steps.Spans.{row_span, span_of, site_span, sums_from, exit_span}
 use Rattle.emit_code.specs.steps.Plans.{IsPlan}
 use Rattle.emit_code.proofs.Sites.{sites_more, first_at, site_from}
 use Rattle.emit_code.proofs.Settled.{sum_here}
@@ -49,7 +53,7 @@ use Rattle.emit_code.specs.steps.Emitted.{AllStandAt, inverted_word, jump_by}
 pub inv : MachineOp → MachineOp
 inv m = record m { op = inverted_word m.op }
 
-branch_inverted : (op : BranchOp) (operands : List Operand) (offset : ℤ) → branch_fields (inverted op) operands offset ≡ option_map inv (branch_fields op
+branch_inverted : (op : BranchOp) (operands : List Operand) (offset : ℤ) → branch_fields (inverse op) operands offset ≡ option_map inv (branch_fields op
     operands offset)
 unfolding inv
 branch_inverted op (Use a ∷ Use b ∷ OfBlock n ∷ rest) offset = refl
@@ -100,7 +104,12 @@ unfolding inv
 jump_kept (OfBlock n ∷ rest) offset = refl
 jump_kept operands offset = refl
 
-op_inverted : (op : Op) (operands : List Operand) (offset : ℤ) → fields_of (inverted_op op) operands offset 0 ≡ option_map inv (fields_of op operands offset 0)
+held_kept : (link : ℕ) (xs : List ℕ) → held_fields link xs ≡ option_map inv (held_fields link xs)
+unfolding inv
+held_kept link [] = refl
+held_kept link (r ∷ xs) = refl
+
+op_inverted : (op : Op) (operands : List Operand) (offset : ℤ) → fields_of (inverse_op op) operands offset 0 ≡ option_map inv (fields_of op operands offset 0)
 unfolding inv
 op_inverted (source.Branch op) operands offset = branch_inverted op operands offset
 op_inverted (source.Registers op) operands offset = registers_kept op operands
@@ -112,8 +121,13 @@ op_inverted source.Copy operands offset = copy_kept operands
 op_inverted source.PseudoBr operands offset = jump_kept operands offset
 op_inverted source.PseudoCall operands offset = refl
 op_inverted source.PseudoRet operands offset = refl
+op_inverted source.PseudoCallIndirect operands offset = held_kept 1 (implicit_uses operands)
+op_inverted source.PseudoTail operands offset = refl
+op_inverted source.PseudoTailIndirect operands offset = held_kept 0 (implicit_uses operands)
+op_inverted source.NoReturnCall operands offset = refl
+op_inverted source.NoReturnCallIndirect operands offset = held_kept 1 (implicit_uses operands)
 
-branch_format : (op : BranchOp) (rd rs1 rs2 : ℕ) (imm : ℤ) → is_encodable (machine_op (Branch (inverted op)) rd rs1 rs2 imm) ≡ is_encodable (machine_op (Branch
+branch_format : (op : BranchOp) (rd rs1 rs2 : ℕ) (imm : ℤ) → is_encodable (machine_op (Branch (inverse op)) rd rs1 rs2 imm) ≡ is_encodable (machine_op (Branch
     op) rd rs1 rs2 imm)
 branch_format Beq rd rs1 rs2 imm = refl
 branch_format _ rd rs1 rs2 imm = refl
@@ -160,24 +174,41 @@ skip_none i e = ap (option_map inv) e ∙ sym (skipped i)
 
 -- ---- words by what stands there
 
+one_exit : (blocks : List Block) (long : Bool) (e : Exit) (site : Bool) (s : Span) → s ≡ exit_span blocks long e site →
+    (s ≡ OneWord) ⊎ ((t : ℕ) × (s ≡ Short t)) → exit_form long e site ≡ rule.OneWord
+one_exit blocks true (Perhaps n) site s e (inl is) = absurd cc
+one_exit blocks true (Perhaps n) site s e (inr is) = let f : s ≡ Short is.0 = is.1 in absurd cc
+one_exit blocks false (Perhaps n) site s e is = refl
+one_exit blocks long (Always n) site s e is = refl
+one_exit blocks long Onward true s e (inl is) = absurd cc
+one_exit blocks long Onward true s e (inr is) = let f : s ≡ Short is.0 = is.1 in absurd cc
+one_exit blocks long Onward false s e is = refl
+one_exit blocks long Final true s e (inl is) = absurd cc
+one_exit blocks long Final true s e (inr is) = let f : s ≡ Short is.0 = is.1 in absurd cc
+one_exit blocks long Final false s e is = refl
+
 one_of : (blocks : List Block) (long : Bool) (row : Row) (s : Span) → s ≡ row_span blocks long row → (s ≡ OneWord) ⊎ ((t : ℕ) × (s ≡ Short t)) →
     row_form long row ≡ rule.OneWord
-one_of blocks true (Branches op a b n) s e (inl is) = absurd cc
-one_of blocks true (Branches op a b n) s e (inr is) = let f : s ≡ Short is.0 = is.1 in absurd cc
-one_of blocks false (Branches op a b n) s e is = refl
-one_of blocks long (Calls name args) s e (inl is) = absurd cc
-one_of blocks long (Calls name args) s e (inr is) = let f : s ≡ Short is.0 = is.1 in absurd cc
-one_of blocks long _ s e is = refl
+one_of blocks long row s e is = one_exit blocks long (row_exit row) (has_site row) s e is
 
 pub record IsLongForm (blocks : List Block) (long : Bool) (row : Row) (t : ℕ) : Type 0 where
   pub block : ℕ
   pub form : row_form long row ≡ rule.LongBranch block
   pub target : t ≡ first_of blocks block
 
+long_exit : (blocks : List Block) (long : Bool) (e : Exit) (site : Bool) (t : ℕ) → Long t ≡ exit_span blocks long e site →
+    (block : ℕ) × (exit_form long e site ≡ rule.LongBranch block) × (t ≡ first_of blocks block)
+long_exit blocks true (Perhaps n) site t e = let same : t ≡ first_of blocks n = cc in (n, refl, same)
+long_exit blocks false (Perhaps n) site t e = absurd cc
+long_exit blocks long (Always n) site t e = absurd cc
+long_exit blocks long Onward true t e = absurd cc
+long_exit blocks long Onward false t e = absurd cc
+long_exit blocks long Final true t e = absurd cc
+long_exit blocks long Final false t e = absurd cc
+
 long_of : (blocks : List Block) (long : Bool) (row : Row) (t : ℕ) → Long t ≡ row_span blocks long row → IsLongForm blocks long row t
-long_of blocks true (Branches op a b n) t e = let same : t ≡ first_of blocks n = cc in record { block = n; form = refl; target = same }
-long_of blocks false (Branches op a b n) t e = absurd cc
-long_of blocks long _ t e = absurd cc
+long_of blocks long row t e =
+    let h = long_exit blocks long (row_exit row) (has_site row) t e in record { block = h.0; form = h.1; target = h.2 }
 
 pub one_word : (l : Layout) (p : Pos) (a : ℕ) (i : Instruction) (k : Option ℕ) (s : Span) → s ≡ span_of l.framed.blocks (l.long p) (Code i k) →
     (s ≡ OneWord) ⊎ ((t : ℕ) × (s ≡ Short t)) → a ≡ address_in l p → word_if (operation_at l a i) ≡ kind_words l p (Code i k)
@@ -194,11 +225,22 @@ long_words l p a b i k t e at to =
 
 -- ---- entries by what stands there
 
+call_exit : (blocks : List Block) (long : Bool) (e : Exit) (site : Bool) → CallSite ≡ exit_span blocks long e site → exit_form long e site ≡ rule.CallSite
+call_exit blocks true (Perhaps n) site e = absurd cc
+call_exit blocks false (Perhaps n) site e = absurd cc
+call_exit blocks long (Always n) site e = absurd cc
+call_exit blocks long Onward true e = refl
+call_exit blocks long Onward false e = absurd cc
+call_exit blocks long Final true e = refl
+call_exit blocks long Final false e = absurd cc
+
 call_of : (blocks : List Block) (long : Bool) (row : Row) → CallSite ≡ row_span blocks long row → row_form long row ≡ rule.CallSite
-call_of blocks long (Calls name args) e = refl
-call_of blocks true (Branches op a b n) e = absurd cc
-call_of blocks false (Branches op a b n) e = absurd cc
-call_of blocks long _ e = absurd cc
+call_of blocks long row e = call_exit blocks long (row_exit row) (has_site row) e
+
+-- the words of a site
+pub words_of_site : (l : Layout) (p : Pos) (i : Instruction) (k : Option ℕ) → CallSite ≡ span_of l.framed.blocks (l.long p) (Code i k) →
+    site_words (row_of i) ≡ kind_words l p (Code i k)
+words_of_site l p i k e = sym (ap (form_words l (address_in l p) i) (call_of l.framed.blocks (l.long p) (row_of i) e))
 
 one_kind : (blocks : List Block) (long : Bool) (kind : ItemKind) (s : Span) → s ≡ span_of blocks long kind → (s ≡ OneWord) ⊎ ((t : ℕ) × (s ≡ Short t)) →
     form_of long kind ≡ rule.OneWord
@@ -213,10 +255,17 @@ call_kind blocks long (Code i k) e = call_of blocks long (row_of i) e
 call_kind blocks long (Mark v m) e = absurd cc
 call_kind blocks long (Phi p k) e = absurd cc
 
+exit_something : (blocks : List Block) (long : Bool) (e : Exit) (site : Bool) → Nothing ≡ exit_span blocks long e site → ⊥
+exit_something blocks true (Perhaps n) site e = cc
+exit_something blocks false (Perhaps n) site e = cc
+exit_something blocks long (Always n) site e = cc
+exit_something blocks long Onward true e = cc
+exit_something blocks long Onward false e = cc
+exit_something blocks long Final true e = cc
+exit_something blocks long Final false e = cc
+
 row_something : (blocks : List Block) (long : Bool) (row : Row) → Nothing ≡ row_span blocks long row → ⊥
-row_something blocks true (Branches op a b n) e = cc
-row_something blocks false (Branches op a b n) e = cc
-row_something blocks long _ e = cc
+row_something blocks long row e = exit_something blocks long (row_exit row) (has_site row) e
 
 none_kind : (blocks : List Block) (long : Bool) (kind : ItemKind) → Nothing ≡ span_of blocks long kind → form_of long kind ≡ rule.Nothing
 none_kind blocks long (Code i k) e = absurd (row_something blocks long (row_of i) e)

@@ -1,10 +1,11 @@
 -- Each instruction of a function with its frame has its word.
 use Rattle.std.proofs.Common.{◌≡◌, ℕ, zero, suc, ◌+◌, ◌-◌, ◌%◌, ◌<◌, ◌≤◌, Bool, true, false, List, ◌∷◌, Option, Some, None, refl, sym, ap, subst, inl, inr, ◌∙◌}
-use Rattle.std.proofs.Common.{arith}
+use Rattle.std.proofs.Common.{arith, ◌⊎◌, nat_eq, nat_le, nat_lt, ◌||◌, ◌&&◌}
 use Rattle.std.specs.Prelude.{◌⊎◌, ◌&&◌, ℤ, pos, negsuc, ◌-ℤ◌, ◌+ℤ◌, IsTrue, All, Contains, option_and_then, if◌then◌else◌}
 use Rattle.std.specs.List.{list_all}
 use Rattle.std.proofs.lemmas.Bool.Decides.{nat_tests}
 use Rattle.std.proofs.lemmas.Int.{ints}
+use Rattle.std.proofs.lemmas.Bool.{and_parts}
 use Rattle.rv64_instr.specs.Arithmetic.{word, load_width, store_width}
 use Rattle.rv64_instr.specs.declared.op.Op.{Op}
 use Rattle.rv64_instr.specs.declared.op.Op.TheVariants as source
@@ -19,17 +20,18 @@ use Rattle.rv64_instr.specs.declared.op.LoadOp.TheVariants.{Lb, Ld}
 use Rattle.rv64_instr.specs.declared.op.StoreOp.{StoreOp}
 use Rattle.rv64_instr.specs.declared.op.StoreOp.TheVariants.{Sb, Sh, Sw, Sd}
 use Rattle.rv64_instr.specs.declared.operand.Operand.{Operand}
-use Rattle.rv64_instr.specs.declared.operand.Operand.TheVariants.{Def, Use, Imm, Slot, Object as OfObject, Block as OfBlock, Mask}
+use Rattle.rv64_instr.specs.declared.operand.Operand.TheVariants.{Def, Use, Imm, Slot, Object as OfObject, Part, Block as OfBlock, Mask, ImplicitUse, Symbol}
+use Rattle.rv64_instr.specs.declared.symbol.Half.TheVariants.{Upper, Lower}
 use Rattle.rv64_instr.specs.Instruction.{Instruction}
 use Rattle.rv64_word.specs.declared.format.Format.{Format}
 use Rattle.rv64_word.specs.declared.format.Format.TheVariants as format
 use Rattle.rv64_word.specs.declared.machine_op.MachineOp.{MachineOp}
 use Rattle.rv64_word.specs.declared.word_op.WordOp.TheVariants.{Registers, Immediate, Lui, Branch, Load, Store, Jal, Jalr}
 use Rattle.rv64_word.specs.Operation.{encoding_of}
-use Rattle.rv64_word.specs.Lowering.{lowered, fields_of, in_range, machine_op}
+use Rattle.rv64_word.specs.Lowering.{lowered, fields_of, in_range, machine_op, held_fields}
 use Rattle.rv64_word.proofs.Fitting.{is_fit}
-use Rattle.rv64_instr.specs.Row.{row_of}
-use Rattle.rv64_instr.specs.Parts.{object_named}
+use Rattle.rv64_instr.specs.Row.{row_of, call_row, tail_row, gone_row}
+use Rattle.rv64_instr.specs.LocationEffects.{object_named, has_site}
 use Rattle.mir_func.specs.declared.exit.Exit.{Exit}
 use Rattle.mir_func.specs.declared.exit.Exit.TheVariants.{Onward, Perhaps, Always, Final}
 use Rattle.mir_func.specs.declared.object.Object.{Object}
@@ -38,8 +40,11 @@ use Rattle.mir_func.specs.Objects.{offset_of}
 use Rattle.mir_func.specs.Sound.{SlotIn, ObjectIn, HasBytes}
 use Rattle.mir_func.specs.SoundFrame.{IsPhysical}
 use Rattle.rv64_instr.specs.Form.{is_within, has_12_bits, is_immediate, is_addi, is_implicit, fits_registers, fits_immediate, fits_upper, fits_branch}
-use Rattle.rv64_instr.specs.Form.{fits_load, fits_store, fits_copy, fits_jump, has_form}
+use Rattle.rv64_instr.specs.Form.{fits_load, fits_store, fits_copy, fits_jump, has_form, is_argument, is_tail_use}
+use Rattle.rv64_instr.specs.Form.{is_tail_register, fits_call, fits_held_call, fits_tail, fits_held_tail, fits_gone, fits_held_gone}
+use Rattle.rv64_instr.proofs.Tails.{IsTailRegister, held_callee, tail_callee, tail_low}
 use Rattle.rv64_word.specs.MachineOp.{fits, is_encodable, is_even}
+use Rattle.emit_code.proofs.Fits.{held_fit, callee_not_two}
 
 -- ---- offsets
 
@@ -214,6 +219,9 @@ upper_word : (operands : List Operand) (offset : ℤ) (object : ℕ) → IsTrue 
 upper_word (Def rd ∷ Imm i ∷ rest) offset object form physical =
     with_word offset object (instruction source.Lui (Def rd ∷ Imm i ∷ rest)) (machine_op Lui rd 0 0 i) refl (upper_encodes rd i (physical 0 Mask (omega arith))
     (left _ _ form))
+upper_word (Def rd ∷ Part Upper y ∷ rest) offset object form physical =
+    with_word offset object (instruction source.Lui (Def rd ∷ Part Upper y ∷ rest)) (machine_op Lui rd 0 0 (pos 0)) refl
+    (upper_encodes rd (pos 0) (physical 0 Mask (omega arith)) refl)
 upper_word operands offset object form physical = absurd cc
 
 copy_word : (operands : List Operand) (offset : ℤ) (object : ℕ) → IsTrue (fits_copy operands) → Physical operands →
@@ -270,6 +278,9 @@ module _ (slots : List ℕ) (objects : List Object) (own : ℕ) (low : (n : ℕ)
       (immediate_encodes op rd a i (physical 0 Mask (omega arith)) (physical 1 Mask (omega arith)) (left _ _ form))
   immediate_word op (Def rd ∷ OfObject n ∷ Imm i ∷ rest) offset form physical inside = object_word op rd n i rest offset form (physical 0 Mask (omega arith))
       inside
+  immediate_word op (Def rd ∷ Use a ∷ Part Lower y ∷ rest) offset form physical inside =
+      with_word offset _ (instruction (source.Immediate op) (Def rd ∷ Use a ∷ Part Lower y ∷ rest)) (machine_op (Immediate Addi) rd a 0 (pos 0)) refl
+      (immediate_encodes Addi rd a (pos 0) (physical 0 Mask (omega arith)) (physical 1 Mask (omega arith)) refl)
   immediate_word op operands offset form physical inside = absurd cc
 
   load_word : (op : LoadOp) (operands : List Operand) (offset : ℤ) → IsTrue (fits_load op operands) → Physical operands →
@@ -287,6 +298,9 @@ module _ (slots : List ℕ) (objects : List Object) (own : ℕ) (low : (n : ℕ)
       (machine_op (Load op) rd 2 0 (pos (own + offset_of objects n) +ℤ i)) refl
       (load_encodes op rd 2 (pos (own + offset_of objects n) +ℤ i) (physical 0 Mask (omega arith)) (omega arith)
       (object_sum (own + offset_of objects n) i (omega (arith, fits_in)) (left _ _ form)))
+  load_word op (Def rd ∷ Use base ∷ Part Lower y ∷ rest) offset form physical slot inside =
+      with_word offset _ (instruction (source.Load op) (Def rd ∷ Use base ∷ Part Lower y ∷ rest)) (machine_op (Load op) rd base 0 (pos 0)) refl
+      (load_encodes op rd base (pos 0) (physical 0 Mask (omega arith)) (physical 1 Mask (omega arith)) refl)
   load_word op operands offset form physical slot inside = absurd cc
 
   store_word : (op : StoreOp) (operands : List Operand) (offset : ℤ) → IsTrue (fits_store op operands) → Physical operands →
@@ -304,12 +318,60 @@ module _ (slots : List ℕ) (objects : List Object) (own : ℕ) (low : (n : ℕ)
       (machine_op (Store op) 0 2 rs (pos (own + offset_of objects n) +ℤ i)) refl
       (store_encodes op 2 rs (pos (own + offset_of objects n) +ℤ i) (omega arith) (physical 0 Mask (omega arith))
       (object_sum (own + offset_of objects n) i (omega (arith, fits_in)) (left _ _ form)))
+  store_word op (Use rs ∷ Use base ∷ Part Lower y ∷ rest) offset form physical slot inside =
+      with_word offset _ (instruction (source.Store op) (Use rs ∷ Use base ∷ Part Lower y ∷ rest)) (machine_op (Store op) 0 base rs (pos 0)) refl
+      (store_encodes op base rs (pos 0) (physical 1 Mask (omega arith)) (physical 0 Mask (omega arith)) refl)
   store_word op operands offset form physical slot inside = absurd cc
 
-  -- every instruction but a call has its word
+  held_encodes : (link r : ℕ) → link < 32 → r < 32 → encodes (machine_op Jalr link r 0 (pos 0))
+  held_encodes link r l h = is_fit format.Immediate (machine_op Jalr link r 0 (pos 0)) (l, h, refl, refl)
+
+  held_call_word : (operands : List Operand) (offset : ℤ) (object : ℕ) → IsTrue (fits_held_call operands) →
+      HasWord offset object (instruction source.PseudoCallIndirect operands)
+  held_call_word (ImplicitUse r ∷ Mask ∷ rest) offset object form =
+      let is = held_callee r (and_parts (nat_le 5 r && nat_lt r 32) (list_all is_argument rest) form).0 in
+      let low = is.0 in
+      with_word offset object (instruction source.PseudoCallIndirect (ImplicitUse r ∷ Mask ∷ rest)) (machine_op Jalr 1 r 0 (pos 0))
+      (ap (held_fields 1) (held_fit r (Mask ∷ rest) (λ two. omega (arith, low, two)))) (held_encodes 1 r (omega arith) is.1)
+  held_call_word operands offset object form = absurd cc
+
+  callee_under : (r : ℕ) → (r ≡ 6) ⊎ IsTailRegister r → r < 32
+  callee_under r (inl six) = omega (arith, six)
+  callee_under r (inr is) = tail_low r is
+
+  held_tail_word : (operands : List Operand) (offset : ℤ) (object : ℕ) → IsTrue (fits_held_tail operands) →
+      HasWord offset object (instruction source.PseudoTailIndirect operands)
+  held_tail_word (ImplicitUse r ∷ rest) offset object form =
+      let callee = tail_callee r (and_parts (nat_eq r 6 || is_tail_register r) (list_all is_tail_use rest) form).0 in
+      with_word offset object (instruction source.PseudoTailIndirect (ImplicitUse r ∷ rest)) (machine_op Jalr 0 r 0 (pos 0))
+      (ap (held_fields 0) (held_fit r rest (callee_not_two r callee))) (held_encodes 0 r (omega arith) (callee_under r callee))
+  held_tail_word operands offset object form = absurd cc
+
+  held_gone_word : (operands : List Operand) (offset : ℤ) (object : ℕ) → IsTrue (fits_held_gone operands) →
+      HasWord offset object (instruction source.NoReturnCallIndirect operands)
+  held_gone_word (ImplicitUse r ∷ Mask ∷ rest) offset object form =
+      let callee = tail_callee r (and_parts (nat_eq r 6 || is_tail_register r) (list_all is_tail_use rest) form).0 in
+      with_word offset object (instruction source.NoReturnCallIndirect (ImplicitUse r ∷ Mask ∷ rest)) (machine_op Jalr 1 r 0 (pos 0))
+      (ap (held_fields 1) (held_fit r (Mask ∷ rest) (callee_not_two r callee))) (held_encodes 1 r (omega arith) (callee_under r callee))
+  held_gone_word operands offset object form = absurd cc
+
+  -- what names a callee has two words
+  named_call : (operands : List Operand) → IsTrue (fits_call operands) → has_site (call_row operands) ≡ true
+  named_call (Symbol name ∷ Mask ∷ rest) form = refl
+  named_call operands form = absurd cc
+
+  named_tail : (operands : List Operand) → IsTrue (fits_tail operands) → has_site (tail_row operands) ≡ true
+  named_tail (Symbol name ∷ rest) form = refl
+  named_tail operands form = absurd cc
+
+  named_gone : (operands : List Operand) → IsTrue (fits_gone operands) → has_site (gone_row operands) ≡ true
+  named_gone (Symbol name ∷ Mask ∷ rest) form = refl
+  named_gone operands form = absurd cc
+
+  -- every instruction that names no callee has its word
   pub code_word : (op : Op) (operands : List Operand) (offset : ℤ) → IsTrue (has_form op operands) → Physical operands →
       SlotIn slots (row_of (instruction op operands)) → ObjectIn objects (row_of (instruction op operands)) →
-      OffsetFits (row_exit (row_of (instruction op operands))) offset → (op ≡ source.PseudoCall → ⊥) →
+      OffsetFits (row_exit (row_of (instruction op operands))) offset → (has_site (row_of (instruction op operands)) ≡ true → ⊥) →
       HasWord offset (place (object_named (row_of (instruction op operands)))) (instruction op operands)
   code_word (source.Registers op) operands offset form physical slot inside fit other = registers_word op operands offset _ form physical
   code_word (source.Immediate op) operands offset form physical slot inside fit other = immediate_word op operands offset form physical inside
@@ -319,6 +381,11 @@ module _ (slots : List ℕ) (objects : List Object) (own : ℕ) (low : (n : ℕ)
   code_word (source.Store op) operands offset form physical slot inside fit other = store_word op operands offset form physical slot inside
   code_word source.Copy operands offset form physical slot inside fit other = copy_word operands offset _ form physical
   code_word source.PseudoBr operands offset form physical slot inside fit other = jump_word operands offset _ form fit
-  code_word source.PseudoCall operands offset form physical slot inside fit other = absurd (other refl)
+  code_word source.PseudoCall operands offset form physical slot inside fit other = absurd (other (named_call operands form))
+  code_word source.PseudoCallIndirect operands offset form physical slot inside fit other = held_call_word operands offset _ form
+  code_word source.PseudoTail operands offset form physical slot inside fit other = absurd (other (named_tail operands form))
+  code_word source.PseudoTailIndirect operands offset form physical slot inside fit other = held_tail_word operands offset _ form
+  code_word source.NoReturnCall operands offset form physical slot inside fit other = absurd (other (named_gone operands form))
+  code_word source.NoReturnCallIndirect operands offset form physical slot inside fit other = held_gone_word operands offset _ form
   code_word source.PseudoRet operands offset form physical slot inside fit other =
       with_word offset _ (instruction source.PseudoRet operands) (machine_op Jalr 0 1 0 (pos 0)) refl refl

@@ -10,8 +10,9 @@ use Rattle.std.proofs.lemmas.List.Sums.{sum_by-cons}
 use Rattle.rv64_instr.specs.declared.op.BranchOp.{BranchOp}
 use Rattle.rv64_instr.specs.Form.{is_within}
 use Rattle.rv64_instr.specs.Row.{Row, Branches, row_of}
+use Rattle.rv64_instr.specs.LocationEffects.{has_site}
 use Rattle.mir_func.specs.declared.block.Block.{Block}
-use Rattle.mir_func.specs.declared.exit.Exit.TheVariants.{Perhaps}
+use Rattle.mir_func.specs.declared.exit.Exit.TheVariants.{Perhaps, Onward, Always, Final}
 use Rattle.mir_func.specs.declared.item.Item.{Item}
 use Rattle.mir_func.specs.declared.item.ItemKind.{ItemKind}
 use Rattle.mir_func.specs.declared.item.ItemKind.TheVariants.{Code, Mark, Phi}
@@ -21,10 +22,12 @@ use Rattle.mir_func.specs.Function.{FramedFunction}
 use Rattle.mir_func.specs.Graph.{Fetch, Here, EndOfBlock, Outside, fetch_in, index_of}
 use Rattle.mir_func.specs.SoundFrame.{body_of}
 use Rattle.mir_func.specs.Successors.{pos_in}
+use Rattle.mir_func.specs.Positions.{is_same_position}
+use Rattle.mir_func.specs.declared.exit.Exit.{Exit}
 use Rattle.emit_code.specs.declared.span.Span.{Span}
 use Rattle.emit_code.specs.declared.span.Span.TheVariants.{Short, Long}
-use Rattle.emit_code.specs.Rule.{Site, form_of, row_form, form_size, size_of, items_size, blocks_size, items_at, bytes_before, sites_from}
-use Rattle.emit_code.specs.BranchRelaxation.{is_same, IsClosed, IsSettled}
+use Rattle.emit_code.specs.Rule.{Site, form_of, row_form, form_size, size_of, items_size, blocks_size, items_at, bytes_before, sites_from, exit_form}
+use Rattle.emit_code.specs.BranchRelaxation.{IsClosed, IsSettled}
 use Rattle.emit_code.specs.steps.Places.{items_count, first_of}
 use Rattle.emit_code.specs.steps.Spans.{row_span, span_of, site_span, spans_of, reaches, round, Rounds, begun, further, Settles}
 use Rattle.emit_code.proofs.Sites.{site_size, bytes_at, site_from}
@@ -32,12 +35,19 @@ use Rattle.emit_code.proofs.Settled.{rounded, next_long, row_far, kind_far, fetc
 
 -- ---- more long branches put points further apart
 
+exit_grows : (was is : Bool) (e : Exit) (site : Bool) → (was ≡ true → is ≡ true) → form_size (exit_form was e site) ≤ form_size (exit_form is e site)
+exit_grows true true (Perhaps n) site more = omega arith
+exit_grows true false (Perhaps n) site more = let e : false ≡ true = more refl in absurd cc
+exit_grows false true (Perhaps n) site more = omega arith
+exit_grows false false (Perhaps n) site more = omega arith
+exit_grows was is (Always n) site more = omega arith
+exit_grows was is Onward true more = omega arith
+exit_grows was is Onward false more = omega arith
+exit_grows was is Final true more = omega arith
+exit_grows was is Final false more = omega arith
+
 row_grows : (was is : Bool) (row : Row) → (was ≡ true → is ≡ true) → form_size (row_form was row) ≤ form_size (row_form is row)
-row_grows true true (Branches op a b n) more = omega arith
-row_grows true false (Branches op a b n) more = let e : false ≡ true = more refl in absurd cc
-row_grows false true (Branches op a b n) more = omega arith
-row_grows false false (Branches op a b n) more = omega arith
-row_grows was is _ more = omega arith
+row_grows was is row more = exit_grows was is (row_exit row) (has_site row) more
 
 kind_grows : (was is : Bool) (kind : ItemKind) → (was ≡ true → is ≡ true) → form_size (form_of was kind) ≤ form_size (form_of is kind)
 kind_grows was is (Code i k) more = row_grows was is (row_of i) more
@@ -156,7 +166,7 @@ bytes_same long other same blocks p =
 
 -- ---- a branch short
 
-same_true : (p q : Pos) → is_same p q ≡ true → p ≡ q
+same_true : (p q : Pos) → is_same_position p q ≡ true → p ≡ q
 same_true p q e =
     let both = parts (nat_eq p.block q.block) (nat_eq p.item q.item) e in
     let b : p.block ≡ q.block = eqb-true p.block q.block both.0 in
@@ -169,7 +179,7 @@ same_true p q e =
     parts false y e = absurd cc
 
 abbrev pub short_at : Pos → (Pos → Bool) → Pos → Bool
-short_at p long q = cond (is_same p q) false (long q)
+short_at p long q = cond (is_same_position p q) false (long q)
 
 short_by : (t : Bool) (was is : Bool) → (t ≡ true → was ≡ false) → (was ≡ true → is ≡ true) → was ≡ true → cond t false is ≡ true
 short_by true was is none more holds = let e : was ≡ false = none refl in absurd cc
@@ -179,12 +189,12 @@ short_by false was is none more holds = more holds
 more_short : (long other : Pos → Bool) (p : Pos) → long p ≡ false → ((q : Pos) → long q ≡ true → other q ≡ true) → (q : Pos) → long q ≡ true →
     short_at p other q ≡ true
 more_short long other p short more q holds =
-    short_by (is_same p q) (long q) (other q) (λ e. sym (ap long (same_true p q e)) ∙ short) (more q) holds
+    short_by (is_same_position p q) (long q) (other q) (λ e. sym (ap long (same_true p q e)) ∙ short) (more q) holds
 
 pub short_already : (long : Pos → Bool) (p : Pos) → long p ≡ false → (q : Pos) → short_at p long q ≡ long q
-short_already long p short q = by_test (is_same p q) refl
+short_already long p short q = by_test (is_same_position p q) refl
   where
-    by_test : (t : Bool) → is_same p q ≡ t → cond t false (long q) ≡ long q
+    by_test : (t : Bool) → is_same_position p q ≡ t → cond t false (long q) ≡ long q
     by_test true e = sym (sym (ap long (same_true p q e)) ∙ short)
     by_test false e = refl
 

@@ -1,16 +1,20 @@
 -- The plan of a function.
-use Rattle.std.proofs.Common.{◌≡◌, ℕ, ◌+◌, ◌≤◌, Bool, List, [], ◌∷◌, length, ap, ◌∙◌, arith}
+use Rattle.std.proofs.Common.{◌≡◌, ℕ, ◌+◌, ◌≤◌, Bool, List, [], ◌∷◌, length, ap, ◌∙◌, arith, true, false}
 use Rattle.std.specs.Prelude.{sum_by, slice_index}
 use Rattle.std.proofs.lemmas.List.{length-map}
 use Rattle.std.proofs.lemmas.List.Sums.{sum_by-cons}
-use Rattle.rv64_instr.specs.Row.{Row, Fixes, row_of}
+use Rattle.rv64_instr.specs.Row.{Row, row_of}
+use Rattle.rv64_instr.specs.LocationEffects.{has_site}
 use Rattle.mir_func.specs.declared.block.Block.{Block}
 use Rattle.mir_func.specs.declared.item.Item.{Item}
 use Rattle.mir_func.specs.declared.item.ItemKind.{ItemKind}
 use Rattle.mir_func.specs.declared.item.ItemKind.TheVariants.{Code, Mark, Phi}
 use Rattle.mir_func.specs.declared.position.Pos.{Pos}
+use Rattle.mir_func.specs.declared.exit.Exit.{Exit}
+use Rattle.mir_func.specs.declared.exit.Exit.TheVariants.{Onward, Perhaps, Always, Final}
+use Rattle.mir_func.specs.Exits.{row_exit}
 use Rattle.emit_code.specs.declared.plan.ItemLayout.{ItemLayout}
-use Rattle.emit_code.specs.Counts.{row_words, kind_count, item_count, count_of}
+use Rattle.emit_code.specs.Counts.{row_words, kind_count, item_count, count_of, exit_words}
 use Rattle.emit_code.specs.Rule.{Layout, start_of, sites_from}
 use Rattle.emit_code.specs.steps.Places.{items_count, first_of}
 use Rattle.emit_code.specs.steps.Spans.{spans_of, site_span, sums_from}
@@ -20,9 +24,16 @@ use Rattle.emit_code.proofs.Settled.{sum_there}
 
 -- ---- counts
 
+exit_counts : (e : Exit) (site : Bool) → 1 ≤ exit_words e site
+exit_counts (Perhaps n) site = omega arith
+exit_counts (Always n) site = omega arith
+exit_counts Onward true = omega arith
+exit_counts Onward false = omega arith
+exit_counts Final true = omega arith
+exit_counts Final false = omega arith
+
 row_counts : (row : Row) → 1 ≤ row_words row
-row_counts (Fixes rd n) = omega arith
-row_counts _ = omega arith
+row_counts row = exit_counts (row_exit row) (has_site row)
 
 kind_counts : (kind : ItemKind) → 1 ≤ kind_count kind
 kind_counts (Code i k) = row_counts (row_of i)

@@ -7,7 +7,8 @@ use Rattle.std.proofs.Common.{◌≡◌, ℕ, zero, suc, ◌+◌, ◌<◌, Bool,
 use Rattle.std.proofs.Common.{ap, subst, inl, inr, ◌∙◌, arith}
 use Rattle.std.specs.Prelude.{◌⊎◌, slice_get, slice_index}
 use Rattle.std.proofs.lemmas.List.Sums.{sum_by-cons, sum_by-take-le}
-use Rattle.rv64_instr.specs.Row.{Row, Branches, row_of}
+use Rattle.rv64_instr.specs.Row.{Row, Branches, Calls, Returns, row_of}
+use Rattle.rv64_instr.specs.LocationEffects.{has_site}
 use Rattle.mir_func.specs.declared.block.Block.{Block}
 use Rattle.mir_func.specs.declared.item.Item.{Item}
 use Rattle.mir_func.specs.declared.item.ItemKind.{ItemKind}
@@ -16,7 +17,7 @@ use Rattle.mir_func.specs.declared.position.Pos.{Pos}
 use Rattle.mir_func.specs.Graph.{Fetch, Here, EndOfBlock, Outside, fetch_in, front, index_of, block_start}
 use Rattle.mir_func.specs.SoundFrame.{body_of}
 use Rattle.mir_func.specs.Successors.{pos_in}
-use Rattle.emit_code.specs.declared.span.Span.TheVariants.{Short, Long}
+use Rattle.emit_code.specs.declared.span.Span.TheVariants.{OneWord, CallSite, Short, Long}
 use Rattle.emit_code.specs.Rule.{Site, items_at, bytes_before, sites_in, sites_from}
 use Rattle.emit_code.specs.steps.Places.{items_count, first_of}
 use Rattle.emit_code.specs.steps.Spans.{row_span, span_of, site_span, spans_of, sums_from, reaches, grown, grown_from, round}
@@ -168,12 +169,19 @@ module _ (blocks : List Block) (long : Pos → Bool) where
   twice true = refl
   twice false = refl
 
+  -- only branches grow
+  site_stays : (site : Bool) (sums : List ℕ) (k : ℕ) → grown sums k (cond site CallSite OneWord) ≡ cond site CallSite OneWord
+  site_stays true sums k = refl
+  site_stays false sums k = refl
+
   row_grown : (row : Row) (p : Pos) (k : ℕ) (sums : List ℕ) → slice_index sums k ≡ bytes_before long blocks p →
       ((n : ℕ) → slice_index sums (first_of blocks n) ≡ bytes_before long blocks (target_point blocks n)) →
       grown sums k (row_span blocks (long p) row) ≡ row_span blocks (long p || row_far blocks long p row) row
   row_grown (Branches op a b n) p k sums here there =
       branch_grown (row_far blocks long p (Branches op a b n)) (long p) (first_of blocks n) sums k
       ((λ i. reaches (here i) (there n i)) ∙ twice (reaches (bytes_before long blocks p) (bytes_before long blocks (target_point blocks n))))
+  row_grown (Calls call) p k sums here there = site_stays (has_site (Calls call)) sums k
+  row_grown (Returns ending) p k sums here there = site_stays (has_site (Returns ending)) sums k
   row_grown _ p k sums here there = refl
 
   kind_grown : (kind : ItemKind) (p : Pos) (k : ℕ) (sums : List ℕ) → slice_index sums k ≡ bytes_before long blocks p →

@@ -7,27 +7,38 @@ use Rattle.std.proofs.Common.{arith}
 use Rattle.std.specs.Prelude.{sum_by, slice_get, slice_index}
 use Rattle.std.proofs.lemmas.List.{take-append-le, length-append, length-map, take-map, append-nil, append_assoc}
 use Rattle.std.proofs.lemmas.List.Sums.{sum_by-cons, sum_by-append}
-use Rattle.rv64_instr.specs.Row.{Row, Branches, row_of}
+use Rattle.rv64_instr.specs.Row.{Row, row_of}
+use Rattle.rv64_instr.specs.LocationEffects.{has_site}
 use Rattle.mir_func.specs.declared.block.Block.{Block}
 use Rattle.mir_func.specs.declared.item.Item.{Item}
 use Rattle.mir_func.specs.declared.item.ItemKind.{ItemKind}
 use Rattle.mir_func.specs.declared.item.ItemKind.TheVariants.{Code, Mark, Phi}
 use Rattle.mir_func.specs.declared.position.Pos.{Pos}
 use Rattle.mir_func.specs.Successors.{pos_in}
+use Rattle.mir_func.specs.declared.exit.Exit.{Exit}
+use Rattle.mir_func.specs.declared.exit.Exit.TheVariants.{Onward, Perhaps, Always, Final}
+use Rattle.mir_func.specs.Exits.{row_exit}
 use Rattle.emit_code.specs.declared.span.Span.{Span}
-use Rattle.emit_code.specs.Rule.{Site, form_of, row_form, form_size, size_of, items_size, blocks_size, items_at, bytes_before, sites_in, sites_from}
+use Rattle.emit_code.specs.Rule.{Site, form_of, row_form, form_size, size_of, items_size, blocks_size, items_at, bytes_before, sites_in, sites_from, exit_form}
 use Rattle.emit_code.specs.steps.Places.{items_count, firsts_from}
-use Rattle.emit_code.specs.steps.Spans.{span_size, row_span, span_of, site_span, spans_of, sums_from}
+use Rattle.emit_code.specs.steps.Spans.{span_size, row_span, span_of, site_span, spans_of, sums_from, exit_span}
 
 -- ---- sizes
 
 abbrev pub site_size : (Pos → Bool) → Site → ℕ
 site_size long s = size_of (long s.point) s.item
 
+exit_sized : (blocks : List Block) (long : Bool) (e : Exit) (site : Bool) → span_size (exit_span blocks long e site) ≡ form_size (exit_form long e site)
+exit_sized blocks true (Perhaps n) site = refl
+exit_sized blocks false (Perhaps n) site = refl
+exit_sized blocks long (Always n) site = refl
+exit_sized blocks long Onward true = refl
+exit_sized blocks long Onward false = refl
+exit_sized blocks long Final true = refl
+exit_sized blocks long Final false = refl
+
 row_sized : (blocks : List Block) (long : Bool) (row : Row) → span_size (row_span blocks long row) ≡ form_size (row_form long row)
-row_sized blocks true (Branches op a b target) = refl
-row_sized blocks false (Branches op a b target) = refl
-row_sized blocks long _ = refl
+row_sized blocks long row = exit_sized blocks long (row_exit row) (has_site row)
 
 kind_sized : (blocks : List Block) (long : Bool) (kind : ItemKind) → span_size (span_of blocks long kind) ≡ form_size (form_of long kind)
 kind_sized blocks long (Code i k) = row_sized blocks long (row_of i)

@@ -7,8 +7,8 @@ use Rattle.std.proofs.lemmas.List.{length-append, take_all}
 use Rattle.std.proofs.lemmas.List.Elements.{All-nil, All-cons, All-append}
 use Rattle.std.proofs.lemmas.List.Sums.{sum_by-cons}
 use Rattle.rv64_instr.specs.Instruction.{Instruction}
-use Rattle.rv64_instr.specs.Parts.{is_call}
-use Rattle.rv64_instr.specs.Row.{Row, Branches, Calls, row_of}
+use Rattle.rv64_instr.specs.LocationEffects.{has_site}
+use Rattle.rv64_instr.specs.Row.{Row, Calls, row_of, Returns, Callee, Way, Back, Tail, Never}
 use Rattle.rv64_word.specs.declared.machine_op.MachineOp.{MachineOp}
 use Rattle.mir_func.specs.declared.item.Item.{Item}
 use Rattle.mir_func.specs.declared.item.ItemKind.{ItemKind}
@@ -18,12 +18,15 @@ use Rattle.mir_func.specs.declared.position.Pos.{Pos}
 use Rattle.mir_func.specs.Function.{FramedFunction}
 use Rattle.mir_func.specs.Graph.{Here, fetch_in}
 use Rattle.mir_func.specs.Successors.{pos_in}
+use Rattle.mir_func.specs.declared.exit.Exit.{Exit}
+use Rattle.mir_func.specs.declared.exit.Exit.TheVariants.{Onward, Perhaps, Always, Final}
+use Rattle.mir_func.specs.Exits.{row_exit}
 use Rattle.emit_code.specs.declared.code.EncodedInstruction.{EncodedInstruction}
 use Rattle.emit_code.specs.Counts.{MAX_BASE, count_of}
-use Rattle.emit_code.specs.Laid.{StandFrom, IsOfItem, IsCode, is_call_kind, FormWorded, IsWorded}
+use Rattle.emit_code.specs.Laid.{StandFrom, IsOfItem, IsCode, is_site_kind, FormWorded, IsWorded}
 use Rattle.emit_code.specs.Rule as rule
 use Rattle.emit_code.specs.Rule.{Layout, Site, Form, form_of, form_size, row_form, form_words, form_entries, kind_words, words_at, entries_at, address_in}
-use Rattle.emit_code.specs.Rule.{word_if, entry, added_before, sites_of, words_of, entries_of}
+use Rattle.emit_code.specs.Rule.{word_if, entry, added_before, sites_of, words_of, entries_of, exit_form, site_words, way_words}
 use Rattle.emit_code.proofs.Bounds.{before_small}
 use Rattle.emit_code.proofs.Settled.{placed, fetched, in_range}
 use Rattle.emit_code.proofs.Sites.{site_size, bytes_at, blocks_sum}
@@ -57,10 +60,19 @@ some_length : (o : Option MachineOp) → IsSome o → length (word_if o) ≡ 1
 some_length None h = absurd cc
 some_length (Some m) h = omega arith
 
+way_length : (w : Way Callee) → length (way_words w) ≡ 2
+way_length Back = refl
+way_length (Tail callee) = refl
+way_length (Never callee) = refl
+
+pub site_length : (r : Row) → length (site_words r) ≡ 2
+site_length (Returns ending) = way_length ending.way
+site_length _ = refl
+
 form_length : (l : Layout) (a : ℕ) (c : Instruction) (f : Form) → FormWorded l a c f → (f ≡ rule.Nothing → ⊥) → 4 * length (form_words l a c f) ≡ form_size f
 form_length l a c rule.Nothing h some = absurd (some refl)
 form_length l a c rule.OneWord h some = omega (arith, some_length _ h)
-form_length l a c rule.CallSite h some = omega arith
+form_length l a c rule.CallSite h some = let two = site_length (row_of c) in omega (arith, two)
 form_length l a c (rule.LongBranch n) h some = omega (
   arith,
   some_length _ h.0,
@@ -69,10 +81,30 @@ form_length l a c (rule.LongBranch n) h some = omega (
       (rule.jump_operation l a n)),
 )
 
-row_something : (b : Bool) (row : Row) → row_form b row ≡ rule.Nothing → ⊥
-row_something true (Branches op x y n) e = cc
-row_something false (Branches op x y n) e = cc
-row_something b _ e = cc
+exit_something : (b : Bool) (x : Exit) (site : Bool) → exit_form b x site ≡ rule.Nothing → ⊥
+exit_something true (Perhaps n) site e = cc
+exit_something false (Perhaps n) site e = cc
+exit_something b (Always n) site e = cc
+exit_something b Onward true e = cc
+exit_something b Onward false e = cc
+exit_something b Final true e = cc
+exit_something b Final false e = cc
+
+pub row_something : (b : Bool) (row : Row) → row_form b row ≡ rule.Nothing → ⊥
+row_something b row e = exit_something b (row_exit row) (has_site row) e
+
+exit_long : (long : Bool) (x : Exit) (site : Bool) (n : ℕ) → exit_form long x site ≡ rule.LongBranch n → x ≡ Perhaps n
+exit_long true (Perhaps m) site n e = let same : m ≡ n = cc in ap Perhaps same
+exit_long false (Perhaps m) site n e = cc
+exit_long long (Always m) site n e = cc
+exit_long long Onward true n e = cc
+exit_long long Onward false n e = cc
+exit_long long Final true n e = cc
+exit_long long Final false n e = cc
+
+-- a long branch is a conditional one
+pub long_exits : (long : Bool) (row : Row) (n : ℕ) → row_form long row ≡ rule.LongBranch n → row_exit row ≡ Perhaps n
+long_exits long row n e = exit_long long (row_exit row) (has_site row) n e
 
 kind_length : (l : Layout) (p : Pos) (kind : ItemKind) → ((c : Instruction) (k : Option ℕ) → kind ≡ Code c k →
     FormWorded l (address_in l p) c (row_form (l.long p) (row_of c))) →
@@ -129,22 +161,41 @@ words_few l worded few =
 -- ---- at items
 
 module _ (f : FramedFunction) (i : Item) (p : Pos) (at : fetch_in (drop p.block f.blocks) p.item ≡ Here i) where
-  one_of : (a n : ℕ) (o : Origin) (call : Bool) → is_call_kind i.kind ≡ call → IsOfItem f (entry a n o p call)
+  one_of : (a n : ℕ) (o : Origin) (call : Bool) → is_site_kind i.kind ≡ call → IsOfItem f (entry a n o p call)
   one_of a n o call e = record { item = i; stands = at; call = sym e }
 
-  only : (a n : ℕ) (o : Origin) (call : Bool) → is_call_kind i.kind ≡ call → All (IsOfItem f) (entry a n o p call ∷ [])
+  only : (a n : ℕ) (o : Origin) (call : Bool) → is_site_kind i.kind ≡ call → All (IsOfItem f) (entry a n o p call ∷ [])
   only a n o call e = All-cons (IsOfItem f) (entry a n o p call) [] (one_of a n o call e) (All-nil (IsOfItem f))
 
-  row_items : (a : ℕ) (o : Origin) (long : Bool) (row : Row) → is_call_kind i.kind ≡ is_call row → All (IsOfItem f) (form_entries a o p (row_form long row))
-  row_items a o true (Branches op x y n) e =
-      All-cons (IsOfItem f) (entry a 4 (added_before o) p false) (entry (a + 4) 4 o p false ∷ []) (one_of a 4 (added_before o) false e) (only (a + 4) 4 o false
-      e)
-  row_items a o false (Branches op x y n) e = only a 4 o false e
-  row_items a o long (Calls name args) e = only a 8 o true e
-  row_items a o long _ e = only a 4 o false e
+  exit_items : (a : ℕ) (o : Origin) (long : Bool) (x : Exit) (site : Bool) → is_site_kind i.kind ≡ site → ((n : ℕ) → x ≡ Perhaps n → site ≡ false) →
+      ((n : ℕ) → x ≡ Always n → site ≡ false) → All (IsOfItem f) (form_entries a o p (exit_form long x site))
+  exit_items a o true (Perhaps n) site e branch jump =
+      let none = e ∙ branch n refl in
+      All-cons (IsOfItem f) (entry a 4 (added_before o) p false) (entry (a + 4) 4 o p false ∷ []) (one_of a 4 (added_before o) false none) (only (a + 4) 4 o
+      false none)
+  exit_items a o false (Perhaps n) site e branch jump = only a 4 o false (e ∙ branch n refl)
+  exit_items a o long (Always n) site e branch jump = only a 4 o false (e ∙ jump n refl)
+  exit_items a o long Onward true e branch jump = only a 8 o true e
+  exit_items a o long Onward false e branch jump = only a 4 o false e
+  exit_items a o long Final true e branch jump = only a 8 o true e
+  exit_items a o long Final false e branch jump = only a 4 o false e
+
+  -- branches and jumps have no callee
+  branch_no_site : (row : Row) (n : ℕ) → row_exit row ≡ Perhaps n → has_site row ≡ false
+  branch_no_site (Calls call) n e = cc
+  branch_no_site (Returns ending) n e = cc
+  branch_no_site _ n e = refl
+
+  jump_no_site : (row : Row) (n : ℕ) → row_exit row ≡ Always n → has_site row ≡ false
+  jump_no_site (Calls call) n e = cc
+  jump_no_site (Returns ending) n e = cc
+  jump_no_site _ n e = refl
+
+  row_items : (a : ℕ) (o : Origin) (long : Bool) (row : Row) → is_site_kind i.kind ≡ has_site row → All (IsOfItem f) (form_entries a o p (row_form long row))
+  row_items a o long row e = exit_items a o long (row_exit row) (has_site row) e (branch_no_site row) (jump_no_site row)
 
   kind_items : (a : ℕ) (o : Origin) (long : Bool) (kind : ItemKind) → i.kind ≡ kind → All (IsOfItem f) (form_entries a o p (form_of long kind))
-  kind_items a o long (Code c k) e = row_items a o long (row_of c) (ap is_call_kind e)
+  kind_items a o long (Code c k) e = row_items a o long (row_of c) (ap is_site_kind e)
   kind_items a o long (Mark v m) e = All-nil (IsOfItem f)
   kind_items a o long (Phi r k) e = All-nil (IsOfItem f)
 

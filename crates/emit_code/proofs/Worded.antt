@@ -1,18 +1,16 @@
 -- All code of a settled layout has its words.
-use Rattle.std.proofs.Common.{◌≡◌, ℕ, zero, suc, ◌+◌, ◌%◌, ◌^◌, ◌<◌, ◌≤◌, Bool, true, false, cond, List, [], ◌∷◌, length, drop, get_or, nat_eq, Option, Some}
+use Rattle.std.proofs.Common.{◌≡◌, ℕ, zero, suc, ◌+◌, ◌%◌, ◌^◌, ◌<◌, ◌≤◌, Bool, true, false, cond, List, [], ◌∷◌, drop, get_or, Option, Some}
 use Rattle.std.proofs.Common.{None, refl, sym, ap, subst, inl, inr, ◌∙◌, arith}
 use Rattle.std.specs.Prelude.{ℤ, pos, negsuc, ◌-ℤ◌, ◌⊎◌, IsTrue, IsSome, All, Contains, slice_get, option_map}
-use Rattle.rv64_instr.specs.declared.op.Op.{Op}
 use Rattle.rv64_instr.specs.declared.op.Op.TheVariants as source
 use Rattle.rv64_instr.specs.declared.op.BranchOp.{BranchOp}
 use Rattle.rv64_instr.specs.declared.operand.Operand.{Operand}
-use Rattle.rv64_instr.specs.declared.operand.Operand.TheVariants.{Symbol, Mask, Block as OfBlock}
-use Rattle.rv64_instr.specs.Form.{is_within, has_form, fits_call}
+use Rattle.rv64_instr.specs.declared.operand.Operand.TheVariants.{Block as OfBlock}
+use Rattle.rv64_instr.specs.Form.{is_within, has_form}
 use Rattle.rv64_instr.specs.Instruction.{Instruction}
 use Rattle.rv64_instr.specs.Row.{Row, Fixes, Moves, Sets, Addresses, Loads, Stores, LoadsSlot, StoresSlot, Branches, Jumps, Calls, Returns, Unfit, row_of}
-use Rattle.rv64_instr.specs.Row.{row_by, implicit_uses}
 use Rattle.rv64_word.specs.declared.machine_op.MachineOp.{MachineOp}
-use Rattle.rv64_instr.specs.Parts.{object_named}
+use Rattle.rv64_instr.specs.LocationEffects.{object_named, has_site}
 use Rattle.rv64_word.specs.MachineOp.{is_even}
 use Rattle.rv64_word.specs.Lowering.{lowered}
 use Rattle.mir_func.specs.declared.block.Block.{Block}
@@ -21,19 +19,18 @@ use Rattle.mir_func.specs.declared.exit.Exit.TheVariants.{Onward, Perhaps, Alway
 use Rattle.mir_func.specs.declared.item.Item.{Item}
 use Rattle.mir_func.specs.declared.item.ItemKind.{ItemKind}
 use Rattle.mir_func.specs.declared.item.ItemKind.TheVariants.{Code}
-use Rattle.mir_func.specs.declared.object.Object.{Object}
 use Rattle.mir_func.specs.declared.position.Pos.{Pos}
 use Rattle.mir_func.specs.Exits.{row_exit, exit_of}
 use Rattle.mir_func.specs.Graph.{Here, fetch_in}
-use Rattle.mir_func.specs.Objects.{object_of, offset_of, offset_or_zero}
+use Rattle.mir_func.specs.Objects.{offset_of}
 use Rattle.mir_func.specs.Sound.{AllItems, HasBytes, SlotIn, SlotsIn, ObjectIn, ObjectsIn, HasForm}
 use Rattle.mir_func.specs.SoundFrame.{own_size, slot_offsets, IsFramed, HasPhysical, IsPhysical}
 use Rattle.emit_code.specs.Counts.{MAX_BASE, count_of}
-use Rattle.emit_code.specs.Inverted.{jump_to}
+use Rattle.emit_code.specs.LongBranch.{jump_to}
 use Rattle.emit_code.specs.Laid.{FormWorded, IsWorded, IsFit}
 use Rattle.emit_code.specs.BranchRelaxation.{IsBranchTo, with_short, reaches_in, IsClosed}
 use Rattle.emit_code.specs.Rule.{Layout, row_form, items_at, bytes_before, address_in, start_of, offset_to, object_offset, operation_at, skip_operation}
-use Rattle.emit_code.specs.Rule.{jump_operation}
+use Rattle.emit_code.specs.Rule.{jump_operation, CallSite, OneWord}
 use Rattle.emit_code.specs.steps.Emitted.{IsFormed}
 use Rattle.mir_func.proofs.Ends.{bytes_within}
 use Rattle.emit_code.proofs.Bounds.{bytes_aligned, bytes_small}
@@ -79,16 +76,10 @@ no_object : (n bytes : ℕ) → HasBytes [] n bytes → 0 + offset_of [] n + byt
 no_object n bytes has = let e : None ≡ Some has.0 = has.1 in absurd cc
 
 jump_has_word : (n : ℕ) (offset : ℤ) → IsTrue (is_within (negsuc 1048575) (pos 1048574) offset) → IsTrue (is_even offset) → HasWord offset 0 (jump_to n)
-jump_has_word n offset near even = code_word [] [] 0 no_slot no_object source.PseudoBr (OfBlock n ∷ []) offset refl (only_block n) tt tt (near, even) (λ e.
-    differ e)
+jump_has_word n offset near even = code_word [] [] 0 no_slot no_object source.PseudoBr (OfBlock n ∷ []) offset refl (only_block n) tt tt (near, even) differ
   where
-    differ : source.PseudoBr ≡ source.PseudoCall → ⊥
+    differ : false ≡ true → ⊥
     differ e = cc
-
--- a call's row is a call's
-call_apart : (operands : List Operand) → IsTrue (fits_call operands) → ((name args : List ℕ) → row_by source.PseudoCall operands ≡ Calls name args → ⊥) → ⊥
-call_apart (Symbol name ∷ Mask ∷ rest) form apart = apart name (implicit_uses (Mask ∷ rest)) refl
-call_apart operands form apart = absurd cc
 
 module _ (l : Layout) (s : Sound l) where
   aligned_at : (p : Pos) → address_in l p % 4 ≡ 0
@@ -167,7 +158,7 @@ module _ (l : Layout) (s : Sound l) where
   place_same (Some n) = refl
 
   code_has_word : (c : Instruction) (offset : ℤ) → IsTrue (has_form c.op c.operands) → All IsPhysical c.operands → SlotIn (slot_offsets l.framed) (row_of c) →
-      ObjectIn l.framed.objects (row_of c) → OffsetFits (row_exit (row_of c)) offset → (c.op ≡ source.PseudoCall → ⊥) →
+      ObjectIn l.framed.objects (row_of c) → OffsetFits (row_exit (row_of c)) offset → (has_site (row_of c) ≡ true → ⊥) →
       HasWord offset (object_offset l.framed (object_named (row_of c))) c
   code_has_word c offset form physical slot object fit other =
       subst (λ (n : ℕ). HasWord offset n c) (place_same (object_named (row_of c)))
@@ -177,7 +168,7 @@ module _ (l : Layout) (s : Sound l) where
     of_kind : (P : ItemKind → Type 0) → AllItems (λ x. P x.kind) l.framed.blocks → P (Code c k)
     of_kind P all = subst P is (all_at (λ x. P x.kind) l.framed.blocks all p.block p.item i (item_at l.framed.blocks p.block p.item i at))
 
-    has_word_at : (offset : ℤ) → OffsetFits (row_exit (row_of c)) offset → (c.op ≡ source.PseudoCall → ⊥) →
+    has_word_at : (offset : ℤ) → OffsetFits (row_exit (row_of c)) offset → (has_site (row_of c) ≡ true → ⊥) →
         HasWord offset (object_offset l.framed (object_named (row_of c))) c
     has_word_at offset fit other =
         code_has_word c offset (of_kind HasForm s.forms) (of_kind HasPhysical s.framed.physical) (of_kind (SlotsIn (slot_offsets l.framed)) s.framed.slots)
@@ -186,42 +177,46 @@ module _ (l : Layout) (s : Sound l) where
     exit_is : exit_of i.kind ≡ row_exit (row_of c)
     exit_is = ap exit_of is
 
-    one_worded : ((n : ℕ) → row_exit (row_of c) ≡ Perhaps n → l.long p ≡ false) → (c.op ≡ source.PseudoCall → ⊥) → IsSome (operation_at l (address_in l p) c)
+    one_worded : ((n : ℕ) → row_exit (row_of c) ≡ Perhaps n → l.long p ≡ false) → (has_site (row_of c) ≡ true → ⊥) → IsSome (operation_at l (address_in l p) c)
     one_worded short other =
         let w = has_word_at (offset_to l (address_in l p) (row_exit (row_of c))) (exit_fits p i at (row_exit (row_of c)) exit_is short) other in
         some_of w.operation w.is
 
-    no_call : (row : Row) → row_of c ≡ row → (n : List ℕ) → ((name args : List ℕ) → row ≡ Calls name args → ⊥) → c.op ≡ source.PseudoCall → ⊥
-    no_call row e n apart call = call_apart c.operands (subst (λ (op : Op). IsTrue (has_form op c.operands)) call (of_kind HasForm s.forms))
-        (λ name args f. apart name args (sym e ∙ ap (λ (op : Op). row_by op c.operands) call ∙ f))
+    no_site : (row : Row) → row_of c ≡ row → has_site row ≡ false → has_site (row_of c) ≡ true → ⊥
+    no_site row e none has = let bad : false ≡ true = sym none ∙ sym (ap has_site e) ∙ has in cc
 
-    one_row : (row : Row) → row_of c ≡ row → ((m : ℕ) → row_exit row ≡ Perhaps m → l.long p ≡ false) → ((name args : List ℕ) → row ≡ Calls name args → ⊥) →
+    one_row : (row : Row) → row_of c ≡ row → ((m : ℕ) → row_exit row ≡ Perhaps m → l.long p ≡ false) → has_site row ≡ false →
         IsSome (operation_at l (address_in l p) c)
-    one_row row e short apart = one_worded (λ m h. short m (sym (ap row_exit e) ∙ h)) (no_call row e [] apart)
+    one_row row e short none = one_worded (λ m h. short m (sym (ap row_exit e) ∙ h)) (no_site row e none)
 
     skip_worded : (op : BranchOp) (a b n : ℕ) → row_of c ≡ Branches op a b n → IsSome (skip_operation c)
     skip_worded op a b n e =
-        let w = has_word_at (pos 8) (subst (λ (x : Exit). OffsetFits x (pos 8)) (sym (ap row_exit e)) (refl, refl)) (no_call (Branches op a b n) e [] (λ name
-        args h. cc)) in
+        let w = has_word_at (pos 8) (subst (λ (x : Exit). OffsetFits x (pos 8)) (sym (ap row_exit e)) (refl, refl)) (no_site (Branches op a b n) e refl) in
         let zero_at : object_offset l.framed (object_named (row_of c)) ≡ 0 = ap (λ (row : Row). object_offset l.framed (object_named row)) e in
         let found : lowered (pos 8) 0 c ≡ Some w.operation = ap (λ (o : ℕ). lowered (pos 8) o c) (sym zero_at) ∙ w.is in
         some_of (inv w.operation) (skipped c ∙ ap (option_map inv) found)
 
     row_worded : (row : Row) → row_of c ≡ row → (long : Bool) → l.long p ≡ long → FormWorded l (address_in l p) c (row_form long row)
-    row_worded (Fixes rd n) e long t = one_row (Fixes rd n) e (λ m h. absurd cc) (λ name args h. cc)
-    row_worded (Moves rd rs) e long t = one_row (Moves rd rs) e (λ m h. absurd cc) (λ name args h. cc)
-    row_worded (Sets rd op a b) e long t = one_row (Sets rd op a b) e (λ m h. absurd cc) (λ name args h. cc)
-    row_worded (Addresses rd n offset) e long t = one_row (Addresses rd n offset) e (λ m h. absurd cc) (λ name args h. cc)
-    row_worded (Loads rd op base offset) e long t = one_row (Loads rd op base offset) e (λ m h. absurd cc) (λ name args h. cc)
-    row_worded (Stores op rs base offset) e long t = one_row (Stores op rs base offset) e (λ m h. absurd cc) (λ name args h. cc)
-    row_worded (LoadsSlot rd n) e long t = one_row (LoadsSlot rd n) e (λ m h. absurd cc) (λ name args h. cc)
-    row_worded (StoresSlot rs n) e long t = one_row (StoresSlot rs n) e (λ m h. absurd cc) (λ name args h. cc)
+    row_worded (Fixes rd n) e long t = one_row (Fixes rd n) e (λ m h. absurd cc) refl
+    row_worded (Moves rd rs) e long t = one_row (Moves rd rs) e (λ m h. absurd cc) refl
+    row_worded (Sets rd op a b) e long t = one_row (Sets rd op a b) e (λ m h. absurd cc) refl
+    row_worded (Addresses rd n offset) e long t = one_row (Addresses rd n offset) e (λ m h. absurd cc) refl
+    row_worded (Loads rd op base offset) e long t = one_row (Loads rd op base offset) e (λ m h. absurd cc) refl
+    row_worded (Stores op rs base offset) e long t = one_row (Stores op rs base offset) e (λ m h. absurd cc) refl
+    row_worded (LoadsSlot rd n) e long t = one_row (LoadsSlot rd n) e (λ m h. absurd cc) refl
+    row_worded (StoresSlot rs n) e long t = one_row (StoresSlot rs n) e (λ m h. absurd cc) refl
     row_worded (Branches op a b n) e true t = (skip_worded op a b n e, jump_worded p n)
-    row_worded (Branches op a b n) e false t = one_row (Branches op a b n) e (λ m h. t) (λ name args h. cc)
-    row_worded (Jumps target) e long t = one_row (Jumps target) e (λ m h. absurd cc) (λ name args h. cc)
-    row_worded (Calls name args) e long t = tt
-    row_worded (Returns results) e long t = one_row (Returns results) e (λ m h. absurd cc) (λ name args h. cc)
-    row_worded Unfit e long t = one_row Unfit e (λ m h. absurd cc) (λ name args h. cc)
+    row_worded (Branches op a b n) e false t = one_row (Branches op a b n) e (λ m h. t) refl
+    row_worded (Jumps target) e long t = one_row (Jumps target) e (λ m h. absurd cc) refl
+    row_worded (Calls call) e long t = by_site (has_site (Calls call)) refl where
+      by_site : (b : Bool) → has_site (Calls call) ≡ b → FormWorded l (address_in l p) c (cond b CallSite OneWord)
+      by_site true h = tt
+      by_site false h = one_row (Calls call) e (λ m x. absurd cc) h
+    row_worded (Returns ending) e long t = by_site (has_site (Returns ending)) refl where
+      by_site : (b : Bool) → has_site (Returns ending) ≡ b → FormWorded l (address_in l p) c (cond b CallSite OneWord)
+      by_site true h = tt
+      by_site false h = one_row (Returns ending) e (λ m x. absurd cc) h
+    row_worded Unfit e long t = one_row Unfit e (λ m h. absurd cc) refl
 
   pub worded : IsWorded l
   worded p i c k at is = row_worded p i c k at is (row_of c) refl (l.long p) refl

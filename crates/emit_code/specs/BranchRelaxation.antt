@@ -1,5 +1,5 @@
 -- Branch relaxation: the least set of long conditional branches in which every branch out of reach is long.
-use Rattle.std.specs.Prelude.{◌≡◌, ℕ, pos, negsuc, ◌-ℤ◌, Bool, true, false, cond, ◌&&◌, nat_eq}
+use Rattle.std.specs.Prelude.{◌≡◌, ℕ, pos, negsuc, ◌-ℤ◌, Bool, true, false, cond}
 use Rattle.rv64_instr.specs.Form.{is_within}
 use Rattle.mir_func.specs.declared.exit.Exit.TheVariants.{Perhaps}
 use Rattle.mir_func.specs.declared.item.Item.{Item}
@@ -7,6 +7,7 @@ use Rattle.mir_func.specs.declared.position.Pos.{Pos}
 use Rattle.mir_func.specs.Exits.{exit_of}
 use Rattle.mir_func.specs.Function.{FramedFunction}
 use Rattle.mir_func.specs.Graph.{Here, fetch_in}
+use Rattle.mir_func.specs.Positions.{is_same_position}
 use Rattle.std.specs.Prelude.{drop}
 use Rattle.emit_code.specs.Rule.{Layout, address_in, start_of}
 
@@ -16,13 +17,9 @@ pub record IsBranchTo (f : FramedFunction) (p : Pos) (block : ℕ) : Type 0 wher
   pub stands : fetch_in (drop p.block f.blocks) p.item ≡ Here item
   pub goes : exit_of item.kind ≡ Perhaps block
 
--- whether two points are the same: the same block and the same item of it
-abbrev pub is_same : Pos → Pos → Bool
-is_same p q = nat_eq p.block q.block && nat_eq p.item q.item
-
 -- the layout with the branch at a point short
 abbrev pub with_short : Pos → Layout → Layout
-with_short p l = record l { long = λ q. cond (is_same p q) false (l.long q) }
+with_short p l = record l { long = λ q. cond (is_same_position p q) false (l.long q) }
 
 -- a short branch at this point reaches the block: the offset is a multiple of 2 of 13 bits (RISC-V Unprivileged ISA, "Conditional
 -- Branches")

@@ -1,7 +1,7 @@
 -- Limits on a function's size for its layout.
 use Rattle.std.specs.Prelude.{ℕ, Bool, cond, List, sum_by}
 use Rattle.rv64_instr.specs.Row.{Row, row_of}
-use Rattle.rv64_instr.specs.Parts.{is_call}
+use Rattle.rv64_instr.specs.LocationEffects.{has_site}
 use Rattle.mir_func.specs.declared.exit.Exit.{Exit}
 use Rattle.mir_func.specs.declared.exit.Exit.TheVariants.{Onward, Perhaps, Always, Final}
 use Rattle.mir_func.specs.Exits.{row_exit}
@@ -19,17 +19,17 @@ abbrev pub MAX_BASE : ℕ
 MAX_BASE = 4294967296
 
 -- an upper bound of the words of an instruction by its exit
-abbrev pub exit_words : Exit → (call : Bool) → ℕ
-exit_words Onward call = cond call 2 1
-exit_words (Perhaps n) call = 2
-exit_words (Always n) call = 1
-exit_words Final call = 1
+abbrev pub exit_words : Exit → (site : Bool) → ℕ
+exit_words Onward site = cond site 2 1
+exit_words (Perhaps n) site = 2
+exit_words (Always n) site = 1
+exit_words Final site = cond site 2 1
 
 -- an upper bound of the words of an instruction by its row
 abbrev pub row_words : Row → ℕ
-row_words row = exit_words (row_exit row) (is_call row)
+row_words row = exit_words (row_exit row) (has_site row)
 
--- the count of an item by its kind: two for a conditional branch or a call, one for any other item
+-- the count of an item by its kind: two for a conditional branch or a callee of a name, one for any other item
 abbrev pub kind_count : ItemKind → ℕ
 kind_count (Code i k) = row_words (row_of i)
 kind_count (Mark v m) = 1

@@ -2,7 +2,7 @@
 use Rattle.std.specs.Prelude.{◌≡◌, ℕ, ◌+◌, ◌*◌, ◌%◌, ◌^◌, ◌<◌, Bool, false, cond, List, [], ◌∷◌, drop, length, Option, IsSome, All}
 use Rattle.rv64_instr.specs.Instruction.{Instruction}
 use Rattle.rv64_instr.specs.Row.{Unfit, row_of}
-use Rattle.rv64_instr.specs.Parts.{is_call}
+use Rattle.rv64_instr.specs.LocationEffects.{has_site}
 use Rattle.mir_func.specs.declared.item.Item.{Item}
 use Rattle.mir_func.specs.declared.item.ItemKind.{ItemKind}
 use Rattle.mir_func.specs.declared.item.ItemKind.TheVariants.{Code, Mark, Phi}
@@ -22,22 +22,22 @@ pub record LaidCode : Type 0 where
   pub entries : List EncodedInstruction
   pub framed : FramedFunction
 
--- the entries are contiguous from an address to an end. A call has 8 bytes, any other entry 4
+-- the entries are contiguous from an address to an end. That of a callee of a name has 8 bytes, any other entry 4
 abbrev pub StandFrom : (address : ℕ) → List EncodedInstruction → (end : ℕ) → Type 0
 StandFrom a [] end = a ≡ end
 StandFrom a (e ∷ es) end = (e.address ≡ a) × (e.size ≡ cond e.call 8 4) × StandFrom (a + e.size) es end
 
--- the item is a call site
-abbrev pub is_call_kind : ItemKind → Bool
-is_call_kind (Code i k) = is_call (row_of i)
-is_call_kind (Mark v m) = false
-is_call_kind (Phi p k) = false
+-- the item calls a function of a name, or leaves for one
+abbrev pub is_site_kind : ItemKind → Bool
+is_site_kind (Code i k) = has_site (row_of i)
+is_site_kind (Mark v m) = false
+is_site_kind (Phi p k) = false
 
--- the function has an item at the entry's point, and the entry is a call if and only if the item is one
+-- the function has an item at the entry's point, and the entry is a site if and only if the item is one
 pub record IsOfItem (f : FramedFunction) (e : EncodedInstruction) : Type 0 where
   pub item : Item
   pub stands : fetch_in (drop e.point.block f.blocks) e.point.item ≡ Here item
-  pub call : e.call ≡ is_call_kind item.kind
+  pub call : e.call ≡ is_site_kind item.kind
 
 -- the invariant of all machine code
 pub record IsCode (c : LaidCode) : Type 0 where
@@ -47,7 +47,7 @@ pub record IsCode (c : LaidCode) : Type 0 where
   pub stand : StandFrom c.base c.entries (c.base + 4 * length c.words)
   pub items : All (IsOfItem c.framed) c.entries
 
--- each word of a form is that of an encodable operation (a call's words always are)
+-- each word of a form is that of an encodable operation (those of a site always are)
 abbrev pub FormWorded : Layout → (address : ℕ) → Instruction → Form → Type 0
 FormWorded l a i Nothing = Unit {0}
 FormWorded l a i OneWord = IsSome (operation_at l a i)

@@ -1,4 +1,4 @@
-pub mod Inverted
+pub mod LongBranch
 pub mod Rule
 pub mod BranchRelaxation
 pub mod Listed

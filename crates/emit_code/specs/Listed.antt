@@ -10,7 +10,7 @@ use Rattle.mir_func.specs.declared.position.Origin.{Origin}
 use Rattle.mir_func.specs.Function.{FramedFunction}
 use Rattle.mir_func.specs.Objects.{offset_of}
 use Rattle.mir_func.specs.SoundFrame.{own_size}
-use Rattle.emit_code.specs.Inverted.{skip_of, jump_to}
+use Rattle.emit_code.specs.LongBranch.{skip_of, jump_to}
 use Rattle.emit_code.specs.Rule.{Layout, Site, Form, Nothing, OneWord, CallSite, LongBranch, form_of, address_in, added_before, sites_of}
 
 -- a code line: the address of its first byte, its origin, and its instruction

@@ -6,10 +6,10 @@
 use Rattle.std.specs.Prelude.{ℕ, zero, suc, ◌+◌, ℤ, pos, ◌-ℤ◌, Bool, true, false, cond, List, [], ◌∷◌, ◌++◌, take, Option, Some, None}
 use Rattle.std.specs.List.{flat_map}
 use Rattle.rv64_instr.specs.Instruction.{Instruction}
-use Rattle.rv64_instr.specs.Row.{Row, row_of}
+use Rattle.rv64_instr.specs.Row.{Row, row_of, Callee, Way, Back, Tail, Never, Returns}
 use Rattle.rv64_word.specs.declared.machine_op.MachineOp.{MachineOp}
 use Rattle.rv64_word.specs.MachineOp.{word_of}
-use Rattle.rv64_instr.specs.Parts.{is_call, object_named}
+use Rattle.rv64_instr.specs.LocationEffects.{object_named, has_site}
 use Rattle.rv64_word.specs.Lowering.{lowered}
 use Rattle.mir_func.specs.declared.block.Block.{Block}
 use Rattle.mir_func.specs.declared.exit.Exit.{Exit}
@@ -27,7 +27,7 @@ use Rattle.mir_func.specs.Objects.{offset_of}
 use Rattle.mir_func.specs.SoundFrame.{body_of, own_size}
 use Rattle.mir_func.specs.Successors.{pos_in}
 use Rattle.emit_code.specs.declared.code.EncodedInstruction.{EncodedInstruction}
-use Rattle.emit_code.specs.Inverted.{inverted_branch, jump_to}
+use Rattle.emit_code.specs.LongBranch.{inverted_branch, jump_to}
 
 -- a layout: a function with its frame, the points of its long conditional branches, and its first address
 pub record Layout : Type 0 where
@@ -37,24 +37,24 @@ pub record Layout : Type 0 where
 
 -- ---- sizes and addresses
 
--- how an item is encoded: no word (a debug value or DBG_PHI), one word, a call's two words, or the two words of a long
--- conditional branch to a block
+-- how an item is encoded: no word (a debug value or DBG_PHI), one word, the two words by which control goes to a function of a name, or the two
+-- words of a long conditional branch to a block
 pub data Form : Type 0 where
   Nothing : Form
   OneWord : Form
   CallSite : Form
   LongBranch : (block : ℕ) → Form
 
--- the form of an instruction by its exit and class: only a conditional branch can be long
-abbrev pub exit_form : (long : Bool) → Exit → (call : Bool) → Form
-exit_form long Onward call = cond call CallSite OneWord
-exit_form long (Perhaps n) call = cond long (LongBranch n) OneWord
-exit_form long (Always n) call = OneWord
-exit_form long Final call = OneWord
+-- the form of an instruction by its exit, and by whether it names a callee: only a conditional branch can be long
+abbrev pub exit_form : (long : Bool) → Exit → (site : Bool) → Form
+exit_form long Onward site = cond site CallSite OneWord
+exit_form long (Perhaps n) site = cond long (LongBranch n) OneWord
+exit_form long (Always n) site = OneWord
+exit_form long Final site = cond site CallSite OneWord
 
 -- the form of an instruction by its row
 abbrev pub row_form : (long : Bool) → Row → Form
-row_form long row = exit_form long (row_exit row) (is_call row)
+row_form long row = exit_form long (row_exit row) (has_site row)
 
 -- the form of an item: a debug value or DBG_PHI emits no word
 abbrev pub form_of : (long : Bool) → ItemKind → Form
@@ -127,10 +127,24 @@ skip_operation i = lowered (pos 8) 0 (inverted_branch i)
 abbrev pub jump_operation : Layout → (address block : ℕ) → Option MachineOp
 jump_operation l a n = operation_at l (a + 4) (jump_to n)
 
--- the words of every call: `AUIPC x1, 0` and `JALR x1, 0(x1)` (RISC-V Unprivileged ISA, "Integer Register-Immediate Instructions"
--- and "Unconditional Jumps")
+-- the words of every call of a function of a name: `AUIPC x1, 0` and `JALR x1, 0(x1)` (RISC-V Unprivileged ISA, "Integer Register-Immediate
+-- Instructions" and "Unconditional Jumps")
 abbrev pub call_words : List ℕ
 call_words = 0x00000097 ∷ 0x000080e7 ∷ []
+
+-- those of a call in tail position: `AUIPC x6, 0` and `JALR x0, 0(x6)`
+abbrev pub tail_words : List ℕ
+tail_words = 0x00000317 ∷ 0x00030067 ∷ []
+
+abbrev pub way_words : Way Callee → List ℕ
+way_words Back = call_words
+way_words (Tail callee) = tail_words
+way_words (Never callee) = call_words
+
+-- the words by which control goes to the function that an instruction names
+abbrev pub site_words : Row → List ℕ
+site_words (Returns ending) = way_words ending.way
+site_words _ = call_words
 
 -- the word of an operation, and no word for None
 abbrev pub word_if : Option MachineOp → List ℕ
@@ -141,7 +155,7 @@ word_if (Some m) = word_of m ∷ []
 abbrev pub form_words : Layout → (address : ℕ) → Instruction → Form → List ℕ
 form_words l a i Nothing = []
 form_words l a i OneWord = word_if (operation_at l a i)
-form_words l a i CallSite = call_words
+form_words l a i CallSite = site_words (row_of i)
 form_words l a i (LongBranch n) = word_if (skip_operation i) ++ word_if (jump_operation l a n)
 
 -- the words of an item of this kind at its point: a debug value or DBG_PHI has none

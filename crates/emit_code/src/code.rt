@@ -10,13 +10,13 @@ use std::marker::Model;
 pub struct EncodedInstruction {
     /// The address of its first byte.
     pub address: u64,
-    /// Its size in bytes: 8 for a call, 4 otherwise.
+    /// Its size in bytes: 8 for a callee of a name, 4 otherwise.
     pub size: u32,
     /// The source position that it stands for, or that it was added before.
     pub origin: Origin,
     /// The point of its item in the function with its frame.
     pub point: ProgramPoint,
-    /// Whether it is a call.
+    /// Whether control goes to a function of a name.
     pub call: bool,
 }
 

@@ -11,7 +11,7 @@ ghost use Rattle.emit_code.specs.steps.Emitted.{StandsAt, AllStandAt, point_of};
 use crate::code::{EncodedInstruction, Entries};
 use crate::plan::ItemLayout;
 use crate::span::Span;
-use base_ids::code::BlockIndex;
+use base_ids::function_ids::BlockIndex;
 use mir_func::block::Block;
 use mir_func::item::Item;
 use mir_func::position::{Origin, ProgramPoint};

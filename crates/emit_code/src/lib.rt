@@ -8,7 +8,6 @@
 mod branch_relaxation;
 pub mod code;
 mod entries;
-pub mod inverted;
 pub mod laws;
 pub mod layout;
 pub mod objects;

@@ -9,7 +9,7 @@ ghost use Rattle.mir_func.specs.Objects.{object_of};
 ghost use Rattle.emit_code.specs.Rule.{object_offset};
 ghost use Rattle.emit_code.specs.steps.Plans.{AreOffsetsOf};
 
-use base_ids::code::ObjectId;
+use base_ids::function_ids::ObjectId;
 use mir_func::framed::Framed;
 use mir_func::object::{Object, area};
 use std::alloc::{AllocError, Global};

@@ -11,7 +11,7 @@ use crate::branch_relaxation::{Sums, settle};
 use crate::objects::ObjectOffsets;
 use crate::span::{Span, Spans, short_spans};
 use crate::table::{Table, at};
-use base_ids::code::BlockId;
+use base_ids::function_ids::BlockId;
 use mir_func::exit::Exit;
 use mir_func::framed::Framed;
 use std::alloc::{AllocError, Global};

@@ -19,9 +19,9 @@ use std::alloc::{AllocError, Global};
 pub enum Span {
     /// No word: a debug value or DBG_PHI.
     Nothing,
-    /// One word: an instruction that is no call and no conditional branch.
+    /// One word: an instruction that names no callee and is no conditional branch.
     OneWord,
-    /// A call's two words.
+    /// The two words by which control goes to a function of a name.
     CallSite,
     /// A short conditional branch: one word. The number is that of items before its target.
     Short(u32),
@@ -60,9 +60,14 @@ impl Span {
     {
         match *decoded {
             Decoded::Branches(_, _, _, target) => Span::Short(table.first_of(target)),
-            Decoded::Calls => Span::CallSite,
+            Decoded::Calls(_) | Decoded::Returns(_) => {
+                if decoded.has_site() {
+                    Span::CallSite
+                } else {
+                    Span::OneWord
+                }
+            }
             Decoded::Jumps(_)
-            | Decoded::Returns
             | Decoded::Sets(_, _, _, _)
             | Decoded::Fixes(_, _)
             | Decoded::Moves(_, _)

@@ -7,7 +7,7 @@ ghost use Rattle.mir_func.specs.declared.block.Block.{Block};
 ghost use Rattle.mir_func.specs.SoundFrame.{body_of};
 ghost use Rattle.emit_code.specs.steps.Places.{items_count, firsts_from, index_in, first_of, IsTableOf};
 
-use base_ids::code::BlockId;
+use base_ids::function_ids::BlockId;
 use base_list::List;
 use mir_func::block::Block;
 use std::alloc::{AllocError, Global};

@@ -9,19 +9,20 @@ ghost use Rattle.mir_func.specs.Sound.{AllItems, HasForm};
 ghost use Rattle.rv64_word.specs.MachineOp.{is_encodable};
 ghost use Rattle.mir_func.specs.declared.item.ItemKind.TheVariants.{Code};
 ghost use Rattle.mir_func.specs.Exits.{row_exit};
-ghost use Rattle.emit_code.specs.Rule.{Layout, Site, words_of, words_at, sites_in, word_if, call_words, operation_at};
+ghost use Rattle.emit_code.specs.Rule.{Layout, Site, words_of, words_at, sites_in, word_if, site_words, operation_at};
 ghost use Rattle.emit_code.specs.Rule.{skip_operation};
 ghost use Rattle.emit_code.specs.steps.Plans.{IsPlan};
 ghost use Rattle.emit_code.specs.steps.Emitted.{StandsAt, AllStandAt, jump_by, inverted_word, IsFormed};
 
 use crate::code::Words;
-use crate::inverted::inverted;
 use crate::plan::ItemLayout;
 use crate::span::Span;
 use mir_func::block::Block;
 use mir_func::exit::Exit;
 use mir_func::item::{Item, ItemKind};
+use rv64_instr::decoded::{Decoded, Way};
 use rv64_instr::instr::Instr;
+use rv64_instr::inverse::inverse;
 use rv64_word::lowering::{lower, object_named};
 use rv64_word::machine_op::{MachineOp, encode};
 use rv64_word::word_op::WordOp;
@@ -95,7 +96,7 @@ fn push_code(
     match plan.span(index) {
         Span::Nothing => Ok(()),
         Span::OneWord | Span::Short(_) => push_one(words, plan, plan.address(index), i, exit),
-        Span::CallSite => push_call(words),
+        Span::CallSite => push_site(words, i),
         Span::Long(target) => push_long(
             words,
             plan.address(index),
@@ -121,11 +122,27 @@ fn push_one(
     push_word(words, lower(i, plan.offset(address, exit), object))
 }
 
-/// Appends the words of every call: `AUIPC x1, 0` and `JALR x1, 0(x1)`.
-fn push_call(words: &mut Words) -> Result<(), AllocError>
-    ensures { OnOk result (words.new ≡ words.old ++ call_words) }
+/// Appends the words by which control goes to the function that an instruction names: `AUIPC x1, 0` and
+/// `JALR x1, 0(x1)`, or in tail position `AUIPC x6, 0` and `JALR x0, 0(x6)`.
+fn push_site(words: &mut Words, i: &Instr) -> Result<(), AllocError>
+    ensures { OnOk result (words.new ≡ words.old ++ site_words (row_of i.now)) }
 {
-    words.extend_from_slice(&[0x0000_0097, 0x0000_80e7])
+    match i.decoded() {
+        Decoded::Returns(Way::Tail(_)) => words.extend_from_slice(&[0x0000_0317, 0x0003_0067]),
+        Decoded::Returns(Way::Back)
+        | Decoded::Returns(Way::Never(_))
+        | Decoded::Calls(_)
+        | Decoded::Branches(_, _, _, _)
+        | Decoded::Jumps(_)
+        | Decoded::Fixes(_, _)
+        | Decoded::Moves(_, _)
+        | Decoded::Sets(_, _, _, _)
+        | Decoded::Addresses(_, _, _)
+        | Decoded::Loads(_, _, _, _)
+        | Decoded::Stores(_, _, _, _)
+        | Decoded::LoadsSlot(_, _)
+        | Decoded::StoresSlot(_, _) => words.extend_from_slice(&[0x0000_0097, 0x0000_80e7]),
+    }
 }
 
 /// Appends a long branch: the inverted branch over the next word, and a jump to the target.
@@ -163,7 +180,7 @@ fn inverted_op(op: WordOp) -> WordOp
     ensures { result ≡ inverted_word op }
 {
     match op {
-        WordOp::Branch(op) => WordOp::Branch(inverted(op)),
+        WordOp::Branch(op) => WordOp::Branch(inverse(op)),
         WordOp::Registers(_)
         | WordOp::Immediate(_)
         | WordOp::Lui

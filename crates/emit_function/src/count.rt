@@ -55,7 +55,8 @@ fn row_words(decoded: &Decoded) -> u32
     ensures { (row : Row) → Shows decoded.now row → result ≡ row_words row }
 {
     match *decoded {
-        Decoded::Branches(_, _, _, _) | Decoded::Calls => 2,
+        Decoded::Branches(_, _, _, _) => 2,
+        Decoded::Calls(_) | Decoded::Returns(_) => { if decoded.has_site() { 2 } else { 1 } }
         Decoded::Loads(_, _, _, _)
         | Decoded::Stores(_, _, _, _)
         | Decoded::LoadsSlot(_, _)
@@ -64,7 +65,6 @@ fn row_words(decoded: &Decoded) -> u32
         | Decoded::Fixes(_, _)
         | Decoded::Moves(_, _)
         | Decoded::Sets(_, _, _, _)
-        | Decoded::Returns
         | Decoded::Jumps(_) => 1,
     }
 }

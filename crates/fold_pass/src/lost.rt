@@ -9,13 +9,13 @@ ghost use Rattle.fold_targets.specs.Leads.{lead};
 ghost use Rattle.fold_targets.specs.Ends.{told, end_in};
 ghost use Rattle.fold_proof.specs.Lost.{is_unreachable, reason_for, loss_of, lost_in, all_lost};
 
-use base_ids::code::BlockId;
+use base_ids::function_ids::BlockId;
 use fold_undef::bypassed::{JumpChains, end_past};
 use mir_func::block::Block;
 use mir_func::item::{Item, ItemKind};
+use mir_func::position::position_of;
 use pass_losses::told::put_in_order;
 use pass_trait::loss::{Loss, Losses, Lost, Reason};
-use sem_mir::align::position_of;
 use std::alloc::{AllocError, Global};
 
 /// The losses of blocks that are folded, without duplicates and in order.

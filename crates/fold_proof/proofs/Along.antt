@@ -14,9 +14,10 @@ use Rattle.mir_func.specs.declared.position.Pos.{Pos}
 use Rattle.mir_func.specs.Exits.{exit_of, Leaves}
 use Rattle.mir_func.specs.Graph.{Program, Here, EndOfBlock, block_start, fetch_in, from_block, index_of, program_of}
 use Rattle.mir_func.specs.Sound.{IsJumpAtMost, MayFollow, EndsWell, Closes, LastCloses}
+use Rattle.mir_func.specs.Positions.{position_of}
 use Rattle.sem_mir.specs.State.{State}
-use Rattle.sem_mir.specs.Align.{position_of, is_code, ByItems, ByEnds, sync_point_of, sync_point_at, IsOrigin, AnyOrigin, RunsMatch, SyncPoint}
-use Rattle.sem_mir.specs.Follow.{first_of as first_number}
+use Rattle.sem_mir.specs.Align.{is_code, ByItems, ByEnds, sync_point_of, sync_point_at, IsOrigin, AnyOrigin, RunsMatch, SyncPoint}
+use Rattle.sem_mir.specs.InitialState.{first_of as first_number}
 use Rattle.sem_mir.proofs.Reading.{found_in, item_front, front_item}
 use Rattle.sem_simulation.specs.Rewired.{Rewired}
 use Rattle.sem_simulation.proofs.Rewired.{rewired_follows}

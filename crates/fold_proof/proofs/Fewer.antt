@@ -16,8 +16,9 @@ use Rattle.mir_func.specs.declared.position.Origin.TheVariants.{Kept, Before}
 use Rattle.mir_func.specs.Function.{Function}
 use Rattle.mir_func.specs.Graph.{from_block}
 use Rattle.mir_func.specs.Sound.{AreApart, ids_of, items_of, OriginIn, IsSound}
-use Rattle.sem_mir.specs.Align.{position_of, is_code}
-use Rattle.pass_trait.specs.Causes.{is_position, is_origin, IsFewer, IsMore}
+use Rattle.mir_func.specs.Positions.{position_of, is_same_position}
+use Rattle.sem_mir.specs.Align.{is_code}
+use Rattle.pass_trait.specs.Causes.{is_origin, IsFewer, IsMore}
 use Rattle.fold_targets.specs.Leads.{first_id}
 use Rattle.fold_targets.proofs.Ways.{test_of}
 use Rattle.fold_targets.proofs.Blocks.{apart_tail}
@@ -60,7 +61,7 @@ count_some p (y ∷ ys) x (suc n, lt, e) passes =
 
 -- ---- origins
 
-same_position : (p : Pos) → is_position p p ≡ true
+same_position : (p : Pos) → is_same_position p p ≡ true
 same_position p = let a = eq-eqb p.block p.block refl in let b = eq-eqb p.item p.item refl in λ i. a i && b i
 
 pub same_origin : (o : Origin) → is_origin o o ≡ true

@@ -12,7 +12,7 @@ use Rattle.rv64_instr.specs.declared.op.Op.TheVariants.{Branch, PseudoBr}
 use Rattle.rv64_instr.specs.declared.operand.Operand.{Operand}
 use Rattle.rv64_instr.specs.declared.operand.Operand.TheVariants.{Block as OfBlock}
 use Rattle.rv64_instr.specs.Row.{Row, Branches, Jumps, row_of}
-use Rattle.rv64_instr.specs.Parts.{is_call}
+use Rattle.rv64_instr.specs.LocationEffects.{is_call}
 use Rattle.mir_func.specs.declared.block.Block.{Block}
 use Rattle.mir_func.specs.declared.debug_substitution.DebugSubstitution.{DebugSubstitution}
 use Rattle.mir_func.specs.declared.item.Item.{Item}
@@ -25,9 +25,10 @@ use Rattle.mir_func.specs.Function.{Function}
 use Rattle.mir_func.specs.Limits.{MAX_BLOCKS, MAX_SLOTS}
 use Rattle.mir_func.specs.Sound.{AreApart, ids_of, items_of, EndsWell, Closes, LastCloses, IsSound}
 use Rattle.mir_func.specs.SoundFrame.{IsPhysical as OperandIsPhysical, HasPhysical}
+use Rattle.mir_func.specs.Calls.{is_call_kind}
 use Rattle.sem_mir.specs.Align.{is_code}
 use Rattle.pass_trait.specs.Change.{change}
-use Rattle.pass_trait.specs.Sizes.{greatest, most_numbers, numbers_of, calls, KeepsSizes}
+use Rattle.pass_trait.specs.Sizes.{greatest, most_numbers, numbers_of, KeepsSizes}
 use Rattle.fold_targets.specs.Leads.{first_id}
 use Rattle.fold_rule.specs.Turned.{aimed, to_block, inverse_to, with_code}
 use Rattle.fold_rule.specs.Rule.{folded_block, staying, folded_blocks}
@@ -159,7 +160,7 @@ kill_no_code (Mark v m) h = refl
 kill_no_code (Phi p n) h = refl
 kill_no_code (Code i n) h = absurd h
 
-kill_no_call : (k : ItemKind) → IsKillKind k → calls k ≡ false
+kill_no_call : (k : ItemKind) → IsKillKind k → is_call_kind k ≡ false
 kill_no_call (Mark v m) h = refl
 kill_no_call (Phi p n) h = refl
 kill_no_call (Code i n) h = absurd h
@@ -181,7 +182,7 @@ row_no_call (Branches op a b t) h = refl
 row_no_call (Jumps t) h = refl
 row_no_call _ h = absurd h
 
-leads_no_call : (k : ItemKind) → Leads (exit_of k) → calls k ≡ false
+leads_no_call : (k : ItemKind) → Leads (exit_of k) → is_call_kind k ≡ false
 leads_no_call (Code i n) h = row_no_call (row_of i) h
 leads_no_call (Mark v m) h = refl
 leads_no_call (Phi p n) h = refl
@@ -311,7 +312,7 @@ module _ (f g : Function) (subs : List DebugSubstitution) (sound : IsSound f) (h
   code_weight : (x : Item) → Leads (exit_of x.kind) → weight (is_code x.kind) ≡ 1
   code_weight x leads = ap weight (code_leads x.kind leads)
 
-  call_weight : (x : Item) → Leads (exit_of x.kind) → weight (calls x.kind) ≡ 0
+  call_weight : (x : Item) → Leads (exit_of x.kind) → weight (is_call_kind x.kind) ≡ 0
   call_weight x leads = ap weight (leads_no_call x.kind leads)
 
   items_made : length (items_of made_all) ≤ length (items_of old) + length old
@@ -341,9 +342,9 @@ module _ (f g : Function) (subs : List DebugSubstitution) (sound : IsSound f) (h
       let n = block_count old in
       omega (arith, a, b, d, e, n)
 
-  calls_made : count_by (λ i. calls i.kind) (items_of made_all) ≤ count_by (λ i. calls i.kind) (items_of old)
+  calls_made : count_by (λ i. is_call_kind i.kind) (items_of made_all) ≤ count_by (λ i. is_call_kind i.kind) (items_of old)
   calls_made =
-      let w : Item → ℕ = λ i. weight (calls i.kind) in
+      let w : Item → ℕ = λ i. weight (is_call_kind i.kind) in
       let a = made_weigh w 0 call_weight end stays was old old sound.ends (inr sound.last) in
       let b = kept_weigh w 0 call_weight end stays was old old in
       let d = killed_numbers w 0 call_weight end stays was old old in

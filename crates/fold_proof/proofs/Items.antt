@@ -20,12 +20,13 @@ use Rattle.mir_func.specs.declared.variable.MarkValue.TheVariants.{Nothing}
 use Rattle.mir_func.specs.Exits.{row_exit, exit_of, Leaves}
 use Rattle.mir_func.specs.Graph.{Program, Fetch, Here, EndOfBlock, Outside}
 use Rattle.mir_func.specs.Sound.{IsJumpAtMost, MayFollow, EndsWell, Closes, LastCloses, OriginIn, ids_of}
-use Rattle.sem_mir.specs.Align.{position_of}
+use Rattle.mir_func.specs.Positions.{position_of}
 use Rattle.sem_mir.specs.Follow.{ItemHasClass, HasClass, RowFits, KindFits, MarkFits, rank, next_rank, InOrder, Among, none, same, left}
 use Rattle.rv64_instr.specs.View.{class_of}
-use Rattle.sem_mir.specs.Follow.{first_of as first_number}
+use Rattle.rv64_instr.specs.Inverse.{inverse_op, inverse}
+use Rattle.sem_mir.specs.InitialState.{first_of as first_number}
 use Rattle.fold_targets.specs.Leads.{first_id}
-use Rattle.fold_rule.specs.Turned.{inverse, inverse_op, aimed, to_block, inverse_to, with_code, sent, turned, made_jump}
+use Rattle.fold_rule.specs.Turned.{aimed, to_block, inverse_to, with_code, sent, turned, made_jump}
 use Rattle.fold_rule.specs.Tails.{first_of, else_way, is_number, if_needed, jump_at_end, jump_for_branch, plain_tail, branch_tail_to, tail_by}
 use Rattle.fold_rule.specs.Tails.{rewritten}
 use Rattle.fold_rule.specs.Rule.{folded_block, staying, folded_blocks}

@@ -19,7 +19,8 @@ use Rattle.mir_func.specs.declared.position.Origin.TheVariants.{Before}
 use Rattle.mir_func.specs.Function.{Function}
 use Rattle.mir_func.specs.Graph.{from_block}
 use Rattle.mir_func.specs.Sound.{AreApart, ids_of, OriginIn, EndsWell, Closes, LastCloses, IsSound}
-use Rattle.sem_mir.specs.Align.{position_of, is_code}
+use Rattle.mir_func.specs.Positions.{position_of}
+use Rattle.sem_mir.specs.Align.{is_code}
 use Rattle.pass_trait.specs.declared.loss.Reason.TheVariants.{Bypassed, Unreachable}
 use Rattle.pass_trait.specs.Rule.{IsJump, item}
 use Rattle.pass_trait.specs.Causes.{IsJumpOrDebug, IsFewer}

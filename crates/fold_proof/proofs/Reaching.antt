@@ -18,7 +18,7 @@ use Rattle.mir_func.specs.Function.{Function}
 use Rattle.mir_func.specs.Graph.{Program, Fetch, Here, EndOfBlock, Outside, below, block_start, front, fetch_in, from_block, program_of}
 use Rattle.mir_func.specs.Graph.{RowEdge, KindEdge, FetchEdge, Edge, Leads as LeadsFrom, stay, go}
 use Rattle.mir_func.specs.Sound.{EndsWell, LastCloses, IsSound}
-use Rattle.sem_mir.specs.Follow.{first_of as first_number}
+use Rattle.sem_mir.specs.InitialState.{first_of as first_number}
 use Rattle.sem_mir.proofs.Reading.{found_in, item_front}
 use Rattle.fold_targets.specs.Leads.{first_id}
 use Rattle.fold_rule.specs.declared.ways.Ways.{Ways}

@@ -16,9 +16,10 @@ use Rattle.mir_func.specs.declared.position.Origin.TheVariants.{Before}
 use Rattle.mir_func.specs.Exits.{row_exit, exit_of, IsAlways, Leaves as LeavesBlock}
 use Rattle.mir_func.specs.Graph.{Program, Here, Outside, below, block_start, fetch_in, from_block, index_of}
 use Rattle.mir_func.specs.Sound.{IsJumpAtMost, MayFollow, EndsWell, Closes, HasForm}
+use Rattle.mir_func.specs.Positions.{position_of}
 use Rattle.sem_mir.specs.State.{Core, State}
 use Rattle.sem_mir.specs.Step.{Outcome, Falls, Goes, Gives, Traps, Asks, Breaks, do_item}
-use Rattle.sem_mir.specs.Align.{position_of, is_code, ByItems, ByEnds, Since, After}
+use Rattle.sem_mir.specs.Align.{is_code, ByItems, ByEnds, Since, After}
 use Rattle.sem_mir.specs.Effects.{EndAlike}
 use Rattle.sem_mir.proofs.Told.{TellsLess, SeesLess, item_less}
 use Rattle.sem_simulation.specs.MatchStates.{Sides, since_item}

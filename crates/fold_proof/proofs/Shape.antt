@@ -5,7 +5,7 @@ use Rattle.std.proofs.Common.{inl, inr, arith, true, false}
 use Rattle.std.proofs.lemmas.List.Elements.{All-contains}
 use Rattle.std.proofs.lemmas.Option.{slice_get_within}
 use Rattle.rv64_instr.specs.Row.{Row, StoresSlot, row_of}
-use Rattle.rv64_instr.specs.Parts.{IsSlotStore}
+use Rattle.rv64_instr.specs.LocationEffects.{IsSlotStore}
 use Rattle.mir_func.specs.declared.block.Block.{Block}
 use Rattle.mir_func.specs.declared.debug_substitution.OperandPair.{OperandPair}
 use Rattle.mir_func.specs.declared.exit.Exit.{Exit}
@@ -18,7 +18,7 @@ use Rattle.mir_func.specs.declared.position.Origin.TheVariants.{Before}
 use Rattle.mir_func.specs.Exits.{row_exit, exit_of, IsAlways}
 use Rattle.mir_func.specs.Graph.{Program, Here, fetch_in, from_block, program_of, Leads as LeadsFrom, stay}
 use Rattle.mir_func.specs.Sound.{IsJumpAtMost, MayFollow, EndsWell, Closes}
-use Rattle.sem_mir.specs.Align.{position_of}
+use Rattle.mir_func.specs.Positions.{position_of}
 use Rattle.sem_mir.specs.Follow.{InOrder, KindFits, MarkFits, OnRow, IsEnd, Shape, IsMetApart, EndIsKept, EndComesFrom}
 use Rattle.sem_mir.proofs.Reading.{found, found_in, item_front}
 use Rattle.fold_targets.specs.Leads.{first_id}

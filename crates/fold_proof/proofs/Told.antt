@@ -4,7 +4,9 @@ use Rattle.std.proofs.Common.{subst, inl, inr, eq-eqb}
 use Rattle.std.specs.List.{list_any, list_all}
 use Rattle.std.proofs.lemmas.Bool.{and_parts, eqb-true}
 use Rattle.rv64_instr.specs.declared.op.Op.{Op}
-use Rattle.rv64_instr.specs.declared.op.Op.TheVariants.{Registers, Immediate, Lui, Branch, Load, Store, Copy, PseudoBr, PseudoCall, PseudoRet}
+use Rattle.rv64_instr.specs.declared.op.Op.TheVariants.{Registers, Immediate, Lui, Branch, Load, Store, Copy}
+use Rattle.rv64_instr.specs.declared.op.Op.TheVariants.{PseudoBr, PseudoCall, PseudoRet, PseudoCallIndirect}
+use Rattle.rv64_instr.specs.declared.op.Op.TheVariants.{PseudoTail, PseudoTailIndirect, NoReturnCall, NoReturnCallIndirect}
 use Rattle.fold_rule.specs.Turned.{aimed}
 use Rattle.rv64_instr.specs.declared.op.BranchOp.{BranchOp}
 use Rattle.rv64_instr.specs.declared.operand.Operand.{Operand}
@@ -12,7 +14,7 @@ use Rattle.rv64_instr.specs.declared.operand.Operand.TheVariants.{Use, ImplicitD
 use Rattle.rv64_instr.specs.Form.{is_implicit, has_form}
 use Rattle.rv64_instr.specs.Arithmetic.{taken}
 use Rattle.rv64_instr.specs.Row.{Branches, Jumps, row_of, row_by}
-use Rattle.rv64_instr.specs.Parts.{is_call}
+use Rattle.rv64_instr.specs.LocationEffects.{is_call}
 use Rattle.mir_func.specs.declared.exit.Exit.TheVariants.{Perhaps, Always}
 use Rattle.mir_func.specs.declared.item.Item.{Item}
 use Rattle.mir_func.specs.declared.item.ItemKind.{ItemKind}
@@ -331,4 +333,9 @@ aimed_form (Store op) os n h = h
 aimed_form Copy os n h = h
 aimed_form PseudoCall os n h = h
 aimed_form PseudoRet os n h = h
+aimed_form PseudoCallIndirect os n h = h
+aimed_form PseudoTail os n h = h
+aimed_form PseudoTailIndirect os n h = h
+aimed_form NoReturnCall os n h = h
+aimed_form NoReturnCallIndirect os n h = h
 aimed_form _ _ n h = cc

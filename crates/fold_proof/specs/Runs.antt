@@ -9,7 +9,8 @@ use Rattle.mir_func.specs.Sound.{AllItems, IsSound, HasForm}
 use Rattle.mir_func.specs.Graph.{Here, Program, program_of, block_start}
 use Rattle.sem_mir.specs.State.{State}
 use Rattle.sem_mir.specs.Align.{ByItems, ByEnds, sync_point_at, AnyOrigin, RunsMatch}
-use Rattle.sem_mir.specs.Follow.{InOrder, OnRow, IsEnd, first_of}
+use Rattle.sem_mir.specs.InitialState.{first_of}
+use Rattle.sem_mir.specs.Follow.{InOrder, OnRow, IsEnd}
 use Rattle.fold_rule_proof.specs.Kills.{IsFoldedWithKills}
 
 -- branches, jumps and returns have `Kept` origins

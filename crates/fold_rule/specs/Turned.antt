@@ -2,39 +2,18 @@
 use Rattle.std.specs.Prelude.{ℕ, List, [], ◌∷◌, None}
 use Rattle.std.specs.List.{slice_set}
 use Rattle.rv64_instr.specs.declared.op.Op.{Op}
-use Rattle.rv64_instr.specs.declared.op.Op.TheVariants.{Registers, Immediate, Lui, Branch, Load, Store, Copy, PseudoBr, PseudoCall, PseudoRet}
-use Rattle.rv64_instr.specs.declared.op.BranchOp.{BranchOp}
-use Rattle.rv64_instr.specs.declared.op.BranchOp.TheVariants.{Beq, Bne, Blt, Bge, Bltu, Bgeu}
+use Rattle.rv64_instr.specs.declared.op.Op.TheVariants.{Registers, Immediate, Lui, Branch, Load, Store, Copy}
+use Rattle.rv64_instr.specs.declared.op.Op.TheVariants.{PseudoBr, PseudoCall, PseudoRet, PseudoCallIndirect}
+use Rattle.rv64_instr.specs.declared.op.Op.TheVariants.{PseudoTail, PseudoTailIndirect, NoReturnCall, NoReturnCallIndirect}
 use Rattle.rv64_instr.specs.declared.operand.Operand.{Operand}
 use Rattle.rv64_instr.specs.declared.operand.Operand.TheVariants.{Block as OfBlock}
 use Rattle.rv64_instr.specs.Instruction.{Instruction}
+use Rattle.rv64_instr.specs.Inverse.{inverse_op}
 use Rattle.mir_func.specs.declared.item.Item.{Item}
 use Rattle.mir_func.specs.declared.item.ItemKind.{ItemKind}
 use Rattle.mir_func.specs.declared.item.ItemKind.TheVariants.{Code, Mark, Phi}
 use Rattle.mir_func.specs.declared.location.Loc.{Loc}
 use Rattle.mir_func.specs.declared.position.Origin.{Origin}
-
--- the inverse condition: the branch is taken exactly when the other isn't
-abbrev pub inverse : BranchOp → BranchOp
-inverse Beq = Bne
-inverse Bne = Beq
-inverse Blt = Bge
-inverse Bge = Blt
-inverse Bltu = Bgeu
-inverse Bgeu = Bltu
-
--- the opcode with its condition inverted; opcodes other than conditional branches are unchanged
-abbrev pub inverse_op : Op → Op
-inverse_op (Branch op) = Branch (inverse op)
-inverse_op (Registers op) = Registers op
-inverse_op (Immediate op) = Immediate op
-inverse_op Lui = Lui
-inverse_op (Load op) = Load op
-inverse_op (Store op) = Store op
-inverse_op Copy = Copy
-inverse_op PseudoBr = PseudoBr
-inverse_op PseudoCall = PseudoCall
-inverse_op PseudoRet = PseudoRet
 
 -- the operands with the block as target: operand 2 of a conditional branch, operand 0 of a jump; other opcodes' are
 -- unchanged
@@ -49,6 +28,11 @@ aimed (Store op) n operands = operands
 aimed Copy n operands = operands
 aimed PseudoCall n operands = operands
 aimed PseudoRet n operands = operands
+aimed PseudoCallIndirect n operands = operands
+aimed PseudoTail n operands = operands
+aimed PseudoTailIndirect n operands = operands
+aimed NoReturnCall n operands = operands
+aimed NoReturnCallIndirect n operands = operands
 
 -- the branch or jump with the block as target
 abbrev pub to_block : (block : ℕ) → Instruction → Instruction

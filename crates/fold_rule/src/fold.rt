@@ -8,7 +8,7 @@ ghost use Rattle.fold_rule.specs.Rule.{folded_block, folded_blocks, AreFolded};
 
 use crate::reached::reached;
 use crate::tail::{BlockPlacement, rewrite};
-use base_ids::code::BlockId;
+use base_ids::function_ids::BlockId;
 use fold_targets::ends::ends;
 use fold_targets::leads::leads;
 use mir_func::block::Block;

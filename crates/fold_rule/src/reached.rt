@@ -9,7 +9,7 @@ ghost use Rattle.fold_rule.specs.Reached.{Reached};
 ghost use Rattle.fold_rule.specs.steps.Walked.{fresh};
 
 use crate::ways::ways_to_ends;
-use base_ids::code::BlockId;
+use base_ids::function_ids::BlockId;
 use mir_func::block::Block;
 use std::alloc::{AllocError, Global};
 use std::collections::{HashMap, HashSet};

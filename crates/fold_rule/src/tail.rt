@@ -17,7 +17,7 @@ ghost use Rattle.fold_rule.specs.steps.Onward.{onward_count};
 
 use crate::turned::{made_jump, send, turn};
 use crate::ways::end_of;
-use base_ids::code::BlockId;
+use base_ids::function_ids::BlockId;
 use fold_targets::leads::always_to;
 use mir_func::exit::Exit;
 use mir_func::item::Item;

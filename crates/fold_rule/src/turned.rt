@@ -3,14 +3,16 @@
 ghost use Rattle.std.specs.Prelude.{◌≡◌, IfOk};
 ghost use Rattle.std.specs.List.{slice_set};
 ghost use Rattle.rv64_instr.specs.declared.operand.Operand.TheVariants.{Block as OfBlock};
-ghost use Rattle.fold_rule.specs.Turned.{inverse, inverse_op, to_block, sent, turned, made_jump};
+ghost use Rattle.rv64_instr.specs.Inverse.{inverse_op};
+ghost use Rattle.fold_rule.specs.Turned.{to_block, sent, turned, made_jump};
 
-use base_ids::code::BlockId;
+use base_ids::function_ids::BlockId;
 use mir_func::item::{Item, ItemKind};
 use mir_func::location::Loc;
 use mir_func::position::Origin;
 use rv64_instr::instr::Instr;
-use rv64_instr::op::{BranchOp, Op};
+use rv64_instr::inverse::inverse;
+use rv64_instr::op::Op;
 use rv64_instr::operand::{Operand, Operands};
 use std::alloc::{AllocError, Global};
 
@@ -69,7 +71,12 @@ fn aim(i: &mut Instr, block: BlockId)
         | Op::Store(_)
         | Op::Copy
         | Op::PseudoCall
-        | Op::PseudoRet => {}
+        | Op::PseudoRet
+        | Op::PseudoCallIndirect
+        | Op::PseudoTail
+        | Op::PseudoTailIndirect
+        | Op::NoReturnCall
+        | Op::NoReturnCallIndirect => {}
     }
 }
 
@@ -99,25 +106,16 @@ fn inverse_op(op: Op) -> Op
         Op::PseudoBr
         | Op::PseudoCall
         | Op::PseudoRet
+        | Op::PseudoCallIndirect
+        | Op::PseudoTail
+        | Op::PseudoTailIndirect
+        | Op::NoReturnCall
+        | Op::NoReturnCallIndirect
         | Op::Copy
         | Op::Lui
         | Op::Load(_)
         | Op::Store(_)
         | Op::Immediate(_)
         | Op::Registers(_) => op,
-    }
-}
-
-/// The inverse condition: the branch is taken exactly when the other isn't.
-fn inverse(op: BranchOp) -> BranchOp
-    ensures { result ≡ inverse op }
-{
-    match op {
-        BranchOp::Beq => BranchOp::Bne,
-        BranchOp::Bne => BranchOp::Beq,
-        BranchOp::Blt => BranchOp::Bge,
-        BranchOp::Bge => BranchOp::Blt,
-        BranchOp::Bltu => BranchOp::Bgeu,
-        BranchOp::Bgeu => BranchOp::Bltu,
     }
 }

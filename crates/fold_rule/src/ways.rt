@@ -8,7 +8,7 @@ ghost use Rattle.fold_rule.specs.Tails.{first_of, else_way, ways_of};
 ghost use Rattle.fold_rule.specs.Reached.{ways_in};
 ghost use Rattle.fold_rule.specs.steps.Walked.{ended};
 
-use base_ids::code::BlockId;
+use base_ids::function_ids::BlockId;
 use fold_targets::leads::always_to;
 use mir_func::block::Block;
 use mir_func::exit::Exit;

@@ -1,16 +1,19 @@
 -- What branches and jumps are once they are sent elsewhere.
-use Rattle.std.proofs.Common.{◌≡◌, ℕ, zero, suc, List, ◌∷◌, All, Contains, refl, sym, subst}
+use Rattle.std.proofs.Common.{◌≡◌, ℕ, zero, suc, List, ◌∷◌, All, Contains, refl, sym, subst, []}
 use Rattle.std.proofs.lemmas.List.Elements.{All-set}
 use Rattle.rv64_instr.specs.declared.op.Op.{Op}
 use Rattle.rv64_instr.specs.declared.op.BranchOp.{BranchOp}
 use Rattle.rv64_instr.specs.declared.op.ImmediateOp.{ImmediateOp}
 use Rattle.rv64_instr.specs.declared.op.ImmediateOp.TheVariants.{Addi}
-use Rattle.rv64_instr.specs.declared.op.Op.TheVariants.{Registers, Immediate, Lui, Branch, Load, Store, Copy, PseudoBr, PseudoCall, PseudoRet}
+use Rattle.rv64_instr.specs.declared.op.Op.TheVariants.{Registers, Immediate, Lui, Branch, Load, Store, Copy}
+use Rattle.rv64_instr.specs.declared.op.Op.TheVariants.{PseudoBr, PseudoCall, PseudoRet, PseudoCallIndirect}
+use Rattle.rv64_instr.specs.declared.op.Op.TheVariants.{PseudoTail, PseudoTailIndirect, NoReturnCall, NoReturnCallIndirect}
 use Rattle.rv64_instr.specs.declared.operand.Operand.{Operand}
 use Rattle.rv64_instr.specs.declared.operand.Operand.TheVariants.{Def, Use, Imm, Slot, Object, Block as OfBlock, Symbol}
 use Rattle.rv64_instr.specs.Arithmetic.{word}
 use Rattle.rv64_instr.specs.Row.{Row, Branches, Jumps}
-use Rattle.rv64_instr.specs.Row.{row_of, row_by, immediate_row, object_row, move_row}
+use Rattle.rv64_instr.specs.Row.{row_of, row_by, immediate_row, object_row, move_row, implicit_uses, held_call, held_tail, held_gone}
+use Rattle.rv64_instr.specs.Inverse.{inverse_op}
 use Rattle.mir_func.specs.declared.exit.Exit.{Exit}
 use Rattle.mir_func.specs.declared.exit.Exit.TheVariants.{Onward, Perhaps, Always, Final}
 use Rattle.mir_func.specs.declared.item.ItemKind.{ItemKind}
@@ -18,7 +21,7 @@ use Rattle.mir_func.specs.declared.item.ItemKind.TheVariants.{Code, Mark, Phi}
 use Rattle.mir_func.specs.declared.object.Object.{Object as StackObject}
 use Rattle.mir_func.specs.Exits.{row_exit, exit_of}
 use Rattle.mir_func.specs.Sound.{TargetIn, TargetsIn, SlotIn, SlotsIn, ObjectIn, ObjectsIn, IsNotPointer, LeavesPointer}
-use Rattle.fold_rule.specs.Turned.{inverse_op, aimed, to_block, inverse_to, with_code}
+use Rattle.fold_rule.specs.Turned.{aimed, to_block, inverse_to, with_code}
 
 -- control leaves by a branch or a jump
 abbrev pub Leads : Exit → Type 0
@@ -48,6 +51,18 @@ pub data IsEnding : Op → List Operand → Type 0 where
   branch : {op : BranchOp} {a b t : ℕ} {rest : List Operand} → IsEnding (Branch op) (Use a ∷ Use b ∷ OfBlock t ∷ rest)
   jump : {t : ℕ} {rest : List Operand} → IsEnding PseudoBr (OfBlock t ∷ rest)
 
+held_call_leads : (xs : List ℕ) → Leads (row_exit (held_call xs)) → ⊥
+held_call_leads [] h = h
+held_call_leads (r ∷ xs) h = h
+
+held_tail_leads : (xs : List ℕ) → Leads (row_exit (held_tail xs)) → ⊥
+held_tail_leads [] h = h
+held_tail_leads (r ∷ xs) h = h
+
+held_gone_leads : (xs : List ℕ) → Leads (row_exit (held_gone xs)) → ⊥
+held_gone_leads [] h = h
+held_gone_leads (r ∷ xs) h = h
+
 pub is_ending : (op : Op) (os : List Operand) → Leads (row_exit (row_by op os)) → IsEnding op os
 is_ending (Branch op) (Use a ∷ Use b ∷ OfBlock t ∷ rest) h = branch
 is_ending PseudoBr (OfBlock t ∷ rest) h = jump
@@ -64,6 +79,11 @@ is_ending (Store op) (Use rs ∷ Slot m ∷ rest) h = absurd h
 is_ending (Store op) (Use rs ∷ Object m ∷ Imm i ∷ rest) h = absurd h
 is_ending Copy (Def rd ∷ Use rs ∷ rest) h = absurd (subst Leads (onward_move rd rs) h)
 is_ending PseudoCall (Symbol name ∷ rest) h = absurd h
+is_ending PseudoCallIndirect os h = absurd (held_call_leads (implicit_uses os) h)
+is_ending PseudoTail (Symbol name ∷ rest) h = absurd h
+is_ending PseudoTailIndirect os h = absurd (held_tail_leads (implicit_uses os) h)
+is_ending NoReturnCall (Symbol name ∷ rest) h = absurd h
+is_ending NoReturnCallIndirect os h = absurd (held_gone_leads (implicit_uses os) h)
 is_ending _ _ h = absurd h
 
 sent_exit_by : (op : Op) (os : List Operand) (n : ℕ) → IsEnding op os →

@@ -8,7 +8,8 @@ use Rattle.rv64_instr.specs.declared.operand.Operand.{Operand}
 use Rattle.rv64_instr.specs.declared.operand.Operand.TheVariants.{Use, Block as OfBlock}
 use Rattle.rv64_instr.specs.Arithmetic.{taken, signed}
 use Rattle.rv64_instr.specs.Row.{Branches, Jumps, row_of, row_by}
-use Rattle.rv64_instr.specs.Parts.{is_call}
+use Rattle.rv64_instr.specs.LocationEffects.{is_call}
+use Rattle.rv64_instr.specs.Inverse.{inverse_op, inverse}
 use Rattle.mir_func.specs.declared.exit.Exit.{Exit}
 use Rattle.mir_func.specs.declared.exit.Exit.TheVariants.{Onward, Perhaps, Always}
 use Rattle.mir_func.specs.declared.item.ItemKind.{ItemKind}
@@ -17,7 +18,7 @@ use Rattle.mir_func.specs.Exits.{row_exit, exit_of}
 use Rattle.mir_func.specs.Graph.{Program}
 use Rattle.sem_mir.specs.State.{Core, updated}
 use Rattle.sem_mir.specs.Step.{Outcome, Falls, Goes, Gives, Traps, Asks, Breaks, read, are_written, does, act, with_core, numbered, given, defined, do_item}
-use Rattle.fold_rule.specs.Turned.{inverse, inverse_op, aimed, to_block, inverse_to, with_code}
+use Rattle.fold_rule.specs.Turned.{aimed, to_block, inverse_to, with_code}
 use Rattle.fold_rule_proof.proofs.Rows.{Leads, IsEnding, branch, jump, is_ending}
 use Rattle.fold_rule_proof.specs.Alike.{aimed_at, swapped, FoldedItemsDoAlike}
 

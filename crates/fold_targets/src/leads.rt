@@ -5,7 +5,7 @@ ghost use Rattle.std.specs.HashMap.{get};
 ghost use Rattle.mir_func.specs.Sound.{AreApart, ids_of};
 ghost use Rattle.fold_targets.specs.Leads.{always_to, lead_of, lead_in, lead};
 
-use base_ids::code::BlockId;
+use base_ids::function_ids::BlockId;
 use mir_func::block::Block;
 use mir_func::exit::Exit;
 use mir_func::item::{Item, ItemKind};

@@ -9,7 +9,7 @@ ghost use Rattle.fold_targets.specs.Ways.{EndsAt};
 ghost use Rattle.fold_rule.specs.Reached.{Reached};
 ghost use Rattle.fold_undef.specs.Bypassed.{end_past};
 
-use base_ids::code::BlockId;
+use base_ids::function_ids::BlockId;
 use fold_rule::reached::reached_before;
 use fold_rule::ways::end_of;
 use fold_targets::ends::ends;

@@ -3,7 +3,7 @@
 ghost use Rattle.std.specs.Prelude.{◌≡◌};
 ghost use Rattle.fold_undef.specs.Kill.{kill_of, kill_item};
 
-use base_ids::code::{BlockId, DebugNumber};
+use base_ids::function_ids::{BlockId, DebugNumber};
 use mir_func::item::{Item, ItemKind};
 use mir_func::location::Loc;
 use mir_func::position::{Origin, Pos};

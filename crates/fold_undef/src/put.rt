@@ -12,7 +12,7 @@ ghost use Rattle.fold_undef.specs.steps.Gathered.{kills_at, kills_to, with_kills
 use crate::bypassed::{JumpChains, end_past};
 use crate::kill::{Kill, kill_item, kill_of};
 use crate::seen::Seen;
-use base_ids::code::BlockId;
+use base_ids::function_ids::BlockId;
 use base_list::List;
 use mir_func::block::Block;
 use mir_func::item::Item;

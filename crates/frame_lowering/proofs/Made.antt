@@ -14,8 +14,9 @@ use Rattle.mir_func.specs.Function.{Function, FramedFunction}
 use Rattle.mir_func.specs.Graph.{block_start}
 use Rattle.mir_func.specs.Sound.{AllItems, IsSound}
 use Rattle.mir_func.specs.SoundFrame.{adds_to_pointer, saves, restores, prologue_code, epilogue_code, HasPhysical, IsFramed}
+use Rattle.mir_func.specs.Positions.{position_of}
 use Rattle.std.specs.Prelude.{pos, ◌-ℤ◌}
-use Rattle.frame_rule.specs.Rule.{added, added_all, position_in, framed_block, framed_blocks, slot_places, saved_of, size_of, framed_of}
+use Rattle.frame_rule.specs.Rule.{added, added_all, framed_block, framed_blocks, slot_places, saved_of, size_of, framed_of}
 use Rattle.frame_rule.proofs.Framed.{is_framed}
 use Rattle.frame_lowering.specs.declared.frame.Frame.{Frame}
 use Rattle.frame_lowering.specs.steps.Framing.{IsFrameOf, prologue_in, epilogue_in, framed_blocks_in}
@@ -49,10 +50,10 @@ prologue_pushed frame first saved none one all lowers some same empty is pushed 
 
 -- and the epilogue
 pub epilogue_pushed : (frame : Frame) (o : Origin) (p : Pos) (saved : List SavedRegister) (before restored all : List Item) (raises : Item) →
-    (frame.size ≡ 0 → ⊥) → p ≡ position_in o → saved ≡ frame.saved → restored ≡ before ++ map (λ s. added (Before p) (restores s)) saved →
+    (frame.size ≡ 0 → ⊥) → p ≡ position_of o → saved ≡ frame.saved → restored ≡ before ++ map (λ s. added (Before p) (restores s)) saved →
     raises ≡ added (Before p) (adds_to_pointer (pos frame.size)) → all ≡ restored ++ raises ∷ [] → all ≡ before ++ epilogue_in frame o
 epilogue_pushed frame o p saved before restored all raises some at same made is pushed =
-    let here : Origin = Before (position_in o) in
+    let here : Origin = Before (position_of o) in
     let last : raises ≡ added here (adds_to_pointer (pos frame.size)) = is ∙ ap (λ q. added (Before q) (adds_to_pointer (pos frame.size))) at in
     let loads : restored ≡ before ++ map (added here) (map restores frame.saved) =
     made ∙ ((λ i. before ++ map (λ s. added (Before (at i)) (restores s)) (same i)) ∙ ap (λ (is : List Item). before ++ is)

@@ -4,16 +4,16 @@ ghost use Rattle.std.specs.Prelude.{◌≡◌, ◌≤◌, ◌++◌, true, IfOk, 
 ghost use Rattle.rv64_instr.specs.Form.{has_12_bits};
 ghost use Rattle.mir_func.specs.Limits.{MAX_FRAME};
 ghost use Rattle.mir_func.specs.SoundFrame.{adds_to_pointer, saves, restores};
-ghost use Rattle.frame_rule.specs.Rule.{added, position_in};
+ghost use Rattle.frame_rule.specs.Rule.{added};
 ghost use Rattle.frame_lowering.specs.steps.Framing.{prologue_in, epilogue_in};
 
 use crate::frame::Frame;
 use crate::saving::register;
-use base_ids::code::{BlockId, SlotId};
+use base_ids::function_ids::{BlockId, SlotId};
 use mir_func::framed::SavedRegister;
 use mir_func::item::{Item, ItemKind, Items};
 use mir_func::location::Loc;
-use mir_func::position::{Origin, Pos};
+use mir_func::position::{Origin, Pos, position_of};
 use rv64_instr::instr::Instr;
 use rv64_instr::op::{ImmediateOp, LoadOp, Op, StoreOp};
 use rv64_instr::operand::{Operand, Operands};
@@ -53,18 +53,10 @@ pub fn push_epilogue(
     if frame.size == 0 {
         return Ok(());
     }
-    let before = Origin::Before(position_in(origin));
+    let before = Origin::Before(position_of(origin));
     push_restores(alloc, frame.saved.as_slice(), before, items)?;
     items.push(added(before, adds_to_pointer(alloc, i64::from(frame.size))?))?;
     Ok(())
-}
-
-fn position_in(origin: Origin) -> Pos
-    ensures { result ≡ position_in origin }
-{
-    match origin {
-        Origin::Kept(position) | Origin::Before(position) => position,
-    }
 }
 
 fn push_saves(

@@ -2,7 +2,6 @@
 
 ghost use Rattle.std.specs.Prelude.{◌≡◌, ◌≤◌, ◌++◌, IfOk, OnOk, map};
 ghost use Rattle.mir_func.specs.Limits.{MAX_FRAME};
-ghost use Rattle.mir_func.specs.Exits.{is_final};
 ghost use Rattle.frame_lowering.specs.steps.Framing.{
   framed_item_in,
   framed_items_in,
@@ -15,7 +14,6 @@ use crate::added::{prologue, push_epilogue};
 use crate::frame::Frame;
 use crate::rename::renamed;
 use mir_func::block::{Block, Blocks};
-use mir_func::exit::Exit;
 use mir_func::item::{Item, Items};
 use std::alloc::{AllocError, Global};
 
@@ -81,22 +79,13 @@ fn framed_items(alloc: Global, frame: &Frame, items: &[Item]) -> Result<Items, A
     Ok(made)
 }
 
-/// Appends an item, and before a return the epilogue.
+/// Appends an item, and the epilogue before one that leads back to the caller.
 fn push_item(alloc: Global, frame: &Frame, i: &Item, made: &mut Items) -> Result<(), AllocError>
     requires { frame.now.size ≤ MAX_FRAME }
     ensures { OnOk result (made.new ≡ made.old ++ framed_item_in frame.now i.now) }
 {
-    if is_final(i.kind.exit()) {
+    if i.kind.leads_back() {
         push_epilogue(alloc, frame, i.origin, made)?;
     }
     made.push(renamed(alloc, &frame.slots, i)?)
-}
-
-fn is_final(exit: Exit) -> bool
-    ensures { result ≡ is_final exit }
-{
-    match exit {
-        Exit::Final => true,
-        Exit::Onward | Exit::Perhaps(_) | Exit::Always(_) => false,
-    }
 }

@@ -57,6 +57,7 @@ fn is_operand_physical(operand: &Operand) -> bool
         Operand::Imm(_)
         | Operand::Slot(_)
         | Operand::Object(_)
+        | Operand::Part(_, _)
         | Operand::Block(_)
         | Operand::Symbol(_)
         | Operand::Mask => true,

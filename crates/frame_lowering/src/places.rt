@@ -4,7 +4,7 @@ ghost use Rattle.std.specs.Prelude.{◌≡◌, ◌≤◌, length, IfOk};
 ghost use Rattle.mir_func.specs.Limits.{MAX_SLOTS};
 ghost use Rattle.frame_rule.specs.Rule.{slot_places, saved_places};
 
-use base_ids::code::SlotId;
+use base_ids::function_ids::SlotId;
 use mir_func::framed::{Offsets, Saved, SavedRegister, SlotPlace};
 use rv64_instr::reg::Reg;
 use std::alloc::{AllocError, Global};

@@ -65,6 +65,7 @@ fn renamed_operand(slots: &SlotOffsets, operand: &Operand) -> Result<Operand, Al
         | Operand::ImplicitUse(_)
         | Operand::Imm(_)
         | Operand::Object(_)
+        | Operand::Part(_, _)
         | Operand::Block(_)
         | Operand::Symbol(_)
         | Operand::Mask => operand.copy(),

@@ -8,7 +8,7 @@ ghost use Rattle.frame_rule.specs.Rule.{slot_offset};
 ghost use Rattle.frame_lowering.specs.steps.Framing.{offset_in};
 
 use crate::places::DOUBLEWORD;
-use base_ids::code::SlotId;
+use base_ids::function_ids::SlotId;
 use mir_func::func::SlotIds;
 use std::alloc::{AllocError, Global};
 use std::collections::BTreeMap;

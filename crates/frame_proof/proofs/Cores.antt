@@ -1,23 +1,27 @@
 -- A core of a function beside one of the function with its frame: alike but for registers, and slots lie at their offsets.
 use Rattle.std.proofs.Common.{◌≡◌, ◌⊎◌, ℕ, zero, suc, ◌+◌, ◌%◌, ◌^◌, ◌<◌, List, [], ◌∷◌, map, length, All, Contains, Option, Some, None, IsSome, Bool, true}
-use Rattle.std.proofs.Common.{false}
+use Rattle.std.proofs.Common.{false, ◌++◌}
 use Rattle.std.proofs.Common.{cond, nat_eq, ◌&&◌, is_some, refl, sym, ap, ◌∙◌, subst, inl, inr, eq-eqb, arith}
 use Rattle.std.proofs.lemmas.Bool.{cases_eq, eqb-true}
 use Rattle.std.proofs.lemmas.List.Elements.{All-head, All-tail}
-use Rattle.rv64_instr.specs.declared.decoded.Input.{Input}
-use Rattle.rv64_instr.specs.declared.decoded.Input.TheVariants.{Content, Number}
-use Rattle.rv64_instr.specs.declared.decoded.Base.TheVariants.{PointedBy, ObjectAt}
+use Rattle.rv64_instr.specs.Row.{Input, Content, Number, PartOf}
+use Rattle.rv64_instr.specs.Row.{PointedBy, ObjectAt, BesidePart}
+use Rattle.rv64_instr.specs.declared.symbol.Half.TheVariants.{Lower}
+use Rattle.rv64_instr.specs.Linked.{linked_value}
 use Rattle.rv64_instr.specs.Arithmetic.{computed, taken, load_width, store_width, extended}
 use Rattle.rv64_instr.specs.Row.{Row, Fixes, Moves, Sets, Addresses, Loads, Stores, LoadsSlot, StoresSlot, Branches, Jumps, Calls, Returns, Unfit}
-use Rattle.rv64_instr.specs.DefsAndUses.{caller_saved, reads, input_reads}
+use Rattle.rv64_instr.specs.Row.{Callee, Named, Held, Way, Back, Tail, Never, Ending}
+use Rattle.rv64_instr.specs.DefsAndUses.{caller_saved, reads, input_reads, callee_reads, way_reads}
+use Rattle.rv64_instr.specs.declared.start.CallTarget.{CallTarget}
+use Rattle.rv64_instr.specs.declared.start.CallTarget.TheVariants.{Address}
 use Rattle.mir_func.specs.declared.framed.SavedRegister.{SavedRegister}
 use Rattle.mir_func.specs.Sound.{SlotIn}
 use Rattle.sem_mir.specs.State.{Core, Reply, updated, content, put, put_all, spelled, low_bytes, writes_frame}
-use Rattle.sem_mir.specs.Step.{Falls, Goes, Traps, or_zero, read, input_value, address_at, is_fault, set_register, answered, slot_loaded}
-use Rattle.sem_mir.specs.Step.{saved as written_to, does, act, are_written}
+use Rattle.sem_mir.specs.Step.{Falls, Goes, Traps, or_zero, read, input_value, address_at, is_fault, set_register, exec_external_call, slot_loaded}
+use Rattle.sem_mir.specs.Step.{saved as written_to, does, act, are_written, called_at, way_at, result_at}
 use Rattle.sem_mir.specs.Effects.{EndAlike}
 use Rattle.sem_mir.proofs.Outcomes.{after_reply, alike_either}
-use Rattle.sem_mir.proofs.Places.{updated_same, updated_other, put_other}
+use Rattle.sem_mir.proofs.Places.{updated_same, updated_other, put_other, all_front, all_back}
 use Rattle.frame_rule.specs.Rule.{slots_before, slot_offset}
 use Rattle.frame_rule.proofs.Rows.{renamed_row}
 
@@ -125,6 +129,22 @@ module _ (slots : List ℕ) (saved : List SavedRegister) (Alike : ℕ → Type 0
       let b = reads_near c d h rs (All-tail Alike r rs k) in
       λ i. a i ∷ b i
 
+  callee_near : (c d : Core) → Near c d → (callee : Callee) → All Alike (callee_reads callee) → called_at c callee ≡ called_at d callee
+  callee_near c d h (Named name) k = refl
+  callee_near c d h (Held r) k = ap Address (read_near c d h r (All-head Alike r [] k))
+
+  way_near : (c d : Core) → Near c d → (way : Way Callee) → All Alike (way_reads way) → way_at c way ≡ way_at d way
+  way_near c d h Back k = refl
+  way_near c d h (Tail callee) k = ap (λ (t : CallTarget). Tail t) (callee_near c d h callee k)
+  way_near c d h (Never callee) k = ap (λ (t : CallTarget). Never t) (callee_near c d h callee k)
+
+  pub result_near : (c d : Core) → Near c d → (ending : Ending Callee) → All Alike (way_reads ending.way ++ ending.values) →
+      result_at c ending ≡ result_at d ending
+  result_near c d h ending k =
+      let a = way_near c d h ending.way (all_front Alike (way_reads ending.way) ending.values k) in
+      let b = reads_near c d h ending.values (all_back Alike (way_reads ending.way) ending.values k) in
+      λ i. record { way = a i; values = b i }
+
   module _ (c : Core) (regs' slots' : ℕ → Option ℕ) (h : Near c (with_places regs' slots' c)) where
     abbrev d : Core
     d = with_places regs' slots' c
@@ -141,6 +161,7 @@ module _ (slots : List ℕ) (saved : List SavedRegister) (Alike : ℕ → Type 0
     input_near : (b : Input) → All Alike (input_reads b) → input_value c b ≡ input_value d b
     input_near (Content r) k = read_near c d h r (All-head Alike r [] k)
     input_near (Number n) k = refl
+    input_near (PartOf half y) k = refl
 
     load_near : (rd a a' : ℕ) (v : ℕ → ℕ) (bad : ℕ → Bool) → a ≡ a' →
         EndAlike Near (cond (bad a) Traps (Falls (set_register rd (v a) c))) (cond (bad a') Traps (Falls (set_register rd (v a') d)))
@@ -163,18 +184,21 @@ module _ (slots : List ℕ) (saved : List SavedRegister) (Alike : ℕ → Type 0
     slot_near rd None (Some w) e = cc
     slot_near rd (Some v) None e = cc
 
-    answer_near : (name args args' : List ℕ) (rs : List Reply) → args ≡ args' → EndAlike Near (answered name args c rs) (answered name args' d rs)
-    answer_near name args args' [] e = tt
-    answer_near name args args' (r ∷ rs) e =
-        subst (λ (z : List ℕ). EndAlike Near (answered name args c (r ∷ rs)) (answered name z d (r ∷ rs))) e
-        (alike_either Near (writes_frame c.entry c.area r.writes) Traps (Falls (after_reply name args c r rs)) Traps (Falls (after_reply name args d r rs)) tt
+    answer_near : (t t' : CallTarget) (args args' : List ℕ) (rs : List Reply) → t ≡ t' → args ≡ args' →
+        EndAlike Near (exec_external_call t args c rs) (exec_external_call t' args' d rs)
+    answer_near t t' args args' [] et e = tt
+    answer_near t t' args args' (r ∷ rs) et e =
+        subst (λ (z : CallTarget). EndAlike Near (exec_external_call t args c (r ∷ rs)) (exec_external_call z args' d (r ∷ rs))) et
+        (subst (λ (z : List ℕ). EndAlike Near (exec_external_call t args c (r ∷ rs)) (exec_external_call t z d (r ∷ rs))) e
+        (alike_either Near (writes_frame c.entry c.area r.writes) Traps (Falls (after_reply t args c r rs)) Traps
+        (Falls (after_reply t args d r rs)) tt
         (record {
           same = refl;
           regs = λ q k. puts_alike caller_saved r.regs q regs' c.regs (h.regs q k);
           kept = h.kept;
           held = h.held;
           written = λ q lt. puts_written caller_saved r.regs q regs' (h.written q lt);
-        }))
+        })))
 
     keep_near : (rs n : ℕ) → Contains slots n → read c rs ≡ read d rs →
         Near (record c { slots = updated n (Some (read c rs)) c.slots }) (record d { slots = updated (slot_offset slots n) (Some (read d rs)) slots' })
@@ -210,6 +234,11 @@ module _ (slots : List ℕ) (saved : List SavedRegister) (Alike : ℕ → Type 0
     does_near (Loads rd op (ObjectAt m) o) k j =
         load_near rd (address_at c (ObjectAt m) o) (address_at d (ObjectAt m) o) (λ a. extended op (spelled c.memory a (load_width op)))
         (λ a. is_fault (ObjectAt m) c a (load_width op)) refl
+    does_near (Loads rd op (BesidePart r y) o) k j =
+        let x = read_near c d h r (All-head Alike r [] k) in
+        let l = linked_value c.symbols Lower y in
+        load_near rd (((read c r + l) % 2 ^ 64 + o) % 2 ^ 64) (((read d r + l) % 2 ^ 64 + o) % 2 ^ 64) (λ a. extended op (spelled c.memory a (load_width op)))
+        (λ a. is_fault (BesidePart r y) c a (load_width op)) (λ i. ((x i + l) % 2 ^ 64 + o) % 2 ^ 64)
     does_near (Stores op rs (PointedBy r) o) k j =
         let v = read_near c d h rs (All-head Alike rs (r ∷ []) k) in
         let x = read_near c d h r (All-head Alike r [] (All-tail Alike rs (r ∷ []) k)) in
@@ -219,6 +248,12 @@ module _ (slots : List ℕ) (saved : List SavedRegister) (Alike : ℕ → Type 0
         let v = read_near c d h rs (All-head Alike rs [] k) in
         store_near (address_at c (ObjectAt m) o) (address_at d (ObjectAt m) o) _ _ (λ a. is_fault (ObjectAt m) c a (store_width op)) refl
         (λ i. low_bytes (store_width op) (v i))
+    does_near (Stores op rs (BesidePart r y) o) k j =
+        let v = read_near c d h rs (All-head Alike rs (r ∷ []) k) in
+        let x = read_near c d h r (All-head Alike r [] (All-tail Alike rs (r ∷ []) k)) in
+        let l = linked_value c.symbols Lower y in
+        store_near (((read c r + l) % 2 ^ 64 + o) % 2 ^ 64) (((read d r + l) % 2 ^ 64 + o) % 2 ^ 64) _ _ (λ a. is_fault (BesidePart r y) c a (store_width op))
+        (λ i. ((x i + l) % 2 ^ 64 + o) % 2 ^ 64) (λ i. low_bytes (store_width op) (v i))
     does_near (LoadsSlot rd n) k j = slot_near rd (c.slots n) (slots' (slot_offset slots n)) (h.kept n j)
     does_near (StoresSlot rs n) k j = keep_near rs n j (read_near c d h rs (All-head Alike rs [] k))
     does_near (Branches op a b t) k j =
@@ -227,8 +262,11 @@ module _ (slots : List ℕ) (saved : List SavedRegister) (Alike : ℕ → Type 0
         subst (λ (z : Bool). EndAlike Near (cond (taken op (read c a) (read c b)) (Goes t c) (Falls c)) (cond z (Goes t d) (Falls d)))
         (λ i. taken op (x i) (y i)) (alike_either Near (taken op (read c a) (read c b)) (Goes t c) (Falls c) (Goes t d) (Falls d) (refl, h) h)
     does_near (Jumps t) k j = (refl, h)
-    does_near (Calls name args) k j = answer_near name (map (read c) args) (map (read d) args) c.script (reads_near c d h args k)
-    does_near (Returns v) k j = reads_near c d h v k
+    does_near (Calls call) k j =
+        answer_near (called_at c call.callee) (called_at d call.callee) (map (read c) call.args) (map (read d) call.args) c.script
+        (callee_near c d h call.callee (all_front Alike (callee_reads call.callee) call.args k))
+        (reads_near c d h call.args (all_back Alike (callee_reads call.callee) call.args k))
+    does_near (Returns ending) k j = result_near c d h ending k
     does_near Unfit k j = tt
 
   -- from cores that are near, code does the same

@@ -12,17 +12,14 @@ use Rattle.mir_func.specs.declared.item.ItemKind.TheVariants.{Code, Mark, Phi}
 use Rattle.mir_func.specs.declared.position.Origin.{Origin}
 use Rattle.mir_func.specs.declared.position.Origin.TheVariants.{Kept, Before}
 use Rattle.mir_func.specs.Exits.{exit_of}
+use Rattle.mir_func.specs.Positions.{position_of}
 use Rattle.sem_mir.specs.State.{Core, updated, content}
 use Rattle.sem_mir.specs.Step.{Outcome, Falls, Goes, Gives, Traps, Asks, Breaks, act, does, read, set_register, slot_loaded}
-use Rattle.sem_mir.specs.Align.{position_of, is_code, is_jump, is_jump_row, Since, After}
+use Rattle.sem_mir.specs.Align.{is_code, is_jump, is_jump_row, Since, After}
 use Rattle.sem_mir.specs.Effects.{EndAlike}
 use Rattle.sem_simulation.specs.MatchStates.{OutcomesAlike}
-use Rattle.frame_rule.specs.Rule.{position_in, renamed_kind}
+use Rattle.frame_rule.specs.Rule.{renamed_kind}
 use Rattle.frame_rule.proofs.Rows.{renamed_row, row_renamed}
-
-pub same_position : (o : Origin) → position_in o ≡ position_of o
-same_position (Kept p) = refl
-same_position (Before p) = refl
 
 pub adds_no_jump : (n : ℕ) → is_jump_row (add_row 2 2 n) ≡ false
 adds_no_jump zero = refl

@@ -8,7 +8,8 @@ use Rattle.mir_func.specs.Graph.{block_start, from_block, program_of, framed_pro
 use Rattle.mir_func.specs.Sound.{SlotsIn, LeavesPointer, LastCloses, HasForm}
 use Rattle.sem_mir.specs.State.{content}
 use Rattle.sem_mir.specs.Align.{ByItems, sync_point_at, First, RunsMatch}
-use Rattle.sem_mir.specs.Follow.{KindFits, first_of}
+use Rattle.sem_mir.specs.InitialState.{first_of}
+use Rattle.sem_mir.specs.Follow.{KindFits}
 use Rattle.sem_mir.proofs.Reading.{found_in}
 use Rattle.sem_simulation.proofs.Laid.{rest_in, rest_of}
 use Rattle.frame_rule.specs.Rule.{framed_of}

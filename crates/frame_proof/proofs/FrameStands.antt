@@ -5,35 +5,38 @@ use Rattle.std.specs.List.{list_any}
 use Rattle.std.proofs.lemmas.Bool.{ne_eqb}
 use Rattle.std.proofs.lemmas.List.Elements.{All-nil, All-cons, All-head, All-contains, All-contains_itself, All-weaker, Contains-get_or}
 use Rattle.rv64_instr.specs.declared.op.Op.{Op}
-use Rattle.rv64_instr.specs.declared.op.Op.TheVariants.{Registers, Immediate, Lui, Branch, Load, Store, Copy, PseudoBr, PseudoCall, PseudoRet}
+use Rattle.rv64_instr.specs.declared.op.Op.TheVariants.{Registers, Immediate, Lui, Branch, Load, Store, Copy}
+use Rattle.rv64_instr.specs.declared.op.Op.TheVariants.{PseudoBr, PseudoCall, PseudoRet, PseudoCallIndirect}
+use Rattle.rv64_instr.specs.declared.op.Op.TheVariants.{PseudoTail, PseudoTailIndirect, NoReturnCall, NoReturnCallIndirect}
 use Rattle.rv64_instr.specs.declared.op.ImmediateOp.{ImmediateOp}
 use Rattle.rv64_instr.specs.declared.op.ImmediateOp.TheVariants.{Addi}
 use Rattle.rv64_instr.specs.declared.operand.Operand.{Operand}
-use Rattle.rv64_instr.specs.declared.operand.Operand.TheVariants.{Def, Use, Imm, Slot, Object, Block as ToBlock, Symbol}
+use Rattle.rv64_instr.specs.declared.operand.Operand.TheVariants.{Def, Use, Imm, Slot, Object, Part, Block as ToBlock, Symbol}
 use Rattle.rv64_instr.specs.Arithmetic.{word, taken, load_width, store_width}
-use Rattle.rv64_instr.specs.Row.{Row, Loads, Stores, LoadsSlot, Branches, Calls, Returns, row_of}
-use Rattle.rv64_instr.specs.Row.{row_by, move_row, immediate_row, object_row}
+use Rattle.rv64_instr.specs.Row.{Row, Loads, Stores, LoadsSlot, Branches, Calls, Returns, row_of, CallSite}
+use Rattle.rv64_instr.specs.Row.{row_by, move_row, immediate_row, object_row, way_leads_back, Way, Callee}
+use Rattle.rv64_instr.specs.Row.{Back, Tail, Never, implicit_uses, held_call, held_tail, held_gone}
 use Rattle.rv64_instr.specs.DefsAndUses.{reads, sets}
+use Rattle.rv64_instr.specs.declared.start.CallTarget.{CallTarget}
 use Rattle.mir_func.specs.declared.block.Block.{Block}
 use Rattle.mir_func.specs.declared.debug_substitution.OperandPair.{OperandPair}
-use Rattle.mir_func.specs.declared.exit.Exit.TheVariants.{Final}
 use Rattle.mir_func.specs.declared.item.Item.{Item}
 use Rattle.mir_func.specs.declared.item.ItemKind.{ItemKind}
 use Rattle.mir_func.specs.declared.item.ItemKind.TheVariants.{Code, Mark, Phi}
 use Rattle.mir_func.specs.declared.position.Pos.{Pos}
 use Rattle.mir_func.specs.declared.framed.SavedRegister.{SavedRegister}
-use Rattle.mir_func.specs.Exits.{row_exit, exit_of, is_final}
+use Rattle.mir_func.specs.Exits.{row_leads_back, leads_back}
 use Rattle.mir_func.specs.Function.{Function}
-use Rattle.mir_func.specs.Graph.{Program, Fetch, Here, EndOfBlock, Outside, block_start, from_block, framed_program}
+use Rattle.mir_func.specs.Graph.{Program, Fetch, Here, EndOfBlock, Outside, block_start, from_block, framed_program, is_return}
 use Rattle.mir_func.specs.Sound.{IsNotPointer, LeavesPointer, SlotsIn, LastCloses, IsSound}
 use Rattle.mir_func.specs.SoundFrame.{SAVED}
-use Rattle.sem_mir.specs.State.{Core, State, Reply, content, writes_frame}
-use Rattle.sem_mir.specs.Step.{Outcome, Falls, Goes, Gives, Traps, Asks, Breaks, Returned, act, does, read, or_zero, are_written, with_core, moved}
-use Rattle.sem_mir.specs.Step.{address_at, is_fault, slot_loaded, answered, do_item, do_fetch, step}
+use Rattle.sem_mir.specs.State.{Core, State, Reply, content, writes_frame, RunResult}
+use Rattle.sem_mir.specs.Step.{Outcome, Falls, Goes, Gives, Traps, Asks, Breaks, Returned, act, does, read, or_zero, are_written, with_core, moved, called_at}
+use Rattle.sem_mir.specs.Step.{address_at, is_fault, slot_loaded, exec_external_call, do_item, do_fetch, step, way_at}
 use Rattle.sem_mir.proofs.Reading.{found_in}
 use Rattle.sem_simulation.proofs.Laid.{rest_in, rest_of}
 use Rattle.frame_rule.specs.Rule.{sets_register, saved_of, framed_of}
-use Rattle.frame_proof.specs.Stands.{is_return, is_as_found, frame_state, FrameState, FrameStands, FrameAlwaysStands, FrameGivesBack}
+use Rattle.frame_proof.specs.Stands.{is_as_found, frame_state, FrameState, FrameStands, FrameAlwaysStands, FrameGivesBack}
 use Rattle.frame_rule.proofs.Saved.{all_given, set_is_saved}
 use Rattle.frame_proof.proofs.Blocks.{drop_zero}
 use Rattle.frame_proof.proofs.Standing.{IsTame, part_after, part_start}
@@ -64,15 +67,30 @@ move_sets : (rd rs : ℕ) → (nat_eq 2 rd || false) ≡ false → SetsNo (move_
 move_sets rd zero h = h
 move_sets rd (suc r) h = h
 
+held_call_sets : (xs : List ℕ) → SetsNo (held_call xs)
+held_call_sets [] = refl
+held_call_sets (r ∷ xs) = refl
+
+held_tail_sets : (xs : List ℕ) → SetsNo (held_tail xs)
+held_tail_sets [] = refl
+held_tail_sets (r ∷ xs) = refl
+
+held_gone_sets : (xs : List ℕ) → SetsNo (held_gone xs)
+held_gone_sets [] = refl
+held_gone_sets (r ∷ xs) = refl
+
 sets_by : (op : Op) (os : List Operand) → All IsNotPointer os → SetsNo (row_by op os)
 sets_by (Registers op) (Def rd ∷ Use a ∷ Use b ∷ rest) h = defines rd (Use a ∷ Use b ∷ rest) h
 sets_by (Immediate op) (Def rd ∷ Use a ∷ Imm i ∷ rest) h = immediate_sets op rd a (word i) (defines rd (Use a ∷ Imm i ∷ rest) h)
 sets_by (Immediate op) (Def rd ∷ Object n ∷ Imm i ∷ rest) h = object_sets op rd n (word i) (defines rd (Object n ∷ Imm i ∷ rest) h)
+sets_by (Immediate op) (Def rd ∷ Use a ∷ Part half y ∷ rest) h = defines rd (Use a ∷ Part half y ∷ rest) h
 sets_by Lui (Def rd ∷ Imm i ∷ rest) h = defines rd (Imm i ∷ rest) h
+sets_by Lui (Def rd ∷ Part half y ∷ rest) h = defines rd (Part half y ∷ rest) h
 sets_by (Branch op) (Use a ∷ Use b ∷ ToBlock target ∷ rest) h = refl
 sets_by (Load op) (Def rd ∷ Use base ∷ Imm i ∷ rest) h = defines rd (Use base ∷ Imm i ∷ rest) h
 sets_by (Load op) (Def rd ∷ Slot n ∷ rest) h = defines rd (Slot n ∷ rest) h
 sets_by (Load op) (Def rd ∷ Object n ∷ Imm i ∷ rest) h = defines rd (Object n ∷ Imm i ∷ rest) h
+sets_by (Load op) (Def rd ∷ Use base ∷ Part half y ∷ rest) h = defines rd (Use base ∷ Part half y ∷ rest) h
 sets_by (Store op) (Use rs ∷ Use base ∷ Imm i ∷ rest) h = refl
 sets_by (Store op) (Use rs ∷ Slot n ∷ rest) h = refl
 sets_by (Store op) (Use rs ∷ Object n ∷ Imm i ∷ rest) h = refl
@@ -80,6 +98,11 @@ sets_by Copy (Def rd ∷ Use rs ∷ rest) h = move_sets rd rs (defines rd (Use r
 sets_by PseudoBr (ToBlock target ∷ rest) h = refl
 sets_by PseudoCall (Symbol name ∷ rest) h = refl
 sets_by PseudoRet os h = refl
+sets_by PseudoCallIndirect os h = held_call_sets (implicit_uses os)
+sets_by PseudoTail (Symbol name ∷ rest) h = refl
+sets_by PseudoTailIndirect os h = held_tail_sets (implicit_uses os)
+sets_by NoReturnCall (Symbol name ∷ rest) h = refl
+sets_by NoReturnCallIndirect os h = held_gone_sets (implicit_uses os)
 sets_by _ _ h = refl
 
 kind_sets : (k : ItemKind) → LeavesPointer k → sets_register 2 k ≡ false
@@ -94,10 +117,10 @@ any_from p [] x (k, lt, w) e = absurd (omega (arith, lt))
 any_from p (y ∷ ys) x (zero, lt, w) e = let z : p y ≡ true = ap p w ∙ e in λ i. z i || list_any p ys
 any_from p (y ∷ ys) x (suc k, lt, w) e = or_true (p y) (list_any p ys) (any_from p ys x (k, omega (arith, lt), w) e)
 
--- ---- where a run returns, a return stands
+-- ---- where a run leads back to the caller, so does the item
 
 abbrev GivesBy : Row → Outcome → Type 0
-GivesBy r (Gives v) = row_exit r ≡ Final
+GivesBy r (Gives v) = row_leads_back r ≡ way_leads_back v.way
 GivesBy r _ = Unit {0}
 
 either_gives : (r : Row) (b : Bool) (x y : Outcome) → GivesBy r x → GivesBy r y → GivesBy r (cond b x y)
@@ -108,9 +131,14 @@ slot_gives : (rd n : ℕ) (c : Core) (x : Option ℕ) → GivesBy (LoadsSlot rd 
 slot_gives rd n c None = tt
 slot_gives rd n c (Some v) = tt
 
-call_gives : (name args vs : List ℕ) (c : Core) (rs : List Reply) → GivesBy (Calls name args) (answered name vs c rs)
-call_gives name args vs c [] = tt
-call_gives name args vs c (x ∷ rs) = either_gives (Calls name args) (writes_frame c.entry c.area x.writes) Traps _ tt tt
+call_gives : (call : CallSite) (t : CallTarget) (vs : List ℕ) (c : Core) (rs : List Reply) → GivesBy (Calls call) (exec_external_call t vs c rs)
+call_gives call t vs c [] = tt
+call_gives call t vs c (x ∷ rs) = either_gives (Calls call) (writes_frame c.entry c.area x.writes) Traps _ tt tt
+
+way_same : (c : Core) (w : Way Callee) → way_leads_back w ≡ way_leads_back (way_at c w)
+way_same c Back = refl
+way_same c (Tail callee) = refl
+way_same c (Never callee) = refl
 
 does_gives : (r : Row) (c : Core) → GivesBy r (does r c)
 unfolding does
@@ -118,27 +146,27 @@ does_gives (Loads rd op b o) c = either_gives (Loads rd op b o) (is_fault b c (a
 does_gives (Stores op rs b o) c = either_gives (Stores op rs b o) (is_fault b c (address_at c b o) (store_width op)) Traps _ tt tt
 does_gives (LoadsSlot rd n) c = slot_gives rd n c (c.slots n)
 does_gives (Branches op a b t) c = either_gives (Branches op a b t) (taken op (read c a) (read c b)) (Goes t c) (Falls c) tt tt
-does_gives (Calls name args) c = call_gives name args (map (read c) args) c c.script
-does_gives (Returns v) c = refl
+does_gives (Calls call) c = call_gives call (called_at c call.callee) (map (read c) call.args) c c.script
+does_gives (Returns ending) c = way_same c ending.way
 does_gives _ c = tt
 
 act_gives : (r : Row) (c : Core) → GivesBy r (act r c)
 unfolding act
 act_gives r c = either_gives r (are_written c (reads r)) (does r c) Traps (does_gives r c) tt
 
-gives_final : (r : Row) (j : Core → Core) (enter : ℕ → ℕ) (p : Pos) (x : Outcome) (v : List ℕ) → GivesBy r x →
-    moved enter p (with_core j x) ≡ Returned v → row_exit r ≡ Final
-gives_final r j enter p (Gives w) v h go = h
+gives_final : (r : Row) (j : Core → Core) (enter : ℕ → ℕ) (p : Pos) (x : Outcome) (v : RunResult) → GivesBy r x →
+    moved enter p (with_core j x) ≡ Returned v → row_leads_back r ≡ way_leads_back v.way
+gives_final r j enter p (Gives w) v h go = let same : w ≡ v = cc in h ∙ ap (λ (z : RunResult). way_leads_back z.way) same
 gives_final r j enter p (Falls c) v h go = cc
 gives_final r j enter p (Goes n c) v h go = cc
 gives_final r j enter p Traps v h go = cc
 gives_final r j enter p Asks v h go = cc
 gives_final r j enter p Breaks v h go = cc
 
-return_stands : (g : Program) (t : State) (v : List ℕ) → step g t ≡ Returned v → is_return (g.fetch t.pos) ≡ true
-return_stands g t v go = by_fetch (g.fetch t.pos) go where
-  by_kind : (k : ItemKind) → moved g.enter t.pos (do_item g k t.core) ≡ Returned v → is_final (exit_of k) ≡ true
-  by_kind (Code i n) w = ap is_final (gives_final (row_of i) _ g.enter t.pos (act (row_of i) t.core) v (act_gives (row_of i) t.core) w)
+return_stands : (g : Program) (t : State) (v : RunResult) → step g t ≡ Returned v → way_leads_back v.way ≡ true → is_return (g.fetch t.pos) ≡ true
+return_stands g t v go leads = by_fetch (g.fetch t.pos) go where
+  by_kind : (k : ItemKind) → moved g.enter t.pos (do_item g k t.core) ≡ Returned v → leads_back k ≡ true
+  by_kind (Code i n) w = gives_final (row_of i) _ g.enter t.pos (act (row_of i) t.core) v (act_gives (row_of i) t.core) w ∙ leads
   by_kind (Mark x m) w = cc
   by_kind (Phi p n) w = cc
 
@@ -164,7 +192,7 @@ module _ (f : Function) (resolve : OperandPair → Option OperandPair) (sound : 
         absurd (none (set_is_saved f r c (any_from (λ (q : Block). list_any (λ (i : Item). sets_register r i.kind) q.items) f.blocks b member
         (any_from (λ (i : Item). sets_register r i.kind) b.items x inside w))))
 
-  tame : (n : ℕ) → All (IsTame f resolve e) (rest_of f.blocks (block_start n))
+  pub tame : (n : ℕ) → All (IsTame f resolve e) (rest_of f.blocks (block_start n))
   tame n = by_found (from_block f.blocks n) refl where
     by_found : (bs : List Block) → from_block f.blocks n ≡ bs → All (IsTame f resolve e) (rest_in bs 0)
     by_found [] w = All-nil (IsTame f resolve e)
@@ -179,10 +207,10 @@ frame_stands f resolve sound small e entered n t go = by_blocks f.blocks refl so
       (record { pos = block_start 0; core = e }) t (part_start f resolve e entered small (tame f resolve sound e) b more w all_given) go)
 
 pub frame_gives_back : FrameGivesBack
-frame_gives_back f resolve sound small e entered n t results go returns =
+frame_gives_back f resolve sound small e entered n t results go returns leads =
     let stands = frame_stands f resolve sound small e entered n t go in
     let here : is_return ((framed_program (framed_of f).blocks resolve).fetch t.pos) ≡ true = return_stands (framed_program (framed_of f).blocks resolve) t
-    results returns in
+    results returns leads in
     let found : is_as_found (framed_of f) t.pos ≡ true =
     or_true (nat_eq (framed_of f).size 0) _ (or_true (nat_eq t.pos.block 0 && nat_eq t.pos.item 0) _ here) in
     let state : frame_state (framed_of f) t.pos ≡ record { lowered = 0; saved = false } =

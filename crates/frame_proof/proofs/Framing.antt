@@ -1,7 +1,7 @@
 -- The run of a function with its frame beside the run without it, as added code: a prologue before the first block, and an
 -- epilogue before each return. Stages: x2 is lowered; registers are saved; the body; registers are restored, and x2 is raised;
 -- the return. In the body all registers but x2 are alike, before a return those that it may give; slots lie at their offsets.
-use Rattle.std.proofs.Common.{◌≡◌, ◌⊎◌, ℕ, zero, suc, ◌<◌, ◌≤◌, pos, ◌-ℤ◌, List, [], ◌∷◌, ◌++◌, map, drop, All, Contains, Option, Some, None}
+use Rattle.std.proofs.Common.{◌≡◌, ◌⊎◌, ℕ, zero, suc, ◌<◌, pos, ◌-ℤ◌, List, [], ◌∷◌, ◌++◌, map, drop, All, Contains, Option, Some, None}
 use Rattle.std.proofs.Common.{IsSome, Bool, true, false, cond, refl, sym, ap, ◌∙◌, subst, inl, inr, append_assoc, arith}
 use Rattle.std.proofs.lemmas.List.Concat.{flat_map-cons}
 use Rattle.std.proofs.lemmas.List.Elements.{All-head, All-tail}
@@ -18,14 +18,16 @@ use Rattle.mir_func.specs.declared.item.ItemKind.TheVariants.{Code, Mark, Phi}
 use Rattle.mir_func.specs.declared.position.Origin.{Origin}
 use Rattle.mir_func.specs.declared.position.Origin.TheVariants.{Before}
 use Rattle.mir_func.specs.declared.position.Pos.{Pos}
-use Rattle.mir_func.specs.Exits.{exit_of, is_final}
+use Rattle.mir_func.specs.Exits.{exit_of, leads_back}
 use Rattle.mir_func.specs.Function.{Function}
 use Rattle.mir_func.specs.Graph.{Program, EndOfBlock, block_start, fetch_in, front, from_block, index_of, program_of, framed_program}
 use Rattle.mir_func.specs.Sound.{SlotsIn, LeavesPointer}
 use Rattle.mir_func.specs.SoundFrame.{adds_to_pointer, saves, restores, prologue_code, epilogue_code, body_of}
+use Rattle.mir_func.proofs.Leading.{leads_out}
+use Rattle.mir_func.specs.Positions.{position_of}
 use Rattle.sem_mir.specs.State.{Core, State, updated, content, put, assigned}
 use Rattle.sem_mir.specs.Step.{Falls, Goes, act, read, set_register, with_core, do_item}
-use Rattle.sem_mir.specs.Align.{position_of, is_code, waits_at, ByItems, ByEnds, sync_point_at, IsOrigin, After, since_of, First}
+use Rattle.sem_mir.specs.Align.{is_code, waits_at, ByItems, ByEnds, sync_point_at, IsOrigin, After, since_of, First}
 use Rattle.sem_mir.specs.Align.{AnyOrigin}
 use Rattle.sem_mir.specs.Align.{RunsMatch}
 use Rattle.sem_mir.specs.Effects.{EndAlike}
@@ -37,15 +39,14 @@ use Rattle.sem_simulation.specs.Added.{paired}
 use Rattle.sem_simulation.specs.Added.{Adds, Begins, opens}
 use Rattle.sem_simulation.proofs.Laid.{rest_in, rest_of, laid_out, laid_out_framed}
 use Rattle.sem_simulation.proofs.Added.{added_follows}
-use Rattle.frame_rule.specs.Rule.{slot_offset, saved_of, size_of, added, added_all, position_in, prologue, epilogue, renamed_code, renamed_kind, renamed}
+use Rattle.frame_rule.specs.Rule.{slot_offset, saved_of, size_of, added, added_all, prologue, epilogue, renamed_code, renamed_kind, renamed}
 use Rattle.frame_rule.specs.Rule.{framed_item, framed_items, framed_block, framed_blocks, prologue_block}
 use Rattle.frame_rule.proofs.Rows.{renamed_row, row_renamed, IsOther}
 use Rattle.frame_proof.proofs.Cores.{Beside, put_written, updated_written, slots_below}
 use Rattle.frame_proof.proofs.ItemsAlike.{item_near, final_near}
 use Rattle.frame_proof.proofs.Fits.{IsResult, ReadsResults}
-use Rattle.frame_rule.proofs.Saved.{saved_above, saved_given, none_saved}
-use Rattle.frame_rule.proofs.Parts.{is_the_end}
-use Rattle.frame_proof.proofs.FrameCode.{same_position, adds_no_jump, kind_jump, kind_code, final_code, to_outcomes, to_final, adds_does}
+use Rattle.frame_rule.proofs.Saved.{saved_above, saved_given, none_saved, passed_two}
+use Rattle.frame_proof.proofs.FrameCode.{adds_no_jump, kind_jump, kind_code, final_code, to_outcomes, to_final, adds_does}
 use Rattle.frame_proof.proofs.FrameCode.{store_does}
 use Rattle.frame_proof.proofs.FrameCode.{load_does}
 use Rattle.frame_proof.proofs.Blocks.{from_index, items_from, ends_alike, drop_zero}
@@ -94,14 +95,14 @@ module _ (fn : Function) (resolve : OperandPair → Option OperandPair) (src : P
     pub pointer : LeavesPointer x.kind
     pub slots : SlotsIn fn.slots x.kind
     pub moves : (c e : Core) (n : ℕ) → do_item f x.kind c ≡ Goes n e → since_item ByItems x ≡ After
-    pub results : exit_of x.kind ≡ Final → ReadsResults x.kind
+    pub results : leads_back x.kind ≡ true → ReadsResults x.kind
 
   abbrev AreSaved : List SavedRegister → Type 0
   AreSaved todo = (s : SavedRegister) → Contains todo s → Contains saved s
 
   -- the epilogue that is left of an item
   abbrev left : Origin → List SavedRegister → List Item
-  left o todo = map (added (Before (position_in o))) (map restores todo ++ adds_to_pointer (pos (size_of fn)) ∷ [])
+  left o todo = map (added (Before (position_of o))) (map restores todo ++ adds_to_pointer (pos (size_of fn)) ∷ [])
 
   abbrev start_code : List Instruction → List Item
   start_code code = map (added (Before s0.pos)) code
@@ -111,7 +112,7 @@ module _ (fn : Function) (resolve : OperandPair → Option OperandPair) (src : P
     pub rest : List Item
     pub here : xs ≡ item ∷ rest
     pub at : position_of item.origin ≡ q
-    pub final : exit_of item.kind ≡ Final
+    pub final : leads_back item.kind ≡ true
     pub these : ys ≡ left item.origin todo ++ renamed fn.slots item ∷ framed_items fn rest
     pub fits : All IsFit (item ∷ rest)
     pub all : AreSaved todo
@@ -121,7 +122,7 @@ module _ (fn : Function) (resolve : OperandPair → Option OperandPair) (src : P
     pub rest : List Item
     pub here : xs ≡ item ∷ rest
     pub at : position_of item.origin ≡ q
-    pub final : exit_of item.kind ≡ Final
+    pub final : leads_back item.kind ≡ true
     pub these : ys ≡ renamed fn.slots item ∷ framed_items fn rest
     pub fits : All IsFit (item ∷ rest)
 
@@ -193,7 +194,7 @@ module _ (fn : Function) (resolve : OperandPair → Option OperandPair) (src : P
   loading s v c d k h = record {
     same = λ i. record (h.same i) { regs = put s.register v d.regs };
     regs = λ r j. (let far = (saved_given fn s k).1 in
-        put_other s.register r v d.regs (λ e. far (subst (λ (z : ℕ). 10 ≤ z) e j.0) (subst (λ (z : ℕ). z ≤ 17) e j.1)) ∙ h.regs r j);
+        put_other s.register r v d.regs (λ e. far (subst IsResult e j)) ∙ h.regs r j);
     kept = h.kept;
     held = h.held;
     written = λ r lt. put_written s.register v r d.regs (h.written r lt);
@@ -202,7 +203,7 @@ module _ (fn : Function) (resolve : OperandPair → Option OperandPair) (src : P
   results_too : (c d : Core) → Beside fn.slots saved IsOther [] c d → Beside fn.slots saved IsResult [] c d
   results_too c d h = record {
     same = h.same;
-    regs = λ r j. (let a = j.0 in h.regs r (λ e. omega (arith, a, e)));
+    regs = λ r j. h.regs r (passed_two r j);
     kept = h.kept;
     held = h.held;
     written =
@@ -216,11 +217,11 @@ module _ (fn : Function) (resolve : OperandPair → Option OperandPair) (src : P
   two_is_low = omega arith
 
   not_result : IsResult 2 → ⊥
-  not_result j = let a = j.0 in omega (arith, a)
+  not_result j = passed_two 2 j refl
 
   -- ---- the epilogue
 
-  module _ (b : ℕ) (x : Item) (rest : List Item) (fits : All IsFit (x ∷ rest)) (final : exit_of x.kind ≡ Final) where
+  module _ (b : ℕ) (x : Item) (rest : List Item) (fits : All IsFit (x ∷ rest)) (final : leads_back x.kind ≡ true) where
     abbrev here_after : List Item
     here_after = renamed fn.slots x ∷ framed_items fn rest
 
@@ -228,24 +229,24 @@ module _ (fn : Function) (resolve : OperandPair → Option OperandPair) (src : P
         ((ys : List Item) (c d : Core) → MatchCores k b (x ∷ rest) ys c d → Beside fn.slots saved IsResult [] c d) →
         (todo : List SavedRegister) → AreSaved todo → Seen b k (x ∷ rest) (left x.origin todo ++ here_after)
     loads k come near [] all =
-        before {k' = Loaded (position_of x.origin)} come (final_code x.kind final) refl (same_position x.origin)
-        (ap (λ (z : Bool). since_of (waits_at z (Before (position_in x.origin)))) (adds_no_jump (word (pos (size_of fn))))) refl
+        before {k' = Loaded (position_of x.origin)} come (final_code x.kind (leads_out x.kind final)) refl refl
+        (ap (λ (z : Bool). since_of (waits_at z (Before (position_of x.origin)))) (adds_no_jump (word (pos (size_of fn))))) refl
         (record { item = x; rest = rest; here = refl; at = refl; final = final; these = refl; fits = fits })
         (λ c d h. (let w = near _ c d h in let a = adds_does (word (pos (size_of fn))) d (w.written 2 two_is_low) in
         inl (set_register 2 a.0 d, ap (with_core (λ z. z)) a.1, raised IsResult [] a.0 c d not_result w)))
     loads k come near (s ∷ todo) all =
-        before {k' = Loading (position_of x.origin) todo} come (final_code x.kind final) refl (same_position x.origin) refl refl
+        before {k' = Loading (position_of x.origin) todo} come (final_code x.kind (leads_out x.kind final)) refl refl refl refl
         (record { item = x; rest = rest; here = refl; at = refl; final = final; these = refl; fits = fits; all = λ q j. all q (contains_tail s q todo j) })
         (λ c d h. (let w = near _ c d h in let m = all s (contains_head s todo) in let a = load_does s d (held_now IsResult c d w s m) in
         inl (set_register s.register a.0 d, ap (with_core (λ z. z)) a.1, loading s a.0 c d m w)))
 
-    -- the return reads results alone
+    -- what leads back to the caller reads registers that the epilogue leaves alone
     ends_loaded : (q : Pos) → position_of x.origin ≡ q → Seen b (Loaded q) (x ∷ rest) here_after
     ends_loaded q at =
-        both {k' = Body} at (final_code x.kind final) (kind_code fn.slots x.kind ∙ final_code x.kind final) refl
+        both {k' = Body} at (final_code x.kind (leads_out x.kind final)) (kind_code fn.slots x.kind ∙ final_code x.kind (leads_out x.kind final)) refl
         (ap (λ (z : Bool). since_of (waits_at z x.origin)) (sym (kind_jump fn.slots x.kind))) (λ s u e w none. absurd none)
         (refl, All-tail IsFit x rest fits)
-        (λ c d h. by_kind x.kind final ((All-head IsFit x rest fits).results final) c d h) where
+        (λ c d h. by_kind x.kind (leads_out x.kind final) ((All-head IsFit x rest fits).results final) c d h) where
           by_kind : (k : ItemKind) → exit_of k ≡ Final → ReadsResults k → (c d : Core) → Beside fn.slots saved IsResult [] c d →
               DoAlike ByItems src sides match_states b rest (framed_items fn rest) (since_item ByItems x) Body (do_item f k c) (do_item g
               (renamed_kind fn.slots k)
@@ -288,19 +289,19 @@ module _ (fn : Function) (resolve : OperandPair → Option OperandPair) (src : P
   view_body : (b : ℕ) (xs : List Item) → All IsFit xs → Seen b Body xs (framed_items fn xs)
   view_body b [] fits = ended refl
   view_body b (x ∷ rest) fits =
-      subst (Seen b Body (x ∷ rest)) (sym (flat_map-cons (framed_item fn) x rest)) (by_exit (is_final (exit_of x.kind)) refl) where
-        by_size : exit_of x.kind ≡ Final → (n : ℕ) → size_of fn ≡ n →
-            Seen b Body (x ∷ rest) ((added_all n (Before (position_in x.origin)) (epilogue_code (size_of fn) saved) ++ renamed fn.slots x ∷ []) ++
+      subst (Seen b Body (x ∷ rest)) (sym (flat_map-cons (framed_item fn) x rest)) (by_exit (leads_back x.kind) refl) where
+        by_size : leads_back x.kind ≡ true → (n : ℕ) → size_of fn ≡ n →
+            Seen b Body (x ∷ rest) ((added_all n (Before (position_of x.origin)) (epilogue_code (size_of fn) saved) ++ renamed fn.slots x ∷ []) ++
             framed_items fn rest)
         by_size final zero e = in_body b x rest fits
         by_size final (suc n) e =
             subst (Seen b Body (x ∷ rest)) (sym (append_assoc (left x.origin saved) (renamed fn.slots x ∷ []) (framed_items fn rest)))
             (loads b x rest fits final Body tt (λ ys c d h. results_too c d h) saved (λ s k. k))
 
-        by_exit : (z : Bool) → is_final (exit_of x.kind) ≡ z →
+        by_exit : (z : Bool) → leads_back x.kind ≡ z →
             Seen b Body (x ∷ rest) ((cond z (epilogue fn x.origin) [] ++ renamed fn.slots x ∷ []) ++ framed_items fn rest)
         by_exit false e = in_body b x rest fits
-        by_exit true e = by_size (is_the_end (exit_of x.kind) e) (size_of fn) refl
+        by_exit true e = by_size e (size_of fn) refl
 
   -- ---- the whole
 

@@ -1,14 +1,14 @@
 -- What items with their slots named by their offsets do, from cores that are beside each other.
 use Rattle.std.proofs.Common.{◌≡◌, ℕ, zero, suc, List, [], ◌∷◌, map, All, Option, Some, None, Bool, true, false, cond, slice_get, refl, sym, ap, ◌∙◌, subst}
-use Rattle.std.proofs.Common.{inl, inr}
+use Rattle.std.proofs.Common.{inl, inr, ◌++◌}
 use Rattle.std.proofs.lemmas.Bool.{cases_eq, ne_eqb}
 use Rattle.rv64_instr.specs.declared.operand.Operand.{Operand}
 use Rattle.rv64_instr.specs.declared.operand.Operand.TheVariants.{ImplicitDef}
 use Rattle.rv64_instr.specs.declared.place.Place.{Place}
 use Rattle.rv64_instr.specs.declared.place.Place.TheVariants.{Register, Slot as InSlot, Const}
 use Rattle.rv64_instr.specs.Row.{Row, Calls, Returns, Unfit, row_of}
-use Rattle.rv64_instr.specs.DefsAndUses.{reads}
-use Rattle.rv64_instr.specs.Parts.{is_call}
+use Rattle.rv64_instr.specs.DefsAndUses.{reads, way_reads}
+use Rattle.rv64_instr.specs.LocationEffects.{is_call}
 use Rattle.mir_func.specs.declared.exit.Exit.TheVariants.{Final}
 use Rattle.mir_func.specs.declared.framed.SavedRegister.{SavedRegister}
 use Rattle.mir_func.specs.declared.item.ItemKind.{ItemKind}
@@ -20,17 +20,17 @@ use Rattle.mir_func.specs.Exits.{row_exit}
 use Rattle.mir_func.specs.Graph.{Program}
 use Rattle.mir_func.specs.Sound.{SlotsIn, PlaceIn, LeavesPointer}
 use Rattle.sem_mir.specs.State.{Core, updated}
-use Rattle.sem_mir.specs.Step.{Gives, Traps, act, does, seen, defined, given, numbered, with_core, place_value}
+use Rattle.sem_mir.specs.Step.{Gives, Traps, act, does, seen, defined, given, numbered, with_core, place_value, result_at}
 use Rattle.sem_mir.specs.Step.{pair_value}
 use Rattle.sem_mir.specs.Step.{mark_value, part_of, read, are_written, do_item}
 use Rattle.sem_mir.specs.Effects.{EndAlike}
 use Rattle.sem_mir.proofs.Outcomes.{alike_with, alike_either}
 use Rattle.frame_rule.specs.Rule.{renamed_operand, renamed_code, renamed_place, renamed_kind}
 use Rattle.frame_rule.proofs.Rows.{renamed_row, row_renamed, IsOther, reads_other}
-use Rattle.frame_proof.proofs.Cores.{Beside, act_near, written_near, reads_near}
+use Rattle.frame_proof.proofs.Cores.{Beside, act_near, written_near, reads_near, result_near}
 
 call_same : (slots : List ℕ) (r : Row) → is_call (renamed_row slots r) ≡ is_call r
-call_same slots (Calls name args) = refl
+call_same slots (Calls call) = refl
 call_same slots _ = refl
 
 defined_same : (slots : List ℕ) (call : Bool) (x : Operand) → defined call (Some (renamed_operand slots x)) ≡ defined call (Some x)
@@ -152,10 +152,11 @@ module _ (slots : List ℕ) (saved todo : List SavedRegister) where
 pub final_near : (slots : List ℕ) (saved : List SavedRegister) (Alike : ℕ → Type 0) (todo : List SavedRegister) (R : Core → Core → Type 0) (c d : Core) →
     Beside slots saved Alike todo c d → (r : Row) → row_exit r ≡ Final → All Alike (reads r) → EndAlike R (act r c) (act (renamed_row slots r) d)
 unfolding act does
-final_near slots saved Alike todo R c d h (Returns v) e k =
-    subst (λ (b : Bool). EndAlike R (cond (are_written c v) (Gives (map (read c) v)) Traps)
-    (cond b (Gives (map (read d) v)) Traps)) (written_near slots saved Alike todo c d h v k)
-    (alike_either R (are_written c v) (Gives (map (read c) v)) Traps (Gives (map (read d) v)) Traps
-    (reads_near slots saved Alike todo c d h v k) tt)
+final_near slots saved Alike todo R c d h (Returns ending) e k =
+    let rs = way_reads ending.way ++ ending.values in
+    subst (λ (b : Bool). EndAlike R (cond (are_written c rs) (Gives (result_at c ending)) Traps)
+    (cond b (Gives (result_at d ending)) Traps)) (written_near slots saved Alike todo c d h rs k)
+    (alike_either R (are_written c rs) (Gives (result_at c ending)) Traps (Gives (result_at d ending)) Traps
+    (result_near slots saved Alike todo c d h ending k) tt)
 final_near slots saved Alike todo R c d h Unfit e k = tt
 final_near slots saved Alike todo R c d h _ e k = cc

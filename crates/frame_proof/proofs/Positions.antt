@@ -6,26 +6,27 @@ use Rattle.std.proofs.lemmas.List.Concat.{flat_map-cons}
 use Rattle.rv64_instr.specs.Arithmetic.{word}
 use Rattle.rv64_instr.specs.Row.{add_row}
 use Rattle.mir_func.specs.declared.debug_substitution.OperandPair.{OperandPair}
-use Rattle.mir_func.specs.declared.exit.Exit.TheVariants.{Onward}
 use Rattle.mir_func.specs.declared.framed.SavedRegister.{SavedRegister}
 use Rattle.mir_func.specs.declared.item.Item.{Item}
 use Rattle.mir_func.specs.declared.position.Origin.{Origin}
 use Rattle.mir_func.specs.declared.position.Origin.TheVariants.{Before}
 use Rattle.mir_func.specs.declared.position.Pos.{Pos}
-use Rattle.mir_func.specs.Exits.{row_exit, exit_of, is_final}
+use Rattle.mir_func.specs.Exits.{row_leads_back, leads_back}
 use Rattle.mir_func.specs.Function.{Function, FramedFunction}
-use Rattle.mir_func.specs.Graph.{Program, Fetch, Here, EndOfBlock, Outside, framed_program}
+use Rattle.mir_func.specs.Graph.{Program, Fetch, Here, EndOfBlock, Outside, framed_program, is_return}
 use Rattle.mir_func.specs.SoundFrame.{SAVED, adds_to_pointer, saves, restores, epilogue_code}
+use Rattle.mir_func.specs.Positions.{position_of}
 use Rattle.sem_mir.specs.State.{Core, content}
 use Rattle.sem_simulation.specs.MatchStates.{Laid, IsPastItems}
 use Rattle.sem_simulation.proofs.Laid.{rest_in, laid_out_framed}
-use Rattle.frame_rule.specs.Rule.{saved_places, saved_of, size_of, added, added_all, position_in, epilogue, renamed, framed_item, framed_items}
+use Rattle.frame_rule.specs.Rule.{saved_places, saved_of, size_of, added, added_all, epilogue, renamed, framed_item, framed_items}
 use Rattle.frame_rule.specs.Rule.{framed_of}
-use Rattle.frame_proof.specs.Stands.{FrameState, is_return, is_as_found, frame_state, IsSaved, FrameStands}
+use Rattle.frame_proof.specs.Stands.{FrameState, is_as_found, frame_state, IsSaved, FrameStands}
 use Rattle.frame_rule.proofs.Saved.{none_saved, or_cases}
-use Rattle.frame_proof.proofs.Standing.{Part, lowering, saving, body, loading, loaded, kind_exit}
+use Rattle.frame_rule.proofs.Parts.{kind_leads}
+use Rattle.frame_proof.proofs.Standing.{Part, lowering, saving, body, loading, loaded}
 
-adds_goes_on : (n : ℕ) → row_exit (add_row 2 2 n) ≡ Onward
+adds_goes_on : (n : ℕ) → row_leads_back (add_row 2 2 n) ≡ false
 adds_goes_on zero = refl
 adds_goes_on (suc n) = refl
 
@@ -118,7 +119,7 @@ module _ (fn : Function) (resolve : OperandPair → Option OperandPair) (e : Cor
   laid = laid_out_framed F.blocks resolve
 
   -- what stands there, by the items that are left
-  return_here : (y : Item) (ys : List Item) → rg p ≡ y ∷ ys → is_return (g.fetch p) ≡ is_final (exit_of y.kind)
+  return_here : (y : Item) (ys : List Item) → rg p ≡ y ∷ ys → is_return (g.fetch p) ≡ leads_back y.kind
   return_here y ys w = ap is_return (laid.cons p y ys w).0
 
   no_return : rg p ≡ [] → is_return (g.fetch p) ≡ true → ⊥
@@ -131,26 +132,26 @@ module _ (fn : Function) (resolve : OperandPair → Option OperandPair) (e : Cor
   restores_go_on : (o : Origin) (todo : List SavedRegister) (more : List Item) →
       rg p ≡ map (added o) (map restores todo ++ adds_to_pointer (pos F.size) ∷ []) ++ more → is_return (g.fetch p) ≡ true → ⊥
   restores_go_on o [] more w h =
-      let bad : false ≡ true = ap is_final (sym (adds_goes_on (word (pos F.size)))) ∙ sym (return_here _ _ w) ∙ h in cc
+      let bad : false ≡ true = sym (adds_goes_on (word (pos F.size))) ∙ sym (return_here _ _ w) ∙ h in cc
   restores_go_on o (s ∷ todo) more w h = let bad : false ≡ true = sym (return_here _ _ w) ∙ h in cc
 
   -- in the body a return is the first item that is left only where there is no frame
   body_return : (xs : List Item) → rg p ≡ framed_items fn xs → is_return (g.fetch p) ≡ true → F.size ≡ 0
   body_return [] w h = absurd (no_return w h)
-  body_return (x ∷ rest) w h = by_exit (is_final (exit_of x.kind)) refl (w ∙ flat_map-cons (framed_item fn) x rest) where
+  body_return (x ∷ rest) w h = by_exit (leads_back x.kind) refl (w ∙ flat_map-cons (framed_item fn) x rest) where
     by_size : (n : ℕ) → size_of fn ≡ n →
-        rg p ≡ (added_all n (Before (position_in x.origin)) (epilogue_code (size_of fn) (saved_of fn)) ++ renamed fn.slots x ∷ []) ++ framed_items fn rest →
+        rg p ≡ (added_all n (Before (position_of x.origin)) (epilogue_code (size_of fn) (saved_of fn)) ++ renamed fn.slots x ∷ []) ++ framed_items fn rest →
         size_of fn ≡ 0
     by_size zero z k = z
     by_size (suc n) z k =
-        absurd (restores_go_on (Before (position_in x.origin)) (saved_of fn) (renamed fn.slots x ∷ framed_items fn rest)
-        (k ∙ append_assoc (map (added (Before (position_in x.origin))) (epilogue_code (size_of fn) (saved_of fn))) (renamed fn.slots x ∷ []) (framed_items fn
+        absurd (restores_go_on (Before (position_of x.origin)) (saved_of fn) (renamed fn.slots x ∷ framed_items fn rest)
+        (k ∙ append_assoc (map (added (Before (position_of x.origin))) (epilogue_code (size_of fn) (saved_of fn))) (renamed fn.slots x ∷ []) (framed_items fn
         rest)) h)
 
-    by_exit : (z : Bool) → is_final (exit_of x.kind) ≡ z →
+    by_exit : (z : Bool) → leads_back x.kind ≡ z →
         rg p ≡ (cond z (epilogue fn x.origin) [] ++ renamed fn.slots x ∷ []) ++ framed_items fn rest → size_of fn ≡ 0
     by_exit false z k =
-        let bad : false ≡ true = sym z ∙ ap is_final (sym (kind_exit fn.slots x.kind)) ∙ sym (return_here _ _ k) ∙ h in cc
+        let bad : false ≡ true = sym z ∙ sym (kind_leads fn.slots x.kind) ∙ sym (return_here _ _ k) ∙ h in cc
     by_exit true z k = by_size (size_of fn) refl k
 
   pub stands_by : Part fn resolve e p d → FrameStands F e p d
@@ -189,8 +190,8 @@ module _ (fn : Function) (resolve : OperandPair → Option OperandPair) (e : Cor
     by_found true z = elim (found_by z) [
       | frameless a ↦ absurd (made a)
       | first a c ↦ absurd (inside a)
-      | leaving a ↦ absurd (restores_go_on (Before (position_in x.origin)) todo (renamed fn.slots x ∷ framed_items fn rest) w a)
+      | leaving a ↦ absurd (restores_go_on (Before (position_of x.origin)) todo (renamed fn.slots x ∷ framed_items fn rest) w a)
     ]
   stands_by (loaded x rest inside final w h) =
-      let end : is_return (g.fetch p) ≡ true = return_here _ _ w ∙ ap is_final (kind_exit fn.slots x.kind ∙ final) in
+      let end : is_return (g.fetch p) ≡ true = return_here _ _ w ∙ kind_leads fn.slots x.kind ∙ final in
       as_found (or_true (nat_eq F.size 0) _ (or_true (nat_eq p.block 0 && nat_eq p.item 0) _ end)) h.pointer h.same

@@ -10,6 +10,7 @@ use Rattle.rv64_instr.specs.Arithmetic.{word}
 use Rattle.rv64_instr.specs.Instruction.{Instruction}
 use Rattle.rv64_instr.specs.Row.{Row, LoadsSlot, StoresSlot, Returns, Unfit, row_of}
 use Rattle.rv64_instr.specs.Row.{add_row}
+use Rattle.rv64_instr.specs.DefsAndUses.{reads}
 use Rattle.mir_func.specs.declared.block.Block.{Block}
 use Rattle.mir_func.specs.declared.debug_substitution.OperandPair.{OperandPair}
 use Rattle.mir_func.specs.declared.exit.Exit.TheVariants.{Final}
@@ -20,28 +21,29 @@ use Rattle.mir_func.specs.declared.item.ItemKind.TheVariants.{Code, Mark, Phi}
 use Rattle.mir_func.specs.declared.position.Origin.{Origin}
 use Rattle.mir_func.specs.declared.position.Origin.TheVariants.{Before}
 use Rattle.mir_func.specs.declared.position.Pos.{Pos}
-use Rattle.mir_func.specs.Exits.{row_exit, exit_of, is_final}
+use Rattle.mir_func.specs.Exits.{row_exit, exit_of, leads_back}
 use Rattle.mir_func.specs.Function.{Function}
 use Rattle.mir_func.specs.Graph.{Program, Fetch, Here, EndOfBlock, Outside, below, block_start, from_block, index_of, framed_program}
 use Rattle.mir_func.specs.Sound.{SlotsIn}
 use Rattle.mir_func.specs.SoundFrame.{SAVED, adds_to_pointer, saves, restores, prologue_code, epilogue_code, body_of}
+use Rattle.mir_func.proofs.Leading.{leads_out}
+use Rattle.mir_func.specs.Positions.{position_of}
 use Rattle.sem_mir.specs.State.{Core, State, content, put, updated}
-use Rattle.sem_mir.specs.Step.{Next, Went, Returned, Faulted, Waits, Lost, after, run, Outcome, Falls, Goes, Gives, Traps, Asks, Breaks, act, does, read}
-use Rattle.sem_mir.specs.Step.{set_register, are_written}
+use Rattle.sem_mir.specs.Step.{Next, Went, Returned, Faulted, Waits, Lost, after, run, Outcome, Falls, Goes, Gives, Traps, Asks, Breaks, act, does}
+use Rattle.sem_mir.specs.Step.{set_register, are_written, result_at}
 use Rattle.sem_mir.specs.Step.{with_core, moved, do_item, do_fetch, step}
 use Rattle.sem_mir.specs.Effects.{OnCore}
 use Rattle.sem_mir.proofs.Outcomes.{on_either}
 use Rattle.sem_mir.proofs.Places.{put_same, put_other, updated_same, updated_other, contains_head, contains_tail}
 use Rattle.sem_simulation.specs.MatchStates.{Laid, IsPastItems}
 use Rattle.sem_simulation.proofs.Laid.{rest_in, rest_of, laid_out_framed}
-use Rattle.frame_rule.specs.Rule.{saved_places, saved_registers, saved_of, size_of, sets_register, added, added_all, position_in, prologue}
+use Rattle.frame_rule.specs.Rule.{saved_places, saved_registers, saved_of, size_of, sets_register, added, added_all, prologue}
 use Rattle.frame_rule.specs.Rule.{epilogue, renamed, renamed_code, renamed_kind, framed_item, framed_items, framed_block, framed_blocks}
 use Rattle.frame_rule.specs.Rule.{prologue_block}
 use Rattle.frame_proof.specs.Stands.{IsEntered}
 use Rattle.frame_rule.proofs.Rows.{renamed_row, row_renamed}
 use Rattle.frame_proof.proofs.Cores.{slots_below}
 use Rattle.frame_rule.proofs.Saved.{IsGivenBack, saved_above, saved_given, saved_in, none_saved}
-use Rattle.frame_rule.proofs.Parts.{is_the_end}
 use Rattle.frame_proof.proofs.Blocks.{from_index, items_from, drop_zero}
 use Rattle.frame_proof.proofs.Holding.{Holds, lowers_to, raises_to, adds_to, leaves_register, leaves_place, still_holds}
 
@@ -57,7 +59,7 @@ kind_exit slots (Phi p n) = refl
 -- code that returns, or is none, goes nowhere
 row_ends : (r : Row) (c : Core) → row_exit r ≡ Final → OnCore (λ d. ⊥) (act r c)
 unfolding act does
-row_ends (Returns v) c h = on_either (λ d. ⊥) (are_written c v) (Gives (map (read c) v)) Traps tt tt
+row_ends (Returns ending) c h = on_either (λ d. ⊥) (are_written c (reads (Returns ending))) (Gives (result_at c ending)) Traps tt tt
 row_ends Unfit c h = tt
 row_ends _ c h = cc
 
@@ -121,7 +123,7 @@ module _ (fn : Function) (resolve : OperandPair → Option OperandPair) (e : Cor
 
   -- the epilogue that is left of an item
   abbrev left : Origin → List SavedRegister → List Item
-  left o todo = map (added (Before (position_in o))) (map restores todo ++ adds_to_pointer (pos size) ∷ [])
+  left o todo = map (added (Before (position_of o))) (map restores todo ++ adds_to_pointer (pos size) ∷ [])
 
   abbrev start_code : Origin → List Instruction → List Item
   start_code o code = map (added o) code
@@ -143,10 +145,10 @@ module _ (fn : Function) (resolve : OperandPair → Option OperandPair) (e : Cor
         Holds e (e.entry - size) (λ s. Contains saved s × (s.offset < from)) (Contains SAVED) d → Part p d
     body : (xs : List Item) → (p.block ≡ 0 → ⊥) → rg p ≡ framed_items fn xs → All IsTame xs →
         Holds e (e.entry - size) InAll (Unchanged saved) d → Part p d
-    loading : (x : Item) (rest : List Item) (todo : List SavedRegister) → (p.block ≡ 0 → ⊥) → (size ≡ 0 → ⊥) → exit_of x.kind ≡ Final →
+    loading : (x : Item) (rest : List Item) (todo : List SavedRegister) → (p.block ≡ 0 → ⊥) → (size ≡ 0 → ⊥) → leads_back x.kind ≡ true →
         rg p ≡ left x.origin todo ++ renamed fn.slots x ∷ framed_items fn rest → ((s : SavedRegister) → Contains todo s → Contains saved s) →
         Holds e (e.entry - size) InAll (Unchanged todo) d → Part p d
-    loaded : (x : Item) (rest : List Item) → (p.block ≡ 0 → ⊥) → exit_of x.kind ≡ Final → rg p ≡ renamed fn.slots x ∷ framed_items fn rest →
+    loaded : (x : Item) (rest : List Item) → (p.block ≡ 0 → ⊥) → leads_back x.kind ≡ true → rg p ≡ renamed fn.slots x ∷ framed_items fn rest →
         Holds e e.entry (λ s. ⊥) (Contains SAVED) d → Part p d
 
   -- ---- small facts
@@ -288,7 +290,7 @@ module _ (fn : Function) (resolve : OperandPair → Option OperandPair) (e : Cor
     -- ---- the epilogue
 
     load_step : (x : Item) (rest : List Item) (todo : List SavedRegister) (t u : State) → (t.pos.block ≡ 0 → ⊥) → (size ≡ 0 → ⊥) →
-        exit_of x.kind ≡ Final → rg t.pos ≡ left x.origin todo ++ renamed fn.slots x ∷ framed_items fn rest →
+        leads_back x.kind ≡ true → rg t.pos ≡ left x.origin todo ++ renamed fn.slots x ∷ framed_items fn rest →
         ((s : SavedRegister) → Contains todo s → Contains saved s) → Holds e (e.entry - size) InAll (Unchanged todo) t.core → step g t ≡ Went u →
         Part u.pos u.core
     load_step x rest [] t u inside made final w within h go =
@@ -357,27 +359,27 @@ module _ (fn : Function) (resolve : OperandPair → Option OperandPair) (e : Cor
         Holds e (e.entry - size) InAll (Unchanged saved) t.core → step g t ≡ Went u → Part u.pos u.core
     body_step [] t u inside w fits h go = end_step t u w h go
     body_step (x ∷ rest) t u inside w fits h go =
-        by_exit (is_final (exit_of x.kind)) refl (w ∙ flat_map-cons (framed_item fn) x rest) where
-          by_size : exit_of x.kind ≡ Final → (n : ℕ) → size ≡ n →
-              rg t.pos ≡ (added_all n (Before (position_in x.origin)) (epilogue_code size saved) ++ renamed fn.slots x ∷ []) ++ framed_items fn rest →
+        by_exit (leads_back x.kind) refl (w ∙ flat_map-cons (framed_item fn) x rest) where
+          by_size : leads_back x.kind ≡ true → (n : ℕ) → size ≡ n →
+              rg t.pos ≡ (added_all n (Before (position_of x.origin)) (epilogue_code size saved) ++ renamed fn.slots x ∷ []) ++ framed_items fn rest →
               Part u.pos u.core
           by_size final zero z k = plain_step x rest t u inside k fits h go
           by_size final (suc n) z k =
               load_step x rest saved t u inside (λ y. omega (arith, y, z)) final
               (k ∙ append_assoc (left x.origin saved) (renamed fn.slots x ∷ []) (framed_items fn rest)) (λ s c. c) h go
 
-          by_exit : (z : Bool) → is_final (exit_of x.kind) ≡ z →
+          by_exit : (z : Bool) → leads_back x.kind ≡ z →
               rg t.pos ≡ (cond z (epilogue fn x.origin) [] ++ renamed fn.slots x ∷ []) ++ framed_items fn rest → Part u.pos u.core
           by_exit false z k = plain_step x rest t u inside k fits h go
-          by_exit true z k = by_size (is_the_end (exit_of x.kind) z) size refl k
+          by_exit true z k = by_size z size refl k
 
-    part_step : (t u : State) → Part t.pos t.core → step g t ≡ Went u → Part u.pos u.core
+    pub part_step : (t u : State) → Part t.pos t.core → step g t ≡ Went u → Part u.pos u.core
     part_step t u (lowering o at made w h) go = lower_step o t u at made w h go
     part_step t u (saving o from rs zero_block first w split within h) go = save_step o from rs t u zero_block first w split within h go
     part_step t u (body xs inside w fits h) go = body_step xs t u inside w fits h go
     part_step t u (loading x rest todo inside made final w within h) go = load_step x rest todo t u inside made final w within h go
     part_step t u (loaded x rest inside final w h) go =
-        on_step (λ c. ⊥) t.pos (do_item g (renamed_kind fn.slots x.kind) t.core) u (final_ends fn.slots g x.kind t.core final)
+        on_step (λ c. ⊥) t.pos (do_item g (renamed_kind fn.slots x.kind) t.core) u (final_ends fn.slots g x.kind t.core (leads_out x.kind final))
         (λ c k. absurd k) (λ n c k. absurd k) (item_step t _ _ u w go)
 
     pub part_after : (n : ℕ) (s t : State) → Part s.pos s.core → run g n s ≡ Went t → Part t.pos t.core

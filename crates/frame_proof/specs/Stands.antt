@@ -1,29 +1,23 @@
 -- The frame's state at each position (DWARF 5, 6.4 "Call Frame Information": how far the stack pointer is below its value at
 -- entry, and where which registers are saved), and that machine states agree with it.
-use Rattle.std.specs.Prelude.{◌≡◌, ℕ, ◌-◌, ◌<◌, ◌≤◌, ◌^◌, List, ◌∷◌, drop, All, Contains, Option, Some, Bool, true, false, cond, not, ◌&&◌, ◌||◌, nat_eq}
+use Rattle.std.specs.Prelude.{◌≡◌, ℕ, ◌-◌, ◌<◌, ◌≤◌, ◌^◌, ◌∷◌, drop, All, Contains, Option, Some, Bool, true, false, cond, not, ◌&&◌, ◌||◌, nat_eq}
 use Rattle.mir_func.specs.declared.debug_substitution.OperandPair.{OperandPair}
 use Rattle.mir_func.specs.declared.framed.SavedRegister.{SavedRegister}
 use Rattle.mir_func.specs.declared.position.Pos.{Pos}
-use Rattle.mir_func.specs.Exits.{exit_of, is_final}
 use Rattle.mir_func.specs.Function.{Function, FramedFunction}
-use Rattle.mir_func.specs.Graph.{Fetch, Here, EndOfBlock, Outside, block_start, fetch_in, framed_program}
+use Rattle.mir_func.specs.Graph.{block_start, fetch_in, framed_program, is_return}
 use Rattle.mir_func.specs.Limits.{MAX_FRAME, FRAME_ROOM}
 use Rattle.mir_func.specs.Sound.{IsSound}
 use Rattle.mir_func.specs.SoundFrame.{SAVED}
-use Rattle.sem_mir.specs.State.{Core, State, content}
+use Rattle.sem_mir.specs.State.{Core, State, content, RunResult}
 use Rattle.sem_mir.specs.Step.{Went, Returned, read, step, run}
 use Rattle.frame_rule.specs.Rule.{framed_of, size_of}
+use Rattle.rv64_instr.specs.Row.{way_leads_back}
 
 -- the frame's state: by how many bytes x2 is lowered, and whether registers are saved
 pub record FrameState : Type 0 where
   pub lowered : ℕ
   pub saved : Bool
-
--- the position is that of a return
-abbrev pub is_return : Fetch → Bool
-is_return (Here i) = is_final (exit_of i.kind)
-is_return (EndOfBlock k n) = false
-is_return Outside = false
 
 -- all is as at entry: if the frame is empty, before the prologue, and at a return
 abbrev pub is_as_found : FramedFunction → Pos → Bool
@@ -60,10 +54,10 @@ FrameAlwaysStands = (f : Function) (resolve : OperandPair → Option OperandPair
     (n : ℕ) (t : State) → run (framed_program (framed_of f).blocks resolve) n (record { pos = block_start 0; core = e }) ≡ Went t →
     FrameStands (framed_of f) e t.pos t.core
 
--- so at a return the stack pointer, the return address and the callee-saved registers are as at entry (RISC-V ELF psABI, "Integer
+-- so where control leaves back to the caller the stack pointer, the return address and the callee-saved registers are as at entry (RISC-V ELF psABI, "Integer
 -- Register Convention")
 abbrev pub FrameGivesBack : Type 0
 FrameGivesBack = (f : Function) (resolve : OperandPair → Option OperandPair) → IsSound f → size_of f ≤ MAX_FRAME → (e : Core) → IsEntered e →
-    (n : ℕ) (t : State) (results : List ℕ) →
+    (n : ℕ) (t : State) (result : RunResult) →
     run (framed_program (framed_of f).blocks resolve) n (record { pos = block_start 0; core = e }) ≡ Went t →
-    step (framed_program (framed_of f).blocks resolve) t ≡ Returned results → All (λ r. read t.core r ≡ read e r) (2 ∷ SAVED)
+    step (framed_program (framed_of f).blocks resolve) t ≡ Returned result → way_leads_back result.way ≡ true → All (λ r. read t.core r ≡ read e r) (2 ∷ SAVED)

@@ -1,12 +1,16 @@
 -- Code whose slots are named by their offsets has the form of its opcode, as it had before: no form looks at a slot's number.
-use Rattle.std.proofs.Common.{◌≡◌, ℕ, List, [], ◌∷◌, map, Bool, ◌&&◌, refl, ap}
+use Rattle.std.proofs.Common.{◌≡◌, ℕ, List, [], ◌∷◌, map, Bool, ◌&&◌, refl, ap, nat_le, nat_lt, nat_eq, ◌||◌}
 use Rattle.std.specs.List.{list_all}
 use Rattle.rv64_instr.specs.declared.op.Op.{Op}
-use Rattle.rv64_instr.specs.declared.op.Op.TheVariants.{Registers, Immediate, Lui, Branch, Load, Store, Copy, PseudoBr, PseudoCall, PseudoRet}
+use Rattle.rv64_instr.specs.declared.op.Op.TheVariants.{Registers, Immediate, Lui, Branch, Load, Store, Copy}
+use Rattle.rv64_instr.specs.declared.op.Op.TheVariants.{PseudoBr, PseudoCall, PseudoRet, PseudoCallIndirect}
+use Rattle.rv64_instr.specs.declared.op.Op.TheVariants.{PseudoTail, PseudoTailIndirect, NoReturnCall, NoReturnCallIndirect}
 use Rattle.rv64_instr.specs.declared.operand.Operand.{Operand}
-use Rattle.rv64_instr.specs.declared.operand.Operand.TheVariants.{Def, Use, Imm, Slot, Object, Block, Symbol, Mask}
+use Rattle.rv64_instr.specs.declared.operand.Operand.TheVariants.{Def, Use, Imm, Slot, Object, Part, Block, Symbol, Mask, ImplicitUse}
+use Rattle.rv64_instr.specs.declared.symbol.Half.TheVariants.{Upper, Lower}
 use Rattle.rv64_instr.specs.Arithmetic.{load_width, store_width}
-use Rattle.rv64_instr.specs.Form.{is_within, has_12_bits, is_immediate, is_addi, moves_slot, is_implicit, is_argument, is_result, has_form}
+use Rattle.rv64_instr.specs.Form.{is_within, has_12_bits, is_immediate, is_addi, moves_slot}
+use Rattle.rv64_instr.specs.Form.{is_implicit, is_argument, is_result, has_form, is_tail_use, is_tail_register}
 use Rattle.std.specs.Prelude.{pos}
 use Rattle.frame_rule.specs.Rule.{renamed_operand}
 
@@ -30,6 +34,10 @@ module _ (slots : List ℕ) where
   result_same (Slot n) = refl
   result_same _ = refl
 
+  tail_same : (o : Operand) → is_tail_use (renamed_operand slots o) ≡ is_tail_use o
+  tail_same (Slot n) = refl
+  tail_same _ = refl
+
   rest_same : (os : List Operand) → list_all is_implicit (others os) ≡ list_all is_implicit os
   rest_same os = all_same is_implicit implicit_same os
 
@@ -40,16 +48,28 @@ module _ (slots : List ℕ) where
   form_same (Registers op) (Def rd ∷ Use a ∷ Use b ∷ rest) = rest_same rest
   form_same (Immediate op) (Def rd ∷ Use a ∷ Imm i ∷ rest) = behind (is_immediate op i) rest
   form_same (Immediate op) (Def rd ∷ Object n ∷ Imm i ∷ rest) = behind (is_addi op && is_immediate op i) rest
+  form_same (Immediate op) (Def rd ∷ Use a ∷ Part Lower y ∷ rest) = behind (is_addi op) rest
   form_same Lui (Def rd ∷ Imm i ∷ rest) = behind (is_within (pos 0) (pos 1048575) i) rest
+  form_same Lui (Def rd ∷ Part Upper y ∷ rest) = rest_same rest
   form_same (Branch op) (Use a ∷ Use b ∷ Block n ∷ rest) = rest_same rest
   form_same (Load op) (Def rd ∷ Use a ∷ Imm i ∷ rest) = behind (has_12_bits i) rest
   form_same (Load op) (Def rd ∷ Slot n ∷ Imm i ∷ rest) = behind (moves_slot (load_width op) i) rest
   form_same (Load op) (Def rd ∷ Object n ∷ Imm i ∷ rest) = behind (has_12_bits i) rest
+  form_same (Load op) (Def rd ∷ Use a ∷ Part Lower y ∷ rest) = rest_same rest
   form_same (Store op) (Use a ∷ Use b ∷ Imm i ∷ rest) = behind (has_12_bits i) rest
   form_same (Store op) (Use a ∷ Slot n ∷ Imm i ∷ rest) = behind (moves_slot (store_width op) i) rest
   form_same (Store op) (Use a ∷ Object n ∷ Imm i ∷ rest) = behind (has_12_bits i) rest
+  form_same (Store op) (Use a ∷ Use b ∷ Part Lower y ∷ rest) = rest_same rest
   form_same Copy (Def rd ∷ Use rs ∷ rest) = rest_same rest
   form_same PseudoBr (Block n ∷ rest) = rest_same rest
   form_same PseudoCall (Symbol name ∷ Mask ∷ rest) = all_same is_argument argument_same rest
   form_same PseudoRet os = all_same is_result result_same os
+  form_same PseudoCallIndirect (ImplicitUse r ∷ Mask ∷ rest) =
+      ap (λ (z : Bool). (nat_le 5 r && nat_lt r 32) && z) (all_same is_argument argument_same rest)
+  form_same PseudoTail (Symbol name ∷ rest) = all_same is_tail_use tail_same rest
+  form_same PseudoTailIndirect (ImplicitUse r ∷ rest) =
+      ap (λ (z : Bool). (nat_eq r 6 || is_tail_register r) && z) (all_same is_tail_use tail_same rest)
+  form_same NoReturnCall (Symbol name ∷ Mask ∷ rest) = all_same is_tail_use tail_same rest
+  form_same NoReturnCallIndirect (ImplicitUse r ∷ Mask ∷ rest) =
+      ap (λ (z : Bool). (nat_eq r 6 || is_tail_register r) && z) (all_same is_tail_use tail_same rest)
   form_same _ _ = refl

@@ -11,8 +11,7 @@ use Rattle.rv64_instr.specs.Arithmetic.{word}
 use Rattle.rv64_instr.specs.Row.{Row, LoadsSlot, StoresSlot, row_of}
 use Rattle.rv64_instr.specs.Row.{add_row}
 use Rattle.mir_func.specs.declared.block.Block.{Block}
-use Rattle.mir_func.specs.declared.exit.Exit.{Exit}
-use Rattle.mir_func.specs.declared.exit.Exit.TheVariants.{Onward, Perhaps, Always, Final}
+use Rattle.mir_func.specs.declared.exit.Exit.TheVariants.{Onward}
 use Rattle.mir_func.specs.declared.framed.SavedRegister.{SavedRegister}
 use Rattle.mir_func.specs.declared.item.Item.{Item}
 use Rattle.mir_func.specs.declared.item.ItemKind.{ItemKind}
@@ -20,13 +19,14 @@ use Rattle.mir_func.specs.declared.item.ItemKind.TheVariants.{Code, Mark, Phi}
 use Rattle.mir_func.specs.declared.object.Object.{Object as StackObject}
 use Rattle.mir_func.specs.declared.position.Origin.{Origin}
 use Rattle.mir_func.specs.declared.position.Origin.TheVariants.{Before}
-use Rattle.mir_func.specs.Exits.{row_exit, exit_of, is_final}
+use Rattle.mir_func.specs.Exits.{row_exit, exit_of, row_leads_back, leads_back}
 use Rattle.mir_func.specs.Function.{Function, FramedFunction}
 use Rattle.mir_func.specs.Graph.{block_start}
 use Rattle.mir_func.specs.Sound.{AllItems, TargetIn, TargetsIn, SlotIn, SlotsIn, PlaceIn, ObjectIn, ObjectsIn, IsNotPointer}
 use Rattle.mir_func.specs.SoundFrame.{IsPhysical, PlaceIsPhysical, HasPhysical, slot_offsets, adds_to_pointer, saves, restores, prologue_code}
 use Rattle.mir_func.specs.SoundFrame.{epilogue_code}
-use Rattle.frame_rule.specs.Rule.{saved_of, size_of, added, added_all, position_in, epilogue, renamed_operand}
+use Rattle.mir_func.specs.Positions.{position_of}
+use Rattle.frame_rule.specs.Rule.{saved_of, size_of, added, added_all, epilogue, renamed_operand}
 use Rattle.frame_rule.specs.Rule.{renamed_place, renamed_kind, renamed, framed_item, framed_items, framed_block, prologue_block, framed_blocks}
 use Rattle.frame_rule.specs.Rule.{framed_of}
 use Rattle.frame_rule.proofs.Rows.{renamed_row, row_renamed}
@@ -34,15 +34,6 @@ use Rattle.frame_rule.proofs.Saved.{saved_given}
 use Rattle.frame_rule.proofs.Offsets.{slot_has_offset, saved_has_offset}
 
 -- ---- rows whose slots have other names
-
-pub is_the_end : (x : Exit) → is_final x ≡ true → x ≡ Final
-is_the_end Final h = refl
-is_the_end Onward h = cc
-is_the_end (Perhaps n) h = cc
-is_the_end (Always n) h = cc
-
-pub not_the_end : (x : Exit) → is_final x ≡ false → x ≡ Final → ⊥
-not_the_end x h e = let bad : true ≡ false = sym (ap is_final e) ∙ h in cc
 
 exit_same : (slots : List ℕ) (r : Row) → row_exit (renamed_row slots r) ≡ row_exit r
 exit_same slots (LoadsSlot rd n) = refl
@@ -52,6 +43,15 @@ pub kind_exit : (slots : List ℕ) (k : ItemKind) → exit_of (renamed_kind slot
 kind_exit slots (Code i n) = ap row_exit (row_renamed slots i) ∙ exit_same slots (row_of i)
 kind_exit slots (Mark v m) = refl
 kind_exit slots (Phi p n) = refl
+
+leads_same : (slots : List ℕ) (r : Row) → row_leads_back (renamed_row slots r) ≡ row_leads_back r
+leads_same slots (LoadsSlot rd n) = refl
+leads_same slots _ = refl
+
+pub kind_leads : (slots : List ℕ) (k : ItemKind) → leads_back (renamed_kind slots k) ≡ leads_back k
+kind_leads slots (Code i n) = ap row_leads_back (row_renamed slots i) ∙ leads_same slots (row_of i)
+kind_leads slots (Mark v m) = refl
+kind_leads slots (Phi p n) = refl
 
 target_same : (slots ids : List ℕ) (r : Row) → TargetIn ids (renamed_row slots r) ≡ TargetIn ids r
 target_same slots ids (LoadsSlot rd n) = refl
@@ -158,10 +158,10 @@ module _ (f : Function) where
     items_all R step (x ∷ xs) h =
         subst (All Q) (sym (flat_map-cons (framed_item f) x xs))
         (All-append Q (framed_item f x) (framed_items f xs)
-        (All-append Q (cond (is_final (exit_of x.kind)) (epilogue f x.origin) []) (renamed slots x ∷ []) (by_exit (is_final (exit_of x.kind)))
+        (All-append Q (cond (leads_back x.kind) (epilogue f x.origin) []) (renamed slots x ∷ []) (by_exit (leads_back x.kind))
         (All-cons Q (renamed slots x) [] (step x (All-head R x xs h)) (All-nil Q))) (items_all R step xs (All-tail R x xs h))) where
           by_exit : (z : Bool) → All Q (cond z (epilogue f x.origin) [])
-          by_exit true = epilogue_all size (Before (position_in x.origin))
+          by_exit true = epilogue_all size (Before (position_of x.origin))
           by_exit false = All-nil Q
 
     body_all : (R : Item → Type 0) → ((i : Item) → R i → Q (renamed slots i)) → (bs : List Block) → AllItems R bs → AllItems Q (map (framed_block f) bs)

@@ -1,17 +1,19 @@
 -- What code with its slots named by their offsets does: the same rows, with other slots.
-use Rattle.std.proofs.Common.{◌≡◌, ℕ, zero, suc, List, [], ◌∷◌, map, All, Bool, true, false, cond, nat_eq, refl, sym, ap, ◌∙◌, eq-eqb}
+use Rattle.std.proofs.Common.{◌≡◌, ℕ, zero, suc, List, [], ◌∷◌, map, All, Bool, true, false, cond, nat_eq, refl, sym, ap, ◌∙◌, eq-eqb, arith}
 use Rattle.std.proofs.lemmas.List.Elements.{All-nil, All-cons, All-head, All-tail}
 use Rattle.rv64_instr.specs.declared.op.Op.{Op}
-use Rattle.rv64_instr.specs.declared.op.Op.TheVariants.{Registers, Immediate, Lui, Branch, Load, Store, Copy, PseudoBr, PseudoCall, PseudoRet}
+use Rattle.rv64_instr.specs.declared.op.Op.TheVariants.{Registers, Immediate, Lui, Branch, Load, Store, Copy}
+use Rattle.rv64_instr.specs.declared.op.Op.TheVariants.{PseudoBr, PseudoCall, PseudoRet, PseudoCallIndirect}
+use Rattle.rv64_instr.specs.declared.op.Op.TheVariants.{PseudoTail, PseudoTailIndirect, NoReturnCall, NoReturnCallIndirect}
 use Rattle.rv64_instr.specs.declared.op.ImmediateOp.{ImmediateOp}
 use Rattle.rv64_instr.specs.declared.op.ImmediateOp.TheVariants.{Addi}
 use Rattle.rv64_instr.specs.declared.operand.Operand.{Operand}
-use Rattle.rv64_instr.specs.declared.operand.Operand.TheVariants.{Def, Use, ImplicitUse, Imm, Slot, Object, Block, Symbol}
+use Rattle.rv64_instr.specs.declared.operand.Operand.TheVariants.{Def, Use, ImplicitUse, Imm, Slot, Object, Part, Block, Symbol}
 use Rattle.rv64_instr.specs.Arithmetic.{word}
 use Rattle.rv64_instr.specs.Instruction.{Instruction}
 use Rattle.rv64_instr.specs.Row.{Row, Fixes, Moves, Sets, Addresses, Loads, Stores, LoadsSlot, StoresSlot, Branches, Jumps, Calls, Returns, Unfit, row_of}
-use Rattle.rv64_instr.specs.Row.{row_by}
-use Rattle.rv64_instr.specs.Row.{move_row, immediate_row, object_row, implicit_uses}
+use Rattle.rv64_instr.specs.Row.{row_by, Named, Back}
+use Rattle.rv64_instr.specs.Row.{move_row, immediate_row, object_row, implicit_uses, held_call, held_tail, held_gone, Tail, Never}
 use Rattle.rv64_instr.specs.DefsAndUses.{reads}
 use Rattle.mir_func.specs.Sound.{IsNotPointer}
 use Rattle.frame_rule.specs.Rule.{slot_offset, renamed_operand, renamed_code}
@@ -28,7 +30,7 @@ renamed_row slots (Loads rd op b o) = Loads rd op b o
 renamed_row slots (Stores op rs b o) = Stores op rs b o
 renamed_row slots (Branches op a b t) = Branches op a b t
 renamed_row slots (Jumps t) = Jumps t
-renamed_row slots (Calls name args) = Calls name args
+renamed_row slots (Calls call) = Calls call
 renamed_row slots (Returns v) = Returns v
 renamed_row slots Unfit = Unfit
 
@@ -55,6 +57,18 @@ module _ (slots : List ℕ) where
   move_same rd zero = refl
   move_same rd (suc r) = refl
 
+  held_call_same : (xs : List ℕ) → held_call xs ≡ renamed_row slots (held_call xs)
+  held_call_same [] = refl
+  held_call_same (r ∷ xs) = refl
+
+  held_tail_same : (xs : List ℕ) → held_tail xs ≡ renamed_row slots (held_tail xs)
+  held_tail_same [] = refl
+  held_tail_same (r ∷ xs) = refl
+
+  held_gone_same : (xs : List ℕ) → held_gone xs ≡ renamed_row slots (held_gone xs)
+  held_gone_same [] = refl
+  held_gone_same (r ∷ xs) = refl
+
   by_op : (op : Op) (os : List Operand) → row_by op (others os) ≡ renamed_row slots (row_by op os)
   by_op (Registers op) (Def rd ∷ Use a ∷ Use b ∷ rest) = refl
   by_op (Immediate op) (Def rd ∷ Use a ∷ Imm i ∷ rest) = immediate_same op rd a (word i)
@@ -69,8 +83,13 @@ module _ (slots : List ℕ) where
   by_op (Store op) (Use rs ∷ Object n ∷ Imm i ∷ rest) = refl
   by_op Copy (Def rd ∷ Use rs ∷ rest) = move_same rd rs
   by_op PseudoBr (Block target ∷ rest) = refl
-  by_op PseudoCall (Symbol name ∷ rest) = ap (Calls name) (uses_same rest)
-  by_op PseudoRet os = ap Returns (uses_same os)
+  by_op PseudoCall (Symbol name ∷ rest) = ap (λ (rs : List ℕ). Calls (record { callee = Named name; args = rs })) (uses_same rest)
+  by_op PseudoRet os = ap (λ (rs : List ℕ). Returns (record { way = Back; values = rs })) (uses_same os)
+  by_op PseudoCallIndirect os = ap held_call (uses_same os) ∙ held_call_same (implicit_uses os)
+  by_op PseudoTail (Symbol name ∷ rest) = ap (λ (rs : List ℕ). Returns (record { way = Tail (Named name); values = rs })) (uses_same rest)
+  by_op PseudoTailIndirect os = ap held_tail (uses_same os) ∙ held_tail_same (implicit_uses os)
+  by_op NoReturnCall (Symbol name ∷ rest) = ap (λ (rs : List ℕ). Returns (record { way = Never (Named name); values = rs })) (uses_same rest)
+  by_op NoReturnCallIndirect os = ap held_gone (uses_same os) ∙ held_gone_same (implicit_uses os)
   by_op _ _ = refl
 
   pub row_renamed : (i : Instruction) → row_of (renamed_code slots i) ≡ renamed_row slots (row_of i)
@@ -121,24 +140,46 @@ move_other : (rd rs : ℕ) → IsOther rs → All IsOther (reads (move_row rd rs
 move_other rd zero h = none
 move_other rd (suc r) h = one (suc r) h
 
+held_call_other : (xs : List ℕ) → All IsOther xs → All IsOther (reads (held_call xs))
+held_call_other [] h = none
+held_call_other (r ∷ xs) h = h
+
+held_tail_other : (xs : List ℕ) → All IsOther xs → All IsOther (reads (held_tail xs))
+held_tail_other [] h = none
+held_tail_other (r ∷ xs) h = h
+
+held_gone_other : (xs : List ℕ) → All IsOther xs → All IsOther (reads (held_gone xs))
+held_gone_other [] h = none
+held_gone_other (r ∷ xs) h = h
+
 reads_by : (op : Op) (os : List Operand) → All IsNotPointer os → All IsOther (reads (row_by op os))
 reads_by (Registers op) (Def rd ∷ Use a ∷ Use b ∷ rest) h = two a b (second (Def rd) (Use a) (Use b ∷ rest) h) (third (Def rd) (Use a) (Use b) rest h)
 reads_by (Immediate op) (Def rd ∷ Use a ∷ Imm i ∷ rest) h = immediate_other op rd a (word i) (second (Def rd) (Use a) (Imm i ∷ rest) h)
 reads_by (Immediate op) (Def rd ∷ Object n ∷ Imm i ∷ rest) h = object_other op rd n (word i)
+reads_by (Immediate op) (Def rd ∷ Use a ∷ Part half y ∷ rest) h = one a (second (Def rd) (Use a) (Part half y ∷ rest) h)
 reads_by Lui (Def rd ∷ Imm i ∷ rest) h = none
+reads_by Lui (Def rd ∷ Part half y ∷ rest) h = one 0 (λ e. omega (arith, e))
 reads_by (Branch op) (Use a ∷ Use b ∷ Block target ∷ rest) h =
     two a b (first (Use a) (Use b ∷ Block target ∷ rest) h) (second (Use a) (Use b) (Block target ∷ rest) h)
 reads_by (Load op) (Def rd ∷ Use base ∷ Imm i ∷ rest) h = one base (second (Def rd) (Use base) (Imm i ∷ rest) h)
 reads_by (Load op) (Def rd ∷ Slot n ∷ rest) h = none
 reads_by (Load op) (Def rd ∷ Object n ∷ Imm i ∷ rest) h = none
+reads_by (Load op) (Def rd ∷ Use base ∷ Part half y ∷ rest) h = one base (second (Def rd) (Use base) (Part half y ∷ rest) h)
 reads_by (Store op) (Use rs ∷ Use base ∷ Imm i ∷ rest) h =
     two rs base (first (Use rs) (Use base ∷ Imm i ∷ rest) h) (second (Use rs) (Use base) (Imm i ∷ rest) h)
 reads_by (Store op) (Use rs ∷ Slot n ∷ rest) h = one rs (first (Use rs) (Slot n ∷ rest) h)
 reads_by (Store op) (Use rs ∷ Object n ∷ Imm i ∷ rest) h = one rs (first (Use rs) (Object n ∷ Imm i ∷ rest) h)
+reads_by (Store op) (Use rs ∷ Use base ∷ Part half y ∷ rest) h =
+    two rs base (first (Use rs) (Use base ∷ Part half y ∷ rest) h) (second (Use rs) (Use base) (Part half y ∷ rest) h)
 reads_by Copy (Def rd ∷ Use rs ∷ rest) h = move_other rd rs (second (Def rd) (Use rs) rest h)
 reads_by PseudoBr (Block target ∷ rest) h = none
 reads_by PseudoCall (Symbol name ∷ rest) h = uses_other rest
 reads_by PseudoRet os h = uses_other os
+reads_by PseudoCallIndirect os h = held_call_other (implicit_uses os) (uses_other os)
+reads_by PseudoTail (Symbol name ∷ rest) h = uses_other rest
+reads_by PseudoTailIndirect os h = held_tail_other (implicit_uses os) (uses_other os)
+reads_by NoReturnCall (Symbol name ∷ rest) h = uses_other rest
+reads_by NoReturnCallIndirect os h = held_gone_other (implicit_uses os) (uses_other os)
 reads_by _ _ h = none
 
 -- where no explicit operand is x2, it isn't read

@@ -10,18 +10,38 @@ use Rattle.mir_func.specs.Function.{Function}
 use Rattle.mir_func.specs.SoundFrame.{SAVED}
 use Rattle.frame_rule.specs.Rule.{saved_places, saved_registers, saved_of, size_of, is_set}
 
+-- a register that is passed where control leaves back to the caller: a result, or the argument or the callee of a call in tail position
+abbrev pub IsPassed : ℕ → Type 0
+IsPassed r = ((6 ≤ r) × (r ≤ 7)) ⊎ (((10 ≤ r) × (r ≤ 17)) ⊎ (28 ≤ r))
+
+pub passed_two : (r : ℕ) → IsPassed r → r ≡ 2 → ⊥
+passed_two r (inl p) e = let x = p.0 in omega (arith, x, e)
+passed_two r (inr (inl p)) e = let x = p.0 in omega (arith, x, e)
+passed_two r (inr (inr p)) e = omega (arith, p, e)
+
 -- a register that is given back: physical, and neither an argument nor a result
 abbrev pub IsGivenBack : ℕ → Type 0
-IsGivenBack r = (r < 32) × (10 ≤ r → r ≤ 17 → ⊥) × (r ≡ 0 → ⊥) × (r ≡ 2 → ⊥)
+IsGivenBack r = (r < 32) × (IsPassed r → ⊥) × (r ≡ 0 → ⊥) × (r ≡ 2 → ⊥)
+
+apart : (r : ℕ) → (r ≤ 5) ⊎ (((8 ≤ r) × (r ≤ 9)) ⊎ ((18 ≤ r) × (r ≤ 27))) → IsPassed r → ⊥
+apart r (inl a) (inl p) = let x = p.0 in omega (arith, a, x)
+apart r (inl a) (inr (inl p)) = let x = p.0 in omega (arith, a, x)
+apart r (inl a) (inr (inr p)) = omega (arith, a, p)
+apart r (inr (inl a)) (inl p) = let x = a.0 in let y = p.1 in omega (arith, x, y)
+apart r (inr (inl a)) (inr (inl p)) = let x = a.1 in let y = p.0 in omega (arith, x, y)
+apart r (inr (inl a)) (inr (inr p)) = let x = a.1 in omega (arith, x, p)
+apart r (inr (inr a)) (inl p) = let x = a.0 in let y = p.1 in omega (arith, x, y)
+apart r (inr (inr a)) (inr (inl p)) = let x = a.0 in let y = p.1 in omega (arith, x, y)
+apart r (inr (inr a)) (inr (inr p)) = let x = a.1 in omega (arith, x, p)
 
 low : (r : ℕ) → r ≡ 1 → IsGivenBack r
-low r e = (omega (arith, e), (λ a b. omega (arith, e, a, b)), (λ a. omega (arith, e, a)), λ a. omega (arith, e, a))
+low r e = (omega (arith, e), apart r (inl (omega (arith, e))), (λ a. omega (arith, e, a)), λ a. omega (arith, e, a))
 
 middle : (r : ℕ) → 8 ≤ r → r ≤ 9 → IsGivenBack r
-middle r x y = (omega (arith, y), (λ a b. omega (arith, y, a, b)), (λ a. omega (arith, x, a)), λ a. omega (arith, x, a))
+middle r x y = (omega (arith, y), apart r (inr (inl (x, y))), (λ a. omega (arith, x, a)), λ a. omega (arith, x, a))
 
 high : (r : ℕ) → 18 ≤ r → r ≤ 27 → IsGivenBack r
-high r x y = (omega (arith, y), (λ a b. omega (arith, x, a, b)), (λ a. omega (arith, x, a)), λ a. omega (arith, x, a))
+high r x y = (omega (arith, y), apart r (inr (inr (x, y))), (λ a. omega (arith, x, a)), λ a. omega (arith, x, a))
 
 pub or_cases : (a b : Bool) → (a || b) ≡ true → (a ≡ true) ⊎ (b ≡ true)
 or_cases true b h = inl refl

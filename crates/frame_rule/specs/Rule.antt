@@ -8,8 +8,8 @@
 use Rattle.std.specs.Prelude.{ℕ, zero, suc, ◌+◌, ◌*◌, Bool, false, cond, nat_eq, List, [], ◌∷◌, ◌++◌, map, length, filter, Option, Some, None}
 use Rattle.std.specs.List.{flat_map, list_any}
 use Rattle.rv64_instr.specs.declared.operand.Operand.{Operand}
-use Rattle.rv64_instr.specs.declared.operand.Operand.TheVariants.{Def, Use, ImplicitDef, ImplicitUse, Imm, Slot, Object as OfObject, Block as OfBlock, Symbol}
-use Rattle.rv64_instr.specs.declared.operand.Operand.TheVariants.{Mask}
+use Rattle.rv64_instr.specs.declared.operand.Operand.TheVariants.{Def, Use, ImplicitDef, ImplicitUse, Imm, Slot, Object as OfObject, Part, Block as OfBlock}
+use Rattle.rv64_instr.specs.declared.operand.Operand.TheVariants.{Symbol, Mask}
 use Rattle.rv64_instr.specs.declared.place.Place.{Place}
 use Rattle.rv64_instr.specs.declared.place.Place.TheVariants.{Register, Slot as InSlot, Const}
 use Rattle.rv64_instr.specs.Instruction.{Instruction}
@@ -23,13 +23,13 @@ use Rattle.mir_func.specs.declared.item.ItemKind.{ItemKind}
 use Rattle.mir_func.specs.declared.item.ItemKind.TheVariants.{Code, Mark, Phi}
 use Rattle.mir_func.specs.declared.location.Loc.TheVariants.{Absent}
 use Rattle.mir_func.specs.declared.position.Origin.{Origin}
-use Rattle.mir_func.specs.declared.position.Origin.TheVariants.{Kept, Before}
-use Rattle.mir_func.specs.declared.position.Pos.{Pos}
-use Rattle.mir_func.specs.Exits.{exit_of, is_final}
+use Rattle.mir_func.specs.declared.position.Origin.TheVariants.{Before}
+use Rattle.mir_func.specs.Exits.{leads_back}
 use Rattle.mir_func.specs.Function.{Function, FramedFunction}
 use Rattle.mir_func.specs.Graph.{block_start}
 use Rattle.mir_func.specs.Objects.{up_to, area_of}
 use Rattle.mir_func.specs.SoundFrame.{SAVED, prologue_code, epilogue_code}
+use Rattle.mir_func.specs.Positions.{position_of}
 
 -- ---- where slots and saved registers are
 
@@ -89,18 +89,13 @@ abbrev pub added_all : (size : ℕ) → Origin → List Instruction → List Ite
 added_all zero o code = []
 added_all (suc n) o code = map (added o) code
 
--- the source position of an origin
-abbrev pub position_in : Origin → Pos
-position_in (Kept p) = p
-position_in (Before p) = p
-
 -- the prologue, before the first position of the first block
 abbrev pub prologue : Function → (first : ℕ) → List Item
 prologue f first = added_all (size_of f) (Before (block_start first)) (prologue_code (size_of f) (saved_of f))
 
 -- the epilogue before a return with this origin
 abbrev pub epilogue : Function → Origin → List Item
-epilogue f o = added_all (size_of f) (Before (position_in o)) (epilogue_code (size_of f) (saved_of f))
+epilogue f o = added_all (size_of f) (Before (position_of o)) (epilogue_code (size_of f) (saved_of f))
 
 -- ---- what is kept
 
@@ -113,6 +108,7 @@ renamed_operand slots (ImplicitDef r) = ImplicitDef r
 renamed_operand slots (ImplicitUse r) = ImplicitUse r
 renamed_operand slots (Imm i) = Imm i
 renamed_operand slots (OfObject n) = OfObject n
+renamed_operand slots (Part half y) = Part half y
 renamed_operand slots (OfBlock n) = OfBlock n
 renamed_operand slots (Symbol name) = Symbol name
 renamed_operand slots Mask = Mask
@@ -140,11 +136,11 @@ renamed slots i = record { kind = renamed_kind slots i.kind; origin = i.origin; 
 
 -- ---- the function with its frame
 
--- the items for an item: itself, and before a return the epilogue
+-- the items for an item: itself, and the epilogue before one that leads back to the caller
 abbrev pub framed_item : Function → Item → List Item
-framed_item f i = cond (is_final (exit_of i.kind)) (epilogue f i.origin) [] ++ renamed f.slots i ∷ []
+framed_item f i = cond (leads_back i.kind) (epilogue f i.origin) [] ++ renamed f.slots i ∷ []
 
--- the items of a block, with an epilogue before each return
+-- the items of a block, with an epilogue before each item that leads back to the caller
 abbrev pub framed_items : Function → List Item → List Item
 framed_items f items = flat_map (framed_item f) items
 

@@ -16,9 +16,9 @@ use Rattle.frame_table.specs.Table.{distance_in, distances_from, frame_row}
 use Rattle.frame_table.proofs.Distances.{length-distances}
 
 -- a saved register has a slot of the frame and is one that a frame saves
-record IsGood (f : FramedFunction) (s : SavedRegister) : Type 0 where
-  offset : IsSlotOffset f s.offset
-  kept : Contains SAVED s.register
+pub record IsGood (f : FramedFunction) (s : SavedRegister) : Type 0 where
+  pub offset : IsSlotOffset f s.offset
+  pub kept : Contains SAVED s.register
 
 distance_fits : (f : FramedFunction) → f.size % 16 ≡ 0 → f.size < 2 ^ 32 → (saved : List SavedRegister) → AllByRecursion (IsGood f) saved → (register : ℕ)
     → IsDistance (distance_in f.size saved register)
@@ -88,19 +88,19 @@ goods : (f : FramedFunction) (saved : List SavedRegister) → AllByRecursion (Is
 goods f [] offsets kept = tt
 goods f (s ∷ saved) offsets kept = (record { offset = offsets.0; kept = kept.0 }, goods f saved offsets.1 kept.1)
 
+pub all_good : (f : FramedFunction) → IsFramed f → AllByRecursion (IsGood f) f.saved
+all_good f framed =
+    goods f f.saved
+    (all_right (IsSlotOffset f) (map (λ s. s.offset) f.offsets) (map (λ s. s.offset) f.saved)
+    (recursion_from_All (IsSlotOffset f) (slot_offsets f) framed.offsets))
+    (recursion_from_All (λ s. Contains SAVED s.register) f.saved framed.saved_kept)
+
 pub said : (f : FramedFunction) → IsFramed f → (p : Pos) → IsSaid f (frame_row f (frame_state f p))
 said f framed p = by (is_as_found f p) where
   small : f.size < 2 ^ 32
   small = omega (arith, framed.small)
 
-  good : AllByRecursion (IsGood f) f.saved
-  good =
-      goods f f.saved
-      (all_right (IsSlotOffset f) (map (λ s. s.offset) f.offsets) (map (λ s. s.offset) f.saved)
-      (recursion_from_All (IsSlotOffset f) (slot_offsets f) framed.offsets))
-      (recursion_from_All (λ s. Contains SAVED s.register) f.saved framed.saved_kept)
-
   by : (b : Bool) →
       IsSaid f (frame_row f (cond b (record { lowered = 0; saved = false }) (record { lowered = f.size; saved = not (nat_eq p.block 0) })))
-  by true = said_state f framed.aligned small good 0 false (omega arith)
-  by false = said_state f framed.aligned small good f.size (not (nat_eq p.block 0)) (omega arith)
+  by true = said_state f framed.aligned small (all_good f framed) 0 false (omega arith)
+  by false = said_state f framed.aligned small (all_good f framed) f.size (not (nat_eq p.block 0)) (omega arith)

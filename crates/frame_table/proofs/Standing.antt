@@ -5,8 +5,8 @@ use Rattle.mir_func.specs.declared.block.Block.{Block}
 use Rattle.mir_func.specs.declared.item.Item.{Item}
 use Rattle.mir_func.specs.declared.position.Pos.{Pos}
 use Rattle.mir_func.specs.Function.{FramedFunction}
-use Rattle.mir_func.specs.Graph.{Here, end_of, front, fetch_in}
-use Rattle.frame_proof.specs.Stands.{FrameState, is_return, is_as_found, frame_state}
+use Rattle.mir_func.specs.Graph.{Here, end_of, front, fetch_in, is_return}
+use Rattle.frame_proof.specs.Stands.{FrameState, is_as_found, frame_state}
 
 pub drop_item : {A : Type 0} (xs : List A) (k : ℕ) (x : A) → k < length xs → x ≡ get_or xs k x → drop k xs ≡ x ∷ drop (suc k) xs
 drop_item xs k x inside is = drop-cons xs k x inside ∙ ap (λ y. y ∷ drop (suc k) xs) (sym is)

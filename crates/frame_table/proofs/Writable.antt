@@ -5,7 +5,7 @@ use Rattle.std.proofs.Common.{map, length, drop, not, None, pos, ◌-ℤ◌, ref
 use Rattle.std.proofs.lemmas.Bool.{false≢true}
 use Rattle.rv64_instr.specs.Instruction.{Instruction}
 use Rattle.rv64_instr.specs.Row.{add_row}
-use Rattle.rv64_instr.specs.Parts.{is_call}
+use Rattle.rv64_instr.specs.LocationEffects.{has_site}
 use Rattle.mir_func.specs.declared.block.Block.{Block}
 use Rattle.mir_func.specs.declared.framed.SavedRegister.{SavedRegister}
 use Rattle.mir_func.specs.declared.item.Item.{Item}
@@ -13,13 +13,13 @@ use Rattle.mir_func.specs.declared.item.ItemKind.TheVariants.{Code}
 use Rattle.mir_func.specs.declared.position.Pos.{Pos}
 use Rattle.mir_func.specs.Exits.{row_exit}
 use Rattle.mir_func.specs.Function.{FramedFunction}
-use Rattle.mir_func.specs.Graph.{fetch_in}
+use Rattle.mir_func.specs.Graph.{fetch_in, is_return}
 use Rattle.mir_func.specs.SoundFrame.{IsFramed, HasFrame, AreCode, prologue_code, adds_to_pointer}
 use Rattle.mir_func.specs.Successors.{pos_in}
 use Rattle.emit_code.specs.declared.code.EncodedInstruction.{EncodedInstruction}
 use Rattle.emit_code.specs.Laid.{LaidCode, IsCode, IsCodeOf, StandFrom}
 use Rattle.emit_code.specs.Rule.{Layout, OneWord, exit_form, form_of, form_entries, address_in, entry, entries_at, entries_of, sites_in, sites_from}
-use Rattle.frame_proof.specs.Stands.{is_return, is_as_found}
+use Rattle.frame_proof.specs.Stands.{is_as_found}
 use Rattle.dwarf_frame.specs.declared.table.Row.{Row}
 use Rattle.dwarf_frame.specs.declared.table.FrameDescription.{FrameDescription}
 use Rattle.dwarf_frame.specs.Rows.{Changes, NoEntry, Same, Other}
@@ -85,7 +85,7 @@ no_frame_found f e none =
     ap (λ n. nat_eq n 0 || ((nat_eq e.point.block 0 && nat_eq e.point.item 0) || is_return (fetch_in (drop e.point.block f.blocks) e.point.item))) none
 
 -- an addition of a number is one word
-addition_form : (long : Bool) (rd r n : ℕ) → exit_form long (row_exit (add_row rd (suc r) n)) (is_call (add_row rd (suc r) n)) ≡ OneWord
+addition_form : (long : Bool) (rd r n : ℕ) → exit_form long (row_exit (add_row rd (suc r) n)) (has_site (add_row rd (suc r) n)) ≡ OneWord
 addition_form long rd r zero = refl
 addition_form long rd r (suc n) = refl
 

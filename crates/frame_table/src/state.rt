@@ -1,12 +1,10 @@
 //! The frame's state at a point.
 
 ghost use Rattle.std.specs.Prelude.{◌≡◌, ◌&&◌, nat_eq, drop};
-ghost use Rattle.mir_func.specs.Exits.{is_final};
-ghost use Rattle.mir_func.specs.Graph.{fetch_in};
-ghost use Rattle.frame_proof.specs.Stands.{is_return, is_as_found, frame_state};
+ghost use Rattle.mir_func.specs.Graph.{fetch_in, is_return};
+ghost use Rattle.frame_proof.specs.Stands.{is_as_found, frame_state};
 ghost use Rattle.frame_table.specs.Table.{position_of};
 
-use mir_func::exit::Exit;
 use mir_func::framed::Framed;
 use mir_func::position::ProgramPoint;
 
@@ -51,26 +49,16 @@ fn is_entry(point: &ProgramPoint) -> bool
     point.block.number() == 0 && point.item == 0
 }
 
-/// Whether the item at a point is a return.
+/// Whether the item at a point leads back to the caller.
 fn is_return(framed: &Framed, point: &ProgramPoint) -> bool
     ensures { result ≡ is_return (fetch_in (drop point.now.block framed.now.blocks) point.now.item) }
 {
     let blocks = framed.blocks.as_slice();
     match blocks.get(point.block.number() as usize) {
         Some(block) => match block.items.as_slice().get(point.item as usize) {
-            Some(item) => is_final(item.kind.exit()),
+            Some(item) => item.kind.leads_back(),
             None => false,
         },
         None => false,
-    }
-}
-
-/// Whether control leaves the function.
-fn is_final(exit: Exit) -> bool
-    ensures { result ≡ is_final exit }
-{
-    match exit {
-        Exit::Final => true,
-        Exit::Onward | Exit::Perhaps(_) | Exit::Always(_) => false,
     }
 }

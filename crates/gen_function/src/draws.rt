@@ -5,7 +5,7 @@ ghost use Rattle.gen_function.specs.Draws.{next, draw, give};
 ghost use Rattle.gen_function.specs.Items.{register_of, variable_of};
 
 use crate::items::register;
-use base_ids::code::{DebugNumber, SlotId};
+use base_ids::function_ids::{DebugNumber, SlotId};
 use base_ids::metadata::NodeId;
 use mir_func::variable::VarId;
 use rv64_instr::reg::Reg;

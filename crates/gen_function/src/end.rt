@@ -7,7 +7,7 @@ ghost use Rattle.gen_function.specs.steps.Making.{Appends};
 use crate::draws::Draws;
 use crate::group::Kinds;
 use crate::items::{branch, copy, jump, numbered, return_result, store};
-use base_ids::code::{BlockId, SlotId};
+use base_ids::function_ids::{BlockId, SlotId};
 use std::alloc::{AllocError, Global};
 
 /// The number of kinds of block ends, without that of the last block.

@@ -7,7 +7,7 @@ ghost use Rattle.gen_function.specs.steps.Making.{MakesBlock};
 use crate::draws::Draws;
 use crate::end::{push_beginning, push_end};
 use crate::group::{Kinds, push_groups};
-use base_ids::code::{BlockId, SlotId};
+use base_ids::function_ids::{BlockId, SlotId};
 use mir_func::block::{Block, Blocks};
 use mir_func::func::{Func, SlotIds};
 use mir_func::item::{Item, Items};

@@ -3,7 +3,7 @@
 ghost use Rattle.std.specs.Prelude.{◌≡◌, ◌<◌, IfOk, None};
 ghost use Rattle.gen_function.specs.Items.{register_of, add, copy, constant, store, load, mark, branch, jump, return};
 
-use base_ids::code::{BlockId, DebugNumber, OperandIndex, SlotId};
+use base_ids::function_ids::{BlockId, DebugNumber, OperandIndex, SlotId};
 use mir_func::debug_substitution::OperandPair;
 use mir_func::item::ItemKind;
 use mir_func::variable::{MarkValue, VarId};

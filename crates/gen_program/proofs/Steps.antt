@@ -2,14 +2,13 @@
 --
 -- Registers are written from the start on, and stay so. The first four steps store the four slots, and slots stay written too. So no
 -- item of the function reads what isn't written, and none has another access to memory.
-use Rattle.std.proofs.Common.{◌≡◌, ℕ, zero, suc, ◌+◌, ◌<◌, ◌≤◌, List, [], ◌∷◌, drop, Option, Some, None, refl, sym, ap, ◌∙◌, subst, inl, inr, arith}
+use Rattle.std.proofs.Common.{◌≡◌, ℕ, zero, suc, ◌+◌, ◌<◌, ◌≤◌, List, [], ◌∷◌, drop, Option, Some, None, refl, sym, ap, ◌∙◌, subst, inl, inr, arith, ◌++◌}
 use Rattle.std.proofs.Common.{Bool, true, false, cond, nat_eq, ◌&&◌, is_some, ◌⊎◌, lit<}
 use Rattle.std.specs.List.{All}
 use Rattle.std.proofs.lemmas.Bool.{cases_eq}
 use Rattle.std.proofs.lemmas.List.Elements.{All-nil, All-cons, All-head, All-tail, All-drop, All-weaker}
-use Rattle.rv64_instr.specs.declared.decoded.Input.{Input}
-use Rattle.rv64_instr.specs.declared.decoded.Input.TheVariants.{Content, Number}
-use Rattle.rv64_instr.specs.DefsAndUses.{reads}
+use Rattle.rv64_instr.specs.Row.{Input, Content, Number, PartOf}
+use Rattle.rv64_instr.specs.DefsAndUses.{reads, way_reads}
 use Rattle.rv64_instr.specs.Instruction.{Instruction}
 use Rattle.std.specs.Prelude.{pos}
 use Rattle.rv64_instr.specs.declared.op.Op.TheVariants.{Store}
@@ -17,7 +16,7 @@ use Rattle.rv64_instr.specs.declared.op.StoreOp.TheVariants.{Sd}
 use Rattle.rv64_instr.specs.declared.operand.Operand.{Operand}
 use Rattle.rv64_instr.specs.declared.operand.Operand.TheVariants.{Use, Imm, Slot as OfSlot}
 use Rattle.rv64_instr.specs.Arithmetic.{taken}
-use Rattle.rv64_instr.specs.Parts.{is_call}
+use Rattle.rv64_instr.specs.LocationEffects.{is_call}
 use Rattle.rv64_instr.specs.Row.{Row, Fixes, Moves, Sets, LoadsSlot, StoresSlot, Branches, Jumps, Returns, row_of}
 use Rattle.mir_func.specs.declared.block.Block.{Block}
 use Rattle.mir_func.specs.declared.debug_substitution.OperandPair.{OperandPair}
@@ -27,7 +26,7 @@ use Rattle.mir_func.specs.declared.item.ItemKind.TheVariants.{Code, Mark, Phi}
 use Rattle.mir_func.specs.declared.position.Pos.{Pos}
 use Rattle.mir_func.specs.Graph.{Fetch, Here, EndOfBlock, Outside, Program, below, block_start, end_of, front, fetch_in, from_block, program_of}
 use Rattle.mir_func.specs.Sound.{AllItems}
-use Rattle.sem_mir.specs.Follow.{first_of}
+use Rattle.sem_mir.specs.InitialState.{first_of}
 use Rattle.sem_mir.specs.State.{Core, State, content, put, updated}
 use Rattle.sem_mir.specs.Step.{Went, Returned, Faulted, Waits, Lost, Outcome, Falls, Goes, Gives, Traps, Asks, Breaks, moved, read, set_register}
 use Rattle.sem_mir.specs.Step.{slot_loaded, does, are_written, act, with_core, numbered, do_item, do_fetch, Next, after, step, run}
@@ -48,6 +47,7 @@ IsLow r = r < 32
 abbrev InputIsLow : Input → Type 0
 InputIsLow (Content r) = r < 32
 InputIsLow (Number n) = Unit {0}
+InputIsLow (PartOf half y) = Unit {0}
 
 -- a row that reads physical registers and the four slots alone, and calls nothing
 abbrev pub IsMildRow : Row → Type 0
@@ -58,7 +58,7 @@ IsMildRow (LoadsSlot rd n) = n < 4
 IsMildRow (StoresSlot rs n) = rs < 32
 IsMildRow (Branches op a b target) = (a < 32) × (b < 32)
 IsMildRow (Jumps target) = Unit {0}
-IsMildRow (Returns results) = All IsLow results
+IsMildRow (Returns ending) = All IsLow (way_reads ending.way ++ ending.values)
 IsMildRow _ = ⊥
 
 abbrev pub IsMild : ItemKind → Type 0
@@ -161,6 +161,7 @@ reads_low (Fixes rd n) m = All-nil IsLow
 reads_low (Moves rd rs) m = one rs m
 reads_low (Sets rd op a (Content r)) m = two a r m.0 m.1
 reads_low (Sets rd op a (Number n)) m = one a m.0
+reads_low (Sets rd op a (PartOf half y)) m = one a m.0
 reads_low (LoadsSlot rd n) m = All-nil IsLow
 reads_low (StoresSlot rs n) m = one rs m
 reads_low (Branches op a b t) m = two a b m.0 m.1

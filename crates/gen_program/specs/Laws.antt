@@ -6,14 +6,14 @@ use Rattle.mir_func.specs.declared.item.ItemKind.TheVariants.{Code, Mark, Phi}
 use Rattle.mir_func.specs.Function.{Function}
 use Rattle.mir_func.specs.Graph.{program_of}
 use Rattle.mir_func.specs.Sound.{AllItems}
-use Rattle.sem_mir.specs.Follow.{first_of, IsStart}
+use Rattle.sem_mir.specs.InitialState.{first_of, IsInitialState}
 use Rattle.sem_mir.specs.State.{State}
 use Rattle.sem_mir.specs.Step.{Faulted, run}
 use Rattle.gen_function.specs.Generator.{generated}
 
 -- No run of the function from a start stops on a frame fault, whatever its debug value substitutions are.
 abbrev pub NeverFaults : Function → (OperandPair → Option OperandPair) → Type 0
-NeverFaults f resolve = (s : State) → IsStart f.objects (first_of f.blocks) s → (n : ℕ) → run (program_of true f.blocks resolve) n s ≡ Faulted → ⊥
+NeverFaults f resolve = (s : State) → IsInitialState f.objects (first_of f.blocks) s → (n : ℕ) → run (program_of true f.blocks resolve) n s ≡ Faulted → ⊥
 
 -- No run of a generated function stops on a frame fault.
 abbrev pub GeneratedRunsDontFault : Type 0

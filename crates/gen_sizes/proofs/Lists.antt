@@ -1,5 +1,6 @@
 -- How long location lists are at most: each range has a byte of code, and the location of a variable without parts is one place.
-use Rattle.std.proofs.Common.{◌≡◌, ◌∙◌, ℕ, zero, suc, ◌+◌, ◌*◌, ◌^◌, ◌<◌, ◌≤◌, List, [], ◌∷◌, ◌++◌, length, All, Contains, Option, Some, None, refl, sym, ap, subst}
+use Rattle.std.proofs.Common.{◌≡◌, ◌∙◌, ℕ, zero, suc, ◌+◌, ◌*◌, ◌^◌, ◌<◌, ◌≤◌, List, []}
+use Rattle.std.proofs.Common.{◌∷◌, ◌++◌, length, All, Contains, Option, Some, None, refl, sym, ap, subst}
 use Rattle.std.proofs.Common.{arith, inl, inr, length-append}
 use Rattle.std.specs.Prelude.{ℤ, pos, negsuc, FitsSigned}
 use Rattle.std.specs.List.{flat_map}
@@ -12,7 +13,7 @@ use Rattle.mir_func.specs.declared.position.Pos.{Pos}
 use Rattle.mir_func.specs.declared.variable.VarId.{VarId}
 use Rattle.mir_func.specs.Graph.{Program}
 use Rattle.mir_func.specs.Parts.{Bytes}
-use Rattle.sem_mir.specs.PreferredLocation.{IsPlace, IsWanted, NoneIsWanted}
+use Rattle.sem_mir.specs.PreferredLocation.{IsPlace, IsPreferredLocation, NoneIsPreferred}
 use Rattle.emit_code.specs.declared.code.EncodedInstruction.{EncodedInstruction}
 use Rattle.emit_code.specs.Laid.{StandFrom}
 use Rattle.dwarf_base.specs.Leb.{uleb_of, sleb_of}
@@ -186,13 +187,13 @@ trans_low lo hi end some within low = omega (arith, some, within, low)
 trans_high : (n end : ℕ) → n ≤ end → end ≤ 1048576 → n ≤ 1048576
 trans_high n end within low = omega (arith, within, low)
 
-module _ (g : Program) (start : Pos) (v : VarId) (bare : (b : Bytes) (p : Pos) → NoneIsWanted g start (part_of v (Some b)) p) where
+module _ (g : Program) (start : Pos) (v : VarId) (bare : (b : Bytes) (p : Pos) → NoneIsPreferred g start (part_of v (Some b)) p) where
   wanted_short : (p : Pos) (o : Option Location) → IsWantedLocation g start v p o → IsShort o
   wanted_short p None is = tt
   wanted_short p (Some (Whole place)) is = is.named
   wanted_short p (Some (Parts [])) is = is
   wanted_short p (Some (Parts (x ∷ pieces))) is =
-      let one = All-head (λ (y : Part). IsWanted g start (part_of v (Some (bytes_of y))) p y.place) x pieces is.1.each in
+      let one = All-head (λ (y : Part). IsPreferredLocation g start (part_of v (Some (bytes_of y))) p y.place) x pieces is.1.each in
       bare (bytes_of x) p x.place one.named one.sits
 
   module _ (end : ℕ) (low : end ≤ 1048576) (entries : List EncodedInstruction) (stand : StandFrom 0 entries end) (ranges : List Range)

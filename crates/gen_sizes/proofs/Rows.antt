@@ -29,7 +29,8 @@ use Rattle.dwarf_line_table.specs.declared.source_and_code.SourceAndCode.{Source
 use Rattle.dwarf_line_table.specs.declared.file.SourceFile.{SourceFile}
 use Rattle.dwarf_line_table.specs.Files.{no_file, is_file, is_name, with_new, first_uses, files_of, number_in, dirs_of, entries_of}
 use Rattle.dwarf_line_table.specs.Program.{program_file, program_files, function_uses, function_end, sequence_if, sequences_of, table_of}
-use Rattle.dwarf_line_table.specs.SourcePosition.{SourceLine, first_loc, loc_if_code, loc_of, line_at, position_of}
+use Rattle.mir_func.specs.Positions.{position_of}
+use Rattle.dwarf_line_table.specs.SourcePosition.{SourceLine, first_loc, loc_if_code, loc_of, line_at}
 use Rattle.dwarf_line_table.specs.Table.{row_of_line, changes, entry_line, uses_in, rows_in}
 use Rattle.dwarf_line_table.proofs.FirstUses.{position_le}
 use Rattle.dwarf_line_table.proofs.Keys.{unit_known}

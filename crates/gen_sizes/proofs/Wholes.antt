@@ -14,7 +14,7 @@ use Rattle.mir_func.specs.Parts.{Bytes}
 use Rattle.mir_func.specs.Resolve.{resolve}
 use Rattle.mir_func.specs.Sound.{AllItems, items_of}
 use Rattle.mir_func.specs.Variables.{is_same_variable, are_same_bytes}
-use Rattle.sem_mir.specs.PreferredLocation.{NoneIsWanted}
+use Rattle.sem_mir.specs.PreferredLocation.{NoneIsPreferred}
 use Rattle.emit_code.specs.Laid.{StandFrom}
 use Rattle.emit_code.specs.Rule.{Layout, entries_of, words_of}
 use Rattle.emit_code.proofs.Stand.{stands, words_fill, words_few}
@@ -88,7 +88,7 @@ module _ (l : Layout) (f : Function) (framed : l.framed ≡ framed_of f) (subs :
       (subst (λ x. AllItems (λ j. MarksWhole j.kind) x.blocks) (sym framed) (framed_wholes f marks)) p i here
 
   -- no place is wanted for a fragment
-  pub no_fragment : (v : VarId) (b : Bytes) (p : Pos) → NoneIsWanted g (block_start 0) (part_of v (Some b)) p
+  pub no_fragment : (v : VarId) (b : Bytes) (p : Pos) → NoneIsPreferred g (block_start 0) (part_of v (Some b)) p
   no_fragment v b p = nowhere g (part_of v (Some b)) (λ q i here. other_part v b i.kind (at_item q i here)) (block_start 0) p
 
 -- ---- the lists of a compiled function

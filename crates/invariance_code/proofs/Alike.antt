@@ -7,13 +7,14 @@ use Rattle.mir_func.specs.declared.item.Item.{Item}
 use Rattle.mir_func.specs.declared.position.Origin.{Origin}
 use Rattle.mir_func.specs.declared.position.Origin.TheVariants.{Kept, Before}
 use Rattle.mir_func.specs.declared.position.Pos.{Pos}
-use Rattle.mir_func.specs.Exits.{exit_of, is_final}
+use Rattle.mir_func.specs.Exits.{leads_back}
 use Rattle.mir_func.specs.Function.{Function}
 use Rattle.mir_func.specs.Graph.{block_start}
 use Rattle.mir_func.specs.SoundFrame.{prologue_code, epilogue_code}
 use Rattle.mir_func.specs.Strip.{stripped}
+use Rattle.mir_func.specs.Positions.{position_of}
 use Rattle.pass_trait.specs.Code.{originless_origin, originless_item, originless_block, originless}
-use Rattle.frame_rule.specs.Rule.{sets_register, is_set, saved_of, size_of, added, added_all, position_in, epilogue, prologue}
+use Rattle.frame_rule.specs.Rule.{sets_register, is_set, saved_of, size_of, added, added_all, epilogue, prologue}
 use Rattle.frame_rule.specs.Rule.{slot_places, renamed, framed_item, framed_items, framed_block, framed_blocks, framed_of}
 use Rattle.invariance_code.specs.Alike.{originless_framed, FramesAlike}
 use Rattle.invariance_code.proofs.Strips.{saved_by, size_by, frames_strip}
@@ -60,9 +61,9 @@ module _ (f : Function) where
   epilogue_same o q =
       let size = size_same in
       let saved = saved_same in
-      let e : epilogue (originless f) o ≡ added_all (size_of f) (Before (position_in o)) (epilogue_code (size_of f) (saved_of f)) =
-      λ i. added_all (size i) (Before (position_in o)) (epilogue_code (size i) (saved i)) in
-      ap (map originless_item) e ∙ all_originless (position_in o) (position_in q) (size_of f) (epilogue_code (size_of f) (saved_of f))
+      let e : epilogue (originless f) o ≡ added_all (size_of f) (Before (position_of o)) (epilogue_code (size_of f) (saved_of f)) =
+      λ i. added_all (size i) (Before (position_of o)) (epilogue_code (size i) (saved i)) in
+      ap (map originless_item) e ∙ all_originless (position_of o) (position_of q) (size_of f) (epilogue_code (size_of f) (saved_of f))
 
   prologue_same : (first : ℕ) → map originless_item (prologue (originless f) first) ≡ map originless_item (prologue f first)
   prologue_same first =
@@ -80,7 +81,7 @@ module _ (f : Function) where
 
   item_same : (x : Item) → map originless_item (framed_item (originless f) (originless_item x)) ≡ map originless_item (framed_item f x)
   item_same x =
-      let z = is_final (exit_of x.kind) in
+      let z = leads_back x.kind in
       let o = originless_origin x.origin in
       let e = before_same z o x.origin in
       let r = renamed_same x in

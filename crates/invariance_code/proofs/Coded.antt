@@ -6,7 +6,7 @@ use Rattle.rv64_instr.specs.declared.place.Place.{Place}
 use Rattle.rv64_instr.specs.Instruction.{Instruction}
 use Rattle.rv64_instr.specs.Row.{row_of}
 use Rattle.rv64_word.specs.Lowering.{lowered}
-use Rattle.rv64_instr.specs.Parts.{object_named}
+use Rattle.rv64_instr.specs.LocationEffects.{object_named}
 use Rattle.mir_func.specs.declared.block.Block.{Block}
 use Rattle.mir_func.specs.declared.exit.Exit.{Exit}
 use Rattle.mir_func.specs.declared.exit.Exit.TheVariants.{Onward, Perhaps, Always, Final}
@@ -21,7 +21,7 @@ use Rattle.mir_func.specs.Exits.{row_exit}
 use Rattle.mir_func.specs.Function.{FramedFunction}
 use Rattle.mir_func.specs.Successors.{pos_in}
 use Rattle.emit_code.specs.declared.code.EncodedInstruction.{EncodedInstruction}
-use Rattle.emit_code.specs.Inverted.{skip_of, jump_to}
+use Rattle.emit_code.specs.LongBranch.{skip_of, jump_to}
 use Rattle.emit_code.specs.Listed.{Line, listed, form_lines, lines_at, lines_of}
 use Rattle.emit_code.specs.Rule.{Layout, Form, Nothing, OneWord, CallSite, LongBranch, row_form, address_in, start_of, offset_to, object_offset, operation_at}
 use Rattle.emit_code.specs.Rule.{skip_operation, word_if, form_words, added_before, form_entries, Site, sites_in, sites_from}

@@ -14,7 +14,8 @@ use Rattle.mir_func.specs.Function.{FramedFunction}
 use Rattle.mir_func.specs.Graph.{index_of, block_start}
 use Rattle.mir_func.specs.SoundFrame.{body_of}
 use Rattle.mir_func.specs.Successors.{pos_in}
-use Rattle.emit_code.specs.BranchRelaxation.{IsBranchTo, is_same, with_short, reaches_in, IsClosed, IsSettled}
+use Rattle.mir_func.specs.Positions.{is_same_position}
+use Rattle.emit_code.specs.BranchRelaxation.{IsBranchTo, with_short, reaches_in, IsClosed, IsSettled}
 use Rattle.emit_code.specs.Rule.{Layout, items_at, address_in, start_of}
 use Rattle.emit_code.proofs.Settled.{fetched, item_at}
 use Rattle.invariance_code.proofs.Drops.{DropsEach, exit_at, down, up, items_drop, up_in, down_in, down_up_in, down_zero, up_down, exit_up}
@@ -51,7 +52,7 @@ both_true true true e = (refl, refl)
 both_true true false e = absurd cc
 both_true false y e = absurd cc
 
-same_point : (p q : Pos) → is_same p q ≡ true → p ≡ q
+same_point : (p q : Pos) → is_same_position p q ≡ true → p ≡ q
 same_point p q e =
     let both = both_true (nat_eq p.block q.block) (nat_eq p.item q.item) e in
     let b : p.block ≡ q.block = eqb-true p.block q.block both.0 in
@@ -61,8 +62,8 @@ same_point p q e =
 equal_self : (n : ℕ) → nat_eq n n ≡ true
 equal_self n = eq-eqb n n refl
 
-point_same : (p q : Pos) → p ≡ q → is_same p q ≡ true
-point_same p q e = (λ i. is_same p (sym e i)) ∙ (let b = equal_self p.block in let n = equal_self p.item in λ i. b i && n i)
+point_same : (p q : Pos) → p ≡ q → is_same_position p q ≡ true
+point_same p q e = (λ i. is_same_position p (sym e i)) ∙ (let b = equal_self p.block in let n = equal_self p.item in λ i. b i && n i)
 
 -- ---- branches
 
@@ -117,21 +118,21 @@ module _ {w : Origin → Origin} (f : FramedFunction) (base : ℕ) {cs : List Bl
       ∙ ap (λ (j : ℕ). address_in (lay g base alone) (pos_in k j)) (down_zero (items_drop ds k))
       ∙ ap (λ (j : ℕ). address_in (lay g base alone) (block_start (suc j))) (index_same (bodies_drop ds) n)
 
-  up_same : (p q : Pos) → is_same (up_in ds p) (up_in ds q) ≡ is_same p q
-  up_same p q = same_test (is_same (up_in ds p) (up_in ds q)) (is_same p q)
+  up_same : (p q : Pos) → is_same_position (up_in ds p) (up_in ds q) ≡ is_same_position p q
+  up_same p q = same_test (is_same_position (up_in ds p) (up_in ds q)) (is_same_position p q)
       (λ e. point_same p q (sym (down_up_in ds p) ∙ ap (down_in ds) (same_point (up_in ds p) (up_in ds q) e) ∙ down_up_in ds q))
       (λ e. point_same (up_in ds p) (up_in ds q) (ap (up_in ds) (same_point p q e)))
 
   -- where the same branch is short
   short_same : (long alone : Pos → Bool) → SameLong long alone ds → (p : Pos) →
-      SameLong (λ q. cond (is_same (up_in ds p) q) false (long q)) (λ q. cond (is_same p q) false (alone q)) ds
+      SameLong (λ q. cond (is_same_position (up_in ds p) q) false (long q)) (λ q. cond (is_same_position p q) false (alone q)) ds
   short_same long alone same p q = let e = up_same p q in let h = same q in λ i. cond (e i) false (h i)
 
   reach_same : (long alone : Pos → Bool) → SameLong long alone ds → (p : Pos) (n : ℕ) →
       reaches_in (with_short (up_in ds p) (lay f base long)) (up_in ds p) n ≡ reaches_in (with_short p (lay g base alone)) p n
   reach_same long alone same p n =
-      let short = λ (q : Pos). cond (is_same (up_in ds p) q) false (long q) in
-      let short' = λ (q : Pos). cond (is_same p q) false (alone q) in
+      let short = λ (q : Pos). cond (is_same_position (up_in ds p) q) false (long q) in
+      let short' = λ (q : Pos). cond (is_same_position p q) false (alone q) in
       let start = start_same short short' (short_same long alone same p) n in
       let here = code_address short short' (short_same long alone same p) p in
       λ i. is_within (negsuc 4095) (pos 4094) (pos (start i) -ℤ pos (here i))

@@ -12,13 +12,14 @@ use Rattle.mir_func.specs.declared.item.ItemKind.TheVariants.{Code, Mark, Phi}
 use Rattle.mir_func.specs.declared.location.Loc.{Loc}
 use Rattle.mir_func.specs.declared.position.Origin.{Origin}
 use Rattle.mir_func.specs.declared.position.Origin.TheVariants.{Before}
-use Rattle.mir_func.specs.Exits.{row_exit, is_final}
+use Rattle.mir_func.specs.Exits.{row_leads_back}
 use Rattle.mir_func.specs.Function.{Function}
 use Rattle.mir_func.specs.Graph.{block_start}
 use Rattle.mir_func.specs.Objects.{up_to, area_of}
 use Rattle.mir_func.specs.SoundFrame.{SAVED, prologue_code, epilogue_code}
 use Rattle.mir_func.specs.Strip.{stripped_item, stripped_items, stripped_blocks, stripped}
-use Rattle.frame_rule.specs.Rule.{sets_register, is_set, saved_places, saved_of, size_of, added, added_all, position_in, epilogue, prologue}
+use Rattle.mir_func.specs.Positions.{position_of}
+use Rattle.frame_rule.specs.Rule.{sets_register, is_set, saved_places, saved_of, size_of, added, added_all, epilogue, prologue}
 use Rattle.frame_rule.specs.Rule.{slot_places, renamed, framed_items, framed_block, framed_blocks, framed_of}
 use Rattle.invariance_code.specs.Alike.{FramesStrip, FramesSame}
 
@@ -80,8 +81,8 @@ module _ (f : Function) where
   epilogue_same o =
       let size = size_same in
       let saved = saved_same in
-      let e : epilogue (stripped f) o ≡ epilogue f o = λ i. added_all (size i) (Before (position_in o)) (epilogue_code (size i) (saved i)) in
-      e ∙ sym (stripped_all (size_of f) (Before (position_in o)) (epilogue_code (size_of f) (saved_of f)))
+      let e : epilogue (stripped f) o ≡ epilogue f o = λ i. added_all (size i) (Before (position_of o)) (epilogue_code (size i) (saved i)) in
+      e ∙ sym (stripped_all (size_of f) (Before (position_of o)) (epilogue_code (size_of f) (saved_of f)))
 
   prologue_same : (first : ℕ) → prologue (stripped f) first ≡ stripped_items (prologue f first)
   prologue_same first =
@@ -104,7 +105,7 @@ module _ (f : Function) where
       framed_items (stripped f) (stripped_items (record { kind = k; origin = o; loc = l } ∷ xs)) ≡
       stripped_items (framed_items f (record { kind = k; origin = o; loc = l } ∷ xs))
   first_same (Code c n) o l xs h =
-      let z = is_final (row_exit (row_of c)) in
+      let z = row_leads_back (row_of c) in
       let e = before_same z o in
       let item = renamed f.slots (record { kind = Code c None; origin = o; loc = l }) in
       let numbered = renamed f.slots (record { kind = Code c n; origin = o; loc = l }) in

@@ -1,19 +1,23 @@
 -- No operand that is listed names a stack object.
-use Rattle.std.proofs.Common.{◌≡◌, ℕ, Bool, true, false, ◌&&◌, List, [], ◌∷◌, ◌+◌, refl, subst, sym}
+use Rattle.std.proofs.Common.{◌≡◌, ℕ, Bool, true, false, ◌&&◌, List, [], ◌∷◌, ◌+◌, refl, subst, sym, nat_eq, nat_le, nat_lt, ◌||◌}
 use Rattle.std.specs.Prelude.{All, ℤ, pos, ◌+ℤ◌}
 use Rattle.std.specs.List.{list_all}
 use Rattle.std.proofs.lemmas.Bool.{and_parts}
 use Rattle.std.proofs.lemmas.List.Elements.{All-cons, All-nil}
 use Rattle.rv64_instr.specs.declared.op.Op.{Op}
-use Rattle.rv64_instr.specs.declared.op.Op.TheVariants.{Registers, Immediate, Lui, Branch, Load, Store, Copy, PseudoBr, PseudoCall, PseudoRet}
+use Rattle.rv64_instr.specs.declared.op.Op.TheVariants.{Registers, Immediate, Lui, Branch, Load, Store, Copy}
+use Rattle.rv64_instr.specs.declared.op.Op.TheVariants.{PseudoBr, PseudoCall, PseudoRet, PseudoCallIndirect}
+use Rattle.rv64_instr.specs.declared.op.Op.TheVariants.{PseudoTail, PseudoTailIndirect, NoReturnCall, NoReturnCallIndirect}
 use Rattle.rv64_instr.specs.declared.op.ImmediateOp.{ImmediateOp}
 use Rattle.rv64_instr.specs.declared.op.LoadOp.{LoadOp}
 use Rattle.rv64_instr.specs.declared.op.StoreOp.{StoreOp}
 use Rattle.rv64_instr.specs.declared.operand.Operand.{Operand}
-use Rattle.rv64_instr.specs.declared.operand.Operand.TheVariants.{Def, Use, ImplicitDef, ImplicitUse, Imm, Slot, Object, Block, Symbol, Mask}
+use Rattle.rv64_instr.specs.declared.operand.Operand.TheVariants.{Def, Use, ImplicitDef, ImplicitUse, Imm, Slot, Object, Part, Block, Symbol, Mask}
+use Rattle.rv64_instr.specs.declared.symbol.Half.TheVariants.{Upper, Lower}
 use Rattle.rv64_instr.specs.Arithmetic.{load_width, store_width}
 use Rattle.rv64_instr.specs.Form.{is_implicit, is_argument, is_result, is_addi, is_immediate, has_12_bits, moves_slot, is_within, has_form}
-use Rattle.rv64_instr.specs.Form.{fits_registers, fits_immediate, fits_upper, fits_branch, fits_load, fits_store, fits_copy, fits_jump, fits_call}
+use Rattle.rv64_instr.specs.Form.{fits_registers, fits_immediate, fits_upper, fits_branch, fits_load, fits_store, fits_copy, fits_jump}
+use Rattle.rv64_instr.specs.Form.{fits_call, is_tail_use, is_tail_register, fits_held_call, fits_tail, fits_held_tail, fits_gone, fits_held_gone}
 use Rattle.mir_func.specs.Function.{FramedFunction}
 use Rattle.mir_func.specs.Objects.{offset_of}
 use Rattle.mir_func.specs.SoundFrame.{own_size}
@@ -41,6 +45,11 @@ result_apart (Slot n) is = refl
 result_apart (Object n) is = absurd cc
 result_apart _ is = tt
 
+tail_apart : (o : Operand) → is_tail_use o ≡ true → P o
+tail_apart (Slot n) is = refl
+tail_apart (Object n) is = absurd cc
+tail_apart _ is = tt
+
 each : (test : Operand → Bool) → ((o : Operand) → test o ≡ true → P o) → (os : List Operand) → list_all test os ≡ true → All P os
 each test apart [] all = All-nil P
 each test apart (o ∷ os) all =
@@ -63,12 +72,16 @@ module _ (f : FramedFunction) where
   immediate_declared op (Def rd ∷ Object n ∷ Imm i ∷ rest) form =
       three (Def rd) (Use 2) (Imm (pos (own_size f + offset_of f.objects n) +ℤ i)) rest tt tt tt
       (implicit rest (and_parts (is_addi op && is_immediate op i) (list_all is_implicit rest) form).1)
+  immediate_declared op (Def rd ∷ Use a ∷ Part Lower y ∷ rest) form =
+      three (Def rd) (Use a) (Part Lower y) rest tt tt tt (implicit rest (and_parts (is_addi op) (list_all is_implicit rest) form).1)
   immediate_declared op os form = absurd cc
 
   upper_declared : (os : List Operand) → fits_upper os ≡ true → All P (by_pointer f os)
   upper_declared (Def rd ∷ Imm i ∷ rest) form =
       All-cons P (Def rd) (Imm i ∷ rest) tt (All-cons P (Imm i) rest tt (implicit rest (and_parts (is_within (pos 0) (pos 1048575) i) (list_all is_implicit
       rest) form).1))
+  upper_declared (Def rd ∷ Part Upper y ∷ rest) form =
+      All-cons P (Def rd) (Part Upper y ∷ rest) tt (All-cons P (Part Upper y) rest tt (implicit rest form))
   upper_declared os form = absurd cc
 
   branch_declared : (os : List Operand) → fits_branch os ≡ true → All P (by_pointer f os)
@@ -83,6 +96,7 @@ module _ (f : FramedFunction) where
   load_declared op (Def rd ∷ Object n ∷ Imm i ∷ rest) form =
       three (Def rd) (Use 2) (Imm (pos (own_size f + offset_of f.objects n) +ℤ i)) rest tt tt tt
       (implicit rest (and_parts (has_12_bits i) (list_all is_implicit rest) form).1)
+  load_declared op (Def rd ∷ Use b ∷ Part Lower y ∷ rest) form = three (Def rd) (Use b) (Part Lower y) rest tt tt tt (implicit rest form)
   load_declared op os form = absurd cc
 
   store_declared : (op : StoreOp) (os : List Operand) → fits_store op os ≡ true → All P (by_pointer f os)
@@ -93,6 +107,7 @@ module _ (f : FramedFunction) where
   store_declared op (Use rs ∷ Object n ∷ Imm i ∷ rest) form =
       three (Use rs) (Use 2) (Imm (pos (own_size f + offset_of f.objects n) +ℤ i)) rest tt tt tt
       (implicit rest (and_parts (has_12_bits i) (list_all is_implicit rest) form).1)
+  store_declared op (Use rs ∷ Use b ∷ Part Lower y ∷ rest) form = three (Use rs) (Use b) (Part Lower y) rest tt tt tt (implicit rest form)
   store_declared op os form = absurd cc
 
   copy_declared : (os : List Operand) → fits_copy os ≡ true → All P (by_pointer f os)
@@ -125,6 +140,39 @@ module _ (f : FramedFunction) where
   results_stay (x ∷ o ∷ os) all =
       behind_result x o os (and_parts (is_result o) (list_all is_result os) (and_parts (is_result x) (is_result o && list_all is_result os) all).1).0
 
+  behind_tail : (x : Operand) (os : List Operand) → list_all is_tail_use os ≡ true → by_pointer f (x ∷ os) ≡ x ∷ os
+  behind_tail x [] all = refl
+  behind_tail x (ImplicitUse r ∷ os) all = refl
+  behind_tail x (o ∷ os) all = absurd cc
+
+  held_call_declared : (os : List Operand) → fits_held_call os ≡ true → All P (by_pointer f os)
+  held_call_declared (ImplicitUse r ∷ Mask ∷ rest) form =
+      All-cons P (ImplicitUse r) (Mask ∷ rest) tt
+      (All-cons P Mask rest tt (each is_argument argument_apart rest (and_parts (nat_le 5 r && nat_lt r 32) (list_all is_argument rest) form).1))
+  held_call_declared os form = absurd cc
+
+  tail_declared : (os : List Operand) → fits_tail os ≡ true → All P (by_pointer f os)
+  tail_declared (Symbol name ∷ rest) form =
+      subst (All P) (sym (behind_tail (Symbol name) rest form)) (All-cons P (Symbol name) rest tt (each is_tail_use tail_apart rest form))
+  tail_declared os form = absurd cc
+
+  held_tail_declared : (os : List Operand) → fits_held_tail os ≡ true → All P (by_pointer f os)
+  held_tail_declared (ImplicitUse r ∷ rest) form =
+      let all = (and_parts (nat_eq r 6 || is_tail_register r) (list_all is_tail_use rest) form).1 in
+      subst (All P) (sym (behind_tail (ImplicitUse r) rest all)) (All-cons P (ImplicitUse r) rest tt (each is_tail_use tail_apart rest all))
+  held_tail_declared os form = absurd cc
+
+  gone_declared : (os : List Operand) → fits_gone os ≡ true → All P (by_pointer f os)
+  gone_declared (Symbol name ∷ Mask ∷ rest) form =
+      All-cons P (Symbol name) (Mask ∷ rest) tt (All-cons P Mask rest tt (each is_tail_use tail_apart rest form))
+  gone_declared os form = absurd cc
+
+  held_gone_declared : (os : List Operand) → fits_held_gone os ≡ true → All P (by_pointer f os)
+  held_gone_declared (ImplicitUse r ∷ Mask ∷ rest) form =
+      All-cons P (ImplicitUse r) (Mask ∷ rest) tt
+      (All-cons P Mask rest tt (each is_tail_use tail_apart rest (and_parts (nat_eq r 6 || is_tail_register r) (list_all is_tail_use rest) form).1))
+  held_gone_declared os form = absurd cc
+
   pub operands_declared : (op : Op) (os : List Operand) → has_form op os ≡ true → All P (by_pointer f os)
   operands_declared (Registers op) os form = registers_declared os form
   operands_declared (Immediate op) os form = immediate_declared op os form
@@ -135,4 +183,9 @@ module _ (f : FramedFunction) where
   operands_declared Copy os form = copy_declared os form
   operands_declared PseudoBr os form = jump_declared os form
   operands_declared PseudoCall os form = call_declared os form
+  operands_declared PseudoCallIndirect os form = held_call_declared os form
+  operands_declared PseudoTail os form = tail_declared os form
+  operands_declared PseudoTailIndirect os form = held_tail_declared os form
+  operands_declared NoReturnCall os form = gone_declared os form
+  operands_declared NoReturnCallIndirect os form = held_gone_declared os form
   operands_declared PseudoRet os form = subst (All P) (sym (results_stay os form)) (each is_result result_apart os form)

@@ -1,7 +1,7 @@
 -- The operands that a slot or an object is listed by have the form of the opcode: the frame is so small that each offset from x2 is
 -- one of 12 bits.
-use Rattle.std.proofs.Common.{◌≡◌, ℕ, suc, ◌+◌, ◌≤◌, ℤ, pos, true, false, ◌&&◌, List, [], ◌∷◌, length, get_or}
-use Rattle.std.proofs.Common.{refl, ap, sym, ◌∙◌, arith}
+use Rattle.std.proofs.Common.{◌≡◌, ℕ, ◌+◌, ◌≤◌, ℤ, pos, true, false, ◌&&◌, List, [], ◌∷◌}
+use Rattle.std.proofs.Common.{refl, ap, ◌∙◌, arith, nat_eq, ◌||◌}
 use Rattle.std.specs.Prelude.{Contains, ◌+ℤ◌}
 use Rattle.std.specs.List.{list_all}
 use Rattle.std.proofs.lemmas.Bool.{and_parts}
@@ -9,19 +9,23 @@ use Rattle.std.proofs.lemmas.Bool.Decides.{nat_tests}
 use Rattle.std.proofs.lemmas.Int.{ints}
 use Rattle.std.proofs.lemmas.List.Elements.{All-contains}
 use Rattle.rv64_instr.specs.declared.op.Op.{Op}
-use Rattle.rv64_instr.specs.declared.op.Op.TheVariants.{Registers, Immediate, Lui, Branch, Load, Store, Copy, PseudoBr, PseudoCall, PseudoRet}
+use Rattle.rv64_instr.specs.declared.op.Op.TheVariants.{Registers, Immediate, Lui, Branch, Load, Store, Copy}
+use Rattle.rv64_instr.specs.declared.op.Op.TheVariants.{PseudoBr, PseudoCall, PseudoRet, PseudoCallIndirect}
+use Rattle.rv64_instr.specs.declared.op.Op.TheVariants.{PseudoTail, PseudoTailIndirect, NoReturnCall, NoReturnCallIndirect}
 use Rattle.rv64_instr.specs.declared.op.ImmediateOp.{ImmediateOp}
 use Rattle.rv64_instr.specs.declared.op.ImmediateOp.TheVariants.{Addi, Slti, Sltiu, Xori, Ori, Andi, Slli, Srli, Srai, Addiw, Slliw, Srliw, Sraiw}
 use Rattle.rv64_instr.specs.declared.op.LoadOp.{LoadOp}
 use Rattle.rv64_instr.specs.declared.op.StoreOp.{StoreOp}
 use Rattle.rv64_instr.specs.declared.operand.Operand.{Operand}
-use Rattle.rv64_instr.specs.declared.operand.Operand.TheVariants.{Def, Use, ImplicitDef, ImplicitUse, Imm, Slot, Object as OfObject, Block, Symbol, Mask}
+use Rattle.rv64_instr.specs.declared.operand.Operand.TheVariants.{Def, Use, ImplicitDef, ImplicitUse, Imm, Slot, Object as OfObject, Part, Block, Symbol, Mask}
+use Rattle.rv64_instr.specs.declared.symbol.Half.TheVariants.{Upper, Lower}
 use Rattle.rv64_instr.specs.Arithmetic.{word, load_width, store_width}
 use Rattle.rv64_instr.specs.Form.{has_12_bits, is_implicit, is_result, moves_slot, is_addi, is_immediate, has_form}
-use Rattle.rv64_instr.specs.Form.{fits_registers, fits_immediate, fits_upper, fits_branch, fits_load, fits_store, fits_copy, fits_jump, fits_call}
+use Rattle.rv64_instr.specs.Form.{fits_registers, fits_immediate, fits_upper, fits_branch, fits_load, fits_store, fits_copy, fits_jump}
+use Rattle.rv64_instr.specs.Form.{fits_call, is_tail_use, is_tail_register, fits_held_call, fits_tail, fits_held_tail, fits_gone, fits_held_gone}
 use Rattle.rv64_instr.specs.Row.{row_by, load_row, store_row, number_row}
 use Rattle.mir_func.specs.Function.{FramedFunction}
-use Rattle.mir_func.specs.Objects.{offset_of, offset_or_zero}
+use Rattle.mir_func.specs.Objects.{offset_of}
 use Rattle.mir_func.specs.Sound.{HasBytes, SlotIn, ObjectIn}
 use Rattle.mir_func.specs.SoundFrame.{own_size, slot_offsets, IsFramed, IsSlotOffset}
 use Rattle.emit_code.specs.Listed.{by_pointer}
@@ -72,6 +76,7 @@ module _ (f : FramedFunction) (framed : IsFramed f) where
   load_formed op (Def rd ∷ OfObject n ∷ Imm i ∷ rest) form slots objects =
       let both = and_parts (has_12_bits i) (list_all is_implicit rest) form in
       object_fits n (load_width op) i rest objects both.0 both.1
+  load_formed op (Def rd ∷ Use b ∷ Part Lower y ∷ rest) form slots objects = form
   load_formed op os form slots objects = absurd cc
 
   store_formed : (op : StoreOp) (os : List Operand) → fits_store op os ≡ true → SlotIn (slot_offsets f) (store_row op os) →
@@ -82,6 +87,7 @@ module _ (f : FramedFunction) (framed : IsFramed f) where
   store_formed op (Use rs ∷ OfObject n ∷ Imm i ∷ rest) form slots objects =
       let both = and_parts (has_12_bits i) (list_all is_implicit rest) form in
       object_fits n (store_width op) i rest objects both.0 both.1
+  store_formed op (Use rs ∷ Use b ∷ Part Lower y ∷ rest) form slots objects = form
   store_formed op os form slots objects = absurd cc
 
   sum_formed : (os : List Operand) → fits_immediate Addi os ≡ true → ObjectIn f.objects (number_row Addi os) → fits_immediate Addi (by_pointer f os) ≡ true
@@ -89,6 +95,7 @@ module _ (f : FramedFunction) (framed : IsFramed f) where
   sum_formed (Def rd ∷ OfObject n ∷ Imm i ∷ rest) form objects =
       let both = and_parts (has_12_bits i) (list_all is_implicit rest) form in
       object_fits n 0 i rest (at_least f framed n (word i) objects) both.0 both.1
+  sum_formed (Def rd ∷ Use b ∷ Part Lower y ∷ rest) form objects = form
   sum_formed os form objects = absurd cc
 
   number_formed : (op : ImmediateOp) (os : List Operand) → fits_immediate op os ≡ true → is_addi op ≡ false → fits_immediate op (by_pointer f os) ≡ true
@@ -96,6 +103,7 @@ module _ (f : FramedFunction) (framed : IsFramed f) where
   number_formed op (Def rd ∷ OfObject n ∷ Imm i ∷ rest) form other =
       let is = (and_parts (is_addi op) (is_immediate op i) (and_parts (is_addi op && is_immediate op i) (list_all is_implicit rest) form).0).0 in
       absurd cc
+  number_formed op (Def rd ∷ Use b ∷ Part Lower y ∷ rest) form other = form
   number_formed op os form other = absurd cc
 
   immediate_formed : (op : ImmediateOp) (os : List Operand) → fits_immediate op os ≡ true → ObjectIn f.objects (number_row op os) →
@@ -120,6 +128,7 @@ module _ (f : FramedFunction) (framed : IsFramed f) where
 
   upper_formed : (os : List Operand) → fits_upper os ≡ true → fits_upper (by_pointer f os) ≡ true
   upper_formed (Def rd ∷ Imm i ∷ rest) form = form
+  upper_formed (Def rd ∷ Part Upper y ∷ rest) form = form
   upper_formed os form = absurd cc
 
   branch_formed : (os : List Operand) → fits_branch os ≡ true → fits_branch (by_pointer f os) ≡ true
@@ -144,6 +153,32 @@ module _ (f : FramedFunction) (framed : IsFramed f) where
   call_formed (Symbol name ∷ Mask ∷ rest) form = form
   call_formed os form = absurd cc
 
+  behind_tail : (x : Operand) (os : List Operand) → list_all is_tail_use os ≡ true → by_pointer f (x ∷ os) ≡ x ∷ os
+  behind_tail x [] all = refl
+  behind_tail x (ImplicitUse r ∷ os) all = refl
+  behind_tail x (o ∷ os) all = absurd cc
+
+  held_call_formed : (os : List Operand) → fits_held_call os ≡ true → fits_held_call (by_pointer f os) ≡ true
+  held_call_formed (ImplicitUse r ∷ Mask ∷ rest) form = form
+  held_call_formed os form = absurd cc
+
+  tail_formed : (os : List Operand) → fits_tail os ≡ true → fits_tail (by_pointer f os) ≡ true
+  tail_formed (Symbol name ∷ rest) form = ap fits_tail (behind_tail (Symbol name) rest form) ∙ form
+  tail_formed os form = absurd cc
+
+  held_tail_formed : (os : List Operand) → fits_held_tail os ≡ true → fits_held_tail (by_pointer f os) ≡ true
+  held_tail_formed (ImplicitUse r ∷ rest) form =
+      ap fits_held_tail (behind_tail (ImplicitUse r) rest (and_parts (nat_eq r 6 || is_tail_register r) (list_all is_tail_use rest) form).1) ∙ form
+  held_tail_formed os form = absurd cc
+
+  gone_formed : (os : List Operand) → fits_gone os ≡ true → fits_gone (by_pointer f os) ≡ true
+  gone_formed (Symbol name ∷ Mask ∷ rest) form = form
+  gone_formed os form = absurd cc
+
+  held_gone_formed : (os : List Operand) → fits_held_gone os ≡ true → fits_held_gone (by_pointer f os) ≡ true
+  held_gone_formed (ImplicitUse r ∷ Mask ∷ rest) form = form
+  held_gone_formed os form = absurd cc
+
   pub operands_formed : (op : Op) (os : List Operand) → has_form op os ≡ true → SlotIn (slot_offsets f) (row_by op os) → ObjectIn f.objects (row_by op os) →
       has_form op (by_pointer f os) ≡ true
   operands_formed (Registers op) os form slots objects = registers_formed os form
@@ -155,4 +190,9 @@ module _ (f : FramedFunction) (framed : IsFramed f) where
   operands_formed Copy os form slots objects = copy_formed os form
   operands_formed PseudoBr os form slots objects = jump_formed os form
   operands_formed PseudoCall os form slots objects = call_formed os form
+  operands_formed PseudoCallIndirect os form slots objects = held_call_formed os form
+  operands_formed PseudoTail os form slots objects = tail_formed os form
+  operands_formed PseudoTailIndirect os form slots objects = held_tail_formed os form
+  operands_formed NoReturnCall os form slots objects = gone_formed os form
+  operands_formed NoReturnCallIndirect os form slots objects = held_gone_formed os form
   operands_formed PseudoRet os form slots objects = ap (list_all is_result) (results_stay f framed os form) ∙ form

@@ -18,7 +18,7 @@ use Rattle.mir_func.specs.declared.position.ProgramPoint.{ProgramPoint}
 use Rattle.mir_func.specs.declared.position.Pos.{Pos}
 use Rattle.mir_func.specs.Sound.{HasForm}
 use Rattle.emit_code.specs.declared.code.EncodedInstruction.{EncodedInstruction}
-use Rattle.emit_code.specs.Inverted.{jump_to}
+use Rattle.emit_code.specs.LongBranch.{jump_to}
 use Rattle.emit_code.specs.Listed.{listed}
 use Rattle.emit_code.specs.Rule.{Layout, Site, Form, form_of, address_in, form_entries, entries_at, entry, added_before}
 use Rattle.emit_code.specs.steps.Emitted.{point_of}
@@ -96,7 +96,7 @@ module _ (l : Layout) (i : Item) (c : Instruction) (k : Option ℕ) (a : ℕ) (e
   outcome_by : (p : Pos) (f : Form) → FormView c.op c.operands f → es ≡ form_entries a i.origin p f ++ others → BeginsApart p others →
       lines ≡ form_lines l a i c k f → One ⊎ Two
   outcome_by p f one is apart lined = inl (single (entry a 4 i.origin p false) p refl refl is apart lined)
-  outcome_by p f call is apart lined = inl (single (entry a 8 i.origin p true) p refl refl is apart lined)
+  outcome_by p f (call name os os_is op_is) is apart lined = inl (single (entry a 8 i.origin p true) p refl refl is apart lined)
   outcome_by p f (long b x y n rest op_is os_is all) is apart lined =
       let second : second_address es ≡ Some (a + 4) = ap second_address is ∙ second_there (entry a 4 (added_before i.origin) p false)
       (entry (a + 4) 4 i.origin p false) p refl refl in

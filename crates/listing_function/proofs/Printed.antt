@@ -1,7 +1,7 @@
 -- A listing is printable: item by item each line tells its numbers, whose addresses are those of the entries of the layout.
 use Rattle.std.proofs.Common.{◌≡◌, ℕ, suc, ◌+◌, ◌*◌, ◌<◌, ◌^◌, ℤ, pos, negsuc, Bool, true, false, List, [], ◌∷◌, ◌++◌, length}
 use Rattle.std.proofs.Common.{Option, Some}
-use Rattle.std.proofs.Common.{refl, ap, sym, subst, arith}
+use Rattle.std.proofs.Common.{refl, ap, sym, subst, arith, nat_eq, ◌||◌}
 use Rattle.std.specs.Prelude.{All, map, IfSome, ◌+ℤ◌, sum_by}
 use Rattle.std.specs.List.{flat_map, list_all}
 use Rattle.std.proofs.lemmas.Bool.{and_parts}
@@ -10,7 +10,9 @@ use Rattle.std.proofs.lemmas.Int.{ints}
 use Rattle.std.proofs.lemmas.List.Concat.{flat_map-append}
 use Rattle.std.proofs.lemmas.List.Elements.{All-cons, All-nil, All-head, All-tail, All-append}
 use Rattle.rv64_instr.specs.declared.op.Op.{Op}
-use Rattle.rv64_instr.specs.declared.op.Op.TheVariants.{Registers, Immediate, Lui, Branch as OfBranch, Load, Store, Copy, PseudoBr, PseudoCall, PseudoRet}
+use Rattle.rv64_instr.specs.declared.op.Op.TheVariants.{Registers, Immediate, Lui, Branch as OfBranch, Load, Store, Copy}
+use Rattle.rv64_instr.specs.declared.op.Op.TheVariants.{PseudoBr, PseudoCall, PseudoRet, PseudoCallIndirect}
+use Rattle.rv64_instr.specs.declared.op.Op.TheVariants.{PseudoTail, PseudoTailIndirect, NoReturnCall, NoReturnCallIndirect}
 use Rattle.rv64_instr.specs.declared.op.BranchOp.{BranchOp}
 use Rattle.rv64_instr.specs.declared.op.ImmediateOp.{ImmediateOp}
 use Rattle.rv64_instr.specs.declared.op.ImmediateOp.TheVariants.{Slli, Srli, Srai, Slliw, Srliw, Sraiw}
@@ -20,7 +22,8 @@ use Rattle.rv64_instr.specs.Instruction.{Instruction}
 use Rattle.rv64_instr.specs.declared.op.LoadOp.{LoadOp}
 use Rattle.rv64_instr.specs.declared.op.StoreOp.{StoreOp}
 use Rattle.rv64_instr.specs.Form.{is_implicit, is_result, is_within, has_12_bits, is_immediate, has_form, IsSigned}
-use Rattle.rv64_instr.specs.Form.{fits_registers, fits_immediate, fits_upper, fits_branch, fits_load, fits_store, fits_copy, fits_jump, fits_call}
+use Rattle.rv64_instr.specs.Form.{fits_registers, fits_immediate, fits_upper, fits_branch, fits_load, fits_store, fits_copy, fits_jump}
+use Rattle.rv64_instr.specs.Form.{fits_call, is_tail_use, is_tail_register, fits_held_call, fits_tail, fits_held_tail, fits_gone, fits_held_gone}
 use Rattle.mir_func.specs.declared.block.Block.{Block}
 use Rattle.mir_func.specs.declared.item.Item.{Item}
 use Rattle.mir_func.specs.declared.item.ItemKind.{ItemKind}
@@ -32,7 +35,7 @@ use Rattle.mir_func.specs.declared.position.Pos.{Pos}
 use Rattle.mir_func.specs.Objects.{offset_of}
 use Rattle.mir_func.specs.Sound.{AllItems, IsSoundObject, HasForm}
 use Rattle.mir_func.specs.SoundFrame.{own_size, IsFramed}
-use Rattle.emit_code.specs.Inverted.{jump_to}
+use Rattle.emit_code.specs.LongBranch.{jump_to}
 use Rattle.emit_code.specs.Listed.{by_pointer, listed}
 use Rattle.emit_code.specs.Rule.{Layout, Site, Form, form_of, form_entries, address_in, added_before}
 use Rattle.emit_code.specs.Rule.{entries_at, entry}
@@ -118,6 +121,27 @@ module _ (b : ℕ) (x : ℤ) (rest : List Operand) where
   third_result r form =
       let none : false ≡ true = (and_parts (is_result r) (list_all is_result (Use b ∷ Imm x ∷ rest)) form).1 in absurd cc
 
+  third_held_call : (r : Operand) → fits_held_call (r ∷ Use b ∷ Imm x ∷ rest) ≡ true → IsSigned x
+  third_held_call (ImplicitUse n) form = absurd cc
+  third_held_call r form = absurd cc
+
+  third_gone : (r : Operand) → fits_gone (r ∷ Use b ∷ Imm x ∷ rest) ≡ true → IsSigned x
+  third_gone (Symbol name) form = absurd cc
+  third_gone r form = absurd cc
+
+  third_held_gone : (r : Operand) → fits_held_gone (r ∷ Use b ∷ Imm x ∷ rest) ≡ true → IsSigned x
+  third_held_gone (ImplicitUse n) form = absurd cc
+  third_held_gone r form = absurd cc
+
+  third_tail : (r : Operand) → fits_tail (r ∷ Use b ∷ Imm x ∷ rest) ≡ true → IsSigned x
+  third_tail (Symbol name) form = absurd cc
+  third_tail r form = absurd cc
+
+  third_held_tail : (r : Operand) → fits_held_tail (r ∷ Use b ∷ Imm x ∷ rest) ≡ true → IsSigned x
+  third_held_tail (ImplicitUse n) form =
+      let none : false ≡ true = (and_parts (nat_eq n 6 || is_tail_register n) (list_all is_tail_use (Use b ∷ Imm x ∷ rest)) form).1 in absurd cc
+  third_held_tail r form = absurd cc
+
   third : (op : Op) (r : Operand) → has_form op (r ∷ Use b ∷ Imm x ∷ rest) ≡ true → IsSigned x
   third (Registers op) r form = third_registers r form
   third (Immediate op) r form = third_immediate op r form
@@ -129,6 +153,11 @@ module _ (b : ℕ) (x : ℤ) (rest : List Operand) where
   third PseudoBr r form = third_jump r form
   third PseudoCall r form = third_call r form
   third PseudoRet r form = third_result r form
+  third PseudoCallIndirect r form = third_held_call r form
+  third PseudoTail r form = third_tail r form
+  third PseudoTailIndirect r form = third_held_tail r form
+  third NoReturnCall r form = third_gone r form
+  third NoReturnCallIndirect r form = third_held_gone r form
 
 implicits_printable : (os : List Operand) → All HasNumbers os → All IsPrintableImplicit (implicits os)
 implicits_printable [] all = All-nil IsPrintableImplicit
@@ -220,7 +249,7 @@ module _ (inlined : ℕ → Option ℕ) (l : Layout) (framed : IsFramed l.framed
       All-cons (IsPrintableLine inlined) _ [] (code_printable a i (listed l.framed c) k fit (All-head IsLow (entry a 4 i.origin p false) [] low) printable
       number)
       (All-nil (IsPrintableLine inlined))
-  form_printable a p i c k f call fit low printable numbers number =
+  form_printable a p i c k f (call name os os_is op_is) fit low printable numbers number =
       All-cons (IsPrintableLine inlined) _ [] (code_printable a i (listed l.framed c) k fit (All-head IsLow (entry a 8 i.origin p true) [] low) printable
       number)
       (All-nil (IsPrintableLine inlined))

@@ -1,19 +1,20 @@
 //! Long conditional branches: the inverted branch that skips, and the jump after it.
 
 ghost use Rattle.std.specs.Prelude.{◌≡◌, [], ◌∷◌, ◌++◌, Some, None, IfOk, OnOk};
+ghost use Rattle.rv64_instr.specs.Inverse.{inverse};
 ghost use Rattle.mir_func.specs.declared.item.ItemKind.TheVariants.{Code};
 ghost use Rattle.listing_text.specs.declared.output.Line.TheVariants.{Skip};
-ghost use Rattle.emit_code.specs.Inverted.{inverted, jump_to};
+ghost use Rattle.emit_code.specs.LongBranch.{jump_to};
 ghost use Rattle.emit_code.specs.Rule.{added_before};
 ghost use Rattle.listing_meaning.specs.Listing.{implicits, line_at};
 ghost use Rattle.listing_function.specs.steps.Operands.{compared, branch_by};
 
-use base_ids::code::{BlockId, DebugNumber};
-use emit_code::inverted::inverted;
+use base_ids::function_ids::{BlockId, DebugNumber};
 use listing_text::output::{Implicit, Implicits, ItemLine, Line, SkipLine};
 use mir_func::item::{Item, ItemKind};
 use mir_func::position::Origin;
 use rv64_instr::instr::Instr;
+use rv64_instr::inverse::inverse;
 use rv64_instr::op::{BranchOp, Op};
 use rv64_instr::operand::{Operand, Operands};
 use rv64_instr::reg::Reg;
@@ -46,7 +47,12 @@ pub(crate) fn branch_of(i: &Instr) -> Option<Branch>
         | Op::Copy
         | Op::PseudoBr
         | Op::PseudoCall
-        | Op::PseudoRet => None,
+        | Op::PseudoRet
+        | Op::PseudoCallIndirect
+        | Op::PseudoTail
+        | Op::PseudoTailIndirect
+        | Op::NoReturnCall
+        | Op::NoReturnCallIndirect => None,
     }
 }
 
@@ -80,7 +86,7 @@ pub(crate) fn skip(
     ensures { IfOk result (λ line. line ≡ Skip (record {
       address = address;
       origin = added_before origin.now;
-      op = inverted branch.now.op;
+      op = inverse branch.now.op;
       first = branch.now.first;
       second = branch.now.second;
       implicit = implicits operands.now;
@@ -89,7 +95,7 @@ pub(crate) fn skip(
     Ok(Line::Skip(SkipLine {
         address,
         origin: added_before(origin),
-        op: inverted(branch.op),
+        op: inverse(branch.op),
         first: branch.first,
         second: branch.second,
         implicit: implicits(alloc, operands)?,
@@ -144,6 +150,7 @@ fn push_implicit(made: &mut Implicits, operand: &Operand) -> Result<(), AllocErr
         | Operand::Imm(_)
         | Operand::Slot(_)
         | Operand::Object(_)
+        | Operand::Part(_, _)
         | Operand::Block(_)
         | Operand::Symbol(_)
         | Operand::Mask => Ok(()),

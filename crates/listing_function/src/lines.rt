@@ -18,7 +18,7 @@ ghost use Rattle.listing_function.specs.steps.Lines.{long_by, long_lines};
 
 use crate::branch::{Branch, branch_of, jump, skip};
 use crate::lowered::listed;
-use base_ids::code::DebugNumber;
+use base_ids::function_ids::DebugNumber;
 use emit_code::code::EncodedInstruction;
 use emit_code::objects::ObjectOffsets;
 use listing_text::output::{ItemLine, Line, Lines};

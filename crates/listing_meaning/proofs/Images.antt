@@ -13,6 +13,7 @@ use Rattle.rv64_instr.specs.declared.operand.Operand.{Operand}
 use Rattle.rv64_instr.specs.declared.operand.Operand.TheVariants.{Use, Imm, Block as OfBlock, ImplicitDef, ImplicitUse}
 use Rattle.rv64_instr.specs.Form.{is_implicit}
 use Rattle.rv64_instr.specs.Instruction.{Instruction}
+use Rattle.rv64_instr.specs.Inverse.{inverse}
 use Rattle.mir_func.specs.declared.block.Block.{Block}
 use Rattle.mir_func.specs.declared.item.Item.{Item}
 use Rattle.mir_func.specs.declared.item.ItemKind.{ItemKind}
@@ -21,7 +22,7 @@ use Rattle.mir_func.specs.declared.object.Object.{Object}
 use Rattle.mir_func.specs.Objects.{area_of, end_from, up_to}
 use Rattle.mir_func.specs.Sound.{AllItems, HasForm}
 use Rattle.sem_machine.specs.Image.{CodeLine}
-use Rattle.emit_code.specs.Inverted.{inverted, jump_to}
+use Rattle.emit_code.specs.LongBranch.{jump_to}
 use Rattle.emit_code.specs.Listed.{Line as LaidLine, form_lines as laid_form, kind_lines as laid_kind, lines_at as laid_lines}
 use Rattle.emit_code.specs.Rule.{Layout, Site, Form, LongBranch, form_of, address_in, added_before, sites_in, sites_from}
 use Rattle.emit_code.specs.steps.Emitted.{IsFormed}
@@ -59,13 +60,13 @@ module _ (l : Layout) where
   long_alike a i k b x y n m rest all = ap (λ (os : List Operand). record {
     address = a;
     origin = added_before i.origin;
-    instruction = record { op = Branch (inverted b); operands = Use x ∷ Use y ∷ Imm (pos 8) ∷ os };
+    instruction = record { op = Branch (inverse b); operands = Use x ∷ Use y ∷ Imm (pos 8) ∷ os };
   } ∷ record { address = a + 4; origin = i.origin; instruction = jump_to m } ∷ []) (implicits_stay rest all)
 
   form_alike : (a : ℕ) (i : Item) (c : Instruction) (k : Option ℕ) (f : Form) → FormView c.op c.operands f →
       flat_map code_lines (form_lines l a i c k f) ≡ map code_line (laid_form l.framed a i.origin c f)
   form_alike a i c k f one = refl
-  form_alike a i c k f call = refl
+  form_alike a i c k f (call name os os_is op_is) = refl
   form_alike a i c k f (long b x y n rest op_is os_is all) =
       subst (λ (op : Op). LongAlike a i k n op c.operands) (sym op_is)
       (subst (λ (os : List Operand). LongAlike a i k n (Branch b) os) (sym os_is) (long_alike a i k b x y n n rest all))

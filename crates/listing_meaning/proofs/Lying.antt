@@ -10,15 +10,15 @@ use Rattle.rv64_instr.specs.declared.op.BranchOp.{BranchOp}
 use Rattle.rv64_instr.specs.declared.operand.Operand.{Operand}
 use Rattle.rv64_instr.specs.declared.operand.Operand.TheVariants.{Use, Block as OfBlock}
 use Rattle.rv64_instr.specs.Instruction.{Instruction}
-use Rattle.rv64_instr.specs.Parts.{is_call}
 use Rattle.rv64_instr.specs.Row.{row_of}
+use Rattle.rv64_instr.specs.LocationEffects.{has_site}
 use Rattle.mir_func.specs.declared.block.Block.{Block}
 use Rattle.mir_func.specs.declared.item.Item.{Item}
 use Rattle.mir_func.specs.declared.item.ItemKind.{ItemKind}
 use Rattle.mir_func.specs.declared.item.ItemKind.TheVariants.{Code, Mark, Phi}
 use Rattle.mir_func.specs.declared.position.Pos.{Pos}
 use Rattle.mir_func.specs.Sound.{AllItems, HasForm}
-use Rattle.emit_code.specs.Inverted.{jump_to}
+use Rattle.emit_code.specs.LongBranch.{jump_to}
 use Rattle.emit_code.specs.Laid.{StandFrom}
 use Rattle.emit_code.specs.Listed.{listed}
 use Rattle.emit_code.specs.Rule.{Layout, Site, Form, form_of, address_in, form_entries, entries_at, sites_in, sites_from, sites_of, words_of}
@@ -43,12 +43,12 @@ module _ (l : Layout) where
   long_lies a at i k rest end b x y n m os first second lie = (first, (ap (λ (z : ℕ). Some z) second, lie))
 
   form_lies : (a : ℕ) (at : ℕ) (p : Pos) (i : Item) (c : Instruction) (k : Option ℕ) (rest : List Line) (end : ℕ) (f : Form) → FormView c.op c.operands f →
-      is_call (row_of (listed l.framed c)) ≡ is_call_form f → (es : List EncodedInstruction) →
+      has_site (row_of (listed l.framed c)) ≡ is_call_form f → (es : List EncodedInstruction) →
       StandFrom a (form_entries at i.origin p f ++ es) end → ((x : ℕ) → StandFrom x es end → LinesLie x rest end) →
       LinesLie a (form_lines l at i c k f ++ rest) end
   form_lies a at p i c k rest end f one calls es stand more =
       (ap (λ (z : ℕ). Some z) stand.0, subst (λ (x : ℕ). LinesLie x rest end) (sym (past_word l.framed a c k calls)) (more (a + 4) stand.2))
-  form_lies a at p i c k rest end f call calls es stand more =
+  form_lies a at p i c k rest end f (call name os os_is op_is) calls es stand more =
       (ap (λ (z : ℕ). Some z) stand.0, subst (λ (x : ℕ). LinesLie x rest end) (sym (past_call l.framed a c k calls)) (more (a + 8) stand.2))
   form_lies a at p i c k rest end f (long b x y n os op_is os_is all) calls es stand more =
       let lie = long_lies a at i k rest end b x y n n os stand.0 stand.2.0 (more (a + 4 + 4) stand.2.2) in

@@ -1,6 +1,6 @@
 -- The operands of code that is listed are raised to what they were, but that an access names the last object that has its byte.
 use Rattle.std.proofs.Common.{◌≡◌, ℕ, zero, suc, ◌+◌, ◌-◌, ◌<◌, ◌≤◌, ℤ, pos, negsuc, Bool, true, false, ◌&&◌, cond, nat_eq, List, [], ◌∷◌}
-use Rattle.std.proofs.Common.{◌++◌, Option, Some, refl, ap, sym, ◌∙◌, subst, arith}
+use Rattle.std.proofs.Common.{◌++◌, Option, Some, refl, ap, sym, ◌∙◌, subst, arith, ◌||◌}
 use Rattle.std.specs.Prelude.{All, Contains}
 use Rattle.std.specs.List.{list_all}
 use Rattle.std.proofs.lemmas.Bool.{and_parts, ne_eqb, lt-ltb, lt-leb}
@@ -8,7 +8,9 @@ use Rattle.std.proofs.lemmas.Bool.Decides.{nat_tests}
 use Rattle.std.proofs.lemmas.Int.{ints}
 use Rattle.std.proofs.lemmas.List.Elements.{All-head, All-tail, All-contains}
 use Rattle.rv64_instr.specs.declared.op.Op.{Op}
-use Rattle.rv64_instr.specs.declared.op.Op.TheVariants.{Registers, Immediate, Lui, Branch, Load, Store, Copy, PseudoBr, PseudoCall, PseudoRet}
+use Rattle.rv64_instr.specs.declared.op.Op.TheVariants.{Registers, Immediate, Lui, Branch, Load, Store, Copy}
+use Rattle.rv64_instr.specs.declared.op.Op.TheVariants.{PseudoBr, PseudoCall, PseudoRet, PseudoCallIndirect}
+use Rattle.rv64_instr.specs.declared.op.Op.TheVariants.{PseudoTail, PseudoTailIndirect, NoReturnCall, NoReturnCallIndirect}
 use Rattle.rv64_instr.specs.declared.op.ImmediateOp.{ImmediateOp}
 use Rattle.rv64_instr.specs.declared.op.ImmediateOp.TheVariants.{Addi, Slti, Sltiu, Xori, Ori, Andi, Slli, Srli, Srai, Addiw, Slliw, Srliw, Sraiw}
 use Rattle.rv64_instr.specs.declared.op.LoadOp.{LoadOp}
@@ -16,10 +18,14 @@ use Rattle.rv64_instr.specs.declared.op.LoadOp.TheVariants.{Lb}
 use Rattle.rv64_instr.specs.declared.op.StoreOp.{StoreOp}
 use Rattle.rv64_instr.specs.declared.op.StoreOp.TheVariants.{Sd, Sb, Sh, Sw}
 use Rattle.rv64_instr.specs.declared.operand.Operand.{Operand}
-use Rattle.rv64_instr.specs.declared.operand.Operand.TheVariants.{Def, Use, ImplicitDef, ImplicitUse, Imm, Slot, Object as OfObject, Block, Symbol, Mask}
+use Rattle.rv64_instr.specs.declared.operand.Operand.TheVariants.{Def, Use, ImplicitDef, ImplicitUse, Imm, Slot, Object as OfObject, Part, Block, Symbol, Mask}
+use Rattle.rv64_instr.specs.declared.symbol.Half.TheVariants.{Upper, Lower}
+use Rattle.rv64_instr.specs.declared.symbol.LinkedAddress.{LinkedAddress}
+use Rattle.rv64_instr.specs.declared.symbol.Half.{Half}
 use Rattle.rv64_instr.specs.Arithmetic.{word, load_width, store_width}
 use Rattle.rv64_instr.specs.Form.{is_within, has_12_bits, is_implicit, is_result, moves_slot, is_addi, is_immediate, has_form}
-use Rattle.rv64_instr.specs.Form.{fits_registers, fits_immediate, fits_upper, fits_branch, fits_load, fits_store, fits_copy, fits_jump, fits_call}
+use Rattle.rv64_instr.specs.Form.{fits_registers, fits_immediate, fits_upper, fits_branch, fits_load, fits_store, fits_copy, fits_jump}
+use Rattle.rv64_instr.specs.Form.{fits_call, is_tail_use, is_tail_register, fits_held_call, fits_tail, fits_held_tail, fits_gone, fits_held_gone}
 use Rattle.rv64_instr.specs.Row.{row_by, load_row, store_row, number_row}
 use Rattle.mir_func.specs.declared.object.Object.{Object}
 use Rattle.mir_func.specs.Function.{FramedFunction}
@@ -115,6 +121,13 @@ module _ (f : FramedFunction) (framed : IsFramed f) where
   other_load op rd (suc (suc zero)) i rest other = absurd (other refl)
   other_load op rd (suc (suc (suc b))) i rest other = refl
 
+  part_load : (op : LoadOp) (rd b : ℕ) (half : Half) (y : LinkedAddress) (rest : List Operand) →
+      raised_load (frame_of f) op (Def rd ∷ Use b ∷ Part half y ∷ rest) ≡ Def rd ∷ Use b ∷ Part half y ∷ rest
+  part_load op rd zero half y rest = refl
+  part_load op rd (suc zero) half y rest = refl
+  part_load op rd (suc (suc zero)) half y rest = refl
+  part_load op rd (suc (suc (suc b))) half y rest = refl
+
   slot_load : (op : LoadOp) (rd n : ℕ) (i : ℤ) (rest : List Operand) → moves_slot (load_width op) i ≡ true → Contains (slot_offsets f) n →
       raised_load (frame_of f) op (by_pointer f (Def rd ∷ Slot n ∷ Imm i ∷ rest)) ≡ Def rd ∷ Slot n ∷ Imm i ∷ rest
   slot_load op rd n i rest moves is =
@@ -136,6 +149,7 @@ module _ (f : FramedFunction) (framed : IsFramed f) where
   load_back op (Def rd ∷ OfObject n ∷ Imm i ∷ rest) form steady slots objects =
       let bits = (and_parts (has_12_bits i) (list_all is_implicit rest) form).0 in
       object_load op rd n i rest (added_in n (load_width op) i bits objects)
+  load_back op (Def rd ∷ Use b ∷ Part Lower y ∷ rest) form steady slots objects = part_load op rd b Lower y rest
   load_back op os form steady slots objects = absurd cc
 
   -- ---- stores
@@ -146,6 +160,13 @@ module _ (f : FramedFunction) (framed : IsFramed f) where
   other_store op rs (suc zero) i rest other = refl
   other_store op rs (suc (suc zero)) i rest other = absurd (other refl)
   other_store op rs (suc (suc (suc b))) i rest other = refl
+
+  part_store : (op : StoreOp) (rs b : ℕ) (half : Half) (y : LinkedAddress) (rest : List Operand) →
+      raised_store (frame_of f) op (Use rs ∷ Use b ∷ Part half y ∷ rest) ≡ Use rs ∷ Use b ∷ Part half y ∷ rest
+  part_store op rs zero half y rest = refl
+  part_store op rs (suc zero) half y rest = refl
+  part_store op rs (suc (suc zero)) half y rest = refl
+  part_store op rs (suc (suc (suc b))) half y rest = refl
 
   slot_store : (op : StoreOp) (rs n : ℕ) (i : ℤ) (rest : List Operand) → moves_slot (store_width op) i ≡ true → Contains (slot_offsets f) n →
       raised_store (frame_of f) op (by_pointer f (Use rs ∷ Slot n ∷ Imm i ∷ rest)) ≡ Use rs ∷ Slot n ∷ Imm i ∷ rest
@@ -168,6 +189,7 @@ module _ (f : FramedFunction) (framed : IsFramed f) where
   store_back op (Use rs ∷ OfObject n ∷ Imm i ∷ rest) form steady slots objects =
       let bits = (and_parts (has_12_bits i) (list_all is_implicit rest) form).0 in
       object_store op rs n i rest (added_in n (store_width op) i bits objects)
+  store_back op (Use rs ∷ Use b ∷ Part Lower y ∷ rest) form steady slots objects = part_store op rs b Lower y rest
   store_back op os form steady slots objects = absurd cc
 
   -- ---- sums
@@ -183,6 +205,13 @@ module _ (f : FramedFunction) (framed : IsFramed f) where
   other_sum rd (suc zero) i rest is = refl
   other_sum rd (suc (suc zero)) i rest is = pointer_sum rd i rest (is refl)
   other_sum rd (suc (suc (suc b))) i rest is = refl
+
+  part_sum : (rd b : ℕ) (half : Half) (y : LinkedAddress) (rest : List Operand) →
+      raised_sum (frame_of f) (Def rd ∷ Use b ∷ Part half y ∷ rest) ≡ Def rd ∷ Use b ∷ Part half y ∷ rest
+  part_sum rd zero half y rest = refl
+  part_sum rd (suc zero) half y rest = refl
+  part_sum rd (suc (suc zero)) half y rest = refl
+  part_sum rd (suc (suc (suc b))) half y rest = refl
 
   object_sum : (rd n : ℕ) (i : ℤ) (rest : List Operand) → (rd ≡ 2 → ⊥) → Added i →
       raised_sum (frame_of f) (by_pointer f (Def rd ∷ OfObject n ∷ Imm i ∷ rest)) ≡ settled_sum f (Def rd ∷ OfObject n ∷ Imm i ∷ rest)
@@ -200,6 +229,7 @@ module _ (f : FramedFunction) (framed : IsFramed f) where
   sum_back (Def rd ∷ OfObject n ∷ Imm i ∷ rest) form steady objects =
       let bits = (and_parts (has_12_bits i) (list_all is_implicit rest) form).0 in
       object_sum rd n i rest steady (added_in n 0 i bits (at_least n (word i) objects))
+  sum_back (Def rd ∷ Use b ∷ Part Lower y ∷ rest) form steady objects = part_sum rd b Lower y rest
   sum_back os form steady objects = absurd cc
 
   unraised : (op : ImmediateOp) (os : List Operand) → fits_immediate op os ≡ true → is_addi op ≡ false → by_pointer f os ≡ settled_sum f os
@@ -207,6 +237,7 @@ module _ (f : FramedFunction) (framed : IsFramed f) where
   unraised op (Def rd ∷ OfObject n ∷ Imm i ∷ rest) form other =
       let is = (and_parts (is_addi op) (is_immediate op i) (and_parts (is_addi op && is_immediate op i) (list_all is_implicit rest) form).0).0 in
       absurd cc
+  unraised op (Def rd ∷ Use b ∷ Part Lower y ∷ rest) form other = refl
   unraised op os form other = absurd cc
 
   immediate_back : (op : ImmediateOp) (os : List Operand) → fits_immediate op os ≡ true → IsSteady (Immediate op) os →
@@ -233,6 +264,7 @@ module _ (f : FramedFunction) (framed : IsFramed f) where
 
   upper_stays : (os : List Operand) → fits_upper os ≡ true → by_pointer f os ≡ os
   upper_stays (Def rd ∷ Imm i ∷ rest) form = refl
+  upper_stays (Def rd ∷ Part Upper y ∷ rest) form = refl
   upper_stays os form = absurd cc
 
   branch_stays : (os : List Operand) → fits_branch os ≡ true → by_pointer f os ≡ os
@@ -267,6 +299,32 @@ module _ (f : FramedFunction) (framed : IsFramed f) where
   results_stay (x ∷ o ∷ os) all =
       behind_result x o os (and_parts (is_result o) (list_all is_result os) (and_parts (is_result x) (is_result o && list_all is_result os) all).1).0
 
+  behind_tail : (x : Operand) (os : List Operand) → list_all is_tail_use os ≡ true → by_pointer f (x ∷ os) ≡ x ∷ os
+  behind_tail x [] all = refl
+  behind_tail x (ImplicitUse r ∷ os) all = refl
+  behind_tail x (o ∷ os) all = absurd cc
+
+  held_call_stays : (os : List Operand) → fits_held_call os ≡ true → by_pointer f os ≡ os
+  held_call_stays (ImplicitUse r ∷ Mask ∷ rest) form = refl
+  held_call_stays os form = absurd cc
+
+  tail_stays : (os : List Operand) → fits_tail os ≡ true → by_pointer f os ≡ os
+  tail_stays (Symbol name ∷ rest) form = behind_tail (Symbol name) rest form
+  tail_stays os form = absurd cc
+
+  held_tail_stays : (os : List Operand) → fits_held_tail os ≡ true → by_pointer f os ≡ os
+  held_tail_stays (ImplicitUse r ∷ rest) form =
+      behind_tail (ImplicitUse r) rest (and_parts (nat_eq r 6 || is_tail_register r) (list_all is_tail_use rest) form).1
+  held_tail_stays os form = absurd cc
+
+  gone_stays : (os : List Operand) → fits_gone os ≡ true → by_pointer f os ≡ os
+  gone_stays (Symbol name ∷ Mask ∷ rest) form = refl
+  gone_stays os form = absurd cc
+
+  held_gone_stays : (os : List Operand) → fits_held_gone os ≡ true → by_pointer f os ≡ os
+  held_gone_stays (ImplicitUse r ∷ Mask ∷ rest) form = refl
+  held_gone_stays os form = absurd cc
+
   pub operands_back : (op : Op) (os : List Operand) → has_form op os ≡ true → IsSteady op os → SlotIn (slot_offsets f) (row_by op os) →
       ObjectIn f.objects (row_by op os) → raised_operands (frame_of f) op (by_pointer f os) ≡ settled_operands f op os
   operands_back (Registers op) os form steady slots objects = registers_stay os form
@@ -279,6 +337,11 @@ module _ (f : FramedFunction) (framed : IsFramed f) where
   operands_back PseudoBr os form steady slots objects = jump_stays os form
   operands_back PseudoCall os form steady slots objects = call_stays os form
   operands_back PseudoRet os form steady slots objects = results_stay os form
+  operands_back PseudoCallIndirect os form steady slots objects = held_call_stays os form
+  operands_back PseudoTail os form steady slots objects = tail_stays os form
+  operands_back PseudoTailIndirect os form steady slots objects = held_tail_stays os form
+  operands_back NoReturnCall os form steady slots objects = gone_stays os form
+  operands_back NoReturnCallIndirect os form steady slots objects = held_gone_stays os form
 
   -- ---- where an access begins at a byte that its object alone has
 
@@ -293,6 +356,7 @@ module _ (f : FramedFunction) (framed : IsFramed f) where
   sum_same (Def rd ∷ OfObject n ∷ Imm i ∷ rest) form inside =
       let bits = (and_parts (has_12_bits i) (list_all is_implicit rest) form).0 in
       object_same (Def rd) n 1 i rest (omega arith) inside.0 inside.1 (added_in n 1 i bits inside.0)
+  sum_same (Def rd ∷ Use b ∷ Part Lower y ∷ rest) form inside = refl
   sum_same os form inside = absurd cc
 
   load_same : (op : LoadOp) (os : List Operand) → fits_load op os ≡ true → ObjectIn f.objects (load_row op os) → LeadsInside f.objects (load_row op os) →
@@ -302,6 +366,7 @@ module _ (f : FramedFunction) (framed : IsFramed f) where
   load_same op (Def rd ∷ OfObject n ∷ Imm i ∷ rest) form objects inside =
       let bits = (and_parts (has_12_bits i) (list_all is_implicit rest) form).0 in
       object_same (Def rd) n (load_width op) i rest (load_moves op) objects inside (added_in n (load_width op) i bits objects)
+  load_same op (Def rd ∷ Use b ∷ Part Lower y ∷ rest) form objects inside = refl
   load_same op os form objects inside = absurd cc
 
   store_same : (op : StoreOp) (os : List Operand) → fits_store op os ≡ true → ObjectIn f.objects (store_row op os) →
@@ -311,6 +376,7 @@ module _ (f : FramedFunction) (framed : IsFramed f) where
   store_same op (Use rs ∷ OfObject n ∷ Imm i ∷ rest) form objects inside =
       let bits = (and_parts (has_12_bits i) (list_all is_implicit rest) form).0 in
       object_same (Use rs) n (store_width op) i rest (store_moves op) objects inside (added_in n (store_width op) i bits objects)
+  store_same op (Use rs ∷ Use b ∷ Part Lower y ∷ rest) form objects inside = refl
   store_same op os form objects inside = absurd cc
 
   unsettled : (op : ImmediateOp) (os : List Operand) → fits_immediate op os ≡ true → is_addi op ≡ false → settled_sum f os ≡ os
@@ -318,6 +384,7 @@ module _ (f : FramedFunction) (framed : IsFramed f) where
   unsettled op (Def rd ∷ OfObject n ∷ Imm i ∷ rest) form other =
       let is = (and_parts (is_addi op) (is_immediate op i) (and_parts (is_addi op && is_immediate op i) (list_all is_implicit rest) form).0).0 in
       absurd cc
+  unsettled op (Def rd ∷ Use b ∷ Part Lower y ∷ rest) form other = refl
   unsettled op os form other = absurd cc
 
   immediate_same : (op : ImmediateOp) (os : List Operand) → fits_immediate op os ≡ true → LeadsInside f.objects (number_row op os) → settled_sum f os ≡ os

@@ -11,8 +11,8 @@ use Rattle.rv64_instr.specs.declared.op.BranchOp.{BranchOp}
 use Rattle.rv64_instr.specs.declared.operand.Operand.{Operand}
 use Rattle.rv64_instr.specs.declared.operand.Operand.TheVariants.{Use, Block as OfBlock}
 use Rattle.rv64_instr.specs.Instruction.{Instruction}
-use Rattle.rv64_instr.specs.Parts.{is_call}
 use Rattle.rv64_instr.specs.Row.{row_of}
+use Rattle.rv64_instr.specs.LocationEffects.{has_site}
 use Rattle.mir_func.specs.declared.block.Block.{Block}
 use Rattle.mir_func.specs.declared.item.Item.{Item}
 use Rattle.mir_func.specs.declared.item.ItemKind.{ItemKind}
@@ -22,7 +22,7 @@ use Rattle.mir_func.specs.declared.position.ProgramPoint.{ProgramPoint}
 use Rattle.mir_func.specs.Sound.{AllItems, HasForm}
 use Rattle.mir_func.specs.Successors.{pos_in}
 use Rattle.emit_code.specs.declared.code.EncodedInstruction.{EncodedInstruction}
-use Rattle.emit_code.specs.Inverted.{jump_to}
+use Rattle.emit_code.specs.LongBranch.{jump_to}
 use Rattle.emit_code.specs.Listed.{listed}
 use Rattle.emit_code.specs.Rule.{Layout, Site, Form, LongBranch, form_of, address_in, form_entries, entries_at, sites_in, sites_from}
 use Rattle.emit_code.specs.steps.Emitted.{IsFormed, point_of}
@@ -148,13 +148,13 @@ module _ (a : ℕ) where
     long_onward at i k t rest m o x y z os (inr (inr more)) = inr more
 
     form_onward : (at : ℕ) (i : Item) (c : Instruction) (k : Option ℕ) (rest : List Line) (m : ℕ) (f : Form) → FormView c.op c.operands f →
-        is_call (row_of (listed l.framed c)) ≡ is_call_form f → Onward at i f (form_lines l at i c k f) rest m
+        has_site (row_of (listed l.framed c)) ≡ is_call_form f → Onward at i f (form_lines l at i c k f) rest m
     form_onward at i c k rest m f one calls (inl (byte, same)) =
         inl (inl (code_byte at 4 i (Code (listed l.framed c) k) (λ x. past_word l.framed x c k calls) byte, same_point m same))
     form_onward at i c k rest m f one calls (inr more) = inr more
-    form_onward at i c k rest m f call calls (inl (byte, same)) =
+    form_onward at i c k rest m f (call name os os_is op_is) calls (inl (byte, same)) =
         inl (inl (code_byte at 8 i (Code (listed l.framed c) k) (λ x. past_call l.framed x c k calls) byte, same_point m same))
-    form_onward at i c k rest m f call calls (inr more) = inr more
+    form_onward at i c k rest m f (call name os os_is op_is) calls (inr more) = inr more
     form_onward at i c k rest m f (long o x y t os op_is os_is all) calls is =
         subst (λ (op : Op). LongOnward at i k t rest m op c.operands) (sym op_is)
         (subst (λ (ps : List Operand). LongOnward at i k t rest m (Branch o) ps) (sym os_is) (long_onward at i k t rest m o x y t os)) is
@@ -193,17 +193,17 @@ module _ (a : ℕ) where
     long_back at i k t p o x y z os (inr (inr none)) = elim none [ ]
 
     form_back : (at : ℕ) (i : Item) (c : Instruction) (k : Option ℕ) (p : Pos) (f : Form) → FormView c.op c.operands f →
-        is_call (row_of (listed l.framed c)) ≡ is_call_form f → Entered (form_entries at i.origin (pos_in b n) f) p → Back (form_lines l at i c k f) p
+        has_site (row_of (listed l.framed c)) ≡ is_call_form f → Entered (form_entries at i.origin (pos_in b n) f) p → Back (form_lines l at i c k f) p
     form_back at i c k p f one calls (inl (byte, e)) = record {
       block = block p e;
       listed = λ rest. inl (byte_code at 4 i (Code (listed l.framed c) k) (λ x. past_word l.framed x c k calls) byte, index p e);
     }
     form_back at i c k p f one calls (inr none) = elim none [ ]
-    form_back at i c k p f call calls (inl (byte, e)) = record {
+    form_back at i c k p f (call name os os_is op_is) calls (inl (byte, e)) = record {
       block = block p e;
       listed = λ rest. inl (byte_code at 8 i (Code (listed l.framed c) k) (λ x. past_call l.framed x c k calls) byte, index p e);
     }
-    form_back at i c k p f call calls (inr none) = elim none [ ]
+    form_back at i c k p f (call name os os_is op_is) calls (inr none) = elim none [ ]
     form_back at i c k p f (long o x y t os op_is os_is all) calls is =
         subst (λ (op : Op). LongBack at i k t p op c.operands) (sym op_is)
         (subst (λ (ps : List Operand). LongBack at i k t p (Branch o) ps) (sym os_is) (long_back at i k t p o x y t os)) is
@@ -226,7 +226,7 @@ module _ (a : ℕ) where
     form_later : (at : ℕ) (i : Item) (c : Instruction) (k : Option ℕ) (n m : ℕ) (rest : List Line) (f : Form) → FormView c.op c.operands f →
         Listed rest (suc n) m → Listed (form_lines l at i c k f ++ rest) n m
     form_later at i c k n m rest f one more = inr more
-    form_later at i c k n m rest f call more = inr more
+    form_later at i c k n m rest f (call name os os_is op_is) more = inr more
     form_later at i c k n m rest f (long o x y t os op_is os_is all) more =
         let both : LongLater at i k t n m rest (Branch o) (Use x ∷ Use y ∷ OfBlock t ∷ os) = inr (inr more) in
         subst (λ (op : Op). LongLater at i k t n m rest op c.operands) (sym op_is)

@@ -12,13 +12,14 @@ use Rattle.rv64_instr.specs.declared.operand.Operand.{Operand}
 use Rattle.rv64_instr.specs.declared.operand.Operand.TheVariants.{Use, Block as OfBlock}
 use Rattle.rv64_instr.specs.Instruction.{Instruction}
 use Rattle.rv64_instr.specs.Form.{is_implicit}
+use Rattle.rv64_instr.specs.Inverse.{inverse}
 use Rattle.mir_func.specs.declared.block.Block.{Block}
 use Rattle.mir_func.specs.declared.item.Item.{Item}
 use Rattle.mir_func.specs.declared.item.ItemKind.{ItemKind}
 use Rattle.mir_func.specs.declared.item.ItemKind.TheVariants.{Code, Mark, Phi}
 use Rattle.mir_func.specs.Sound.{SlotsIn, ObjectsIn, HasForm, contents_of}
 use Rattle.mir_func.specs.SoundFrame.{slot_offsets, IsFramed}
-use Rattle.emit_code.specs.Inverted.{inverted, jump_to}
+use Rattle.emit_code.specs.LongBranch.{jump_to}
 use Rattle.emit_code.specs.Listed.{listed}
 use Rattle.emit_code.specs.Rule.{Layout, Site, Form, form_of, address_in, sites_in}
 use Rattle.listing_text.specs.declared.output.Line.{Line}
@@ -36,7 +37,7 @@ SteadyKind (Code c k) = IsSteady c.op c.operands
 SteadyKind (Mark v m) = Unit {0}
 SteadyKind (Phi p k) = Unit {0}
 
-twice : (b : BranchOp) → inverted (inverted b) ≡ b
+twice : (b : BranchOp) → inverse (inverse b) ≡ b
 twice Beq = refl
 twice _ = refl
 
@@ -73,7 +74,8 @@ module _ (l : Layout) (framed : IsFramed l.framed) where
       items_shown (frame_of l.framed) None (form_lines l a i c k f ++ rest) ≡ record i { kind = settled_kind l.framed (Code c k) } ∷
       items_shown (frame_of l.framed) None rest
   form_shown a i c k rest f one back = ap (λ (kind : ItemKind). record i { kind = kind } ∷ items_shown (frame_of l.framed) None rest) back
-  form_shown a i c k rest f call back = ap (λ (kind : ItemKind). record i { kind = kind } ∷ items_shown (frame_of l.framed) None rest) back
+  form_shown a i c k rest f (call name os os_is op_is) back =
+      ap (λ (kind : ItemKind). record i { kind = kind } ∷ items_shown (frame_of l.framed) None rest) back
   form_shown a i c k rest f (long b x y n os op_is os_is all) back =
       subst (λ (op : Op). LongShown a i k n rest op c.operands) (sym op_is)
       (subst (λ (ps : List Operand). LongShown a i k n rest (Branch b) ps) (sym os_is) (long_shown a i k rest b x y n os all))
@@ -100,7 +102,8 @@ module _ (l : Layout) (framed : IsFramed l.framed) where
       ap (λ (is : List Item). settled_item l.framed i ∷ is) (items_back b (suc n) items (All-tail Good i items all))
 
   pub blocks_back : (b : ℕ) (blocks : List Block) → All (λ block. All Good block.items) blocks →
-      map (λ listed. contents_of (block_shown (frame_of l.framed) listed)) (blocks_listed l b blocks) ≡ map (λ block. contents_of (settled l.framed block)) blocks
+      map (λ listed. contents_of (block_shown (frame_of l.framed) listed)) (blocks_listed l b blocks) ≡ map (λ block. contents_of (settled l.framed block))
+      blocks
   blocks_back b [] all = refl
   blocks_back b (block ∷ blocks) all =
       let items = items_back b 0 block.items (All-head (λ x. All Good x.items) block blocks all) in

@@ -3,7 +3,9 @@
 use Rattle.std.specs.Prelude.{ℕ, zero, suc, ◌+◌, ◌-◌, ◌^◌, max, Bool, true, false, cond, ◌&&◌, nat_eq, nat_le, nat_lt, pos, List, [], ◌∷◌, ◌++◌, Option, Some}
 use Rattle.std.specs.Prelude.{None}
 use Rattle.rv64_instr.specs.declared.op.Op.{Op}
-use Rattle.rv64_instr.specs.declared.op.Op.TheVariants.{Registers, Immediate, Lui, Branch, Load, Store, Copy, PseudoBr, PseudoCall, PseudoRet}
+use Rattle.rv64_instr.specs.declared.op.Op.TheVariants.{Registers, Immediate, Lui, Branch, Load, Store, Copy}
+use Rattle.rv64_instr.specs.declared.op.Op.TheVariants.{PseudoBr, PseudoCall, PseudoRet, PseudoCallIndirect}
+use Rattle.rv64_instr.specs.declared.op.Op.TheVariants.{PseudoTail, PseudoTailIndirect, NoReturnCall, NoReturnCallIndirect}
 use Rattle.rv64_instr.specs.declared.op.RegisterOp.TheVariants.{Add}
 use Rattle.rv64_instr.specs.declared.op.ImmediateOp.{ImmediateOp}
 use Rattle.rv64_instr.specs.declared.op.ImmediateOp.TheVariants.{Addi, Slti, Sltiu, Xori, Ori, Andi, Slli, Srli, Srai, Addiw, Slliw, Srliw, Sraiw}
@@ -11,7 +13,7 @@ use Rattle.rv64_instr.specs.declared.op.LoadOp.{LoadOp}
 use Rattle.rv64_instr.specs.declared.op.StoreOp.{StoreOp}
 use Rattle.rv64_instr.specs.declared.operand.Operand.{Operand}
 use Rattle.rv64_instr.specs.declared.operand.Operand.TheVariants.{Def, Use, Imm, Slot, Object}
-use Rattle.rv64_instr.specs.declared.decoded.Input.TheVariants.{Number}
+use Rattle.rv64_instr.specs.Row.{Number}
 use Rattle.rv64_instr.specs.Arithmetic.{load_width, store_width}
 use Rattle.rv64_instr.specs.Row.{Row, Sets, row_of}
 use Rattle.mir_func.specs.declared.item.ItemKind.{ItemKind}
@@ -149,6 +151,11 @@ raised_operands f Copy operands = operands
 raised_operands f PseudoBr operands = operands
 raised_operands f PseudoCall operands = operands
 raised_operands f PseudoRet operands = operands
+raised_operands f PseudoCallIndirect operands = operands
+raised_operands f PseudoTail operands = operands
+raised_operands f PseudoTailIndirect operands = operands
+raised_operands f NoReturnCall operands = operands
+raised_operands f NoReturnCallIndirect operands = operands
 
 -- the reverse of frame index elimination: the item names slots and objects again
 abbrev pub raised : ShownFrame → ItemKind → ItemKind

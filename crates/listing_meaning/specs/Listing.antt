@@ -6,6 +6,7 @@ use Rattle.rv64_instr.specs.declared.op.Op.TheVariants.{Branch}
 use Rattle.rv64_instr.specs.declared.operand.Operand.{Operand}
 use Rattle.rv64_instr.specs.declared.operand.Operand.TheVariants.{Use, ImplicitDef, ImplicitUse}
 use Rattle.rv64_instr.specs.Instruction.{Instruction}
+use Rattle.rv64_instr.specs.Inverse.{inverse}
 use Rattle.mir_func.specs.declared.block.Block.{Block}
 use Rattle.mir_func.specs.declared.debug_substitution.DebugSubstitution.{DebugSubstitution}
 use Rattle.mir_func.specs.declared.item.Item.{Item}
@@ -13,7 +14,7 @@ use Rattle.mir_func.specs.declared.item.ItemKind.{ItemKind}
 use Rattle.mir_func.specs.declared.item.ItemKind.TheVariants.{Code, Mark, Phi}
 use Rattle.mir_func.specs.declared.object.Object.{Object}
 use Rattle.mir_func.specs.declared.position.Origin.{Origin}
-use Rattle.emit_code.specs.Inverted.{inverted, jump_to}
+use Rattle.emit_code.specs.LongBranch.{jump_to}
 use Rattle.emit_code.specs.Listed.{listed}
 use Rattle.emit_code.specs.Rule.{Layout, Site, Form, Nothing, OneWord, CallSite, LongBranch, form_of, address_in, added_before, sites_in, words_of}
 use Rattle.listing_text.specs.declared.output.Implicit.{Implicit}
@@ -37,7 +38,7 @@ abbrev pub branch_skip : (address : ℕ) → Origin → Op → List Operand → 
 branch_skip a o (Branch op) (Use first ∷ Use second ∷ target ∷ rest) = Skip (record {
   address = a;
   origin = added_before o;
-  op = inverted op;
+  op = inverse op;
   first = first;
   second = second;
   implicit = implicits rest;

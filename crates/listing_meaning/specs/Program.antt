@@ -5,10 +5,11 @@ use Rattle.std.specs.Prelude.{◌≡◌, ℕ, ◌+◌, ◌<◌, ◌≤◌, pos, 
 use Rattle.std.specs.List.{flat_map}
 use Rattle.rv64_instr.specs.declared.op.Op.TheVariants.{Branch}
 use Rattle.rv64_instr.specs.declared.operand.Operand.{Operand}
-use Rattle.rv64_instr.specs.declared.operand.Operand.TheVariants.{Def, Use, ImplicitDef, ImplicitUse, Imm, Slot, Object, Block as OfBlock, Symbol, Mask}
+use Rattle.rv64_instr.specs.declared.operand.Operand.TheVariants.{Def, Use, ImplicitDef, ImplicitUse, Imm, Slot, Object, Part, Block as OfBlock, Symbol, Mask}
 use Rattle.rv64_instr.specs.Instruction.{Instruction}
 use Rattle.rv64_instr.specs.Row.{row_of}
-use Rattle.rv64_instr.specs.Parts.{is_call}
+use Rattle.rv64_instr.specs.LocationEffects.{has_site}
+use Rattle.rv64_instr.specs.Inverse.{inverse}
 use Rattle.mir_func.specs.declared.block.Block.{Block}
 use Rattle.mir_func.specs.declared.item.Item.{Item}
 use Rattle.mir_func.specs.declared.item.ItemKind.{ItemKind}
@@ -18,7 +19,6 @@ use Rattle.mir_func.specs.Graph.{Program, framed_program}
 use Rattle.mir_func.specs.Resolve.{resolve}
 use Rattle.sem_mir.specs.Align.{is_code}
 use Rattle.sem_machine.specs.Image.{CodeLine, Image, line_of}
-use Rattle.emit_code.specs.Inverted.{inverted}
 use Rattle.listing_text.specs.declared.output.ItemLine.{ItemLine}
 use Rattle.listing_text.specs.declared.output.SkipLine.{SkipLine}
 use Rattle.listing_text.specs.declared.output.Line.{Line}
@@ -48,7 +48,7 @@ lines_of f = flat_map (λ b. b.lines) (blocks_of f)
 
 -- the branch that a skip and a jump to block `target` encode: the inverse of the skip's operation, with the jump's target
 abbrev pub branch_over : SkipLine → (target : ℕ) → Instruction
-branch_over s n = record { op = Branch (inverted s.op); operands = Use s.first ∷ Use s.second ∷ OfBlock n ∷ map operand_of s.implicit }
+branch_over s n = record { op = Branch (inverse s.op); operands = Use s.first ∷ Use s.second ∷ OfBlock n ∷ map operand_of s.implicit }
 
 -- the block that an instruction names as its first operand, if it does
 abbrev pub target_of : List Operand → Option ℕ
@@ -61,6 +61,7 @@ target_of (ImplicitUse r ∷ rest) = None
 target_of (Imm i ∷ rest) = None
 target_of (Slot n ∷ rest) = None
 target_of (Object n ∷ rest) = None
+target_of (Part half y ∷ rest) = None
 target_of (Symbol name ∷ rest) = None
 target_of (Mask ∷ rest) = None
 
@@ -110,9 +111,9 @@ abbrev pub address_of : Line → Option ℕ
 address_of (OfItem l) = l.address
 address_of (Skip s) = Some s.address
 
--- the address after an item: a call has two words, other code has one, and a debug item has none
+-- the address after an item: code that names a callee has two words, other code has one, and a debug item has none
 abbrev pub past_item : ℕ → ItemKind → ℕ
-past_item a (Code i k) = a + cond (is_call (row_of i)) 8 4
+past_item a (Code i k) = a + cond (has_site (row_of i)) 8 4
 past_item a (Mark v m) = a
 past_item a (Phi p k) = a
 

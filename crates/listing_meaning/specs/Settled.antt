@@ -4,11 +4,12 @@
 -- overlap. The machine word is the same for each of them, and a listing shows the address relative to the last object that has its byte (`object_at`).
 use Rattle.std.specs.Prelude.{◌≡◌, ℕ, ◌+◌, pos, List, ◌∷◌, ◌++◌, map, Some, Contains, IsTrue}
 use Rattle.rv64_instr.specs.declared.op.Op.{Op}
-use Rattle.rv64_instr.specs.declared.op.Op.TheVariants.{Registers, Immediate, Lui, Branch, Load, Store, Copy, PseudoBr, PseudoCall, PseudoRet}
+use Rattle.rv64_instr.specs.declared.op.Op.TheVariants.{Registers, Immediate, Lui, Branch, Load, Store, Copy}
+use Rattle.rv64_instr.specs.declared.op.Op.TheVariants.{PseudoBr, PseudoCall, PseudoRet, PseudoCallIndirect}
+use Rattle.rv64_instr.specs.declared.op.Op.TheVariants.{PseudoTail, PseudoTailIndirect, NoReturnCall, NoReturnCallIndirect}
 use Rattle.rv64_instr.specs.declared.operand.Operand.{Operand}
 use Rattle.rv64_instr.specs.declared.operand.Operand.TheVariants.{Object as OfObject, Imm}
-use Rattle.rv64_instr.specs.declared.decoded.Base.{Base}
-use Rattle.rv64_instr.specs.declared.decoded.Base.TheVariants.{PointedBy, ObjectAt}
+use Rattle.rv64_instr.specs.Row.{Base, PointedBy, ObjectAt, BesidePart}
 use Rattle.rv64_instr.specs.Row.{Row, row_of}
 use Rattle.rv64_instr.specs.View.{Access, NoAccess, SlotAccess, MemoryAccess, ObjectAddress, access_of}
 use Rattle.mir_func.specs.declared.block.Block.{Block}
@@ -44,6 +45,11 @@ settled_operands f Copy operands = operands
 settled_operands f PseudoBr operands = operands
 settled_operands f PseudoCall operands = operands
 settled_operands f PseudoRet operands = operands
+settled_operands f PseudoCallIndirect operands = operands
+settled_operands f PseudoTail operands = operands
+settled_operands f PseudoTailIndirect operands = operands
+settled_operands f NoReturnCall operands = operands
+settled_operands f NoReturnCallIndirect operands = operands
 
 -- an item kind with the operands of code changed so
 abbrev pub settled_kind : FramedFunction → ItemKind → ItemKind
@@ -68,6 +74,7 @@ IsAlone objects n offset =
 abbrev pub IsBaseAlone : List Object → Base → (offset : ℕ) → Type 0
 IsBaseAlone objects (PointedBy r) offset = Unit {0}
 IsBaseAlone objects (ObjectAt n) offset = IsAlone objects n offset
+IsBaseAlone objects (BesidePart r y) offset = Unit {0}
 
 -- an access of an object, or an address of it, begins at a byte that no other object has, and such an address is that of one of its bytes
 abbrev pub AccessIsInside : List Object → Access → Type 0

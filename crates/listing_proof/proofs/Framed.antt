@@ -30,10 +30,11 @@ use Rattle.mir_func.specs.Graph.{block_start}
 use Rattle.mir_func.specs.Sound.{AllItems, OriginIn, items_of, IsSound, HasForm, HasForm as KindForm}
 use Rattle.mir_func.specs.SoundFrame.{SAVED, adds_to_pointer, saves, restores, prologue_code, epilogue_code, IsSlotOffset, IsFramed}
 use Rattle.frame_rule.proofs.Forms.{form_same}
-use Rattle.frame_rule.specs.Rule.{slots_before, slot_offset, added, added_all, position_in, epilogue, renamed_operand, renamed_place}
+use Rattle.frame_rule.specs.Rule.{slots_before, slot_offset, added, added_all, epilogue, renamed_operand, renamed_place}
 use Rattle.frame_rule.specs.Rule.{renamed_kind, renamed, framed_item, framed_block, prologue_block, framed_blocks, framed_of, size_of}
 use Rattle.frame_rule.specs.Rule.{saved_of}
-use Rattle.mir_func.specs.Exits.{exit_of, is_final}
+use Rattle.mir_func.specs.Exits.{leads_back}
+use Rattle.mir_func.specs.Positions.{position_of}
 use Rattle.base_ids.specs.Limits.{MAX_NUMBER}
 use Rattle.read_body.specs.Limits.{MAX_ITEMS}
 use Rattle.mir_printer.specs.Printable.{IsNumber, HasNumbers, IsPrintablePlace}
@@ -198,7 +199,7 @@ module _ (inlined : ℕ → Option ℕ) (f : Function) (body : IsPrintableBody i
   origin_fits b (Kept p) has is = (subst IsNumber (sym is.0) has.id, omega (arith, is.1, has.source_end))
   origin_fits b (Before p) has is = (subst IsNumber (sym is.0) has.id, omega (arith, is.1, has.source_end))
 
-  position_fits : (o : Origin) → IsPrintableOrigin o → IsPrintableOrigin (Before (position_in o))
+  position_fits : (o : Origin) → IsPrintableOrigin o → IsPrintableOrigin (Before (position_of o))
   position_fits (Kept p) is = is
   position_fits (Before p) is = is
 
@@ -210,13 +211,13 @@ module _ (inlined : ℕ → Option ℕ) (f : Function) (body : IsPrintableBody i
     origin : IsPrintableOrigin i.origin
 
   by_end : (b : Bool) (o : Origin) → IsPrintableOrigin o → All Fit (cond b (epilogue f o) [])
-  by_end true o is = all_added (size_of f) (Before (position_in o)) (position_fits o is) (epilogue_code (size_of f) (saved_of f)) epilogue_fits
+  by_end true o is = all_added (size_of f) (Before (position_of o)) (position_fits o is) (epilogue_code (size_of f) (saved_of f)) epilogue_fits
   by_end false o is = All-nil Fit
 
   item_fits : (i : Item) → Known i → All Fit (framed_item f i)
   item_fits i known =
-      All-append Fit (cond (is_final (exit_of i.kind)) (epilogue f i.origin) []) (renamed f.slots i ∷ [])
-      (by_end (is_final (exit_of i.kind)) i.origin known.origin)
+      All-append Fit (cond (leads_back i.kind) (epilogue f i.origin) []) (renamed f.slots i ∷ [])
+      (by_end (leads_back i.kind) i.origin known.origin)
       (All-cons Fit (renamed f.slots i) [] (record {
         form = form_fits i.kind known.form;
         kind = kind_fits i.loc i.kind known.kind;

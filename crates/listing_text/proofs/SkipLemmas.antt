@@ -9,7 +9,9 @@ use Rattle.std.proofs.Common.{◌≡◌, ℕ, Bool, true, false, not, ◌&&◌, 
 use Rattle.std.proofs.Common.{append_assoc, append-nil}
 use Rattle.std.proofs.lemmas.List.Elements.{All-head, All-tail}
 use Rattle.rv64_instr.specs.declared.op.Op.{Op}
-use Rattle.rv64_instr.specs.declared.op.Op.TheVariants.{Registers, Immediate, Lui, Branch, Load, Store, Copy, PseudoBr, PseudoCall, PseudoRet}
+use Rattle.rv64_instr.specs.declared.op.Op.TheVariants.{Registers, Immediate, Lui, Branch, Load, Store, Copy}
+use Rattle.rv64_instr.specs.declared.op.Op.TheVariants.{PseudoBr, PseudoCall, PseudoRet, PseudoCallIndirect}
+use Rattle.rv64_instr.specs.declared.op.Op.TheVariants.{PseudoTail, PseudoTailIndirect, NoReturnCall, NoReturnCallIndirect}
 use Rattle.rv64_instr.specs.declared.op.BranchOp.{BranchOp}
 use Rattle.rv64_instr.specs.declared.op.RegisterOp.TheVariants.{Add}
 use Rattle.rv64_instr.specs.declared.op.ImmediateOp.TheVariants.{Addi}
@@ -82,8 +84,8 @@ implicits_are (x ∷ xs) r =
     grouped ∙ ap (λ (t : List ℕ). codes ", " ++ (operand_text (operand_of x) ++ t)) (implicits_are xs r)
 
 implicits_follow : (xs : List Implicit) (r : List ℕ) → Follows (implicits_before xs r)
-implicits_follow [] r = record { digits = refl; bare = refl }
-implicits_follow (x ∷ xs) r = record { digits = refl; bare = refl }
+implicits_follow [] r = record { digits = refl; bare = refl; space = refl }
+implicits_follow (x ∷ xs) r = record { digits = refl; bare = refl; space = refl }
 
 implicits_one : (xs ys : List Implicit) (r s : List ℕ) → All IsPrintableImplicit xs → All IsPrintableImplicit ys →
     implicits_before xs r ≡ implicits_before ys s → (xs ≡ ys) × (r ≡ s)
@@ -137,7 +139,8 @@ compared_one a b first other second another r s small low tiny few e =
 
 skip_is : (s : SkipLine) (r : List ℕ) → skip_text s ++ (10 ∷ r) ≡ compared s.op s.first s.second (codes "+8" ++ implicits_before s.implicit r)
 skip_is s r =
-    function_parts (branch_name s.op) (codes " ") (register_text s.first) (codes ", ") (register_text s.second) (codes ", +8") (flat_map implicit_text s.implicit)
+    function_parts (branch_name s.op) (codes " ") (register_text s.first) (codes ", ") (register_text s.second) (codes ", +8")
+    (flat_map implicit_text s.implicit)
     (10 ∷ r) ∙ ap (λ (t : List ℕ). compared s.op s.first s.second (codes "+8" ++ t)) (implicits_are s.implicit r)
 
 skip_one : (a b : SkipLine) (r s : List ℕ) → IsPrintableSkip a → IsPrintableSkip b → skip_line a ++ r ≡ skip_line b ++ s → (a ≡ b) × (r ≡ s)
@@ -258,6 +261,14 @@ no_opcode Copy os a r s form numbers is e = no_other Copy (uses_text (filter (λ
 no_opcode PseudoBr os a r s form numbers is e = no_other PseudoBr (uses_text (filter (λ o. not (is_definition o)) os) ++ s) a (codes "+8" ++ r) refl e
 no_opcode PseudoCall os a r s form numbers is e = no_other PseudoCall (uses_text (filter (λ o. not (is_definition o)) os) ++ s) a (codes "+8" ++ r) refl e
 no_opcode PseudoRet os a r s form numbers is e = no_other PseudoRet (uses_text (filter (λ o. not (is_definition o)) os) ++ s) a (codes "+8" ++ r) refl e
+no_opcode PseudoCallIndirect os a r s form numbers is e =
+    no_other PseudoCallIndirect (uses_text (filter (λ o. not (is_definition o)) os) ++ s) a (codes "+8" ++ r) refl e
+no_opcode PseudoTail os a r s form numbers is e = no_other PseudoTail (uses_text (filter (λ o. not (is_definition o)) os) ++ s) a (codes "+8" ++ r) refl e
+no_opcode PseudoTailIndirect os a r s form numbers is e =
+    no_other PseudoTailIndirect (uses_text (filter (λ o. not (is_definition o)) os) ++ s) a (codes "+8" ++ r) refl e
+no_opcode NoReturnCall os a r s form numbers is e = no_other NoReturnCall (uses_text (filter (λ o. not (is_definition o)) os) ++ s) a (codes "+8" ++ r) refl e
+no_opcode NoReturnCallIndirect os a r s form numbers is e =
+    no_other NoReturnCallIndirect (uses_text (filter (λ o. not (is_definition o)) os) ++ s) a (codes "+8" ++ r) refl e
 
 compared_begins : (a : SkipLine) (r : List ℕ) → begins_with_b (compared a.op a.first a.second (codes "+8" ++ r)) ≡ true
 compared_begins a r = branch_begins a.op (codes " " ++ (register_text a.first ++ (codes ", " ++ (register_text a.second ++ (codes ", " ++ (codes "+8" ++ r))))))

@@ -10,7 +10,7 @@ use crate::hex::push_address;
 use crate::line::push_lines;
 use crate::name::push_name;
 use crate::output::{ListedBlock, ListedFunction, ListedObject, ListedVariable};
-use base_ids::code::BlockId;
+use base_ids::function_ids::BlockId;
 use base_ids::metadata::NodeId;
 use mir_func::debug_substitution::{DebugSubstitution, OperandPair};
 use mir_printer::text::{Text, push_decimal, push_numbered, push_str};

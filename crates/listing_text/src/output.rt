@@ -1,6 +1,6 @@
 //! The output of the compiler.
 
-use base_ids::code::{BlockId, ObjectId};
+use base_ids::function_ids::{BlockId, ObjectId};
 use base_list::List;
 use mir_func::debug_substitution::DebugSubstitution;
 use mir_func::item::Item;

@@ -14,7 +14,7 @@ use Rattle.mir_func.specs.Graph.{Program}
 use Rattle.mir_func.specs.Parts.{Bytes}
 use Rattle.mir_func.specs.Variables.{is_same_node, is_same_variable, are_same_bytes, do_meet, overlaps}
 use Rattle.sem_mir.specs.ValueId.{Fixed}
-use Rattle.sem_mir.specs.PreferredLocation.{IsPlace, SitsIn, IsWanted, NoneIsWanted}
+use Rattle.sem_mir.specs.PreferredLocation.{IsPlace, SitsIn, IsPreferredLocation, NoneIsPreferred}
 use Rattle.sem_mir.proofs.Assignments.{one_assigned}
 use Rattle.dwarf_loclists.specs.declared.range.Part.{Part}
 use Rattle.dwarf_loclists.specs.declared.range.Location.{Location}
@@ -37,7 +37,7 @@ pick : (m n : ℕ) → (m < n → ⊥) → (n < m → ⊥) → m ≡ n
 pick m n h k = omega (arith, h, k)
 
 module _ (g : Program) (start p : Pos) (v : VarId) where
-  constants_one : (a b : ℤ) → IsWanted g start v p (Const a) → IsWanted g start v p (Const b) → a ≡ b
+  constants_one : (a b : ℤ) → IsPreferredLocation g start v p (Const a) → IsPreferredLocation g start v p (Const b) → a ≡ b
   constants_one a b x y =
       let path = x.sits.reached in
       let one = x.sits.same path.0 path.1 path.2 in
@@ -46,7 +46,7 @@ module _ (g : Program) (start p : Pos) (v : VarId) where
       let words : word a ≡ word b = cc in
       word_one a b x.named y.named words
 
-  wanted_one : (q r : Place) → IsWanted g start v p q → IsWanted g start v p r → q ≡ r
+  wanted_one : (q r : Place) → IsPreferredLocation g start v p q → IsPreferredLocation g start v p r → q ≡ r
   wanted_one (Register a) (Register b) x y = ap Register (pick a b (λ less. y.first (Register a) x.named less x.sits) (λ less. x.first (Register b) y.named
       less y.sits))
   wanted_one (Slot a) (Slot b) x y = ap Slot (pick a b (λ less. y.first (Slot a) x.named less x.sits) (λ less. x.first (Slot b) y.named less y.sits))
@@ -58,7 +58,7 @@ module _ (g : Program) (start p : Pos) (v : VarId) where
   wanted_one (Const a) (Register b) x y = absurd (y.first (Const a) x.named tt x.sits)
   wanted_one (Const a) (Slot b) x y = absurd (y.first (Const a) x.named tt x.sits)
 
-  not_none : (q : Place) → IsWanted g start v p q → NoneIsWanted g start v p → ⊥
+  not_none : (q : Place) → IsPreferredLocation g start v p q → NoneIsPreferred g start v p → ⊥
   not_none q x none = none q x.named x.sits
 
 -- ---- pieces by bytes
@@ -114,9 +114,9 @@ module _ (g : Program) (start : Pos) (v : VarId) (p : Pos) where
       let meets : overlaps v1 v2 ≡ true = and_from (is_same_variable v1 v2) (do_meet None (Some b)) variable refl in
       one_assigned v1 v2 (path.1).marks one.0 other.0 meets (and_false (is_same_variable v1 v2)) one.1 other.1
 
-  by_gives : (o : Option Location) (b : Option Bytes) → ((place : Place) → GivesPart o b place → IsWanted g start (part_of v b) p place) →
-      ((place : Place) → IsWanted g start (part_of v b) p place → GivesPart o b place) →
-      (((place : Place) → GivesPart o b place → ⊥) → NoneIsWanted g start (part_of v b) p) → GivesWanted g start v p o b
+  by_gives : (o : Option Location) (b : Option Bytes) → ((place : Place) → GivesPart o b place → IsPreferredLocation g start (part_of v b) p place) →
+      ((place : Place) → IsPreferredLocation g start (part_of v b) p place → GivesPart o b place) →
+      (((place : Place) → GivesPart o b place → ⊥) → NoneIsPreferred g start (part_of v b) p) → GivesWanted g start v p o b
   by_gives o b to from none = record {
     gives = λ place. (to place, from place);
     gives_none = (none, λ nothing place given. not_none g start p (part_of v b) place (to place given) nothing);
@@ -124,22 +124,23 @@ module _ (g : Program) (start : Pos) (v : VarId) (p : Pos) where
 
   in_pieces : (pieces : List Part) (b : Bytes) → AreWantedPieces g start v p pieces → GivesWanted g start v p (Some (Parts pieces)) (Some b)
   in_pieces pieces b are = by_gives (Some (Parts pieces)) (Some b) to from none where
-    to : (place : Place) → GivesPart (Some (Parts pieces)) (Some b) place → IsWanted g start (part_of v (Some b)) p place
-    to place (n, e) = at_index (λ (y : Part). IsWanted g start (part_of v (Some (bytes_of y))) p y.place) pieces n
+    to : (place : Place) → GivesPart (Some (Parts pieces)) (Some b) place → IsPreferredLocation g start (part_of v (Some b)) p place
+    to place (n, e) = at_index (λ (y : Part). IsPreferredLocation g start (part_of v (Some (bytes_of y))) p y.place) pieces n
         (record { offset = b.offset; length = b.length; place = place }) are.each e
 
-    from : (place : Place) → IsWanted g start (part_of v (Some b)) p place → GivesPart (Some (Parts pieces)) (Some b) place
+    from : (place : Place) → IsPreferredLocation g start (part_of v (Some b)) p place → GivesPart (Some (Parts pieces)) (Some b) place
     from place x = elim (piece_or pieces b) [
       | inl has ↦
           let y = has.piece in
-          let mine : IsWanted g start (part_of v (Some b)) p y.place = subst (λ (z : Bytes). IsWanted g start (part_of v (Some z)) p y.place) has.is
-          (at_index (λ (y : Part). IsWanted g start (part_of v (Some (bytes_of y))) p y.place) pieces has.n y are.each has.at) in
+          let mine : IsPreferredLocation g start (part_of v (Some b)) p y.place =
+          subst (λ (z : Bytes). IsPreferredLocation g start (part_of v (Some z)) p y.place) has.is
+          (at_index (λ (y : Part). IsPreferredLocation g start (part_of v (Some (bytes_of y))) p y.place) pieces has.n y are.each has.at) in
           let same = wanted_one g start p (part_of v (Some b)) y.place place mine x in
           (has.n, has.at ∙ (λ i. Some (record { offset = (has.is i).offset; length = (has.is i).length; place = same i })))
       | inr not ↦ absurd (not_none g start p (part_of v (Some b)) place x (are.others b not))
     ]
 
-    none : ((place : Place) → GivesPart (Some (Parts pieces)) (Some b) place → ⊥) → NoneIsWanted g start (part_of v (Some b)) p
+    none : ((place : Place) → GivesPart (Some (Parts pieces)) (Some b) place → ⊥) → NoneIsPreferred g start (part_of v (Some b)) p
     none refuted = elim (piece_or pieces b) [
       | inl has ↦ absurd (refuted has.piece.place (
         has.n,
@@ -158,7 +159,7 @@ module _ (g : Program) (start : Pos) (v : VarId) (p : Pos) where
   gives_wanted None is (Some b) = by_gives None (Some b) (λ place (n, e). absurd (no_piece _ e))
       (λ place x. absurd (not_none g start p (part_of v (Some b)) place x (is (Some b)))) (λ none. is (Some b))
   gives_wanted (Some (Whole q)) is None = by_gives (Some (Whole q)) None
-      (λ place e. subst (IsWanted g start (part_of v None) p) (same_place q place e) is)
+      (λ place e. subst (IsPreferredLocation g start (part_of v None) p) (same_place q place e) is)
       (λ place x. ap (λ (z : Place). Some z) (wanted_one g start p (part_of v None) q place is x)) (λ none. absurd (none q refl))
   gives_wanted (Some (Whole q)) is (Some b) = by_gives (Some (Whole q)) (Some b) (λ place (n, e). absurd (no_piece _ e))
       (λ place x. absurd (whole_alone b q place is.sits x.sits)) (λ none place named sits. whole_alone b q place is.sits sits)

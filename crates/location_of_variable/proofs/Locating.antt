@@ -17,7 +17,7 @@ use Rattle.mir_func.specs.declared.variable.VarId.{VarId}
 use Rattle.mir_func.specs.Graph.{Program}
 use Rattle.mir_func.specs.Parts.{Bytes, IsPart}
 use Rattle.mir_func.specs.Variables.{is_same_node, is_same_variable, are_same_bytes, is_same, do_meet, overlaps}
-use Rattle.sem_mir.specs.PreferredLocation.{IsWanted, NoneIsWanted}
+use Rattle.sem_mir.specs.PreferredLocation.{IsPreferredLocation, NoneIsPreferred}
 use Rattle.sem_mir.proofs.Assignments.{one_assigned}
 use Rattle.dwarf_loclists.specs.declared.range.Part.{Part}
 use Rattle.dwarf_loclists.specs.declared.range.Location.TheVariants.{Whole}
@@ -67,7 +67,7 @@ rises (x ∷ xs) low ascend least = (
 
 module _ (g : Program) (start p : Pos) (v : VarId) where
   abbrev Wanted : Bytes → Place → Type 0
-  Wanted b q = IsWanted g start (part_of v (Some b)) p q
+  Wanted b q = IsPreferredLocation g start (part_of v (Some b)) p q
 
   -- two parts that overlap, and for which places are wanted, are one
   apart : (b c : Bytes) (q r : Place) → do_meet (Some b) (Some c) ≡ true → are_same_bytes (Some b) (Some c) ≡ false → Wanted b q → Wanted c r → ⊥
@@ -145,7 +145,7 @@ module _ (g : Program) (start p : Pos) (v : VarId) where
     -- some bytes have a piece among these, or are those of the last one before, or no place is wanted for them
     data Told (ys : List Part) (last : Option Part) (b : Bytes) : Type 0 where
       among : Contains (map bytes_of ys) b → Told ys last b
-      nowhere : NoneIsWanted g start (part_of v (Some b)) p → Told ys last b
+      nowhere : NoneIsPreferred g start (part_of v (Some b)) p → Told ys last b
       before : (y : Part) → last ≡ Some y → bytes_of y ≡ b → Told ys last b
 
     last_later : (last : Option Part) (from low high : ℕ) → low ≤ high → IsLast last from low → IsLast last from high
@@ -247,7 +247,7 @@ module _ (g : Program) (start p : Pos) (parts : List VarId) (places : List (Opti
     all : All (Given g start p v (place_at places)) group.pieces.items
     all = all_given group.pieces.items is.each bounds
 
-    others : (b : Bytes) → (Contains (map bytes_of told) b → ⊥) → NoneIsWanted g start (part_of v (Some b)) p
+    others : (b : Bytes) → (Contains (map bytes_of told) b → ⊥) → NoneIsPreferred g start (part_of v (Some b)) p
     others b not q named sits =
         are.others (part_of v (Some b))
         (λ (j, lt, e). at_index j (slice_get_read parts (length parts) j (part_of v (Some b)) refl lt (sym e))) q named sits
@@ -265,9 +265,9 @@ module _ (g : Program) (start p : Pos) (parts : List VarId) (places : List (Opti
             (rises group.pieces.items 0 is.ascend (λ d some. omega arith)) all c.0 x
             (slice_get_read group.pieces.items (length group.pieces.items) c.0 x refl c.1 (sym c.2)))
 
-    pieces_by : (ys : List Part) → NoneIsWanted g start (part_of v None) p → AreWantedPieces g start v p ys → IsWantedLocation g start v p (in_pieces ys)
+    pieces_by : (ys : List Part) → NoneIsPreferred g start (part_of v None) p → AreWantedPieces g start v p ys → IsWantedLocation g start v p (in_pieces ys)
     pieces_by [] whole are = by_bytes where
-      by_bytes : (b : Option Bytes) → NoneIsWanted g start (part_of v b) p
+      by_bytes : (b : Option Bytes) → NoneIsPreferred g start (part_of v b) p
       by_bytes None = whole
       by_bytes (Some b) = are.others b (λ (k, lt, e). omega (arith, lt))
     pieces_by (y ∷ ys) whole are = (whole, are)

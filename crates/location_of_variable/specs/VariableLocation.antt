@@ -5,7 +5,7 @@ use Rattle.mir_func.specs.declared.position.Pos.{Pos}
 use Rattle.mir_func.specs.declared.variable.VarId.{VarId}
 use Rattle.mir_func.specs.Graph.{Program}
 use Rattle.mir_func.specs.Parts.{Bytes}
-use Rattle.sem_mir.specs.PreferredLocation.{IsWanted, NoneIsWanted}
+use Rattle.sem_mir.specs.PreferredLocation.{IsPreferredLocation, NoneIsPreferred}
 use Rattle.dwarf_loclists.specs.declared.range.Part.{Part}
 use Rattle.dwarf_loclists.specs.declared.range.Location.{Location}
 use Rattle.dwarf_loclists.specs.declared.range.Location.TheVariants.{Whole, Parts}
@@ -15,8 +15,8 @@ use Rattle.location_of_variable.specs.declared.group.Group.{Group}
 
 -- the place required for a part of a variable at a position, or None if none is
 abbrev pub IsWantedPlace : (g : Program) (start : Pos) → VarId → Pos → Option Place → Type 0
-IsWantedPlace g start v p None = NoneIsWanted g start v p
-IsWantedPlace g start v p (Some place) = IsWanted g start v p place
+IsWantedPlace g start v p None = NoneIsPreferred g start v p
+IsWantedPlace g start v p (Some place) = IsPreferredLocation g start v p place
 
 -- the bytes of a variable that a piece describes
 abbrev pub bytes_of : Part → Bytes
@@ -25,17 +25,17 @@ bytes_of x = record { offset = x.offset; length = x.length }
 -- the pieces required for a variable at a position: each is at the place required for its bytes and begins at or after the end of
 -- the one before. For other bytes no place is required
 pub record AreWantedPieces (g : Program) (start : Pos) (v : VarId) (p : Pos) (pieces : List Part) : Type 0 where
-  pub each : All (λ x. IsWanted g start (part_of v (Some (bytes_of x))) p x.place) pieces
-  pub others : (b : Bytes) → (Contains (map bytes_of pieces) b → ⊥) → NoneIsWanted g start (part_of v (Some b)) p
+  pub each : All (λ x. IsPreferredLocation g start (part_of v (Some (bytes_of x))) p x.place) pieces
+  pub others : (b : Bytes) → (Contains (map bytes_of pieces) b → ⊥) → NoneIsPreferred g start (part_of v (Some b)) p
   pub ascend : ArePieces 0 pieces
 
 -- the location required for a variable: the place of the whole, if one is required for it; else the pieces for which places are
 -- required, if there are any; else None
 abbrev pub IsWantedLocation : (g : Program) (start : Pos) → VarId → Pos → Option Location → Type 0
-IsWantedLocation g start v p None = (b : Option Bytes) → NoneIsWanted g start (part_of v b) p
-IsWantedLocation g start v p (Some (Whole place)) = IsWanted g start (part_of v None) p place
+IsWantedLocation g start v p None = (b : Option Bytes) → NoneIsPreferred g start (part_of v b) p
+IsWantedLocation g start v p (Some (Whole place)) = IsPreferredLocation g start (part_of v None) p place
 IsWantedLocation g start v p (Some (Parts [])) = ⊥
-IsWantedLocation g start v p (Some (Parts (x ∷ pieces))) = NoneIsWanted g start (part_of v None) p × AreWantedPieces g start v p (x ∷ pieces)
+IsWantedLocation g start v p (Some (Parts (x ∷ pieces))) = NoneIsPreferred g start (part_of v None) p × AreWantedPieces g start v p (x ∷ pieces)
 
 -- the location can be written in a location list, or is None
 abbrev pub MayBeListed : Option Location → Type 0
@@ -47,7 +47,7 @@ MayBeListed (Some l) = IsLocated l
 pub record AreWantedPlaces (g : Program) (start p : Pos) (parts : List VarId) (places : List (Option Place)) : Type 0 where
   pub each : (j : ℕ) (w : VarId) → slice_get parts j ≡ Some w → IsWantedPlace g start w p (slice_index_or places j None)
   pub listed : (j : ℕ) (place : Place) → slice_index_or places j None ≡ Some place → IsListed place
-  pub others : (w : VarId) → (Contains parts w → ⊥) → NoneIsWanted g start w p
+  pub others : (w : VarId) → (Contains parts w → ⊥) → NoneIsPreferred g start w p
 
 -- the location required for the variable of a group wherever these places are those required for the parts
 pub record IsLocationBy (group : Group) (places : List (Option Place)) (o : Option Location) : Type 0 where

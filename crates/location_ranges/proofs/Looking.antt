@@ -14,7 +14,7 @@ use Rattle.mir_func.specs.declared.position.Pos.{Pos}
 use Rattle.mir_func.specs.declared.variable.VarId.{VarId}
 use Rattle.mir_func.specs.Graph.{Program, block_start}
 use Rattle.mir_func.specs.Successors.{pos_in}
-use Rattle.sem_mir.specs.PreferredLocation.{NoneIsWanted}
+use Rattle.sem_mir.specs.PreferredLocation.{NoneIsPreferred}
 use Rattle.sem_value_ids.specs.Pullback.{OfVariable}
 use Rattle.value_solver.specs.declared.tracked.Tracked.{Tracked}
 use Rattle.value_solver.specs.declared.tracked.Tracked.TheVariants.{Pair, Part, Number}
@@ -88,7 +88,7 @@ module _ (blocks : List Block) (v : Values) (index : TrackedIndex) (are : AreVal
   abbrev found_at : ℕ → Option Place
   found_at j = slice_index_or found j None
 
-  others : (w : VarId) → (Contains v.variables.now w → ⊥) → NoneIsWanted g (block_start 0) w here
+  others : (w : VarId) → (Contains v.variables.now w → ⊥) → NoneIsPreferred g (block_start 0) w here
   others w not =
       unmarked_is_nowhere g (block_start 0) here (map thing v.things.now) are.of w (λ c.
       let h = at_thing v.things.now w c in
@@ -133,7 +133,7 @@ module _ (blocks : List Block) (v : Values) (index : TrackedIndex) (are : AreVal
 
   -- where none does
   module _ (off : s.reached ≡ false) where
-    nowhere : (w : VarId) → NoneIsWanted g (block_start 0) w here
+    nowhere : (w : VarId) → NoneIsPreferred g (block_start 0) w here
     nowhere w place named sits = stands.unreached off sits.reached
 
     found_none : (j : ℕ) → found_at j ≡ None

@@ -55,14 +55,14 @@ module _ (enter : ℕ → ℕ) (p : Pos) where
 
   row_falls : (r : Row) → RowEdge enter r p (below p) → Falls (row_exit r)
   row_falls (Jumps target) e = no_start (enter target) e
-  row_falls (Returns results) e = e
+  row_falls (Returns ending) e = e
   row_falls Unfit e = e
   row_falls _ e = tt
 
   falls_row : (r : Row) → Falls (row_exit r) → RowEdge enter r p (below p)
   falls_row (Branches op a b target) e = inr refl
   falls_row (Jumps target) e = absurd e
-  falls_row (Returns results) e = absurd e
+  falls_row (Returns ending) e = absurd e
   falls_row Unfit e = absurd e
   falls_row _ e = refl
 

@@ -1,10 +1,10 @@
 -- What stands in a function with its frame, and where it comes from in the source.
-use Rattle.std.proofs.Common.{◌≡◌, ◌⊎◌, ℕ, zero, suc, ◌+◌, ◌*◌, ◌<◌, ◌≤◌, List, [], ◌∷◌, drop, map, length, All, Contains, slice_get, Option, Some, None}
+use Rattle.std.proofs.Common.{◌≡◌, ◌⊎◌, ℕ, zero, suc, ◌+◌, ◌*◌, ◌<◌, ◌≤◌, List, [], ◌∷◌, drop, length, All, Contains, slice_get, Option, Some, None}
 use Rattle.std.proofs.Common.{true}
 use Rattle.std.proofs.Common.{IsSome, refl, sym, ap, ◌∙◌, subst, inl, inr, arith}
 use Rattle.std.proofs.lemmas.List.Elements.{All-contains}
 use Rattle.rv64_instr.specs.Instruction.{Instruction}
-use Rattle.rv64_instr.specs.Parts.{is_call}
+use Rattle.rv64_instr.specs.LocationEffects.{is_call}
 use Rattle.rv64_instr.specs.Row.{Row, Fixes, Moves, Sets, Addresses, Loads, Stores, LoadsSlot, StoresSlot, Branches, Jumps, Calls, Returns, Unfit, add_row}
 use Rattle.rv64_instr.specs.Row.{row_of}
 use Rattle.rv64_instr.specs.Arithmetic.{word}
@@ -23,13 +23,14 @@ use Rattle.mir_func.specs.Function.{Function}
 use Rattle.mir_func.specs.Graph.{Fetch, Here, EndOfBlock, Outside, Program, below, front, fetch_in, from_block, program_of}
 use Rattle.mir_func.specs.Sound.{ids_of}
 use Rattle.mir_func.specs.SoundFrame.{IsFramed}
-use Rattle.sem_mir.specs.Align.{position_of, is_code}
+use Rattle.mir_func.specs.Positions.{position_of}
+use Rattle.sem_mir.specs.Align.{is_code}
 use Rattle.sem_mir.specs.Follow.{MayAdd, ItemHasClass, HasClass, RowFits, KindFits, next_rank, InOrder, Among, none}
 use Rattle.rv64_instr.specs.View.{class_of, Class, Return, Odd}
 use Rattle.sem_mir.specs.Follow.{same, left}
 use Rattle.sem_mir.specs.State.{Core, content}
-use Rattle.sem_mir.specs.Step.{Outcome, Falls, Goes, Gives, Traps, Asks, Breaks, Faulted, act, does, read, numbered, with_core, do_item, do_fetch, moved}
-use Rattle.sem_mir.specs.Step.{step}
+use Rattle.sem_mir.specs.Step.{Outcome, Falls, Goes, Gives, Traps, Asks, Breaks, Faulted, act, does, numbered, with_core, do_item, do_fetch, moved}
+use Rattle.sem_mir.specs.Step.{step, result_at}
 use Rattle.sem_mir.proofs.Reading.{found_in, front_item}
 use Rattle.sem_simulation.proofs.Order.{rank_high}
 use Rattle.machine_steps_proof.specs.Laid.{fetched}
@@ -69,12 +70,12 @@ renamed_exit slots _ = refl
 
 -- a return, or no code
 final_class : (r : Row) → row_exit r ≡ Final → (class_of r ≡ Return) ⊎ (class_of r ≡ Odd)
-final_class (Returns results) e = inl refl
+final_class (Returns ending) e = inl refl
 final_class Unfit e = inr refl
 final_class _ e = cc
 
 pub final_not_added : (r : Row) (k source_end : ℕ) → row_exit r ≡ Final → MayAdd r k source_end → ⊥
-final_not_added (Returns results) k source_end e h = h
+final_not_added (Returns ending) k source_end e h = h
 final_not_added Unfit k source_end e h = h
 final_not_added (Fixes rd n) k source_end e h = cc
 final_not_added (LoadsSlot rd n) k source_end e h = cc
@@ -94,7 +95,7 @@ branch_not_added _ k source_end n e h = h
 return_goes : (r : Row) (c : Core) → (class_of r ≡ Return) ⊎ (class_of r ≡ Odd) → ResultsArePhysical r → ((q : ℕ) → q < 32 → IsSome (content c.regs q)) →
     act r c ≡ Traps → ⊥
 unfolding does
-return_goes (Returns results) c k p w e = let bad : Gives (map (read c) results) ≡ Traps = sym (acts (Returns results) c w p) ∙ e in cc
+return_goes (Returns ending) c k p w e = let bad : Gives (result_at c ending) ≡ Traps = sym (acts (Returns ending) c w p) ∙ e in cc
 return_goes Unfit c k p w e = let bad : Breaks ≡ Traps = sym (acts Unfit c w (Rattle.std.proofs.lemmas.List.Elements.All-nil (λ (r : ℕ). r < 32))) ∙ e in cc
 return_goes (Fixes rd n) c (inl k) p w e = cc
 return_goes (Fixes rd n) c (inr k) p w e = cc
@@ -116,8 +117,8 @@ return_goes (Branches op a b t) c (inl k) p w e = cc
 return_goes (Branches op a b t) c (inr k) p w e = cc
 return_goes (Jumps t) c (inl k) p w e = cc
 return_goes (Jumps t) c (inr k) p w e = cc
-return_goes (Calls name args) c (inl k) p w e = cc
-return_goes (Calls name args) c (inr k) p w e = cc
+return_goes (Calls call) c (inl k) p w e = cc
+return_goes (Calls call) c (inr k) p w e = cc
 
 with_traps : (j : Core → Core) (x : Outcome) → with_core j x ≡ Traps → x ≡ Traps
 with_traps j Traps e = refl

@@ -2,7 +2,7 @@
 use Rattle.std.proofs.Common.{◌≡◌, ◌⊎◌, ℕ, zero, suc, ◌*◌, ◌<◌, ◌≤◌, List, [], ◌∷◌, slice_get}
 use Rattle.std.proofs.Common.{Some, None, true, false}
 use Rattle.std.proofs.Common.{refl, sym, ap, ◌∙◌, subst, inl, inr, arith}
-use Rattle.rv64_instr.specs.Parts.{IsSlotStore}
+use Rattle.rv64_instr.specs.LocationEffects.{IsSlotStore}
 use Rattle.rv64_instr.specs.Row.{Row, Fixes, LoadsSlot, StoresSlot, Jumps, Returns, Unfit, row_of}
 use Rattle.mir_func.specs.declared.exit.Exit.{Exit}
 use Rattle.mir_func.specs.declared.exit.Exit.TheVariants.{Onward, Always, Final}
@@ -12,9 +12,10 @@ use Rattle.mir_func.specs.declared.item.ItemKind.TheVariants.{Code, Mark, Phi}
 use Rattle.mir_func.specs.declared.position.Origin.{Origin}
 use Rattle.mir_func.specs.declared.position.Origin.TheVariants.{Kept, Before}
 use Rattle.mir_func.specs.declared.position.Pos.{Pos}
-use Rattle.mir_func.specs.Exits.{row_exit, exit_of, is_final}
+use Rattle.mir_func.specs.Exits.{row_exit, exit_of, row_leads_back}
 use Rattle.mir_func.specs.Sound.{EndsWell, MayFollow}
-use Rattle.sem_mir.specs.Align.{position_of, is_code, is_jump, is_jump_row, waits_at}
+use Rattle.mir_func.specs.Positions.{position_of}
+use Rattle.sem_mir.specs.Align.{is_code, is_jump, is_jump_row, waits_at}
 use Rattle.sem_mir.specs.Follow.{OnRow, MayAdd, next_rank}
 use Rattle.sem_mir.specs.Follow.{Counts}
 
@@ -73,14 +74,14 @@ end_row (LoadsSlot rd n) k source_end e h = absurd (omega (arith, e, h))
 end_row _ k source_end e h = absurd h
 
 pub final_row : (r : Row) → row_exit r ≡ Final → IsSlotStore r ⊎ (is_jump_row r ≡ true) → ⊥
-final_row (Returns results) e (inl h) = h
-final_row (Returns results) e (inr h) = cc
+final_row (Returns ending) e (inl h) = h
+final_row (Returns ending) e (inr h) = cc
 final_row Unfit e (inl h) = h
 final_row Unfit e (inr h) = cc
 final_row _ e h = cc
 
-pub row_goes : (r : Row) → IsSlotStore r ⊎ (is_jump_row r ≡ true) → is_final (row_exit r) ≡ false
-row_goes (Returns results) h = absurd (final_row (Returns results) refl h)
+pub row_goes : (r : Row) → IsSlotStore r ⊎ (is_jump_row r ≡ true) → row_leads_back r ≡ false
+row_goes (Returns ending) h = absurd (final_row (Returns ending) refl h)
 row_goes Unfit h = absurd (final_row Unfit refl h)
 row_goes _ h = refl
 

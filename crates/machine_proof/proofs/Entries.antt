@@ -21,6 +21,7 @@ use Rattle.emit_code.specs.Rule.{Site, sites_of, entries_at, entries_of}
 use Rattle.emit_code.specs.Listed.{form_lines, kind_lines, lines_at}
 use Rattle.emit_code.proofs.Sites.{site_from}
 use Rattle.emit_code.proofs.Settled as settled
+use Rattle.emit_code.proofs.Stand.{row_something, long_exits}
 use Rattle.machine_steps_proof.specs.Laid.{fetched}
 use Rattle.machine_steps_proof.proofs.Points.{got, dropped, stands_at}
 use Rattle.machine_steps_proof.proofs.Addresses.{address_next}
@@ -70,13 +71,8 @@ map_append g (x ∷ xs) ys = ap (λ (zs : List _). g x ∷ zs) (map_append g xs 
 
 -- ---- forms
 
-row_stands : (long : Bool) (r : Row) → row_form long r ≡ Nothing → ⊥
-row_stands true (Branches op a b t) e = cc
-row_stands false (Branches op a b t) e = cc
-row_stands long _ e = cc
-
 code_stands : (long : Bool) (k : ItemKind) → is_code k ≡ true → form_of long k ≡ Nothing → ⊥
-code_stands long (Code c n) code e = row_stands long (row_of c) e
+code_stands long (Code c n) code e = row_something long (row_of c) e
 code_stands long (Mark v m) code e = cc
 code_stands long (Phi p n) code e = cc
 
@@ -98,13 +94,8 @@ form_code long (Mark v m) h = absurd (h refl)
 form_code long (Phi p n) h = absurd (h refl)
 
 -- a long branch is a conditional one
-long_is : (long : Bool) (r : Row) (n : ℕ) → row_form long r ≡ LongBranch n → row_exit r ≡ Perhaps n
-long_is true (Branches op a b t) n e = let same : t ≡ n = cc in ap Perhaps same
-long_is false (Branches op a b t) n e = cc
-long_is long _ n e = cc
-
 long_exit : (long : Bool) (k : ItemKind) (n : ℕ) → form_of long k ≡ LongBranch n → exit_of k ≡ Perhaps n
-long_exit long (Code c j) n e = long_is long (row_of c) n e
+long_exit long (Code c j) n e = long_exits long (row_of c) n e
 long_exit long (Mark v m) n e = cc
 long_exit long (Phi p j) n e = cc
 

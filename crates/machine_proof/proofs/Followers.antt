@@ -6,15 +6,18 @@ use Rattle.std.specs.List.{list_all}
 use Rattle.std.proofs.lemmas.Bool.{and_parts}
 use Rattle.std.proofs.lemmas.List.Elements.{All-nil, All-cons, All-weaker}
 use Rattle.rv64_instr.specs.declared.op.Op.{Op}
-use Rattle.rv64_instr.specs.declared.op.Op.TheVariants.{Registers, Immediate, Lui, Branch, Load, Store, Copy, PseudoBr, PseudoCall, PseudoRet}
+use Rattle.rv64_instr.specs.declared.op.Op.TheVariants.{Registers, Immediate, Lui, Branch, Load, Store, Copy}
+use Rattle.rv64_instr.specs.declared.op.Op.TheVariants.{PseudoBr, PseudoCall, PseudoRet, PseudoCallIndirect}
+use Rattle.rv64_instr.specs.declared.op.Op.TheVariants.{PseudoTail, PseudoTailIndirect, NoReturnCall, NoReturnCallIndirect}
 use Rattle.rv64_instr.specs.declared.op.ImmediateOp.{ImmediateOp}
 use Rattle.rv64_instr.specs.declared.op.ImmediateOp.TheVariants.{Addi}
 use Rattle.rv64_instr.specs.declared.operand.Operand.{Operand}
-use Rattle.rv64_instr.specs.declared.operand.Operand.TheVariants.{Def, Use, ImplicitUse, Imm, Slot, Object, Block as BlockOperand, Symbol}
+use Rattle.rv64_instr.specs.declared.operand.Operand.TheVariants.{Def, Use, ImplicitUse, Imm, Slot, Object, Block as BlockOperand, Symbol, Mask}
 use Rattle.rv64_instr.specs.declared.place.Place.{Place}
 use Rattle.rv64_instr.specs.Arithmetic.{word}
 use Rattle.rv64_instr.specs.Form.{has_form, is_result}
-use Rattle.rv64_instr.specs.Row.{row_by, move_row, immediate_row, object_row, implicit_uses}
+use Rattle.rv64_instr.specs.Row.{row_by, move_row, immediate_row, object_row, implicit_uses, held_call, held_tail, held_gone}
+use Rattle.rv64_instr.proofs.Tails.{tails_low, held_low}
 use Rattle.mir_func.specs.declared.block.Block.{Block}
 use Rattle.mir_func.specs.declared.debug_substitution.OperandPair.{OperandPair}
 use Rattle.mir_func.specs.declared.item.Item.{Item}
@@ -25,7 +28,8 @@ use Rattle.mir_func.specs.declared.variable.VarId.{VarId}
 use Rattle.mir_func.specs.Function.{Function}
 use Rattle.mir_func.specs.Graph.{program_of, framed_program}
 use Rattle.mir_func.specs.Sound.{HasForm}
-use Rattle.sem_mir.specs.Follow.{Follows, IsStart, first_of}
+use Rattle.sem_mir.specs.InitialState.{IsInitialState, first_of}
+use Rattle.sem_mir.specs.Follow.{Follows}
 use Rattle.sem_simulation.proofs.Words.{words_follow}
 use Rattle.frame_rule.specs.Rule.{framed_of}
 use Rattle.frame_proof.proofs.FrameFollows.{frame_follows}
@@ -36,7 +40,7 @@ use Rattle.machine_proof.specs.Followers.{IsFollower, FollowersMeetTheHeadline}
 use Rattle.machine_proof.proofs.Quiet.{comes_from}
 use Rattle.machine_proof.proofs.Turns.{plain_turns}
 
--- ---- what a return gives is in x10 to x17
+-- ---- what is passed where control leaves the function is in registers
 
 results_low : (os : List Operand) → list_all is_result os ≡ true → All (λ r. r < 32) (implicit_uses os)
 results_low [] e = All-nil (λ (r : ℕ). r < 32)
@@ -49,6 +53,18 @@ results_low (ImplicitUse r ∷ rest) e =
       by_test true here more = more
       by_test false here more = All-cons (λ (q : ℕ). q < 32) r (implicit_uses rest) here more
 results_low (_ ∷ rest) e = cc
+
+held_call_plain : (xs : List ℕ) → ResultsArePhysical (held_call xs)
+held_call_plain [] = tt
+held_call_plain (r ∷ xs) = tt
+
+held_tail_low : (xs : List ℕ) → All (λ r. r < 32) xs → ResultsArePhysical (held_tail xs)
+held_tail_low [] h = tt
+held_tail_low (r ∷ xs) h = h
+
+held_gone_low : (xs : List ℕ) → All (λ r. r < 32) xs → ResultsArePhysical (held_gone xs)
+held_gone_low [] h = tt
+held_gone_low (r ∷ xs) h = h
 
 immediate_plain : (op : ImmediateOp) (rd a n : ℕ) → ResultsArePhysical (immediate_row op rd a n)
 immediate_plain Addi rd zero n = tt
@@ -66,6 +82,14 @@ move_plain rd (suc r) = tt
 
 by_op : (op : Op) (os : List Operand) → IsTrue (has_form op os) → ResultsArePhysical (row_by op os)
 by_op PseudoRet os h = results_low os h
+by_op PseudoCallIndirect os h = held_call_plain (implicit_uses os)
+by_op PseudoTail (Symbol name ∷ rest) h = tails_low rest h
+by_op PseudoTailIndirect (ImplicitUse r ∷ rest) h = held_tail_low (implicit_uses (ImplicitUse r ∷ rest)) (held_low r rest h)
+by_op PseudoTailIndirect _ h = absurd cc
+by_op NoReturnCall (Symbol name ∷ Mask ∷ rest) h = tails_low rest h
+by_op NoReturnCall _ h = absurd cc
+by_op NoReturnCallIndirect (ImplicitUse r ∷ Mask ∷ rest) h = held_gone_low (implicit_uses (ImplicitUse r ∷ Mask ∷ rest)) (held_low r rest h)
+by_op NoReturnCallIndirect _ h = absurd cc
 by_op (Registers op) (Def rd ∷ Use a ∷ Use b ∷ rest) h = tt
 by_op (Immediate op) (Def rd ∷ Use a ∷ Imm i ∷ rest) h = immediate_plain op rd a (word i)
 by_op (Immediate op) (Def rd ∷ Object n ∷ Imm i ∷ rest) h = object_plain op rd n (word i)
@@ -106,7 +130,7 @@ followers_meet_the_headline lists source f resolve fresolve image h framed gives
       follows = λ s start. words_follow IsInner (program_of true source.blocks resolve) (framed_program (framed_of f).blocks fresolve) s (start_beside s)
           (frame_follows source.blocks f resolve fresolve h.sound h.form
           (subst (λ (os : List StackObject). Follows os source.blocks f.blocks resolve fresolve) (sym h.objects) h.follows) s
-          (subst (λ (os : List StackObject). IsStart os (first_of source.blocks) s) (sym h.objects) start))
+          (subst (λ (os : List StackObject). IsInitialState os (first_of source.blocks) s) (sym h.objects) start))
           (plain_turns source f resolve fresolve made framed);
       keeps = gives_back;
     }) laid wanted

@@ -4,8 +4,7 @@ use Rattle.std.proofs.Common.{Contains, slice_get}
 use Rattle.std.proofs.Common.{Some, None, Bool, true, false, cond, refl, sym, ap, ◌∙◌, subst, inl, inr, arith}
 use Rattle.rv64_instr.specs.Instruction.{Instruction}
 use Rattle.rv64_instr.specs.Row.{row_of}
-use Rattle.mir_func.specs.declared.exit.Exit.{Exit}
-use Rattle.mir_func.specs.declared.exit.Exit.TheVariants.{Onward, Perhaps, Always, Final}
+use Rattle.mir_func.specs.declared.exit.Exit.TheVariants.{Onward, Final}
 use Rattle.mir_func.specs.declared.block.Block.{Block}
 use Rattle.mir_func.specs.declared.framed.SavedRegister.{SavedRegister}
 use Rattle.mir_func.specs.declared.item.Item.{Item}
@@ -13,13 +12,14 @@ use Rattle.mir_func.specs.declared.item.ItemKind.TheVariants.{Code}
 use Rattle.mir_func.specs.declared.position.Origin.{Origin}
 use Rattle.mir_func.specs.declared.position.Origin.TheVariants.{Kept, Before}
 use Rattle.mir_func.specs.declared.position.Pos.{Pos}
-use Rattle.mir_func.specs.Exits.{row_exit, exit_of, is_final}
+use Rattle.mir_func.specs.Exits.{row_exit, exit_of, leads_back}
 use Rattle.mir_func.specs.Function.{Function}
 use Rattle.mir_func.specs.Graph.{Here, block_start}
 use Rattle.mir_func.specs.SoundFrame.{adds_to_pointer, saves, restores, prologue_code, epilogue_code}
-use Rattle.sem_mir.specs.Align.{position_of}
+use Rattle.mir_func.proofs.Leading.{leads_out}
+use Rattle.mir_func.specs.Positions.{position_of}
 use Rattle.sem_mir.specs.Follow.{rank, next_rank, InOrder}
-use Rattle.frame_rule.specs.Rule.{size_of, saved_of, added, added_all, position_in, epilogue, renamed, framed_item, framed_items}
+use Rattle.frame_rule.specs.Rule.{size_of, saved_of, added, added_all, epilogue, renamed, framed_item, framed_items}
 use Rattle.frame_rule.specs.Rule.{framed_block, framed_blocks, framed_of}
 use Rattle.machine_steps_proof.specs.Laid.{fetched}
 use Rattle.machine_steps_proof.proofs.Points.{StandsAt, stands_at}
@@ -41,10 +41,6 @@ in_append (a ∷ xs) ys (suc k) x e = elim (in_append xs ys k x e) as
       | inl h ↦ inl h
       | inr h ↦ inr (h.0, (let q = h.1 in omega (arith, q)), h.2)
     ]
-
-pub same_position : (o : Origin) → position_in o ≡ position_of o
-same_position (Kept p) = refl
-same_position (Before p) = refl
 
 -- code that was added
 pub record IsAdded (o : Origin) (code : List Instruction) (i : Item) : Type 0 where
@@ -102,42 +98,36 @@ frame_onward c (adds z e) = ap (λ (x : Instruction). row_exit (row_of x)) e ∙
 frame_onward c (stores s e) = ap (λ (x : Instruction). row_exit (row_of x)) e
 frame_onward c (loads s e) = ap (λ (x : Instruction). row_exit (row_of x)) e
 
-pub is_final_is : (x : Exit) → is_final x ≡ true → x ≡ Final
-is_final_is Final e = refl
-is_final_is Onward e = cc
-is_final_is (Perhaps n) e = cc
-is_final_is (Always n) e = cc
-
 -- the index where what an item becomes begins
 abbrev pub index_in : Function → List Item → ℕ → ℕ
 index_in f xs n = length (framed_items f (take n xs))
 
--- an item of a block with epilogues: an item of the block, or code of the epilogue of a return
+-- an item of a block with epilogues: an item of the block, or code of the epilogue before one
 pub data IsFramedItem (f : Function) (xs : List Item) (k : ℕ) (i : Item) : Type 0 where
-  own : (n : ℕ) (x : Item) → slice_get xs n ≡ Some x → i ≡ renamed f.slots x → (is_final (exit_of x.kind) ≡ false → k ≡ index_in f xs n) → IsFramedItem f xs k i
+  own : (n : ℕ) (x : Item) → slice_get xs n ≡ Some x → i ≡ renamed f.slots x → (leads_back x.kind ≡ false → k ≡ index_in f xs n) → IsFramedItem f xs k i
   gives_back : (n : ℕ) (x : Item) → slice_get xs n ≡ Some x → exit_of x.kind ≡ Final →
-      IsAdded (Before (position_in x.origin)) (epilogue_code (size_of f) (saved_of f)) i → IsFramedItem f xs k i
+      IsAdded (Before (position_of x.origin)) (epilogue_code (size_of f) (saved_of f)) i → IsFramedItem f xs k i
 
 pub framed_item_is : (f : Function) (xs : List Item) (k : ℕ) (i : Item) → slice_get (framed_items f xs) k ≡ Some i → IsFramedItem f xs k i
 framed_item_is f [] k i e = cc
 framed_item_is f (x ∷ xs) k i e =
     by_rest (in_append (framed_item f x) (framed_items f xs) k i e) (λ m h. framed_item_is f xs m i h)
   where
-    one : (m : ℕ) → k ≡ length (cond (is_final (exit_of x.kind)) (epilogue f x.origin) []) + m → slice_get (renamed f.slots x ∷ []) m ≡ Some i →
+    one : (m : ℕ) → k ≡ length (cond (leads_back x.kind) (epilogue f x.origin) []) + m → slice_get (renamed f.slots x ∷ []) m ≡ Some i →
         IsFramedItem f (x ∷ xs) k i
     one zero ek h =
         let same : renamed f.slots x ≡ i = cc in
         own 0 x refl (sym same) (λ no_return. ek ∙ ap (λ (b : Bool). length (cond b (epilogue f x.origin) []) + 0) no_return)
     one (suc m) ek h = cc
 
-    by_exit : (b : Bool) → is_final (exit_of x.kind) ≡ b → (m : ℕ) → slice_get (cond b (epilogue f x.origin) []) m ≡ Some i → IsFramedItem f (x ∷ xs) k i
-    by_exit true t m h = gives_back 0 x refl (is_final_is (exit_of x.kind) t)
-        (added_item (size_of f) (Before (position_in x.origin)) (epilogue_code (size_of f) (saved_of f)) m i h)
+    by_exit : (b : Bool) → leads_back x.kind ≡ b → (m : ℕ) → slice_get (cond b (epilogue f x.origin) []) m ≡ Some i → IsFramedItem f (x ∷ xs) k i
+    by_exit true t m h = gives_back 0 x refl (leads_out x.kind t)
+        (added_item (size_of f) (Before (position_of x.origin)) (epilogue_code (size_of f) (saved_of f)) m i h)
     by_exit false t m h = cc
 
     in_item : slice_get (framed_item f x) k ≡ Some i → IsFramedItem f (x ∷ xs) k i
-    in_item h = elim (in_append (cond (is_final (exit_of x.kind)) (epilogue f x.origin) []) (renamed f.slots x ∷ []) k i h) as
-        (λ _. IsFramedItem f (x ∷ xs) k i) [ inl y ↦ by_exit (is_final (exit_of x.kind)) refl k y | inr y ↦ one y.0 y.1 y.2 ]
+    in_item h = elim (in_append (cond (leads_back x.kind) (epilogue f x.origin) []) (renamed f.slots x ∷ []) k i h) as
+        (λ _. IsFramedItem f (x ∷ xs) k i) [ inl y ↦ by_exit (leads_back x.kind) refl k y | inr y ↦ one y.0 y.1 y.2 ]
 
     later : (m : ℕ) → k ≡ length (framed_item f x) + m → IsFramedItem f xs m i → IsFramedItem f (x ∷ xs) k i
     later m ek (own n y h same ix) = own (suc n) y h same (λ no_return. (let q = ix no_return in let l = length-append (framed_item f x) (framed_items f
@@ -252,8 +242,8 @@ added_order b q n o (c ∷ code) ys home next here le h = (
 pub framed_order : (f : Function) (b n : ℕ) (xs : List Item) → n % 2 ≡ 0 → InOrder b n xs → InOrder b n (framed_items f xs)
 framed_order f b n [] even h = tt
 framed_order f b n (x ∷ xs) even h =
-    subst (InOrder b n) (sym (append_more (cond (is_final (exit_of x.kind)) (epilogue f x.origin) []) (renamed f.slots x) (framed_items f xs)))
-    (by_exit (is_final (exit_of x.kind)) (rest x h.0 h.1 (framed_order f b (next_rank x.origin) xs (even_next x.origin) h.2)))
+    subst (InOrder b n) (sym (append_more (cond (leads_back x.kind) (epilogue f x.origin) []) (renamed f.slots x) (framed_items f xs)))
+    (by_exit (leads_back x.kind) (rest x h.0 h.1 (framed_order f b (next_rank x.origin) xs (even_next x.origin) h.2)))
   where
     append_more : (es : List Item) (y : Item) (zs : List Item) → (es ++ y ∷ []) ++ zs ≡ es ++ (y ∷ zs)
     append_more [] y zs = refl
@@ -279,13 +269,12 @@ framed_order f b n (x ∷ xs) even h =
       at_least (Before p) = omega arith
 
     by_size : (size : ℕ) → (n ≤ 2 * q) × ((position_of x.origin).block ≡ b) × InOrder b (2 * q) (renamed f.slots x ∷ framed_items f xs) →
-        InOrder b n (added_all size (Before (position_in x.origin)) (epilogue_code (size_of f) (saved_of f)) ++ (renamed f.slots x ∷ framed_items f xs))
+        InOrder b n (added_all size (Before (position_of x.origin)) (epilogue_code (size_of f) (saved_of f)) ++ (renamed f.slots x ∷ framed_items f xs))
     by_size zero r = in_order_less b n (2 * q) (renamed f.slots x ∷ framed_items f xs) r.0 r.2
     by_size (suc m) r =
-        let e = ap (λ (p : Pos). p.item) (same_position x.origin) in
-        let w : 2 * (position_in x.origin).item ≡ 2 * q = ap (λ (z : ℕ). 2 * z) e in
-        added_order b q n (Before (position_in x.origin)) (epilogue_code (size_of f) (saved_of f)) (renamed f.slots x ∷ framed_items f xs)
-        (ap (λ (p : Pos). p.block) (same_position x.origin) ∙ r.1) w w r.0 r.2
+        let w : 2 * (position_of x.origin).item ≡ 2 * q = refl in
+        added_order b q n (Before (position_of x.origin)) (epilogue_code (size_of f) (saved_of f)) (renamed f.slots x ∷ framed_items f xs)
+        r.1 w w r.0 r.2
 
     by_exit : (z : Bool) → (n ≤ 2 * q) × ((position_of x.origin).block ≡ b) × InOrder b (2 * q) (renamed f.slots x ∷ framed_items f xs) →
         InOrder b n (cond z (epilogue f x.origin) [] ++ (renamed f.slots x ∷ framed_items f xs))

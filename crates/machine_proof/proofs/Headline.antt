@@ -16,10 +16,10 @@ use Rattle.mir_func.specs.Exits.{exit_of}
 use Rattle.mir_func.specs.Function.{Function, FramedFunction}
 use Rattle.mir_func.specs.Graph.{Here, Program, below, block_start, program_of, framed_program}
 use Rattle.mir_func.specs.SoundFrame.{IsFramed}
-use Rattle.sem_mir.specs.Align.{position_of, is_code, waits_at, ByWords, sync_point_of, Since, Start, Same, After, since_of, First, MatchesNext}
+use Rattle.sem_mir.specs.Align.{is_code, waits_at, ByWords, sync_point_of, Since, Start, Same, After, since_of, First, MatchesNext}
 use Rattle.sem_mir.specs.Align.{begin, FailsBefore}
-use Rattle.sem_mir.specs.State.{Core, State}
-use Rattle.sem_mir.specs.Step.{Returned, read, step}
+use Rattle.sem_mir.specs.State.{Core, State, RunResult}
+use Rattle.sem_mir.specs.Step.{Returned, read, step, called_at}
 use Rattle.sem_simulation.specs.Words.{Shown}
 use Rattle.sem_simulation.proofs.Order.{cases_pos}
 use Rattle.sem_simulation.proofs.Stations.{code_sync_point}
@@ -35,12 +35,14 @@ use Rattle.machine_steps_proof.proofs.Quiet.{steps_beside}
 use Rattle.machine_steps_proof.proofs.Sites.{step_lands}
 use Rattle.machine_proof.specs.Runs.{FallsTo, ComesFrom, start_beside, RunsBeside}
 use Rattle.machine_proof.proofs.Sources.{IsWritten, aligns_written}
-use Rattle.sem_mir.specs.Step.{Outcome, Falls, Goes, Gives, Traps, Asks, Breaks, act, does, with_core, numbered, moved, do_item, answered, slot_loaded}
+use Rattle.sem_mir.specs.Step.{Outcome, Falls, Goes, Gives, Traps, Asks, Breaks}
+use Rattle.sem_mir.specs.Step.{act, does, with_core, numbered, moved, do_item, exec_external_call, slot_loaded}
 use Rattle.sem_mir.specs.Step.{is_fault, address_at}
 use Rattle.sem_mir.specs.State.{Reply, writes_frame}
 use Rattle.mir_func.specs.Exits.{row_exit}
 use Rattle.rv64_instr.specs.Row.{Loads, Stores, LoadsSlot, Branches, Calls, Returns}
 use Rattle.rv64_instr.specs.Arithmetic.{taken, load_width, store_width}
+use Rattle.rv64_instr.specs.declared.start.CallTarget.{CallTarget}
 use Rattle.machine_proof.proofs.Stages.{falls_to, one_machine, IsCode, as_code, g, AlongWords, Counts, Stage, level, second, late, late_second, dead, MetAt}
 use Rattle.machine_proof.proofs.Stages.{IsCarried, IsQuiet, falls_on, long_branch}
 use Rattle.machine_proof.proofs.Telling.{code_tells, held_by}
@@ -50,6 +52,7 @@ use Rattle.sem_simulation.proofs.Turns.{same_code}
 use Rattle.machine_steps_proof.specs.Pointer.{IsPointerAt}
 use Rattle.machine_proof.proofs.Stages.{Settled, settle, SettledLate, settle_late, filled_by, late_step}
 use Rattle.mir_func.specs.Objects.{area_of}
+use Rattle.mir_func.specs.Positions.{position_of}
 use Rattle.sem_mir.proofs.Alignment.{aligns_once, aligns_not_fails}
 use Rattle.sem_machine.specs.Headline.{AlignsWith, MachineAlong, at_start, after_step, Headline}
 use Rattle.machine_steps_proof.proofs.Lands.{first_lands}
@@ -72,9 +75,9 @@ loaded_gives : (P : Type 0) (c : Core) (rd : ℕ) (x : Option ℕ) → OnGives P
 loaded_gives P c rd None = tt
 loaded_gives P c rd (Some v) = tt
 
-answered_gives : (P : Type 0) (c : Core) (name args : List ℕ) (rs : List Reply) → OnGives P (answered name args c rs)
-answered_gives P c name args [] = tt
-answered_gives P c name args (x ∷ rs) = either_gives P (writes_frame c.entry c.area x.writes) Traps _ tt tt
+answered_gives : (P : Type 0) (c : Core) (t : CallTarget) (args : List ℕ) (rs : List Reply) → OnGives P (exec_external_call t args c rs)
+answered_gives P c t args [] = tt
+answered_gives P c t args (x ∷ rs) = either_gives P (writes_frame c.entry c.area x.writes) Traps _ tt tt
 
 row_gives : (r : Row) (c : Core) → OnGives (row_exit r ≡ Final) (does r c)
 unfolding does
@@ -82,7 +85,7 @@ row_gives (Loads rd op b o) c = either_gives _ (is_fault b c (address_at c b o) 
 row_gives (Stores op rs b o) c = either_gives _ (is_fault b c (address_at c b o) (store_width op)) Traps _ tt tt
 row_gives (LoadsSlot rd n) c = loaded_gives _ c rd (c.slots n)
 row_gives (Branches op a b t) c = either_gives _ (taken op (read c a) (read c b)) (Goes t c) (Falls c) tt tt
-row_gives (Calls name args) c = answered_gives _ c name (Rattle.std.proofs.Common.map (read c) args) c.script
+row_gives (Calls call) c = answered_gives _ c (called_at c call.callee) (Rattle.std.proofs.Common.map (read c) call.args) c.script
 row_gives (Returns v) c = refl
 row_gives _ c = tt
 
@@ -98,7 +101,7 @@ with_gives P j Traps h = tt
 with_gives P j Asks h = tt
 with_gives P j Breaks h = tt
 
-moved_gives : (P : Type 0) (enter : ℕ → ℕ) (p : Pos) (x : Outcome) (v : List ℕ) → OnGives P x → moved enter p x ≡ Returned v → P
+moved_gives : (P : Type 0) (enter : ℕ → ℕ) (p : Pos) (x : Outcome) (v : RunResult) → OnGives P x → moved enter p x ≡ Returned v → P
 moved_gives P enter p (Gives w) v h e = h
 moved_gives P enter p (Falls c) v h e = cc
 moved_gives P enter p (Goes n c) v h e = cc
@@ -107,10 +110,10 @@ moved_gives P enter p Asks v h e = cc
 moved_gives P enter p Breaks v h e = cc
 
 -- a step that returns is a return's
-step_final : (g : Program) (t : State) (i : Item) (c : Instruction) (k : Option ℕ) (v : List ℕ) → g.fetch t.pos ≡ Here i → i.kind ≡ Code c k →
+step_final : (g : Program) (t : State) (i : Item) (c : Instruction) (k : Option ℕ) (v : RunResult) → g.fetch t.pos ≡ Here i → i.kind ≡ Code c k →
     step g t ≡ Returned v → exit_of i.kind ≡ Final
 step_final g t i c k v here kind e =
-    let j = numbered g.sees_pointer (Rattle.rv64_instr.specs.Parts.is_call (row_of c)) k c.operands in
+    let j = numbered g.sees_pointer (Rattle.rv64_instr.specs.LocationEffects.is_call (row_of c)) k c.operands in
     ap exit_of kind ∙ moved_gives (row_exit (row_of c) ≡ Final) g.enter t.pos (with_core j (act (row_of c) t.core)) v
     (with_gives (row_exit (row_of c) ≡ Final) j (act (row_of c) t.core) (act_gives (row_of c) t.core))
     (sym (step_item g t i (with_core j (act (row_of c) t.core)) here (ap (λ (x : ItemKind). do_item g x t.core) kind)) ∙ e)
@@ -238,7 +241,7 @@ module _ (source : Function) (f : FramedFunction) (resolve fresolve : OperandPai
   -- what is owed past a stop of the function with its frame
   agree_late : (m : Machine) (s : State) → m.events ≡ s.core.events →
       HeldAt source f resolve fresolve image framed from beside laid lists wanted s0 start same_objects m s →
-      ((v : List ℕ) → machine_step image m ≡ Ends v → ⊥) → MachineAgrees S image lists M0 m s
+      ((v : RunResult) → machine_step image m ≡ Ends v → ⊥) → MachineAgrees S image lists M0 m s
   agree_late m s events held never =
       record { events = events; returns = λ v e. absurd (never v e); kept = λ v e. absurd (never v e); places = held }
 
@@ -257,7 +260,7 @@ module _ (source : Function) (f : FramedFunction) (resolve fresolve : OperandPai
       held = held_by f framed fresolve image laid lists wanted h h.core m s c.known c.told (same_code h.core) stands.beside stands.pointer
           (at_code i here code stands.counter)
 
-      no_return : (v : List ℕ) → step G h ≡ Returned v → ⊥
+      no_return : (v : RunResult) → step G h ≡ Returned v → ⊥
       no_return v ret = from.returns h.pos i here (step_final G h i ic.code ic.number v here ic.kind ret) s place written c.stops
 
       -- past the position the source has stopped

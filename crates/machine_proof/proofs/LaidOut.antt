@@ -1,5 +1,5 @@
 -- The image of a function that follows a source, with its frame and laid out, meets the headline.
-use Rattle.std.proofs.Common.{◌≡◌, ℕ, zero, suc, ◌<◌, Option, Some, None, IsSome, IfSome, refl, sym, ap, ◌∙◌, subst}
+use Rattle.std.proofs.Common.{◌≡◌, ℕ, zero, suc, ◌<◌, pos, Option, Some, None, IsSome, IfSome, refl, sym, ap, ◌∙◌, subst}
 use Rattle.std.proofs.Common.{arith}
 use Rattle.rv64_instr.specs.declared.op.ImmediateOp.{ImmediateOp}
 use Rattle.rv64_instr.specs.declared.op.ImmediateOp.TheVariants.{Addi}
@@ -11,7 +11,7 @@ use Rattle.rv64_word.specs.declared.machine_op.MachineOp.{MachineOp}
 use Rattle.rv64_word.specs.declared.word_op.WordOp.{WordOp}
 use Rattle.rv64_word.specs.declared.word_op.WordOp.TheVariants.{Registers, Immediate, Lui, Branch, Load, Store, Jal, Jalr}
 use Rattle.rv64_word.specs.MachineRow.{Does, row_as, link_row, machine_row, placed, at_offset}
-use Rattle.rv64_instr.specs.Parts.{object_named}
+use Rattle.rv64_instr.specs.LocationEffects.{object_named}
 use Rattle.rv64_word.proofs.Words.{lowered_acts}
 use Rattle.mir_func.specs.declared.position.Pos.{Pos}
 use Rattle.mir_func.specs.declared.variable.VarId.{VarId}
@@ -71,11 +71,12 @@ module _ (l : Layout) (low : l.base < MAX_BASE) (few : count_of l.framed.blocks 
       let offset = offset_to l a (row_exit (row_of c)) in
       let object = object_offset l.framed (object_named (row_of c)) in
       let m = if_some (λ (m : MachineOp). (x : ℕ) →
-      machine_row x m ≡ placed (at_offset x (offset_to l a (row_exit (row_of c)))) (object_offset l.framed (object_named (row_of c))) (row_of c))
+      machine_row x m ≡ placed (at_offset x (offset_to l a (row_exit (row_of c)))) (object_offset l.framed (object_named (row_of c))) (pos 0) (row_of c))
       (operation_at l a c) h (lowered_acts offset object c) in
-      word_fit m.0.op a m.0 (m.1 a ∙ ap (placed (at_offset a (offset_to l a (row_exit (row_of c)))) (object_offset l.framed (object_named (row_of c)))) e)
+      word_fit m.0.op a m.0 (m.1 a ∙ ap (placed (at_offset a (offset_to l a (row_exit (row_of c)))) (object_offset l.framed (object_named (row_of c)))
+      (pos 0)) e)
 
-  has_all : HasAllWords l
+  pub has_all : HasAllWords l
   has_all = record {
     words = λ p i c k e kind. worded p i c k e kind;
     fits = λ p i c k e kind u. one_fit (address_in l p) c (subst (FormWorded l (address_in l p) c) (ap (row_form (l.long p)) u)
@@ -84,11 +85,11 @@ module _ (l : Layout) (low : l.base < MAX_BASE) (few : count_of l.framed.blocks 
   }
 
 -- where the function lies in its image, an entry of the layout begins at each address of a point
-record IsLaidBy (l : Layout) (f : FramedFunction) (image : Image) : Type 0 where
-  laid : IsLaidAt f image
-  entries : (a : ℕ) (p : Pos) → IsPointAt f laid.address a p → IsEntryAt l a p
+pub record IsLaidBy (l : Layout) (f : FramedFunction) (image : Image) : Type 0 where
+  pub laid : IsLaidAt f image
+  pub entries : (a : ℕ) (p : Pos) → IsPointAt f laid.address a p → IsEntryAt l a p
 
-laid_by : (l : Layout) (image : Image) → HasAllWords l → IsImageOf l image → IsLaidBy l l.framed image
+pub laid_by : (l : Layout) (image : Image) → HasAllWords l → IsImageOf l image → IsLaidBy l l.framed image
 laid_by l image has is = record {
   laid = images_are_laid l image has is;
   entries = λ a p at. (entries_are_points l a p).1
@@ -101,7 +102,7 @@ images_meet_the_headline lists source f resolve fresolve image h physical small 
     let by = subst (λ (x : FramedFunction). IsLaidBy is.layout x image) is.framed
     (laid_by is.layout image (has_all is.layout is.low is.few is.worded) is.laid) in
     followers_meet_the_headline lists source f resolve fresolve image h framed
-    (λ s start n t results run ret. frame_gives_back f fresolve h.sound small s.core (entered s start) n t results run ret)
+    (λ s start n t results run ret leads. frame_gives_back f fresolve h.sound small s.core (entered s start) n t results run ret leads)
     by.laid (λ v a place given p at. wanted v a place given p (by.entries a p at)) where
       entered : (s : State) → StartsAt source s → IsEntered s.core
       entered s start = record {

@@ -4,7 +4,7 @@ use Rattle.std.proofs.Common.{subst}
 use Rattle.std.proofs.lemmas.List.Elements.{All-contains}
 use Rattle.rv64_instr.specs.Instruction.{Instruction}
 use Rattle.rv64_instr.specs.Row.{Row, Fixes, Moves, Sets, Addresses, LoadsSlot, StoresSlot, row_of}
-use Rattle.rv64_instr.specs.Parts.{is_call}
+use Rattle.rv64_instr.specs.LocationEffects.{is_call}
 use Rattle.mir_func.specs.declared.debug_substitution.OperandPair.{OperandPair}
 use Rattle.mir_func.specs.declared.item.Item.{Item}
 use Rattle.mir_func.specs.declared.item.ItemKind.{ItemKind}
@@ -53,6 +53,7 @@ module _ (f : FramedFunction) (framed : IsFramed f) (resolve : OperandPair → O
       written = level.beside.written;
       same_entry = level.beside.same_entry;
       same_area = level.beside.same_area;
+      same_symbols = level.beside.same_symbols;
       regs = level.beside.regs;
       memory = level.beside.memory;
       bytes = level.beside.bytes;

@@ -3,6 +3,7 @@
 use Rattle.std.proofs.Common.{◌≡◌, ◌⊎◌, ℕ, ◌+◌, List, All, Option, Some, true, false, is_some, refl, sym, ap, ◌∙◌, subst, inl, inr}
 use Rattle.std.proofs.lemmas.List.Elements.{All-weaker}
 use Rattle.rv64_instr.specs.declared.place.Place.{Place}
+use Rattle.rv64_instr.specs.Row.{way_leads_back}
 use Rattle.mir_func.specs.declared.debug_substitution.OperandPair.{OperandPair}
 use Rattle.mir_func.specs.declared.exit.Exit.TheVariants.{Perhaps}
 use Rattle.mir_func.specs.declared.item.Item.{Item}
@@ -14,10 +15,10 @@ use Rattle.mir_func.specs.Exits.{exit_of}
 use Rattle.mir_func.specs.Function.{Function, FramedFunction}
 use Rattle.mir_func.specs.Graph.{Here, Program, below, block_start, program_of, framed_program}
 use Rattle.mir_func.specs.SoundFrame.{IsFramed}
-use Rattle.sem_mir.specs.Align.{position_of, is_code, waits_at, ByItems, ByWords, sync_point_of, sync_point_at, Since, Same, After, since_of, First}
+use Rattle.sem_mir.specs.Align.{is_code, waits_at, ByItems, ByWords, sync_point_of, sync_point_at, Since, Same, After, since_of, First}
 use Rattle.sem_mir.specs.Align.{MatchesNext}
 use Rattle.sem_mir.specs.Align.{met}
-use Rattle.sem_mir.specs.State.{State}
+use Rattle.sem_mir.specs.State.{State, RunResult}
 use Rattle.sem_mir.specs.Step.{Went, Returned, Faulted, read, step}
 use Rattle.sem_mir.proofs.Alignment.{aligns_at}
 use Rattle.sem_simulation.specs.Words.{Shown}
@@ -41,21 +42,22 @@ use Rattle.machine_steps_proof.specs.Beside.{Beside}
 use Rattle.machine_steps_proof.specs.Pointer.{IsPointerAt}
 use Rattle.machine_steps_proof.proofs.Quiet.{starts_beside}
 use Rattle.mir_func.specs.declared.object.Object.{Object}
-use Rattle.sem_mir.specs.Follow.{IsStart, first_of}
+use Rattle.mir_func.specs.Positions.{position_of}
+use Rattle.sem_mir.specs.InitialState.{IsInitialState, first_of}
 
-pub gives_no_step : (v : List ℕ) (n : Machine) → Ends v ≡ Continues n → ⊥
+pub gives_no_step : (v : RunResult) (n : Machine) → Ends v ≡ Continues n → ⊥
 gives_no_step v n e = cc
 
-pub ends_no_step : (v : List ℕ) (n : Machine) → Continues n ≡ Ends v → ⊥
+pub ends_no_step : (v : RunResult) (n : Machine) → Continues n ≡ Ends v → ⊥
 ends_no_step v n e = cc
 
 pub waits_no_step : (n : Machine) → Awaits ≡ Continues n → ⊥
 waits_no_step n e = cc
 
-pub waits_no_end : (v : List ℕ) → Awaits ≡ Ends v → ⊥
+pub waits_no_end : (v : RunResult) → Awaits ≡ Ends v → ⊥
 waits_no_end v e = cc
 
-one_result : (v w : List ℕ) → Ends v ≡ Ends w → v ≡ w
+one_result : (v w : RunResult) → Ends v ≡ Ends w → v ≡ w
 one_result v w e = cc
 
 module _ (source : Function) (f : FramedFunction) (resolve fresolve : OperandPair → Option OperandPair) (image : Image) (framed : IsFramed f)
@@ -83,7 +85,7 @@ module _ (source : Function) (f : FramedFunction) (resolve fresolve : OperandPai
 
   pub g_start : Level f fresolve image laid (start_beside s0) M0
   g_start = starts_beside f framed fresolve image laid (first_of source.blocks) s0
-      (subst (λ (os : List Object). IsStart os (first_of source.blocks) s0) (sym same_objects) start)
+      (subst (λ (os : List Object). IsInitialState os (first_of source.blocks) s0) (sym same_objects) start)
 
   -- each place that a list gives at the machine's counter holds the value of its part's newest assignment
   abbrev pub HeldAt : Machine → State → Type 0
@@ -104,8 +106,9 @@ module _ (source : Function) (f : FramedFunction) (resolve fresolve : OperandPai
 
   -- what is owed beside a core of the function with its frame
   pub agree : (m : Machine) (t s : State) → m.events ≡ t.core.events → ShownAt t s → HeldAt m s →
-      ((results : List ℕ) → machine_step image m ≡ Ends results → step S s ≡ Returned results) →
-      ((results : List ℕ) → machine_step image m ≡ Ends results → All (λ r. register m r ≡ register M0 r) KEPT) → MachineAgrees S image lists M0 m s
+      ((result : RunResult) → machine_step image m ≡ Ends result → step S s ≡ Returned result) →
+      ((result : RunResult) → machine_step image m ≡ Ends result → way_leads_back result.way ≡ true → All (λ r. register m r ≡ register M0 r) KEPT) →
+      MachineAgrees S image lists M0 m s
   agree m t s events shown held returns kept =
       record { events = events ∙ shown.code.events ∙ shown.agrees.events; returns = returns; kept = kept; places = held }
 
@@ -129,7 +132,7 @@ module _ (source : Function) (f : FramedFunction) (resolve fresolve : OperandPai
       first_stops : step G t ≡ Faulted → step S s' ≡ Faulted
       first_stops e = shown.agrees.faults (faults_alike G shown.first t ic.code ic.number i ic.kind here shown.pos shown.code e)
 
-      first_returns : (v : List ℕ) → step G t ≡ Returned v → step S s' ≡ Returned v
+      first_returns : (v : RunResult) → step G t ≡ Returned v → step S s' ≡ Returned v
       first_returns v e = shown.agrees.returns v (returns_alike G shown.first t ic.code ic.number i ic.kind here shown.pos shown.code v e)
 
       sync_point : sync_point_at ByWords G t.pos ≡ Some (sync_point_of ByWords i)
@@ -142,11 +145,11 @@ module _ (source : Function) (f : FramedFunction) (resolve fresolve : OperandPai
       lands : (u : State) → step G t ≡ Went u → Lands f u.pos
       lands u went = step_lands f framed fresolve image laid t m stands i here ic.code ic.number ic.kind u went
 
-      kept_there : (v : List ℕ) → step G t ≡ Returned v → All (λ r. register m r ≡ register M0 r) KEPT
-      kept_there v ret =
+      kept_there : (v : RunResult) → step G t ≡ Returned v → way_leads_back v.way ≡ true → All (λ r. register m r ≡ register M0 r) KEPT
+      kept_there v ret leads =
           let r = along_run S G (sync_point_at ByWords G) First s0 (start_beside s0) along in
           All-weaker (λ (r : ℕ). read t.core r ≡ read s0.core r) (λ (r : ℕ). register m r ≡ register M0 r)
-          (λ r e. stands.beside.regs r ∙ e ∙ sym (g_start.beside.regs r)) KEPT (beside.keeps s0 start r.0 t v r.1 ret)
+          (λ r e. stands.beside.regs r ∙ e ∙ sym (g_start.beside.regs r)) KEPT (beside.keeps s0 start r.0 t v r.1 ret leads)
 
       -- it stopped: the source is about to, and the machine goes on
       goes_late : (n : Machine) → step G t ≡ Faulted → machine_step image m ≡ Continues n → StageAt n s' (since_of (waits_at false i.origin))
@@ -188,7 +191,8 @@ module _ (source : Function) (f : FramedFunction) (resolve fresolve : OperandPai
             level u (since_of (waits_at false i.origin)) (along_next u went) (subst (Level f fresolve image laid u) same l) (lands u went) (inl refl)),
       )
       one_met (gives v ret ends) = (
-        agree m t s' stands.beside.events shown held (λ w e. first_returns v ret ∙ ap Returned (one_result v w (sym ends ∙ e))) (λ w e. kept_there v ret),
+        agree m t s' stands.beside.events shown held (λ w e. first_returns v ret ∙ ap Returned (one_result v w (sym ends ∙ e)))
+            (λ w e leads. kept_there v ret (ap (λ (z : RunResult). way_leads_back z.way) (one_result v w (sym ends ∙ e)) ∙ leads)),
         λ n e. absurd (gives_no_step v n (sym ends ∙ e)),
       )
       one_met (waits w a) = (

@@ -22,7 +22,8 @@ use Rattle.mir_func.specs.Function.{Function}
 use Rattle.mir_func.specs.Graph.{Here, Program, below, program_of}
 use Rattle.mir_func.specs.Sound.{ids_of}
 use Rattle.mir_func.specs.SoundFrame.{IsFramed}
-use Rattle.sem_mir.specs.Align.{position_of, is_code}
+use Rattle.mir_func.specs.Positions.{position_of}
+use Rattle.sem_mir.specs.Align.{is_code}
 use Rattle.sem_mir.specs.Follow.{MarkFits, rank, next_rank}
 use Rattle.sem_simulation.proofs.Order.{rank_high}
 use Rattle.machine_steps_proof.specs.Laid.{fetched}

@@ -6,17 +6,18 @@ use Rattle.rv64_instr.specs.declared.place.Place.{Place}
 use Rattle.rv64_instr.specs.declared.place.Place.TheVariants.{Register, Slot, Const}
 use Rattle.rv64_instr.specs.Arithmetic.{taken, load_width, store_width}
 use Rattle.rv64_instr.specs.Instruction.{Instruction}
-use Rattle.rv64_instr.specs.Parts.{is_call}
+use Rattle.rv64_instr.specs.LocationEffects.{is_call}
 use Rattle.rv64_instr.specs.Row.{Row, Fixes, Moves, Sets, Addresses, Loads, Stores, LoadsSlot, StoresSlot, Branches, Jumps, Calls, Returns, Unfit, row_of}
 use Rattle.rv64_instr.specs.DefsAndUses.{caller_saved, reads}
+use Rattle.rv64_instr.specs.declared.start.CallTarget.{CallTarget}
 use Rattle.mir_func.specs.declared.position.Pos.{Pos}
 use Rattle.mir_func.specs.declared.item.Item.{Item}
 use Rattle.mir_func.specs.declared.item.ItemKind.{ItemKind}
 use Rattle.mir_func.specs.declared.item.ItemKind.TheVariants.{Code, Mark, Phi}
 use Rattle.mir_func.specs.Graph.{Fetch, Here, EndOfBlock, Outside, Program, below, block_start}
-use Rattle.sem_mir.specs.State.{Core, State, Reply, content, writes_frame}
+use Rattle.sem_mir.specs.State.{Core, State, Reply, content, writes_frame, RunResult}
 use Rattle.sem_mir.specs.Step.{Went, Returned, Faulted, Outcome, Falls, Goes, Gives, Traps, Asks, Breaks, act, does, are_written, is_fault, address_at}
-use Rattle.sem_mir.specs.Step.{answered}
+use Rattle.sem_mir.specs.Step.{exec_external_call, called_at}
 use Rattle.sem_mir.specs.Step.{slot_loaded, numbered, with_core, do_item, do_fetch, moved, step, read, run}
 use Rattle.sem_mir.specs.Align.{Arrives, here, onward, Since, Start, Same, After, MatchesNext, MatchedUpTo, begin, other, met, SyncPoint}
 use Rattle.sem_mir.specs.Effects.{SameWorld, EndAlike, AreHeldAlike, OnCore, held_in}
@@ -33,6 +34,7 @@ same_world c d h = record {
   entry = sym h.entry;
   area = sym h.area;
   objects = sym h.objects;
+  symbols = sym h.symbols;
   memory = sym h.memory;
   script = sym h.script;
   events = sym h.events;
@@ -62,7 +64,7 @@ module _ (g : Program) (s t : State) (i : Instruction) (k : Option ℕ) (x : Ite
       ∙ ap (λ (z : Fetch). moved g.enter t.pos (do_fetch g z s.core)) at ∙ ap (λ (z : ItemKind). moved g.enter t.pos (do_item g z s.core)) kind
 
   -- a return and a fault are the same
-  pub returns_alike : (v : List ℕ) → step g t ≡ Returned v → step g s ≡ Returned v
+  pub returns_alike : (v : RunResult) → step g t ≡ Returned v → step g s ≡ Returned v
   returns_alike v e = step_s ∙ alike_returns (λ c d. Unit {0}) g.enter t.pos (by s.core) (by t.core) alike v (sym step_t ∙ e)
 
   pub faults_alike : step g t ≡ Faulted → step g s ≡ Faulted
@@ -74,9 +76,9 @@ abbrev pub IsWritten : Core → Type 0
 IsWritten c = (r : ℕ) → r < 32 → IsSome (content c.regs r)
 
 module _ (c : Core) (h : IsWritten c) where
-  answer_written : (name args : List ℕ) (rs : List Reply) → OnCore IsWritten (answered name args c rs)
-  answer_written name args [] = tt
-  answer_written name args (r ∷ rs) = on_either IsWritten (writes_frame c.entry c.area r.writes) Traps _ tt (set_all_written caller_saved r.regs c.regs h)
+  answer_written : (t : CallTarget) (args : List ℕ) (rs : List Reply) → OnCore IsWritten (exec_external_call t args c rs)
+  answer_written t args [] = tt
+  answer_written t args (r ∷ rs) = on_either IsWritten (writes_frame c.entry c.area r.writes) Traps _ tt (set_all_written caller_saved r.regs c.regs h)
 
   slot_written : (rd : ℕ) (x : Option ℕ) → OnCore IsWritten (slot_loaded rd c x)
   slot_written rd None = tt
@@ -94,7 +96,7 @@ module _ (c : Core) (h : IsWritten c) where
   does_written (StoresSlot rs n) = h
   does_written (Branches op a b t) = on_either IsWritten (taken op (read c a) (read c b)) (Goes t c) (Falls c) h h
   does_written (Jumps t) = h
-  does_written (Calls name args) = answer_written name (map (read c) args) c.script
+  does_written (Calls call) = answer_written (called_at c call.callee) (map (read c) call.args) c.script
   does_written (Returns v) = tt
   does_written Unfit = tt
 

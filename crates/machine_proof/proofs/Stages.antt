@@ -15,11 +15,12 @@ use Rattle.mir_func.specs.declared.variable.VarId.{VarId}
 use Rattle.mir_func.specs.Function.{Function, FramedFunction}
 use Rattle.mir_func.specs.Graph.{Here, EndOfBlock, Program, below, block_start, program_of}
 use Rattle.mir_func.specs.SoundFrame.{IsFramed}
-use Rattle.sem_mir.specs.Align.{position_of, is_code, waits_at, SyncPoint, ByWords, sync_point_at, Since, Same, After, since_of, First, MatchesNext}
+use Rattle.sem_mir.specs.Align.{is_code, waits_at, SyncPoint, ByWords, sync_point_at, Since, Same, After, since_of, First, MatchesNext}
 use Rattle.sem_mir.specs.Align.{MatchedUpTo}
 use Rattle.sem_mir.specs.Align.{other, FailsBefore}
 use Rattle.mir_func.specs.declared.exit.Exit.TheVariants.{Perhaps}
 use Rattle.mir_func.specs.Exits.{row_exit, exit_of}
+use Rattle.mir_func.specs.Positions.{position_of}
 use Rattle.sem_mir.specs.State.{Core, State}
 use Rattle.sem_mir.specs.Step.{Went, Returned, Faulted, Waits, step}
 use Rattle.sem_mir.proofs.Alignment.{went_once}

@@ -1,13 +1,17 @@
 -- Whatever the source does, the machine's counter goes from line to line.
-use Rattle.std.proofs.Common.{◌≡◌, ◌⊎◌, ℕ, zero, suc, ◌+◌, List, map, Contains, [], ◌∷◌, Option, Bool, true, false, cond, refl, sym, ap, ◌∙◌, subst, inl, inr}
+use Rattle.std.proofs.Common.{◌≡◌, ◌⊎◌, ℕ, ℤ, zero, suc, ◌+◌, List, map, Contains, [], ◌∷◌}
+use Rattle.std.proofs.Common.{Option, Bool, true, false, cond, refl, sym, ap, ◌∙◌, subst, inl, inr}
 use Rattle.rv64_instr.specs.declared.op.BranchOp.{BranchOp}
-use Rattle.rv64_instr.specs.declared.decoded.Base.TheVariants.{PointedBy, ObjectAt}
+use Rattle.rv64_instr.specs.Row.{Content, Number, PartOf, PointedBy, ObjectAt, BesidePart}
+use Rattle.rv64_instr.specs.declared.symbol.Half.TheVariants.{Upper, Lower}
+use Rattle.rv64_instr.specs.Linked.{immediate_value}
+use Rattle.rv64_word.specs.Linked.{immediate_of}
 use Rattle.rv64_instr.specs.Arithmetic.{taken}
 use Rattle.rv64_instr.specs.Instruction.{Instruction}
-use Rattle.rv64_instr.specs.Row.{Row, Addresses, Loads, Stores, Branches, Jumps, Calls, Returns, Unfit, add_row}
+use Rattle.rv64_instr.specs.Row.{Row, Sets, Addresses, Loads, Stores, Branches, Jumps, Calls, Returns, Unfit, add_row, CallSite, Callee, Ending}
 use Rattle.rv64_instr.specs.Row.{row_of}
 use Rattle.rv64_word.specs.MachineRow.{Does, placed, from_object}
-use Rattle.rv64_instr.specs.Parts.{object_named}
+use Rattle.rv64_instr.specs.LocationEffects.{object_named}
 use Rattle.mir_func.specs.declared.position.Pos.{Pos}
 use Rattle.mir_func.specs.declared.item.Item.{Item}
 use Rattle.mir_func.specs.declared.item.ItemKind.{ItemKind}
@@ -21,7 +25,7 @@ use Rattle.sem_mir.specs.Align.{is_code}
 use Rattle.sem_mir.specs.State.{Reply}
 use Rattle.sem_machine.specs.Image.{Image}
 use Rattle.sem_machine.specs.Machine.{Machine, register}
-use Rattle.sem_machine.specs.MachineStep.{Stepped, Continues, Ends, Awaits, past, at, does_row, answered, machine_step, Comes, there, steps, IsWell}
+use Rattle.sem_machine.specs.MachineStep.{Stepped, Continues, Ends, Awaits, past, at, does_row, step_call, machine_step, Comes, there, steps, IsWell}
 use Rattle.sem_machine.specs.MachineStep as machine
 use Rattle.emit_code.specs.Rule.{object_offset}
 use Rattle.machine_steps_proof.specs.Laid.{fetched, target_of, start_of, HasWord, HasTwoWords, HasCall, HasReturn, HasRow, IsLaidAt}
@@ -39,30 +43,38 @@ falls_on : (target : ℕ) (ids : List ℕ) (r : Row) (m n : Machine) (st : Stepp
     GoesOn target ids r m st
 falls_on target ids r m n st e c h = record { next = n; continues = e; place = inl (c, h) }
 
-adds_on : (target rd k : ℕ) (ids : List ℕ) (r : Row) (m : Machine) → (Leaves (row_exit r) → ⊥) → GoesOn target ids r m (machine.does (Does (add_row rd 2 k)) m)
+adds_on : (target rd a k : ℕ) (ids : List ℕ) (r : Row) (m : Machine) → (Leaves (row_exit r) → ⊥) →
+    GoesOn target ids r m (machine.does (Does (add_row rd a k)) m)
 unfolding does_row
-adds_on target rd zero ids r m h = falls_on target ids r m _ _ refl refl h
-adds_on target rd (suc k) ids r m h = falls_on target ids r m _ _ refl refl h
+adds_on target rd zero k ids r m h = falls_on target ids r m _ _ refl refl h
+adds_on target rd (suc a) zero ids r m h = falls_on target ids r m _ _ refl refl h
+adds_on target rd (suc a) (suc k) ids r m h = falls_on target ids r m _ _ refl refl h
 
 branch_on : (target : ℕ) (ids : List ℕ) (op : _) (a b n : ℕ) (m : Machine) (z : Bool) → Contains ids n →
     GoesOn target ids (Branches op a b n) m (Continues (cond z (at target m) (past 4 m)))
 branch_on target ids op a b n m true h = record { next = at target m; continues = refl; place = inr (refl, h) }
 branch_on target ids op a b n m false h = record { next = past 4 m; continues = refl; place = inl (refl, λ x. x) }
 
-word_on : (target object : ℕ) (ids : List ℕ) (r : Row) → IsWordRow r → TargetIn ids r → (m : Machine) →
-    GoesOn target ids r m (machine.does (placed target object r) m)
+word_on : (target object : ℕ) (part : ℤ) (ids : List ℕ) (r : Row) → IsWordRow r → TargetIn ids r → (m : Machine) →
+    GoesOn target ids r m (machine.does (placed target object part r) m)
 unfolding does_row
-word_on target object ids (Addresses rd n o) w t m = adds_on target rd (from_object object o) ids _ m (λ x. x)
-word_on target object ids (Loads rd op (PointedBy r) o) w t m = falls_on target ids _ m _ _ refl refl (λ x. x)
-word_on target object ids (Loads rd op (ObjectAt n) o) w t m = falls_on target ids _ m _ _ refl refl (λ x. x)
-word_on target object ids (Stores op rs (PointedBy r) o) w t m = falls_on target ids _ m _ _ refl refl (λ x. x)
-word_on target object ids (Stores op rs (ObjectAt n) o) w t m = falls_on target ids _ m _ _ refl refl (λ x. x)
-word_on target object ids (Branches op a b n) w t m = branch_on target ids op a b n m (taken op (register m a) (register m b)) t
-word_on target object ids (Jumps n) w t m = record { next = at target m; continues = refl; place = inr (refl, t) }
-word_on target object ids (Calls name args) w t m = absurd w
-word_on target object ids (Returns results) w t m = absurd w
-word_on target object ids Unfit w t m = absurd w
-word_on target object ids _ w t m = falls_on target ids _ m _ _ refl refl (λ x. x)
+word_on target object part ids (Sets rd op a (Content b)) w t m = falls_on target ids _ m _ _ refl refl (λ x. x)
+word_on target object part ids (Sets rd op a (Number n)) w t m = falls_on target ids _ m _ _ refl refl (λ x. x)
+word_on target object part ids (Sets rd op a (PartOf Upper y)) w t m = falls_on target ids _ m _ _ refl refl (λ x. x)
+word_on target object part ids (Sets rd op a (PartOf Lower y)) w t m = adds_on target rd a (immediate_value Lower part) ids _ m (λ x. x)
+word_on target object part ids (Addresses rd n o) w t m = adds_on target rd 2 (from_object object o) ids _ m (λ x. x)
+word_on target object part ids (Loads rd op (PointedBy r) o) w t m = falls_on target ids _ m _ _ refl refl (λ x. x)
+word_on target object part ids (Loads rd op (ObjectAt n) o) w t m = falls_on target ids _ m _ _ refl refl (λ x. x)
+word_on target object part ids (Loads rd op (BesidePart r y) o) w t m = falls_on target ids _ m _ _ refl refl (λ x. x)
+word_on target object part ids (Stores op rs (PointedBy r) o) w t m = falls_on target ids _ m _ _ refl refl (λ x. x)
+word_on target object part ids (Stores op rs (ObjectAt n) o) w t m = falls_on target ids _ m _ _ refl refl (λ x. x)
+word_on target object part ids (Stores op rs (BesidePart r y) o) w t m = falls_on target ids _ m _ _ refl refl (λ x. x)
+word_on target object part ids (Branches op a b n) w t m = branch_on target ids op a b n m (taken op (register m a) (register m b)) t
+word_on target object part ids (Jumps n) w t m = record { next = at target m; continues = refl; place = inr (refl, t) }
+word_on target object part ids (Calls call) w t m = absurd w
+word_on target object part ids (Returns ending) w t m = absurd w
+word_on target object part ids Unfit w t m = absurd w
+word_on target object part ids _ w t m = falls_on target ids _ m _ _ refl refl (λ x. x)
 
 one_next : (x y : Machine) → Continues x ≡ Continues y → x ≡ y
 one_next x y e = cc
@@ -107,7 +119,8 @@ module _ (f : FramedFunction) (framed : IsFramed f) (image : Image) (laid : IsLa
     at_word : IsWordRow (row_of c) → HasWord f image laid.address p i (row_of c) → IsGood m
     at_word is w =
         let to = start_of f image laid.address (target_of (row_of c)) in
-        let on = word_on to (object_offset f (object_named (row_of c))) (ids_of (body_of f.blocks)) (row_of c) is targets m in
+        let on = word_on to (object_offset f (object_named (row_of c))) (immediate_of m.symbols (row_of c)) (ids_of (body_of f.blocks)) (row_of c) is
+        targets m in
         continues_good m on.next (w.step m counter ∙ on.continues) (elim on.place as (λ _. Stays on.next) [
           | inl l ↦ below_stays on.next l.1 (l.0 ∙ ap (λ (x : ℕ). x + 4) counter ∙ sym w.next)
           | inr t ↦ target_stays on.next (target_of (row_of c)) t.1 t.0
@@ -128,23 +141,24 @@ module _ (f : FramedFunction) (framed : IsFramed f) (image : Image) (laid : IsLa
           by_taken false s = continues_good m (past 8 m) s
               (below_stays (past 8 m) (λ l. subst (λ (x : Row). Leaves (row_exit x)) e l) (ap (λ (x : ℕ). x + 8) counter ∙ sym w.next))
 
-    at_call : (name args : List ℕ) → row_of c ≡ Calls name args → HasCall f image laid.address p i name args → IsGood m
-    at_call name args e w = by_script m.script (w.step m counter) where
-      by_script : (rs : List Reply) → machine_step image m ≡ answered name (map (register m) args) m rs → IsGood m
+    at_call : (call : CallSite) → row_of c ≡ Calls call → HasCall f image laid.address p i call → IsGood m
+    at_call call e w = by_script m.script (w.step m counter) where
+      by_script : (rs : List Reply) → machine_step image m ≡ step_call (machine.callee_size call.callee) (machine.called_at m call.callee)
+          (map (register m) call.args) m rs → IsGood m
       by_script [] s = record { well = subst IsWell (sym s) tt; next = λ k x. (let bad : Awaits ≡ Continues k = sym s ∙ x in cc) }
       by_script (x ∷ rs) s = continues_good m _ s
-          (below_stays _ (λ l. subst (λ (x : Row). Leaves (row_exit x)) e l) (ap (λ (x : ℕ). x + 8) counter ∙ sym w.next))
+          (below_stays _ (λ l. subst (λ (x : Row). Leaves (row_exit x)) e l) (ap (λ (x : ℕ). x + machine.callee_size call.callee) counter ∙ sym w.next))
 
-    at_return : (results : List ℕ) → HasReturn f image laid.address p i results → IsGood m
-    at_return results w =
+    at_return : (ending : Ending Callee) → HasReturn f image laid.address p i ending → IsGood m
+    at_return ending w =
         let s = w.step m counter in
-        record { well = subst IsWell (sym s) tt; next = λ k x. (let bad : Ends (map (register m) results) ≡ Continues k = sym s ∙ x in cc) }
+        record { well = subst IsWell (sym s) tt; next = λ k x. (let bad : Ends (machine.result_at m ending) ≡ Continues k = sym s ∙ x in cc) }
 
     by_row : (x : Row) → row_of c ≡ x → HasRow f image laid.address p i x → IsGood m
     by_row (Branches op a b n) e (inl w) = at_word (subst IsWordRow (sym e) tt) (subst (HasWord f image laid.address p i) (sym e) w)
     by_row (Branches op a b n) e (inr w) = at_branch op a b n e w
-    by_row (Calls name args) e w = at_call name args e w
-    by_row (Returns results) e w = at_return results w
+    by_row (Calls call) e w = at_call call e w
+    by_row (Returns ending) e w = at_return ending w
     by_row Unfit e w = absurd w
     by_row _ e w = at_word (subst IsWordRow (sym e) tt) (subst (HasWord f image laid.address p i) (sym e) w)
 

@@ -6,8 +6,9 @@ use Rattle.rv64_instr.specs.declared.place.Place.{Place}
 use Rattle.rv64_instr.specs.Arithmetic.{taken, load_width, store_width}
 use Rattle.rv64_instr.specs.DefsAndUses.{reads}
 use Rattle.rv64_instr.specs.Instruction.{Instruction}
-use Rattle.rv64_instr.specs.Parts.{is_call}
+use Rattle.rv64_instr.specs.LocationEffects.{is_call}
 use Rattle.rv64_instr.specs.Row.{Row, Loads, Stores, LoadsSlot, Branches, Calls, Returns, Unfit, row_of}
+use Rattle.rv64_instr.specs.declared.start.CallTarget.{CallTarget}
 use Rattle.mir_func.specs.declared.debug_substitution.OperandPair.{OperandPair}
 use Rattle.mir_func.specs.declared.item.Item.{Item}
 use Rattle.mir_func.specs.declared.item.ItemKind.{ItemKind}
@@ -22,8 +23,9 @@ use Rattle.mir_func.specs.Variables.{is_same, overlaps, part_value}
 use Rattle.sem_mir.specs.Align.{is_code, Since, SyncPoint, MatchedUpTo, begin, other, met, Tells}
 use Rattle.sem_mir.specs.Effects.{OnCore}
 use Rattle.sem_mir.specs.State.{Core, State, Reply, updated, content, spelled, assigned, writes_frame}
-use Rattle.sem_mir.specs.Step.{Went, Outcome, Falls, Goes, Gives, Traps, Asks, Breaks, act, does, are_written, is_fault, address_at, answered, slot_loaded}
-use Rattle.sem_mir.specs.Step.{numbered, with_core, part_of, mark_value, place_value, do_item, moved, step, read}
+use Rattle.sem_mir.specs.Step.{Went, Outcome, Falls, Goes, Gives, Traps, Asks}
+use Rattle.sem_mir.specs.Step.{Breaks, act, does, are_written, is_fault, address_at, exec_external_call, slot_loaded}
+use Rattle.sem_mir.specs.Step.{numbered, with_core, part_of, mark_value, place_value, do_item, moved, step, read, called_at}
 use Rattle.sem_mir.specs.ValueId.{Token, register_token, Path}
 use Rattle.sem_mir.proofs.Outcomes.{on_either, step_item, step_end}
 use Rattle.sem_value_ids.proofs.Along.{good_names}
@@ -52,9 +54,9 @@ module _ (c : Core) where
   abbrev SameMarks : Core → Type 0
   SameMarks d = d.marks ≡ c.marks
 
-  answer_marks : (name args : List ℕ) (rs : List Reply) → OnCore SameMarks (answered name args c rs)
-  answer_marks name args [] = tt
-  answer_marks name args (r ∷ rs) = on_either SameMarks (writes_frame c.entry c.area r.writes) Traps _ tt refl
+  answer_marks : (t : CallTarget) (args : List ℕ) (rs : List Reply) → OnCore SameMarks (exec_external_call t args c rs)
+  answer_marks t args [] = tt
+  answer_marks t args (r ∷ rs) = on_either SameMarks (writes_frame c.entry c.area r.writes) Traps _ tt refl
 
   slot_marks : (rd : ℕ) (x : Option ℕ) → OnCore SameMarks (slot_loaded rd c x)
   slot_marks rd None = tt
@@ -66,7 +68,7 @@ module _ (c : Core) where
   does_marks (Stores op rs b o) = on_either SameMarks (is_fault b c (address_at c b o) (store_width op)) Traps _ tt refl
   does_marks (LoadsSlot rd n) = slot_marks rd (c.slots n)
   does_marks (Branches op a b t) = on_either SameMarks (taken op (read c a) (read c b)) (Goes t c) (Falls c) refl refl
-  does_marks (Calls name args) = answer_marks name (map (read c) args) c.script
+  does_marks (Calls call) = answer_marks (called_at c call.callee) (map (read c) call.args) c.script
   does_marks (Returns v) = tt
   does_marks Unfit = tt
   does_marks _ = refl

@@ -5,7 +5,7 @@ use Rattle.std.proofs.Common.{refl, sym, ap, ◌∙◌, subst, inl, inr, arith}
 use Rattle.std.proofs.lemmas.Bool.{cases_lt}
 use Rattle.std.proofs.lemmas.List.Elements.{All-contains}
 use Rattle.rv64_instr.specs.Instruction.{Instruction}
-use Rattle.rv64_instr.specs.Parts.{IsSlotStore}
+use Rattle.rv64_instr.specs.LocationEffects.{IsSlotStore}
 use Rattle.rv64_instr.specs.Row.{Row, StoresSlot, Jumps, row_of}
 use Rattle.mir_func.specs.declared.block.Block.{Block}
 use Rattle.mir_func.specs.declared.debug_substitution.OperandPair.{OperandPair}
@@ -16,12 +16,12 @@ use Rattle.mir_func.specs.declared.item.ItemKind.TheVariants.{Code, Mark, Phi}
 use Rattle.mir_func.specs.declared.position.Origin.{Origin}
 use Rattle.mir_func.specs.declared.position.Origin.TheVariants.{Kept, Before}
 use Rattle.mir_func.specs.declared.position.Pos.{Pos}
-use Rattle.mir_func.specs.Exits.{exit_of, is_final}
+use Rattle.mir_func.specs.Exits.{exit_of, leads_back}
 use Rattle.mir_func.specs.Function.{Function}
 use Rattle.mir_func.specs.Graph.{Fetch, Here, EndOfBlock, Outside, Program, below, block_start, fetch_in, program_of, framed_program, Leads}
 use Rattle.mir_func.specs.Sound.{EndsWell}
 use Rattle.mir_func.specs.SoundFrame.{body_of, IsFramed}
-use Rattle.sem_mir.specs.Align.{position_of, is_code, is_jump, is_jump_row}
+use Rattle.sem_mir.specs.Align.{is_code, is_jump, is_jump_row}
 use Rattle.sem_mir.specs.Follow.{OnRow, KindFits, RowFits, HasClass, rank, next_rank, InOrder}
 use Rattle.sem_mir.specs.State.{State}
 use Rattle.sem_mir.specs.Step.{Outcome, Falls, Goes, Gives, Traps, Asks, Breaks, Went, do_fetch, moved, step}
@@ -33,6 +33,7 @@ use Rattle.frame_rule.specs.Rule.{size_of, saved_of, framed_items, framed_of, re
 use Rattle.machine_proof.specs.Framing.{IsMadeFrom, IsInner, FramedHasPlainTurns}
 use Rattle.machine_proof.proofs.Ways.{items_in, image_of, IsHead, head_at, leads_image}
 use Rattle.mir_func.specs.Graph.{from_block}
+use Rattle.mir_func.specs.Positions.{position_of}
 use Rattle.sem_mir.specs.Follow.{IsMetApart}
 use Rattle.sem_mir.proofs.Reading.{FoundAt, found, front_item}
 use Rattle.sem_simulation.proofs.Laid.{from_home}
@@ -40,7 +41,7 @@ use Rattle.frame_rule.specs.Rule.{renamed_kind}
 use Rattle.machine_proof.proofs.Framed.{index_in}
 use Rattle.frame_rule.proofs.Rows.{renamed_row, row_renamed}
 use Rattle.machine_proof.proofs.Framed.{prologue_is, epilogue_is, frame_onward, IsFramedItem, own, gives_back, framed_item_is, InPrologue, InBlock}
-use Rattle.machine_proof.proofs.Framed.{point_of, same_position, in_order_below}
+use Rattle.machine_proof.proofs.Framed.{point_of, in_order_below}
 use Rattle.machine_proof.proofs.Comes.{IsOf, of_f, own_code, own_exit, fits_before, block_order, silent_never, home_of, index_of_home}
 use Rattle.machine_proof.proofs.Ends.{jump_always, onward_always, ends_last, lower, next_low, added_of, jump_may, end_row, final_row, row_goes}
 use Rattle.machine_proof.proofs.Ends.{store_code, counts_code}
@@ -281,7 +282,7 @@ module _ (source f : Function) (resolve fresolve : OperandPair →
         let o = of_f source f resolve fresolve made b.index b.block b.rest b.found n x at in
         let k = not_final_debug x fin in
         let here : (position_of x.origin).item ≡ b.block.source_end =
-        ap (λ (z : Pos). z.item) (sym (same_position x.origin)) ∙ ap (λ (z : Origin). (position_of z).item) (sym is.origin) ∙ at_silent in
+        ap (λ (z : Origin). (position_of z).item) (sym is.origin) ∙ at_silent in
         absurd (final_row (row_of k.0) (ap exit_of (sym k.2) ∙ fin) (end_code b.block x o k.0 k.1 k.2 here).2)
     by_item (own n x at made_of ix) =
         let o = of_f source f resolve fresolve made b.index b.block b.rest b.found n x at in
@@ -302,7 +303,7 @@ module _ (source f : Function) (resolve fresolve : OperandPair →
           before = ec.1;
           at = ap (λ (z : Origin). (position_of z).item) (sym ec.1) ∙ here;
           row = ec.2;
-          place = ix (ap (λ (z : ItemKind). is_final (exit_of z)) d.1 ∙ row_goes (row_of d.0) ec.2);
+          place = ix (ap leads_back d.1 ∙ row_goes (row_of d.0) ec.2);
         }
 
   store_named : (r : Row) → IsSlotStore r → IsSlotStore (renamed_row f.slots r)

@@ -10,17 +10,18 @@ use Rattle.mir_func.specs.declared.item.Item.{Item}
 use Rattle.mir_func.specs.declared.item.ItemKind.{ItemKind}
 use Rattle.mir_func.specs.declared.item.ItemKind.TheVariants.{Code, Mark, Phi}
 use Rattle.mir_func.specs.declared.position.Pos.{Pos}
-use Rattle.mir_func.specs.Exits.{row_exit, exit_of, is_final}
+use Rattle.mir_func.specs.Exits.{row_leads_back, leads_back}
 use Rattle.mir_func.specs.Function.{Function}
 use Rattle.mir_func.specs.Graph.{Fetch, Here, EndOfBlock, Program, below, block_start, end_of, front, fetch_in, from_block, index_of, program_of}
 use Rattle.mir_func.specs.Graph.{framed_program, Edge, FetchEdge, KindEdge, RowEdge, Leads, stay, go}
 use Rattle.mir_func.specs.SoundFrame.{body_of}
-use Rattle.sem_mir.specs.Align.{position_of, is_code}
+use Rattle.mir_func.specs.Positions.{position_of}
+use Rattle.sem_mir.specs.Align.{is_code}
 use Rattle.sem_mir.proofs.Reading.{front_item}
 use Rattle.frame_rule.specs.Rule.{size_of, saved_of, epilogue, framed_item, framed_items, framed_block, framed_blocks, framed_of, renamed}
-use Rattle.frame_rule.specs.Rule.{renamed_kind, added_all, position_in}
+use Rattle.frame_rule.specs.Rule.{renamed_kind, added_all}
 use Rattle.frame_rule.proofs.Rows.{renamed_row, row_renamed}
-use Rattle.machine_proof.proofs.Framed.{drop_map, index_in, same_position}
+use Rattle.machine_proof.proofs.Framed.{drop_map, index_in}
 
 abbrev pub items_in : List Block → List Item
 items_in [] = []
@@ -97,7 +98,7 @@ pub record IsHead (f : Function) (x y : Item) : Type 0 where
   pub code : is_code x.kind ≡ true → is_code y.kind ≡ true
 
 framed_head : (f : Function) (x : Item) → (y : Item) × (rest : List Item) × (framed_item f x ≡ y ∷ rest) × IsHead f x y
-framed_head f x = by_exit (is_final (exit_of x.kind)) where
+framed_head f x = by_exit (leads_back x.kind) where
   own_head : IsHead f x (renamed f.slots x)
   own_head = record { position = refl; code = by_kind x.kind } where
     by_kind : (k : ItemKind) → is_code k ≡ true → is_code (renamed_kind f.slots k) ≡ true
@@ -117,11 +118,11 @@ framed_head f x = by_exit (is_final (exit_of x.kind)) where
   )
 
   by_size : (n : ℕ) → (y : Item) × (rest : List Item) ×
-      (added_all n (Rattle.mir_func.specs.declared.position.Origin.TheVariants.Before (position_in x.origin)) (Rattle.mir_func.specs.SoundFrame.epilogue_code
+      (added_all n (Rattle.mir_func.specs.declared.position.Origin.TheVariants.Before (position_of x.origin)) (Rattle.mir_func.specs.SoundFrame.epilogue_code
       (size_of f) (saved_of f))
       ++ renamed f.slots x ∷ [] ≡ y ∷ rest) × IsHead f x y
   by_size zero = (renamed f.slots x, [], refl, own_head)
-  by_size (suc n) = by_code (Rattle.mir_func.specs.declared.position.Origin.TheVariants.Before (position_in x.origin)) (same_position x.origin)
+  by_size (suc n) = by_code (Rattle.mir_func.specs.declared.position.Origin.TheVariants.Before (position_of x.origin)) refl
       (Rattle.mir_func.specs.SoundFrame.epilogue_code (size_of f) (saved_of f))
 
   by_exit : (b : Bool) → (y : Item) × (rest : List Item) × (cond b (epilogue f x.origin) [] ++ renamed f.slots x ∷ [] ≡ y ∷ rest) × IsHead f x y
@@ -173,7 +174,7 @@ module _ (f : Function) (fresolve : OperandPair → Option OperandPair) where
         no_items (x ∷ xs) = refl
 
   below_image : (p : Pos) (b : Block) (rest : List Block) (x : Item) → from_block f.blocks p.block ≡ b ∷ rest → slice_get b.items p.item ≡ Some x →
-      is_final (exit_of x.kind) ≡ false → below (image_of f p) ≡ image_of f (below p)
+      leads_back x.kind ≡ false → below (image_of f p) ≡ image_of f (below p)
   below_image p b rest x d at no_return =
       let one : p.item + 1 ≡ suc p.item = omega arith in
       let item : index_in f b.items (suc p.item) ≡ index_in f b.items p.item + 1 =
@@ -197,12 +198,12 @@ module _ (f : Function) (fresolve : OperandPair → Option OperandPair) where
   row_way Unfit p q x y e bi = absurd e
   row_way _ p q x y e bi = ap (image_of f) e ∙ sym bi
 
-  row_not_final : (r : Row) (p q : Pos) → RowEdge (λ n. n) r p q → is_final (row_exit r) ≡ false
+  row_not_final : (r : Row) (p q : Pos) → RowEdge (λ n. n) r p q → row_leads_back r ≡ false
   row_not_final (Returns v) p q e = absurd e
   row_not_final Unfit p q e = absurd e
   row_not_final _ p q e = refl
 
-  kind_not_final : (k : ItemKind) (p q : Pos) → KindEdge (λ n. n) k p q → is_final (exit_of k) ≡ false
+  kind_not_final : (k : ItemKind) (p q : Pos) → KindEdge (λ n. n) k p q → leads_back k ≡ false
   kind_not_final (Code c n) p q e = row_not_final (row_of c) p q e
   kind_not_final (Mark v m) p q e = refl
   kind_not_final (Phi r n) p q e = refl

@@ -1,6 +1,7 @@
 -- The origins in a function with its frame, for a function that simulates a source.
-use Rattle.std.specs.Prelude.{◌<◌, ◌≤◌, All, Option, true, false}
+use Rattle.std.specs.Prelude.{◌<◌, ◌≤◌, All, Option, true, false, ◌++◌}
 use Rattle.rv64_instr.specs.Row.{Row, Returns, row_of}
+use Rattle.rv64_instr.specs.DefsAndUses.{way_reads}
 use Rattle.mir_func.specs.declared.debug_substitution.OperandPair.{OperandPair}
 use Rattle.mir_func.specs.declared.item.ItemKind.{ItemKind}
 use Rattle.mir_func.specs.declared.item.ItemKind.TheVariants.{Code, Mark, Phi}
@@ -14,9 +15,9 @@ use Rattle.sem_simulation.specs.Words.{HasPlainTurns}
 use Rattle.frame_rule.specs.Rule.{framed_of}
 use Rattle.machine_proof.specs.Runs.{ComesFrom}
 
--- the results of a return are in physical registers
+-- what a return reads is in physical registers
 abbrev pub ResultsArePhysical : Row → Type 0
-ResultsArePhysical (Returns results) = All (λ r. r < 32) results
+ResultsArePhysical (Returns ending) = All (λ r. r < 32) (way_reads ending.way ++ ending.values)
 ResultsArePhysical _ = Unit {0}
 
 -- the item, if it is a return, returns physical registers

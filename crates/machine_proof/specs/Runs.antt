@@ -1,8 +1,8 @@
 -- From a function with its frame to the machine's run: the statement `Headline` for the image of its layout.
-use Rattle.std.specs.Prelude.{◌≡◌, ◌⊎◌, ℕ, suc, ◌<◌, List, All, Option, true, false, IsSome}
+use Rattle.std.specs.Prelude.{◌≡◌, ◌⊎◌, ℕ, suc, ◌<◌, All, Option, true, false, IsSome}
 use Rattle.rv64_instr.specs.Instruction.{Instruction}
 use Rattle.rv64_instr.specs.declared.place.Place.{Place}
-use Rattle.rv64_instr.specs.Row.{Row, row_of}
+use Rattle.rv64_instr.specs.Row.{Row, row_of, way_leads_back}
 use Rattle.rv64_instr.specs.View.{Access, MemoryAccess, access_of, Class, Plain, class_of}
 use Rattle.mir_func.specs.declared.debug_substitution.OperandPair.{OperandPair}
 use Rattle.mir_func.specs.declared.exit.Exit.TheVariants.{Perhaps, Final}
@@ -17,9 +17,10 @@ use Rattle.mir_func.specs.Exits.{exit_of}
 use Rattle.mir_func.specs.Function.{Function, FramedFunction}
 use Rattle.mir_func.specs.Graph.{Here, EndOfBlock, Program, below, block_start, program_of, framed_program}
 use Rattle.mir_func.specs.SoundFrame.{IsFramed}
-use Rattle.sem_mir.specs.State.{State, content}
+use Rattle.mir_func.specs.Positions.{position_of}
+use Rattle.sem_mir.specs.State.{State, content, RunResult}
 use Rattle.sem_mir.specs.Step.{Went, Returned, Faulted, read, step, run}
-use Rattle.sem_mir.specs.Align.{position_of, is_code}
+use Rattle.sem_mir.specs.Align.{is_code}
 use Rattle.sem_simulation.specs.Words.{RunsByWords}
 use Rattle.sem_machine.specs.Image.{Image}
 use Rattle.sem_machine.specs.Headline.{StartsAt, KEPT, Headline}
@@ -73,11 +74,11 @@ pub record ComesFrom (src : Program) (f : FramedFunction) : Type 0 where
   pub quiet : (p q r o : Pos) (i d j : Item) → fetched f p ≡ Here i → i.origin ≡ Before o → FallsTo f (below p) q → fetched f q ≡ Here d →
       FallsTo f q r → fetched f r ≡ Here j → is_code j.kind ≡ true → position_of j.origin ≡ o → AssignsNothing d.kind
 
--- each return of a run from this start leaves the registers `KEPT` (return address, stack pointer, callee-saved) with their
--- values at the start
+-- each run from this start that ends on a way that leads back to the caller leaves the registers `KEPT` (return address, stack pointer, callee-saved)
+-- with their values at the start
 abbrev pub GivesBackKept : Program → State → Type 0
-GivesBackKept g g0 = (n : ℕ) (t : State) (results : List ℕ) → run g n g0 ≡ Went t → step g t ≡ Returned results →
-    All (λ r. read t.core r ≡ read g0.core r) KEPT
+GivesBackKept g g0 = (n : ℕ) (t : State) (result : RunResult) → run g n g0 ≡ Went t → step g t ≡ Returned result →
+    way_leads_back result.way ≡ true → All (λ r. read t.core r ≡ read g0.core r) KEPT
 
 -- the start of the function with its frame, for a start of the source
 abbrev pub start_beside : State → State

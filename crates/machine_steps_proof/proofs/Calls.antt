@@ -1,30 +1,33 @@
 -- A call beside the machine's, and what a number of code changes.
-use Rattle.std.proofs.Common.{◌≡◌, ℕ, ◌+◌, ◌%◌, ◌^◌, ◌<◌, ◌≤◌, List, [], ◌∷◌, map, All, Option, Some, None, Bool, true, false, cond, nat_eq, ◌||◌, refl, sym, ap}
+use Rattle.std.proofs.Common.{◌≡◌, ℕ, ◌+◌, ◌%◌, ◌^◌, ◌<◌, ◌≤◌, List, [], ◌∷◌, map, All, Option, Some, None, Bool, true, false, cond, nat_eq, ◌||◌, refl, sym}
+use Rattle.std.proofs.Common.{ap}
 use Rattle.std.proofs.Common.{◌∙◌, ◌&&◌, nat_lt, arith}
 use Rattle.std.proofs.Common.{subst}
 use Rattle.std.proofs.lemmas.List.Elements.{All-head, All-tail}
 use Rattle.rv64_instr.specs.declared.operand.Operand.{Operand}
-use Rattle.rv64_instr.specs.Row.{Calls}
+use Rattle.rv64_instr.specs.Row.{Calls, CallSite, Callee, Named, Held, Way, Back, Tail, Never, Ending}
 use Rattle.rv64_instr.specs.DefsAndUses.{caller_saved}
+use Rattle.rv64_instr.specs.declared.start.CallTarget.{CallTarget}
+use Rattle.rv64_instr.specs.declared.start.CallTarget.TheVariants.{Address}
 use Rattle.mir_func.specs.Function.{FramedFunction}
 use Rattle.mir_func.specs.SoundFrame.{IsFramed, IsSlotOffset}
 use Rattle.sem_mir.specs.State.{Core, Reply, Event, Called, updated, written, in_frame, writes_frame, IsReply, IsInRange}
 use Rattle.sem_mir.specs.Step.{Outcome, Falls, Goes, Gives, Traps, Asks, Breaks, does, read, numbered}
 use Rattle.sem_mir.specs.Step as source
 use Rattle.sem_machine.specs.Machine.{Machine, register, set_all_in}
-use Rattle.sem_machine.specs.MachineStep.{Stepped, Continues, Awaits, past, answered, left_below, memory_after}
+use Rattle.sem_machine.specs.MachineStep.{Stepped, Continues, Awaits, past, step_call, left_below, memory_after, called_at, way_at, result_at, callee_size}
 use Rattle.machine_steps_proof.specs.Beside.{frame_low, Beside}
 use Rattle.machine_steps_proof.proofs.Memory.{spelled_alike}
 use Rattle.machine_steps_proof.proofs.Rows.{set_all_alike, set_all_written, slot_room, slot_byte}
 
 -- what a call site's step is to what the call does
-abbrev pub FollowsCall : FramedFunction → Machine → Outcome → Stepped → Type 0
-FollowsCall f m (Falls d) st = (n : Machine) × (st ≡ Continues n) × (n.counter ≡ m.counter + 8) × Beside f d n
-FollowsCall f m Asks st = st ≡ Awaits
-FollowsCall f m Traps st = Unit {0}
-FollowsCall f m (Goes b d) st = ⊥
-FollowsCall f m (Gives v) st = ⊥
-FollowsCall f m Breaks st = ⊥
+abbrev pub FollowsCall : FramedFunction → Machine → (size : ℕ) → Outcome → Stepped → Type 0
+FollowsCall f m size (Falls d) st = (n : Machine) × (st ≡ Continues n) × (n.counter ≡ m.counter + size) × Beside f d n
+FollowsCall f m size Asks st = st ≡ Awaits
+FollowsCall f m size Traps st = Unit {0}
+FollowsCall f m size (Goes b d) st = ⊥
+FollowsCall f m size (Gives v) st = ⊥
+FollowsCall f m size Breaks st = ⊥
 
 neither : (a b : Bool) → (a || b) ≡ false → (a ≡ false) × (b ≡ false)
 neither false b e = (refl, e)
@@ -99,22 +102,23 @@ module _ (f : FramedFunction) (framed : IsFramed f) (c : Core) (m : Machine) (h 
   slot_above o j is lt pointer =
       let k = slot_room f framed c m h o is in let t = h.top in let p = h.regs 2 ∙ pointer in omega (arith, k, t, p, lt)
 
-  beside_answered : (name args : List ℕ) (r : Reply) (rest : List Reply) → IsReply r → read c 2 ≡ frame_low f c → writes_frame c.entry c.area r.writes ≡ false →
+  beside_answered : (size : ℕ) (target : CallTarget) (args : List ℕ) (r : Reply) (rest : List Reply) → IsReply r → read c 2 ≡ frame_low f c →
+      writes_frame c.entry c.area r.writes ≡ false →
       Beside f
       (record c {
         regs = Rattle.sem_mir.specs.State.put_all caller_saved r.regs c.regs;
         memory = written c.memory r.writes;
         script = rest;
-        events = Called name args ∷ c.events;
+        events = Called target args ∷ c.events;
       })
-      (past 8 (record m {
+      (past size (record m {
         regs = set_all_in caller_saved r.regs m.regs;
         memory = memory_after r m;
         script = rest;
-        events = Called name args ∷
+        events = Called target args ∷
             m.events;
       }))
-  beside_answered name args r rest is pointer out = record {
+  beside_answered size target args r rest is pointer out = record {
     room = h.room;
     top = h.top;
     area = h.area;
@@ -122,54 +126,76 @@ module _ (f : FramedFunction) (framed : IsFramed f) (c : Core) (m : Machine) (h 
     written = set_all_written caller_saved r.regs c.regs h.written;
     same_entry = h.same_entry;
     same_area = h.same_area;
+    same_symbols = h.same_symbols;
     regs = set_all_alike caller_saved r.regs m.regs c.regs h.regs;
     memory = λ b o. left_elsewhere r.below (written m.memory r.writes) m.entry m.area (register m 2) b
         (no_frame (in_frame m.entry m.area b) (nat_lt b (register m 2)) (same_frame b ∙ o))
         ∙ written_alike r.writes m.memory c.memory b (h.memory b o);
-    bytes = λ b. left_bytes r.below (written m.memory r.writes) m.entry m.area (register m 2) b is.below (λ a. written_bytes r.writes m.memory a is.writes (h.bytes a));
+    bytes = λ b. left_bytes r.below (written m.memory r.writes) m.entry m.area (register m 2) b is.below
+        (λ a. written_bytes r.writes m.memory a is.writes (h.bytes a));
     slots = λ o x ix s. h.slots o x ix s ∙ spelled_alike m.memory (memory_after r m) 8 (frame_low f c + o)
         (λ j lt. sym (left_elsewhere r.below (written m.memory r.writes) m.entry m.area (register m 2) (((frame_low f c + o) + j) % 2 ^ 64)
-        (not_below (((frame_low f c + o) + j) % 2 ^ 64) (register m 2) (in_frame m.entry m.area (((frame_low f c + o) + j) % 2 ^ 64)) (slot_above o j ix lt pointer))
+        (not_below (((frame_low f c + o) + j) % 2 ^ 64) (register m 2) (in_frame m.entry m.area (((frame_low f c + o) + j) % 2 ^ 64))
+        (slot_above o j ix lt pointer))
         ∙ written_outside r.writes m.memory c.entry c.area (((frame_low f c + o) + j) % 2 ^ 64) out (slot_byte f framed c m h o j ix lt)));
     script = refl;
-    events = ap (λ (es : List Event). Called name args ∷ es) h.events;
+    events = ap (λ (es : List Event). Called target args ∷ es) h.events;
   }
 
-  call_by : (name args : List ℕ) (rs : List Reply) → All IsReply rs → read c 2 ≡ frame_low f c →
-      FollowsCall f m (source.answered name args c rs) (answered name args m rs)
-  call_by name args [] is pointer = refl
-  call_by name args (r ∷ rs) is pointer = by_fault (writes_frame c.entry c.area r.writes) refl where
-    by_fault : (b : Bool) → writes_frame c.entry c.area r.writes ≡ b → FollowsCall f m
+  call_by : (size : ℕ) (target : CallTarget) (args : List ℕ) (rs : List Reply) → All IsReply rs → read c 2 ≡ frame_low f c →
+      FollowsCall f m size (source.exec_external_call target args c rs) (step_call size target args m rs)
+  call_by size target args [] is pointer = refl
+  call_by size target args (r ∷ rs) is pointer = by_fault (writes_frame c.entry c.area r.writes) refl where
+    by_fault : (b : Bool) → writes_frame c.entry c.area r.writes ≡ b → FollowsCall f m size
         (cond b Traps (Falls (record c {
           regs = Rattle.sem_mir.specs.State.put_all caller_saved r.regs c.regs;
           memory = written c.memory r.writes;
           script = rs;
-          events = Called name args ∷ c.events;
+          events = Called target args ∷ c.events;
         })))
-        (Continues (past 8 (record m {
+        (Continues (past size (record m {
           regs = set_all_in caller_saved r.regs m.regs;
           memory = memory_after r m;
           script = rs;
-          events = Called name
-              args ∷ m.events;
+          events = Called target args ∷ m.events;
         })))
     by_fault true e = tt
     by_fault false e = (
-      past 8 (record m { regs = set_all_in caller_saved r.regs m.regs; memory = memory_after r m; script = rs; events = Called name args ∷ m.events }),
+      past size (record m { regs = set_all_in caller_saved r.regs m.regs; memory = memory_after r m; script = rs; events = Called target args ∷ m.events }),
       refl,
       refl,
-      beside_answered name args r rs (All-head IsReply r rs is) pointer e,
+      beside_answered size target args r rs (All-head IsReply r rs is) pointer e,
     )
 
+  callee_same : (callee : Callee) → called_at m callee ≡ source.called_at c callee
+  callee_same (Named name) = refl
+  callee_same (Held r) = ap Address (h.regs r)
+
+  way_same : (way : Way Callee) → way_at m way ≡ source.way_at c way
+  way_same Back = refl
+  way_same (Tail callee) = ap (λ (t : CallTarget). Tail t) (callee_same callee)
+  way_same (Never callee) = ap (λ (t : CallTarget). Never t) (callee_same callee)
+
+  -- an ending has the same result
+  pub result_same : (ending : Ending Callee) → result_at m ending ≡ source.result_at c ending
+  result_same ending =
+      let a = way_same ending.way in
+      let b = contents ending.values in
+      λ i. record { way = a i; values = b i }
+
   -- a call site does what its call does
-  pub calls : (name args : List ℕ) → IsInRange c → read c 2 ≡ frame_low f c →
-      FollowsCall f m (does (Calls name args) c) (answered name (map (register m) args) m m.script)
+  pub calls : (call : CallSite) → IsInRange c → read c 2 ≡ frame_low f c →
+      FollowsCall f m (callee_size call.callee) (does (Calls call) c)
+      (step_call (callee_size call.callee) (called_at m call.callee) (map (register m) call.args) m m.script)
   unfolding does
-  calls name args range pointer =
-      subst (λ (rs : List Reply). FollowsCall f m (source.answered name (map (read c) args) c c.script) (answered name (map (register m) args) m rs)) (sym
-      h.script)
-      (subst (λ (vs : List ℕ). FollowsCall f m (source.answered name (map (read c) args) c c.script) (answered name vs m c.script)) (sym (contents args))
-      (call_by name (map (read c) args) c.script range.script pointer))
+  calls call range pointer =
+      let t = source.called_at c call.callee in
+      let vs = map (read c) call.args in
+      let Goal : CallTarget → List ℕ → List Reply → Type 0 = λ u ws rs. FollowsCall f m (callee_size call.callee) (source.exec_external_call t vs c c.script)
+      (step_call (callee_size call.callee) u ws m rs) in
+      subst (λ (u : CallTarget). Goal u (map (register m) call.args) m.script) (sym (callee_same call.callee))
+      (subst (λ (ws : List ℕ). Goal t ws m.script) (sym (contents call.args))
+      (subst (λ (rs : List Reply). Goal t vs rs) (sym h.script) (call_by (callee_size call.callee) t vs c.script range.script pointer)))
 
   pub beside_numbered : (sp call : Bool) (k : Option ℕ) (operands : List Operand) → Beside f (numbered sp call k operands c) m
   beside_numbered sp call None operands = h
@@ -181,6 +207,7 @@ module _ (f : FramedFunction) (framed : IsFramed f) (c : Core) (m : Machine) (h 
     written = h.written;
     same_entry = h.same_entry;
     same_area = h.same_area;
+    same_symbols = h.same_symbols;
     regs = h.regs;
     memory = h.memory;
     bytes = h.bytes;

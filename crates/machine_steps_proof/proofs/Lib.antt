@@ -14,4 +14,7 @@ pub mod Known
 pub mod Contents
 pub mod Addresses
 pub mod Standing
+pub mod Linked
+pub mod Listed
+pub mod Placed
 pub mod Laid

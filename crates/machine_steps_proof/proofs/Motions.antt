@@ -1,18 +1,18 @@
--- Where x2 is set in the items of a function with its frame: right at the start, and right before each return.
+-- Where x2 is set in the items of a function with its frame: right at the start, and right before each item that leads back to the caller.
 use Rattle.std.proofs.Common.{◌≡◌, ◌⊎◌, ℕ, zero, suc, pos, ◌-ℤ◌, List, [], ◌∷◌, ◌++◌, map, All, Contains, slice_get, Option, Some, None, Bool, true, false}
 use Rattle.std.proofs.Common.{◌||◌, nat_eq, refl, sym, ap, ◌∙◌, subst, inl, inr, eq-eqb, append_assoc, arith}
 use Rattle.std.specs.List.{list_any}
 use Rattle.std.proofs.lemmas.List.Elements.{All-head, All-tail}
 use Rattle.rv64_instr.specs.Row.{add_row, row_of}
-use Rattle.mir_func.specs.declared.exit.Exit.{Exit}
-use Rattle.mir_func.specs.declared.exit.Exit.TheVariants.{Onward, Perhaps, Always, Final}
+use Rattle.mir_func.specs.declared.exit.Exit.TheVariants.{Onward}
 use Rattle.mir_func.specs.declared.framed.SavedRegister.{SavedRegister}
 use Rattle.mir_func.specs.declared.item.Item.{Item}
 use Rattle.mir_func.specs.declared.item.ItemKind.{ItemKind}
 use Rattle.mir_func.specs.declared.item.ItemKind.TheVariants.{Code, Mark, Phi}
-use Rattle.mir_func.specs.Exits.{row_exit, exit_of}
+use Rattle.mir_func.specs.Exits.{row_exit, exit_of, leads_back}
 use Rattle.mir_func.specs.Sound.{LeavesPointer}
 use Rattle.mir_func.specs.SoundFrame.{SAVED, adds_to_pointer, saves, restores, prologue_code, epilogue_code, AreCode, IsBody, GivesBack, goes_on, returns}
+use Rattle.mir_func.proofs.Leading.{onward_leads}
 use Rattle.machine_steps_proof.proofs.Registers.{LeavesTwo, leaves_two}
 
 abbrev pub KindLeavesTwo : ItemKind → Type 0
@@ -25,34 +25,27 @@ kind_leaves (Code c n) h = leaves_two c h
 kind_leaves (Mark v m) h = tt
 kind_leaves (Phi p n) h = tt
 
-abbrev pub IsNotFinal : Option Item → Type 0
-IsNotFinal None = Unit {0}
-IsNotFinal (Some i) = exit_of i.kind ≡ Final → ⊥
+abbrev pub Stays : Option Item → Type 0
+Stays None = Unit {0}
+Stays (Some i) = leads_back i.kind ≡ false
 
--- what an item of a block does with x2, and whether a return comes next
+-- what an item of a block does with x2, and whether one that leads back to the caller comes next
 pub data Motion (size : ℕ) : ItemKind → Option Item → Type 0 where
-  keeps : {k : ItemKind} {next : Option Item} → (exit_of k ≡ Final → ⊥) → KindLeavesTwo k → IsNotFinal next → Motion size k next
-  raises : {k : ItemKind} {next : Option Item} (l : Item) → k ≡ Code (adds_to_pointer (pos size)) None → next ≡ Some l → exit_of l.kind ≡ Final →
+  keeps : {k : ItemKind} {next : Option Item} → leads_back k ≡ false → KindLeavesTwo k → Stays next → Motion size k next
+  raises : {k : ItemKind} {next : Option Item} (l : Item) → k ≡ Code (adds_to_pointer (pos size)) None → next ≡ Some l → leads_back l.kind ≡ true →
       Motion size k next
-  ends : {k : ItemKind} {next : Option Item} → exit_of k ≡ Final → KindLeavesTwo k → Motion size k next
+  ends : {k : ItemKind} {next : Option Item} → leads_back k ≡ true → KindLeavesTwo k → Motion size k next
 
 -- of each item of a list
 pub record Moves (size : ℕ) (items : List Item) : Type 0 where
   pub each : (k : ℕ) (i : Item) → slice_get items k ≡ Some i → Motion size i.kind (slice_get items (suc k))
-  pub first : IsNotFinal (slice_get items 0)
-
--- a row that isn't a return's
-pub onward_not : (x : Exit) → x ≡ Onward → x ≡ Final → ⊥
-onward_not Onward e h = cc
-onward_not (Perhaps n) e h = cc
-onward_not (Always n) e h = cc
-onward_not Final e h = cc
+  pub first : Stays (slice_get items 0)
 
 pub adds_onward : (n : ℕ) → row_exit (add_row 2 2 n) ≡ Onward
 adds_onward zero = refl
 adds_onward (suc n) = refl
 
-more : (size : ℕ) (x : Item) (xs : List Item) → (exit_of x.kind ≡ Final → ⊥) → KindLeavesTwo x.kind → Moves size xs → Moves size (x ∷ xs)
+more : (size : ℕ) (x : Item) (xs : List Item) → leads_back x.kind ≡ false → KindLeavesTwo x.kind → Moves size xs → Moves size (x ∷ xs)
 more size x xs goes leaves h = record { each = by_index; first = goes } where
   by_index : (k : ℕ) (i : Item) → slice_get (x ∷ xs) k ≡ Some i → Motion size i.kind (slice_get (x ∷ xs) (suc k))
   by_index zero i e = let same : x ≡ i = cc in subst (λ (z : Item). Motion size z.kind (slice_get xs 0)) same (keeps goes leaves h.first)
@@ -72,11 +65,11 @@ not_two (x ∷ rs) r none (suc k, lt, e) q = not_two rs r (tail (nat_eq 2 x) non
 saved_leaves : (s : SavedRegister) → Contains SAVED s.register → s.register ≡ 2 → ⊥
 saved_leaves s h = not_two SAVED s.register refl h
 
--- the epilogue and the return
+-- the epilogue and the item that leads back to the caller
 gives_back : (size : ℕ) (saved : List SavedRegister) (items : List Item) (last : Item) → All (λ (s : SavedRegister). Contains SAVED s.register) saved →
-    AreCode items (epilogue_code size saved) → exit_of last.kind ≡ Final → LeavesPointer last.kind → Moves size (items ++ last ∷ [])
+    AreCode items (epilogue_code size saved) → leads_back last.kind ≡ true → LeavesPointer last.kind → Moves size (items ++ last ∷ [])
 gives_back size [] [] last kept code final leaves = cc
-gives_back size [] (x ∷ []) last kept code final leaves = record { each = by_index; first = onward_not (exit_of x.kind) goes } where
+gives_back size [] (x ∷ []) last kept code final leaves = record { each = by_index; first = onward_leads x.kind goes } where
   kind : x.kind ≡ Code (adds_to_pointer (pos size)) None
   kind = cc
 
@@ -93,7 +86,7 @@ gives_back size (s ∷ saved) (x ∷ xs) last kept code final leaves =
     let kind : x.kind ≡ Code (restores s) None = cc in
     let rest : AreCode xs (epilogue_code size saved) = cc in
     let goes : exit_of x.kind ≡ Onward = ap exit_of kind in
-    more size x (xs ++ last ∷ []) (onward_not (exit_of x.kind) goes)
+    more size x (xs ++ last ∷ []) (onward_leads x.kind goes)
     (subst KindLeavesTwo (sym kind) (saved_leaves s (All-head (λ (z : SavedRegister). Contains SAVED z.register) s saved kept)))
     (gives_back size saved xs last (All-tail (λ (z : SavedRegister). Contains SAVED z.register) s saved kept) rest final leaves)
 

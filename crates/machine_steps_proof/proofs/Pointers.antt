@@ -1,26 +1,29 @@
 -- What the rows of code do with x2, and where they go.
-use Rattle.std.proofs.Common.{◌≡◌, ℕ, zero, suc, ◌+◌, ◌-◌, ◌%◌, ◌^◌, ◌<◌, ◌≤◌, pos, negsuc, ◌-ℤ◌, List, [], ◌∷◌, map, All, Contains, Option, Some, None, Bool}
+use Rattle.std.proofs.Common.{◌≡◌, ℕ, zero, suc, ◌+◌, ◌-◌, ◌%◌, ◌^◌, ◌<◌, ◌≤◌, ℤ, pos}
+use Rattle.std.proofs.Common.{negsuc, ◌-ℤ◌, List, [], ◌∷◌, map, All, Contains, Option, Some, None, Bool}
 use Rattle.std.proofs.Common.{true, false}
 use Rattle.std.proofs.Common.{cond, nat_eq, nat_le, le-leb, refl, sym, ap, ◌∙◌, subst, arith}
 use Rattle.std.proofs.lemmas.List.Elements.{All-head, All-tail, All-weaker, All-contains_itself}
-use Rattle.rv64_instr.specs.declared.decoded.Base.TheVariants.{PointedBy, ObjectAt}
+use Rattle.rv64_instr.specs.Row.{PointedBy, ObjectAt, BesidePart}
 use Rattle.rv64_instr.specs.Arithmetic.{word, taken, computed, load_width, store_width}
 use Rattle.rv64_instr.specs.Row.{Row, Fixes, Moves, Sets, Addresses, Loads, Stores, LoadsSlot, StoresSlot, Branches, Jumps, Calls, Returns, Unfit, add_row}
+use Rattle.rv64_instr.specs.Row.{Callee, Named, Held, Way, Back, Tail, Never}
 use Rattle.rv64_instr.specs.DefsAndUses.{caller_saved}
 use Rattle.mir_func.specs.declared.exit.Exit.TheVariants.{Final}
 use Rattle.mir_func.specs.Exits.{row_exit, Leaves}
 use Rattle.mir_func.specs.Sound.{TargetIn}
-use Rattle.rv64_word.specs.MachineRow.{placed}
+use Rattle.rv64_word.specs.MachineRow.{placed, placed_callee, placed_way}
 use Rattle.sem_machine.specs.Machine.{Machine}
 use Rattle.sem_machine.specs.MachineStep.{Ends, does_row}
 use Rattle.sem_machine.specs.MachineStep as machine
 use Rattle.rv64_instr.specs.declared.operand.Operand.{Operand}
-use Rattle.sem_mir.specs.Step.{numbered}
+use Rattle.rv64_instr.specs.declared.start.CallTarget.{CallTarget}
+use Rattle.sem_mir.specs.Step.{numbered, called_at}
 use Rattle.sem_simulation.specs.Words.{SameCode}
 use Rattle.sem_simulation.proofs.Turns.{same_code}
-use Rattle.sem_mir.specs.State.{Core, Reply, content, put, put_all, writes_frame}
+use Rattle.sem_mir.specs.State.{Core, Reply, content, put, put_all, writes_frame, RunResult}
 use Rattle.sem_mir.specs.Step.{Outcome, Falls, Goes, Traps, does, read}
-use Rattle.sem_mir.specs.Step.{is_fault, address_at, answered, slot_loaded, set_register}
+use Rattle.sem_mir.specs.Step.{is_fault, address_at, exec_external_call, slot_loaded, set_register}
 use Rattle.sem_mir.specs.Effects.{OnCore}
 use Rattle.sem_mir.proofs.Outcomes.{on_either}
 use Rattle.machine_steps_proof.specs.Laid.{target_of}
@@ -53,9 +56,9 @@ module _ (c : Core) where
   set_keeps : (rd v : ℕ) → (rd ≡ 2 → ⊥) → SamePointer c (set_register rd v c)
   set_keeps rd v ne = (put_two rd v c.regs ne, refl)
 
-  answer_keeps : (name args : List ℕ) (rs : List Reply) → OnCore (SamePointer c) (answered name args c rs)
-  answer_keeps name args [] = tt
-  answer_keeps name args (r ∷ rs) = on_either (SamePointer c) (writes_frame c.entry c.area r.writes) Traps _ tt
+  answer_keeps : (t : CallTarget) (args : List ℕ) (rs : List Reply) → OnCore (SamePointer c) (exec_external_call t args c rs)
+  answer_keeps t args [] = tt
+  answer_keeps t args (r ∷ rs) = on_either (SamePointer c) (writes_frame c.entry c.area r.writes) Traps _ tt
       (two_kept caller_saved r.regs c.regs (apart caller_saved refl), refl)
 
   slot_keeps : (rd : ℕ) (x : Option ℕ) → (rd ≡ 2 → ⊥) → OnCore (SamePointer c) (slot_loaded rd c x)
@@ -75,7 +78,7 @@ module _ (c : Core) where
   row_keeps (StoresSlot rs n) ne = (refl, refl)
   row_keeps (Branches op a b t) ne = on_either (SamePointer c) (taken op (read c a) (read c b)) (Goes t c) (Falls c) (refl, refl) (refl, refl)
   row_keeps (Jumps t) ne = (refl, refl)
-  row_keeps (Calls name args) ne = answer_keeps name (map (read c) args) c.script
+  row_keeps (Calls call) ne = answer_keeps (called_at c call.callee) (map (read c) call.args) c.script
   row_keeps (Returns v) ne = tt
   row_keeps Unfit ne = tt
 
@@ -93,7 +96,7 @@ final_needs (Loads rd op (ObjectAt n) o) e h = cc
 final_needs (Stores op rs (ObjectAt n) o) e h = cc
 final_needs (LoadsSlot rd n) e h = cc
 final_needs (StoresSlot rs n) e h = cc
-final_needs (Calls name args) e h = cc
+final_needs (Calls call) e h = cc
 final_needs _ e h = absurd h
 
 pub adds_needs : (n : ℕ) → NeedsFrame (add_row 2 2 n) → ⊥
@@ -126,9 +129,9 @@ loaded_target : (c : Core) (rd : ℕ) (x : Option ℕ) → IsTarget 0 (slot_load
 loaded_target c rd None = tt
 loaded_target c rd (Some v) = tt
 
-answered_target : (c : Core) (name args : List ℕ) (rs : List Reply) → IsTarget 0 (answered name args c rs)
-answered_target c name args [] = tt
-answered_target c name args (x ∷ rs) = either_target 0 (writes_frame c.entry c.area x.writes) Traps _ tt tt
+answered_target : (c : Core) (t : CallTarget) (args : List ℕ) (rs : List Reply) → IsTarget 0 (exec_external_call t args c rs)
+answered_target c t args [] = tt
+answered_target c t args (x ∷ rs) = either_target 0 (writes_frame c.entry c.area x.writes) Traps _ tt tt
 
 row_target : (r : Row) (c : Core) → IsTarget (target_of r) (does r c)
 unfolding does
@@ -137,7 +140,7 @@ row_target (Stores op rs b o) c = either_target 0 (is_fault b c (address_at c b 
 row_target (LoadsSlot rd n) c = loaded_target c rd (c.slots n)
 row_target (Branches op a b n) c = either_target n (taken op (read c a) (read c b)) (Goes n c) (Falls c) refl tt
 row_target (Jumps n) c = refl
-row_target (Calls name args) c = answered_target c name (map (read c) args) c.script
+row_target (Calls call) c = answered_target c (called_at c call.callee) (map (read c) call.args) c.script
 row_target _ c = tt
 
 pub goes_target : (r : Row) (c : Core) (n : ℕ) (d : Core) → does r c ≡ Goes n d → target_of r ≡ n
@@ -178,9 +181,9 @@ loaded_goes : (P : ℕ → Type 0) (c : Core) (rd : ℕ) (x : Option ℕ) → On
 loaded_goes P c rd None = tt
 loaded_goes P c rd (Some v) = tt
 
-answered_goes : (P : ℕ → Type 0) (c : Core) (name args : List ℕ) (rs : List Reply) → OnGoes P (answered name args c rs)
-answered_goes P c name args [] = tt
-answered_goes P c name args (x ∷ rs) = either_goes P (writes_frame c.entry c.area x.writes) Traps _ tt tt
+answered_goes : (P : ℕ → Type 0) (c : Core) (t : CallTarget) (args : List ℕ) (rs : List Reply) → OnGoes P (exec_external_call t args c rs)
+answered_goes P c t args [] = tt
+answered_goes P c t args (x ∷ rs) = either_goes P (writes_frame c.entry c.area x.writes) Traps _ tt tt
 
 row_contains : (ids : List ℕ) (r : Row) (c : Core) → TargetIn ids r → OnGoes (Contains ids) (does r c)
 unfolding does
@@ -189,7 +192,7 @@ row_contains ids (Stores op rs b o) c h = either_goes (Contains ids) (is_fault b
 row_contains ids (LoadsSlot rd n) c h = loaded_goes (Contains ids) c rd (c.slots n)
 row_contains ids (Branches op a b n) c h = either_goes (Contains ids) (taken op (read c a) (read c b)) (Goes n c) (Falls c) h tt
 row_contains ids (Jumps n) c h = h
-row_contains ids (Calls name args) c h = answered_goes (Contains ids) c name (map (read c) args) c.script
+row_contains ids (Calls call) c h = answered_goes (Contains ids) c (called_at c call.callee) (map (read c) call.args) c.script
 row_contains ids _ c h = tt
 
 pub goes_into : (ids : List ℕ) (r : Row) (c : Core) (n : ℕ) (d : Core) → TargetIn ids r → does r c ≡ Goes n d → Contains ids n
@@ -205,24 +208,36 @@ falls_stays _ c d e h = h
 
 -- ---- words that don't return
 
-row_ends : (x : Row) (m : Machine) (v : List ℕ) → does_row x m ≡ Ends v → ⊥
+row_ends : (x : Row) (m : Machine) (v : RunResult) → does_row x m ≡ Ends v → ⊥
 unfolding does_row
 row_ends (Loads rd op (PointedBy r) o) m v e = cc
 row_ends (Loads rd op (ObjectAt n) o) m v e = cc
+row_ends (Loads rd op (BesidePart r y) o) m v e = cc
 row_ends (Stores op rs (PointedBy r) o) m v e = cc
 row_ends (Stores op rs (ObjectAt n) o) m v e = cc
+row_ends (Stores op rs (BesidePart r y) o) m v e = cc
 row_ends _ m v e = cc
 
-pub word_goes : (target object : ℕ) (r : Row) (m : Machine) (v : List ℕ) → machine.does (placed target object r) m ≡ Ends v → ⊥
-word_goes target object (Returns results) m v e = cc
-word_goes target object _ m v e = row_ends _ m v e
+callee_goes : (link : ℕ) (callee : Callee) (m : Machine) (v : RunResult) → machine.does (placed_callee link callee) m ≡ Ends v → ⊥
+callee_goes link (Named name) m v e = row_ends Unfit m v e
+callee_goes link (Held r) m v e = cc
 
-pub call_goes : (name args : List ℕ) (m : Machine) (rs : List Reply) (v : List ℕ) → machine.answered name args m rs ≡ Ends v → ⊥
-call_goes name args m [] v e = cc
-call_goes name args m (r ∷ rs) v e = cc
+way_goes : (way : Way Callee) (m : Machine) (v : RunResult) → machine.does (placed_way way) m ≡ Ends v → ⊥
+way_goes Back m v e = cc
+way_goes (Tail callee) m v e = callee_goes 0 callee m v e
+way_goes (Never callee) m v e = callee_goes 1 callee m v e
+
+pub word_goes : (target object : ℕ) (part : ℤ) (r : Row) (m : Machine) (v : RunResult) → machine.does (placed target object part r) m ≡ Ends v → ⊥
+word_goes target object part (Calls call) m v e = callee_goes 1 call.callee m v e
+word_goes target object part (Returns ending) m v e = way_goes ending.way m v e
+word_goes target object part _ m v e = row_ends _ m v e
+
+pub call_goes : (size : ℕ) (t : CallTarget) (args : List ℕ) (m : Machine) (rs : List Reply) (v : RunResult) → machine.step_call size t args m rs ≡ Ends v → ⊥
+call_goes size t args m [] v e = cc
+call_goes size t args m (r ∷ rs) v e = cc
 
 -- a number changes no place
 pub numbered_code : (sp call : Bool) (k : Option ℕ) (os : List Operand) (c : Core) → SameCode (numbered sp call k os c) c
 numbered_code sp call None os c = same_code c
 numbered_code sp call (Some k) os c =
-    record { entry = refl; area = refl; objects = refl; regs = refl; slots = refl; memory = refl; script = refl; events = refl }
+    record { entry = refl; area = refl; objects = refl; symbols = refl; regs = refl; slots = refl; memory = refl; script = refl; events = refl }

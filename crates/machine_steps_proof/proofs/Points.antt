@@ -1,25 +1,25 @@
 -- What stands at the positions of a function with its frame, and where x2 is there.
-use Rattle.std.proofs.Common.{◌≡◌, ◌⊎◌, ℕ, zero, suc, ◌+◌, pos, ◌-ℤ◌, List, [], ◌∷◌, drop, All, Contains, slice_get, Option, Some, None, Bool}
+use Rattle.std.proofs.Common.{◌≡◌, ℕ, zero, suc, ◌+◌, pos, ◌-ℤ◌, List, [], ◌∷◌, drop, All, Contains, slice_get, Option, Some, None, Bool}
 use Rattle.std.proofs.Common.{true, false, cond, nat_eq, ◌&&◌, ◌||◌, refl, sym, ap, ◌∙◌, subst, inl, inr, eq-eqb, ne_eqb, arith}
 use Rattle.std.proofs.lemmas.Bool.{cases_eq}
 use Rattle.std.proofs.lemmas.List.Elements.{All-contains}
-use Rattle.mir_func.specs.declared.exit.Exit.{Exit}
-use Rattle.mir_func.specs.declared.exit.Exit.TheVariants.{Onward, Perhaps, Always, Final}
+use Rattle.mir_func.specs.declared.exit.Exit.TheVariants.{Onward, Final}
 use Rattle.mir_func.specs.declared.block.Block.{Block}
 use Rattle.mir_func.specs.declared.position.Pos.{Pos}
 use Rattle.mir_func.specs.declared.item.Item.{Item}
 use Rattle.mir_func.specs.declared.item.ItemKind.{ItemKind}
 use Rattle.mir_func.specs.declared.item.ItemKind.TheVariants.{Code}
-use Rattle.mir_func.specs.Exits.{exit_of, is_final}
+use Rattle.mir_func.specs.Exits.{exit_of, leads_back}
 use Rattle.mir_func.specs.Function.{FramedFunction}
-use Rattle.mir_func.specs.Graph.{Here, EndOfBlock, below, block_start, end_of, front, fetch_in}
+use Rattle.mir_func.specs.Graph.{Here, EndOfBlock, below, block_start, end_of, front, fetch_in, is_return}
 use Rattle.mir_func.specs.Sound.{AllItems, LeavesPointer}
 use Rattle.mir_func.specs.SoundFrame.{adds_to_pointer, AreCode, prologue_code, epilogue_code, GivesBack, HasFrame, IsFramed}
+use Rattle.mir_func.proofs.Leading.{leads_out, onward_leads}
 use Rattle.sem_mir.proofs.Reading.{front_item}
 use Rattle.sem_machine.proofs.Fetching.{drop_zero}
 use Rattle.machine_steps_proof.specs.Laid.{fetched}
-use Rattle.machine_steps_proof.specs.Pointer.{fetch_returns, is_as_at_entry, lowered_by}
-use Rattle.machine_steps_proof.proofs.Motions.{KindLeavesTwo, kind_leaves, IsNotFinal, Motion, Moves, block_moves, prologue_moves}
+use Rattle.machine_steps_proof.specs.Pointer.{is_as_at_entry, lowered_by}
+use Rattle.machine_steps_proof.proofs.Motions.{KindLeavesTwo, kind_leaves, Stays, Motion, Moves, block_moves, prologue_moves}
 use Rattle.machine_steps_proof.proofs.Motions as motion
 use Rattle.machine_steps_proof.proofs.Memory.{either_right}
 
@@ -69,30 +69,21 @@ of_item f P all p i e =
 
 abbrev returns_if : Option Item → Bool
 returns_if None = false
-returns_if (Some i) = is_final (exit_of i.kind)
+returns_if (Some i) = leads_back i.kind
 
-end_returns : (k : ℕ) (bs : List Block) → fetch_returns (end_of k bs) ≡ false
+end_returns : (k : ℕ) (bs : List Block) → is_return (end_of k bs) ≡ false
 end_returns k [] = refl
 end_returns k (b ∷ bs) = refl
 
-front_returns : (xs : List Item) (n k : ℕ) (bs : List Block) → fetch_returns (front (drop n xs) k bs) ≡ returns_if (slice_get xs n)
+front_returns : (xs : List Item) (n k : ℕ) (bs : List Block) → is_return (front (drop n xs) k bs) ≡ returns_if (slice_get xs n)
 front_returns [] zero k bs = end_returns k bs
 front_returns [] (suc n) k bs = end_returns k bs
 front_returns (x ∷ xs) zero k bs = refl
 front_returns (x ∷ xs) (suc n) k bs = front_returns xs n k bs
 
-not_final : (e : Exit) → (e ≡ Final → ⊥) → is_final e ≡ false
-not_final Onward h = refl
-not_final (Perhaps n) h = refl
-not_final (Always n) h = refl
-not_final Final h = absurd (h refl)
-
-is_final_true : (e : Exit) → e ≡ Final → is_final e ≡ true
-is_final_true e q = ap is_final q
-
-none_returns : (x : Option Item) → IsNotFinal x → returns_if x ≡ false
+none_returns : (x : Option Item) → Stays x → returns_if x ≡ false
 none_returns None h = refl
-none_returns (Some i) h = not_final (exit_of i.kind) h
+none_returns (Some i) h = h
 
 right_true : (a b : Bool) → b ≡ true → (a || b) ≡ true
 right_true true b e = refl
@@ -125,31 +116,31 @@ module _ (f : FramedFunction) where
     | inr ne ↦ and_left (nat_eq p.block 0) (nat_eq p.item 0) (ne_eqb p.block 0 ne)
   ]
 
-  -- at an item that doesn't return, past the start
-  item_down : (p : Pos) (i : Item) → fetched f p ≡ Here i → (p.block ≡ 0 → p.item ≡ 0 → ⊥) → (exit_of i.kind ≡ Final → ⊥) → lowered_by f p ≡ f.size
-  item_down p i e h n = down p (either_right (nat_eq p.block 0 && nat_eq p.item 0) (fetch_returns (fetched f p)) (not_start p h)
-      (ap fetch_returns e ∙ not_final (exit_of i.kind) n))
+  -- at an item that doesn't lead back to the caller, past the start
+  item_down : (p : Pos) (i : Item) → fetched f p ≡ Here i → (p.block ≡ 0 → p.item ≡ 0 → ⊥) → leads_back i.kind ≡ false → lowered_by f p ≡ f.size
+  item_down p i e h n = down p (either_right (nat_eq p.block 0 && nat_eq p.item 0) (is_return (fetched f p)) (not_start p h)
+      (ap is_return e ∙ n))
 
-  next_fetch : (p : Pos) (i : Item) (s : StandsAt f p i) → fetch_returns (fetched f (below p)) ≡ returns_if (slice_get s.block.items (suc p.item))
+  next_fetch : (p : Pos) (i : Item) (s : StandsAt f p i) → is_return (fetched f (below p)) ≡ returns_if (slice_get s.block.items (suc p.item))
   next_fetch p i s =
       let k : p.item + 1 ≡ suc p.item = omega arith in
-      ap (λ (bs : List Block). fetch_returns (fetch_in bs (p.item + 1))) s.found ∙ front_returns s.block.items (p.item + 1) s.block.source_end s.rest
+      ap (λ (bs : List Block). is_return (fetch_in bs (p.item + 1))) s.found ∙ front_returns s.block.items (p.item + 1) s.block.source_end s.rest
       ∙ ap (λ (n : ℕ). returns_if (slice_get s.block.items n)) k
 
   -- below an item, where no return comes
-  below_down : (p : Pos) (i : Item) (s : StandsAt f p i) → IsNotFinal (slice_get s.block.items (suc p.item)) → lowered_by f (below p) ≡ f.size
-  below_down p i s n = down (below p) (either_right (nat_eq p.block 0 && nat_eq (p.item + 1) 0) (fetch_returns (fetched f (below p)))
+  below_down : (p : Pos) (i : Item) (s : StandsAt f p i) → Stays (slice_get s.block.items (suc p.item)) → lowered_by f (below p) ≡ f.size
+  below_down p i s n = down (below p) (either_right (nat_eq p.block 0 && nat_eq (p.item + 1) 0) (is_return (fetched f (below p)))
       (not_start (below p) (λ b z. omega (arith, z))) (next_fetch p i s ∙ none_returns (slice_get s.block.items (suc p.item)) n))
 
-  below_up : (p : Pos) (i : Item) (s : StandsAt f p i) (l : Item) → slice_get s.block.items (suc p.item) ≡ Some l → exit_of l.kind ≡ Final →
+  below_up : (p : Pos) (i : Item) (s : StandsAt f p i) (l : Item) → slice_get s.block.items (suc p.item) ≡ Some l → leads_back l.kind ≡ true →
       lowered_by f (below p) ≡ 0
-  below_up p i s l e q = up (below p) (right_true (nat_eq p.block 0 && nat_eq (p.item + 1) 0) (fetch_returns (fetched f (below p)))
-      (next_fetch p i s ∙ ap returns_if e ∙ is_final_true (exit_of l.kind) q))
+  below_up p i s l e q = up (below p) (right_true (nat_eq p.block 0 && nat_eq (p.item + 1) 0) (is_return (fetched f (below p)))
+      (next_fetch p i s ∙ ap returns_if e ∙ q))
 
   -- what an item does with x2, by its position
   pub data PointerMotion (p : Pos) (k : ItemKind) : Type 0 where
     -- it leaves x2, which is lowered here and below
-    keeps : KindLeavesTwo k → lowered_by f p ≡ f.size → lowered_by f (below p) ≡ f.size → (exit_of k ≡ Final → ⊥) → PointerMotion p k
+    keeps : KindLeavesTwo k → lowered_by f p ≡ f.size → lowered_by f (below p) ≡ f.size → leads_back k ≡ false → PointerMotion p k
     lowers : k ≡ Code (adds_to_pointer (pos 0 -ℤ pos f.size)) None → (f.size ≡ 0 → ⊥) → lowered_by f p ≡ 0 → lowered_by f (below p) ≡ f.size → PointerMotion p k
     raises : k ≡ Code (adds_to_pointer (pos f.size)) None → (f.size ≡ 0 → ⊥) → lowered_by f p ≡ f.size → lowered_by f (below p) ≡ 0 → PointerMotion p k
     leaves : exit_of k ≡ Final → PointerMotion p k
@@ -167,25 +158,19 @@ module _ (f : FramedFunction) where
           arith,
           z,
           at,
-        )) (Rattle.machine_steps_proof.proofs.Motions.onward_not (exit_of i.kind) goes)) (below_up p i s l next final)
-    in_body p i s b ne at (motion.ends final leave) e = leaves final
+        )) (onward_leads i.kind goes)) (below_up p i s l next final)
+    in_body p i s b ne at (motion.ends final leave) e = leaves (leads_out i.kind final)
 
     moves_of : (size : ℕ) (blocks : List Block) → All (λ (b : Block). GivesBack (epilogue_code size f.saved) b.items) blocks → (b : Block) → Contains blocks b →
         Moves size b.items
     moves_of size blocks all b c = block_moves size f.saved b.items framed.saved_kept
         (All-contains (λ (b : Block). GivesBack (epilogue_code size f.saved) b.items) blocks b all c)
 
-    final_or : (x : Exit) → (x ≡ Final) ⊎ (x ≡ Final → ⊥)
-    final_or Onward = inr (λ e. cc)
-    final_or (Perhaps n) = inr (λ e. cc)
-    final_or (Always n) = inr (λ e. cc)
-    final_or Final = inl refl
-
-    none_final : (xs : List Item) → ((k : ℕ) (i : Item) → slice_get xs k ≡ Some i → exit_of i.kind ≡ Onward) → (k : ℕ) → IsNotFinal (slice_get xs k)
+    none_final : (xs : List Item) → ((k : ℕ) (i : Item) → slice_get xs k ≡ Some i → exit_of i.kind ≡ Onward) → (k : ℕ) → Stays (slice_get xs k)
     none_final xs h k = by_item (slice_get xs k) refl where
-      by_item : (x : Option Item) → slice_get xs k ≡ x → IsNotFinal x
+      by_item : (x : Option Item) → slice_get xs k ≡ x → Stays x
       by_item None e = tt
-      by_item (Some i) e = Rattle.machine_steps_proof.proofs.Motions.onward_not (exit_of i.kind) (h k i e)
+      by_item (Some i) e = onward_leads i.kind (h k i e)
 
     -- by the frame's size
     without : (blocks : List Block) → f.blocks ≡ blocks → f.size ≡ 0 → HasFrame 0 f.saved blocks → (p : Pos) (i : Item) → fetched f p ≡ Here i →
@@ -196,9 +181,9 @@ module _ (f : FramedFunction) where
         s : StandsAt f p i
         s = stands_at f p i e
 
-        by_exit : KindLeavesTwo i.kind → (exit_of i.kind ≡ Final) ⊎ (exit_of i.kind ≡ Final → ⊥) → PointerMotion p i.kind
-        by_exit leave (inl final) = leaves final
-        by_exit leave (inr goes) = keeps leave (no_frame p es ∙ sym es) (no_frame (below p) es ∙ sym es) goes
+        by_exit : KindLeavesTwo i.kind → (b : Bool) → leads_back i.kind ≡ b → PointerMotion p i.kind
+        by_exit leave true final = leaves (leads_out i.kind final)
+        by_exit leave false goes = keeps leave (no_frame p es ∙ sym es) (no_frame (below p) es ∙ sym es) goes
 
         by_index : (n : ℕ) → p.block ≡ n → PointerMotion p i.kind
         by_index zero at =
@@ -212,7 +197,7 @@ module _ (f : FramedFunction) where
             let member = got bs n s.block (dropped bs n s.block s.rest d) in
             let leave = All-contains (λ (j : Item). LeavesPointer j.kind) s.block.items i
             (All-contains (λ (b : Block). All (λ (j : Item). LeavesPointer j.kind) b.items) bs s.block h.2 member) (got s.block.items p.item i s.at) in
-            by_exit (kind_leaves i.kind leave) (final_or (exit_of i.kind))
+            by_exit (kind_leaves i.kind leave) (leads_back i.kind) refl
 
     with_one : (blocks : List Block) → f.blocks ≡ blocks → (z : ℕ) → f.size ≡ suc z → HasFrame (suc z) f.saved blocks → (p : Pos) (i : Item) →
         fetched f p ≡ Here i → PointerMotion p i.kind
@@ -232,11 +217,11 @@ module _ (f : FramedFunction) where
             let code : AreCode s.block.items (prologue_code f.size f.saved) = subst (λ (b : Block). AreCode b.items (prologue_code f.size f.saved)) same
             (subst (λ (n : ℕ). AreCode pro.items (prologue_code n f.saved)) (sym es) h.0) in
             let is = prologue_moves f.size f.saved s.block.items code p.item i s.at in
-            let goes = Rattle.machine_steps_proof.proofs.Motions.onward_not (exit_of i.kind) is.onward in
+            let goes = onward_leads i.kind is.onward in
             let next = none_final s.block.items (λ k j q. (prologue_moves f.size f.saved s.block.items code k j q).onward) (suc p.item) in
             elim is.motion as (λ _. PointerMotion p i.kind) [
-              | inl l ↦ lowers l.1 some (up p (ap (λ (x : Bool). (x && nat_eq p.item 0) || fetch_returns (fetched f p)) (eq-eqb p.block 0 at)
-                  ∙ ap (λ (x : Bool). x || fetch_returns (fetched f p)) (eq-eqb p.item 0 l.0))) (below_down p i s next)
+              | inl l ↦ lowers l.1 some (up p (ap (λ (x : Bool). (x && nat_eq p.item 0) || is_return (fetched f p)) (eq-eqb p.block 0 at)
+                  ∙ ap (λ (x : Bool). x || is_return (fetched f p)) (eq-eqb p.item 0 l.0))) (below_down p i s next)
               | inr l ↦ keeps l.1 (item_down p i e (λ _ q. l.0 q) goes) (below_down p i s next) goes
             ]
         by_index (suc n) at =
@@ -256,11 +241,12 @@ module _ (f : FramedFunction) where
     start_of_body : (blocks : List Block) → f.blocks ≡ blocks → (z : ℕ) → f.size ≡ suc z → HasFrame (suc z) f.saved blocks → (n : ℕ) →
         lowered_by f (block_start (suc n)) ≡ f.size
     start_of_body [] eb z es h n = absurd h
-    start_of_body (pro ∷ bs) eb z es h n = down (block_start (suc n)) (either_right (nat_eq (suc n) 0 && nat_eq 0 0) (fetch_returns (fetched f (block_start (suc n))))
-        (not_start (block_start (suc n)) (λ b _. omega (arith, b))) (ap (λ (x : List Block). fetch_returns (fetch_in (drop (suc n) x) 0)) eb
+    start_of_body (pro ∷ bs) eb z es h n = down (block_start (suc n))
+        (either_right (nat_eq (suc n) 0 && nat_eq 0 0) (is_return (fetched f (block_start (suc n))))
+        (not_start (block_start (suc n)) (λ b _. omega (arith, b))) (ap (λ (x : List Block). is_return (fetch_in (drop (suc n) x) 0)) eb
         ∙ by_block (drop n bs) refl))
       where
-        by_block : (x : List Block) → drop n bs ≡ x → fetch_returns (fetch_in x 0) ≡ false
+        by_block : (x : List Block) → drop n bs ≡ x → is_return (fetch_in x 0) ≡ false
         by_block [] e = refl
         by_block (b ∷ rest) e =
             let back = subst (λ (n : ℕ). All (λ (b : Block). GivesBack (epilogue_code n f.saved) b.items) bs) (sym es) h.1 in
@@ -278,8 +264,8 @@ module _ (f : FramedFunction) where
     end_of_frame : (blocks : List Block) → f.blocks ≡ blocks → (z : ℕ) → f.size ≡ suc z → HasFrame (suc z) f.saved blocks → (p : Pos) (k n : ℕ) →
         fetched f p ≡ EndOfBlock k n → lowered_by f p ≡ f.size
     end_of_frame [] eb z es h p k n e = absurd h
-    end_of_frame (pro ∷ bs) eb z es h p k n e = down p (either_right (nat_eq p.block 0 && nat_eq p.item 0) (fetch_returns (fetched f p))
-        (not_start p (λ b i. at_start b i pro.items refl h.0)) (ap fetch_returns e))
+    end_of_frame (pro ∷ bs) eb z es h p k n e = down p (either_right (nat_eq p.block 0 && nat_eq p.item 0) (is_return (fetched f p))
+        (not_start p (λ b i. at_start b i pro.items refl h.0)) (ap is_return e))
       where
         at_start : p.block ≡ 0 → p.item ≡ 0 → (items : List Item) → pro.items ≡ items → AreCode items (prologue_code (suc z) f.saved) → ⊥
         at_start b i [] ei code = cc

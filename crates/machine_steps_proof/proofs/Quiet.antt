@@ -42,6 +42,7 @@ module _ (f : FramedFunction) (framed : IsFramed f) (resolve : OperandPair →
     written = h.written;
     same_entry = h.same_entry;
     same_area = h.same_area;
+    same_symbols = h.same_symbols;
     regs = h.regs;
     memory = h.memory;
     bytes = h.bytes;
@@ -59,6 +60,7 @@ module _ (f : FramedFunction) (framed : IsFramed f) (resolve : OperandPair →
     written = h.written;
     same_entry = h.same_entry;
     same_area = h.same_area;
+    same_symbols = h.same_symbols;
     regs = h.regs;
     memory = h.memory;
     bytes = h.bytes;
@@ -114,12 +116,32 @@ module _ (f : FramedFunction) (framed : IsFramed f) (resolve : OperandPair →
         let marks = (v, part_of v (mark_value (framed_run f resolve image laid) x t.core)) ∷ t.core.marks in
         let d : Core = record t.core { marks = marks } in
         passes i here plain d (ap (λ (k : ItemKind). do_item (framed_run f resolve image laid) k t.core) e)
-        (record { entry = refl; area = refl; objects = refl; regs = refl; slots = refl; memory = refl; script = refl; events = refl }) (with_marks marks)
+        (record {
+          entry = refl;
+          area = refl;
+          objects = refl;
+          symbols = refl;
+          regs = refl;
+          slots = refl;
+          memory = refl;
+          script = refl;
+          events = refl;
+        }) (with_marks marks)
     by_kind (Phi p n) e q =
         let pairs = updated n (updated 0 (place_value p t.core) (t.core.pairs n)) t.core.pairs in
         let d : Core = record t.core { pairs = pairs } in
         passes i here plain d (ap (λ (k : ItemKind). do_item (framed_run f resolve image laid) k t.core) e)
-        (record { entry = refl; area = refl; objects = refl; regs = refl; slots = refl; memory = refl; script = refl; events = refl }) (with_pairs pairs)
+        (record {
+          entry = refl;
+          area = refl;
+          objects = refl;
+          symbols = refl;
+          regs = refl;
+          slots = refl;
+          memory = refl;
+          script = refl;
+          events = refl;
+        }) (with_pairs pairs)
 
   pub past_end : (k n : ℕ) → fetched f t.pos ≡ EndOfBlock k n → StaysLevel f resolve image laid t m (block_start (suc t.pos.block))
   past_end k n e =
@@ -163,6 +185,7 @@ starts_beside f framed resolve image laid first s start = record {
     written = λ r lt. (let w = start.regs r lt in ap is_some w.1);
     same_entry = refl;
     same_area = laid.area ∙ sym start.area;
+    same_symbols = refl;
     regs = read_start;
     memory = λ a e. refl;
     bytes = start.memory;

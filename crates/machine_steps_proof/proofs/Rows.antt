@@ -4,25 +4,34 @@ use Rattle.std.proofs.Common.{cond, eqb, nat_eq, ◌&&◌, IsSome, is_some, refl
 use Rattle.std.proofs.lemmas.List.Elements.{All-head, All-tail}
 use Rattle.std.proofs.lemmas.Bool.{cases_eq}
 use Rattle.rv64_instr.specs.declared.op.LoadOp.{LoadOp}
+use Rattle.rv64_instr.specs.declared.op.RegisterOp.{RegisterOp}
+use Rattle.rv64_instr.specs.declared.op.RegisterOp.TheVariants.{Add}
+use Rattle.rv64_instr.specs.declared.symbol.Symbol.{Symbol}
+use Rattle.rv64_instr.specs.declared.symbol.LinkedAddress.{LinkedAddress}
+use Rattle.rv64_instr.specs.declared.symbol.Half.{Half}
+use Rattle.rv64_instr.specs.declared.symbol.Half.TheVariants.{Upper, Lower}
+use Rattle.rv64_instr.specs.Linked.{immediate_value, linked_immediate, linked_value}
+use Rattle.rv64_instr.proofs.Halves.{AddsPart}
+use Rattle.rv64_word.specs.Linked.{immediate_of}
 use Rattle.rv64_instr.specs.Arithmetic.{word, computed, taken, load_width, store_width, extended}
 use Rattle.rv64_instr.specs.Row.{Row, Fixes, Moves, Sets, Addresses, Loads, Stores, LoadsSlot, StoresSlot, Branches, Jumps, Calls, Returns, Unfit, add_row}
-use Rattle.rv64_instr.specs.declared.decoded.Input.{Input}
-use Rattle.rv64_instr.specs.declared.decoded.Input.TheVariants.{Content, Number}
-use Rattle.rv64_instr.specs.declared.decoded.Base.TheVariants.{PointedBy, ObjectAt}
+use Rattle.rv64_instr.specs.Row.{Content, Number, PartOf}
+use Rattle.rv64_instr.specs.Row.{PointedBy, ObjectAt, BesidePart}
 use Rattle.rv64_instr.specs.DefsAndUses.{reads}
-use Rattle.rv64_word.specs.MachineRow.{Does, placed, from_object}
+use Rattle.rv64_word.specs.MachineRow.{Does, placed, from_object, from_part}
 use Rattle.mir_func.specs.Function.{FramedFunction}
 use Rattle.mir_func.specs.Objects.{area_of, offset_of}
 use Rattle.mir_func.specs.SoundFrame.{own_size, slot_offsets, IsSlotOffset, IsFramed}
 use Rattle.mir_func.specs.Sound.{HasBytes, SlotIn, ObjectIn}
 use Rattle.std.proofs.lemmas.List.Elements.{All-contains}
-use Rattle.rv64_instr.specs.Parts.{object_named}
+use Rattle.rv64_instr.specs.LocationEffects.{object_named}
 use Rattle.sem_mir.proofs.InRange.{RowInRange}
+use Rattle.sem_mir.proofs.Range.{linked_in_range}
 use Rattle.sem_mir.specs.State.{Core, content, put, put_all, spelled, low_bytes, stored, written, in_frame, touches_frame, IsInRange}
-use Rattle.sem_mir.specs.Step.{Outcome, Falls, Goes, Gives, Traps, Asks, Breaks, act, does, read, or_zero, input_value, are_written}
+use Rattle.sem_mir.specs.Step.{Outcome, Falls, Goes, Gives, Traps, Asks, Breaks, act, does, read, or_zero, are_written}
 use Rattle.sem_mir.specs.Step.{slot_loaded, saved, address_at}
 use Rattle.sem_mir.specs.Step as source
-use Rattle.sem_machine.specs.Machine.{Machine, register, register_in, input, set_in, set_all_in, address_of}
+use Rattle.sem_machine.specs.Machine.{Machine, register, register_in, set_in, set_all_in, address_of}
 use Rattle.sem_machine.specs.MachineStep.{Stepped, Continues, past, at, set_register, store, shown_store, does_row}
 use Rattle.sem_machine.specs.MachineStep as machine
 use Rattle.sem_machine.proofs.Plain.{set_alike, falls_if}
@@ -35,8 +44,8 @@ use Rattle.emit_code.specs.Rule.{object_offset}
 
 -- a row that a word may have
 abbrev pub IsWordRow : Row → Type 0
-IsWordRow (Calls name args) = ⊥
-IsWordRow (Returns results) = ⊥
+IsWordRow (Calls call) = ⊥
+IsWordRow (Returns ending) = ⊥
 IsWordRow Unfit = ⊥
 IsWordRow _ = Unit {0}
 
@@ -90,7 +99,7 @@ NeedsFrame (Loads rd op (ObjectAt n) offset) = Unit {0}
 NeedsFrame (Stores op rs (ObjectAt n) offset) = Unit {0}
 NeedsFrame (LoadsSlot rd n) = Unit {0}
 NeedsFrame (StoresSlot rs n) = Unit {0}
-NeedsFrame (Calls name args) = Unit {0}
+NeedsFrame (Calls call) = Unit {0}
 NeedsFrame _ = ⊥
 
 module _ (f : FramedFunction) (framed : IsFramed f) (c : Core) (m : Machine) (h : Beside f c m) where
@@ -104,6 +113,7 @@ module _ (f : FramedFunction) (framed : IsFramed f) (c : Core) (m : Machine) (h 
     written = h.written;
     same_entry = h.same_entry;
     same_area = h.same_area;
+    same_symbols = h.same_symbols;
     regs = h.regs;
     memory = h.memory;
     bytes = h.bytes;
@@ -121,6 +131,7 @@ module _ (f : FramedFunction) (framed : IsFramed f) (c : Core) (m : Machine) (h 
     written = set_written rd v c.regs h.written;
     same_entry = h.same_entry;
     same_area = h.same_area;
+    same_symbols = h.same_symbols;
     regs = set_alike rd v m.regs c.regs h.regs;
     memory = h.memory;
     bytes = h.bytes;
@@ -133,9 +144,10 @@ module _ (f : FramedFunction) (framed : IsFramed f) (c : Core) (m : Machine) (h 
   sets_to : (target rd v w : ℕ) → w ≡ v → FollowsRow f target m (Falls (source.set_register rd v c)) (Continues (past 4 (set_register rd w m)))
   sets_to target rd v w e = (past 4 (set_register rd v m), ap (λ (x : ℕ). Continues (past 4 (set_register rd x m))) e, refl, beside_set rd v)
 
-  inputs : (b : Input) → input m b ≡ input_value c b
-  inputs (Content r) = h.regs r
-  inputs (Number n) = refl
+  -- the immediate that stands for a half of an address has the half's value
+  part_is : (half : Half) (y : LinkedAddress) → immediate_value half (linked_immediate m.symbols half y) ≡ linked_value c.symbols half y
+  unfolding linked_value
+  part_is half y = ap (λ (z : Symbol → ℕ). immediate_value half (linked_immediate z half y)) h.same_symbols
 
   -- ---- memory
 
@@ -204,6 +216,7 @@ module _ (f : FramedFunction) (framed : IsFramed f) (c : Core) (m : Machine) (h 
     written = h.written;
     same_entry = h.same_entry;
     same_area = h.same_area;
+    same_symbols = h.same_symbols;
     regs = h.regs;
     memory = λ b out. stored_alike (low_bytes n v) m.memory c.memory a b (h.memory b out);
     bytes = λ b. low_byte n v a b m.memory (h.bytes b);
@@ -290,6 +303,7 @@ module _ (f : FramedFunction) (framed : IsFramed f) (c : Core) (m : Machine) (h 
       written = h.written;
       same_entry = h.same_entry;
       same_area = h.same_area;
+      same_symbols = h.same_symbols;
       regs = h.regs;
       memory = λ b out. stored_other (low_bytes 8 v) m.memory a b (λ j jl q.
           let l = length_low 8 v in
@@ -342,12 +356,48 @@ module _ (f : FramedFunction) (framed : IsFramed f) (c : Core) (m : Machine) (h 
   pub read_below : IsInRange c → (r : ℕ) → read c r < 2 ^ 64
   read_below range r = below (content c.regs r) (range.regs r)
 
-  -- `ADDI rd, x2, k`
-  adds_to : (target rd k v : ℕ) → register m 2 < 2 ^ 64 → (register m 2 + k) % 2 ^ 64 ≡ v →
-      FollowsRow f target m (Falls (source.set_register rd v c)) (machine.does (Does (add_row rd 2 k)) m)
+  -- `ADDI rd, rs, k`
+  adds_from : (target rd a k v : ℕ) → register m a < 2 ^ 64 → k < 2 ^ 64 → (register m a + k) % 2 ^ 64 ≡ v →
+      FollowsRow f target m (Falls (source.set_register rd v c)) (machine.does (Does (add_row rd a k)) m)
   unfolding does_row computed
-  adds_to target rd zero v small e = sets_to target rd v (register m 2) (omega (arith, small, e))
-  adds_to target rd (suc k) v small e = sets_to target rd v ((register m 2 + suc k) % 2 ^ 64) e
+  adds_from target rd zero k v low small e = sets_to target rd v k (omega (arith, small, e))
+  adds_from target rd (suc a) zero v low small e = sets_to target rd v (register m (suc a)) (omega (arith, low, e))
+  adds_from target rd (suc a) (suc k) v low small e = sets_to target rd v ((register m (suc a) + suc k) % 2 ^ 64) e
+
+  -- the upper half of an address, added to 0
+  upper_by : (target rd a : ℕ) (op : RegisterOp) (y : LinkedAddress) → (op ≡ Add) × (a ≡ 0) →
+      FollowsRow f target m (Falls (source.set_register rd (computed op (read c a) (linked_value c.symbols Upper y)) c))
+      (Continues (past 4 (set_register rd (immediate_value Upper (linked_immediate m.symbols Upper y)) m)))
+  unfolding computed
+  upper_by target rd a op y (add, none) =
+      let v = linked_value c.symbols Upper y in
+      let low : v < 2 ^ 64 = linked_in_range c.symbols Upper y in
+      let sum : v ≡ (0 + v) % 2 ^ 64 = omega (arith, low) in
+      sets_to target rd (computed op (read c a) v) (immediate_value Upper (linked_immediate m.symbols Upper y))
+      (part_is Upper y ∙ sum ∙ (λ i. computed (sym add i) (read c (sym none i)) v))
+
+  -- the lower half of an address, added to a register's content
+  lower_by : IsInRange c → (target rd a : ℕ) (op : RegisterOp) (y : LinkedAddress) → op ≡ Add →
+      FollowsRow f target m (Falls (source.set_register rd (computed op (read c a) (linked_value c.symbols Lower y)) c))
+      (machine.does (Does (add_row rd a (immediate_value Lower (linked_immediate m.symbols Lower y)))) m)
+  unfolding computed
+  lower_by range target rd a op y add =
+      let k = immediate_value Lower (linked_immediate m.symbols Lower y) in
+      let same : k ≡ linked_value c.symbols Lower y = part_is Lower y in
+      let wide : linked_value c.symbols Lower y < 2 ^ 64 = linked_in_range c.symbols Lower y in
+      let here = h.regs a in
+      let low = read_below range a in
+      adds_from target rd a k (computed op (read c a) (linked_value c.symbols Lower y)) (omega (arith, here, low)) (omega (arith, same, wide))
+      ((λ i. (here i + same i) % 2 ^ 64) ∙ (λ i. computed (sym add i) (read c a) (linked_value c.symbols Lower y)))
+
+  -- an address beside the lower half of an address
+  beside_by : (r offset : ℕ) (y : LinkedAddress) →
+      address_of m r (from_part (linked_immediate m.symbols Lower y) offset) ≡ address_at c (BesidePart r y) offset
+  beside_by r offset y =
+      let here = h.regs r in
+      let same = part_is Lower y in
+      let k : (register m r + (immediate_value Lower (linked_immediate m.symbols Lower y) + offset) % 2 ^ 64) % 2 ^ 64
+      ≡ ((read c r + linked_value c.symbols Lower y) % 2 ^ 64 + offset) % 2 ^ 64 = omega (arith, here, same) in k
 
   slot_by : (target rd a : ℕ) (x : Option ℕ) → ((v : ℕ) → x ≡ Some v → v ≡ spelled m.memory a 8) →
       FollowsRow f target m (slot_loaded rd c x) (Continues (past 4 (set_register rd (spelled m.memory a 8) m)))
@@ -364,51 +414,62 @@ module _ (f : FramedFunction) (framed : IsFramed f) (c : Core) (m : Machine) (h 
   offset_of_slot o k = All-contains (IsSlotOffset f) (slot_offsets f) o framed.offsets k
 
   -- what a word does is what its code does
-  pub rows : (target : ℕ) (r : Row) → IsWordRow r → RowInRange r → IsInRange c → (NeedsFrame r → read c 2 ≡ frame_low f c) →
+  pub rows : (target : ℕ) (r : Row) → IsWordRow r → AddsPart r → RowInRange r → IsInRange c → (NeedsFrame r → read c 2 ≡ frame_low f c) →
       SlotIn (slot_offsets f) r → ObjectIn f.objects r →
-      FollowsRow f target m (does r c) (machine.does (placed target (object_offset f (object_named r)) r) m)
+      FollowsRow f target m (does r c) (machine.does (placed target (object_offset f (object_named r)) (immediate_of m.symbols r) r) m)
   unfolding does does_row computed extended
-  rows target (Fixes rd n) w k range p s o = sets_to target rd n n refl
-  rows target (Moves rd rs) w k range p s o = sets_to target rd (read c rs) (register m rs) (h.regs rs)
-  rows target (Sets rd op a b) w k range p s o =
-      sets_to target rd (computed op (read c a) (input_value c b)) (computed op (register m a) (input m b))
-      (ap (λ (x : ℕ). computed op x (input m b)) (h.regs a) ∙ ap (computed op (read c a)) (inputs b))
-  rows target (Addresses rd n offset) w k range p s o =
-      let q = p tt in
-      adds_to target rd (from_object (own_size f + offset_of f.objects n) offset) (address_at c (ObjectAt n) offset)
-      (let e = pointed q in let t = h.top in omega (arith, e, t)) (object_pointed q n offset)
-  rows target (Loads rd op (PointedBy r) offset) w k range p s o =
+  rows target (Fixes rd n) w q k range p s o = sets_to target rd n n refl
+  rows target (Moves rd rs) w q k range p s o = sets_to target rd (read c rs) (register m rs) (h.regs rs)
+  rows target (Sets rd op a (Content b)) w q k range p s o =
+      sets_to target rd (computed op (read c a) (read c b)) (computed op (register m a) (register m b))
+      (ap (λ (x : ℕ). computed op x (register m b)) (h.regs a) ∙ ap (computed op (read c a)) (h.regs b))
+  rows target (Sets rd op a (Number n)) w q k range p s o =
+      sets_to target rd (computed op (read c a) n) (computed op (register m a) n) (ap (λ (x : ℕ). computed op x n) (h.regs a))
+  rows target (Sets rd op a (PartOf Upper y)) w q k range p s o = upper_by target rd a op y q
+  rows target (Sets rd op a (PartOf Lower y)) w q k range p s o = lower_by range target rd a op y q
+  rows target (Addresses rd n offset) w q k range p s o =
+      let z = p tt in
+      adds_from target rd 2 (from_object (own_size f + offset_of f.objects n) offset) (address_at c (ObjectAt n) offset)
+      (let e = pointed z in let t = h.top in omega (arith, e, t)) (omega arith) (object_pointed z n offset)
+  rows target (Loads rd op (PointedBy r) offset) w q k range p s o =
       load_by target rd op (address_at c (PointedBy r) offset) (address_of m r offset) (load_width op)
       (touches_frame c.entry c.area (address_at c (PointedBy r) offset) (load_width op)) (λ e. e) (ap (λ (x : ℕ). (x + offset) % 2 ^ 64) (h.regs r))
-  rows target (Loads rd op (ObjectAt n) offset) w k range p s o =
-      let q = p tt in
+  rows target (Loads rd op (ObjectAt n) offset) w q k range p s o =
+      let z = p tt in
       load_by target rd op (address_at c (ObjectAt n) offset) (address_of m 2 (from_object (own_size f + offset_of f.objects n) offset)) (load_width op) false
-      (λ e. object_bytes q n offset (load_width op) o) (object_pointed q n offset)
-  rows target (Stores op rs (PointedBy r) offset) w k range p s o =
+      (λ e. object_bytes z n offset (load_width op) o) (object_pointed z n offset)
+  rows target (Loads rd op (BesidePart r y) offset) w q k range p s o =
+      load_by target rd op (address_at c (BesidePart r y) offset) (address_of m r (from_part (linked_immediate m.symbols Lower y) offset)) (load_width op)
+      (touches_frame c.entry c.area (address_at c (BesidePart r y) offset) (load_width op)) (λ e. e) (beside_by r offset y)
+  rows target (Stores op rs (PointedBy r) offset) w q k range p s o =
       store_by target (address_at c (PointedBy r) offset) (store_width op) (read c rs) (address_of m r offset) (register m rs)
       (touches_frame c.entry c.area (address_at c (PointedBy r) offset) (store_width op)) (λ e. e) (ap (λ (x : ℕ). (x + offset) % 2 ^ 64) (h.regs r)) (h.regs
       rs)
-  rows target (Stores op rs (ObjectAt n) offset) w k range p s o =
-      let q = p tt in
+  rows target (Stores op rs (ObjectAt n) offset) w q k range p s o =
+      let z = p tt in
       store_by target (address_at c (ObjectAt n) offset) (store_width op) (read c rs)
       (address_of m 2 (from_object (own_size f + offset_of f.objects n) offset)) (register m rs) false
-      (λ e. object_bytes q n offset (store_width op) o) (object_pointed q n offset) (h.regs rs)
-  rows target (LoadsSlot rd n) w k range p s o =
-      let q = p tt in
+      (λ e. object_bytes z n offset (store_width op) o) (object_pointed z n offset) (h.regs rs)
+  rows target (Stores op rs (BesidePart r y) offset) w q k range p s o =
+      store_by target (address_at c (BesidePart r y) offset) (store_width op) (read c rs)
+      (address_of m r (from_part (linked_immediate m.symbols Lower y) offset))
+      (register m rs) (touches_frame c.entry c.area (address_at c (BesidePart r y) offset) (store_width op)) (λ e. e) (beside_by r offset y) (h.regs rs)
+  rows target (LoadsSlot rd n) w q k range p s o =
+      let z = p tt in
       let is = offset_of_slot n s in
       subst (λ (a : ℕ). FollowsRow f target m (slot_loaded rd c (c.slots n)) (Continues (past 4 (set_register rd (spelled m.memory a 8) m))))
-      (sym (slot_address q n is)) (slot_by target rd (frame_low f c + n) (c.slots n) (λ v e. h.slots n v is e))
-  rows target (StoresSlot rs n) w k range p s o =
-      let q = p tt in
+      (sym (slot_address z n is)) (slot_by target rd (frame_low f c + n) (c.slots n) (λ v e. h.slots n v is e))
+  rows target (StoresSlot rs n) w q k range p s o =
+      let z = p tt in
       let is = offset_of_slot n s in (
         past 4 (store (frame_low f c + n) (low_bytes 8 (read c rs)) m),
-        ap (λ (a : ℕ). Continues (past 4 (store a (low_bytes 8 (register m rs)) m))) (slot_address q n is)
+        ap (λ (a : ℕ). Continues (past 4 (store a (low_bytes 8 (register m rs)) m))) (slot_address z n is)
             ∙ ap (λ (v : ℕ). Continues (past 4 (store (frame_low f c + n) (low_bytes 8 v) m))) (h.regs rs),
         refl,
-        slot_stored q n (read c rs) is (read_below range rs),
+        slot_stored z n (read c rs) is (read_below range rs),
       )
-  rows target (Branches op a b n) w k range p s o =
+  rows target (Branches op a b n) w q k range p s o =
       branch_by target (taken op (read c a) (read c b)) (taken op (register m a) (register m b)) n
       (ap (λ (x : ℕ). taken op x (read c b)) (sym (h.regs a)) ∙ ap (taken op (register m a)) (sym (h.regs b)))
-  rows target (Jumps n) w k range p s o = (refl, beside_at target)
-  rows target _ w k range p s o = absurd w
+  rows target (Jumps n) w q k range p s o = (refl, beside_at target)
+  rows target _ w q k range p s o = absurd w

@@ -1,14 +1,16 @@
 -- The machine at the address of code, row by row: its step is that of the function with its frame.
-use Rattle.std.proofs.Common.{◌≡◌, ℕ, suc, ◌+◌, ◌-◌, ◌%◌, ◌^◌, ◌<◌, ℤ, pos, ◌-ℤ◌, List, map, All, Option, Some, None, Bool, true, false}
+use Rattle.std.proofs.Common.{◌≡◌, ℕ, suc, ◌+◌, ◌-◌, ◌%◌, ◌^◌, ◌<◌, ℤ, pos, ◌-ℤ◌, map, All, Option, Some, None, Bool, true, false}
 use Rattle.std.proofs.Common.{cond, refl, sym, ap, ◌∙◌, subst, inl, inr, arith}
 use Rattle.rv64_instr.specs.declared.op.BranchOp.{BranchOp}
 use Rattle.rv64_instr.specs.Arithmetic.{word, taken}
 use Rattle.rv64_instr.specs.Instruction.{Instruction}
-use Rattle.rv64_instr.specs.Row.{Row, Branches, Calls, Returns, Unfit, row_of}
+use Rattle.rv64_instr.specs.Row.{Row, Branches, Calls, Returns, Unfit, row_of, CallSite, Callee, Ending}
 use Rattle.rv64_instr.specs.DefsAndUses.{reads}
-use Rattle.rv64_instr.specs.Parts.{is_call}
+use Rattle.rv64_instr.specs.LocationEffects.{is_call}
+use Rattle.rv64_instr.proofs.Halves.{adds_part}
+use Rattle.rv64_word.specs.Linked.{immediate_of}
 use Rattle.rv64_word.specs.MachineRow.{placed}
-use Rattle.rv64_instr.specs.Parts.{object_named}
+use Rattle.rv64_instr.specs.LocationEffects.{object_named}
 use Rattle.mir_func.specs.declared.debug_substitution.OperandPair.{OperandPair}
 use Rattle.mir_func.specs.declared.item.Item.{Item}
 use Rattle.mir_func.specs.declared.item.ItemKind.{ItemKind}
@@ -18,8 +20,8 @@ use Rattle.mir_func.specs.Function.{FramedFunction}
 use Rattle.mir_func.specs.Graph.{Here, below, block_start, index_of}
 use Rattle.mir_func.specs.Sound.{SlotsIn, ObjectsIn, SlotIn, ObjectIn}
 use Rattle.mir_func.specs.SoundFrame.{adds_to_pointer, body_of, HasPhysical, slot_offsets, IsFramed}
-use Rattle.sem_mir.specs.State.{Core, State, content}
-use Rattle.sem_mir.specs.Step.{Outcome, Falls, Goes, Gives, Traps, Asks, Breaks, act, does, read, or_zero, numbered, with_core}
+use Rattle.sem_mir.specs.State.{Core, State, content, RunResult}
+use Rattle.sem_mir.specs.Step.{Outcome, Falls, Goes, Gives, Traps, Asks, Breaks, act, does, read, or_zero, numbered, with_core, result_at}
 use Rattle.sem_mir.specs.Step.{do_item, moved, step, set_register}
 use Rattle.sem_mir.proofs.InRange.{row_in_range, step_in_range}
 use Rattle.sem_mir.proofs.Outcomes.{step_item}
@@ -32,7 +34,7 @@ use Rattle.machine_steps_proof.specs.Laid.{fetched, target_of, start_of, HasWord
 use Rattle.machine_steps_proof.specs.Pointer.{lowered_by, IsPointerAt}
 use Rattle.machine_steps_proof.specs.Steps.{framed_run, Level, OneStep, goes, gives, waits, faults, TwoSteps, over, through, AtCode, single, double}
 use Rattle.machine_steps_proof.proofs.Rows.{IsWordRow, FollowsRow, NeedsFrame, acts, rows, beside_at, below as below_word}
-use Rattle.machine_steps_proof.proofs.Calls.{FollowsCall, calls, contents, beside_numbered}
+use Rattle.machine_steps_proof.proofs.Calls.{FollowsCall, calls, beside_numbered, result_same}
 use Rattle.machine_steps_proof.proofs.Registers.{reads_physical}
 use Rattle.machine_steps_proof.proofs.Points.{of_item, PointerMotion, keeps, lowers, raises, leaves, pointer_motion, start_down}
 use Rattle.machine_steps_proof.proofs.Pointers.{SamePointer, row_keeps, adds_falls, final_needs, adds_needs, final_stops, on_falls, on_goes, falls_one}
@@ -180,7 +182,7 @@ module _ (f : FramedFunction) (framed : IsFramed f) (resolve : OperandPair →
   named_code : (d : Core) → SameCode (named d) d
   named_code d = numbered_code false (is_call r) k c.operands d
 
-  by_outcome : (x : Outcome) (st : Stepped) → does r t.core ≡ x → machine_step image m ≡ st → ((results : List ℕ) → st ≡ Ends results → ⊥) →
+  by_outcome : (x : Outcome) (st : Stepped) → does r t.core ≡ x → machine_step image m ≡ st → ((result : RunResult) → st ≡ Ends result → ⊥) →
       laid.address (below t.pos) ≡ laid.address t.pos + 4 →
       FollowsRow f (start_of f image laid.address (target_of r)) m x st → OneStep f resolve image laid t m
   by_outcome (Falls d) st e s never next (n, q, counter, b) =
@@ -201,9 +203,11 @@ module _ (f : FramedFunction) (framed : IsFramed f) (resolve : OperandPair →
 
   at_word : IsWordRow r → HasWord f image laid.address t.pos i r → AtCode f resolve image laid t m i
   at_word is w = single w.line (line_is w.line w.stands) w.origin
-      (by_outcome (does r t.core) (machine.does (placed (start_of f image laid.address (target_of r)) (object_offset f (object_named r)) r) m) refl
-      (w.step m level.counter) (word_goes (start_of f image laid.address (target_of r)) (object_offset f (object_named r)) r m) w.next
-      (rows f framed t.core m h (start_of f image laid.address (target_of r)) r is (row_in_range c) level.range needs slots_in objects_in))
+      (by_outcome (does r t.core)
+      (machine.does (placed (start_of f image laid.address (target_of r)) (object_offset f (object_named r)) (immediate_of m.symbols r) r) m) refl
+      (w.step m level.counter)
+      (word_goes (start_of f image laid.address (target_of r)) (object_offset f (object_named r)) (immediate_of m.symbols r) r m) w.next
+      (rows f framed t.core m h (start_of f image laid.address (target_of r)) r is (adds_part c) (row_in_range c) level.range needs slots_in objects_in))
 
   at_branch : (op : BranchOp) (a b n : ℕ) → r ≡ Branches op a b n → HasTwoWords f image laid.address t.pos i op a b n → AtCode f resolve image laid t m i
   unfolding does
@@ -227,32 +231,37 @@ module _ (f : FramedFunction) (framed : IsFramed f) (resolve : OperandPair →
             over (below_state t.core) k8 (steps_as (Falls t.core) d) s refl (named_code t.core)
             (level_falls t.core k8 d (beside_at f framed t.core m h (m.counter + 8)) (ap (λ (x : ℕ). x + 8) level.counter ∙ sym w.next))
 
-  at_call : (name args : List ℕ) → r ≡ Calls name args → HasCall f image laid.address t.pos i name args → AtCode f resolve image laid t m i
-  at_call name args e w = single w.line (line_is w.line w.stands) w.origin
-      (by_call (does r t.core) refl (machine.answered name (map (register m) args) m m.script) (w.step m level.counter)
-      (subst (λ (x : Row). FollowsCall f m (does x t.core) (machine.answered name (map (register m) args) m m.script)) (sym e)
-      (calls f framed t.core m h name args level.range (needs (subst NeedsFrame (sym e) tt))))) where
-        by_call : (x : Outcome) → does r t.core ≡ x → (st : Stepped) → machine_step image m ≡ st → FollowsCall f m x st → OneStep f resolve image laid t m
+  at_call : (call : CallSite) → r ≡ Calls call → HasCall f image laid.address t.pos i call → AtCode f resolve image laid t m i
+  at_call call e w = single w.line (line_is w.line w.stands) w.origin
+      (by_call (does r t.core) refl (machine.step_call (machine.callee_size call.callee) (machine.called_at m call.callee) (map (register m) call.args) m
+      m.script) (w.step m level.counter)
+      (subst (λ (x : Row). FollowsCall f m (machine.callee_size call.callee) (does x t.core)
+      (machine.step_call (machine.callee_size call.callee) (machine.called_at m call.callee) (map (register m) call.args) m m.script)) (sym e)
+      (calls f framed t.core m h call level.range (needs (subst NeedsFrame (sym e) tt))))) where
+        by_call : (x : Outcome) → does r t.core ≡ x → (st : Stepped) → machine_step image m ≡ st → FollowsCall f m (machine.callee_size call.callee) x st →
+            OneStep f resolve image laid t m
         by_call (Falls d) g st s (n, q, counter, b) =
             goes (below_state d) n (steps_as (Falls d) g) (s ∙ q)
-            (level_falls d n g b (counter ∙ ap (λ (a : ℕ). a + 8) level.counter ∙ sym w.next))
+            (level_falls d n g b (counter ∙ ap (λ (a : ℕ). a + machine.callee_size call.callee) level.counter ∙ sym w.next))
         by_call Asks g st s x = waits (steps_as Asks g) (s ∙ x)
-        by_call Traps g st s x = faults (steps_as Traps g) (λ v q. call_goes name (map (register m) args) m m.script v (sym (w.step m level.counter) ∙ q))
+        by_call Traps g st s x = faults (steps_as Traps g)
+            (λ v q. call_goes (machine.callee_size call.callee) (machine.called_at m call.callee) (map (register m) call.args) m m.script v
+            (sym (w.step m level.counter) ∙ q))
         by_call (Goes b d) g st s x = absurd x
         by_call (Gives v) g st s x = absurd x
         by_call Breaks g st s x = absurd x
 
-  at_return : (results : List ℕ) → r ≡ Returns results → HasReturn f image laid.address t.pos i results → AtCode f resolve image laid t m i
+  at_return : (ending : Ending Callee) → r ≡ Returns ending → HasReturn f image laid.address t.pos i ending → AtCode f resolve image laid t m i
   unfolding does
-  at_return results e w = single w.line (line_is w.line w.stands) w.origin
-      (gives (map (read t.core) results) (steps_as (Gives (map (read t.core) results)) (ap (λ (x : Row). does x t.core) e))
-      (w.step m level.counter ∙ ap Ends (contents f framed t.core m h results)))
+  at_return ending e w = single w.line (line_is w.line w.stands) w.origin
+      (gives (result_at t.core ending) (steps_as (Gives (result_at t.core ending)) (ap (λ (x : Row). does x t.core) e))
+      (w.step m level.counter ∙ ap Ends (result_same f framed t.core m h ending)))
 
   by_row : (x : Row) → r ≡ x → HasRow f image laid.address t.pos i x → AtCode f resolve image laid t m i
   by_row (Branches op a b n) e (inl w) = at_word (subst IsWordRow (sym e) tt) (subst (HasWord f image laid.address t.pos i) (sym e) w)
   by_row (Branches op a b n) e (inr w) = at_branch op a b n e w
-  by_row (Calls name args) e w = at_call name args e w
-  by_row (Returns results) e w = at_return results e w
+  by_row (Calls call) e w = at_call call e w
+  by_row (Returns ending) e w = at_return ending e w
   by_row Unfit e w = absurd w
   by_row _ e w = at_word (subst IsWordRow (sym e) tt) (subst (HasWord f image laid.address t.pos i) (sym e) w)
 

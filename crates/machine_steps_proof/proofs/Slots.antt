@@ -8,7 +8,7 @@ use Rattle.rv64_instr.specs.declared.operand.Operand.{Operand}
 use Rattle.rv64_instr.specs.Arithmetic.{word}
 use Rattle.rv64_instr.specs.Row.{Row, StoresSlot, Branches, Jumps, Returns, Unfit, row_of}
 use Rattle.rv64_instr.specs.Row.{add_row}
-use Rattle.rv64_instr.specs.Parts.{is_call}
+use Rattle.rv64_instr.specs.LocationEffects.{is_call}
 use Rattle.mir_func.specs.declared.debug_substitution.OperandPair.{OperandPair}
 use Rattle.mir_func.specs.declared.exit.Exit.TheVariants.{Final}
 use Rattle.mir_func.specs.declared.item.Item.{Item}
@@ -75,7 +75,7 @@ row_leads : (enter : ℕ → ℕ) (r : Row) (p q : Pos) → RowEdge enter r p q 
 row_leads enter (Branches op a b target) p q (inl e) = inr (target, e)
 row_leads enter (Branches op a b target) p q (inr e) = inl e
 row_leads enter (Jumps target) p q e = inr (target, e)
-row_leads enter (Returns results) p q e = absurd e
+row_leads enter (Returns ending) p q e = absurd e
 row_leads enter Unfit p q e = absurd e
 row_leads enter _ p q e = inl e
 
@@ -85,7 +85,7 @@ kind_leads enter (Mark v m) p q e = inl e
 kind_leads enter (Phi r j) p q e = inl e
 
 row_final : (enter : ℕ → ℕ) (r : Row) (p q : Pos) → row_exit r ≡ Final → RowEdge enter r p q → ⊥
-row_final enter (Returns results) p q e edge = edge
+row_final enter (Returns ending) p q e edge = edge
 row_final enter Unfit p q e edge = edge
 row_final enter _ p q e edge = cc
 

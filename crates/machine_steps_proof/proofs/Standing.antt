@@ -6,6 +6,7 @@ use Rattle.std.specs.List.{flat_map}
 use Rattle.std.specs.Int.{w32, to_le_bytes}
 use Rattle.std.proofs.lemmas.List.{drop-drop}
 use Rattle.rv64_instr.specs.Instruction.{Instruction}
+use Rattle.rv64_instr.specs.Row.{row_of}
 use Rattle.rv64_word.specs.declared.machine_op.MachineOp.{MachineOp}
 use Rattle.rv64_word.specs.MachineOp.{word_of, value_of}
 use Rattle.rv64_word.specs.Operation.{encoding_of}
@@ -19,8 +20,9 @@ use Rattle.sem_machine.proofs.Fetching.{word_here}
 use Rattle.emit_code.specs.Listed.{Line, form_lines, kind_lines, lines_at}
 use Rattle.emit_code.specs.Rule.{Layout, Form, Nothing, OneWord, CallSite, LongBranch, form_of, form_size, size_of, address_in, operation_at, skip_operation}
 use Rattle.emit_code.specs.Rule.{jump_operation}
-use Rattle.emit_code.specs.Rule.{word_if, form_words, kind_words, words_at, Site, sites_of}
+use Rattle.emit_code.specs.Rule.{word_if, site_words, form_words, kind_words, words_at, Site, sites_of}
 use Rattle.emit_code.specs.Laid.{FormWorded}
+use Rattle.emit_code.proofs.Stand.{site_length}
 use Rattle.machine_steps_proof.specs.Laid.{fetched}
 use Rattle.machine_steps_proof.specs.Images.{code_line, HasAllWords, IsImageOf}
 use Rattle.machine_steps_proof.proofs.Addresses.{Chained, chained}
@@ -107,7 +109,10 @@ module _ (l : Layout) (image : Image) (has : HasAllWords l) where
     by_index : (k : ℕ) (y : CodeLine) → slice_get (map code_line (form_lines l.framed a o c OneWord)) k ≡ Some y → y.address < a + 4
     by_index zero y e = let q = one_line _ y e in omega (arith, q)
     by_index (suc k) y e = cc
-  form_sized a c o CallSite h = (refl, by_index) where
+  form_sized a c o CallSite h = (
+    (let two = site_length (row_of c) in let q : 4 * length (site_words (row_of c)) ≡ 8 = omega (arith, two) in q),
+    by_index,
+  ) where
     by_index : (k : ℕ) (y : CodeLine) → slice_get (map code_line (form_lines l.framed a o c CallSite)) k ≡ Some y → y.address < a + 8
     by_index zero y e = let q = one_line _ y e in omega (arith, q)
     by_index (suc k) y e = cc

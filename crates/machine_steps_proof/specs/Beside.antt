@@ -22,6 +22,7 @@ pub record Beside (f : FramedFunction) (c : Core) (m : Machine) : Type 0 where
   pub written : (r : ℕ) → r < 32 → IsSome (content c.regs r)
   pub same_entry : m.entry ≡ c.entry
   pub same_area : m.area ≡ c.area
+  pub same_symbols : m.symbols ≡ c.symbols
   pub regs : (r : ℕ) → register m r ≡ read c r
   pub memory : (a : ℕ) → in_frame c.entry c.area a ≡ false → m.memory a ≡ c.memory a
   pub bytes : (a : ℕ) → m.memory a < 256

@@ -7,10 +7,10 @@ use Rattle.mir_func.specs.declared.position.Pos.{Pos}
 use Rattle.mir_func.specs.declared.variable.VarId.{VarId}
 use Rattle.mir_func.specs.Graph.{block_start, framed_program}
 use Rattle.mir_func.specs.Sound.{contents_of}
-use Rattle.sem_mir.specs.PreferredLocation.{IsWanted}
+use Rattle.sem_mir.specs.PreferredLocation.{IsPreferredLocation}
 
 -- In two functions with their frames whose blocks have the same numbers and items, the same locations are required.
 abbrev pub ContentsTellWanted : Type 0
 ContentsTellWanted = (blocks others : List Block) (resolve : OperandPair → Option OperandPair) → map contents_of blocks ≡ map contents_of others →
-    (v : VarId) (p : Pos) (place : Place) → IsWanted (framed_program blocks resolve) (block_start 0) v p place →
-    IsWanted (framed_program others resolve) (block_start 0) v p place
+    (v : VarId) (p : Pos) (place : Place) → IsPreferredLocation (framed_program blocks resolve) (block_start 0) v p place →
+    IsPreferredLocation (framed_program others resolve) (block_start 0) v p place

@@ -1,11 +1,13 @@
 -- The code of a function with its frame in an image: each instruction's address, and the machine's step there.
-use Rattle.std.specs.Prelude.{◌≡◌, ◌⊎◌, ℕ, suc, ◌+◌, List, drop, map, Option, Some, false, cond}
+use Rattle.std.specs.Prelude.{◌≡◌, ◌⊎◌, ℕ, suc, ◌+◌, drop, map, Option, Some, false, cond}
 use Rattle.rv64_instr.specs.Instruction.{Instruction}
 use Rattle.rv64_instr.specs.declared.op.BranchOp.{BranchOp}
 use Rattle.rv64_instr.specs.Arithmetic.{taken}
 use Rattle.rv64_instr.specs.Row.{Row, Fixes, Moves, Sets, Addresses, Loads, Stores, LoadsSlot, StoresSlot, Branches, Jumps, Calls, Returns, Unfit, row_of}
+use Rattle.rv64_instr.specs.Row.{CallSite, Callee, Ending}
+use Rattle.rv64_word.specs.Linked.{immediate_of}
 use Rattle.rv64_word.specs.MachineRow.{placed}
-use Rattle.rv64_instr.specs.Parts.{object_named}
+use Rattle.rv64_instr.specs.LocationEffects.{object_named}
 use Rattle.mir_func.specs.declared.exit.Exit.{Exit}
 use Rattle.mir_func.specs.declared.exit.Exit.TheVariants.{Onward, Perhaps, Always, Final}
 use Rattle.mir_func.specs.Exits.{row_exit}
@@ -17,10 +19,11 @@ use Rattle.mir_func.specs.Function.{FramedFunction}
 use Rattle.mir_func.specs.Graph.{Fetch, Here, EndOfBlock, below, block_start, fetch_in, index_of}
 use Rattle.mir_func.specs.Objects.{area_of}
 use Rattle.mir_func.specs.SoundFrame.{body_of}
-use Rattle.sem_mir.specs.Align.{is_code, position_of}
+use Rattle.mir_func.specs.Positions.{position_of}
+use Rattle.sem_mir.specs.Align.{is_code}
 use Rattle.sem_machine.specs.Image.{CodeLine, Image, line_at}
 use Rattle.sem_machine.specs.Machine.{Machine, register}
-use Rattle.sem_machine.specs.MachineStep.{Continues, Ends, past, at, answered, machine_step}
+use Rattle.sem_machine.specs.MachineStep.{Continues, Ends, past, at, step_call, machine_step, called_at, result_at, callee_size}
 use Rattle.sem_machine.specs.MachineStep as machine
 use Rattle.emit_code.specs.Rule.{object_offset}
 
@@ -44,14 +47,15 @@ module _ (f : FramedFunction) (image : Image) (address : Pos → ℕ) where
   abbrev pub start_of : (block : ℕ) → ℕ
   start_of n = address (block_start (suc (index_of (body_of f.blocks) n)))
 
-  -- one line with one word: the machine's step is that of the row, with the target's address and the stack object's offset
+  -- one line with one word: the machine's step is that of the row, with the target's address, the stack object's offset and the immediate of a half of
+  -- an address
   pub record HasWord (p : Pos) (i : Item) (r : Row) : Type 0 where
     pub line : CodeLine
     pub stands : line_at image.lines (address p) ≡ Some line
     pub origin : line.origin ≡ i.origin
     pub next : address (below p) ≡ address p + 4
     pub step : (m : Machine) → m.counter ≡ address p →
-        machine_step image m ≡ machine.does (placed (start_of (target_of r)) (object_offset f (object_named r)) r) m
+        machine_step image m ≡ machine.does (placed (start_of (target_of r)) (object_offset f (object_named r)) (immediate_of m.symbols r) r) m
 
   -- a long branch has two lines. At the first, whose origin is before the position, the machine steps over the second if the
   -- branch isn't taken, and to the second otherwise. At the second it jumps to the target
@@ -67,20 +71,21 @@ module _ (f : FramedFunction) (image : Image) (address : Pos → ℕ) where
         machine_step image m ≡ Continues (cond (taken op (register m a) (register m b)) (past 4 m) (past 8 m))
     pub jump_step : (m : Machine) → m.counter ≡ address p + 4 → machine_step image m ≡ Continues (at (start_of target) m)
 
-  -- a call has one line, and two words: the machine's step is that of the call
-  pub record HasCall (p : Pos) (i : Item) (name args : List ℕ) : Type 0 where
+  -- a call has one line, and one word or two: the machine's step is that of the call
+  pub record HasCall (p : Pos) (i : Item) (call : CallSite) : Type 0 where
     pub line : CodeLine
     pub stands : line_at image.lines (address p) ≡ Some line
     pub origin : line.origin ≡ i.origin
-    pub next : address (below p) ≡ address p + 8
-    pub step : (m : Machine) → m.counter ≡ address p → machine_step image m ≡ answered name (map (register m) args) m m.script
+    pub next : address (below p) ≡ address p + callee_size call.callee
+    pub step : (m : Machine) → m.counter ≡ address p →
+        machine_step image m ≡ step_call (callee_size call.callee) (called_at m call.callee) (map (register m) call.args) m m.script
 
-  -- a return has one line: the machine's step ends the run with the results
-  pub record HasReturn (p : Pos) (i : Item) (results : List ℕ) : Type 0 where
+  -- an ending has one line: the machine's step ends the run with its result
+  pub record HasReturn (p : Pos) (i : Item) (ending : Ending Callee) : Type 0 where
     pub line : CodeLine
     pub stands : line_at image.lines (address p) ≡ Some line
     pub origin : line.origin ≡ i.origin
-    pub step : (m : Machine) → m.counter ≡ address p → machine_step image m ≡ Ends (map (register m) results)
+    pub step : (m : Machine) → m.counter ≡ address p → machine_step image m ≡ Ends (result_at m ending)
 
   -- the lines and the machine's steps at the address of an instruction of this row
   abbrev pub HasRow : Pos → Item → Row → Type 0
@@ -94,8 +99,8 @@ module _ (f : FramedFunction) (image : Image) (address : Pos → ℕ) where
   HasRow p i (StoresSlot rs n) = HasWord p i (StoresSlot rs n)
   HasRow p i (Branches op a b target) = HasWord p i (Branches op a b target) ⊎ HasTwoWords p i op a b target
   HasRow p i (Jumps target) = HasWord p i (Jumps target)
-  HasRow p i (Calls name args) = HasCall p i name args
-  HasRow p i (Returns results) = HasReturn p i results
+  HasRow p i (Calls call) = HasCall p i call
+  HasRow p i (Returns ending) = HasReturn p i ending
   HasRow p i Unfit = ⊥
 
 -- the image has the function's code: each position has an address, and the machine's steps at the address of an instruction are

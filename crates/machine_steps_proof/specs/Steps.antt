@@ -1,5 +1,5 @@
 -- One step of a function with its frame against the machine's.
-use Rattle.std.specs.Prelude.{◌≡◌, ℕ, suc, ◌+◌, List, Option, Some, false, true}
+use Rattle.std.specs.Prelude.{◌≡◌, ℕ, suc, ◌+◌, Option, Some, false, true}
 use Rattle.mir_func.specs.declared.debug_substitution.OperandPair.{OperandPair}
 use Rattle.mir_func.specs.declared.item.Item.{Item}
 use Rattle.mir_func.specs.declared.position.Origin.TheVariants.{Before}
@@ -9,11 +9,12 @@ use Rattle.mir_func.specs.Function.{FramedFunction}
 use Rattle.mir_func.specs.declared.position.Pos.{Pos}
 use Rattle.mir_func.specs.Graph.{Here, EndOfBlock, Program, below, block_start, framed_program}
 use Rattle.mir_func.specs.SoundFrame.{IsFramed}
-use Rattle.sem_mir.specs.Align.{is_code, position_of}
-use Rattle.sem_mir.specs.State.{State, IsInRange}
+use Rattle.mir_func.specs.Positions.{position_of}
+use Rattle.sem_mir.specs.Align.{is_code}
+use Rattle.sem_mir.specs.State.{State, IsInRange, RunResult}
 use Rattle.sem_mir.specs.Step.{Went, Returned, Faulted, Waits, step}
 use Rattle.sem_machine.specs.Image.{CodeLine, Image, line_at}
-use Rattle.sem_mir.specs.Follow.{IsStart}
+use Rattle.sem_mir.specs.InitialState.{IsInitialState}
 use Rattle.sem_simulation.specs.Words.{SameCode}
 use Rattle.sem_machine.specs.Machine.{Machine, machine_start}
 use Rattle.sem_machine.specs.MachineStep.{Continues, Ends, Awaits, machine_step}
@@ -35,9 +36,9 @@ module _ (f : FramedFunction) (resolve : OperandPair → Option OperandPair) (im
   -- the step of an instruction with one line, and the machine's step
   pub data OneStep (t : State) (m : Machine) : Type 0 where
     goes : (u : State) (n : Machine) → step framed_run t ≡ Went u → machine_step image m ≡ Continues n → Level u n → OneStep t m
-    gives : (results : List ℕ) → step framed_run t ≡ Returned results → machine_step image m ≡ Ends results → OneStep t m
+    gives : (result : RunResult) → step framed_run t ≡ Returned result → machine_step image m ≡ Ends result → OneStep t m
     waits : step framed_run t ≡ Waits → machine_step image m ≡ Awaits → OneStep t m
-    faults : step framed_run t ≡ Faulted → ((results : List ℕ) → machine_step image m ≡ Ends results → ⊥) → OneStep t m
+    faults : step framed_run t ≡ Faulted → ((result : RunResult) → machine_step image m ≡ Ends result → ⊥) → OneStep t m
 
   -- the step of a long branch, and the machine's: if the branch isn't taken, one step over the second word; otherwise one to the
   -- second word, and one from it to the target
@@ -77,5 +78,5 @@ StaysBeside = (f : FramedFunction) → IsFramed f → (resolve : OperandPair →
 -- The start states match.
 abbrev pub StartsBeside : Type 0
 StartsBeside = (f : FramedFunction) → IsFramed f → (resolve : OperandPair → Option OperandPair) (image : Image) (laid : IsLaidAt f image)
-    (first : ℕ) (s : State) → IsStart f.objects first s →
+    (first : ℕ) (s : State) → IsInitialState f.objects first s →
     Level f resolve image laid (record { pos = block_start 0; core = s.core }) (machine_start image s)

@@ -7,3 +7,4 @@ pub mod Checks
 pub mod Stripping
 pub mod Ways
 pub mod Descents
+pub mod Leading

@@ -1,6 +1,7 @@
 -- How control leaves an item.
 use Rattle.std.specs.Prelude.{Bool, true, false}
 use Rattle.rv64_instr.specs.Row.{Row, Fixes, Moves, Sets, Addresses, Loads, Stores, LoadsSlot, StoresSlot, Branches, Jumps, Calls, Returns, Unfit, row_of}
+use Rattle.rv64_instr.specs.Row.{way_leads_back}
 use Rattle.mir_func.specs.declared.exit.Exit.{Exit}
 use Rattle.mir_func.specs.declared.exit.Exit.TheVariants.{Onward, Perhaps, Always, Final}
 use Rattle.mir_func.specs.declared.item.ItemKind.{ItemKind}
@@ -18,8 +19,8 @@ row_exit (LoadsSlot rd n) = Onward
 row_exit (StoresSlot rs n) = Onward
 row_exit (Branches op a b target) = Perhaps target
 row_exit (Jumps target) = Always target
-row_exit (Calls name args) = Onward
-row_exit (Returns results) = Final
+row_exit (Calls call) = Onward
+row_exit (Returns ending) = Final
 row_exit Unfit = Final
 
 -- how control leaves an item: from a debug item to the next one
@@ -28,12 +29,28 @@ exit_of (Code i k) = row_exit (row_of i)
 exit_of (Mark v m) = Onward
 exit_of (Phi p k) = Onward
 
--- it leaves the function
-abbrev pub is_final : Exit → Bool
-is_final Onward = false
-is_final (Perhaps n) = false
-is_final (Always n) = false
-is_final Final = true
+-- code of the row leaves the function on a way that leads back to the caller. An invalid row counts as such
+abbrev pub row_leads_back : Row → Bool
+row_leads_back (Fixes rd n) = false
+row_leads_back (Moves rd rs) = false
+row_leads_back (Sets rd op a b) = false
+row_leads_back (Addresses rd n offset) = false
+row_leads_back (Loads rd op base offset) = false
+row_leads_back (Stores op rs base offset) = false
+row_leads_back (LoadsSlot rd n) = false
+row_leads_back (StoresSlot rs n) = false
+row_leads_back (Branches op a b target) = false
+row_leads_back (Jumps target) = false
+row_leads_back (Calls call) = false
+row_leads_back (Returns ending) = way_leads_back ending.way
+row_leads_back Unfit = true
+
+-- the item leaves the function on a way that leads back to the caller, so the frame is given back before it. A call that doesn't return leaves the
+-- frame as it is, since its callee may read it
+abbrev pub leads_back : ItemKind → Bool
+leads_back (Code i k) = row_leads_back (row_of i)
+leads_back (Mark v m) = false
+leads_back (Phi p k) = false
 
 -- control always goes to a block
 abbrev pub IsAlways : Exit → Type 0

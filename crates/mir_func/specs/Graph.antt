@@ -8,7 +8,7 @@ use Rattle.mir_func.specs.declared.item.Item.{Item}
 use Rattle.mir_func.specs.declared.item.ItemKind.{ItemKind}
 use Rattle.mir_func.specs.declared.exit.Exit.{Exit}
 use Rattle.mir_func.specs.declared.exit.Exit.TheVariants.{Onward, Perhaps, Always, Final}
-use Rattle.mir_func.specs.Exits.{row_exit, exit_of}
+use Rattle.mir_func.specs.Exits.{row_exit, exit_of, leads_back}
 use Rattle.mir_func.specs.SoundFrame.{body_of}
 
 -- what is at a position
@@ -17,6 +17,12 @@ pub data Fetch : Type 0 where
   -- a block's end: its silent index in the source, and the block that comes next
   EndOfBlock : (index next : ℕ) → Fetch
   Outside : Fetch
+
+-- the position is that of an item that leads back to the caller
+abbrev pub is_return : Fetch → Bool
+is_return (Here i) = leads_back i.kind
+is_return (EndOfBlock k n) = false
+is_return Outside = false
 
 -- a function as a program
 pub record Program : Type 0 where

@@ -2,8 +2,10 @@ pub mod Limits
 pub mod Parts
 pub mod Variables
 pub mod Objects
+pub mod Positions
 pub mod Function
 pub mod Exits
+pub mod Calls
 pub mod Sound
 pub mod SoundFrame
 pub mod Graph

@@ -2,12 +2,12 @@
 use Rattle.std.specs.Prelude.{◌≡◌, ℕ, ◌+◌, ◌<◌, ◌≤◌, List, [], ◌∷◌, map, length, Option, Some, None, slice_get, All, Contains, IsTrue}
 use Rattle.std.specs.List.{flat_map}
 use Rattle.rv64_instr.specs.declared.operand.Operand.{Operand}
-use Rattle.rv64_instr.specs.declared.operand.Operand.TheVariants.{Def, Use, ImplicitDef, ImplicitUse, Imm, Slot as OfSlot, Object as OfObject, Block as OfBlock}
+use Rattle.rv64_instr.specs.declared.operand.Operand.TheVariants.{Def, Use, ImplicitDef, ImplicitUse, Imm, Slot as OfSlot, Object as OfObject, Part}
+use Rattle.rv64_instr.specs.declared.operand.Operand.TheVariants.{Block as OfBlock}
 use Rattle.rv64_instr.specs.declared.operand.Operand.TheVariants.{Symbol, Mask}
 use Rattle.rv64_instr.specs.declared.place.Place.{Place}
 use Rattle.rv64_instr.specs.declared.place.Place.TheVariants.{Register, Slot, Const}
-use Rattle.rv64_instr.specs.declared.decoded.Base.{Base}
-use Rattle.rv64_instr.specs.declared.decoded.Base.TheVariants.{PointedBy, ObjectAt}
+use Rattle.rv64_instr.specs.Row.{Base, PointedBy, ObjectAt, BesidePart}
 use Rattle.rv64_instr.specs.Form.{has_form}
 use Rattle.rv64_instr.specs.Row.{Row, row_of}
 use Rattle.rv64_instr.specs.View.{Access, NoAccess, SlotAccess, MemoryAccess, ObjectAddress, access_of}
@@ -97,6 +97,7 @@ HasBytes objects n bytes = (o : Object) × (object_of objects n ≡ Some o) × (
 abbrev pub BaseHasBytes : List Object → Base → (bytes : ℕ) → Type 0
 BaseHasBytes objects (PointedBy r) bytes = Unit {0}
 BaseHasBytes objects (ObjectAt n) bytes = HasBytes objects n bytes
+BaseHasBytes objects (BesidePart r y) bytes = Unit {0}
 
 -- an access by a stack object stays within it, and an address that is computed from one is at most that of its end
 abbrev pub AccessIn : List Object → Access → Type 0
@@ -124,6 +125,7 @@ IsNotPointer (ImplicitUse r) = Unit {0}
 IsNotPointer (Imm i) = Unit {0}
 IsNotPointer (OfSlot n) = Unit {0}
 IsNotPointer (OfObject n) = Unit {0}
+IsNotPointer (Part half y) = Unit {0}
 IsNotPointer (OfBlock n) = Unit {0}
 IsNotPointer (Symbol name) = Unit {0}
 IsNotPointer Mask = Unit {0}

@@ -1,18 +1,19 @@
 -- Invariants of every function with its frame (RISC-V ELF psABI, "Integer Calling Convention").
 use Rattle.std.specs.Prelude.{◌+◌, Contains, length, ◌≡◌, ℕ, zero, suc, ℤ, pos, ◌-ℤ◌, ◌-◌, ◌%◌, ◌<◌, ◌≤◌, List, [], ◌∷◌, ◌++◌, map, Option, Some, None, All}
+use Rattle.std.specs.Prelude.{true, false}
 use Rattle.std.specs.List.Sorted.{IsStrictlyIncreasing}
 use Rattle.rv64_instr.specs.declared.op.Op.TheVariants.{Immediate, Load, Store}
 use Rattle.rv64_instr.specs.declared.op.ImmediateOp.TheVariants.{Addi}
 use Rattle.rv64_instr.specs.declared.op.LoadOp.TheVariants.{Ld}
 use Rattle.rv64_instr.specs.declared.op.StoreOp.TheVariants.{Sd}
 use Rattle.rv64_instr.specs.declared.operand.Operand.{Operand}
-use Rattle.rv64_instr.specs.declared.operand.Operand.TheVariants.{Def, Use, ImplicitDef, ImplicitUse, Imm, Slot, Object as OfObject, Block as OfBlock, Symbol}
+use Rattle.rv64_instr.specs.declared.operand.Operand.TheVariants.{Def, Use, ImplicitDef, ImplicitUse, Imm, Slot, Object as OfObject, Part, Block as OfBlock}
+use Rattle.rv64_instr.specs.declared.operand.Operand.TheVariants.{Symbol}
 use Rattle.rv64_instr.specs.declared.operand.Operand.TheVariants.{Mask}
 use Rattle.rv64_instr.specs.declared.place.Place.{Place}
 use Rattle.rv64_instr.specs.declared.place.Place.TheVariants.{Register, Slot as InSlot, Const}
 use Rattle.rv64_instr.specs.Instruction.{Instruction}
 use Rattle.mir_func.specs.declared.block.Block.{Block}
-use Rattle.mir_func.specs.declared.exit.Exit.TheVariants.{Final}
 use Rattle.mir_func.specs.declared.framed.SavedRegister.{SavedRegister}
 use Rattle.mir_func.specs.declared.item.Item.{Item}
 use Rattle.mir_func.specs.declared.item.ItemKind.{ItemKind}
@@ -20,7 +21,7 @@ use Rattle.mir_func.specs.declared.item.ItemKind.TheVariants.{Code, Mark, Phi}
 use Rattle.mir_func.specs.declared.variable.MarkValue.{MarkValue}
 use Rattle.mir_func.specs.declared.variable.MarkValue.TheVariants.{Nothing, Constant, At, Pair}
 use Rattle.mir_func.specs.Function.{FramedFunction}
-use Rattle.mir_func.specs.Exits.{exit_of}
+use Rattle.mir_func.specs.Exits.{leads_back}
 use Rattle.mir_func.specs.Limits.{MAX_FRAME, MAX_SLOTS}
 use Rattle.mir_func.specs.Objects.{AreLaid, area_of}
 use Rattle.mir_func.specs.Sound.{AreApart, ids_of, AllItems, TargetsIn, SlotsIn, ObjectsIn, IsSoundObject, LeavesPointer, EndsWell, LastCloses}
@@ -47,6 +48,7 @@ IsPhysical (ImplicitUse r) = r < 32
 IsPhysical (Imm i) = Unit {0}
 IsPhysical (Slot n) = Unit {0}
 IsPhysical (OfObject n) = Unit {0}
+IsPhysical (Part half y) = Unit {0}
 IsPhysical (OfBlock n) = Unit {0}
 IsPhysical (Symbol name) = Unit {0}
 IsPhysical Mask = Unit {0}
@@ -95,15 +97,15 @@ epilogue_code size saved = map restores saved ++ adds_to_pointer (pos size) ∷ 
 abbrev pub AreCode : List Item → List Instruction → Type 0
 AreCode items code = map (λ i. i.kind) items ≡ map (λ i. Code i None) code
 
--- an item of the body: no explicit operand of its code is x2, and it doesn't return
+-- an item of the body: no explicit operand of its code is x2, and it doesn't lead back to the caller
 pub record IsBody (i : Item) : Type 0 where
   pub pointer : LeavesPointer i.kind
-  pub stays : exit_of i.kind ≡ Final → ⊥
+  pub stays : leads_back i.kind ≡ false
 
--- the items of a block are of the body; or the epilogue and a return come after items of the body
+-- the items of a block are of the body; or the epilogue and an item that leads back to the caller come after items of the body
 pub data GivesBack (epilogue : List Instruction) : List Item → Type 0 where
   goes_on : {items : List Item} → All IsBody items → GivesBack epilogue items
-  returns : (body given_back : List Item) (last : Item) → All IsBody body → AreCode given_back epilogue → exit_of last.kind ≡ Final →
+  returns : (body given_back : List Item) (last : Item) → All IsBody body → AreCode given_back epilogue → leads_back last.kind ≡ true →
       LeavesPointer last.kind → GivesBack epilogue (body ++ given_back ++ last ∷ [])
 
 -- with a frame, a prologue, and an epilogue before each return; without a frame, neither

@@ -3,7 +3,7 @@
 ghost use Rattle.std.specs.Prelude.{◌≡◌, IfOk};
 
 use crate::item::{Items, copy_items};
-use base_ids::code::BlockId;
+use base_ids::function_ids::BlockId;
 use base_list::List;
 use std::alloc::{AllocError, Global};
 

@@ -2,7 +2,7 @@
 
 use crate::block::Blocks;
 use crate::object::Objects;
-use base_ids::code::SlotId;
+use base_ids::function_ids::SlotId;
 use base_list::List;
 use rv64_instr::name::Name;
 use rv64_instr::reg::Reg;

@@ -7,7 +7,7 @@ ghost use Rattle.mir_func.specs.declared.func.FuncError.TheVariants.{Memory};
 use crate::block::{Blocks, copy_blocks};
 use crate::object::Objects;
 use crate::sound::are_sound;
-use base_ids::code::SlotId;
+use base_ids::function_ids::SlotId;
 use base_list::List;
 use rv64_instr::name::Name;
 use std::alloc::{AllocError, Global};

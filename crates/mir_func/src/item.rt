@@ -5,7 +5,7 @@ ghost use Rattle.std.specs.Prelude.{◌≡◌, IfOk};
 use crate::location::Loc;
 use crate::position::Origin;
 use crate::variable::{MarkValue, VarId};
-use base_ids::code::DebugNumber;
+use base_ids::function_ids::DebugNumber;
 use base_list::List;
 use rv64_instr::instr::Instr;
 use rv64_instr::place::Place;

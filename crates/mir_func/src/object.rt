@@ -5,7 +5,7 @@ ghost use Rattle.mir_func.specs.Limits.{MAX_SLOTS};
 ghost use Rattle.mir_func.specs.Objects.{up_to, reach_after, counted, place_of, next_end, AreLaid, area_of};
 ghost use Rattle.mir_func.specs.Sound.{IsSoundObject};
 
-use base_ids::code::ObjectId;
+use base_ids::function_ids::ObjectId;
 use base_list::List;
 
 /// A stack object: bytes of the frame whose address code may take (LLVM: a frame index that is no spill slot).

@@ -1,6 +1,9 @@
 //! Positions of items, and their origins.
 
-use base_ids::code::{BlockId, BlockIndex};
+ghost use Rattle.std.specs.Prelude.{◌≡◌};
+ghost use Rattle.mir_func.specs.Positions.{position_of};
+
+use base_ids::function_ids::{BlockId, BlockIndex};
 
 /// A position in a function as it was read: the number N of a block `bb.N`, and the index of an item in it from 0.
 /// The index past a block's last item is its silent position, from which control goes on to the next block in
@@ -20,6 +23,15 @@ pub enum Origin {
     Kept(Pos),
     /// It was added before this position.
     Before(Pos),
+}
+
+/// The position of the source from which an item comes, or before which it was added.
+pub fn position_of(origin: Origin) -> Pos
+    ensures { result ≡ position_of origin }
+{
+    match origin {
+        Origin::Kept(p) | Origin::Before(p) => p,
+    }
 }
 
 /// A position in a function with its frame: the index of a block, where 0 is the prologue, and the index of an

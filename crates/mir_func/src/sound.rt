@@ -36,7 +36,7 @@ use crate::object::Object;
 use crate::object_sizes::ObjectSizes;
 use crate::position::Origin;
 use crate::sound_objects::are_objects_sound;
-use base_ids::code::{DebugNumber, SlotId};
+use base_ids::function_ids::{DebugNumber, SlotId};
 use rv64_instr::arithmetic::{load_width, store_width};
 use rv64_instr::decoded::{Base, Decoded};
 use rv64_instr::operand::Operand;

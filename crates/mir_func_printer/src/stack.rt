@@ -14,7 +14,7 @@ ghost use Rattle.mir_func_printer.specs.FuncText.{
   substitutions_text,
 };
 
-use base_ids::code::SlotId;
+use base_ids::function_ids::SlotId;
 use mir_func::debug_substitution::{DebugSubstitution, OperandPair};
 use mir_func::object::Object;
 use mir_printer::text::{Text, push_numbered, push_str};

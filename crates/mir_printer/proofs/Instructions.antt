@@ -14,13 +14,17 @@ use Rattle.rv64_instr.specs.declared.op.BranchOp.TheVariants.{Beq}
 use Rattle.rv64_instr.specs.declared.op.LoadOp.TheVariants.{Lb}
 use Rattle.rv64_instr.specs.declared.op.StoreOp.TheVariants.{Sb}
 use Rattle.rv64_instr.specs.declared.op.StoreOp.{StoreOp}
-use Rattle.rv64_instr.specs.declared.op.Op.TheVariants.{Registers, Immediate, Lui, Branch, Load, Store, Copy, PseudoBr, PseudoCall, PseudoRet}
+use Rattle.rv64_instr.specs.declared.op.Op.TheVariants.{Registers, Immediate, Lui, Branch, Load, Store, Copy}
+use Rattle.rv64_instr.specs.declared.op.Op.TheVariants.{PseudoBr, PseudoCall, PseudoRet, PseudoCallIndirect}
+use Rattle.rv64_instr.specs.declared.op.Op.TheVariants.{PseudoTail, PseudoTailIndirect, NoReturnCall, NoReturnCallIndirect}
 use Rattle.rv64_instr.specs.declared.operand.Operand.{Operand}
-use Rattle.rv64_instr.specs.declared.operand.Operand.TheVariants.{Def, Use, Imm, Slot, Object, Block, Symbol, Mask}
+use Rattle.rv64_instr.specs.declared.operand.Operand.TheVariants.{Def, Use, Imm, Slot, Object, Part, Block, Symbol, Mask, ImplicitUse}
+use Rattle.rv64_instr.specs.declared.symbol.Half.TheVariants.{Upper, Lower}
 use Rattle.rv64_instr.specs.Instruction.{Instruction}
 use Rattle.rv64_instr.specs.Arithmetic.{load_width, store_width}
 use Rattle.rv64_instr.specs.Form.{has_form, fits_registers, fits_immediate, fits_upper, fits_branch, fits_load, fits_store, fits_copy, fits_jump, fits_call}
-use Rattle.rv64_instr.specs.Form.{is_within, has_12_bits, is_immediate, is_addi, moves_slot, is_implicit, is_argument, is_result}
+use Rattle.rv64_instr.specs.Form.{is_within, has_12_bits, is_immediate, is_addi, moves_slot, is_implicit, is_argument}
+use Rattle.rv64_instr.specs.Form.{is_result, is_tail_use, is_tail_register, fits_held_call, fits_tail, fits_held_tail, fits_gone, fits_held_gone}
 use Rattle.rv64_instr.specs.Mnemonic.{mnemonic_of}
 use Rattle.rv64_instr.proofs.Names.{mnemonic_of-injective}
 use Rattle.mir_printer.specs.Spelling.{instruction_text, is_definition, register_text, uses_text}
@@ -28,24 +32,52 @@ use Rattle.mir_printer.specs.Printable.{IsNumber, HasNumbers, IsPrintableInstruc
 use Rattle.mir_printer.proofs.Cuts.{front_one, Stops, run_one}
 use Rattle.mir_printer.proofs.Operands.{register_one, AllUses, IsTail, uses_one}
 use Rattle.mir_printer.proofs.Stack.{Each, IsNoSlot, OneKind, no_slots, no_objects, IsTold, operands_one, implicit_plain, argument_plain, result_plain}
-use Rattle.mir_printer.proofs.Stack.{no_slots_of, no_objects_of}
+use Rattle.mir_printer.proofs.Stack.{no_slots_of, no_objects_of, tail_plain}
 
 -- ---- opcodes
 
 abbrev is_letter : ℕ → Bool
 is_letter b = (nat_le 65 b && nat_le b 90) || (nat_le 97 b && nat_le b 122)
 
-letters : (op : Op) → list_all is_letter (mnemonic_of op) ≡ true
-letters (Registers Add) = refl
-letters (Immediate Addi) = refl
-letters (Branch Beq) = refl
-letters (Load Lb) = refl
-letters (Store Sb) = refl
-letters op = refl
+abbrev begins_flag : List ℕ → Bool
+begins_flag [] = false
+begins_flag (b ∷ bs) = nat_eq 110 b
+
+-- an opcode is one word, or the flag `noreturn` and one word
+data Shape (op : Op) : Type 0 where
+  word : list_all is_letter (mnemonic_of op) ≡ true → ((r : List ℕ) → begins_flag (mnemonic_of op ++ r) ≡ false) → Shape op
+  flagged : (name : List ℕ) → mnemonic_of op ≡ codes "noreturn " ++ name → list_all is_letter name ≡ true → Shape op
+
+shape : (op : Op) → Shape op
+shape (Registers Add) = word refl (λ r. refl)
+shape (Immediate Addi) = word refl (λ r. refl)
+shape (Branch Beq) = word refl (λ r. refl)
+shape (Load Lb) = word refl (λ r. refl)
+shape (Store Sb) = word refl (λ r. refl)
+shape NoReturnCall = flagged (codes "PseudoCALL") refl refl
+shape NoReturnCallIndirect = flagged (codes "PseudoCALLIndirect") refl refl
+shape op = word refl (λ r. refl)
+
+flag_apart : (a b : Op) (name r s : List ℕ) → mnemonic_of a ≡ codes "noreturn " ++ name → ((t : List ℕ) → begins_flag (mnemonic_of b ++ t) ≡ false) →
+    mnemonic_of a ++ r ≡ mnemonic_of b ++ s → ⊥
+flag_apart a b name r s is plain e =
+    let both : true ≡ false = ap begins_flag (ap (λ (t : List ℕ). t ++ r) (sym is) ∙ e) ∙ plain s in
+    cc
+
+shapes_one : (a b : Op) (r s : List ℕ) → Shape a → Shape b → Stops is_letter r → Stops is_letter s → mnemonic_of a ++ r ≡ mnemonic_of b ++ s →
+    (mnemonic_of a ≡ mnemonic_of b) × (r ≡ s)
+shapes_one a b r s (word letters plain) (word others bare) stop stops e = run_one is_letter (mnemonic_of a) (mnemonic_of b) r s letters others stop stops e
+shapes_one a b r s (flagged m is letters) (flagged n are others) stop stops e =
+    let tails : m ++ r ≡ n ++ s =
+    front_one (codes "noreturn ") (m ++ r) (n ++ s) (ap (λ (t : List ℕ). t ++ r) (sym is) ∙ (e ∙ ap (λ (t : List ℕ). t ++ s) are)) in
+    let found = run_one is_letter m n r s letters others stop stops tails in
+    (is ∙ (ap (λ (name : List ℕ). codes "noreturn " ++ name) found.0 ∙ sym are), found.1)
+shapes_one a b r s (flagged m is letters) (word others bare) stop stops e = absurd (flag_apart a b m r s is bare e)
+shapes_one a b r s (word letters plain) (flagged n are others) stop stops e = absurd (flag_apart b a n s r are plain (sym e))
 
 opcode_one : (a b : Op) (r s : List ℕ) → Stops is_letter r → Stops is_letter s → mnemonic_of a ++ r ≡ mnemonic_of b ++ s → (a ≡ b) × (r ≡ s)
 opcode_one a b r s stop stops e =
-    let found = run_one is_letter (mnemonic_of a) (mnemonic_of b) r s (letters a) (letters b) stop stops e in
+    let found = shapes_one a b r s (shape a) (shape b) stop stops e in
     (mnemonic_of-injective a b found.0, found.1)
 
 -- ---- the form: a definition at most at the front, and slots alone or objects alone
@@ -75,6 +107,10 @@ argument_none o e = refl
 result_none : (o : Operand) → is_result o ≡ true → is_definition o ≡ false
 result_none (Def r) e = absurd cc
 result_none o e = refl
+
+tail_none : (o : Operand) → is_tail_use o ≡ true → is_definition o ≡ false
+tail_none (Def r) e = absurd cc
+tail_none o e = refl
 
 all_none : (p : Operand → Bool) → ((o : Operand) → p o ≡ true → is_definition o ≡ false) → (os : List Operand) → list_all p os ≡ true → NoDefinitions os
 all_none p each [] all = tt
@@ -138,12 +174,16 @@ immediate_parts op (Def rd ∷ Use a ∷ Imm i ∷ rest) e = sets rd (Use a) (Im
     (behind (is_immediate op i) (list_all is_implicit rest) e)
 immediate_parts op (Def rd ∷ Object n ∷ Imm i ∷ rest) e =
     sets rd (Object n) (Imm i) rest refl refl refl refl (behind (is_addi op && is_immediate op i) (list_all is_implicit rest) e)
+immediate_parts op (Def rd ∷ Use a ∷ Part Lower y ∷ rest) e = sets rd (Use a) (Part Lower y) rest refl refl refl refl
+    (behind (is_addi op) (list_all is_implicit rest) e)
 immediate_parts op os e = absurd cc
 
 upper_parts : (os : List Operand) → fits_upper os ≡ true → Parts os
 upper_parts (Def rd ∷ Imm i ∷ rest) e =
     let all = behind (is_within (pos 0) (pos 1048575) i) (list_all is_implicit rest) e in
     record { target = Some rd; uses = Imm i ∷ rest; parts = refl; none = (refl, implicits rest all); kind = no_slots (refl, (refl, plain rest all)) }
+upper_parts (Def rd ∷ Part Upper y ∷ rest) e =
+    record { target = Some rd; uses = Part Upper y ∷ rest; parts = refl; none = (refl, implicits rest e); kind = no_slots (refl, (refl, plain rest e)) }
 upper_parts os e = absurd cc
 
 branch_parts : (os : List Operand) → fits_branch os ≡ true → Parts os
@@ -154,6 +194,7 @@ load_parts : (op : LoadOp) (os : List Operand) → fits_load op os ≡ true → 
 load_parts op (Def rd ∷ Use a ∷ Imm i ∷ rest) e = sets rd (Use a) (Imm i) rest refl refl refl refl (behind (has_12_bits i) (list_all is_implicit rest) e)
 load_parts op (Def rd ∷ Slot n ∷ Imm i ∷ rest) e = loads_slot rd n i rest (behind (moves_slot (load_width op) i) (list_all is_implicit rest) e)
 load_parts op (Def rd ∷ Object n ∷ Imm i ∷ rest) e = sets rd (Object n) (Imm i) rest refl refl refl refl (behind (has_12_bits i) (list_all is_implicit rest) e)
+load_parts op (Def rd ∷ Use a ∷ Part Lower y ∷ rest) e = sets rd (Use a) (Part Lower y) rest refl refl refl refl e
 load_parts op os e = absurd cc
 
 store_parts : (op : StoreOp) (os : List Operand) → fits_store op os ≡ true → Parts os
@@ -162,6 +203,7 @@ store_parts op (Use a ∷ Use b ∷ Imm i ∷ rest) e = takes (Use a) (Use b) (I
 store_parts op (Use a ∷ Slot n ∷ Imm i ∷ rest) e = stores_slot a n i rest (behind (moves_slot (store_width op) i) (list_all is_implicit rest) e)
 store_parts op (Use a ∷ Object n ∷ Imm i ∷ rest) e = takes (Use a) (Object n) (Imm i) rest refl refl refl refl refl refl
     (behind (has_12_bits i) (list_all is_implicit rest) e)
+store_parts op (Use a ∷ Use b ∷ Part Lower y ∷ rest) e = takes (Use a) (Use b) (Part Lower y) rest refl refl refl refl refl refl e
 store_parts op os e = absurd cc
 
 copy_parts : (os : List Operand) → fits_copy os ≡ true → Parts os
@@ -190,6 +232,69 @@ call_parts (Symbol name ∷ Mask ∷ rest) e = record {
 }
 call_parts os e = absurd cc
 
+held_call_parts : (os : List Operand) → fits_held_call os ≡ true → Parts os
+held_call_parts (ImplicitUse r ∷ Mask ∷ rest) e =
+    record {
+      target = None;
+      uses = ImplicitUse r ∷ Mask ∷ rest;
+      parts = refl;
+      none =
+          (refl, (refl, all_none is_argument argument_none rest (behind (nat_le 5 r && nat_lt r 32) (list_all is_argument rest) e)));
+      kind =
+          no_slots (refl, (refl, no_slots_of is_argument argument_plain rest (behind (nat_le 5 r && nat_lt r 32) (list_all is_argument rest) e)));
+    }
+held_call_parts os e = absurd cc
+
+tail_parts : (os : List Operand) → fits_tail os ≡ true → Parts os
+tail_parts (Symbol name ∷ rest) e =
+    record {
+      target = None;
+      uses = Symbol name ∷ rest;
+      parts = refl;
+      none = (refl, all_none is_tail_use tail_none rest e);
+      kind =
+          no_slots (refl, no_slots_of is_tail_use tail_plain rest e);
+    }
+tail_parts os e = absurd cc
+
+held_tail_parts : (os : List Operand) → fits_held_tail os ≡ true → Parts os
+held_tail_parts (ImplicitUse r ∷ rest) e =
+    record {
+      target = None;
+      uses = ImplicitUse r ∷ rest;
+      parts = refl;
+      none =
+          (refl, all_none is_tail_use tail_none rest (behind (nat_eq r 6 || is_tail_register r) (list_all is_tail_use rest) e));
+      kind =
+          no_slots (refl, no_slots_of is_tail_use tail_plain rest (behind (nat_eq r 6 || is_tail_register r) (list_all is_tail_use rest) e));
+    }
+held_tail_parts os e = absurd cc
+
+gone_parts : (os : List Operand) → fits_gone os ≡ true → Parts os
+gone_parts (Symbol name ∷ Mask ∷ rest) e =
+    record {
+      target = None;
+      uses = Symbol name ∷ Mask ∷ rest;
+      parts = refl;
+      none = (refl, (refl, all_none is_tail_use tail_none rest e));
+      kind =
+          no_slots (refl, (refl, no_slots_of is_tail_use tail_plain rest e));
+    }
+gone_parts os e = absurd cc
+
+held_gone_parts : (os : List Operand) → fits_held_gone os ≡ true → Parts os
+held_gone_parts (ImplicitUse r ∷ Mask ∷ rest) e =
+    record {
+      target = None;
+      uses = ImplicitUse r ∷ Mask ∷ rest;
+      parts = refl;
+      none =
+          (refl, (refl, all_none is_tail_use tail_none rest (behind (nat_eq r 6 || is_tail_register r) (list_all is_tail_use rest) e)));
+      kind =
+          no_slots (refl, (refl, no_slots_of is_tail_use tail_plain rest (behind (nat_eq r 6 || is_tail_register r) (list_all is_tail_use rest) e)));
+    }
+held_gone_parts os e = absurd cc
+
 parts_of : (op : Op) (os : List Operand) → has_form op os ≡ true → Parts os
 parts_of (Registers op) os e = registers_parts os e
 parts_of (Immediate op) os e = immediate_parts op os e
@@ -200,6 +305,11 @@ parts_of (Store op) os e = store_parts op os e
 parts_of Copy os e = copy_parts os e
 parts_of PseudoBr os e = jump_parts os e
 parts_of PseudoCall os e = call_parts os e
+parts_of PseudoCallIndirect os e = held_call_parts os e
+parts_of PseudoTail os e = tail_parts os e
+parts_of PseudoTailIndirect os e = held_tail_parts os e
+parts_of NoReturnCall os e = gone_parts os e
+parts_of NoReturnCallIndirect os e = held_gone_parts os e
 parts_of PseudoRet os e =
     record { target = None; uses = os; parts = refl; none = all_none is_result result_none os e; kind = no_slots (no_slots_of is_result result_plain os e) }
 

@@ -137,18 +137,18 @@ number_is None rest = refl
 number_is (Some k) rest = append_assoc (codes ", debug-instr-number ") (decimal k) rest
 
 location_ends : (l : Loc) (r : List ℕ) → EndsInstruction (location_before l (10 ∷ r))
-location_ends Absent r = record { tail = record { follows = record { digits = refl; bare = refl }; ends = no_more r; blank = refl }; letter = refl }
+location_ends Absent r = record { tail = record { follows = record { digits = refl; bare = refl; space = refl }; ends = no_more r; blank = refl }; letter = refl }
   where
     no_more : (r : List ℕ) → goes_on (10 ∷ r) ≡ false
     no_more [] = refl
     no_more (a ∷ []) = refl
     no_more (a ∷ b ∷ bs) = refl
-location_ends (Node n) r = record { tail = record { follows = record { digits = refl; bare = refl }; ends = refl; blank = refl }; letter = refl }
-location_ends (Inline l) r = record { tail = record { follows = record { digits = refl; bare = refl }; ends = refl; blank = refl }; letter = refl }
+location_ends (Node n) r = record { tail = record { follows = record { digits = refl; bare = refl; space = refl }; ends = refl; blank = refl }; letter = refl }
+location_ends (Inline l) r = record { tail = record { follows = record { digits = refl; bare = refl; space = refl }; ends = refl; blank = refl }; letter = refl }
 
 number_ends : (k : Option ℕ) (l : Loc) (r : List ℕ) → EndsInstruction (number_before k (location_before l (10 ∷ r)))
 number_ends None l r = location_ends l r
-number_ends (Some k) l r = record { tail = record { follows = record { digits = refl; bare = refl }; ends = refl; blank = refl }; letter = refl }
+number_ends (Some k) l r = record { tail = record { follows = record { digits = refl; bare = refl; space = refl }; ends = refl; blank = refl }; letter = refl }
 
 location_stops : (l : Loc) (r : List ℕ) → Stops is_digit (location_before l (10 ∷ r))
 location_stops Absent r = refl

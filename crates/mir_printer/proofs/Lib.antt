@@ -1,6 +1,7 @@
 pub mod Appends
 pub mod ListedLemmas
 pub mod Cuts
+pub mod Addends
 pub mod Symbols
 pub mod Operands
 pub mod Stack

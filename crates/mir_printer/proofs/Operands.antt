@@ -1,13 +1,21 @@
 -- The operands that a text stands for.
-use Rattle.std.proofs.Common.{◌≡◌, ℕ, ◌-◌, ◌^◌, ◌<◌, ◌≤◌, Bool, true, false, ◌&&◌, not, nat_eq, nat_lt, cond, List, [], ◌∷◌, ◌++◌, refl, sym, ap, ◌∙◌}
+use Rattle.std.proofs.Common.{◌≡◌, ℕ, ℤ, zero, suc, pos, negsuc, ◌-◌, ◌^◌, ◌<◌, ◌≤◌, Bool, true, false, ◌&&◌, not, nat_eq, nat_lt, cond, List, [], ◌∷◌, ◌++◌}
+use Rattle.std.proofs.Common.{refl, sym, ap, ◌∙◌}
 use Rattle.std.proofs.Common.{append_assoc, arith}
 use Rattle.std.specs.Prelude.{codes, map}
 use Rattle.std.specs.Fmt.{decimal}
 use Rattle.std.proofs.lemmas.Bool.{ltb-false, ne_eqb}
 use Rattle.rv64_instr.specs.declared.operand.Operand.{Operand}
-use Rattle.rv64_instr.specs.declared.operand.Operand.TheVariants.{Def, Use, ImplicitDef, ImplicitUse, Imm, Slot, Object, Block, Symbol, Mask}
+use Rattle.rv64_instr.specs.declared.operand.Operand.TheVariants.{Def, Use, ImplicitDef, ImplicitUse, Imm, Slot, Object, Part, Block, Symbol, Mask}
 use Rattle.mir_printer.specs.Spelling.{comma_separated, is_bare, is_definition, operand_text, register_text, uses_text}
-use Rattle.mir_printer.specs.Printable.{IsNumber, HasNumbers, as_slot}
+use Rattle.mir_printer.specs.Spelling.{linked_symbol_text, addend_text, half_text, part_text}
+use Rattle.rv64_instr.specs.declared.symbol.Symbol.{Symbol as Linked}
+use Rattle.rv64_instr.specs.declared.symbol.Symbol.TheVariants.{Global, Constant as PoolConstant}
+use Rattle.rv64_instr.specs.declared.symbol.LinkedAddress.{LinkedAddress}
+use Rattle.rv64_instr.specs.declared.symbol.Half.{Half}
+use Rattle.rv64_instr.specs.declared.symbol.Half.TheVariants.{Upper, Lower}
+use Rattle.rv64_instr.specs.Form.{IsSigned}
+use Rattle.mir_printer.specs.Printable.{IsNumber, HasNumbers, HasSymbolNumber, HasAddressNumbers, as_slot}
 use Rattle.mir_printer.proofs.Cuts.{front_one, apart, Stops, is_digit, decimal_one, decimal_head, signed_one, signed_head}
 use Rattle.mir_printer.proofs.Symbols.{symbol_one}
 
@@ -51,6 +59,7 @@ data Lead : Type 0 where
   at_symbol : Lead
   at_mask : Lead
   at_implicit : Lead
+  at_part : Lead
   at_number : Lead
 
 abbrev after_percent : List ℕ → Lead
@@ -60,7 +69,7 @@ after_percent (b ∷ bs) = cond (nat_eq b 115) at_stack (cond (nat_eq b 98) at_b
 abbrev lead : List ℕ → Lead
 lead [] = at_number
 lead (b ∷ bs) = cond (nat_eq b 36) at_register (cond (nat_eq b 37) (after_percent bs)
-    (cond (nat_eq b 64) at_symbol (cond (nat_eq b 109) at_mask (cond (nat_eq b 105) at_implicit at_number))))
+    (cond (nat_eq b 64) at_symbol (cond (nat_eq b 109) at_mask (cond (nat_eq b 105) at_implicit (cond (nat_eq b 116) at_part at_number)))))
 
 abbrev lead_of : Operand → Lead
 lead_of (Def r) = at_register
@@ -70,6 +79,7 @@ lead_of (ImplicitUse r) = at_implicit
 lead_of (Imm i) = at_number
 lead_of (Slot n) = at_stack
 lead_of (Object n) = at_stack
+lead_of (Part half y) = at_part
 lead_of (Block n) = at_block
 lead_of (Symbol name) = at_symbol
 lead_of Mask = at_mask
@@ -84,7 +94,8 @@ number_lead b bs low high =
       ne_eqb b 37 (λ e. omega arith),
       ne_eqb b 64 (λ e. omega arith),
       ne_eqb b 109 (λ e. omega arith),
-      ne_eqb b 105
+      ne_eqb b 105 (λ e. omega arith),
+      ne_eqb b 116
           (λ e. omega arith),
     ) refl
 
@@ -100,12 +111,15 @@ lead_is : (o : Operand) (r : List ℕ) → IsUse o → lead (operand_text o ++ r
 lead_is (Def n) r is = let no : true ≡ false = is.0 in absurd cc
 lead_is (Use n) r is = register_lead (nat_lt n 32) n r is.1
 lead_is (Imm i) r is = let h = signed_head i r is.1 in ap lead h.2 ∙ number_lead h.0 h.1 h.3 h.4
+lead_is (Part Upper y) r is = refl
+lead_is (Part Lower y) r is = refl
 lead_is _ r is = refl
 
 -- what may follow an operand
 pub record Follows (text : List ℕ) : Type 0 where
   pub digits : Stops is_digit text
   pub bare : Stops is_bare text
+  pub space : Stops (nat_eq 32) text
 
 same_lead : (o p : Operand) (r s : List ℕ) → IsUse o → IsUse p → operand_text o ++ r ≡ operand_text p ++ s → lead_of o ≡ lead_of p
 same_lead o p r s is others e = sym (lead_is o r is) ∙ (ap lead e ∙ lead_is p s others)
@@ -120,6 +134,91 @@ stack_one : (m n : ℕ) (r s : List ℕ) → IsNumber m → IsNumber n → Follo
 stack_one m n r s small other follow follows e =
     let tails : decimal m ++ r ≡ decimal n ++ s = cc in
     let found = number_one m n r s small other follow.digits follows.digits tails in (ap Slot found.0, found.1)
+
+-- ---- halves of addresses
+
+-- a text that doesn't begin with a blank is none that does
+no_space : (s t : List ℕ) → Stops (nat_eq 32) s → s ≡ 32 ∷ t → ⊥
+no_space [] t stop e = absurd cc
+no_space (b ∷ bs) t stop e =
+    let same : b ≡ 32 = cc in
+    let both : nat_eq 32 b ≡ true = ap (nat_eq 32) same in
+    absurd cc
+
+halves_apart : (r s : List ℕ) → half_text Upper ++ r ≡ half_text Lower ++ s → ⊥
+halves_apart r s e =
+    apart 104 108 (codes "i) " ++ r) (codes "o) " ++ s) refl (front_one (codes "target-flags(riscv-") (codes "hi) " ++ r) (codes "lo) " ++ s) e)
+
+half_one : (h k : Half) (r s : List ℕ) → half_text h ++ r ≡ half_text k ++ s → (h ≡ k) × (r ≡ s)
+half_one Upper Upper r s e = (refl, front_one (half_text Upper) r s e)
+half_one Lower Lower r s e = (refl, front_one (half_text Lower) r s e)
+half_one Upper Lower r s e = absurd (halves_apart r s e)
+half_one Lower Upper r s e = absurd (halves_apart s r (sym e))
+
+addend_stops : (p : ℕ → Bool) (i : ℤ) (r : List ℕ) → p 32 ≡ false → Stops p r → Stops p (addend_text i ++ r)
+addend_stops p (pos zero) r blank stop = stop
+addend_stops p (pos (suc n)) r blank stop = blank
+addend_stops p (negsuc n) r blank stop = blank
+
+positive : (n : ℕ) → IsSigned (pos n) → n < 2 ^ 64
+positive n small = omega (arith, small)
+
+negative : (n : ℕ) → IsSigned (negsuc n) → suc n < 2 ^ 64
+negative n small = omega (arith, small)
+
+addend_one : (i j : ℤ) (r s : List ℕ) → IsSigned i → IsSigned j → Follows r → Follows s → addend_text i ++ r ≡ addend_text j ++ s → (i ≡ j) × (r ≡ s)
+addend_one (pos zero) (pos zero) r s small other follow follows e = (refl, e)
+addend_one (pos zero) (pos (suc n)) r s small other follow follows e = absurd (no_space r (codes "+ " ++ (decimal (suc n) ++ s)) follow.space e)
+addend_one (pos zero) (negsuc n) r s small other follow follows e = absurd (no_space r (codes "- " ++ (decimal (suc n) ++ s)) follow.space e)
+addend_one (pos (suc m)) (pos zero) r s small other follow follows e =
+    absurd (no_space s (codes "+ " ++ (decimal (suc m) ++ r)) follows.space (sym e))
+addend_one (negsuc m) (pos zero) r s small other follow follows e =
+    absurd (no_space s (codes "- " ++ (decimal (suc m) ++ r)) follows.space (sym e))
+addend_one (pos (suc m)) (pos (suc n)) r s small other follow follows e =
+    let tails = front_one (codes " + ") (decimal (suc m) ++ r) (decimal (suc n) ++ s) e in
+    let found = decimal_one (suc m) (suc n) r s (positive (suc m) small) (positive (suc n) other) follow.digits follows.digits tails in
+    (ap pos found.0, found.1)
+addend_one (negsuc m) (negsuc n) r s small other follow follows e =
+    let tails = front_one (codes " - ") (decimal (suc m) ++ r) (decimal (suc n) ++ s) e in
+    let found = decimal_one (suc m) (suc n) r s (negative m small) (negative n other) follow.digits follows.digits tails in
+    let same : m ≡ n = omega (arith, found.0) in
+    (ap negsuc same, found.1)
+addend_one (pos (suc m)) (negsuc n) r s small other follow follows e =
+    absurd (apart 43 45 (codes " " ++ (decimal (suc m) ++ r)) (codes " " ++ (decimal (suc n) ++ s)) refl
+    (front_one (codes " ") (codes "+ " ++ (decimal (suc m) ++ r)) (codes "- " ++ (decimal (suc n) ++ s)) e))
+addend_one (negsuc m) (pos (suc n)) r s small other follow follows e =
+    absurd (apart 45 43 (codes " " ++ (decimal (suc m) ++ r)) (codes " " ++ (decimal (suc n) ++ s)) refl
+    (front_one (codes " ") (codes "- " ++ (decimal (suc m) ++ r)) (codes "+ " ++ (decimal (suc n) ++ s)) e))
+
+linked_symbol_one : (a b : Linked) (r s : List ℕ) → HasSymbolNumber a → HasSymbolNumber b → Stops is_bare r → Stops is_bare s → Stops is_digit r →
+    Stops is_digit s → linked_symbol_text a ++ r ≡ linked_symbol_text b ++ s → (a ≡ b) × (r ≡ s)
+linked_symbol_one (Global a) (Global b) r s small other bare bares digit digits e =
+    let found = symbol_one a b r s bare bares e in (ap Global found.0, found.1)
+linked_symbol_one (PoolConstant m) (PoolConstant n) r s small other bare bares digit digits e =
+    let tails = front_one (codes "%const.") (decimal m ++ r) (decimal n ++ s) e in
+    let found = number_one m n r s small other digit digits tails in (ap PoolConstant found.0, found.1)
+linked_symbol_one (Global a) (PoolConstant n) r s small other bare bares digit digits e =
+    absurd (apart 64 37 _ (codes "const." ++ (decimal n ++ s)) refl e)
+linked_symbol_one (PoolConstant m) (Global b) r s small other bare bares digit digits e =
+    absurd (apart 37 64 (codes "const." ++ (decimal m ++ r)) _ refl e)
+
+address_one : (y z : LinkedAddress) (r s : List ℕ) → HasAddressNumbers y → HasAddressNumbers z → Follows r → Follows s →
+    linked_symbol_text y.symbol ++ (addend_text y.addend ++ r) ≡ linked_symbol_text z.symbol ++ (addend_text z.addend ++ s) → (y ≡ z) × (r ≡ s)
+address_one y z r s small other follow follows e =
+    let symbols = linked_symbol_one y.symbol z.symbol (addend_text y.addend ++ r) (addend_text z.addend ++ s) small.symbol other.symbol
+    (addend_stops is_bare y.addend r refl follow.bare) (addend_stops is_bare z.addend s refl follows.bare)
+    (addend_stops is_digit y.addend r refl follow.digits) (addend_stops is_digit z.addend s refl follows.digits) e in
+    let addends = addend_one y.addend z.addend r s small.addend other.addend follow follows symbols.1 in
+    (λ i. record { symbol = symbols.0 i; addend = addends.0 i }, addends.1)
+
+part_one : (h k : Half) (y z : LinkedAddress) (r s : List ℕ) → HasAddressNumbers y → HasAddressNumbers z → Follows r → Follows s →
+    part_text h y ++ r ≡ part_text k z ++ s → (Part h y ≡ Part k z) × (r ≡ s)
+part_one h k y z r s small other follow follows e =
+    let grouped : (g : Half) (x : LinkedAddress) (t : List ℕ) →
+    part_text g x ++ t ≡ half_text g ++ (linked_symbol_text x.symbol ++ (addend_text x.addend ++ t)) = λ g x t. simp append_assoc in
+    let halves = half_one h k _ _ (sym (grouped h y r) ∙ e ∙ grouped k z s) in
+    let found = address_one y z r s small other follow follows halves.1 in
+    (λ i. Part (halves.0 i) (found.0 i), found.1)
 
 -- a text stands for one operand, but that a slot and an object print alike
 pub operand_one : (o p : Operand) (r s : List ℕ) → IsUse o → IsUse p → Follows r → Follows s →
@@ -141,6 +240,7 @@ operand_one (Object m) (Slot n) r s is others follow follows e = stack_one m n r
 operand_one (Block m) (Block n) r s is others follow follows e =
     let tails : decimal m ++ r ≡ decimal n ++ s = cc in
     let found = number_one m n r s is.1 others.1 follow.digits follows.digits tails in (ap Block found.0, found.1)
+operand_one (Part h y) (Part k z) r s is others follow follows e = part_one h k y z r s is.1 others.1 follow follows e
 operand_one (Symbol a) (Symbol b) r s is others follow follows e =
     let found = symbol_one a b r s follow.bare follows.bare e in (ap Symbol found.0, found.1)
 operand_one Mask Mask r s is others follow follows e = (refl, (let tails : r ≡ s = cc in tails))
@@ -188,6 +288,8 @@ operand_goes_on : (o : Operand) (r : List ℕ) → IsUse o → goes_on (44 ∷ 3
 operand_goes_on (Def n) r is = register_goes_on (nat_lt n 32) n r
 operand_goes_on (Use n) r is = register_goes_on (nat_lt n 32) n r
 operand_goes_on (Imm i) r is = let h = signed_head i r is.1 in ap (λ (t : List ℕ). goes_on (44 ∷ 32 ∷ t)) h.2 ∙ number_goes_on h.0 h.1 h.3 h.4
+operand_goes_on (Part Upper y) r is = refl
+operand_goes_on (Part Lower y) r is = refl
 operand_goes_on _ r is = refl
 
 -- what may follow an instruction's operands
@@ -198,7 +300,7 @@ pub record IsTail (text : List ℕ) : Type 0 where
 
 follows_rest : (os : List Operand) (tail : List ℕ) → Follows tail → Follows (rest_text os tail)
 follows_rest [] tail is = is
-follows_rest (o ∷ os) tail is = record { digits = refl; bare = refl }
+follows_rest (o ∷ os) tail is = record { digits = refl; bare = refl; space = refl }
 
 ended : (o : Operand) (os : List Operand) (r s : List ℕ) → IsUse o → goes_on s ≡ false → s ≡ rest_text (o ∷ os) r → ⊥
 ended o os r s is ends e =
@@ -216,18 +318,11 @@ rest_one (o ∷ os) (p ∷ ps) r s all others tail tails e =
     let rest = rest_one os ps r s all.1 others.1 tail tails first.1 in
     (let head : as_slot o ≡ as_slot p = first.0 in let more : map as_slot os ≡ map as_slot ps = rest.0 in cc, rest.1)
 
-no_blank : (t s : List ℕ) → Stops (nat_eq 32) s → s ≡ 32 ∷ t → ⊥
-no_blank t [] stop e = absurd cc
-no_blank t (b ∷ bs) stop e =
-    let same : b ≡ 32 = cc in
-    let both : nat_eq 32 b ≡ true = ap (nat_eq 32) same in
-    absurd cc
-
 pub uses_one : (os ps : List Operand) (r s : List ℕ) → AllUses os → AllUses ps → IsTail r → IsTail s → uses_text os ++ r ≡ uses_text ps ++ s →
     (map as_slot os ≡ map as_slot ps) × (r ≡ s)
 uses_one [] [] r s all others tail tails e = (refl, e)
-uses_one [] (p ∷ ps) r s all others tail tails e = absurd (no_blank (comma_separated (map operand_text (p ∷ ps)) ++ s) r tail.blank e)
-uses_one (o ∷ os) [] r s all others tail tails e = absurd (no_blank (comma_separated (map operand_text (o ∷ os)) ++ r) s tails.blank (sym e))
+uses_one [] (p ∷ ps) r s all others tail tails e = absurd (no_space r (comma_separated (map operand_text (p ∷ ps)) ++ s) tail.blank e)
+uses_one (o ∷ os) [] r s all others tail tails e = absurd (no_space s (comma_separated (map operand_text (o ∷ os)) ++ r) tails.blank (sym e))
 uses_one (o ∷ os) (p ∷ ps) r s all others tail tails e =
     let after : comma_separated (map operand_text (o ∷ os)) ++ r ≡ comma_separated (map operand_text (p ∷ ps)) ++ s = cc in
     let found : operand_text o ++ rest_text os r ≡ operand_text p ++ rest_text ps s = sym (commas o os r) ∙ (after ∙ commas p ps s) in

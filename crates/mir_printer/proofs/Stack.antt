@@ -9,7 +9,7 @@ use Rattle.std.proofs.lemmas.List.Elements.{All-head, All-tail}
 use Rattle.rv64_instr.specs.declared.op.Op.{Op}
 use Rattle.rv64_instr.specs.declared.operand.Operand.{Operand}
 use Rattle.rv64_instr.specs.declared.operand.Operand.TheVariants.{Slot, Object}
-use Rattle.rv64_instr.specs.Form.{has_form, is_implicit, is_argument, is_result}
+use Rattle.rv64_instr.specs.Form.{has_form, is_implicit, is_argument, is_result, is_tail_use}
 use Rattle.mir_printer.specs.Printable.{IsAsDeclared, as_slot}
 
 abbrev pub is_slot : Operand → Bool
@@ -103,6 +103,11 @@ pub result_plain : (o : Operand) → is_result o ≡ true → IsPlain o
 result_plain (Slot n) e = absurd cc
 result_plain (Object n) e = absurd cc
 result_plain o e = (refl, refl)
+
+pub tail_plain : (o : Operand) → is_tail_use o ≡ true → IsPlain o
+tail_plain (Slot n) e = absurd cc
+tail_plain (Object n) e = absurd cc
+tail_plain o e = (refl, refl)
 
 pub no_slots_of : (p : Operand → Bool) → ((o : Operand) → p o ≡ true → IsPlain o) → (os : List Operand) → list_all p os ≡ true → Each IsNoSlot os
 no_slots_of p each [] all = tt

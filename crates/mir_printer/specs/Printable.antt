@@ -1,7 +1,11 @@
 -- Items whose text determines all of them but their origin.
 use Rattle.std.specs.Prelude.{◌≡◌, ℕ, pos, ◌<◌, ◌^◌, ◌++◌, ◌∷◌, Bool, true, false, List, All, map, Option, Some, None, IsTrue, IfSome}
 use Rattle.rv64_instr.specs.declared.operand.Operand.{Operand}
-use Rattle.rv64_instr.specs.declared.operand.Operand.TheVariants.{Def, Use, ImplicitDef, ImplicitUse, Imm, Slot as SlotOperand, Object, Block, Symbol, Mask}
+use Rattle.rv64_instr.specs.declared.operand.Operand.TheVariants.{Def, Use, ImplicitDef, ImplicitUse, Imm, Slot as SlotOperand, Object, Part, Block, Symbol}
+use Rattle.rv64_instr.specs.declared.operand.Operand.TheVariants.{Mask}
+use Rattle.rv64_instr.specs.declared.symbol.Symbol.{Symbol as Linked}
+use Rattle.rv64_instr.specs.declared.symbol.Symbol.TheVariants.{Global, Constant as PoolConstant}
+use Rattle.rv64_instr.specs.declared.symbol.LinkedAddress.{LinkedAddress}
 use Rattle.rv64_instr.specs.declared.place.Place.{Place}
 use Rattle.rv64_instr.specs.declared.place.Place.TheVariants.{Register, Slot, Const}
 use Rattle.rv64_instr.specs.Instruction.{Instruction}
@@ -21,6 +25,16 @@ use Rattle.mir_printer.specs.Spelling.{item_text}
 abbrev pub IsNumber : ℕ → Type 0
 IsNumber n = n < 2 ^ 32
 
+-- the number of a constant has 32 bits
+abbrev pub HasSymbolNumber : Linked → Type 0
+HasSymbolNumber (Global name) = Unit {0}
+HasSymbolNumber (PoolConstant n) = IsNumber n
+
+-- so have the numbers of an address that is known when the program is linked, but that its addend is signed and has 64 bits
+pub record HasAddressNumbers (y : LinkedAddress) : Type 0 where
+  pub symbol : HasSymbolNumber y.symbol
+  pub addend : IsSigned y.addend
+
 -- the numbers of an operand are of these sizes
 abbrev pub HasNumbers : Operand → Type 0
 HasNumbers (Def r) = IsNumber r
@@ -30,6 +44,7 @@ HasNumbers (ImplicitUse r) = IsNumber r
 HasNumbers (Imm i) = IsSigned i
 HasNumbers (SlotOperand n) = IsNumber n
 HasNumbers (Object n) = IsNumber n
+HasNumbers (Part half y) = HasAddressNumbers y
 HasNumbers (Block n) = IsNumber n
 HasNumbers (Symbol name) = Unit {0}
 HasNumbers Mask = Unit {0}
@@ -43,6 +58,7 @@ IsAsDeclared objects (ImplicitUse r) = Unit {0}
 IsAsDeclared objects (Imm i) = Unit {0}
 IsAsDeclared objects (SlotOperand n) = objects n ≡ false
 IsAsDeclared objects (Object n) = objects n ≡ true
+IsAsDeclared objects (Part half y) = Unit {0}
 IsAsDeclared objects (Block n) = Unit {0}
 IsAsDeclared objects (Symbol name) = Unit {0}
 IsAsDeclared objects Mask = Unit {0}
@@ -56,6 +72,7 @@ as_slot (ImplicitUse r) = ImplicitUse r
 as_slot (Imm i) = Imm i
 as_slot (SlotOperand n) = SlotOperand n
 as_slot (Object n) = SlotOperand n
+as_slot (Part half y) = Part half y
 as_slot (Block n) = Block n
 as_slot (Symbol name) = Symbol name
 as_slot Mask = Mask

@@ -1,10 +1,17 @@
 -- The one text of an item (LLVM, Machine IR (MIR) Format Reference Manual, "Machine Instructions").
-use Rattle.std.specs.Prelude.{ℕ, ◌+◌, ◌-◌, ◌*◌, ◌/◌, ◌%◌, Bool, true, false, cond, ◌&&◌, ◌||◌, not, nat_eq, nat_le, nat_lt, List, [], ◌∷◌, ◌++◌, Option, Some}
+use Rattle.std.specs.Prelude.{ℕ, ℤ, zero, suc, pos, negsuc, ◌+◌, ◌-◌, ◌*◌, ◌/◌, ◌%◌, Bool, true, false, cond, ◌&&◌, ◌||◌, not, nat_eq, nat_le, nat_lt, List}
+use Rattle.std.specs.Prelude.{[], ◌∷◌, ◌++◌, Option, Some}
 use Rattle.std.specs.Prelude.{None, codes, filter, map}
 use Rattle.std.specs.List.{flat_map, list_all}
 use Rattle.std.specs.Fmt.{decimal, signed_decimal}
 use Rattle.rv64_instr.specs.declared.operand.Operand.{Operand}
-use Rattle.rv64_instr.specs.declared.operand.Operand.TheVariants.{Def, Use, ImplicitDef, ImplicitUse, Imm, Slot as SlotOperand, Object, Block, Symbol, Mask}
+use Rattle.rv64_instr.specs.declared.operand.Operand.TheVariants.{Def, Use, ImplicitDef, ImplicitUse, Imm, Slot as SlotOperand, Object, Part, Block, Symbol}
+use Rattle.rv64_instr.specs.declared.operand.Operand.TheVariants.{Mask}
+use Rattle.rv64_instr.specs.declared.symbol.Symbol.{Symbol as Linked}
+use Rattle.rv64_instr.specs.declared.symbol.Symbol.TheVariants.{Global, Constant as PoolConstant}
+use Rattle.rv64_instr.specs.declared.symbol.LinkedAddress.{LinkedAddress}
+use Rattle.rv64_instr.specs.declared.symbol.Half.{Half}
+use Rattle.rv64_instr.specs.declared.symbol.Half.TheVariants.{Upper, Lower}
 use Rattle.rv64_instr.specs.declared.place.Place.{Place}
 use Rattle.rv64_instr.specs.declared.place.Place.TheVariants.{Register, Slot, Const}
 use Rattle.rv64_instr.specs.Instruction.{Instruction}
@@ -53,6 +60,26 @@ symbol_text name = 64 ∷ cond (not (is_empty name) && list_all is_bare name) na
 abbrev pub register_text : ℕ → List ℕ
 register_text r = cond (nat_lt r 32) (codes "$x" ++ decimal r) (codes "%" ++ decimal (r - 32))
 
+-- the symbol of an address: a global, or a constant of the function's pool
+abbrev pub linked_symbol_text : Linked → List ℕ
+linked_symbol_text (Global name) = symbol_text name
+linked_symbol_text (PoolConstant n) = codes "%const." ++ decimal n
+
+-- the number that is added to a symbol's address: none if it is 0
+abbrev pub addend_text : ℤ → List ℕ
+addend_text (pos zero) = []
+addend_text (pos (suc n)) = codes " + " ++ decimal (suc n)
+addend_text (negsuc n) = codes " - " ++ decimal (suc n)
+
+-- which half of an address it is (LLVM: `MO_HI`, `MO_LO`)
+abbrev pub half_text : Half → List ℕ
+half_text Upper = codes "target-flags(riscv-hi) "
+half_text Lower = codes "target-flags(riscv-lo) "
+
+-- the half of an address
+abbrev pub part_text : Half → LinkedAddress → List ℕ
+part_text half y = half_text half ++ (linked_symbol_text y.symbol ++ addend_text y.addend)
+
 -- an operand; frame slots and stack objects both print as `%stack.N`, and a register mask as `mask`
 abbrev pub operand_text : Operand → List ℕ
 operand_text (Def r) = register_text r
@@ -62,6 +89,7 @@ operand_text (ImplicitUse r) = codes "implicit " ++ register_text r
 operand_text (Imm i) = signed_decimal i
 operand_text (SlotOperand n) = codes "%stack." ++ decimal n
 operand_text (Object n) = codes "%stack." ++ decimal n
+operand_text (Part half y) = part_text half y
 operand_text (Block n) = codes "%bb." ++ decimal n
 operand_text (Symbol name) = symbol_text name
 operand_text Mask = codes "mask"
@@ -75,6 +103,7 @@ is_definition (ImplicitUse r) = false
 is_definition (Imm i) = false
 is_definition (SlotOperand n) = false
 is_definition (Object n) = false
+is_definition (Part half y) = false
 is_definition (Block n) = false
 is_definition (Symbol name) = false
 is_definition Mask = false

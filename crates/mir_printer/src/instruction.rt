@@ -7,7 +7,7 @@ ghost use Rattle.mir_printer.specs.steps.Listed.{selects, selected_texts, listed
 
 use crate::operand::push_operand;
 use crate::text::{Text, push_numbered, push_str};
-use base_ids::code::DebugNumber;
+use base_ids::function_ids::DebugNumber;
 use rv64_instr::instr::Instr;
 use rv64_instr::operand::Operand;
 use std::alloc::AllocError;
@@ -85,6 +85,7 @@ fn is_definition(operand: &Operand) -> bool
         | Operand::Imm(_)
         | Operand::Slot(_)
         | Operand::Object(_)
+        | Operand::Part(_, _)
         | Operand::Block(_)
         | Operand::Symbol(_)
         | Operand::Mask => false,

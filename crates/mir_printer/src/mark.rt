@@ -18,7 +18,7 @@ ghost use Rattle.mir_printer.specs.Spelling.{
 
 use crate::operand::push_register;
 use crate::text::{Text, push_decimal, push_numbered, push_signed, push_str};
-use base_ids::code::DebugNumber;
+use base_ids::function_ids::DebugNumber;
 use mir_func::debug_substitution::OperandPair;
 use mir_func::variable::{Fragment, MarkValue, VarId};
 use rv64_instr::place::Place;

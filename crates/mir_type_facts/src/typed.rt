@@ -2,12 +2,12 @@
 
 ghost use Rattle.std.specs.Prelude.{All, IfSome};
 ghost use Rattle.rv64_instr.specs.Form.{IsSigned};
-ghost use Rattle.mir_printer.specs.Printable.{IsNumber, HasNumbers, IsPrintableValue, IsPrintableLoc};
+ghost use Rattle.mir_printer.specs.Printable.{IsNumber, HasNumbers, HasSymbolNumber, HasAddressNumbers, IsPrintableValue, IsPrintableLoc};
 ghost use Rattle.mir_func.specs.Parts.{IsPart};
 ghost use Rattle.mir_type_facts.specs.Typed.{IsTypedBlock, IsTypedItem, IsTypedKind, IsTypedCode, IsTypedVariable};
 ghost use Rattle.mir_type_facts.specs.Typed.{IsTypedPlace, IsTypedPair, IsTypedEntry};
 
-use base_ids::code::{BlockId, DebugNumber, ObjectId, OperandIndex, SlotId};
+use base_ids::function_ids::{BlockId, DebugNumber, ObjectId, OperandIndex, SlotId};
 use base_ids::metadata::NodeId;
 use mir_func::block::Block;
 use mir_func::debug_substitution::{DebugSubstitution, OperandPair};
@@ -18,6 +18,7 @@ use rv64_instr::instr::Instr;
 use rv64_instr::operand::Operand;
 use rv64_instr::place::Place;
 use rv64_instr::reg::Reg;
+use rv64_instr::symbol::{LinkedAddress, Symbol};
 
 /// Code in blocks has the form of its opcode, and all numbers of blocks and in them fit their types.
 pub fn blocks_are_typed(blocks: &[Block])
@@ -111,8 +112,25 @@ fn operand_is_typed(operand: &Operand)
         Operand::Imm(i) => signed(*i),
         Operand::Slot(n) => slot(*n),
         Operand::Object(n) => object(*n),
+        Operand::Part(_, address) => address_is_typed(address),
         Operand::Block(n) => block_number(*n),
         Operand::Symbol(_) | Operand::Mask => {}
+    }
+}
+
+fn address_is_typed(address: &LinkedAddress)
+    ensures { HasAddressNumbers address.now }
+{
+    symbol_is_typed(&address.symbol);
+    addend(address.addend);
+}
+
+fn symbol_is_typed(symbol: &Symbol)
+    ensures { HasSymbolNumber symbol.now }
+{
+    match symbol {
+        Symbol::Global(_) => {}
+        Symbol::Constant(n) => plain_number(*n),
     }
 }
 
@@ -193,6 +211,10 @@ fn plain_number(_n: u32)
 
 fn signed(_i: i64)
     ensures { IsSigned _i }
+{}
+
+fn addend(_n: i32)
+    ensures { IsSigned _n }
 {}
 
 fn register(r: Reg)

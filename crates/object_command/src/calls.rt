@@ -2,12 +2,11 @@
 
 ghost use Rattle.std.specs.Prelude.{◌≡◌, ◌++◌, ◌∷◌, [], ℕ, IsTrue, Option, Some, OnOk, IfOk};
 ghost use Rattle.std.specs.List.{flat_map};
-ghost use Rattle.rv64_instr.specs.Form.{fits_call};
-ghost use Rattle.rv64_instr.specs.Row.{row_of, call_row};
+ghost use Rattle.rv64_instr.specs.Form.{fits_call, fits_tail, fits_gone};
+ghost use Rattle.rv64_instr.specs.Row.{row_of, call_row, tail_row, gone_row};
 ghost use Rattle.sem_machine.specs.Image.{line_of};
-ghost use Rattle.sem_machine.specs.MachineStep.{call_of};
 ghost use Rattle.listing_meaning.specs.Program.{lines_of};
-ghost use Rattle.object_command.specs.Calls.{site_at, site_of, sites_in, call_sites};
+ghost use Rattle.object_command.specs.Calls.{callee_of, site_at, site_of, sites_in, call_sites};
 
 use base_list::List;
 use listing_text::output::{Line, ListedFunction};
@@ -75,7 +74,7 @@ fn push_line(sites: &mut CallSites, line: &Line) -> Result<(), AllocError>
     }
 }
 
-/// Appends the call site of an item at an address, if it is a call.
+/// Appends the call site of an item at an address, if it names a callee.
 fn push_item(sites: &mut CallSites, address: u32, item: &Item) -> Result<(), AllocError>
     ensures { OnOk result (sites.new
         ≡ sites.old ++ flat_map site_of (line_of (Some address) item.now.origin item.now.kind)) }
@@ -86,23 +85,55 @@ fn push_item(sites: &mut CallSites, address: u32, item: &Item) -> Result<(), All
     }
 }
 
-/// Appends the call site of an instruction at an address, if it is a call.
+/// Appends the call site of an instruction at an address, if it names a callee.
 fn push_call(sites: &mut CallSites, address: u32, instruction: &Instr) -> Result<(), AllocError>
-    ensures { OnOk result (sites.new ≡ sites.old ++ site_at address (call_of (row_of instruction.now))) }
+    ensures { OnOk result (sites.new ≡ sites.old ++ site_at address (callee_of (row_of instruction.now))) }
 {
     match instruction.op {
         Op::PseudoCall => {
             let name = called(instruction.operands.as_slice()).copy()?;
             sites.push(CallSite { address, name })
         }
+        Op::PseudoTail => {
+            let name = left_for(instruction.operands.as_slice()).copy()?;
+            sites.push(CallSite { address, name })
+        }
+        Op::NoReturnCall => {
+            let name = gone_to(instruction.operands.as_slice()).copy()?;
+            sites.push(CallSite { address, name })
+        }
         _ => Ok(()),
+    }
+}
+
+/// The name of the function that a call in tail position with these operands calls.
+fn left_for(operands: &[Operand]) -> &Name
+    requires { IsTrue (fits_tail operands.now) }
+    ensures { (address : ℕ) → site_at address (callee_of (tail_row operands.now))
+        ≡ record { address = address; name = result.now } ∷ [] }
+{
+    match operands {
+        [Operand::Symbol(name), ..] => name,
+        _ => unreachable!(),
+    }
+}
+
+/// The name of the function that a call that doesn't return calls.
+fn gone_to(operands: &[Operand]) -> &Name
+    requires { IsTrue (fits_gone operands.now) }
+    ensures { (address : ℕ) → site_at address (callee_of (gone_row operands.now))
+        ≡ record { address = address; name = result.now } ∷ [] }
+{
+    match operands {
+        [Operand::Symbol(name), Operand::Mask, ..] => name,
+        _ => unreachable!(),
     }
 }
 
 /// The name of the function that a call with these operands calls.
 fn called(operands: &[Operand]) -> &Name
     requires { IsTrue (fits_call operands.now) }
-    ensures { (address : ℕ) → site_at address (call_of (call_row operands.now))
+    ensures { (address : ℕ) → site_at address (callee_of (call_row operands.now))
         ≡ record { address = address; name = result.now } ∷ [] }
 {
     match operands {

@@ -12,10 +12,12 @@ use Rattle.mir_func.specs.Resolve.{resolve}
 use Rattle.mir_func.specs.Graph.{Here, Program, program_of}
 use Rattle.sem_mir.specs.State.{Core, State}
 use Rattle.sem_mir.specs.Align.{is_jump, moves_on, Count, ByItems, ByEnds, sync_point_at, AnyOrigin, RunsMatch, since_of, waits_at}
-use Rattle.sem_mir.specs.Follow.{KindFits, MarkFits, first_of, OnRow, IsStart, IsEnd}
+use Rattle.sem_mir.specs.InitialState.{first_of, IsInitialState}
+use Rattle.sem_mir.specs.Follow.{KindFits, MarkFits, OnRow, IsEnd}
 use Rattle.sem_mir.specs.Follow.{EndIsKept, EndComesFrom}
 use Rattle.pass_trait.specs.Change.{change}
-use Rattle.pass_salvage.proofs.Kin.{kin_fits, kin_marks, kin_goes, kin_end, kin_is_end, moves_after}
+use Rattle.pass_trait.proofs.NopFollows.{moves_after}
+use Rattle.pass_salvage.proofs.Kin.{kin_fits, kin_marks, kin_goes, kin_end, kin_is_end}
 use Rattle.pass_salvage.proofs.Edits.{Edits, BlocksEdited, item_back, item_on}
 use Rattle.pass_salvage.proofs.EditRuns.{Keeps, IsSteady, runs_edited}
 use Rattle.pass_salvage.proofs.EditFollows.{Allows, each_edited, end_is_code, debug_fits, among_edited, first_edited, length_edited, order_of}
@@ -63,8 +65,8 @@ module _ (E : Edits) (Q : E.Stage → Core → Core → Type 0) (allows : Allows
         }
 
     runs_new : (ct : Count) (first : ℕ) (stack : List Object) → ((k : ItemKind) → moves_on ct k ≡ is_jump k) →
-        ((s : State) → IsStart stack first s → RunsMatch srcp fp (sync_point_at ct fp) (AnyOrigin (sync_point_at ct fp)) s s) →
-        (s : State) → IsStart stack first s → RunsMatch srcp gp (sync_point_at ct gp) (AnyOrigin (sync_point_at ct gp)) s s
+        ((s : State) → IsInitialState stack first s → RunsMatch srcp fp (sync_point_at ct fp) (AnyOrigin (sync_point_at ct fp)) s s) →
+        (s : State) → IsInitialState stack first s → RunsMatch srcp gp (sync_point_at ct gp) (AnyOrigin (sync_point_at ct gp)) s s
     runs_new ct first stack counts runs s start =
         runs_edited E Q old.blocks new.blocks edited (resolve subs) (resolve subs') ct counts srcp s keeps allows.empty (steady ct counts) sound.blocks_apart
         shape.order (order_of E old.blocks new.blocks edited shape.order) sound.origins sound'.origins (ap (λ (p : Pos). p.item) start.pos)

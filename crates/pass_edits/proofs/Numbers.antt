@@ -29,7 +29,7 @@ all_second P (x ∷ xs) ys h = all_second P xs ys (All-tail P x (xs ++ ys) h)
 
 -- ---- the number of code
 
-once_tail : (x : Item) (xs : List Item) → NumbersOnce (x ∷ xs) → NumbersOnce xs
+pub once_tail : (x : Item) (xs : List Item) → NumbersOnce (x ∷ xs) → NumbersOnce xs
 once_tail x xs once i j y z k at c at' n = let e : suc i ≡ suc j = once (suc i) (suc j) y z k at c at' n in omega (arith, e)
 
 get_first : (xs ys : List Item) (j : ℕ) (d : Item) → j < length xs → slice_get (xs ++ ys) j ≡ Some (get_or xs j d)

@@ -4,7 +4,7 @@ use Rattle.std.proofs.lemmas.List.Elements.{All-nil, All-cons}
 use Rattle.rv64_instr.specs.Row.{Row, Loads, Stores, LoadsSlot, Calls, row_of}
 use Rattle.rv64_instr.specs.DefsAndUses.{reads}
 use Rattle.rv64_instr.specs.Arithmetic.{load_width, store_width}
-use Rattle.rv64_instr.specs.Parts.{is_call}
+use Rattle.rv64_instr.specs.LocationEffects.{is_call}
 use Rattle.mir_func.specs.declared.exit.Exit.{Exit}
 use Rattle.mir_func.specs.declared.exit.Exit.TheVariants.{Onward, Perhaps, Always, Final}
 use Rattle.mir_func.specs.declared.item.Item.{Item}
@@ -14,8 +14,8 @@ use Rattle.mir_func.specs.Exits.{row_exit, exit_of, IsAlways}
 use Rattle.mir_func.specs.Graph.{Program}
 use Rattle.mir_func.specs.Sound.{IsJumpAtMost, MayFollow, EndsWell}
 use Rattle.sem_mir.specs.State.{Core, Reply, writes_frame}
-use Rattle.sem_mir.specs.Step.{Outcome, Falls, Goes, Gives, Traps, Asks, Breaks, act, does, are_written, with_core, numbered, slot_loaded}
-use Rattle.sem_mir.specs.Step.{answered, read, do_item}
+use Rattle.sem_mir.specs.Step.{Outcome, Falls, Goes, Gives, Traps, Asks, Breaks, act, does, are_written, with_core, numbered, slot_loaded, called_at}
+use Rattle.sem_mir.specs.Step.{exec_external_call, read, do_item}
 use Rattle.sem_mir.specs.Step.{is_fault, address_at}
 use Rattle.pass_edits.specs.Edits.{IsMove}
 
@@ -35,8 +35,8 @@ does_nowhere (LoadsSlot rd n) c on t e h = by_slot (c.slots n) h where
   by_slot : (x : Option ℕ) → slot_loaded rd c x ≡ Goes t e → ⊥
   by_slot None h = cc
   by_slot (Some v) h = cc
-does_nowhere (Calls name args) c on t e h = by_script c.script h where
-  by_script : (rs : List Reply) → answered name (map (read c) args) c rs ≡ Goes t e → ⊥
+does_nowhere (Calls call) c on t e h = by_script c.script h where
+  by_script : (rs : List Reply) → exec_external_call (called_at c call.callee) (map (read c) call.args) c rs ≡ Goes t e → ⊥
   by_script [] h = cc
   by_script (r ∷ rest) h = by_test (writes_frame c.entry c.area r.writes) Traps (Falls _) (λ u d k. cc) (λ u d k. cc) t e h
 does_nowhere _ c on t e h = cc

@@ -17,7 +17,7 @@ use Rattle.mir_func.specs.Limits.{MAX_BLOCKS, MAX_SLOTS}
 use Rattle.mir_func.specs.Sound.{AreApart, AllItems, ids_of, OriginIn, TargetsIn, SlotsIn, ObjectsIn, LeavesPointer}
 use Rattle.mir_func.specs.Sound.{IsJumpAtMost, MayFollow}
 use Rattle.mir_func.specs.Sound.{EndsWell, Closes, LastCloses, IsSoundObject}
-use Rattle.sem_mir.specs.Align.{position_of}
+use Rattle.mir_func.specs.Positions.{position_of}
 use Rattle.pass_salvage.specs.Salvage.{phi_for}
 use Rattle.pass_edits.specs.Edits.{SameButNumber, same_code, same_kind, IsMove, AreEdited, no_items, stays, with_phi, goes}
 use Rattle.pass_edits.specs.Edits.{AreBlocksEdited, no_blocks, next_block, EditsKeepSound}

@@ -10,7 +10,8 @@ use Rattle.mir_func.specs.Graph.{Program, Here, block_start, program_of, Edge, L
 use Rattle.mir_func.specs.Resolve.{resolve}
 use Rattle.sem_mir.specs.State.{State}
 use Rattle.sem_mir.specs.Align.{ByItems, sync_point_at, AnyOrigin, RunsMatch}
-use Rattle.sem_mir.specs.Follow.{Among, InOrder, KindFits, MarkFits, OnRow, GoesTo, first_of, IsStart}
+use Rattle.sem_mir.specs.InitialState.{first_of, IsInitialState}
+use Rattle.sem_mir.specs.Follow.{Among, InOrder, KindFits, MarkFits, OnRow, GoesTo}
 use Rattle.pass_trait.specs.Change.{Change}
 use Rattle.pass_trait.specs.Simulation.{Source, EndsAsSource}
 
@@ -28,7 +29,7 @@ pub record LooseShape (src f : List Block) (srcp fp : Program) : Type 0 where
 pub record WeakSimulation (src : Source) (f : Function) (subs : List DebugSubstitution) : Type 0 where
   pub objects : f.objects ≡ src.function.objects
   pub shape : LooseShape src.function.blocks f.blocks (program_of true src.function.blocks (resolve src.subs)) (program_of false f.blocks (resolve subs))
-  pub runs : (s : State) → IsStart src.function.objects (first_of src.function.blocks) s →
+  pub runs : (s : State) → IsInitialState src.function.objects (first_of src.function.blocks) s →
       RunsMatch (program_of true src.function.blocks (resolve src.subs)) (program_of false f.blocks (resolve subs))
       (sync_point_at ByItems (program_of false f.blocks (resolve subs))) (AnyOrigin (sync_point_at ByItems (program_of false f.blocks (resolve subs)))) s s
 

@@ -4,7 +4,7 @@ use Rattle.std.specs.List.{sum_by}
 use Rattle.std.specs.Int.{bit_at}
 use Rattle.rv64_instr.specs.declared.place.Place.{Place}
 use Rattle.rv64_instr.specs.declared.place.Place.TheVariants.{Register, Slot, Const}
-use Rattle.rv64_instr.specs.Parts.{is_register}
+use Rattle.rv64_instr.specs.LocationEffects.{is_register}
 use Rattle.pass_liveness.specs.Index.{index_in}
 
 -- the number of words of a set: bits for 256 slots and 4,128 registers

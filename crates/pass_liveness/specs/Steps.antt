@@ -4,7 +4,7 @@ use Rattle.std.specs.List.{list_any}
 use Rattle.rv64_instr.specs.declared.operand.Operand.{Operand}
 use Rattle.rv64_instr.specs.declared.place.Place.{Place}
 use Rattle.rv64_instr.specs.declared.place.Place.TheVariants.{Register, Slot, Const}
-use Rattle.rv64_instr.specs.Parts.{is_implicit_use}
+use Rattle.rv64_instr.specs.LocationEffects.{is_implicit_use}
 use Rattle.rv64_instr.specs.Row.{Row}
 use Rattle.rv64_instr.specs.View.{Write, SetsNothing, SetsRegister, SetsSlot, Clobbers, write_of}
 

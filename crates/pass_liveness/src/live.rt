@@ -14,8 +14,8 @@ ghost use Rattle.pass_liveness.specs.Liveness.{AreLiveSets, DecidesIn, LivePast,
 use crate::index::Index;
 use crate::names::SlotAndBlockNumbers;
 use crate::set::PlaceSet;
-use base_ids::code::SlotId;
-use dataflow::fixpoint::Statistics;
+use base_ids::function_ids::SlotId;
+use dataflow::solver::Statistics;
 use mir_func::block::Block;
 use mir_func::func::Func;
 use mir_func::item::ItemKind;

@@ -13,10 +13,10 @@ ghost use Rattle.pass_liveness.specs.Solving.{IsKnownBlock, IsState, IsClosed, g
 
 use crate::names::SlotAndBlockNumbers;
 use crate::set::PlaceSet;
-use base_ids::code::BlockId;
-use dataflow::fixpoint::{Analysis, Statistics, solve};
+use base_ids::function_ids::BlockId;
 use dataflow::graph::predecessors;
 use dataflow::order::post_order;
+use dataflow::solver::{Analysis, Statistics, solve};
 use mir_func::block::Block;
 use mir_func::func::Func;
 use mir_func::item::Item;

@@ -4,7 +4,7 @@ ghost use Rattle.std.specs.Prelude.{◌≡◌, ◌<◌, ◌||◌, ◌&&◌, not,
 ghost use Rattle.rv64_instr.specs.declared.place.Place.{Place};
 ghost use Rattle.rv64_instr.specs.Row.{Row, row_of};
 ghost use Rattle.rv64_instr.specs.Decoded.{Shows};
-ghost use Rattle.rv64_instr.specs.Parts.{uses_of, defines_of};
+ghost use Rattle.rv64_instr.specs.LocationEffects.{uses_of, defines_of};
 ghost use Rattle.mir_func.specs.Sound.{SlotIn, SlotsIn};
 ghost use Rattle.pass_liveness.specs.Sets.{has};
 ghost use Rattle.pass_liveness.specs.Walk.{live_before};
@@ -35,8 +35,8 @@ fn place_defined(decoded: &Decoded) -> Option<Place>
         Decoded::Stores(_, _, _, _)
         | Decoded::Branches(_, _, _, _)
         | Decoded::Jumps(_)
-        | Decoded::Calls
-        | Decoded::Returns => None,
+        | Decoded::Calls(_)
+        | Decoded::Returns(_) => None,
     }
 }
 
@@ -60,11 +60,11 @@ impl SlotAndBlockNumbers {
         let decoded = i.decoded();
         let operands = i.operands.as_slice();
         match decoded {
-            Decoded::Calls => {
+            Decoded::Calls(_) => {
                 self.remove_registers(set, &CALLER_SAVED);
                 self.insert_implicit(set, operands);
             }
-            Decoded::Returns => self.insert_implicit(set, operands),
+            Decoded::Returns(_) => self.insert_implicit(set, operands),
             Decoded::Jumps(_)
             | Decoded::Branches(_, _, _, _)
             | Decoded::Fixes(_, _)
@@ -90,8 +90,8 @@ impl SlotAndBlockNumbers {
     {
         let decoded = i.decoded();
         match decoded {
-            Decoded::Calls => self.remove_registers(set, &CALLER_SAVED),
-            Decoded::Returns
+            Decoded::Calls(_) => self.remove_registers(set, &CALLER_SAVED),
+            Decoded::Returns(_)
             | Decoded::Jumps(_)
             | Decoded::Branches(_, _, _, _)
             | Decoded::StoresSlot(_, _)
@@ -112,7 +112,7 @@ impl SlotAndBlockNumbers {
     {
         let decoded = i.decoded();
         match decoded {
-            Decoded::Calls => self.insert_registers(set, &CALLER_SAVED),
+            Decoded::Calls(_) => self.insert_registers(set, &CALLER_SAVED),
             Decoded::Loads(_, _, _, _)
             | Decoded::LoadsSlot(_, _)
             | Decoded::Fixes(_, _)
@@ -122,7 +122,7 @@ impl SlotAndBlockNumbers {
             | Decoded::Stores(_, _, _, _)
             | Decoded::StoresSlot(_, _)
             | Decoded::Branches(_, _, _, _)
-            | Decoded::Returns
+            | Decoded::Returns(_)
             | Decoded::Jumps(_) => self.insert(set, place_defined(&decoded)),
         }
     }

@@ -5,7 +5,7 @@ ghost use Rattle.mir_func.specs.Sound.{ids_of};
 ghost use Rattle.dataflow.specs.Graph.{AreBlocks, IsGraph};
 
 use crate::names::SlotAndBlockNumbers;
-use base_ids::code::BlockId;
+use base_ids::function_ids::BlockId;
 use dataflow::graph::Ways;
 use mir_func::func::Func;
 use mir_func::successors::Successors;

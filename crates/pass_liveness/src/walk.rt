@@ -9,7 +9,7 @@ ghost use Rattle.pass_liveness.specs.Liveness.{has_at_start};
 
 use crate::names::SlotAndBlockNumbers;
 use crate::set::PlaceSet;
-use base_ids::code::BlockId;
+use base_ids::function_ids::BlockId;
 use mir_func::exit::Exit;
 use mir_func::item::Item;
 

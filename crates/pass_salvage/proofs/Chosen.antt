@@ -13,7 +13,7 @@ use Rattle.mir_func.specs.declared.position.Origin.{Origin}
 use Rattle.mir_func.specs.declared.location.Loc.{Loc}
 use Rattle.rv64_instr.specs.Instruction.{Instruction}
 use Rattle.rv64_instr.specs.Row.{row_of}
-use Rattle.rv64_instr.specs.Parts.{is_call}
+use Rattle.rv64_instr.specs.LocationEffects.{is_call}
 use Rattle.pass_trait.specs.Rule.{item}
 use Rattle.pass_salvage.specs.SalvageAction.{has_entry, or_fresh, last_definition, first_definition, may_stand}
 use Rattle.pass_salvage.specs.SalvageAction.{action_by, action_of_kind, action_at, action_from, salvage_action}

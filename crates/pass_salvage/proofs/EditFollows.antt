@@ -15,16 +15,18 @@ use Rattle.mir_func.specs.declared.item.ItemKind.TheVariants.{Code, Mark, Phi}
 use Rattle.mir_func.specs.Function.{Function}
 use Rattle.mir_func.specs.Sound.{IsSound}
 use Rattle.mir_func.specs.Resolve.{resolve}
-use Rattle.rv64_instr.specs.Parts.{IsSlotStore}
+use Rattle.rv64_instr.specs.LocationEffects.{IsSlotStore}
 use Rattle.mir_func.specs.Graph.{Here, Program, KindEdge, below, program_of}
 use Rattle.sem_mir.specs.State.{Core, State}
 use Rattle.sem_mir.specs.Align.{is_code, is_jump, moves_on, Count, ByItems, ByEnds, sync_point_at, AnyOrigin, RunsMatch, since_of, waits_at}
-use Rattle.sem_mir.specs.Follow.{KindFits, MarkFits, InOrder, Among, none, same, left, first_of, OnRow, GoesTo, Counts, Shape, IsStart, IsEnd}
+use Rattle.sem_mir.specs.InitialState.{first_of, IsInitialState}
+use Rattle.sem_mir.specs.Follow.{KindFits, MarkFits, InOrder, Among, none, same, left, OnRow, GoesTo, Counts, Shape, IsEnd}
 use Rattle.sem_mir.specs.Follow.{KindsEndAlike}
 use Rattle.sem_mir.specs.Follow.{EndIsKept, EndComesFrom, IsMetApart}
 use Rattle.pass_trait.specs.Change.{change}
 use Rattle.pass_trait.specs.Simulation.{PreservesSimulation}
-use Rattle.pass_salvage.proofs.Kin.{Kin, kin_fits, kin_marks, kin_goes, kin_end, kin_is_end, moves_after}
+use Rattle.pass_trait.proofs.NopFollows.{moves_after}
+use Rattle.pass_salvage.proofs.Kin.{Kin, kin_fits, kin_marks, kin_goes, kin_end, kin_is_end}
 use Rattle.pass_salvage.proofs.Edits.{Edits, Edited, over, pair, out, put, BlocksEdited, no_blocks, next_block, order_edited, item_back, item_on}
 use Rattle.pass_salvage.proofs.EditRuns.{Keeps, IsSteady, runs_edited}
 use Rattle.pass_salvage.proofs.EditPaths.{stores_on}
@@ -146,8 +148,8 @@ module _ (E : Edits) (Q : E.Stage → Core → Core → Type 0) (allows : Allows
         }
 
     pub runs_new : (ct : Count) (first : ℕ) (stack : List Object) → ((k : ItemKind) → moves_on ct k ≡ is_jump k) →
-        ((s : State) → IsStart stack first s → RunsMatch srcp fp (sync_point_at ct fp) (AnyOrigin (sync_point_at ct fp)) s s) →
-        (s : State) → IsStart stack first s → RunsMatch srcp gp (sync_point_at ct gp) (AnyOrigin (sync_point_at ct gp)) s s
+        ((s : State) → IsInitialState stack first s → RunsMatch srcp fp (sync_point_at ct fp) (AnyOrigin (sync_point_at ct fp)) s s) →
+        (s : State) → IsInitialState stack first s → RunsMatch srcp gp (sync_point_at ct gp) (AnyOrigin (sync_point_at ct gp)) s s
     runs_new ct first stack counts runs s start =
         runs_edited E Q old.blocks new.blocks edited (resolve subs) (resolve subs') ct counts srcp s keeps allows.empty (steady ct counts) sound.blocks_apart
         shape.order

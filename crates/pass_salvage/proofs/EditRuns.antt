@@ -9,10 +9,11 @@ use Rattle.mir_func.specs.declared.item.Item.{Item}
 use Rattle.mir_func.specs.declared.item.ItemKind.{ItemKind}
 use Rattle.mir_func.specs.Sound.{AreApart, ids_of, OriginIn}
 use Rattle.mir_func.specs.Graph.{Program, block_start, from_block, index_of, program_of}
+use Rattle.mir_func.specs.Positions.{position_of}
 use Rattle.sem_mir.specs.State.{Core, State}
 use Rattle.sem_mir.specs.Step.{Outcome, Falls, Goes, Gives, Traps, Asks, Breaks, do_item}
 use Rattle.sem_mir.specs.Effects.{EndAlike, FallsInto}
-use Rattle.sem_mir.specs.Align.{position_of, is_code, is_jump, Count, moves_on, end_sync_point, sync_point_of, sync_point_at, IsOrigin, AnyOrigin}
+use Rattle.sem_mir.specs.Align.{is_code, is_jump, Count, moves_on, end_sync_point, sync_point_of, sync_point_at, IsOrigin, AnyOrigin}
 use Rattle.sem_mir.specs.Align.{RunsMatch, SyncPoint, After}
 use Rattle.sem_mir.specs.Follow.{InOrder}
 use Rattle.sem_simulation.specs.MatchStates.{Sides, MatchStates, ShowsSame, OutcomesAlike, since_item}

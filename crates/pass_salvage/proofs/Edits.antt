@@ -9,10 +9,12 @@ use Rattle.mir_func.specs.declared.position.Origin.TheVariants.{Kept, Before}
 use Rattle.mir_func.specs.declared.block.Block.{Block}
 use Rattle.mir_func.specs.declared.item.Item.{Item}
 use Rattle.mir_func.specs.Graph.{Here, EndOfBlock, Program, block_start, end_of, front, fetch_in, from_block, program_of}
-use Rattle.sem_mir.specs.Align.{position_of, is_code}
+use Rattle.mir_func.specs.Positions.{position_of}
+use Rattle.sem_mir.specs.Align.{is_code}
 use Rattle.sem_mir.specs.Follow.{rank, next_rank, InOrder}
 use Rattle.sem_mir.proofs.Reading.{found_in}
 use Rattle.sem_simulation.proofs.Laid.{rest_in, rest_of}
+use Rattle.pass_trait.proofs.Thinning.{first_of_front, none_of_front, drop_all}
 use Rattle.pass_salvage.proofs.Kin.{Kin}
 
 -- how one item is edited, from one stage to the next: which item stands for it, whether it may be taken out, and what may be put
@@ -40,19 +42,6 @@ pub data BlocksEdited (E : Edits) : List Block → List Block → Type 0 where
       BlocksEdited E (a ∷ fs) (b ∷ gs)
 
 -- ---- lists
-
-pub first_of_front : (xs : List Item) (k : ℕ) (bs : List Block) (y : Item) → front xs k bs ≡ Here y → (more : List Item) × (xs ≡ y ∷ more)
-first_of_front [] k [] y e = cc
-first_of_front [] k (b ∷ bs) y e = cc
-first_of_front (x ∷ xs) k bs y e = let w : x ≡ y = cc in (xs, λ i. w i ∷ xs)
-
-pub none_of_front : (xs : List Item) (k : ℕ) (bs : List Block) (j n : ℕ) → front xs k bs ≡ EndOfBlock j n → (xs ≡ []) × (end_of k bs ≡ EndOfBlock j n)
-none_of_front [] k bs j n e = (refl, e)
-none_of_front (x ∷ xs) k bs j n e = cc
-
-drop_all : {A : Type 0} (xs : List A) → drop (length xs) xs ≡ []
-drop_all [] = refl
-drop_all (x ∷ xs) = drop_all xs
 
 drop_zero : (xs : List Item) → drop 0 xs ≡ xs
 drop_zero [] = refl

@@ -1,9 +1,9 @@
 -- Code that keeps its kind, and where control goes from it.
-use Rattle.std.proofs.Common.{◌≡◌, ◌⊎◌, inl, inr, ℕ, [], ◌∷◌, Option, Some, None, Bool, true, false, cond, refl, sym, ap}
+use Rattle.std.proofs.Common.{◌≡◌, ◌⊎◌, inl, inr, ℕ, [], Option, refl, sym}
 use Rattle.std.proofs.Common.{◌∙◌, subst}
 use Rattle.rv64_instr.specs.Instruction.{Instruction}
-use Rattle.rv64_instr.specs.Row.{Row, Fixes, LoadsSlot, StoresSlot, Branches, Jumps, Returns, Unfit, row_of}
-use Rattle.rv64_instr.specs.Parts.{is_call, IsSlotStore}
+use Rattle.rv64_instr.specs.Row.{Row, Branches, Jumps, Returns, Unfit, row_of}
+use Rattle.rv64_instr.specs.LocationEffects.{IsSlotStore}
 use Rattle.mir_func.specs.declared.position.Origin.{Origin}
 use Rattle.mir_func.specs.declared.position.Origin.TheVariants.{Kept, Before}
 use Rattle.mir_func.specs.declared.item.ItemKind.{ItemKind}
@@ -14,9 +14,7 @@ use Rattle.mir_func.specs.declared.variable.MarkValue.TheVariants.{Nothing}
 use Rattle.rv64_instr.specs.declared.place.Place.{Place}
 use Rattle.mir_func.specs.declared.position.Pos.{Pos}
 use Rattle.mir_func.specs.Graph.{Program, Fetch, Here, EndOfBlock, Outside, RowEdge, KindEdge, below, block_start}
-use Rattle.sem_mir.specs.State.{Core}
-use Rattle.sem_mir.specs.Step.{Falls, Goes, Traps, act, does, slot_loaded, with_core, are_written, numbered, do_item}
-use Rattle.sem_mir.specs.Align.{is_code, is_jump, is_jump_row, waits_at, moves_on, Count, After, since_of}
+use Rattle.sem_mir.specs.Align.{is_code, is_jump, is_jump_row}
 use Rattle.sem_mir.specs.Follow.{MayAdd, HasClass, ItemHasClass, RowFits, KindFits, MarkFits, OnRow, GoesTo, SameEnd, IsEnd, KindsEndAlike}
 use Rattle.rv64_instr.specs.View.{class_of}
 
@@ -39,7 +37,7 @@ row_edge : (r : Row) (p q p' : Pos) → RowEdge (λ n. n) r p q → GoesAlike (R
 row_edge (Branches op a b t) p q p' e =
     elim e as (λ _. GoesAlike (RowEdge (λ n. n) (Branches op a b t)) p q p') [ inl k ↦ inr (t, k, inl refl) | inr k ↦ inl (k, inr refl) ]
 row_edge (Jumps t) p q p' e = inr (t, e, refl)
-row_edge (Returns results) p q p' e = absurd e
+row_edge (Returns ending) p q p' e = absurd e
 row_edge Unfit p q p' e = absurd e
 row_edge _ p q p' e = inl (e, refl)
 
@@ -132,31 +130,3 @@ pub kin_edge : (k l : ItemKind) → Kin k l → (p q p' : Pos) → KindEdge (λ 
 kin_edge k l (code_kin h) p q p' e = h.edge p q p' e
 kin_edge k l (mark_kin h) p q p' e = inl (e, refl)
 kin_edge k l phi_kin p q p' e = inl (e, refl)
-
--- ---- where the source moves on
-
--- added code goes elsewhere only if it is a jump
-added_goes : (r : Row) (item source_end : ℕ) (k : Core → Core) (c c' : Core) (n : ℕ) → MayAdd r item source_end → with_core k (act r c) ≡ Goes n c' →
-    is_jump_row r ≡ true
-added_goes (Fixes rd m) item source_end k c c' n may e = unfold act in unfold does in cc
-added_goes (LoadsSlot rd m) item source_end k c c' n may e = unfold act in unfold does in by_slot (c.slots m) e where
-  by_slot : (v : Option ℕ) → with_core k (slot_loaded rd c v) ≡ Goes n c' → false ≡ true
-  by_slot None e = cc
-  by_slot (Some v) e = cc
-added_goes (StoresSlot rs m) item source_end k c c' n may e = unfold act in unfold does in either (are_written c (rs ∷ [])) _ e where
-  either : (z : Bool) (x : Core) → with_core k (cond z (Falls x) Traps) ≡ Goes n c' → false ≡ true
-  either true x e = cc
-  either false x e = cc
-added_goes (Jumps t) item source_end k c c' n may e = refl
-added_goes _ item source_end k c c' n may e = absurd may
-
--- so code of a function that follows a source goes elsewhere only where the source moves on after it
-pub moves_after : (ct : Count) (src : Program) (f : Program) (k : ItemKind) (o : Origin) (source_end : ℕ) → ((k : ItemKind) → moves_on ct k ≡ is_jump k) →
-    KindFits src k source_end o →
-    (c c' : Core) (n : ℕ) → do_item f k c ≡ Goes n c' → since_of (waits_at (moves_on ct k) o) ≡ After
-moves_after ct src f k (Kept p) source_end counts fits c c' n e = refl
-moves_after ct src f (Code i m) (Before p) source_end counts fits c c' n e =
-    let j : is_jump_row (row_of i) ≡ true = added_goes (row_of i) p.item source_end (numbered f.sees_pointer (is_call (row_of i)) m i.operands) c c' n fits e in
-    ap (λ (z : Bool). since_of (waits_at z (Before p))) (counts (Code i m) ∙ j)
-moves_after ct src f (Mark v m) (Before p) source_end counts fits c c' n e = cc
-moves_after ct src f (Phi q m) (Before p) source_end counts fits c c' n e = cc

@@ -7,7 +7,7 @@ use Rattle.rv64_instr.specs.declared.place.Place.{Place}
 use Rattle.rv64_instr.specs.declared.place.Place.TheVariants.{Register}
 use Rattle.rv64_instr.specs.Instruction.{Instruction}
 use Rattle.rv64_instr.specs.Row.{Moves, row_of}
-use Rattle.rv64_instr.specs.Parts.{is_call, set_by, moved_by}
+use Rattle.rv64_instr.specs.LocationEffects.{is_call, set_by, moved_by}
 use Rattle.mir_func.specs.declared.debug_substitution.OperandPair.{OperandPair}
 use Rattle.mir_func.specs.declared.position.Origin.{Origin}
 use Rattle.mir_func.specs.declared.location.Loc.{Loc}

@@ -19,7 +19,7 @@ ghost use Rattle.pass_salvage.specs.Above.{IsIndexOf, is_past, later, moved};
 
 use crate::salvage::entry_for;
 use crate::salvage_action::has_entry;
-use base_ids::code::{DebugNumber, OperandIndex};
+use base_ids::function_ids::{DebugNumber, OperandIndex};
 use mir_func::debug_substitution::OperandPair;
 use mir_func::item::{Item, ItemKind};
 use mir_func::variable::MarkValue;
@@ -165,12 +165,12 @@ fn push_code(
         Decoded::Addresses(rd, _, _) => put_all(table, &[rd.number()], at),
         Decoded::Loads(rd, _, _, _) => put_all(table, &[rd.number()], at),
         Decoded::LoadsSlot(rd, _) => put_all(table, &[rd.number()], at),
-        Decoded::Calls => put_all(table, &CALLER_SAVED, at),
+        Decoded::Calls(_) => put_all(table, &CALLER_SAVED, at),
         Decoded::Stores(_, _, _, _)
         | Decoded::StoresSlot(_, _)
         | Decoded::Branches(_, _, _, _)
         | Decoded::Jumps(_)
-        | Decoded::Returns => Ok(()),
+        | Decoded::Returns(_) => Ok(()),
     }
 }
 

@@ -14,7 +14,7 @@ use crate::salvage::entry_for;
 use crate::salvage_action::{
     SalvageAction, action_unless, ask_for, first_definition, has_entry, is_among, last_definition,
 };
-use base_ids::code::{DebugNumber, OperandIndex};
+use base_ids::function_ids::{DebugNumber, OperandIndex};
 use mir_func::item::{Item, ItemKind};
 use mir_substitution::substitutions::Substitutions;
 use rv64_instr::reg::Reg;

@@ -9,7 +9,7 @@ ghost use Rattle.pass_salvage.specs.Lookup.{IsLookupOf};
 
 use crate::lookup::{Lookup, choose_way};
 use crate::salvage_action::SalvageAction;
-use base_ids::code::{DebugNumber, OperandIndex};
+use base_ids::function_ids::{DebugNumber, OperandIndex};
 use mir_func::debug_substitution::{DebugSubstitution, OperandPair};
 use mir_func::item::{Item, ItemKind};
 use mir_func::location::Loc;

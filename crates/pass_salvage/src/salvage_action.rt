@@ -4,14 +4,14 @@ ghost use Rattle.std.specs.Prelude.{◌≡◌, ◌<◌, ◌&&◌, Some, nat_eq, 
 ghost use Rattle.std.specs.List.{list_any};
 ghost use Rattle.rv64_instr.specs.declared.place.Place.TheVariants as place;
 ghost use Rattle.rv64_instr.specs.Row.{row_of};
-ghost use Rattle.rv64_instr.specs.Parts.{is_call};
+ghost use Rattle.rv64_instr.specs.LocationEffects.{is_call};
 ghost use Rattle.sem_mir.specs.Step.{defined};
 ghost use Rattle.pass_trait.specs.Causes.{defines};
 ghost use Rattle.pass_salvage.specs.SalvageAction.{last_definition, is_register, first_definition, asks_for, has_entry};
 ghost use Rattle.pass_salvage.specs.SalvageAction.{or_fresh};
 ghost use Rattle.pass_salvage.specs.Above.{action_unless};
 
-use base_ids::code::{DebugNumber, OperandIndex};
+use base_ids::function_ids::{DebugNumber, OperandIndex};
 use mir_func::debug_substitution::OperandPair;
 use mir_func::item::{Item, ItemKind};
 use mir_func::variable::MarkValue;
@@ -143,6 +143,7 @@ fn is_definition(call: bool, s: Reg, operand: &Operand) -> bool
         | Operand::Imm(_)
         | Operand::Slot(_)
         | Operand::Object(_)
+        | Operand::Part(_, _)
         | Operand::Block(_)
         | Operand::Symbol(_)
         | Operand::Mask => false,

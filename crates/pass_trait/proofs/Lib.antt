@@ -1,11 +1,11 @@
 pub mod Composition
 mod Growth
-mod Thinning
+pub mod Thinning
 mod NopRuns
-mod NopFollows
-mod NopSound
+pub mod NopFollows
+pub mod NopSound
 mod NopCode
-mod NopSizes
+pub mod NopSizes
 pub mod NopDebug
 pub mod InPlaceMap
 mod LostNumbers

@@ -22,7 +22,8 @@ use Rattle.mir_func.specs.declared.item.ItemKind.TheVariants.{Code, Mark, Phi}
 use Rattle.mir_func.specs.Function.{Function}
 use Rattle.mir_func.specs.Sound.{ids_of, items_of, code_number, OriginIn, IsSound}
 use Rattle.mir_func.specs.Graph.{Here, fetch_in, from_block}
-use Rattle.sem_mir.specs.Align.{position_of, is_code}
+use Rattle.mir_func.specs.Positions.{position_of, is_same_position}
+use Rattle.sem_mir.specs.Align.{is_code}
 use Rattle.sem_mir.proofs.Reading.{found, found_in, front_item, item_front, within_list}
 use Rattle.pass_trait.specs.declared.loss.Reason.TheVariants.{Removed}
 use Rattle.pass_trait.specs.declared.loss.Lost.TheVariants as lost
@@ -30,7 +31,7 @@ use Rattle.pass_trait.specs.declared.loss.Loss.{Loss}
 use Rattle.pass_trait.specs.Change.{Change}
 use Rattle.pass_trait.specs.Order.{IsInOrder}
 use Rattle.pass_trait.specs.Rule.{IsCopy, number_lost, item, StandsAt}
-use Rattle.pass_trait.specs.Causes.{is_position, is_origin, IsRemoved, HasCause, code_removed}
+use Rattle.pass_trait.specs.Causes.{is_origin, IsRemoved, HasCause, code_removed}
 use Rattle.pass_trait.specs.Debug.{RegisterStays, ValueStays, PlaceStays, IsKillAt, Becomes, mark_stays, phi_stays, code_stays, code_unnumbered, code_goes}
 use Rattle.pass_trait.specs.Debug.{number_goes, BecomeAll, over, next, BlocksBecome, none, stays as block_stays, IsLoss, IsFor, KeepsItems}
 use Rattle.pass_trait.specs.Steps.{KeepsSteps}
@@ -148,10 +149,10 @@ no_copy : (r : Row) → is_nop_row r ≡ true → IsCopy r → ⊥
 no_copy (Moves rd rs) e h = cc
 no_copy _ e h = absurd h
 
-pub same_position : (p : Pos) → is_position p p ≡ true
+pub same_position : (p : Pos) → is_same_position p p ≡ true
 same_position p = let a = eq-eqb p.block p.block refl in let b = eq-eqb p.item p.item refl in λ i. a i && b i
 
-same_origin : (o : Origin) → is_origin o o ≡ true
+pub same_origin : (o : Origin) → is_origin o o ≡ true
 same_origin (Kept p) = same_position p
 same_origin (Before p) = same_position p
 

@@ -22,11 +22,12 @@ use Rattle.mir_func.specs.Function.{Function}
 use Rattle.mir_func.specs.Sound.{items_of, number_of, NumbersOnce, OriginIn, IsSound}
 use Rattle.sem_mir.specs.State.{Core, State}
 use Rattle.sem_mir.specs.Step.{Falls, Goes, Traps, act, does, slot_loaded, with_core, are_written, numbered, do_item}
-use Rattle.rv64_instr.specs.Parts.{is_call, IsSlotStore}
+use Rattle.rv64_instr.specs.LocationEffects.{is_call, IsSlotStore}
 use Rattle.mir_func.specs.Graph.{Here, Program, fetch_in, from_block, program_of}
 use Rattle.mir_func.specs.Resolve.{resolve}
 use Rattle.sem_mir.specs.Align.{is_jump, is_jump_row, waits_at, moves_on, Count, ByItems, ByEnds, sync_point_at, AnyOrigin, RunsMatch, After, since_of}
-use Rattle.sem_mir.specs.Follow.{MayAdd, KindFits, MarkFits, InOrder, next_rank, Among, none, same, left, first_of, OnRow, GoesTo, Shape, IsStart, SameEnd}
+use Rattle.sem_mir.specs.InitialState.{first_of, IsInitialState}
+use Rattle.sem_mir.specs.Follow.{MayAdd, KindFits, MarkFits, InOrder, next_rank, Among, none, same, left, OnRow, GoesTo, Shape, SameEnd}
 use Rattle.sem_mir.specs.Follow.{IsEnd, KindsEndAlike, EndIsKept, EndComesFrom}
 use Rattle.sem_mir.proofs.Reading.{found_in, front_item, within_list}
 use Rattle.sem_simulation.proofs.Order.{rank_next}
@@ -37,7 +38,7 @@ use Rattle.pass_trait.specs.Nops.{is_nop_row, is_nop, is_save_row, is_added_save
 use Rattle.pass_trait.proofs.Thinning.{thin, item_from, item_to}
 use Rattle.pass_trait.proofs.NopRuns.{IsGone, IsSteady, nops_run}
 
-order_less : (b n m : ℕ) (xs : List Item) → n ≤ m → InOrder b m xs → InOrder b n xs
+pub order_less : (b n m : ℕ) (xs : List Item) → n ≤ m → InOrder b m xs → InOrder b n xs
 order_less b n m [] le o = tt
 order_less b n m (x ∷ xs) le o = (o.0, le_trans le o.1, o.2)
 
@@ -99,7 +100,7 @@ end_stays (Mark v m) l h = absurd h
 end_stays (Phi p m) l h = absurd h
 
 -- added code goes elsewhere only if it is a jump
-added_goes : (r : Row) (item source_end : ℕ) (k : Core → Core) (c c' : Core) (n : ℕ) → MayAdd r item source_end → with_core k (act r c) ≡ Goes n c' →
+pub added_goes : (r : Row) (item source_end : ℕ) (k : Core → Core) (c c' : Core) (n : ℕ) → MayAdd r item source_end → with_core k (act r c) ≡ Goes n c' →
     is_jump_row r ≡ true
 added_goes (Fixes rd m) item source_end k c c' n may e = unfold act in unfold does in cc
 added_goes (LoadsSlot rd m) item source_end k c c' n may e = unfold act in unfold does in by_slot (c.slots m) e where
@@ -114,7 +115,7 @@ added_goes (Jumps t) item source_end k c c' n may e = refl
 added_goes _ item source_end k c c' n may e = absurd may
 
 -- so code of a function that follows a source goes elsewhere only where the source moves on after it
-moves_after : (ct : Count) (src : Program) (f : Program) (k : ItemKind) (o : Origin) (source_end : ℕ) → ((k : ItemKind) → moves_on ct k ≡ is_jump k) →
+pub moves_after : (ct : Count) (src : Program) (f : Program) (k : ItemKind) (o : Origin) (source_end : ℕ) → ((k : ItemKind) → moves_on ct k ≡ is_jump k) →
     KindFits src k source_end o →
     (c c' : Core) (n : ℕ) → do_item f k c ≡ Goes n c' → since_of (waits_at (moves_on ct k) o) ≡ After
 moves_after ct src f k (Kept p) source_end counts fits c c' n e = refl
@@ -248,8 +249,8 @@ module _ (f : Function) (sound : IsSound f) (src : List Block) (srcp : Program) 
     }
 
     runs_new : (ct : Count) (objects : List Object) → ((k : ItemKind) → moves_on ct k ≡ is_jump k) →
-        ((s : State) → IsStart objects (first_of src) s → RunsMatch srcp fp (sync_point_at ct fp) (AnyOrigin (sync_point_at ct fp)) s s) →
-        (s : State) → IsStart objects (first_of src) s → RunsMatch srcp gp (sync_point_at ct gp) (AnyOrigin (sync_point_at ct gp)) s s
+        ((s : State) → IsInitialState objects (first_of src) s → RunsMatch srcp fp (sync_point_at ct fp) (AnyOrigin (sync_point_at ct fp)) s s) →
+        (s : State) → IsInitialState objects (first_of src) s → RunsMatch srcp gp (sync_point_at ct gp) (AnyOrigin (sync_point_at ct gp)) s s
     runs_new ct objects counts runs s start =
         nops_run false f.blocks resolve ct srcp s (steady ct counts) sound.blocks_apart shape.order order_new sound.origins origins_new
         (ap (λ (p : Pos). p.item) start.pos) (tells_itself s.core, λ k o gone. start.pairs k o) (runs s start)

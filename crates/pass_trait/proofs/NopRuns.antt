@@ -14,7 +14,7 @@ use Rattle.mir_func.specs.declared.item.ItemKind.TheVariants.{Code, Mark, Phi}
 use Rattle.mir_func.specs.Sound.{AreApart, ids_of, items_of, number_of, code_number, OriginIn}
 use Rattle.sem_mir.specs.State.{Core, State, updated}
 use Rattle.sem_mir.specs.Step.{Outcome, Falls, Goes, Gives, Traps, Asks, Breaks, act, does, with_core, numbered, given, defined, place_value, do_item}
-use Rattle.rv64_instr.specs.Parts.{is_call}
+use Rattle.rv64_instr.specs.LocationEffects.{is_call}
 use Rattle.mir_func.specs.Graph.{Program, block_start, from_block, index_of, program_of}
 use Rattle.sem_mir.specs.Align.{is_code, is_jump, is_jump_row, Count, end_sync_point, sync_point_at, IsOrigin, Since, After, AnyOrigin, RunsMatch}
 use Rattle.sem_mir.specs.Follow.{InOrder}

@@ -10,9 +10,10 @@ use Rattle.mir_func.specs.Function.{Function}
 use Rattle.mir_func.specs.Limits.{MAX_BLOCKS, MAX_SLOTS}
 use Rattle.mir_func.specs.Sound.{items_of}
 use Rattle.mir_func.specs.SoundFrame.{HasPhysical}
+use Rattle.mir_func.specs.Calls.{is_call_kind}
 use Rattle.sem_mir.specs.Align.{is_code}
 use Rattle.pass_trait.specs.Change.{change}
-use Rattle.pass_trait.specs.Sizes.{greatest, most_numbers, numbers_of, calls, KeepsSizes}
+use Rattle.pass_trait.specs.Sizes.{greatest, most_numbers, numbers_of, KeepsSizes}
 use Rattle.pass_trait.specs.Nops.{stays, thinned_blocks}
 use Rattle.pass_trait.proofs.NopFollows.{each_left}
 use Rattle.pass_trait.proofs.NopSound.{items_thin}
@@ -39,14 +40,14 @@ length_thin : (keep : Item → Bool) (xs : List Item) → length (filter keep xs
 length_thin keep xs = let e = length-filter keep xs in let h = count_by-le-length keep xs in omega (arith, e, h)
 
 -- numbers that are left are no greater
-greatest_more : (n : ℕ) (ns ms : List ℕ) → greatest ns ≤ greatest ms → greatest (n ∷ ns) ≤ greatest (n ∷ ms)
+pub greatest_more : (n : ℕ) (ns ms : List ℕ) → greatest ns ≤ greatest ms → greatest (n ∷ ns) ≤ greatest (n ∷ ms)
 greatest_more n ns ms h = max-le (le-max_left n (greatest ms)) (le_trans h (le-max_right n (greatest ms)))
 
-greatest_front : (ls ns ms : List ℕ) → greatest ns ≤ greatest ms → greatest (ls ++ ns) ≤ greatest (ls ++ ms)
+pub greatest_front : (ls ns ms : List ℕ) → greatest ns ≤ greatest ms → greatest (ls ++ ns) ≤ greatest (ls ++ ms)
 greatest_front [] ns ms h = h
 greatest_front (l ∷ ls) ns ms h = greatest_more l (ls ++ ns) (ls ++ ms) (greatest_front ls ns ms h)
 
-greatest_past : (ls ns ms : List ℕ) → greatest ns ≤ greatest ms → greatest ns ≤ greatest (ls ++ ms)
+pub greatest_past : (ls ns ms : List ℕ) → greatest ns ≤ greatest ms → greatest ns ≤ greatest (ls ++ ms)
 greatest_past [] ns ms h = h
 greatest_past (l ∷ ls) ns ms h = le_trans (greatest_past ls ns ms h) (le-max_right l (greatest (ls ++ ms)))
 
@@ -76,7 +77,8 @@ sizes_thin busy f subs =
       items = subst (λ (ys : List Item). length ys ≤ 1 * (length xs + MAX_BLOCKS * 0)) (sym e) (let k = length_thin keep xs in omega (arith, k));
       code = subst (λ (ys : List Item). count_by (λ i. is_code i.kind) ys ≤ 1 * (count_by (λ i. is_code i.kind) xs + MAX_BLOCKS * 0)) (sym e)
           (let k = count_thin (λ i. is_code i.kind) keep xs in omega (arith, k));
-      calls = subst (λ (ys : List Item). count_by (λ i. calls i.kind) ys ≤ count_by (λ i. calls i.kind) xs) (sym e) (count_thin (λ i. calls i.kind) keep xs);
+      calls = subst (λ (ys : List Item). count_by (λ i. is_call_kind i.kind) ys ≤ count_by (λ i. is_call_kind i.kind) xs) (sym e)
+          (count_thin (λ i. is_call_kind i.kind) keep xs);
       physical = λ h. each_left keep (λ b i. HasPhysical i.kind) (λ b i. HasPhysical i.kind) (λ b i k. k) f.blocks h;
       numbers = le_trans (subst (λ (ys : List Item). greatest (flat_map (λ i. numbers_of i.kind) ys ++ entries) ≤ greatest
           (flat_map (λ i. numbers_of i.kind) xs ++ entries)) (sym e) (numbers_thin (λ i. numbers_of i.kind) keep xs entries))

@@ -72,7 +72,7 @@ leaving_stays (Code i n) h = by_row (row_of i) h where
 leaving_stays (Mark v m) h = refl
 leaving_stays (Phi p m) h = refl
 
-always_leaves : (e : Exit) → IsAlways e → Leaves e
+pub always_leaves : (e : Exit) → IsAlways e → Leaves e
 always_leaves (Always n) h = tt
 always_leaves _ h = absurd h
 

@@ -8,16 +8,16 @@ use Rattle.mir_func.specs.Graph.{Here, EndOfBlock, Program, block_start, end_of,
 use Rattle.sem_simulation.proofs.Laid.{rest_in, rest_of}
 
 -- the first of what is left from an index on
-first_of_front : (xs : List Item) (k : ℕ) (bs : List Block) (y : Item) → front xs k bs ≡ Here y → (more : List Item) × (xs ≡ y ∷ more)
+pub first_of_front : (xs : List Item) (k : ℕ) (bs : List Block) (y : Item) → front xs k bs ≡ Here y → (more : List Item) × (xs ≡ y ∷ more)
 first_of_front [] k [] y e = cc
 first_of_front [] k (b ∷ bs) y e = cc
 first_of_front (x ∷ xs) k bs y e = let w : x ≡ y = cc in (xs, λ i. w i ∷ xs)
 
-none_of_front : (xs : List Item) (k : ℕ) (bs : List Block) (j n : ℕ) → front xs k bs ≡ EndOfBlock j n → (xs ≡ []) × (end_of k bs ≡ EndOfBlock j n)
+pub none_of_front : (xs : List Item) (k : ℕ) (bs : List Block) (j n : ℕ) → front xs k bs ≡ EndOfBlock j n → (xs ≡ []) × (end_of k bs ≡ EndOfBlock j n)
 none_of_front [] k bs j n e = (refl, e)
 none_of_front (x ∷ xs) k bs j n e = cc
 
-drop_all : {A : Type 0} (xs : List A) → drop (length xs) xs ≡ []
+pub drop_all : {A : Type 0} (xs : List A) → drop (length xs) xs ≡ []
 drop_all [] = refl
 drop_all (x ∷ xs) = drop_all xs
 

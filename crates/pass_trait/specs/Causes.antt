@@ -4,13 +4,14 @@ use Rattle.std.specs.Prelude.{◌≡◌, ◌⊎◌, ℕ, ◌+◌, ◌<◌, ◌�
 use Rattle.std.specs.Prelude.{not, ◌&&◌, nat_eq}
 use Rattle.std.specs.List.{list_any}
 use Rattle.rv64_instr.specs.declared.operand.Operand.{Operand}
-use Rattle.rv64_instr.specs.declared.operand.Operand.TheVariants.{Def, Use, ImplicitDef, ImplicitUse, Imm, Slot as OfSlot, Object as OfObject, Block as OfBlock}
+use Rattle.rv64_instr.specs.declared.operand.Operand.TheVariants.{Def, Use, ImplicitDef, ImplicitUse}
+use Rattle.rv64_instr.specs.declared.operand.Operand.TheVariants.{Imm, Slot as OfSlot, Object as OfObject, Part, Block as OfBlock}
 use Rattle.rv64_instr.specs.declared.operand.Operand.TheVariants.{Symbol, Mask}
 use Rattle.rv64_instr.specs.declared.place.Place.{Place}
 use Rattle.rv64_instr.specs.declared.place.Place.TheVariants.{Register}
 use Rattle.rv64_instr.specs.Instruction.{Instruction}
 use Rattle.rv64_instr.specs.Row.{row_of}
-use Rattle.rv64_instr.specs.Parts.{is_call, has_implicit_uses, defines_of}
+use Rattle.rv64_instr.specs.LocationEffects.{is_call, has_implicit_uses, defines_of}
 use Rattle.mir_func.specs.declared.position.Pos.{Pos}
 use Rattle.mir_func.specs.declared.position.Origin.{Origin}
 use Rattle.mir_func.specs.declared.position.Origin.TheVariants.{Kept, Before}
@@ -25,8 +26,10 @@ use Rattle.mir_func.specs.Limits.{MAX_SLOTS}
 use Rattle.mir_func.specs.Sound.{ids_of, items_of}
 use Rattle.mir_func.specs.Graph.{Program, below, block_start, program_of, Edge, Leads}
 use Rattle.mir_func.specs.Resolve.{resolve}
-use Rattle.sem_mir.specs.Align.{position_of, is_code}
-use Rattle.sem_mir.specs.Follow.{first_of, OnRow, GoesTo}
+use Rattle.mir_func.specs.Positions.{position_of, is_same_position}
+use Rattle.sem_mir.specs.Align.{is_code}
+use Rattle.sem_mir.specs.InitialState.{first_of}
+use Rattle.sem_mir.specs.Follow.{OnRow, GoesTo}
 use Rattle.sem_mir.specs.Live.{Live}
 use Rattle.pass_trait.specs.declared.loss.Reason.{Reason}
 use Rattle.pass_trait.specs.declared.loss.Reason.TheVariants.{Removed, WrongPlace, Scratch, Bypassed, Unreachable, NoScratch, CallNamed, EntryLoop, NoSlot}
@@ -46,6 +49,7 @@ is_of_register counts r (ImplicitUse s) = counts && nat_eq s r
 is_of_register counts r (Imm i) = false
 is_of_register counts r (OfSlot n) = false
 is_of_register counts r (OfObject n) = false
+is_of_register counts r (Part half y) = false
 is_of_register counts r (OfBlock n) = false
 is_of_register counts r (Symbol name) = false
 is_of_register counts r Mask = false
@@ -64,14 +68,10 @@ is_named f r = list_any (λ i. names r i.kind) (items_of f.blocks)
 abbrev pub scratch_of : Function → List ℕ
 scratch_of f = take 2 (filter (λ r. not (is_named f r)) (5 ∷ 6 ∷ 7 ∷ 28 ∷ 29 ∷ 30 ∷ 31 ∷ []))
 
--- the two positions are equal
-abbrev pub is_position : Pos → Pos → Bool
-is_position p q = nat_eq p.block q.block && nat_eq p.item q.item
-
 -- the two origins are equal
 abbrev pub is_origin : Origin → Origin → Bool
-is_origin (Kept p) (Kept q) = is_position p q
-is_origin (Before p) (Before q) = is_position p q
+is_origin (Kept p) (Kept q) = is_same_position p q
+is_origin (Before p) (Before q) = is_same_position p q
 is_origin (Kept p) (Before q) = false
 is_origin (Before p) (Kept q) = false
 

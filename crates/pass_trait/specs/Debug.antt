@@ -20,6 +20,7 @@ use Rattle.mir_func.specs.declared.debug_substitution.OperandPair.{OperandPair}
 use Rattle.mir_func.specs.declared.debug_substitution.DebugSubstitution.{DebugSubstitution}
 use Rattle.mir_func.specs.Graph.{below, block_start}
 use Rattle.mir_func.specs.Resolve.{entry_of, Ends}
+use Rattle.mir_func.specs.Positions.{position_of}
 use Rattle.pass_trait.specs.declared.loss.Reason.{Reason}
 use Rattle.pass_trait.specs.declared.loss.Reason.TheVariants.{Removed, WrongPlace, Scratch, Bypassed, Unreachable, NoScratch, CallNamed, EntryLoop, NoSlot}
 use Rattle.pass_trait.specs.declared.loss.Loss.{Loss}
@@ -27,7 +28,7 @@ use Rattle.pass_trait.specs.Change.{Change}
 use Rattle.pass_trait.specs.Order.{IsInOrder}
 use Rattle.pass_trait.specs.Rule.{Rule, IsCopy, IsJump, number_lost, mark_lost, register_lost, item, item_before, first_operand, StandsAt, numbers_on}
 use Rattle.pass_trait.specs.Rule.{Has}
-use Rattle.sem_mir.specs.Align.{position_of, is_code, is_jump}
+use Rattle.sem_mir.specs.Align.{is_code, is_jump}
 use Rattle.pass_trait.specs.Causes.{HasCause, IsFirstCause, IsFewer, IsMore, IsRemoved}
 
 -- what a loss means for what is lost: it is deleted; or it stays and is undef; or it is a register that stays unspilled

@@ -14,7 +14,7 @@ use Rattle.mir_func.specs.declared.debug_substitution.DebugSubstitution.{DebugSu
 use Rattle.mir_func.specs.Function.{Function}
 use Rattle.mir_func.specs.Sound.{items_of, number_of}
 use Rattle.mir_func.specs.Graph.{Here, fetch_in, from_block}
-use Rattle.sem_mir.specs.Align.{position_of}
+use Rattle.mir_func.specs.Positions.{position_of}
 use Rattle.pass_trait.specs.declared.loss.Reason.{Reason}
 use Rattle.pass_trait.specs.declared.loss.Lost.TheVariants as lost
 use Rattle.pass_trait.specs.declared.loss.Loss.{Loss}

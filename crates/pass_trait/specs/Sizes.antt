@@ -1,7 +1,5 @@
 -- Bounds on how much a pass may enlarge a function.
-use Rattle.std.specs.Prelude.{ℕ, ◌+◌, ◌*◌, ◌≤◌, max, List, [], ◌∷◌, ◌++◌, length, count_by, flat_map, Some, None, Bool, false}
-use Rattle.rv64_instr.specs.Row.{row_of}
-use Rattle.rv64_instr.specs.Parts.{is_call}
+use Rattle.std.specs.Prelude.{ℕ, ◌+◌, ◌*◌, ◌≤◌, max, List, [], ◌∷◌, ◌++◌, length, count_by, flat_map, Some, None}
 use Rattle.mir_func.specs.declared.item.ItemKind.{ItemKind}
 use Rattle.mir_func.specs.declared.item.ItemKind.TheVariants.{Code, Mark, Phi}
 use Rattle.mir_func.specs.declared.variable.MarkValue.TheVariants.{Nothing, Constant, At, Pair}
@@ -11,6 +9,7 @@ use Rattle.mir_func.specs.Function.{Function}
 use Rattle.mir_func.specs.Sound.{items_of, AllItems}
 use Rattle.mir_func.specs.SoundFrame.{HasPhysical}
 use Rattle.mir_func.specs.Limits.{MAX_BLOCKS, MAX_SLOTS}
+use Rattle.mir_func.specs.Calls.{is_call_kind}
 use Rattle.sem_mir.specs.Align.{is_code}
 use Rattle.pass_trait.specs.Change.{Change}
 
@@ -46,15 +45,9 @@ item_count f = length (items_of f.blocks)
 abbrev pub code_count : Function → ℕ
 code_count f = count_by (λ i. is_code i.kind) (items_of f.blocks)
 
--- code that is a call
-abbrev pub calls : ItemKind → Bool
-calls (Code i k) = is_call (row_of i)
-calls (Mark v m) = false
-calls (Phi p k) = false
-
 -- how many calls a function has
 abbrev pub call_count : Function → ℕ
-call_count f = count_by (λ i. calls i.kind) (items_of f.blocks)
+call_count f = count_by (λ i. is_call_kind i.kind) (items_of f.blocks)
 
 -- the function names no virtual register
 abbrev pub IsPhysical : Function → Type 0

@@ -1,5 +1,5 @@
 //! What passes lose of debug information, and for which reasons.
-use base_ids::code::DebugNumber;
+use base_ids::function_ids::DebugNumber;
 use base_list::List;
 use mir_func::position::Pos;
 use rv64_instr::reg::Reg;

@@ -12,7 +12,7 @@ ghost use Rattle.std.proofs.Common.{rules};
 
 use crate::loss::{Loss, Losses, Lost, Reason};
 use crate::pass::Pass;
-use base_ids::code::DebugNumber;
+use base_ids::function_ids::DebugNumber;
 use mir_func::block::Block;
 use mir_func::func::Func;
 use mir_func::item::{Item, ItemKind};

@@ -5,7 +5,7 @@ use Rattle.std.specs.Ordering.{nat_cmp}
 use Rattle.std.specs.BTreeSet.{BTreeSet, contains, Updates}
 use Rattle.std.proofs.lemmas.List.Folds.{list_any-append}
 use Rattle.read_declarations.proofs.Ids.{either, same_key}
-use Rattle.read_body.specs.Met.{is_met, HasAll}
+use Rattle.read_body.specs.FirstUseOrder.{is_met, HasAll}
 
 -- a set with one number more
 pub has_more : (set new : BTreeSet ℕ) (ns more : List ℕ) (k : ℕ) → HasAll set ns → Updates nat_cmp set new k true → more ≡ ns ++ k ∷ [] → HasAll new more

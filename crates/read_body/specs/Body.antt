@@ -2,7 +2,7 @@
 use Rattle.std.specs.Prelude.{ℕ, ◌+◌, Bool, false, ◌||◌, nat_le, nat_lt, if◌then◌else◌, List, [], ◌∷◌, ◌++◌, length, Option, Some, None, IfSome, ◌≤◌}
 use Rattle.std.specs.Option.{option_map}
 use Rattle.rv64_instr.specs.Arithmetic.{word}
-use Rattle.rv64_instr.specs.Parts.{literal_set, object_named as row_object}
+use Rattle.rv64_instr.specs.LocationEffects.{literal_set, object_named as row_object}
 use Rattle.rv64_instr.specs.Row.{row_of}
 use Rattle.rv64_instr.specs.View.{write_of}
 use Rattle.mir_func.specs.declared.block.Block.{Block}
@@ -17,7 +17,7 @@ use Rattle.read_refusal.specs.declared.kind.RefusalKind.{RefusalKind}
 use Rattle.read_refusal.specs.declared.kind.RefusalKind.TheVariants.{DuplicateBlock, DuplicateNumber, TooMany}
 use Rattle.read_refusal.specs.Kind as kinds
 use Rattle.read_body.specs.declared.body.Body.{Body}
-use Rattle.read_body.specs.Met.{is_met, met, known}
+use Rattle.read_body.specs.FirstUseOrder.{is_met, met, known}
 use Rattle.read_body.specs.Limits.{MAX_ITEMS, MAX_VARIABLES, MAX_NUMBERS, MAX_CONSTANTS}
 
 -- ---- facts of an item

@@ -1,4 +1,4 @@
-pub mod Met
+pub mod FirstUseOrder
 pub mod Limits
 pub mod Body
 pub mod Closing

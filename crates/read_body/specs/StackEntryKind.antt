@@ -4,8 +4,8 @@ use Rattle.mir_func.specs.declared.object.Object.{Object}
 use Rattle.mir_func.specs.Objects.{block_size, place_of, next_end}
 use Rattle.read_declarations.specs.declared.stack.StackEntry.{StackEntry}
 use Rattle.read_declarations.specs.Stack.{entry_offsets}
-use Rattle.read_body.specs.declared.frame.ObjectLayout.{ObjectLayout}
-use Rattle.read_body.specs.Met.{is_met, met}
+use Rattle.read_body.specs.declared.stack_entry_kind.ObjectLayout.{ObjectLayout}
+use Rattle.read_body.specs.FirstUseOrder.{is_met, met}
 
 -- the limits of a stack entry
 pub record IsStackEntry (e : StackEntry) : Type 0 where
@@ -14,12 +14,12 @@ pub record IsStackEntry (e : StackEntry) : Type 0 where
   pub aligned : e.align ≤ 16
 
 -- whether a stack entry is an object: it has a local offset, its size isn't the 8 bytes of a spill slot, or code names it as an object
-abbrev pub is_object : List ℕ → StackEntry → Bool
-is_object named e = is_some e.local_offset || (not (e.size == 8) || is_met e.id named)
+abbrev pub is_stack_object : List ℕ → StackEntry → Bool
+is_stack_object named e = is_some e.local_offset || (not (e.size == 8) || is_met e.id named)
 
 -- the slots with one more entry, if that is a slot
 abbrev pub with_slot : List ℕ → List ℕ → StackEntry → List ℕ
-with_slot named slots e = if is_object named e then slots else slots ++ e.id ∷ []
+with_slot named slots e = if is_stack_object named e then slots else slots ++ e.id ∷ []
 
 -- the slots with those of further entries
 unfoldable pub slots_behind : List ℕ → List ℕ → List StackEntry → List ℕ
@@ -43,7 +43,7 @@ laid_at block end e = record {
 -- the objects with one more entry, if that is an object
 abbrev pub with_object : List ℕ → (block : ℕ) → ObjectLayout → StackEntry → ObjectLayout
 with_object named block laid e =
-    if is_object named e then record {
+    if is_stack_object named e then record {
       objects = laid.objects ++ laid_at block laid.end e ∷ [];
       end = next_end laid.end (place_of block laid.end e.align e.local_offset + e.size) e.local_offset;
     } else laid
@@ -63,7 +63,7 @@ objects_of named es = objects_behind named (local_block es) (record { objects = 
 
 -- a set of numbers with that of an entry, if the entry is an object
 abbrev pub with_id : List ℕ → List ℕ → StackEntry → List ℕ
-with_id named ids e = if is_object named e then met e.id ids else ids
+with_id named ids e = if is_stack_object named e then met e.id ids else ids
 
 -- the set with the numbers of further objects
 unfoldable pub ids_behind : List ℕ → List ℕ → List StackEntry → List ℕ

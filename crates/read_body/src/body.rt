@@ -23,12 +23,12 @@ ghost use Rattle.read_body.specs.Body.{
   IsCounted,
   refused_cause,
 };
-ghost use Rattle.rv64_instr.specs.Parts.{object_named as row_object};
+ghost use Rattle.rv64_instr.specs.LocationEffects.{object_named as row_object};
 
+use crate::first_use_order::FirstUseOrder;
 use crate::limits::{MAX_CONSTANTS, MAX_ITEMS, MAX_NUMBERS, MAX_VARIABLES};
-use crate::met::FirstUseOrder;
 use crate::variables::{Variables, meet};
-use base_ids::code::{BlockId, DebugNumber, SlotId};
+use base_ids::function_ids::{BlockId, DebugNumber, SlotId};
 use base_list::List;
 use mir_func::block::{Block, Blocks};
 use mir_func::item::{Item, ItemKind};

@@ -4,8 +4,8 @@ ghost use Rattle.std.specs.Prelude.{◌≡◌};
 ghost use Rattle.mir_func.specs.declared.exit.Exit.{Exit};
 ghost use Rattle.read_body.specs.Closing.{goes_to_one_of, item_goes_to, block_goes_to, blocks_go_to, all_met};
 
-use crate::met::FirstUseOrder;
-use base_ids::code::SlotId;
+use crate::first_use_order::FirstUseOrder;
+use base_ids::function_ids::SlotId;
 use mir_func::block::Block;
 use mir_func::exit::Exit;
 use mir_func::item::Item;

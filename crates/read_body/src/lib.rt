@@ -8,7 +8,7 @@
 
 pub mod body;
 pub mod closing;
-pub mod frame;
+pub mod first_use_order;
 pub mod limits;
-pub mod met;
+pub mod stack_entry_kind;
 pub mod variables;

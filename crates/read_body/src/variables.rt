@@ -2,7 +2,7 @@
 
 ghost use Rattle.std.specs.Prelude.{◌≡◌, OnOk, OnErr};
 ghost use Rattle.mir_func.specs.Variables.{is_same, is_same_node};
-ghost use Rattle.read_body.specs.Met.{is_known, known};
+ghost use Rattle.read_body.specs.FirstUseOrder.{is_known, known};
 
 use base_ids::metadata::NodeId;
 use base_list::List;

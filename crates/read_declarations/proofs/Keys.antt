@@ -11,7 +11,7 @@ use Rattle.std.proofs.lemmas.Map.Text.{is_eq-slice_cmp}
 use Rattle.read_lexer.specs.declared.line.Line.{Line}
 use Rattle.read_declarations.specs.declared.entry.MappingField.{MappingField}
 use Rattle.read_declarations.specs.Stream.{text_at}
-use Rattle.read_declarations.specs.Entry.{has_text, AreKeys}
+use Rattle.read_declarations.specs.FlowMapping.{has_text, AreKeys}
 use Rattle.read_declarations.proofs.Ids.{either}
 
 -- a set with one key more

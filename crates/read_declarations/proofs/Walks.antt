@@ -7,7 +7,7 @@ use Rattle.read_declarations.specs.declared.stream.YamlToken.{YamlToken}
 use Rattle.read_declarations.specs.declared.entry.MappingField.{MappingField}
 use Rattle.read_declarations.specs.declared.entry.OpenList.{OpenList}
 use Rattle.read_declarations.specs.Stream.{text_at}
-use Rattle.read_declarations.specs.Entry.{fits_at, line_at, behind, ended, bad_line, entries_from, entries_of}
+use Rattle.read_declarations.specs.FlowMapping.{fits_at, line_at, behind, ended, bad_line, entries_from, entries_of}
 use Rattle.read_declarations.specs.Field.{value_at}
 use Rattle.read_lexer.specs.declared.parts.Token.{Token}
 use Rattle.read_declarations.specs.Name.{is_single_at, are_single}

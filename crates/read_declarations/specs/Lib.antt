@@ -1,5 +1,5 @@
 pub mod Stream
-pub mod Entry
+pub mod FlowMapping
 pub mod List
 pub mod Field
 pub mod Stack

@@ -6,11 +6,11 @@ use Rattle.read_refusal.specs.First.{earlier}
 use Rattle.read_declarations.specs.declared.stream.YamlToken.{YamlToken}
 use Rattle.read_declarations.specs.declared.entry.Listing.{Listing}
 use Rattle.read_declarations.specs.Stream.{stream_of}
-use Rattle.read_declarations.specs.Entry.{is_mark, bad_line, entries_of}
+use Rattle.read_declarations.specs.FlowMapping.{is_punctuation, bad_line, entries_of}
 
 -- whether two tokens are `[` and `]` on the key's own line
 abbrev pub is_empty_list : YamlToken → YamlToken → Bool
-is_empty_list a b = is_mark 91 a && (is_mark 93 b && (a.at == 0 && b.at == 0))
+is_empty_list a b = is_punctuation 91 a && (is_punctuation 93 b && (a.at == 0 && b.at == 0))
 
 -- no token may follow `[]`
 abbrev pub behind_empty : List YamlToken → Option Refusal

@@ -14,7 +14,7 @@ use Rattle.read_declarations.specs.declared.name.NameRead.{NameRead}
 use Rattle.read_declarations.specs.declared.name.Spelling.{Spelling}
 use Rattle.read_declarations.specs.declared.name.Spelling.TheVariants.{Bare, Double, Single, Wrong}
 use Rattle.read_declarations.specs.Stream.{kind_of}
-use Rattle.read_declarations.specs.Entry.{bad_line}
+use Rattle.read_declarations.specs.FlowMapping.{bad_line}
 
 -- whether a token is a text in these quotes
 abbrev pub opens_with : List ℕ → ℕ → Token → Bool

@@ -8,7 +8,7 @@ use Rattle.read_refusal.specs.First.{earlier}
 use Rattle.read_declarations.specs.declared.entry.MappingField.{MappingField}
 use Rattle.read_declarations.specs.declared.entry.MappingEntry.{MappingEntry}
 use Rattle.read_declarations.specs.declared.substitutions.SubstitutionsRead.{SubstitutionsRead}
-use Rattle.read_declarations.specs.Entry.{bad_line}
+use Rattle.read_declarations.specs.FlowMapping.{bad_line}
 use Rattle.read_declarations.specs.Field.{needed, given}
 use Rattle.read_declarations.specs.List.{list_of}
 

@@ -2,22 +2,7 @@
 
 ghost use Rattle.std.specs.Prelude.{◌≡◌, IfOk, OnOk};
 ghost use Rattle.read_declarations.specs.Stream.{text_at};
-ghost use Rattle.read_declarations.specs.Entry.{
-  is_mark,
-  is_value,
-  has_text,
-  AreKeys,
-  KeepsKeys,
-  fits_at,
-  line_at,
-  nothing_read,
-  behind,
-  with_field,
-  behind_value,
-  ended,
-  bad_line,
-  entries_of,
-};
+ghost use Rattle.read_declarations.specs.FlowMapping.{is_punctuation, is_value, has_text, AreKeys, KeepsKeys, fits_at, line_at, nothing_read, behind, with_field, behind_value, ended, bad_line, entries_of};
 
 use crate::stream::{YamlToken, text_at};
 use base_list::List;
@@ -85,8 +70,8 @@ pub struct Listing {
 }
 
 /// Whether a token is this byte alone.
-pub fn is_mark(byte: u8, piece: YamlToken) -> bool
-    ensures { result ≡ is_mark byte piece }
+pub fn is_punctuation(byte: u8, piece: YamlToken) -> bool
+    ensures { result ≡ is_punctuation byte piece }
 {
     is_byte(byte, piece.token)
 }
@@ -134,12 +119,12 @@ impl OpenList {
         ensures { result ≡ fits_at lines.now self.now.fields self.now.place piece }
     {
         match self.place {
-            ParserState::Outside => is_mark(b'-', piece),
-            ParserState::Dash => is_mark(b'{', piece),
+            ParserState::Outside => is_punctuation(b'-', piece),
+            ParserState::Dash => is_punctuation(b'{', piece),
             ParserState::Key => is_word(piece.token),
-            ParserState::Colon(_) => is_mark(b':', piece),
+            ParserState::Colon(_) => is_punctuation(b':', piece),
             ParserState::Value(key) => is_value(piece) && !has_key(lines, keys, key),
-            ParserState::Next => is_mark(b',', piece) || is_mark(b'}', piece),
+            ParserState::Next => is_punctuation(b',', piece) || is_punctuation(b'}', piece),
         }
     }
 
@@ -202,7 +187,7 @@ impl OpenList {
         ensures list { OnOk result (self.new ≡ behind_value self.old piece) }
         ensures keys { OnOk result (KeepsKeys keys.old self.old.fields keys.new self.new.fields) }
     {
-        if is_mark(b',', piece) {
+        if is_punctuation(b',', piece) {
             self.place = ParserState::Key;
             return Ok(());
         }

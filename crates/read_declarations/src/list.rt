@@ -3,7 +3,7 @@
 ghost use Rattle.std.specs.Prelude.{◌≡◌, drop, IfOk};
 ghost use Rattle.read_declarations.specs.List.{is_empty_list, behind_empty, list_in, list_of};
 
-use crate::entry::{Listing, bad_line, entries, is_mark};
+use crate::entry::{Listing, bad_line, entries, is_punctuation};
 use crate::stream::{YamlToken, stream};
 use base_list::List;
 use read_lexer::line::Line;
@@ -14,7 +14,10 @@ use std::alloc::{AllocError, Global};
 fn is_empty_list(opening: YamlToken, closing: YamlToken) -> bool
     ensures { result ≡ is_empty_list opening closing }
 {
-    is_mark(b'[', opening) && is_mark(b']', closing) && opening.at == 0 && closing.at == 0
+    is_punctuation(b'[', opening)
+        && is_punctuation(b']', closing)
+        && opening.at == 0
+        && closing.at == 0
 }
 
 /// The refusal of the first token after `[]`, if there is one.

@@ -21,7 +21,7 @@ ghost use Rattle.read_declarations.specs.Stack.{
 use crate::entry::MappingField;
 use crate::field::{given, is_variable_sized, needed, negated, value_at};
 use crate::list::list;
-use base_ids::code::SlotId;
+use base_ids::function_ids::SlotId;
 use base_list::List;
 use mir_func::limits::MAX_SLOTS;
 use mir_func::object::counted;

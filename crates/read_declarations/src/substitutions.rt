@@ -6,7 +6,7 @@ ghost use Rattle.read_declarations.specs.Substitutions.{pair_of, substitution_of
 use crate::entry::{MappingField, bad_line};
 use crate::field::{given, needed};
 use crate::list::list;
-use base_ids::code::{DebugNumber, OperandIndex};
+use base_ids::function_ids::{DebugNumber, OperandIndex};
 use mir_func::debug_substitution::{DebugSubstitution, OperandPair};
 use mir_substitution::substitutions::Substitutions;
 use read_lexer::line::Line;

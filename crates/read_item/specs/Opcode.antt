@@ -1,9 +1,11 @@
 -- The opcodes of item lines (LLVM, Machine IR (MIR) Format Reference Manual; LLVM, "Source Level Debugging with LLVM").
-use Rattle.std.specs.Prelude.{ℕ, ◌||◌, if◌then◌else◌, codes, List, [], ◌∷◌, Option, Some, None}
+use Rattle.std.specs.Prelude.{ℕ, Bool, true, false, ◌||◌, if◌then◌else◌, codes, List, [], ◌∷◌, Option, Some, None}
 use Rattle.std.specs.List.{find}
 use Rattle.std.specs.Str.{bytes_eq}
 use Rattle.rv64_instr.specs.declared.op.Op.{Op}
-use Rattle.rv64_instr.specs.declared.op.Op.TheVariants.{Registers, Immediate, Lui, Branch, Load, Store, Copy, PseudoBr, PseudoCall, PseudoRet}
+use Rattle.rv64_instr.specs.declared.op.Op.TheVariants.{Registers, Immediate, Lui, Branch, Load, Store, Copy}
+use Rattle.rv64_instr.specs.declared.op.Op.TheVariants.{PseudoBr, PseudoCall, PseudoRet, PseudoCallIndirect}
+use Rattle.rv64_instr.specs.declared.op.Op.TheVariants.{PseudoTail, PseudoTailIndirect, NoReturnCall, NoReturnCallIndirect}
 use Rattle.rv64_instr.specs.declared.op.RegisterOp.TheVariants.{Add, Sub, Sll, Slt, Sltu, Xor, Srl, Sra, Or, And, Addw, Subw, Sllw, Srlw, Sraw}
 use Rattle.rv64_instr.specs.declared.op.ImmediateOp.TheVariants.{Addi, Slti, Sltiu, Xori, Ori, Andi, Slli, Srli, Srai, Addiw, Slliw, Srliw, Sraiw}
 use Rattle.rv64_instr.specs.declared.op.BranchOp.TheVariants.{Beq, Bne, Blt, Bge, Bltu, Bgeu}
@@ -14,7 +16,7 @@ use Rattle.read_item.specs.declared.opcode.Opcode.{Opcode}
 use Rattle.read_item.specs.declared.opcode.Opcode.TheVariants.{Code, Debug, Label, Pseudo, CallFrame}
 use Rattle.read_item.specs.declared.opcode.DebugOpcode.TheVariants.{Value, InstrRef, ValueList, Phi}
 
--- the opcodes of instructions
+-- the opcodes of instructions that are read
 unfoldable pub ops : List Op
 ops = Registers Add ∷ Registers Sub ∷ Registers Sll ∷ Registers Slt ∷ Registers Sltu ∷ Registers Xor ∷ Registers Srl ∷ Registers Sra ∷
     Registers Or ∷ Registers And ∷ Registers Addw ∷ Registers Subw ∷ Registers Sllw ∷ Registers Srlw ∷ Registers Sraw ∷
@@ -24,7 +26,21 @@ ops = Registers Add ∷ Registers Sub ∷ Registers Sll ∷ Registers Slt ∷ Re
     Load Lb ∷ Load Lh ∷ Load Lw ∷ Load Ld ∷ Load Lbu ∷ Load Lhu ∷ Load Lwu ∷ Store Sb ∷ Store Sh ∷ Store Sw ∷ Store Sd ∷
     Lui ∷ Copy ∷ PseudoBr ∷ PseudoCall ∷ PseudoRet ∷ []
 
--- the opcode of an instruction with this mnemonic, if there is one
+-- an opcode that is read: a call by a register, in tail position, or that doesn't return is refused
+abbrev pub is_read : Op → Bool
+is_read PseudoCallIndirect = false
+is_read PseudoTail = false
+is_read PseudoTailIndirect = false
+is_read NoReturnCall = false
+is_read NoReturnCallIndirect = false
+is_read _ = true
+
+-- the opcode, if it is read
+abbrev pub if_read : Option Op → Option Op
+if_read None = None
+if_read (Some op) = if is_read op then Some op else None
+
+-- the opcode of an instruction with this mnemonic that is read, if there is one
 unfoldable pub op_named : List ℕ → Option Op
 op_named name = find (λ op. bytes_eq (mnemonic_of op) name) ops
 

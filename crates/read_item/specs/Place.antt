@@ -2,7 +2,9 @@
 use Rattle.std.specs.Prelude.{Bool, if◌then◌else◌, List, [], ◌∷◌}
 use Rattle.rv64_instr.specs.declared.op.Op.{Op}
 use Rattle.rv64_instr.specs.declared.op.ImmediateOp.{ImmediateOp}
-use Rattle.rv64_instr.specs.declared.op.Op.TheVariants.{Registers, Immediate, Lui, Branch, Load, Store, Copy, PseudoBr, PseudoCall, PseudoRet}
+use Rattle.rv64_instr.specs.declared.op.Op.TheVariants.{Registers, Immediate, Lui, Branch, Load, Store, Copy}
+use Rattle.rv64_instr.specs.declared.op.Op.TheVariants.{PseudoBr, PseudoCall, PseudoRet, PseudoCallIndirect}
+use Rattle.rv64_instr.specs.declared.op.Op.TheVariants.{PseudoTail, PseudoTailIndirect, NoReturnCall, NoReturnCallIndirect}
 use Rattle.rv64_instr.specs.declared.op.ImmediateOp.TheVariants.{Addi, Slti, Sltiu, Xori, Ori, Andi, Slli, Srli, Srai, Addiw, Slliw, Srliw, Sraiw}
 use Rattle.read_item.specs.declared.place.OperandKind.{OperandKind}
 use Rattle.read_item.specs.declared.place.OperandKind.TheVariants.{Register, Object, Slot, Number, Block, Symbol, Mask, Implicit}
@@ -39,6 +41,11 @@ places Copy slot = Register ∷ []
 places PseudoBr slot = Block ∷ []
 places PseudoCall slot = Symbol ∷ Mask ∷ []
 places PseudoRet slot = []
+places PseudoCallIndirect slot = Implicit ∷ Mask ∷ []
+places PseudoTail slot = Symbol ∷ []
+places PseudoTailIndirect slot = []
+places NoReturnCall slot = Symbol ∷ Mask ∷ []
+places NoReturnCallIndirect slot = Implicit ∷ Mask ∷ []
 
 -- the first position; after the last come implicit registers only
 abbrev pub front : List OperandKind → OperandKind

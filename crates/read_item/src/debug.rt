@@ -30,7 +30,7 @@ ghost use Rattle.read_item.specs.Debug.{
 
 use crate::code::is_long;
 use crate::opcode::DebugOpcode;
-use base_ids::code::DebugNumber;
+use base_ids::function_ids::DebugNumber;
 use base_ids::metadata::NodeId;
 use mir_func::item::ItemKind;
 use mir_func::location::Loc;

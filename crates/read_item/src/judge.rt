@@ -19,7 +19,7 @@ use crate::code::code_of;
 use crate::debug::debug_of;
 use crate::judged::{JudgeError, Judged, JudgedItem, StackIds};
 use crate::opcode::{DebugOpcode, Opcode, opcode_of};
-use base_ids::code::SlotId;
+use base_ids::function_ids::SlotId;
 use mir_func::item::ItemKind;
 use read_line::form::{ItemForm, OperandForm};
 use read_metadata::metadata::Metadata;

@@ -1,6 +1,6 @@
 //! The results of judging a line.
 
-use base_ids::code::SlotId;
+use base_ids::function_ids::SlotId;
 use base_list::List;
 use mir_func::item::ItemKind;
 use mir_func::location::Loc;

@@ -1,7 +1,7 @@
 //! Opcodes of item lines.
 
 ghost use Rattle.std.specs.Prelude.{◌≡◌, Some, None};
-ghost use Rattle.read_item.specs.Opcode.{opcode_of, debug_opcode_of, op_named};
+ghost use Rattle.read_item.specs.Opcode.{opcode_of, debug_opcode_of, op_named, is_read, if_read};
 
 use rv64_instr::op::Op;
 
@@ -33,11 +33,43 @@ pub enum Opcode {
     CallFrame,
 }
 
-/// The opcode of an instruction with this mnemonic.
+/// The opcode of an instruction with this mnemonic that is read.
 fn op_named(name: &[u8]) -> Option<Op>
     ensures { result ≡ op_named name.now }
 {
-    Op::from_mnemonic(name)
+    if_read(Op::from_mnemonic(name))
+}
+
+fn if_read(found: Option<Op>) -> Option<Op>
+    ensures { result ≡ if_read found }
+{
+    match found {
+        Some(op) => { if is_read(op) { Some(op) } else { None } }
+        None => None,
+    }
+}
+
+/// Whether an opcode is read: a call by a register, in tail position, or that doesn't return is refused.
+fn is_read(op: Op) -> bool
+    ensures { result ≡ is_read op }
+{
+    match op {
+        Op::PseudoCallIndirect
+        | Op::PseudoTail
+        | Op::PseudoTailIndirect
+        | Op::NoReturnCall
+        | Op::NoReturnCallIndirect => false,
+        Op::Registers(_)
+        | Op::Immediate(_)
+        | Op::Lui
+        | Op::Branch(_)
+        | Op::Load(_)
+        | Op::Store(_)
+        | Op::Copy
+        | Op::PseudoBr
+        | Op::PseudoCall
+        | Op::PseudoRet => true,
+    }
 }
 
 /// The debug or ignored opcode with this name.

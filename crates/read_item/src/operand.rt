@@ -18,7 +18,7 @@ ghost use Rattle.read_item.specs.Code.{
 };
 
 use crate::place::{OperandKind, behind, front, places};
-use base_ids::code::{BlockId, ObjectId, SlotId};
+use base_ids::function_ids::{BlockId, ObjectId, SlotId};
 use read_line::form::{ItemForm, OperandForm, RegisterForm};
 use read_token::lexeme::{Flag, RegisterName};
 use rv64_instr::arithmetic::{load_width, store_width};

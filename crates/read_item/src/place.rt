@@ -62,6 +62,10 @@ const CALL: [OperandKind; 2] = [OperandKind::Symbol, OperandKind::Mask];
 
 const RETURN: [OperandKind; 0] = [];
 
+const HELD_CALL: [OperandKind; 2] = [OperandKind::Implicit, OperandKind::Mask];
+
+const TAIL: [OperandKind; 1] = [OperandKind::Symbol];
+
 /// The positions of an opcode's operands after the opcode, without implicit operands. `slot` is whether `%stack.N` in
 /// an address is a spill slot.
 pub fn places(op: Op, slot: bool) -> &'static [OperandKind]
@@ -79,8 +83,10 @@ pub fn places(op: Op, slot: bool) -> &'static [OperandKind]
         Op::Store(_) => &OBJECT_STORE,
         Op::Copy => &COPY,
         Op::PseudoBr => &JUMP,
-        Op::PseudoCall => &CALL,
-        Op::PseudoRet => &RETURN,
+        Op::PseudoCall | Op::NoReturnCall => &CALL,
+        Op::PseudoRet | Op::PseudoTailIndirect => &RETURN,
+        Op::PseudoCallIndirect | Op::NoReturnCallIndirect => &HELD_CALL,
+        Op::PseudoTail => &TAIL,
     }
 }
 

@@ -22,7 +22,7 @@ ghost use Rattle.read_line.specs.Attribute.{
 
 use crate::front::{behind_close, behind_comma};
 use crate::operand::counted;
-use base_ids::code::DebugNumber;
+use base_ids::function_ids::DebugNumber;
 use base_ids::metadata::NodeId;
 use mir_func::location::{InlineLoc, Loc};
 use read_token::lexeme::{Lexeme, Word};

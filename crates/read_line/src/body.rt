@@ -18,7 +18,7 @@ ghost use Rattle.read_line.specs.Body.{
 use crate::form::{BodyLine, FormError};
 use crate::front::behind_bracket;
 use crate::item::item;
-use base_ids::code::BlockId;
+use base_ids::function_ids::BlockId;
 use read_lexer::bytes::is_blank;
 use read_lexer::comment::{before_comment, before_memory_operands};
 use read_lexer::fault::LexError;

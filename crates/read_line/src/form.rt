@@ -1,6 +1,6 @@
 //! The parsed forms of lines.
 
-use base_ids::code::{BlockId, DebugNumber, SlotId};
+use base_ids::function_ids::{BlockId, DebugNumber, SlotId};
 use base_ids::metadata::NodeId;
 use base_list::List;
 use mir_func::debug_substitution::OperandPair;

@@ -25,7 +25,7 @@ ghost use Rattle.read_line.specs.Operand.{
 use crate::form::{Expression, OperandForm};
 use crate::front::behind_bracket;
 use crate::register::register;
-use base_ids::code::{DebugNumber, OperandIndex};
+use base_ids::function_ids::{DebugNumber, OperandIndex};
 use mir_func::debug_substitution::OperandPair;
 use mir_func::variable::Fragment;
 use read_token::lexeme::{BEYOND, Lexeme, Number, Word};

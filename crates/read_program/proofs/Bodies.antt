@@ -32,7 +32,7 @@ use Rattle.read_item.specs.declared.judged.JudgedItem.{JudgedItem}
 use Rattle.read_item.specs.Judge.{judged}
 use Rattle.read_body.specs.declared.body.Body.{Body}
 use Rattle.read_body.specs.Limits.{MAX_ITEMS}
-use Rattle.read_body.specs.Met.{is_met, met}
+use Rattle.read_body.specs.FirstUseOrder.{is_met, met}
 use Rattle.read_body.specs.Body.{nothing_read, and_last, blocks_of, label_cause, with_label, repeats, block_with, constant_of, object_named}
 use Rattle.read_body.specs.Body.{with_number, with_constant}
 use Rattle.read_body.specs.Body.{with_object, with_variable, with_facts, with_item, exceeds, item_cause}

@@ -7,10 +7,11 @@ use Rattle.std.proofs.lemmas.List.Folds.{list_any-append}
 use Rattle.mir_func.specs.declared.object.Object.{Object}
 use Rattle.mir_func.specs.Objects.{object_of}
 use Rattle.read_declarations.specs.declared.stack.StackEntry.{StackEntry}
-use Rattle.read_body.specs.declared.frame.ObjectLayout.{ObjectLayout}
-use Rattle.read_body.specs.Met.{is_met, met}
+use Rattle.read_body.specs.declared.stack_entry_kind.ObjectLayout.{ObjectLayout}
+use Rattle.read_body.specs.FirstUseOrder.{is_met, met}
 use Rattle.read_body.specs.Closing.{all_met}
-use Rattle.read_body.specs.StackEntryKind.{is_object, laid_at, with_object, objects_behind, local_block, objects_of, with_id, ids_behind as object_ids_behind}
+use Rattle.read_body.specs.StackEntryKind.{is_stack_object, laid_at, with_object, objects_behind}
+use Rattle.read_body.specs.StackEntryKind.{local_block, objects_of, with_id, ids_behind as object_ids_behind}
 use Rattle.read_body.specs.StackEntryKind.{ids_of_objects}
 use Rattle.read_program.specs.Closing.{ids_behind, entry_ids}
 use Rattle.read_program.proofs.Lists.{met_keeps, met_has}
@@ -43,12 +44,12 @@ module _ (named : List ℕ) where
   -- a declared entry that code names as an object is one
   with_id_has : (e : StackEntry) (ids : List ℕ) → is_met e.id named ≡ true → is_met e.id (with_id named ids e) ≡ true
   with_id_has e ids is =
-      ap (λ (l : List ℕ). is_met e.id l) (cond-true (is_object named e) (met e.id ids) ids
+      ap (λ (l : List ℕ). is_met e.id l) (cond-true (is_stack_object named e) (met e.id ids) ids
       (or_right (is_some e.local_offset) (not (eqb e.size 8) || is_met e.id named) (or_right (not (eqb e.size 8)) (is_met e.id named) is)))
       ∙ met_has e.id ids
 
   with_id_keeps : (e : StackEntry) (ids : List ℕ) (n : ℕ) → is_met n ids ≡ true → is_met n (with_id named ids e) ≡ true
-  with_id_keeps e ids n is = by (is_object named e) where
+  with_id_keeps e ids n is = by (is_stack_object named e) where
     by : (b : Bool) → is_met n (cond b (met e.id ids) ids) ≡ true
     by true = met_keeps n e.id ids is
     by false = is
@@ -116,7 +117,7 @@ module _ (named : List ℕ) (n : ℕ) where
   unfolding object_ids_behind objects_behind
   laid_behind block [] laid ids so_far = so_far
   laid_behind block (e ∷ es) laid ids so_far = laid_behind block es (with_object named block laid e) (with_id named ids e)
-      (laid_step (is_object named e) e laid ids (laid_at block laid.end e) _ refl so_far)
+      (laid_step (is_stack_object named e) e laid ids (laid_at block laid.end e) _ refl so_far)
 
   -- the numbers of the objects are those of the objects that are laid
   pub ids_are_objects : (es : List StackEntry) → is_met n (ids_of_objects named es) ≡ is_some (object_of (objects_of named es).objects n)

@@ -14,9 +14,10 @@ use Rattle.mir_func.specs.Sound.{AreApart, IsSoundObject}
 use Rattle.mir_func.proofs.Once.{apart_head, apart_tail}
 use Rattle.read_declarations.specs.declared.stack.StackEntry.{StackEntry}
 use Rattle.read_declarations.specs.Stack.{is_alignment, entry_offsets}
-use Rattle.read_body.specs.declared.frame.ObjectLayout.{ObjectLayout}
-use Rattle.read_body.specs.Met.{is_met, met}
-use Rattle.read_body.specs.StackEntryKind.{is_object, with_slot, slots_behind, slots_of, laid_at, with_object, objects_behind, local_block, objects_of, with_id}
+use Rattle.read_body.specs.declared.stack_entry_kind.ObjectLayout.{ObjectLayout}
+use Rattle.read_body.specs.FirstUseOrder.{is_met, met}
+use Rattle.read_body.specs.StackEntryKind.{is_stack_object, with_slot, slots_behind, slots_of, laid_at}
+use Rattle.read_body.specs.StackEntryKind.{with_object, objects_behind, local_block, objects_of, with_id}
 use Rattle.read_body.specs.StackEntryKind.{ids_behind as object_ids_behind}
 use Rattle.read_body.specs.StackEntryKind.{ids_of_objects}
 use Rattle.read_program.specs.Closing.{ids_behind, entry_ids}
@@ -77,12 +78,12 @@ chosen_count test other opposite ns ms (e ∷ es) =
 
 module _ (named : List ℕ) where
   abbrev is_slot : StackEntry → Bool
-  is_slot e = not (is_object named e)
+  is_slot e = not (is_stack_object named e)
 
   slots_chosen : (ns : List ℕ) (es : List StackEntry) → slots_behind named ns es ≡ chosen is_slot ns es
   unfolding slots_behind
   slots_chosen ns [] = refl
-  slots_chosen ns (e ∷ es) = slots_chosen (with_slot named ns e) es ∙ ap (λ (l : List ℕ). chosen is_slot l es) (step (is_object named e)) where
+  slots_chosen ns (e ∷ es) = slots_chosen (with_slot named ns e) es ∙ ap (λ (l : List ℕ). chosen is_slot l es) (step (is_stack_object named e)) where
     step : (b : Bool) → cond b ns (ns ++ e.id ∷ []) ≡ cond (not b) (ns ++ e.id ∷ []) ns
     step true = refl
     step false = refl
@@ -91,11 +92,11 @@ module _ (named : List ℕ) where
   object_numbers os = map (λ (o : Object). o.id) os
 
   objects_chosen : (block : ℕ) (laid : ObjectLayout) (es : List StackEntry) →
-      object_numbers (objects_behind named block laid es).objects ≡ chosen (is_object named) (object_numbers laid.objects) es
+      object_numbers (objects_behind named block laid es).objects ≡ chosen (is_stack_object named) (object_numbers laid.objects) es
   unfolding objects_behind
   objects_chosen block laid [] = refl
   objects_chosen block laid (e ∷ es) = objects_chosen block (with_object named block laid e) es
-      ∙ ap (λ (l : List ℕ). chosen (is_object named) l es) (step (is_object named e)) where
+      ∙ ap (λ (l : List ℕ). chosen (is_stack_object named) l es) (step (is_stack_object named e)) where
         step : (b : Bool) → object_numbers (cond b (record {
           objects = laid.objects ++ laid_at block laid.end e ∷ [];
           end = next_end laid.end (place_of block laid.end e.align e.local_offset + e.size) e.local_offset;
@@ -110,11 +111,11 @@ module _ (named : List ℕ) where
 
     pub objects_apart : AreApart (object_numbers (objects_of named es).objects)
     objects_apart = subst AreApart (sym (objects_chosen (local_block es) (record { objects = []; end = local_block es }) es))
-        (chosen_apart (is_object named) [] es (λ i j n e f. absurd cc) (λ i n at. refl) apart)
+        (chosen_apart (is_stack_object named) [] es (λ i j n e f. absurd cc) (λ i n at. refl) apart)
 
   pub frame_count : (es : List StackEntry) → length (slots_of named es) + length (objects_of named es).objects ≡ length es
   frame_count es =
-      let count = chosen_count is_slot (is_object named) (λ e. twice (is_object named e)) [] [] es in
+      let count = chosen_count is_slot (is_stack_object named) (λ e. twice (is_stack_object named e)) [] [] es in
       let objects : length (object_numbers (objects_of named es).objects) ≡ length (objects_of named es).objects = counted (objects_of named es).objects in
       omega (
         arith,
@@ -138,7 +139,7 @@ module _ (named : List ℕ) where
   unfolding ids_behind object_ids_behind slots_behind
   slots_met [] seen ids slots so_far n is = so_far n is
   slots_met (e ∷ es) seen ids slots so_far n is =
-      slots_met es (met e.id seen) (with_id named ids e) (with_slot named slots e) (λ m has. step (is_object named e) m has) n is where
+      slots_met es (met e.id seen) (with_id named ids e) (with_slot named slots e) (λ m has. step (is_stack_object named e) m has) n is where
         step : (b : Bool) (m : ℕ) → is_met m (met e.id seen) ≡ true →
             (is_met m (cond b (met e.id ids) ids) ≡ true) ⊎ (is_met m (cond b slots (slots ++ e.id ∷ [])) ≡ true)
         step b m has = elim (met_cases m e.id seen has) [
@@ -198,7 +199,7 @@ alignment align is = met_contains ALIGNMENTS align (by (eqb align 1) (eqb align 
 
 module _ (named : List ℕ) where
   laid_more : (block : ℕ) (laid : ObjectLayout) (e : StackEntry) → IsReadEntry e → IsLaid block laid → IsLaid block (with_object named block laid e)
-  laid_more block laid e entry is = by (is_object named e) where
+  laid_more block laid e entry is = by (is_stack_object named e) where
     o : Object
     o = laid_at block laid.end e
 
@@ -248,13 +249,13 @@ module _ (named : List ℕ) where
   -- the local offsets of the objects of entries, without those before them
   abbrev chosen_offsets : List StackEntry → List (Option ℕ)
   chosen_offsets [] = []
-  chosen_offsets (e ∷ es) = cond (is_object named e) (e.local_offset ∷ chosen_offsets es) (chosen_offsets es)
+  chosen_offsets (e ∷ es) = cond (is_stack_object named e) (e.local_offset ∷ chosen_offsets es) (chosen_offsets es)
 
   offsets_chosen : (block : ℕ) (laid : ObjectLayout) (es : List StackEntry) →
       local_offsets (objects_behind named block laid es).objects ≡ local_offsets laid.objects ++ chosen_offsets es
   unfolding objects_behind
   offsets_chosen block laid [] = sym (append-nil (local_offsets laid.objects))
-  offsets_chosen block laid (e ∷ es) = offsets_chosen block (with_object named block laid e) es ∙ step (is_object named e) where
+  offsets_chosen block laid (e ∷ es) = offsets_chosen block (with_object named block laid e) es ∙ step (is_stack_object named e) where
     step : (b : Bool) → local_offsets (cond b (record {
       objects = laid.objects ++ laid_at block laid.end e ∷ [];
       end = next_end laid.end (place_of block laid.end e.align e.local_offset + e.size) e.local_offset;

@@ -39,7 +39,8 @@ use Rattle.read_item.specs.Debug.{pair_value}
 use Rattle.read_item.specs.Debug.{reference_mark, list_mark, content_place, register_place, phi_place, counted, phi_by, if_counted, count_in, phi_of}
 use Rattle.read_item.specs.Debug.{inlined_at, mark_kind, phi_kind, debug_kind}
 use Rattle.read_item.specs.Judge.{entry_of, entries_of}
-use Rattle.read_body.specs.Met.{is_met}
+use Rattle.read_body.specs.FirstUseOrder.{is_met}
+use Rattle.read_item.specs.Opcode.{is_read}
 use Rattle.read_program.specs.Limited.{IsLimited, ValueIsLimited, PlaceIsLimited, KindIsLimited, LocIsLimited}
 use Rattle.read_program.proofs.Lexemes.{NameFits}
 use Rattle.read_program.proofs.Forms.{AllOf, FormFits, IntegerFits, ExpressionFits, ItemFits}
@@ -280,15 +281,20 @@ pub record IsReadKind (meta : Maps) (entries : List ℕ) (loc : Loc) (kind : Ite
   pub named : KindNamesAmong entries kind
   pub pointer : LeavesPointer kind
 
-code_reads : (meta : Maps) (entries : List ℕ) (loc : Loc) (op : Op) (line : ItemForm) (instr : Instruction) → ItemFits line → IsCodeLine op line instr →
+code_reads : (meta : Maps) (entries : List ℕ) (loc : Loc) (op : Op) (line : ItemForm) (instr : Instruction) → ItemFits line → is_read op ≡ true →
+    IsCodeLine op line instr →
     ((n : ℕ) → is_met n (entries_of line.operands) ≡ true → is_met n entries ≡ true) → IsReadKind meta entries loc (Code instr line.number)
-code_reads meta entries loc op line instr fits is met =
+code_reads meta entries loc op line instr fits may is met =
     let within = line_within line fits is.within in
     let all = operands_read entries op line instr.operands fits.definitions is.set_others
     (forms_read entries line.operands fits.operands within.operands is.used_others met) is.operands in
     record {
       form = is.form;
-      limited = (All-weaker (IsReadOperand entries) IsLimited (λ o r. r.limited) instr.operands all, some_limited line.number within.number);
+      limited = (
+        All-weaker (IsReadOperand entries) IsLimited (λ o r. r.limited) instr.operands all,
+        some_limited line.number within.number,
+        ap is_read is.op_is ∙ may,
+      );
       inlined = tt;
       named = All-weaker (IsReadOperand entries) (NamesAmong entries) (λ o r. r.named) instr.operands all;
       pointer = All-weaker (IsReadOperand entries) IsNotPointer (λ o r. r.pointer) instr.operands all;
@@ -329,8 +335,8 @@ record IsSaid (meta : Maps) (entries : List ℕ) (line : ItemForm) (kind : ItemK
 
 kind_reads : (meta : Maps) (entries : List ℕ) (line : ItemForm) (kind : ItemKind) → ItemFits line →
     ((n : ℕ) → is_met n (entries_of line.operands) ≡ true → is_met n entries ≡ true) → IsItemLine meta line kind → IsSaid meta entries line kind
-kind_reads meta entries line _ fits met (of_code {op} {instr} code) =
-    record { is = code_reads meta entries line.loc op line instr fits code met; within = code.within }
+kind_reads meta entries line _ fits met (of_code {op} {instr} may code) =
+    record { is = code_reads meta entries line.loc op line instr fits may code met; within = code.within }
 kind_reads meta entries line kind fits met (of_debug {op} said) =
     record {
       is = debug_reads meta entries op line kind (debug_forms entries line.operands fits.operands

@@ -1,4 +1,5 @@
 -- What a line of an item says of the item, where nothing refuses it.
+use Rattle.read_item.proofs.Named.{code_is_read}
 use Rattle.std.proofs.Common.{◌≡◌, Bool, true, false, cond, not, ◌||◌, List, Option, Some, None, Result, Ok, Err, refl, sym, ap, subst, ◌∙◌}
 use Rattle.std.specs.List.{list_any, zip}
 use Rattle.std.proofs.lemmas.Bool.{or_parts, not-false}
@@ -17,7 +18,7 @@ use Rattle.read_item.specs.declared.judged.JudgedItem.{JudgedItem}
 use Rattle.read_item.specs.declared.opcode.DebugOpcode.{DebugOpcode}
 use Rattle.read_item.specs.declared.opcode.Opcode.{Opcode}
 use Rattle.read_item.specs.declared.opcode.Opcode.TheVariants as opcodes
-use Rattle.read_item.specs.Opcode.{opcode_of}
+use Rattle.read_item.specs.Opcode.{opcode_of, is_read}
 use Rattle.read_item.specs.Code.{refusal_by, operands_of, places_of, fits, is_virtual, is_virtual_operand, is_pointer, is_pointer_operand}
 use Rattle.read_item.specs.Code.{is_misplaced, is_long, code_rules}
 use Rattle.read_item.specs.Code.{instruction, unless_refused, code_of}
@@ -115,7 +116,7 @@ debug_line op meta line kind e =
 
 -- an item is of a line of code, or of a debug line
 pub data IsItemLine (meta : Maps) (line : ItemForm) : ItemKind → Type 0 where
-  of_code : {op : Op} {instr : Instruction} → IsCodeLine op line instr → IsItemLine meta line (Code instr line.number)
+  of_code : {op : Op} {instr : Instruction} → is_read op ≡ true → IsCodeLine op line instr → IsItemLine meta line (Code instr line.number)
   of_debug : {op : DebugOpcode} {kind : ItemKind} → IsDebugLine op meta line kind → IsItemLine meta line kind
 
 item_ok : (line : ItemForm) (kind : Result ItemKind RefusalKind) (j : JudgedItem) → item_of line kind ≡ Ok (judged_as.Item j) →
@@ -134,28 +135,29 @@ pub record IsJudged (meta : Maps) (line : ItemForm) (j : JudgedItem) : Type 0 wh
   pub entries : j.entries ≡ entries_of line.operands
 
 code_item : (meta : Maps) (op : Op) (line : ItemForm) (kind : ItemKind) (read : Result Instruction RefusalKind) → code_of op line ≡ read →
-    numbered line.number read ≡ Ok kind → IsItemLine meta line kind
-code_item meta op line kind (Ok instr) is e = let same : Code instr line.number ≡ kind = cc in subst (IsItemLine meta line) same (of_code
+    numbered line.number read ≡ Ok kind → is_read op ≡ true → IsItemLine meta line kind
+code_item meta op line kind (Ok instr) is e may = let same : Code instr line.number ≡ kind = cc in subst (IsItemLine meta line) same (of_code may
     (code_line op line instr is))
-code_item meta op line kind (Err refusal) is e = absurd cc
+code_item meta op line kind (Err refusal) is e may = absurd cc
 
 not_item : (b : Bool) (j : JudgedItem) → passed_if b ≡ Ok (judged_as.Item j) → ⊥
 not_item true j e = cc
 not_item false j e = cc
 
-judged_line_by : (meta : Maps) (line : ItemForm) (j : JudgedItem) (op : Option Opcode) → judged_by op meta line ≡ Ok (judged_as.Item j) → IsJudged meta line j
-judged_line_by meta line j None e = absurd cc
-judged_line_by meta line j (Some (opcodes.Code op)) e =
+judged_line_by : (meta : Maps) (line : ItemForm) (j : JudgedItem) (op : Option Opcode) →
+    ((x : Op) → op ≡ Some (opcodes.Code x) → is_read x ≡ true) → judged_by op meta line ≡ Ok (judged_as.Item j) → IsJudged meta line j
+judged_line_by meta line j None may e = absurd cc
+judged_line_by meta line j (Some (opcodes.Code op)) may e =
     let read = item_ok line (numbered line.number (code_of op line)) j e in
-    record { line_is = code_item meta op line j.kind (code_of op line) refl read.0; loc = read.1; entries = read.2 }
-judged_line_by meta line j (Some (opcodes.Debug op)) e =
+    record { line_is = code_item meta op line j.kind (code_of op line) refl read.0 (may op refl); loc = read.1; entries = read.2 }
+judged_line_by meta line j (Some (opcodes.Debug op)) may e =
     let read = item_ok line (debug_of op meta line) j e in
     record { line_is = of_debug (debug_line op meta line j.kind read.0); loc = read.1; entries = read.2 }
-judged_line_by meta line j (Some opcodes.Label) e = absurd (not_item _ j e)
-judged_line_by meta line j (Some opcodes.Pseudo) e = absurd cc
-judged_line_by meta line j (Some opcodes.CallFrame) e = absurd (not_item _ j e)
+judged_line_by meta line j (Some opcodes.Label) may e = absurd (not_item _ j e)
+judged_line_by meta line j (Some opcodes.Pseudo) may e = absurd cc
+judged_line_by meta line j (Some opcodes.CallFrame) may e = absurd (not_item _ j e)
 
 -- what a line that is judged an item says of it
 pub judged_line : (meta : Maps) (line : ItemForm) (j : JudgedItem) → judged meta line ≡ Ok (judged_as.Item j) → IsJudged meta line j
 unfolding judged
-judged_line meta line j e = judged_line_by meta line j (opcode_of line.opcode) e
+judged_line meta line j e = judged_line_by meta line j (opcode_of line.opcode) (λ op is. code_is_read line.opcode op is) e

@@ -8,7 +8,7 @@ use Rattle.std.proofs.lemmas.List.{length-append, get_or_append_left, get_or_at}
 use Rattle.std.proofs.lemmas.Option.{slice_get_within, get_or_from_slice_get}
 use Rattle.std.proofs.lemmas.List.Folds.{list_any-append}
 use Rattle.mir_func.specs.Sound.{AreApart}
-use Rattle.read_body.specs.Met.{is_met, met}
+use Rattle.read_body.specs.FirstUseOrder.{is_met, met}
 
 -- what is read of a list with one element more is read of the list, or is that element
 pub push_read : {X : Type 0} (xs : List X) (y : X) (k : ℕ) (i : X) → slice_get (xs ++ y ∷ []) k ≡ Some i →

@@ -25,7 +25,7 @@ use Rattle.read_item.specs.Place.{front, behind}
 use Rattle.read_item.specs.Code.{number_of, used, stack_operand, number_operand, operand_at, before, joined, set_by, definition, definitions, placed, places_of}
 use Rattle.read_item.specs.Code.{operands_of, is_named, is_pointer, is_pointer_operand}
 use Rattle.read_item.specs.Judge.{entry_of, entries_of}
-use Rattle.read_body.specs.Met.{is_met}
+use Rattle.read_body.specs.FirstUseOrder.{is_met}
 use Rattle.read_program.specs.Limited.{IsLimited}
 use Rattle.read_program.proofs.Lexemes.{NameFits}
 use Rattle.read_program.proofs.Forms.{AllOf, FormFits, RegisterFits, IntegerFits}

@@ -1,6 +1,6 @@
 -- A function that breaks no other rule, and whose blocks end well, is sound.
 use Rattle.std.proofs.Common.{◌≡◌, ℕ, zero, suc, ◌+◌, ◌<◌, Bool, true, false, cond, leb, List, [], ◌∷◌, ◌++◌, map, All, Option, Some, None}
-use Rattle.std.proofs.Common.{refl, sym, ap, subst, ◌∙◌}
+use Rattle.std.proofs.Common.{refl, sym, ap, subst, ◌∙◌, nat_eq}
 use Rattle.std.specs.Prelude.{Contains}
 use Rattle.std.specs.List.{slice_get, list_all}
 use Rattle.std.specs.Option.{option_map_or}
@@ -8,17 +8,19 @@ use Rattle.std.proofs.lemmas.Bool.{and_parts, leb-true}
 use Rattle.std.proofs.lemmas.List.{map-append}
 use Rattle.std.proofs.lemmas.List.Elements.{All-nil, All-cons, All-map, All-weaker, All-head, All-tail}
 use Rattle.std.proofs.lemmas.Option.{slice_get-get_or}
-use Rattle.rv64_instr.specs.declared.decoded.Base.{Base}
-use Rattle.rv64_instr.specs.declared.decoded.Base.TheVariants.{PointedBy, ObjectAt}
+use Rattle.rv64_instr.specs.Row.{Base, PointedBy, ObjectAt, BesidePart}
 use Rattle.rv64_instr.specs.declared.op.Op.{Op}
-use Rattle.rv64_instr.specs.declared.op.Op.TheVariants.{Registers, Immediate, Lui, Branch, Load, Store, Copy, PseudoBr, PseudoCall, PseudoRet}
+use Rattle.rv64_instr.specs.declared.op.Op.TheVariants.{Registers, Immediate, Lui, Branch, Load, Store, Copy}
+use Rattle.rv64_instr.specs.declared.op.Op.TheVariants.{PseudoBr, PseudoCall, PseudoRet, PseudoCallIndirect}
+use Rattle.rv64_instr.specs.declared.op.Op.TheVariants.{PseudoTail, PseudoTailIndirect, NoReturnCall, NoReturnCallIndirect}
 use Rattle.rv64_instr.specs.declared.op.ImmediateOp.{ImmediateOp}
 use Rattle.rv64_instr.specs.declared.op.ImmediateOp.TheVariants.{Addi}
 use Rattle.rv64_instr.specs.declared.op.LoadOp.{LoadOp}
 use Rattle.rv64_instr.specs.declared.op.StoreOp.{StoreOp}
 use Rattle.rv64_instr.specs.declared.operand.Operand.{Operand}
-use Rattle.rv64_instr.specs.declared.operand.Operand.TheVariants.{Def, Use, Imm, Slot, Object as OfObject, Block as OfBlock}
-use Rattle.rv64_instr.specs.declared.operand.Operand.TheVariants.{Symbol, Mask}
+use Rattle.rv64_instr.specs.declared.operand.Operand.TheVariants.{Def, Use, Imm, Slot, Object as OfObject, Part, Block as OfBlock}
+use Rattle.rv64_instr.specs.declared.symbol.Half.TheVariants.{Upper, Lower}
+use Rattle.rv64_instr.specs.declared.operand.Operand.TheVariants.{Symbol, Mask, ImplicitUse}
 use Rattle.rv64_instr.specs.declared.place.Place.{Place}
 use Rattle.rv64_instr.specs.declared.place.Place.TheVariants as place
 use Rattle.rv64_instr.specs.Arithmetic.{word, load_width, store_width}
@@ -26,7 +28,7 @@ use Rattle.rv64_instr.specs.Form.{has_form, fits_immediate, fits_load, fits_stor
 use Rattle.rv64_instr.specs.Instruction.{Instruction}
 use Rattle.rv64_instr.specs.Row.{Row, Addresses, Loads, Stores, Branches, Jumps}
 use Rattle.rv64_instr.specs.Row.{row_of, immediate_row, object_row}
-use Rattle.rv64_instr.specs.Row.{move_row}
+use Rattle.rv64_instr.specs.Row.{move_row, implicit_uses, held_call, held_tail, held_gone}
 use Rattle.mir_func.specs.declared.block.Block.{Block}
 use Rattle.mir_func.specs.declared.exit.Exit.TheVariants.{Onward}
 use Rattle.mir_func.specs.declared.item.Item.{Item}
@@ -42,7 +44,7 @@ use Rattle.mir_func.specs.Sound.{HasForm}
 use Rattle.read_declarations.specs.declared.stack.StackEntry.{StackEntry}
 use Rattle.read_body.specs.Closing.{goes_to_one_of, item_goes_to, block_goes_to, blocks_go_to}
 use Rattle.read_body.specs.StackEntryKind.{slots_of, ids_of_objects}
-use Rattle.read_body.specs.Met.{is_met}
+use Rattle.read_body.specs.FirstUseOrder.{is_met}
 use Rattle.read_program.specs.Closing.{entry_ids}
 use Rattle.read_program.specs.Objects.{operand_as, operands_as, place_as, kind_as, item_as, blocks_as, base_has_bytes, row_stays, kind_stays}
 use Rattle.read_program.specs.Objects.{block_stays, blocks_stay}
@@ -75,6 +77,7 @@ module _ (ids : List ℕ) where
   exit_immediate : (op : ImmediateOp) (os : List Operand) → fits_immediate op os ≡ true → row_exit (row_as (Immediate op) os) ≡ row_exit (row (Immediate op) os)
   exit_immediate op (Def rd ∷ Use a ∷ Imm i ∷ rest) e = refl
   exit_immediate op (Def rd ∷ OfObject n ∷ Imm i ∷ rest) e = refl
+  exit_immediate op (Def rd ∷ Use a ∷ Part Lower y ∷ rest) e = refl
   exit_immediate op os e = absurd cc
 
   exit_load : (op : LoadOp) (os : List Operand) → fits_load op os ≡ true → row_exit (row_as (Load op) os) ≡ row_exit (row (Load op) os)
@@ -84,6 +87,7 @@ module _ (ids : List ℕ) where
     by true = refl
     by false = refl
   exit_load op (Def rd ∷ OfObject n ∷ Imm i ∷ rest) e = refl
+  exit_load op (Def rd ∷ Use a ∷ Part Lower y ∷ rest) e = refl
   exit_load op os e = absurd cc
 
   exit_store : (op : StoreOp) (os : List Operand) → fits_store op os ≡ true → row_exit (row_as (Store op) os) ≡ row_exit (row (Store op) os)
@@ -93,13 +97,24 @@ module _ (ids : List ℕ) where
     by true = refl
     by false = refl
   exit_store op (Use rs ∷ OfObject n ∷ Imm i ∷ rest) e = refl
+  exit_store op (Use rs ∷ Use a ∷ Part Lower y ∷ rest) e = refl
   exit_store op os e = absurd cc
+
+  uses_as : (os : List Operand) → implicit_uses (operands_as ids os) ≡ implicit_uses os
+  uses_as [] = refl
+  uses_as (Slot n ∷ os) = by (is_met n ids) (uses_as os) where
+    by : (b : Bool) → implicit_uses (operands_as ids os) ≡ implicit_uses os → implicit_uses (cond b (OfObject n) (Slot n) ∷ operands_as ids os) ≡ implicit_uses os
+    by true e = e
+    by false e = e
+  uses_as (ImplicitUse r ∷ os) = ap (λ (z : List ℕ). cond (nat_eq r 2) z (r ∷ z)) (uses_as os)
+  uses_as (_ ∷ os) = uses_as os
 
   -- control leaves it as before
   exit_as : (op : Op) (os : List Operand) → has_form op os ≡ true → row_exit (row_as op os) ≡ row_exit (row op os)
   exit_as (Registers op) (Def rd ∷ Use a ∷ Use b ∷ rest) e = refl
   exit_as (Immediate op) os e = exit_immediate op os e
   exit_as Lui (Def rd ∷ Imm i ∷ rest) e = refl
+  exit_as Lui (Def rd ∷ Part Upper y ∷ rest) e = refl
   exit_as (Branch op) (Use a ∷ Use b ∷ OfBlock n ∷ rest) e = refl
   exit_as (Load op) os e = exit_load op os e
   exit_as (Store op) os e = exit_store op os e
@@ -107,6 +122,11 @@ module _ (ids : List ℕ) where
   exit_as PseudoBr (OfBlock n ∷ rest) e = refl
   exit_as PseudoCall (Symbol name ∷ Mask ∷ rest) e = refl
   exit_as PseudoRet os e = refl
+  exit_as PseudoCallIndirect os e = ap (λ (xs : List ℕ). row_exit (held_call xs)) (uses_as os)
+  exit_as PseudoTail (Symbol name ∷ rest) e = refl
+  exit_as PseudoTailIndirect os e = ap (λ (xs : List ℕ). row_exit (held_tail xs)) (uses_as os)
+  exit_as NoReturnCall (Symbol name ∷ Mask ∷ rest) e = refl
+  exit_as NoReturnCallIndirect os e = ap (λ (xs : List ℕ). row_exit (held_gone xs)) (uses_as os)
   exit_as _ os e = absurd cc
 
   pub targets_as : (bids all : List ℕ) → ((n : ℕ) → is_met n bids ≡ true → Contains all n) → (kind : ItemKind) → HasForm kind →
@@ -145,6 +165,7 @@ module _ (named : List ℕ) (es : List StackEntry) (entries : List ℕ) (all : (
   slot_immediate : (op : ImmediateOp) (os : List Operand) → fits_immediate op os ≡ true → SlotIn slots (row_as ids (Immediate op) os)
   slot_immediate op (Def rd ∷ Use a ∷ Imm i ∷ rest) e = immediate_slot slots op rd a (word i)
   slot_immediate op (Def rd ∷ OfObject n ∷ Imm i ∷ rest) e = object_slot slots op rd n (word i)
+  slot_immediate op (Def rd ∷ Use a ∷ Part Lower y ∷ rest) e = tt
   slot_immediate op os e = absurd cc
 
   second : (a b : Operand) (rest : List Operand) → All (NamesAmong entries) (a ∷ b ∷ rest) → NamesAmong entries b
@@ -161,6 +182,7 @@ module _ (named : List ℕ) (es : List StackEntry) (entries : List ℕ) (all : (
     by true is = tt
     by false is = in_slots n (second (Def rd) (Slot n) (Imm i ∷ rest) names) is
   slot_load op (Def rd ∷ OfObject n ∷ Imm i ∷ rest) e names = tt
+  slot_load op (Def rd ∷ Use a ∷ Part Lower y ∷ rest) e names = tt
   slot_load op os e names = absurd cc
 
   slot_store : (op : StoreOp) (os : List Operand) → fits_store op os ≡ true → All (NamesAmong entries) os → SlotIn slots (row_as ids (Store op) os)
@@ -174,12 +196,26 @@ module _ (named : List ℕ) (es : List StackEntry) (entries : List ℕ) (all : (
     by true is = tt
     by false is = in_slots n (second (Use rs) (Slot n) (Imm i ∷ rest) names) is
   slot_store op (Use rs ∷ OfObject n ∷ Imm i ∷ rest) e names = tt
+  slot_store op (Use rs ∷ Use a ∷ Part Lower y ∷ rest) e names = tt
   slot_store op os e names = absurd cc
+
+  held_call_slot : (xs : List ℕ) → SlotIn slots (held_call xs)
+  held_call_slot [] = tt
+  held_call_slot (r ∷ xs) = tt
+
+  held_tail_slot : (xs : List ℕ) → SlotIn slots (held_tail xs)
+  held_tail_slot [] = tt
+  held_tail_slot (r ∷ xs) = tt
+
+  held_gone_slot : (xs : List ℕ) → SlotIn slots (held_gone xs)
+  held_gone_slot [] = tt
+  held_gone_slot (r ∷ xs) = tt
 
   slot_in_row : (op : Op) (os : List Operand) → has_form op os ≡ true → All (NamesAmong entries) os → SlotIn slots (row_as ids op os)
   slot_in_row (Registers op) (Def rd ∷ Use a ∷ Use b ∷ rest) e names = tt
   slot_in_row (Immediate op) os e names = slot_immediate op os e
   slot_in_row Lui (Def rd ∷ Imm i ∷ rest) e names = tt
+  slot_in_row Lui (Def rd ∷ Part Upper y ∷ rest) e names = tt
   slot_in_row (Branch op) (Use a ∷ Use b ∷ OfBlock n ∷ rest) e names = tt
   slot_in_row (Load op) os e names = slot_load op os e names
   slot_in_row (Store op) os e names = slot_store op os e names
@@ -187,6 +223,11 @@ module _ (named : List ℕ) (es : List StackEntry) (entries : List ℕ) (all : (
   slot_in_row PseudoBr (OfBlock n ∷ rest) e names = tt
   slot_in_row PseudoCall (Symbol name ∷ Mask ∷ rest) e names = tt
   slot_in_row PseudoRet os e names = tt
+  slot_in_row PseudoCallIndirect os e names = held_call_slot (implicit_uses (operands_as ids os))
+  slot_in_row PseudoTail (Symbol name ∷ rest) e names = tt
+  slot_in_row PseudoTailIndirect os e names = held_tail_slot (implicit_uses (operands_as ids os))
+  slot_in_row NoReturnCall (Symbol name ∷ Mask ∷ rest) e names = tt
+  slot_in_row NoReturnCallIndirect os e names = held_gone_slot (implicit_uses (operands_as ids os))
   slot_in_row _ os e names = absurd cc
 
   slot_in_place : (p : Option Place) (k : ℕ) → KindNamesAmong entries (Phi p k) → PlaceIn slots (place_as ids p)
@@ -230,6 +271,7 @@ bytes_in objects n bytes (Some o) is e = (o, is, leb-true bytes o.size e)
 base_in : (objects : List Object) (base : Base) (bytes : ℕ) → base_has_bytes objects base bytes ≡ true → BaseHasBytes objects base bytes
 base_in objects (PointedBy r) bytes e = tt
 base_in objects (ObjectAt n) bytes e = bytes_in objects n bytes (object_of objects n) refl e
+base_in objects (BesidePart r y) bytes e = tt
 
 object_in : (objects : List Object) (r : Row) → row_stays objects r ≡ true → ObjectIn objects r
 object_in objects (Addresses rd n offset) e = bytes_in objects n offset (object_of objects n) refl e

@@ -24,7 +24,7 @@ use Rattle.read_body.specs.declared.body.Body.{Body}
 use Rattle.read_body.specs.Body.{blocks_of}
 use Rattle.read_body.specs.Closing.{blocks_go_to, item_goes_to, all_met}
 use Rattle.read_body.specs.StackEntryKind.{IsStackEntry, slots_of, objects_of, ids_of_objects}
-use Rattle.read_body.specs.Met.{is_met}
+use Rattle.read_body.specs.FirstUseOrder.{is_met}
 use Rattle.read_program.specs.declared.closing.Parsed.{Parsed}
 use Rattle.read_program.specs.declared.closing.Parts.{Parts}
 use Rattle.read_program.specs.declared.error.ParseError.TheVariants as errors

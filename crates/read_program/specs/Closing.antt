@@ -14,7 +14,7 @@ use Rattle.read_declarations.specs.declared.stack.StackEntry.{StackEntry}
 use Rattle.mir_func.specs.Limits.{MAX_SLOTS}
 use Rattle.read_declarations.specs.Declarations.{declarations_of}
 use Rattle.read_body.specs.declared.body.Body.{Body}
-use Rattle.read_body.specs.Met.{met}
+use Rattle.read_body.specs.FirstUseOrder.{met}
 use Rattle.read_body.specs.Body.{blocks_of}
 use Rattle.read_body.specs.Closing.{blocks_go_to, all_met}
 use Rattle.read_body.specs.StackEntryKind.{IsStackEntry, slots_of, objects_of, ids_of_objects}

@@ -1,7 +1,7 @@
 -- The limits on the numbers in an item that was read.
-use Rattle.std.specs.Prelude.{◌≡◌, pos, ◌<◌, ◌≤◌, IfSome, All, Option, Some, None}
+use Rattle.std.specs.Prelude.{◌≡◌, pos, ◌<◌, ◌≤◌, IfSome, IsTrue, All, Option, Some, None}
 use Rattle.rv64_instr.specs.declared.operand.Operand.{Operand}
-use Rattle.rv64_instr.specs.declared.operand.Operand.TheVariants.{Def, Use, ImplicitDef, ImplicitUse, Imm, Slot, Object, Block, Symbol, Mask}
+use Rattle.rv64_instr.specs.declared.operand.Operand.TheVariants.{Def, Use, ImplicitDef, ImplicitUse, Imm, Slot, Object, Part, Block, Symbol, Mask}
 use Rattle.rv64_instr.specs.declared.place.Place.{Place}
 use Rattle.rv64_instr.specs.declared.place.Place.TheVariants as place
 use Rattle.rv64_instr.specs.Form.{IsSigned}
@@ -14,6 +14,7 @@ use Rattle.mir_func.specs.declared.variable.MarkValue.TheVariants.{Nothing, Cons
 use Rattle.mir_func.specs.declared.variable.VarId.{VarId}
 use Rattle.mir_func.specs.Parts.{IsPart}
 use Rattle.base_ids.specs.Limits.{MAX_NUMBER}
+use Rattle.read_item.specs.Opcode.{is_read}
 
 -- ---- the numbers of items: a number or count is at most 2^30 - 1, a register is physical, and other integers have 64 bits
 
@@ -26,6 +27,7 @@ IsLimited (ImplicitUse r) = r < 32
 IsLimited (Imm i) = IsSigned i
 IsLimited (Slot n) = n ≤ MAX_NUMBER
 IsLimited (Object n) = n ≤ MAX_NUMBER
+IsLimited (Part half y) = ⊥
 IsLimited (Block n) = n ≤ MAX_NUMBER
 IsLimited (Symbol name) = Unit {0}
 IsLimited Mask = Unit {0}
@@ -48,9 +50,9 @@ PlaceIsLimited (Some (place.Const c)) = c ≡ pos 0
 abbrev pub VariableIsLimited : VarId → Type 0
 VariableIsLimited v = (v.node ≤ MAX_NUMBER) × IfSome v.fragment IsPart
 
--- the numbers of an item, the debug instruction number included, but not those of its debug location
+-- the numbers of an item, the debug instruction number included, but not those of its debug location; and code's opcode is one that is read
 abbrev pub KindIsLimited : ItemKind → Type 0
-KindIsLimited (Code i k) = All IsLimited i.operands × IfSome k (λ n. n ≤ MAX_NUMBER)
+KindIsLimited (Code i k) = All IsLimited i.operands × IfSome k (λ n. n ≤ MAX_NUMBER) × IsTrue (is_read i.op)
 KindIsLimited (Mark v m) = VariableIsLimited v × ValueIsLimited m
 KindIsLimited (Phi p k) = PlaceIsLimited p × (k ≤ MAX_NUMBER)
 

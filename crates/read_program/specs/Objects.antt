@@ -2,10 +2,9 @@
 use Rattle.std.specs.Prelude.{ℕ, ◌+◌, Bool, true, false, nat_le, if◌then◌else◌, List, map, Option, Some, None}
 use Rattle.std.specs.List.{list_all}
 use Rattle.std.specs.Option.{option_map_or}
-use Rattle.rv64_instr.specs.declared.decoded.Base.{Base}
-use Rattle.rv64_instr.specs.declared.decoded.Base.TheVariants.{PointedBy, ObjectAt}
+use Rattle.rv64_instr.specs.Row.{Base, PointedBy, ObjectAt, BesidePart}
 use Rattle.rv64_instr.specs.declared.operand.Operand.{Operand}
-use Rattle.rv64_instr.specs.declared.operand.Operand.TheVariants.{Def, Use, ImplicitDef, ImplicitUse, Imm, Slot, Object, Block as OfBlock, Symbol, Mask}
+use Rattle.rv64_instr.specs.declared.operand.Operand.TheVariants.{Def, Use, ImplicitDef, ImplicitUse, Imm, Slot, Object, Part, Block as OfBlock, Symbol, Mask}
 use Rattle.rv64_instr.specs.declared.place.Place.{Place}
 use Rattle.rv64_instr.specs.declared.place.Place.TheVariants as places
 use Rattle.rv64_instr.specs.Form.{has_form}
@@ -18,7 +17,7 @@ use Rattle.mir_func.specs.declared.item.ItemKind.{ItemKind}
 use Rattle.mir_func.specs.declared.item.ItemKind.TheVariants.{Code, Mark, Phi}
 use Rattle.mir_func.specs.declared.object.Object as func
 use Rattle.mir_func.specs.Objects.{object_of}
-use Rattle.read_body.specs.Met.{is_met}
+use Rattle.read_body.specs.FirstUseOrder.{is_met}
 
 -- an operand: a spill slot becomes a stack object if its entry is one
 abbrev pub operand_as : List ℕ → Operand → Operand
@@ -29,6 +28,7 @@ operand_as ids (ImplicitDef r) = ImplicitDef r
 operand_as ids (ImplicitUse r) = ImplicitUse r
 operand_as ids (Imm i) = Imm i
 operand_as ids (Object n) = Object n
+operand_as ids (Part half y) = Part half y
 operand_as ids (OfBlock n) = OfBlock n
 operand_as ids (Symbol name) = Symbol name
 operand_as ids Mask = Mask
@@ -80,6 +80,7 @@ has_bytes objects n bytes = option_map_or (λ (o : func.Object). nat_le bytes o.
 abbrev pub base_has_bytes : List func.Object → Base → ℕ → Bool
 base_has_bytes objects (PointedBy r) bytes = true
 base_has_bytes objects (ObjectAt n) bytes = has_bytes objects n bytes
+base_has_bytes objects (BesidePart r y) bytes = true
 
 -- whether an access is within its object. An address computed in an object may be at most its end.
 abbrev pub access_stays : List func.Object → Access → Bool

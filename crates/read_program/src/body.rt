@@ -5,7 +5,7 @@ ghost use Rattle.read_body.specs.Body.{IsCounted};
 ghost use Rattle.read_body.specs.Limits.{MAX_ITEMS};
 ghost use Rattle.read_program.specs.BodyLines.{Reads, label_said, item_said, behind_line, body_of};
 
-use base_ids::code::BlockId;
+use base_ids::function_ids::BlockId;
 use read_body::body::Body;
 use read_item::judge::judge;
 use read_item::judged::{JudgeError, Judged};

@@ -20,12 +20,12 @@ ghost use Rattle.read_program.specs.Objects.{
   blocks_stay,
 };
 
-use base_ids::code::ObjectId;
+use base_ids::function_ids::ObjectId;
 use base_list::List;
 use mir_func::block::{Block, Blocks};
 use mir_func::item::{Item, ItemKind, Items};
 use mir_func::object::Object;
-use read_body::met::FirstUseOrder;
+use read_body::first_use_order::FirstUseOrder;
 use rv64_instr::arithmetic::{load_width, store_width};
 use rv64_instr::decoded::{Base, Decoded};
 use rv64_instr::instr::Instr;

@@ -1,9 +1,9 @@
 -- What an item keeps where stack entries are read as objects: its numbers, and that its text tells it.
 use Rattle.std.proofs.Common.{◌≡◌, ℕ, ◌<◌, ◌≤◌, Bool, true, false, cond, List, All, Option, Some, None, refl, sym, subst, ◌∙◌, arith}
-use Rattle.std.specs.Prelude.{IfSome, is_some}
+use Rattle.std.specs.Prelude.{IfSome, is_some, IsTrue}
 use Rattle.std.proofs.lemmas.List.Elements.{All-map, All-weaker}
 use Rattle.rv64_instr.specs.declared.operand.Operand.{Operand}
-use Rattle.rv64_instr.specs.declared.operand.Operand.TheVariants.{Def, Use, ImplicitDef, ImplicitUse, Imm, Slot, Object, Block, Symbol, Mask}
+use Rattle.rv64_instr.specs.declared.operand.Operand.TheVariants.{Def, Use, ImplicitDef, ImplicitUse, Imm, Slot, Object, Part, Block, Symbol, Mask}
 use Rattle.rv64_instr.specs.declared.place.Place.{Place}
 use Rattle.rv64_instr.specs.declared.place.Place.TheVariants as place
 use Rattle.rv64_instr.specs.Instruction.{Instruction}
@@ -23,14 +23,15 @@ use Rattle.base_ids.specs.Limits.{MAX_NUMBER}
 use Rattle.read_item.specs.Debug.{inlined_at, inlined_at_node}
 use Rattle.read_declarations.specs.declared.stack.StackEntry.{StackEntry}
 use Rattle.read_body.specs.Body.{object_named}
-use Rattle.rv64_instr.specs.Parts.{object_named as row_object}
+use Rattle.rv64_instr.specs.LocationEffects.{object_named as row_object}
 use Rattle.read_body.specs.StackEntryKind.{objects_of, ids_of_objects}
-use Rattle.read_body.specs.Met.{is_met}
+use Rattle.read_body.specs.FirstUseOrder.{is_met}
 use Rattle.read_program.specs.Closing.{entry_ids}
 use Rattle.read_program.specs.Objects.{operand_as, operands_as, is_object, place_as, kind_as}
 use Rattle.mir_printer.specs.Printable.{IsNumber, HasNumbers, IsAsDeclared, IsPrintableInstruction, IsPrintablePlace, IsPrintableValue}
 use Rattle.mir_printer.specs.Printable.{IsPrintableLoc, Declared}
 use Rattle.mir_printer.specs.Printable.{inlined_at as text_inlined_at, IsPrintableKind}
+use Rattle.read_item.specs.Opcode.{is_read}
 use Rattle.read_program.specs.Limited.{IsLimited, ValueIsLimited, PlaceIsLimited, KindIsLimited, LocIsLimited}
 use Rattle.read_program.proofs.Entries.{object_if_named, ids_are_objects}
 use Rattle.read_program.proofs.Items.{IsReadItem}
@@ -59,6 +60,7 @@ operand_numbers (ImplicitUse r) small = register_number r small
 operand_numbers (Imm i) small = small
 operand_numbers (Slot n) small = limited_number n small
 operand_numbers (Object n) small = limited_number n small
+operand_numbers (Part half y) small = absurd small
 operand_numbers (Block n) small = limited_number n small
 operand_numbers (Symbol name) small = tt
 operand_numbers Mask small = tt
@@ -149,8 +151,8 @@ module _ (meta : Maps) (named : List ℕ) (es : List StackEntry) where
 
   kind_limited : (kind : ItemKind) → HasForm kind → KindIsLimited kind → KindIsLimited (kind_as ids kind)
   kind_limited (Code i k) form small =
-      subst (λ (j : Instruction). All IsLimited j.operands × IfSome k (λ n. n ≤ MAX_NUMBER)) (sym (renamed ids i form))
-      (operands_limited i.operands small.0, small.1)
+      subst (λ (j : Instruction). All IsLimited j.operands × IfSome k (λ n. n ≤ MAX_NUMBER) × IsTrue (is_read j.op)) (sym (renamed ids i form))
+      (operands_limited i.operands small.0, small.1, small.2)
   kind_limited (Mark v m) form small = small
   kind_limited (Phi p k) form small = (place_limited p small.0, small.1)
 

@@ -33,7 +33,7 @@ use Rattle.read_item.specs.declared.judged.Judged.TheVariants as judged_as
 use Rattle.read_item.specs.Judge.{judged}
 use Rattle.read_body.specs.declared.body.Body.{Body}
 use Rattle.read_body.specs.Body.{nothing_read, label_cause, with_label, item_cause, with_item}
-use Rattle.read_body.specs.Met.{is_met}
+use Rattle.read_body.specs.FirstUseOrder.{is_met}
 use Rattle.read_program.specs.Objects.{blocks_as}
 use Rattle.read_program.specs.BodyLines.{unless, judged_said, item_said, line_said, behind_line, and_then, body_behind, body_of}
 use Rattle.read_program.proofs.Bodies.{facts_apart}

@@ -30,8 +30,8 @@ use Rattle.read_declarations.specs.Stack.{is_alignment, entry_with, unsized, sta
 use Rattle.read_declarations.specs.Stack.{shared}
 use Rattle.read_declarations.specs.Stream.{text_at}
 use Rattle.read_declarations.specs.Substitutions.{pair_of, substitution_with, substitution_of, substituted, substitutions_behind}
-use Rattle.read_body.specs.declared.frame.ObjectLayout.{ObjectLayout}
-use Rattle.read_body.specs.StackEntryKind.{is_object, with_slot, slots_behind, slots_of, laid_at, with_object, objects_behind, local_block, objects_of}
+use Rattle.read_body.specs.declared.stack_entry_kind.ObjectLayout.{ObjectLayout}
+use Rattle.read_body.specs.StackEntryKind.{is_stack_object, with_slot, slots_behind, slots_of, laid_at, with_object, objects_behind, local_block, objects_of}
 use Rattle.read_proof.specs.Read.{PairIsLimited, EntryIsLimited}
 use Rattle.read_proof.proofs.Nodes.{Small, one_of, integer_small}
 
@@ -178,7 +178,7 @@ objects_more : (named : List ℕ) (block : ℕ) (laid : ObjectLayout) (es : List
 unfolding objects_behind
 objects_more named block laid [] small all = all
 objects_more named block laid (e ∷ es) small all = objects_more named block (with_object named block laid e) es (All-tail HasSmallId e es small)
-    (object_more (is_object named e) laid (laid_at block laid.end e) _ (All-head HasSmallId e es small) all)
+    (object_more (is_stack_object named e) laid (laid_at block laid.end e) _ (All-head HasSmallId e es small) all)
 
 -- the objects among stack entries with small numbers
 pub objects_small : (named : List ℕ) (es : List StackEntry) → All HasSmallId es → All IsSmall (objects_of named es).objects
@@ -195,7 +195,7 @@ slots_more : (named slots : List ℕ) (es : List StackEntry) → All HasSmallId 
 unfolding slots_behind
 slots_more named slots [] small all = all
 slots_more named slots (e ∷ es) small all = slots_more named (with_slot named slots e) es (All-tail HasSmallId e es small)
-    (slot_more (is_object named e) slots e.id (All-head HasSmallId e es small) all)
+    (slot_more (is_stack_object named e) slots e.id (All-head HasSmallId e es small) all)
 
 -- the slots among stack entries with small numbers
 pub slots_small : (named : List ℕ) (es : List StackEntry) → All HasSmallId es → All (λ k. k ≤ MAX_NUMBER) (slots_of named es)

@@ -30,7 +30,7 @@ use Rattle.read_body.specs.declared.body.Body.{Body}
 use Rattle.read_body.specs.Body.{blocks_of}
 use Rattle.read_body.specs.Closing.{blocks_go_to, all_met}
 use Rattle.read_body.specs.StackEntryKind.{ids_of_objects}
-use Rattle.read_body.specs.Met.{is_met}
+use Rattle.read_body.specs.FirstUseOrder.{is_met}
 use Rattle.read_program.specs.declared.closing.Parsed.{Parsed}
 use Rattle.read_program.specs.declared.error.ParseError.{ParseError}
 use Rattle.read_program.specs.declared.program.Program.{Program}

@@ -1,6 +1,6 @@
 //! Lexemes: tokens with the values that their texts have.
 
-use base_ids::code::{BlockId, SlotId};
+use base_ids::function_ids::{BlockId, SlotId};
 use base_ids::metadata::NodeId;
 use base_list::List;
 use read_lexer::parts::Token;

@@ -19,7 +19,7 @@ ghost use Rattle.read_token.specs.Register.{
 use crate::lexeme::{Lexeme, RegisterName};
 use crate::number::limited;
 use crate::word::named_number;
-use base_ids::code::{BlockId, SlotId};
+use base_ids::function_ids::{BlockId, SlotId};
 use read_lexer::bytes::digits;
 use rv64_instr::reg::{Reg, physical};
 

@@ -15,7 +15,7 @@ ghost use Rattle.read_token.specs.Word.{
 
 use crate::lexeme::{Flag, Word};
 use crate::number::limited;
-use base_ids::code::BlockId;
+use base_ids::function_ids::BlockId;
 use read_lexer::bytes::digits;
 
 /// Whether a word is a register flag that is ignored.

@@ -6,10 +6,10 @@ use Rattle.std.proofs.lemmas.List.{map-append}
 use Rattle.mir_func.specs.declared.object.Object.{Object}
 use Rattle.mir_func.specs.Sound.{AreApart}
 use Rattle.read_declarations.specs.declared.stack.StackEntry.{StackEntry}
-use Rattle.read_body.specs.declared.frame.ObjectLayout.{ObjectLayout}
+use Rattle.read_body.specs.declared.stack_entry_kind.ObjectLayout.{ObjectLayout}
 use Rattle.mir_func.specs.Objects.{next_end}
-use Rattle.read_body.specs.StackEntryKind.{is_object, with_slot, slots_behind, laid_at, with_object, objects_behind}
-use Rattle.read_body.specs.Met.{is_met}
+use Rattle.read_body.specs.StackEntryKind.{is_stack_object, with_slot, slots_behind, laid_at, with_object, objects_behind}
+use Rattle.read_body.specs.FirstUseOrder.{is_met}
 use Rattle.read_program.proofs.Lists.{found, met_at}
 
 -- no number stands twice
@@ -76,7 +76,7 @@ module _ (named : List ℕ) where
   unfolding slots_behind objects_behind
   once_behind block ss laid [] once free entries = once
   once_behind block ss laid (e ∷ es) once free entries =
-      by (is_object named e) (once_behind block (with_slot named ss e) (with_object named block laid e) es) where
+      by (is_stack_object named e) (once_behind block (with_slot named ss e) (with_object named block laid e) es) where
         new : is_met e.id (ss ++ object_numbers laid.objects) ≡ false
         new = free e.id (ap (λ (b : Bool). b || is_met e.id (numbers es)) (eq-eqb e.id e.id refl))
 

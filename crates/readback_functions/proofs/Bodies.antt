@@ -27,7 +27,7 @@ use Rattle.mir_func.specs.Strip.{bare, stripped_items, stripped_block, stripped_
 use Rattle.read_item.specs.Judge.{entry_of, entries_of}
 use Rattle.read_body.specs.Body.{object_named}
 use Rattle.read_body.specs.Closing.{goes_to_one_of, item_goes_to, blocks_go_to, all_met}
-use Rattle.read_body.specs.Met.{is_met}
+use Rattle.read_body.specs.FirstUseOrder.{is_met}
 use Rattle.read_program.specs.Objects.{instr_as, kind_as, item_as, blocks_as, kind_stays, block_stays, blocks_stay}
 use Rattle.read_program.proofs.Operands.{NamesAmong}
 use Rattle.mir_printer.specs.Spelling.{is_definition}

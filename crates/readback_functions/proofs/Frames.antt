@@ -11,10 +11,10 @@ use Rattle.mir_func.specs.declared.object.Object.{Object}
 use Rattle.mir_func.specs.Objects.{up_to, reach_after, reach_from, counted, local_count, local_offsets, place_of, next_end, AreLaidFrom, AreLaid, object_of}
 use Rattle.read_declarations.specs.declared.stack.StackEntry.{StackEntry}
 use Rattle.read_declarations.specs.Stack.{entry_offsets}
-use Rattle.read_body.specs.declared.frame.ObjectLayout.{ObjectLayout}
-use Rattle.read_body.specs.StackEntryKind.{is_object, with_slot, slots_behind, slots_of, laid_at, with_object, objects_behind, local_block, objects_of}
+use Rattle.read_body.specs.declared.stack_entry_kind.ObjectLayout.{ObjectLayout}
+use Rattle.read_body.specs.StackEntryKind.{is_stack_object, with_slot, slots_behind, slots_of, laid_at, with_object, objects_behind, local_block, objects_of}
 use Rattle.read_body.specs.StackEntryKind.{ids_of_objects}
-use Rattle.read_body.specs.Met.{is_met, met}
+use Rattle.read_body.specs.FirstUseOrder.{is_met, met}
 use Rattle.read_program.specs.Closing.{ids_behind, entry_ids}
 use Rattle.read_program.proofs.Entries.{ids_are_objects}
 use Rattle.read_program.proofs.Frames.{frame_count, objects_laid, slot_if_no_object}
@@ -33,7 +33,7 @@ module _ (named : List ℕ) where
 
   -- an object is one by its size or its name
   abbrev IsObject : Object → Type 0
-  IsObject o = (is_object named (object_entry o) ≡ true) × IsEntry (object_entry o)
+  IsObject o = (is_stack_object named (object_entry o) ≡ true) × IsEntry (object_entry o)
 
   unmet : (l : Option ℕ) (b c : Bool) → (is_some l || (not b || c)) ≡ false → c ≡ false
   unmet None true c e = e
@@ -44,8 +44,8 @@ module _ (named : List ℕ) where
   unfolding slots_behind
   slots_are ss [] all slots = slots
   slots_are ss (e ∷ es) all slots =
-      slots_are (with_slot named ss e) es (All-tail IsEntry e es all) (by (is_object named e) refl) where
-        by : (b : Bool) → is_object named e ≡ b → All IsSlot (cond b ss (ss ++ e.id ∷ []))
+      slots_are (with_slot named ss e) es (All-tail IsEntry e es all) (by (is_stack_object named e) refl) where
+        by : (b : Bool) → is_stack_object named e ≡ b → All IsSlot (cond b ss (ss ++ e.id ∷ []))
         by true is = slots
         by false is = All-push IsSlot ss e.id slots (unmet e.local_offset (eqb e.size 8) (is_met e.id named) is, (All-head IsEntry e es all).id)
 
@@ -54,11 +54,11 @@ module _ (named : List ℕ) where
   unfolding objects_behind
   objects_are block laid [] all objects = objects
   objects_are block laid (e ∷ es) all objects = objects_are block (with_object named block laid e) es (All-tail IsEntry e es all)
-      (by (is_object named e) refl) where
+      (by (is_stack_object named e) refl) where
         entry : IsEntry e
         entry = All-head IsEntry e es all
 
-        by : (b : Bool) → is_object named e ≡ b →
+        by : (b : Bool) → is_stack_object named e ≡ b →
             All IsObject (cond b (record {
               objects = laid.objects ++ laid_at block laid.end e ∷ [];
               end = next_end laid.end (place_of block laid.end e.align e.local_offset + e.size) e.local_offset;

@@ -1,6 +1,7 @@
 -- What is known of each item of a function that was read, and what is left of it without its debug items.
 use Rattle.std.proofs.Common.{◌≡◌, ℕ, ◌≤◌, Bool, true, false, cond, List, [], ◌∷◌, length, All, Option, Some, None, Result, Ok, Err}
 use Rattle.std.proofs.Common.{refl, sym, ap, subst, ◌∙◌, arith}
+use Rattle.std.specs.Prelude.{IsTrue}
 use Rattle.std.proofs.lemmas.List.{length-map}
 use Rattle.std.proofs.lemmas.List.Elements.{All-map, All-weaker}
 use Rattle.read_refusal.specs.declared.kind.RefusalKind.{RefusalKind}
@@ -29,8 +30,8 @@ use Rattle.read_item.specs.declared.opcode.Opcode.TheVariants as opcodes
 use Rattle.read_item.specs.Code.{MAX_OPERANDS, code_of}
 use Rattle.read_item.specs.Debug.{value_mark, reference_mark, list_mark, phi_of, inlined_at, mark_kind, phi_kind, debug_kind, debug_of}
 use Rattle.read_item.specs.Judge.{entries_of, numbered, item_of, passed_if, judged_by, judged}
-use Rattle.read_item.specs.Opcode.{opcode_of}
-use Rattle.read_body.specs.Met.{is_met}
+use Rattle.read_item.specs.Opcode.{opcode_of, is_read}
+use Rattle.read_body.specs.FirstUseOrder.{is_met}
 use Rattle.read_program.specs.Limited.{IsLimited, LocIsLimited}
 use Rattle.read_program.specs.Objects.{operand_as, operands_as, instr_as}
 use Rattle.read_program.proofs.Forms.{line_fits}
@@ -107,6 +108,7 @@ pub record IsKnownCode (entries : List ℕ) (c : Instruction) : Type 0 where
   pub named : All (NamesAmong entries) c.operands
   pub pointer : All IsNotPointer c.operands
   pub few : length c.operands ≤ MAX_OPERANDS
+  pub read : IsTrue (is_read c.op)
 
 abbrev pub KnownKind : List ℕ → ItemKind → Type 0
 KnownKind entries (Code c k) = IsKnownCode entries c
@@ -138,6 +140,7 @@ item_known meta end kind loc line j text says means kind_is loc_is entries =
           named = all.named;
           pointer = all.pointer;
           few = few_operands is.op line c (code_line is.op line c is.is);
+          read = all.limited.2;
         }
 
 -- ---- code where stack entries are objects
@@ -172,6 +175,9 @@ all_as P ids c form each all = subst (λ (i : Instruction). All P i.operands) (s
 module _ (ids entries : List ℕ) (c : Instruction) (is : IsKnownCode entries c) where
   pub code_limited : All IsLimited (instr_as ids c).operands
   code_limited = all_as IsLimited ids c is.form (operand_limited ids) is.limited
+
+  pub code_read : IsTrue (is_read (instr_as ids c).op)
+  code_read = subst (λ (i : Instruction). IsTrue (is_read i.op)) (sym (renamed ids c is.form)) is.read
 
   pub code_named : All (NamesAmong entries) (instr_as ids c).operands
   code_named = all_as (NamesAmong entries) ids c is.form (operand_named ids entries) is.named

@@ -22,7 +22,7 @@ use Rattle.mir_func.specs.Strip.{stripped_block, stripped}
 use Rattle.mir_func.proofs.Stripping.{stripped_sound}
 use Rattle.read_declarations.specs.declared.declarations.Declarations.{Declarations}
 use Rattle.read_declarations.specs.Declarations.{fixed_refusal, checked, declarations_of}
-use Rattle.read_declarations.specs.Entry.{entries_from}
+use Rattle.read_declarations.specs.FlowMapping.{entries_from}
 use Rattle.read_declarations.specs.List.{list_in}
 use Rattle.read_declarations.specs.Stream.{stream_from}
 use Rattle.read_declarations.specs.Substitutions.{substitutions_behind, substitutions_of}
@@ -30,7 +30,7 @@ use Rattle.read_body.specs.declared.body.Body.{Body}
 use Rattle.read_body.specs.Body.{constant_of, blocks_of}
 use Rattle.read_body.specs.Closing.{blocks_go_to, all_met}
 use Rattle.read_body.specs.StackEntryKind.{ids_of_objects}
-use Rattle.read_body.specs.Met.{is_met}
+use Rattle.read_body.specs.FirstUseOrder.{is_met}
 use Rattle.read_program.specs.declared.closing.Parsed.{Parsed}
 use Rattle.read_program.specs.declared.closing.Parts.{Parts}
 use Rattle.read_program.specs.declared.error.ParseError.{ParseError}
@@ -58,7 +58,7 @@ use Rattle.readback_functions.specs.Known.{IsKnown}
 use Rattle.readback_functions.proofs.Known.{bodies_are_known}
 use Rattle.readback_functions.specs.Stripped.{placed_block, placed, document_of, HasNamesOfBytes, IsReadAgain, StrippedReadsBack}
 use Rattle.readback_functions.proofs.FunctionDocuments.{document_is}
-use Rattle.readback_functions.proofs.FunctionCodes.{KnownKind, IsKnownItem, item_known, code_limited, code_named, code_is}
+use Rattle.readback_functions.proofs.FunctionCodes.{KnownKind, IsKnownItem, item_known, code_limited, code_read, code_named, code_is}
 use Rattle.readback_functions.proofs.Bodies.{left_blocks, blocks_left, fewer, ids_left, blocks_named, blocks_go, blocks_read, all_stay, all_end, last_placed}
 use Rattle.readback_functions.proofs.Bodies.{code_declared, all_declared}
 
@@ -197,7 +197,7 @@ module _ (meta : Maps) (doc : FunctionDocument) (d : Declarations) (body : Body)
   readable : All (IsReadableItem again) (items_of sb)
   readable = blocks_left ids (λ k l. IsKnownItem body.entries k l × HasByteNames (kind_as ids k)) (IsReadableItem again)
       (λ c k o l q. record {
-        writable = record { kind = (code_limited ids body.entries c q.0.kind_is, tt); loc = q.0.place; names = q.1 };
+        writable = record { kind = (code_limited ids body.entries c q.0.kind_is, tt, code_read ids body.entries c q.0.kind_is); loc = q.0.place; names = q.1 };
         readable = code_is ids body.entries c q.0.kind_is;
       }) bs (both_items Good NameBytes bs good named)
 
@@ -313,7 +313,15 @@ module _ (meta : Maps) (doc : FunctionDocument) (d : Declarations) (body : Body)
   written : All IsWritable (items_of (left_blocks (ids_of_objects body.objects d.stack) (blocks_of body)))
   written = blocks_left (ids_of_objects body.objects d.stack)
       (λ k l. IsKnownItem body.entries k l × HasByteNames (kind_as (ids_of_objects body.objects d.stack) k)) IsWritable
-      (λ c k o l q. record { kind = (code_limited (ids_of_objects body.objects d.stack) body.entries c q.0.kind_is, tt); loc = q.0.place; names = q.1 })
+      (λ c k o l q. record {
+        kind = (
+          code_limited (ids_of_objects body.objects d.stack) body.entries c q.0.kind_is,
+          tt,
+          code_read (ids_of_objects body.objects d.stack) body.entries c q.0.kind_is,
+        );
+        loc = q.0.place;
+        names = q.1;
+      })
       (blocks_of body)
       (both_items (Good meta doc d body p declared read closes names meta 0) (NameBytes meta doc d body p declared read closes names meta 0) (blocks_of body)
       (good meta doc d body p declared read closes names meta 0) (named meta doc d body p declared read closes names meta 0))

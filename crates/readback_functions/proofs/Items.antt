@@ -1,7 +1,7 @@
 -- The lines of items and of labels.
 use Rattle.std.proofs.Common.{◌≡◌, ℕ, ◌+◌, ◌<◌, ◌≤◌, Bool, true, false, cond, not, ◌&&◌, List, [], ◌∷◌, ◌++◌, map, All, Option, Some, None}
 use Rattle.std.proofs.Common.{refl, sym, subst, arith, append_assoc}
-use Rattle.std.specs.Prelude.{codes, filter, IfSome}
+use Rattle.std.specs.Prelude.{codes, filter, IfSome, IsTrue}
 use Rattle.std.specs.List.{list_all, flat_map}
 use Rattle.std.specs.Char.{is_ascii_uppercase}
 use Rattle.std.specs.Fmt.{decimal}
@@ -9,7 +9,7 @@ use Rattle.std.proofs.lemmas.Bool.{and_parts, and_from}
 use Rattle.std.proofs.lemmas.Bool.Decides.{nat_tests}
 use Rattle.std.proofs.lemmas.List.Elements.{All-head, All-tail, All-filter, All-weaker}
 use Rattle.rv64_instr.specs.declared.operand.Operand.{Operand}
-use Rattle.rv64_instr.specs.declared.operand.Operand.TheVariants.{Def, Use, ImplicitDef, ImplicitUse, Imm, Slot, Object, Block as OfBlock, Symbol, Mask}
+use Rattle.rv64_instr.specs.declared.operand.Operand.TheVariants.{Def, Use, ImplicitDef, ImplicitUse, Imm, Slot, Object, Part, Block as OfBlock, Symbol, Mask}
 use Rattle.rv64_instr.specs.Instruction.{Instruction}
 use Rattle.rv64_instr.specs.Mnemonic.{mnemonic_of}
 use Rattle.base_ids.specs.Limits.{MAX_NUMBER}
@@ -20,6 +20,7 @@ use Rattle.mir_func.specs.declared.item.ItemKind.{ItemKind}
 use Rattle.mir_func.specs.declared.item.ItemKind.TheVariants.{Code, Mark, Phi}
 use Rattle.mir_func.specs.declared.location.Loc.{Loc}
 use Rattle.mir_func.specs.declared.location.Loc.TheVariants.{Absent, Node, Inline}
+use Rattle.read_item.specs.Opcode.{is_read}
 use Rattle.read_program.specs.Limited.{IsLimited, KindIsLimited, LocIsLimited}
 use Rattle.read_program.proofs.Lists.{both}
 use Rattle.mir_printer.specs.Spelling.{comma_separated, is_bare, quoted_byte, symbol_text, register_text, operand_text, is_definition}
@@ -55,6 +56,7 @@ operand_shows (ImplicitUse r) small bytes = shows_behind (codes "implicit ") (re
 operand_shows (Imm i) small bytes = signed_shows i small
 operand_shows (Slot n) small bytes = shows_behind (codes "%stack.") (decimal n) refl (number_shows n small)
 operand_shows (Object n) small bytes = shows_behind (codes "%stack.") (decimal n) refl (number_shows n small)
+operand_shows (Part half y) small bytes = absurd small
 operand_shows (OfBlock n) small bytes = shows_behind (codes "%bb.") (decimal n) refl (number_shows n small)
 operand_shows (Symbol name) small bytes = symbol_shows name bytes
 operand_shows Mask small bytes = record { printed = refl; ends = λ so_far. refl }
@@ -97,13 +99,13 @@ opcode_shows (b ∷ bs) is =
     let second = and_parts (list_all is_word_byte bs) (is_upper (word_of (b ∷ bs)) && list_all is_safe (b ∷ bs)) first.1 in
     visible_shows b bs (and_from (is_visible b) (list_all is_visible bs) (upper_visible b first.0) (all_visible is_word_byte word_visible bs second.0))
 
-instruction_shows : (i : Instruction) → All Fits i.operands → Shows (instruction_text i)
-instruction_shows i all =
+instruction_shows : (i : Instruction) → IsTrue (is_read i.op) → All Fits i.operands → Shows (instruction_text i)
+instruction_shows i read all =
     let sets = filter is_definition i.operands in
     let uses = filter (λ o. not (is_definition o)) i.operands in
     shows_before (definitions_text sets ++ mnemonic_of i.op) (uses_text uses)
     (shows_behind (definitions_text sets) (mnemonic_of i.op) (definitions_printed sets (All-filter is_definition Fits i.operands all))
-    (opcode_shows (mnemonic_of i.op) (mnemonics i.op)))
+    (opcode_shows (mnemonic_of i.op) (mnemonics i.op read)))
     (uses_show uses (All-filter (λ o. not (is_definition o)) Fits i.operands all))
 
 -- ---- attributes
@@ -140,11 +142,11 @@ location_may (Inline l) small =
 
 -- ---- lines
 
-code_shows : (i : Instruction) (k : Option ℕ) (loc : Loc) → All Fits i.operands → IfSome k (λ n. n ≤ MAX_NUMBER) → LocIsLimited loc →
+code_shows : (i : Instruction) (k : Option ℕ) (loc : Loc) → IsTrue (is_read i.op) → All Fits i.operands → IfSome k (λ n. n ≤ MAX_NUMBER) → LocIsLimited loc →
     Shows ((instruction_text i ++ number_text k) ++ location_text loc)
-code_shows i k loc all small place =
+code_shows i k loc read all small place =
     shows_before (instruction_text i ++ number_text k) (location_text loc)
-    (shows_before (instruction_text i) (number_text k) (instruction_shows i all) (number_may k small)) (location_may loc place)
+    (shows_before (instruction_text i) (number_text k) (instruction_shows i read all) (number_may k small)) (location_may loc place)
 
 fitting : (os : List Operand) → All IsLimited os → All NameIsBytes os → All Fits os
 fitting os limited bytes = All-weaker (λ o. IsLimited o × NameIsBytes o) Fits (λ o each. record { limited = each.0; bytes = each.1 }) os
@@ -154,7 +156,7 @@ item_shows : (kind : ItemKind) (loc : Loc) → KindIsLimited kind → HasByteNam
     Shows (codes "    " ++ (kind_text kind ++ location_text loc))
 item_shows (Code i k) loc small bytes place =
     shows_behind (codes "    ") ((instruction_text i ++ number_text k) ++ location_text loc) refl
-    (code_shows i k loc (fitting i.operands small.0 bytes) small.1 place)
+    (code_shows i k loc small.2 (fitting i.operands small.0 bytes) small.1 place)
 item_shows (Mark v m) loc small bytes place =
     shows_behind (codes "    ") (mark_text v m ++ location_text loc) refl
     (shows_before (mark_text v m) (location_text loc) (mark_shows v m small.0 small.1) (location_may loc place))

@@ -34,7 +34,7 @@ use Rattle.read_body.specs.Body.{constant_of, object_named, nothing_read, and_la
 use Rattle.read_body.specs.Body.{with_number, with_constant, with_variable}
 use Rattle.read_body.specs.Body.{with_item, exceeds, item_cause}
 use Rattle.read_body.specs.Limits.{MAX_ITEMS, MAX_VARIABLES, MAX_NUMBERS, MAX_CONSTANTS}
-use Rattle.read_body.specs.Met.{is_met, met, is_known, known}
+use Rattle.read_body.specs.FirstUseOrder.{is_met, met, is_known, known}
 use Rattle.read_program.specs.BodyLines.{judged_said, item_said, line_said, behind_line, and_then, body_behind}
 use Rattle.read_program.proofs.Bodies.{facts_apart, numbers_keep, unless_ok}
 use Rattle.read_program.proofs.Lists.{met_keeps, met_has}

@@ -15,7 +15,7 @@ use Rattle.read_declarations.specs.declared.entry.MappingField.{MappingField}
 use Rattle.read_declarations.specs.declared.entry.MappingEntry.{MappingEntry}
 use Rattle.read_declarations.specs.declared.entry.OpenList.{OpenList}
 use Rattle.read_declarations.specs.declared.entry.ParserState.TheVariants.{Outside}
-use Rattle.read_declarations.specs.Entry.{entries_from, entries_of}
+use Rattle.read_declarations.specs.FlowMapping.{entries_from, entries_of}
 use Rattle.read_declarations.specs.List.{list_in, with_fault, list_of}
 use Rattle.read_declarations.specs.Stream.{line_tokens_of, piece_of, with_line, stream_from}
 use Rattle.readback_items.proofs.Cuts.{AllPass, pieces_pass, semicolon_mark}

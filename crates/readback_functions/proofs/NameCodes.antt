@@ -23,7 +23,7 @@ use Rattle.read_item.specs.Code.{number_of, used, stack_operand, number_operand,
 use Rattle.read_item.specs.Code.{operands_of}
 use Rattle.read_item.specs.Judge.{judged}
 use Rattle.read_item.specs.Place.{front, behind}
-use Rattle.read_body.specs.Met.{is_met}
+use Rattle.read_body.specs.FirstUseOrder.{is_met}
 use Rattle.read_program.specs.Objects.{operand_as, operands_as, kind_as}
 use Rattle.read_program.proofs.Forms.{AllOf}
 use Rattle.read_program.proofs.Judged.{code_line}

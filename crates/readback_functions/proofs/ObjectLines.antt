@@ -17,7 +17,7 @@ use Rattle.read_declarations.specs.declared.entry.MappingEntry.{MappingEntry}
 use Rattle.read_declarations.specs.declared.entry.OpenList.{OpenList}
 use Rattle.read_declarations.specs.declared.entry.ParserState.TheVariants.{Next}
 use Rattle.read_declarations.specs.declared.stack.StackEntry.{StackEntry}
-use Rattle.read_declarations.specs.Entry.{has_key, entries_from}
+use Rattle.read_declarations.specs.FlowMapping.{has_key, entries_from}
 use Rattle.read_declarations.specs.Field.{value_at, number_in, negated_of, negated_in}
 use Rattle.read_declarations.specs.List.{list_in}
 use Rattle.read_declarations.specs.Stack.{is_alignment}

@@ -28,7 +28,7 @@ use Rattle.read_declarations.specs.declared.entry.MappingEntry.{MappingEntry}
 use Rattle.read_declarations.specs.declared.entry.Listing.{Listing}
 use Rattle.read_declarations.specs.declared.stack.StackEntry.{StackEntry}
 use Rattle.read_declarations.specs.declared.stack.StackRead.{StackRead}
-use Rattle.read_declarations.specs.Entry.{has_key, entries_from}
+use Rattle.read_declarations.specs.FlowMapping.{has_key, entries_from}
 use Rattle.read_declarations.specs.Field.{value_at, number_in, negated_in}
 use Rattle.read_declarations.specs.List.{list_in}
 use Rattle.read_declarations.specs.Stack.{has_id, clash, refusal_at, judged, stack_behind, stack_of}

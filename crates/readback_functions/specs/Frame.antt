@@ -6,7 +6,7 @@ use Rattle.mir_func.specs.Sound.{AreApart}
 use Rattle.read_declarations.specs.declared.stack.StackEntry.{StackEntry}
 use Rattle.read_declarations.specs.Stack.{entry_offsets}
 use Rattle.read_body.specs.StackEntryKind.{slots_of, objects_of}
-use Rattle.read_body.specs.Met.{is_met}
+use Rattle.read_body.specs.FirstUseOrder.{is_met}
 use Rattle.read_program.specs.Closing.{entry_ids}
 use Rattle.readback_functions.specs.Declared.{IsEntry, entries_read}
 

@@ -15,7 +15,7 @@ use Rattle.read_item.specs.Judge.{judged}
 use Rattle.read_body.specs.declared.body.Body.{Body}
 use Rattle.read_body.specs.Body.{constant_of, object_named, blocks_of}
 use Rattle.read_body.specs.Limits.{MAX_VARIABLES, MAX_NUMBERS, MAX_CONSTANTS}
-use Rattle.read_body.specs.Met.{is_met}
+use Rattle.read_body.specs.FirstUseOrder.{is_met}
 use Rattle.read_program.specs.BodyLines.{body_of}
 use Rattle.readback_items.specs.Body.{VariableIn}
 

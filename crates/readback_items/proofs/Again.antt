@@ -1,17 +1,21 @@
 -- Code that a line means is judged again so.
-use Rattle.std.proofs.Common.{◌≡◌, ℕ, ℤ, Bool, true, false, ◌&&◌, List, [], ◌∷◌, map, Some, refl, sym, ap, subst, ◌∙◌}
+use Rattle.std.proofs.Common.{◌≡◌, ℕ, ℤ, Bool, true, false, ◌&&◌, List, [], ◌∷◌, map, Some, refl, sym, ap, subst, ◌∙◌, nat_eq, nat_le, nat_lt, ◌||◌}
 use Rattle.std.specs.List.{list_all, list_any, zip}
 use Rattle.std.proofs.lemmas.Bool.{and_parts, or_parts}
 use Rattle.rv64_instr.specs.declared.op.Op.{Op}
-use Rattle.rv64_instr.specs.declared.op.Op.TheVariants.{Registers, Immediate, Lui, Branch, Load, Store, Copy, PseudoBr, PseudoCall, PseudoRet}
+use Rattle.rv64_instr.specs.declared.op.Op.TheVariants.{Registers, Immediate, Lui, Branch, Load, Store, Copy}
+use Rattle.rv64_instr.specs.declared.op.Op.TheVariants.{PseudoBr, PseudoCall, PseudoRet, PseudoCallIndirect}
+use Rattle.rv64_instr.specs.declared.op.Op.TheVariants.{PseudoTail, PseudoTailIndirect, NoReturnCall, NoReturnCallIndirect}
 use Rattle.rv64_instr.specs.declared.op.ImmediateOp.{ImmediateOp}
 use Rattle.rv64_instr.specs.declared.op.LoadOp.{LoadOp}
 use Rattle.rv64_instr.specs.declared.op.StoreOp.{StoreOp}
 use Rattle.rv64_instr.specs.declared.operand.Operand.{Operand}
-use Rattle.rv64_instr.specs.declared.operand.Operand.TheVariants.{Def, Use, Imm, Slot, Object, Block, Symbol, Mask}
+use Rattle.rv64_instr.specs.declared.operand.Operand.TheVariants.{Def, Use, Imm, Slot, Object, Part, Block, Symbol, Mask, ImplicitUse}
+use Rattle.rv64_instr.specs.declared.symbol.Half.TheVariants.{Upper, Lower}
 use Rattle.rv64_instr.specs.Arithmetic.{load_width, store_width}
 use Rattle.rv64_instr.specs.Form.{is_within, has_12_bits, is_immediate, is_addi, moves_slot, is_implicit, fits_registers, fits_immediate, fits_upper}
 use Rattle.rv64_instr.specs.Form.{fits_branch, fits_load, fits_store, fits_copy, fits_jump, fits_call, has_form}
+use Rattle.rv64_instr.specs.Form.{is_argument, is_tail_use, is_tail_register, fits_held_call, fits_tail, fits_held_tail, fits_gone, fits_held_gone}
 use Rattle.std.specs.Prelude.{pos}
 use Rattle.read_line.specs.declared.form.ItemForm.{ItemForm}
 use Rattle.read_line.specs.declared.form.OperandForm.{OperandForm}
@@ -26,7 +30,7 @@ use Rattle.readback_items.specs.Code.{judged_operands, judged_instruction}
 use Rattle.readback_items.specs.Again.{CodeIsJudgedAgain}
 use Rattle.readback_items.proofs.Access.{parts, joined_some, uses_of_store, uses_of_load, object_access}
 use Rattle.readback_items.proofs.Same.{Stays, stays_more, implicits_stay, arguments_stay, results_stay, stays_judged, slot_named}
-use Rattle.readback_items.proofs.Same.{slots_judged, objects_judged}
+use Rattle.readback_items.proofs.Same.{slots_judged, objects_judged, tails_stay}
 
 -- operands as a line has them
 record FromLine (op : Op) (line : ItemForm) (os : List Operand) : Type 0 where
@@ -64,6 +68,8 @@ module _ (ids : List ℕ) where
   upper : (os : List Operand) → fits_upper os ≡ true → Stays ids os
   upper (Def rd ∷ Imm i ∷ rest) e =
       stays_more ids (Def rd) (Imm i ∷ rest) tt (stays_more ids (Imm i) rest tt (behind (is_within (pos 0) (pos 1048575) i) rest e))
+  upper (Def rd ∷ Part Upper y ∷ rest) e =
+      stays_more ids (Def rd) (Part Upper y ∷ rest) tt (stays_more ids (Part Upper y) rest tt (implicits_stay ids rest e))
   upper os e = absurd cc
 
   branch : (os : List Operand) → fits_branch os ≡ true → Stays ids os
@@ -95,6 +101,10 @@ module _ (ids : List ℕ) where
       let s = behind (is_addi op && is_immediate op i) rest e in
       ap (λ (l : List Operand). judged_operands (Immediate op) (Def rd ∷ Object n ∷ Imm i ∷ l)) s.named
       ∙ objects_judged ids (Immediate op) (Def rd ∷ Object n ∷ Imm i ∷ rest) refl
+  immediate op (Def rd ∷ Use a ∷ Part Lower y ∷ rest) e =
+      three (Immediate op) (Def rd) (Use a) (Part Lower y) rest
+      (stays_more ids (Def rd) (Use a ∷ Part Lower y ∷ rest) tt (stays_more ids (Use a) (Part Lower y ∷ rest) tt (stays_more ids (Part Lower y) rest tt
+      (behind (is_addi op) rest e))))
   immediate op os e = absurd cc
 
   load_object : (op : LoadOp) (rd n : ℕ) (i : ℤ) (rest : List Operand) (line : ItemForm) → FromLine (Load op) line (Def rd ∷ Object n ∷ Imm i ∷ rest) →
@@ -123,6 +133,10 @@ module _ (ids : List ℕ) where
       let other = load_object op rd n i rest line from in
       ap (λ (l : List Operand). judged_operands (Load op) (Def rd ∷ Object n ∷ Imm i ∷ l)) s.named
       ∙ objects_judged ids (Load op) (Def rd ∷ Object n ∷ Imm i ∷ rest) (ap (λ (b : Bool). b && list_all is_implicit (map as_slot rest)) other)
+  load op (Def rd ∷ Use a ∷ Part Lower y ∷ rest) line from e =
+      three (Load op) (Def rd) (Use a) (Part Lower y) rest
+      (stays_more ids (Def rd) (Use a ∷ Part Lower y ∷ rest) tt (stays_more ids (Use a) (Part Lower y ∷ rest) tt (stays_more ids (Part Lower y) rest tt
+      (implicits_stay ids rest e))))
   load op os line from e = absurd cc
 
   store_object : (op : StoreOp) (rs n : ℕ) (i : ℤ) (rest : List Operand) (line : ItemForm) → FromLine (Store op) line (Use rs ∷ Object n ∷ Imm i ∷ rest) →
@@ -150,7 +164,36 @@ module _ (ids : List ℕ) where
       let other = store_object op rs n i rest line from in
       ap (λ (l : List Operand). judged_operands (Store op) (Use rs ∷ Object n ∷ Imm i ∷ l)) s.named
       ∙ objects_judged ids (Store op) (Use rs ∷ Object n ∷ Imm i ∷ rest) (ap (λ (b : Bool). b && list_all is_implicit (map as_slot rest)) other)
+  store op (Use rs ∷ Use a ∷ Part Lower y ∷ rest) line from e =
+      three (Store op) (Use rs) (Use a) (Part Lower y) rest
+      (stays_more ids (Use rs) (Use a ∷ Part Lower y ∷ rest) tt (stays_more ids (Use a) (Part Lower y ∷ rest) tt (stays_more ids (Part Lower y) rest tt
+      (implicits_stay ids rest e))))
   store op os line from e = absurd cc
+
+  held_call : (os : List Operand) → fits_held_call os ≡ true → Stays ids os
+  held_call (ImplicitUse r ∷ Mask ∷ rest) e =
+      stays_more ids (ImplicitUse r) (Mask ∷ rest) tt (stays_more ids Mask rest tt (arguments_stay ids rest (and_parts (nat_le 5 r && nat_lt r 32)
+      (list_all is_argument rest) e).1))
+  held_call os e = absurd cc
+
+  tail : (os : List Operand) → fits_tail os ≡ true → Stays ids os
+  tail (Symbol name ∷ rest) e = stays_more ids (Symbol name) rest tt (tails_stay ids rest e)
+  tail os e = absurd cc
+
+  held_tail : (os : List Operand) → fits_held_tail os ≡ true → Stays ids os
+  held_tail (ImplicitUse r ∷ rest) e =
+      stays_more ids (ImplicitUse r) rest tt (tails_stay ids rest (and_parts (nat_eq r 6 || is_tail_register r) (list_all is_tail_use rest) e).1)
+  held_tail os e = absurd cc
+
+  gone : (os : List Operand) → fits_gone os ≡ true → Stays ids os
+  gone (Symbol name ∷ Mask ∷ rest) e = stays_more ids (Symbol name) (Mask ∷ rest) tt (stays_more ids Mask rest tt (tails_stay ids rest e))
+  gone os e = absurd cc
+
+  held_gone : (os : List Operand) → fits_held_gone os ≡ true → Stays ids os
+  held_gone (ImplicitUse r ∷ Mask ∷ rest) e =
+      stays_more ids (ImplicitUse r) (Mask ∷ rest) tt (stays_more ids Mask rest tt (tails_stay ids rest (and_parts (nat_eq r 6 || is_tail_register r)
+      (list_all is_tail_use rest) e).1))
+  held_gone os e = absurd cc
 
   -- ---- all
 
@@ -165,6 +208,11 @@ module _ (ids : List ℕ) where
   again PseudoBr os line from e = stays_judged ids PseudoBr os (jump os e)
   again PseudoCall os line from e = stays_judged ids PseudoCall os (call os e)
   again PseudoRet os line from e = stays_judged ids PseudoRet os (results_stay ids os e)
+  again PseudoCallIndirect os line from e = stays_judged ids PseudoCallIndirect os (held_call os e)
+  again PseudoTail os line from e = stays_judged ids PseudoTail os (tail os e)
+  again PseudoTailIndirect os line from e = stays_judged ids PseudoTailIndirect os (held_tail os e)
+  again NoReturnCall os line from e = stays_judged ids NoReturnCall os (gone os e)
+  again NoReturnCallIndirect os line from e = stays_judged ids NoReturnCallIndirect os (held_gone os e)
 
 pub code_is_judged_again : CodeIsJudgedAgain
 code_is_judged_again op line i ids e =

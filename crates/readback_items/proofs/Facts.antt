@@ -9,7 +9,7 @@ use Rattle.mir_func.specs.declared.item.ItemKind.TheVariants.{Code, Mark, Phi}
 use Rattle.mir_func.specs.declared.location.Loc.{Loc}
 use Rattle.read_body.specs.declared.body.Body.{Body}
 use Rattle.read_body.specs.Body.{constant_of, object_named, with_number, with_constant, with_object, with_variable, with_item}
-use Rattle.read_body.specs.Met.{is_met, met}
+use Rattle.read_body.specs.FirstUseOrder.{is_met, met}
 
 -- what is met in an item, by its kind, its constant and its object
 pub record Facts (body next : Body) (kind : ItemKind) (c o : Option ℕ) : Type 0 where

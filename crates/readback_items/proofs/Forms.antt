@@ -3,7 +3,9 @@ use Rattle.std.proofs.Common.{◌≡◌, ℕ, ℤ, Bool, true, false, ◌&&◌, 
 use Rattle.std.specs.List.{list_all}
 use Rattle.std.proofs.lemmas.Bool.{and_parts}
 use Rattle.rv64_instr.specs.declared.op.Op.{Op}
-use Rattle.rv64_instr.specs.declared.op.Op.TheVariants.{Registers, Immediate, Lui, Branch, Load, Store, Copy, PseudoBr, PseudoCall, PseudoRet}
+use Rattle.rv64_instr.specs.declared.op.Op.TheVariants.{Registers, Immediate, Lui, Branch, Load, Store, Copy}
+use Rattle.rv64_instr.specs.declared.op.Op.TheVariants.{PseudoBr, PseudoCall, PseudoRet, PseudoCallIndirect}
+use Rattle.rv64_instr.specs.declared.op.Op.TheVariants.{PseudoTail, PseudoTailIndirect, NoReturnCall, NoReturnCallIndirect}
 use Rattle.rv64_instr.specs.declared.op.ImmediateOp.{ImmediateOp}
 use Rattle.rv64_instr.specs.declared.op.ImmediateOp.TheVariants.{Addi}
 use Rattle.rv64_instr.specs.declared.op.RegisterOp.{RegisterOp}
@@ -11,16 +13,30 @@ use Rattle.rv64_instr.specs.declared.op.BranchOp.{BranchOp}
 use Rattle.rv64_instr.specs.declared.op.LoadOp.{LoadOp}
 use Rattle.rv64_instr.specs.declared.op.StoreOp.{StoreOp}
 use Rattle.rv64_instr.specs.declared.operand.Operand.{Operand}
-use Rattle.rv64_instr.specs.declared.operand.Operand.TheVariants.{Def, Use, Imm, Slot, Object, Block, Symbol, Mask}
+use Rattle.rv64_instr.specs.declared.operand.Operand.TheVariants.{Def, Use, Imm, Slot, Object, Part, Block, Symbol, Mask}
+use Rattle.rv64_instr.specs.declared.symbol.Half.TheVariants.{Upper, Lower}
 use Rattle.rv64_instr.specs.Arithmetic.{load_width, store_width}
 use Rattle.rv64_instr.specs.Form.{has_12_bits, is_immediate, is_addi, moves_slot, is_implicit, fits_registers, fits_immediate, fits_upper, fits_branch}
 use Rattle.rv64_instr.specs.Form.{fits_load, fits_store, fits_copy, fits_jump, fits_call, has_form, is_within}
-use Rattle.std.specs.Prelude.{pos}
+use Rattle.std.specs.Prelude.{pos, All}
+use Rattle.std.proofs.lemmas.List.Elements.{All-head, All-tail}
+use Rattle.rv64_instr.specs.declared.symbol.LinkedAddress.{LinkedAddress}
+use Rattle.rv64_instr.specs.declared.symbol.Half.{Half}
+use Rattle.read_item.specs.Opcode.{is_read}
+use Rattle.read_program.specs.Limited.{IsLimited}
 use Rattle.read_item.specs.Code.{before, joined, definitions, placed}
 use Rattle.readback_items.specs.Code.{judged_operands}
 use Rattle.readback_items.proofs.Clean.{sets_of, uses_of}
 use Rattle.readback_items.proofs.Operands.{Gives, given_same, given_slots, given_objects}
 use Rattle.readback_items.proofs.Tails.{Tail, implicits, arguments, results}
+
+-- operands within the limits have no half of an address
+no_third : (a b : Operand) (half : Half) (y : LinkedAddress) (rest : List Operand) → All IsLimited (a ∷ b ∷ Part half y ∷ rest) → ⊥
+no_third a b half y rest small =
+    All-head IsLimited (Part half y) rest (All-tail IsLimited b (Part half y ∷ rest) (All-tail IsLimited a (b ∷ Part half y ∷ rest) small))
+
+no_second : (a : Operand) (half : Half) (y : LinkedAddress) (rest : List Operand) → All IsLimited (a ∷ Part half y ∷ rest) → ⊥
+no_second a half y rest small = All-head IsLimited (Part half y) rest (All-tail IsLimited a (Part half y ∷ rest) small)
 
 abbrev pub Given : Op → List Operand → Type 0
 Given op os = Gives op (sets_of os) (uses_of os) (judged_operands op os)
@@ -71,19 +87,20 @@ addi_only : (op : ImmediateOp) → is_addi op ≡ true → Addi ≡ op
 addi_only Addi e = refl
 addi_only op e = absurd cc
 
-immediate : (op : ImmediateOp) (os : List Operand) → fits_immediate op os ≡ true → Given (Immediate op) os
-immediate op (Def rd ∷ Use a ∷ Imm i ∷ rest) e = immediate_register op rd a i rest e
-immediate op (Def rd ∷ Object n ∷ Imm i ∷ rest) e =
+immediate : (op : ImmediateOp) (os : List Operand) → fits_immediate op os ≡ true → All IsLimited os → Given (Immediate op) os
+immediate op (Def rd ∷ Use a ∷ Imm i ∷ rest) e small = immediate_register op rd a i rest e
+immediate op (Def rd ∷ Object n ∷ Imm i ∷ rest) e small =
     let parts = and_parts (is_addi op && is_immediate op i) (list_all is_implicit rest) e in
     let is = and_parts (is_addi op) (is_immediate op i) parts.0 in
     let same = addi_only op is.0 in
     subst (λ (o : ImmediateOp). Given (Immediate o) (Def rd ∷ Object n ∷ Imm i ∷ rest)) same
     (address_of_object rd n i rest (subst (λ (o : ImmediateOp). fits_immediate o (Def rd ∷ Object n ∷ Imm i ∷ rest) ≡ true) (sym same) e))
-immediate op os e = absurd cc
+immediate op (Def rd ∷ Use a ∷ Part Lower y ∷ rest) e small = absurd (no_third (Def rd) (Use a) Lower y rest small)
+immediate op os e small = absurd cc
 
-upper : (os : List Operand) → fits_upper os ≡ true → Given Lui os
+upper : (os : List Operand) → fits_upper os ≡ true → All IsLimited os → Given Lui os
 unfolding definitions placed
-upper (Def rd ∷ Imm i ∷ rest) e =
+upper (Def rd ∷ Imm i ∷ rest) e small =
     let t = behind (is_within (pos 0) (pos 1048575) i) rest e in
     given_same Lui (Def rd ∷ Imm i ∷ []) rest t refl (record {
       slot = false;
@@ -92,7 +109,8 @@ upper (Def rd ∷ Imm i ∷ rest) e =
       in_place = refl;
       form = e;
     })
-upper os e = absurd cc
+upper (Def rd ∷ Part Upper y ∷ rest) e small = absurd (no_second (Def rd) Upper y rest small)
+upper os e small = absurd cc
 
 branch : (op : BranchOp) (os : List Operand) → fits_branch os ≡ true → Given (Branch op) os
 unfolding definitions placed
@@ -162,11 +180,12 @@ load_object op rd n i rest e false is =
       form = e;
     })
 
-load : (op : LoadOp) (os : List Operand) → fits_load op os ≡ true → Given (Load op) os
-load op (Def rd ∷ Use a ∷ Imm i ∷ rest) e = load_register op rd a i rest e
-load op (Def rd ∷ Slot n ∷ Imm i ∷ rest) e = load_slot op rd n i rest e
-load op (Def rd ∷ Object n ∷ Imm i ∷ rest) e = load_object op rd n i rest e (moves_slot (load_width op) i) refl
-load op os e = absurd cc
+load : (op : LoadOp) (os : List Operand) → fits_load op os ≡ true → All IsLimited os → Given (Load op) os
+load op (Def rd ∷ Use a ∷ Imm i ∷ rest) e small = load_register op rd a i rest e
+load op (Def rd ∷ Slot n ∷ Imm i ∷ rest) e small = load_slot op rd n i rest e
+load op (Def rd ∷ Object n ∷ Imm i ∷ rest) e small = load_object op rd n i rest e (moves_slot (load_width op) i) refl
+load op (Def rd ∷ Use a ∷ Part Lower y ∷ rest) e small = absurd (no_third (Def rd) (Use a) Lower y rest small)
+load op os e small = absurd cc
 
 -- ---- stores
 
@@ -223,11 +242,12 @@ store_object op rs n i rest e false is =
       form = e;
     })
 
-store : (op : StoreOp) (os : List Operand) → fits_store op os ≡ true → Given (Store op) os
-store op (Use rs ∷ Use a ∷ Imm i ∷ rest) e = store_register op rs a i rest e
-store op (Use rs ∷ Slot n ∷ Imm i ∷ rest) e = store_slot op rs n i rest e
-store op (Use rs ∷ Object n ∷ Imm i ∷ rest) e = store_object op rs n i rest e (moves_slot (store_width op) i) refl
-store op os e = absurd cc
+store : (op : StoreOp) (os : List Operand) → fits_store op os ≡ true → All IsLimited os → Given (Store op) os
+store op (Use rs ∷ Use a ∷ Imm i ∷ rest) e small = store_register op rs a i rest e
+store op (Use rs ∷ Slot n ∷ Imm i ∷ rest) e small = store_slot op rs n i rest e
+store op (Use rs ∷ Object n ∷ Imm i ∷ rest) e small = store_object op rs n i rest e (moves_slot (store_width op) i) refl
+store op (Use rs ∷ Use a ∷ Part Lower y ∷ rest) e small = absurd (no_third (Use rs) (Use a) Lower y rest small)
+store op os e small = absurd cc
 
 -- ---- others
 
@@ -282,14 +302,19 @@ return' os e =
       form = e;
     })
 
-pub operands_given : (op : Op) (os : List Operand) → has_form op os ≡ true → Given op os
-operands_given (Registers op) os e = registers op os e
-operands_given (Immediate op) os e = immediate op os e
-operands_given Lui os e = upper os e
-operands_given (Branch op) os e = branch op os e
-operands_given (Load op) os e = load op os e
-operands_given (Store op) os e = store op os e
-operands_given Copy os e = copy os e
-operands_given PseudoBr os e = jump os e
-operands_given PseudoCall os e = call os e
-operands_given PseudoRet os e = return' os e
+pub operands_given : (op : Op) (os : List Operand) → has_form op os ≡ true → All IsLimited os → is_read op ≡ true → Given op os
+operands_given (Registers op) os e small read = registers op os e
+operands_given (Immediate op) os e small read = immediate op os e small
+operands_given Lui os e small read = upper os e small
+operands_given (Branch op) os e small read = branch op os e
+operands_given (Load op) os e small read = load op os e small
+operands_given (Store op) os e small read = store op os e small
+operands_given Copy os e small read = copy os e
+operands_given PseudoBr os e small read = jump os e
+operands_given PseudoCall os e small read = call os e
+operands_given PseudoRet os e small read = return' os e
+operands_given PseudoCallIndirect os e small read = cc
+operands_given PseudoTail os e small read = cc
+operands_given PseudoTailIndirect os e small read = cc
+operands_given NoReturnCall os e small read = cc
+operands_given NoReturnCallIndirect os e small read = cc

@@ -7,6 +7,7 @@ use Rattle.read_refusal.specs.declared.kind.RefusalKind.{RefusalKind}
 use Rattle.read_refusal.specs.declared.kind.RefusalKind.TheVariants as kinds
 use Rattle.rv64_instr.specs.declared.op.Op.{Op}
 use Rattle.rv64_instr.specs.declared.operand.Operand.{Operand}
+use Rattle.std.specs.Prelude.{All, IsTrue}
 use Rattle.rv64_instr.specs.Instruction.{Instruction}
 use Rattle.rv64_instr.specs.Mnemonic.{mnemonic_of}
 use Rattle.rv64_instr.proofs.Names.{mnemonic_of-injective}
@@ -26,11 +27,12 @@ use Rattle.read_item.specs.declared.opcode.Opcode.TheVariants as opcodes
 use Rattle.read_item.specs.Code.{refusal_by, joined, definitions, placed, names_slot, places_of, fits, is_virtual, is_virtual_operand, is_pointer}
 use Rattle.read_item.specs.Code.{is_pointer_operand, is_misplaced, is_long, code_rules, operands_of, instruction, unless_refused, code_of}
 use Rattle.read_item.specs.Judge.{entries_of, numbered, item_of, judged_by, judged}
-use Rattle.read_item.specs.Opcode.{debug_opcode_of, opcode_or, opcode_of}
+use Rattle.read_item.specs.Opcode.{debug_opcode_of, opcode_or, opcode_of, is_read}
 use Rattle.read_item.specs.Place.{places}
 use Rattle.read_item.proofs.Named.{named_op}
 use Rattle.readback_items.specs.Debug.{IsDebug}
 use Rattle.readback_items.specs.Forms.{code_form, kind_form, form_of}
+use Rattle.read_program.specs.Limited.{IsLimited}
 use Rattle.readback_items.specs.Laws.{IsWritable}
 use Rattle.readback_items.proofs.Judged.{debug_lines_read_back}
 use Rattle.readback_items.proofs.Said.{lines_say_forms}
@@ -49,12 +51,12 @@ none_broken false false true d f j k l m n p q r s t = absurd cc
 none_broken false false false true f j k l m n p q r s t = absurd cc
 none_broken false false false false true j k l m n p q r s t = absurd cc
 
-module _ (i : Instruction) (number : Option ℕ) (loc : Loc) (is : IsCode i) where
+module _ (i : Instruction) (number : Option ℕ) (loc : Loc) (is : IsCode i) (small : All IsLimited i.operands) (read : IsTrue (is_read i.op)) where
   abbrev line : ItemForm
   line = code_form i number loc
 
   given : Given i.op i.operands
-  given = operands_given i.op i.operands is.form
+  given = operands_given i.op i.operands is.form small read
 
   plain : Clean (sets_of i.operands) (uses_of i.operands) (length i.operands)
   plain = clean i.operands is.pointer
@@ -100,7 +102,8 @@ module _ (i : Instruction) (number : Option ℕ) (loc : Loc) (is : IsCode i) whe
   opcode_is : opcode_of (mnemonic_of i.op) ≡ Some (opcodes.Code i.op)
   unfolding opcode_of
   opcode_is = ap (λ (o : Option Op). opcode_or o (debug_opcode_of (mnemonic_of i.op)))
-      (sym (named_op (mnemonic_of i.op) (Some i.op) refl (λ op e. ap (λ (x : Op). Some x) (mnemonic_of-injective i.op op e))))
+      (sym (ap (λ (b : Bool). cond b (Some i.op) None) (sym read) ∙ named_op (mnemonic_of i.op) (Some i.op) refl
+      (λ op e. ap (λ (x : Op). Some x) (mnemonic_of-injective i.op op e))))
 
   pub code_judged : (meta : Maps) → judged meta line ≡
       Ok (judged_as.Item (record { kind = Code (judged_instruction i) number; loc = loc; entries = entries_of line.operands }))
@@ -126,7 +129,7 @@ debug_judged meta i writable is =
 by_kind : (meta : Maps) (kind : ItemKind) (origin : Origin) (loc : Loc) → IsWritable (record { kind = kind; origin = origin; loc = loc }) →
     IsReadable meta loc kind → judged meta (kind_form kind loc) ≡
     Ok (judged_as.Item (record { kind = judged_kind kind; loc = loc; entries = entries_of (kind_form kind loc).operands }))
-by_kind meta (Code i k) origin loc writable is = code_judged i k loc is meta
+by_kind meta (Code i k) origin loc writable is = code_judged i k loc is writable.kind.0 writable.kind.2 meta
 by_kind meta (Mark v m) origin loc writable is = debug_judged meta (record { kind = Mark v m; origin = origin; loc = loc }) writable is
 by_kind meta (Phi p k) origin loc writable is = debug_judged meta (record { kind = Phi p k; origin = origin; loc = loc }) writable is
 

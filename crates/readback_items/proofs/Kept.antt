@@ -154,7 +154,7 @@ debug_kept debug.ValueList meta line kind e = mark_kept meta line.loc (list_mark
 debug_kept debug.Phi meta line kind e = phi_item_kept meta line.loc (phi_of line.operands) kind e (phi_kept line.operands)
 
 pub line_kept : (meta : Maps) (line : ItemForm) (kind : ItemKind) → IsItemLine meta line kind → Kept meta line.loc kind
-line_kept meta line _ (of_code {op} {instr} code) = record { form = code.form; few = few_operands op line instr code }
+line_kept meta line _ (of_code {op} {instr} may code) = record { form = code.form; few = few_operands op line instr code }
 line_kept meta line kind (of_debug {op} said) = debug_kept op meta line kind said.kind_is
 
 -- ---- where stack entries are objects

@@ -13,7 +13,7 @@ use Rattle.mir_func.specs.Sound.{ids_of, items_of}
 use Rattle.mir_func.specs.Limits.{MAX_BLOCKS}
 use Rattle.read_body.specs.declared.body.Body.{Body}
 use Rattle.read_body.specs.Body.{object_named, and_last, blocks_of, block_with, label_cause, with_label}
-use Rattle.read_body.specs.Met.{is_met}
+use Rattle.read_body.specs.FirstUseOrder.{is_met}
 use Rattle.read_program.proofs.Bodies.{facts_apart}
 use Rattle.read_program.proofs.Lists.{met_new}
 use Rattle.readback_items.specs.Code.{judged_kind}

@@ -6,12 +6,14 @@ use Rattle.std.proofs.lemmas.Bool.{and_parts}
 use Rattle.std.proofs.lemmas.Bool.Decides.{nat_tests}
 use Rattle.rv64_instr.specs.declared.op.Op.{Op}
 use Rattle.rv64_instr.specs.declared.op.Op.TheVariants.{Registers, Immediate, Branch, Load, Store}
+use Rattle.rv64_instr.specs.declared.op.Op.TheVariants.{PseudoCallIndirect, PseudoTail, PseudoTailIndirect, NoReturnCall, NoReturnCallIndirect}
 use Rattle.rv64_instr.specs.declared.op.RegisterOp.TheVariants.{Add, Sub, Sll, Slt, Sltu, Xor, Srl, Sra, Or, And, Addw, Subw, Sllw, Srlw, Sraw}
 use Rattle.rv64_instr.specs.declared.op.ImmediateOp.TheVariants.{Addi, Slti, Sltiu, Xori, Ori, Andi, Slli, Srli, Srai, Addiw, Slliw, Srliw, Sraiw}
 use Rattle.rv64_instr.specs.declared.op.BranchOp.TheVariants.{Beq, Bne, Blt, Bge, Bltu, Bgeu}
 use Rattle.rv64_instr.specs.declared.op.LoadOp.TheVariants.{Lb, Lh, Lw, Ld, Lbu, Lhu, Lwu}
 use Rattle.rv64_instr.specs.declared.op.StoreOp.TheVariants.{Sb, Sh, Sw, Sd}
 use Rattle.rv64_instr.specs.Mnemonic.{mnemonic_of}
+use Rattle.read_item.specs.Opcode.{is_read}
 use Rattle.read_lexer.specs.declared.parts.Class.TheVariants as class
 use Rattle.read_lexer.specs.Bytes.{is_blank, is_word_start, is_word_byte}
 use Rattle.read_token.specs.Word.{is_plain, flag_of, keyword_of, word_of}
@@ -52,51 +54,56 @@ opcode (b ∷ bs) is =
       reads = λ rest ends. word_read b bs rest (starts b first.0).0 (starts b first.0).1 second.0 ends;
     }
 
-pub mnemonics : (op : Op) → is_opcode (mnemonic_of op) ≡ true
+pub mnemonics : (op : Op) → is_read op ≡ true → is_opcode (mnemonic_of op) ≡ true
 unfolding word_of flag_of is_plain keyword_of
-mnemonics (Registers Add) = refl
-mnemonics (Registers Sub) = refl
-mnemonics (Registers Sll) = refl
-mnemonics (Registers Slt) = refl
-mnemonics (Registers Sltu) = refl
-mnemonics (Registers Xor) = refl
-mnemonics (Registers Srl) = refl
-mnemonics (Registers Sra) = refl
-mnemonics (Registers Or) = refl
-mnemonics (Registers And) = refl
-mnemonics (Registers Addw) = refl
-mnemonics (Registers Subw) = refl
-mnemonics (Registers Sllw) = refl
-mnemonics (Registers Srlw) = refl
-mnemonics (Registers Sraw) = refl
-mnemonics (Immediate Addi) = refl
-mnemonics (Immediate Slti) = refl
-mnemonics (Immediate Sltiu) = refl
-mnemonics (Immediate Xori) = refl
-mnemonics (Immediate Ori) = refl
-mnemonics (Immediate Andi) = refl
-mnemonics (Immediate Slli) = refl
-mnemonics (Immediate Srli) = refl
-mnemonics (Immediate Srai) = refl
-mnemonics (Immediate Addiw) = refl
-mnemonics (Immediate Slliw) = refl
-mnemonics (Immediate Srliw) = refl
-mnemonics (Immediate Sraiw) = refl
-mnemonics (Branch Beq) = refl
-mnemonics (Branch Bne) = refl
-mnemonics (Branch Blt) = refl
-mnemonics (Branch Bge) = refl
-mnemonics (Branch Bltu) = refl
-mnemonics (Branch Bgeu) = refl
-mnemonics (Load Lb) = refl
-mnemonics (Load Lh) = refl
-mnemonics (Load Lw) = refl
-mnemonics (Load Ld) = refl
-mnemonics (Load Lbu) = refl
-mnemonics (Load Lhu) = refl
-mnemonics (Load Lwu) = refl
-mnemonics (Store Sb) = refl
-mnemonics (Store Sh) = refl
-mnemonics (Store Sw) = refl
-mnemonics (Store Sd) = refl
-mnemonics _ = refl
+mnemonics (Registers Add) read = refl
+mnemonics (Registers Sub) read = refl
+mnemonics (Registers Sll) read = refl
+mnemonics (Registers Slt) read = refl
+mnemonics (Registers Sltu) read = refl
+mnemonics (Registers Xor) read = refl
+mnemonics (Registers Srl) read = refl
+mnemonics (Registers Sra) read = refl
+mnemonics (Registers Or) read = refl
+mnemonics (Registers And) read = refl
+mnemonics (Registers Addw) read = refl
+mnemonics (Registers Subw) read = refl
+mnemonics (Registers Sllw) read = refl
+mnemonics (Registers Srlw) read = refl
+mnemonics (Registers Sraw) read = refl
+mnemonics (Immediate Addi) read = refl
+mnemonics (Immediate Slti) read = refl
+mnemonics (Immediate Sltiu) read = refl
+mnemonics (Immediate Xori) read = refl
+mnemonics (Immediate Ori) read = refl
+mnemonics (Immediate Andi) read = refl
+mnemonics (Immediate Slli) read = refl
+mnemonics (Immediate Srli) read = refl
+mnemonics (Immediate Srai) read = refl
+mnemonics (Immediate Addiw) read = refl
+mnemonics (Immediate Slliw) read = refl
+mnemonics (Immediate Srliw) read = refl
+mnemonics (Immediate Sraiw) read = refl
+mnemonics (Branch Beq) read = refl
+mnemonics (Branch Bne) read = refl
+mnemonics (Branch Blt) read = refl
+mnemonics (Branch Bge) read = refl
+mnemonics (Branch Bltu) read = refl
+mnemonics (Branch Bgeu) read = refl
+mnemonics (Load Lb) read = refl
+mnemonics (Load Lh) read = refl
+mnemonics (Load Lw) read = refl
+mnemonics (Load Ld) read = refl
+mnemonics (Load Lbu) read = refl
+mnemonics (Load Lhu) read = refl
+mnemonics (Load Lwu) read = refl
+mnemonics (Store Sb) read = refl
+mnemonics (Store Sh) read = refl
+mnemonics (Store Sw) read = refl
+mnemonics (Store Sd) read = refl
+mnemonics PseudoCallIndirect read = cc
+mnemonics PseudoTail read = cc
+mnemonics PseudoTailIndirect read = cc
+mnemonics NoReturnCall read = cc
+mnemonics NoReturnCallIndirect read = cc
+mnemonics _ read = refl

@@ -22,7 +22,7 @@ use Rattle.read_body.specs.declared.body.Body.{Body}
 use Rattle.read_body.specs.Body.{repeats, exceeds, item_cause, label_cause, with_label, with_number, with_constant, with_variable, constant_of}
 use Rattle.read_body.specs.Body.{object_named, nothing_read}
 use Rattle.read_body.specs.Limits.{MAX_ITEMS, MAX_VARIABLES, MAX_NUMBERS, MAX_CONSTANTS}
-use Rattle.read_body.specs.Met.{is_met, met}
+use Rattle.read_body.specs.FirstUseOrder.{is_met, met}
 use Rattle.read_program.proofs.Bodies.{facts_apart}
 use Rattle.read_program.proofs.Entries.{met_cases}
 use Rattle.read_program.proofs.Lists.{found, All-front}

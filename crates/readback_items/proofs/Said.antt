@@ -1,13 +1,13 @@
 -- The line of each kind of item is read as the item's form.
 use Rattle.std.proofs.Common.{◌≡◌, ℕ, cond, pos, ◌<◌, ◌≤◌, Bool, true, false, not, List, [], ◌∷◌, ◌++◌, map, Option, Some, None, Ok, All}
 use Rattle.std.proofs.Common.{refl, sym, subst, ap, ◌∙◌, arith, append_assoc}
-use Rattle.std.specs.Prelude.{codes, filter, IfSome}
+use Rattle.std.specs.Prelude.{codes, filter, IfSome, IsTrue}
 use Rattle.std.specs.List.{flat_map}
 use Rattle.std.specs.Fmt.{decimal, signed_decimal}
 use Rattle.std.proofs.lemmas.Fmt.{decimal_digit}
 use Rattle.std.proofs.lemmas.List.Elements.{All-head, All-tail}
 use Rattle.rv64_instr.specs.declared.operand.Operand.{Operand}
-use Rattle.rv64_instr.specs.declared.operand.Operand.TheVariants.{Def, Use, ImplicitDef, ImplicitUse, Imm, Slot, Object, Block, Symbol, Mask}
+use Rattle.rv64_instr.specs.declared.operand.Operand.TheVariants.{Def, Use, ImplicitDef, ImplicitUse, Imm, Slot, Object, Part, Block, Symbol, Mask}
 use Rattle.rv64_instr.specs.declared.place.Place.{Place}
 use Rattle.rv64_instr.specs.declared.place.Place.TheVariants as place
 use Rattle.rv64_instr.specs.Instruction.{Instruction}
@@ -27,6 +27,7 @@ use Rattle.read_line.specs.declared.form.OperandForm.{OperandForm}
 use Rattle.read_line.specs.declared.form.OperandForm.TheVariants as form
 use Rattle.read_line.specs.declared.form.RegisterForm.{RegisterForm}
 use Rattle.read_line.specs.Body.{body_line_of}
+use Rattle.read_item.specs.Opcode.{is_read}
 use Rattle.read_program.specs.Limited.{IsLimited, PlaceIsLimited, ValueIsLimited, VariableIsLimited, KindIsLimited, LocIsLimited}
 use Rattle.mir_printer.specs.Spelling.{comma_separated, register_text, operand_text, is_definition, definitions_text, uses_text, instruction_text, number_text}
 use Rattle.mir_printer.specs.Spelling.{phi_place_text, expression_text, pair_expression_text, value_mark_text, kind_text}
@@ -88,6 +89,7 @@ one_more (ImplicitUse r) os small bytes s = one_use (ImplicitUse r) os refl refl
 one_more (Imm i) os small bytes s = one_use (Imm i) os refl refl (operand_said (Imm i) small bytes) s
 one_more (Slot n) os small bytes s = one_use (Slot n) os refl refl (operand_said (Slot n) small bytes) s
 one_more (Object n) os small bytes s = one_use (Object n) os refl refl (operand_said (Object n) small bytes) s
+one_more (Part half y) os small bytes s = absurd small
 one_more (Block n) os small bytes s = one_use (Block n) os refl refl (operand_said (Block n) small bytes) s
 one_more (Symbol name) os small bytes s = one_use (Symbol name) os refl refl (operand_said (Symbol name) small bytes) s
 one_more Mask os small bytes s = one_use Mask os refl refl (operand_said Mask small bytes) s
@@ -129,10 +131,10 @@ phrases_are (q ∷ qs) = refl
 regrouped : (a b c d e : List ℕ) → (((a ++ b) ++ c) ++ d) ++ e ≡ a ++ (b ++ (c ++ (d ++ e)))
 regrouped a b c d e = simp append_assoc
 
-code_says : (i : Instruction) (k : Option ℕ) (loc : Loc) → All IsLimited i.operands → IfSome k (λ n. n ≤ MAX_NUMBER) → LocIsLimited loc
+code_says : (i : Instruction) (k : Option ℕ) (loc : Loc) → IsTrue (is_read i.op) → All IsLimited i.operands → IfSome k (λ n. n ≤ MAX_NUMBER) → LocIsLimited loc
     → All NameIsBytes i.operands →
     body_line_of (codes "    " ++ (instruction_text i ++ number_text k ++ location_text loc)) ≡ Ok (lines.Item (code_form i k loc))
-code_says i k loc small number at bytes =
+code_says i k loc read small number at bytes =
     let s = split i.operands small bytes in
     let set : definitions_text (filter is_definition i.operands) ≡ set_text_of s.sets =
     definitions_are (filter is_definition i.operands) ∙ (ap set_text s.set_texts ∙ sets_are s.sets) in
@@ -141,7 +143,7 @@ code_says i k loc small number at bytes =
     ap (λ (t : List ℕ). body_line_of (codes "    " ++ t))
     ((λ j. (((set j ++ mnemonic_of i.op) ++ used j) ++ number_text k) ++ location_text loc)
     ∙ regrouped (set_text_of s.sets) (mnemonic_of i.op) (uses_text_of s.uses) (number_text k) (location_text loc))
-    ∙ (line_says s.uses k loc number at (mnemonic_of i.op) (opcode (mnemonic_of i.op) (mnemonics i.op)) s.sets s.are
+    ∙ (line_says s.uses k loc number at (mnemonic_of i.op) (opcode (mnemonic_of i.op) (mnemonics i.op read)) s.sets s.are
     ∙ (λ j. Ok (lines.Item (record {
       definitions = sym s.set_forms j;
       opcode = mnemonic_of i.op;
@@ -250,7 +252,7 @@ phi_says p k loc is small at =
 
 kind_says : (kind : ItemKind) (loc : Loc) → KindIsLimited kind → LocIsLimited loc → HasByteNames kind →
     body_line_of (codes "    " ++ (kind_text kind ++ location_text loc)) ≡ Ok (lines.Item (kind_form kind loc))
-kind_says (Code i k) loc is at names = code_says i k loc is.0 is.1 at names
+kind_says (Code i k) loc is at names = code_says i k loc is.2 is.0 is.1 at names
 kind_says (Mark v m) loc is at names = mark_says v loc is.0 at m is.1
 kind_says (Phi p k) loc is at names = phi_says p k loc is.0 is.1 at
 

@@ -4,9 +4,9 @@ use Rattle.std.specs.List.{list_all}
 use Rattle.std.proofs.lemmas.Bool.{and_parts}
 use Rattle.rv64_instr.specs.declared.op.Op.{Op}
 use Rattle.rv64_instr.specs.declared.operand.Operand.{Operand}
-use Rattle.rv64_instr.specs.declared.operand.Operand.TheVariants.{Def, Use, ImplicitDef, ImplicitUse, Imm, Slot, Object, Block, Symbol, Mask}
-use Rattle.rv64_instr.specs.Form.{is_implicit, is_argument, is_result, has_form}
-use Rattle.read_body.specs.Met.{is_met}
+use Rattle.rv64_instr.specs.declared.operand.Operand.TheVariants.{Def, Use, ImplicitDef, ImplicitUse, Imm, Slot, Object, Part, Block, Symbol, Mask}
+use Rattle.rv64_instr.specs.Form.{is_implicit, is_argument, is_result, has_form, is_tail_use}
+use Rattle.read_body.specs.FirstUseOrder.{is_met}
 use Rattle.read_program.specs.Objects.{operand_as, operands_as}
 use Rattle.mir_printer.specs.Printable.{as_slot}
 use Rattle.readback_items.specs.Code.{judged_operands}
@@ -28,6 +28,8 @@ module _ (ids : List ℕ) where
   pub stays_more : (o : Operand) (os : List Operand) → IsPlain o → Stays ids os → Stays ids (o ∷ os)
   stays_more (Slot n) os is s = absurd is
   stays_more (Object n) os is s = absurd is
+  stays_more (Part half y) os is s =
+      record { slots = ap (λ (l : List Operand). Part half y ∷ l) s.slots; named = ap (λ (l : List Operand). Part half y ∷ l) s.named }
   stays_more (Def r) os is s = record { slots = ap (λ (l : List Operand). Def r ∷ l) s.slots; named = ap (λ (l : List Operand). Def r ∷ l) s.named }
   stays_more (Use r) os is s = record { slots = ap (λ (l : List Operand). Use r ∷ l) s.slots; named = ap (λ (l : List Operand). Use r ∷ l) s.named }
   stays_more (ImplicitDef r) os is s =
@@ -59,6 +61,11 @@ module _ (ids : List ℕ) where
   result_plain (Object n) e = absurd cc
   result_plain o e = tt
 
+  tail_plain : (o : Operand) → is_tail_use o ≡ true → IsPlain o
+  tail_plain (Slot n) e = absurd cc
+  tail_plain (Object n) e = absurd cc
+  tail_plain o e = tt
+
   pub implicits_stay : (os : List Operand) → list_all is_implicit os ≡ true → Stays ids os
   implicits_stay = all_stay is_implicit implicit_plain
 
@@ -67,6 +74,9 @@ module _ (ids : List ℕ) where
 
   pub results_stay : (os : List Operand) → list_all is_result os ≡ true → Stays ids os
   results_stay = all_stay is_result result_plain
+
+  pub tails_stay : (os : List Operand) → list_all is_tail_use os ≡ true → Stays ids os
+  tails_stay = all_stay is_tail_use tail_plain
 
   either : (b : Bool) (os : List Operand) → cond b os os ≡ os
   either true os = refl

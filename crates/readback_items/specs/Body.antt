@@ -18,7 +18,7 @@ use Rattle.read_item.specs.Judge.{entries_of}
 use Rattle.read_body.specs.declared.body.Body.{Body}
 use Rattle.read_body.specs.Body.{constant_of, object_named, blocks_of}
 use Rattle.read_body.specs.Limits.{MAX_ITEMS, MAX_VARIABLES, MAX_NUMBERS, MAX_CONSTANTS}
-use Rattle.read_body.specs.Met.{is_met, is_known}
+use Rattle.read_body.specs.FirstUseOrder.{is_met, is_known}
 use Rattle.read_program.specs.BodyLines.{body_of}
 use Rattle.mir_printer.specs.Spelling.{item_text}
 use Rattle.readback_items.specs.Forms.{form_of}

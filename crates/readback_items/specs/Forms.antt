@@ -2,7 +2,8 @@
 use Rattle.std.specs.Prelude.{ℕ, pos, false, not, codes, filter, map, List, [], ◌∷◌, Option, Some, None}
 use Rattle.std.specs.List.{flat_map}
 use Rattle.rv64_instr.specs.declared.operand.Operand.{Operand}
-use Rattle.rv64_instr.specs.declared.operand.Operand.TheVariants.{Def, Use, ImplicitDef as SetsImplicit, ImplicitUse, Imm, Slot, Object, Block, Symbol, Mask}
+use Rattle.rv64_instr.specs.declared.operand.Operand.TheVariants.{Def, Use, ImplicitDef as SetsImplicit, ImplicitUse, Imm, Slot, Object, Part, Block, Symbol}
+use Rattle.rv64_instr.specs.declared.operand.Operand.TheVariants.{Mask}
 use Rattle.rv64_instr.specs.declared.place.Place.{Place}
 use Rattle.rv64_instr.specs.declared.place.Place.TheVariants as place
 use Rattle.rv64_instr.specs.Instruction.{Instruction}
@@ -43,6 +44,7 @@ operand_form (ImplicitUse r) = form.Register (register_form Implicit r)
 operand_form (Imm i) = form.Integer (Some i)
 operand_form (Slot n) = form.Slot n
 operand_form (Object n) = form.Slot n
+operand_form (Part half y) = form.Integer None
 operand_form (Block n) = form.Block n
 operand_form (Symbol name) = form.Symbol name
 operand_form Mask = form.Mask
@@ -56,6 +58,7 @@ set_register (ImplicitUse r) = []
 set_register (Imm i) = []
 set_register (Slot n) = []
 set_register (Object n) = []
+set_register (Part half y) = []
 set_register (Block n) = []
 set_register (Symbol name) = []
 set_register Mask = []

@@ -1,10 +1,11 @@
 -- Numbers of constant definitions, as signed numbers and as upper parts.
-use Rattle.std.proofs.Common.{◌≡◌, inl, inr, ℕ, suc, ◌+◌, ◌-◌, ◌*◌, ◌%◌, ◌^◌, ◌<◌, ◌≤◌, ℤ, pos, negsuc, true, refl, ap, ◌∙◌, lt-ltb, le-ltb, arith}
+use Rattle.std.proofs.Common.{◌≡◌, inl, inr, ℕ, suc, ◌-◌, ◌*◌, ◌^◌, ◌<◌, ◌≤◌, ℤ, pos, negsuc, true, refl, ap, ◌∙◌, lt-ltb, le-ltb, arith}
 use Rattle.std.specs.Prelude.{◌*ℤ◌}
 use Rattle.std.proofs.lemmas.Bool.{cases_lt}
 use Rattle.std.proofs.lemmas.Bool.Decides.{nat_tests}
 use Rattle.rv64_instr.specs.Arithmetic.{word, signed, extend32}
 use Rattle.rv64_instr.specs.Form.{has_12_bits}
+use Rattle.rv64_instr.proofs.SignExtension.{extend_low, extend_high}
 use Rattle.remat_pass.specs.Remat.{upper_part}
 
 pub word_signed : (n : ℕ) → n < 2 ^ 64 → word (signed n) ≡ n
@@ -29,16 +30,6 @@ signed_word (negsuc n) h =
     let small : n ≤ 2047 = grind (arith, nat_tests) in
     let e : 2 ^ 64 - suc (word (negsuc n)) ≡ n = omega (arith, small) in
     signed_high (word (negsuc n)) (omega (arith, small)) ∙ ap negsuc e
-
-extend_low : (k : ℕ) → k < 2 ^ 31 → extend32 k ≡ k
-extend_low k h =
-    let e : k % 2 ^ 32 ≡ k = omega (arith, h) in
-    rw (e, lt-ltb k (2 ^ 31) h) (omega (arith, h))
-
-extend_high : (k : ℕ) → 2 ^ 31 ≤ k → k < 2 ^ 32 → extend32 k ≡ 2 ^ 64 - 2 ^ 32 + k
-extend_high k h lt =
-    let e : k % 2 ^ 32 ≡ k = omega (arith, lt) in
-    rw (e, le-ltb k (2 ^ 31) h) (omega (arith, h, lt))
 
 -- the upper part of what an upper part sets is that upper part
 pub upper_again : (m : ℕ) → m ≤ 1048575 → upper_part (extend32 (word (pos m *ℤ pos 4096))) ≡ m

@@ -1,11 +1,13 @@
 -- What a constant definition sets is set by the constant definition that is made of it.
-use Rattle.std.proofs.Common.{◌≡◌, ℕ, zero, suc, ◌^◌, ◌<◌, ◌≤◌, ℤ, pos, negsuc, List, ◌∷◌, Bool, true, false, cond, refl, ap, ◌∙◌, subst, inl, inr, arith}
+use Rattle.std.proofs.Common.{◌≡◌, ℕ, zero, suc, ◌^◌, ◌<◌, ◌≤◌, ℤ, pos, negsuc, List, ◌∷◌, Bool, true, false, cond, refl, ap, ◌∙◌, subst, inl, inr, arith, []}
 use Rattle.std.specs.Prelude.{◌*ℤ◌}
 use Rattle.std.specs.List.{list_all}
 use Rattle.std.proofs.lemmas.Bool.{cases_Bool, and_parts}
 use Rattle.std.proofs.lemmas.Bool.Decides.{nat_tests}
 use Rattle.rv64_instr.specs.declared.op.Op.{Op}
-use Rattle.rv64_instr.specs.declared.op.Op.TheVariants.{Registers, Immediate, Lui, Branch, Load, Store, Copy, PseudoBr, PseudoCall, PseudoRet}
+use Rattle.rv64_instr.specs.declared.op.Op.TheVariants.{Registers, Immediate, Lui, Branch, Load, Store, Copy}
+use Rattle.rv64_instr.specs.declared.op.Op.TheVariants.{PseudoBr, PseudoCall, PseudoRet, PseudoCallIndirect}
+use Rattle.rv64_instr.specs.declared.op.Op.TheVariants.{PseudoTail, PseudoTailIndirect, NoReturnCall, NoReturnCallIndirect}
 use Rattle.rv64_instr.specs.declared.op.ImmediateOp.{ImmediateOp}
 use Rattle.rv64_instr.specs.declared.op.ImmediateOp.TheVariants.{Addi}
 use Rattle.rv64_instr.specs.declared.operand.Operand.{Operand}
@@ -13,7 +15,7 @@ use Rattle.rv64_instr.specs.declared.operand.Operand.TheVariants.{Def, Use, Imm,
 use Rattle.rv64_instr.specs.Instruction.{Instruction}
 use Rattle.rv64_instr.specs.Arithmetic.{word, signed, extend32}
 use Rattle.rv64_instr.specs.Form.{has_form, has_12_bits, is_within, is_implicit, is_immediate}
-use Rattle.rv64_instr.specs.Row.{Fixes, row_of, row_by, add_row, move_row, immediate_row, object_row}
+use Rattle.rv64_instr.specs.Row.{Fixes, row_of, row_by, add_row, move_row, immediate_row, object_row, implicit_uses, held_call, held_tail, held_gone}
 use Rattle.sem_mir.proofs.Range.{extend32_in_range}
 use Rattle.remat_pass.specs.Remat.{upper_part, constant_code}
 use Rattle.remat_pass.proofs.Arithmetic.{word_signed, signed_word, upper_again}
@@ -77,6 +79,18 @@ by_move : (rd rs r n : ℕ) → move_row rd rs ≡ Fixes r n → IsConstant n
 by_move rd zero r n e = let w : 0 ≡ n = cc in subst IsConstant w constant_zero
 by_move rd (suc rs) r n e = cc
 
+held_call_fixes : (xs : List ℕ) (r n : ℕ) → held_call xs ≡ Fixes r n → ⊥
+held_call_fixes [] r n e = cc
+held_call_fixes (x ∷ xs) r n e = cc
+
+held_tail_fixes : (xs : List ℕ) (r n : ℕ) → held_tail xs ≡ Fixes r n → ⊥
+held_tail_fixes [] r n e = cc
+held_tail_fixes (x ∷ xs) r n e = cc
+
+held_gone_fixes : (xs : List ℕ) (r n : ℕ) → held_gone xs ≡ Fixes r n → ⊥
+held_gone_fixes [] r n e = cc
+held_gone_fixes (x ∷ xs) r n e = cc
+
 by_op : (op : Op) (os : List Operand) → has_form op os ≡ true → (r n : ℕ) → row_by op os ≡ Fixes r n → IsConstant n
 by_op (Registers op) (Def rd ∷ Use a ∷ Use b ∷ rest) f r n e = cc
 by_op (Immediate op) (Def rd ∷ Use a ∷ Imm i ∷ rest) f r n e =
@@ -96,6 +110,11 @@ by_op Copy (Def rd ∷ Use rs ∷ rest) f r n e = by_move rd rs r n e
 by_op PseudoBr (Block target ∷ rest) f r n e = cc
 by_op PseudoCall (Symbol name ∷ rest) f r n e = cc
 by_op PseudoRet rest f r n e = cc
+by_op PseudoCallIndirect rest f r n e = absurd (held_call_fixes (implicit_uses rest) r n e)
+by_op PseudoTail (Symbol name ∷ rest) f r n e = cc
+by_op PseudoTailIndirect rest f r n e = absurd (held_tail_fixes (implicit_uses rest) r n e)
+by_op NoReturnCall (Symbol name ∷ rest) f r n e = cc
+by_op NoReturnCallIndirect rest f r n e = absurd (held_gone_fixes (implicit_uses rest) r n e)
 by_op _ _ f r n e = cc
 
 -- so does the number of each constant definition in form

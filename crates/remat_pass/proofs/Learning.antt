@@ -6,7 +6,7 @@ use Rattle.rv64_instr.specs.Row.{Row, row_of}
 use Rattle.rv64_instr.specs.Row as row
 use Rattle.rv64_instr.specs.Decoded.{Shows}
 use Rattle.rv64_instr.specs.declared.decoded.Decoded.{Decoded}
-use Rattle.rv64_instr.specs.declared.decoded.Decoded.TheVariants.{Fixes, Moves, Sets, Addresses, Loads, Stores, LoadsSlot, StoresSlot, Branches, Jumps, Calls}
+use Rattle.rv64_instr.specs.declared.decoded.Decoded.TheVariants.{Fixes, Sets, Loads, Stores, StoresSlot, Calls}
 use Rattle.rv64_instr.specs.declared.decoded.Decoded.TheVariants.{Returns}
 use Rattle.mir_func.specs.declared.item.ItemKind.{ItemKind}
 use Rattle.mir_func.specs.declared.item.ItemKind.TheVariants.{Code}
@@ -20,8 +20,11 @@ TeachesNothing _ = Unit {0}
 same_by : (d : Decoded) → TeachesNothing d → (r : Row) → Shows d r → (known : Known) (x : Place) → known x ≡ learned r known x
 same_by (Fixes rd n) t r s known x = absurd t
 same_by (StoresSlot rs n) t r s known x = absurd t
-same_by Calls t r (name, args, s) known x = ap (λ (q : Row). learned q known x) (sym s)
-same_by Returns t r (results, s) known x = ap (λ (q : Row). learned q known x) (sym s)
+same_by (Sets rd op a b) t r (input, s, shown) known x = ap (λ (q : Row). learned q known x) (sym s)
+same_by (Loads rd op base offset) t r (b, s, shown) known x = ap (λ (q : Row). learned q known x) (sym s)
+same_by (Stores op rs base offset) t r (b, s, shown) known x = ap (λ (q : Row). learned q known x) (sym s)
+same_by (Calls callee) t r (call, s, named) known x = ap (λ (q : Row). learned q known x) (sym s)
+same_by (Returns way) t r (ending, s, shown) known x = ap (λ (q : Row). learned q known x) (sym s)
 same_by _ t r s known x = ap (λ (q : Row). learned q known x) (sym s)
 
 -- code of these kinds teaches nothing

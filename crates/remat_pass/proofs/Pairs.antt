@@ -1,20 +1,22 @@
 -- The operands of code in whose place a constant is set, and the pairs that its number gives.
-use Rattle.std.proofs.Common.{◌≡◌, ℕ, zero, suc, List, ◌∷◌, filter, slice_get, All, Option, Some, None, Bool, true, false, cond, refl, sym, ap, ◌∙◌, subst}
+use Rattle.std.proofs.Common.{◌≡◌, ℕ, zero, suc, List, ◌∷◌, filter, slice_get, All, Option, Some, None, Bool, true, false, cond, refl, sym, ap, ◌∙◌, subst, []}
 use Rattle.std.specs.List.{list_all}
 use Rattle.std.specs.Prelude.{ℤ, pos}
 use Rattle.std.proofs.lemmas.Bool.{and_parts}
 use Rattle.std.proofs.lemmas.List.Elements.{All-cons, All-head, All-filter}
 use Rattle.rv64_instr.specs.declared.op.Op.{Op}
-use Rattle.rv64_instr.specs.declared.op.Op.TheVariants.{Registers, Immediate, Lui, Branch, Load, Store, Copy, PseudoBr, PseudoCall, PseudoRet}
+use Rattle.rv64_instr.specs.declared.op.Op.TheVariants.{Registers, Immediate, Lui, Branch, Load, Store, Copy}
+use Rattle.rv64_instr.specs.declared.op.Op.TheVariants.{PseudoBr, PseudoCall, PseudoRet, PseudoCallIndirect}
+use Rattle.rv64_instr.specs.declared.op.Op.TheVariants.{PseudoTail, PseudoTailIndirect, NoReturnCall, NoReturnCallIndirect}
 use Rattle.rv64_instr.specs.declared.op.ImmediateOp.{ImmediateOp}
 use Rattle.rv64_instr.specs.declared.op.ImmediateOp.TheVariants.{Addi}
 use Rattle.rv64_instr.specs.declared.operand.Operand.{Operand}
-use Rattle.rv64_instr.specs.declared.operand.Operand.TheVariants.{Def, Use, Imm, Slot as SlotOperand, Object, Block, Symbol}
+use Rattle.rv64_instr.specs.declared.operand.Operand.TheVariants.{Def, Use, Imm, Slot as SlotOperand, Object, Part, Block, Symbol}
 use Rattle.rv64_instr.specs.Instruction.{Instruction}
 use Rattle.rv64_instr.specs.Arithmetic.{word, load_width, signed}
 use Rattle.rv64_instr.specs.Form.{has_form, has_12_bits, is_implicit, is_immediate, moves_slot}
-use Rattle.rv64_instr.specs.Row.{Row, Moves, LoadsSlot, row_of, row_by, move_row, immediate_row, object_row}
-use Rattle.rv64_instr.specs.Parts.{is_call}
+use Rattle.rv64_instr.specs.Row.{Row, Moves, LoadsSlot, row_of, row_by, move_row, immediate_row, object_row, implicit_uses, held_call, held_tail, held_gone}
+use Rattle.rv64_instr.specs.LocationEffects.{is_call}
 use Rattle.sem_mir.specs.State.{Core, updated}
 use Rattle.sem_mir.specs.Step.{defined, given, numbered}
 use Rattle.remat_pass.specs.Known.{Known}
@@ -42,6 +44,18 @@ from_move : (rd rs r : ℕ) → SetsFrom r (move_row rd rs) → rd ≡ r
 from_move rd zero r h = absurd h
 from_move rd (suc rs) r h = h
 
+held_call_from : (xs : List ℕ) (r : ℕ) → SetsFrom r (held_call xs) → ⊥
+held_call_from [] r h = h
+held_call_from (x ∷ xs) r h = h
+
+held_tail_from : (xs : List ℕ) (r : ℕ) → SetsFrom r (held_tail xs) → ⊥
+held_tail_from [] r h = h
+held_tail_from (x ∷ xs) r h = h
+
+held_gone_from : (xs : List ℕ) (r : ℕ) → SetsFrom r (held_gone xs) → ⊥
+held_gone_from [] r h = h
+held_gone_from (x ∷ xs) r h = h
+
 -- its operands begin with the definition
 pub begins : (op : Op) (os : List Operand) (r : ℕ) → SetsFrom r (row_by op os) → (rest : List Operand) × (os ≡ Def r ∷ rest)
 begins (Registers op) (Def rd ∷ Use a ∷ Use b ∷ rest) r h = absurd h
@@ -60,6 +74,11 @@ begins Copy (Def rd ∷ Use rs ∷ rest) r h = (Use rs ∷ rest, ap (λ (d : ℕ
 begins PseudoBr (Block target ∷ rest) r h = absurd h
 begins PseudoCall (Symbol name ∷ rest) r h = absurd h
 begins PseudoRet rest r h = absurd h
+begins PseudoCallIndirect rest r h = absurd (held_call_from (implicit_uses rest) r h)
+begins PseudoTail (Symbol name ∷ rest) r h = absurd h
+begins PseudoTailIndirect rest r h = absurd (held_tail_from (implicit_uses rest) r h)
+begins NoReturnCall (Symbol name ∷ rest) r h = absurd h
+begins NoReturnCallIndirect rest r h = absurd (held_gone_from (implicit_uses rest) r h)
 begins _ _ r h = absurd h
 
 -- and nothing else is defined, where it is in form
@@ -69,21 +88,30 @@ alone (Immediate op) (Def rd ∷ Use a ∷ Imm i ∷ rest) f r h =
     subst (λ (d : ℕ). DefinesAlone d (Def rd ∷ Use a ∷ Imm i ∷ rest)) (from_immediate op rd a (word i) r h)
     (alone_three rd (Use a) (Imm i) rest refl refl (and_parts (is_immediate op i) (list_all is_implicit rest) f).1)
 alone (Immediate op) (Def rd ∷ Object m ∷ Imm i ∷ rest) f r h = absurd (from_object op rd m (word i) r h)
+alone (Immediate op) (Def rd ∷ Use a ∷ Part half y ∷ rest) f r h = absurd h
 alone Lui (Def rd ∷ Imm i ∷ rest) f r h = absurd h
+alone Lui (Def rd ∷ Part half y ∷ rest) f r h = absurd h
 alone (Branch op) (Use a ∷ Use b ∷ Block target ∷ rest) f r h = absurd h
 alone (Load op) (Def rd ∷ Use base ∷ Imm i ∷ rest) f r h = absurd h
 alone (Load op) (Def rd ∷ SlotOperand m ∷ Imm i ∷ rest) f r h =
     subst (λ (d : ℕ). DefinesAlone d (Def rd ∷ SlotOperand m ∷ Imm i ∷ rest)) h
     (alone_three rd (SlotOperand m) (Imm i) rest refl refl (and_parts (moves_slot (load_width op) i) (list_all is_implicit rest) f).1)
 alone (Load op) (Def rd ∷ Object m ∷ Imm i ∷ rest) f r h = absurd h
+alone (Load op) (Def rd ∷ Use base ∷ Part half y ∷ rest) f r h = absurd h
 alone (Store op) (Use rs ∷ Use base ∷ Imm i ∷ rest) f r h = absurd h
 alone (Store op) (Use rs ∷ SlotOperand m ∷ rest) f r h = absurd h
 alone (Store op) (Use rs ∷ Object m ∷ Imm i ∷ rest) f r h = absurd h
+alone (Store op) (Use rs ∷ Use base ∷ Part half y ∷ rest) f r h = absurd h
 alone Copy (Def rd ∷ Use rs ∷ rest) f r h =
     subst (λ (d : ℕ). DefinesAlone d (Def rd ∷ Use rs ∷ rest)) (from_move rd rs r h) (alone_two rd (Use rs) rest refl f)
 alone PseudoBr (Block target ∷ rest) f r h = absurd h
 alone PseudoCall (Symbol name ∷ rest) f r h = absurd h
 alone PseudoRet rest f r h = absurd h
+alone PseudoCallIndirect rest f r h = absurd (held_call_from (implicit_uses rest) r h)
+alone PseudoTail (Symbol name ∷ rest) f r h = absurd h
+alone PseudoTailIndirect rest f r h = absurd (held_tail_from (implicit_uses rest) r h)
+alone NoReturnCall (Symbol name ∷ rest) f r h = absurd h
+alone NoReturnCallIndirect rest f r h = absurd (held_gone_from (implicit_uses rest) r h)
 alone _ _ f r h = cc
 
 moves_from : (i : Instruction) (rd rs : ℕ) → row_of i ≡ Moves rd rs → SetsFrom rd (row_of i)

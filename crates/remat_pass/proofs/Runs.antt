@@ -6,7 +6,7 @@ use Rattle.rv64_instr.specs.declared.place.Place.TheVariants.{Register, Slot, Co
 use Rattle.rv64_instr.specs.Instruction.{Instruction}
 use Rattle.rv64_instr.specs.Form.{has_form, is_implicit}
 use Rattle.rv64_instr.specs.Row.{Row, Fixes, Moves, LoadsSlot, StoresSlot, row_of}
-use Rattle.rv64_instr.specs.Parts.{is_call, defines_of}
+use Rattle.rv64_instr.specs.LocationEffects.{is_call, defines_of}
 use Rattle.mir_func.specs.declared.item.ItemKind.{ItemKind}
 use Rattle.mir_func.specs.declared.item.ItemKind.TheVariants.{Code, Mark, Phi}
 use Rattle.mir_func.specs.Graph.{Program}

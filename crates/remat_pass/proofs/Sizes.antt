@@ -3,7 +3,7 @@ use Rattle.std.proofs.Common.{◌≡◌, ℕ, suc, ◌+◌, ◌*◌, ◌≤◌, 
 use Rattle.std.specs.List.{flat_map}
 use Rattle.std.proofs.lemmas.List.Sums.{sum_by-cons}
 use Rattle.rv64_instr.specs.Row.{row_of}
-use Rattle.rv64_instr.specs.Parts.{is_call}
+use Rattle.rv64_instr.specs.LocationEffects.{is_call}
 use Rattle.mir_func.specs.declared.debug_substitution.DebugSubstitution.{DebugSubstitution}
 use Rattle.mir_func.specs.declared.item.Item.{Item}
 use Rattle.mir_func.specs.declared.item.ItemKind.{ItemKind}
@@ -12,9 +12,10 @@ use Rattle.mir_func.specs.Function.{Function}
 use Rattle.mir_func.specs.Limits.{MAX_BLOCKS, MAX_SLOTS}
 use Rattle.mir_func.specs.Sound.{items_of}
 use Rattle.mir_func.specs.SoundFrame.{IsPhysical, HasPhysical}
+use Rattle.mir_func.specs.Calls.{is_call_kind}
 use Rattle.sem_mir.specs.Align.{is_code}
 use Rattle.pass_trait.specs.Change.{change}
-use Rattle.pass_trait.specs.Sizes.{greatest, most_numbers, numbers_of, calls, KeepsSizes}
+use Rattle.pass_trait.specs.Sizes.{greatest, most_numbers, numbers_of, KeepsSizes}
 use Rattle.remat_pass.specs.Known.{Known}
 use Rattle.remat_pass.specs.Remat.{constant_set, set_or_same, set_in, set_blocks, rematerialized}
 use Rattle.remat_pass.specs.Partly.{MayBeSet, AreItemsSet, none, next}
@@ -45,7 +46,7 @@ code_kept known (Code i n) = refl
 code_kept known (Mark v m) = refl
 code_kept known (Phi p n) = refl
 
-calls_kept : (known : Known) (k : ItemKind) → calls (set_in known k) ≡ calls k
+calls_kept : (known : Known) (k : ItemKind) → is_call_kind (set_in known k) ≡ is_call_kind k
 calls_kept known (Code i n) =
     row_stays is_call false (λ rd rs. refl) (λ rd s. refl) (λ rd m. refl) known i (set_or_same (constant_set known (row_of i)) i) (replaced known i)
 calls_kept known (Mark v m) = refl
@@ -82,8 +83,8 @@ sizes_rematerialized count f subs =
       items = no_more (length ys) (length xs) count (length_set xs ys r);
       code = no_more (count_by (λ i. is_code i.kind) ys) (count_by (λ i. is_code i.kind) xs) count
           (count_set (λ i. is_code i.kind) (λ x y m. kept_by is_code code_kept x y m) xs ys r);
-      calls = as_many (count_by (λ i. calls i.kind) ys) (count_by (λ i. calls i.kind) xs)
-          (count_set (λ i. calls i.kind) (λ x y m. kept_by calls calls_kept x y m) xs ys r);
+      calls = as_many (count_by (λ i. is_call_kind i.kind) ys) (count_by (λ i. is_call_kind i.kind) xs)
+          (count_set (λ i. is_call_kind i.kind) (λ x y m. kept_by is_call_kind calls_kept x y m) xs ys r);
       physical = λ h. kinds_set HasPhysical HasPhysical (λ k p. p) physical_kept f.blocks (set_blocks f.blocks) (blocks_set f.blocks) h;
       numbers = le_more (greatest (flat_map (λ i. numbers_of i.kind) ys ++ entries)) (greatest (flat_map (λ i. numbers_of i.kind) xs ++ entries))
           (most_numbers 1 count f)

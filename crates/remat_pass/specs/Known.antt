@@ -2,7 +2,7 @@
 use Rattle.std.specs.Prelude.{ℕ, zero, suc, cond, nat_eq, Option, Some, None}
 use Rattle.rv64_instr.specs.declared.place.Place.{Place}
 use Rattle.rv64_instr.specs.declared.place.Place.TheVariants.{Register, Slot, Const}
-use Rattle.rv64_instr.specs.Parts.{defines_of}
+use Rattle.rv64_instr.specs.LocationEffects.{defines_of}
 use Rattle.rv64_instr.specs.Row.{Row, row_of}
 use Rattle.rv64_instr.specs.View.{Literal, Write, SetsRegister, SetsSlot, write_of}
 use Rattle.mir_func.specs.declared.item.ItemKind.{ItemKind}

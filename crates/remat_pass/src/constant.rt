@@ -107,6 +107,7 @@ fn is_implicit(operand: &Operand) -> bool
         | Operand::Imm(_)
         | Operand::Slot(_)
         | Operand::Object(_)
+        | Operand::Part(_, _)
         | Operand::Block(_)
         | Operand::Symbol(_)
         | Operand::Mask => false,

@@ -9,7 +9,7 @@ ghost use Rattle.remat_pass.specs.Remat.{set_to, constant_set};
 ghost use Rattle.remat_pass.specs.Table.{known_by, is_among};
 
 use crate::constant::Constant;
-use base_ids::code::SlotId;
+use base_ids::function_ids::SlotId;
 use mir_func::item::ItemKind;
 use rv64_instr::decoded::Decoded;
 use rv64_instr::effects::CALLER_SAVED;
@@ -67,8 +67,8 @@ impl Known {
             | Decoded::StoresSlot(_, _)
             | Decoded::Branches(_, _, _, _)
             | Decoded::Jumps(_)
-            | Decoded::Calls
-            | Decoded::Returns => None,
+            | Decoded::Calls(_)
+            | Decoded::Returns(_) => None,
         }
     }
 
@@ -102,11 +102,11 @@ impl Known {
             Decoded::Loads(rd, _, _, _) => self.remove_register(rd.number()),
             Decoded::LoadsSlot(rd, _) => self.remove_register(rd.number()),
             Decoded::StoresSlot(_, n) => self.remove_slot(n.number()),
-            Decoded::Calls => self.remove_registers(&CALLER_SAVED),
+            Decoded::Calls(_) => self.remove_registers(&CALLER_SAVED),
             Decoded::Stores(_, _, _, _)
             | Decoded::Branches(_, _, _, _)
             | Decoded::Jumps(_)
-            | Decoded::Returns => {}
+            | Decoded::Returns(_) => {}
         }
     }
 
@@ -136,8 +136,8 @@ impl Known {
             | Decoded::Stores(_, _, _, _)
             | Decoded::Branches(_, _, _, _)
             | Decoded::Jumps(_)
-            | Decoded::Calls
-            | Decoded::Returns => Ok(()),
+            | Decoded::Calls(_)
+            | Decoded::Returns(_) => Ok(()),
         }
     }
 

@@ -8,7 +8,7 @@ use Rattle.compile_function.specs.declared.compiled_function.CompiledFunction.{C
 use Rattle.compile_program.proofs.Compiled.{many}
 use Rattle.compile_program.specs.declared.compile.Compilation.{Compilation}
 use Rattle.compile_program.specs.Program.{AreCompiledAs, IsCompilationOf, names_of}
-use Rattle.report_command.specs.Reported.{HaveLists, IsReported, CompilationsAreReported}
+use Rattle.report_command.specs.ProgramReport.{HaveLists, IsReported, CompilationsAreReported}
 
 have_lists : (names : ℕ → List ℕ) (reserve : List ℕ) (passes : List PassKind) (base first : ℕ) (ps : List PassedFunction) (fs : List ListedFunction)
     (cs : List CompiledFunction) → AreCompiledAs names reserve passes base first ps fs cs → HaveLists fs cs

@@ -1,8 +1,8 @@
 //! The text of the report.
 
 ghost use Rattle.std.specs.Prelude.{◌≡◌, ◌++◌, IfOk, OnOk, map};
-ghost use Rattle.report_command.specs.Reported.{HasLists, HaveLists, part_of, parts_of, compilation_report};
-ghost use Rattle.report_function.specs.ProgramReport.{function_report, program_report};
+ghost use Rattle.report_command.specs.ProgramReport.{HasLists, HaveLists, part_of, parts_of, compilation_report};
+ghost use Rattle.report_function.specs.ReportText.{function_report, program_report};
 
 use compile_function::compiled_function::CompiledFunction;
 use compile_program::compile::Compilation;

@@ -1,4 +1,4 @@
 pub mod Report
 pub mod Text
 pub mod steps
-pub mod ProgramReport
+pub mod ReportText

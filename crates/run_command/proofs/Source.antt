@@ -209,6 +209,7 @@ module _ (reserve : List ℕ) (passes : List PassKind) (p : Program) (c : Compil
             (record {
               entry = begins.entry;
               area = shows.area;
+              symbols = begins.symbols;
               counter = shows.low;
               regs = begins.regs;
               memory = begins.memory;

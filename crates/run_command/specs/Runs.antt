@@ -9,7 +9,7 @@ use Rattle.pass_list.specs.declared.kind.PassKind.{PassKind}
 use Rattle.compile_function.specs.declared.compiled_function.CompiledFunction.{CompiledFunction}
 use Rattle.compile_program.specs.declared.compile.Compilation.{Compilation}
 use Rattle.compile_program.specs.Program.{IsCompilationOf, lists_of}
-use Rattle.sim_start.specs.Asked.{IsTextOfAskedRun}
+use Rattle.sim_start.specs.InitialMachine.{IsTextOfAskedRun}
 use Rattle.sim_trace.specs.Variables.{variable_of}
 use Rattle.sim_machine.specs.Shown.{ShowsCode}
 use Rattle.listing_meaning.specs.Program.{image_of}

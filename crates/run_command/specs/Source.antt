@@ -1,5 +1,6 @@
 -- A run of a function of a compiled program, and the run of its source.
-use Rattle.std.specs.Prelude.{◌≡◌, ◌≢◌, ◌⊎◌, ℕ, ◌*◌, ◌%◌, ◌^◌, ◌<◌, List, map, take, All, Some, slice_get, true}
+use Rattle.std.specs.Prelude.{◌≡◌, ◌≢◌, ◌⊎◌, ℕ, ◌*◌, ◌%◌, ◌^◌, ◌<◌, List, [], map, take, All, Some, slice_get, true}
+use Rattle.rv64_instr.specs.Linked.{addresses_in}
 use Rattle.sem_machine.specs.Headline.{StartsAt, AlignsWith, FailsBeforeLine, MachineAlong}
 use Rattle.sem_machine.specs.Image.{CodeLine, Image, line_at}
 use Rattle.sem_machine.specs.Machine.{Machine, machine_start, register, place_content}
@@ -24,7 +25,7 @@ use Rattle.compile_theorem.specs.Source.{SourceFunction}
 use Rattle.pass_list.specs.declared.kind.PassKind.{PassKind}
 use Rattle.compile_program.specs.declared.compile.Compilation.{Compilation}
 use Rattle.compile_program.specs.Program.{IsCompilationOf, IsOutputOf, steps_of, source_of}
-use Rattle.sim_start.specs.Asked.{start_register, replies}
+use Rattle.sim_start.specs.InitialMachine.{start_register, replies}
 use Rattle.sim_trace.specs.Run.{IsRunText}
 use Rattle.sim_trace.specs.Variables.{variable_of}
 use Rattle.listing_meaning.specs.Program.{image_of}
@@ -53,6 +54,7 @@ pub record IsFirstRead (name : List ℕ) (functions : List Parsed) (number : ℕ
 pub record BeginsAsked (source : Function) (image : Image) (arguments values : List ℕ) (limit : ℕ) (s : State) : Type 0 where
   pub starts : StartsAt source s
   pub entry : s.core.entry ≡ 1048576
+  pub symbols : s.core.symbols ≡ addresses_in []
   pub regs : (r : ℕ) → r < 32 → register (machine_start image s) r ≡ start_register arguments r
   pub memory : (a : ℕ) → s.core.memory a ≡ 0
   pub script : s.core.script ≡ replies values 1 limit

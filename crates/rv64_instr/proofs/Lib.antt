@@ -1,2 +1,5 @@
 pub mod Names
 pub mod Moves
+pub mod Halves
+pub mod SignExtension
+pub mod Tails

@@ -3,7 +3,9 @@ use Rattle.std.proofs.Common.{◌≡◌, ℕ, List, [], ◌∷◌, Option, Some,
 use Rattle.std.specs.List.{find}
 use Rattle.std.specs.Str.{bytes_eq}
 use Rattle.rv64_instr.specs.declared.op.Op.{Op}
-use Rattle.rv64_instr.specs.declared.op.Op.TheVariants.{Registers, Immediate, Lui, Branch, Load, Store, Copy, PseudoBr, PseudoCall, PseudoRet}
+use Rattle.rv64_instr.specs.declared.op.Op.TheVariants.{Registers, Immediate, Lui, Branch, Load, Store, Copy}
+use Rattle.rv64_instr.specs.declared.op.Op.TheVariants.{PseudoBr, PseudoCall, PseudoRet, PseudoCallIndirect}
+use Rattle.rv64_instr.specs.declared.op.Op.TheVariants.{PseudoTail, PseudoTailIndirect, NoReturnCall, NoReturnCallIndirect}
 use Rattle.rv64_instr.specs.declared.op.RegisterOp.TheVariants.{Add, Sub, Sll, Slt, Sltu, Xor, Srl, Sra, Or, And, Addw, Subw, Sllw, Srlw, Sraw}
 use Rattle.rv64_instr.specs.declared.op.ImmediateOp.TheVariants.{Addi, Slti, Sltiu, Xori, Ori, Andi, Slli, Srli, Srai, Addiw, Slliw, Srliw, Sraiw}
 use Rattle.rv64_instr.specs.declared.op.BranchOp.TheVariants.{Beq, Bne, Blt, Bge, Bltu, Bgeu}
@@ -18,7 +20,8 @@ opcodes = Registers Add ∷ Registers Sub ∷ Registers Sll ∷ Registers Slt �
     Immediate Ori ∷ Immediate Andi ∷ Immediate Slli ∷ Immediate Srli ∷ Immediate Srai ∷ Immediate Addiw ∷
     Immediate Slliw ∷ Immediate Srliw ∷ Immediate Sraiw ∷ Branch Beq ∷ Branch Bne ∷ Branch Blt ∷ Branch Bge ∷
     Branch Bltu ∷ Branch Bgeu ∷ Load Lb ∷ Load Lh ∷ Load Lw ∷ Load Ld ∷ Load Lbu ∷ Load Lhu ∷ Load Lwu ∷ Store Sb ∷
-    Store Sh ∷ Store Sw ∷ Store Sd ∷ Lui ∷ Copy ∷ PseudoBr ∷ PseudoCall ∷ PseudoRet ∷ []
+    Store Sh ∷ Store Sw ∷ Store Sd ∷ Lui ∷ Copy ∷ PseudoBr ∷ PseudoCall ∷ PseudoRet ∷ PseudoCallIndirect ∷
+    PseudoTail ∷ PseudoTailIndirect ∷ NoReturnCall ∷ NoReturnCallIndirect ∷ []
 
 -- the first opcode of a name
 abbrev first_named : List ℕ → Option Op

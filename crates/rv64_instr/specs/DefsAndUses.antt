@@ -1,9 +1,7 @@
 -- Which registers an instruction reads and sets, by its row.
-use Rattle.std.specs.Prelude.{ℕ, List, [], ◌∷◌}
-use Rattle.rv64_instr.specs.declared.decoded.Input.{Input}
-use Rattle.rv64_instr.specs.declared.decoded.Input.TheVariants.{Content, Number}
-use Rattle.rv64_instr.specs.declared.decoded.Base.{Base}
-use Rattle.rv64_instr.specs.declared.decoded.Base.TheVariants.{PointedBy, ObjectAt}
+use Rattle.std.specs.Prelude.{ℕ, List, [], ◌∷◌, ◌++◌}
+use Rattle.rv64_instr.specs.Row.{Input, Content, Number, PartOf, Base, PointedBy, ObjectAt, BesidePart}
+use Rattle.rv64_instr.specs.Row.{Callee, Named, Held, Way, Back, Tail, Never}
 use Rattle.rv64_instr.specs.Row.{Row, Fixes, Moves, Sets, Addresses, Loads, Stores, LoadsSlot, StoresSlot, Branches, Jumps, Calls, Returns, Unfit}
 use Rattle.rv64_instr.specs.View.{Write, SetsNothing, SetsRegister, SetsSlot, Clobbers, write_of}
 
@@ -11,15 +9,28 @@ use Rattle.rv64_instr.specs.View.{Write, SetsNothing, SetsRegister, SetsSlot, Cl
 abbrev pub caller_saved : List ℕ
 caller_saved = 1 ∷ 5 ∷ 6 ∷ 7 ∷ 10 ∷ 11 ∷ 12 ∷ 13 ∷ 14 ∷ 15 ∷ 16 ∷ 17 ∷ 28 ∷ 29 ∷ 30 ∷ 31 ∷ []
 
--- the registers that an operation's second input reads: none if it is an immediate
+-- the registers that an operation's second input reads: none if it is a number or a half of an address
 abbrev pub input_reads : Input → List ℕ
 input_reads (Content r) = r ∷ []
 input_reads (Number n) = []
+input_reads (PartOf half y) = []
 
 -- the registers that an address's base reads: none if it is a stack object
 abbrev pub base_reads : Base → List ℕ
 base_reads (PointedBy r) = r ∷ []
 base_reads (ObjectAt n) = []
+base_reads (BesidePart r y) = r ∷ []
+
+-- the registers that naming a callee reads
+abbrev pub callee_reads : Callee → List ℕ
+callee_reads (Named name) = []
+callee_reads (Held r) = r ∷ []
+
+-- the registers that leaving on a way reads
+abbrev pub way_reads : Way Callee → List ℕ
+way_reads Back = []
+way_reads (Tail callee) = callee_reads callee
+way_reads (Never callee) = callee_reads callee
 
 -- the registers that it reads
 abbrev pub reads : Row → List ℕ
@@ -33,8 +44,8 @@ reads (LoadsSlot rd n) = []
 reads (StoresSlot rs n) = rs ∷ []
 reads (Branches op a b target) = a ∷ b ∷ []
 reads (Jumps target) = []
-reads (Calls name args) = args
-reads (Returns results) = results
+reads (Calls call) = callee_reads call.callee ++ call.args
+reads (Returns ending) = way_reads ending.way ++ ending.values
 reads Unfit = []
 
 -- the registers that a write sets. A write to x0 is dropped

@@ -5,10 +5,13 @@ use Rattle.rv64_instr.specs.declared.op.Op.{Op}
 use Rattle.rv64_instr.specs.declared.op.ImmediateOp.{ImmediateOp}
 use Rattle.rv64_instr.specs.declared.op.LoadOp.{LoadOp}
 use Rattle.rv64_instr.specs.declared.op.StoreOp.{StoreOp}
-use Rattle.rv64_instr.specs.declared.op.Op.TheVariants.{Registers, Immediate, Lui, Branch, Load, Store, Copy, PseudoBr, PseudoCall, PseudoRet}
+use Rattle.rv64_instr.specs.declared.op.Op.TheVariants.{Registers, Immediate, Lui, Branch, Load, Store, Copy}
+use Rattle.rv64_instr.specs.declared.op.Op.TheVariants.{PseudoBr, PseudoCall, PseudoRet, PseudoCallIndirect}
+use Rattle.rv64_instr.specs.declared.op.Op.TheVariants.{PseudoTail, PseudoTailIndirect, NoReturnCall, NoReturnCallIndirect}
 use Rattle.rv64_instr.specs.declared.op.ImmediateOp.TheVariants.{Addi, Slti, Sltiu, Xori, Ori, Andi, Slli, Srli, Srai, Addiw, Slliw, Srliw, Sraiw}
 use Rattle.rv64_instr.specs.declared.operand.Operand.{Operand}
-use Rattle.rv64_instr.specs.declared.operand.Operand.TheVariants.{Def, Use, ImplicitDef, ImplicitUse, Imm, Slot, Object, Block, Symbol, Mask}
+use Rattle.rv64_instr.specs.declared.operand.Operand.TheVariants.{Def, Use, ImplicitDef, ImplicitUse, Imm, Slot, Object, Part, Block, Symbol, Mask}
+use Rattle.rv64_instr.specs.declared.symbol.Half.TheVariants.{Upper, Lower}
 use Rattle.rv64_instr.specs.Arithmetic.{load_width, store_width}
 
 -- the number is between the two, both included
@@ -40,7 +43,7 @@ is_immediate Slliw i = is_within (pos 0) (pos 31) i
 is_immediate Srliw i = is_within (pos 0) (pos 31) i
 is_immediate Sraiw i = is_within (pos 0) (pos 31) i
 
--- `ADDI`, the only operation that adds a number to a stack object's address
+-- `ADDI`, the only operation that adds a number to a stack object's address, and that has a half of an address as its number
 abbrev pub is_addi : ImmediateOp → Bool
 is_addi Addi = true
 is_addi _ = false
@@ -71,20 +74,31 @@ abbrev pub is_result : Operand → Bool
 is_result (ImplicitUse r) = nat_le 10 r && nat_le r 17
 is_result _ = false
 
+-- an implicit operand of a call in tail position: a use of x2, or of a register that may hold an argument and that neither the epilogue sets nor the
+-- first word of the call: x7, x10 to x17 and x28 to x31
+abbrev pub is_tail_register : ℕ → Bool
+is_tail_register r = nat_eq r 7 || ((nat_le 10 r && nat_le r 17) || (nat_le 28 r && nat_le r 31))
+
+abbrev pub is_tail_use : Operand → Bool
+is_tail_use (ImplicitUse r) = nat_eq r 2 || is_tail_register r
+is_tail_use _ = false
+
 -- `rd = OP rs1, rs2`
 abbrev pub fits_registers : List Operand → Bool
 fits_registers (Def rd ∷ Use rs1 ∷ Use rs2 ∷ rest) = list_all is_implicit rest
 fits_registers _ = false
 
--- `rd = OP rs1, imm`, or `rd = ADDI %stack.N, imm` of a stack object
+-- `rd = OP rs1, imm`, `rd = ADDI %stack.N, imm` of a stack object, or `rd = ADDI rs1, lower half`
 abbrev pub fits_immediate : ImmediateOp → List Operand → Bool
 fits_immediate op (Def rd ∷ Use rs1 ∷ Imm i ∷ rest) = is_immediate op i && list_all is_implicit rest
 fits_immediate op (Def rd ∷ Object n ∷ Imm i ∷ rest) = is_addi op && is_immediate op i && list_all is_implicit rest
+fits_immediate op (Def rd ∷ Use rs1 ∷ Part Lower y ∷ rest) = is_addi op && list_all is_implicit rest
 fits_immediate op _ = false
 
--- `rd = LUI imm`, with 20 bits
+-- `rd = LUI imm`, with 20 bits, or `rd = LUI upper half`
 abbrev pub fits_upper : List Operand → Bool
 fits_upper (Def rd ∷ Imm i ∷ rest) = is_within (pos 0) (pos 1048575) i && list_all is_implicit rest
+fits_upper (Def rd ∷ Part Upper y ∷ rest) = list_all is_implicit rest
 fits_upper _ = false
 
 -- `OP rs1, rs2, %bb.N`
@@ -92,18 +106,20 @@ abbrev pub fits_branch : List Operand → Bool
 fits_branch (Use rs1 ∷ Use rs2 ∷ Block n ∷ rest) = list_all is_implicit rest
 fits_branch _ = false
 
--- `rd = OP rs1, imm`, `rd = LD %stack.N, 0` of a slot, or `rd = OP %stack.N, imm` of a stack object
+-- `rd = OP rs1, imm`, `rd = LD %stack.N, 0` of a slot, `rd = OP %stack.N, imm` of a stack object, or `rd = OP rs1, lower half`
 abbrev pub fits_load : LoadOp → List Operand → Bool
 fits_load op (Def rd ∷ Use rs1 ∷ Imm i ∷ rest) = has_12_bits i && list_all is_implicit rest
 fits_load op (Def rd ∷ Slot n ∷ Imm i ∷ rest) = moves_slot (load_width op) i && list_all is_implicit rest
 fits_load op (Def rd ∷ Object n ∷ Imm i ∷ rest) = has_12_bits i && list_all is_implicit rest
+fits_load op (Def rd ∷ Use rs1 ∷ Part Lower y ∷ rest) = list_all is_implicit rest
 fits_load op _ = false
 
--- `OP rs2, rs1, imm`, `SD rs2, %stack.N, 0` of a slot, or `OP rs2, %stack.N, imm` of a stack object
+-- `OP rs2, rs1, imm`, `SD rs2, %stack.N, 0` of a slot, `OP rs2, %stack.N, imm` of a stack object, or `OP rs2, rs1, lower half`
 abbrev pub fits_store : StoreOp → List Operand → Bool
 fits_store op (Use rs2 ∷ Use rs1 ∷ Imm i ∷ rest) = has_12_bits i && list_all is_implicit rest
 fits_store op (Use rs2 ∷ Slot n ∷ Imm i ∷ rest) = moves_slot (store_width op) i && list_all is_implicit rest
 fits_store op (Use rs2 ∷ Object n ∷ Imm i ∷ rest) = has_12_bits i && list_all is_implicit rest
+fits_store op (Use rs2 ∷ Use rs1 ∷ Part Lower y ∷ rest) = list_all is_implicit rest
 fits_store op _ = false
 
 -- `rd = COPY rs`
@@ -121,6 +137,31 @@ abbrev pub fits_call : List Operand → Bool
 fits_call (Symbol name ∷ Mask ∷ rest) = list_all is_argument rest
 fits_call _ = false
 
+-- `PseudoCALLIndirect`: the register, one of x5 to x31, is the first implicit use
+abbrev pub fits_held_call : List Operand → Bool
+fits_held_call (ImplicitUse r ∷ Mask ∷ rest) = (nat_le 5 r && nat_lt r 32) && list_all is_argument rest
+fits_held_call _ = false
+
+-- `PseudoTAIL symbol`
+abbrev pub fits_tail : List Operand → Bool
+fits_tail (Symbol name ∷ rest) = list_all is_tail_use rest
+fits_tail _ = false
+
+-- `PseudoTAILIndirect`: the register is x6 or one that may hold an argument
+abbrev pub fits_held_tail : List Operand → Bool
+fits_held_tail (ImplicitUse r ∷ rest) = (nat_eq r 6 || is_tail_register r) && list_all is_tail_use rest
+fits_held_tail _ = false
+
+-- a call that doesn't return, with the registers of a call in tail position: its implicit operands end the function, so they name no others
+abbrev pub fits_gone : List Operand → Bool
+fits_gone (Symbol name ∷ Mask ∷ rest) = list_all is_tail_use rest
+fits_gone _ = false
+
+-- the same by a register
+abbrev pub fits_held_gone : List Operand → Bool
+fits_held_gone (ImplicitUse r ∷ Mask ∷ rest) = (nat_eq r 6 || is_tail_register r) && list_all is_tail_use rest
+fits_held_gone _ = false
+
 -- the operands have the form of the opcode, with their immediate in range. Implicit operands come last
 abbrev pub has_form : Op → List Operand → Bool
 has_form (Registers op) operands = fits_registers operands
@@ -133,3 +174,8 @@ has_form Copy operands = fits_copy operands
 has_form PseudoBr operands = fits_jump operands
 has_form PseudoCall operands = fits_call operands
 has_form PseudoRet operands = list_all is_result operands
+has_form PseudoCallIndirect operands = fits_held_call operands
+has_form PseudoTail operands = fits_tail operands
+has_form PseudoTailIndirect operands = fits_held_tail operands
+has_form NoReturnCall operands = fits_gone operands
+has_form NoReturnCallIndirect operands = fits_held_gone operands

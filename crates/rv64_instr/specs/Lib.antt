@@ -2,9 +2,12 @@ pub mod Mnemonic
 pub mod Instruction
 pub mod Form
 pub mod Arithmetic
+pub mod Inverse
+pub mod Linked
 pub mod Row
 pub mod View
 pub mod DefsAndUses
 pub mod Decoded
-pub mod Parts
+pub mod LocationEffects
 pub mod Reserve
+pub mod steps

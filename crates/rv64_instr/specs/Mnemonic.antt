@@ -1,7 +1,9 @@
 -- The names of opcodes (LLVM, Machine IR (MIR) Format Reference Manual, "Instructions").
 use Rattle.std.specs.Prelude.{◌≡◌, ℕ, List, Option, Some, None, codes}
 use Rattle.rv64_instr.specs.declared.op.Op.{Op}
-use Rattle.rv64_instr.specs.declared.op.Op.TheVariants.{Registers, Immediate, Lui, Branch, Load, Store, Copy, PseudoBr, PseudoCall, PseudoRet}
+use Rattle.rv64_instr.specs.declared.op.Op.TheVariants.{Registers, Immediate, Lui, Branch, Load, Store, Copy}
+use Rattle.rv64_instr.specs.declared.op.Op.TheVariants.{PseudoBr, PseudoCall, PseudoRet, PseudoCallIndirect}
+use Rattle.rv64_instr.specs.declared.op.Op.TheVariants.{PseudoTail, PseudoTailIndirect, NoReturnCall, NoReturnCallIndirect}
 use Rattle.rv64_instr.specs.declared.op.RegisterOp.{RegisterOp}
 use Rattle.rv64_instr.specs.declared.op.RegisterOp.TheVariants.{Add, Sub, Sll, Slt, Sltu, Xor, Srl, Sra, Or, And, Addw, Subw, Sllw, Srlw, Sraw}
 use Rattle.rv64_instr.specs.declared.op.ImmediateOp.{ImmediateOp}
@@ -73,7 +75,7 @@ store_name Sh = codes "SH"
 store_name Sw = codes "SW"
 store_name Sd = codes "SD"
 
--- the opcode's name in MIR
+-- the opcode's name in MIR. A call that doesn't return has the flag `noreturn` before its opcode
 abbrev pub mnemonic_of : Op → List ℕ
 mnemonic_of (Registers op) = register_name op
 mnemonic_of (Immediate op) = immediate_name op
@@ -85,6 +87,11 @@ mnemonic_of Copy = codes "COPY"
 mnemonic_of PseudoBr = codes "PseudoBR"
 mnemonic_of PseudoCall = codes "PseudoCALL"
 mnemonic_of PseudoRet = codes "PseudoRET"
+mnemonic_of PseudoCallIndirect = codes "PseudoCALLIndirect"
+mnemonic_of PseudoTail = codes "PseudoTAIL"
+mnemonic_of PseudoTailIndirect = codes "PseudoTAILIndirect"
+mnemonic_of NoReturnCall = codes "noreturn PseudoCALL"
+mnemonic_of NoReturnCallIndirect = codes "noreturn PseudoCALLIndirect"
 
 -- the text is the opcode's name; without an opcode it is no opcode's name
 abbrev pub Names : List ℕ → Option Op → Type 0
@@ -99,8 +106,10 @@ NamesByPlace text None =
 
 -- the text is the opcode's name; without an opcode it is no name of any other than a branch, a load
 -- or a store
-abbrev pub NamesByValue : List ℕ → Option Op → Type 0
-NamesByValue text (Some op) = text ≡ mnemonic_of op
-NamesByValue text None =
+abbrev pub NamesElsewhere : List ℕ → Option Op → Type 0
+NamesElsewhere text (Some op) = text ≡ mnemonic_of op
+NamesElsewhere text None =
     ((op : RegisterOp) → text ≡ register_name op → ⊥) × ((op : ImmediateOp) → text ≡ immediate_name op → ⊥) × (text ≡ mnemonic_of Lui → ⊥) ×
-    (text ≡ mnemonic_of Copy → ⊥) × (text ≡ mnemonic_of PseudoBr → ⊥) × (text ≡ mnemonic_of PseudoCall → ⊥) × (text ≡ mnemonic_of PseudoRet → ⊥)
+    (text ≡ mnemonic_of Copy → ⊥) × (text ≡ mnemonic_of PseudoBr → ⊥) × (text ≡ mnemonic_of PseudoCall → ⊥) × (text ≡ mnemonic_of PseudoRet → ⊥) ×
+    (text ≡ mnemonic_of PseudoCallIndirect → ⊥) × (text ≡ mnemonic_of PseudoTail → ⊥) × (text ≡ mnemonic_of PseudoTailIndirect → ⊥) ×
+    (text ≡ mnemonic_of NoReturnCall → ⊥) × (text ≡ mnemonic_of NoReturnCallIndirect → ⊥)

@@ -1,7 +1,7 @@
 -- The decoded view of a row: what it sets, which memory it accesses, and its class. What asks only one of these goes by the view, and doesn't name
 -- the rows. Where control goes from a row is `row_exit` of `mir_func`.
 use Rattle.std.specs.Prelude.{ℕ}
-use Rattle.rv64_instr.specs.declared.decoded.Base.{Base}
+use Rattle.rv64_instr.specs.Row.{Base}
 use Rattle.rv64_instr.specs.Arithmetic.{load_width, store_width}
 use Rattle.rv64_instr.specs.Row.{Row, Fixes, Moves, Sets, Addresses, Loads, Stores, LoadsSlot, StoresSlot, Branches, Jumps, Calls, Returns, Unfit}
 
@@ -34,8 +34,8 @@ write_of (LoadsSlot rd n) = SetsRegister rd (OfSlot n)
 write_of (StoresSlot rs n) = SetsSlot n rs
 write_of (Branches op a b target) = SetsNothing
 write_of (Jumps target) = SetsNothing
-write_of (Calls name args) = Clobbers
-write_of (Returns results) = SetsNothing
+write_of (Calls call) = Clobbers
+write_of (Returns ending) = SetsNothing
 write_of Unfit = SetsNothing
 
 -- what is accessed: nothing, a frame slot, `width` bytes of memory at a base plus an offset, or nothing but the address of a stack object plus an
@@ -58,8 +58,8 @@ access_of (LoadsSlot rd n) = SlotAccess n
 access_of (StoresSlot rs n) = SlotAccess n
 access_of (Branches op a b target) = NoAccess
 access_of (Jumps target) = NoAccess
-access_of (Calls name args) = NoAccess
-access_of (Returns results) = NoAccess
+access_of (Calls call) = NoAccess
+access_of (Returns ending) = NoAccess
 access_of Unfit = NoAccess
 
 -- classes of instructions. A kept instruction keeps its class
@@ -75,8 +75,8 @@ pub data Class : Type 0 where
 abbrev pub class_of : Row → Class
 class_of (Branches op a b target) = Branch
 class_of (Jumps target) = Branch
-class_of (Calls name args) = Call
-class_of (Returns results) = Return
+class_of (Calls call) = Call
+class_of (Returns ending) = Return
 class_of (Stores op rs base offset) = Store
 class_of (Fixes rd n) = Plain
 class_of (Moves rd rs) = Plain

@@ -3,18 +3,19 @@
 ghost use Rattle.std.specs.Prelude.{◌≡◌, nat_eq};
 ghost use Rattle.std.specs.List.{list_any};
 ghost use Rattle.rv64_instr.specs.DefsAndUses.{sets, caller_saved};
+ghost use Rattle.rv64_instr.specs.Row as row;
 ghost use Rattle.rv64_instr.specs.Row.{Row, row_of};
-ghost use Rattle.rv64_instr.specs.Decoded.{Shows};
-ghost use Rattle.rv64_instr.specs.Parts.{effect_of, set_by, place_set, input_place, base_place, moved_into, first_use};
-ghost use Rattle.rv64_instr.specs.Parts.{second_use, moved_by, constant_of, is_pure, is_call, uses_of, defines_of};
-ghost use Rattle.rv64_instr.specs.Parts.{slot_read, slot_set, is_implicit_use};
+ghost use Rattle.rv64_instr.specs.Decoded.{Shows, ShowsInput, ShowsBase, ShowsCallee};
+ghost use Rattle.rv64_instr.specs.LocationEffects.{effect_of, set_by, place_set, input_place, base_place, moved_into, first_use};
+ghost use Rattle.rv64_instr.specs.LocationEffects.{second_use, moved_by, constant_of, is_pure, is_call, uses_of, defines_of};
+ghost use Rattle.rv64_instr.specs.LocationEffects.{slot_read, slot_set, is_implicit_use, is_named, has_site};
 
-use crate::decoded::{Base, Decoded, Input};
+use crate::decoded::{Base, Callee, Decoded, Input, Way};
 use crate::instr::Instr;
 use crate::operand::Operand;
 use crate::place::Place;
 use crate::reg::Reg;
-use base_ids::code::SlotId;
+use base_ids::function_ids::SlotId;
 
 /// The numbers of the registers that a call sets, ascending (RISC-V ELF psABI, "Integer Register Convention").
 pub const CALLER_SAVED: [u32; 16] = [1, 5, 6, 7, 10, 11, 12, 13, 14, 15, 16, 17, 28, 29, 30, 31];
@@ -73,7 +74,9 @@ impl Instr {
         ensures { result ≡ uses_of self.now (Place.Register r) }
     {
         match self.decoded() {
-            Decoded::Calls | Decoded::Returns => uses_implicitly(r, self.operands.as_slice()),
+            Decoded::Calls(_) | Decoded::Returns(_) => {
+                uses_implicitly(r, self.operands.as_slice())
+            }
             Decoded::Moves(_, rs) => rs == r,
             Decoded::Sets(_, _, a, b) => a == r || b.place() == Some(Place::Register(r)),
             Decoded::Loads(_, _, base, _) => base.place() == Some(Place::Register(r)),
@@ -111,7 +114,7 @@ pub fn is_caller_saved(r: Reg) -> bool
 pub fn is_call(i: &Instr) -> bool
     ensures { result ≡ is_call (row_of i.now) }
 {
-    matches!(i.decoded(), Decoded::Calls)
+    matches!(i.decoded(), Decoded::Calls(_))
 }
 
 impl Decoded {
@@ -144,8 +147,8 @@ impl Decoded {
             Decoded::Stores(_, _, _, _)
             | Decoded::Branches(_, _, _, _)
             | Decoded::Jumps(_)
-            | Decoded::Calls
-            | Decoded::Returns => None,
+            | Decoded::Calls(_)
+            | Decoded::Returns(_) => None,
         }
     }
 
@@ -164,8 +167,8 @@ impl Decoded {
             Decoded::Fixes(_, _)
             | Decoded::Addresses(_, _, _)
             | Decoded::Jumps(_)
-            | Decoded::Calls
-            | Decoded::Returns => None,
+            | Decoded::Calls(_)
+            | Decoded::Returns(_) => None,
         }
     }
 
@@ -184,8 +187,8 @@ impl Decoded {
             | Decoded::LoadsSlot(_, _)
             | Decoded::StoresSlot(_, _)
             | Decoded::Jumps(_)
-            | Decoded::Calls
-            | Decoded::Returns => None,
+            | Decoded::Calls(_)
+            | Decoded::Returns(_) => None,
         }
     }
 
@@ -204,8 +207,8 @@ impl Decoded {
             | Decoded::Stores(_, _, _, _)
             | Decoded::Branches(_, _, _, _)
             | Decoded::Jumps(_)
-            | Decoded::Calls
-            | Decoded::Returns => None,
+            | Decoded::Calls(_)
+            | Decoded::Returns(_) => None,
         }
     }
 
@@ -224,8 +227,8 @@ impl Decoded {
             | Decoded::StoresSlot(_, _)
             | Decoded::Branches(_, _, _, _)
             | Decoded::Jumps(_)
-            | Decoded::Calls
-            | Decoded::Returns => None,
+            | Decoded::Calls(_)
+            | Decoded::Returns(_) => None,
         }
     }
 
@@ -237,8 +240,8 @@ impl Decoded {
             Decoded::Stores(_, _, _, _)
             | Decoded::Branches(_, _, _, _)
             | Decoded::Jumps(_)
-            | Decoded::Calls
-            | Decoded::Returns => false,
+            | Decoded::Calls(_)
+            | Decoded::Returns(_) => false,
             Decoded::Fixes(_, _)
             | Decoded::Moves(_, _)
             | Decoded::Sets(_, _, _, _)
@@ -260,12 +263,12 @@ impl Decoded {
             Decoded::Addresses(rd, _, _) => rd == r,
             Decoded::Loads(rd, _, _, _) => rd == r,
             Decoded::LoadsSlot(rd, _) => rd == r,
-            Decoded::Calls => is_caller_saved(r),
+            Decoded::Calls(_) => is_caller_saved(r),
             Decoded::Stores(_, _, _, _)
             | Decoded::StoresSlot(_, _)
             | Decoded::Branches(_, _, _, _)
             | Decoded::Jumps(_)
-            | Decoded::Returns => false,
+            | Decoded::Returns(_) => false,
         }
     }
 
@@ -289,11 +292,34 @@ impl Decoded {
         }
     }
 
+    /// Whether it calls a function of a name, or leaves for one: it has two words, which get the function's address
+    /// when the program is linked.
+    pub fn has_site(&self) -> bool
+        ensures { (row : Row) → Shows self.now row → result ≡ has_site row }
+    {
+        match *self {
+            Decoded::Calls(callee)
+            | Decoded::Returns(Way::Tail(callee))
+            | Decoded::Returns(Way::Never(callee)) => callee.is_named(),
+            Decoded::Returns(Way::Back)
+            | Decoded::Fixes(_, _)
+            | Decoded::Moves(_, _)
+            | Decoded::Sets(_, _, _, _)
+            | Decoded::Addresses(_, _, _)
+            | Decoded::Loads(_, _, _, _)
+            | Decoded::Stores(_, _, _, _)
+            | Decoded::LoadsSlot(_, _)
+            | Decoded::StoresSlot(_, _)
+            | Decoded::Branches(_, _, _, _)
+            | Decoded::Jumps(_) => false,
+        }
+    }
+
     /// Whether it is a call.
     fn is_call(&self) -> bool
         ensures { (row : Row) → Shows self.now row → result ≡ is_call row }
     {
-        matches!(*self, Decoded::Calls)
+        matches!(*self, Decoded::Calls(_))
     }
 }
 
@@ -319,14 +345,25 @@ fn moved_into(rd: Reg, rs: Reg) -> Option<Place>
     }
 }
 
+impl Callee {
+    fn is_named(self) -> bool
+        ensures { (c : row.Callee) → ShowsCallee self c → result ≡ is_named c }
+    {
+        match self {
+            Callee::Named => true,
+            Callee::Held(_) => false,
+        }
+    }
+}
+
 impl Input {
     /// The location that the input is read from.
     fn place(self) -> Option<Place>
-        ensures { result ≡ input_place self }
+        ensures { (b : row.Input) → ShowsInput self b → result ≡ input_place b }
     {
         match self {
             Input::Content(r) => Some(Place::Register(r)),
-            Input::Number(_) => None,
+            Input::Number(_) | Input::PartOf(_) => None,
         }
     }
 }
@@ -334,10 +371,10 @@ impl Input {
 impl Base {
     /// The location that the base is read from.
     fn place(self) -> Option<Place>
-        ensures { result ≡ base_place self }
+        ensures { (b : row.Base) → ShowsBase self b → result ≡ base_place b }
     {
         match self {
-            Base::PointedBy(r) => Some(Place::Register(r)),
+            Base::PointedBy(r) | Base::BesidePart(r) => Some(Place::Register(r)),
             Base::ObjectAt(_) => None,
         }
     }

@@ -13,11 +13,19 @@ ghost use Rattle.rv64_instr.specs.Form.{
   is_argument,
   is_result,
   is_clobbered,
+  is_tail_use,
+  is_tail_register,
+  fits_held_call,
+  fits_tail,
+  fits_held_tail,
+  fits_gone,
+  fits_held_gone,
 };
 
 use crate::arithmetic::{load_width, store_width};
 use crate::op::{ImmediateOp, LoadOp, Op, StoreOp};
 use crate::operand::Operand;
+use crate::symbol::Half;
 
 /// Whether operands have the form of an opcode, with their immediate in range.
 pub fn has_form(op: Op, operands: &[Operand]) -> bool
@@ -34,6 +42,11 @@ pub fn has_form(op: Op, operands: &[Operand]) -> bool
         Op::PseudoBr => fits_jump(operands),
         Op::PseudoCall => fits_call(operands),
         Op::PseudoRet => are_results(operands),
+        Op::PseudoTail => fits_tail(operands),
+        Op::PseudoTailIndirect => fits_held_tail(operands),
+        Op::PseudoCallIndirect => fits_held_call(operands),
+        Op::NoReturnCall => fits_gone(operands),
+        Op::NoReturnCallIndirect => fits_held_gone(operands),
     }
 }
 
@@ -59,6 +72,12 @@ fn fits_immediate(op: ImmediateOp, operands: &[Operand]) -> bool
             Operand::Imm(i),
             rest @ ..,
         ] => { is_addi(op) && is_immediate(op, *i) && are_implicit(rest) }
+        [
+            Operand::Def(_),
+            Operand::Use(_),
+            Operand::Part(Half::Lower, _),
+            rest @ ..,
+        ] => { is_addi(op) && are_implicit(rest) }
         _ => false,
     }
 }
@@ -100,6 +119,7 @@ fn fits_upper(operands: &[Operand]) -> bool
         [Operand::Def(_), Operand::Imm(i), rest @ ..] => {
             0 <= *i && *i <= 1_048_575 && are_implicit(rest)
         }
+        [Operand::Def(_), Operand::Part(Half::Upper, _), rest @ ..] => { are_implicit(rest) }
         _ => false,
     }
 }
@@ -137,6 +157,12 @@ fn fits_load(op: LoadOp, operands: &[Operand]) -> bool
             Operand::Imm(i),
             rest @ ..,
         ] => { has_12_bits(*i) && are_implicit(rest) }
+        [
+            Operand::Def(_),
+            Operand::Use(_),
+            Operand::Part(Half::Lower, _),
+            rest @ ..,
+        ] => { are_implicit(rest) }
         _ => false,
     }
 }
@@ -160,6 +186,12 @@ fn fits_store(op: StoreOp, operands: &[Operand]) -> bool
             Operand::Imm(i),
             rest @ ..,
         ] => { has_12_bits(*i) && are_implicit(rest) }
+        [
+            Operand::Use(_),
+            Operand::Use(_),
+            Operand::Part(Half::Lower, _),
+            rest @ ..,
+        ] => { are_implicit(rest) }
         _ => false,
     }
 }
@@ -198,6 +230,57 @@ fn fits_call(operands: &[Operand]) -> bool
     }
 }
 
+fn fits_held_call(operands: &[Operand]) -> bool
+    ensures { result ≡ fits_held_call operands.now }
+{
+    match operands {
+        [Operand::ImplicitUse(r), Operand::Mask, rest @ ..] => {
+            (5 <= r.number() && r.number() < 32) && are_arguments(rest)
+        }
+        _ => false,
+    }
+}
+
+fn fits_tail(operands: &[Operand]) -> bool
+    ensures { result ≡ fits_tail operands.now }
+{
+    match operands {
+        [Operand::Symbol(_), rest @ ..] => { are_tail_uses(rest) }
+        _ => false,
+    }
+}
+
+fn fits_held_tail(operands: &[Operand]) -> bool
+    ensures { result ≡ fits_held_tail operands.now }
+{
+    match operands {
+        [Operand::ImplicitUse(r), rest @ ..] => {
+            (r.number() == 6 || is_tail_register(r.number())) && are_tail_uses(rest)
+        }
+        _ => false,
+    }
+}
+
+fn fits_gone(operands: &[Operand]) -> bool
+    ensures { result ≡ fits_gone operands.now }
+{
+    match operands {
+        [Operand::Symbol(_), Operand::Mask, rest @ ..] => { are_tail_uses(rest) }
+        _ => false,
+    }
+}
+
+fn fits_held_gone(operands: &[Operand]) -> bool
+    ensures { result ≡ fits_held_gone operands.now }
+{
+    match operands {
+        [Operand::ImplicitUse(r), Operand::Mask, rest @ ..] => {
+            (r.number() == 6 || is_tail_register(r.number())) && are_tail_uses(rest)
+        }
+        _ => false,
+    }
+}
+
 fn are_implicit(operands: &[Operand]) -> bool
     ensures { result ≡ list_all is_implicit operands.now }
 {
@@ -214,6 +297,12 @@ fn are_results(operands: &[Operand]) -> bool
     ensures { result ≡ list_all is_result operands.now }
 {
     operands.iter().all(|operand| is_result(operand))
+}
+
+fn are_tail_uses(operands: &[Operand]) -> bool
+    ensures { result ≡ list_all is_tail_use operands.now }
+{
+    operands.iter().all(|operand| is_tail_use(operand))
 }
 
 fn is_implicit(operand: &Operand) -> bool
@@ -251,4 +340,21 @@ fn is_clobbered(n: u32) -> bool
     ensures { result ≡ is_clobbered n }
 {
     n <= 2 || (5 <= n && n <= 7) || (10 <= n && n <= 17) || (28 <= n && n <= 31)
+}
+
+/// Whether it is an implicit operand that a call in tail position may have.
+fn is_tail_use(operand: &Operand) -> bool
+    ensures { result ≡ is_tail_use operand.now }
+{
+    match operand {
+        Operand::ImplicitUse(r) => r.number() == 2 || is_tail_register(r.number()),
+        _ => false,
+    }
+}
+
+/// Whether an argument of a call in tail position may be in the register.
+fn is_tail_register(n: u32) -> bool
+    ensures { result ≡ is_tail_register n }
+{
+    n == 7 || ((10 <= n && n <= 17) || (28 <= n && n <= 31))
 }

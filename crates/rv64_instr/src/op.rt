@@ -2,7 +2,8 @@
 
 ghost use Rattle.std.specs.Prelude.{◌≡◌, Some, IfSome};
 ghost use Rattle.rv64_instr.specs.Mnemonic.{mnemonic_of, register_name, immediate_name, branch_name, load_name};
-ghost use Rattle.rv64_instr.specs.Mnemonic.{store_name, Names, NamesByPlace, NamesByValue};
+ghost use Rattle.rv64_instr.specs.Mnemonic.{store_name, Names, NamesByPlace, NamesElsewhere};
+ghost use Rattle.rv64_instr.specs.steps.Names.{NamesByValue, callee_named};
 
 /// An operation on two registers (RISC-V Unprivileged ISA, RV32I and RV64I, "Integer Register-Register Operations").
 #[derive(Clone, Copy, Debug, PartialEq, Eq)]
@@ -75,7 +76,8 @@ pub enum StoreOp {
     Sd,
 }
 
-/// An opcode of machine code: the operations of RV64I that code may have, and LLVM's four pseudo operations.
+/// An opcode of machine code: the operations of RV64I that code may have, LLVM's pseudo operations of branches, calls
+/// and returns, and calls that don't return.
 #[derive(Clone, Copy, Debug, PartialEq, Eq)]
 pub enum Op {
     Registers(RegisterOp),
@@ -88,6 +90,16 @@ pub enum Op {
     PseudoBr,
     PseudoCall,
     PseudoRet,
+    /// A call of the code at the address that a register holds.
+    PseudoCallIndirect,
+    /// A call in tail position.
+    PseudoTail,
+    /// The same of the code at the address that a register holds.
+    PseudoTailIndirect,
+    /// A call of a function that doesn't return.
+    NoReturnCall,
+    /// The same of the code at the address that a register holds.
+    NoReturnCallIndirect,
 }
 
 impl RegisterOp {
@@ -186,7 +198,7 @@ impl StoreOp {
 }
 
 impl Op {
-    /// The opcode's name in MIR.
+    /// The opcode's name in MIR. A call that doesn't return has the flag `noreturn` before its opcode.
     pub fn mnemonic(self) -> &'static str
         ensures { result.now ≡ mnemonic_of self }
     {
@@ -201,6 +213,11 @@ impl Op {
             Op::PseudoBr => "PseudoBR",
             Op::PseudoCall => "PseudoCALL",
             Op::PseudoRet => "PseudoRET",
+            Op::PseudoCallIndirect => "PseudoCALLIndirect",
+            Op::PseudoTail => "PseudoTAIL",
+            Op::PseudoTailIndirect => "PseudoTAILIndirect",
+            Op::NoReturnCall => "noreturn PseudoCALL",
+            Op::NoReturnCallIndirect => "noreturn PseudoCALLIndirect",
         }
     }
 
@@ -219,11 +236,20 @@ fn named(text: &[u8]) -> Option<Op>
 {
     match named_by_place(text) {
         Some(op) => Some(op),
-        None => named_by_value(text),
+        None => named_elsewhere(text),
     }
 }
 
-/// The opcode of a name in MIR that is no branch's, no load's and no store's.
+fn named_elsewhere(text: &[u8]) -> Option<Op>
+    ensures { NamesElsewhere text.now result }
+{
+    match named_by_value(text) {
+        Some(op) => Some(op),
+        None => named_by_callee(text),
+    }
+}
+
+/// The opcode of an operation on registers, and of a call by name, a return or a branch that is always taken.
 fn named_by_value(text: &[u8]) -> Option<Op>
     ensures { NamesByValue text.now result }
 {
@@ -262,6 +288,25 @@ fn named_by_value(text: &[u8]) -> Option<Op>
         b"PseudoCALL" => Some(Op::PseudoCall),
         b"PseudoRET" => Some(Op::PseudoRet),
         _ => None,
+    }
+}
+
+/// The opcode of a call by a register, in tail position or that doesn't return.
+fn named_by_callee(text: &[u8]) -> Option<Op>
+    ensures { result ≡ callee_named text.now }
+{
+    if text == b"PseudoCALLIndirect".as_slice() {
+        Some(Op::PseudoCallIndirect)
+    } else if text == b"PseudoTAIL".as_slice() {
+        Some(Op::PseudoTail)
+    } else if text == b"PseudoTAILIndirect".as_slice() {
+        Some(Op::PseudoTailIndirect)
+    } else if text == b"noreturn PseudoCALL".as_slice() {
+        Some(Op::NoReturnCall)
+    } else if text == b"noreturn PseudoCALLIndirect".as_slice() {
+        Some(Op::NoReturnCallIndirect)
+    } else {
+        None
     }
 }
 

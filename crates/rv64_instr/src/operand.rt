@@ -4,7 +4,8 @@ ghost use Rattle.std.specs.Prelude.{◌≡◌, [], ◌∷◌, ◌++◌, OnOk, On
 
 use crate::name::Name;
 use crate::reg::Reg;
-use base_ids::code::{BlockId, ObjectId, SlotId};
+use crate::symbol::{Half, LinkedAddress};
+use base_ids::function_ids::{BlockId, ObjectId, SlotId};
 use smallvec::SmallVec;
 use std::alloc::{AllocError, Global};
 use std::marker::Model;
@@ -27,6 +28,8 @@ pub enum Operand {
     Slot(SlotId),
     /// A stack object.
     Object(ObjectId),
+    /// A half of an address that is known when the program is linked.
+    Part(Half, LinkedAddress),
     /// A block.
     Block(BlockId),
     /// The function that a call names.
@@ -49,6 +52,7 @@ impl Operand {
             Operand::Imm(i) => Ok(Operand::Imm(*i)),
             Operand::Slot(n) => Ok(Operand::Slot(*n)),
             Operand::Object(n) => Ok(Operand::Object(*n)),
+            Operand::Part(half, address) => Ok(Operand::Part(*half, address.copy()?)),
             Operand::Block(n) => Ok(Operand::Block(*n)),
             Operand::Symbol(name) => Ok(Operand::Symbol(name.copy()?)),
             Operand::Mask => Ok(Operand::Mask),

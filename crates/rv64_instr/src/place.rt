@@ -1,7 +1,7 @@
 //! Locations of values.
 
 use crate::reg::Reg;
-use base_ids::code::SlotId;
+use base_ids::function_ids::SlotId;
 
 /// A location of a value (LLVM: a machine location, `LocIdx`), or a constant.
 #[derive(Clone, Copy, Debug, PartialEq, Eq)]

@@ -38,6 +38,13 @@ pub fn physical(n: u32) -> Option<Reg>
     }
 }
 
+/// The register x0, which reads 0.
+pub fn zero() -> Reg
+    ensures { result ≡ 0 }
+{
+    Reg { number: 0 }
+}
+
 impl Reg {
     /// The register of a number, physical or virtual, and `None` exactly if the number is above 4,127.
     pub fn new(number: u32) -> Option<Reg>

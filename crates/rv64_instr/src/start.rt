@@ -1,6 +1,7 @@
 //! The start of a run, the calls that it makes, and the replies to them.
 
 use crate::name::Name;
+use crate::symbol::SymbolAddresses;
 use base_list::List;
 
 /// Register contents, in a stated order.
@@ -10,20 +11,31 @@ pub type Values = List<u64>;
 /// byte is 0.
 pub type Cells = List<(u64, u8)>;
 
-/// The registers and the memory with which a run starts.
+/// The registers and the memory with which a run starts, and the addresses of symbols.
 #[derive(Debug, Drop)]
 pub struct Start {
     /// The content of x0 to x31.
     pub regs: [u64; 32],
     /// The bytes of memory that are not 0.
     pub memory: Cells,
+    /// The addresses of symbols, which stay as they are.
+    pub symbols: SymbolAddresses,
+}
+
+/// What a call goes to.
+#[derive(Debug, Drop)]
+pub enum CallTarget {
+    /// The function of this name.
+    Function(Name),
+    /// The code at this address.
+    Address(u64),
 }
 
 /// A call that a run makes.
 #[derive(Debug, Drop)]
 pub struct CallEvent {
-    /// The function that is called.
-    pub name: Name,
+    /// The function or the code that is called.
+    pub target: CallTarget,
     /// The contents of the registers that the call uses implicitly, in text order, x2 left out.
     pub args: Values,
     /// The call's number in its run, from 1.

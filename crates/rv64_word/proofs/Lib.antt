@@ -6,3 +6,4 @@ pub mod Codes
 pub mod Spelling
 pub mod Decoding
 pub mod Words
+pub mod Linking

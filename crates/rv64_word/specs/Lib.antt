@@ -5,3 +5,4 @@ pub mod Decoded
 pub mod Codes
 pub mod MachineRow
 pub mod Lowering
+pub mod Linked

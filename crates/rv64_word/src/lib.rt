@@ -3,6 +3,7 @@
 #![tactic(auto)]
 
 pub mod format;
+pub mod linked;
 pub mod lowering;
 pub mod machine_op;
 pub mod opcodes;

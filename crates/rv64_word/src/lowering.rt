@@ -1,6 +1,6 @@
 //! Lowering of instructions to machine operations.
 
-ghost use Rattle.std.specs.Prelude.{◌≡◌, ℕ, Some, IsTrue, IfSome};
+ghost use Rattle.std.specs.Prelude.{◌≡◌, ℕ, pos, Some, IsTrue, IfSome};
 ghost use Rattle.rv64_instr.specs.Form.{
   has_form,
   fits_registers,
@@ -12,12 +12,16 @@ ghost use Rattle.rv64_instr.specs.Form.{
   fits_store,
   fits_copy,
   fits_jump,
+  fits_held_call,
+  fits_held_tail,
+  fits_held_gone,
 };
-ghost use Rattle.rv64_instr.specs.Decoded.{Shows};
-ghost use Rattle.rv64_instr.specs.Row.{Row, row_of};
+ghost use Rattle.rv64_instr.specs.Decoded.{Shows, ShowsBase};
+ghost use Rattle.rv64_instr.specs.Row as row;
+ghost use Rattle.rv64_instr.specs.Row.{Row, row_of, implicit_uses};
 ghost use Rattle.rv64_word.specs.MachineOp.{is_encodable};
 ghost use Rattle.rv64_word.specs.MachineRow.{machine_row, placed, at_offset};
-ghost use Rattle.rv64_instr.specs.Parts.{object_named, base_object};
+ghost use Rattle.rv64_instr.specs.LocationEffects.{object_named, base_object};
 ghost use Rattle.rv64_word.specs.Lowering.{
   lowered,
   fields_of,
@@ -30,13 +34,14 @@ ghost use Rattle.rv64_word.specs.Lowering.{
   store_fields,
   copy_fields,
   jump_fields,
+  held_fields,
   in_range,
   machine_op,
 };
 
 use crate::machine_op::MachineOp;
 use crate::word_op::WordOp;
-use base_ids::code::ObjectId;
+use base_ids::function_ids::ObjectId;
 use rv64_instr::decoded::{Base, Decoded};
 use rv64_instr::instr::Instr;
 use rv64_instr::op::{BranchOp, ImmediateOp, LoadOp, Op, RegisterOp, StoreOp};
@@ -44,14 +49,15 @@ use rv64_instr::operand::Operand;
 
 /// The machine operation of an instruction that has one word. `offset` is that of a branch's target from the
 /// instruction's own address in bytes, and `object` that from x2 in bytes of the stack object that it names, by
-/// `object_named`; each is unused elsewhere. A frame slot's number is its offset from x2 in bytes. `None` for a call,
-/// which has two words, and if a register is virtual, or an offset doesn't fit its format. It takes no memory.
+/// `object_named`; each is unused elsewhere. A frame slot's number is its offset from x2 in bytes. `None` for a call
+/// by name, which has two words, and if a register is virtual, or an offset doesn't fit its format. It takes no memory.
 pub fn lower(i: &Instr, offset: i64, object: u32) -> Option<MachineOp>
     ensures value { result ≡ lowered offset object i.now }
     ensures encodable { IfSome result (λ m. IsTrue (is_encodable m)) }
     // The word does at any address what the instruction does, with its target and its stack object at their offsets.
+    // Until the program is linked it has 0 for a half of an address.
     ensures row { IfSome result
-        (λ m. (address : ℕ) → machine_row address m ≡ placed (at_offset address offset) object (row_of i.now)) }
+        (λ m. (address : ℕ) → machine_row address m ≡ placed (at_offset address offset) object (pos 0) (row_of i.now)) }
 {
     in_fields(i, offset, object)
 }
@@ -77,16 +83,16 @@ fn object_shown(row: Decoded) -> Option<ObjectId>
         | Decoded::StoresSlot(_, _)
         | Decoded::Branches(_, _, _, _)
         | Decoded::Jumps(_)
-        | Decoded::Calls
-        | Decoded::Returns => None,
+        | Decoded::Calls(_)
+        | Decoded::Returns(_) => None,
     }
 }
 
 fn base_object(base: Base) -> Option<ObjectId>
-    ensures { result ≡ base_object base }
+    ensures { (b : row.Base) → ShowsBase base b → result ≡ base_object b }
 {
     match base {
-        Base::PointedBy(_) => None,
+        Base::PointedBy(_) | Base::BesidePart(_) => None,
         Base::ObjectAt(n) => Some(n),
     }
 }
@@ -117,8 +123,11 @@ fn fields(op: Op, operands: &[Operand], offset: i64, object: u32) -> Option<Mach
         Op::Store(op) => Some(of_store(op, operands, object)),
         Op::Copy => Some(of_copy(operands)),
         Op::PseudoBr => Some(of_jump(operands, offset)),
-        Op::PseudoCall => None,
+        Op::PseudoCall | Op::PseudoTail | Op::NoReturnCall => None,
         Op::PseudoRet => Some(machine_op(WordOp::Jalr, 0, 1, 0, 0)),
+        Op::PseudoCallIndirect => Some(of_held_call(operands)),
+        Op::NoReturnCallIndirect => Some(of_held_gone(operands)),
+        Op::PseudoTailIndirect => Some(of_held_tail(operands)),
     }
 }
 
@@ -163,6 +172,10 @@ fn of_immediate(op: ImmediateOp, operands: &[Operand], object: u32) -> MachineOp
         [Operand::Def(rd), Operand::Object(_), Operand::Imm(i), ..] => {
             of_object(op, rd.number(), i64::from(object) + *i)
         }
+        [Operand::Def(rd), Operand::Use(a), Operand::Part(_, _), ..] => {
+            let op = WordOp::Immediate(ImmediateOp::Addi);
+            machine_op(op, rd.number(), a.number(), 0, 0)
+        }
         _ => unreachable!(),
     }
 }
@@ -184,6 +197,13 @@ fn of_upper(operands: &[Operand]) -> MachineOp
 {
     match operands {
         [Operand::Def(rd), Operand::Imm(i), ..] => machine_op(WordOp::Lui, rd.number(), 0, 0, *i),
+        [Operand::Def(rd), Operand::Part(_, _), ..] => machine_op(
+            WordOp::Lui,
+            rd.number(),
+            0,
+            0,
+            0,
+        ),
         _ => unreachable!(),
     }
 }
@@ -215,6 +235,12 @@ fn of_load(op: LoadOp, operands: &[Operand], object: u32) -> MachineOp
         [Operand::Def(rd), Operand::Object(_), Operand::Imm(i), ..] => {
             machine_op(WordOp::Load(op), rd.number(), 2, 0, i64::from(object) + *i)
         }
+        [
+            Operand::Def(rd),
+            Operand::Use(base),
+            Operand::Part(_, _),
+            ..
+        ] => { machine_op(WordOp::Load(op), rd.number(), base.number(), 0, 0) }
         _ => unreachable!(),
     }
 }
@@ -234,6 +260,12 @@ fn of_store(op: StoreOp, operands: &[Operand], object: u32) -> MachineOp
         [Operand::Use(rs), Operand::Object(_), Operand::Imm(i), ..] => {
             machine_op(WordOp::Store(op), 0, 2, rs.number(), i64::from(object) + *i)
         }
+        [
+            Operand::Use(rs),
+            Operand::Use(base),
+            Operand::Part(_, _),
+            ..
+        ] => { machine_op(WordOp::Store(op), 0, base.number(), rs.number(), 0) }
         _ => unreachable!(),
     }
 }
@@ -257,6 +289,57 @@ fn of_jump(operands: &[Operand], offset: i64) -> MachineOp
 {
     match operands {
         [Operand::Block(_), ..] => machine_op(WordOp::Jal, 0, 0, 0, offset),
+        _ => unreachable!(),
+    }
+}
+
+fn of_held_call(operands: &[Operand]) -> MachineOp
+    requires { IsTrue (fits_held_call operands.now) }
+    ensures { Some result ≡ held_fields 1 (implicit_uses operands.now) }
+{
+    match operands {
+        [Operand::ImplicitUse(r), ..] => {
+            // x2 is no callee
+            if r.number() == 2 {
+                unreachable!()
+            } else {
+                machine_op(WordOp::Jalr, 1, r.number(), 0, 0)
+            }
+        }
+        _ => unreachable!(),
+    }
+}
+
+fn of_held_tail(operands: &[Operand]) -> MachineOp
+    requires { IsTrue (fits_held_tail operands.now) }
+    ensures { Some result ≡ held_fields 0 (implicit_uses operands.now) }
+{
+    match operands {
+        [Operand::ImplicitUse(r), ..] => {
+            // x2 is no callee
+            if r.number() == 2 {
+                unreachable!()
+            } else {
+                machine_op(WordOp::Jalr, 0, r.number(), 0, 0)
+            }
+        }
+        _ => unreachable!(),
+    }
+}
+
+fn of_held_gone(operands: &[Operand]) -> MachineOp
+    requires { IsTrue (fits_held_gone operands.now) }
+    ensures { Some result ≡ held_fields 1 (implicit_uses operands.now) }
+{
+    match operands {
+        [Operand::ImplicitUse(r), ..] => {
+            // x2 is no callee
+            if r.number() == 2 {
+                unreachable!()
+            } else {
+                machine_op(WordOp::Jalr, 1, r.number(), 0, 0)
+            }
+        }
         _ => unreachable!(),
     }
 }

@@ -1,21 +1,23 @@
 -- The machine code of what passes make of a function without calls has none: kept code keeps its class, and no call is added.
-use Rattle.std.proofs.Common.{◌≡◌, ℕ, zero, suc, List, [], ◌∷◌, map, drop, All, Option, Bool, true, false, cond, refl, sym, ap, ◌∙◌, subst}
+use Rattle.std.proofs.Common.{◌≡◌, ℕ, zero, suc, List, [], ◌∷◌, map, drop, All, Option, None, Bool, true, false, cond, refl, sym, ap, ◌∙◌, subst}
 use Rattle.std.specs.Prelude.{ℤ, pos, ◌-ℤ◌}
 use Rattle.std.proofs.lemmas.List.Elements.{All-nil, All-cons, All-head, All-tail, All-append, All-weaker, All-drop}
 use Rattle.rv64_instr.specs.Arithmetic.{word}
 use Rattle.rv64_instr.specs.Instruction.{Instruction}
-use Rattle.rv64_instr.specs.Parts.{is_call}
+use Rattle.rv64_instr.specs.LocationEffects.{is_call}
 use Rattle.rv64_instr.specs.Row.{Row, Calls, row_of}
 use Rattle.rv64_instr.specs.Row.{add_row}
 use Rattle.emit_code.specs.declared.code.EncodedInstruction.{EncodedInstruction}
-use Rattle.emit_code.specs.Laid.{LaidCode, IsCodeOf, IsOfItem, is_call_kind}
+use Rattle.emit_code.specs.Laid.{LaidCode, IsCodeOf, IsOfItem}
 use Rattle.emit_code.specs.Rule.{entries_of}
 use Rattle.emit_code.proofs.Stand.{items_stand}
-use Rattle.frame_rule.specs.Rule.{added, added_all, prologue, epilogue, position_in, renamed, renamed_kind, framed_item, framed_items, framed_block}
+use Rattle.frame_rule.specs.Rule.{added, added_all, prologue, epilogue, renamed, renamed_kind, framed_item, framed_items, framed_block}
 use Rattle.frame_rule.specs.Rule.{prologue_block}
 use Rattle.frame_rule.specs.Rule.{framed_blocks, framed_of, size_of, saved_of}
 use Rattle.frame_rule.proofs.Rows.{renamed_row, row_renamed}
 use Rattle.gen_program.proofs.Steps.{IsMildRow, IsMild, item_in, fetched}
+use Rattle.sem_machine.specs.MachineStep.{call_of}
+use Rattle.sim_machine.specs.Shown.{entry_call, fetch_call, kind_call}
 use Rattle.selftest_proof.specs.Together.{HasNoCall}
 use Rattle.mir_func.specs.declared.block.Block.{Block}
 use Rattle.mir_func.specs.declared.debug_substitution.OperandPair.{OperandPair}
@@ -25,11 +27,13 @@ use Rattle.mir_func.specs.declared.item.ItemKind.{ItemKind}
 use Rattle.mir_func.specs.declared.item.ItemKind.TheVariants.{Code, Mark, Phi}
 use Rattle.mir_func.specs.declared.position.Origin.{Origin}
 use Rattle.mir_func.specs.declared.position.Origin.TheVariants.{Kept, Before}
-use Rattle.mir_func.specs.Exits.{exit_of, is_final}
+use Rattle.mir_func.specs.Exits.{leads_back}
 use Rattle.mir_func.specs.Function.{Function, FramedFunction}
 use Rattle.mir_func.specs.Graph.{Fetch, Here, EndOfBlock, Outside, Program, block_start, program_of}
 use Rattle.mir_func.specs.Sound.{AllItems}
 use Rattle.mir_func.specs.SoundFrame.{adds_to_pointer, saves, restores, prologue_code, epilogue_code}
+use Rattle.mir_func.specs.Positions.{position_of}
+use Rattle.mir_func.specs.Calls.{is_call_kind}
 use Rattle.sem_mir.specs.Follow.{MayAdd, ItemHasClass, HasClass, RowFits, KindFits, Shape}
 use Rattle.rv64_instr.specs.View.{class_of, Call}
 
@@ -43,15 +47,15 @@ CodeCallsNothing i = is_call (row_of i) ≡ false
 -- ---- what passes keep and add
 
 not_call : (r : Row) → IsMildRow r → class_of r ≡ Call → ⊥
-not_call (Calls name args) m e = m
+not_call (Calls call) m e = m
 not_call _ m e = cc
 
 of_class : (r q : Row) → IsMildRow r → class_of r ≡ class_of q → is_call q ≡ false
-of_class r (Calls name args) m e = absurd (not_call r m e)
+of_class r (Calls call) m e = absurd (not_call r m e)
 of_class r _ m e = refl
 
 may_add : (q : Row) (item source_end : ℕ) → MayAdd q item source_end → is_call q ≡ false
-may_add (Calls name args) item source_end m = absurd m
+may_add (Calls call) item source_end m = absurd m
 may_add _ item source_end m = refl
 
 module _ (source : List Block) (mild : AllItems (λ i. IsMild i.kind) source) (resolve : OperandPair → Option OperandPair) where
@@ -86,7 +90,7 @@ module _ (source : List Block) (mild : AllItems (λ i. IsMild i.kind) source) (r
 -- ---- frames
 
 call_same : (slots : List ℕ) (r : Row) → is_call (renamed_row slots r) ≡ is_call r
-call_same slots (Calls name args) = refl
+call_same slots (Calls call) = refl
 call_same slots _ = refl
 
 renamed_calls_nothing : (slots : List ℕ) (i : Item) → CallsNothing i → CallsNothing (renamed slots i)
@@ -128,13 +132,13 @@ module _ (f : Function) where
 
   epilogue_nothing : (o : Origin) → All CallsNothing (epilogue f o)
   epilogue_nothing o =
-      added_all_nothing (size_of f) (Before (position_in o)) (epilogue_code (size_of f) (saved_of f))
+      added_all_nothing (size_of f) (Before (position_of o)) (epilogue_code (size_of f) (saved_of f))
       (All-append CodeCallsNothing (map restores (saved_of f)) (adds_to_pointer (pos (size_of f)) ∷ []) (restores_nothing (saved_of f))
       (All-cons CodeCallsNothing (adds_to_pointer (pos (size_of f))) [] (adds_calls_nothing (pos (size_of f))) (All-nil CodeCallsNothing)))
 
   item_nothing : (i : Item) → CallsNothing i → All CallsNothing (framed_item f i)
   item_nothing i h =
-      All-append CallsNothing (cond (is_final (exit_of i.kind)) (epilogue f i.origin) []) (renamed f.slots i ∷ []) (by_test (is_final (exit_of i.kind)))
+      All-append CallsNothing (cond (leads_back i.kind) (epilogue f i.origin) []) (renamed f.slots i ∷ []) (by_test (leads_back i.kind))
       (All-cons CallsNothing (renamed f.slots i) [] (renamed_calls_nothing f.slots i h) (All-nil CallsNothing)) where
         by_test : (t : Bool) → All CallsNothing (cond t (epilogue f i.origin) [])
         by_test true = epilogue_nothing i.origin
@@ -162,11 +166,20 @@ module _ (f : Function) where
 
 -- ---- machine code
 
-entry_nothing : (f : FramedFunction) → AllItems CallsNothing f.blocks → (e : EncodedInstruction) → IsOfItem f e → e.call ≡ false
+row_none : (r : Row) → is_call r ≡ false → call_of r ≡ None
+row_none (Calls call) e = absurd cc
+row_none _ e = refl
+
+kind_none : (kind : ItemKind) → is_call_kind kind ≡ false → kind_call kind ≡ None
+kind_none (Code c k) e = row_none (row_of c) e
+kind_none (Mark v m) e = refl
+kind_none (Phi p k) e = refl
+
+entry_nothing : (f : FramedFunction) → AllItems CallsNothing f.blocks → (e : EncodedInstruction) → IsOfItem f e → entry_call f e ≡ None
 entry_nothing f h e is =
-    is.call
-    ∙ item_in CallsNothing (drop e.point.block f.blocks) e.point.item is.item is.stands
-    (All-drop (λ (b : Block). All CallsNothing b.items) e.point.block f.blocks h)
+    ap fetch_call is.stands
+    ∙ kind_none is.item.kind (item_in CallsNothing (drop e.point.block f.blocks) e.point.item is.item is.stands
+    (All-drop (λ (b : Block). All CallsNothing b.items) e.point.block f.blocks h))
 
 pub code_calls_nothing : (source f : Function) (resolve : OperandPair → Option OperandPair) (fp : Program) → AllItems (λ i. IsMild i.kind) source.blocks →
     Shape source.blocks f.blocks (program_of true source.blocks resolve) fp → (base : ℕ) (c : LaidCode) → IsCodeOf (framed_of f) base c → HasNoCall c
@@ -175,5 +188,7 @@ code_calls_nothing source f resolve fp mild shape base c coded =
     framed_nothing f f.blocks (passed_calls_nothing source.blocks mild resolve f.blocks fp shape) in
     let stand : All (IsOfItem (framed_of f)) (entries_of coded.layout) =
     subst (λ (g : FramedFunction). All (IsOfItem g) (entries_of coded.layout)) coded.of (items_stand coded.layout) in
-    let P : EncodedInstruction → Type 0 = λ e. e.call ≡ false in
-    subst (All P) (sym coded.entries) (All-weaker (IsOfItem (framed_of f)) P (entry_nothing (framed_of f) framed) (entries_of coded.layout) stand)
+    let P : FramedFunction → EncodedInstruction → Type 0 = λ g e. entry_call g e ≡ None in
+    subst (λ (g : FramedFunction). All (P g) c.entries) (sym coded.framed)
+    (subst (All (P (framed_of f))) (sym coded.entries)
+    (All-weaker (IsOfItem (framed_of f)) (P (framed_of f)) (entry_nothing (framed_of f) framed) (entries_of coded.layout) stand))

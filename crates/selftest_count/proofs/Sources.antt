@@ -6,7 +6,7 @@ use Rattle.std.proofs.Common.{inr}
 use Rattle.rv64_instr.specs.Row.{Row, Loads, Stores, LoadsSlot, Branches, Calls, Returns, Unfit, row_of}
 use Rattle.rv64_instr.specs.Arithmetic.{taken, load_width, store_width, extended}
 use Rattle.rv64_instr.specs.DefsAndUses.{reads}
-use Rattle.rv64_instr.specs.Parts.{is_call}
+use Rattle.rv64_instr.specs.LocationEffects.{is_call}
 use Rattle.rv64_instr.specs.declared.operand.Operand.{Operand}
 use Rattle.mir_func.specs.declared.item.ItemKind.{ItemKind}
 use Rattle.mir_func.specs.declared.item.ItemKind.TheVariants.{Code, Mark, Phi}
@@ -15,8 +15,9 @@ use Rattle.mir_func.specs.Graph.{Fetch, Here, EndOfBlock, Outside, Program, belo
 use Rattle.sem_mir.specs.Align.{Arrives, here, onward, First, MatchesNext, Since, Start, Same, After}
 use Rattle.sem_mir.specs.Effects.{OnCore}
 use Rattle.sem_mir.specs.State.{Core, Reply, State, spelled, low_bytes}
-use Rattle.sem_mir.specs.Step.{Outcome, Falls, Goes, Gives, Traps, Asks, Breaks, read, address_at, is_fault, set_register, answered, slot_loaded, saved}
-use Rattle.sem_mir.specs.Step.{does, are_written, act, with_core, numbered, do_item, do_fetch, Went, moved, step}
+use Rattle.sem_mir.specs.Step.{Outcome, Falls, Goes, Gives, Traps, Asks, Breaks}
+use Rattle.sem_mir.specs.Step.{read, address_at, is_fault, set_register, exec_external_call, slot_loaded, saved}
+use Rattle.sem_mir.specs.Step.{does, are_written, act, with_core, numbered, do_item, do_fetch, Went, moved, step, called_at}
 use Rattle.sem_mir.proofs.Outcomes.{on_either}
 use Rattle.sem_interpreter.specs.Acts.{IsAnswered}
 use Rattle.sem_interpreter.specs.StandsFor.{Concrete, IsStepAnswered, IsItemAnswered}
@@ -44,7 +45,8 @@ does_leaves (LoadsSlot rd n) c e = by_slot (c.slots n) where
   by_slot None = tt
   by_slot (Some v) = e
 does_leaves (Branches op a b t) c e = on_either NoneLeft (taken op (read c a) (read c b)) (Goes t c) (Falls c) e e
-does_leaves (Calls name args) c e = subst (λ (rs : List Reply). OnCore NoneLeft (answered name (map (read c) args) c rs)) (sym e) tt
+does_leaves (Calls call) c e = subst (λ (rs : List Reply). OnCore NoneLeft (exec_external_call (called_at c call.callee) (map (read c) call.args) c rs))
+    (sym e) tt
 does_leaves (Returns v) c e = tt
 does_leaves Unfit c e = tt
 does_leaves _ c e = e
@@ -96,7 +98,7 @@ step_leaves g s t e go = went_leaves g.enter s.pos (do_fetch g (g.fetch s.pos) s
 
 -- no answer is given, and none is left
 row_answered : (r : Row) (script : List Reply) → script ≡ [] → IsAnswered r None script
-row_answered (Calls name args) script e = e
+row_answered (Calls call) script e = e
 row_answered _ script e = tt
 
 item_answered : (kind : ItemKind) (script : List Reply) → script ≡ [] → IsItemAnswered kind None script

@@ -2,6 +2,7 @@
 use Rattle.std.proofs.Common.{◌≡◌, ℕ, zero, suc, ◌<◌, List, [], Some, None, Bool, true, false, cond, nat_lt, refl, sym, ap, ◌∙◌, subst}
 use Rattle.std.proofs.Common.{get_or, arith}
 use Rattle.std.proofs.lemmas.Bool.{ltb-true, ltb-false}
+use Rattle.rv64_instr.specs.Linked.{addresses_in}
 use Rattle.rv64_instr.specs.declared.start.Start.{Start}
 use Rattle.mir_func.specs.Function.{Function}
 use Rattle.mir_func.specs.Graph.{Program}
@@ -17,20 +18,22 @@ use Rattle.emit_code.specs.Laid.{LaidCode}
 use Rattle.sim_machine.specs.declared.hart.Hart.{Hart}
 use Rattle.sim_machine.specs.Kept.{StandsFor}
 use Rattle.sim_machine.specs.Machines.{StartsCode}
-use Rattle.sim_start.specs.Asked.{start_register, BeginsRun}
+use Rattle.sim_start.specs.InitialMachine.{start_register, BeginsRun}
 use Rattle.sim_start.proofs.Asked.{starts}
 use Rattle.selftest_count.specs.declared.counts.Counts.{Counts}
 use Rattle.selftest_count.specs.Counts.{no_counts, Counted, at_start}
 use Rattle.selftest_count.specs.Runs.{BeginsSource}
 use Rattle.selftest_count.specs.steps.Beside.{Beside}
 
-module _ (start : Start) (regs : (r : ℕ) → r < 32 → get_or start.regs r 0 ≡ start_register [] r) (memory : start.memory ≡ []) where
+module _ (start : Start) (regs : (r : ℕ) → r < 32 → get_or start.regs r 0 ≡ start_register [] r) (memory : start.memory ≡ [])
+    (symbols : start.symbols ≡ []) where
   source_starts : (source : Function) (s : State) → BeginsSource source s → Starts source.objects source.blocks start s
   source_starts source s b = record {
     pos = b.pos;
     entry = b.entry ∙ sym (regs 2 (omega arith));
     area = b.area;
     objects = b.objects;
+    symbols = b.symbols ∙ ap addresses_in (sym symbols);
     registers = at_register;
     slots = b.slots;
     memory = λ a. b.memory a ∙ ap (λ (cells : List (ℕ × ℕ)). written (λ _. 0) cells a) (sym memory);
@@ -59,7 +62,7 @@ module _ (start : Start) (regs : (r : ℕ) → r < 32 → get_or start.regs r 0 
     state = s;
     since = SinceStart;
     counted = subst (λ (q : Counts). Counted src image lists parts m s q m s SinceStart) (sym none) at_start;
-    stands = stands m (starts c [] start m regs memory begins);
+    stands = stands m (starts c [] start m regs memory symbols begins);
     at = record { stands = stands_source s (source_starts source s begins_source); script = begins_source.script };
     moves = no_after;
   }

@@ -1,11 +1,14 @@
 -- One step of both runs.
-use Rattle.std.proofs.Common.{◌≡◌, ℕ, ◌+◌, ◌<◌, List, Some, None, Bool, true, false, refl, sym, ap, ◌∙◌, subst}
+use Rattle.std.proofs.Common.{◌≡◌, ℕ, ◌+◌, ◌<◌, List, Option, Some, None, Bool, true, false, refl, sym, ap, ◌∙◌, subst}
+use Rattle.std.specs.Prelude.{is_some}
+use Rattle.rv64_instr.specs.Row.{CallSite}
 use Rattle.mir_func.specs.Graph.{Program}
 use Rattle.mir_func.specs.declared.position.Pos.{Pos}
 use Rattle.mir_func.specs.declared.position.Origin.{Origin}
 use Rattle.mir_func.specs.declared.position.Origin.TheVariants.{Kept, Before}
 use Rattle.mir_func.specs.declared.variable.VarId.{VarId}
-use Rattle.sem_mir.specs.Align.{position_of, First, MatchesNext, Since, After, Same, waits_at, since_of}
+use Rattle.mir_func.specs.Positions.{position_of}
+use Rattle.sem_mir.specs.Align.{First, MatchesNext, Since, After, Same, waits_at, since_of}
 use Rattle.sem_mir.specs.State.{State}
 use Rattle.sem_interpreter.specs.StandsFor.{Concrete, StandsFor as StandsForSource}
 use Rattle.dwarf_loclists.specs.declared.range.Range.{Range}
@@ -19,7 +22,7 @@ use Rattle.sim_machine.specs.declared.ending.Stop.TheVariants.{Returned, Left, B
 use Rattle.sim_machine.specs.declared.hart.Hart.{Hart}
 use Rattle.sim_machine.specs.Running.{StepsOn, call_at, found_call}
 use Rattle.sem_machine.specs.MachineStep.{Stepped, IsWell}
-use Rattle.sim_machine.specs.Shown.{ShowsCode, entry_at}
+use Rattle.sim_machine.specs.Shown.{ShowsCode, entry_at, entry_call}
 use Rattle.sim_machine.proofs.Stepping.{LineAt, line_some, line_none}
 use Rattle.selftest_count.specs.declared.counts.Counts.{Counts}
 use Rattle.selftest_count.specs.declared.turn.StepOutcome.TheVariants.{Went as TurnWent, Returned as TurnReturned}
@@ -62,9 +65,14 @@ pub no_entry : (src : Program) (c : LaidCode) (moved : Bool) (h : Hart) (k : Con
 no_entry src c moved h k none = λ image m s since shows stands at moves.
     at_no_line (line_none c.framed c.entries image.lines m.counter shows.lines (ap (entry_at c.entries) stands.counter ∙ none))
 
+-- an entry that doesn't call
+pub none_there : (o : Option CallSite) → is_some o ≡ false → o ≡ None
+none_there None e = refl
+none_there (Some site) e = absurd cc
+
 -- a call site
 pub call_entry : (src : Program) (c : LaidCode) (moved : Bool) (h : Hart) (k : Concrete) (e : EncodedInstruction) → entry_at c.entries h.counter ≡ Some e →
-    e.call ≡ true → MeetsNot src c moved h k
+    is_some (entry_call c.framed e) ≡ true → MeetsNot src c moved h k
 call_entry src c moved h k e found call = λ image m s since shows stands at moves.
     at_call e (ap (entry_at c.entries) stands.counter ∙ found) call
 

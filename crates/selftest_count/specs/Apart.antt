@@ -1,9 +1,10 @@
 -- Why the runs of machine code and of its source diverge.
-use Rattle.std.specs.Prelude.{◌≡◌, ◌⊎◌, ℕ, zero, suc, ◌<◌, List, Some, None, true}
+use Rattle.std.specs.Prelude.{◌≡◌, ◌⊎◌, ℕ, zero, suc, ◌<◌, List, Some, None, IsSome}
 use Rattle.mir_func.specs.declared.position.Pos.{Pos}
 use Rattle.mir_func.specs.declared.variable.VarId.{VarId}
 use Rattle.mir_func.specs.Graph.{Program}
-use Rattle.sem_mir.specs.Align.{position_of, Since, Start, Same, After}
+use Rattle.mir_func.specs.Positions.{position_of}
+use Rattle.sem_mir.specs.Align.{Since, Start, Same, After}
 use Rattle.sem_mir.specs.State.{State}
 use Rattle.sem_mir.specs.Step.{Went, step}
 use Rattle.dwarf_loclists.specs.declared.range.Range.{Range}
@@ -12,7 +13,7 @@ use Rattle.sem_machine.specs.Machine.{Machine}
 use Rattle.sem_machine.specs.MachineStep.{machine_step, IsWell}
 use Rattle.emit_code.specs.declared.code.EncodedInstruction.{EncodedInstruction}
 use Rattle.emit_code.specs.Laid.{LaidCode}
-use Rattle.sim_machine.specs.Shown.{entry_at}
+use Rattle.sim_machine.specs.Shown.{entry_at, entry_call}
 use Rattle.selftest_count.specs.declared.counts.Counts.{Counts}
 use Rattle.selftest_count.specs.Counts.{Counted}
 
@@ -40,7 +41,7 @@ MissesNext src p After s = Halts src s ⊎ ((u : State) × (step src s ≡ Went 
 -- doesn't come to the line's origin, or the machine's next step leaves the code or meets a word that encodes no machine operation.
 pub data IsApart (src : Program) (image : Image) (c : LaidCode) (m : Machine) (s : State) (since : Since) : Type 0 where
   at_no_line : line_at image.lines m.counter ≡ None → IsApart src image c m s since
-  at_call : (e : EncodedInstruction) → entry_at c.entries m.counter ≡ Some e → e.call ≡ true → IsApart src image c m s since
+  at_call : (e : EncodedInstruction) → entry_at c.entries m.counter ≡ Some e → IsSome (entry_call c.framed e) → IsApart src image c m s since
   source_misses : (l : CodeLine) → line_at image.lines m.counter ≡ Some l → MissesNext src (position_of l.origin) since s → IsApart src image c m s since
   stops_badly : (IsWell (machine_step image m) → ⊥) → IsApart src image c m s since
 

@@ -4,7 +4,7 @@ use Rattle.std.specs.List.{sum_by, count_by}
 use Rattle.mir_func.specs.Graph.{Program}
 use Rattle.mir_func.specs.declared.variable.VarId.{VarId}
 use Rattle.sem_mir.specs.Align.{waits_at, since_of, Since, Start}
-use Rattle.sem_mir.specs.State.{State, assigned}
+use Rattle.sem_mir.specs.State.{State, RunResult, assigned}
 use Rattle.dwarf_loclists.specs.declared.range.Location.{Location}
 use Rattle.dwarf_loclists.specs.declared.range.Range.{Range}
 use Rattle.dwarf_loclists.specs.Ranges.{location_in, places_of}
@@ -50,7 +50,7 @@ pub data AreCounts (src : Program) (image : Image) (lists : List (List Range)) (
     Counts → Type 0 where
   makes_steps : {n : Counts} {m : Machine} {s : State} {since : Since} → Counted src image lists parts m0 s0 n m s since → n.steps ≡ limit →
       AreCounts src image lists parts limit m0 s0 n
-  returns : {n : Counts} {m : Machine} {s : State} {since : Since} (s' : State) (l : CodeLine) (results : List ℕ) →
+  returns : {n : Counts} {m : Machine} {s : State} {since : Since} (s' : State) (l : CodeLine) (result : RunResult) →
       Counted src image lists parts m0 s0 n m s since →
-      n.steps < limit → line_at image.lines m.counter ≡ Some l → AlignsWith src l since s s' → machine_step image m ≡ Ends results →
+      n.steps < limit → line_at image.lines m.counter ≡ Some l → AlignsWith src l since s s' → machine_step image m ≡ Ends result →
       AreCounts src image lists parts limit m0 s0 (counted lists parts m s' n)

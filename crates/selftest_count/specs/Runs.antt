@@ -1,18 +1,19 @@
 -- The counts of a run from the start.
 use Rattle.std.specs.Prelude.{◌≡◌, ℕ, ◌≤◌, ◌<◌, List, [], Option, Some, None, true}
+use Rattle.rv64_instr.specs.Linked.{addresses_in}
 use Rattle.mir_func.specs.declared.debug_substitution.OperandPair.{OperandPair}
 use Rattle.mir_func.specs.declared.variable.VarId.{VarId}
 use Rattle.mir_func.specs.Function.{Function}
 use Rattle.mir_func.specs.Graph.{block_start, program_of}
 use Rattle.mir_func.specs.Objects.{area_of, offset_of}
-use Rattle.sem_mir.specs.Follow.{first_of}
+use Rattle.sem_mir.specs.InitialState.{first_of}
 use Rattle.sem_mir.specs.State.{State, content}
 use Rattle.dwarf_loclists.specs.declared.range.Range.{Range}
 use Rattle.sem_machine.specs.Image.{Image}
 use Rattle.sem_machine.specs.Machine.{Machine}
 use Rattle.emit_code.specs.Laid.{LaidCode}
 use Rattle.sim_machine.specs.Shown.{ShowsCode}
-use Rattle.sim_start.specs.Asked.{start_register, BeginsRun}
+use Rattle.sim_start.specs.InitialMachine.{start_register, BeginsRun}
 use Rattle.selftest_count.specs.declared.counts.Counts.{Counts}
 use Rattle.selftest_count.specs.Apart.{GoesApart}
 use Rattle.selftest_count.specs.Counts.{AreCounts}
@@ -23,6 +24,7 @@ pub record BeginsSource (source : Function) (s : State) : Type 0 where
   pub entry : s.core.entry ≡ 1048576
   pub area : s.core.area ≡ area_of source.objects
   pub objects : (n : ℕ) → s.core.objects n ≡ offset_of source.objects n
+  pub symbols : s.core.symbols ≡ addresses_in []
   pub regs : (r : ℕ) → r < 32 → content s.core.regs r ≡ Some (start_register [] r)
   pub virtual : (r : ℕ) → 32 ≤ r → content s.core.regs r ≡ None
   pub slots : (n : ℕ) → s.core.slots n ≡ None

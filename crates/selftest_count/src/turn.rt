@@ -13,11 +13,10 @@ use crate::source::align;
 use dwarf_loclists::range::Ranges;
 use emit_code::code::EncodedInstruction;
 use mir_func::func::Func;
-use mir_func::position::Origin;
+use mir_func::position::{Origin, position_of};
 use mir_func::variable::VarId;
 use mir_substitution::substitutions::Substitutions;
 use sem_interpreter::state::SourceState;
-use sem_mir::align::position_of;
 use sim_machine::ending::{Stepped, Stop};
 use sim_machine::machine::MachineSimulator;
 use sim_start::answers::ValueAnswers;
@@ -91,7 +90,7 @@ fn meet(
     match machine.entry() {
         None => Ok(None),
         Some(entry) => {
-            if entry.call {
+            if machine.calls(&entry) {
                 return Ok(None);
             }
             if align(state, f, subs, moved, position_of(entry.origin))? {

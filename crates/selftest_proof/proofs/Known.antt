@@ -6,7 +6,8 @@ use Rattle.mir_func.specs.declared.variable.VarId.{VarId}
 use Rattle.mir_func.specs.Function.{Function}
 use Rattle.mir_func.specs.Graph.{Program, program_of}
 use Rattle.mir_func.specs.Variables.{part_value}
-use Rattle.sem_mir.specs.Align.{position_of, First, Since}
+use Rattle.mir_func.specs.Positions.{position_of}
+use Rattle.sem_mir.specs.Align.{First, Since}
 use Rattle.sem_mir.specs.State.{State, assigned}
 use Rattle.sem_mir.proofs.Alignment.{aligns_once, aligns_not_fails}
 use Rattle.dwarf_loclists.specs.declared.range.Range.{Range}
@@ -76,7 +77,7 @@ module _ (gives : VarId → (address : ℕ) → Place → Type 0) (source : Func
 
   counted_known : (limit : ℕ) (n : Counts) → AreCounts src image lists parts limit m0 s0 n → n.reads ≤ n.known
   counted_known limit n (makes_steps run all) = (comes run).fewer
-  counted_known limit n (returns {n = k} {m = m} {s = s} {since = since} s' l results run below stands aligned ends) =
+  counted_known limit n (returns {n = k} {m = m} {s = s} {since = since} s' l result run below stands aligned ends) =
       let b = comes run in
       let among = aligns_among source.blocks resolve parts given.marked (position_of l.origin) since s s' aligned b.among in
       let more = line_reads m s s' since l b.along stands aligned among in

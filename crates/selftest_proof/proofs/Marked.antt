@@ -5,8 +5,9 @@ use Rattle.std.proofs.lemmas.List.Elements.{All-nil, All-cons, All-head, All-tai
 use Rattle.rv64_instr.specs.Row.{Row, Loads, Stores, LoadsSlot, Branches, Calls, Returns, Unfit, row_of}
 use Rattle.rv64_instr.specs.Arithmetic.{taken, load_width, store_width}
 use Rattle.rv64_instr.specs.DefsAndUses.{reads}
-use Rattle.rv64_instr.specs.Parts.{is_call}
+use Rattle.rv64_instr.specs.LocationEffects.{is_call}
 use Rattle.rv64_instr.specs.declared.operand.Operand.{Operand}
+use Rattle.rv64_instr.specs.declared.start.CallTarget.{CallTarget}
 use Rattle.mir_func.specs.declared.block.Block.{Block}
 use Rattle.mir_func.specs.declared.debug_substitution.OperandPair.{OperandPair}
 use Rattle.mir_func.specs.declared.item.Item.{Item}
@@ -20,8 +21,8 @@ use Rattle.mir_func.specs.Variables.{is_same, overlaps}
 use Rattle.sem_mir.specs.Align.{Arrives, here, onward, First, MatchesNext, Since, Start, Same, After}
 use Rattle.sem_mir.specs.Effects.{OnCore}
 use Rattle.sem_mir.specs.State.{Core, Reply, State, assigned, writes_frame}
-use Rattle.sem_mir.specs.Step.{Went, Outcome, Falls, Goes, Gives, Traps, Asks, Breaks, moved, read, address_at, is_fault, answered, slot_loaded, does}
-use Rattle.sem_mir.specs.Step.{are_written, act, with_core, numbered, do_item, do_fetch, step}
+use Rattle.sem_mir.specs.Step.{Went, Outcome, Falls, Goes, Gives, Traps, Asks, Breaks, moved, read, address_at, is_fault, exec_external_call, slot_loaded, does}
+use Rattle.sem_mir.specs.Step.{are_written, act, with_core, numbered, do_item, do_fetch, step, called_at}
 use Rattle.sem_mir.proofs.Assignments.{same_is}
 use Rattle.sem_mir.proofs.Outcomes.{on_either}
 use Rattle.selftest_proof.specs.Known.{MarksPartOf}
@@ -66,10 +67,10 @@ module _ (parts : List VarId) where
     by_slot None = tt
     by_slot (Some v) = h
   does_keeps (Branches op a b t) c h = on_either P (taken op (read c a) (read c b)) _ _ h h
-  does_keeps (Calls name args) c h = by_script (map (read c) args) c.script where
-    by_script : (vs : List ℕ) (rs : List Reply) → OnCore P (answered name vs c rs)
-    by_script vs [] = tt
-    by_script vs (q ∷ rs) = on_either P (writes_frame c.entry c.area q.writes) _ _ tt h
+  does_keeps (Calls call) c h = by_script (called_at c call.callee) (map (read c) call.args) c.script where
+    by_script : (t : CallTarget) (vs : List ℕ) (rs : List Reply) → OnCore P (exec_external_call t vs c rs)
+    by_script t vs [] = tt
+    by_script t vs (q ∷ rs) = on_either P (writes_frame c.entry c.area q.writes) _ _ tt h
   does_keeps (Returns v) c h = tt
   does_keeps Unfit c h = tt
   does_keeps _ c h = h

@@ -8,7 +8,7 @@ use Rattle.std.proofs.lemmas.List.Elements.{All-nil}
 use Rattle.mir_func.specs.Function.{Function}
 use Rattle.mir_func.specs.Graph.{block_start}
 use Rattle.mir_func.specs.Objects.{area_of, offset_of}
-use Rattle.sem_mir.specs.Follow.{first_of}
+use Rattle.sem_mir.specs.InitialState.{first_of}
 use Rattle.sem_mir.specs.State.{State, IsReply, content}
 use Rattle.sem_mir.specs.Step.{or_zero}
 use Rattle.sem_machine.specs.Headline.{StartsAt}
@@ -16,7 +16,7 @@ use Rattle.sem_machine.specs.Image.{Image}
 use Rattle.sem_machine.specs.Machine.{register, machine_start}
 use Rattle.emit_code.specs.Laid.{LaidCode}
 use Rattle.sim_machine.specs.Shown.{ShowsCode}
-use Rattle.sim_start.specs.Asked.{start_register, BeginsRun}
+use Rattle.sim_start.specs.InitialMachine.{start_register, BeginsRun}
 use Rattle.selftest_count.specs.Runs.{BeginsSource}
 
 abbrev pub start_regs : ℕ → Option ℕ
@@ -29,6 +29,7 @@ start_state source = record {
     entry = 1048576;
     area = area_of source.objects;
     objects = offset_of source.objects;
+    symbols = λ y. 0;
     regs = start_regs;
     slots = λ _. None;
     memory = λ _. 0;
@@ -56,6 +57,7 @@ begins_source source = record {
   entry = refl;
   area = refl;
   objects = λ n. refl;
+  symbols = refl;
   regs = regs_written;
   virtual = regs_unwritten;
   slots = λ n. refl;
@@ -100,6 +102,7 @@ pub begins_run : (source : Function) (s : State) (c : LaidCode) (image : Image) 
 begins_run source s c image b shows = record {
   entry = b.entry;
   area = shows.area;
+  symbols = b.symbols;
   counter = shows.low;
   regs = at_register;
   memory = b.memory;

@@ -1,14 +1,17 @@
 -- A run of machine code and its source's go together where the headline holds.
-use Rattle.std.proofs.Common.{◌≡◌, ℕ, suc, ◌+◌, ◌≤◌, List, [], ◌∷◌, All, Option, Some, Bool, true, false, cond, nat_eq, refl, ap, ◌∙◌}
+use Rattle.std.proofs.Common.{◌≡◌, ℕ, suc, ◌+◌, ◌≤◌, List, [], ◌∷◌, All, Option, Some, None, Bool, true, false, cond, nat_eq, refl, ap, ◌∙◌}
 use Rattle.std.proofs.Common.{subst, inl, inr, arith, lit≤}
 use Rattle.std.proofs.lemmas.List.Elements.{All-head, All-tail}
+use Rattle.std.specs.Prelude.{IsSome}
+use Rattle.rv64_instr.specs.Row.{CallSite}
 use Rattle.rv64_instr.specs.declared.place.Place.{Place}
 use Rattle.mir_func.specs.declared.debug_substitution.OperandPair.{OperandPair}
 use Rattle.mir_func.specs.declared.position.Pos.{Pos}
 use Rattle.mir_func.specs.declared.variable.VarId.{VarId}
 use Rattle.mir_func.specs.Function.{Function}
 use Rattle.mir_func.specs.Graph.{Program, program_of}
-use Rattle.sem_mir.specs.Align.{position_of, Arrives, here, onward, First, MatchesNext, Fails, fails_here, fails_on, FailsBefore, Since, Start, Same, After}
+use Rattle.mir_func.specs.Positions.{position_of}
+use Rattle.sem_mir.specs.Align.{Arrives, here, onward, First, MatchesNext, Fails, fails_here, fails_on, FailsBefore, Since, Start, Same, After}
 use Rattle.sem_mir.specs.State.{State}
 use Rattle.sem_mir.specs.Step.{Next, Went, Faulted, after, step, run}
 use Rattle.sem_mir.proofs.Alignment.{went_once, arrives_in}
@@ -20,7 +23,7 @@ use Rattle.sem_machine.specs.Machine.{Machine, machine_start}
 use Rattle.sem_machine.specs.MachineStep.{machine_step, does_at, Comes, there, steps, IsWell, Leaves}
 use Rattle.emit_code.specs.declared.code.EncodedInstruction.{EncodedInstruction}
 use Rattle.emit_code.specs.Laid.{LaidCode}
-use Rattle.sim_machine.specs.Shown.{entry_at}
+use Rattle.sim_machine.specs.Shown.{entry_at, entry_call}
 use Rattle.selftest_count.specs.declared.counts.Counts.{Counts}
 use Rattle.selftest_count.specs.Apart.{MAX_SOURCE_STEPS, Misses, makes_all, halts, goes_on, MissesNext}
 use Rattle.selftest_count.specs.Apart.{IsApart, at_no_line, at_call, source_misses, stops_badly}
@@ -30,15 +33,11 @@ use Rattle.selftest_count.specs.Runs.{BeginsSource}
 use Rattle.selftest_proof.specs.Together.{HasNoFault, HasNoCall, RunsLongFrom, RunsGoTogether}
 use Rattle.selftest_proof.proofs.Start.{starts_at, begins_run}
 
--- no entry of the code is a call
-no_call_at : (es : List EncodedInstruction) (a : ℕ) (e : EncodedInstruction) → All (λ (x : EncodedInstruction). x.call ≡ false) es → entry_at es a ≡ Some e →
-    e.call ≡ false
-no_call_at [] a e h f = absurd cc
-no_call_at (x ∷ es) a e h f = by_test (nat_eq x.address a) f (λ later. no_call_at es a e (All-tail P x es h) later) where
-  P : EncodedInstruction → Type 0
-  P y = y.call ≡ false
-
-  by_test : (t : Bool) → cond t (Some x) (entry_at es a) ≡ Some e → (entry_at es a ≡ Some e → e.call ≡ false) → e.call ≡ false
+-- what holds of all entries, does of the one at an address
+entry_holds : (P : EncodedInstruction → Type 0) (es : List EncodedInstruction) (a : ℕ) (e : EncodedInstruction) → All P es → entry_at es a ≡ Some e → P e
+entry_holds P [] a e h f = absurd cc
+entry_holds P (x ∷ es) a e h f = by_test (nat_eq x.address a) f (λ later. entry_holds P es a e (All-tail P x es h) later) where
+  by_test : (t : Bool) → cond t (Some x) (entry_at es a) ≡ Some e → (entry_at es a ≡ Some e → P e) → P e
   by_test true g later = let same : x ≡ e = cc in subst P same (All-head P x es h)
   by_test false g later = later g
 
@@ -162,7 +161,8 @@ module _ (gives : VarId → (address : ℕ) → Place → Type 0) (source : Func
       let leaves : machine_step image m ≡ Leaves = ap (λ (o : Option CodeLine). does_at image o m) e in
       absurd (subst IsWell leaves (headline.stops s0 start m h.comes))
   apart_long m s since h (at_call e found call) =
-      let none : e.call ≡ false = no_call_at c.entries m.counter e no_call found in absurd cc
+      let none = entry_holds (λ (x : EncodedInstruction). entry_call c.framed x ≡ None) c.entries m.counter e no_call found in
+      (let some : IsSome {T = CallSite} None = subst (λ (o : Option CallSite). IsSome o) none call in absurd cc)
   apart_long m s since h (stops_badly bad) = absurd (bad (headline.stops s0 start m h.comes))
   apart_long m s since h (source_misses l stands missed) =
       let p = position_of l.origin in

@@ -1,5 +1,5 @@
 -- The runs of machine code and of its source stay in lockstep.
-use Rattle.std.specs.Prelude.{◌≡◌, ℕ, ◌≤◌, List, All, Option, false, true}
+use Rattle.std.specs.Prelude.{◌≡◌, ℕ, ◌≤◌, List, All, Option, None, true}
 use Rattle.rv64_instr.specs.declared.place.Place.{Place}
 use Rattle.mir_func.specs.declared.debug_substitution.OperandPair.{OperandPair}
 use Rattle.mir_func.specs.declared.variable.VarId.{VarId}
@@ -12,7 +12,7 @@ use Rattle.sem_machine.specs.Headline.{Headline}
 use Rattle.sem_machine.specs.Image.{Image}
 use Rattle.emit_code.specs.declared.code.EncodedInstruction.{EncodedInstruction}
 use Rattle.emit_code.specs.Laid.{LaidCode}
-use Rattle.sim_machine.specs.Shown.{ShowsCode}
+use Rattle.sim_machine.specs.Shown.{ShowsCode, entry_call}
 use Rattle.selftest_count.specs.Apart.{MAX_SOURCE_STEPS}
 use Rattle.selftest_count.specs.Runs.{BeginsSource, GoApart}
 
@@ -20,9 +20,9 @@ use Rattle.selftest_count.specs.Runs.{BeginsSource, GoApart}
 abbrev pub HasNoFault : Function → (OperandPair → Option OperandPair) → Type 0
 HasNoFault source resolve = (s : State) → BeginsSource source s → (n : ℕ) → run (program_of true source.blocks resolve) n s ≡ Faulted → ⊥
 
--- the code has no call sites
+-- no item of the code's entries is a call
 abbrev pub HasNoCall : LaidCode → Type 0
-HasNoCall c = All (λ (e : EncodedInstruction). e.call ≡ false) c.entries
+HasNoCall c = All (λ (e : EncodedInstruction). entry_call c.framed e ≡ None) c.entries
 
 -- the source's run from a state makes at least 2^64 - 1 steps
 pub record RunsLongFrom (source : Function) (resolve : OperandPair → Option OperandPair) (s : State) : Type 0 where

@@ -4,7 +4,7 @@ use Rattle.rv64_instr.specs.declared.place.Place.{Place}
 use Rattle.rv64_instr.specs.declared.operand.Operand.{Operand}
 use Rattle.rv64_instr.specs.Instruction.{Instruction}
 use Rattle.rv64_instr.specs.Row.{row_of}
-use Rattle.rv64_instr.specs.Parts.{is_pure, uses_of, defines_of}
+use Rattle.rv64_instr.specs.LocationEffects.{is_pure, uses_of, defines_of}
 use Rattle.mir_func.specs.declared.variable.VarId.{VarId}
 use Rattle.sem_mir.specs.State.{Core}
 use Rattle.sem_mir.specs.Step.{act, numbered}
@@ -18,17 +18,26 @@ use Rattle.sem_agreement.proofs.Outcomes.{TellsAs, act_tells, falls_both, falls_
 -- ---- the world
 
 pub same_world : (c : Core) → SameWorld c c
-same_world c = record { entry = refl; area = refl; objects = refl; memory = refl; script = refl; events = refl }
+same_world c = record { entry = refl; area = refl; objects = refl; symbols = refl; memory = refl; script = refl; events = refl }
 
 pub world_back : (c d : Core) → SameWorld c d → SameWorld d c
 world_back c d h =
-    record { entry = sym h.entry; area = sym h.area; objects = sym h.objects; memory = sym h.memory; script = sym h.script; events = sym h.events }
+    record {
+      entry = sym h.entry;
+      area = sym h.area;
+      objects = sym h.objects;
+      symbols = sym h.symbols;
+      memory = sym h.memory;
+      script = sym h.script;
+      events = sym h.events;
+    }
 
 pub world_on : (c d e : Core) → SameWorld c d → SameWorld d e → SameWorld c e
 world_on c d e h k = record {
   entry = h.entry ∙ k.entry;
   area = h.area ∙ k.area;
   objects = h.objects ∙ k.objects;
+  symbols = h.symbols ∙ k.symbols;
   memory = h.memory ∙ k.memory;
   script = h.script ∙ k.script;
   events = h.events ∙ k.events;
@@ -54,6 +63,7 @@ held_by Held c d p q m n h = record {
     entry = h.world.entry;
     area = h.world.area;
     objects = h.world.objects;
+    symbols = h.world.symbols;
     memory = h.world.memory;
     script = h.world.script;
     events = h.world.events;
@@ -70,7 +80,7 @@ held_number Held sp sp' call call' n n' os os' c d h = record {
 } where
   kept : (sp call : Bool) (n : Option ℕ) (os : List Operand) (c : Core) → SameWorld c (numbered sp call n os c)
   kept sp call None os c = same_world c
-  kept sp call (Some k) os c = record { entry = refl; area = refl; objects = refl; memory = refl; script = refl; events = refl }
+  kept sp call (Some k) os c = record { entry = refl; area = refl; objects = refl; symbols = refl; memory = refl; script = refl; events = refl }
 
 -- ---- code
 

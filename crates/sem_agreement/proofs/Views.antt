@@ -3,7 +3,7 @@ use Rattle.std.proofs.Common.{◌≡◌, ℕ, Option, Some, None, Bool, true, fa
 use Rattle.rv64_instr.specs.declared.place.Place.{Place}
 use Rattle.rv64_instr.specs.Row.{Row, Loads, LoadsSlot, Unfit, row_of}
 use Rattle.rv64_instr.specs.DefsAndUses.{reads}
-use Rattle.rv64_instr.specs.Parts.{is_pure, is_call}
+use Rattle.rv64_instr.specs.LocationEffects.{is_pure, is_call}
 use Rattle.rv64_instr.specs.Arithmetic.{load_width}
 use Rattle.mir_func.specs.declared.item.Item.{Item}
 use Rattle.mir_func.specs.declared.item.ItemKind.{ItemKind}

@@ -2,21 +2,23 @@
 use Rattle.std.proofs.Common.{◌≡◌, ℕ, zero, suc, subst, List, [], ◌∷◌, map, Option, Some, None, Bool, true, false, cond, nat_eq, refl, sym}
 use Rattle.std.specs.Prelude.{slice_index_or}
 use Rattle.std.specs.Map.{lookup}
-use Rattle.rv64_instr.specs.Row.{Row, Calls, row_of}
-use Rattle.rv64_instr.specs.DefsAndUses.{caller_saved}
+use Rattle.rv64_instr.specs.Linked.{addresses_in}
+use Rattle.rv64_instr.specs.Row.{Row, Calls, row_of, CallSite}
+use Rattle.rv64_instr.specs.DefsAndUses.{caller_saved, reads}
 use Rattle.rv64_instr.specs.declared.start.CallResult.{CallResult}
+use Rattle.rv64_instr.specs.declared.start.CallTarget.{CallTarget}
 use Rattle.mir_func.specs.declared.position.Pos.{Pos}
 use Rattle.mir_func.specs.declared.item.ItemKind.{ItemKind}
 use Rattle.mir_func.specs.declared.item.ItemKind.TheVariants.{Code, Mark, Phi}
-use Rattle.sem_mir.specs.State.{Called, Core, Event, Reply, content, put_all, written, writes_frame}
+use Rattle.sem_mir.specs.State.{Called, Core, Event, Reply, content, put_all, written, writes_frame, RunResult}
 use Rattle.sem_mir.specs.Step as step
-use Rattle.sem_mir.specs.Step.{moved, with_core, are_written, act, does, answered, read, do_item, do_fetch}
+use Rattle.sem_mir.specs.Step.{moved, with_core, are_written, act, does, exec_external_call, read, do_item, do_fetch, called_at}
 use Rattle.mir_func.specs.Graph.{Fetch, Here, EndOfBlock, Outside, Program}
 use Rattle.mir_substitution.specs.Index.{is_key}
 use Rattle.sem_interpreter.specs.declared.state.SourceStep.{SourceStep}
 use Rattle.sem_interpreter.specs.declared.state.SourceStep.TheVariants.{Went, Returned, Faulted, Waits}
 use Rattle.sem_interpreter.specs.Acts.{IsNext, IsAnswered, reply_of}
-use Rattle.sem_interpreter.specs.Held.{number_in}
+use Rattle.sem_interpreter.specs.Memory.{number_in}
 use Rattle.sem_interpreter.proofs.Marking.{marks_of, marks_hold}
 use Rattle.sem_interpreter.specs.StandsFor.{Concrete, flat, IsItemAnswered, IsStepAnswered}
 use Rattle.sem_interpreter.specs.Steps.{IsStep, IsState, ReturnsAgain}
@@ -36,6 +38,7 @@ a_state c z script events = record {
       entry = c.machine.entry;
       area = c.machine.area;
       objects = λ n. number_in c.machine.objects n;
+      symbols = addresses_in c.machine.symbols;
       regs = λ r. slice_index_or c.machine.registers r None;
       slots = λ n. lookup (nat_eq n) c.machine.slots;
       memory = λ a. number_in c.machine.memory a;
@@ -48,7 +51,16 @@ a_state c z script events = record {
   stands = record {
     pos = refl;
     core = record {
-      machine = record { entry = refl; area = refl; objects = λ n. refl; registers = holds_all c.machine.registers z; slots = λ n. refl; memory = λ a. refl };
+      machine = record {
+        entry = refl;
+        area = refl;
+        symbols = refl;
+        objects = λ n. refl;
+        registers = holds_all c.machine.registers z;
+        slots =
+            λ n. refl;
+        memory = λ a. refl;
+      };
       pairs = λ k o. refl;
       marks = marks_hold c.assigned;
     };
@@ -69,7 +81,7 @@ next_for None = refl
 next_for (Some a) = ([], refl)
 
 row_for : (r : Row) (answer : Option CallResult) → IsAnswered r answer (script_for answer)
-row_for (Calls name args) answer = next_for answer
+row_for (Calls call) answer = next_for answer
 row_for _ answer = tt
 
 step_for : (x : Fetch) (answer : Option CallResult) → IsStepAnswered x answer (script_for answer)
@@ -82,44 +94,47 @@ step_for (EndOfBlock k n) answer = tt
 step_for Outside answer = tt
 
 -- a call returns from no run
-call_goes_on : (enter : ℕ → ℕ) (p : Pos) (f : Core → Core) (name args : List ℕ) (s : Core) (results : List ℕ) (other : Option CallResult) →
-    moved enter p (with_core f (act (Calls name args) s)) ≡ step.Returned results → IsAnswered (Calls name args) other s.script
+call_goes_on : (enter : ℕ → ℕ) (p : Pos) (f : Core → Core) (call : CallSite) (s : Core) (results : RunResult) (other : Option CallResult) →
+    moved enter p (with_core f (act (Calls call) s)) ≡ step.Returned results → IsAnswered (Calls call) other s.script
 unfolding act does
-call_goes_on enter p f name args s results other e = by_test (are_written s args) e where
+call_goes_on enter p f call s results other e = by_test (are_written s (reads (Calls call))) e where
   by_frame : (z : Bool) (c : Core) → moved enter p (with_core f (cond z step.Traps (step.Falls c))) ≡ step.Returned results →
-      IsAnswered (Calls name args) other s.script
+      IsAnswered (Calls call) other s.script
   by_frame true c e = cc
   by_frame false c e = cc
 
-  by_script : (vs : List ℕ) (rs : List Reply) → moved enter p (with_core f (answered name vs s rs)) ≡ step.Returned results →
-      IsAnswered (Calls name args) other s.script
-  by_script vs [] e = cc
-  by_script vs (r ∷ rs) e = by_frame (writes_frame s.entry s.area r.writes)
-      (record s { regs = put_all caller_saved r.regs s.regs; memory = written s.memory r.writes; script = rs; events = Called name vs ∷ s.events }) e
+  by_script : (t : CallTarget) (vs : List ℕ) (rs : List Reply) →
+      moved enter p (with_core f (exec_external_call t vs s rs)) ≡ step.Returned results →
+      IsAnswered (Calls call) other s.script
+  by_script t vs [] e = cc
+  by_script t vs (r ∷ rs) e = by_frame (writes_frame s.entry s.area r.writes)
+      (record s { regs = put_all caller_saved r.regs s.regs; memory = written s.memory r.writes; script = rs; events = Called t vs ∷ s.events }) e
 
-  by_test : (z : Bool) → moved enter p (with_core f (cond z (answered name (map (read s) args) s s.script) step.Traps)) ≡ step.Returned results →
-      IsAnswered (Calls name args) other s.script
-  by_test true e = by_script (map (read s) args) s.script e
+  by_test : (z : Bool) →
+      moved enter p (with_core f (cond z (exec_external_call (called_at s call.callee) (map (read s) call.args) s s.script) step.Traps)) ≡ step.Returned
+      results →
+      IsAnswered (Calls call) other s.script
+  by_test true e = by_script (called_at s call.callee) (map (read s) call.args) s.script e
   by_test false e = cc
 
-row_again : (enter : ℕ → ℕ) (p : Pos) (f : Core → Core) (r : Row) (s : Core) (results : List ℕ) (other : Option CallResult) →
+row_again : (enter : ℕ → ℕ) (p : Pos) (f : Core → Core) (r : Row) (s : Core) (results : RunResult) (other : Option CallResult) →
     moved enter p (with_core f (act r s)) ≡ step.Returned results → IsAnswered r other s.script
-row_again enter p f (Calls name args) s results other e = call_goes_on enter p f name args s results other e
+row_again enter p f (Calls call) s results other e = call_goes_on enter p f call s results other e
 row_again enter p f _ s results other e = tt
 
-kind_again : (g : Program) (p : Pos) (k : ItemKind) (s : Core) (results : List ℕ) (other : Option CallResult) →
+kind_again : (g : Program) (p : Pos) (k : ItemKind) (s : Core) (results : RunResult) (other : Option CallResult) →
     moved g.enter p (do_item g k s) ≡ step.Returned results → IsItemAnswered k other s.script
 kind_again g p (Code c n) s results other e = row_again g.enter p _ (row_of c) s results other e
 kind_again g p (Mark v m) s results other e = tt
 kind_again g p (Phi q n) s results other e = tt
 
-fetch_again : (g : Program) (p : Pos) (x : Fetch) (s : Core) (results : List ℕ) (other : Option CallResult) →
+fetch_again : (g : Program) (p : Pos) (x : Fetch) (s : Core) (results : RunResult) (other : Option CallResult) →
     moved g.enter p (do_fetch g x s) ≡ step.Returned results → IsStepAnswered x other s.script
 fetch_again g p (Here i) s results other e = kind_again g p i.kind s results other e
 fetch_again g p (EndOfBlock k n) s results other e = tt
 fetch_again g p Outside s results other e = tt
 
-only_returned : (r : SourceStep) (new : Concrete) (n : step.Next) (results : List ℕ) → n ≡ step.Returned results → IsStep r new n → r ≡ Returned
+only_returned : (r : SourceStep) (new : Concrete) (n : step.Next) (result : RunResult) → n ≡ step.Returned result → IsStep r new n → r ≡ Returned
 only_returned Returned new n results e h = refl
 only_returned Went new n results e (t, w, h) = cc
 only_returned Faulted new n results e h = cc

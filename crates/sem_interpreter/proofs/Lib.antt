@@ -1,5 +1,7 @@
 mod MemoryLoops
 pub mod Rows
+pub mod Inputs
+pub mod Ends
 pub mod RunLoops
 pub mod Marking
 pub mod Laying

@@ -9,7 +9,7 @@ use Rattle.std.proofs.lemmas.Bool.{cases_eq, eq-eqb, ne_eqb}
 use Rattle.std.specs.Prelude.{nat_eq, unwrap_or}
 use Rattle.std.specs.Map.{lookup}
 use Rattle.sem_mir.specs.State.{updated, spelled, stored, low_bytes, written}
-use Rattle.sem_interpreter.specs.Held.{MemoryHolds, some_writes}
+use Rattle.sem_interpreter.specs.Memory.{MemoryHolds, some_writes}
 
 pub memory_put : (es fs : List (ℕ × ℕ)) (f : ℕ → ℕ) (k b : ℕ) → MemoryHolds es f →
     ((q : ℕ) → lookup (nat_eq q) fs ≡ cond (nat_eq k q) (Some b) (lookup (nat_eq q) es)) → MemoryHolds fs (updated k b f)

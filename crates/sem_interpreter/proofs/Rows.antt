@@ -8,33 +8,34 @@ use Rattle.rv64_instr.specs.declared.op.BranchOp.{BranchOp}
 use Rattle.rv64_instr.specs.declared.op.LoadOp.{LoadOp}
 use Rattle.rv64_instr.specs.declared.op.StoreOp.{StoreOp}
 use Rattle.rv64_instr.specs.declared.start.CallResult.{CallResult}
-use Rattle.rv64_instr.specs.Row.{Row, Fixes, Moves, Sets, Addresses, Loads, Stores, LoadsSlot, StoresSlot, Branches, Jumps, Calls, Returns, row_of}
-use Rattle.rv64_instr.specs.Row.{implicit_uses}
-use Rattle.rv64_instr.specs.declared.decoded.Base.{Base}
-use Rattle.rv64_instr.specs.declared.decoded.Base.TheVariants.{PointedBy, ObjectAt}
-use Rattle.rv64_instr.specs.declared.decoded.Input.{Input}
-use Rattle.rv64_instr.specs.declared.decoded.Input.TheVariants.{Content}
-use Rattle.rv64_instr.specs.Instruction.{Instruction}
-use Rattle.rv64_instr.specs.declared.operand.Operand.{Operand}
+use Rattle.rv64_instr.specs.Row.{Row, Fixes, Moves, Sets, Addresses, Loads, Stores, LoadsSlot, StoresSlot, Branches, Jumps}
+use Rattle.rv64_instr.specs.Row.{Base, PointedBy, ObjectAt, BesidePart, Input, Content, PartOf}
+use Rattle.rv64_instr.specs.declared.decoded.Base as decoded
+use Rattle.rv64_instr.specs.declared.symbol.Symbol.{Symbol}
+use Rattle.rv64_instr.specs.declared.symbol.LinkedAddress.{LinkedAddress}
+use Rattle.rv64_instr.specs.declared.symbol.Half.{Half}
+use Rattle.rv64_instr.specs.declared.symbol.Half.TheVariants.{Lower}
+use Rattle.rv64_instr.specs.Decoded.{ShowsBase}
+use Rattle.rv64_instr.specs.Linked.{addresses_in, linked_value}
+use Rattle.rv64_instr.specs.declared.start.CallTarget.{CallTarget}
 use Rattle.std.specs.declared.alloc.AllocError.{AllocError}
-use Rattle.sem_mir.proofs.Implicit.{AreImplicit, implicit}
 use Rattle.sem_interpreter.specs.declared.machine.Outcome.{Outcome}
 use Rattle.sem_mir.specs.State.{Core, Reply, Called, content, put, put_all, updated, spelled, stored, written, low_bytes, touches_frame, writes_frame}
 use Rattle.sem_mir.specs.Step as step
-use Rattle.sem_mir.specs.Step.{act, does, are_written, read, or_zero, input_value, object_address, address_at, is_fault, set_register, loaded}
-use Rattle.sem_mir.specs.Step.{put_in_memory, saved, slot_loaded, answered}
+use Rattle.sem_mir.specs.Step.{act, does, are_written, or_zero, input_value, object_address, address_at, is_fault, set_register, loaded}
+use Rattle.sem_mir.specs.Step.{put_in_memory, saved, slot_loaded, exec_external_call}
 use Rattle.sem_interpreter.specs.declared.machine.InterpreterState.{InterpreterState}
 use Rattle.sem_interpreter.specs.declared.machine.Outcome.TheVariants.{Falls, Goes, Returns as Ended, Faults, Waits}
-use Rattle.sem_interpreter.specs.Held.{MemoryHolds, number_in, some_writes}
+use Rattle.sem_interpreter.specs.Memory.{MemoryHolds, number_in, some_writes}
 use Rattle.sem_interpreter.specs.Places.{RegistersHold, SlotsHold}
-use Rattle.sem_interpreter.specs.Acts.{MachineHolds, Moved, EndsSo, Leads, GoesNowhere, Acts, Does, InputHolds, AddressHolds, Takes, reply_of}
+use Rattle.sem_interpreter.specs.Acts.{MachineHolds, Moved, EndsSo, Leads, GoesNowhere, Acts, Does, InputHolds, AddressHolds, IsBase, Takes, reply_of}
 
 -- code whose registers are written does what its row says
-act_written : (r : Row) (s : Core) → are_written s (reads r) ≡ true → act r s ≡ does r s
+pub act_written : (r : Row) (s : Core) → are_written s (reads r) ≡ true → act r s ≡ does r s
 unfolding act
 act_written r s h = ap (λ (b : Bool). cond b (does r s) step.Traps) h
 
-act_unwritten : (r : Row) (s : Core) → are_written s (reads r) ≡ false → act r s ≡ step.Traps
+pub act_unwritten : (r : Row) (s : Core) → are_written s (reads r) ≡ false → act r s ≡ step.Traps
 unfolding act
 act_unwritten r s h = ap (λ (b : Bool). cond b (does r s) step.Traps) h
 
@@ -69,6 +70,7 @@ moved_set old kept rd v s writes holds = record {
   machine = record {
     entry = holds.entry;
     area = holds.area;
+    symbols = holds.symbols;
     objects = holds.objects;
     registers = writes s.regs holds.registers;
     slots = holds.slots;
@@ -92,7 +94,7 @@ unmoved : (m : InterpreterState) (s : Core) → MachineHolds m s → Moved m s s
 unmoved m s holds = record { machine = holds; pairs = refl; marks = refl }
 
 -- code that goes to no block leads on below
-leads_below : (r : Row) (o : Outcome) → Leads r Falls → GoesNowhere o → Leads r o
+pub leads_below : (r : Row) (o : Outcome) → Leads r Falls → GoesNowhere o → Leads r o
 leads_below r Falls below nowhere = below
 leads_below r (Goes n) below nowhere = absurd nowhere
 leads_below r Ended below nowhere = tt
@@ -141,6 +143,10 @@ pub input_content : (m : InterpreterState) (r : ℕ) (o : Option ℕ) → o ≡ 
 input_content m r None e s holds = unwritten_first s r [] (held m s r None holds e)
 input_content m r (Some v) e s holds = let h = held m s r (Some v) holds e in (written_one s r v h, ap or_zero h)
 
+pub input_part_of : (m : InterpreterState) (half : Half) (y : LinkedAddress) (s : Core) → MachineHolds m s →
+    InputHolds s (PartOf half y) (Some (linked_value (addresses_in m.symbols) half y))
+input_part_of m half y s holds = (refl, ap (λ (z : Symbol → ℕ). linked_value z half y) holds.symbols)
+
 -- ---- addresses
 pub object_address_is : (m : InterpreterState) (n : ℕ) (s : Core) → MachineHolds m s →
     ((m.entry + (2 ^ 64 - m.area)) % 2 ^ 64 + number_in m.objects n) % 2 ^ 64 ≡ object_address s n
@@ -168,6 +174,16 @@ pointed_nowhere m r offset e s holds = unwritten_first s r [] (held m s r None h
 
 pub object_at : (n offset v : ℕ) (s : Core) → v ≡ object_address s n → AddressHolds s (ObjectAt n) offset (Some ((v + offset) % 2 ^ 64))
 object_at n offset v s e = (refl, ap (λ (x : ℕ). (x + offset) % 2 ^ 64) (sym e))
+
+pub beside_at : (m : InterpreterState) (r b offset : ℕ) (y : LinkedAddress) → Some b ≡ slice_index_or m.registers r None → (s : Core) → MachineHolds m s →
+    AddressHolds s (BesidePart r y) offset (Some (((b + linked_value (addresses_in m.symbols) Lower y) % 2 ^ 64 + offset) % 2 ^ 64))
+beside_at m r b offset y e s holds =
+    let h = held m s r (Some b) holds e in
+    (written_one s r b h, (λ i. ((or_zero (h i) + linked_value (holds.symbols i) Lower y) % 2 ^ 64 + offset) % 2 ^ 64))
+
+pub beside_nowhere : (m : InterpreterState) (r offset : ℕ) (y : LinkedAddress) → None ≡ slice_index_or m.registers r None → (s : Core) → MachineHolds m s →
+    AddressHolds s (BesidePart r y) offset None
+beside_nowhere m r offset y e s holds = unwritten_first s r [] (held m s r None holds e)
 
 -- ---- loads and stores
 pub loads_so : (m new : InterpreterState) (o : Outcome) (rd a offset : ℕ) (op : LoadOp) (base : Base) →
@@ -237,6 +253,7 @@ slot_stores_so old kept rs n v e writes answer = record {
           machine = record {
             entry = holds.entry;
             area = holds.area;
+            symbols = holds.symbols;
             objects = holds.objects;
             registers = holds.registers;
             slots = writes s.slots holds.slots;
@@ -306,42 +323,6 @@ pub jumps_so : (m : InterpreterState) (target : ℕ) (answer : Option CallResult
 unfolding act does
 jumps_so m target answer = record { ends = λ s holds script. (s, refl, unmoved m s holds); stays = tt; leads = λ p. refl }
 
--- ---- calls and returns
-pub returns_so : (m : InterpreterState) (results : List ℕ) → ((s : Core) → MachineHolds m s → true ≡ are_written s results) → (answer : Option CallResult) →
-    Acts (Returns results) answer Ended m m
-unfolding does
-returns_so m results h answer = record { ends = λ s holds script. (_, act_written (Returns results) s (sym (h s holds))); stays = refl; leads = tt }
-
-pub returns_faults : (m : InterpreterState) (results : List ℕ) → ((s : Core) → MachineHolds m s → false ≡ are_written s results) → (s : Core) →
-    MachineHolds m s →
-    act (Returns results) s ≡ step.Traps
-returns_faults m results h s holds = act_unwritten (Returns results) s (sym (h s holds))
-
-pub calls_faults : (m : InterpreterState) (name args : List ℕ) → ((s : Core) → MachineHolds m s → false ≡ are_written s args) → (s : Core) → MachineHolds m s →
-    act (Calls name args) s ≡ step.Traps
-calls_faults m name args h s holds = act_unwritten (Calls name args) s (sym (h s holds))
-
-pub calls_waits : (m : InterpreterState) (name args : List ℕ) → ((s : Core) → MachineHolds m s → true ≡ are_written s args) →
-    Acts (Calls name args) None Waits m m
-unfolding does
-calls_waits m name args h = record {
-  ends = λ s holds script. act_written (Calls name args) s (sym (h s holds)) ∙ ap (answered name (Rattle.std.specs.Prelude.map (read s) args) s) script;
-  stays = refl;
-  leads = tt;
-}
-
-pub calls_takes : (m new : InterpreterState) (o : Outcome) (name args : List ℕ) (a : CallResult) → ((s : Core) → MachineHolds m s → true ≡ are_written s args) →
-    Takes a o m new → Acts (Calls name args) (Some a) o m new
-unfolding does
-calls_takes m new o name args a h took = record {
-  ends = λ s holds script.
-      let values = Rattle.std.specs.Prelude.map (read s) args in
-      let same = act_written (Calls name args) s (sym (h s holds)) ∙ ap (answered name values s) script.1 in
-      subst (λ (x : step.Outcome). EndsSo o new s x) (sym same) (took.ends name values script.0 s holds);
-  stays = took.stays;
-  leads = leads_below (Calls name args) o (λ p. refl) took.leads;
-}
-
 -- ---- memory and answers
 spelled_alike : (f g : ℕ → ℕ) → ((a : ℕ) → f a ≡ g a) → (a n : ℕ) → spelled f a n ≡ spelled g a n
 spelled_alike f g h a zero = refl
@@ -396,6 +377,7 @@ put_falls old kept v a op base e writes = record {
       machine = record {
         entry = holds.entry;
         area = holds.area;
+        symbols = holds.symbols;
         objects = holds.objects;
         registers = holds.registers;
         slots = holds.slots;
@@ -409,23 +391,24 @@ put_falls old kept v a op base e writes = record {
   leads = tt;
 }
 
-taken_core : (name args : List ℕ) (s : Core) (a : CallResult) (rest : List Reply) → Core
-taken_core name args s a rest = record s {
+taken_core : (target : CallTarget) (args : List ℕ) (s : Core) (a : CallResult) (rest : List Reply) → Core
+taken_core target args s a rest = record s {
   regs = put_all caller_saved a.regs s.regs;
   memory = written s.memory
       (some_writes a.writes);
   script = rest;
-  events = Called name args ∷ s.events;
+  events = Called target args ∷ s.events;
 }
 
-answered_by : (name args : List ℕ) (s : Core) (a : CallResult) (rest : List Reply) (b : Bool) → writes_frame s.entry s.area (some_writes a.writes) ≡ b →
-    answered name args s (reply_of a ∷ rest) ≡ cond b step.Traps (step.Falls (taken_core name args s a rest))
+answered_by : (target : CallTarget) (args : List ℕ) (s : Core) (a : CallResult) (rest : List Reply) (b : Bool) →
+    writes_frame s.entry s.area (some_writes a.writes) ≡ b →
+    exec_external_call target args s (reply_of a ∷ rest) ≡ cond b step.Traps (step.Falls (taken_core target args s a rest))
 unfolding taken_core
-answered_by name args s a rest b h = ap (λ (x : Bool). cond x step.Traps (step.Falls (taken_core name args s a rest))) h
+answered_by target args s a rest b h = ap (λ (x : Bool). cond x step.Traps (step.Falls (taken_core target args s a rest))) h
 
 pub takes_faults : (m : InterpreterState) (a : CallResult) → true ≡ writes_frame m.entry m.area (some_writes a.writes) → Takes a Faults m m
 takes_faults m a e = record {
-  ends = λ name args rest s holds. answered_by name args s a rest true ((λ i. writes_frame (holds.entry i) (holds.area i) (some_writes a.writes)) ∙ sym e);
+  ends = λ target args rest s holds. answered_by target args s a rest true ((λ i. writes_frame (holds.entry i) (holds.area i) (some_writes a.writes)) ∙ sym e);
   stays = refl;
   leads = tt;
 }
@@ -437,13 +420,14 @@ pub takes_falls : (old : InterpreterState) (regs : List (Option ℕ)) (bytes : L
     Takes a Falls old (record old { registers = regs; memory = bytes })
 unfolding taken_core
 takes_falls old regs bytes a e registers memory = record {
-  ends = λ name args rest s holds. (
-    taken_core name args s a rest,
-    answered_by name args s a rest false ((λ i. writes_frame (holds.entry i) (holds.area i) (some_writes a.writes)) ∙ sym e),
+  ends = λ target args rest s holds. (
+    taken_core target args s a rest,
+    answered_by target args s a rest false ((λ i. writes_frame (holds.entry i) (holds.area i) (some_writes a.writes)) ∙ sym e),
     record {
       machine = record {
         entry = holds.entry;
         area = holds.area;
+        symbols = holds.symbols;
         objects = holds.objects;
         registers = registers s.regs holds.registers;
         slots = holds.slots;
@@ -458,16 +442,13 @@ takes_falls old regs bytes a e registers memory = record {
 }
 
 -- ---- the same under a result that may lack memory
-pub stores_ok : (m new : InterpreterState) (rs v a offset : ℕ) (op : StoreOp) (base : Base) → Some v ≡ slice_index_or m.registers rs None →
-    ((s : Core) → MachineHolds m s → AddressHolds s base offset (Some a)) → (r : Result Outcome AllocError) →
-    IfOk r (λ o. Does (put_in_memory op base a v) o m new) → IfOk r (λ o. (answer : Option CallResult) → Acts (Stores op rs base offset) answer o m new)
-stores_ok m new rs v a offset op base e at (Ok o) h = stores_so m new o rs v a offset op base e at h
-stores_ok m new rs v a offset op base e at (Err x) h = h
-
-pub calls_ok : (m new : InterpreterState) (args : List ℕ) (a : CallResult) → ((s : Core) → MachineHolds m s → true ≡ are_written s args) →
-    (r : Result Outcome AllocError) → IfOk r (λ o. Takes a o m new) → IfOk r (λ o. (name : List ℕ) → Acts (Calls name args) (Some a) o m new)
-calls_ok m new args a h (Ok o) took = λ name. calls_takes m new o name args a h took
-calls_ok m new args a h (Err x) took = took
+pub stores_ok : (m new : InterpreterState) (rs v a offset : ℕ) (op : StoreOp) (base : decoded.Base) (linked : Option LinkedAddress) →
+    Some v ≡ slice_index_or m.registers rs None →
+    ((x : Base) → IsBase base linked x → (s : Core) → MachineHolds m s → AddressHolds s x offset (Some a)) → (r : Result Outcome AllocError) →
+    IfOk r (λ o. (x : Base) → ShowsBase base x → Does (put_in_memory op x a v) o m new) →
+    IfOk r (λ o. (x : Base) → IsBase base linked x → (answer : Option CallResult) → Acts (Stores op rs x offset) answer o m new)
+stores_ok m new rs v a offset op base linked e at (Ok o) h = λ x is. stores_so m new o rs v a offset op x e (at x is) (h x is.0)
+stores_ok m new rs v a offset op base linked e at (Err y) h = h
 
 pub at_row : (r q : Row) (answer : Option CallResult) (o : Outcome) (m new : InterpreterState) → r ≡ q → Acts q answer o m new → Acts r answer o m new
 at_row r q answer o m new e h = subst (λ (x : Row). Acts x answer o m new) (sym e) h
@@ -477,17 +458,9 @@ pub at_row_ok : (r q : Row) (answer : Option CallResult) (m new : InterpreterSta
 at_row_ok r q answer m new e (Ok o) h = at_row r q answer o m new e (h answer)
 at_row_ok r q answer m new e (Err x) h = h
 
-pub at_call_ok : (i : Instruction) (operands : List Operand) (name args : List ℕ) (answer : Option CallResult) (m new : InterpreterState) →
-    operands ≡ i.operands →
-    row_of i ≡ Calls name args → (x : Result Outcome AllocError) → IfOk x (λ o. (n : List ℕ) → Acts (Calls n (implicit_uses operands)) answer o m new) →
-    IfOk x (λ o. Acts (row_of i) answer o m new)
-at_call_ok i operands name args answer m new w e (Ok o) h =
-    let same : args ≡ implicit_uses operands = subst (λ (r : Row). AreImplicit i.operands r) e (implicit i) ∙ sym (ap implicit_uses w) in
-    at_row (row_of i) (Calls name (implicit_uses operands)) answer o m new (e ∙ ap (λ (xs : List ℕ). Calls name xs) same) (h name)
-at_call_ok i operands name args answer m new w e (Err x) h = h
-
-pub at_return : (i : Instruction) (operands : List Operand) (results : List ℕ) (answer : Option CallResult) (o : Outcome) (m new : InterpreterState) →
-    operands ≡ i.operands → row_of i ≡ Returns results → Acts (Returns (implicit_uses operands)) answer o m new → Acts (row_of i) answer o m new
-at_return i operands results answer o m new w e h =
-    let same : results ≡ implicit_uses operands = subst (λ (r : Row). AreImplicit i.operands r) e (implicit i) ∙ sym (ap implicit_uses w) in
-    at_row (row_of i) (Returns (implicit_uses operands)) answer o m new (e ∙ ap (λ (xs : List ℕ). Returns xs) same) h
+-- a store by a base that was decoded so
+pub at_base_ok : (r : Row) (b : decoded.Base) (linked : Option LinkedAddress) (base : Base) (op : StoreOp) (rs offset : ℕ) (answer : Option CallResult)
+    (m new : InterpreterState) → r ≡ Stores op rs base offset → IsBase b linked base → (x : Result Outcome AllocError) →
+    IfOk x (λ o. (y : Base) → IsBase b linked y → (a : Option CallResult) → Acts (Stores op rs y offset) a o m new) → IfOk x (λ o. Acts r answer o m new)
+at_base_ok r b linked base op rs offset answer m new e is (Ok o) h = at_row r (Stores op rs base offset) answer o m new e (h base is answer)
+at_base_ok r b linked base op rs offset answer m new e is (Err y) h = h

@@ -4,6 +4,7 @@ use Rattle.std.specs.Prelude.{Result, Ok, Err, IfOk, nat_eq}
 use Rattle.std.specs.Map.{lookup}
 use Rattle.std.proofs.lemmas.List.{drop_all}
 use Rattle.std.specs.declared.alloc.AllocError.{AllocError}
+use Rattle.rv64_instr.specs.Linked.{addresses_in}
 use Rattle.rv64_instr.specs.Row.{row_of}
 use Rattle.rv64_instr.specs.Instruction.{Instruction}
 use Rattle.rv64_instr.specs.declared.operand.Operand.{Operand}
@@ -21,9 +22,9 @@ use Rattle.sem_interpreter.proofs.Inside.{block_inside}
 use Rattle.sem_mir.specs.State.{Core, State}
 use Rattle.sem_mir.specs.Step as step
 use Rattle.sem_mir.specs.Step.{numbered, with_core}
-use Rattle.rv64_instr.specs.Parts.{is_call}
+use Rattle.rv64_instr.specs.LocationEffects.{is_call}
 use Rattle.mir_func.specs.Graph.{Fetch, Here, EndOfBlock, Outside, block_start, fetch_in, front, from_block}
-use Rattle.sem_mir.specs.Follow.{first_of}
+use Rattle.sem_mir.specs.InitialState.{first_of}
 use Rattle.sem_interpreter.specs.declared.machine.InterpreterState.{InterpreterState}
 use Rattle.sem_interpreter.specs.declared.machine.Outcome.{Outcome}
 use Rattle.sem_interpreter.specs.declared.machine.Outcome.TheVariants.{Falls, Goes}
@@ -56,6 +57,7 @@ numbered_holds old m fs call k operands s c moved holds given = record {
   machine = record {
     entry = moved.machine.entry;
     area = moved.machine.area;
+    symbols = moved.machine.symbols;
     objects = moved.machine.objects;
     registers = moved.machine.registers;
     slots = moved.machine.slots;
@@ -199,6 +201,7 @@ starts_stands stack blocks start m es fs n s starts made e f first = record {
     machine = record {
       entry = starts.entry ∙ sym made.entry;
       area = starts.area ∙ sym made.area;
+      symbols = starts.symbols ∙ ap addresses_in (sym made.symbols);
       objects = λ k. starts.objects k ∙ made.objects k;
       registers = λ r. starts.registers r ∙ made.registers r;
       slots = λ k. starts.slots k ∙ sym (ap (lookup (nat_eq k)) made.slots);

@@ -1,4 +1,4 @@
-pub mod Held
+pub mod Memory
 pub mod Places
 pub mod Acts
 pub mod Assigned

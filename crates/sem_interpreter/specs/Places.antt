@@ -2,7 +2,7 @@
 -- represent.
 use Rattle.std.specs.Prelude.{◌≡◌, ℕ, List, Option, Some, None, cond, nat_eq, nat_lt, slice_index, slice_index_or, length}
 use Rattle.std.specs.Map.{lookup}
-use Rattle.sem_interpreter.specs.Held.{number_in}
+use Rattle.sem_interpreter.specs.Memory.{number_in}
 use Rattle.sem_mir.specs.State.{content}
 
 -- there is an entry for each register, and that of x0 is 0

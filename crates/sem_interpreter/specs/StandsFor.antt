@@ -1,6 +1,7 @@
 -- The interpreter's state, and the states of the definition that it represents.
 use Rattle.std.specs.Prelude.{◌≡◌, ◌<◌, ◌^◌, ℕ, List, [], length, All, Option, Some, None, true, slice_index}
 use Rattle.std.specs.Map.{lookup}
+use Rattle.rv64_instr.specs.Linked.{addresses_in}
 use Rattle.rv64_instr.specs.Row.{row_of}
 use Rattle.rv64_instr.specs.declared.start.CallResult.{CallResult}
 use Rattle.rv64_instr.specs.declared.start.Start.{Start}
@@ -12,11 +13,11 @@ use Rattle.mir_func.specs.declared.item.ItemKind.TheVariants.{Code, Mark, Phi}
 use Rattle.mir_func.specs.declared.object.Object.{Object}
 use Rattle.mir_func.specs.Objects.{area_of, offset_of}
 use Rattle.mir_func.specs.Parts.{Bytes}
-use Rattle.sem_mir.specs.State.{Core, State, Reply, content, written}
+use Rattle.sem_mir.specs.State.{Core, State, Reply, content, written, RunResult}
 use Rattle.sem_mir.specs.Step as step
 use Rattle.sem_mir.specs.Step.{do_item}
 use Rattle.mir_func.specs.Graph.{Fetch, Here, EndOfBlock, Outside, below, block_start, program_of, fetch_in, from_block, KindEdge}
-use Rattle.sem_mir.specs.Follow.{first_of}
+use Rattle.sem_mir.specs.InitialState.{first_of}
 use Rattle.mir_func.specs.Resolve.{resolve}
 use Rattle.mir_substitution.specs.Index.{is_key}
 use Rattle.sem_interpreter.specs.declared.machine.InterpreterState.{InterpreterState}
@@ -60,6 +61,7 @@ pub record Starts (stack : List Object) (blocks : List Block) (start : Start) (s
   pub entry : s.core.entry ≡ slice_index start.regs 2
   pub area : s.core.area ≡ area_of stack
   pub objects : (n : ℕ) → s.core.objects n ≡ offset_of stack n
+  pub symbols : s.core.symbols ≡ addresses_in start.symbols
   pub registers : (r : ℕ) → content s.core.regs r ≡ content (starting_registers start.regs) r
   pub slots : (n : ℕ) → s.core.slots n ≡ None
   pub memory : (a : ℕ) → s.core.memory a ≡ written (λ _. 0) start.memory a
@@ -82,7 +84,7 @@ IsStepAnswered Outside answer script = Unit {0}
 abbrev pub EndsItem : Outcome → Concrete → step.Outcome → Type 0
 EndsItem Falls now x = (c : Core) × (x ≡ step.Falls c) × Holds now c
 EndsItem (Goes n) now x = (c : Core) × (x ≡ step.Goes n c) × Holds now c
-EndsItem Ended now x = (results : List ℕ) × (x ≡ step.Gives results)
+EndsItem Ended now x = (result : RunResult) × (x ≡ step.Gives result)
 EndsItem Faults now x = x ≡ step.Traps
 EndsItem Waits now x = x ≡ step.Asks
 

@@ -1,9 +1,9 @@
 -- The interpreter's steps, as steps of the definition.
-use Rattle.std.specs.Prelude.{◌≡◌, ℕ, List, [], Option, true}
+use Rattle.std.specs.Prelude.{◌≡◌, List, [], Option, true}
 use Rattle.rv64_instr.specs.declared.start.CallResult.{CallResult}
 use Rattle.mir_func.specs.declared.block.Block.{Block}
 use Rattle.mir_func.specs.declared.debug_substitution.DebugSubstitution.{DebugSubstitution}
-use Rattle.sem_mir.specs.State.{Event, Reply, State}
+use Rattle.sem_mir.specs.State.{Event, Reply, State, RunResult}
 use Rattle.sem_mir.specs.Step as step
 use Rattle.sem_mir.specs.Step.{Next, do_fetch, moved}
 use Rattle.mir_func.specs.Graph.{Program, program_of, FetchEdge, Fetch, below, block_start}
@@ -18,7 +18,7 @@ use Rattle.sem_interpreter.specs.StandsFor.{Concrete, StandsFor, IsStepAnswered}
 -- the result of the step is the definition's, and the new state represents its state
 abbrev pub IsStep : SourceStep → Concrete → Next → Type 0
 IsStep Went now n = (t : State) × (n ≡ step.Went t) × StandsFor now t
-IsStep Returned now n = (results : List ℕ) × (n ≡ step.Returned results)
+IsStep Returned now n = (result : RunResult) × (n ≡ step.Returned result)
 IsStep Faulted now n = n ≡ step.Faulted
 IsStep Waits now n = n ≡ step.Waits
 

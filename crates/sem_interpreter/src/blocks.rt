@@ -4,7 +4,7 @@ ghost use Rattle.std.specs.Prelude.{◌≡◌, ◌<◌, [], MatchOption, length,
 ghost use Rattle.mir_func.specs.Sound.{AreApart, ids_of};
 ghost use Rattle.mir_func.specs.Graph.{from_block};
 
-use base_ids::code::BlockId;
+use base_ids::function_ids::BlockId;
 use mir_func::block::Block;
 use std::alloc::{AllocError, Global};
 use std::collections::HashMap;

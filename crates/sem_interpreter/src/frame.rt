@@ -2,7 +2,7 @@
 
 ghost use Rattle.std.specs.Prelude.{◌≡◌};
 ghost use Rattle.sem_mir.specs.State.{in_frame, touches_frame, writes_frame};
-ghost use Rattle.sem_interpreter.specs.Held.{some_writes};
+ghost use Rattle.sem_interpreter.specs.Memory.{some_writes};
 
 /// How many bytes below the stack pointer at entry are kept for frames.
 const FRAME_ROOM: u64 = 2_048;

@@ -1,31 +1,38 @@
 //! The effect of code on registers, frame slots and memory.
 
-ghost use Rattle.std.specs.Prelude.{◌≡◌, ◌≤◌, ℕ, List, All, IfOk, OnErr, Option, length};
+ghost use Rattle.std.specs.Prelude.{◌≡◌, ◌≤◌, ◌++◌, All, IfOk, OnErr, Option, Some, length};
 ghost use Rattle.std.specs.Option.{option_copied};
 ghost use Rattle.rv64_instr.specs.Row as row;
-ghost use Rattle.rv64_instr.specs.Row.{row_of, implicit_uses};
+ghost use Rattle.rv64_instr.specs.Row.{CallSite, Ending, row_of, implicit_uses};
+ghost use Rattle.rv64_instr.specs.DefsAndUses.{callee_reads, way_reads};
 ghost use Rattle.rv64_instr.specs.declared.start.CallResult.{CallResult};
 ghost use Rattle.mir_func.specs.Limits.{MAX_SLOTS};
 ghost use Rattle.mir_func.specs.Objects.{AreLaid};
 ghost use Rattle.mir_func.specs.Sound.{IsSoundObject};
 ghost use Rattle.sem_mir.specs.State.{Core};
 ghost use Rattle.sem_mir.specs.Step.{are_written, is_fault, loaded, object_address, put_in_memory};
-ghost use Rattle.sem_interpreter.specs.Acts.{Acts, AddressHolds, Does, InputHolds, MachineHolds, StartsMachine, Takes};
+ghost use Rattle.rv64_instr.specs.Decoded.{ShowsBase};
+ghost use Rattle.rv64_instr.specs.Linked.{addresses_in, linked_value};
+ghost use Rattle.rv64_instr.specs.declared.symbol.LinkedAddress.{LinkedAddress};
+ghost use Rattle.sem_interpreter.specs.Acts.{Acts, AddressHolds, Does, InputHolds, IsBase, IsInput};
+ghost use Rattle.sem_interpreter.specs.Acts.{MachineHolds, StartsMachine, Takes};
 
 use crate::frame::{touches_frame, writes_frame};
 use crate::memory::Memory;
 use crate::objects::Offsets;
 use crate::registers::Registers;
 use crate::slots::Slots;
-use base_ids::code::{BlockId, ObjectId, SlotId};
+use base_ids::function_ids::{BlockId, ObjectId, SlotId};
 use mir_func::object::{Object, area};
 use rv64_instr::arithmetic::{compute, extend, is_taken, load_width, store_width};
 use rv64_instr::decoded::{Base, Decoded, Input};
 use rv64_instr::instr::Instr;
+use rv64_instr::linked::linked_value;
 use rv64_instr::op::{BranchOp, LoadOp, RegisterOp, StoreOp};
 use rv64_instr::operand::Operand;
 use rv64_instr::reg::Reg;
 use rv64_instr::start::{CallResult, Start};
+use rv64_instr::symbol::{Half, LinkedAddress, SymbolAddresses, copy_addresses};
 use std::alloc::{AllocError, Global};
 
 /// What code reads and writes: registers, frame slots and memory, and the offsets of stack objects.
@@ -37,6 +44,8 @@ pub struct InterpreterState {
     pub area: u64,
     /// The offset of each object from the lowest of these bytes.
     pub objects: Offsets,
+    /// The addresses of symbols.
+    pub symbols: SymbolAddresses,
     pub registers: Registers,
     pub slots: Slots,
     pub memory: Memory,
@@ -73,6 +82,7 @@ impl InterpreterState {
             entry: start.regs[2],
             area: area(stack),
             objects: Offsets::new(alloc, stack)?,
+            symbols: copy_addresses(alloc, &start.symbols)?,
             registers: Registers::new(alloc, &start.regs)?,
             slots: Slots::new(alloc),
             memory: Memory::new(alloc, start.memory.as_slice())?,
@@ -88,16 +98,20 @@ impl InterpreterState {
         match i.decoded() {
             Decoded::Fixes(rd, n) => Ok(self.set(rd, n)),
             Decoded::Moves(rd, rs) => Ok(self.copy(rd, rs)),
-            Decoded::Sets(rd, op, a, b) => Ok(self.compute(rd, op, a, b)),
+            Decoded::Sets(rd, op, a, b) => Ok(self.compute(rd, op, a, b, i.linked_address())),
             Decoded::Addresses(rd, n, offset) => Ok(self.address_of(rd, n, offset)),
-            Decoded::Loads(rd, op, base, offset) => Ok(self.load(rd, op, base, offset)),
-            Decoded::Stores(op, rs, base, offset) => self.store(op, rs, base, offset),
+            Decoded::Loads(rd, op, base, offset) => {
+                Ok(self.load(rd, op, base, offset, i.linked_address()))
+            }
+            Decoded::Stores(op, rs, base, offset) => {
+                self.store(op, rs, base, offset, i.linked_address())
+            }
             Decoded::LoadsSlot(rd, n) => Ok(self.load_slot(rd, n)),
             Decoded::StoresSlot(rs, n) => self.store_slot(rs, n),
             Decoded::Branches(op, a, b, target) => Ok(self.branch(op, a, b, target)),
             Decoded::Jumps(target) => Ok(Outcome::Goes(target)),
-            Decoded::Calls => self.call(i.operands.as_slice(), answer),
-            Decoded::Returns => Ok(self.finish(i.operands.as_slice())),
+            Decoded::Calls(_) => self.call(i.operands.as_slice(), answer),
+            Decoded::Returns(_) => Ok(self.finish(i.operands.as_slice())),
         }
     }
 
@@ -120,14 +134,22 @@ impl InterpreterState {
         }
     }
 
-    fn compute(&mut self, rd: Reg, op: RegisterOp, a: Reg, b: Input) -> Outcome
-        ensures { (answer : Option CallResult)
-            → Acts (row.Sets rd op a b) answer result self.old self.new }
+    /// An operation. `linked` is the address of which the input is a half, if it is one.
+    fn compute(
+        &mut self,
+        rd: Reg,
+        op: RegisterOp,
+        a: Reg,
+        b: Input,
+        linked: Option<&LinkedAddress>,
+    ) -> Outcome
+        ensures { (x : row.Input) → IsInput b (option_copied linked.entry) x → (answer : Option CallResult)
+            → Acts (row.Sets rd op a x) answer result self.old self.new }
     {
         let Some(x) = self.registers.read(a) else {
             return Outcome::Faults;
         };
-        let Some(y) = self.input(b) else {
+        let Some(y) = self.input(b, linked) else {
             return Outcome::Faults;
         };
         self.registers.write(rd, compute(op, x, y));
@@ -135,12 +157,25 @@ impl InterpreterState {
     }
 
     /// The value of an operation's second input, if what it reads is written.
-    fn input(&self, input: Input) -> Option<u64>
-        ensures { (s : Core) → MachineHolds self.now s → InputHolds s input result }
+    fn input(&self, input: Input, linked: Option<&LinkedAddress>) -> Option<u64>
+        ensures { (x : row.Input) → IsInput input (option_copied linked.entry) x
+            → (s : Core) → MachineHolds self.now s → InputHolds s x result }
     {
         match input {
             Input::Content(r) => self.registers.read(r),
             Input::Number(n) => Some(n),
+            Input::PartOf(half) => self.part(half, linked),
+        }
+    }
+
+    /// The value of a half of an address.
+    fn part(&self, half: Half, linked: Option<&LinkedAddress>) -> Option<u64>
+        ensures { (y : LinkedAddress) → Some y ≡ option_copied linked.entry
+            → result ≡ Some (linked_value (addresses_in self.now.symbols) half y) }
+    {
+        match linked {
+            Some(address) => Some(linked_value(&self.symbols, half, address)),
+            None => None,
         }
     }
 
@@ -162,40 +197,89 @@ impl InterpreterState {
     }
 
     /// The address of an access, if what it reads is written.
-    fn address(&self, base: &Base, offset: u64) -> Option<u64>
-        ensures { (s : Core) → MachineHolds self.now s → AddressHolds s base.now offset result }
+    fn address(&self, base: &Base, offset: u64, linked: Option<&LinkedAddress>) -> Option<u64>
+        ensures { (x : row.Base) → IsBase base.now (option_copied linked.entry) x
+            → (s : Core) → MachineHolds self.now s → AddressHolds s x offset result }
     {
         match base {
-            Base::PointedBy(r) => match self.registers.read(*r) {
-                Some(b) => Some(b.wrapping_add(offset)),
-                None => None,
-            },
-            Base::ObjectAt(n) => Some(self.object_address(*n).wrapping_add(offset)),
+            Base::PointedBy(r) => self.pointed(*r, offset),
+            Base::ObjectAt(n) => self.in_object(*n, offset),
+            Base::BesidePart(r) => self.beside(*r, offset, self.part(Half::Lower, linked)),
+        }
+    }
+
+    /// The address behind the content of a register.
+    fn pointed(&self, r: Reg, offset: u64) -> Option<u64>
+        ensures { (s : Core) → MachineHolds self.now s → AddressHolds s (row.PointedBy r) offset result }
+    {
+        match self.registers.read(r) {
+            Some(b) => Some(b.wrapping_add(offset)),
+            None => None,
+        }
+    }
+
+    /// The address behind the beginning of a stack object.
+    fn in_object(&self, n: ObjectId, offset: u64) -> Option<u64>
+        ensures { (s : Core) → MachineHolds self.now s → AddressHolds s (row.ObjectAt n) offset result }
+    {
+        Some(self.object_address(n).wrapping_add(offset))
+    }
+
+    /// The address behind the content of a register plus the value of a half.
+    fn beside(&self, r: Reg, offset: u64, part: Option<u64>) -> Option<u64>
+        ensures { (y : LinkedAddress) → part ≡ Some (linked_value (addresses_in self.now.symbols) Half.Lower y)
+            → (s : Core) → MachineHolds self.now s → AddressHolds s (row.BesidePart r y) offset result }
+    {
+        match part {
+            Some(value) => self.behind(r, value, offset),
+            None => None,
+        }
+    }
+
+    /// The address behind the content of a register plus a number.
+    fn behind(&self, r: Reg, value: u64, offset: u64) -> Option<u64>
+        ensures { (y : LinkedAddress) → value ≡ linked_value (addresses_in self.now.symbols) Half.Lower y
+            → (s : Core) → MachineHolds self.now s → AddressHolds s (row.BesidePart r y) offset result }
+    {
+        match self.registers.read(r) {
+            Some(b) => Some(b.wrapping_add(value).wrapping_add(offset)),
+            None => None,
         }
     }
 
     /// Whether an access touches the frame. An access by a stack object is no frame fault.
     fn is_fault(&self, base: &Base, address: u64, count: usize) -> bool
-        ensures { (s : Core) → MachineHolds self.now s → result ≡ is_fault base.now s address count }
+        ensures { (x : row.Base) → ShowsBase base.now x
+            → (s : Core) → MachineHolds self.now s → result ≡ is_fault x s address count }
     {
         match base {
-            Base::PointedBy(_) => touches_frame(self.entry, self.area, address, count),
+            Base::PointedBy(_) | Base::BesidePart(_) => {
+                touches_frame(self.entry, self.area, address, count)
+            }
             Base::ObjectAt(_) => false,
         }
     }
 
-    fn load(&mut self, rd: Reg, op: LoadOp, base: Base, offset: u64) -> Outcome
-        ensures { (answer : Option CallResult)
-            → Acts (row.Loads rd op base offset) answer result self.old self.new }
+    /// A load. `linked` is the address beside whose lower half it is, if it is so.
+    fn load(
+        &mut self,
+        rd: Reg,
+        op: LoadOp,
+        base: Base,
+        offset: u64,
+        linked: Option<&LinkedAddress>,
+    ) -> Outcome
+        ensures { (x : row.Base) → IsBase base (option_copied linked.entry) x → (answer : Option CallResult)
+            → Acts (row.Loads rd op x offset) answer result self.old self.new }
     {
-        match self.address(&base, offset) {
+        match self.address(&base, offset, linked) {
             Some(address) => self.load_from(rd, op, &base, address),
             None => Outcome::Faults,
         }
     }
 
     fn load_from(&mut self, rd: Reg, op: LoadOp, base: &Base, address: u64) -> Outcome
-        ensures { Does (loaded rd op base.now address) result self.old self.new }
+        ensures { (x : row.Base) → ShowsBase base.now x → Does (loaded rd op x address) result self.old self.new }
     {
         let count = load_width(op);
         if self.is_fault(base, address, count) {
@@ -206,21 +290,23 @@ impl InterpreterState {
         Outcome::Falls
     }
 
+    /// A store. `linked` is the address beside whose lower half it is, if it is so.
     fn store(
         &mut self,
         op: StoreOp,
         rs: Reg,
         base: Base,
         offset: u64,
+        linked: Option<&LinkedAddress>,
     ) -> Result<Outcome, AllocError>
-        ensures ok { IfOk result (λ o. (answer : Option CallResult)
-            → Acts (row.Stores op rs base offset) answer o self.old self.new) }
+        ensures ok { IfOk result (λ o. (x : row.Base) → IsBase base (option_copied linked.entry) x
+            → (answer : Option CallResult) → Acts (row.Stores op rs x offset) answer o self.old self.new) }
         ensures err { OnErr result (self.new ≡ self.old) }
     {
         let Some(value) = self.registers.read(rs) else {
             return Ok(Outcome::Faults);
         };
-        let Some(address) = self.address(&base, offset) else {
+        let Some(address) = self.address(&base, offset, linked) else {
             return Ok(Outcome::Faults);
         };
         self.store_to(op, &base, address, value)
@@ -233,7 +319,8 @@ impl InterpreterState {
         address: u64,
         value: u64,
     ) -> Result<Outcome, AllocError>
-        ensures ok { IfOk result (λ o. Does (put_in_memory op base.now address value) o self.old self.new) }
+        ensures ok { IfOk result (λ o. (x : row.Base) → ShowsBase base.now x
+            → Does (put_in_memory op x address value) o self.old self.new) }
         ensures err { OnErr result (self.new ≡ self.old) }
     {
         let count = store_width(op);
@@ -291,8 +378,8 @@ impl InterpreterState {
         operands: &[Operand],
         answer: Option<&CallResult>,
     ) -> Result<Outcome, AllocError>
-        ensures ok { IfOk result (λ o. (name : List ℕ) → Acts (row.Calls name (implicit_uses operands.now))
-            (option_copied answer.entry) o self.old self.new) }
+        ensures ok { IfOk result (λ o. (call : CallSite) → callee_reads call.callee ++ call.args ≡ implicit_uses operands.now
+            → Acts (row.Calls call) (option_copied answer.entry) o self.old self.new) }
         ensures err { OnErr result (self.new ≡ self.old) }
     {
         if !self.are_written(operands) {
@@ -318,8 +405,8 @@ impl InterpreterState {
     }
 
     fn finish(&self, operands: &[Operand]) -> Outcome
-        ensures { (answer : Option CallResult)
-            → Acts (row.Returns (implicit_uses operands.now)) answer result self.now self.now }
+        ensures { (ending : Ending row.Callee) → way_reads ending.way ++ ending.values ≡ implicit_uses operands.now
+            → (answer : Option CallResult) → Acts (row.Returns ending) answer result self.now self.now }
     {
         if self.are_written(operands) {
             Outcome::Returns

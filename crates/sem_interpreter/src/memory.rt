@@ -2,7 +2,7 @@
 
 ghost use Rattle.std.specs.Prelude.{◌≡◌, ◌<◌, ◌≤◌, ◌*◌, ◌^◌, ℕ, IfOk, OnOk, OnErr};
 ghost use Rattle.sem_mir.specs.State.{spelled, stored, low_bytes, written};
-ghost use Rattle.sem_interpreter.specs.Held.{MemoryHolds, number_in, some_writes};
+ghost use Rattle.sem_interpreter.specs.Memory.{MemoryHolds, number_in, some_writes};
 
 use indexmap::IndexMap;
 use std::alloc::{AllocError, Global};

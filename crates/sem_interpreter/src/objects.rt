@@ -2,10 +2,10 @@
 
 ghost use Rattle.std.specs.Prelude.{◌≡◌, IfOk};
 ghost use Rattle.mir_func.specs.Objects.{offset_of};
-ghost use Rattle.sem_interpreter.specs.Held.{number_in};
+ghost use Rattle.sem_interpreter.specs.Memory.{number_in};
 ghost use Rattle.sem_interpreter.specs.Places.{ObjectsHold};
 
-use base_ids::code::ObjectId;
+use base_ids::function_ids::ObjectId;
 use indexmap::IndexMap;
 use mir_func::object::Object;
 use std::alloc::{AllocError, Global};

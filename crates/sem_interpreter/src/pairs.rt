@@ -8,7 +8,7 @@ ghost use Rattle.sem_interpreter.specs.Places.{RegistersHold};
 ghost use Rattle.sem_interpreter.specs.StandsFor.{PairsHold};
 
 use crate::registers::Registers;
-use base_ids::code::DebugNumber;
+use base_ids::function_ids::DebugNumber;
 use indexmap::IndexMap;
 use rv64_instr::operand::Operand;
 use sem_mir::operand::defined;

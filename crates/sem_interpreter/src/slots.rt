@@ -5,7 +5,7 @@ ghost use Rattle.std.specs.Map.{lookup};
 ghost use Rattle.sem_mir.specs.State.{updated};
 ghost use Rattle.sem_interpreter.specs.Places.{SlotsHold};
 
-use base_ids::code::SlotId;
+use base_ids::function_ids::SlotId;
 use indexmap::IndexMap;
 use std::alloc::{AllocError, Global};
 use std::marker::Model;

@@ -1,17 +1,19 @@
 -- What location lists guarantee of a run of the machine: the theorem that the compiler's top call states.
 use Rattle.std.specs.Prelude.{◌≡◌, ◌⊎◌, ℕ, List, ◌∷◌, Option, Some, false, true, All}
 use Rattle.rv64_instr.specs.declared.place.Place.{Place}
+use Rattle.rv64_instr.specs.Row.{way_leads_back}
 use Rattle.mir_func.specs.declared.debug_substitution.OperandPair.{OperandPair}
 use Rattle.mir_func.specs.declared.variable.VarId.{VarId}
 use Rattle.mir_func.specs.Function.{Function}
 use Rattle.mir_func.specs.Objects.{area_of}
 use Rattle.mir_func.specs.SoundFrame.{SAVED}
 use Rattle.mir_func.specs.Variables.{part_value}
-use Rattle.sem_mir.specs.State.{State}
+use Rattle.sem_mir.specs.State.{State, RunResult}
 use Rattle.sem_mir.specs.Step.{Returned, step}
 use Rattle.mir_func.specs.Graph.{Program, program_of}
-use Rattle.sem_mir.specs.Follow.{first_of, IsStart}
-use Rattle.sem_mir.specs.Align.{position_of, waits_at, since_of, Since, Start, First, MatchesNext, FailsBefore, Tells}
+use Rattle.mir_func.specs.Positions.{position_of}
+use Rattle.sem_mir.specs.InitialState.{first_of, IsInitialState}
+use Rattle.sem_mir.specs.Align.{waits_at, since_of, Since, Start, First, MatchesNext, FailsBefore, Tells}
 use Rattle.sem_machine.specs.Image.{CodeLine, Image, line_at}
 use Rattle.sem_machine.specs.Machine.{Machine, register, place_content, machine_start}
 use Rattle.sem_machine.specs.MachineStep.{Continues, Ends, machine_step, Comes, IsWell}
@@ -34,7 +36,7 @@ pub data MachineAlong (src : Program) (image : Image) (m0 : Machine) (s0 : State
 
 -- a start state of the function
 abbrev pub StartsAt : Function → State → Type 0
-StartsAt f s = IsStart f.objects (first_of f.blocks) s
+StartsAt f s = IsInitialState f.objects (first_of f.blocks) s
 
 -- the registers that have their content at entry when a function returns: the stack pointer, the return address and the
 -- callee-saved registers (RISC-V ELF psABI, "Integer Register Convention")
@@ -42,12 +44,12 @@ abbrev pub KEPT : List ℕ
 KEPT = 2 ∷ SAVED
 
 -- what agrees in matching states, m of the machine, whose run began at m0, and s of the source: the stores and calls so far are
--- the same; if the machine returns next, so does the source, with the same results, and the registers of KEPT are as at m0; and
--- each location that a list names for a part of a variable has the value of its newest assignment
+-- the same; if the machine ends next, so does the source, with the same result, and where its way leads back to the caller the registers of KEPT
+-- are as at m0; and each location that a list names for a part of a variable has the value of its newest assignment
 pub record MachineAgrees (src : Program) (image : Image) (lists : VarId → ℕ → Place → Type 0) (m0 m : Machine) (s : State) : Type 0 where
   pub events : m.events ≡ s.core.events
-  pub returns : (results : List ℕ) → machine_step image m ≡ Ends results → step src s ≡ Returned results
-  pub kept : (results : List ℕ) → machine_step image m ≡ Ends results → All (λ r. register m r ≡ register m0 r) KEPT
+  pub returns : (result : RunResult) → machine_step image m ≡ Ends result → step src s ≡ Returned result
+  pub kept : (result : RunResult) → machine_step image m ≡ Ends result → way_leads_back result.way ≡ true → All (λ r. register m r ≡ register m0 r) KEPT
   pub places : (v : VarId) (place : Place) → lists v m.counter place → Tells s v (part_value v (place_content place m))
 
 -- the theorem, of a source, its image and its location lists: for every start state, script and number of machine steps

@@ -3,17 +3,19 @@ use Rattle.std.specs.Prelude.{ℕ, zero, suc, ◌+◌, ◌%◌, ◌^◌, List, [
 use Rattle.rv64_instr.specs.declared.place.Place.{Place}
 use Rattle.rv64_instr.specs.declared.place.Place.TheVariants.{Register, Slot, Const}
 use Rattle.rv64_instr.specs.Arithmetic.{word}
-use Rattle.rv64_instr.specs.declared.decoded.Input.{Input}
-use Rattle.rv64_instr.specs.declared.decoded.Input.TheVariants.{Content, Number}
+use Rattle.rv64_instr.specs.Linked.{linked_value}
+use Rattle.rv64_instr.specs.Row.{Input, Content, Number, PartOf}
+use Rattle.rv64_instr.specs.declared.symbol.Symbol.{Symbol}
 use Rattle.sem_mir.specs.State.{Event, Reply, State, updated, spelled}
 use Rattle.sem_mir.specs.Step.{read}
 use Rattle.sem_machine.specs.Image.{Image}
 
--- the content of x2 at entry, the bytes right below it that stack objects take together, the program counter, 32 registers, the
+-- the content of x2 at entry, the bytes right below it that stack objects take together, the address of each symbol, the program counter, 32 registers, the
 -- bytes of memory, the replies to calls that are left, and the events so far, the newest first
 pub record Machine : Type 0 where
   pub entry : ℕ
   pub area : ℕ
+  pub symbols : Symbol → ℕ
   pub counter : ℕ
   pub regs : ℕ → ℕ
   pub memory : ℕ → ℕ
@@ -29,10 +31,11 @@ register_in regs (suc r) = regs (suc r)
 abbrev pub register : Machine → ℕ → ℕ
 register s r = register_in s.regs r
 
--- the second operand of arithmetic: the content of a register, or an immediate
+-- the second operand of arithmetic: the content of a register, a number, or the value of a half of an address, which no word has
 abbrev pub input : Machine → Input → ℕ
 input s (Content r) = register s r
 input s (Number n) = n
+input s (PartOf half y) = linked_value s.symbols half y
 
 -- a register set: x0 drops writes
 abbrev pub set_in : (r v : ℕ) → (ℕ → ℕ) → ℕ → ℕ
@@ -56,7 +59,16 @@ place_content (Register r) s = register s r
 place_content (Slot n) s = spelled s.memory (address_of s 2 n) 8
 place_content (Const c) s = word c
 
--- the machine's start state for a start state of the source: the same registers, memory and script
+-- the machine's start state for a start state of the source: the same symbols, registers, memory and script
 abbrev pub machine_start : Image → State → Machine
 machine_start image s =
-    record { entry = s.core.entry; area = image.area; counter = image.low; regs = read s.core; memory = s.core.memory; script = s.core.script; events = [] }
+    record {
+      entry = s.core.entry;
+      area = image.area;
+      symbols = s.core.symbols;
+      counter = image.low;
+      regs = read s.core;
+      memory = s.core.memory;
+      script = s.core.script;
+      events = [];
+    }

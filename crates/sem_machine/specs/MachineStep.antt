@@ -1,23 +1,27 @@
 -- The step function of the machine, by the words of the image and the table of rows.
 use Rattle.std.specs.Prelude.{◌≡◌, ℕ, ◌+◌, ◌*◌, ◌/◌, ◌%◌, ◌^◌, List, [], ◌∷◌, length, map, Option, Some, None, cond, nat_eq, nat_lt, ◌&&◌}
 use Rattle.rv64_instr.specs.Arithmetic.{computed, taken, load_width, store_width, extended}
-use Rattle.rv64_instr.specs.declared.decoded.Base.TheVariants.{PointedBy, ObjectAt}
+use Rattle.rv64_instr.specs.Row.{PointedBy, ObjectAt, BesidePart}
 use Rattle.rv64_instr.specs.Row.{Row, Fixes, Moves, Sets, Addresses, Loads, Stores, LoadsSlot, StoresSlot, Branches, Jumps, Calls, Returns, Unfit}
-use Rattle.rv64_instr.specs.Row.{row_of, implicit_uses}
+use Rattle.rv64_instr.specs.Row.{row_of, implicit_uses, Callee, Named, Held, CallSite, Back, Way, Tail, Never, Ending}
 use Rattle.rv64_instr.specs.DefsAndUses.{caller_saved}
+use Rattle.rv64_instr.specs.declared.start.CallTarget.{CallTarget}
+use Rattle.rv64_instr.specs.declared.start.CallTarget.TheVariants.{Function, Address}
 use Rattle.rv64_word.specs.declared.machine_op.MachineOp.{MachineOp}
 use Rattle.rv64_word.specs.MachineRow.{MachineRow, Does, Links, LinksTo, machine_row}
-use Rattle.sem_mir.specs.State.{Called, Wrote, Event, Reply, spelled, low_bytes, stored, written, updated, in_frame, touches_frame}
+use Rattle.sem_mir.specs.State.{Called, Wrote, Event, Reply, spelled, low_bytes, stored, written, updated, in_frame, touches_frame, RunResult}
 use Rattle.sem_machine.specs.Image.{CodeLine, Image, line_at, word_at}
 use Rattle.rv64_word.specs.Decoded.{decoded}
+use Rattle.rv64_word.specs.Linked.{linked_word}
+use Rattle.std.specs.Option.{option_map}
 use Rattle.sem_machine.specs.Machine.{Machine, register, input, set_in, set_all_in, address_of}
 
 -- the result of a step
 pub data Stepped : Type 0 where
   -- the run goes on
   Continues : Machine → Stepped
-  -- the function returns
-  Ends : (results : List ℕ) → Stepped
+  -- the run ends
+  Ends : (result : RunResult) → Stepped
   -- the machine waits, since no reply is left for its call
   Awaits : Stepped
   -- the machine stops: no line with code is at the counter
@@ -49,7 +53,7 @@ shown_store a bytes s = cond (touches_frame s.entry s.area a (length bytes)) s.e
 abbrev pub store : (address : ℕ) → List ℕ → Machine → Machine
 store a bytes s = record s { memory = stored s.memory a bytes; events = shown_store a bytes s }
 
--- the step of a word whose operation has this row. No word has the row of a slot, a stack object, a call or a return
+-- the step of a word whose operation has this row. No word has the row of a slot, a stack object, a half of an address, a call or a return
 unfoldable pub does_row : Row → Machine → Stepped
 does_row (Fixes rd n) s = Continues (past 4 (set_register rd n s))
 does_row (Moves rd rs) s = Continues (past 4 (set_register rd (register s rs) s))
@@ -58,15 +62,17 @@ does_row (Addresses rd n offset) s = BadWord
 does_row (Loads rd op (PointedBy r) offset) s =
     Continues (past 4 (set_register rd (extended op (spelled s.memory (address_of s r offset) (load_width op))) s))
 does_row (Loads rd op (ObjectAt n) offset) s = BadWord
+does_row (Loads rd op (BesidePart r y) offset) s = BadWord
 does_row (Stores op rs (PointedBy r) offset) s =
     Continues (past 4 (store (address_of s r offset) (low_bytes (store_width op) (register s rs)) s))
 does_row (Stores op rs (ObjectAt n) offset) s = BadWord
+does_row (Stores op rs (BesidePart r y) offset) s = BadWord
 does_row (LoadsSlot rd n) s = BadWord
 does_row (StoresSlot rs n) s = BadWord
 does_row (Branches op a b target) s = Continues (cond (taken op (register s a) (register s b)) (at target s) (past 4 s))
 does_row (Jumps target) s = Continues (at target s)
-does_row (Calls name args) s = BadWord
-does_row (Returns results) s = BadWord
+does_row (Calls call) s = BadWord
+does_row (Returns ending) s = BadWord
 does_row Unfit s = BadWord
 
 -- the step of a word. A jump to a register's content clears bit 0 of its target
@@ -84,7 +90,9 @@ does_operation (Some m) s = does (machine_row s.counter m) s
 -- without x2, as results
 abbrev pub does_word : CodeLine → Option ℕ → Machine → Stepped
 does_word l None s = BadWord
-does_word l (Some w) s = cond (nat_eq w return_word) (Ends (map (register s) (implicit_uses l.instruction.operands))) (does_operation (decoded w) s)
+does_word l (Some w) s =
+    cond (nat_eq w return_word) (Ends (record { way = Back; values = map (register s) (implicit_uses l.instruction.operands) }))
+    (does_operation (decoded w) s)
 
 -- memory with the bytes that a callee leaves in its own frame. Of these writes those count that are to bytes of the frame below the
 -- caller's stack pointer (RISC-V ELF psABI, "Integer Calling Convention"); the others write nothing
@@ -97,23 +105,62 @@ left_below entry area pointer m (w ∷ ws) =
 abbrev pub memory_after : Reply → Machine → ℕ → ℕ
 memory_after r s = left_below s.entry s.area (register s 2) (written s.memory r.writes) r.below
 
--- the step of a call: it adds its event, the next reply sets the caller-saved registers, writes its bytes and leaves its frame's, and
--- the counter advances past the call's two words
-abbrev pub answered : (name args : List ℕ) → Machine → List Reply → Stepped
-answered name args s [] = Awaits
-answered name args s (r ∷ rest) =
-    let regs = set_all_in caller_saved r.regs s.regs in
-    Continues (past 8 (record s { regs = regs; memory = memory_after r s; script = rest; events = Called name args ∷ s.events }))
+-- the bytes of a call: one by its callee's name has two words, which get the function's address when the program is linked, and one by a register has one
+abbrev pub callee_size : Callee → ℕ
+callee_size (Named name) = 8
+callee_size (Held r) = 4
 
--- the name and the argument registers of a call
-abbrev pub call_of : Row → Option (List ℕ × List ℕ)
-call_of (Calls name args) = Some (name, args)
+-- the step of a call of so many bytes: it adds its event, the next reply sets the caller-saved registers, writes its bytes and leaves its frame's, and the
+-- counter advances past the call
+abbrev pub step_call : (size : ℕ) → CallTarget → (args : List ℕ) → Machine → List Reply → Stepped
+step_call size target args s [] = Awaits
+step_call size target args s (r ∷ rest) =
+    let regs = set_all_in caller_saved r.regs s.regs in
+    Continues (past size (record s { regs = regs; memory = memory_after r s; script = rest; events = Called target args ∷ s.events }))
+
+-- what a callee is when the call is made: the function of its name, or the code at the address that its register holds
+abbrev pub called_at : Machine → Callee → CallTarget
+called_at s (Named name) = Function name
+called_at s (Held r) = Address (register s r)
+
+-- the way on which control leaves the function, when it does
+abbrev pub way_at : Machine → Way Callee → Way CallTarget
+way_at s Back = Back
+way_at s (Tail callee) = Tail (called_at s callee)
+way_at s (Never callee) = Never (called_at s callee)
+
+-- the result of a run that ends so
+abbrev pub result_at : Machine → Ending Callee → RunResult
+result_at s ending = record { way = way_at s ending.way; values = map (register s) ending.values }
+
+-- the callee and the argument registers of a call
+abbrev pub call_of : Row → Option CallSite
+call_of (Calls call) = Some call
 call_of _ = None
 
--- the step at a line: a call site calls, and any other line runs the word at the counter
-abbrev pub does_line : Image → CodeLine → (call : Option (List ℕ × List ℕ)) → Machine → Stepped
-does_line image l (Some (name, args)) s = answered name (map (register s) args) s s.script
-does_line image l None s = does_word l (word_at image.text s.counter) s
+-- how control leaves the function for a callee, if it does
+abbrev pub elsewhere : Ending Callee → Way Callee → Option (Ending Callee)
+elsewhere ending Back = None
+elsewhere ending (Tail callee) = Some ending
+elsewhere ending (Never callee) = Some ending
+
+abbrev pub left_by : Row → Option (Ending Callee)
+left_by (Returns ending) = elsewhere ending ending.way
+left_by _ = None
+
+-- the word at the counter as it is when the program is linked: with the half of an address that the line's instruction names
+abbrev pub linked_at : Image → CodeLine → Machine → Option ℕ
+linked_at image l s = option_map (linked_word s.symbols (row_of l.instruction)) (word_at image.text s.counter)
+
+-- the step at a line that calls nothing: where control leaves the function for a callee the run ends, and any other line runs the word at the counter
+abbrev pub does_left : CodeLine → (left : Option (Ending Callee)) → Option ℕ → Machine → Stepped
+does_left l (Some ending) w s = Ends (result_at s ending)
+does_left l None w s = does_word l w s
+
+-- the step at a line: a call site calls
+abbrev pub does_line : Image → CodeLine → (call : Option CallSite) → Machine → Stepped
+does_line image l (Some call) s = step_call (callee_size call.callee) (called_at s call.callee) (map (register s) call.args) s s.script
+does_line image l None s = does_left l (left_by (row_of l.instruction)) (linked_at image l s) s
 
 -- the step at the line at the counter. Without one the machine has left the function
 abbrev pub does_at : Image → Option CodeLine → Machine → Stepped

@@ -8,8 +8,10 @@ use Rattle.rv64_instr.specs.Arithmetic.{taken, load_width, store_width, extended
 use Rattle.rv64_instr.specs.DefsAndUses.{reads}
 use Rattle.sem_mir.specs.State.{State, Core, Reply, spelled, low_bytes, writes_frame, updated}
 use Rattle.sem_mir.specs.Step.{Went, Outcome, Falls, Goes, Gives, Traps, Asks, Breaks, moved, read, address_at, is_fault, part_of, set_register, saved}
-use Rattle.sem_mir.specs.Step.{answered, slot_loaded, does, act, are_written, numbered, with_core, mark_value, place_value, do_item, do_fetch, step}
-use Rattle.rv64_instr.specs.Parts.{is_call}
+use Rattle.sem_mir.specs.Step.{exec_external_call, slot_loaded, does, act, are_written, numbered, with_core, mark_value, place_value, do_item, do_fetch, step}
+use Rattle.sem_mir.specs.Step.{called_at}
+use Rattle.rv64_instr.specs.LocationEffects.{is_call}
+use Rattle.rv64_instr.specs.declared.start.CallTarget.{CallTarget}
 use Rattle.sem_mir.proofs.Outcomes.{after_reply}
 use Rattle.mir_func.specs.Graph.{Program, Fetch, Here, EndOfBlock, Outside, below, block_start, Edge, FetchEdge, KindEdge, RowEdge, Leads, stay, go}
 
@@ -39,10 +41,10 @@ module _ (enter : ℕ → ℕ) (p : Pos) where
     by_slot None = tt
     by_slot (Some v) = refl
   does_allows (Branches op a b t) c = either (Branches op a b t) (taken op (read c a) (read c b)) (Goes t c) (Falls c) (inl refl) (inr refl)
-  does_allows (Calls name args) c = by_script (map (read c) args) c.script where
-    by_script : (vs : List ℕ) (rs : List Reply) → Allows enter (Calls name args) p (answered name vs c rs)
-    by_script vs [] = tt
-    by_script vs (r ∷ rs) = either (Calls name args) (writes_frame c.entry c.area r.writes) Traps (Falls (after_reply name vs c r rs)) tt refl
+  does_allows (Calls call) c = by_script (called_at c call.callee) (map (read c) call.args) c.script where
+    by_script : (t : CallTarget) (vs : List ℕ) (rs : List Reply) → Allows enter (Calls call) p (exec_external_call t vs c rs)
+    by_script t vs [] = tt
+    by_script t vs (r ∷ rs) = either (Calls call) (writes_frame c.entry c.area r.writes) Traps (Falls (after_reply t vs c r rs)) tt refl
   does_allows (Returns v) c = tt
   does_allows Unfit c = tt
   does_allows _ c = refl

@@ -7,18 +7,22 @@ use Rattle.rv64_instr.specs.declared.op.LoadOp.{LoadOp}
 use Rattle.rv64_instr.specs.declared.op.StoreOp.{StoreOp}
 use Rattle.rv64_instr.specs.declared.place.Place.{Place}
 use Rattle.rv64_instr.specs.declared.place.Place.TheVariants.{Register, Slot, Const}
+use Rattle.rv64_instr.specs.declared.symbol.Half.TheVariants.{Lower}
+use Rattle.rv64_instr.specs.Linked.{linked_value}
 use Rattle.rv64_instr.specs.Arithmetic.{computed, taken, load_width, store_width, extended}
 use Rattle.rv64_instr.specs.Row.{Row, Fixes, Moves, Sets, Addresses, Loads, Stores, LoadsSlot, StoresSlot, Branches, Jumps, Calls, Returns, Unfit}
-use Rattle.rv64_instr.specs.declared.decoded.Input.TheVariants.{Content, Number}
-use Rattle.rv64_instr.specs.declared.decoded.Base.{Base}
-use Rattle.rv64_instr.specs.declared.decoded.Base.TheVariants.{PointedBy, ObjectAt}
-use Rattle.rv64_instr.specs.DefsAndUses.{caller_saved, base_reads, reads, sets}
+use Rattle.rv64_instr.specs.Row.{Callee, Named, Held, Way, Back, Tail, Never}
+use Rattle.rv64_instr.specs.Row.{Content, Number, PartOf}
+use Rattle.rv64_instr.specs.Row.{Base, PointedBy, ObjectAt, BesidePart}
+use Rattle.rv64_instr.specs.DefsAndUses.{caller_saved, base_reads, reads, sets, callee_reads, way_reads}
+use Rattle.rv64_instr.specs.declared.start.CallTarget.{CallTarget}
+use Rattle.rv64_instr.specs.declared.start.CallTarget.TheVariants.{Function, Address}
 use Rattle.mir_func.specs.declared.variable.VarId.{VarId}
 use Rattle.sem_mir.specs.State.{Reply, Core, content, updated, put, put_all, spelled, low_bytes, writes_frame}
-use Rattle.sem_mir.specs.Step.{Outcome, Falls, Goes, Traps, or_zero, read, input_value, base_value, address_at, is_fault, set_register, answered}
-use Rattle.sem_mir.specs.Step.{slot_loaded, loaded, saved, put_in_memory, does, are_written, act, with_core}
+use Rattle.sem_mir.specs.Step.{Outcome, Falls, Goes, Traps, or_zero, read, input_value, base_value, address_at, is_fault, set_register, exec_external_call}
+use Rattle.sem_mir.specs.Step.{slot_loaded, loaded, saved, put_in_memory, does, are_written, act, with_core, Gives, called_at, way_at}
 use Rattle.sem_mir.specs.Effects.{held_in, OnCore, EndAlike, SameWorld}
-use Rattle.sem_mir.proofs.Places.{put_other, put_all_other, updated_same, updated_other, contains_head, contains_tail}
+use Rattle.sem_mir.proofs.Places.{put_other, put_all_other, updated_same, updated_other, contains_head, contains_tail, contains_front, contains_back}
 use Rattle.sem_mir.proofs.Outcomes.{after_reply, on_either, alike_either}
 
 -- code neither reads nor sets pairs and marks
@@ -35,19 +39,43 @@ module _ (pairs : ℕ → ℕ → Option ℕ) (marks : List (VarId × Option ℕ
   unfolding does
   does_apart (Sets rd op a (Content b)) c = refl
   does_apart (Sets rd op a (Number n)) c = refl
+  does_apart (Sets rd op a (PartOf half y)) c = refl
   does_apart (Loads rd op (PointedBy b) o) c = apart_either (is_fault (PointedBy b) c (address_at c (PointedBy b) o) (load_width op)) _ _ _ _ refl refl
   does_apart (Loads rd op (ObjectAt n) o) c = refl
+  does_apart (Loads rd op (BesidePart b y) o) c =
+      apart_either (is_fault (BesidePart b y) c (address_at c (BesidePart b y) o) (load_width op)) _ _ _ _ refl refl
   does_apart (Stores op rs (PointedBy b) o) c = apart_either (is_fault (PointedBy b) c (address_at c (PointedBy b) o) (store_width op)) _ _ _ _ refl refl
   does_apart (Stores op rs (ObjectAt n) o) c = refl
+  does_apart (Stores op rs (BesidePart b y) o) c =
+      apart_either (is_fault (BesidePart b y) c (address_at c (BesidePart b y) o) (store_width op)) _ _ _ _ refl refl
   does_apart (LoadsSlot rd n) c = by_slot (c.slots n) where
     by_slot : (x : Option ℕ) → slot_loaded rd (told_by pairs marks c) x ≡ with_core (told_by pairs marks) (slot_loaded rd c x)
     by_slot None = refl
     by_slot (Some v) = refl
   does_apart (Branches op a b t) c = apart_either (taken op (read c a) (read c b)) _ _ _ _ refl refl
-  does_apart (Calls name args) c = by_script (map (read c) args) c.script where
-    by_script : (vs : List ℕ) (rs : List Reply) → answered name vs (told_by pairs marks c) rs ≡ with_core (told_by pairs marks) (answered name vs c rs)
-    by_script vs [] = refl
-    by_script vs (r ∷ rs) = apart_either (writes_frame c.entry c.area r.writes) _ _ _ _ refl refl
+  does_apart (Calls call) c = by_callee call.callee (map (read c) call.args) c.script where
+    by_script : (t : CallTarget) (vs : List ℕ) (rs : List Reply) →
+        exec_external_call t vs (told_by pairs marks c) rs ≡ with_core (told_by pairs marks) (exec_external_call t vs c rs)
+    by_script t vs [] = refl
+    by_script t vs (r ∷ rs) = apart_either (writes_frame c.entry c.area r.writes) _ _ _ _ refl refl
+
+    by_callee : (callee : Callee) (vs : List ℕ) (rs : List Reply) →
+        exec_external_call (called_at (told_by pairs marks c) callee) vs (told_by pairs marks c) rs ≡
+        with_core (told_by pairs marks) (exec_external_call (called_at c callee) vs c rs)
+    by_callee (Named name) vs rs = by_script (Function name) vs rs
+    by_callee (Held r) vs rs = by_script (Address (read c r)) vs rs
+  does_apart (Returns ending) c = by_way ending.way where
+    by_callee : (callee : Callee) → called_at (told_by pairs marks c) callee ≡ called_at c callee
+    by_callee (Named name) = refl
+    by_callee (Held r) = refl
+
+    given : Way CallTarget → Outcome
+    given way = Gives (record { way = way; values = map (read c) ending.values })
+
+    by_way : (way : Way Callee) → given (way_at (told_by pairs marks c) way) ≡ given (way_at c way)
+    by_way Back = refl
+    by_way (Tail callee) = ap (λ (t : CallTarget). given (Tail t)) (by_callee callee)
+    by_way (Never callee) = ap (λ (t : CallTarget). given (Never t)) (by_callee callee)
   does_apart _ c = refl
 
   pub act_apart : (r : Row) (c : Core) → act r (told_by pairs marks c) ≡ with_core (told_by pairs marks) (act r c)
@@ -111,16 +139,16 @@ module _ (x : Place) (c : Core) where
     by_place (Const z) ne = refl
   does_keeps (Branches op a b t) ne = on_either (Keeps x c) (taken op (read c a) (read c b)) (Goes t c) (Falls c) refl refl
   does_keeps (Jumps t) ne = refl
-  does_keeps (Calls name args) ne = by_script (map (read c) args) c.script where
-    by_place : (y : Place) (vs : List ℕ) (r : Reply) (rs : List Reply) → (RowDefines (Calls name args) y → ⊥) → Keeps y c (after_reply name vs c r rs)
-    by_place (Register q) vs r rs ne = put_all_other caller_saved r.regs q c.regs ne
-    by_place (Slot n) vs r rs ne = refl
-    by_place (Const z) vs r rs ne = refl
+  does_keeps (Calls call) ne = by_script (called_at c call.callee) (map (read c) call.args) c.script where
+    by_place : (y : Place) (t : CallTarget) (vs : List ℕ) (r : Reply) (rs : List Reply) → (RowDefines (Calls call) y → ⊥) → Keeps y c (after_reply t vs c r rs)
+    by_place (Register q) t vs r rs ne = put_all_other caller_saved r.regs q c.regs ne
+    by_place (Slot n) t vs r rs ne = refl
+    by_place (Const z) t vs r rs ne = refl
 
-    by_script : (vs : List ℕ) (rs : List Reply) → OnCore (Keeps x c) (answered name vs c rs)
-    by_script vs [] = tt
-    by_script vs (r ∷ rs) = on_either (Keeps x c) (writes_frame c.entry c.area r.writes) Traps (Falls (after_reply name vs c r rs)) tt
-        (by_place x vs r rs ne)
+    by_script : (t : CallTarget) (vs : List ℕ) (rs : List Reply) → OnCore (Keeps x c) (exec_external_call t vs c rs)
+    by_script t vs [] = tt
+    by_script t vs (r ∷ rs) = on_either (Keeps x c) (writes_frame c.entry c.area r.writes) Traps (Falls (after_reply t vs c r rs)) tt
+        (by_place x t vs r rs ne)
   does_keeps (Returns v) ne = tt
   does_keeps Unfit ne = tt
 
@@ -169,11 +197,22 @@ module _ (c : Core) (regs slots : ℕ → Option ℕ) (pairs : ℕ → ℕ → O
   read_alike r u q k = ap or_zero (u (Register q) k)
 
   same_world : SameWorld c d
-  same_world = record { entry = refl; area = refl; objects = refl; memory = refl; script = refl; events = refl }
+  same_world = record { entry = refl; area = refl; objects = refl; symbols = refl; memory = refl; script = refl; events = refl }
 
   set_alike : (r : Row) (rd v w : ℕ) → ((q : ℕ) → q ≡ rd → RowDefines r (Register q)) → ((q : ℕ) → RowDefines r (Register q) → q ≡ rd) →
       ((n : ℕ) → RowDefines r (Slot n) → ⊥) → v ≡ w → Agreeing r c d (set_register rd v c) (set_register rd w d)
-  set_alike r rd v w on only slotless e = (record { entry = refl; area = refl; objects = refl; memory = refl; script = refl; events = refl }, by_place) where
+  set_alike r rd v w on only slotless e = (
+    record {
+      entry = refl;
+      area = refl;
+      objects = refl;
+      symbols = refl;
+      memory = refl;
+      script = refl;
+      events = refl;
+    },
+    by_place,
+  ) where
     by_place : (x : Place) → RowDefines r x ⊎ (held_in x c ≡ held_in x d) → held_in x (set_register rd v c) ≡ held_in x (set_register rd w d)
     by_place (Register q) h = subst (λ (z : ℕ). content (put rd v c.regs) q ≡ content (put rd z regs) q) e
         (agree_put rd v q c.regs regs (λ ne. elim h as (λ _. content c.regs q ≡ content regs q) [ inl k ↦ absurd (ne (only q k)) | inr k ↦ k ]))
@@ -194,10 +233,13 @@ module _ (c : Core) (regs slots : ℕ → Option ℕ) (pairs : ℕ → ℕ → O
   base_alike : (r : Row) → UsesAlike r → (b : Base) → ((q : ℕ) → Contains (base_reads b) q → Contains (reads r) q) → base_value c b ≡ base_value d b
   base_alike r u (PointedBy q) in' = read_alike r u q (in' q (contains_head q []))
   base_alike r u (ObjectAt n) in' = refl
+  base_alike r u (BesidePart q y) in' =
+      ap (λ (z : ℕ). (z + linked_value c.symbols Lower y) % 2 ^ 64) (read_alike r u q (in' q (contains_head q [])))
 
   fault_alike : (b : Base) (a n : ℕ) → is_fault b c a n ≡ is_fault b d a n
   fault_alike (PointedBy q) a n = refl
   fault_alike (ObjectAt m) a n = refl
+  fault_alike (BesidePart q y) a n = refl
 
   loaded_alike : (rd : ℕ) (op : LoadOp) (b : Base) (o a : ℕ) → EndAlike (Agreeing (Loads rd op b o) c d) (loaded rd op b a c) (loaded rd op b a d)
   loaded_alike rd op b o a =
@@ -214,7 +256,7 @@ module _ (c : Core) (regs slots : ℕ → Option ℕ) (pairs : ℕ → ℕ → O
       let bytes = low_bytes (store_width op) v in
       subst (λ (z : Bool). EndAlike (Agreeing r c d) (put_in_memory op b a v c) (cond z Traps (Falls (saved a bytes d)))) (fault_alike b a (store_width op))
       (alike_either (Agreeing r c d) (is_fault b c a (store_width op)) Traps (Falls (saved a bytes c)) Traps (Falls (saved a bytes d)) tt
-      (record { entry = refl; area = refl; objects = refl; memory = refl; script = refl; events = refl }, by_place bytes)) where
+      (record { entry = refl; area = refl; objects = refl; symbols = refl; memory = refl; script = refl; events = refl }, by_place bytes)) where
         by_place : (bytes : List ℕ) (x : Place) → RowDefines (Stores op rs b o) x ⊎ (held_in x c ≡ held_in x d) →
             held_in x (saved a bytes c) ≡ held_in x (saved a bytes d)
         by_place bytes (Register q) h = elim h as (λ _. content c.regs q ≡ content regs q) [ inl k ↦ absurd (none_in q k) | inr k ↦ k ]
@@ -235,6 +277,16 @@ module _ (c : Core) (regs slots : ℕ → Option ℕ) (pairs : ℕ → ℕ → O
       let es = written_alike r u qs (λ p k. in' p (contains_tail q p qs k)) in
       λ i. e i && es i
 
+  callee_alike : (r : Row) → UsesAlike r → (callee : Callee) → ((q : ℕ) → Contains (callee_reads callee) q → Contains (reads r) q) →
+      called_at c callee ≡ called_at d callee
+  callee_alike r u (Named name) in' = refl
+  callee_alike r u (Held q) in' = ap Address (read_alike r u q (in' q (contains_head q [])))
+
+  way_alike : (r : Row) → UsesAlike r → (way : Way Callee) → ((q : ℕ) → Contains (way_reads way) q → Contains (reads r) q) → way_at c way ≡ way_at d way
+  way_alike r u Back in' = refl
+  way_alike r u (Tail callee) in' = ap (λ (t : CallTarget). Tail t) (callee_alike r u callee in')
+  way_alike r u (Never callee) in' = ap (λ (t : CallTarget). Never t) (callee_alike r u callee in')
+
   does_alike : (r : Row) → UsesAlike r → EndAlike (Agreeing r c d) (does r c) (does r d)
   unfolding does
   does_alike (Fixes rd n) u = set_alike (Fixes rd n) rd n n (λ q e. one_is rd q e) (λ q k. is_one rd q k) (λ m k. k) refl
@@ -250,6 +302,11 @@ module _ (c : Core) (regs slots : ℕ → Option ℕ) (pairs : ℕ → ℕ → O
       let r = Sets rd op a (Number n) in
       let ea = read_alike r u a (contains_head a []) in
       set_alike r rd (computed op (read c a) n) (computed op (read d a) n) (λ q e. one_is rd q e) (λ q k. is_one rd q k) (λ m k. k) (λ i. computed op (ea i) n)
+  does_alike (Sets rd op a (PartOf half y)) u =
+      let r = Sets rd op a (PartOf half y) in
+      let v = linked_value c.symbols half y in
+      let ea = read_alike r u a (contains_head a []) in
+      set_alike r rd (computed op (read c a) v) (computed op (read d a) v) (λ q e. one_is rd q e) (λ q k. is_one rd q k) (λ m k. k) (λ i. computed op (ea i) v)
   does_alike (Addresses rd n o) u =
       let a = address_at c (ObjectAt n) o in
       set_alike (Addresses rd n o) rd a a (λ q e. one_is rd q e) (λ q k. is_one rd q k) (λ m k. k) refl
@@ -268,7 +325,18 @@ module _ (c : Core) (regs slots : ℕ → Option ℕ) (pairs : ℕ → ℕ → O
         by_slot : (x : Option ℕ) → EndAlike (Agreeing (LoadsSlot rd n) c d) (slot_loaded rd c x) (slot_loaded rd d x)
         by_slot None = tt
         by_slot (Some v) = set_alike (LoadsSlot rd n) rd v v (λ q e. one_is rd q e) (λ q k. is_one rd q k) (λ m k. k) refl
-  does_alike (StoresSlot rs n) u = (record { entry = refl; area = refl; objects = refl; memory = refl; script = refl; events = refl }, by_place) where
+  does_alike (StoresSlot rs n) u = (
+    record {
+      entry = refl;
+      area = refl;
+      objects = refl;
+      symbols = refl;
+      memory = refl;
+      script = refl;
+      events = refl;
+    },
+    by_place,
+  ) where
     e : read c rs ≡ read d rs
     e = read_alike (StoresSlot rs n) u rs (contains_head rs [])
 
@@ -301,21 +369,28 @@ module _ (c : Core) (regs slots : ℕ → Option ℕ) (pairs : ℕ → ℕ → O
     none (Register q) k = none_in q k
     none (Slot n) k = k
     none (Const z) k = k
-  does_alike (Calls name args) u =
-      subst (λ (vs : List ℕ). EndAlike (Agreeing (Calls name args) c d) (answered name (map (read c) args) c c.script) (answered name vs d c.script))
-      (map_alike (Calls name args) u args (λ q k. k)) (by_script (map (read c) args) c.script) where
-        by_place : (x : Place) (vs : List ℕ) (r : Reply) (rs : List Reply) → RowDefines (Calls name args) x ⊎ (held_in x c ≡ held_in x d) →
-            held_in x (after_reply name vs c r rs) ≡ held_in x (after_reply name vs d r rs)
-        by_place (Register q) vs r rs h = agree_all caller_saved r.regs q c.regs regs
+  does_alike (Calls call) u =
+      let e = callee_alike (Calls call) u call.callee (λ q k. contains_front (callee_reads call.callee) call.args q k) in
+      let es = map_alike (Calls call) u call.args (λ q k. contains_back (callee_reads call.callee) call.args q k) in
+      let Goal : CallTarget → List ℕ → Type 0 = λ t vs. EndAlike (Agreeing (Calls call) c d) (does (Calls call) c) (exec_external_call t vs d c.script) in
+      subst (λ (vs : List ℕ). Goal (called_at d call.callee) vs) es (subst (λ (t : CallTarget). Goal t (map (read c) call.args)) e
+      (by_script (called_at c call.callee) (map (read c) call.args) c.script)) where
+        by_place : (x : Place) (t : CallTarget) (vs : List ℕ) (r : Reply) (rs : List Reply) → RowDefines (Calls call) x ⊎ (held_in x c ≡ held_in x d) →
+            held_in x (after_reply t vs c r rs) ≡ held_in x (after_reply t vs d r rs)
+        by_place (Register q) t vs r rs h = agree_all caller_saved r.regs q c.regs regs
             (λ out. elim h as (λ _. content c.regs q ≡ content regs q) [ inl k ↦ absurd (out k) | inr k ↦ k ])
-        by_place (Slot n) vs r rs h = elim h as (λ _. c.slots n ≡ slots n) [ inl k ↦ absurd k | inr k ↦ k ]
-        by_place (Const z) vs r rs h = refl
+        by_place (Slot n) t vs r rs h = elim h as (λ _. c.slots n ≡ slots n) [ inl k ↦ absurd k | inr k ↦ k ]
+        by_place (Const z) t vs r rs h = refl
 
-        by_script : (vs : List ℕ) (rs : List Reply) → EndAlike (Agreeing (Calls name args) c d) (answered name vs c rs) (answered name vs d rs)
-        by_script vs [] = tt
-        by_script vs (r ∷ rs) = alike_either (Agreeing (Calls name args) c d) (writes_frame c.entry c.area r.writes) Traps _ Traps _ tt
-            (record { entry = refl; area = refl; objects = refl; memory = refl; script = refl; events = refl }, λ x h. by_place x vs r rs h)
-  does_alike (Returns v) u = map_alike (Returns v) u v (λ q k. k)
+        by_script : (t : CallTarget) (vs : List ℕ) (rs : List Reply) →
+            EndAlike (Agreeing (Calls call) c d) (exec_external_call t vs c rs) (exec_external_call t vs d rs)
+        by_script t vs [] = tt
+        by_script t vs (r ∷ rs) = alike_either (Agreeing (Calls call) c d) (writes_frame c.entry c.area r.writes) Traps _ Traps _ tt
+            (record { entry = refl; area = refl; objects = refl; symbols = refl; memory = refl; script = refl; events = refl }, λ x h. by_place x t vs r rs h)
+  does_alike (Returns ending) u =
+      let e = way_alike (Returns ending) u ending.way (λ q k. contains_front (way_reads ending.way) ending.values q k) in
+      let es = map_alike (Returns ending) u ending.values (λ q k. contains_back (way_reads ending.way) ending.values q k) in
+      λ i. record { way = e i; values = es i }
   does_alike Unfit u = tt
 
   act_other : (r : Row) → UsesAlike r → EndAlike (Agreeing r c d) (act r c) (act r d)
@@ -331,6 +406,7 @@ act_alike r c d w u =
       entry = w.entry i;
       area = w.area i;
       objects = w.objects i;
+      symbols = w.symbols i;
       regs = d.regs;
       slots = d.slots;
       memory = w.memory i;

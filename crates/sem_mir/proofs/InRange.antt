@@ -4,22 +4,23 @@ use Rattle.std.proofs.Common.{cond, nat_eq, refl, sym, ap, ◌∙◌, subst, inl
 use Rattle.std.proofs.lemmas.Bool.{cases_lt}
 use Rattle.std.proofs.lemmas.List.Elements.{All-head, All-tail}
 use Rattle.rv64_instr.specs.declared.op.Op.{Op}
-use Rattle.rv64_instr.specs.declared.op.Op.TheVariants.{Registers, Immediate, Lui, Branch, Load, Store, Copy, PseudoBr, PseudoCall, PseudoRet}
+use Rattle.rv64_instr.specs.declared.op.Op.TheVariants.{Registers, Immediate, Lui, Branch, Load, Store, Copy}
+use Rattle.rv64_instr.specs.declared.op.Op.TheVariants.{PseudoBr, PseudoCall, PseudoRet, PseudoCallIndirect}
+use Rattle.rv64_instr.specs.declared.op.Op.TheVariants.{PseudoTail, PseudoTailIndirect, NoReturnCall, NoReturnCallIndirect}
 use Rattle.rv64_instr.specs.declared.op.ImmediateOp.{ImmediateOp}
 use Rattle.rv64_instr.specs.declared.op.ImmediateOp.TheVariants.{Addi}
 use Rattle.rv64_instr.specs.declared.op.LoadOp.{LoadOp}
 use Rattle.rv64_instr.specs.declared.op.LoadOp.TheVariants.{Lb, Lh, Lw, Ld, Lbu, Lhu, Lwu}
 use Rattle.rv64_instr.specs.declared.operand.Operand.{Operand}
-use Rattle.rv64_instr.specs.declared.operand.Operand.TheVariants.{Def, Use, Imm, Slot as SlotOperand, Object, Block, Symbol}
+use Rattle.rv64_instr.specs.declared.operand.Operand.TheVariants.{Def, Use, Imm, Slot as SlotOperand, Object, Part, Block, Symbol}
 use Rattle.rv64_instr.specs.declared.place.Place.{Place}
 use Rattle.rv64_instr.specs.declared.place.Place.TheVariants.{Register, Slot, Const}
 use Rattle.rv64_instr.specs.Instruction.{Instruction}
 use Rattle.rv64_instr.specs.Arithmetic.{word, computed, extended, load_width, store_width, taken}
 use Rattle.rv64_instr.specs.Row.{Row, Fixes, Moves, Sets, Addresses, Loads, Stores, LoadsSlot, StoresSlot, Branches, Jumps, Calls, Returns, Unfit, row_of}
 use Rattle.rv64_instr.specs.Row.{row_by, move_row, immediate_row, object_row}
-use Rattle.rv64_instr.specs.declared.decoded.Input.{Input}
-use Rattle.rv64_instr.specs.declared.decoded.Input.TheVariants.{Content, Number}
-use Rattle.rv64_instr.specs.declared.decoded.Base.TheVariants.{ObjectAt}
+use Rattle.rv64_instr.specs.Row.{Input, Content, Number, PartOf}
+use Rattle.rv64_instr.specs.Row.{ObjectAt, held_call, held_tail, held_gone, implicit_uses}
 use Rattle.rv64_instr.specs.DefsAndUses.{caller_saved, reads}
 use Rattle.mir_func.specs.declared.debug_substitution.OperandPair.{OperandPair}
 use Rattle.mir_func.specs.declared.object.Object.{Object as StackObject}
@@ -33,20 +34,23 @@ use Rattle.sem_mir.specs.State.{Reply, Core, State, updated, content, put, put_a
 use Rattle.sem_mir.specs.State.{IsReply, IsInRange}
 use Rattle.mir_func.specs.Variables.{is_same, overlaps, part_value}
 use Rattle.sem_mir.specs.Step.{Next, Went, Returned, Faulted, Waits, Lost, Outcome, Falls, Goes, Gives, Traps, Asks, Breaks, or_zero, read, input_value}
-use Rattle.sem_mir.specs.Step.{base_value, address_at, is_fault, part_of, set_register, answered, slot_loaded, saved, does, are_written, act, seen}
+use Rattle.sem_mir.specs.Step.{base_value, address_at, is_fault, part_of, set_register, exec_external_call}
+use Rattle.sem_mir.specs.Step.{slot_loaded, saved, does, are_written, act, seen, called_at}
 use Rattle.sem_mir.specs.Step.{defined, given, numbered, with_core, place_value, pair_value, mark_value, do_item, do_fetch, moved, step, after, run}
-use Rattle.rv64_instr.specs.Parts.{is_call}
+use Rattle.rv64_instr.specs.LocationEffects.{is_call}
+use Rattle.rv64_instr.specs.declared.start.CallTarget.{CallTarget}
 use Rattle.mir_func.specs.Graph.{Program, Fetch, Here, EndOfBlock, Outside, below, block_start}
-use Rattle.sem_mir.specs.Follow.{IsStart}
+use Rattle.sem_mir.specs.InitialState.{IsInitialState}
 use Rattle.sem_mir.specs.Effects.{OnCore}
 use Rattle.sem_mir.proofs.Outcomes.{after_reply, on_either}
 use Rattle.sem_mir.proofs.Assignments.{part_below}
-use Rattle.sem_mir.proofs.Range.{IsWord, reduced, word_in_range, extend32_in_range, computed_in_range, extended_in_range}
+use Rattle.sem_mir.proofs.Range.{IsWord, reduced, word_in_range, extend32_in_range, computed_in_range, extended_in_range, linked_in_range}
 
 -- the numbers of a row are below 2^64
 abbrev pub InputInRange : Input → Type 0
 InputInRange (Content r) = Unit {0}
 InputInRange (Number n) = IsWord n
+InputInRange (PartOf half y) = Unit {0}
 
 abbrev pub RowInRange : Row → Type 0
 RowInRange (Fixes rd n) = IsWord n
@@ -70,22 +74,43 @@ move_in_range : (rd rs : ℕ) → RowInRange (move_row rd rs)
 move_in_range rd zero = omega arith
 move_in_range rd (suc r) = tt
 
+held_call_in_range : (xs : List ℕ) → RowInRange (held_call xs)
+held_call_in_range [] = tt
+held_call_in_range (r ∷ xs) = tt
+
+held_tail_in_range : (xs : List ℕ) → RowInRange (held_tail xs)
+held_tail_in_range [] = tt
+held_tail_in_range (r ∷ xs) = tt
+
+held_gone_in_range : (xs : List ℕ) → RowInRange (held_gone xs)
+held_gone_in_range [] = tt
+held_gone_in_range (r ∷ xs) = tt
+
 by_op : (op : Op) (operands : List Operand) → RowInRange (row_by op operands)
 by_op (Registers op) (Def rd ∷ Use a ∷ Use b ∷ rest) = tt
 by_op (Immediate op) (Def rd ∷ Use a ∷ Imm i ∷ rest) = immediate_in_range op rd a (word i) (word_in_range i)
 by_op (Immediate op) (Def rd ∷ Object n ∷ Imm i ∷ rest) = object_in_range op rd n (word i) (word_in_range i)
+by_op (Immediate op) (Def rd ∷ Use a ∷ Part half y ∷ rest) = tt
 by_op Lui (Def rd ∷ Imm i ∷ rest) = extend32_in_range _
+by_op Lui (Def rd ∷ Part half y ∷ rest) = tt
 by_op (Branch op) (Use a ∷ Use b ∷ Block target ∷ rest) = tt
 by_op (Load op) (Def rd ∷ Use base ∷ Imm i ∷ rest) = word_in_range i
 by_op (Load op) (Def rd ∷ SlotOperand n ∷ rest) = tt
 by_op (Load op) (Def rd ∷ Object n ∷ Imm i ∷ rest) = word_in_range i
+by_op (Load op) (Def rd ∷ Use base ∷ Part half y ∷ rest) = omega arith
 by_op (Store op) (Use rs ∷ Use base ∷ Imm i ∷ rest) = word_in_range i
 by_op (Store op) (Use rs ∷ SlotOperand n ∷ rest) = tt
 by_op (Store op) (Use rs ∷ Object n ∷ Imm i ∷ rest) = word_in_range i
+by_op (Store op) (Use rs ∷ Use base ∷ Part half y ∷ rest) = omega arith
 by_op Copy (Def rd ∷ Use rs ∷ rest) = move_in_range rd rs
 by_op PseudoBr (Block target ∷ rest) = tt
 by_op PseudoCall (Symbol name ∷ rest) = tt
 by_op PseudoRet rest = tt
+by_op PseudoCallIndirect rest = held_call_in_range (implicit_uses rest)
+by_op PseudoTail (Symbol name ∷ rest) = tt
+by_op PseudoTailIndirect rest = held_tail_in_range (implicit_uses rest)
+by_op NoReturnCall (Symbol name ∷ rest) = tt
+by_op NoReturnCallIndirect rest = held_gone_in_range (implicit_uses rest)
 by_op _ _ = tt
 
 -- whatever the instruction
@@ -193,6 +218,7 @@ module _ (c : Core) (h : IsInRange c) where
   input_in_range : (b : Input) → InputInRange b → IsWord (input_value c b)
   input_in_range (Content r) k = read_in_range c h.regs r
   input_in_range (Number n) k = k
+  input_in_range (PartOf half y) k = linked_in_range c.symbols half y
 
   does_in_range : (r : Row) → RowInRange r → OnCore IsInRange (does r c)
   unfolding does
@@ -226,12 +252,12 @@ module _ (c : Core) (h : IsInRange c) where
   }
   does_in_range (Branches op a b t) k = on_either IsInRange (taken op (read c a) (read c b)) (Goes t c) (Falls c) h h
   does_in_range (Jumps t) k = h
-  does_in_range (Calls name args) k = by_script (map (read c) args) c.script h.script where
-    by_script : (vs : List ℕ) (rs : List Reply) → All IsReply rs → OnCore IsInRange (answered name vs c rs)
-    by_script vs [] k = tt
-    by_script vs (r ∷ rs) k =
+  does_in_range (Calls call) k = by_script (called_at c call.callee) (map (read c) call.args) c.script h.script where
+    by_script : (t : CallTarget) (vs : List ℕ) (rs : List Reply) → All IsReply rs → OnCore IsInRange (exec_external_call t vs c rs)
+    by_script t vs [] k = tt
+    by_script t vs (r ∷ rs) k =
         let is = All-head IsReply r rs k in
-        on_either IsInRange (writes_frame c.entry c.area r.writes) Traps (Falls (after_reply name vs c r rs)) tt
+        on_either IsInRange (writes_frame c.entry c.area r.writes) Traps (Falls (after_reply t vs c r rs)) tt
         (record {
           regs = put_all_in_range caller_saved r.regs c.regs is.regs h.regs;
           slots = h.slots;
@@ -348,7 +374,7 @@ run_in_range g (suc n) s t h e = by_step (step g s) refl e (λ u go. run_in_rang
   by_step Lost go e ih = cc
 
 -- a start is in range
-pub start_in_range : (stack : List StackObject) (first : ℕ) (s : State) → IsStart stack first s → IsInRange s.core
+pub start_in_range : (stack : List StackObject) (first : ℕ) (s : State) → IsInitialState stack first s → IsInRange s.core
 start_in_range stack first s st = record {
   regs = λ r v e. elim (cases_lt r 32) as (λ z. IsWord v) [
     | inl lt ↦ (let k = st.regs r lt in let w : Some k.0 ≡ Some v = sym k.1 ∙ e in let x : k.0 ≡ v = cc in subst IsWord x k.2)

@@ -12,11 +12,11 @@ use Rattle.rv64_instr.specs.Instruction.{Instruction}
 use Rattle.rv64_instr.specs.Arithmetic.{word, signed, load_width, extended}
 use Rattle.rv64_instr.specs.Row.{Row, Fixes, Moves, Sets, Addresses, Loads, Stores, LoadsSlot, StoresSlot, Branches, Jumps, Calls, Returns, Unfit, row_of}
 use Rattle.rv64_instr.specs.Row.{implicit_uses}
-use Rattle.rv64_instr.specs.declared.decoded.Input.TheVariants.{Content, Number}
-use Rattle.rv64_instr.specs.declared.decoded.Base.TheVariants.{PointedBy, ObjectAt}
+use Rattle.rv64_instr.specs.Row.{Content, Number, PartOf}
+use Rattle.rv64_instr.specs.Row.{PointedBy, ObjectAt, BesidePart}
 use Rattle.rv64_instr.specs.DefsAndUses.{reads, sets}
-use Rattle.rv64_instr.specs.Parts.{place_set, set_by, moved_by, constant_of, is_pure, is_call as calls, uses_of, defines_of, first_use, second_use}
-use Rattle.rv64_instr.specs.Parts.{is_register, has_implicit_uses, is_implicit_use, names_slot, slot_read, is_call}
+use Rattle.rv64_instr.specs.LocationEffects.{place_set, set_by, moved_by, constant_of, is_pure, is_call as calls, uses_of, defines_of, first_use, second_use}
+use Rattle.rv64_instr.specs.LocationEffects.{is_register, has_implicit_uses, is_implicit_use, names_slot, slot_read, is_call}
 use Rattle.mir_func.specs.declared.item.ItemKind.{ItemKind}
 use Rattle.mir_func.specs.declared.item.ItemKind.TheVariants.{Code, Mark, Phi}
 use Rattle.sem_mir.specs.Live.{KindDefines}
@@ -107,10 +107,17 @@ register_used os (Sets rd op a (Content b)) q h k =
       | inr ne ↦ rw (only_one b q (Contains-tail a (b ∷ []) q ne k)) (or_left (nat_eq q a || true) false (or_right (nat_eq q a) true refl))
     ]
 register_used os (Sets rd op a (Number n)) q h k = rw (only_one a q k) refl
+register_used os (Sets rd op a (PartOf half y)) q h k = rw (only_one a q k) refl
 register_used os (Loads rd op (PointedBy b) o) q h k = rw (only_one b q k) refl
 register_used os (Loads rd op (ObjectAt n) o) q h k = absurd (omega (arith, k.1))
+register_used os (Loads rd op (BesidePart b y) o) q h k = rw (only_one b q k) refl
 register_used os (Stores op rs (ObjectAt n) o) q h k = rw (only_one rs q k) refl
 register_used os (Stores op rs (PointedBy b) o) q h k =
+    elim (cases_eq rs q) as (λ _. (nat_eq q rs || nat_eq q b || false) ≡ true) [
+      | inl e ↦ rw (eq-eqb q rs (sym e)) refl
+      | inr ne ↦ rw (only_one b q (Contains-tail rs (b ∷ []) q ne k)) (or_left (nat_eq q rs || true) false (or_right (nat_eq q rs) true refl))
+    ]
+register_used os (Stores op rs (BesidePart b y) o) q h k =
     elim (cases_eq rs q) as (λ _. (nat_eq q rs || nat_eq q b || false) ≡ true) [
       | inl e ↦ rw (eq-eqb q rs (sym e)) refl
       | inr ne ↦ rw (only_one b q (Contains-tail rs (b ∷ []) q ne k)) (or_left (nat_eq q rs || true) false (or_right (nat_eq q rs) true refl))
@@ -121,8 +128,8 @@ register_used os (Branches op a b t) q h k =
       | inl e ↦ rw (eq-eqb q a (sym e)) refl
       | inr ne ↦ rw (only_one b q (Contains-tail a (b ∷ []) q ne k)) (or_left (nat_eq q a || true) false (or_right (nat_eq q a) true refl))
     ]
-register_used os (Calls name args) q h k = implicit_any q os (subst (λ (qs : List ℕ). Contains qs q) h k)
-register_used os (Returns results) q h k = implicit_any q os (subst (λ (qs : List ℕ). Contains qs q) h k)
+register_used os (Calls call) q h k = implicit_any q os (subst (λ (qs : List ℕ). Contains qs q) h k)
+register_used os (Returns ending) q h k = implicit_any q os (subst (λ (qs : List ℕ). Contains qs q) h k)
 register_used os _ q h k = absurd (omega (arith, k.1))
 
 row_uses : (i : Instruction) (x : Place) → RowUses (row_of i) x → uses_of i x ≡ true
@@ -161,7 +168,7 @@ one_set (Addresses rd n o) (Register q) e k = by_register rd q k
 one_set (Loads rd op b o) (Register q) e k = by_register rd q k
 one_set (LoadsSlot rd n) (Register q) e k = by_register rd q k
 one_set (StoresSlot rs n) (Slot m) e k = inr (ap (λ (z : ℕ). Some (Slot z)) k)
-one_set (Calls name args) (Register q) e k = cc
+one_set (Calls call) (Register q) e k = cc
 one_set (Stores op rs b o) (Register q) e k = absurd (omega (arith, k.1))
 one_set (StoresSlot rs n) (Register q) e k = absurd (omega (arith, k.1))
 one_set (Branches op a b t) (Register q) e k = absurd (omega (arith, k.1))
@@ -247,7 +254,7 @@ fixes i z to c e s = acts (OnCore (λ d. held_in to d ≡ Some (word z))) tt (ro
 -- ---- pure code
 
 same_world : (c : Core) → SameWorld c c
-same_world c = record { entry = refl; area = refl; objects = refl; memory = refl; script = refl; events = refl }
+same_world c = record { entry = refl; area = refl; objects = refl; symbols = refl; memory = refl; script = refl; events = refl }
 
 falls_either : (P : Core → Type 0) (b : Bool) (x y : Outcome) → FallsInto P x → FallsInto P y → FallsInto P (cond b x y)
 falls_either P true x y h k = h
@@ -262,6 +269,7 @@ row_pure (Loads rd op b o) c e =
       entry = refl;
       area = refl;
       objects = refl;
+      symbols = refl;
       memory = refl;
       script = refl;
       events = refl;
@@ -269,14 +277,14 @@ row_pure (Loads rd op b o) c e =
 row_pure (LoadsSlot rd n) c e = by_slot (c.slots n) where
   by_slot : (x : Option ℕ) → FallsInto (SameWorld c) (slot_loaded rd c x)
   by_slot None = tt
-  by_slot (Some v) = record { entry = refl; area = refl; objects = refl; memory = refl; script = refl; events = refl }
+  by_slot (Some v) = record { entry = refl; area = refl; objects = refl; symbols = refl; memory = refl; script = refl; events = refl }
 row_pure Unfit c e = tt
 row_pure (Stores op rs b o) c e = cc
 row_pure (Branches op a b t) c e = cc
 row_pure (Jumps t) c e = cc
-row_pure (Calls name args) c e = cc
+row_pure (Calls call) c e = cc
 row_pure (Returns v) c e = cc
-row_pure _ c e = record { entry = refl; area = refl; objects = refl; memory = refl; script = refl; events = refl }
+row_pure _ c e = record { entry = refl; area = refl; objects = refl; symbols = refl; memory = refl; script = refl; events = refl }
 
 pure : (i : Instruction) (c : Core) → is_pure (row_of i) ≡ true → FallsInto (SameWorld c) (act (row_of i) c)
 pure i c e = acts (FallsInto (SameWorld c)) tt (row_of i) c (λ w. row_pure (row_of i) c e)

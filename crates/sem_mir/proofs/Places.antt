@@ -1,7 +1,8 @@
 -- What is written leaves all else: registers, slots, bytes of memory and pairs.
 use Rattle.std.proofs.Common.{◌≡◌, ℕ, zero, suc, ◌+◌, ◌%◌, ◌^◌, ◌<◌, List, [], ◌∷◌, length, Contains, Option, Some, refl, ap, ◌∙◌, eq-eqb, ne_eqb, inl, inr}
-use Rattle.std.proofs.Common.{arith}
+use Rattle.std.proofs.Common.{arith, ◌++◌, All}
 use Rattle.std.proofs.lemmas.Bool.{cases_eq}
+use Rattle.std.proofs.lemmas.List.Elements.{All-head, All-tail, All-nil, All-cons}
 use Rattle.sem_mir.specs.State.{updated, content, put, put_all, stored, written}
 
 -- the value that was changed, and another
@@ -27,6 +28,25 @@ contains_head x xs = (0, omega arith, refl)
 
 pub contains_tail : {A : Type 0} (x y : A) (xs : List A) → Contains xs y → Contains (x ∷ xs) y
 contains_tail x y xs (k, lt, e) = (suc k, omega (arith, lt), e)
+
+-- membership in two lists, one behind the other
+pub contains_back : {A : Type 0} (xs ys : List A) (y : A) → Contains ys y → Contains (xs ++ ys) y
+contains_back [] ys y h = h
+contains_back (x ∷ xs) ys y h = contains_tail x y (xs ++ ys) (contains_back xs ys y h)
+
+pub contains_front : {A : Type 0} (xs ys : List A) (y : A) → Contains xs y → Contains (xs ++ ys) y
+contains_front [] ys y (k, lt, e) = absurd (omega (arith, lt))
+contains_front (x ∷ xs) ys y (zero, lt, e) = (0, omega arith, e)
+contains_front (x ∷ xs) ys y (suc k, lt, e) = contains_tail x y (xs ++ ys) (contains_front xs ys y (k, omega (arith, lt), e))
+
+-- what holds of all of two lists, one behind the other
+pub all_front : {A : Type 0} (P : A → Type 0) (xs ys : List A) → All P (xs ++ ys) → All P xs
+all_front P [] ys h = All-nil P
+all_front P (x ∷ xs) ys h = All-cons P x xs (All-head P x (xs ++ ys) h) (all_front P xs ys (All-tail P x (xs ++ ys) h))
+
+pub all_back : {A : Type 0} (P : A → Type 0) (xs ys : List A) → All P (xs ++ ys) → All P ys
+all_back P [] ys h = h
+all_back P (x ∷ xs) ys h = all_back P xs ys (All-tail P x (xs ++ ys) h)
 
 -- a register that isn't among those that are set
 pub put_all_other : (rs vs : List ℕ) (q : ℕ) (regs : ℕ → Option ℕ) → (Contains rs q → ⊥) → content (put_all rs vs regs) q ≡ content regs q

@@ -8,6 +8,11 @@ use Rattle.rv64_instr.specs.declared.op.RegisterOp.{RegisterOp}
 use Rattle.rv64_instr.specs.declared.op.LoadOp.{LoadOp}
 use Rattle.rv64_instr.specs.declared.op.LoadOp.TheVariants.{Lb, Lh, Lw}
 use Rattle.rv64_instr.specs.declared.op.RegisterOp.TheVariants.{Add, Sub, Sll, Slt, Sltu, Xor, Srl, Sra, Or, And, Addw, Subw, Sllw, Srlw, Sraw}
+use Rattle.rv64_instr.specs.declared.symbol.Symbol.{Symbol}
+use Rattle.rv64_instr.specs.declared.symbol.LinkedAddress.{LinkedAddress}
+use Rattle.rv64_instr.specs.declared.symbol.Half.{Half}
+use Rattle.rv64_instr.specs.declared.symbol.Half.TheVariants.{Upper, Lower}
+use Rattle.rv64_instr.specs.Linked.{linked_value}
 use Rattle.rv64_instr.specs.Arithmetic.{word, unsigned, signed, extend32, computed, extended}
 
 -- 64 bits
@@ -74,6 +79,11 @@ truth false = omega arith
 
 pub extend32_in_range : (n : ℕ) → IsWord (extend32 n)
 extend32_in_range n = signed_32 (n % 2 ^ 32)
+
+pub linked_in_range : (symbols : Symbol → ℕ) (half : Half) (y : LinkedAddress) → IsWord (linked_value symbols half y)
+unfolding linked_value
+linked_in_range symbols Upper y = extend32_in_range _
+linked_in_range symbols Lower y = word_in_range _
 
 pub computed_in_range : (op : RegisterOp) (a b : ℕ) → IsWord a → IsWord b → IsWord (computed op a b)
 unfolding computed

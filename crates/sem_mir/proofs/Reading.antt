@@ -19,8 +19,10 @@ use Rattle.sem_mir.specs.State.{State, Core, content}
 use Rattle.mir_func.specs.Graph.{Program, Fetch, Here, EndOfBlock, Outside, below, block_start, end_of, front, fetch_in, from_block, program_of, FetchEdge}
 use Rattle.mir_func.specs.Graph.{KindEdge, RowEdge}
 use Rattle.sem_mir.specs.Align.{Count, ByItems, ByEnds, sync_point_at, AnyOrigin, RunsMatch}
-use Rattle.sem_mir.specs.Follow.{IsWithin, IsSource, IsRead, Among, none, same, first_of, OnRow, GoesTo, IsEnd, SameEnd, KindsEndAlike}
-use Rattle.sem_mir.specs.Follow.{InOrder, rank, next_rank, HasClass, KindFits, MarkFits, Shape, IsStart}
+use Rattle.sem_mir.specs.InitialState.{first_of}
+use Rattle.sem_mir.specs.Follow.{IsWithin, IsSource, IsRead, Among, none, same, OnRow, GoesTo, IsEnd, SameEnd, KindsEndAlike}
+use Rattle.sem_mir.specs.InitialState.{IsInitialState}
+use Rattle.sem_mir.specs.Follow.{InOrder, rank, next_rank, HasClass, KindFits, MarkFits, Shape}
 use Rattle.sem_mir.specs.Follow.{Follows, HasWholeEnds}
 use Rattle.sem_mir.proofs.Sources.{in_step_any}
 use Rattle.sem_mir.proofs.Told.{SeesLess, Beside, goes_beside, agrees_beside, tells_itself}
@@ -130,7 +132,7 @@ in_order b k (x ∷ xs) own =
     let same_index : (j : ℕ) → k + suc j ≡ (k + 1) + j = λ j. omega arith in
     let rest = in_order b (k + 1) xs (λ j i h. own (suc j) i h ∙ ap (λ (n : ℕ). Kept (record { block = b; item = n })) (same_index j)) in
     let two : 2 * (k + 1) ≡ 2 * k + 2 = omega arith in
-    subst (λ (o : Origin). ((Rattle.sem_mir.specs.Align.position_of o).block ≡ b) × (2 * k ≤ rank o) × InOrder b (next_rank o) xs) (sym e)
+    subst (λ (o : Origin). ((Rattle.mir_func.specs.Positions.position_of o).block ≡ b) × (2 * k ≤ rank o) × InOrder b (next_rank o) xs) (sym e)
     (refl, omega arith, subst (λ (n : ℕ). InOrder b n xs) two rest)
 
 end_alike : (k : ItemKind) → OnRow IsEnd k → KindsEndAlike k k
@@ -307,7 +309,7 @@ module _ (blocks : List Block) (read : IsRead blocks) where
       by_register r c v true e = cc
       by_register r c v false e = e
 
-    runs : (c : Count) (objects : List Object) (s : State) → IsStart objects (first_of blocks) s →
+    runs : (c : Count) (objects : List Object) (s : State) → IsInitialState objects (first_of blocks) s →
         RunsMatch src fp (sync_point_at c fp) (AnyOrigin (sync_point_at c fp)) s s
     runs c objects s st =
         let own = is_source false resolve in

@@ -6,7 +6,8 @@ use Rattle.mir_func.specs.declared.item.Item.{Item}
 use Rattle.sem_mir.specs.State.{State}
 use Rattle.sem_mir.specs.Step.{Went, Outcome, Falls, Goes, Gives, Traps, Asks, Breaks, moved, do_item, do_fetch, step}
 use Rattle.mir_func.specs.Graph.{Program, Fetch, Here, EndOfBlock, Outside}
-use Rattle.sem_mir.specs.Align.{position_of, is_code, SyncPoint, Count, ByItems, ByEnds, ByWords, moves_on, waits_at, sync_point_of, item_sync_point}
+use Rattle.mir_func.specs.Positions.{position_of}
+use Rattle.sem_mir.specs.Align.{is_code, SyncPoint, Count, ByItems, ByEnds, ByWords, moves_on, waits_at, sync_point_of, item_sync_point}
 use Rattle.sem_mir.specs.Align.{end_sync_point}
 use Rattle.sem_mir.specs.Align.{fetch_sync_point, sync_point_at, IsOrigin, Arrives, here, onward, Since, MatchesNext, First, AnyOrigin, MatchedUpTo, begin}
 use Rattle.sem_mir.specs.Align.{other, met}

@@ -14,7 +14,7 @@ use Rattle.sem_mir.specs.State.{State, Core, updated, assigned}
 use Rattle.mir_func.specs.Variables.{is_same, overlaps}
 use Rattle.sem_mir.specs.Step.{Went, Outcome, Falls, Goes, Gives, Traps, Asks, Breaks, moved, with_core, act, seen, defined, given, numbered, place_value}
 use Rattle.sem_mir.specs.Step.{pair_value, mark_value, part_of, do_item, do_fetch, step}
-use Rattle.rv64_instr.specs.Parts.{is_call}
+use Rattle.rv64_instr.specs.LocationEffects.{is_call}
 use Rattle.mir_func.specs.Graph.{Program, Fetch, Here, EndOfBlock, Outside}
 use Rattle.sem_mir.specs.Align.{Agrees}
 use Rattle.sem_mir.specs.Effects.{EndAlike}

@@ -1,5 +1,5 @@
 -- Matching of runs: which states of the source match the states of a function, by the origins of items alone.
-use Rattle.std.specs.Prelude.{◌≡◌, ◌⊎◌, ℕ, List, Option, Some, None, Bool, true, false}
+use Rattle.std.specs.Prelude.{◌≡◌, ◌⊎◌, ℕ, Option, Some, None, Bool, true, false}
 use Rattle.rv64_instr.specs.Row.{Row, Jumps, row_of}
 use Rattle.mir_func.specs.declared.position.Pos.{Pos}
 use Rattle.mir_func.specs.declared.position.Origin.{Origin}
@@ -8,14 +8,10 @@ use Rattle.mir_func.specs.declared.variable.VarId.{VarId}
 use Rattle.mir_func.specs.declared.item.Item.{Item}
 use Rattle.mir_func.specs.declared.item.ItemKind.{ItemKind}
 use Rattle.mir_func.specs.declared.item.ItemKind.TheVariants.{Code, Mark, Phi}
-use Rattle.sem_mir.specs.State.{State, assigned}
+use Rattle.sem_mir.specs.State.{State, assigned, RunResult}
 use Rattle.sem_mir.specs.Step.{Went, Returned, Faulted, step}
 use Rattle.mir_func.specs.Graph.{Fetch, Here, EndOfBlock, Outside, Program}
-
--- the position of the source that an item is kept from, or was added before
-abbrev pub position_of : Origin → Pos
-position_of (Kept p) = p
-position_of (Before p) = p
+use Rattle.mir_func.specs.Positions.{position_of}
 
 -- an instruction, and no debug item
 abbrev pub is_code : ItemKind → Bool
@@ -165,7 +161,7 @@ Tells s v x = assigned v s.core.marks ≡ Some x
 pub record Agrees (src f : Program) (t s : State) : Type 0 where
   pub events : t.core.events ≡ s.core.events
   pub told : (v : VarId) (x : ℕ) → Tells t v x → Tells s v x
-  pub returns : (results : List ℕ) → step f t ≡ Returned results → step src s ≡ Returned results
+  pub returns : (result : RunResult) → step f t ≡ Returned result → step src s ≡ Returned result
   pub faults : step f t ≡ Faulted → step src s ≡ Faulted
 
 -- f's run from f0 refines the source's from s0: at each station that f reaches, the source has a matching state that

@@ -6,7 +6,7 @@ use Rattle.rv64_instr.specs.declared.place.Place.TheVariants.{Register, Slot, Co
 use Rattle.rv64_instr.specs.Instruction.{Instruction}
 use Rattle.rv64_instr.specs.Arithmetic.{word}
 use Rattle.rv64_instr.specs.Row.{row_of}
-use Rattle.rv64_instr.specs.Parts.{set_by, moved_by, constant_of, is_pure, is_call, uses_of, defines_of}
+use Rattle.rv64_instr.specs.LocationEffects.{set_by, moved_by, constant_of, is_pure, is_call, uses_of, defines_of}
 use Rattle.sem_mir.specs.State.{Core, content}
 use Rattle.sem_mir.specs.Step.{Outcome, Falls, Goes, Gives, Traps, Asks, Breaks, act}
 
@@ -38,6 +38,7 @@ pub record SameWorld (c d : Core) : Type 0 where
   pub entry : c.entry ≡ d.entry
   pub area : c.area ≡ d.area
   pub objects : c.objects ≡ d.objects
+  pub symbols : c.symbols ≡ d.symbols
   pub memory : c.memory ≡ d.memory
   pub script : c.script ≡ d.script
   pub events : c.events ≡ d.events

@@ -1,8 +1,8 @@
 -- When a function follows a source, that is, refines it: its shape, and its runs from every start state.
-use Rattle.std.specs.Prelude.{◌≡◌, ◌⊎◌, ℕ, ◌+◌, ◌*◌, ◌^◌, ◌<◌, ◌≤◌, List, [], ◌∷◌, length, All, Contains, Option, Some, None, true, false, slice_get}
+use Rattle.std.specs.Prelude.{◌≡◌, ◌⊎◌, ℕ, ◌+◌, ◌*◌, ◌<◌, ◌≤◌, List, [], ◌∷◌, length, All, Contains, Option, Some, true, false, slice_get}
 use Rattle.rv64_instr.specs.Row.{Row, Branches, Jumps, Returns, row_of}
 use Rattle.rv64_instr.specs.View.{Literal, OfRegister, OfSlot, Write, SetsRegister, SetsSlot, write_of, Class, Branch, Return, class_of}
-use Rattle.rv64_instr.specs.Parts.{IsSlotStore}
+use Rattle.rv64_instr.specs.LocationEffects.{IsSlotStore}
 use Rattle.mir_func.specs.declared.position.Pos.{Pos}
 use Rattle.mir_func.specs.declared.position.Origin.{Origin}
 use Rattle.mir_func.specs.declared.position.Origin.TheVariants.{Kept, Before}
@@ -12,16 +12,16 @@ use Rattle.mir_func.specs.declared.object.Object.{Object}
 use Rattle.mir_func.specs.declared.exit.Exit.{Exit}
 use Rattle.mir_func.specs.declared.exit.Exit.TheVariants.{Onward, Perhaps, Always, Final}
 use Rattle.mir_func.specs.Exits.{row_exit}
-use Rattle.mir_func.specs.Limits.{FRAME_ROOM}
-use Rattle.mir_func.specs.Objects.{area_of, offset_of}
 use Rattle.mir_func.specs.declared.item.Item.{Item}
 use Rattle.mir_func.specs.declared.item.ItemKind.{ItemKind}
 use Rattle.mir_func.specs.declared.item.ItemKind.TheVariants.{Code, Mark, Phi}
 use Rattle.mir_func.specs.declared.variable.MarkValue.TheVariants.{Nothing}
 use Rattle.mir_func.specs.Sound.{AreApart, ids_of}
-use Rattle.sem_mir.specs.State.{IsReply, State, content}
+use Rattle.sem_mir.specs.State.{State}
 use Rattle.mir_func.specs.Graph.{Fetch, Here, EndOfBlock, Program, below, block_start, program_of, Edge, Leads}
-use Rattle.sem_mir.specs.Align.{position_of, ByItems, ByEnds, sync_point_at, AnyOrigin, RunsMatch}
+use Rattle.mir_func.specs.Positions.{position_of}
+use Rattle.sem_mir.specs.Align.{ByItems, ByEnds, sync_point_at, AnyOrigin, RunsMatch}
+use Rattle.sem_mir.specs.InitialState.{first_of, IsInitialState}
 
 -- code that sets this may be added before position `item` of a block that ends at index `source_end`: slot loads and constant definitions before
 -- its end, and slot stores anywhere
@@ -91,11 +91,6 @@ pub data Among : List Block → List Block → Type 0 where
   same : {a b : Block} {rest bs : List Block} → a.id ≡ b.id → a.source_end ≡ b.source_end → Among rest bs → Among (a ∷ rest) (b ∷ bs)
   left : {b : Block} {rest bs : List Block} → Among rest bs → Among rest (b ∷ bs)
 
--- the number of the entry block, or 0 if there are no blocks
-abbrev pub first_of : List Block → ℕ
-first_of [] = 0
-first_of (b ∷ bs) = b.id
-
 -- the item is code whose row satisfies P
 abbrev pub OnRow : (Row → Type 0) → ItemKind → Type 0
 OnRow P (Code c k) = P (row_of c)
@@ -150,28 +145,11 @@ pub record Shape (src f : List Block) (srcp fp : Program) : Type 0 where
   -- between code that is added before a position and what is kept there no variable gets a value
   pub marks : All (λ b. All (λ i. MarkFits i.kind i.origin) b.items) f
 
--- a start state of a function with these stack objects: x2 has room for a frame below it, the other physical
--- registers and memory are arbitrary, and no virtual register, slot, pair or variable has a value
-pub record IsStart (stack : List Object) (first : ℕ) (s : State) : Type 0 where
-  pub pos : s.pos ≡ block_start first
-  pub regs : (r : ℕ) → r < 32 → (v : ℕ) × (content s.core.regs r ≡ Some v) × (v < 2 ^ 64)
-  pub virtual : (r : ℕ) → 32 ≤ r → content s.core.regs r ≡ None
-  pub pointer : content s.core.regs 2 ≡ Some s.core.entry
-  pub room : FRAME_ROOM ≤ s.core.entry
-  pub area : s.core.area ≡ area_of stack
-  pub objects : (n : ℕ) → s.core.objects n ≡ offset_of stack n
-  pub slots : (n : ℕ) → s.core.slots n ≡ None
-  pub memory : (a : ℕ) → s.core.memory a < 256
-  pub script : All IsReply s.core.script
-  pub events : s.core.events ≡ []
-  pub pairs : (k o : ℕ) → s.core.pairs k o ≡ None
-  pub marks : s.core.marks ≡ []
-
 -- f follows the source: it has the shape, and from every start state its run refines the source's, with instructions as observation
 -- points
 pub record Follows (objects : List Object) (src f : List Block) (subs fsubs : OperandPair → Option OperandPair) : Type 0 where
   pub shape : Shape src f (program_of true src subs) (program_of false f fsubs)
-  pub runs : (s : State) → IsStart objects (first_of src) s → RunsMatch (program_of true src subs) (program_of false f fsubs)
+  pub runs : (s : State) → IsInitialState objects (first_of src) s → RunsMatch (program_of true src subs) (program_of false f fsubs)
       (sync_point_at ByItems (program_of false f fsubs)) (AnyOrigin (sync_point_at ByItems (program_of false f fsubs))) s s
 
 -- the same terminator up to its registers
@@ -210,7 +188,7 @@ pub record HasWholeEnds (objects : List Object) (src f : List Block) (subs fsubs
   pub blocks : length f ≡ length src
   pub kept : (p : Pos) (i : Item) → (program_of true src subs).fetch p ≡ Here i → OnRow IsEnd i.kind → EndIsKept (program_of false f fsubs) p i
   pub only : (q : Pos) (j : Item) → (program_of false f fsubs).fetch q ≡ Here j → OnRow IsEnd j.kind → EndComesFrom (program_of true src subs) j
-  pub runs : (s : State) → IsStart objects (first_of src) s → RunsMatch (program_of true src subs) (program_of false f fsubs)
+  pub runs : (s : State) → IsInitialState objects (first_of src) s → RunsMatch (program_of true src subs) (program_of false f fsubs)
       (sync_point_at ByEnds (program_of false f fsubs)) (AnyOrigin (sync_point_at ByEnds (program_of false f fsubs))) s s
 
 -- the position isn't past its block's end

@@ -1,6 +1,7 @@
 pub mod State
 pub mod Step
 pub mod Align
+pub mod InitialState
 pub mod Follow
 pub mod ValueId
 pub mod PreferredLocation

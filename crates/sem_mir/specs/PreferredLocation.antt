@@ -15,24 +15,24 @@ IsPlace (Const (pos n)) = n < 9223372036854775808
 IsPlace (Const (negsuc n)) = n < 9223372036854775808
 
 -- the order of preference: a constant, then the lowest register, then the lowest slot
-abbrev pub Precedes : Place → Place → Type 0
-Precedes (Const a) (Register r) = Unit {0}
-Precedes (Const a) (Slot n) = Unit {0}
-Precedes (Register q) (Register r) = q < r
-Precedes (Register q) (Slot n) = Unit {0}
-Precedes (Slot m) (Slot n) = m < n
-Precedes _ _ = ⊥
+abbrev pub IsPreferredTo : Place → Place → Type 0
+IsPreferredTo (Const a) (Register r) = Unit {0}
+IsPreferredTo (Const a) (Slot n) = Unit {0}
+IsPreferredTo (Register q) (Register r) = q < r
+IsPreferredTo (Register q) (Slot n) = Unit {0}
+IsPreferredTo (Slot m) (Slot n) = m < n
+IsPreferredTo _ _ = ⊥
 
 -- the location has the value of a part of a variable at a position, on every path to it
 abbrev pub SitsIn : Program → Pos → VarId → Place → Pos → Type 0
 SitsIn g start v place p = Sits g start (variable_token v) (place_token (Some place)) p
 
 -- the location that a location list must name for a part of a variable at a position: the first one that has its value
-pub record IsWanted (g : Program) (start : Pos) (v : VarId) (p : Pos) (place : Place) : Type 0 where
+pub record IsPreferredLocation (g : Program) (start : Pos) (v : VarId) (p : Pos) (place : Place) : Type 0 where
   pub named : IsPlace place
   pub sits : SitsIn g start v place p
-  pub first : (other : Place) → IsPlace other → Precedes other place → SitsIn g start v other p → ⊥
+  pub first : (other : Place) → IsPlace other → IsPreferredTo other place → SitsIn g start v other p → ⊥
 
 -- no location that a list may name has the part's value at the position
-abbrev pub NoneIsWanted : Program → Pos → VarId → Pos → Type 0
-NoneIsWanted g start v p = (place : Place) → IsPlace place → SitsIn g start v place p → ⊥
+abbrev pub NoneIsPreferred : Program → Pos → VarId → Pos → Type 0
+NoneIsPreferred g start v p = (place : Place) → IsPlace place → SitsIn g start v place p → ⊥

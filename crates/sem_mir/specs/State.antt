@@ -1,6 +1,9 @@
 -- The state of a run: registers, spill slots, memory, and the debug history: values of pairs and of variables.
 use Rattle.std.specs.Prelude.{◌≡◌, ◌<◌, length, All, ℕ, zero, suc, ◌+◌, ◌*◌, ◌/◌, ◌%◌, ◌^◌, List, [], ◌∷◌, Option, Some, None, Bool, false, cond, ◌&&◌, ◌||◌}
 use Rattle.std.specs.Prelude.{nat_eq, nat_lt, nat_le}
+use Rattle.rv64_instr.specs.declared.start.CallTarget.{CallTarget}
+use Rattle.rv64_instr.specs.Row.{Ending}
+use Rattle.rv64_instr.specs.declared.symbol.Symbol.{Symbol}
 use Rattle.mir_func.specs.declared.position.Pos.{Pos}
 use Rattle.mir_func.specs.declared.variable.VarId.{VarId}
 use Rattle.mir_func.specs.Limits.{FRAME_ROOM}
@@ -8,10 +11,14 @@ use Rattle.mir_func.specs.Variables.{is_same, overlaps}
 
 -- an observable event of a run
 pub data Event : Type 0 where
-  -- a call of a function, with the contents of its argument registers
-  Called : (name args : List ℕ) → Event
+  -- a call, with the contents of its argument registers
+  Called : (target : CallTarget) (args : List ℕ) → Event
   -- a store of bytes to memory, from the address on
   Wrote : (address : ℕ) (bytes : List ℕ) → Event
+
+-- how a run ends: the way on which control leaves the function, and the values that it passes there
+abbrev pub RunResult : Type 0
+RunResult = Ending CallTarget
 
 -- the effect of a call, given in advance: the contents of the caller-saved registers, ascending, the bytes that the callee
 -- writes, in order, and the bytes that it leaves in its own frame, below its caller's stack pointer, which the machine alone has
@@ -27,6 +34,8 @@ pub record Core : Type 0 where
   -- the size in bytes of the stack objects' area right below entry, and each object's offset from the area's lowest byte
   pub area : ℕ
   pub objects : ℕ → ℕ
+  -- the address of each symbol. It is arbitrary, and no step changes it
+  pub symbols : Symbol → ℕ
   -- each register's content. A virtual register is unwritten until it is set
   pub regs : ℕ → Option ℕ
   -- each spill slot's content, if it is written

@@ -7,14 +7,17 @@ use Rattle.rv64_instr.specs.declared.operand.Operand.{Operand}
 use Rattle.rv64_instr.specs.declared.operand.Operand.TheVariants.{Def, ImplicitDef}
 use Rattle.rv64_instr.specs.declared.place.Place.{Place}
 use Rattle.rv64_instr.specs.declared.place.Place.TheVariants.{Register, Slot, Const}
+use Rattle.rv64_instr.specs.declared.symbol.Half.TheVariants.{Lower}
+use Rattle.rv64_instr.specs.Linked.{linked_value}
 use Rattle.rv64_instr.specs.Arithmetic.{word, computed, taken, load_width, store_width, extended}
-use Rattle.rv64_instr.specs.declared.decoded.Input.{Input}
-use Rattle.rv64_instr.specs.declared.decoded.Input.TheVariants.{Content, Number}
-use Rattle.rv64_instr.specs.declared.decoded.Base.{Base}
-use Rattle.rv64_instr.specs.declared.decoded.Base.TheVariants.{PointedBy, ObjectAt}
+use Rattle.rv64_instr.specs.Row.{Input, Content, Number, PartOf}
+use Rattle.rv64_instr.specs.Row.{Base, PointedBy, ObjectAt, BesidePart}
+use Rattle.rv64_instr.specs.declared.start.CallTarget.{CallTarget}
+use Rattle.rv64_instr.specs.declared.start.CallTarget.TheVariants.{Function, Address}
+use Rattle.rv64_instr.specs.Row.{Callee, Named, Held, Way, Back, Tail, Never, Ending}
 use Rattle.rv64_instr.specs.Row.{Row, Fixes, Moves, Sets, Addresses, Loads, Stores, LoadsSlot, StoresSlot, Branches, Jumps, Calls, Returns, Unfit, row_of}
 use Rattle.rv64_instr.specs.DefsAndUses.{caller_saved, reads}
-use Rattle.rv64_instr.specs.Parts.{is_call}
+use Rattle.rv64_instr.specs.LocationEffects.{is_call}
 use Rattle.mir_func.specs.declared.debug_substitution.OperandPair.{OperandPair}
 use Rattle.mir_func.specs.declared.position.Pos.{Pos}
 use Rattle.mir_func.specs.declared.variable.VarId.{VarId}
@@ -24,7 +27,8 @@ use Rattle.mir_func.specs.declared.item.ItemKind.{ItemKind}
 use Rattle.mir_func.specs.declared.item.ItemKind.TheVariants.{Code, Mark, Phi}
 use Rattle.mir_func.specs.Variables.{part_value}
 use Rattle.mir_func.specs.Graph.{Fetch, Here, EndOfBlock, Outside, Program, below, block_start}
-use Rattle.sem_mir.specs.State.{Called, Wrote, Reply, Core, State, updated, content, put, put_all, spelled, low_bytes, stored, written, touches_frame}
+use Rattle.sem_mir.specs.State.{Called, Wrote, RunResult, Reply, Core, State, updated, content, put, put_all, spelled, low_bytes, stored, written}
+use Rattle.sem_mir.specs.State.{touches_frame}
 use Rattle.sem_mir.specs.State.{writes_frame}
 
 -- the outcome of an item
@@ -33,8 +37,8 @@ pub data Outcome : Type 0 where
   Falls : Core → Outcome
   -- control goes to a block
   Goes : (target : ℕ) → Core → Outcome
-  -- the function returns
-  Gives : (results : List ℕ) → Outcome
+  -- the run ends
+  Gives : (result : RunResult) → Outcome
   -- the run stops on a frame fault
   Traps : Outcome
   -- the run waits, since no reply is left for its call
@@ -51,19 +55,22 @@ or_zero (Some n) = n
 abbrev pub read : Core → ℕ → ℕ
 read s r = or_zero (content s.regs r)
 
--- the value of an operation's second input: a register's content or the immediate
+-- the value of an operation's second input: a register's content, the number, or the value of a half of an address, by the addresses of symbols
 abbrev pub input_value : Core → Input → ℕ
 input_value s (Content r) = read s r
 input_value s (Number n) = n
+input_value s (PartOf half y) = linked_value s.symbols half y
 
 -- the address of a stack object, modulo 2^64
 abbrev pub object_address : Core → ℕ → ℕ
 object_address s n = (s.entry + (2 ^ 64 - s.area) + s.objects n) % 2 ^ 64
 
--- the value of an address's base: a register's content, or the address of a stack object's first byte
+-- the value of an address's base: a register's content, the address of a stack object's first byte, or a register's content plus the value of the
+-- lower half of an address
 abbrev pub base_value : Core → Base → ℕ
 base_value s (PointedBy r) = read s r
 base_value s (ObjectAt n) = object_address s n
+base_value s (BesidePart r y) = (read s r + linked_value s.symbols Lower y) % 2 ^ 64
 
 -- the effective address of an access: base plus offset, modulo 2^64
 abbrev pub address_at : Core → Base → (offset : ℕ) → ℕ
@@ -73,6 +80,22 @@ address_at s base offset = (base_value s base + offset) % 2 ^ 64
 abbrev pub is_fault : Base → Core → (address n : ℕ) → Bool
 is_fault (PointedBy r) s a n = touches_frame s.entry s.area a n
 is_fault (ObjectAt m) s a n = false
+is_fault (BesidePart r y) s a n = touches_frame s.entry s.area a n
+
+-- what a callee is when the call is made: the function of its name, or the code at the address that its register holds
+abbrev pub called_at : Core → Callee → CallTarget
+called_at s (Named name) = Function name
+called_at s (Held r) = Address (read s r)
+
+-- the way on which control leaves the function, when it does
+abbrev pub way_at : Core → Way Callee → Way CallTarget
+way_at s Back = Back
+way_at s (Tail callee) = Tail (called_at s callee)
+way_at s (Never callee) = Never (called_at s callee)
+
+-- the result of a run that ends so
+abbrev pub result_at : Core → Ending Callee → RunResult
+result_at s ending = record { way = way_at s ending.way; values = map (read s) ending.values }
 
 -- a register set, all else unchanged: x0 drops the write
 abbrev pub set_register : (rd v : ℕ) → Core → Core
@@ -80,10 +103,10 @@ set_register rd v s = record s { regs = put rd v s.regs }
 
 -- a call with the next reply. A reply that writes to the frame is a frame fault, and without a reply the run
 -- waits
-abbrev pub answered : (name args : List ℕ) → Core → List Reply → Outcome
-answered name args s [] = Asks
-answered name args s (r ∷ rest) = cond (writes_frame s.entry s.area r.writes) Traps
-    (Falls (record s { regs = put_all caller_saved r.regs s.regs; memory = written s.memory r.writes; script = rest; events = Called name args ∷ s.events }))
+abbrev pub exec_external_call : CallTarget → (args : List ℕ) → Core → List Reply → Outcome
+exec_external_call target args s [] = Asks
+exec_external_call target args s (r ∷ rest) = cond (writes_frame s.entry s.area r.writes) Traps
+    (Falls (record s { regs = put_all caller_saved r.regs s.regs; memory = written s.memory r.writes; script = rest; events = Called target args ∷ s.events }))
 
 -- a load from a spill slot. A slot that isn't written is a frame fault
 abbrev pub slot_loaded : ℕ → Core → Option ℕ → Outcome
@@ -115,8 +138,8 @@ does (LoadsSlot rd n) s = slot_loaded rd s (s.slots n)
 does (StoresSlot rs n) s = Falls (record s { slots = updated n (Some (read s rs)) s.slots })
 does (Branches op a b target) s = cond (taken op (read s a) (read s b)) (Goes target s) (Falls s)
 does (Jumps target) s = Goes target s
-does (Calls name args) s = answered name (map (read s) args) s s.script
-does (Returns results) s = Gives (map (read s) results)
+does (Calls call) s = exec_external_call (called_at s call.callee) (map (read s) call.args) s s.script
+does (Returns ending) s = Gives (result_at s ending)
 does Unfit s = Breaks
 
 -- the registers are written
@@ -196,11 +219,11 @@ do_fetch g (Here i) s = do_item g i.kind s
 do_fetch g (EndOfBlock k n) s = Goes n s
 do_fetch g Outside s = Breaks
 
--- the result of a step: the next state, a return, a frame fault, a call without a reply, or an invalid
+-- the result of a step: the next state, the end of the run, a frame fault, a call without a reply, or an invalid
 -- instruction
 pub data Next : Type 0 where
   Went : State → Next
-  Returned : (results : List ℕ) → Next
+  Returned : (result : RunResult) → Next
   Faulted : Next
   Waits : Next
   Lost : Next

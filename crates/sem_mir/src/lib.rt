@@ -5,6 +5,5 @@
 //! operands only to see which of them define a register under the instruction's debug instruction number.
 #![tactic(auto)]
 
-pub mod align;
 pub mod laws;
 pub mod operand;

@@ -18,6 +18,7 @@ pub fn defined(call: bool, operand: &Operand) -> Option<Reg>
         | Operand::Imm(_)
         | Operand::Slot(_)
         | Operand::Object(_)
+        | Operand::Part(_, _)
         | Operand::Block(_)
         | Operand::Symbol(_)
         | Operand::Mask => None,

@@ -6,7 +6,8 @@ use Rattle.mir_func.specs.declared.item.Item.{Item}
 use Rattle.sem_mir.specs.State.{State, Core, assigned}
 use Rattle.sem_mir.specs.Step.{Went, Returned, Faulted, Lost, Outcome, Falls, Goes, Gives, Traps, Asks, Breaks, moved, do_item, do_fetch, step}
 use Rattle.mir_func.specs.Graph.{Fetch, Here, EndOfBlock, Outside, below, block_start}
-use Rattle.sem_mir.specs.Align.{position_of, is_code, SyncPoint, Count, sync_point_of, end_sync_point, IsOrigin, here, Since, Start, Same, After, since_of}
+use Rattle.mir_func.specs.Positions.{position_of}
+use Rattle.sem_mir.specs.Align.{is_code, SyncPoint, Count, sync_point_of, end_sync_point, IsOrigin, here, Since, Start, Same, After, since_of}
 use Rattle.sem_mir.specs.Align.{MatchesNext}
 use Rattle.sem_mir.specs.Align.{MatchedUpTo, begin, other, met, Agrees, RunsMatch}
 use Rattle.sem_simulation.specs.MatchStates.{IsPastItems, since_item, ShowsSame, Does}

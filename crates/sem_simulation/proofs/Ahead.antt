@@ -2,7 +2,7 @@
 use Rattle.std.proofs.Common.{◌≡◌, ℕ, ◌*◌, ◌<◌, ◌≤◌, List, [], ◌∷◌, map, All, Option, Some, None, Bool, true, false, cond, refl, sym, ap, ◌∙◌, subst, inl, inr}
 use Rattle.std.proofs.Common.{◌⊎◌, arith}
 use Rattle.std.proofs.lemmas.List.Elements.{All-cons, All-head, All-tail, All-nil}
-use Rattle.rv64_instr.specs.Row.{Row, Fixes, Loads, Stores, LoadsSlot, StoresSlot, Branches, Jumps, Calls, Returns, row_of}
+use Rattle.rv64_instr.specs.Row.{Row, Fixes, Loads, Stores, LoadsSlot, StoresSlot, Branches, Jumps, Calls, Returns, row_of, Back}
 use Rattle.rv64_instr.specs.DefsAndUses.{reads}
 use Rattle.mir_func.specs.declared.object.Object as stack_object
 use Rattle.mir_func.specs.declared.position.Pos.{Pos}
@@ -13,15 +13,19 @@ use Rattle.mir_func.specs.declared.variable.MarkValue.TheVariants.{Nothing, Cons
 use Rattle.mir_func.specs.declared.item.Item.{Item}
 use Rattle.mir_func.specs.declared.item.ItemKind.{ItemKind}
 use Rattle.mir_func.specs.declared.item.ItemKind.TheVariants.{Code, Mark, Phi}
-use Rattle.sem_mir.specs.State.{Reply, Core, State, assigned, writes_frame}
+use Rattle.sem_mir.specs.State.{Reply, Core, State, assigned, writes_frame, RunResult}
 use Rattle.mir_func.specs.Variables.{is_same, overlaps}
-use Rattle.sem_mir.specs.Step.{Outcome, Falls, Goes, Gives, Traps, Asks, Breaks, read, answered, slot_loaded, does, are_written, act, with_core, numbered}
-use Rattle.sem_mir.specs.Step.{do_item}
-use Rattle.rv64_instr.specs.Parts.{is_call}
+use Rattle.sem_mir.specs.Step.{Outcome, Falls, Goes, Gives, Traps, Asks, Breaks}
+use Rattle.sem_mir.specs.Step.{read, exec_external_call, slot_loaded, does, are_written, act, with_core, numbered}
+use Rattle.sem_mir.specs.Step.{do_item, called_at}
+use Rattle.rv64_instr.specs.LocationEffects.{is_call}
 use Rattle.mir_func.specs.Graph.{Program, Fetch, Here, EndOfBlock, Outside}
-use Rattle.sem_mir.specs.Align.{position_of, Count, Since}
-use Rattle.sem_mir.specs.Follow.{MayAdd, ItemHasClass, HasClass, KindFits, MarkFits, rank, next_rank, InOrder, IsStart, OnRow}
+use Rattle.mir_func.specs.Positions.{position_of}
+use Rattle.sem_mir.specs.Align.{Count, Since}
+use Rattle.sem_mir.specs.InitialState.{IsInitialState}
+use Rattle.sem_mir.specs.Follow.{MayAdd, ItemHasClass, HasClass, KindFits, MarkFits, rank, next_rank, InOrder, OnRow}
 use Rattle.rv64_instr.specs.View.{class_of, Return}
+use Rattle.rv64_instr.specs.declared.start.CallTarget.{CallTarget}
 use Rattle.sem_simulation.specs.MatchStates.{since_item}
 use Rattle.sem_simulation.specs.Refinement.{FaultsAt}
 use Rattle.sem_simulation.specs.InPlace.{ShowsNoMore, IsNoReturn, IsIdleAt}
@@ -65,6 +69,10 @@ code_shows sp call os m d Traps n h = tt
 code_shows sp call os m d Asks n h = tt
 code_shows sp call os m d Breaks n h = tt
 
+-- a return that reads nothing
+abbrev pub bare_return : Row
+bare_return = Returns (record { way = Back; values = [] })
+
 -- only a return returns
 abbrev MayGive : Type 0 → Outcome → Type 0
 MayGive P (Gives v) = P
@@ -83,10 +91,10 @@ does_give (LoadsSlot rd n) d = by_slot (d.slots n) where
   by_slot None = tt
   by_slot (Some v) = tt
 does_give (Branches op a b t) d = search (give_either)
-does_give (Calls name args) d = by_script (map (read d) args) d.script where
-  by_script : (vs : List ℕ) (rs : List Reply) → MayGive (class_of (Calls name args) ≡ Return) (answered name vs d rs)
-  by_script vs [] = tt
-  by_script vs (q ∷ rs) = give_either (class_of (Calls name args) ≡ Return) (writes_frame d.entry d.area q.writes) _ _ tt tt
+does_give (Calls call) d = by_script (called_at d call.callee) (map (read d) call.args) d.script where
+  by_script : (t : CallTarget) (vs : List ℕ) (rs : List Reply) → MayGive (class_of (Calls call) ≡ Return) (exec_external_call t vs d rs)
+  by_script t vs [] = tt
+  by_script t vs (q ∷ rs) = give_either (class_of (Calls call) ≡ Return) (writes_frame d.entry d.area q.writes) _ _ tt tt
 does_give (Returns v) d = refl
 does_give _ d = tt
 
@@ -94,7 +102,7 @@ act_gives : (r : Row) (d : Core) → MayGive (class_of r ≡ Return) (act r d)
 unfolding act
 act_gives r d = give_either (class_of r ≡ Return) (are_written d (reads r)) (does r d) Traps (does_give r d) tt
 
-gives_of : (P : Type 0) (j : Core → Core) (o : Outcome) (v : List ℕ) → MayGive P o → with_core j o ≡ Gives v → P
+gives_of : (P : Type 0) (j : Core → Core) (o : Outcome) (v : RunResult) → MayGive P o → with_core j o ≡ Gives v → P
 gives_of P j (Gives w) v h e = h
 gives_of P j (Falls c) v h e = cc
 gives_of P j (Goes n c) v h e = cc
@@ -122,15 +130,15 @@ module _ (count : Count) (src g : Program) (s0 : State) (p : Pos) (source_end : 
   added_shows q (Phi l n) at fits mark m d = record { events = refl; told = λ w x k. k }
 
   module _ (ends : (e : Pos) (k n : ℕ) → e.block ≡ p.block → g.fetch e ≡ EndOfBlock k n → p.item < k)
-      (no_return : (i : Item) → src.fetch p ≡ Here i → ItemHasClass (Returns []) i.kind → ⊥) where
+      (no_return : (i : Item) → src.fetch p ≡ Here i → ItemHasClass bare_return i.kind → ⊥) where
     -- what is kept of p doesn't return, where the source has no return
-    kept_stays : (k : ItemKind) → KindFits src k source_end (Kept p) → (d : Core) (v : List ℕ) → do_item g k d ≡ Gives v → ⊥
+    kept_stays : (k : ItemKind) → KindFits src k source_end (Kept p) → (d : Core) (v : RunResult) → do_item g k d ≡ Gives v → ⊥
     kept_stays (Code c n) fits d v e = by_fetch (src.fetch p) refl fits where
       is_return : class_of (row_of c) ≡ Return
       is_return = gives_of (class_of (row_of c) ≡ Return) (numbered g.sees_pointer (is_call (row_of c)) n c.operands) (act (row_of c) d) v
           (act_gives (row_of c) d) e
 
-      by_kind : (j : ItemKind) → ItemHasClass (row_of c) j → ItemHasClass (Returns []) j
+      by_kind : (j : ItemKind) → ItemHasClass (row_of c) j → ItemHasClass bare_return j
       by_kind (Code i l) h = h ∙ is_return
       by_kind (Mark x m) h = h
       by_kind (Phi l r) h = h
@@ -171,8 +179,8 @@ module _ (count : Count) (src g : Program) (s0 : State) (p : Pos) (source_end : 
 
 -- from a start, where the source's returns have physical results, g may idle where the source stops: what it has ahead fits
 -- the source, stands in order from p on, and p isn't its block's end
-pub idles_ahead : (count : Count) (src g : Program) (stack : List stack_object.Object) (first : ℕ) (s0 : State) → IsStart stack first s0 →
-    ((q : Pos) (i : Item) → src.fetch q ≡ Here i → ItemHasClass (Returns []) i.kind → OnRow HasPhysicalResults i.kind) →
+pub idles_ahead : (count : Count) (src g : Program) (stack : List stack_object.Object) (first : ℕ) (s0 : State) → IsInitialState stack first s0 →
+    ((q : Pos) (i : Item) → src.fetch q ≡ Here i → ItemHasClass bare_return i.kind → OnRow HasPhysicalResults i.kind) →
     (p : Pos) (source_end : ℕ) → p.item < source_end → ((e : Pos) (k n : ℕ) → e.block ≡ p.block → g.fetch e ≡ EndOfBlock k n → k ≡ source_end) →
     (ys : List Item) (n : ℕ) → InOrder p.block n ys → 2 * p.item ≤ n → All (λ y. KindFits src y.kind source_end y.origin) ys →
     All (λ y. MarkFits y.kind y.origin) ys → FaultsAt src s0 p → All (IsIdleAt count g p) ys

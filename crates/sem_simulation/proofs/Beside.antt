@@ -9,7 +9,8 @@ use Rattle.mir_func.specs.declared.item.Item.{Item}
 use Rattle.sem_mir.specs.State.{State, Core}
 use Rattle.sem_mir.specs.Step.{Faulted, Outcome, Falls, Goes, Gives, Traps, Asks, Breaks, do_item, step}
 use Rattle.mir_func.specs.Graph.{Here, EndOfBlock, below, block_start}
-use Rattle.sem_mir.specs.Align.{position_of, is_code, SyncPoint, moves_on, waits_at, sync_point_of, IsOrigin, Since, Same, After, since_of}
+use Rattle.mir_func.specs.Positions.{position_of}
+use Rattle.sem_mir.specs.Align.{is_code, SyncPoint, moves_on, waits_at, sync_point_of, IsOrigin, Since, Same, After, since_of}
 use Rattle.sem_mir.specs.Follow.{rank, next_rank, InOrder}
 use Rattle.sem_simulation.specs.MatchStates.{ShowsSame, since_item}
 use Rattle.sem_simulation.specs.Refinement.{waiting, Walk, there, on, past, IsDoomed, faults, later, later_past, Passes, FaultsAt, Lingers, IsStuck, doomed}

@@ -8,7 +8,8 @@ use Rattle.mir_func.specs.declared.item.Item.{Item}
 use Rattle.sem_mir.specs.State.{State}
 use Rattle.sem_mir.specs.Step.{Went, Lost, Goes, moved, do_fetch, step}
 use Rattle.mir_func.specs.Graph.{Program, Fetch, Here, EndOfBlock, Outside, below, block_start, FetchEdge}
-use Rattle.sem_mir.specs.Align.{position_of, is_code, SyncPoint, Count, ByEnds, end_sync_point, sync_point_at}
+use Rattle.mir_func.specs.Positions.{position_of}
+use Rattle.sem_mir.specs.Align.{is_code, SyncPoint, Count, ByEnds, end_sync_point, sync_point_at}
 use Rattle.sem_mir.specs.Follow.{rank, next_rank, InOrder}
 use Rattle.sem_simulation.specs.MatchStates.{Sides, MatchStates, IsPastItems}
 use Rattle.sem_simulation.specs.Refinement.{Passes, still, pass}

@@ -5,7 +5,8 @@ use Rattle.mir_func.specs.declared.item.Item.{Item}
 use Rattle.sem_mir.specs.State.{State, Core}
 use Rattle.sem_mir.specs.Step.{Went, Falls, Goes, Traps, do_item, step}
 use Rattle.mir_func.specs.Graph.{Here, EndOfBlock, below, block_start}
-use Rattle.sem_mir.specs.Align.{position_of, SyncPoint, ByItems, ByEnds, waits_at, sync_point_of, sync_point_at, IsOrigin, Since, After, since_of}
+use Rattle.mir_func.specs.Positions.{position_of}
+use Rattle.sem_mir.specs.Align.{SyncPoint, ByItems, ByEnds, waits_at, sync_point_of, sync_point_at, IsOrigin, Since, After, since_of}
 use Rattle.sem_mir.specs.Follow.{next_rank, InOrder}
 use Rattle.sem_simulation.specs.Refinement.{waiting, Walk, on, past, MayPass, gone, late, IsDoomed, faults, later, later_past}
 use Rattle.sem_simulation.specs.MatchStates.{Sides}

@@ -5,10 +5,11 @@ use Rattle.mir_func.specs.declared.position.Pos.{Pos}
 use Rattle.mir_func.specs.declared.position.Origin.{Origin}
 use Rattle.mir_func.specs.declared.position.Origin.TheVariants.{Kept}
 use Rattle.mir_func.specs.declared.item.Item.{Item}
-use Rattle.sem_mir.specs.State.{State, Core}
+use Rattle.sem_mir.specs.State.{State, Core, RunResult}
 use Rattle.sem_mir.specs.Step.{Went, Returned, Faulted, Waits, Lost, Outcome, Falls, Goes, Gives, Traps, Asks, Breaks, moved, do_item, step}
 use Rattle.mir_func.specs.Graph.{Program, Here, EndOfBlock, below, block_start}
-use Rattle.sem_mir.specs.Align.{position_of, is_code, SyncPoint, moves_on, waits_at, Since, Same, After, since_of}
+use Rattle.mir_func.specs.Positions.{position_of}
+use Rattle.sem_mir.specs.Align.{is_code, SyncPoint, moves_on, waits_at, Since, Same, After, since_of}
 use Rattle.sem_mir.specs.Follow.{next_rank, InOrder}
 use Rattle.sem_simulation.specs.MatchStates.{ShowsSame, since_item}
 use Rattle.sem_simulation.specs.Refinement.{Passes, still, pass, Lingers, stays, goes_by, waits_by}
@@ -44,7 +45,7 @@ goes_idle g t u m Traps is h here go = let bad : Faulted ≡ Went u = sym is ∙
 goes_idle g t u m Asks is h here go = let bad : Waits ≡ Went u = sym is ∙ go in cc
 goes_idle g t u m Breaks is h here go = let bad : Lost ≡ Went u = sym is ∙ go in cc
 
-no_more_gives_not : (m : Since) (d : Core) (o : Outcome) (v : List ℕ) → ShowsNoMore m d o → o ≡ Gives v → ⊥
+no_more_gives_not : (m : Since) (d : Core) (o : Outcome) (v : RunResult) → ShowsNoMore m d o → o ≡ Gives v → ⊥
 no_more_gives_not m d (Gives w) v h e = h
 no_more_gives_not m d (Falls c) v h e = cc
 no_more_gives_not m d (Goes n c) v h e = cc
@@ -118,13 +119,13 @@ module _ (change : Change) where
 
     -- what g shows at a station of p, and that it doesn't return there
     abbrev Shown : State → State → Type 0
-    Shown t t2 = ShowsSame t.core t2.core × ((v : List ℕ) → step g t2 ≡ Returned v → ⊥)
+    Shown t t2 = ShowsSame t.core t2.core × ((v : RunResult) → step g t2 ≡ Returned v → ⊥)
 
     idle_item : (y : Item) → IsIdleAt count g p y → position_of y.origin ≡ p → ((d : Core) → ShowsNoMore (since_item count y) d (do_item g y.kind d)) ⊎
         IsNoReturn g p y
     idle_item y h at = let k : (position_of y.origin).item ≡ p.item = ap (λ (z : Pos). z.item) at in h (omega (arith, k))
 
-    no_return : (t : State) (i : SyncPoint) → IsSyncPointOf count g t.pos i → (ys : List Item) → rest_g t.pos ≡ ys → Idle ys → i.pos ≡ p → (v : List ℕ) →
+    no_return : (t : State) (i : SyncPoint) → IsSyncPointOf count g t.pos i → (ys : List Item) → rest_g t.pos ≡ ys → Idle ys → i.pos ≡ p → (v : RunResult) →
         step g t ≡ Returned v → ⊥
     no_return t i (of_end k n fe ce ie) ys eg idle at v h = let bad : Went (record { pos = block_start (g.enter n); core = t.core }) ≡ Returned v =
         sym (step_end g t k n fe) ∙ h in cc

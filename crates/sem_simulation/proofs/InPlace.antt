@@ -3,10 +3,11 @@ use Rattle.std.proofs.Common.{◌≡◌, ℕ, ◌+◌, ◌*◌, ◌≤◌, List,
 use Rattle.mir_func.specs.declared.position.Pos.{Pos}
 use Rattle.mir_func.specs.declared.position.Origin.{Origin}
 use Rattle.mir_func.specs.declared.item.Item.{Item}
-use Rattle.sem_mir.specs.State.{State, Core}
+use Rattle.sem_mir.specs.State.{State, Core, RunResult}
 use Rattle.sem_mir.specs.Step.{Went, Returned, Faulted, Lost, Outcome, Falls, Goes, Gives, Traps, Asks, Breaks, moved, do_item, do_fetch, step}
 use Rattle.mir_func.specs.Graph.{Fetch, Here, EndOfBlock, Outside, below, block_start}
-use Rattle.sem_mir.specs.Align.{position_of, is_code, SyncPoint, Count, moves_on, waits_at, sync_point_of, end_sync_point, Since, After, since_of, AnyOrigin}
+use Rattle.mir_func.specs.Positions.{position_of}
+use Rattle.sem_mir.specs.Align.{is_code, SyncPoint, Count, moves_on, waits_at, sync_point_of, end_sync_point, Since, After, since_of, AnyOrigin}
 use Rattle.sem_mir.specs.Align.{RunsMatch}
 use Rattle.sem_mir.specs.Follow.{rank, next_rank, InOrder}
 use Rattle.sem_simulation.specs.MatchStates.{MatchStates, IsPastItems, since_item}
@@ -252,7 +253,7 @@ module _ (change : Change) where
   -- both at code of one origin
   meets_code : (last0 : Option Pos) (t u : State) (r : Beside change last0 t u) (x y : Item) (xs ys : List Item) → rest_f r.v.pos ≡ x ∷ xs →
       rest_g t.pos ≡ y ∷ ys → is_code x.kind ≡ true → x.origin ≡ y.origin → since_item count x ≡ since_item count y →
-      ((v : List ℕ) → do_item g y.kind t.core ≡ Gives v → do_item f x.kind r.v.core ≡ Gives v) →
+      ((v : RunResult) → do_item g y.kind t.core ≡ Gives v → do_item f x.kind r.v.core ≡ Gives v) →
       (do_item g y.kind t.core ≡ Traps → do_item f x.kind r.v.core ≡ Traps) →
       ((t' : State) → step g t ≡ Went t' →
       ((w' : State) × (step f r.v ≡ Went w') × Beside change (waiting (since_item count y) (position_of y.origin)) t' w') ⊎

@@ -5,7 +5,8 @@ use Rattle.mir_func.specs.declared.item.Item.{Item}
 use Rattle.sem_mir.specs.State.{State, Core}
 use Rattle.sem_mir.specs.Step.{Went, Falls, do_item, step}
 use Rattle.mir_func.specs.Graph.{Program, below, block_start}
-use Rattle.sem_mir.specs.Align.{position_of, is_code, SyncPoint, Count, sync_point_at, IsOrigin, Since, Start, Same, After, MatchesNext, AnyOrigin, MatchedUpTo}
+use Rattle.mir_func.specs.Positions.{position_of}
+use Rattle.sem_mir.specs.Align.{is_code, SyncPoint, Count, sync_point_at, IsOrigin, Since, Start, Same, After, MatchesNext, AnyOrigin, MatchedUpTo}
 use Rattle.sem_mir.specs.Align.{other}
 use Rattle.sem_mir.specs.Align.{FailsBefore, RunsMatch}
 use Rattle.sem_simulation.specs.MatchStates.{Sides, since_item, ShowsSame}

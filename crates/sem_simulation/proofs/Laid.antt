@@ -10,7 +10,7 @@ use Rattle.mir_func.specs.declared.block.Block.{Block}
 use Rattle.mir_func.specs.declared.item.Item.{Item}
 use Rattle.mir_func.specs.Sound.{AreApart, ids_of, OriginIn}
 use Rattle.mir_func.specs.Graph.{Program, Here, EndOfBlock, block_start, end_of, front, fetch_in, from_block, index_of, program_of, framed_program}
-use Rattle.sem_mir.specs.Align.{position_of}
+use Rattle.mir_func.specs.Positions.{position_of}
 use Rattle.sem_mir.specs.Follow.{next_rank, InOrder}
 use Rattle.sem_mir.proofs.Reading.{found_in, front_item, front_end, end_index, within_list, next_block, apart_tail}
 use Rattle.sem_simulation.specs.MatchStates.{IsPastItems, Laid}

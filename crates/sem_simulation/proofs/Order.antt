@@ -6,7 +6,8 @@ use Rattle.mir_func.specs.declared.position.Origin.{Origin}
 use Rattle.mir_func.specs.declared.position.Origin.TheVariants.{Kept, Before}
 use Rattle.mir_func.specs.declared.item.Item.{Item}
 use Rattle.mir_func.specs.Graph.{Program, Here}
-use Rattle.sem_mir.specs.Align.{position_of, is_code, Count, moves_on, waits_at, SyncPoint, sync_point_of, IsOrigin, Same, since_of}
+use Rattle.mir_func.specs.Positions.{position_of}
+use Rattle.sem_mir.specs.Align.{is_code, Count, moves_on, waits_at, SyncPoint, sync_point_of, IsOrigin, Same, since_of}
 use Rattle.sem_mir.specs.Follow.{rank, next_rank, InOrder}
 use Rattle.sem_simulation.specs.Refinement.{waiting, MayPass, gone, early, late}
 

@@ -1,7 +1,7 @@
 -- Steps that return or stop on a frame fault, and outcomes that are alike.
-use Rattle.std.proofs.Common.{◌≡◌, ℕ, List, refl, sym, ap, ◌∙◌}
+use Rattle.std.proofs.Common.{◌≡◌, ℕ, refl, sym, ap, ◌∙◌}
 use Rattle.mir_func.specs.declared.position.Pos.{Pos}
-use Rattle.sem_mir.specs.State.{Core, State}
+use Rattle.sem_mir.specs.State.{Core, State, RunResult}
 use Rattle.sem_mir.specs.Step.{Returned, Faulted, Outcome, Falls, Goes, Gives, Traps, Asks, Breaks, moved, step}
 use Rattle.mir_func.specs.Graph.{Program}
 use Rattle.sem_mir.specs.Effects.{EndAlike}
@@ -9,7 +9,7 @@ use Rattle.sem_mir.specs.Align.{Since, After}
 use Rattle.sem_simulation.specs.MatchStates.{OutcomesAlike}
 use Rattle.sem_simulation.specs.InPlace.{TrapsAlone}
 
-pub returns_gives : (enter : ℕ → ℕ) (p : Pos) (o : Outcome) (v : List ℕ) → moved enter p o ≡ Returned v → o ≡ Gives v
+pub returns_gives : (enter : ℕ → ℕ) (p : Pos) (o : Outcome) (v : RunResult) → moved enter p o ≡ Returned v → o ≡ Gives v
 returns_gives enter p (Gives w) v e = cc
 returns_gives enter p (Falls c) v e = cc
 returns_gives enter p (Goes n c) v e = cc
@@ -27,7 +27,7 @@ faults_traps enter p Breaks e = cc
 
 -- x is what f does, and y what g does
 module _ (f g : Program) (v t : State) (x y : Outcome) (go_f : step f v ≡ moved f.enter v.pos x) (go : step g t ≡ moved g.enter t.pos y) where
-  pub both_return : ((w : List ℕ) → y ≡ Gives w → x ≡ Gives w) → (w : List ℕ) → step g t ≡ Returned w → step f v ≡ Returned w
+  pub both_return : ((w : RunResult) → y ≡ Gives w → x ≡ Gives w) → (w : RunResult) → step g t ≡ Returned w → step f v ≡ Returned w
   both_return alike w e = go_f ∙ ap (moved f.enter v.pos) (alike w (returns_gives g.enter t.pos y w (sym go ∙ e)))
 
   pub both_fault : (y ≡ Traps → x ≡ Traps) → step g t ≡ Faulted → step f v ≡ Faulted
@@ -35,7 +35,7 @@ module _ (f g : Program) (v t : State) (x y : Outcome) (go_f : step f v ≡ move
 
 module _ (P : Core → Core → Type 0) (J : ℕ → Core → Core → Type 0) where
   -- where one of two that are alike is a return or a trap, so is the other
-  pub alike_gives : (x y : Outcome) → OutcomesAlike P J x y → (v : List ℕ) → y ≡ Gives v → x ≡ Gives v
+  pub alike_gives : (x y : Outcome) → OutcomesAlike P J x y → (v : RunResult) → y ≡ Gives v → x ≡ Gives v
   alike_gives (Gives w) (Gives z) h v e = ap Gives h ∙ e
   alike_gives (Falls c) (Falls d) h v e = cc
   alike_gives (Goes i c) (Goes j d) h v e = cc
@@ -79,7 +79,7 @@ module _ (m : Since) where
   alone_after Traps Breaks h = h
   alone_after _ y h = absurd h
 
-  pub alone_gives : (x y : Outcome) → TrapsAlone m x y → (v : List ℕ) → y ≡ Gives v → x ≡ Gives v
+  pub alone_gives : (x y : Outcome) → TrapsAlone m x y → (v : RunResult) → y ≡ Gives v → x ≡ Gives v
   alone_gives Traps (Gives w) h v e = absurd h
   alone_gives Traps (Falls d) h v e = cc
   alone_gives Traps (Goes i d) h v e = cc

@@ -5,10 +5,11 @@ use Rattle.std.proofs.lemmas.Bool.{cases_lt, cases_Bool}
 use Rattle.mir_func.specs.declared.position.Pos.{Pos}
 use Rattle.mir_func.specs.declared.position.Origin.{Origin}
 use Rattle.mir_func.specs.declared.item.Item.{Item}
-use Rattle.sem_mir.specs.State.{State, Core}
+use Rattle.sem_mir.specs.State.{State, Core, RunResult}
 use Rattle.sem_mir.specs.Step.{Went, Returned, Faulted, Lost, Outcome, Falls, Goes, Gives, Traps, Asks, Breaks, moved, do_item, do_fetch, step}
 use Rattle.mir_func.specs.Graph.{Program, Fetch, Here, EndOfBlock, Outside, below, block_start, FetchEdge}
-use Rattle.sem_mir.specs.Align.{position_of, is_code, SyncPoint, ByItems, ByEnds, moves_on, waits_at, sync_point_of, Since, After, since_of, AnyOrigin}
+use Rattle.mir_func.specs.Positions.{position_of}
+use Rattle.sem_mir.specs.Align.{is_code, SyncPoint, ByItems, ByEnds, moves_on, waits_at, sync_point_of, Since, After, since_of, AnyOrigin}
 use Rattle.sem_mir.specs.Align.{RunsMatch}
 use Rattle.sem_mir.specs.Follow.{rank, next_rank, InOrder}
 use Rattle.sem_simulation.specs.MatchStates.{since_item, ShowsSame}
@@ -254,7 +255,7 @@ module _ (rewiring : Rewiring) where
       inl (inl (subst (λ (z : State). Within last0 z u) (went_once g t t1 t' (ends_g rewiring t r.k r.e r.falls) st) made))
 
   -- where g's outcome is a return or a trap, so is f's
-  gives_too : (b : ℕ) (xs ys : List Item) (m : Since) (x : Outcome) (v : List ℕ) → DoAlike sides place match_states b xs ys m x (Gives v) → x ≡ Gives v
+  gives_too : (b : ℕ) (xs ys : List Item) (m : Since) (x : Outcome) (v : RunResult) → DoAlike sides place match_states b xs ys m x (Gives v) → x ≡ Gives v
   gives_too b xs ys m (Gives w) v h = ap Gives h
   gives_too b xs ys m _ v h = absurd h
 

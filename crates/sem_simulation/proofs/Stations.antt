@@ -7,7 +7,7 @@ use Rattle.mir_func.specs.declared.item.ItemKind.{ItemKind}
 use Rattle.mir_func.specs.declared.item.ItemKind.TheVariants.{Code, Mark, Phi}
 use Rattle.sem_mir.specs.State.{Core}
 use Rattle.sem_mir.specs.Step.{Falls, does, act, with_core, numbered, do_item}
-use Rattle.rv64_instr.specs.Parts.{is_call}
+use Rattle.rv64_instr.specs.LocationEffects.{is_call}
 use Rattle.mir_func.specs.Graph.{Program, Fetch, Here, EndOfBlock, Outside, below, KindEdge}
 use Rattle.sem_mir.specs.Align.{is_code, is_jump, is_jump_row, SyncPoint, Count, ByItems, ByEnds, ByWords, moves_on, sync_point_of, item_sync_point}
 use Rattle.sem_mir.specs.Align.{end_sync_point}

@@ -8,7 +8,8 @@ use Rattle.sem_mir.specs.Align.{SyncPoint, IsOrigin, Arrives, here, onward, Arri
 use Rattle.sem_mir.specs.Align.{FailsLater, FailsBefore}
 use Rattle.mir_func.specs.declared.block.Block.{Block}
 use Rattle.mir_func.specs.declared.item.Item.{Item}
-use Rattle.sem_mir.specs.Follow.{first_of, OnRow, GoesTo, Shape}
+use Rattle.sem_mir.specs.InitialState.{first_of}
+use Rattle.sem_mir.specs.Follow.{OnRow, GoesTo, Shape}
 use Rattle.sem_simulation.specs.Added.{IsNeverBack, StopsMore}
 use Rattle.sem_mir.proofs.Alignment.{arrives_once, went_once}
 use Rattle.sem_mir.proofs.Edges.{step_edge, step_from_before, leads_on}

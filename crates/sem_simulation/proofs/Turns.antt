@@ -9,9 +9,10 @@ use Rattle.mir_func.specs.declared.item.ItemKind.{ItemKind}
 use Rattle.mir_func.specs.declared.item.ItemKind.TheVariants.{Code, Mark, Phi}
 use Rattle.sem_mir.specs.State.{State, Core, updated}
 use Rattle.sem_mir.specs.Step.{part_of, Went, Outcome, Falls, Goes, moved, act, does, with_core, numbered, mark_value, place_value, do_item, do_fetch, step}
-use Rattle.rv64_instr.specs.Parts.{is_call, IsSlotStore}
+use Rattle.rv64_instr.specs.LocationEffects.{is_call, IsSlotStore}
 use Rattle.mir_func.specs.Graph.{Program, Fetch, Here, EndOfBlock, Outside, below, block_start, Edge, FetchEdge, KindEdge, RowEdge, Leads, stay, go as by_edge}
-use Rattle.sem_mir.specs.Align.{position_of, is_code, is_jump, is_jump_row, SyncPoint, ByItems, sync_point_of, item_sync_point, fetch_sync_point, sync_point_at}
+use Rattle.mir_func.specs.Positions.{position_of}
+use Rattle.sem_mir.specs.Align.{is_code, is_jump, is_jump_row, SyncPoint, ByItems, sync_point_of, item_sync_point, fetch_sync_point, sync_point_at}
 use Rattle.sem_mir.specs.Follow.{OnRow}
 use Rattle.sem_simulation.specs.Words.{SameCode, IsAddedJump, HasPlainTurns}
 use Rattle.sem_mir.proofs.Edges.{falls_below, goes_to_start}
@@ -19,13 +20,14 @@ use Rattle.sem_simulation.proofs.Order.{same_pos}
 use Rattle.sem_simulation.proofs.Stations.{code_sync_point, IsSyncPointOf, of_item, of_end, sync_point_is_of}
 
 pub same_code : (c : Core) → SameCode c c
-same_code c = record { entry = refl; area = refl; objects = refl; regs = refl; slots = refl; memory = refl; script = refl; events = refl }
+same_code c = record { entry = refl; area = refl; objects = refl; symbols = refl; regs = refl; slots = refl; memory = refl; script = refl; events = refl }
 
 pub code_trans : (c d e : Core) → SameCode c d → SameCode d e → SameCode c e
 code_trans c d e a b = record {
   entry = a.entry ∙ b.entry;
   area = a.area ∙ b.area;
   objects = a.objects ∙ b.objects;
+  symbols = a.symbols ∙ b.symbols;
   regs = a.regs ∙ b.regs;
   slots = a.slots ∙ b.slots;
   memory = a.memory ∙ b.memory;
@@ -39,6 +41,7 @@ numbered_code sp call (Some k) os c = record {
   entry = refl;
   area = refl;
   objects = refl;
+  symbols = refl;
   regs = refl;
   slots = refl;
   memory = refl;
@@ -68,9 +71,9 @@ module _ (g : Program) where
       moved g.enter p (do_item g k c) ≡ Went t → SameCode t.core c × (t.pos ≡ below p)
   kind_code (Code j n) i e p c t go = cc
   kind_code (Mark v m) i e p c t go = fall_code p c (record c { marks = (v, part_of v (mark_value g m c)) ∷ c.marks }) t
-      (record { entry = refl; area = refl; objects = refl; regs = refl; slots = refl; memory = refl; script = refl; events = refl }) go
+      (record { entry = refl; area = refl; objects = refl; symbols = refl; regs = refl; slots = refl; memory = refl; script = refl; events = refl }) go
   kind_code (Phi q n) i e p c t go = fall_code p c (record c { pairs = updated n (updated 0 (place_value q c) (c.pairs n)) c.pairs }) t
-      (record { entry = refl; area = refl; objects = refl; regs = refl; slots = refl; memory = refl; script = refl; events = refl }) go
+      (record { entry = refl; area = refl; objects = refl; symbols = refl; regs = refl; slots = refl; memory = refl; script = refl; events = refl }) go
 
   fetch_code : (x : Fetch) (b : ℕ) → fetch_sync_point ByItems b x ≡ None → (p : Pos) (c : Core) (t : State) → moved g.enter p (do_fetch g x c) ≡ Went t →
       SameCode t.core c × (t.pos ≡ next_from p x)

@@ -7,7 +7,8 @@ use Rattle.mir_func.specs.declared.item.Item.{Item}
 use Rattle.sem_mir.specs.State.{State}
 use Rattle.sem_mir.specs.Step.{Went, step}
 use Rattle.mir_func.specs.Graph.{Program, Fetch, Here, EndOfBlock, Outside}
-use Rattle.sem_mir.specs.Align.{position_of, is_code, is_jump, waits_at, SyncPoint, ByItems, ByWords, sync_point_of, item_sync_point, fetch_sync_point}
+use Rattle.mir_func.specs.Positions.{position_of}
+use Rattle.sem_mir.specs.Align.{is_code, is_jump, waits_at, SyncPoint, ByItems, ByWords, sync_point_of, item_sync_point, fetch_sync_point}
 use Rattle.sem_mir.specs.Align.{sync_point_at}
 use Rattle.sem_mir.specs.Align.{Since, Same, After, since_of, MatchesNext, First, MatchedUpTo, begin, other, met, FailsBefore, Agrees, RunsMatch}
 use Rattle.sem_simulation.specs.Words.{SameCode, Shown, RunsByWords, IsAddedJump, HasPlainTurns, WordsFollow}

@@ -1,35 +1,40 @@
 -- A register that is written stays so along a run; so a source doesn't fault where it returns physical registers.
 use Rattle.std.proofs.Common.{◌≡◌, ℕ, zero, suc, ◌<◌, List, [], ◌∷◌, map, All, Option, Some, None, Bool, true, false, cond, nat_eq, nat_le, is_some, ◌&&◌, refl}
-use Rattle.std.proofs.Common.{sym, ap, ◌∙◌, subst, inl, inr, arith}
+use Rattle.std.proofs.Common.{sym, ap, ◌∙◌, subst, inl, inr, arith, ◌++◌}
 use Rattle.std.specs.List.{list_all}
 use Rattle.std.proofs.lemmas.Bool.{cases_eq, and_parts, leb-true}
 use Rattle.std.proofs.lemmas.List.Elements.{All-cons, All-head, All-tail, All-nil}
 use Rattle.rv64_instr.specs.declared.op.Op.{Op}
-use Rattle.rv64_instr.specs.declared.op.Op.TheVariants.{Registers, Immediate, Lui, Branch as BranchOn, Load, Store as StoreOf, Copy, PseudoBr, PseudoCall}
-use Rattle.rv64_instr.specs.declared.op.Op.TheVariants.{PseudoRet}
+use Rattle.rv64_instr.specs.declared.op.Op.TheVariants.{Registers, Immediate, Lui, Branch as BranchOn, Load, Store as StoreOf, Copy}
+use Rattle.rv64_instr.specs.declared.op.Op.TheVariants.{PseudoBr, PseudoCall, PseudoRet, PseudoCallIndirect}
+use Rattle.rv64_instr.specs.declared.op.Op.TheVariants.{PseudoTail, PseudoTailIndirect, NoReturnCall, NoReturnCallIndirect}
 use Rattle.rv64_instr.specs.declared.op.ImmediateOp.{ImmediateOp}
 use Rattle.rv64_instr.specs.declared.op.ImmediateOp.TheVariants.{Addi}
 use Rattle.rv64_instr.specs.declared.operand.Operand.{Operand}
-use Rattle.rv64_instr.specs.declared.operand.Operand.TheVariants.{Def, Use, ImplicitUse, Imm, Slot as SlotOperand, Object, Block, Symbol}
+use Rattle.rv64_instr.specs.declared.operand.Operand.TheVariants.{Def, Use, ImplicitUse, Imm, Slot as SlotOperand, Object, Block, Symbol, Mask}
 use Rattle.rv64_instr.specs.Instruction.{Instruction}
 use Rattle.rv64_instr.specs.Form.{is_result, has_form}
 use Rattle.rv64_instr.specs.Arithmetic.{word}
 use Rattle.rv64_instr.specs.Row.{Row, Fixes, Moves, Sets, Addresses, Loads, Stores, LoadsSlot, StoresSlot, Branches, Jumps, Calls, Returns, Unfit, row_of}
-use Rattle.rv64_instr.specs.Row.{row_by, implicit_uses, move_row, immediate_row, object_row}
-use Rattle.rv64_instr.specs.DefsAndUses.{caller_saved, reads}
+use Rattle.rv64_instr.specs.Row.{row_by, implicit_uses, move_row, immediate_row, object_row, held_call, held_tail, held_gone}
+use Rattle.rv64_instr.specs.DefsAndUses.{caller_saved, reads, way_reads}
+use Rattle.rv64_instr.proofs.Tails.{tails_low, held_low}
 use Rattle.mir_func.specs.declared.object.Object as stack_object
 use Rattle.mir_func.specs.declared.position.Pos.{Pos}
 use Rattle.mir_func.specs.declared.item.Item.{Item}
 use Rattle.mir_func.specs.declared.item.ItemKind.{ItemKind}
 use Rattle.mir_func.specs.declared.item.ItemKind.TheVariants.{Code, Mark, Phi}
 use Rattle.sem_mir.specs.State.{Reply, Core, State, content, put, put_all, writes_frame}
-use Rattle.sem_mir.specs.Step.{Went, Outcome, Falls, Goes, Gives, Traps, Asks, Breaks, moved, read, set_register, answered, slot_loaded, does, are_written}
-use Rattle.sem_mir.specs.Step.{act, with_core, numbered, do_item, do_fetch, step}
-use Rattle.rv64_instr.specs.Parts.{is_call}
+use Rattle.sem_mir.specs.Step.{Went, Outcome, Falls, Goes, Gives, Traps, Asks}
+use Rattle.sem_mir.specs.Step.{Breaks, moved, read, set_register, exec_external_call, slot_loaded, does, are_written}
+use Rattle.sem_mir.specs.Step.{act, with_core, numbered, do_item, do_fetch, step, called_at, result_at}
+use Rattle.rv64_instr.specs.LocationEffects.{is_call}
 use Rattle.mir_func.specs.Graph.{Program, Fetch, Here, EndOfBlock, Outside}
 use Rattle.sem_mir.specs.Align.{Arrives, here, onward}
-use Rattle.sem_mir.specs.Follow.{IsStart, OnRow}
+use Rattle.sem_mir.specs.InitialState.{IsInitialState}
+use Rattle.sem_mir.specs.Follow.{OnRow}
 use Rattle.rv64_instr.specs.View.{class_of, Return}
+use Rattle.rv64_instr.specs.declared.start.CallTarget.{CallTarget}
 use Rattle.sem_simulation.specs.Refinement.{FaultsAt}
 use Rattle.sem_simulation.proofs.Outcomes.{faults_traps}
 use Rattle.sem_mir.specs.Effects.{OnCore}
@@ -75,10 +80,10 @@ does_written (LoadsSlot rd n) c = by_slot (c.slots n) where
 does_written (StoresSlot rs n) c = λ r v e. (v, e)
 does_written (Branches op a b t) c = search (on_either, same_written)
 does_written (Jumps t) c = λ r v e. (v, e)
-does_written (Calls name args) c = by_script (map (read c) args) c.script where
-  by_script : (vs : List ℕ) (rs : List Reply) → OnCore (StaysWritten c) (answered name vs c rs)
-  by_script vs [] = tt
-  by_script vs (q ∷ rs) = on_either (StaysWritten c) (writes_frame c.entry c.area q.writes) _ _ tt (λ r v e. put_all_written caller_saved q.regs r v c.regs e)
+does_written (Calls call) c = by_script (called_at c call.callee) (map (read c) call.args) c.script where
+  by_script : (t : CallTarget) (vs : List ℕ) (rs : List Reply) → OnCore (StaysWritten c) (exec_external_call t vs c rs)
+  by_script t vs [] = tt
+  by_script t vs (q ∷ rs) = on_either (StaysWritten c) (writes_frame c.entry c.area q.writes) _ _ tt (λ r v e. put_all_written caller_saved q.regs r v c.regs e)
 does_written (Returns v) c = tt
 does_written Unfit c = tt
 
@@ -127,9 +132,9 @@ reads_written c (r ∷ rs) has low =
     let k = has r (All-head (λ r. r < 32) r rs low) in
     ap (λ (x : Option ℕ). is_some x && are_written c rs) k.1 ∙ reads_written c rs has (All-tail (λ r. r < 32) r rs low)
 
--- the results of a return are physical registers
+-- what a return reads are physical registers
 abbrev pub HasPhysicalResults : Row → Type 0
-HasPhysicalResults (Returns results) = All (λ r. r < 32) results
+HasPhysicalResults (Returns ending) = All (λ r. r < 32) (way_reads ending.way ++ ending.values)
 HasPhysicalResults _ = ⊥
 
 -- as the form of returns has it
@@ -147,6 +152,19 @@ results_are_physical (ImplicitUse r ∷ rest) e = by_test (results_are_physical 
       by_test more true = more
       by_test more false = All-cons (λ r. r < 32) r (implicit_uses rest) low more
 results_are_physical (_ ∷ rest) e = cc
+
+-- and those of calls in tail position and of calls that don't return
+held_tail_physical : (xs : List ℕ) → All (λ r. r < 32) xs → class_of (held_tail xs) ≡ Return → HasPhysicalResults (held_tail xs)
+held_tail_physical [] low c = cc
+held_tail_physical (r ∷ xs) low c = low
+
+held_gone_physical : (xs : List ℕ) → All (λ r. r < 32) xs → class_of (held_gone xs) ≡ Return → HasPhysicalResults (held_gone xs)
+held_gone_physical [] low c = cc
+held_gone_physical (r ∷ xs) low c = low
+
+held_call_goes_on : (xs : List ℕ) → class_of (held_call xs) ≡ Return → ⊥
+held_call_goes_on [] h = cc
+held_call_goes_on (r ∷ xs) h = cc
 
 immediate_goes_on : (op : ImmediateOp) (rd a n : ℕ) → class_of (immediate_row op rd a n) ≡ Return → ⊥
 immediate_goes_on Addi rd zero n h = cc
@@ -178,6 +196,13 @@ row_physical (BranchOn op) (Use a ∷ Use b ∷ Block target ∷ rest) e c = cc
 row_physical Copy (Def rd ∷ Use rs ∷ rest) e c = absurd (copy_goes_on rd rs c)
 row_physical PseudoBr (Block target ∷ rest) e c = cc
 row_physical PseudoCall (Symbol name ∷ rest) e c = cc
+row_physical PseudoCallIndirect os e c = absurd (held_call_goes_on (implicit_uses os) c)
+row_physical PseudoTail (Symbol name ∷ rest) e c = tails_low rest e
+row_physical PseudoTailIndirect (ImplicitUse r ∷ rest) e c =
+    held_tail_physical (implicit_uses (ImplicitUse r ∷ rest)) (held_low r rest e) c
+row_physical NoReturnCall (Symbol name ∷ Mask ∷ rest) e c = tails_low rest e
+row_physical NoReturnCallIndirect (ImplicitUse r ∷ Mask ∷ rest) e c =
+    held_gone_physical (implicit_uses (ImplicitUse r ∷ Mask ∷ rest)) (held_low r rest e) c
 row_physical _ _ e c = cc
 
 -- so an instruction in its form that returns gives physical registers
@@ -189,17 +214,17 @@ row_returns : (g : Program) (k : ItemKind) (c : Core) → ((r : ℕ) → r < 32 
 unfolding act does
 row_returns g (Code i n) c has low e = by_row (row_of i) low e where
   by_row : (r : Row) → HasPhysicalResults r → with_core (numbered g.sees_pointer (is_call (row_of i)) n i.operands) (act r c) ≡ Traps → ⊥
-  by_row (Returns rs) low e =
-      let w = reads_written c rs has low in
-      let k : with_core (numbered g.sees_pointer (is_call (row_of i)) n i.operands) (cond true (Gives (map (read c) rs)) Traps) ≡ Traps =
-      ap (λ (b : Bool). with_core (numbered g.sees_pointer (is_call (row_of i)) n i.operands) (cond b (Gives (map (read c) rs)) Traps)) (sym w) ∙ e in
+  by_row (Returns ending) low e =
+      let w = reads_written c (way_reads ending.way ++ ending.values) has low in
+      let k : with_core (numbered g.sees_pointer (is_call (row_of i)) n i.operands) (cond true (Gives (result_at c ending)) Traps) ≡ Traps =
+      ap (λ (b : Bool). with_core (numbered g.sees_pointer (is_call (row_of i)) n i.operands) (cond b (Gives (result_at c ending)) Traps)) (sym w) ∙ e in
       cc
   by_row _ low e = absurd low
 row_returns g (Mark v m) c has low e = low
 row_returns g (Phi p n) c has low e = low
 
 -- so from a start, the source doesn't fault where it has a return
-pub returns_never_fault : (src : Program) (stack : List stack_object.Object) (first : ℕ) (s0 : State) → IsStart stack first s0 → (p : Pos) (i : Item) →
+pub returns_never_fault : (src : Program) (stack : List stack_object.Object) (first : ℕ) (s0 : State) → IsInitialState stack first s0 → (p : Pos) (i : Item) →
     src.fetch p ≡ Here i →
     OnRow HasPhysicalResults i.kind → FaultsAt src s0 p → ⊥
 returns_never_fault src stack first s0 start p i fi low (s, comes, st) =

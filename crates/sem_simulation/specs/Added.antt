@@ -5,7 +5,8 @@ use Rattle.mir_func.specs.declared.item.Item.{Item}
 use Rattle.sem_mir.specs.State.{Core, State}
 use Rattle.sem_mir.specs.Step.{Outcome, Falls, Traps, Went, Faulted, do_item, step}
 use Rattle.mir_func.specs.Graph.{EndOfBlock, Program, Edge, below, block_start}
-use Rattle.sem_mir.specs.Align.{position_of, is_code, SyncPoint, Count, ByEnds, sync_point_at, IsOrigin, Since, Same, After, AnyOrigin, RunsMatch}
+use Rattle.mir_func.specs.Positions.{position_of}
+use Rattle.sem_mir.specs.Align.{is_code, SyncPoint, Count, ByEnds, sync_point_at, IsOrigin, Since, Same, After, AnyOrigin, RunsMatch}
 use Rattle.sem_simulation.specs.MatchStates.{Sides, MatchStates, Laid, since_item, ShowsSame, Does, DoBoth, OutcomesAlike}
 
 -- where g is relative to f: in code added at the start; level with f; ahead of f, in code added before f's next code at a

@@ -4,10 +4,11 @@ use Rattle.std.specs.Prelude.{◌≡◌, ◌⊎◌, ℕ, ◌*◌, ◌<◌, ◌�
 use Rattle.mir_func.specs.declared.position.Pos.{Pos}
 use Rattle.mir_func.specs.declared.position.Origin.TheVariants.{Kept}
 use Rattle.mir_func.specs.declared.item.Item.{Item}
-use Rattle.sem_mir.specs.State.{Core}
+use Rattle.sem_mir.specs.State.{Core, RunResult}
 use Rattle.sem_mir.specs.Step.{Outcome, Falls, Goes, Gives, Traps, do_item}
 use Rattle.mir_func.specs.Graph.{Here, EndOfBlock, Program, block_start}
-use Rattle.sem_mir.specs.Align.{position_of, is_code, Count, moves_on, sync_point_at, IsOrigin, Since, After, AnyOrigin, RunsMatch}
+use Rattle.mir_func.specs.Positions.{position_of}
+use Rattle.sem_mir.specs.Align.{is_code, Count, moves_on, sync_point_at, IsOrigin, Since, After, AnyOrigin, RunsMatch}
 use Rattle.sem_mir.specs.Follow.{next_rank, InOrder}
 use Rattle.sem_simulation.specs.Refinement.{FaultsAt}
 use Rattle.sem_simulation.specs.MatchStates.{Sides, MatchStates, Laid, since_item, ShowsSame, Does, DoBoth, OutcomesAlike}
@@ -35,7 +36,7 @@ TrapsAlone m x y = ⊥
 -- the item is kept from p, which is before its block's end, and never returns
 pub record IsNoReturn (g : Program) (p : Pos) (y : Item) : Type 0 where
   pub kept : y.origin ≡ Kept p
-  pub stays : (d : Core) (v : List ℕ) → do_item g y.kind d ≡ Gives v → ⊥
+  pub stays : (d : Core) (v : RunResult) → do_item g y.kind d ≡ Gives v → ⊥
   pub inner : (e : Pos) (k n : ℕ) → e.block ≡ p.block → g.fetch e ≡ EndOfBlock k n → p.item < k
 
 -- g may still run the item if the source stops at p: its position is after p, it adds no event and no value, or it is kept

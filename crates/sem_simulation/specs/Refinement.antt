@@ -1,9 +1,9 @@
 -- Refinement of a program f by a program g: g does the same, step for step, except for what it leaves out. If f's run refines a
 -- source's, so does g's.
-use Rattle.std.specs.Prelude.{◌≡◌, ◌⊎◌, ℕ, List, Option, Some, None}
+use Rattle.std.specs.Prelude.{◌≡◌, ◌⊎◌, ℕ, Option, Some, None}
 use Rattle.mir_func.specs.declared.position.Pos.{Pos}
 use Rattle.mir_func.specs.declared.variable.VarId.{VarId}
-use Rattle.sem_mir.specs.State.{State}
+use Rattle.sem_mir.specs.State.{State, RunResult}
 use Rattle.sem_mir.specs.Step.{Went, Returned, Faulted, step}
 use Rattle.mir_func.specs.Graph.{Program}
 use Rattle.sem_mir.specs.Align.{SyncPoint, IsOrigin, Arrives, Since, Start, Same, After, since_of, AnyOrigin, Tells, RunsMatch}
@@ -51,7 +51,7 @@ pub record Meets (f g : Program) (fs : Pos → Option SyncPoint) (R : Option Pos
   pub since : since_of sync_point.waits ≡ since_of i.waits
   pub events : t.core.events ≡ w.core.events
   pub told : (v : VarId) (x : ℕ) → Tells t v x → Tells w v x
-  pub returns : (results : List ℕ) → step g t ≡ Returned results → step f w ≡ Returned results
+  pub returns : (result : RunResult) → step g t ≡ Returned result → step f w ≡ Returned result
   pub faults : step g t ≡ Faulted → step f w ≡ Faulted
   pub goes : (t' : State) → step g t ≡ Went t' → ((w' : State) × (step f w ≡ Went w') × R (waiting (since_of i.waits) i.pos) t' w') ⊎
       ((since_of i.waits ≡ After) × (step f w ≡ Faulted))
@@ -71,7 +71,7 @@ pub data Lingers (g : Program) (gs : Pos → Option SyncPoint) (p : Pos) : State
 pub record Idles (g : Program) (w t : State) : Type 0 where
   pub events : t.core.events ≡ w.core.events
   pub told : (v : VarId) (x : ℕ) → Tells t v x → Tells w v x
-  pub returns : (results : List ℕ) → step g t ≡ Returned results → ⊥
+  pub returns : (result : RunResult) → step g t ≡ Returned result → ⊥
 
 -- f stops on a frame fault at w, at the position of g's station i, which g reached at t; if the source's run stops on a frame
 -- fault there, g idles as long as it lingers there

@@ -5,17 +5,19 @@ use Rattle.mir_func.specs.declared.item.Item.{Item}
 use Rattle.sem_mir.specs.State.{Core, State}
 use Rattle.sem_mir.specs.Step.{Went, step}
 use Rattle.mir_func.specs.Graph.{Here, Program, Leads}
-use Rattle.sem_mir.specs.Align.{position_of, is_code, is_jump, waits_at, SyncPoint, ByItems, ByWords, sync_point_at, Since, MatchesNext, First, MatchedUpTo}
+use Rattle.mir_func.specs.Positions.{position_of}
+use Rattle.sem_mir.specs.Align.{is_code, is_jump, waits_at, SyncPoint, ByItems, ByWords, sync_point_at, Since, MatchesNext, First, MatchedUpTo}
 use Rattle.sem_mir.specs.Align.{FailsBefore}
 use Rattle.sem_mir.specs.Align.{Agrees, RunsMatch}
 use Rattle.sem_mir.specs.Follow.{OnRow}
-use Rattle.rv64_instr.specs.Parts.{IsSlotStore}
+use Rattle.rv64_instr.specs.LocationEffects.{IsSlotStore}
 
 -- two cores that agree on all but debug values and pairs
 pub record SameCode (c d : Core) : Type 0 where
   pub entry : c.entry ≡ d.entry
   pub area : c.area ≡ d.area
   pub objects : c.objects ≡ d.objects
+  pub symbols : c.symbols ≡ d.symbols
   pub regs : c.regs ≡ d.regs
   pub slots : c.slots ≡ d.slots
   pub memory : c.memory ≡ d.memory

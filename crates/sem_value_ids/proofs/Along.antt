@@ -19,7 +19,7 @@ use Rattle.sem_mir.specs.State.{Core, State, updated, content, assigned}
 use Rattle.mir_func.specs.Variables.{is_same, overlaps}
 use Rattle.sem_mir.specs.Step.{Outcome, Falls, Goes, Gives, Traps, Asks, Breaks, Went, moved, act, seen, defined, given, numbered, with_core}
 use Rattle.sem_mir.specs.Step.{place_value, pair_value, mark_value, part_of, do_item, do_fetch, step, or_zero}
-use Rattle.rv64_instr.specs.Parts.{is_call}
+use Rattle.rv64_instr.specs.LocationEffects.{is_call}
 use Rattle.mir_func.specs.Graph.{Fetch, Here, EndOfBlock, Outside, Program, below, block_start}
 use Rattle.sem_mir.specs.ValueId.{Token, Entry, Made, Fixed, Tokens, register_token, code_tokens, given_token, numbered_tokens, place_token}
 use Rattle.sem_mir.specs.ValueId.{pair_token, mark_token, after_item, after_fetch, entry_tokens}

@@ -10,7 +10,7 @@ use Rattle.rv64_instr.specs.declared.place.Place.{Place}
 use Rattle.rv64_instr.specs.declared.place.Place.TheVariants.{Register, Slot, Const}
 use Rattle.rv64_instr.specs.Row.{Row, Fixes, Moves, Sets, Addresses, Loads, LoadsSlot, StoresSlot, Calls, row_of}
 use Rattle.rv64_instr.specs.DefsAndUses.{caller_saved}
-use Rattle.rv64_instr.specs.Parts.{is_call}
+use Rattle.rv64_instr.specs.LocationEffects.{is_call}
 use Rattle.mir_func.specs.declared.debug_substitution.OperandPair.{OperandPair}
 use Rattle.mir_func.specs.declared.variable.MarkValue.{MarkValue}
 use Rattle.mir_func.specs.declared.variable.MarkValue.TheVariants.{Nothing, Constant, At, Pair}
@@ -90,7 +90,7 @@ register_back n i (Sets rd op a b) t r = token_put n rd (New i rd) t r
 register_back n i (Addresses rd k offset) t r = token_put n rd (New i rd) t r
 register_back n i (Loads rd op base offset) t r = token_put n rd (New i rd) t r
 register_back n i (LoadsSlot rd k) t r = token_put n rd (Was (InSlot k)) t r
-register_back n i (Calls name args) t r = call_back n i t r
+register_back n i (Calls call) t r = call_back n i t r
 register_back n i row t r = refl
 
 -- ---- slots, pairs and marks

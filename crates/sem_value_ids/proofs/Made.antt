@@ -6,7 +6,7 @@ use Rattle.rv64_instr.specs.declared.place.Place.{Place}
 use Rattle.rv64_instr.specs.declared.place.Place.TheVariants.{Register, Slot, Const}
 use Rattle.rv64_instr.specs.Row.{Row, Fixes, Moves, Sets, Addresses, Loads, LoadsSlot, StoresSlot, Calls, row_of}
 use Rattle.rv64_instr.specs.DefsAndUses.{caller_saved}
-use Rattle.rv64_instr.specs.Parts.{is_call}
+use Rattle.rv64_instr.specs.LocationEffects.{is_call}
 use Rattle.mir_func.specs.declared.debug_substitution.OperandPair.{OperandPair}
 use Rattle.mir_func.specs.declared.position.Pos.{Pos}
 use Rattle.mir_func.specs.declared.variable.MarkValue.{MarkValue}
@@ -46,7 +46,7 @@ at_register i (Sets rd op a b) r = at_put i rd (New i rd) r refl
 at_register i (Addresses rd k offset) r = at_put i rd (New i rd) r refl
 at_register i (Loads rd op base offset) r = at_put i rd (New i rd) r refl
 at_register i (LoadsSlot rd k) r = at_put i rd (Was (InSlot k)) r tt
-at_register i (Calls name args) r = at_cond i (list_any (λ q. eqb r q) caller_saved) (New i r) (Was (InRegister r)) refl tt
+at_register i (Calls call) r = at_cond i (list_any (λ q. eqb r q) caller_saved) (New i r) (Was (InRegister r)) refl tt
 at_register i row r = tt
 
 at_stored : (i : ℕ) (row : Row) (k : ℕ) → IsMadeAt i (slot_stored row k)

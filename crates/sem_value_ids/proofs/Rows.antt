@@ -5,7 +5,8 @@ use Rattle.rv64_instr.specs.Arithmetic.{taken, load_width, store_width}
 use Rattle.rv64_instr.specs.Row.{Row, Fixes, Moves, Sets, Addresses, Loads, Stores, LoadsSlot, StoresSlot, Branches, Jumps, Calls, Returns, Unfit}
 use Rattle.rv64_instr.specs.DefsAndUses.{caller_saved, reads}
 use Rattle.sem_mir.specs.State.{Core, Reply, updated, content, put, put_all, writes_frame}
-use Rattle.sem_mir.specs.Step.{Outcome, Falls, Goes, Traps, act, does, read, or_zero, set_register, answered, slot_loaded, are_written, is_fault}
+use Rattle.sem_mir.specs.Step.{Outcome, Falls, Goes, Traps, act, does, read}
+use Rattle.sem_mir.specs.Step.{or_zero, set_register, exec_external_call, slot_loaded, are_written, is_fault, called_at}
 use Rattle.sem_mir.specs.Step.{address_at}
 use Rattle.sem_mir.specs.ValueId.{Token, Made, Fixed, Tokens, register_token, put_token, make_all, moved_tokens, sets_pointer, code_tokens}
 use Rattle.sem_value_ids.proofs.Naming.{Holds, IsOld, Good, AreOld, holds_agree, extend, extend_agrees, made_put, made_all, holds_put, holds_made}
@@ -160,8 +161,9 @@ row_names V n (StoresSlot rs k) t c c' o g e =
 row_names V n (Branches op a b target) t c c' o g e =
     subst (λ (z : Core). AfterCode n V t t c z) (either_way (taken op (read c a) (read c b)) target c c' e) (same_values V n t c c o g refl refl refl refl)
 row_names V n (Jumps target) t c c' o g e = subst (λ (z : Core). AfterCode n V t t c z) e (same_values V n t c c o g refl refl refl refl)
-row_names V n (Calls name args) t c c' o g e = called c.script e where
-  called : (s : List Reply) → GoesOn (answered name (map (read c) args) c s) c' → AfterCode n V t (record t { regs = make_all n caller_saved t.regs }) c c'
+row_names V n (Calls call) t c c' o g e = called c.script e where
+  called : (s : List Reply) → GoesOn (exec_external_call (called_at c call.callee) (map (read c) call.args) c s) c' →
+      AfterCode n V t (record t { regs = make_all n caller_saved t.regs }) c c'
   called [] e = absurd e
   called (y ∷ rest) e =
       let cr = put_all caller_saved y.regs c.regs in
@@ -179,7 +181,7 @@ row_names V n (Calls name args) t c c' o g e = called c.script e where
         token_pairs = refl;
         token_marks = refl;
       })
-row_names V n (Returns results) t c c' o g e = absurd e
+row_names V n (Returns ending) t c c' o g e = absurd e
 row_names V n Unfit t c c' o g e = absurd e
 
 unless_unwritten : (b : Bool) (x : Outcome) (c' : Core) → GoesOn (cond b x Traps) c' → GoesOn x c'

@@ -1,13 +1,15 @@
 -- Calls by their operands, and the registers that an answer sets.
-use Rattle.std.proofs.Common.{◌≡◌, ℕ, zero, suc, ◌+◌, ◌%◌, ◌^◌, ◌<◌, List, [], ◌∷◌, length, get_or, drop, map, Option, Some, None, Bool, true, false}
+use Rattle.std.proofs.Common.{◌≡◌, ℕ, zero, suc, ◌+◌, ◌%◌, ◌^◌, ◌<◌, ◌≤◌, List, [], ◌∷◌, length, get_or, drop, map, Option, Some, None, Bool, true, false}
 use Rattle.std.proofs.Common.{cond, nat_eq, nat_lt, IsTrue}
 use Rattle.std.proofs.Common.{◌⊎◌, inl, inr, ◌++◌, append_assoc, refl, sym, ap, ◌∙◌, subst, arith}
 use Rattle.std.specs.List.{All, list_all, cons_option}
 use Rattle.std.proofs.Math.Seq.{drop-cons}
-use Rattle.std.proofs.lemmas.Bool.{ltb-true, and_parts}
+use Rattle.std.proofs.lemmas.Bool.{ltb-true, and_parts, ne_eqb}
 use Rattle.std.proofs.lemmas.List.Elements.{All-nil, All-cons}
 use Rattle.rv64_instr.specs.declared.op.Op.{Op}
-use Rattle.rv64_instr.specs.declared.op.Op.TheVariants.{Registers, Immediate, Lui, Branch, Load, Store, Copy, PseudoBr, PseudoCall, PseudoRet}
+use Rattle.rv64_instr.specs.declared.op.Op.TheVariants.{Registers, Immediate, Lui, Branch, Load, Store, Copy}
+use Rattle.rv64_instr.specs.declared.op.Op.TheVariants.{PseudoBr, PseudoCall, PseudoRet, PseudoCallIndirect}
+use Rattle.rv64_instr.specs.declared.op.Op.TheVariants.{PseudoTail, PseudoTailIndirect, NoReturnCall, NoReturnCallIndirect}
 use Rattle.rv64_instr.specs.declared.op.ImmediateOp.{ImmediateOp}
 use Rattle.rv64_instr.specs.declared.op.ImmediateOp.TheVariants.{Addi}
 use Rattle.rv64_instr.specs.declared.op.RegisterOp.{RegisterOp}
@@ -16,18 +18,22 @@ use Rattle.rv64_instr.specs.declared.op.LoadOp.{LoadOp}
 use Rattle.rv64_instr.specs.declared.op.StoreOp.{StoreOp}
 use Rattle.rv64_instr.specs.declared.operand.Operand.{Operand}
 use Rattle.rv64_instr.specs.declared.operand.Operand.TheVariants.{Def, Use, ImplicitDef, ImplicitUse, Imm, Slot, Object, Block, Symbol, Mask}
-use Rattle.rv64_instr.specs.Form.{is_argument, has_form, fits_call}
+use Rattle.std.specs.Prelude.{◌&&◌, nat_le}
+use Rattle.rv64_instr.proofs.Tails.{held_callee}
+use Rattle.rv64_instr.specs.Form.{is_argument, has_form, fits_call, fits_held_call}
 use Rattle.rv64_instr.specs.Instruction.{Instruction}
-use Rattle.rv64_instr.specs.Parts.{is_call}
+use Rattle.rv64_instr.specs.LocationEffects.{is_call}
 use Rattle.rv64_instr.specs.Row.{Calls, row_of, row_by, implicit_uses, registers_row, number_row, immediate_row, object_row, add_row, move_row, upper_row}
-use Rattle.rv64_instr.specs.Row.{branch_row, load_row, store_row, copy_row, jump_row}
+use Rattle.rv64_instr.specs.Row.{branch_row, load_row, store_row, copy_row, jump_row, held_call, held_tail}
+use Rattle.rv64_instr.specs.Row.{held_gone, tail_row, gone_row, CallSite, Callee, Named, Held}
 use Rattle.rv64_instr.specs.declared.start.CallEvent.{CallEvent}
+use Rattle.rv64_instr.specs.declared.start.CallTarget.{CallTarget}
 use Rattle.sem_machine.specs.Machine.{Machine, register, set_in, set_all_in}
-use Rattle.sem_machine.specs.MachineStep.{call_of}
+use Rattle.sem_machine.specs.MachineStep.{call_of, called_at}
 use Rattle.sim_machine.specs.Kept.{StandsFor, calls_in}
 use Rattle.sim_machine.specs.Calls.{event_of}
 use Rattle.sim_machine.specs.declared.hart.Hart.{Hart}
-use Rattle.sim_machine.specs.steps.Arguments.{argument_of}
+use Rattle.sim_machine.specs.steps.Arguments.{argument_of, callee_named, NamesCallee}
 
 -- ---- operations that don't call
 
@@ -88,18 +94,45 @@ no_jump : (operands : List Operand) → is_call (jump_row operands) ≡ false
 no_jump (Block n ∷ rest) = refl
 no_jump _ = refl
 
--- a call's operation, or one that never calls
-pub quiet : (op : Op) → (op ≡ PseudoCall) ⊎ ((operands : List Operand) → NoCall op operands)
-quiet (Registers op) = inr (no_registers op)
-quiet (Immediate op) = inr (no_number op)
-quiet Lui = inr no_upper
-quiet (Branch op) = inr (no_branch op)
-quiet (Load op) = inr (no_load op)
-quiet (Store op) = inr (no_store op)
-quiet Copy = inr no_copy
-quiet PseudoBr = inr no_jump
+no_tail : (operands : List Operand) → is_call (tail_row operands) ≡ false
+no_tail (Symbol name ∷ rest) = refl
+no_tail _ = refl
+
+no_gone : (operands : List Operand) → is_call (gone_row operands) ≡ false
+no_gone (Symbol name ∷ rest) = refl
+no_gone _ = refl
+
+no_held_tail : (xs : List ℕ) → is_call (held_tail xs) ≡ false
+no_held_tail [] = refl
+no_held_tail (r ∷ xs) = refl
+
+no_held_gone : (xs : List ℕ) → is_call (held_gone xs) ≡ false
+no_held_gone [] = refl
+no_held_gone (r ∷ xs) = refl
+
+-- the operation of a call, by a name or by a register, or one that never calls
+abbrev pub Quiet : Op → Type 0
+Quiet op = (op ≡ PseudoCall) ⊎ ((op ≡ PseudoCallIndirect) ⊎ ((operands : List Operand) → NoCall op operands))
+
+never : (op : Op) → ((operands : List Operand) → NoCall op operands) → Quiet op
+never op none = inr (inr none)
+
+pub quiet : (op : Op) → Quiet op
+quiet (Registers op) = never (Registers op) (no_registers op)
+quiet (Immediate op) = never (Immediate op) (no_number op)
+quiet Lui = never Lui no_upper
+quiet (Branch op) = never (Branch op) (no_branch op)
+quiet (Load op) = never (Load op) (no_load op)
+quiet (Store op) = never (Store op) (no_store op)
+quiet Copy = never Copy no_copy
+quiet PseudoBr = never PseudoBr no_jump
 quiet PseudoCall = inl refl
-quiet PseudoRet = inr (λ operands. refl)
+quiet PseudoRet = never PseudoRet (λ operands. refl)
+quiet PseudoCallIndirect = inr (inl refl)
+quiet PseudoTail = never PseudoTail no_tail
+quiet PseudoTailIndirect = never PseudoTailIndirect (λ operands. no_held_tail (implicit_uses operands))
+quiet NoReturnCall = never NoReturnCall no_gone
+quiet NoReturnCallIndirect = never NoReturnCallIndirect (λ operands. no_held_gone (implicit_uses operands))
 
 -- ---- the operands of a call
 
@@ -118,17 +151,47 @@ arguments_low [] h = All-nil (λ (r : ℕ). r < 32)
 arguments_low (a ∷ rest) h =
     let p = and_parts (is_argument a) (list_all is_argument rest) h in argument_low a rest p.0 (arguments_low rest p.1)
 
--- the operands of a call: a symbol, and others that use no register beyond x31
+-- the operands of a call: the callee, and others that use no register beyond x31
 pub record CallForm (op : Op) (operands : List Operand) : Type 0 where
-  pub name : List ℕ
+  pub callee : Callee
+  pub first : Operand
   pub rest : List Operand
-  pub are : operands ≡ Symbol name ∷ rest
-  pub row : row_by op operands ≡ Calls name (implicit_uses rest)
+  pub are : operands ≡ first ∷ rest
+  pub named : callee_named first ≡ Some callee
+  pub names : NamesCallee first
+  pub row : row_by op operands ≡ Calls (record { callee = callee; args = implicit_uses rest })
   pub low : All (λ r. r < 32) (implicit_uses rest)
 
 call_form_of : (operands : List Operand) → IsTrue (fits_call operands) → CallForm PseudoCall operands
-call_form_of (Symbol name ∷ Mask ∷ rest) t = record { name = name; rest = Mask ∷ rest; are = refl; row = refl; low = arguments_low rest t }
+call_form_of (Symbol name ∷ Mask ∷ rest) t = record {
+  callee = Named name;
+  first = Symbol name;
+  rest = Mask ∷ rest;
+  are = refl;
+  named = refl;
+  names = tt;
+  row = refl;
+  low = arguments_low rest t;
+}
 call_form_of _ t = absurd cc
+
+-- x2 is no callee
+held_form_of : (operands : List Operand) → IsTrue (fits_held_call operands) → CallForm PseudoCallIndirect operands
+held_form_of (ImplicitUse r ∷ Mask ∷ rest) t =
+    let p = and_parts (nat_le 5 r && nat_lt r 32) (list_all is_argument rest) t in
+    let low = held_callee r p.0 in
+    let above : 5 ≤ r = low.0 in
+    record {
+      callee = Held r;
+      first = ImplicitUse r;
+      rest = Mask ∷ rest;
+      are = refl;
+      named = refl;
+      names = low.1;
+      row = ap (λ (b : Bool). held_call (cond b (implicit_uses rest) (r ∷ implicit_uses rest))) (ne_eqb r 2 (λ two. omega (arith, above, two)));
+      low = arguments_low rest p.1;
+    }
+held_form_of _ t = absurd cc
 
 true_false : (b : Bool) → b ≡ true → b ≡ false → ⊥
 true_false b t f = let e : true ≡ false = sym t ∙ f in cc
@@ -136,7 +199,10 @@ true_false b t f = let e : true ≡ false = sym t ∙ f in cc
 call_form_by : (op : Op) (operands : List Operand) → IsTrue (has_form op operands) → is_call (row_by op operands) ≡ true → CallForm op operands
 call_form_by op operands t e = elim (quiet op) as (λ _. CallForm op operands) [
   | inl is ↦ subst (λ (o : Op). CallForm o operands) (sym is) (call_form_of operands (subst (λ (o : Op). IsTrue (has_form o operands)) is t))
-  | inr none ↦ absurd (true_false _ e (none operands))
+  | inr others ↦ elim others as (λ _. CallForm op operands) [
+    | inl is ↦ subst (λ (o : Op). CallForm o operands) (sym is) (held_form_of operands (subst (λ (o : Op). IsTrue (has_form o operands)) is t))
+    | inr none ↦ absurd (true_false _ e (none operands))
+  ]
 ]
 
 pub call_form : (i : Instruction) → IsTrue (has_form i.op i.operands) → is_call (row_of i) ≡ true → CallForm i.op i.operands
@@ -148,36 +214,32 @@ pub form_at : (op : Op) (operands : List Operand) (i : Instruction) → (let mad
 form_at op operands i e t c = call_form_by op operands t (ap (λ (x : Instruction). is_call (row_of x)) e ∙ c)
 
 pub first_is : (op : Op) (operands : List Operand) (f : CallForm op operands) (first : Operand) (rest : List Operand) → operands ≡ first ∷ rest →
-    (first ≡ Symbol f.name) × (rest ≡ f.rest)
-first_is op operands f first rest e = let both : first ∷ rest ≡ Symbol f.name ∷ f.rest = sym e ∙ f.are in (cc, cc)
+    (first ≡ f.first) × (rest ≡ f.rest)
+first_is op operands f first rest e = let both : first ∷ rest ≡ f.first ∷ f.rest = sym e ∙ f.are in (cc, cc)
 
 pub not_empty : (op : Op) (operands : List Operand) → CallForm op operands → length operands ≡ 0 → ⊥
 not_empty op operands f e = let l = ap length f.are in omega (arith, l, e)
 
 -- what a call shows by its operands
-pub event_is : (i : Instruction) (f : CallForm i.op i.operands) (shown : List ℕ) (rest : List Operand) (values : List ℕ) (calls : ℕ) (h : Hart) (s : Machine)
-    (name args : List ℕ) → StandsFor h s → Symbol shown ∷ rest ≡ i.operands → values ≡ map (register s) (implicit_uses rest) → calls ≡ (h.calls + 1) % 2 ^ 64 →
-    call_of (row_of i) ≡ Some (name, args) →
-    (let made : CallEvent = record { name = shown; args = values; number = calls } in made) ≡ event_of name args s
-event_is i f shown rest values calls h s name args stands are v n e =
-    let both : Symbol shown ∷ rest ≡ Symbol f.name ∷ f.rest = are ∙ f.are in
-    let pair : ◌≡◌ {A = Option (List ℕ × List ℕ)} (Some (f.name, implicit_uses f.rest)) (Some (name, args)) = sym (ap call_of f.row) ∙ e in
-    let same : f.name ≡ name = pair_first f.name name (implicit_uses f.rest) args pair in
-    let uses : implicit_uses f.rest ≡ args = pair_second f.name name (implicit_uses f.rest) args pair in
+pub event_is : (i : Instruction) (f : CallForm i.op i.operands) (first : Operand) (rest : List Operand) (target : CallTarget) (values : List ℕ) (calls : ℕ)
+    (h : Hart) (s : Machine) (site : CallSite) → StandsFor h s → first ∷ rest ≡ i.operands →
+    ((c : Callee) → callee_named first ≡ Some c → target ≡ called_at s c) → values ≡ map (register s) (implicit_uses rest) →
+    calls ≡ (h.calls + 1) % 2 ^ 64 → call_of (row_of i) ≡ Some site →
+    (let made : CallEvent = record { target = target; args = values; number = calls } in made) ≡ event_of site s
+event_is i f first rest target values calls h s site stands are to v n e =
+    let both : first ∷ rest ≡ f.first ∷ f.rest = are ∙ f.are in
+    let named : CallSite = record { callee = f.callee; args = implicit_uses f.rest } in
+    let found : Some named ≡ Some site = sym (ap call_of f.row) ∙ e in
+    let same : named ≡ site = one_site named site found in
     let behind : rest ≡ f.rest = cc in
-    let first : shown ≡ f.name = cc in
-    let shows : values ≡ map (register s) args = v ∙ ap (λ (xs : List ℕ). map (register s) xs) (ap implicit_uses behind ∙ uses) in
+    let here : first ≡ f.first = cc in
+    let called : target ≡ called_at s site.callee = to f.callee (ap callee_named here ∙ f.named) ∙ ap (λ (x : CallSite). called_at s x.callee) same in
+    let shows : values ≡ map (register s) site.args =
+    v ∙ ap (λ (xs : List ℕ). map (register s) xs) (ap implicit_uses behind ∙ ap (λ (x : CallSite). x.args) same) in
     let number : calls ≡ (calls_in s.events + 1) % 2 ^ 64 = omega (arith, n, stands.calls) in
-    event_parts shown name values (map (register s) args) calls ((calls_in s.events + 1) % 2 ^ 64) (first ∙ same) shows number where
-      pair_first : (a b c d : List ℕ) → ◌≡◌ {A = Option (List ℕ × List ℕ)} (Some (a, c)) (Some (b, d)) → a ≡ b
-      pair_first a b c d q = ap (λ (o : Option (List ℕ × List ℕ)). elim o as (λ _. List ℕ) [ None ↦ [] | Some p ↦ p.0 ]) q
-
-      pair_second : (a b c d : List ℕ) → ◌≡◌ {A = Option (List ℕ × List ℕ)} (Some (a, c)) (Some (b, d)) → c ≡ d
-      pair_second a b c d q = ap (λ (o : Option (List ℕ × List ℕ)). elim o as (λ _. List ℕ) [ None ↦ [] | Some p ↦ p.1 ]) q
-
-      event_parts : (a b c d : List ℕ) (m k : ℕ) → a ≡ b → c ≡ d → m ≡ k → (let x : CallEvent = record { name = a; args = c; number = m } in x)
-          ≡ (let y : CallEvent = record { name = b; args = d; number = k } in y)
-      event_parts a b c d m k p q r = λ i. record { name = p i; args = q i; number = r i }
+    λ i. record { target = called i; args = shows i; number = number i } where
+      one_site : (x y : CallSite) → Some x ≡ Some y → x ≡ y
+      one_site x y q = cc
 
 -- ---- several registers set
 

@@ -4,3 +4,4 @@ pub mod Rows
 pub mod Sites
 pub mod Stepping
 pub mod Listed
+pub mod Linking

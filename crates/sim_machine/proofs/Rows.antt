@@ -1,6 +1,7 @@
 -- What rows do, in the form in which they are done.
 use Rattle.std.proofs.Common.{◌≡◌, ℕ, zero, suc, ◌+◌, ◌%◌, ◌^◌, ◌<◌, List, ◌∷◌, length, Bool, true, false, cond, refl, sym, ap, ◌∙◌, subst, arith}
 use Rattle.std.specs.Prelude.{slice_index}
+use Rattle.rv64_instr.specs.Linked.{addresses_in}
 use Rattle.rv64_instr.specs.Arithmetic.{computed}
 use Rattle.rv64_instr.specs.declared.op.ImmediateOp.{ImmediateOp}
 use Rattle.rv64_instr.specs.declared.op.ImmediateOp.TheVariants.{Addi}
@@ -10,7 +11,7 @@ use Rattle.sem_machine.specs.Machine.{Machine, register}
 use Rattle.rv64_word.specs.MachineRow.{link_row}
 use Rattle.sem_mir.specs.State.{Event, Wrote, stored, touches_frame}
 use Rattle.sem_machine.specs.MachineStep.{Stepped, Continues, does, does_row, past, at, set_register, store}
-use Rattle.sem_interpreter.specs.Held.{MemoryHolds}
+use Rattle.sem_interpreter.specs.Memory.{MemoryHolds}
 use Rattle.sim_machine.specs.Kept.{StandsFor, Goes, calls_in}
 use Rattle.sim_machine.specs.steps.Immediates.{on_registers}
 use Rattle.sim_machine.specs.declared.hart.Hart.{Hart}
@@ -78,11 +79,13 @@ calls_stay false a bytes events = refl
 
 -- a store
 pub stores : (old : Hart) (now : Hart) (s : Machine) (a : ℕ) (bytes : List ℕ) → StandsFor old s → now.entry ≡ old.entry → now.area ≡ old.area →
+    now.symbols ≡ old.symbols →
     now.counter ≡ old.counter + 4 → now.regs ≡ old.regs → now.calls ≡ old.calls → MemoryHolds now.memory (stored s.memory a bytes) →
     StandsFor now (past 4 (store a bytes s))
-stores old now s a bytes h e z c r k m = record {
+stores old now s a bytes h e z y c r k m = record {
   entry = h.entry ∙ sym e;
   area = h.area ∙ sym z;
+  symbols = h.symbols ∙ ap addresses_in (sym y);
   counter = ap (λ (n : ℕ). n + 4) h.counter ∙ sym c;
   regs = λ q l. h.regs q l ∙ sym (ap (λ (xs : List ℕ). slice_index xs q) r);
   memory = m;

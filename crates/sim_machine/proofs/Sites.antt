@@ -4,29 +4,30 @@ use Rattle.std.proofs.Common.{◌∷◌, length, get_or, drop, Option, Some, Non
 use Rattle.std.proofs.Common.{refl, sym, ap, ◌∙◌, subst, arith}
 use Rattle.std.proofs.Common.{◌++◌, ◌^◌, append_assoc, drop-drop}
 use Rattle.std.specs.Option.{IfSome}
-use Rattle.std.specs.List.{All, flat_map}
+use Rattle.std.specs.List.{flat_map}
 use Rattle.std.specs.Int.{w32, to_le_bytes}
 use Rattle.std.proofs.Math.Seq.{drop-cons}
-use Rattle.std.proofs.lemmas.List.Elements.{All-head, All-tail}
 use Rattle.std.proofs.lemmas.List.Concat.{flat_map-cons}
 use Rattle.std.proofs.lemmas.List.{drop_all}
 use Rattle.std.proofs.lemmas.Bool.{eqb-true, eq-eqb, ne_eqb}
 use Rattle.emit_code.specs.declared.code.EncodedInstruction.{EncodedInstruction}
 use Rattle.rv64_instr.specs.Instruction.{Instruction}
-use Rattle.rv64_instr.specs.Parts.{is_call}
-use Rattle.rv64_instr.specs.Row.{Row, Calls, row_of}
+use Rattle.std.specs.Prelude.{is_some, IsSome}
+use Rattle.rv64_instr.specs.LocationEffects.{is_call, is_named, has_site}
+use Rattle.rv64_instr.specs.Row.{Row, Calls, row_of, CallSite as Call, Callee, Named, Held, Ending}
 use Rattle.mir_func.specs.declared.block.Block.{Block}
 use Rattle.mir_func.specs.declared.item.Item.{Item}
 use Rattle.mir_func.specs.declared.item.ItemKind.{ItemKind}
 use Rattle.mir_func.specs.declared.item.ItemKind.TheVariants.{Code, Mark, Phi}
 use Rattle.mir_func.specs.Function.{FramedFunction}
-use Rattle.mir_func.specs.Graph.{fetch_in, front, end_of}
-use Rattle.emit_code.specs.Laid.{LaidCode, IsCode, StandFrom, IsOfItem, is_call_kind}
+use Rattle.mir_func.specs.Graph.{Fetch, Here, EndOfBlock, Outside, fetch_in, front, end_of}
+use Rattle.emit_code.specs.Laid.{LaidCode, IsCode, StandFrom}
 use Rattle.sem_machine.specs.Image.{Image, word_at}
-use Rattle.sem_machine.specs.MachineStep.{call_of}
+use Rattle.sem_machine.specs.MachineStep.{call_of, left_by, callee_size}
 use Rattle.sem_machine.proofs.Fetching.{word_here}
-use Rattle.sim_machine.specs.Shown.{ShowsCode, entry_at, entry_call, fetch_call, kind_call}
-use Rattle.sim_machine.specs.steps.Sites.{instruction_in, fetch_instruction, kind_instruction}
+use Rattle.sim_machine.specs.declared.site.Transfer.{Transfer}
+use Rattle.sim_machine.specs.Shown.{ShowsCode, entry_at, entry_call, entry_left, fetch_call, fetch_left, kind_call, kind_left}
+use Rattle.sim_machine.specs.steps.Sites.{instruction_in, fetch_instruction, kind_instruction, TransfersSo}
 
 -- an entry's bytes
 four_or_eight : (b : Bool) → 4 ≤ cond b 8 4
@@ -82,14 +83,6 @@ pub search_end : (es : List EncodedInstruction) (i address : ℕ) → length es 
 search_end es i address l = ap (λ (xs : List EncodedInstruction). entry_at xs address) (drop_all i es l)
 
 -- ---- what stands at an entry
-
-pub entry_holds : (P : EncodedInstruction → Type 0) (es : List EncodedInstruction) (address : ℕ) (e : EncodedInstruction) → All P es →
-    entry_at es address ≡ Some e → P e
-entry_holds P [] address e h s = absurd cc
-entry_holds P (x ∷ es) address e h s = by_test (nat_eq x.address address) s (λ q. entry_holds P es address e (All-tail P x es h) q) where
-  by_test : (t : Bool) → cond t (Some x) (entry_at es address) ≡ Some e → (entry_at es address ≡ Some e → P e) → P e
-  by_test true q later = let same : x ≡ e = cc in subst P same (All-head P x es h)
-  by_test false q later = later q
 
 reaches : (b : ℕ) (rest : List EncodedInstruction) (end : ℕ) → StandFrom b rest end → b ≤ end
 reaches b [] end q = omega arith
@@ -150,38 +143,94 @@ word_shown c image k w shows l e small =
     sym (drop-drop (4 * k) c.base image.text) ∙ (ap (drop (4 * k)) shows.text ∙ here.1) in
     word_here image.text here.0 (c.base + 4 * k) w small at
 
--- ---- calls
+-- ---- callees
 
--- an entry's item
-call_apart : (r : Row) → is_call r ≡ false → call_of r ≡ None
-call_apart (Calls name args) e = absurd cc
-call_apart _ e = refl
+-- what an item does by a callee is what its instruction does
+kind_calls : (k : ItemKind) (c : Instruction) → kind_instruction k ≡ Some c → kind_call k ≡ call_of (row_of c)
+kind_calls (Code i n) c e = let same : i ≡ c = cc in ap (λ (x : Instruction). call_of (row_of x)) same
+kind_calls (Mark v m) c e = absurd cc
+kind_calls (Phi p n) c e = absurd cc
 
-kind_apart : (k : ItemKind) → is_call_kind k ≡ false → kind_call k ≡ None
-kind_apart (Code i k) e = call_apart (row_of i) e
-kind_apart (Mark v m) e = refl
-kind_apart (Phi p k) e = refl
+kind_leaves : (k : ItemKind) (c : Instruction) → kind_instruction k ≡ Some c → kind_left k ≡ left_by (row_of c)
+kind_leaves (Code i n) c e = let same : i ≡ c = cc in ap (λ (x : Instruction). left_by (row_of x)) same
+kind_leaves (Mark v m) c e = absurd cc
+kind_leaves (Phi p n) c e = absurd cc
 
-pub no_call : (f : FramedFunction) (e : EncodedInstruction) → IsOfItem f e → e.call ≡ false → entry_call f e ≡ None
-no_call f e h c = ap fetch_call h.stands ∙ kind_apart h.item.kind (sym h.call ∙ c)
+fetch_calls : (x : Fetch) (c : Instruction) → fetch_instruction x ≡ Some c → fetch_call x ≡ call_of (row_of c)
+fetch_calls (Here i) c e = kind_calls i.kind c e
+fetch_calls (EndOfBlock k n) c e = absurd cc
+fetch_calls Outside c e = absurd cc
 
+fetch_leaves : (x : Fetch) (c : Instruction) → fetch_instruction x ≡ Some c → fetch_left x ≡ left_by (row_of c)
+fetch_leaves (Here i) c e = kind_leaves i.kind c e
+fetch_leaves (EndOfBlock k n) c e = absurd cc
+fetch_leaves Outside c e = absurd cc
+
+-- what is no instruction goes to no callee
+kind_none : (k : ItemKind) → kind_instruction k ≡ None → (kind_call k ≡ None) × (kind_left k ≡ None)
+kind_none (Code i n) e = absurd cc
+kind_none (Mark v m) e = (refl, refl)
+kind_none (Phi p n) e = (refl, refl)
+
+fetch_none : (x : Fetch) → fetch_instruction x ≡ None → (fetch_call x ≡ None) × (fetch_left x ≡ None)
+fetch_none (Here i) e = kind_none i.kind e
+fetch_none (EndOfBlock k n) e = (refl, refl)
+fetch_none Outside e = (refl, refl)
+
+-- an entry's call and departure are those of its instruction
+pub transfer_found : (f : FramedFunction) (e : EncodedInstruction) (c : Instruction) (t : Transfer) → instruction_in f e.point ≡ Some c →
+    TransfersSo t (call_of (row_of c)) (left_by (row_of c)) → TransfersSo t (entry_call f e) (entry_left f e)
+transfer_found f e c t at is =
+    let x = fetch_in (drop e.point.block f.blocks) e.point.item in
+    subst (λ (o : Option Call). TransfersSo t o (entry_left f e)) (sym (fetch_calls x c at))
+    (subst (λ (o : Option (Ending Callee)). TransfersSo t (call_of (row_of c)) o) (sym (fetch_leaves x c at)) is)
+
+pub nothing_found : (f : FramedFunction) (e : EncodedInstruction) → instruction_in f e.point ≡ None → (entry_call f e ≡ None) × (entry_left f e ≡ None)
+nothing_found f e none = fetch_none (fetch_in (drop e.point.block f.blocks) e.point.item) none
+
+call_row : (r : Row) → is_call r ≡ is_some (call_of r)
+call_row (Calls call) = refl
+call_row _ = refl
+
+pub calls_found : (f : FramedFunction) (e : EncodedInstruction) (c : Instruction) → instruction_in f e.point ≡ Some c →
+    is_call (row_of c) ≡ is_some (entry_call f e)
+calls_found f e c at = call_row (row_of c) ∙ ap is_some (sym (fetch_calls (fetch_in (drop e.point.block f.blocks) e.point.item) c at))
+
+-- the bytes of a call
+pub call_bytes : (r : Row) (call : Call) → call_of r ≡ Some call → cond (has_site r) 8 4 ≡ callee_size call.callee
+call_bytes (Calls made) call e = let same : made ≡ call = cc in by_callee made.callee ∙ ap (λ (x : Call). callee_size x.callee) same where
+  by_callee : (c : Callee) → cond (is_named c) 8 4 ≡ callee_size c
+  by_callee (Named name) = refl
+  by_callee (Held r) = refl
+call_bytes _ call e = absurd cc
+
+-- the code of an entry that calls
 pub record CallSite (f : FramedFunction) (e : EncodedInstruction) : Type 0 where
   pub code : Instruction
   pub at : instruction_in f e.point ≡ Some code
   pub calls : is_call (row_of code) ≡ true
   pub same : entry_call f e ≡ call_of (row_of code)
 
-pub call_site : (f : FramedFunction) (e : EncodedInstruction) → IsOfItem f e → e.call ≡ true → CallSite f e
-call_site f e h c = by_kind h.item.kind refl where
-  by_kind : (k : ItemKind) → h.item.kind ≡ k → CallSite f e
-  by_kind (Code i n) q = record {
-    code = i;
-    at = ap fetch_instruction h.stands ∙ ap kind_instruction q;
-    calls = ap is_call_kind (sym q) ∙ (sym h.call ∙ c);
-    same = ap fetch_call h.stands ∙ ap kind_call q;
-  }
-  by_kind (Mark v m) q = let no : false ≡ true = ap is_call_kind (sym q) ∙ (sym h.call ∙ c) in absurd cc
-  by_kind (Phi p n) q = let no : false ≡ true = ap is_call_kind (sym q) ∙ (sym h.call ∙ c) in absurd cc
+some_call : (r : Row) → IsSome (call_of r) → is_call r ≡ true
+some_call (Calls call) is = refl
+some_call _ is = absurd cc
+
+no_call : (o : Option Call) → o ≡ None → IsSome o → ⊥
+no_call o none is = let some : IsSome {T = Call} None = subst (λ (x : Option Call). IsSome x) none is in cc
+
+pub call_site : (f : FramedFunction) (e : EncodedInstruction) → IsSome (entry_call f e) → CallSite f e
+call_site f e is = by_fetch (fetch_in (drop e.point.block f.blocks) e.point.item) refl where
+  by_kind : (k : ItemKind) → fetch_instruction (fetch_in (drop e.point.block f.blocks) e.point.item) ≡ kind_instruction k → entry_call f e ≡ kind_call k →
+      CallSite f e
+  by_kind (Code c n) at call =
+      record { code = c; at = at; calls = some_call (row_of c) (subst (λ (o : Option Call). IsSome o) call is); same = call }
+  by_kind (Mark v m) at call = absurd (no_call (entry_call f e) call is)
+  by_kind (Phi p n) at call = absurd (no_call (entry_call f e) call is)
+
+  by_fetch : (x : Fetch) → fetch_in (drop e.point.block f.blocks) e.point.item ≡ x → CallSite f e
+  by_fetch (Here i) q = by_kind i.kind (ap fetch_instruction q) (ap fetch_call q)
+  by_fetch (EndOfBlock k n) q = absurd (no_call (entry_call f e) (ap fetch_call q) is)
+  by_fetch Outside q = absurd (no_call (entry_call f e) (ap fetch_call q) is)
 
 pub none_behind : (blocks : List Block) (b n : ℕ) (block : Block) → b < length blocks → block ≡ get_or blocks b block → length block.items ≤ n →
     fetch_instruction (fetch_in (drop b blocks) n) ≡ None
@@ -193,13 +242,6 @@ none_behind blocks b n block l e le =
       ends : (bs : List Block) → fetch_instruction (end_of block.source_end bs) ≡ None
       ends [] = refl
       ends (x ∷ bs) = refl
-
--- the same at an entry that is found
-pub site_at : (c : LaidCode) (e : EncodedInstruction) → IsCode c → entry_at c.entries e.address ≡ Some e → e.call ≡ true → CallSite c.framed e
-site_at c e code found call = call_site c.framed e (entry_holds (IsOfItem c.framed) c.entries e.address e code.items found) call
-
-pub no_call_at : (c : LaidCode) (e : EncodedInstruction) → IsCode c → entry_at c.entries e.address ≡ Some e → e.call ≡ false → entry_call c.framed e ≡ None
-no_call_at c e code found call = no_call c.framed e (entry_holds (IsOfItem c.framed) c.entries e.address e code.items found) call
 
 -- the word of an entry
 pub record IsWordPlace (c : LaidCode) (address : ℕ) : Type 0 where
@@ -225,11 +267,3 @@ begins_within c (Some e) address code found =
     let p = word_place c e address code (sym found) in
     let b = begins_at c e address code (sym found) in
     omega (arith, p.at, p.within, b)
-
--- and one that is no call site makes no call
-pub makes_no_call : (c : LaidCode) (o : Option EncodedInstruction) (address : ℕ) → IsCode c → o ≡ entry_at c.entries address →
-    IfSome o (λ e. e.call ≡ false → entry_call c.framed e ≡ None)
-makes_no_call c None address code found = tt
-makes_no_call c (Some e) address code found = λ plain.
-    let b : e.address ≡ address = begins_at c e address code (sym found) in
-    no_call_at c e code (subst (λ (a : ℕ). entry_at c.entries a ≡ Some e) (sym b) (sym found)) plain

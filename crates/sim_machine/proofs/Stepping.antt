@@ -1,8 +1,14 @@
 -- Steps of the machine by what stands at its counter.
 use Rattle.std.proofs.Common.{◌≡◌, ℕ, List, [], ◌∷◌, map, Option, Some, None, Result, Ok, Err, Bool, true, false, cond, nat_eq, refl, sym, ap, ◌∙◌, subst}
+use Rattle.std.specs.Prelude.{IsSome}
 use Rattle.std.specs.Result.{IfOk}
 use Rattle.std.proofs.lemmas.Bool.{eq-eqb, ne_eqb}
-use Rattle.rv64_instr.specs.Row.{Row, Calls, row_of, implicit_uses}
+use Rattle.std.specs.Option.{option_map}
+use Rattle.rv64_instr.specs.declared.symbol.Symbol.{Symbol}
+use Rattle.rv64_instr.specs.Linked.{addresses_in}
+use Rattle.rv64_word.specs.Linked.{linked_word}
+use Rattle.sim_machine.specs.Shown.{entry_row}
+use Rattle.rv64_instr.specs.Row.{Row, Calls, row_of, implicit_uses, CallSite, Callee, Ending, Back}
 use Rattle.rv64_word.specs.declared.machine_op.MachineOp.{MachineOp}
 use Rattle.rv64_word.specs.Decoded.{decoded}
 use Rattle.rv64_word.specs.MachineRow.{machine_row}
@@ -11,19 +17,21 @@ use Rattle.emit_code.specs.declared.code.EncodedInstruction.{EncodedInstruction}
 use Rattle.emit_code.specs.Laid.{LaidCode}
 use Rattle.sem_machine.specs.Image.{CodeLine, Image, line_at, word_at}
 use Rattle.sem_machine.specs.Machine.{Machine, register}
-use Rattle.sem_machine.specs.MachineStep.{Ends, Leaves, machine_step, does_at, does_line, does_word, does_operation, does, answered, call_of, return_word}
+use Rattle.sem_machine.specs.MachineStep.{Ends, Leaves, machine_step, does_at, does_line}
+use Rattle.sem_machine.specs.MachineStep.{does_word, does_operation, does, step_call as answered, call_of, return_word}
+use Rattle.sem_machine.specs.MachineStep.{called_at, callee_size, does_left, linked_at, result_at}
 use Rattle.rv64_instr.specs.Instruction.{Instruction}
-use Rattle.rv64_instr.specs.Parts.{is_call}
+use Rattle.rv64_instr.specs.LocationEffects.{is_call}
 use Rattle.rv64_instr.specs.declared.start.CallEvent.{CallEvent}
-use Rattle.sem_mir.specs.State.{Reply, writes_frame}
+use Rattle.sem_mir.specs.State.{Reply, writes_frame, RunResult}
 use Rattle.sim_machine.specs.declared.ending.Stepped.{Stepped as Ended}
 use Rattle.sim_machine.specs.declared.ending.Stepped.TheVariants.{Went, Stopped}
-use Rattle.sim_machine.specs.declared.ending.Stop.TheVariants.{Left}
+use Rattle.sim_machine.specs.declared.ending.Stop.TheVariants.{Left, Returned}
 use Rattle.sim_machine.specs.declared.hart.Hart.{Hart}
 use Rattle.sim_machine.specs.Kept.{StandsFor, Goes}
 use Rattle.sim_machine.specs.Calls.{event_of, after_call}
 use Rattle.sim_machine.specs.Running.{found_call, call_at, StepsOn, CallsOn}
-use Rattle.sim_machine.specs.Shown.{IsLineOf, AreLinesOf, ShowsCode, entry_at, entry_call}
+use Rattle.sim_machine.specs.Shown.{IsLineOf, AreLinesOf, ShowsCode, entry_at, entry_call, entry_left}
 
 -- ---- lines
 
@@ -65,33 +73,47 @@ left_step c image s shows e =
 
 -- a word elsewhere than at a call site
 pub record WordStep (image : Image) (s : Machine) (w : ℕ) : Type 0 where
-  pub results : List ℕ
-  pub is : machine_step image s ≡ cond (nat_eq w return_word) (Ends results) (does_operation (decoded w) s)
+  pub result : RunResult
+  pub is : machine_step image s ≡ cond (nat_eq w return_word) (Ends result) (does_operation (decoded w) s)
 
 pub word_step : (c : LaidCode) (image : Image) (s : Machine) (e : EncodedInstruction) (w : ℕ) → ShowsCode c image → entry_at c.entries s.counter ≡ Some e →
-    entry_call c.framed e ≡ None → word_at image.text s.counter ≡ Some w → WordStep image s w
-word_step c image s e w shows found none word =
+    entry_call c.framed e ≡ None → entry_left c.framed e ≡ None → (v : ℕ) → word_at image.text s.counter ≡ Some v →
+    w ≡ linked_word s.symbols (entry_row c.framed e) v → WordStep image s w
+word_step c image s e w shows found none stays v word linked =
     let l = line_some c.framed c.entries image.lines s.counter e shows.lines found in
     record {
-      results = map (register s) (implicit_uses l.line.instruction.operands);
+      result = record { way = Back; values = map (register s) (implicit_uses l.line.instruction.operands) };
       is = ap (λ (o : Option CodeLine). does_at image o s) l.stands
-          ∙ (ap (λ (o : Option (List ℕ × List ℕ)). does_line image l.line o s) (l.is.call ∙ none) ∙ ap (λ (o : Option ℕ). does_word l.line o s) word);
+          ∙ ap (λ (o : Option CallSite). does_line image l.line o s) (l.is.call ∙ none)
+          ∙ ap (λ (o : Option (Ending Callee)). does_left l.line o (linked_at image l.line s) s) (l.is.left ∙ stays)
+          ∙ ap (λ (o : Option ℕ). does_word l.line (option_map (linked_word s.symbols (row_of l.line.instruction)) o) s) word
+          ∙ ap (λ (x : ℕ). does_word l.line (Some x) s) (l.is.links s.symbols v ∙ sym linked);
     }
 
-pub call_step : (c : LaidCode) (image : Image) (s : Machine) (e : EncodedInstruction) (name args : List ℕ) → ShowsCode c image →
+pub call_step : (c : LaidCode) (image : Image) (s : Machine) (e : EncodedInstruction) (site : CallSite) → ShowsCode c image →
     entry_at c.entries s.counter ≡ Some e →
-    entry_call c.framed e ≡ Some (name, args) → machine_step image s ≡ answered name (map (register s) args) s s.script
-call_step c image s e name args shows found some =
+    entry_call c.framed e ≡ Some site →
+    machine_step image s ≡ answered (callee_size site.callee) (called_at s site.callee) (map (register s) site.args) s s.script
+call_step c image s e site shows found some =
     let l = line_some c.framed c.entries image.lines s.counter e shows.lines found in
-    ap (λ (o : Option CodeLine). does_at image o s) l.stands ∙ ap (λ (o : Option (List ℕ × List ℕ)). does_line image l.line o s) (l.is.call ∙ some)
+    ap (λ (o : Option CodeLine). does_at image o s) l.stands ∙ ap (λ (o : Option CallSite). does_line image l.line o s) (l.is.call ∙ some)
 
-pub return_step : (image : Image) (s : Machine) (w : ℕ) (h : WordStep image s w) → w ≡ return_word → machine_step image s ≡ Ends h.results
-return_step image s w h e = h.is ∙ ap (λ (t : Bool). cond t (Ends h.results) (does_operation (decoded w) s)) (eq-eqb w return_word e)
+-- where control leaves the function for a callee, the run ends
+pub departure_step : (c : LaidCode) (image : Image) (s : Machine) (e : EncodedInstruction) (ending : Ending Callee) → ShowsCode c image →
+    entry_at c.entries s.counter ≡ Some e → entry_call c.framed e ≡ None → entry_left c.framed e ≡ Some ending →
+    machine_step image s ≡ Ends (result_at s ending)
+departure_step c image s e ending shows found none leaves =
+    let l = line_some c.framed c.entries image.lines s.counter e shows.lines found in
+    ap (λ (o : Option CodeLine). does_at image o s) l.stands ∙ ap (λ (o : Option CallSite). does_line image l.line o s) (l.is.call ∙ none)
+    ∙ ap (λ (o : Option (Ending Callee)). does_left l.line o (linked_at image l.line s) s) (l.is.left ∙ leaves)
+
+pub return_step : (image : Image) (s : Machine) (w : ℕ) (h : WordStep image s w) → w ≡ return_word → machine_step image s ≡ Ends h.result
+return_step image s w h e = h.is ∙ ap (λ (t : Bool). cond t (Ends h.result) (does_operation (decoded w) s)) (eq-eqb w return_word e)
 
 pub other_step : (image : Image) (s : Machine) (w : ℕ) (o : Option MachineOp) → WordStep image s w → (w ≡ return_word → ⊥) → decoded w ≡ o →
     machine_step image s ≡ does_operation o s
 other_step image s w o h ne d =
-    h.is ∙ (ap (λ (t : Bool). cond t (Ends h.results) (does_operation (decoded w) s)) (ne_eqb w return_word ne) ∙ ap
+    h.is ∙ (ap (λ (t : Bool). cond t (Ends h.result) (does_operation (decoded w) s)) (ne_eqb w return_word ne) ∙ ap
     (λ (x : Option MachineOp). does_operation x s) d)
 
 -- ---- as they are kept
@@ -102,17 +124,20 @@ pub found_at : (c : LaidCode) (h : Hart) (s : Machine) (o : Option EncodedInstru
 found_at c h s o stands e = ap (entry_at c.entries) stands.counter ∙ e
 
 pub word_step_at : (c : LaidCode) (image : Image) (h : Hart) (s : Machine) (e : EncodedInstruction) (w : ℕ) → ShowsCode c image → StandsFor h s →
-    entry_at c.entries h.counter ≡ Some e → e.address ≡ h.counter → word_at image.text e.address ≡ Some w → call_at c s.counter ≡ None → WordStep image s w
-word_step_at c image h s e w shows stands found at word none =
+    entry_at c.entries h.counter ≡ Some e → e.address ≡ h.counter → (v : ℕ) → word_at image.text e.address ≡ Some v →
+    w ≡ linked_word (addresses_in h.symbols) (entry_row c.framed e) v → entry_left c.framed e ≡ None → call_at c s.counter ≡ None → WordStep image s w
+word_step_at c image h s e w shows stands found at v word linked stays none =
     let here = found_at c h s (Some e) stands found in
-    word_step c image s e w shows here (sym (ap (found_call c.framed) here) ∙ none)
-    (ap (word_at image.text) (stands.counter ∙ sym at) ∙ word)
+    word_step c image s e w shows here (sym (ap (found_call c.framed) here) ∙ none) stays
+    v (ap (word_at image.text) (stands.counter ∙ sym at) ∙ word)
+    (linked ∙ ap (λ (x : Symbol → ℕ). linked_word x (entry_row c.framed e) v) (sym stands.symbols))
 
-pub call_step_at : (c : LaidCode) (image : Image) (h : Hart) (s : Machine) (e : EncodedInstruction) (name args : List ℕ) → ShowsCode c image → StandsFor h s →
-    entry_at c.entries h.counter ≡ Some e → call_at c s.counter ≡ Some (name, args) → machine_step image s ≡ answered name (map (register s) args) s s.script
-call_step_at c image h s e name args shows stands found some =
+pub call_step_at : (c : LaidCode) (image : Image) (h : Hart) (s : Machine) (e : EncodedInstruction) (site : CallSite) → ShowsCode c image → StandsFor h s →
+    entry_at c.entries h.counter ≡ Some e → call_at c s.counter ≡ Some site →
+    machine_step image s ≡ answered (callee_size site.callee) (called_at s site.callee) (map (register s) site.args) s s.script
+call_step_at c image h s e site shows stands found some =
     let here = found_at c h s (Some e) stands found in
-    call_step c image s e name args shows here (sym (ap (found_call c.framed) here) ∙ some)
+    call_step c image s e site shows here (sym (ap (found_call c.framed) here) ∙ some)
 
 -- the call of an entry that is none, and of one that is
 pub entry_call_at : (c : LaidCode) (h : Hart) (s : Machine) (o : Option EncodedInstruction) → StandsFor h s → entry_at c.entries h.counter ≡ o →
@@ -125,12 +150,13 @@ pub operation_step : (image : Image) (s : Machine) (w : ℕ) (m : MachineOp) (no
 operation_step image s w m now h ne d g = record { to = g.to; goes = other_step image s w (Some m) h ne d ∙ g.goes; stands = g.stands }
 
 -- a step that an answer makes
-pub answer_step : (image : Image) (s : Machine) (name args : List ℕ) (r : Reply) (rest : List Reply) (now : Hart) →
-    machine_step image s ≡ answered name (map (register s) args) s s.script → s.script ≡ r ∷ rest → StandsFor now (after_call name args r rest s) →
+pub answer_step : (image : Image) (s : Machine) (site : CallSite) (r : Reply) (rest : List Reply) (now : Hart) →
+    machine_step image s ≡ answered (callee_size site.callee) (called_at s site.callee) (map (register s) site.args) s s.script → s.script ≡ r ∷ rest →
+    StandsFor now (after_call site r rest s) →
     Goes (machine_step image s) now
-answer_step image s name args r rest now e script stands = record {
-  to = after_call name args r rest s;
-  goes = e ∙ ap (answered name (map (register s) args) s) script;
+answer_step image s site r rest now e script stands = record {
+  to = after_call site r rest s;
+  goes = e ∙ ap (answered (callee_size site.callee) (called_at s site.callee) (map (register s) site.args) s) script;
   stands = stands;
 }
 
@@ -147,9 +173,17 @@ steps_left c h e image s shows stands none = left_step c image s shows (found_at
 pub calls_left : (gives : CallEvent → Reply → Type 0) (c : LaidCode) (h : Hart) → entry_at c.entries h.counter ≡ None → CallsOn gives c (Stopped Left) h h
 calls_left gives c h e = record {
   reply = no_reply;
-  calls = λ image s name args shows stands some. (
-      let no : ◌≡◌ {A = Option (List ℕ × List ℕ)} None (Some (name, args)) = sym (entry_call_at c h s None stands e) ∙ some in absurd cc);
+  calls = λ image s site shows stands some. (
+      let no : ◌≡◌ {A = Option CallSite} None (Some site) = sym (entry_call_at c h s None stands e) ∙ some in absurd cc);
 }
+
+-- control leaves the function for a callee
+pub steps_departure : (c : LaidCode) (h : Hart) (e : EncodedInstruction) → entry_at c.entries h.counter ≡ Some e → entry_call c.framed e ≡ None →
+    IsSome (entry_left c.framed e) → StepsOn c (Stopped Returned) h h
+steps_departure c h e found none leaves image s shows stands at = by_left (entry_left c.framed e) refl leaves where
+  by_left : (o : Option (Ending Callee)) → entry_left c.framed e ≡ o → IsSome o → (result : RunResult) × (machine_step image s ≡ Ends result)
+  by_left None q is = absurd cc
+  by_left (Some ending) q is = (result_at s ending, departure_step c image s e ending shows (found_at c h s (Some e) stands found) none q)
 
 -- an entry that is no call makes none
 pub calls_word : (gives : CallEvent → Reply → Type 0) (c : LaidCode) (r : Ended) (h new : Hart) (e : EncodedInstruction) →
@@ -157,8 +191,8 @@ pub calls_word : (gives : CallEvent → Reply → Type 0) (c : LaidCode) (r : En
     entry_call c.framed e ≡ None → CallsOn gives c r h new
 calls_word gives c r h new e found none = record {
   reply = no_reply;
-  calls = λ image s name args shows stands some. (
-      let no : ◌≡◌ {A = Option (List ℕ × List ℕ)} None (Some (name, args)) = sym none ∙ (sym (entry_call_at c h s (Some e) stands found) ∙ some) in
+  calls = λ image s site shows stands some. (
+      let no : ◌≡◌ {A = Option CallSite} None (Some site) = sym none ∙ (sym (entry_call_at c h s (Some e) stands found) ∙ some) in
       absurd cc);
 }
 
@@ -168,7 +202,7 @@ calls_word_if (Ok r) gives c h new e found none = calls_word gives c r h new e f
 calls_word_if (Err x) gives c h new e found none = tt
 
 calls_some : (r : Row) → is_call r ≡ true → call_of r ≡ None → ⊥
-calls_some (Calls name args) c e = cc
+calls_some (Calls call) c e = cc
 calls_some _ c e = cc
 
 -- a call site makes a call
@@ -179,20 +213,21 @@ steps_call c r h new e i found same call image s shows stands none =
 
 pub call_made : (gives : CallEvent → Reply → Type 0) (c : LaidCode) (h new : Hart) (e : EncodedInstruction) (i : Instruction) (event : CallEvent) (r : Reply) →
     entry_at c.entries h.counter ≡ Some e → entry_call c.framed e ≡ call_of (row_of i) →
-    ((s : Machine) (name args : List ℕ) → StandsFor h s → call_of (row_of i) ≡ Some (name, args) → event ≡ event_of name args s) → gives event r →
+    ((s : Machine) (site : CallSite) → StandsFor h s → call_of (row_of i) ≡ Some site → event ≡ event_of site s) → gives event r →
     writes_frame h.entry h.area r.writes ≡ false →
-    ((s : Machine) (name args : List ℕ) (rest : List Reply) → StandsFor h s → StandsFor new (after_call name args r rest s)) → CallsOn gives c Went h new
+    ((s : Machine) (site : CallSite) (rest : List Reply) → StandsFor h s → call_of (row_of i) ≡ Some site → StandsFor new (after_call site r rest s)) →
+    CallsOn gives c Went h new
 call_made gives c h new e i event r found same shown given apart takes = record {
   reply = r;
-  calls = λ image s name args shows stands some. (
+  calls = λ image s site shows stands some. (
       let call = sym same ∙ (sym (entry_call_at c h s (Some e) stands found) ∙ some) in
-      let step = call_step_at c image h s e name args shows stands found some in
+      let step = call_step_at c image h s e site shows stands found some in
       record {
         went = refl;
         answered = record {
-          given = subst (λ (x : CallEvent). gives x r) (shown s name args stands call) given;
+          given = subst (λ (x : CallEvent). gives x r) (shown s site stands call) given;
           apart = ap (λ (n : ℕ). writes_frame n s.area r.writes) stands.entry ∙ (ap (λ (n : ℕ). writes_frame h.entry n r.writes) stands.area ∙ apart);
-          goes = λ rest script. answer_step image s name args r rest new step script (takes s name args rest stands);
+          goes = λ rest script. answer_step image s site r rest new step script (takes s site rest stands call);
         };
       });
 }

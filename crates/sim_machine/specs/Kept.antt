@@ -1,6 +1,7 @@
 -- The simulator's state, and the machine states that it represents.
 use Rattle.std.specs.Prelude.{◌≡◌, ℕ, suc, ◌%◌, ◌^◌, ◌<◌, List, [], ◌∷◌, slice_index}
-use Rattle.sem_interpreter.specs.Held.{MemoryHolds}
+use Rattle.rv64_instr.specs.Linked.{addresses_in}
+use Rattle.sem_interpreter.specs.Memory.{MemoryHolds}
 use Rattle.sem_mir.specs.State.{Event, Called, Wrote}
 use Rattle.sem_machine.specs.Machine.{Machine, register}
 use Rattle.sem_machine.specs.MachineStep.{Stepped, Continues}
@@ -9,7 +10,7 @@ use Rattle.sim_machine.specs.declared.hart.Hart.{Hart}
 -- the number of calls among events
 abbrev pub calls_in : List Event → ℕ
 calls_in [] = 0
-calls_in (Called name args ∷ events) = suc (calls_in events)
+calls_in (Called target args ∷ events) = suc (calls_in events)
 calls_in (Wrote a bytes ∷ events) = calls_in events
 
 -- A simulator state represents a machine state: all parts but the script and the events are equal. Of the events only the calls are counted, modulo
@@ -17,6 +18,7 @@ calls_in (Wrote a bytes ∷ events) = calls_in events
 pub record StandsFor (h : Hart) (s : Machine) : Type 0 where
   pub entry : s.entry ≡ h.entry
   pub area : s.area ≡ h.area
+  pub symbols : s.symbols ≡ addresses_in h.symbols
   pub counter : s.counter ≡ h.counter
   pub regs : (r : ℕ) → r < 32 → register s r ≡ slice_index h.regs r
   pub memory : MemoryHolds h.memory s.memory

@@ -1,7 +1,8 @@
 -- How a step of the simulator ends, in terms of the machine semantics.
 use Rattle.std.specs.Prelude.{◌≡◌, ℕ, List, ◌∷◌, Option, Some, None, false}
 use Rattle.rv64_instr.specs.declared.start.CallEvent.{CallEvent}
-use Rattle.sem_mir.specs.State.{Reply, writes_frame}
+use Rattle.rv64_instr.specs.Row.{CallSite}
+use Rattle.sem_mir.specs.State.{Reply, writes_frame, RunResult}
 use Rattle.sem_machine.specs.Image.{Image, word_at}
 use Rattle.sem_machine.specs.Machine.{Machine}
 use Rattle.sem_machine.specs.MachineStep as step
@@ -21,7 +22,7 @@ use Rattle.sim_machine.specs.Shown.{ShowsCode, entry_at, entry_call}
 -- A step from s stops for this reason: it returns, no code line is at the program counter, or the word there is this one, which encodes no machine
 -- operation.
 abbrev pub StopsSo : Stop → Image → Machine → Type 0
-StopsSo Returned image s = (results : List ℕ) × (machine_step image s ≡ Ends results)
+StopsSo Returned image s = (result : RunResult) × (machine_step image s ≡ Ends result)
 StopsSo Left image s = machine_step image s ≡ Leaves
 StopsSo (BadWord w) image s = (machine_step image s ≡ step.BadWord) × (word_at image.text s.counter ≡ Some w)
 
@@ -36,12 +37,12 @@ StaysIf Went old new = Unit {0}
 StaysIf (Stopped stop) old new = new ≡ old
 
 -- the call of an entry, if it is a call site
-abbrev pub found_call : FramedFunction → Option EncodedInstruction → Option (List ℕ × List ℕ)
+abbrev pub found_call : FramedFunction → Option EncodedInstruction → Option CallSite
 found_call f None = None
 found_call f (Some e) = entry_call f e
 
 -- the callee and the argument registers of the call site at the address, if there is one
-abbrev pub call_at : LaidCode → (address : ℕ) → Option (List ℕ × List ℕ)
+abbrev pub call_at : LaidCode → (address : ℕ) → Option CallSite
 call_at c a = found_call c.framed (entry_at c.entries a)
 
 -- From each machine state that `old` represents, except at a call site, and on each image of the code, a step ends with this result and simulator
@@ -51,19 +52,19 @@ StepsOn c r old new = (image : Image) (s : Machine) → ShowsCode c image → St
 
 -- The answer is one that may be given to the call, and writes no byte of the frame. With it as the first in the script, the machine continues to a
 -- state that `new` represents.
-pub record IsAnswered (gives : CallEvent → Reply → Type 0) (reply : Reply) (name args : List ℕ) (new : Hart) (image : Image) (s : Machine) : Type 0 where
-  pub given : gives (event_of name args s) reply
+pub record IsAnswered (gives : CallEvent → Reply → Type 0) (reply : Reply) (site : CallSite) (new : Hart) (image : Image) (s : Machine) : Type 0 where
+  pub given : gives (event_of site s) reply
   pub apart : writes_frame s.entry s.area reply.writes ≡ false
   pub goes : (rest : List Reply) → s.script ≡ reply ∷ rest → Goes (machine_step image s) new
 
 -- A step at a call site continues, with this answer.
-pub record Calls (gives : CallEvent → Reply → Type 0) (reply : Reply) (name args : List ℕ) (r : Stepped) (new : Hart) (image : Image) (s : Machine) : Type
+pub record Calls (gives : CallEvent → Reply → Type 0) (reply : Reply) (site : CallSite) (r : Stepped) (new : Hart) (image : Image) (s : Machine) : Type
     0 where
   pub went : r ≡ Went
-  pub answered : IsAnswered gives reply name args new image s
+  pub answered : IsAnswered gives reply site new image s
 
 -- From each machine state at a call site that `old` represents, and on each image of the code, a step continues with one and the same answer.
 pub record CallsOn (gives : CallEvent → Reply → Type 0) (c : LaidCode) (r : Stepped) (old new : Hart) : Type 0 where
   pub reply : Reply
-  pub calls : (image : Image) (s : Machine) (name args : List ℕ) → ShowsCode c image → StandsFor old s → call_at c s.counter ≡ Some (name, args) →
-      Calls gives reply name args r new image s
+  pub calls : (image : Image) (s : Machine) (site : CallSite) → ShowsCode c image → StandsFor old s → call_at c s.counter ≡ Some site →
+      Calls gives reply site r new image s

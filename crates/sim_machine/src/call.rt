@@ -1,44 +1,55 @@
 //! Calls: their events, and the effects of their answers.
 
-ghost use Rattle.std.specs.Prelude.{◌≡◌, ◌<◌, ◌+◌, ◌^◌, true, List, ℕ, All, Some, map, IfOk, OnOk, OnErr};
+ghost use Rattle.std.specs.Prelude.{◌≡◌, ◌<◌, ◌≤◌, ◌+◌, ◌^◌, true, List, ℕ, All, Some, map, IfOk, OnOk, OnErr};
 ghost use Rattle.rv64_instr.specs.DefsAndUses.{caller_saved};
-ghost use Rattle.rv64_instr.specs.Parts.{is_call};
-ghost use Rattle.rv64_instr.specs.Row.{row_of, implicit_uses};
+ghost use Rattle.rv64_instr.specs.LocationEffects.{is_call};
+ghost use Rattle.rv64_instr.specs.Row.{CallSite, Callee, row_of, implicit_uses};
 ghost use Rattle.sem_mir.specs.State.{Reply};
 ghost use Rattle.sem_interpreter.specs.Acts.{reply_of};
 ghost use Rattle.sem_machine.specs.Machine.{Machine, register, set_all_in};
-ghost use Rattle.sem_machine.specs.MachineStep.{call_of};
+ghost use Rattle.sem_machine.specs.MachineStep.{call_of, called_at, callee_size};
 ghost use Rattle.sim_machine.specs.Kept.{StandsFor, IsSameFrame};
 ghost use Rattle.sim_machine.specs.Calls.{event_of, after_call};
-ghost use Rattle.sim_machine.specs.steps.Arguments.{argument_of};
+ghost use Rattle.sim_machine.specs.steps.Arguments.{argument_of, callee_named, NamesCallee};
 
 use crate::hart::Hart;
 use rv64_instr::effects::CALLER_SAVED;
 use rv64_instr::instr::Instr;
 use rv64_instr::operand::Operand;
-use rv64_instr::start::{CallEvent, CallResult, Values};
+use rv64_instr::start::{CallEvent, CallResult, CallTarget, Values};
 use std::alloc::{AllocError, Global};
 
-/// The number of bytes of a call site.
-const CALL_SITE: u64 = 8;
-
 impl Hart {
-    /// The event of a call: the callee's name, and the contents of the registers that the call uses implicitly.
+    /// The event of a call: what it calls, and the contents of the registers that it passes.
     pub fn event(&self, alloc: Global, i: &Instr) -> Result<CallEvent, AllocError>
         requires { is_call (row_of i.now) ≡ true }
-        ensures { IfOk result (λ e. (s : Machine) (name args : List ℕ) → StandsFor self.now s
-            → call_of (row_of i.now) ≡ Some (name, args) → e ≡ event_of name args s) }
+        ensures { IfOk result (λ e. (s : Machine) (site : CallSite) → StandsFor self.now s
+            → call_of (row_of i.now) ≡ Some site → e ≡ event_of site s) }
     {
         match i.operands.as_slice().split_first() {
-            Some((first, rest)) => match first {
-                Operand::Symbol(name) => Ok(CallEvent {
-                    name: name.copy()?,
-                    args: self.arguments(alloc, rest)?,
+            Some((first, rest)) => {
+                let target = self.target(first)?;
+                let args = self.arguments(alloc, rest)?;
+                Ok(CallEvent {
+                    target,
+                    args,
                     number: self.calls.wrapping_add(1),
-                }),
-                _ => unreachable!(),
-            },
+                })
+            }
             None => unreachable!(),
+        }
+    }
+
+    /// What is called where a call's first operand is this one.
+    fn target(&self, callee: &Operand) -> Result<CallTarget, AllocError>
+        requires { NamesCallee callee.now }
+        ensures { IfOk result (λ t. (s : Machine) (c : Callee) → StandsFor self.now s
+            → callee_named callee.now ≡ Some c → t ≡ called_at s c) }
+    {
+        match callee {
+            Operand::Symbol(name) => Ok(CallTarget::Function(name.copy()?)),
+            Operand::ImplicitUse(r) => Ok(CallTarget::Address(self.read(r.number()))),
+            _ => unreachable!(),
         }
     }
 
@@ -57,18 +68,19 @@ impl Hart {
         Ok(values)
     }
 
-    /// Applies the effects of an answer, and advances the program counter past the call site. If memory runs out
-    /// nothing changes.
-    pub fn take(&mut self, answer: &CallResult) -> Result<(), AllocError>
-        requires { self.old.counter < 2 ^ 63 }
-        ensures ok { OnOk result ((s : Machine) (name args : List ℕ) (rest : List Reply) → StandsFor self.old s
-            → StandsFor self.new (after_call name args (reply_of answer.now) rest s)) }
+    /// Applies the effects of an answer, and advances the program counter past a call of so many bytes. If memory runs
+    /// out nothing changes.
+    pub fn take(&mut self, answer: &CallResult, size: u64) -> Result<(), AllocError>
+        requires low { self.old.counter < 2 ^ 63 }
+        requires few { size ≤ 8 }
+        ensures ok { OnOk result ((s : Machine) (site : CallSite) (rest : List Reply) → StandsFor self.old s
+            → size ≡ callee_size site.callee → StandsFor self.new (after_call site (reply_of answer.now) rest s)) }
         ensures err { OnErr result (self.new ≡ self.old) }
         ensures same { IsSameFrame self.old self.new }
     {
         self.memory.write(&answer.writes)?;
         self.set_caller_saved(&answer.regs);
-        self.counter += CALL_SITE;
+        self.counter += size;
         self.calls = self.calls.wrapping_add(1);
         Ok(())
     }

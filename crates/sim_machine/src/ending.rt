@@ -3,7 +3,8 @@
 /// Why a run stops.
 #[derive(Clone, Copy, Debug, PartialEq, Eq)]
 pub enum Stop {
-    /// It returns: the word at the counter is `JALR x0, 0(x1)` (RISC-V Unprivileged ISA, "Unconditional Jumps").
+    /// It ends: the word at the counter is `JALR x0, 0(x1)` (RISC-V Unprivileged ISA, "Unconditional Jumps"), or
+    /// control leaves for a callee there, by a call in tail position or one that doesn't return.
     Returned,
     /// No entry begins at the program counter.
     Left,

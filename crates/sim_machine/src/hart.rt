@@ -4,6 +4,7 @@ ghost use Rattle.std.specs.Prelude.{◌≡◌, ◌<◌, ◌^◌};
 ghost use Rattle.sem_machine.specs.Machine.{Machine, register};
 ghost use Rattle.sem_machine.specs.MachineStep.{past, at, set_register};
 
+use rv64_instr::symbol::SymbolAddresses;
 use sem_interpreter::memory::Memory;
 
 /// The state of a hardware thread (hart).
@@ -13,6 +14,8 @@ pub struct Hart {
     pub entry: u64,
     /// The size of the stack objects in bytes, which are right below the address `entry`.
     pub area: u64,
+    /// The addresses of symbols.
+    pub symbols: SymbolAddresses,
     /// The program counter.
     pub counter: u64,
     /// The contents of x0 to x31.

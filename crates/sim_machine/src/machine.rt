@@ -1,7 +1,7 @@
 //! The simulator of machine code.
 
-ghost use Rattle.std.specs.Prelude.{◌≡◌, ◌<◌, ◌+◌, ◌*◌, ℕ, Some, None, true, false, IfSome, IfOk, OnErr};
-ghost use Rattle.std.specs.Prelude.{length, slice_index};
+ghost use Rattle.std.specs.Prelude.{◌≡◌, ◌<◌, ◌+◌, ◌*◌, ℕ, Some, None, IfSome, IsSome, IfOk, OnErr};
+ghost use Rattle.std.specs.Prelude.{is_some, length, slice_index};
 ghost use Rattle.mir_func.specs.Objects.{area_of};
 ghost use Rattle.sem_machine.specs.Machine.{Machine as State, register, register_in};
 ghost use Rattle.sim_machine.specs.Shown.{entry_at, entry_call};
@@ -11,12 +11,13 @@ ghost use Rattle.sim_machine.specs.Machines.{StartsCode};
 use crate::answers::CallAnswers;
 use crate::ending::{Stepped, Stop};
 use crate::hart::Hart;
-use crate::site::{Places, call_at, find, places};
+use crate::site::{Places, Transfer, call_at, call_size, calls, find, places, transfer_at};
 use crate::word::run_word;
 use emit_code::code::{Code, EncodedInstruction};
 use emit_code::objects::ObjectOffsets;
 use rv64_instr::reg::Reg;
 use rv64_instr::start::Start;
+use rv64_instr::symbol::copy_addresses;
 use sem_interpreter::memory::Memory;
 use std::alloc::{AllocError, Global};
 use std::marker::Model;
@@ -85,9 +86,15 @@ impl<'a, A: CallAnswers + Drop> MachineSimulator<'a, A> {
         ensures found { result ≡ entry_at self.now.code.entries self.now.hart.counter }
         ensures begins { IfSome result (λ e. e.address ≡ self.now.hart.counter) }
         ensures within { IfSome result (λ e. e.address < self.now.code.base + 4 * length self.now.code.words) }
-        ensures word { IfSome result (λ e. e.call ≡ false → entry_call self.now.code.framed e ≡ None) }
     {
         find(&self.probable, self.code, self.hart.counter)
+    }
+
+    /// Whether an entry's item is a call.
+    pub fn calls(&self, entry: &EncodedInstruction) -> bool
+        ensures { result ≡ is_some (entry_call self.now.code.framed entry.now) }
+    {
+        calls(self.code, entry)
     }
 
     /// The content of a physical register.
@@ -98,8 +105,8 @@ impl<'a, A: CallAnswers + Drop> MachineSimulator<'a, A> {
         self.hart.read(r.number())
     }
 
-    /// Makes one step: executes the word at the program counter, or makes and answers the call of a call site. A step
-    /// that stops changes nothing.
+    /// Makes one step: executes the word at the program counter, or makes and answers the call of a call site. A
+    /// call in tail position and one that doesn't return end the run. A step that stops changes nothing.
     pub fn step(&mut self) -> Result<Stepped, AllocError>
         ensures code { self.new.code ≡ self.old.code }
         ensures answers { self.new.answers ≡ self.old.answers }
@@ -111,13 +118,11 @@ impl<'a, A: CallAnswers + Drop> MachineSimulator<'a, A> {
     {
         match find(&self.probable, self.code, self.hart.counter) {
             None => Ok(Stepped::Stopped(Stop::Left)),
-            Some(entry) => {
-                if entry.call {
-                    self.call(&entry)
-                } else {
-                    run_word(&mut self.hart, self.code, &entry)
-                }
-            }
+            Some(entry) => match transfer_at(self.code, &entry) {
+                Transfer::Call => self.call(&entry),
+                Transfer::Departure => Ok(Stepped::Stopped(Stop::Returned)),
+                Transfer::Nothing => run_word(&mut self.hart, self.code, &entry),
+            },
         }
     }
 
@@ -125,7 +130,7 @@ impl<'a, A: CallAnswers + Drop> MachineSimulator<'a, A> {
     fn call(&mut self, entry: &EncodedInstruction) -> Result<Stepped, AllocError>
         requires stands { entry_at self.old.code.entries self.old.hart.counter ≡ Some entry.now }
         requires at { entry.now.address ≡ self.old.hart.counter }
-        requires call { entry.now.call ≡ true }
+        requires call { IsSome (entry_call self.old.code.framed entry.now) }
         ensures code { self.new.code ≡ self.old.code }
         ensures answers { self.new.answers ≡ self.old.answers }
         ensures call { IfOk result (λ r. CallsOn (A.gives self.old.answers) self.old.code r self.old.hart
@@ -135,9 +140,10 @@ impl<'a, A: CallAnswers + Drop> MachineSimulator<'a, A> {
         ensures memory { OnErr result (self.new ≡ self.old) }
     {
         let alloc = *self.probable.allocator();
-        let event = self.hart.event(alloc, call_at(self.code, entry))?;
+        let i = call_at(self.code, entry);
+        let event = self.hart.event(alloc, i)?;
         let answer = self.answers.answer(&event);
-        self.hart.take(&answer)?;
+        self.hart.take(&answer, call_size(i))?;
         Ok(Stepped::Went)
     }
 }
@@ -152,6 +158,7 @@ fn starting_hart(alloc: Global, code: &Code, start: &Start) -> Result<Hart, Allo
     Ok(Hart {
         entry: start.regs[2],
         area: u64::from(code.framed.size - offsets.own),
+        symbols: copy_addresses(alloc, &start.symbols)?,
         counter: code.base,
         regs: starting_registers(&start.regs),
         memory: Memory::new(alloc, start.memory.as_slice())?,

@@ -3,8 +3,7 @@
 ghost use Rattle.std.specs.Prelude.{◌≡◌, ◌<◌, ◌≤◌, ◌+◌, ◌%◌, ◌^◌, ◌/◌, ◌*◌, IsTrue, OnOk, OnErr, pos, ◌*ℤ◌, ◌≤ℤ◌};
 ghost use Rattle.rv64_instr.specs.Arithmetic.{word, extend32};
 ghost use Rattle.rv64_instr.specs.Row as row;
-ghost use Rattle.rv64_instr.specs.declared.decoded.Input.TheVariants.{Content};
-ghost use Rattle.rv64_instr.specs.declared.decoded.Base.TheVariants.{PointedBy};
+ghost use Rattle.rv64_instr.specs.Row.{Content, PointedBy};
 ghost use Rattle.rv64_word.specs.MachineOp.{is_encodable};
 ghost use Rattle.rv64_word.specs.MachineRow.{LinksTo, machine_row, link_row};
 ghost use Rattle.sem_machine.specs.Machine.{Machine};

@@ -1,18 +1,21 @@
 //! Entries and instructions by address.
 
-ghost use Rattle.std.specs.Prelude.{◌≡◌, ◌<◌, ◌+◌, ◌*◌, ◌^◌, Some, None, Option, true, false, IfSome};
-ghost use Rattle.std.specs.Prelude.{MatchOption, length, slice_index};
-ghost use Rattle.rv64_instr.specs.Parts.{is_call};
-ghost use Rattle.rv64_instr.specs.Row.{row_of};
+ghost use Rattle.std.specs.Prelude.{◌≡◌, ◌<◌, ◌≤◌, ◌+◌, ◌*◌, ◌^◌, Some, None, Option, true, false, IfSome, IsSome};
+ghost use Rattle.std.specs.Prelude.{MatchOption, cond, is_some, length, slice_index};
+ghost use Rattle.rv64_instr.specs.Decoded.{Shows};
+ghost use Rattle.rv64_instr.specs.LocationEffects.{is_call};
+ghost use Rattle.rv64_instr.specs.Row.{Row, CallSite, row_of};
 ghost use Rattle.sem_machine.specs.Image.{Image, word_at};
-ghost use Rattle.sem_machine.specs.MachineStep.{call_of};
-ghost use Rattle.sim_machine.specs.Shown.{ShowsCode, entry_at, entry_call};
-ghost use Rattle.sim_machine.specs.steps.Sites.{instruction_in};
+ghost use Rattle.sem_machine.specs.MachineStep.{call_of, left_by, callee_size};
+ghost use Rattle.sim_machine.specs.Shown.{ShowsCode, entry_at, entry_call, entry_left};
+ghost use Rattle.sim_machine.specs.steps.Sites.{instruction_in, TransfersSo};
 
 use emit_code::code::{Code, EncodedInstruction};
 use mir_func::framed::Framed;
 use mir_func::item::ItemKind;
 use mir_func::position::ProgramPoint;
+use rv64_instr::decoded::{Decoded, Way};
+use rv64_instr::effects::is_call;
 use rv64_instr::instr::Instr;
 use std::alloc::{AllocError, Global};
 
@@ -22,7 +25,18 @@ pub type Places = Vec<usize>;
 /// The number of bytes of a word.
 const WORD: u64 = 4;
 
-/// The index of the entry of each word. A call has two words.
+/// How control goes to a callee.
+#[derive(Clone, Copy, Debug, PartialEq, Eq)]
+pub enum Transfer {
+    /// By a call.
+    Call,
+    /// By a call in tail position, or one that doesn't return: it leaves the function.
+    Departure,
+    /// Not at all.
+    Nothing,
+}
+
+/// The index of the entry of each word. One that goes to a function of a name has two words.
 pub fn places(alloc: Global, code: &Code) -> Result<Places, AllocError> {
     let mut places = Vec::new(alloc);
     for (i, entry) in code.entries.as_slice().iter().enumerate() {
@@ -39,7 +53,6 @@ pub fn find(probable: &Places, code: &Code, address: u64) -> Option<EncodedInstr
     ensures found { result ≡ entry_at code.now.entries address }
     ensures begins { IfSome result (λ e. e.address ≡ address) }
     ensures within { IfSome result (λ e. e.address < code.now.base + 4 * length code.now.words) }
-    ensures word { IfSome result (λ e. e.call ≡ false → entry_call code.now.framed e ≡ None) }
 {
     let entries = code.entries.as_slice();
     match probable_entry(probable, code, address) {
@@ -100,10 +113,50 @@ pub fn instruction_at<'a>(framed: &'a Framed, point: &ProgramPoint) -> Option<&'
     }
 }
 
-/// The instruction of a call site.
+/// Whether an entry's item is a call.
+pub fn calls(code: &Code, entry: &EncodedInstruction) -> bool
+    ensures { result ≡ is_some (entry_call code.now.framed entry.now) }
+{
+    match instruction_at(&code.framed, &entry.point) {
+        Some(i) => is_call(i),
+        None => false,
+    }
+}
+
+/// How control goes to a callee from an entry's item.
+pub fn transfer_at(code: &Code, entry: &EncodedInstruction) -> Transfer
+    ensures { TransfersSo result (entry_call code.now.framed entry.now) (entry_left code.now.framed entry.now) }
+{
+    match instruction_at(&code.framed, &entry.point) {
+        Some(i) => transfer_of(&i.decoded()),
+        None => Transfer::Nothing,
+    }
+}
+
+fn transfer_of(decoded: &Decoded) -> Transfer
+    ensures { (row : Row) → Shows decoded.now row → TransfersSo result (call_of row) (left_by row) }
+{
+    match *decoded {
+        Decoded::Calls(_) => Transfer::Call,
+        Decoded::Returns(Way::Tail(_)) | Decoded::Returns(Way::Never(_)) => Transfer::Departure,
+        Decoded::Returns(Way::Back)
+        | Decoded::Fixes(_, _)
+        | Decoded::Moves(_, _)
+        | Decoded::Sets(_, _, _, _)
+        | Decoded::Addresses(_, _, _)
+        | Decoded::Loads(_, _, _, _)
+        | Decoded::Stores(_, _, _, _)
+        | Decoded::LoadsSlot(_, _)
+        | Decoded::StoresSlot(_, _)
+        | Decoded::Branches(_, _, _, _)
+        | Decoded::Jumps(_) => Transfer::Nothing,
+    }
+}
+
+/// The instruction of a call.
 pub fn call_at<'a>(code: &'a Code, entry: &EncodedInstruction) -> &'a Instr
     requires stands { entry_at code.now.entries entry.now.address ≡ Some entry.now }
-    requires call { entry.now.call ≡ true }
+    requires call { IsSome (entry_call code.now.framed entry.now) }
     ensures calls { is_call (row_of result.now) ≡ true }
     ensures same { entry_call code.now.framed entry.now ≡ call_of (row_of result.now) }
     ensures low { entry.now.address < 2 ^ 63 }
@@ -114,12 +167,26 @@ pub fn call_at<'a>(code: &'a Code, entry: &EncodedInstruction) -> &'a Instr
     }
 }
 
-/// The word of an entry that isn't a call.
+/// The number of bytes of a call: of one by its callee's name two words, of one by a register one.
+pub fn call_size(i: &Instr) -> u64
+    ensures size { (site : CallSite) → call_of (row_of i.now) ≡ Some site → result ≡ callee_size site.callee }
+    ensures few { result ≤ 8 }
+{
+    bytes(i.decoded().has_site())
+}
+
+fn bytes(named: bool) -> u64
+    ensures size { result ≡ cond named 8 4 }
+    ensures few { result ≤ 8 }
+{
+    if named { 8 } else { 4 }
+}
+
+/// The word of an entry.
 pub fn word_of(code: &Code, entry: &EncodedInstruction) -> u32
     requires { entry_at code.now.entries entry.now.address ≡ Some entry.now }
     ensures word { (image : Image) → ShowsCode code.now image → word_at image.text entry.now.address ≡ Some result }
     ensures low { entry.now.address < 2 ^ 63 }
-    ensures none { entry.now.call ≡ false → entry_call code.now.framed entry.now ≡ None }
 {
     let index = ((entry.address - code.base) / WORD) as usize;
     word_in(code.words.as_slice(), index)

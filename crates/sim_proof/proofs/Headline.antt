@@ -43,7 +43,7 @@ module _ (gives : CallEvent → Reply → Type 0) (lists : VarId → (address : 
   stands_with : (answers : List Reply) (s0 : State) (from : Hart) → StandsFor from (machine_start image s0) →
       StandsFor from (machine_start image (with_script answers s0))
   stands_with answers s0 from h =
-      record { entry = h.entry; area = h.area; counter = h.counter; regs = h.regs; memory = h.memory; calls = h.calls }
+      record { entry = h.entry; area = h.area; symbols = h.symbols; counter = h.counter; regs = h.regs; memory = h.memory; calls = h.calls }
 
   beside : (answers : List Reply) (s0 : State) (now : Hart) → StartsAt source s0 →
       ComesTo gives image answers [] now (machine_start image (with_script answers s0)) →

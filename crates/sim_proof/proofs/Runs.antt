@@ -4,10 +4,11 @@ use Rattle.std.proofs.Common.{Option, Some, None, map, refl, sym, ap, ◌∙◌,
 use Rattle.std.specs.List.{All}
 use Rattle.std.proofs.lemmas.List.Elements.{All-nil, All-cons}
 use Rattle.rv64_instr.specs.declared.start.CallEvent.{CallEvent}
+use Rattle.rv64_instr.specs.Row.{CallSite, row_of}
 use Rattle.sem_mir.specs.State.{Reply}
-use Rattle.sem_machine.specs.Image.{CodeLine, Image, word_at}
+use Rattle.sem_machine.specs.Image.{CodeLine, Image}
 use Rattle.sem_machine.specs.Machine.{Machine, register}
-use Rattle.sem_machine.specs.MachineStep.{Continues, Leaves, there, steps, machine_step, does_at, does_line}
+use Rattle.sem_machine.specs.MachineStep.{Continues, Leaves, there, steps, machine_step, does_at, does_line, called_at, callee_size, left_by, linked_at}
 use Rattle.emit_code.specs.declared.code.EncodedInstruction.{EncodedInstruction}
 use Rattle.emit_code.specs.Laid.{LaidCode}
 use Rattle.sim_machine.specs.declared.ending.Stepped.TheVariants.{Went}
@@ -18,7 +19,7 @@ use Rattle.sim_machine.specs.Running.{StepsOn, CallsOn, call_at, found_call}
 use Rattle.sim_machine.specs.Shown.{ShowsCode, entry_at, entry_call}
 use Rattle.sim_machine.proofs.Stepping.{left_step, line_some, call_step}
 use Rattle.sim_proof.specs.Runs.{Runs, begins, goes_on, WereGiven, next_call, StepLeads, AnswersLead, StepsAreTheMachines, RunsAreTheMachines}
-use Rattle.sim_proof.proofs.Scripts.{Keeps, Takes, word_keeps, call_takes}
+use Rattle.sim_proof.proofs.Scripts.{Keeps, Takes, left_keeps, call_takes}
 
 no_leaving : (u : Machine) → Leaves ≡ Continues u → ⊥
 no_leaving u e = cc
@@ -34,22 +35,22 @@ plain_keeps c image s u shows none e = by_entry (entry_at c.entries s.counter) r
       let call : entry_call c.framed x ≡ None = sym (ap (found_call c.framed) q) ∙ none in
       let is : machine_step image s ≡ does_line image l.line None s =
       ap (λ (o : Option CodeLine). does_at image o s) l.stands
-      ∙ ap (λ (o : Option (List ℕ × List ℕ)). does_line image l.line o s) (l.is.call ∙ call) in
-      word_keeps l.line (word_at image.text s.counter) s u (sym is ∙ e)
+      ∙ ap (λ (o : Option CallSite). does_line image l.line o s) (l.is.call ∙ call) in
+      left_keeps l.line (left_by (row_of l.line.instruction)) (linked_at image l.line s) s u (sym is ∙ e)
 
 -- at a call site it takes one answer
-pub call_keeps : (c : LaidCode) (image : Image) (s u : Machine) (name args : List ℕ) (r : Reply) (rest : List Reply) → ShowsCode c image →
-    call_at c s.counter ≡ Some (name, args) → s.script ≡ r ∷ rest → machine_step image s ≡ Continues u → Takes rest s u
-call_keeps c image s u name args r rest shows some script e = by_entry (entry_at c.entries s.counter) refl where
-  no_call : ◌≡◌ {A = Option (List ℕ × List ℕ)} None (Some (name, args)) → ⊥
+pub call_keeps : (c : LaidCode) (image : Image) (s u : Machine) (site : CallSite) (r : Reply) (rest : List Reply) → ShowsCode c image →
+    call_at c s.counter ≡ Some site → s.script ≡ r ∷ rest → machine_step image s ≡ Continues u → Takes rest s u
+call_keeps c image s u site r rest shows some script e = by_entry (entry_at c.entries s.counter) refl where
+  no_call : ◌≡◌ {A = Option CallSite} None (Some site) → ⊥
   no_call q = cc
 
   by_entry : (o : Option EncodedInstruction) → entry_at c.entries s.counter ≡ o → Takes rest s u
   by_entry None q = absurd (no_call (sym (ap (found_call c.framed) q) ∙ some))
   by_entry (Some x) q =
-      let call : entry_call c.framed x ≡ Some (name, args) = sym (ap (found_call c.framed) q) ∙ some in
-      let is = call_step c image s x name args shows q call in
-      call_takes name (map (register s) args) s u r rest s.script script (sym is ∙ e)
+      let call : entry_call c.framed x ≡ Some site = sym (ap (found_call c.framed) q) ∙ some in
+      let is = call_step c image s x site shows q call in
+      call_takes (callee_size site.callee) (called_at s site.callee) (map (register s) site.args) s u r rest s.script script (sym is ∙ e)
 
 -- answers that were given, and those that were given to the calls behind them
 pub given_on : (gives : CallEvent → Reply → Type 0) (n : ℕ) (xs ys : List Reply) → WereGiven gives n xs → WereGiven gives (n + length xs) ys →
@@ -80,20 +81,20 @@ module _ (gives : CallEvent → Reply → Type 0) (c : LaidCode) where
         counted = omega (arith, k.calls);
       }
 
-  call : (h now : Hart) (name args : List ℕ) → (calls : CallsOn gives c Went h now) → call_at c h.counter ≡ Some (name, args) →
+  call : (h now : Hart) (site : CallSite) → (calls : CallsOn gives c Went h now) → call_at c h.counter ≡ Some site →
       StepLeads gives c h now (calls.reply ∷ [])
-  call h now name args calls some image s rest shows stands script =
-      let here : call_at c s.counter ≡ Some (name, args) = ap (call_at c) stands.counter ∙ some in
-      let q = calls.calls image s name args shows stands here in
+  call h now site calls some image s rest shows stands script =
+      let here : call_at c s.counter ≡ Some site = ap (call_at c) stands.counter ∙ some in
+      let q = calls.calls image s site shows stands here in
       let g = q.answered.goes rest script in
-      let k = call_keeps c image s g.to name args calls.reply rest shows here script g.goes in
+      let k = call_keeps c image s g.to site calls.reply rest shows here script g.goes in
       let one : calls_in s.events + 1 ≡ next_call s = omega arith in
       record {
         to = g.to;
         goes = g.goes;
         stands = g.stands;
         left = k.script;
-        given = (record { call = event_of name args s; numbered = ap (λ (n : ℕ). n % 2 ^ 64) one; given = q.answered.given }, tt);
+        given = (record { call = event_of site s; numbered = ap (λ (n : ℕ). n % 2 ^ 64) one; given = q.answered.given }, tt);
         counted = omega (arith, k.calls);
       }
 
@@ -105,9 +106,9 @@ module _ (gives : CallEvent → Reply → Type 0) (c : LaidCode) where
 
   one_step : (h now : Hart) → StepsOn c Went h now → CallsOn gives c Went h now → Taken h now
   one_step h now step calls = by_call (call_at c h.counter) refl where
-    by_call : (o : Option (List ℕ × List ℕ)) → call_at c h.counter ≡ o → Taken h now
+    by_call : (o : Option CallSite) → call_at c h.counter ≡ o → Taken h now
     by_call None e = record { taken = []; leads = plain h now step e; few = omega arith }
-    by_call (Some (name, args)) e = record { taken = calls.reply ∷ []; leads = call h now name args calls e; few = omega arith }
+    by_call (Some site) e = record { taken = calls.reply ∷ []; leads = call h now site calls e; few = omega arith }
 
   module _ (from : Hart) where
     start : AnswersLead gives c from from []

@@ -1,19 +1,22 @@
 -- What a step does to the script and to the count of calls: a call takes one answer, and nothing else takes any.
 use Rattle.std.proofs.Common.{◌≡◌, ℕ, suc, ◌+◌, ◌/◌, ◌*◌, ◌%◌, ◌^◌, List, [], ◌∷◌, length}
 use Rattle.std.proofs.Common.{Option, Some, None, Bool, true, false, cond, nat_eq, map, refl, ap, subst}
+use Rattle.rv64_instr.specs.Row.{Back, Callee, Ending}
 use Rattle.rv64_instr.specs.Arithmetic.{taken, store_width}
-use Rattle.rv64_instr.specs.declared.decoded.Base.TheVariants.{PointedBy, ObjectAt}
+use Rattle.rv64_instr.specs.Row.{PointedBy, ObjectAt, BesidePart}
 use Rattle.rv64_instr.specs.Row.{Row, Fixes, Moves, Sets, Loads, Stores, Branches, Jumps}
 use Rattle.rv64_instr.specs.Row.{implicit_uses}
+use Rattle.rv64_instr.specs.declared.start.CallTarget.{CallTarget}
 use Rattle.rv64_word.specs.declared.machine_op.MachineOp.{MachineOp}
 use Rattle.rv64_word.specs.Decoded.{decoded}
 use Rattle.rv64_word.specs.MachineRow.{MachineRow, Does, Links, LinksTo, machine_row}
-use Rattle.sem_mir.specs.State.{Reply, low_bytes, touches_frame}
+use Rattle.sem_mir.specs.State.{Reply, low_bytes, touches_frame, RunResult}
 use Rattle.sem_machine.specs.Image.{CodeLine}
 use Rattle.sem_machine.specs.Machine.{Machine, register, address_of}
 use Rattle.sim_machine.specs.Kept.{calls_in}
 use Rattle.sim_machine.proofs.Rows.{calls_stay}
-use Rattle.sem_machine.specs.MachineStep.{Continues, Ends, past, at, set_register, store, does_row, does, does_operation, does_word, answered, return_word}
+use Rattle.sem_machine.specs.MachineStep.{Continues, Ends, past, at, set_register, store, does_row}
+use Rattle.sem_machine.specs.MachineStep.{does, does_operation, does_word, does_left, result_at, step_call, return_word}
 
 -- the script and the count of calls are the same
 pub record Keeps (s u : Machine) : Type 0 where
@@ -30,7 +33,7 @@ one_state s t u e k = subst (Keeps s) (same_state t u e) k
 kept : (s t u : Machine) → Continues t ≡ Continues u → t.script ≡ s.script → t.events ≡ s.events → Keeps s u
 kept s t u e script events = one_state s t u e (record { script = script; calls = ap calls_in events })
 
-no_end : (results : List ℕ) (u : Machine) → Ends results ≡ Continues u → ⊥
+no_end : (result : RunResult) (u : Machine) → Ends result ≡ Continues u → ⊥
 no_end results u e = cc
 
 stored_keeps : (a : ℕ) (bytes : List ℕ) (s u : Machine) → Continues (past 4 (store a bytes s)) ≡ Continues u → Keeps s u
@@ -44,8 +47,10 @@ row_keeps (Moves rd rs) s u e = kept s _ u e refl refl
 row_keeps (Sets rd op a b) s u e = kept s _ u e refl refl
 row_keeps (Loads rd op (PointedBy r) offset) s u e = kept s _ u e refl refl
 row_keeps (Loads rd op (ObjectAt n) offset) s u e = absurd cc
+row_keeps (Loads rd op (BesidePart r y) offset) s u e = absurd cc
 row_keeps (Stores op rs (PointedBy r) offset) s u e = stored_keeps (address_of s r offset) (low_bytes (store_width op) (register s rs)) s u e
 row_keeps (Stores op rs (ObjectAt n) offset) s u e = absurd cc
+row_keeps (Stores op rs (BesidePart r y) offset) s u e = absurd cc
 row_keeps (Branches op a b target) s u e = by_test (taken op (register s a) (register s b)) e where
   by_test : (t : Bool) → Continues (cond t (at target s) (past 4 s)) ≡ Continues u → Keeps s u
   by_test true q = kept s (at target s) u q refl refl
@@ -66,18 +71,26 @@ operation_keeps (Some m) s u e = machine_keeps (machine_row s.counter m) s u e
 pub word_keeps : (l : CodeLine) (o : Option ℕ) (s u : Machine) → does_word l o s ≡ Continues u → Keeps s u
 word_keeps l None s u e = absurd cc
 word_keeps l (Some w) s u e = by_test (nat_eq w return_word) e where
-  by_test : (t : Bool) → cond t (Ends (map (register s) (implicit_uses l.instruction.operands))) (does_operation (decoded w) s) ≡ Continues u → Keeps s u
+  by_test : (t : Bool) → cond t (Ends (record { way = Back; values = map (register s) (implicit_uses l.instruction.operands) }))
+      (does_operation (decoded w) s) ≡ Continues u →
+      Keeps s u
   by_test true q = absurd (no_end _ u q)
   by_test false q = operation_keeps (decoded w) s u q
+
+-- where control leaves the function for a callee, nothing goes on
+pub left_keeps : (l : CodeLine) (left : Option (Ending Callee)) (o : Option ℕ) (s u : Machine) → does_left l left o s ≡ Continues u → Keeps s u
+left_keeps l None o s u e = word_keeps l o s u e
+left_keeps l (Some ending) o s u e = absurd (no_end (result_at s ending) u e)
 
 -- a call takes one answer and counts
 pub record Takes (rest : List Reply) (s u : Machine) : Type 0 where
   pub script : u.script ≡ rest
   pub calls : calls_in u.events ≡ suc (calls_in s.events)
 
-pub call_takes : (name args : List ℕ) (s u : Machine) (r : Reply) (rest script : List Reply) → script ≡ r ∷ rest → answered name args s script ≡ Continues u →
+pub call_takes : (size : ℕ) (target : CallTarget) (args : List ℕ) (s u : Machine) (r : Reply) (rest script : List Reply) → script ≡ r ∷ rest →
+    step_call size target args s script ≡ Continues u →
     Takes rest s u
-call_takes name args s u r rest [] q e = absurd cc
-call_takes name args s u r rest (x ∷ more) q e =
+call_takes size target args s u r rest [] q e = absurd cc
+call_takes size target args s u r rest (x ∷ more) q e =
     let same : more ≡ rest = cc in
     subst (λ (t : Machine). Takes rest s t) (same_state _ u e) (record { script = same; calls = refl })

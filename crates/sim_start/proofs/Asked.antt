@@ -1,6 +1,7 @@
 -- The run with values for its calls is the one that is asked for.
 use Rattle.std.proofs.Common.{◌≡◌, ℕ, zero, suc, ◌+◌, ◌-◌, ◌<◌, ◌≤◌, ◌%◌, ◌^◌, List, [], ◌∷◌, ◌++◌, length, get_or, refl, sym, ap, ◌∙◌, arith}
 use Rattle.std.proofs.lemmas.List.{append-nil}
+use Rattle.rv64_instr.specs.Linked.{addresses_in}
 use Rattle.rv64_instr.specs.declared.start.CallEvent.{CallEvent}
 use Rattle.rv64_instr.specs.declared.start.Start.{Start}
 use Rattle.sem_mir.specs.State.{Reply, written}
@@ -10,7 +11,7 @@ use Rattle.sim_machine.specs.Machines.{StartsCode}
 use Rattle.sim_proof.specs.Runs.{WereGiven}
 use Rattle.sim_trace.specs.declared.variable.Variable.{Variable}
 use Rattle.sim_trace.specs.Run.{IsTextOfRun}
-use Rattle.sim_start.specs.Asked.{start_register, BeginsRun, reply_to, replies, IsTextOfAskedRun}
+use Rattle.sim_start.specs.InitialMachine.{start_register, BeginsRun, reply_to, replies, IsTextOfAskedRun}
 
 -- the answers that values give
 abbrev Gives : (values : List ℕ) → CallEvent → Reply → Type 0
@@ -39,10 +40,11 @@ split_replies values n (suc a) b =
     ∙ ap (λ (xs : List Reply). reply_to values n ∷ xs) (split_replies values (suc n) a b ∙ ap (λ (k : ℕ). replies values (suc n) a ++ replies values k b) next)
 
 pub starts : (c : LaidCode) (arguments : List ℕ) (start : Start) (s : Machine) → ((r : ℕ) → r < 32 → get_or start.regs r 0 ≡ start_register arguments r) →
-    start.memory ≡ [] → BeginsRun c arguments s → StartsCode c start s
-starts c arguments start s regs memory b = record {
+    start.memory ≡ [] → start.symbols ≡ [] → BeginsRun c arguments s → StartsCode c start s
+starts c arguments start s regs memory symbols b = record {
   entry = b.entry ∙ sym (regs 2 (omega arith));
   area = b.area;
+  symbols = b.symbols ∙ ap addresses_in (sym symbols);
   counter = b.counter;
   regs = at_register;
   memory = at_address;
@@ -62,20 +64,20 @@ with_script script s = record s { script = script }
 begins_so : (c : LaidCode) (arguments : List ℕ) (script : List Reply) (s : Machine) → BeginsRun c arguments s → BeginsRun c arguments (with_script script s)
 unfolding with_script
 begins_so c arguments script s b =
-    record { entry = b.entry; area = b.area; counter = b.counter; regs = b.regs; memory = b.memory; events = b.events }
+    record { entry = b.entry; area = b.area; symbols = b.symbols; counter = b.counter; regs = b.regs; memory = b.memory; events = b.events }
 
 script_is : (script : List Reply) (s : Machine) → (with_script script s).script ≡ script
 unfolding with_script
 script_is script s = refl
 
 pub asked : (c : LaidCode) (arguments values : List ℕ) (start : Start) (variables : List Variable) (limit : ℕ) (text : List ℕ) → limit < 2 ^ 32 →
-    ((r : ℕ) → r < 32 → get_or start.regs r 0 ≡ start_register arguments r) → start.memory ≡ [] →
+    ((r : ℕ) → r < 32 → get_or start.regs r 0 ≡ start_register arguments r) → start.memory ≡ [] → start.symbols ≡ [] →
     IsTextOfRun (Gives values) c start variables limit text → IsTextOfAskedRun c arguments values variables limit text
-asked c arguments values start variables limit text low regs memory h image s shows b script =
+asked c arguments values start variables limit text low regs memory symbols h image s shows b script =
     let answers = h.answers in
     let n : ℕ = length answers in
     let s1 = with_script answers s in
-    let first = h.has image s1 [] shows (starts c arguments start s1 regs memory (begins_so c arguments answers s b))
+    let first = h.has image s1 [] shows (starts c arguments start s1 regs memory symbols (begins_so c arguments answers s b))
     (script_is answers s ∙ sym (append-nil answers)) in
     let few : n ≤ limit = first.few in
     let are : answers ≡ replies values 1 n = are_replies values 1 answers (omega (arith, few, low)) first.given in
@@ -83,4 +85,4 @@ asked c arguments values start variables limit text low regs memory h image s sh
     let rest = replies values (1 + n) (limit - n) in
     let split : replies values 1 limit ≡ answers ++ rest =
     ap (replies values 1) whole ∙ (split_replies values 1 n (limit - n) ∙ ap (λ (xs : List Reply). xs ++ rest) (sym are)) in
-    (h.has image s rest shows (starts c arguments start s regs memory b) (script ∙ split)).is
+    (h.has image s rest shows (starts c arguments start s regs memory symbols b) (script ∙ split)).is

@@ -2,7 +2,7 @@
 
 ghost use Rattle.std.specs.Prelude.{◌≡◌, map};
 ghost use Rattle.rv64_instr.specs.DefsAndUses.{caller_saved};
-ghost use Rattle.sim_start.specs.Asked.{call_value, call_register, reply_to};
+ghost use Rattle.sim_start.specs.InitialMachine.{call_value, call_register, reply_to};
 
 use rv64_instr::start::{CallEvent, CallResult, Values};
 use sim_machine::answers::CallAnswers;

@@ -1,9 +1,10 @@
 //! The start of a run.
 
 ghost use Rattle.std.specs.Prelude.{◌≡◌, ◌<◌, ℕ, [], slice_index};
-ghost use Rattle.sim_start.specs.Asked.{start_register, other_register};
+ghost use Rattle.sim_start.specs.InitialMachine.{start_register, other_register};
 
 use rv64_instr::start::{Cells, Start};
+use rv64_instr::symbol::SymbolAddresses;
 use std::alloc::Global;
 
 /// The content of x1 at the start: the return address.
@@ -12,14 +13,17 @@ const RETURN_ADDRESS: u64 = 4_294_967_296;
 /// The content of x2 at the start: the stack pointer.
 const STACK_POINTER: u64 = 1_048_576;
 
-/// The start of a run with arguments, which are in x10 and the registers after it. Memory is 0. It takes no memory.
+/// The start of a run with arguments, which are in x10 and the registers after it. Memory is 0, and so
+/// are the addresses of symbols. It takes no memory.
 pub fn start_with(alloc: Global, arguments: &[u64]) -> Start
     ensures regs { (r : ℕ) → r < 32 → slice_index result.regs r ≡ start_register arguments.now r }
     ensures memory { result.memory ≡ [] }
+    ensures symbols { result.symbols ≡ [] }
 {
     Start {
         regs: registers(arguments),
         memory: Cells::new(alloc),
+        symbols: SymbolAddresses::new(alloc),
     }
 }
 

@@ -2,7 +2,7 @@
 
 ghost use Rattle.std.specs.Prelude.{◌≤◌, ◌+◌, ◌*◌, ◌^◌, All, IfOk, length};
 ghost use Rattle.dwarf_loclists.specs.Ranges.{Ascend, ArePlaces};
-ghost use Rattle.sim_start.specs.Asked.{IsTextOfAskedRun};
+ghost use Rattle.sim_start.specs.InitialMachine.{IsTextOfAskedRun};
 
 use crate::answers::ValueAnswers;
 use crate::start::start_with;

@@ -4,6 +4,7 @@ use Rattle.std.proofs.Common.{None, Result, Ok, Err, refl, sym, ap, ◌∙◌, s
 use Rattle.std.specs.Prelude.{OnOk}
 use Rattle.rv64_instr.specs.declared.start.CallEvent.{CallEvent}
 use Rattle.rv64_instr.specs.declared.start.Start.{Start}
+use Rattle.rv64_instr.specs.Row.{CallSite}
 use Rattle.mir_func.specs.declared.position.Origin.{Origin}
 use Rattle.sem_mir.specs.State.{Reply, Event}
 use Rattle.sem_machine.specs.Image.{CodeLine, Image}
@@ -53,9 +54,9 @@ module _ (gives : CallEvent → Reply → Type 0) (c : LaidCode) (variables : Li
   stop_made : (image : Image) (n : ℕ) (stop : Stop) (h now : Hart) (text more : List ℕ) (s : Machine) → ShowsCode c image → StandsFor h s →
       IsPrintedStep gives c variables n (Stopped stop) h now text more → StopsSo stop image s
   stop_made image n stop h now text more s shows stands step = by_call (call_at c s.counter) refl where
-    by_call : (o : Option (List ℕ × List ℕ)) → call_at c s.counter ≡ o → StopsSo stop image s
+    by_call : (o : Option CallSite) → call_at c s.counter ≡ o → StopsSo stop image s
     by_call None e = step.step image s shows stands e
-    by_call (Some (name, args)) e = absurd (no_went stop (step.call.calls image s name args shows stands e).went)
+    by_call (Some site) e = absurd (no_went stop (step.call.calls image s site shows stands e).went)
 
   module _ (from : Hart) where
     record PrintsTo (image : Image) (n : ℕ) (answers rest : List Reply) (h : Hart) (text : List ℕ) (s : Machine) : Type 0 where

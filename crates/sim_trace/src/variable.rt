@@ -5,7 +5,7 @@ ghost use Rattle.dwarf_loclists.specs.Ranges.{Ascend, ArePlaces};
 ghost use Rattle.sim_trace.specs.Variables.{variable_of};
 
 use base_list::List;
-use dwarf_loclists::range::{Range, Ranges};
+use dwarf_loclists::range::{Ranges, copied};
 use listing_text::output::ListedVariable;
 use rv64_instr::name::Name;
 use std::alloc::{AllocError, Global};
@@ -41,19 +41,4 @@ pub fn variables_of(
         })?;
     }
     Ok(variables)
-}
-
-/// A copy of the ranges.
-fn copied(alloc: Global, ranges: &[Range]) -> Result<Ranges, AllocError>
-    ensures { IfOk result (λ made. made ≡ ranges.now) }
-{
-    let mut made = Ranges::new(alloc);
-    for range in ranges {
-        made.push(Range {
-            lo: range.lo,
-            hi: range.hi,
-            location: range.location.copy()?,
-        })?;
-    }
-    Ok(made)
 }

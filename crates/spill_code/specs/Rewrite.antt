@@ -5,12 +5,13 @@ use Rattle.rv64_instr.specs.declared.op.Op.TheVariants.{Load, Store}
 use Rattle.rv64_instr.specs.declared.op.LoadOp.TheVariants.{Ld}
 use Rattle.rv64_instr.specs.declared.op.StoreOp.TheVariants.{Sd}
 use Rattle.rv64_instr.specs.declared.operand.Operand.{Operand}
-use Rattle.rv64_instr.specs.declared.operand.Operand.TheVariants.{Def, Use, ImplicitDef, ImplicitUse, Imm, Slot as OfSlot, Object as OfObject, Block as OfBlock}
+use Rattle.rv64_instr.specs.declared.operand.Operand.TheVariants.{Def, Use, ImplicitDef, ImplicitUse}
+use Rattle.rv64_instr.specs.declared.operand.Operand.TheVariants.{Imm, Slot as OfSlot, Object as OfObject, Part, Block as OfBlock}
 use Rattle.rv64_instr.specs.declared.operand.Operand.TheVariants.{Symbol, Mask}
 use Rattle.rv64_instr.specs.declared.place.Place.{Place}
 use Rattle.rv64_instr.specs.declared.place.Place.TheVariants.{Register, Slot, Const}
 use Rattle.rv64_instr.specs.Instruction.{Instruction}
-use Rattle.rv64_instr.specs.Parts.{names_slot}
+use Rattle.rv64_instr.specs.LocationEffects.{names_slot}
 use Rattle.mir_func.specs.declared.position.Pos.{Pos}
 use Rattle.mir_func.specs.declared.position.Origin.{Origin}
 use Rattle.mir_func.specs.declared.position.Origin.TheVariants.{Before}
@@ -21,7 +22,7 @@ use Rattle.mir_func.specs.declared.item.ItemKind.{ItemKind}
 use Rattle.mir_func.specs.declared.item.ItemKind.TheVariants.{Code, Mark, Phi}
 use Rattle.mir_func.specs.declared.block.Block.{Block}
 use Rattle.mir_func.specs.Graph.{below, block_start}
-use Rattle.sem_mir.specs.Align.{position_of}
+use Rattle.mir_func.specs.Positions.{position_of}
 use Rattle.spill_code.specs.declared.spilling.SlotAssignment.{SlotAssignment}
 use Rattle.spill_code.specs.declared.spilling.Spilling.{Spilling}
 
@@ -41,6 +42,7 @@ slot_used homes (ImplicitUse r) = None
 slot_used homes (Imm i) = None
 slot_used homes (OfSlot n) = None
 slot_used homes (OfObject n) = None
+slot_used homes (Part half y) = None
 slot_used homes (OfBlock n) = None
 slot_used homes (Symbol name) = None
 slot_used homes Mask = None
@@ -54,6 +56,7 @@ slot_defined homes (ImplicitUse r) = None
 slot_defined homes (Imm i) = None
 slot_defined homes (OfSlot n) = None
 slot_defined homes (OfObject n) = None
+slot_defined homes (Part half y) = None
 slot_defined homes (OfBlock n) = None
 slot_defined homes (Symbol name) = None
 slot_defined homes Mask = None
@@ -113,6 +116,7 @@ renamed_operand at_use at_def (ImplicitUse r) = ImplicitUse r
 renamed_operand at_use at_def (Imm i) = Imm i
 renamed_operand at_use at_def (OfSlot n) = OfSlot n
 renamed_operand at_use at_def (OfObject n) = OfObject n
+renamed_operand at_use at_def (Part half y) = Part half y
 renamed_operand at_use at_def (OfBlock n) = OfBlock n
 renamed_operand at_use at_def (Symbol name) = Symbol name
 renamed_operand at_use at_def Mask = Mask

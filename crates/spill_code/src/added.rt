@@ -5,7 +5,7 @@ ghost use Rattle.spill_code.specs.Rewrite.{load, store, added, loads, stores, tw
 
 use crate::operands::{first_used, other_used};
 use crate::spilling::{SlotAssignment, Spilling};
-use base_ids::code::{BlockId, SlotId};
+use base_ids::function_ids::{BlockId, SlotId};
 use mir_func::item::{Item, ItemKind, Items};
 use mir_func::location::Loc;
 use mir_func::position::{Origin, Pos};

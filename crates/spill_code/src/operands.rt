@@ -5,7 +5,7 @@ ghost use Rattle.spill_code.specs.Rewrite.{slot_used, slot_defined, unless_is, f
 ghost use Rattle.spill_code.specs.Rewrite.{use_now, def_now, renamed_operand, spilled_code};
 
 use crate::spilling::{SlotAssignment, Spilling, slot_of};
-use base_ids::code::SlotId;
+use base_ids::function_ids::SlotId;
 use rv64_instr::instr::Instr;
 use rv64_instr::operand::{Operand, Operands};
 use rv64_instr::reg::Reg;
@@ -57,6 +57,7 @@ fn slot_used(homes: &[SlotAssignment], operand: &Operand) -> Option<SlotId>
         | Operand::ImplicitDef(_)
         | Operand::Slot(_)
         | Operand::Object(_)
+        | Operand::Part(_, _)
         | Operand::Imm(_)
         | Operand::Symbol(_)
         | Operand::Block(_)
@@ -77,7 +78,8 @@ fn slot_defined(homes: &[SlotAssignment], operand: &Operand) -> Option<SlotId>
         | Operand::Symbol(_)
         | Operand::Imm(_)
         | Operand::Slot(_)
-        | Operand::Object(_) => None,
+        | Operand::Object(_)
+        | Operand::Part(_, _) => None,
     }
 }
 
@@ -140,6 +142,7 @@ fn renamed_operand(
         | Operand::Imm(_)
         | Operand::Slot(_)
         | Operand::Object(_)
+        | Operand::Part(_, _)
         | Operand::Block(_)
         | Operand::Symbol(_)
         | Operand::Mask => operand.copy(),

@@ -2,7 +2,7 @@
 
 ghost use Rattle.std.specs.Prelude.{◌≡◌, ◌++◌, ◌<◌, ◌^◌, ◌+◌, IfOk, OnOk, All, Some, map, ℕ};
 ghost use Rattle.mir_func.specs.Graph.{below};
-ghost use Rattle.sem_mir.specs.Align.{position_of};
+ghost use Rattle.mir_func.specs.Positions.{position_of};
 ghost use Rattle.spill_code.specs.Rewrite.{code_items, spilled_item};
 ghost use Rattle.spill_code.specs.Rewrite.{spilled_items, spilled_block, first_block};
 ghost use Rattle.spill_code.specs.Rewrite.{slot_of, place_in, spilled_place, spilled_blocks, first_defined};
@@ -11,15 +11,14 @@ ghost use Rattle.spill_code.specs.Room.{HasRoom, HaveRoom};
 use crate::added::{push_entry, push_loads, push_store};
 use crate::operands::{first_defined, spilled_code};
 use crate::spilling::{SlotAssignment, Spilling, slot_of};
-use base_ids::code::DebugNumber;
+use base_ids::function_ids::DebugNumber;
 use mir_func::block::{Block, Blocks};
 use mir_func::item::{Item, ItemKind, Items};
 use mir_func::location::Loc;
-use mir_func::position::{Origin, Pos};
+use mir_func::position::{Origin, Pos, position_of};
 use rv64_instr::instr::Instr;
 use rv64_instr::place::Place;
 use rv64_instr::reg::Reg;
-use sem_mir::align::position_of;
 use std::alloc::{AllocError, Global};
 
 /// The blocks, with reloads, spills and scratch registers for spilled registers, and at the start of the first one the

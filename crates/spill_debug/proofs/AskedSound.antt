@@ -20,7 +20,7 @@ use Rattle.mir_func.specs.declared.item.ItemKind.TheVariants.{Code, Mark, Phi}
 use Rattle.mir_func.specs.Exits.{exit_of, IsAlways}
 use Rattle.mir_func.specs.Sound.{AllItems, ids_of, items_of, number_of, code_number, OriginIn, TargetsIn, SlotsIn, PlaceIn, ObjectsIn, LeavesPointer}
 use Rattle.mir_func.proofs.Once.{codes_of}
-use Rattle.sem_mir.specs.Align.{position_of}
+use Rattle.mir_func.specs.Positions.{position_of}
 use Rattle.pass_trait.specs.Rule.{item, item_before, first_operand}
 use Rattle.spill_code.specs.declared.spilling.Spilling.{Spilling}
 use Rattle.spill_code.specs.Rewrite.{slot_of}

@@ -7,7 +7,7 @@ ghost use Rattle.spill_debug.specs.Lost.{AreMarksLost, AreScratchLosses, is_sile
 ghost use Rattle.spill_debug.specs.Lost.{numbers_silenced, marks_silenced, all_numbers_silenced, all_marks_silenced};
 
 use crate::marks::is_scratch;
-use base_ids::code::DebugNumber;
+use base_ids::function_ids::DebugNumber;
 use mir_func::block::Block;
 use mir_func::item::{Item, ItemKind};
 use mir_func::position::{Origin, Pos};

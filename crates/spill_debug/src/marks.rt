@@ -7,16 +7,15 @@ ghost use Rattle.spill_debug.specs.RewrittenDebugItems.{is_scratch, is_scratch_p
 ghost use Rattle.spill_debug.specs.RewrittenDebugItems.{mark_asked, kind_asked, number_past, next_number};
 ghost use Rattle.spill_debug.specs.RewrittenDebugItems.{number_behind, items_asked, number_beyond, blocks_asked};
 
-use base_ids::code::{DebugNumber, OperandIndex};
+use base_ids::function_ids::{DebugNumber, OperandIndex};
 use mir_func::block::{Block, Blocks};
 use mir_func::debug_substitution::OperandPair;
 use mir_func::item::{Item, ItemKind, Items};
 use mir_func::location::Loc;
-use mir_func::position::Origin;
+use mir_func::position::{Origin, position_of};
 use mir_func::variable::{MarkValue, VarId};
 use rv64_instr::place::Place;
 use rv64_instr::reg::Reg;
-use sem_mir::align::position_of;
 use spill_code::spilling::{Spilling, slot_of};
 use std::alloc::{AllocError, Global};
 

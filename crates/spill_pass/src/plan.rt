@@ -10,7 +10,7 @@ ghost use Rattle.spill_rule.specs.Choice.{entry_of};
 ghost use Rattle.spill_select.specs.Incoming.{is_among};
 ghost use Rattle.spill_pass.specs.Plan.{IsPlan, AreAllLosses};
 
-use base_ids::code::SlotId;
+use base_ids::function_ids::SlotId;
 use mir_func::block::{Block, Blocks};
 use mir_func::func::{Func, SlotIds};
 use pass_trait::loss::Losses;

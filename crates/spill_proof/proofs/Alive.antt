@@ -5,7 +5,7 @@ use Rattle.mir_func.specs.declared.block.Block.{Block}
 use Rattle.mir_func.specs.Function.{Function}
 use Rattle.mir_func.specs.Graph.{program_of, block_start}
 use Rattle.mir_func.specs.Strip.{stripped_blocks, stripped}
-use Rattle.sem_mir.specs.Follow.{first_of}
+use Rattle.sem_mir.specs.InitialState.{first_of}
 use Rattle.sem_mir.specs.Live.{Live}
 use Rattle.pass_liveness.proofs.Stripped.{live_stripped}
 use Rattle.spill_rule.specs.Rule.{IsLiveIn}

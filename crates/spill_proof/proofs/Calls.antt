@@ -1,15 +1,17 @@
 -- Other explicit registers make no call of code, and none to something else.
-use Rattle.std.proofs.Common.{◌≡◌, ℕ, zero, suc, List, ◌∷◌, map, false, refl, sym, ◌∙◌}
+use Rattle.std.proofs.Common.{◌≡◌, ℕ, zero, suc, List, ◌∷◌, map, false, refl, sym, ◌∙◌, [], cond, nat_eq, ap}
 use Rattle.rv64_instr.specs.declared.op.Op.{Op}
-use Rattle.rv64_instr.specs.declared.op.Op.TheVariants.{Registers, Immediate, Lui, Branch, Load, Store, Copy, PseudoBr, PseudoCall, PseudoRet}
+use Rattle.rv64_instr.specs.declared.op.Op.TheVariants.{Registers, Immediate, Lui, Branch, Load, Store, Copy}
+use Rattle.rv64_instr.specs.declared.op.Op.TheVariants.{PseudoBr, PseudoCall, PseudoRet, PseudoCallIndirect}
+use Rattle.rv64_instr.specs.declared.op.Op.TheVariants.{PseudoTail, PseudoTailIndirect, NoReturnCall, NoReturnCallIndirect}
 use Rattle.rv64_instr.specs.declared.op.ImmediateOp.{ImmediateOp}
 use Rattle.rv64_instr.specs.declared.op.ImmediateOp.TheVariants.{Addi}
 use Rattle.rv64_instr.specs.declared.operand.Operand.{Operand}
-use Rattle.rv64_instr.specs.declared.operand.Operand.TheVariants.{Def, Use, Imm, Slot, Object, Block, Symbol}
+use Rattle.rv64_instr.specs.declared.operand.Operand.TheVariants.{Def, Use, Imm, Slot, Object, Block, Symbol, ImplicitUse}
 use Rattle.rv64_instr.specs.Arithmetic.{word}
 use Rattle.rv64_instr.specs.Instruction.{Instruction}
-use Rattle.rv64_instr.specs.Row.{row_of, row_by, move_row, add_row, immediate_row, object_row}
-use Rattle.rv64_instr.specs.Parts.{is_call}
+use Rattle.rv64_instr.specs.Row.{row_of, row_by, move_row, add_row, immediate_row, object_row, implicit_uses, held_call, held_tail, held_gone}
+use Rattle.rv64_instr.specs.LocationEffects.{is_call}
 use Rattle.spill_code.specs.Rewrite.{renamed_operand, renamed_code}
 
 no_move : (rd rs : ℕ) → is_call (move_row rd rs) ≡ false
@@ -29,7 +31,20 @@ no_object : (op : ImmediateOp) (rd n o : ℕ) → is_call (object_row op rd n o)
 no_object Addi rd n o = refl
 no_object _ rd n o = refl
 
+no_held_tail : (xs : List ℕ) → is_call (held_tail xs) ≡ false
+no_held_tail [] = refl
+no_held_tail (r ∷ xs) = refl
+
+no_held_gone : (xs : List ℕ) → is_call (held_gone xs) ≡ false
+no_held_gone [] = refl
+no_held_gone (r ∷ xs) = refl
+
 module _ (u d : ℕ → ℕ) where
+  uses_kept : (os : List Operand) → implicit_uses (map (renamed_operand u d) os) ≡ implicit_uses os
+  uses_kept [] = refl
+  uses_kept (ImplicitUse r ∷ os) = ap (λ (z : List ℕ). cond (nat_eq r 2) z (r ∷ z)) (uses_kept os)
+  uses_kept (_ ∷ os) = uses_kept os
+
   by_op : (op : Op) (os : List Operand) → is_call (row_by op (map (renamed_operand u d) os)) ≡ is_call (row_by op os)
   by_op (Registers op) (Def rd ∷ Use a ∷ Use b ∷ rest) = refl
   by_op (Immediate op) (Def rd ∷ Use a ∷ Imm i ∷ rest) = no_immediate op (d rd) (u a) (word i) ∙ sym (no_immediate op rd a (word i))
@@ -46,6 +61,11 @@ module _ (u d : ℕ → ℕ) where
   by_op PseudoBr (Block target ∷ rest) = refl
   by_op PseudoCall (Symbol name ∷ rest) = refl
   by_op PseudoRet os = refl
+  by_op PseudoCallIndirect os = ap (λ (xs : List ℕ). is_call (held_call xs)) (uses_kept os)
+  by_op PseudoTail (Symbol name ∷ rest) = refl
+  by_op PseudoTailIndirect os = no_held_tail (implicit_uses (map (renamed_operand u d) os)) ∙ sym (no_held_tail (implicit_uses os))
+  by_op NoReturnCall (Symbol name ∷ rest) = refl
+  by_op NoReturnCallIndirect os = no_held_gone (implicit_uses (map (renamed_operand u d) os)) ∙ sym (no_held_gone (implicit_uses os))
   by_op _ _ = refl
 
   pub call_renamed : (i : Instruction) → is_call (row_of (renamed_code u d i)) ≡ is_call (row_of i)

@@ -6,7 +6,7 @@ use Rattle.std.proofs.lemmas.List.{length-map}
 use Rattle.std.proofs.lemmas.List.Concat.{flat_map-cons}
 use Rattle.std.proofs.lemmas.List.Sums.{sum_by-append, sum_by-cons, count_by-le-length}
 use Rattle.rv64_instr.specs.Instruction.{Instruction}
-use Rattle.rv64_instr.specs.Parts.{is_call}
+use Rattle.rv64_instr.specs.LocationEffects.{is_call}
 use Rattle.rv64_instr.specs.Row.{row_of}
 use Rattle.rv64_instr.specs.declared.operand.Operand.{Operand}
 use Rattle.rv64_instr.specs.declared.place.Place.{Place}
@@ -21,9 +21,10 @@ use Rattle.mir_func.specs.declared.variable.MarkValue.{MarkValue}
 use Rattle.mir_func.specs.declared.variable.MarkValue.TheVariants.{Nothing, Constant, At, Pair}
 use Rattle.mir_func.specs.declared.variable.VarId.{VarId}
 use Rattle.mir_func.specs.Graph.{below, block_start}
-use Rattle.sem_mir.specs.Align.{position_of, is_code}
+use Rattle.mir_func.specs.Positions.{position_of}
+use Rattle.mir_func.specs.Calls.{is_call_kind}
+use Rattle.sem_mir.specs.Align.{is_code}
 use Rattle.pass_trait.specs.Rule.{item, item_before, first_operand}
-use Rattle.pass_trait.specs.Sizes.{calls}
 use Rattle.spill_code.specs.declared.spilling.SlotAssignment.{SlotAssignment}
 use Rattle.spill_code.specs.declared.spilling.Spilling.{Spilling}
 use Rattle.spill_code.specs.Rewrite.{slot_of, first_used, other_used, first_defined, use_now, def_now, spilled_code, load, store, added, loads}
@@ -165,35 +166,35 @@ module _ (s : Spilling) where
 
   -- ---- calls
 
-  no_call_mark : (v : VarId) (m : MarkValue) → calls (Mark v m) ≡ false
+  no_call_mark : (v : VarId) (m : MarkValue) → is_call_kind (Mark v m) ≡ false
   no_call_mark v m = refl
 
-  no_call_phi : (q : Option Place) (n : ℕ) → calls (Phi q n) ≡ false
+  no_call_phi : (q : Option Place) (n : ℕ) → is_call_kind (Phi q n) ≡ false
   no_call_phi q n = refl
 
   abbrev call_count : List Item → ℕ
-  call_count xs = count_by (λ (i : Item). calls i.kind) xs
+  call_count xs = count_by (λ (i : Item). is_call_kind i.kind) xs
 
   no_loads : (p : Pos) (r : ℕ) (z : Option ℕ) (ys : List Item) → call_count (loads p r z ++ ys) ≡ call_count ys
   no_loads p r None ys = refl
-  no_loads p r (Some n) ys = fails calls no_call_mark no_call_phi (added p (load r n)) ys refl
+  no_loads p r (Some n) ys = fails is_call_kind no_call_mark no_call_phi (added p (load r n)) ys refl
 
   no_two : (p : Pos) (os : List Operand) (z : Option ℕ) (ys : List Item) → call_count (two_loads s p os z ++ ys) ≡ call_count ys
   no_two p os None ys = refl
   no_two p os (Some n) ys =
-      fails calls no_call_mark no_call_phi (added p (load s.first n)) (loads p s.second (other_used s.homes n os) ++ ys) refl ∙
+      fails is_call_kind no_call_mark no_call_phi (added p (load s.first n)) (loads p s.second (other_used s.homes n os) ++ ys) refl ∙
       no_loads p s.second (other_used s.homes n os) ys
 
   no_stores : (p : Pos) (r : ℕ) (z : Option ℕ) → call_count (stores p r z) ≡ 0
   no_stores p r None = refl
-  no_stores p r (Some n) = fails calls no_call_mark no_call_phi (added p (store r n)) [] refl
+  no_stores p r (Some n) = fails is_call_kind no_call_mark no_call_phi (added p (store r n)) [] refl
 
   call_head : (i : Instruction) (n : Option ℕ) (o : Origin) (l : Loc) (ys : List Item) →
       call_count (item (Code (spilled_code s i) n) o l ∷ ys) ≡ call_count (item (Code i n) o l ∷ []) + call_count ys
   call_head i n o l ys =
-      sum_by-cons (λ (x : Item). cond (calls x.kind) 1 0) (item (Code (spilled_code s i) n) o l) ys ∙
+      sum_by-cons (λ (x : Item). cond (is_call_kind x.kind) 1 0) (item (Code (spilled_code s i) n) o l) ys ∙
       ap (λ (b : Bool). cond b 1 0 + call_count ys) (call_renamed (use_now s (first_used s.homes i.operands)) (def_now s) i) ∙
-      ap (λ (m : ℕ). m + call_count ys) (sym (sum_by-cons (λ (x : Item). cond (calls x.kind) 1 0) (item (Code i n) o l) [] ∙ no_more
+      ap (λ (m : ℕ). m + call_count ys) (sym (sum_by-cons (λ (x : Item). cond (is_call_kind x.kind) 1 0) (item (Code i n) o l) [] ∙ no_more
       (cond (is_call (row_of i)) 1 0))) where
         no_more : (m : ℕ) → m + 0 ≡ m
         no_more m = omega arith
@@ -202,7 +203,7 @@ module _ (s : Spilling) where
   as_often a b c e none = omega (arith, e, none)
 
   pub call_kind : (k : ℕ) (x : ItemKind) (o : Origin) (l : Loc) → call_count (spilled_items s (kind_asked s k x o l)) ≤ 1 * call_count (item x o l ∷ [])
-  call_kind = count_kind calls no_call_mark no_call_phi 1
+  call_kind = count_kind is_call_kind no_call_mark no_call_phi 1
       (λ i n o l. as_often _ _ _
       (no_two (position_of o) i.operands (first_used s.homes i.operands)
       (item (Code (spilled_code s i) n) o l ∷ stores (below (position_of o)) s.first (first_defined s.homes i.operands)) ∙
@@ -217,4 +218,4 @@ module _ (s : Spilling) where
   pub no_calls_entry : (b : ℕ) (entry : List SlotAssignment) → call_count (entry_stores b entry) ≡ 0
   no_calls_entry b [] = refl
   no_calls_entry b (h ∷ hs) =
-      fails calls no_call_mark no_call_phi (added (block_start b) (store h.register h.slot)) (entry_stores b hs) refl ∙ no_calls_entry b hs
+      fails is_call_kind no_call_mark no_call_phi (added (block_start b) (store h.register h.slot)) (entry_stores b hs) refl ∙ no_calls_entry b hs

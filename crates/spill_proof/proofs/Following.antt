@@ -4,7 +4,7 @@ use Rattle.std.proofs.Common.{sym, ap, ◌∙◌}
 use Rattle.std.proofs.Common.{subst, arith}
 use Rattle.std.proofs.lemmas.List.Elements.{All-cons, All-head, All-tail}
 use Rattle.std.specs.Prelude.{IsTrue}
-use Rattle.rv64_instr.specs.Parts.{IsSlotStore}
+use Rattle.rv64_instr.specs.LocationEffects.{IsSlotStore}
 use Rattle.mir_func.specs.declared.block.Block.{Block}
 use Rattle.mir_func.specs.declared.debug_substitution.DebugSubstitution.{DebugSubstitution}
 use Rattle.mir_func.specs.declared.item.Item.{Item}
@@ -20,7 +20,8 @@ use Rattle.mir_func.specs.Graph.{Program, Here, program_of, Leads}
 use Rattle.mir_func.specs.Resolve.{resolve}
 use Rattle.mir_func.specs.Sound.{AllItems, IsSound}
 use Rattle.sem_mir.specs.Align.{ByItems, ByEnds}
-use Rattle.sem_mir.specs.Follow.{first_of, Among, none, left, InOrder, next_rank, KindFits, MarkFits, OnRow, Counts, GoesTo, IsMetApart}
+use Rattle.sem_mir.specs.InitialState.{first_of}
+use Rattle.sem_mir.specs.Follow.{Among, none, left, InOrder, next_rank, KindFits, MarkFits, OnRow, Counts, GoesTo, IsMetApart}
 use Rattle.sem_mir.specs.Follow.{Shape, Follows}
 use Rattle.sem_mir.specs.Follow.{IsEnd, EndIsKept, HasWholeEnds}
 use Rattle.sem_mir.specs.Follow.Among.{same as still}

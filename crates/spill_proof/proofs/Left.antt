@@ -5,7 +5,7 @@ use Rattle.std.proofs.lemmas.Bool.{and_parts, and_from, or_left, or_right, lt-lt
 use Rattle.std.proofs.lemmas.List.Kept.{AllPairs-filter}
 use Rattle.rv64_instr.specs.declared.place.Place.{Place}
 use Rattle.rv64_instr.specs.declared.place.Place.TheVariants.{Register}
-use Rattle.rv64_instr.specs.Parts.{is_call}
+use Rattle.rv64_instr.specs.LocationEffects.{is_call}
 use Rattle.rv64_instr.specs.Row.{Row, Branches, Jumps, row_of}
 use Rattle.mir_func.specs.declared.block.Block.{Block}
 use Rattle.mir_func.specs.declared.debug_substitution.DebugSubstitution.{DebugSubstitution}
@@ -21,8 +21,10 @@ use Rattle.mir_func.specs.Graph.{program_of}
 use Rattle.mir_func.specs.Limits.{MAX_SLOTS}
 use Rattle.mir_func.specs.Resolve.{resolve}
 use Rattle.mir_func.specs.Sound.{IsSound, items_of}
-use Rattle.sem_mir.specs.Align.{position_of}
-use Rattle.sem_mir.specs.Follow.{first_of, OnRow, GoesTo}
+use Rattle.mir_func.specs.Positions.{position_of}
+use Rattle.mir_func.specs.Calls.{is_call_kind}
+use Rattle.sem_mir.specs.InitialState.{first_of}
+use Rattle.sem_mir.specs.Follow.{OnRow, GoesTo}
 use Rattle.sem_mir.specs.Live.{Live, used, later}
 use Rattle.pass_trait.specs.declared.loss.Reason.{Reason}
 use Rattle.pass_trait.specs.declared.loss.Reason.TheVariants.{Removed, WrongPlace, Scratch, Bypassed, Unreachable, NoScratch, CallNamed, EntryLoop, NoSlot}
@@ -30,7 +32,6 @@ use Rattle.pass_trait.specs.Causes.{names, is_named, scratch_of, Prevents, IsFir
 use Rattle.pass_trait.specs.Change.{Change}
 use Rattle.pass_trait.specs.Order.{reason_rank}
 use Rattle.pass_trait.specs.Rule.{Rule}
-use Rattle.pass_trait.specs.Sizes.{calls}
 use Rattle.spill_code.specs.declared.spilling.SlotAssignment.{SlotAssignment}
 use Rattle.spill_code.specs.Rewrite.{slot_of}
 use Rattle.spill_rule.specs.Choice.{is_added, binds, is_bound, row_goes, goes, is_looped, lacks_scratch, reason_of, is_free, candidates, room, chosen}
@@ -136,12 +137,12 @@ kind_led n (Phi p m) h = absurd h
 
 -- ---- calls and code that was added
 
-called : (k : ItemKind) → calls k ≡ true → OnRow (λ (row : Row). is_call row ≡ true) k
+called : (k : ItemKind) → is_call_kind k ≡ true → OnRow (λ (row : Row). is_call row ≡ true) k
 called (Code i n) h = h
 called (Mark v m) h = cc
 called (Phi p n) h = cc
 
-calling : (k : ItemKind) → OnRow (λ (row : Row). is_call row ≡ true) k → calls k ≡ true
+calling : (k : ItemKind) → OnRow (λ (row : Row). is_call row ≡ true) k → is_call_kind k ≡ true
 calling (Code i n) h = h
 calling (Mark v m) h = absurd h
 calling (Phi p n) h = absurd h
@@ -197,9 +198,9 @@ module _ (reserve : List ℕ) (live : ℕ → Bool) (k : ℕ) (f : Function) (su
   bound r e =
       let w = some_by (binds r) (items_of f.blocks) e in
       let i : Item = w.0 in
-      let t = and_parts (names r i.kind) (calls i.kind || is_added i.origin) w.2 in
+      let t = and_parts (names r i.kind) (is_call_kind i.kind || is_added i.origin) w.2 in
       let how : OnRow (λ (row : Row). is_call row ≡ true) i.kind ⊎ (i.origin ≡ Before (position_of i.origin)) =
-      elim (or_cases (calls i.kind) (is_added i.origin) t.1) [
+      elim (or_cases (is_call_kind i.kind) (is_added i.origin) t.1) [
         | inl h ↦ inl (called i.kind h)
         | inr h ↦ inr (was_added i.origin h)
       ] in
@@ -207,10 +208,11 @@ module _ (reserve : List ℕ) (live : ℕ → Bool) (k : ℕ) (f : Function) (su
 
   unbound : (r : ℕ) → is_bound f r ≡ false → Holds CallNamed r → ⊥
   unbound r e (i, at, named, how) = not_both (is_bound f r) e
-      (any_by (binds r) (items_of f.blocks) i at (and_from (names r i.kind) (calls i.kind || is_added i.origin) named (binding how))) where
-        binding : OnRow (λ (row : Row). is_call row ≡ true) i.kind ⊎ (i.origin ≡ Before (position_of i.origin)) → (calls i.kind || is_added i.origin) ≡ true
-        binding (inl h) = or_left (calls i.kind) (is_added i.origin) (calling i.kind h)
-        binding (inr h) = or_right (calls i.kind) (is_added i.origin) (ap is_added h)
+      (any_by (binds r) (items_of f.blocks) i at (and_from (names r i.kind) (is_call_kind i.kind || is_added i.origin) named (binding how))) where
+        binding : OnRow (λ (row : Row). is_call row ≡ true) i.kind ⊎ (i.origin ≡ Before (position_of i.origin)) →
+            (is_call_kind i.kind || is_added i.origin) ≡ true
+        binding (inl h) = or_left (is_call_kind i.kind) (is_added i.origin) (calling i.kind h)
+        binding (inr h) = or_right (is_call_kind i.kind) (is_added i.origin) (ap is_added h)
 
   looped : (r : ℕ) → Contains reserve r → (live r && is_looped f) ≡ true → Holds EntryLoop r
   looped r in_reserve e =

@@ -15,7 +15,8 @@ use Rattle.mir_func.specs.declared.position.Origin.TheVariants.{Before}
 use Rattle.mir_func.specs.declared.position.Pos.{Pos}
 use Rattle.mir_func.specs.Graph.{below}
 use Rattle.mir_func.specs.Sound.{items_of}
-use Rattle.sem_mir.specs.Align.{position_of, is_code}
+use Rattle.mir_func.specs.Positions.{position_of}
+use Rattle.sem_mir.specs.Align.{is_code}
 use Rattle.pass_trait.specs.Causes.{is_origin, IsMore}
 use Rattle.pass_trait.specs.Change.{Change}
 use Rattle.pass_trait.specs.Rule.{item}

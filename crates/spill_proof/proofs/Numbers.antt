@@ -19,7 +19,7 @@ use Rattle.mir_func.specs.declared.variable.MarkValue.TheVariants.{Nothing, Cons
 use Rattle.mir_func.specs.declared.variable.VarId.{VarId}
 use Rattle.mir_func.specs.Graph.{below, block_start}
 use Rattle.mir_func.specs.Sound.{items_of}
-use Rattle.sem_mir.specs.Align.{position_of}
+use Rattle.mir_func.specs.Positions.{position_of}
 use Rattle.pass_trait.specs.Rule.{item, item_before, first_operand}
 use Rattle.pass_trait.specs.Sizes.{greatest, numbers_of}
 use Rattle.pass_salvage.proofs.Greatest.{greatest_append}

@@ -11,10 +11,11 @@ use Rattle.mir_func.specs.declared.item.Item.{Item}
 use Rattle.mir_func.specs.Function.{Function}
 use Rattle.mir_func.specs.Limits.{MAX_BLOCKS, MAX_SLOTS}
 use Rattle.mir_func.specs.Sound.{items_of}
+use Rattle.mir_func.specs.Calls.{is_call_kind}
 use Rattle.sem_mir.specs.Align.{is_code}
 use Rattle.pass_trait.specs.Causes.{is_named, scratch_of}
 use Rattle.pass_trait.specs.Change.{change}
-use Rattle.pass_trait.specs.Sizes.{greatest, greatest_number, most_numbers, calls, KeepsSizes}
+use Rattle.pass_trait.specs.Sizes.{greatest, greatest_number, most_numbers, KeepsSizes}
 use Rattle.pass_salvage.proofs.Greatest.{greatest_append}
 use Rattle.spill_code.specs.declared.spilling.SlotAssignment.{SlotAssignment}
 use Rattle.spill_code.specs.declared.spilling.Spilling.{Spilling}
@@ -163,10 +164,10 @@ module _ (reserve : List ℕ) (live : ℕ → Bool) (f : Function) (subs : List 
       (λ b. le_on _ _ _ (count_by-le-length (λ (i : Item). is_code i.kind) (entry_stores b entry))
       (subst (λ (n : ℕ). n ≤ MAX_SLOTS) (sym (long_entry s b entry)) few_entry))
 
-  calls_most : count_by (λ (i : Item). calls i.kind) ys ≤ count_by (λ (i : Item). calls i.kind) xs
+  calls_most : count_by (λ (i : Item). is_call_kind i.kind) ys ≤ count_by (λ (i : Item). is_call_kind i.kind) xs
   calls_most = none_more _ _
-      (blocks_bound s (λ zs. count_by (λ (i : Item). calls i.kind) zs) (λ zs. count_by (λ (i : Item). calls i.kind) zs)
-      (count_measure (λ i. calls i.kind)) (count_measure (λ i. calls i.kind))
+      (blocks_bound s (λ zs. count_by (λ (i : Item). is_call_kind i.kind) zs) (λ zs. count_by (λ (i : Item). is_call_kind i.kind) zs)
+      (count_measure (λ i. is_call_kind i.kind)) (count_measure (λ i. is_call_kind i.kind))
       (λ n x. once _ _ (call_kind s n x.kind x.origin x.loc)) k 0 entry f.blocks (λ b. none_le _ _ (no_calls_entry s b entry)))
 
   abbrev entries : List ℕ

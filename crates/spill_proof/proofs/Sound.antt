@@ -12,10 +12,9 @@ use Rattle.rv64_instr.specs.declared.place.Place.{Place}
 use Rattle.rv64_instr.specs.declared.place.Place.TheVariants.{Register, Slot, Const}
 use Rattle.rv64_instr.specs.DefsAndUses.{caller_saved, reads, sets}
 use Rattle.rv64_instr.specs.Instruction.{Instruction}
-use Rattle.rv64_instr.specs.Parts.{has_implicit_uses, names_slot}
+use Rattle.rv64_instr.specs.LocationEffects.{has_implicit_uses, names_slot}
 use Rattle.rv64_instr.specs.Row.{Row, Addresses, Loads, Stores, LoadsSlot, StoresSlot, Branches, Jumps, Returns, Unfit, row_of}
-use Rattle.rv64_instr.specs.declared.decoded.Base.{Base}
-use Rattle.rv64_instr.specs.declared.decoded.Base.TheVariants.{PointedBy, ObjectAt}
+use Rattle.rv64_instr.specs.Row.{Base, PointedBy, ObjectAt, BesidePart}
 use Rattle.mir_func.specs.declared.debug_substitution.OperandPair.{OperandPair}
 use Rattle.mir_func.specs.declared.exit.Exit.TheVariants.{Onward}
 use Rattle.mir_func.specs.declared.location.Loc.{Loc}
@@ -35,7 +34,7 @@ use Rattle.mir_func.specs.declared.variable.MarkValue.{MarkValue}
 use Rattle.mir_func.specs.Graph.{below, block_start}
 use Rattle.mir_func.specs.Sound.{AreApart, AllItems, ids_of, number_of, code_number, OriginIn, TargetIn, TargetsIn, SlotIn, SlotsIn, PlaceIn}
 use Rattle.mir_func.specs.Sound.{BaseHasBytes, ObjectIn, ObjectsIn, IsNotPointer, LeavesPointer, IsSound}
-use Rattle.sem_mir.specs.Align.{position_of}
+use Rattle.mir_func.specs.Positions.{position_of}
 use Rattle.pass_trait.specs.Rule.{item}
 use Rattle.spill_code.specs.declared.spilling.SlotAssignment.{SlotAssignment}
 use Rattle.spill_code.specs.declared.spilling.Spilling.{Spilling}
@@ -77,6 +76,7 @@ slot_more slots more _ h = tt
 base_renamed : (u d : ℕ → ℕ) (os : List Object) (b : Base) (n : ℕ) → BaseHasBytes os b n → BaseHasBytes os (renamed_base u d b) n
 base_renamed u d os (PointedBy r) n h = tt
 base_renamed u d os (ObjectAt m) n h = h
+base_renamed u d os (BesidePart r y) n h = tt
 
 object_renamed : (u d : ℕ → ℕ) (os : List Object) (r : Row) → ObjectIn os r → ObjectIn os (renamed_row u d r)
 object_renamed u d os (Addresses rd n offset) h = h

@@ -2,27 +2,21 @@
 -- names a spilled register, and those that are live at the start are stored there, if no branch goes there.
 use Rattle.std.proofs.Common.{◌≡◌, ◌⊎◌, ℕ, zero, suc, ◌+◌, ◌<◌, ◌≤◌, List, []}
 use Rattle.std.proofs.Common.{◌∷◌, filter, take, length, All, Contains, Option, Some, None, Bool}
-use Rattle.std.proofs.Common.{true, false, cond, not, ◌&&◌, ◌||◌, nat_eq, nat_le, refl, sym}
+use Rattle.std.proofs.Common.{true, false, cond, not, ◌&&◌, ◌||◌, nat_eq, refl, sym}
 use Rattle.std.proofs.Common.{ap, ◌∙◌, subst, inl, inr, eq-eqb, eqb-true, ne_eqb, lt-ltb, get_or, arith}
-use Rattle.std.specs.List.{list_any, list_all}
+use Rattle.std.specs.List.{list_any}
 use Rattle.std.specs.Prelude.{IsTrue}
-use Rattle.std.proofs.lemmas.Bool.{cases_lt, and_parts, and_from, or_left, or_right, leb-true}
+use Rattle.std.proofs.lemmas.Bool.{cases_lt, and_parts, and_from, or_left, or_right}
 use Rattle.std.proofs.lemmas.List.Elements.{Contains-append_left, Contains-append_right}
 use Rattle.std.proofs.lemmas.List.Concat.{flat_map-cons}
-use Rattle.rv64_instr.specs.declared.op.Op.{Op}
-use Rattle.rv64_instr.specs.declared.op.Op.TheVariants.{Registers, Immediate, Lui, Branch, Load, Store, Copy, PseudoBr, PseudoCall, PseudoRet}
-use Rattle.rv64_instr.specs.declared.op.ImmediateOp.{ImmediateOp}
-use Rattle.rv64_instr.specs.declared.op.ImmediateOp.TheVariants.{Addi}
-use Rattle.rv64_instr.specs.Arithmetic.{word}
 use Rattle.rv64_instr.specs.declared.operand.Operand.{Operand}
-use Rattle.rv64_instr.specs.declared.operand.Operand.TheVariants.{Def, Use, ImplicitDef, ImplicitUse, Imm, Slot as OfSlot, Object as OfObject, Block as OfBlock}
-use Rattle.rv64_instr.specs.declared.operand.Operand.TheVariants.{Symbol, Mask}
+use Rattle.rv64_instr.specs.declared.operand.Operand.TheVariants.{Def, Use, ImplicitDef, ImplicitUse}
 use Rattle.rv64_instr.specs.declared.place.Place.{Place}
 use Rattle.rv64_instr.specs.declared.place.Place.TheVariants.{Register, Slot, Const}
-use Rattle.rv64_instr.specs.Form.{has_form, is_result}
+use Rattle.rv64_instr.specs.Form.{has_form}
 use Rattle.rv64_instr.specs.Instruction.{Instruction}
-use Rattle.rv64_instr.specs.Parts.{has_implicit_uses, is_call}
-use Rattle.rv64_instr.specs.Row.{Row, Branches, Jumps, row_of, row_by, immediate_row, object_row, move_row}
+use Rattle.rv64_instr.specs.LocationEffects.{has_implicit_uses}
+use Rattle.rv64_instr.specs.Row.{Row, Branches, Jumps, row_of}
 use Rattle.mir_func.specs.declared.debug_substitution.OperandPair.{OperandPair}
 use Rattle.mir_func.specs.declared.position.Pos.{Pos}
 use Rattle.mir_func.specs.declared.position.Origin.{Origin}
@@ -34,11 +28,13 @@ use Rattle.mir_func.specs.declared.item.ItemKind.TheVariants.{Code, Mark, Phi}
 use Rattle.mir_func.specs.Function.{Function}
 use Rattle.mir_func.specs.Graph.{Here, program_of}
 use Rattle.mir_func.specs.Sound.{items_of, HasForm}
-use Rattle.sem_mir.specs.Follow.{first_of, OnRow, GoesTo}
+use Rattle.mir_func.specs.Calls.{is_call_kind}
+use Rattle.sem_mir.specs.InitialState.{first_of}
+use Rattle.sem_mir.specs.Follow.{OnRow, GoesTo}
 use Rattle.sem_mir.specs.Live.{Live, used, later}
 use Rattle.pass_trait.specs.declared.loss.Reason.TheVariants.{NoScratch, CallNamed, EntryLoop}
 use Rattle.pass_trait.specs.Causes.{is_of_register, names, is_named, scratch_of}
-use Rattle.pass_trait.specs.Sizes.{greatest, calls}
+use Rattle.pass_trait.specs.Sizes.{greatest}
 use Rattle.spill_code.specs.declared.spilling.SlotAssignment.{SlotAssignment}
 use Rattle.spill_code.specs.declared.spilling.Spilling.{Spilling}
 use Rattle.spill_code.specs.Rewrite.{slot_of}
@@ -50,7 +46,8 @@ use Rattle.spill_rule.specs.Choice.{lacks_scratch, reason_of, is_free, candidate
 use Rattle.spill_rule.specs.Choice.{homes_from, homes_of, spilling_of, entry_of}
 use Rattle.spill_rule.specs.Chosen.{IsReservable, AreDistinct, AsksElsewhere, ChosenMaySpill}
 use Rattle.spill_rule.specs.Rule.{Decides}
-use Rattle.spill_rule.proofs.Scratch.{kept_by, Two, two, saved, kept_registers, reservable_real, not_small, not_result}
+use Rattle.spill_rule.proofs.Scratch.{kept_by, Two, two, saved, kept_registers, reservable_real, not_small}
+use Rattle.spill_rule.proofs.ImplicitOperands.{call_or_return}
 
 -- ---- lists
 
@@ -158,19 +155,6 @@ implicit_named (ImplicitUse q ∷ os) r (suc k, lt, e) =
     or_right (nat_eq q r) (list_any (is_of_register true r) os) (implicit_named os r (k, omega (arith, lt), e))
 implicit_named (x ∷ os) r k = or_right (is_of_register true r x) (list_any (is_of_register true r) os) (implicit_named os r k)
 
--- a return names results alone
-result_in : (os : List Operand) (r : ℕ) → list_all is_result os ≡ true → Contains (implicits_in os) r → (10 ≤ r) × (r ≤ 17)
-result_in [] r e (k, lt, z) = absurd (omega (arith, lt))
-result_in (ImplicitUse q ∷ os) r e (zero, lt, z) =
-    let h = and_parts (nat_le 10 q && nat_le q 17) (list_all is_result os) e in
-    let w = and_parts (nat_le 10 q) (nat_le q 17) h.0 in
-    let a = leb-true 10 q w.0 in
-    let b = leb-true q 17 w.1 in
-    (omega (arith, a, z), omega (arith, b, z))
-result_in (ImplicitUse q ∷ os) r e (suc k, lt, z) =
-    result_in os r (and_parts (nat_le 10 q && nat_le q 17) (list_all is_result os) e).1 (k, omega (arith, lt), z)
-result_in (_ ∷ os) r e k = cc
-
 -- ---- more of lists
 
 kept_home : (p : ℕ → Bool) (hs : List SlotAssignment) (h : SlotAssignment) → Contains (filter (λ (x : SlotAssignment). p x.register) hs) h →
@@ -235,46 +219,6 @@ home_slot m (r ∷ rs) d h (suc k, lt, e) =
     let inside : Contains (homes_from (m + 1) rs) h = (k, omega (arith, lt), e) in
     let ne : r ≡ h.register → ⊥ = λ z. d.0 (subst (λ (x : ℕ). Contains rs x) (sym z) (home_register (m + 1) rs h inside)) in
     ap (λ (t : Bool). cond t (Some m) (slot_of (homes_from (m + 1) rs) h.register)) (ne_eqb r h.register ne) ∙ home_slot (m + 1) rs d.1 h inside
-
--- ---- calls and returns
-
-immediate_plain : (op : ImmediateOp) (rd a n : ℕ) → has_implicit_uses (immediate_row op rd a n) ≡ false
-immediate_plain Addi rd zero n = refl
-immediate_plain Addi rd (suc r) zero = refl
-immediate_plain Addi rd (suc r) (suc n) = refl
-immediate_plain _ rd a n = refl
-
-object_plain : (op : ImmediateOp) (rd n o : ℕ) → has_implicit_uses (object_row op rd n o) ≡ false
-object_plain Addi rd n o = refl
-object_plain _ rd n o = refl
-
-move_plain : (rd a : ℕ) → has_implicit_uses (move_row rd a) ≡ false
-move_plain rd zero = refl
-move_plain rd (suc r) = refl
-
-abbrev IsCallOrReturn : Op → List Operand → Type 0
-IsCallOrReturn op os = (is_call (row_by op os) ≡ true) ⊎ (list_all is_result os ≡ true)
-
-refuted : (b : Bool) (P : Type 0) → b ≡ false → b ≡ true → P
-refuted b P e k = let bad : false ≡ true = sym e ∙ k in cc
-
-call_or_return : (op : Op) (os : List Operand) → has_form op os ≡ true → has_implicit_uses (row_by op os) ≡ true → IsCallOrReturn op os
-call_or_return (Registers op) (Def rd ∷ Use a ∷ Use b ∷ rest) form e = cc
-call_or_return (Immediate op) (Def rd ∷ Use a ∷ Imm i ∷ rest) form e = refuted _ _ (immediate_plain op rd a (word i)) e
-call_or_return (Immediate op) (Def rd ∷ OfObject n ∷ Imm i ∷ rest) form e = refuted _ _ (object_plain op rd n (word i)) e
-call_or_return Lui (Def rd ∷ Imm i ∷ rest) form e = cc
-call_or_return (Branch op) (Use a ∷ Use b ∷ OfBlock n ∷ rest) form e = cc
-call_or_return (Load op) (Def rd ∷ Use a ∷ Imm i ∷ rest) form e = cc
-call_or_return (Load op) (Def rd ∷ OfSlot n ∷ Imm i ∷ rest) form e = cc
-call_or_return (Load op) (Def rd ∷ OfObject n ∷ Imm i ∷ rest) form e = cc
-call_or_return (Store op) (Use a ∷ Use b ∷ Imm i ∷ rest) form e = cc
-call_or_return (Store op) (Use a ∷ OfSlot n ∷ Imm i ∷ rest) form e = cc
-call_or_return (Store op) (Use a ∷ OfObject n ∷ Imm i ∷ rest) form e = cc
-call_or_return Copy (Def rd ∷ Use a ∷ rest) form e = refuted _ _ (move_plain rd a) e
-call_or_return PseudoBr (OfBlock n ∷ rest) form e = cc
-call_or_return PseudoCall (Symbol name ∷ Mask ∷ rest) form e = inl refl
-call_or_return PseudoRet os form e = inr form
-call_or_return _ _ form e = cc
 
 -- ---- liveness doesn't look at substitutions
 
@@ -374,12 +318,13 @@ module _ (reserve : List ℕ) (live : ℕ → Bool) (f : Function) (resolve : Op
   )
 
   -- a call and code that was added name no spilled register
-  unspilled : (r : ℕ) (i : Item) → Contains (items_of f.blocks) i → names r i.kind ≡ true → (calls i.kind || is_added i.origin) ≡ true → slot_of hs r ≡ None
+  unspilled : (r : ℕ) (i : Item) → Contains (items_of f.blocks) i → names r i.kind ≡ true → (is_call_kind i.kind || is_added i.origin) ≡ true →
+      slot_of hs r ≡ None
   unspilled r i k named binding = by_slot (slot_of hs r) refl where
     by_slot : (x : Option ℕ) → slot_of hs r ≡ x → x ≡ None
     by_slot None e = refl
     by_slot (Some n) e = absurd (none_by (binds r) (items_of f.blocks) i (taken r n e).unbound k
-        (and_from (names r i.kind) (calls i.kind || is_added i.origin) named binding))
+        (and_from (names r i.kind) (is_call_kind i.kind || is_added i.origin) named binding))
 
   code_fits : (ins : Instruction) (num : Option ℕ) (o : Origin) (i : Item) → i.kind ≡ Code ins num → i.origin ≡ o → Contains (items_of f.blocks) i →
       IsTrue (has_form ins.op ins.operands) → FitsCode s ins o
@@ -389,7 +334,7 @@ module _ (reserve : List ℕ) (live : ℕ → Bool) (f : Function) (resolve : Op
     defs = λ r d. scratch_free r i k (by_def r d);
     implicits = λ z r m. (by_implicit z r m, scratch_free r i k (by_name z r m));
     kept = λ p e r m. unspilled r i k (elim m as (λ _. names r i.kind ≡ true) [ inl u ↦ by_use r u | inr d ↦ by_def r d ])
-        (or_right (calls i.kind) (is_added i.origin) (ap is_added (at ∙ e)));
+        (or_right (is_call_kind i.kind) (is_added i.origin) (ap is_added (at ∙ e)));
   } where
     abbrev_names : (r : ℕ) → names r i.kind ≡ list_any (is_of_register (has_implicit_uses (row_of ins)) r) ins.operands
     abbrev_names r = ap (names r) is
@@ -404,17 +349,17 @@ module _ (reserve : List ℕ) (live : ℕ → Bool) (f : Function) (resolve : Op
     by_name z r m =
         abbrev_names r ∙ ap (λ (t : Bool). list_any (is_of_register t r) ins.operands) z ∙ implicit_named ins.operands r m
 
-    no_result : (r : ℕ) → (10 ≤ r) × (r ≤ 17) → slot_of hs r ≡ None
+    no_result : (r : ℕ) → (IsReservable r → ⊥) → slot_of hs r ≡ None
     no_result r w = by_slot (slot_of hs r) refl where
       by_slot : (x : Option ℕ) → slot_of hs r ≡ x → x ≡ None
       by_slot None e = refl
-      by_slot (Some n) e = absurd (not_result r (reserved r n e) w.0 w.1)
+      by_slot (Some n) e = absurd (w (reserved r n e))
 
     by_implicit : has_implicit_uses (row_of ins) ≡ true → (r : ℕ) → Contains (implicits_in ins.operands) r → slot_of hs r ≡ None
     by_implicit z r m =
         elim (call_or_return ins.op ins.operands form z) as (λ _. slot_of hs r ≡ None) [
-          | inl call ↦ unspilled r i k (by_name z r m) (or_left (calls i.kind) (is_added i.origin) (ap calls is ∙ call))
-          | inr results ↦ no_result r (result_in ins.operands r results m)
+          | inl call ↦ unspilled r i k (by_name z r m) (or_left (is_call_kind i.kind) (is_added i.origin) (ap is_call_kind is ∙ call))
+          | inr others ↦ no_result r (others r m)
         ]
 
   item_fits : (i : Item) → Contains (items_of f.blocks) i → HasForm i.kind → AsksElsewhere s i.kind → Fits s i.kind i.origin

@@ -1,4 +1,5 @@
 pub mod Scratch
+mod ImplicitOperands
 pub mod Chosen
 pub mod Flat
 pub mod RuleFollows

@@ -17,7 +17,7 @@ use Rattle.spill_code.specs.declared.spilling.Spilling.{Spilling}
 use Rattle.spill_code.specs.Rewrite.{first_used, first_defined, use_now, def_now, renamed_operand, spilled_code, two_loads, stores, kind_items}
 use Rattle.spill_code.specs.Rewrite.{spilled_place, spilled_item, spilled_items, spilled_block, spilled_blocks}
 use Rattle.mir_func.specs.Graph.{below}
-use Rattle.sem_mir.specs.Align.{position_of}
+use Rattle.mir_func.specs.Positions.{position_of}
 use Rattle.sem_mir.specs.Follow.{Follows, HasWholeEnds}
 use Rattle.spill_simulation.proofs.Following.{spilled_follows}
 use Rattle.spill_rule.specs.Choice.{homes_of, spilling_of, entry_of}

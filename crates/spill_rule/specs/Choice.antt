@@ -15,11 +15,12 @@ use Rattle.mir_func.specs.declared.item.ItemKind.TheVariants.{Code, Mark, Phi}
 use Rattle.mir_func.specs.Function.{Function}
 use Rattle.mir_func.specs.Limits.{MAX_SLOTS}
 use Rattle.mir_func.specs.Sound.{items_of}
-use Rattle.sem_mir.specs.Follow.{first_of}
+use Rattle.mir_func.specs.Calls.{is_call_kind}
+use Rattle.sem_mir.specs.InitialState.{first_of}
 use Rattle.pass_trait.specs.declared.loss.Reason.{Reason}
 use Rattle.pass_trait.specs.declared.loss.Reason.TheVariants.{NoScratch, CallNamed, EntryLoop}
 use Rattle.pass_trait.specs.Causes.{names, is_named, scratch_of}
-use Rattle.pass_trait.specs.Sizes.{greatest, calls}
+use Rattle.pass_trait.specs.Sizes.{greatest}
 use Rattle.spill_code.specs.declared.spilling.SlotAssignment.{SlotAssignment}
 use Rattle.spill_code.specs.declared.spilling.Spilling.{Spilling}
 use Rattle.spill_code.specs.Rewrite.{spilled_blocks}
@@ -33,7 +34,7 @@ is_added (Kept p) = false
 
 -- the item is a call or added code, and names the register
 abbrev pub binds : ℕ → Item → Bool
-binds r i = names r i.kind && (calls i.kind || is_added i.origin)
+binds r i = names r i.kind && (is_call_kind i.kind || is_added i.origin)
 
 -- some call or added code names the register, so it can't be spilled
 abbrev pub is_bound : Function → ℕ → Bool

@@ -24,12 +24,12 @@ use Rattle.mir_func.specs.declared.item.ItemKind.TheVariants.{Code, Mark, Phi}
 use Rattle.mir_func.specs.Function.{Function}
 use Rattle.mir_func.specs.Graph.{Program, Fetch, Here, EndOfBlock, Outside, below, block_start, end_of, front, fetch_in, from_block, program_of, FetchEdge}
 use Rattle.mir_func.specs.Sound.{items_of}
-use Rattle.sem_mir.specs.Align.{position_of}
-use Rattle.sem_mir.specs.Follow.{first_of}
+use Rattle.mir_func.specs.Positions.{position_of}
+use Rattle.mir_func.specs.Calls.{is_call_kind}
+use Rattle.sem_mir.specs.InitialState.{first_of}
 use Rattle.sem_mir.specs.Live.{Live, used, later, Uses, Defines}
 use Rattle.pass_trait.specs.declared.loss.Reason.TheVariants.{NoScratch, CallNamed, EntryLoop}
 use Rattle.pass_trait.specs.Causes.{names, is_named, scratch_of}
-use Rattle.pass_trait.specs.Sizes.{calls}
 use Rattle.pass_trait.specs.Code.{HasOneResult, SeesCodeAlone, originless_origin, originless_item, originless_block, originless}
 use Rattle.spill_code.specs.declared.spilling.SlotAssignment.{SlotAssignment}
 use Rattle.spill_code.specs.declared.spilling.Spilling.{Spilling}
@@ -243,7 +243,7 @@ module _ (f : Function) where
   named_same r = any_originless (λ i. names r i.kind) (λ i. refl) f.blocks
 
   bound_same : (r : ℕ) → is_bound (originless f) r ≡ is_bound f r
-  bound_same r = any_originless (binds r) (λ i. (let e = added_originless i.origin in λ j. names r i.kind && (calls i.kind || e j))) f.blocks
+  bound_same r = any_originless (binds r) (λ i. (let e = added_originless i.origin in λ j. names r i.kind && (is_call_kind i.kind || e j))) f.blocks
 
   looped_same : is_looped (originless f) ≡ is_looped f
   looped_same =

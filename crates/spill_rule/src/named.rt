@@ -3,14 +3,14 @@
 ghost use Rattle.std.specs.Prelude.{◌≡◌, ◌&&◌};
 ghost use Rattle.std.specs.List.{list_any};
 ghost use Rattle.rv64_instr.specs.Row.{row_of};
-ghost use Rattle.rv64_instr.specs.Parts.{is_call, has_implicit_uses};
-ghost use Rattle.sem_mir.specs.Follow.{first_of};
+ghost use Rattle.rv64_instr.specs.LocationEffects.{is_call, has_implicit_uses};
+ghost use Rattle.mir_func.specs.Calls.{is_call_kind};
+ghost use Rattle.sem_mir.specs.InitialState.{first_of};
 ghost use Rattle.pass_trait.specs.Causes.{is_of_register, names, is_named};
-ghost use Rattle.pass_trait.specs.Sizes.{calls};
 ghost use Rattle.spill_rule.specs.Choice.{is_added, binds, is_bound, row_goes, goes, is_looped};
 ghost use Rattle.spill_rule.specs.steps.Any.{any_item};
 
-use base_ids::code::BlockId;
+use base_ids::function_ids::BlockId;
 use mir_func::block::Block;
 use mir_func::func::Func;
 use mir_func::item::{Item, ItemKind};
@@ -91,7 +91,7 @@ fn has_branch_in(items: &[Item], n: BlockId) -> bool
 fn binds(r: Reg, i: &Item) -> bool
     ensures { result ≡ binds r i.now }
 {
-    names(r, &i.kind) && (calls(&i.kind) || is_added(i.origin))
+    names(r, &i.kind) && (is_call_kind(&i.kind) || is_added(i.origin))
 }
 
 fn is_added(origin: Origin) -> bool
@@ -103,8 +103,8 @@ fn is_added(origin: Origin) -> bool
     }
 }
 
-fn calls(kind: &ItemKind) -> bool
-    ensures { result ≡ calls kind.now }
+fn is_call_kind(kind: &ItemKind) -> bool
+    ensures { result ≡ is_call_kind kind.now }
 {
     match kind {
         ItemKind::Code(i, _) => is_call(i),
@@ -115,7 +115,7 @@ fn calls(kind: &ItemKind) -> bool
 fn has_implicit_uses(i: &Instr) -> bool
     ensures { result ≡ has_implicit_uses (row_of i.now) }
 {
-    matches!(i.decoded(), Decoded::Calls | Decoded::Returns)
+    matches!(i.decoded(), Decoded::Calls(_) | Decoded::Returns(_))
 }
 
 fn names(r: Reg, kind: &ItemKind) -> bool
@@ -147,6 +147,7 @@ fn is_of_register(counts: bool, r: Reg, operand: &Operand) -> bool
         Operand::Imm(_)
         | Operand::Slot(_)
         | Operand::Object(_)
+        | Operand::Part(_, _)
         | Operand::Block(_)
         | Operand::Symbol(_)
         | Operand::Mask => false,

@@ -12,7 +12,7 @@ ghost use Rattle.spill_select.specs.Left.{first_reason};
 
 use crate::among::is_among;
 use crate::scratch::{first_scratch, scratch_of, second_scratch};
-use base_ids::code::SlotId;
+use base_ids::function_ids::SlotId;
 use mir_func::func::Func;
 use mir_func::limits::MAX_SLOTS;
 use pass_trait::loss::Reason;

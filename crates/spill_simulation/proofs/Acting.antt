@@ -4,14 +4,14 @@ use Rattle.std.proofs.Common.{refl, sym, ap, ◌∙◌, subst, inl, inr, arith}
 use Rattle.std.proofs.lemmas.Bool.{cases_eq}
 use Rattle.rv64_instr.specs.declared.op.LoadOp.{LoadOp}
 use Rattle.rv64_instr.specs.declared.op.StoreOp.{StoreOp}
-use Rattle.rv64_instr.specs.declared.decoded.Input.{Input}
-use Rattle.rv64_instr.specs.declared.decoded.Input.TheVariants.{Content, Number}
-use Rattle.rv64_instr.specs.declared.decoded.Base.{Base}
-use Rattle.rv64_instr.specs.declared.decoded.Base.TheVariants.{PointedBy, ObjectAt}
+use Rattle.rv64_instr.specs.declared.symbol.Half.TheVariants.{Lower}
+use Rattle.rv64_instr.specs.Linked.{linked_value}
+use Rattle.rv64_instr.specs.Row.{Input, Content, Number, PartOf}
+use Rattle.rv64_instr.specs.Row.{Base, PointedBy, ObjectAt, BesidePart}
 use Rattle.rv64_instr.specs.Arithmetic.{computed, taken, load_width, store_width, extended}
 use Rattle.rv64_instr.specs.Row.{Row, Fixes, Moves, Sets, Addresses, Loads, Stores, LoadsSlot, StoresSlot, Branches, Jumps, Calls, Returns, Unfit}
 use Rattle.rv64_instr.specs.DefsAndUses.{input_reads, base_reads, reads, sets}
-use Rattle.rv64_instr.specs.Parts.{slot_read, slot_set, has_implicit_uses}
+use Rattle.rv64_instr.specs.LocationEffects.{slot_read, slot_set, has_implicit_uses}
 use Rattle.mir_func.specs.declared.variable.VarId.{VarId}
 use Rattle.sem_mir.specs.State.{Core, content, updated, put, spelled, low_bytes}
 use Rattle.sem_mir.specs.Step.{Falls, Goes, Traps, or_zero, read, input_value, base_value, address_at, is_fault, set_register, slot_loaded}
@@ -37,10 +37,12 @@ AreRenamed at_use (q ∷ qs) [] = ⊥
 input_renamed : (at_use at_def : ℕ → ℕ) (b : Input) → AreRenamed at_use (input_reads b) (input_reads (renamed_input at_use at_def b))
 input_renamed at_use at_def (Content r) = (refl, tt)
 input_renamed at_use at_def (Number n) = tt
+input_renamed at_use at_def (PartOf half y) = tt
 
 base_renamed : (at_use at_def : ℕ → ℕ) (b : Base) → AreRenamed at_use (base_reads b) (base_reads (renamed_base at_use at_def b))
 base_renamed at_use at_def (PointedBy r) = (refl, tt)
 base_renamed at_use at_def (ObjectAt n) = tt
+base_renamed at_use at_def (BesidePart r y) = (refl, tt)
 
 -- a row with other registers reads those
 pub reads_renamed : (at_use at_def : ℕ → ℕ) (r : Row) → has_implicit_uses r ≡ false → AreRenamed at_use (reads r) (reads (renamed_row at_use at_def r))
@@ -50,7 +52,7 @@ reads_renamed at_use at_def (Loads rd op b o) i = base_renamed at_use at_def b
 reads_renamed at_use at_def (Stores op rs b o) i = (refl, base_renamed at_use at_def b)
 reads_renamed at_use at_def (StoresSlot rs n) i = (refl, tt)
 reads_renamed at_use at_def (Branches op a b t) i = (refl, (refl, tt))
-reads_renamed at_use at_def (Calls name args) i = cc
+reads_renamed at_use at_def (Calls call) i = cc
 reads_renamed at_use at_def (Returns v) i = cc
 reads_renamed at_use at_def _ i = tt
 
@@ -94,7 +96,7 @@ module _ (at_use at_def : ℕ → ℕ) (keeps : SetsZero at_def) where
     set_made : (r : Row) (rd v w : ℕ) → ((q : ℕ) → Contains (sets r) q → q ≡ rd) → ((n : ℕ) → slot_set r ≡ Some n → ⊥) → v ≡ w →
         Made r (set_register rd v c) (set_register (at_def rd) w d)
     set_made r rd v w only none e = record {
-      world = record { entry = refl; area = refl; objects = refl; memory = refl; script = refl; events = refl };
+      world = record { entry = refl; area = refl; objects = refl; symbols = refl; memory = refl; script = refl; events = refl };
       regs = λ q k. (let z = only q k in
           subst (λ (x : ℕ). content (put rd v c.regs) x ≡ content (put (at_def rd) w regs) (at_def x)) (sym z) (put_alike rd v w c.regs regs e));
       slots = λ n k. absurd (none n k);
@@ -103,7 +105,7 @@ module _ (at_use at_def : ℕ → ℕ) (keeps : SetsZero at_def) where
     -- nothing is set
     stay_made : (r : Row) → ((q : ℕ) → Contains (sets r) q → ⊥) → ((n : ℕ) → slot_set r ≡ Some n → ⊥) → Made r c d
     stay_made r none none' = record {
-      world = record { entry = refl; area = refl; objects = refl; memory = refl; script = refl; events = refl };
+      world = record { entry = refl; area = refl; objects = refl; symbols = refl; memory = refl; script = refl; events = refl };
       regs = λ q k. absurd (none q k);
       slots = λ n k. absurd (none' n k);
     }
@@ -112,15 +114,18 @@ module _ (at_use at_def : ℕ → ℕ) (keeps : SetsZero at_def) where
         input_value c b ≡ input_value d (renamed_input at_use at_def b)
     input_alike (Content r) u = read_alike r (u r (contains_head r []))
     input_alike (Number n) u = refl
+    input_alike (PartOf half y) u = refl
 
     base_alike : (b : Base) → ((q : ℕ) → Contains (base_reads b) q → content c.regs q ≡ content regs (at_use q)) →
         base_value c b ≡ base_value d (renamed_base at_use at_def b)
     base_alike (PointedBy r) u = read_alike r (u r (contains_head r []))
     base_alike (ObjectAt n) u = refl
+    base_alike (BesidePart r y) u = ap (λ (z : ℕ). (z + linked_value c.symbols Lower y) % 2 ^ 64) (read_alike r (u r (contains_head r [])))
 
     fault_same : (b : Base) (a n : ℕ) → is_fault (renamed_base at_use at_def b) d a n ≡ is_fault b c a n
     fault_same (PointedBy r) a n = refl
     fault_same (ObjectAt m) a n = refl
+    fault_same (BesidePart r y) a n = refl
 
     loaded_made : (rd : ℕ) (op : LoadOp) (b : Base) (o a a' : ℕ) → a ≡ a' →
         EndAlike (Made (Loads rd op b o)) (loaded rd op b a c) (loaded (at_def rd) op (renamed_base at_use at_def b) a' d)
@@ -143,7 +148,7 @@ module _ (at_use at_def : ℕ → ℕ) (keeps : SetsZero at_def) where
         (subst (λ (z : Bool). EndAlike (Made r) (put_in_memory op b a v c) (cond z Traps (Falls (saved a bytes d)))) (sym (fault_same b a (store_width op)))
         (alike_either (Made r) (is_fault b c a (store_width op)) Traps (Falls (saved a bytes c)) Traps (Falls (saved a bytes d)) tt
         (record {
-          world = record { entry = refl; area = refl; objects = refl; memory = refl; script = refl; events = refl };
+          world = record { entry = refl; area = refl; objects = refl; symbols = refl; memory = refl; script = refl; events = refl };
           regs = λ q k. absurd (none_of q k);
           slots = λ n k. cc;
         }))))
@@ -176,7 +181,7 @@ module _ (at_use at_def : ℕ → ℕ) (keeps : SetsZero at_def) where
         (ap (λ (z : ℕ). (z + o) % 2 ^ 64) e) (read_alike rs (u.regs rs (contains_head rs (base_reads b))))
     does_made (LoadsSlot rd n) i u = slot_made rd n (c.slots n) (slots n) (u.slots n refl)
     does_made (StoresSlot rs n) i u = record {
-      world = record { entry = refl; area = refl; objects = refl; memory = refl; script = refl; events = refl };
+      world = record { entry = refl; area = refl; objects = refl; symbols = refl; memory = refl; script = refl; events = refl };
       regs = λ q k. absurd (none_of q k);
       slots = λ m k. (let z : n ≡ m = cc in
           subst (λ (x : ℕ). updated n (Some (read c rs)) c.slots x ≡ updated n (Some (read d (at_use rs))) slots x) z
@@ -192,7 +197,7 @@ module _ (at_use at_def : ℕ → ℕ) (keeps : SetsZero at_def) where
         subst (λ (z : Bool). EndAlike (Made r) (cond (taken op (read c a) (read c b)) (Goes t c) (Falls c)) (cond z (Goes t d) (Falls d))) e
         (alike_either (Made r) (taken op (read c a) (read c b)) (Goes t c) (Falls c) (Goes t d) (Falls d) (refl, st) st)
     does_made (Jumps t) i u = (refl, stay_made (Jumps t) (λ q k. none_of q k) (λ n k. cc))
-    does_made (Calls name args) i u = cc
+    does_made (Calls call) i u = cc
     does_made (Returns v) i u = cc
     does_made Unfit i u = tt
 
@@ -223,6 +228,7 @@ module _ (at_use at_def : ℕ → ℕ) (keeps : SetsZero at_def) where
         entry = w.entry i;
         area = w.area i;
         objects = w.objects i;
+        symbols = w.symbols i;
         regs = d.regs;
         slots = d.slots;
         memory = w.memory i;

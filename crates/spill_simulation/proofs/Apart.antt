@@ -1,19 +1,17 @@
 -- With a slot store at a block's end goes other code: what counts in the function has something that counts in the function with spilled
 -- registers, and a path to a use of a register that is stored at the start leads to its load.
-use Rattle.std.proofs.Common.{◌≡◌, ◌⊎◌, ℕ, List, [], ◌∷◌, ◌++◌, length, Contains, Option, Some, None, Bool}
-use Rattle.std.proofs.Common.{true, false, ◌||◌, ◌&&◌, nat_eq, refl, sym, ap, ◌∙◌, subst, inl, inr, eqb-true, slice_get}
+use Rattle.std.proofs.Common.{◌≡◌, ◌⊎◌, ℕ, suc, List, [], ◌∷◌, ◌++◌, length, Contains, Option, Some, None, Bool}
+use Rattle.std.proofs.Common.{true, false, ◌||◌, ◌&&◌, nat_eq, refl, sym, ap, ◌∙◌, subst, inl, inr, eqb-true, slice_get, arith}
 use Rattle.std.specs.List.{list_any}
 use Rattle.std.proofs.lemmas.Bool.{and_parts}
-use Rattle.rv64_instr.specs.declared.decoded.Input.{Input}
-use Rattle.rv64_instr.specs.declared.decoded.Input.TheVariants.{Content, Number}
-use Rattle.rv64_instr.specs.declared.decoded.Base.{Base}
-use Rattle.rv64_instr.specs.declared.decoded.Base.TheVariants.{PointedBy, ObjectAt}
+use Rattle.rv64_instr.specs.Row.{Input, Content, Number, PartOf}
+use Rattle.rv64_instr.specs.Row.{Base, PointedBy, ObjectAt, BesidePart}
 use Rattle.rv64_instr.specs.declared.operand.Operand.{Operand}
 use Rattle.rv64_instr.specs.declared.operand.Operand.TheVariants.{ImplicitDef, ImplicitUse}
 use Rattle.rv64_instr.specs.declared.place.Place.{Place}
 use Rattle.rv64_instr.specs.declared.place.Place.TheVariants.{Register, Slot, Const}
 use Rattle.rv64_instr.specs.Instruction.{Instruction}
-use Rattle.rv64_instr.specs.Parts.{has_implicit_uses, first_use, second_use, input_place, base_place, is_register, is_implicit_use, uses_of}
+use Rattle.rv64_instr.specs.LocationEffects.{has_implicit_uses, first_use, second_use, input_place, base_place, is_register, is_implicit_use, uses_of}
 use Rattle.rv64_instr.specs.DefsAndUses.{reads, sets, input_reads, base_reads}
 use Rattle.rv64_instr.specs.Row.{Row, Moves, Sets, Loads, Stores, StoresSlot, Branches, Jumps, Calls, Returns, Unfit, row_of}
 use Rattle.mir_func.specs.declared.position.Pos.{Pos}
@@ -22,7 +20,7 @@ use Rattle.mir_func.specs.declared.location.Loc.{Loc}
 use Rattle.mir_func.specs.declared.item.Item.{Item}
 use Rattle.mir_func.specs.declared.item.ItemKind.TheVariants.{Code}
 use Rattle.mir_func.specs.Graph.{Program, below, Leads, stay, go}
-use Rattle.sem_mir.specs.Align.{position_of}
+use Rattle.mir_func.specs.Positions.{position_of}
 use Rattle.sem_mir.specs.Follow.{OnRow, Counts}
 use Rattle.rv64_instr.specs.View.{Plain, class_of}
 use Rattle.sem_mir.specs.Live.{Live, used, later, Uses}
@@ -31,6 +29,7 @@ use Rattle.spill_code.specs.declared.spilling.Spilling.{Spilling}
 use Rattle.spill_code.specs.Rewrite.{slot_of, set_in, stand_in, use_now, def_now, first_used, first_defined, spilled_code, load, added}
 use Rattle.spill_code.specs.Rewrite.{two_loads, stores, code_items}
 use Rattle.spill_simulation.specs.MaySpill.{uses_in, defs_in, implicits_in, FitsCode, AreHomes}
+use Rattle.rv64_instr.proofs.Moves.{moves_by}
 use Rattle.spill_simulation.proofs.Explicit.{explicit, first_from, used_is, defined_is, found_of}
 use Rattle.spill_simulation.proofs.Near.{none_in, keeps_zero}
 use Rattle.spill_simulation.proofs.Rows.{renamed_row, row_renamed}
@@ -48,7 +47,7 @@ plain_counts u d (Moves rd rs) h k = λ e. k rd rs refl e
 plain_counts u d (Stores op rs b o) h k = cc
 plain_counts u d (Branches op a b t) h k = cc
 plain_counts u d (Jumps t) h k = cc
-plain_counts u d (Calls name args) h k = cc
+plain_counts u d (Calls call) h k = cc
 plain_counts u d (Returns v) h k = cc
 plain_counts u d Unfit h k = cc
 plain_counts u d _ h k = tt
@@ -64,10 +63,12 @@ is_one q None e = cc
 from_input : (b : Input) (q : ℕ) → is_register q (input_place b) ≡ true → Contains (input_reads b) q
 from_input (Content r) q e = subst (λ (z : ℕ). Contains (r ∷ []) z) (sym (eqb-true q r e)) (contains_head r [])
 from_input (Number n) q e = cc
+from_input (PartOf half y) q e = cc
 
 from_base : (b : Base) (q : ℕ) → is_register q (base_place b) ≡ true → Contains (base_reads b) q
 from_base (PointedBy r) q e = subst (λ (z : ℕ). Contains (r ∷ []) z) (sym (eqb-true q r e)) (contains_head r [])
 from_base (ObjectAt n) q e = cc
+from_base (BesidePart r y) q e = subst (λ (z : ℕ). Contains (r ∷ []) z) (sym (eqb-true q r e)) (contains_head r [])
 
 head_is : (r q : ℕ) (rs : List ℕ) → is_register q (Some (Register r)) ≡ true → Contains (r ∷ rs) q
 head_is r q rs e = subst (λ (z : ℕ). Contains (r ∷ rs) z) (sym (eqb-true q r e)) (contains_head r rs)
@@ -89,7 +90,7 @@ second_read _ q e = cc
 
 -- an implicit row has no explicit use
 explicit_row : (r : Row) (q : ℕ) → has_implicit_uses r ≡ true → (is_register q (first_use r) || is_register q (second_use r)) ≡ true → ⊥
-explicit_row (Calls name args) q i e = cc
+explicit_row (Calls call) q i e = cc
 explicit_row (Returns v) q i e = cc
 explicit_row _ q i e = cc
 
@@ -140,7 +141,7 @@ module _ (s : Spilling) (slots : List ℕ) (homes : AreHomes s slots) where
             (elim (either_true (is_register r (first_use (row_of i))) (is_register r (second_use (row_of i))) k) as (λ _. Contains (reads (row_of i)) r) [
               | inl h ↦ first_read (row_of i) r h
               | inr h ↦ second_read (row_of i) r h
-            ]))
+            ]) (λ e. (let bad : None ≡ Some n = sym homes.no_zero ∙ ap (slot_of s.homes) (sym e) ∙ home in cc)))
 
   -- the registers of a copy of which nothing is loaded
   copy_apart : (i : Instruction) (o : Origin) → FitsCode s i o → first_used s.homes i.operands ≡ None → (rd rs : ℕ) → row_of i ≡ Moves rd rs →
@@ -151,6 +152,7 @@ module _ (s : Spilling) (slots : List ℕ) (homes : AreHomes s slots) where
 
     used_rs : Contains (uses_in i.operands) rs
     used_rs = (explicit i fits.form).reads_used plain rs (subst (λ (r : Row). Contains (reads r) rs) (sym is) (contains_head rs []))
+        (λ e. (let bad : 0 ≡ suc (moves_by i rd rs is).real.0 = sym e ∙ (moves_by i rd rs is).real.1 in omega (arith, bad)))
 
     free : slot_of s.homes rs ≡ None
     free = none_of s.homes (uses_in i.operands) rs (sym (used_is s.homes i.operands) ∙ none) used_rs

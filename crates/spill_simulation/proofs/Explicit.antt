@@ -1,21 +1,24 @@
 -- The explicit operands of code in form, and the slots that stand for them.
 use Rattle.std.proofs.Common.{◌≡◌, ◌⊎◌, ℕ, zero, suc, ◌≤◌, List, [], ◌∷◌, length, Contains, Option, Some, None, Bool, true, false, cond, ◌&&◌, nat_eq}
-use Rattle.std.proofs.Common.{refl, sym, ap, ◌∙◌, subst, inl, inr, eq-eqb, ne_eqb, slice_get, arith}
+use Rattle.std.proofs.Common.{refl, sym, ap, ◌∙◌, subst, inl, inr, eq-eqb, ne_eqb, slice_get, arith, nat_le, nat_lt, ◌||◌}
 use Rattle.std.specs.List.{list_all}
 use Rattle.std.specs.Prelude.{IsTrue}
 use Rattle.std.proofs.lemmas.Bool.{cases_eq, and_parts}
 use Rattle.rv64_instr.specs.declared.op.Op.{Op}
-use Rattle.rv64_instr.specs.declared.op.Op.TheVariants.{Registers, Immediate, Lui, Branch, Load, Store, Copy, PseudoBr, PseudoCall, PseudoRet}
+use Rattle.rv64_instr.specs.declared.op.Op.TheVariants.{Registers, Immediate, Lui, Branch, Load, Store, Copy}
+use Rattle.rv64_instr.specs.declared.op.Op.TheVariants.{PseudoBr, PseudoCall, PseudoRet, PseudoCallIndirect}
+use Rattle.rv64_instr.specs.declared.op.Op.TheVariants.{PseudoTail, PseudoTailIndirect, NoReturnCall, NoReturnCallIndirect}
 use Rattle.rv64_instr.specs.declared.op.ImmediateOp.{ImmediateOp}
 use Rattle.rv64_instr.specs.declared.op.ImmediateOp.TheVariants.{Addi}
 use Rattle.rv64_instr.specs.declared.operand.Operand.{Operand}
-use Rattle.rv64_instr.specs.declared.operand.Operand.TheVariants.{Def, Use, Imm, Slot, Object, Block, Symbol, Mask}
+use Rattle.rv64_instr.specs.declared.operand.Operand.TheVariants.{Def, Use, Imm, Slot, Object, Part, Block, Symbol, Mask, ImplicitUse}
+use Rattle.rv64_instr.specs.declared.symbol.Half.TheVariants.{Upper, Lower}
 use Rattle.rv64_instr.specs.Arithmetic.{word}
-use Rattle.rv64_instr.specs.Form.{is_implicit, is_argument, is_result, is_immediate, is_addi, has_form}
+use Rattle.rv64_instr.specs.Form.{is_implicit, is_argument, is_result, is_immediate, is_addi, has_form, is_tail_use, is_tail_register}
 use Rattle.rv64_instr.specs.Instruction.{Instruction}
-use Rattle.rv64_instr.specs.Row.{Row, row_by, row_of, immediate_row, object_row, move_row}
+use Rattle.rv64_instr.specs.Row.{Row, row_by, row_of, immediate_row, object_row, move_row, Unfit, implicit_uses, held_call, held_tail, held_gone}
 use Rattle.rv64_instr.specs.DefsAndUses.{reads, sets}
-use Rattle.rv64_instr.specs.Parts.{has_implicit_uses}
+use Rattle.rv64_instr.specs.LocationEffects.{has_implicit_uses}
 use Rattle.sem_mir.specs.Step.{defined}
 use Rattle.sem_mir.proofs.Places.{contains_head, contains_tail}
 use Rattle.spill_code.specs.declared.spilling.SlotAssignment.{SlotAssignment}
@@ -106,7 +109,7 @@ module _ (homes : List SlotAssignment) where
 
 pub record Explicit (r : Row) (us ds : List ℕ) : Type 0 where
   pub few : length us ≤ 2
-  pub reads_used : has_implicit_uses r ≡ false → (q : ℕ) → Contains (reads r) q → Contains us q
+  pub reads_used : has_implicit_uses r ≡ false → (q : ℕ) → Contains (reads r) q → (q ≡ 0 → ⊥) → Contains us q
   pub used_reads : (q : ℕ) → Contains us q → (q ≡ 0 → ⊥) → Contains (reads r) q
   pub sets_defs : has_implicit_uses r ≡ false → sets r ≡ ds
   pub implicit_none : has_implicit_uses r ≡ true → ds ≡ []
@@ -121,7 +124,7 @@ only_zero q (suc k, lt, e) ne = absurd (omega (arith, lt))
 reads_all : (r : Row) (us ds : List ℕ) → length us ≤ 2 → reads r ≡ us → sets r ≡ ds → has_implicit_uses r ≡ false → Explicit r us ds
 reads_all r us ds le e d i = record {
   few = le;
-  reads_used = λ _ q k. subst (λ (xs : List ℕ). Contains xs q) e k;
+  reads_used = λ _ q k ne. subst (λ (xs : List ℕ). Contains xs q) e k;
   used_reads = λ q k ne. subst (λ (xs : List ℕ). Contains xs q) (sym e) k;
   sets_defs = λ _. d;
   implicit_none = λ t. (let bad : false ≡ true = sym i ∙ t in cc);
@@ -130,8 +133,18 @@ reads_all r us ds le e d i = record {
 reads_zero : (r : Row) (ds : List ℕ) → reads r ≡ [] → sets r ≡ ds → has_implicit_uses r ≡ false → Explicit r (0 ∷ []) ds
 reads_zero r ds e d i = record {
   few = omega arith;
-  reads_used = λ _ q k. absurd (none_in q (subst (λ (xs : List ℕ). Contains xs q) e k));
+  reads_used = λ _ q k ne. absurd (none_in q (subst (λ (xs : List ℕ). Contains xs q) e k));
   used_reads = λ q k ne. absurd (only_zero q k ne);
+  sets_defs = λ _. d;
+  implicit_none = λ t. (let bad : false ≡ true = sym i ∙ t in cc);
+}
+
+-- code that reads x0 by no operand
+reads_only_zero : (r : Row) (ds : List ℕ) → reads r ≡ 0 ∷ [] → sets r ≡ ds → has_implicit_uses r ≡ false → Explicit r [] ds
+reads_only_zero r ds e d i = record {
+  few = omega arith;
+  reads_used = λ _ q k ne. absurd (only_zero q (subst (λ (xs : List ℕ). Contains xs q) e k) ne);
+  used_reads = λ q k ne. absurd (none_in q k);
   sets_defs = λ _. d;
   implicit_none = λ t. (let bad : false ≡ true = sym i ∙ t in cc);
 }
@@ -139,7 +152,7 @@ reads_zero r ds e d i = record {
 implicit_row : (r : Row) → has_implicit_uses r ≡ true → Explicit r [] []
 implicit_row r i = record {
   few = omega arith;
-  reads_used = λ f q k. (let bad : true ≡ false = sym i ∙ f in cc);
+  reads_used = λ f q k ne. (let bad : true ≡ false = sym i ∙ f in cc);
   used_reads = λ q k ne. absurd (none_in q k);
   sets_defs = λ f. (let bad : true ≡ false = sym i ∙ f in cc);
   implicit_none = λ t. refl;
@@ -174,6 +187,11 @@ result_none_of (Use r) e = cc
 result_none_of (Def r) e = cc
 result_none_of _ e = (refl, refl)
 
+tail_none_of : (o : Operand) → is_tail_use o ≡ true → (uses_in (o ∷ []) ≡ []) × (defs_in (o ∷ []) ≡ [])
+tail_none_of (Use r) e = cc
+tail_none_of (Def r) e = cc
+tail_none_of _ e = (refl, refl)
+
 rest_none : (os : List Operand) → list_all is_implicit os ≡ true → (uses_in os ≡ []) × (defs_in os ≡ [])
 rest_none os e = all_implicit is_implicit implicit_none_of os e
 
@@ -205,6 +223,28 @@ move_explicit rd (suc r) = reads_all (move_row rd (suc r)) (suc r ∷ []) (rd �
 behind : (b c : Bool) → (b && c) ≡ true → c ≡ true
 behind b c e = (and_parts b c e).1
 
+-- a row without explicit operands, where the implicit ones are of a kind
+ended : (r : Row) (rest : List Operand) (p : Operand → Bool) → ((o : Operand) → p o ≡ true → (uses_in (o ∷ []) ≡ []) × (defs_in (o ∷ []) ≡ [])) →
+    list_all p rest ≡ true → Explicit r [] [] → Explicit r (uses_in rest) (defs_in rest)
+ended r rest p none e h =
+    let k = all_implicit p none rest e in
+    subst (λ (x : List ℕ). Explicit r x (defs_in rest)) (sym k.0) (subst (λ (x : List ℕ). Explicit r [] x) (sym k.1) h)
+
+unfit : Explicit Unfit [] []
+unfit = reads_all Unfit [] [] (omega arith) refl refl refl
+
+held_call_row_of : (xs : List ℕ) → Explicit (held_call xs) [] []
+held_call_row_of [] = unfit
+held_call_row_of (x ∷ xs) = implicit_row (held_call (x ∷ xs)) refl
+
+held_tail_row_of : (xs : List ℕ) → Explicit (held_tail xs) [] []
+held_tail_row_of [] = unfit
+held_tail_row_of (x ∷ xs) = implicit_row (held_tail (x ∷ xs)) refl
+
+held_gone_row_of : (xs : List ℕ) → Explicit (held_gone xs) [] []
+held_gone_row_of [] = unfit
+held_gone_row_of (x ∷ xs) = implicit_row (held_gone (x ∷ xs)) refl
+
 by_op : (op : Op) (os : List Operand) → has_form op os ≡ true → Explicit (row_by op os) (uses_in os) (defs_in os)
 by_op (Registers op) (Def rd ∷ Use a ∷ Use b ∷ rest) e =
     let r = row_by (Registers op) (Def rd ∷ Use a ∷ Use b ∷ rest) in
@@ -216,9 +256,16 @@ by_op (Immediate op) (Def rd ∷ Object n ∷ Imm i ∷ rest) e =
     let k = and_parts (is_addi op && is_immediate op i) (list_all is_implicit rest) e in
     with_rest (object_row op rd n (word i)) rest (λ xs. xs) (λ xs. rd ∷ xs) k.1
     (object_explicit op rd n (word i) (and_parts (is_addi op) (is_immediate op i) k.0).0)
+by_op (Immediate op) (Def rd ∷ Use a ∷ Part Lower y ∷ rest) e =
+    let r = row_by (Immediate op) (Def rd ∷ Use a ∷ Part Lower y ∷ rest) in
+    with_rest r rest (λ xs. a ∷ xs) (λ xs. rd ∷ xs) (behind (is_addi op) (list_all is_implicit rest) e) (reads_all r (a ∷ []) (rd ∷ []) (omega arith) refl
+    refl refl)
 by_op Lui (Def rd ∷ Imm i ∷ rest) e =
     let r = row_by Lui (Def rd ∷ Imm i ∷ rest) in
     with_rest r rest (λ xs. xs) (λ xs. rd ∷ xs) (behind _ (list_all is_implicit rest) e) (reads_all r [] (rd ∷ []) (omega arith) refl refl refl)
+by_op Lui (Def rd ∷ Part Upper y ∷ rest) e =
+    let r = row_by Lui (Def rd ∷ Part Upper y ∷ rest) in
+    with_rest r rest (λ xs. xs) (λ xs. rd ∷ xs) e (reads_only_zero r (rd ∷ []) refl refl refl)
 by_op (Branch op) (Use a ∷ Use b ∷ Block n ∷ rest) e =
     let r = row_by (Branch op) (Use a ∷ Use b ∷ Block n ∷ rest) in
     with_rest r rest (λ xs. a ∷ b ∷ xs) (λ xs. xs) e (reads_all r (a ∷ b ∷ []) [] (omega arith) refl refl refl)
@@ -231,6 +278,9 @@ by_op (Load op) (Def rd ∷ Slot n ∷ Imm i ∷ rest) e =
 by_op (Load op) (Def rd ∷ Object n ∷ Imm i ∷ rest) e =
     let r = row_by (Load op) (Def rd ∷ Object n ∷ Imm i ∷ rest) in
     with_rest r rest (λ xs. xs) (λ xs. rd ∷ xs) (behind _ (list_all is_implicit rest) e) (reads_all r [] (rd ∷ []) (omega arith) refl refl refl)
+by_op (Load op) (Def rd ∷ Use a ∷ Part Lower y ∷ rest) e =
+    let r = row_by (Load op) (Def rd ∷ Use a ∷ Part Lower y ∷ rest) in
+    with_rest r rest (λ xs. a ∷ xs) (λ xs. rd ∷ xs) e (reads_all r (a ∷ []) (rd ∷ []) (omega arith) refl refl refl)
 by_op (Store op) (Use a ∷ Use b ∷ Imm i ∷ rest) e =
     let r = row_by (Store op) (Use a ∷ Use b ∷ Imm i ∷ rest) in
     with_rest r rest (λ xs. a ∷ b ∷ xs) (λ xs. xs) (behind _ (list_all is_implicit rest) e) (reads_all r (a ∷ b ∷ []) [] (omega arith) refl refl refl)
@@ -240,6 +290,9 @@ by_op (Store op) (Use a ∷ Slot n ∷ Imm i ∷ rest) e =
 by_op (Store op) (Use a ∷ Object n ∷ Imm i ∷ rest) e =
     let r = row_by (Store op) (Use a ∷ Object n ∷ Imm i ∷ rest) in
     with_rest r rest (λ xs. a ∷ xs) (λ xs. xs) (behind _ (list_all is_implicit rest) e) (reads_all r (a ∷ []) [] (omega arith) refl refl refl)
+by_op (Store op) (Use a ∷ Use b ∷ Part Lower y ∷ rest) e =
+    let r = row_by (Store op) (Use a ∷ Use b ∷ Part Lower y ∷ rest) in
+    with_rest r rest (λ xs. a ∷ b ∷ xs) (λ xs. xs) e (reads_all r (a ∷ b ∷ []) [] (omega arith) refl refl refl)
 by_op Copy (Def rd ∷ Use a ∷ rest) e =
     with_rest (move_row rd a) rest (λ xs. a ∷ xs) (λ xs. rd ∷ xs) e (move_explicit rd a)
 by_op PseudoBr (Block n ∷ rest) e =
@@ -253,6 +306,21 @@ by_op PseudoRet os e =
     let k = all_implicit is_result result_none_of os e in
     let r = row_by PseudoRet os in
     subst (λ (x : List ℕ). Explicit r x (defs_in os)) (sym k.0) (subst (λ (x : List ℕ). Explicit r [] x) (sym k.1) (implicit_row r refl))
+by_op PseudoCallIndirect (ImplicitUse q ∷ Mask ∷ rest) e =
+    ended (held_call (implicit_uses (ImplicitUse q ∷ Mask ∷ rest))) rest is_argument argument_none_of
+    (behind (nat_le 5 q && nat_lt q 32) (list_all is_argument rest) e) (held_call_row_of (implicit_uses (ImplicitUse q ∷ Mask ∷ rest)))
+by_op PseudoTail (Symbol name ∷ rest) e =
+    let r = row_by PseudoTail (Symbol name ∷ rest) in
+    ended r rest is_tail_use tail_none_of e (implicit_row r refl)
+by_op PseudoTailIndirect (ImplicitUse q ∷ rest) e =
+    ended (held_tail (implicit_uses (ImplicitUse q ∷ rest))) rest is_tail_use tail_none_of
+    (behind (nat_eq q 6 || is_tail_register q) (list_all is_tail_use rest) e) (held_tail_row_of (implicit_uses (ImplicitUse q ∷ rest)))
+by_op NoReturnCall (Symbol name ∷ Mask ∷ rest) e =
+    let r = row_by NoReturnCall (Symbol name ∷ Mask ∷ rest) in
+    ended r rest is_tail_use tail_none_of e (implicit_row r refl)
+by_op NoReturnCallIndirect (ImplicitUse q ∷ Mask ∷ rest) e =
+    ended (held_gone (implicit_uses (ImplicitUse q ∷ Mask ∷ rest))) rest is_tail_use tail_none_of
+    (behind (nat_eq q 6 || is_tail_register q) (list_all is_tail_use rest) e) (held_gone_row_of (implicit_uses (ImplicitUse q ∷ Mask ∷ rest)))
 by_op _ _ e = cc
 
 pub explicit : (i : Instruction) → IsTrue (has_form i.op i.operands) → Explicit (row_of i) (uses_in i.operands) (defs_in i.operands)

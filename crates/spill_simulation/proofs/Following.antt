@@ -22,7 +22,8 @@ use Rattle.mir_func.specs.Function.{Function}
 use Rattle.mir_func.specs.Graph.{Program, Fetch, Here, EndOfBlock, Outside, below, block_start, index_of, program_of, Edge, FetchEdge, KindEdge, RowEdge, Leads}
 use Rattle.mir_func.specs.Sound.{AreApart, ids_of, LastCloses, IsSound}
 use Rattle.sem_mir.specs.Align.{is_jump, Count, ByItems, ByEnds, moves_on, sync_point_at, AnyOrigin, RunsMatch}
-use Rattle.sem_mir.specs.Follow.{KindFits, MarkFits, InOrder, first_of, OnRow, GoesTo, Shape, IsStart, IsEnd, SameEnd, KindsEndAlike}
+use Rattle.sem_mir.specs.InitialState.{first_of, IsInitialState}
+use Rattle.sem_mir.specs.Follow.{KindFits, MarkFits, InOrder, OnRow, GoesTo, Shape, IsEnd, SameEnd, KindsEndAlike}
 use Rattle.sem_mir.specs.Follow.{EndIsKept, EndComesFrom}
 use Rattle.sem_mir.specs.State.{State, content}
 use Rattle.sem_mir.proofs.Edges.{step_edge}
@@ -228,8 +229,8 @@ module _ (objects : List Object) (src : List Block) (f : Function) (subs fsubs :
   ]
 
   runs_new : (count : Count) → ((k : ItemKind) → moves_on count k ≡ is_jump k) →
-      ((s0 : State) → IsStart objects (first_of src) s0 → RunsMatch srcp fp (sync_point_at count fp) (AnyOrigin (sync_point_at count fp)) s0 s0) →
-      (s0 : State) → IsStart objects (first_of src) s0 → RunsMatch srcp gp (sync_point_at count gp) (AnyOrigin (sync_point_at count gp)) s0 s0
+      ((s0 : State) → IsInitialState objects (first_of src) s0 → RunsMatch srcp fp (sync_point_at count fp) (AnyOrigin (sync_point_at count fp)) s0 s0) →
+      (s0 : State) → IsInitialState objects (first_of src) s0 → RunsMatch srcp gp (sync_point_at count gp) (AnyOrigin (sync_point_at count gp)) s0 s0
   runs_new count counts runs s0 start = by_blocks f.blocks refl sound.last where
     at : s0.pos ≡ block_start (first_of f.blocks)
     at = start.pos ∙ ap block_start (sym shape.first)

@@ -7,7 +7,7 @@ use Rattle.rv64_instr.specs.declared.place.Place.TheVariants.{Register, Slot, Co
 use Rattle.rv64_instr.specs.DefsAndUses.{reads, sets}
 use Rattle.rv64_instr.specs.Arithmetic.{computed, load_width, extended}
 use Rattle.rv64_instr.specs.Instruction.{Instruction}
-use Rattle.rv64_instr.specs.Parts.{is_call, has_implicit_uses, names_slot}
+use Rattle.rv64_instr.specs.LocationEffects.{is_call, has_implicit_uses, names_slot}
 use Rattle.rv64_instr.specs.Row.{Row, Fixes, Moves, Sets, Addresses, Loads, Stores, LoadsSlot, StoresSlot, Branches, Jumps, Calls, Returns, Unfit, row_of}
 use Rattle.mir_func.specs.declared.debug_substitution.OperandPair.{OperandPair}
 use Rattle.mir_func.specs.declared.position.Origin.{Origin}
@@ -67,7 +67,7 @@ does_written (Stores op rs b o) c i = on_either (AreSet (Stores op rs b o)) _ Tr
 does_written (StoresSlot rs n) c i = λ q k. absurd (none_in q k)
 does_written (Branches op a b t) c i = on_either (AreSet (Branches op a b t)) _ (Goes t c) (Falls c) (λ q k. absurd (none_in q k)) (λ q k. absurd (none_in q k))
 does_written (Jumps t) c i = λ q k. absurd (none_in q k)
-does_written (Calls name args) c i = cc
+does_written (Calls call) c i = cc
 does_written (Returns v) c i = cc
 does_written Unfit c i = tt
 
@@ -92,11 +92,11 @@ unfolding act
 act_traps r c q k e = ap (λ (b : Bool). cond b (does r c) Traps) (unwritten c (reads r) q k e)
 
 call_is : (u d : ℕ → ℕ) (r : Row) → is_call (renamed_row u d r) ≡ is_call r
-call_is u d (Calls name args) = refl
+call_is u d (Calls call) = refl
 call_is u d _ = refl
 
 call_implicit : (r : Row) → is_call r ≡ true → has_implicit_uses r ≡ true
-call_implicit (Calls name args) e = refl
+call_implicit (Calls call) e = refl
 call_implicit _ e = cc
 
 -- ---- code
@@ -139,6 +139,7 @@ module _ (s : Spilling) (slots : List ℕ) (homes : AreHomes s slots) (resolve :
           entry = h.0.world.entry;
           area = h.0.world.area;
           objects = h.0.world.objects;
+          symbols = h.0.world.symbols;
           memory = h.0.world.memory;
           script = h.0.world.script;
           events = h.0.world.events;
@@ -257,6 +258,7 @@ module _ (s : Spilling) (slots : List ℕ) (homes : AreHomes s slots) (resolve :
       entry = near.world.entry;
       area = near.world.area;
       objects = near.world.objects;
+      symbols = near.world.symbols;
       memory = near.world.memory;
       script = near.world.script;
       events = near.world.events;
@@ -278,6 +280,7 @@ module _ (s : Spilling) (slots : List ℕ) (homes : AreHomes s slots) (resolve :
       entry = near.world.entry;
       area = near.world.area;
       objects = near.world.objects;
+      symbols = near.world.symbols;
       memory = near.world.memory;
       script = near.world.script;
       events = near.world.events;
@@ -328,27 +331,34 @@ module _ (s : Spilling) (slots : List ℕ) (homes : AreHomes s slots) (resolve :
 
   pub loaded_of : (i : Instruction) (o : Origin) (fits : FitsCode s i o) (held : SlotIn slots (row_of i)) (Alive Owed : ℕ → Type 0) (c d : Core) →
       Near s slots Alive Owed c d → LoadedFirst i c d → LoadedSecond i c d → Loaded s slots homes i o fits held (first_used s.homes i.operands) c d
-  loaded_of i o fits held Alive Owed c d near first second plain q k = by_slot (slot_of s.homes q) refl where
-    used : Contains (uses_in i.operands) q
-    used = (explicit i fits.form).reads_used plain q k
+  loaded_of i o fits held Alive Owed c d near first second plain q k =
+      elim (cases_eq q 0) as (λ _. content c.regs q ≡ content d.regs (use_now s (first_used s.homes i.operands) q)) [
+        | inl none ↦
+            ap (content c.regs) none ∙ ap (content d.regs) (sym (ap (use_now s (first_used s.homes i.operands)) none
+            ∙ (keeps_zero s slots homes (first_used s.homes i.operands)).zero_stays))
+        | inr some ↦ by_slot some (slot_of s.homes q) refl
+      ] where
+        used : (q ≡ 0 → ⊥) → Contains (uses_in i.operands) q
+        used some = (explicit i fits.form).reads_used plain q k some
 
-    by_found : (n : ℕ) → slot_of s.homes q ≡ Some n → (first_of s.homes (uses_in i.operands) ≡ Some n) ⊎
-        ((m : ℕ) × (first_of s.homes (uses_in i.operands) ≡ Some m) × (m ≡ n → ⊥) × (other_of s.homes m (uses_in i.operands) ≡ Some n)) →
-        content c.regs q ≡ content d.regs (stand_in s (first_used s.homes i.operands) q (Some n))
-    by_found n e (inl at) =
-        let is : first_used s.homes i.operands ≡ Some n = used_is s.homes i.operands ∙ at in
-        first q n is e ∙ ap (content d.regs) (sym (ap (λ (x : Option ℕ). cond (names_slot x n) s.first s.second) is ∙
-        ap (λ (b : Bool). cond b s.first s.second) (eq-eqb n n refl)))
-    by_found n e (inr (m, at, ne, other)) =
-        let is : first_used s.homes i.operands ≡ Some m = used_is s.homes i.operands ∙ at in
-        second q m n is (other_is s.homes m i.operands ∙ other) e ∙ ap (content d.regs) (sym (ap (λ (x : Option ℕ). cond (names_slot x n) s.first s.second) is ∙
-        ap (λ (b : Bool). cond b s.first s.second) (ne_eqb m n ne)))
+        by_found : (n : ℕ) → slot_of s.homes q ≡ Some n → (first_of s.homes (uses_in i.operands) ≡ Some n) ⊎
+            ((m : ℕ) × (first_of s.homes (uses_in i.operands) ≡ Some m) × (m ≡ n → ⊥) × (other_of s.homes m (uses_in i.operands) ≡ Some n)) →
+            content c.regs q ≡ content d.regs (stand_in s (first_used s.homes i.operands) q (Some n))
+        by_found n e (inl at) =
+            let is : first_used s.homes i.operands ≡ Some n = used_is s.homes i.operands ∙ at in
+            first q n is e ∙ ap (content d.regs) (sym (ap (λ (x : Option ℕ). cond (names_slot x n) s.first s.second) is ∙
+            ap (λ (b : Bool). cond b s.first s.second) (eq-eqb n n refl)))
+        by_found n e (inr (m, at, ne, other)) =
+            let is : first_used s.homes i.operands ≡ Some m = used_is s.homes i.operands ∙ at in
+            second q m n is (other_is s.homes m i.operands ∙ other) e ∙ ap (content d.regs)
+            (sym (ap (λ (x : Option ℕ). cond (names_slot x n) s.first s.second) is ∙
+            ap (λ (b : Bool). cond b s.first s.second) (ne_eqb m n ne)))
 
-    by_slot : (x : Option ℕ) → slot_of s.homes q ≡ x → content c.regs q ≡ content d.regs (use_now s (first_used s.homes i.operands) q)
-    by_slot None e = near.regs q (e, fits.uses q used) ∙ ap (content d.regs) (sym (ap (stand_in s (first_used s.homes i.operands) q) e))
-    by_slot (Some n) e =
-        by_found n e (found_of s.homes (uses_in i.operands) (explicit i fits.form).few q n used e) ∙
-        ap (content d.regs) (sym (ap (stand_in s (first_used s.homes i.operands) q) e))
+        by_slot : (q ≡ 0 → ⊥) → (x : Option ℕ) → slot_of s.homes q ≡ x → content c.regs q ≡ content d.regs (use_now s (first_used s.homes i.operands) q)
+        by_slot some None e = near.regs q (e, fits.uses q (used some)) ∙ ap (content d.regs) (sym (ap (stand_in s (first_used s.homes i.operands) q) e))
+        by_slot some (Some n) e =
+            by_found n e (found_of s.homes (uses_in i.operands) (explicit i fits.form).few q n (used some) e) ∙
+            ap (content d.regs) (sym (ap (stand_in s (first_used s.homes i.operands) q) e))
 
   -- ---- debug items
 
@@ -361,6 +371,7 @@ module _ (s : Spilling) (slots : List ℕ) (homes : AreHomes s slots) (resolve :
       entry = near.world.entry;
       area = near.world.area;
       objects = near.world.objects;
+      symbols = near.world.symbols;
       memory = near.world.memory;
       script = near.world.script;
       events = near.world.events;

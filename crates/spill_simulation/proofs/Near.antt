@@ -13,7 +13,7 @@ use Rattle.rv64_instr.specs.declared.place.Place.{Place}
 use Rattle.rv64_instr.specs.declared.place.Place.TheVariants.{Register, Slot, Const}
 use Rattle.rv64_instr.specs.DefsAndUses.{caller_saved, reads, sets}
 use Rattle.rv64_instr.specs.Instruction.{Instruction}
-use Rattle.rv64_instr.specs.Parts.{has_implicit_uses, names_slot, slot_read, slot_set}
+use Rattle.rv64_instr.specs.LocationEffects.{has_implicit_uses, names_slot, slot_read, slot_set}
 use Rattle.rv64_instr.specs.Row.{Row, Fixes, Moves, Sets, Addresses, Loads, LoadsSlot, StoresSlot, Calls, Returns, row_of}
 use Rattle.rv64_instr.specs.Row.{implicit_uses}
 use Rattle.mir_func.specs.declared.position.Origin.{Origin}
@@ -144,7 +144,7 @@ sets_renamed u d r i q k = by_row r i k where
   by_row (Addresses rd n o) i k = one rd k
   by_row (Loads rd op b o) i k = one rd k
   by_row (LoadsSlot rd n) i k = one rd k
-  by_row (Calls name args) i k = cc
+  by_row (Calls call) i k = cc
   by_row (Returns v) i k = cc
   by_row _ i k = absurd (none_in q k)
 
@@ -161,28 +161,28 @@ uses_implicit (ImplicitDef r ∷ os) q k = contains_tail r q (implicits_in os) (
 uses_implicit (_ ∷ os) q k = uses_implicit os q k
 
 pub reads_implicit : (r : Row) (os : List Operand) (q : ℕ) → AreImplicit os r → has_implicit_uses r ≡ true → Contains (reads r) q → Contains (implicits_in os) q
-reads_implicit (Calls name args) os q e i k = uses_implicit os q (subst (λ (xs : List ℕ). Contains xs q) e k)
+reads_implicit (Calls call) os q e i k = uses_implicit os q (subst (λ (xs : List ℕ). Contains xs q) e k)
 reads_implicit (Returns v) os q e i k = uses_implicit os q (subst (λ (xs : List ℕ). Contains xs q) e k)
 reads_implicit _ os q e i k = cc
 
 pub same_implicit : (u d : ℕ → ℕ) (r : Row) → has_implicit_uses r ≡ true → renamed_row u d r ≡ r
-same_implicit u d (Calls name args) i = refl
+same_implicit u d (Calls call) i = refl
 same_implicit u d (Returns v) i = refl
 same_implicit u d _ i = cc
 
 -- calls set the caller-saved registers, and returns none
 pub implicit_sets : (r : Row) → has_implicit_uses r ≡ true → (q : ℕ) → Contains (sets r) q → Contains caller_saved q
-implicit_sets (Calls name args) i q k = k
+implicit_sets (Calls call) i q k = k
 implicit_sets (Returns v) i q k = absurd (none_in q k)
 implicit_sets _ i q k = cc
 
 implicit_slotless : (r : Row) → has_implicit_uses r ≡ true → (n : ℕ) → slot_set r ≡ Some n → ⊥
-implicit_slotless (Calls name args) i n k = cc
+implicit_slotless (Calls call) i n k = cc
 implicit_slotless (Returns v) i n k = cc
 implicit_slotless _ i n k = cc
 
 implicit_slots_read : (r : Row) → has_implicit_uses r ≡ true → (n : ℕ) → slot_read r ≡ Some n → ⊥
-implicit_slots_read (Calls name args) i n k = cc
+implicit_slots_read (Calls call) i n k = cc
 implicit_slots_read (Returns v) i n k = cc
 implicit_slots_read _ i n k = cc
 

@@ -1,30 +1,33 @@
 -- What code with other registers does: the same rows, with other registers.
 use Rattle.std.proofs.Common.{◌≡◌, ℕ, zero, suc, List, [], ◌∷◌, map, cond, nat_eq, refl, sym, ap, ◌∙◌}
 use Rattle.rv64_instr.specs.declared.op.Op.{Op}
-use Rattle.rv64_instr.specs.declared.op.Op.TheVariants.{Registers, Immediate, Lui, Branch, Load, Store, Copy, PseudoBr, PseudoCall, PseudoRet}
+use Rattle.rv64_instr.specs.declared.op.Op.TheVariants.{Registers, Immediate, Lui, Branch, Load, Store, Copy}
+use Rattle.rv64_instr.specs.declared.op.Op.TheVariants.{PseudoBr, PseudoCall, PseudoRet, PseudoCallIndirect}
+use Rattle.rv64_instr.specs.declared.op.Op.TheVariants.{PseudoTail, PseudoTailIndirect, NoReturnCall, NoReturnCallIndirect}
 use Rattle.rv64_instr.specs.declared.op.ImmediateOp.{ImmediateOp}
 use Rattle.rv64_instr.specs.declared.op.ImmediateOp.TheVariants.{Addi}
 use Rattle.rv64_instr.specs.declared.op.RegisterOp.TheVariants.{Add}
 use Rattle.rv64_instr.specs.declared.operand.Operand.{Operand}
-use Rattle.rv64_instr.specs.declared.operand.Operand.TheVariants.{Def, Use, ImplicitUse, Imm, Slot, Object, Block, Symbol}
-use Rattle.rv64_instr.specs.declared.decoded.Input.{Input}
-use Rattle.rv64_instr.specs.declared.decoded.Input.TheVariants.{Content, Number}
-use Rattle.rv64_instr.specs.declared.decoded.Base.{Base}
-use Rattle.rv64_instr.specs.declared.decoded.Base.TheVariants.{PointedBy, ObjectAt}
+use Rattle.rv64_instr.specs.declared.operand.Operand.TheVariants.{Def, Use, ImplicitUse, Imm, Slot, Object, Part, Block, Symbol}
+use Rattle.rv64_instr.specs.Row.{Input, Content, Number, PartOf}
+use Rattle.rv64_instr.specs.Row.{Base, PointedBy, ObjectAt, BesidePart}
 use Rattle.rv64_instr.specs.Arithmetic.{word}
 use Rattle.rv64_instr.specs.Instruction.{Instruction}
+use Rattle.rv64_instr.specs.declared.symbol.Half.TheVariants.{Upper}
 use Rattle.rv64_instr.specs.Row.{Row, Fixes, Moves, Sets, Addresses, Loads, Stores, LoadsSlot, StoresSlot, Branches, Jumps, Calls, Returns, Unfit, row_of}
-use Rattle.rv64_instr.specs.Row.{row_by, move_row, add_row, immediate_row, object_row, implicit_uses}
+use Rattle.rv64_instr.specs.Row.{row_by, move_row, add_row, immediate_row, object_row, implicit_uses, Named, Back, held_call, held_tail, held_gone, Tail, Never}
 use Rattle.spill_code.specs.Rewrite.{renamed_operand, renamed_code}
 
 module _ (at_use at_def : ℕ → ℕ) where
   abbrev pub renamed_input : Input → Input
   renamed_input (Content r) = Content (at_use r)
   renamed_input (Number n) = Number n
+  renamed_input (PartOf half y) = PartOf half y
 
   abbrev pub renamed_base : Base → Base
   renamed_base (PointedBy r) = PointedBy (at_use r)
   renamed_base (ObjectAt n) = ObjectAt n
+  renamed_base (BesidePart r y) = BesidePart (at_use r) y
 
   -- the row with other explicit registers
   abbrev pub renamed_row : Row → Row
@@ -38,7 +41,7 @@ module _ (at_use at_def : ℕ → ℕ) where
   renamed_row (StoresSlot rs n) = StoresSlot (at_use rs) n
   renamed_row (Branches op a b t) = Branches op (at_use a) (at_use b) t
   renamed_row (Jumps t) = Jumps t
-  renamed_row (Calls name args) = Calls name args
+  renamed_row (Calls call) = Calls call
   renamed_row (Returns v) = Returns v
   renamed_row Unfit = Unfit
 
@@ -83,11 +86,24 @@ module _ (at_use at_def : ℕ → ℕ) where
     object_same Addi rd n o = refl
     object_same _ rd n o = refl
 
+    held_call_same : (xs : List ℕ) → held_call xs ≡ renamed_row (held_call xs)
+    held_call_same [] = refl
+    held_call_same (r ∷ xs) = refl
+
+    held_tail_same : (xs : List ℕ) → held_tail xs ≡ renamed_row (held_tail xs)
+    held_tail_same [] = refl
+    held_tail_same (r ∷ xs) = refl
+
+    held_gone_same : (xs : List ℕ) → held_gone xs ≡ renamed_row (held_gone xs)
+    held_gone_same [] = refl
+    held_gone_same (r ∷ xs) = refl
+
     by_op : (op : Op) (os : List Operand) → row_by op (others os) ≡ renamed_row (row_by op os)
     by_op (Registers op) (Def rd ∷ Use a ∷ Use b ∷ rest) = refl
     by_op (Immediate op) (Def rd ∷ Use a ∷ Imm i ∷ rest) = immediate_same op rd a (word i)
     by_op (Immediate op) (Def rd ∷ Object n ∷ Imm i ∷ rest) = object_same op rd n (word i)
     by_op Lui (Def rd ∷ Imm i ∷ rest) = refl
+    by_op Lui (Def rd ∷ Part half y ∷ rest) = ap (λ (z : ℕ). Sets (at_def rd) Add z (PartOf Upper y)) (sym keeps.zero_stays)
     by_op (Branch op) (Use a ∷ Use b ∷ Block target ∷ rest) = refl
     by_op (Load op) (Def rd ∷ Use base ∷ Imm i ∷ rest) = refl
     by_op (Load op) (Def rd ∷ Slot n ∷ rest) = refl
@@ -97,8 +113,13 @@ module _ (at_use at_def : ℕ → ℕ) where
     by_op (Store op) (Use rs ∷ Object n ∷ Imm i ∷ rest) = refl
     by_op Copy (Def rd ∷ Use rs ∷ rest) = move_same rd rs
     by_op PseudoBr (Block target ∷ rest) = refl
-    by_op PseudoCall (Symbol name ∷ rest) = ap (Calls name) (uses_same rest)
-    by_op PseudoRet os = ap Returns (uses_same os)
+    by_op PseudoCall (Symbol name ∷ rest) = ap (λ (rs : List ℕ). Calls (record { callee = Named name; args = rs })) (uses_same rest)
+    by_op PseudoRet os = ap (λ (rs : List ℕ). Returns (record { way = Back; values = rs })) (uses_same os)
+    by_op PseudoCallIndirect os = ap held_call (uses_same os) ∙ held_call_same (implicit_uses os)
+    by_op PseudoTail (Symbol name ∷ rest) = ap (λ (rs : List ℕ). Returns (record { way = Tail (Named name); values = rs })) (uses_same rest)
+    by_op PseudoTailIndirect os = ap held_tail (uses_same os) ∙ held_tail_same (implicit_uses os)
+    by_op NoReturnCall (Symbol name ∷ rest) = ap (λ (rs : List ℕ). Returns (record { way = Never (Named name); values = rs })) (uses_same rest)
+    by_op NoReturnCallIndirect os = ap held_gone (uses_same os) ∙ held_gone_same (implicit_uses os)
     by_op _ _ = refl
 
     pub row_renamed : (i : Instruction) → row_of (renamed_code at_use at_def i) ≡ renamed_row (row_of i)

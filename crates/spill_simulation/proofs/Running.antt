@@ -17,9 +17,11 @@ use Rattle.mir_func.specs.declared.item.ItemKind.{ItemKind}
 use Rattle.mir_func.specs.declared.item.ItemKind.TheVariants.{Code, Mark, Phi}
 use Rattle.mir_func.specs.Graph.{Program, Fetch, Here, EndOfBlock, below, block_start, end_of, from_block, Edge, FetchEdge, Leads, stay}
 use Rattle.mir_func.specs.Sound.{OriginIn}
-use Rattle.sem_mir.specs.Align.{position_of, is_code, is_jump, Count, ByEnds, SyncPoint}
+use Rattle.mir_func.specs.Positions.{position_of}
+use Rattle.sem_mir.specs.Align.{is_code, is_jump, Count, ByEnds, SyncPoint}
 use Rattle.sem_mir.specs.Align.{sync_point_of, end_sync_point, moves_on, sync_point_at, IsOrigin, AnyOrigin, RunsMatch}
-use Rattle.sem_mir.specs.Follow.{InOrder, first_of}
+use Rattle.sem_mir.specs.InitialState.{first_of}
+use Rattle.sem_mir.specs.Follow.{InOrder}
 use Rattle.sem_mir.specs.Live.{Live, later, Defines}
 use Rattle.sem_mir.specs.State.{Core, State, content}
 use Rattle.sem_mir.specs.Step.{Went, step}
@@ -327,7 +329,7 @@ module _ (s : Spilling) (slots : List ℕ) (homes : AreHomes s slots) (entry : L
       near_start : (hs : List SlotAssignment) → ((h : SlotAssignment) → Contains entry h → Contains hs h) →
           Near s slots (Alive s slots homes entry blocks resolve s0.pos.block 0) (λ q. (h : SlotAssignment) × Contains hs h × (h.register ≡ q)) s0.core s0.core
       near_start hs all = record {
-        world = record { entry = refl; area = refl; objects = refl; memory = refl; script = refl; events = refl };
+        world = record { entry = refl; area = refl; objects = refl; symbols = refl; memory = refl; script = refl; events = refl };
         regs = λ r h. refl;
         slots_alike = λ n k. refl;
         under = λ r n e out v k. (let bad : None ≡ Some v = sym (cold n) ∙ k in cc);

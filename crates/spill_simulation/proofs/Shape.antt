@@ -17,10 +17,11 @@ use Rattle.mir_func.specs.declared.item.ItemKind.{ItemKind}
 use Rattle.mir_func.specs.declared.item.ItemKind.TheVariants.{Code, Mark, Phi}
 use Rattle.mir_func.specs.Graph.{Program, Fetch, Here, below, block_start}
 use Rattle.mir_func.specs.Sound.{OriginIn}
-use Rattle.sem_mir.specs.Align.{position_of}
+use Rattle.mir_func.specs.Positions.{position_of}
 use Rattle.sem_mir.specs.Follow.{MayAdd, HasClass, ItemHasClass, RowFits, KindFits, MarkFits, rank, next_rank, InOrder, Among, none, same, left}
 use Rattle.rv64_instr.specs.View.{class_of}
-use Rattle.sem_mir.specs.Follow.{first_of, GoesTo}
+use Rattle.sem_mir.specs.InitialState.{first_of}
+use Rattle.sem_mir.specs.Follow.{GoesTo}
 use Rattle.sem_simulation.proofs.Order.{rank_low}
 use Rattle.spill_code.specs.declared.spilling.SlotAssignment.{SlotAssignment}
 use Rattle.spill_code.specs.declared.spilling.Spilling.{Spilling}

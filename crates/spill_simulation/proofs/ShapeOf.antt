@@ -6,7 +6,7 @@ use Rattle.std.proofs.lemmas.List.Concat.{flat_map-cons}
 use Rattle.std.proofs.lemmas.List.Elements.{All-contains}
 use Rattle.rv64_instr.specs.declared.place.Place.TheVariants.{Register}
 use Rattle.rv64_instr.specs.Instruction.{Instruction}
-use Rattle.rv64_instr.specs.Parts.{IsSlotStore}
+use Rattle.rv64_instr.specs.LocationEffects.{IsSlotStore}
 use Rattle.rv64_instr.specs.Row.{Row, StoresSlot, Branches, Jumps, Returns, Unfit, row_of}
 use Rattle.mir_func.specs.declared.debug_substitution.OperandPair.{OperandPair}
 use Rattle.mir_func.specs.declared.position.Pos.{Pos}
@@ -20,8 +20,9 @@ use Rattle.mir_func.specs.declared.item.ItemKind.{ItemKind}
 use Rattle.mir_func.specs.declared.item.ItemKind.TheVariants.{Code, Mark, Phi}
 use Rattle.mir_func.specs.Graph.{Program, Fetch, Here, EndOfBlock, Outside, below, block_start, from_block, program_of, FetchEdge, RowEdge, Leads, stay}
 use Rattle.mir_func.specs.Sound.{AreApart, OriginIn, ids_of, TargetsIn, TargetIn}
-use Rattle.sem_mir.specs.Align.{position_of}
-use Rattle.sem_mir.specs.Follow.{rank, next_rank, InOrder, first_of, OnRow, Counts, IsMetApart, Shape}
+use Rattle.mir_func.specs.Positions.{position_of}
+use Rattle.sem_mir.specs.InitialState.{first_of}
+use Rattle.sem_mir.specs.Follow.{rank, next_rank, InOrder, OnRow, Counts, IsMetApart, Shape}
 use Rattle.sem_mir.specs.Live.{Live, Uses, KindUses}
 use Rattle.sem_mir.proofs.Edges.{leads_trans}
 use Rattle.sem_mir.proofs.Reading.{found, next_block}

@@ -4,15 +4,13 @@ use Rattle.std.proofs.Common.{subst, inl, inr, eq-eqb, eqb-true, arith}
 use Rattle.std.specs.List.{list_any}
 use Rattle.std.proofs.lemmas.Bool.{or_left, or_right}
 use Rattle.std.proofs.lemmas.Map.Views.{Contains-from_any}
-use Rattle.rv64_instr.specs.declared.decoded.Input.{Input}
-use Rattle.rv64_instr.specs.declared.decoded.Input.TheVariants.{Content, Number}
-use Rattle.rv64_instr.specs.declared.decoded.Base.{Base}
-use Rattle.rv64_instr.specs.declared.decoded.Base.TheVariants.{PointedBy, ObjectAt}
+use Rattle.rv64_instr.specs.Row.{Input, Content, Number, PartOf}
+use Rattle.rv64_instr.specs.Row.{Base, PointedBy, ObjectAt, BesidePart}
 use Rattle.rv64_instr.specs.declared.place.Place.{Place}
 use Rattle.rv64_instr.specs.declared.place.Place.TheVariants.{Register}
 use Rattle.rv64_instr.specs.DefsAndUses.{reads, sets, input_reads, base_reads}
 use Rattle.rv64_instr.specs.Instruction.{Instruction}
-use Rattle.rv64_instr.specs.Parts.{is_call, has_implicit_uses, first_use, second_use, input_place, base_place, is_register, is_implicit_use}
+use Rattle.rv64_instr.specs.LocationEffects.{is_call, has_implicit_uses, first_use, second_use, input_place, base_place, is_register, is_implicit_use}
 use Rattle.rv64_instr.specs.Row.{Row, Fixes, Moves, Sets, Addresses, Loads, Stores, LoadsSlot, StoresSlot, Branches, Jumps, Calls, Returns, Unfit, row_of}
 use Rattle.mir_func.specs.declared.position.Pos.{Pos}
 use Rattle.mir_func.specs.declared.item.Item.{Item}
@@ -77,10 +75,12 @@ one_is r q (suc k, lt, e) = absurd (omega (arith, lt))
 input_used : (b : Input) (q : ℕ) → Contains (input_reads b) q → is_register q (input_place b) ≡ true
 input_used (Content r) q k = register_is q r (one_is r q k)
 input_used (Number n) q k = absurd (none_in q k)
+input_used (PartOf half y) q k = absurd (none_in q k)
 
 base_used : (b : Base) (q : ℕ) → Contains (base_reads b) q → is_register q (base_place b) ≡ true
 base_used (PointedBy r) q k = register_is q r (one_is r q k)
 base_used (ObjectAt n) q k = absurd (none_in q k)
+base_used (BesidePart r y) q k = register_is q r (one_is r q k)
 
 -- the first place that it reads, or the second
 explicit_used : (r : Row) (q : ℕ) → has_implicit_uses r ≡ false → Contains (reads r) q → (is_register q (first_use r) || is_register q (second_use r)) ≡ true
@@ -96,7 +96,7 @@ explicit_used (StoresSlot rs n) q i k = or_left (is_register q (Some (Register r
 explicit_used (Branches op a b t) q i (zero, lt, e) = or_left (is_register q (Some (Register a))) _ (register_is q a e)
 explicit_used (Branches op a b t) q i (suc k, lt, e) =
     or_right (is_register q (Some (Register a))) (is_register q (Some (Register b))) (register_is q b (one_is b q (k, omega (arith, lt), e)))
-explicit_used (Calls name args) q i k = cc
+explicit_used (Calls call) q i k = cc
 explicit_used (Returns v) q i k = cc
 explicit_used _ q i k = absurd (none_in q k)
 
@@ -143,7 +143,7 @@ setting_plain (Stores op rs b o) q i k = absurd (none_in q k)
 setting_plain (StoresSlot rs n) q i k = absurd (none_in q k)
 setting_plain (Branches op a b t) q i k = absurd (none_in q k)
 setting_plain (Jumps t) q i k = absurd (none_in q k)
-setting_plain (Calls name args) q i k = cc
+setting_plain (Calls call) q i k = cc
 setting_plain (Returns v) q i k = cc
 setting_plain Unfit q i k = absurd (none_in q k)
 setting_plain _ q i k = refl
@@ -156,7 +156,7 @@ sets_one (Sets rd op a b) p q i k l = sym (one_is rd p k) ∙ one_is rd q l
 sets_one (Addresses rd n o) p q i k l = sym (one_is rd p k) ∙ one_is rd q l
 sets_one (Loads rd op b o) p q i k l = sym (one_is rd p k) ∙ one_is rd q l
 sets_one (LoadsSlot rd n) p q i k l = sym (one_is rd p k) ∙ one_is rd q l
-sets_one (Calls name args) p q i k l = cc
+sets_one (Calls call) p q i k l = cc
 sets_one (Returns v) p q i k l = cc
 sets_one _ p q i k l = absurd (none_in p k)
 

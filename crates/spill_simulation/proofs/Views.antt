@@ -11,7 +11,7 @@ use Rattle.std.proofs.lemmas.List.Elements.{All-contains}
 use Rattle.rv64_instr.specs.declared.place.Place.TheVariants.{Register}
 use Rattle.rv64_instr.specs.DefsAndUses.{caller_saved, reads, sets}
 use Rattle.rv64_instr.specs.Instruction.{Instruction}
-use Rattle.rv64_instr.specs.Parts.{has_implicit_uses}
+use Rattle.rv64_instr.specs.LocationEffects.{has_implicit_uses}
 use Rattle.rv64_instr.specs.Row.{Row, Fixes, LoadsSlot, StoresSlot, Jumps, row_of}
 use Rattle.mir_func.specs.declared.debug_substitution.OperandPair.{OperandPair}
 use Rattle.mir_func.specs.declared.position.Pos.{Pos}
@@ -24,9 +24,11 @@ use Rattle.mir_func.specs.declared.item.ItemKind.{ItemKind}
 use Rattle.mir_func.specs.declared.item.ItemKind.TheVariants.{Code, Mark, Phi}
 use Rattle.mir_func.specs.Graph.{Program, Here, below, block_start, program_of, Edge, Leads}
 use Rattle.mir_func.specs.Sound.{SlotIn, SlotsIn, OriginIn}
-use Rattle.sem_mir.specs.Align.{position_of, is_code, is_jump, is_jump_row, Count, moves_on, waits_at, sync_point_at, IsOrigin, Since, Same, After, since_of}
+use Rattle.mir_func.specs.Positions.{position_of}
+use Rattle.sem_mir.specs.Align.{is_code, is_jump, is_jump_row, Count, moves_on, waits_at, sync_point_at, IsOrigin, Since, Same, After, since_of}
 use Rattle.sem_mir.specs.Effects.{EndAlike}
-use Rattle.sem_mir.specs.Follow.{first_of, MayAdd, KindFits, RowFits, HasClass, InOrder, next_rank, rank}
+use Rattle.sem_mir.specs.InitialState.{first_of}
+use Rattle.sem_mir.specs.Follow.{MayAdd, KindFits, RowFits, HasClass, InOrder, next_rank, rank}
 use Rattle.rv64_instr.specs.View.{Plain, class_of}
 use Rattle.sem_mir.specs.Live.{Live}
 use Rattle.sem_mir.specs.State.{Core, State, content, updated}

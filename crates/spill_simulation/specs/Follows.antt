@@ -9,7 +9,8 @@ use Rattle.mir_func.specs.declared.item.Item.{Item}
 use Rattle.mir_func.specs.Function.{Function}
 use Rattle.mir_func.specs.Graph.{Here, block_start, program_of}
 use Rattle.mir_func.specs.Sound.{AllItems, IsSound}
-use Rattle.sem_mir.specs.Follow.{first_of, OnRow, GoesTo, Follows, HasWholeEnds}
+use Rattle.sem_mir.specs.InitialState.{first_of}
+use Rattle.sem_mir.specs.Follow.{OnRow, GoesTo, Follows, HasWholeEnds}
 use Rattle.sem_mir.specs.Live.{Live}
 use Rattle.spill_code.specs.declared.spilling.SlotAssignment.{SlotAssignment}
 use Rattle.spill_code.specs.declared.spilling.Spilling.{Spilling}

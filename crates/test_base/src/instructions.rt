@@ -1,7 +1,7 @@
 //! Arithmetic, names, effects and encodings of instructions, compared with values worked out by hand and with an
 //! assembler's.
 
-use base_ids::code::{BlockId, ObjectId, SlotId};
+use base_ids::function_ids::{BlockId, ObjectId, SlotId};
 use base_list::List;
 use rv64_instr::arithmetic::{compute, extend, is_taken};
 use rv64_instr::instr::Instr;
@@ -49,6 +49,12 @@ fn arithmetic_of_the_standard(rt: HostRuntime) {
     assert_eq!(rt; extend(Lhu, 0x8000), 0x8000);
     assert_eq!(rt; Op::from_mnemonic(b"SRAIW"), Some(Op::Immediate(Sraiw)));
     assert_eq!(rt; Op::from_mnemonic(b"AUIPC"), None);
+    assert_eq!(rt; Op::from_mnemonic(b"PseudoTAILIndirect"), Some(TAIL_BY));
+    assert_eq!(rt;
+        Op::from_mnemonic(b"noreturn PseudoCALL"),
+        Some(Op::NoReturnCall)
+    );
+    assert_eq!(rt; Op::from_mnemonic(b"noreturn"), None);
 }
 
 /// An operand by its number, or a call's.
@@ -124,9 +130,16 @@ const LBU: Op = Op::Load(Lbu);
 
 const SH: Op = Op::Store(Sh);
 
+const CALL_BY: Op = Op::PseudoCallIndirect;
+
+const TAIL_BY: Op = Op::PseudoTailIndirect;
+
+const GONE_BY: Op = Op::NoReturnCallIndirect;
+
 /// An opcode, its operands, the target's offset, the stack object's offset, and the word that `llvm-mc` of LLVM 14
-/// writes for the instruction, or 0 where an offset is out of range, and for a call, which has no one word.
-const ROWS: [(Op, &[Part], i64, u32, u32); 30] = [
+/// writes for the instruction, or 0 where an offset is out of range, and for what goes to a function of a name, which
+/// has no one word.
+const ROWS: [(Op, &[Part], i64, u32, u32); 36] = [
     (ADD, &[Def(5), Use(6), Use(7)], 0, 0, 0x007302b3),
     (ADDI, &[Def(11), Use(12), Imm(-2048)], 0, 0, 0x80060593),
     (ADDI, &[Def(11), Object(3), Imm(-8)], 0, 2055, 0x7ff10593),
@@ -157,6 +170,12 @@ const ROWS: [(Op, &[Part], i64, u32, u32); 30] = [
     (SH, &[Use(11), Object(6), Imm(8)], 0, 0, 0x00b11423),
     (BEQ, &[Use(11), Use(0), Block(7)], 0, 0, 0x00058063),
     (Op::PseudoCall, &[Symbol, Mask], 0, 0, 0),
+    (CALL_BY, &[Takes(11), Mask], 0, 0, 0x000580e7),
+    (Op::PseudoTail, &[Symbol], 0, 0, 0),
+    (TAIL_BY, &[Takes(6), Takes(10)], 0, 0, 0x00030067),
+    (TAIL_BY, &[Takes(31)], 3, 3, 0x000f8067),
+    (Op::NoReturnCall, &[Symbol, Mask], 0, 0, 0),
+    (GONE_BY, &[Takes(11), Mask], 0, 0, 0x000580e7),
 ];
 
 /// The word of an instruction, or 0, and the stack object that it names.
@@ -193,6 +212,30 @@ fn is_call(rt: &impl Abort, call: &Instr) {
     assert!(rt; call.uses(register(rt, 10)));
     assert!(rt; call.defines(register(rt, 1)));
     assert!(rt; !call.defines(register(rt, 8)));
+}
+
+/// An opcode, operands, and whether they have its form. The callee of a call in tail position is in a register that the
+/// epilogue leaves alone, and so is what it passes; x2 is no callee.
+const FORMS: [(Op, &[Part], bool); 12] = [
+    (CALL_BY, &[Takes(8), Mask, Takes(9)], true),
+    (CALL_BY, &[Takes(2), Mask], false),
+    (CALL_BY, &[Takes(8)], false),
+    (CALL_BY, &[Symbol, Mask], false),
+    (Op::PseudoTail, &[Symbol, Takes(2), Takes(17)], true),
+    (Op::PseudoTail, &[Symbol, Takes(6)], false),
+    (Op::PseudoTail, &[Symbol, Mask], false),
+    (TAIL_BY, &[Takes(6), Takes(2)], true),
+    (TAIL_BY, &[Takes(8), Takes(2)], false),
+    (TAIL_BY, &[Takes(1)], false),
+    (Op::NoReturnCall, &[Symbol, Mask, Takes(10)], true),
+    (GONE_BY, &[Takes(10), Takes(11)], false),
+];
+
+#[test]
+fn forms_of_calls(rt: HostRuntime) {
+    for (op, parts, fits) in FORMS {
+        assert_eq!(rt; made(rt.alloc(), op, parts).is_some(), fits, "{op:?}");
+    }
 }
 
 #[test]

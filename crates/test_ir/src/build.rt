@@ -5,7 +5,7 @@
 //! instruction number; `mark V`, `inlined V AT` or `part V OFFSET LENGTH` and what the variable or its part is
 //! assigned; or `phi K` and a place.
 
-use base_ids::code::{BlockId, DebugNumber, ObjectId, OperandIndex, SlotId};
+use base_ids::function_ids::{BlockId, DebugNumber, ObjectId, OperandIndex, SlotId};
 use base_ids::metadata::NodeId;
 use base_list::List;
 use mir_func::block::{Block, Blocks};
@@ -80,8 +80,17 @@ fn operand(alloc: Global, word: &str) -> Option<Operand> {
     }
 }
 
+/// The opcode of a word: its name, or `never` and `never_by` for calls that don't return, whose names are two words.
+fn op(word: &str) -> Option<Op> {
+    match word {
+        "never" => Some(Op::NoReturnCall),
+        "never_by" => Some(Op::NoReturnCallIndirect),
+        name => Op::from_mnemonic(name.as_bytes()),
+    }
+}
+
 fn code(alloc: Global, opcode: &str, words: SplitWhitespace) -> Option<Instr> {
-    let op = Op::from_mnemonic(opcode.as_bytes())?;
+    let op = op(opcode)?;
     let mut operands = Operands::new(alloc);
     for word in words {
         operands.push(operand(alloc, word)?).ok()?;

@@ -1,7 +1,7 @@
 //! Soundness and control flow of functions; parts of variables; substitutions.
 
 use crate::build::{entries, entry, function, pair};
-use base_ids::code::BlockId;
+use base_ids::function_ids::BlockId;
 use mir_func::func::{Func, FuncError};
 use mir_func::object::{counted, next_end, place_of, reach_after, up_to};
 use mir_func::successors::Successors;

@@ -6,7 +6,7 @@ ghost use Rattle.pass_trait.specs.Code.{SeesCodeAlone};
 ghost use Rattle.pass_trait.specs.Tests.{IsWatching, NothingIsWrong};
 ghost use Rattle.pass_trait.specs.Sizes.{greatest, greatest_number, most_numbers, numbers_in, numbers_of};
 
-use base_ids::code::{BlockId, DebugNumber};
+use base_ids::function_ids::{BlockId, DebugNumber};
 use base_list::List;
 use mir_func::block::{Block, Blocks};
 use mir_func::func::Func;

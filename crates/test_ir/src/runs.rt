@@ -3,12 +3,13 @@
 ghost use Rattle.sem_interpreter.specs.StandsFor.{AreCounted, IsPosition};
 
 use crate::build::{entries, function, number, variable};
-use base_ids::code::BlockId;
+use base_ids::function_ids::BlockId;
 use base_list::List;
 use mir_func::func::Func;
 use mir_func::position::Pos;
 use mir_substitution::substitutions::Substitutions;
 use rv64_instr::start::{CallResult, Start};
+use rv64_instr::symbol::SymbolAddresses;
 use sem_interpreter::state::{SourceState, SourceStep};
 use std::alloc::Global;
 use std::process::Abort;
@@ -47,7 +48,11 @@ fn start(alloc: Global, x10: u64) -> Option<Start> {
     regs[2] = 1_048_576;
     regs[10] = x10;
     let memory = List::from_slice(alloc, &CELLS).ok()?;
-    Some(Start { regs, memory })
+    Some(Start {
+        regs,
+        memory,
+        symbols: SymbolAddresses::new(alloc),
+    })
 }
 
 /// An answer: the sixteen registers get 101 to 116, and the last byte that is written is given.
@@ -401,6 +406,25 @@ const EDGES: [(&str, u64, &str); 15] = [
     ("SD use:33 slot:0 0", 0, "faulted 2 0 0"),
 ];
 
+/// What goes to a callee, and how its step ends.
+const CALLEES: [(&str, &str); 6] = [
+    (
+        "PseudoCALLIndirect takes:10 mask takes:11\nPseudoRET",
+        "waits 1 0 0\nanswer went 0 1",
+    ),
+    ("PseudoTAIL g takes:10", "returned 1 0 0"),
+    (
+        "PseudoTAILIndirect takes:6 takes:2 takes:10",
+        "returned 1 0 0",
+    ),
+    ("never g mask takes:10", "returned 1 0 0"),
+    ("never_by takes:10 mask", "returned 1 0 0"),
+    (
+        "PseudoCALL g mask\nPseudoTAILIndirect takes:10",
+        "answer went 0 1\nreturned 1 0 1",
+    ),
+];
+
 /// What is done by way of the object, which lies from 1,048,560 on, how it ends, and what registers hold then.
 const OBJECTS: [(&str, &str); 4] = [
     (
@@ -451,6 +475,14 @@ fn sees_lines(
 ) {
     let text = format!(in alloc; "{front}{lines}\nPseudoRET").expect(rt, "memory");
     assert!(rt; sees(rt, alloc, text.as_str(), x10, written, looks).is_some());
+}
+
+#[test]
+fn callees(rt: HostRuntime) {
+    for (lines, looks) in CALLEES {
+        let text = format!(in rt.alloc(); "slots 0 1\nbb 0\n{lines}").expect(&rt, "memory");
+        assert!(rt; sees(&rt, rt.alloc(), text.as_str(), 4096, (0, 0), looks).is_some());
+    }
 }
 
 #[test]

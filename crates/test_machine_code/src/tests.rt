@@ -6,6 +6,7 @@ use emit_function::code::code_of;
 use read_program::program::read_program;
 use rv64_instr::reg::physical;
 use rv64_instr::start::{CallEvent, CallResult, Cells, Start};
+use rv64_instr::symbol::SymbolAddresses;
 use sim_machine::answers::CallAnswers;
 use sim_machine::ending::{Stepped, Stop};
 use sim_machine::machine::MachineSimulator;
@@ -87,6 +88,7 @@ fn machine<'a>(alloc: Global, code: &'a Code, x10: u64) -> Result<MachineSimulat
     let start = Start {
         regs,
         memory: Cells::new(alloc),
+        symbols: SymbolAddresses::new(alloc),
     };
     Ok(MachineSimulator::new(alloc, code, &start, Odd)?)
 }

@@ -6,7 +6,7 @@ ghost use Rattle.pass_liveness.specs.Liveness.{AreLiveSets};
 ghost use Rattle.pass_trait.specs.Sizes.{greatest, greatest_number, most_numbers};
 
 use crate::shown::{push_blocks, push_entries, push_items, push_losses};
-use base_ids::code::{DebugNumber, SlotId};
+use base_ids::function_ids::{DebugNumber, SlotId};
 use base_list::List;
 use dce_analysis::judge::judge;
 use fold_pass::fold::fold;

@@ -1,6 +1,6 @@
 //! A branch that reads a virtual register, which the parser doesn't accept.
 
-use base_ids::code::BlockId;
+use base_ids::function_ids::BlockId;
 use mir_func::item::{Item, ItemKind};
 use mir_func::location::Loc;
 use mir_func::position::{Origin, Pos};

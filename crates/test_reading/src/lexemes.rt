@@ -1,6 +1,6 @@
 //! The values of tokens.
 
-use base_ids::code::{BlockId, SlotId};
+use base_ids::function_ids::{BlockId, SlotId};
 use base_ids::metadata::NodeId;
 use read_lexer::fault::LexError;
 use read_lexer::lexer::tokens;

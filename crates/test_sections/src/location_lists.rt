@@ -1,7 +1,7 @@
 //! Location lists written by hand from DWARF 5 section 7.29, and damaged ones.
 
 use crate::changed::changed;
-use base_ids::code::SlotId;
+use base_ids::function_ids::SlotId;
 use dwarf_loclists::entry::push_entry;
 use dwarf_loclists::fault::ListFault;
 use dwarf_loclists::range::{Location, Part, Range};

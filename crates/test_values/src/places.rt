@@ -1,7 +1,7 @@
 //! The live-in values of places: after a copy, a call and debug values of overlapping parts.
 
 use crate::text::{pair, part, register};
-use base_ids::code::DebugNumber;
+use base_ids::function_ids::DebugNumber;
 use mir_func::item::ItemKind;
 use mir_func::variable::MarkValue;
 use mir_substitution::substitutions::Substitutions;

@@ -1,6 +1,6 @@
 //! Functions from texts.
 
-use base_ids::code::{DebugNumber, OperandIndex};
+use base_ids::function_ids::{DebugNumber, OperandIndex};
 use base_ids::metadata::NodeId;
 use frame_lowering::lower::lower;
 use frame_lowering::physical::is_physical;

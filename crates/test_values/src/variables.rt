@@ -1,7 +1,7 @@
 //! Parts of variables, and locations by their places.
 
 use crate::text::{part, variable};
-use base_ids::code::SlotId;
+use base_ids::function_ids::SlotId;
 use dwarf_loclists::range::{Location, Part, Parts};
 use location_of_variable::group::groups;
 use location_of_variable::laws::wanted_locations_give_parts;

@@ -14,7 +14,7 @@ use Rattle.mir_func.specs.declared.variable.MarkValue.TheVariants.{At, Pair}
 use Rattle.mir_func.specs.declared.variable.VarId.{VarId}
 use Rattle.mir_func.specs.Function.{Function}
 use Rattle.mir_func.specs.Graph.{below, block_start}
-use Rattle.sem_mir.specs.Align.{position_of}
+use Rattle.mir_func.specs.Positions.{position_of}
 use Rattle.pass_trait.specs.declared.loss.Loss.{Loss}
 use Rattle.pass_trait.specs.declared.loss.Reason.{Reason}
 use Rattle.pass_trait.specs.Change.{Change}

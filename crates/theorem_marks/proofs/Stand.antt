@@ -14,7 +14,8 @@ use Rattle.mir_func.specs.declared.variable.MarkValue.{MarkValue}
 use Rattle.mir_func.specs.declared.variable.VarId.{VarId}
 use Rattle.mir_func.specs.Function.{Function}
 use Rattle.mir_func.specs.Graph.{Here, fetch_in, from_block}
-use Rattle.sem_mir.specs.Align.{is_code, position_of}
+use Rattle.mir_func.specs.Positions.{position_of}
+use Rattle.sem_mir.specs.Align.{is_code}
 use Rattle.sem_mir.specs.Follow.{InOrder, IsRead}
 use Rattle.sem_mir.proofs.Reading.{found_in, front_item, within_list}
 use Rattle.pass_trait.specs.Change.{change}

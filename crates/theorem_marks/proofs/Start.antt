@@ -9,10 +9,11 @@ use Rattle.run_command.specs.Source.{BeginsAsked}
 use Rattle.mir_func.specs.Function.{Function}
 use Rattle.mir_func.specs.Graph.{block_start}
 use Rattle.mir_func.specs.Objects.{area_of, offset_of}
-use Rattle.sem_mir.specs.Follow.{first_of}
+use Rattle.rv64_instr.specs.Linked.{addresses_in}
+use Rattle.sem_mir.specs.InitialState.{first_of}
 use Rattle.sem_mir.specs.State.{State, content}
 use Rattle.sem_mir.specs.Step.{or_zero}
-use Rattle.sim_start.specs.Asked.{start_register, other_register, replies}
+use Rattle.sim_start.specs.InitialMachine.{start_register, other_register, replies}
 use Rattle.theorem_marks.specs.Starts.{RunsCanStart}
 use Rattle.theorem_marks.proofs.Replies.{all_replies}
 
@@ -28,6 +29,7 @@ module _ (source : Function) (image : Image) (arguments values : List ℕ) (limi
       entry = 1048576;
       area = area_of source.objects;
       objects = offset_of source.objects;
+      symbols = addresses_in [];
       regs = regs;
       slots = λ n. None;
       memory = λ a. 0;
@@ -87,7 +89,7 @@ module _ (source : Function) (image : Image) (arguments values : List ℕ) (limi
   at_register (suc r) lt = ap or_zero (written (suc r) lt)
 
   pub begins : BeginsAsked source image arguments values limit start
-  begins = record { starts = starts; entry = refl; regs = at_register; memory = λ a. refl; script = refl }
+  begins = record { starts = starts; entry = refl; symbols = refl; regs = at_register; memory = λ a. refl; script = refl }
 
 pub runs_can_start : RunsCanStart
 runs_can_start source image arguments values limit low small few =

@@ -1,4 +1,5 @@
 -- What is read of the lines of blocks that were read.
+use Rattle.rv64_instr.specs.Form.{has_form}
 use Rattle.std.proofs.Common.{◌≡◌, ℕ, suc, ◌+◌, Bool, true, false, cond, eqb, ◌||◌, List, [], ◌∷◌, map, length, All, Option}
 use Rattle.std.proofs.Common.{Some, None, refl, sym, ap, ◌∙◌, arith}
 use Rattle.std.specs.List.{list_all, list_any, slice_get}
@@ -22,9 +23,10 @@ use Rattle.mir_func.specs.Exits.{exit_of}
 use Rattle.mir_func.specs.Sound.{AllItems, items_of, ids_of, number_of}
 use Rattle.read_body.specs.Body.{constant_of, object_named}
 use Rattle.read_body.specs.Closing.{goes_to_one_of, item_goes_to, blocks_go_to, all_met}
-use Rattle.read_body.specs.Met.{is_met}
+use Rattle.read_body.specs.FirstUseOrder.{is_met}
+use Rattle.read_item.specs.Opcode.{is_read}
 use Rattle.read_program.specs.Limited.{PlaceIsLimited, KindIsLimited}
-use Rattle.read_program.specs.Objects.{instr_as, place_as, kind_as, item_as, blocks_as}
+use Rattle.read_program.specs.Objects.{instr_as, place_as, kind_as, item_as, blocks_as, operands_as}
 use Rattle.read_program.proofs.Bodies.{IsReadBlock}
 use Rattle.read_program.proofs.Items.{KindNamesAmong}
 use Rattle.readback_items.specs.Code.{judged_kind}
@@ -63,8 +65,14 @@ module _ (ids entries : List ℕ) where
     by true = tt
     by false = small
 
+  same_opcode : (c : Instruction) → (instr_as ids c).op ≡ c.op
+  same_opcode c = by (has_form c.op (operands_as ids c.operands)) where
+    by : (b : Bool) → (let i : Instruction = cond b (record { op = c.op; operands = operands_as ids c.operands }) c in i.op) ≡ c.op
+    by true = refl
+    by false = refl
+
   pub kind_limited : (kind : ItemKind) → KnownKind entries kind → KindIsLimited kind → KindIsLimited (kind_as ids kind)
-  kind_limited (Code c k) is small = (code_limited ids entries c is, small.1)
+  kind_limited (Code c k) is small = (code_limited ids entries c is, small.1, ap is_read (same_opcode c) ∙ small.2)
   kind_limited (Mark v m) is small = small
   kind_limited (Phi p k) is small = (place_limited p small.0, small.1)
 

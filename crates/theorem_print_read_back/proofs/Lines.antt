@@ -17,7 +17,7 @@ use Rattle.read_declarations.specs.declared.entry.MappingField.{MappingField}
 use Rattle.read_declarations.specs.declared.entry.MappingEntry.{MappingEntry}
 use Rattle.read_declarations.specs.declared.entry.Listing.{Listing}
 use Rattle.read_declarations.specs.declared.entry.ParserState.TheVariants.{Outside, Key}
-use Rattle.read_declarations.specs.Entry.{has_key, entries_from}
+use Rattle.read_declarations.specs.FlowMapping.{has_key, entries_from}
 use Rattle.read_declarations.specs.Field.{value_at, number_in, needed, given}
 use Rattle.read_declarations.specs.List.{list_in}
 use Rattle.read_declarations.specs.Stream.{piece_of, stream_from, text_at}

@@ -51,9 +51,9 @@ module _ (printable : OutputsArePrintable) (with_frame : Bool) (steps : List Pas
 pub gives_back : (sources : List SourceFunction) (o : Output) → Promises sources o → AllGiveBack sources o
 gives_back sources o promises = record {
   as_many = promises.as_many;
-  each = λ n s f at there s0 starts m state since l along stands results ends.
+  each = λ n s f at there s0 starts m state since l along stands results ends leads.
       elim ((promises.each n s f at there).agrees s0 starts m state since l along stands) [
-        | inl agrees ↦ inl (agrees.2.kept results ends)
+        | inl agrees ↦ inl (agrees.2.kept results ends leads)
         | inr fails ↦ inr fails
       ];
 }

@@ -6,7 +6,7 @@ use Rattle.strip_command.specs.StripText.{stripped_text}
 use Rattle.cli.specs.declared.command.Command.{Command}
 use Rattle.cli.specs.declared.command.Command.TheVariants.{Compile, Listing, Report, Object, Run, Strip, Gen, SelfTest}
 use Rattle.cli.specs.declared.command.TestPlan.{TestPlan}
-use Rattle.report_command.specs.Reported.{IsReportText}
+use Rattle.report_command.specs.ProgramReport.{IsReportText}
 use Rattle.run_command.specs.Source.{IsRunOfProgram}
 use Rattle.selftest_command.specs.Tested.{IsSelfTestOf}
 use Rattle.tool_driver.specs.Compiled.{plan_steps, IsCompiledText, IsListingText, IsObjectFile}

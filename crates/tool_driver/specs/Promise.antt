@@ -2,6 +2,7 @@
 -- aren't empty while a location keeps the value of a debug value.
 use Rattle.std.specs.Prelude.{◌≡◌, ◌⊎◌, ℕ, true, List, Option, Some, All}
 use Rattle.rv64_instr.specs.declared.place.Place.{Place}
+use Rattle.rv64_instr.specs.Row.{way_leads_back}
 use Rattle.mir_func.specs.declared.debug_substitution.OperandPair.{OperandPair}
 use Rattle.mir_func.specs.declared.position.Pos.{Pos}
 use Rattle.mir_func.specs.declared.variable.VarId.{VarId}
@@ -9,7 +10,7 @@ use Rattle.mir_func.specs.Function.{Function}
 use Rattle.mir_func.specs.Graph.{program_of}
 use Rattle.mir_func.specs.Resolve.{resolve}
 use Rattle.sem_mir.specs.Align.{Since}
-use Rattle.sem_mir.specs.State.{State}
+use Rattle.sem_mir.specs.State.{State, RunResult}
 use Rattle.sem_mir.specs.PreferredLocation.{IsPlace}
 use Rattle.sem_machine.specs.Headline.{FailsBeforeLine, KEPT, MachineAlong, StartsAt}
 use Rattle.sem_machine.specs.Image.{CodeLine, Image, line_at}
@@ -22,15 +23,16 @@ use Rattle.compile_theorem.specs.OutputProperties.{Gives}
 use Rattle.compile_theorem.specs.Source.{SourceFunction, OfEach}
 use Rattle.listing_meaning.specs.Program.{IsListedAt, image_of, program_shown}
 
--- from every start, for every script of call answers and every number of steps: if the machine on a function's image returns, then the return address, the
--- stack pointer and the callee-saved registers have the same values as at the start, unless the source stops on a frame fault before
+-- from every start, for every script of call answers and every number of steps: if the machine on a function's image ends on a way that leads back to
+-- the caller, then the return address, the stack pointer and the callee-saved registers have the same values as at the start, unless the source stops on
+-- a frame fault before
 abbrev pub GivesBack : Function → (OperandPair → Option OperandPair) → Image → Type 0
 GivesBack source resolved image = (s0 : State) → StartsAt source s0 → (m : Machine) (s : State) (since : Since) (l : CodeLine) →
     MachineAlong (program_of true source.blocks resolved) image (machine_start image s0) s0 m s since → line_at image.lines m.counter ≡ Some l →
-    (results : List ℕ) → machine_step image m ≡ Ends results →
+    (result : RunResult) → machine_step image m ≡ Ends result → way_leads_back result.way ≡ true →
     All (λ r. register m r ≡ register (machine_start image s0) r) KEPT ⊎ FailsBeforeLine (program_of true source.blocks resolved) l since s
 
--- from every start, the machine on a function's image stops only at a return, or where it waits for the answer of a call
+-- from every start, the machine on a function's image stops only where the function ends, or where it waits for the answer of a call
 abbrev pub StopsWell : Function → Image → Type 0
 StopsWell source image = (s0 : State) → StartsAt source s0 → (m : Machine) → Comes image (machine_start image s0) m → IsWell (machine_step image m)
 

@@ -11,7 +11,7 @@ use Rattle.cli.specs.declared.command.PassPipeline.{PassPipeline}
 use Rattle.cli.specs.declared.command.RunPlan.{RunPlan}
 use Rattle.cli.specs.declared.command.TestPlan.{TestPlan}
 use Rattle.cli.specs.Command.{IsCommand}
-use Rattle.report_command.specs.Reported.{IsReportText}
+use Rattle.report_command.specs.ProgramReport.{IsReportText}
 use Rattle.run_command.specs.Source.{IsRunOfProgram}
 use Rattle.gen_text.specs.GeneratedText.{generated_text}
 use Rattle.readback_functions.specs.Bytes.{AreBytes}

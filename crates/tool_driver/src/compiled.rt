@@ -1,7 +1,7 @@
 //! The output texts of the commands that compile.
 
 ghost use Rattle.std.specs.Prelude.{◌≡◌, true, false, is_some, IfOk, IfErr};
-ghost use Rattle.report_command.specs.Reported.{IsReportText};
+ghost use Rattle.report_command.specs.ProgramReport.{IsReportText};
 ghost use Rattle.run_command.specs.Source.{IsRunOfProgram};
 ghost use Rattle.cli.specs.Command.{IsWithin};
 ghost use Rattle.cli.specs.declared.command.Command.TheVariants as command;

@@ -12,12 +12,15 @@ use Rattle.rv64_instr.specs.Instruction.{Instruction}
 use Rattle.rv64_instr.specs.declared.op.Op.{Op}
 use Rattle.rv64_instr.specs.declared.op.ImmediateOp.{ImmediateOp}
 use Rattle.rv64_instr.specs.declared.op.ImmediateOp.TheVariants.{Addi}
-use Rattle.rv64_instr.specs.declared.op.Op.TheVariants.{Registers, Immediate, Lui, Branch, Load, Store, Copy, PseudoBr, PseudoCall, PseudoRet}
+use Rattle.rv64_instr.specs.declared.op.Op.TheVariants.{Registers, Immediate, Lui, Branch, Load, Store, Copy}
+use Rattle.rv64_instr.specs.declared.op.Op.TheVariants.{PseudoBr, PseudoCall, PseudoRet, PseudoCallIndirect}
+use Rattle.rv64_instr.specs.declared.op.Op.TheVariants.{PseudoTail, PseudoTailIndirect, NoReturnCall, NoReturnCallIndirect}
 use Rattle.rv64_instr.specs.declared.operand.Operand.{Operand}
 use Rattle.rv64_instr.specs.declared.operand.Operand.TheVariants.{Def, Use, ImplicitDef, Imm, Slot as OfSlot, Object, Block as ToBlock, Symbol}
 use Rattle.rv64_instr.specs.declared.place.Place.{Place}
 use Rattle.rv64_instr.specs.declared.place.Place.TheVariants.{Register as AtRegister, Slot as AtSlot, Const}
-use Rattle.rv64_instr.specs.Row.{Row, Fixes, Moves, LoadsSlot, StoresSlot, row_of, row_by, immediate_row, object_row, move_row}
+use Rattle.rv64_instr.specs.Row.{Row, Fixes, Moves, LoadsSlot, StoresSlot, row_of, row_by, immediate_row, object_row, move_row, implicit_uses}
+use Rattle.rv64_instr.specs.Row.{held_call, held_tail, held_gone}
 use Rattle.mir_func.specs.declared.debug_substitution.OperandPair.{OperandPair}
 use Rattle.mir_func.specs.declared.item.ItemKind.{ItemKind}
 use Rattle.mir_func.specs.declared.item.ItemKind.TheVariants.{Code, Mark, Phi}
@@ -213,6 +216,18 @@ move_reads : (rd rs : ℕ) → rs < 32 → ReadsPhysical (move_row rd rs)
 move_reads rd zero h = tt
 move_reads rd (suc r) h = h
 
+held_call_reads : (xs : List ℕ) → ReadsPhysical (held_call xs)
+held_call_reads [] = tt
+held_call_reads (r ∷ xs) = tt
+
+held_tail_reads : (xs : List ℕ) → ReadsPhysical (held_tail xs)
+held_tail_reads [] = tt
+held_tail_reads (r ∷ xs) = tt
+
+held_gone_reads : (xs : List ℕ) → ReadsPhysical (held_gone xs)
+held_gone_reads [] = tt
+held_gone_reads (r ∷ xs) = tt
+
 reads_by : (op : Op) (os : List Operand) → All IsPhysical os → ReadsPhysical (row_by op os)
 reads_by (Registers op) (Def rd ∷ Use a ∷ Use b ∷ rest) h = tt
 reads_by (Immediate op) (Def rd ∷ Use a ∷ Imm i ∷ rest) h = immediate_reads op rd a (word i) (h 1 (Use a) (omega arith))
@@ -229,6 +244,11 @@ reads_by Copy (Def rd ∷ Use rs ∷ rest) h = move_reads rd rs (h 1 (Use rs) (o
 reads_by PseudoBr (ToBlock target ∷ rest) h = tt
 reads_by PseudoCall (Symbol name ∷ rest) h = tt
 reads_by PseudoRet os h = tt
+reads_by PseudoCallIndirect os h = held_call_reads (implicit_uses os)
+reads_by PseudoTail (Symbol name ∷ rest) h = tt
+reads_by PseudoTailIndirect os h = held_tail_reads (implicit_uses os)
+reads_by NoReturnCall (Symbol name ∷ rest) h = tt
+reads_by NoReturnCallIndirect os h = held_gone_reads (implicit_uses os)
 reads_by _ _ h = tt
 
 pub moves_physical : (i : Instruction) (rd rs : ℕ) → All IsPhysical i.operands → row_of i ≡ Moves rd rs → rs < 32

@@ -27,13 +27,13 @@ module _ (enter : ℕ → ℕ) (p : Pos) where
 
   row_down : (r : Row) → RowEdge enter r p (below p) → IsDown (row_exit r)
   row_down (Jumps target) e = absurd (no_start (enter target) e)
-  row_down (Returns results) e = e
+  row_down (Returns ending) e = e
   row_down Unfit e = e
   row_down _ e = tt
 
   down_row : (r : Row) → IsDown (row_exit r) → RowEdge enter r p (below p)
   down_row (Jumps target) e = absurd e
-  down_row (Returns results) e = absurd e
+  down_row (Returns ending) e = absurd e
   down_row Unfit e = absurd e
   down_row (Branches op a b target) e = inr refl
   down_row _ e = refl
@@ -69,7 +69,7 @@ module _ (enter : ℕ → ℕ) (p : Pos) where
   row_out (Branches op a b target) c (inl e) = (target, refl, start_of c (enter target) e)
   row_out (Branches op a b target) c (inr e) = absurd (no_start c (sym e))
   row_out (Jumps target) c e = (target, refl, start_of c (enter target) e)
-  row_out (Returns results) c e = absurd e
+  row_out (Returns ending) c e = absurd e
   row_out Unfit c e = absurd e
   row_out _ c e = absurd (no_start c (sym e))
 
@@ -92,7 +92,7 @@ module _ (enter : ℕ → ℕ) (p q : Pos) where
   row_above (Branches op a b target) (inl e) = absurd (no_start enter p (enter target) e)
   row_above (Branches op a b target) (inr e) = one_below (sym e)
   row_above (Jumps target) e = absurd (no_start enter p (enter target) e)
-  row_above (Returns results) e = absurd e
+  row_above (Returns ending) e = absurd e
   row_above Unfit e = absurd e
   row_above _ e = one_below (sym e)
 

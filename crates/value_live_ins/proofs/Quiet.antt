@@ -7,14 +7,16 @@ use Rattle.std.proofs.lemmas.Bool.{and_parts}
 use Rattle.rv64_instr.specs.Form.{has_form, is_implicit}
 use Rattle.rv64_instr.specs.Arithmetic.{word}
 use Rattle.rv64_instr.specs.Instruction.{Instruction}
-use Rattle.rv64_instr.specs.Parts.{is_call}
+use Rattle.rv64_instr.specs.LocationEffects.{is_call}
 use Rattle.rv64_instr.specs.declared.op.Op.{Op}
 use Rattle.rv64_instr.specs.declared.op.ImmediateOp.{ImmediateOp}
 use Rattle.rv64_instr.specs.declared.op.ImmediateOp.TheVariants.{Addi}
-use Rattle.rv64_instr.specs.declared.op.Op.TheVariants.{Registers, Immediate, Lui, Branch, Load, Store, Copy, PseudoBr, PseudoCall, PseudoRet}
+use Rattle.rv64_instr.specs.declared.op.Op.TheVariants.{Registers, Immediate, Lui, Branch, Load, Store, Copy}
+use Rattle.rv64_instr.specs.declared.op.Op.TheVariants.{PseudoBr, PseudoCall, PseudoRet, PseudoCallIndirect}
+use Rattle.rv64_instr.specs.declared.op.Op.TheVariants.{PseudoTail, PseudoTailIndirect, NoReturnCall, NoReturnCallIndirect}
 use Rattle.rv64_instr.specs.declared.operand.Operand.{Operand}
-use Rattle.rv64_instr.specs.declared.operand.Operand.TheVariants.{Def, Use, ImplicitDef, ImplicitUse, Imm, Slot, Object, Block as ToBlock, Symbol, Mask}
-use Rattle.rv64_instr.specs.Row.{Row, Jumps, row_of, row_by, immediate_row, object_row, move_row}
+use Rattle.rv64_instr.specs.declared.operand.Operand.TheVariants.{Def, Use, ImplicitDef, ImplicitUse, Imm, Slot, Object, Part, Block as ToBlock, Symbol, Mask}
+use Rattle.rv64_instr.specs.Row.{Row, Jumps, row_of, row_by, immediate_row, object_row, move_row, implicit_uses, held_call, held_tail, held_gone}
 use Rattle.mir_func.specs.declared.debug_substitution.OperandPair.{OperandPair}
 use Rattle.mir_func.specs.declared.exit.Exit.{Exit}
 use Rattle.mir_func.specs.declared.exit.Exit.TheVariants.{Onward, Perhaps, Always, Final}
@@ -40,6 +42,7 @@ none_defined (ImplicitUse r ∷ os) h zero = refl
 none_defined (Imm i ∷ os) h zero = refl
 none_defined (Slot n ∷ os) h zero = refl
 none_defined (Object n ∷ os) h zero = refl
+none_defined (Part half y ∷ os) h zero = refl
 none_defined (ToBlock n ∷ os) h zero = refl
 none_defined (Symbol n ∷ os) h zero = refl
 none_defined (Mask ∷ os) h zero = refl
@@ -67,6 +70,18 @@ move_goes : (rd rs t : ℕ) → row_exit (move_row rd rs) ≡ Always t → ⊥
 move_goes rd zero t h = cc
 move_goes rd (suc r) t h = cc
 
+held_call_goes : (xs : List ℕ) (t : ℕ) → row_exit (held_call xs) ≡ Always t → ⊥
+held_call_goes [] t h = cc
+held_call_goes (r ∷ xs) t h = cc
+
+held_tail_goes : (xs : List ℕ) (t : ℕ) → row_exit (held_tail xs) ≡ Always t → ⊥
+held_tail_goes [] t h = cc
+held_tail_goes (r ∷ xs) t h = cc
+
+held_gone_goes : (xs : List ℕ) (t : ℕ) → row_exit (held_gone xs) ≡ Always t → ⊥
+held_gone_goes [] t h = cc
+held_gone_goes (r ∷ xs) t h = cc
+
 jumps_by : (op : Op) (os : List Operand) (t : ℕ) → has_form op os ≡ true → row_exit (row_by op os) ≡ Always t → JumpsOnly (row_by op os) os
 jumps_by (Registers op) (Def rd ∷ Use a ∷ Use b ∷ rest) t h e = absurd cc
 jumps_by (Immediate op) (Def rd ∷ Use a ∷ Imm i ∷ rest) t h e = absurd (immediate_goes op rd a (word i) t e)
@@ -83,6 +98,11 @@ jumps_by Copy (Def rd ∷ Use rs ∷ rest) t h e = absurd (move_goes rd rs t e)
 jumps_by PseudoBr (ToBlock target ∷ rest) t h e = (target, refl, jump_defines target rest h)
 jumps_by PseudoCall (Symbol name ∷ rest) t h e = absurd cc
 jumps_by PseudoRet os t h e = absurd cc
+jumps_by PseudoCallIndirect os t h e = absurd (held_call_goes (implicit_uses os) t e)
+jumps_by PseudoTail (Symbol name ∷ rest) t h e = absurd cc
+jumps_by PseudoTailIndirect os t h e = absurd (held_tail_goes (implicit_uses os) t e)
+jumps_by NoReturnCall (Symbol name ∷ rest) t h e = absurd cc
+jumps_by NoReturnCallIndirect os t h e = absurd (held_gone_goes (implicit_uses os) t e)
 jumps_by _ _ t h e = absurd cc
 
 cond_same : {A : Type 0} (b : Bool) (x y : A) → x ≡ y → cond b x y ≡ y

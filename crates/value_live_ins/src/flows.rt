@@ -12,7 +12,7 @@ ghost use Rattle.value_live_ins.specs.steps.Ways.{FlowsBelow, IsFlowAt};
 
 use crate::changes::{Tracking, changes_of};
 use crate::ways::{Indices, ways_of};
-use base_ids::code::BlockId;
+use base_ids::function_ids::BlockId;
 use mir_func::block::Block;
 use mir_func::successors::id_at;
 use std::alloc::{AllocError, Global};

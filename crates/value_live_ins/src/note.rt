@@ -69,8 +69,8 @@ impl TrackedItemSet {
             Decoded::Stores(_, _, _, _) => Ok(()),
             Decoded::Branches(_, _, _, _) => Ok(()),
             Decoded::Jumps(_) => Ok(()),
-            Decoded::Calls => Ok(()),
-            Decoded::Returns => Ok(()),
+            Decoded::Calls(_) => Ok(()),
+            Decoded::Returns(_) => Ok(()),
         }
     }
 

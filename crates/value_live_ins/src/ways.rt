@@ -6,7 +6,7 @@ ghost use Rattle.mir_func.specs.declared.block.Block.{Block};
 ghost use Rattle.mir_func.specs.Successors.{ways};
 ghost use Rattle.value_live_ins.specs.steps.Ways.{enter_by, FindsIds};
 
-use base_ids::code::BlockId;
+use base_ids::function_ids::BlockId;
 use dataflow::graph::Ways;
 use mir_func::block::Block;
 use mir_func::exit::Exit;

@@ -6,7 +6,7 @@ use Rattle.std.specs.Prelude.{Option, Some, None, Bool, true, false, cond, nat_e
 use Rattle.rv64_instr.specs.declared.place.Place.{Place}
 use Rattle.rv64_instr.specs.declared.place.Place.TheVariants.{Register, Slot, Const}
 use Rattle.rv64_instr.specs.Instruction.{Instruction}
-use Rattle.rv64_instr.specs.Parts.{defines_of}
+use Rattle.rv64_instr.specs.LocationEffects.{defines_of}
 use Rattle.rv64_instr.specs.Row.{Row, Fixes, Moves, Sets, Addresses, Loads, LoadsSlot, StoresSlot, Calls, row_of}
 use Rattle.mir_func.specs.declared.debug_substitution.OperandPair.{OperandPair}
 use Rattle.mir_func.specs.declared.variable.VarId.{VarId}
@@ -62,7 +62,7 @@ register_kept (Sets rd op a b) r e = put_kept rd (New 0 rd) r e
 register_kept (Addresses rd n offset) r e = put_kept rd (New 0 rd) r e
 register_kept (Loads rd op base offset) r e = put_kept rd (New 0 rd) r e
 register_kept (LoadsSlot rd n) r e = put_kept rd (Was (InSlot n)) r e
-register_kept (Calls name args) r e = ap (λ (z : Bool). cond z (New 0 r) (Was (InRegister r))) e
+register_kept (Calls call) r e = ap (λ (z : Bool). cond z (New 0 r) (Was (InRegister r))) e
 register_kept _ r e = refl
 
 -- ---- slots

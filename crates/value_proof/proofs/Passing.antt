@@ -8,7 +8,7 @@ use Rattle.rv64_instr.specs.declared.place.Place.TheVariants.{Register, Slot, Co
 use Rattle.rv64_instr.specs.Instruction.{Instruction}
 use Rattle.rv64_instr.specs.Row.{Row, Fixes, Moves, Sets, Addresses, Loads, LoadsSlot, StoresSlot, Branches, Jumps, Calls, Returns, Unfit, row_of}
 use Rattle.rv64_instr.specs.DefsAndUses.{caller_saved}
-use Rattle.rv64_instr.specs.Parts.{is_call}
+use Rattle.rv64_instr.specs.LocationEffects.{is_call}
 use Rattle.mir_func.specs.declared.position.Pos.{Pos}
 use Rattle.mir_func.specs.declared.debug_substitution.OperandPair.{OperandPair}
 use Rattle.mir_func.specs.declared.variable.VarId.{VarId}
@@ -70,7 +70,7 @@ module _ (enter : ℕ → ℕ) (p q : Pos) where
   row_above (Branches op a b target) (inl e) = absurd (no_start (enter target) e)
   row_above (Branches op a b target) (inr e) = one_below (sym e)
   row_above (Jumps target) e = absurd (no_start (enter target) e)
-  row_above (Returns results) e = absurd e
+  row_above (Returns ending) e = absurd e
   row_above Unfit e = absurd e
   row_above _ e = one_below (sym e)
 
@@ -144,7 +144,7 @@ module _ (things : List Tracked) where
   known_register (Addresses rd n offset) r k kr = known_new rd r kr
   known_register (Loads rd op base offset) r k kr = known_new rd r kr
   known_register (LoadsSlot rd n) r k kr = known_put rd (Was (InSlot n)) r kr (λ is. k)
-  known_register (Calls name args) r k kr = known_if (list_any (λ q. nat_eq r q) caller_saved) (New 0 r) (Was (InRegister r)) (refl, kr) kr
+  known_register (Calls call) r k kr = known_if (list_any (λ q. nat_eq r q) caller_saved) (New 0 r) (Was (InRegister r)) (refl, kr) kr
   known_register _ r k kr = kr
 
   known_stored : (row : Row) (n : ℕ) → KnowsRow things row → Contains things (InSlot n) → Knows things (slot_stored row n)

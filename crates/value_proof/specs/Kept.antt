@@ -2,7 +2,7 @@
 use Rattle.std.specs.Prelude.{◌≡◌, ℕ, false, Some}
 use Rattle.rv64_instr.specs.declared.place.Place.{Place}
 use Rattle.rv64_instr.specs.declared.place.Place.TheVariants.{Register, Slot, Const}
-use Rattle.rv64_instr.specs.Parts.{defines_of}
+use Rattle.rv64_instr.specs.LocationEffects.{defines_of}
 use Rattle.rv64_instr.specs.Row.{Row, row_of}
 use Rattle.mir_func.specs.declared.position.Pos.{Pos}
 use Rattle.mir_func.specs.declared.variable.VarId.{VarId}
@@ -13,7 +13,7 @@ use Rattle.mir_func.specs.declared.item.ItemKind.TheVariants.{Code, Mark, Phi}
 use Rattle.mir_func.specs.Graph.{Program, Here, Edge, below, block_start}
 use Rattle.mir_func.specs.Variables.{is_same, overlaps}
 use Rattle.sem_mir.specs.ValueId.{Sits, mark_token, place_token, sets_pointer}
-use Rattle.sem_mir.specs.PreferredLocation.{IsPlace, SitsIn, NoneIsWanted}
+use Rattle.sem_mir.specs.PreferredLocation.{IsPlace, SitsIn, NoneIsPreferred}
 
 -- an instruction preserves a place: it doesn't set it, nor x2 if it is a frame slot. A constant is always preserved
 abbrev pub LeavesPlace : Row → Place → Type 0
@@ -51,4 +51,4 @@ KeptValuesSit = (g : Program) (start : ℕ) (v : VarId) (place : Place) (p q : P
 -- So some location is required for the part there: it can't be that none is.
 abbrev pub KeptValuesAreWanted : Type 0
 KeptValuesAreWanted = (g : Program) (start : ℕ) (v : VarId) (place : Place) (p q : Pos) → IsPlace place → IsToldAndKept g start v place p q →
-    NoneIsWanted g (block_start start) v q → ⊥
+    NoneIsPreferred g (block_start start) v q → ⊥

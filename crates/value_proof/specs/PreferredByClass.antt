@@ -7,7 +7,7 @@ use Rattle.mir_func.specs.declared.position.Pos.{Pos}
 use Rattle.mir_func.specs.declared.variable.VarId.{VarId}
 use Rattle.mir_func.specs.declared.item.Item.{Item}
 use Rattle.mir_func.specs.Graph.{Program, Here}
-use Rattle.sem_mir.specs.PreferredLocation.{IsPlace, Precedes, IsWanted, NoneIsWanted}
+use Rattle.sem_mir.specs.PreferredLocation.{IsPlace, IsPreferredTo, IsPreferredLocation, NoneIsPreferred}
 use Rattle.sem_value_ids.specs.Pullback.{Tracked, InRegister, InSlot, OfVariable, OfNumber}
 use Rattle.value_proof.specs.Classes.{Classes, IsKnown, HaveOneClass, AreClasses, KnowsItem}
 
@@ -23,16 +23,16 @@ pub record HasItsClass (things : List Tracked) (class : Classes) (v : VarId) (pl
   pub known : IsKnown things (thing_at place)
   pub one : HaveOneClass class (OfVariable v) (thing_at place)
 
--- the first location by `Precedes` that has the part's class, or None if no location has it
+-- the first location by `IsPreferredTo` that has the part's class, or None if no location has it
 abbrev pub IsFirstByClass : (things : List Tracked) → Classes → VarId → Option Place → Type 0
 IsFirstByClass things class v None = (place : Place) → HasItsClass things class v place → ⊥
 IsFirstByClass things class v (Some place) = HasItsClass things class v place
-    × ((other : Place) → Precedes other place → HasItsClass things class v other → ⊥)
+    × ((other : Place) → IsPreferredTo other place → HasItsClass things class v other → ⊥)
 
 -- the location required for the part at p, or None if none is required
 abbrev pub IsWantedOrNone : Program → Pos → VarId → Pos → Option Place → Type 0
-IsWantedOrNone g start v p None = NoneIsWanted g start v p
-IsWantedOrNone g start v p (Some place) = IsWanted g start v p place
+IsWantedOrNone g start v p None = NoneIsPreferred g start v p
+IsWantedOrNone g start v p (Some place) = IsPreferredLocation g start v p place
 
 -- the list contains all entities that items of the function copy from, all parts of variables that debug values assign, and the
 -- constant 0, which is x0's value
@@ -48,4 +48,4 @@ FirstByClassIsWanted = (g : Program) (start p : Pos) (things : List Tracked) (cl
 -- No location is required for a part of a variable outside the list: no debug value assigns it.
 abbrev pub UnmarkedIsNowhere : Type 0
 UnmarkedIsNowhere = (g : Program) (start p : Pos) (things : List Tracked) → AreThingsOf g things →
-    (v : VarId) → (Contains things (OfVariable v) → ⊥) → NoneIsWanted g start v p
+    (v : VarId) → (Contains things (OfVariable v) → ⊥) → NoneIsPreferred g start v p

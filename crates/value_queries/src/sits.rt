@@ -8,7 +8,7 @@ ghost use Rattle.value_tracker.specs.LocationTracker.{slot_place};
 ghost use Rattle.value_queries.specs.Sitting.{IsFit, SitsByClass, named_class};
 
 use crate::point::QueryPoint;
-use base_ids::code::SlotId;
+use base_ids::function_ids::SlotId;
 use rv64_instr::place::Place;
 use rv64_instr::reg::Reg;
 use value_tracker::index::number_class;

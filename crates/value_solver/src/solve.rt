@@ -17,9 +17,9 @@ use crate::flow::Flow;
 use crate::meet::Pairs;
 use crate::turn::turn;
 use base_list::List;
-use dataflow::fixpoint::{Analysis, settle};
 use dataflow::graph::{Ways, predecessors};
 use dataflow::order::reverse_post_order;
+use dataflow::solver::{Analysis, settle};
 use std::alloc::{AllocError, Global};
 
 /// The entries of all blocks, and the number of sweeps.

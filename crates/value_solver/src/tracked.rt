@@ -1,6 +1,6 @@
 //! The entities that are tracked along paths.
 
-use base_ids::code::SlotId;
+use base_ids::function_ids::SlotId;
 use base_list::List;
 use mir_func::debug_substitution::OperandPair;
 use mir_func::variable::VarId;

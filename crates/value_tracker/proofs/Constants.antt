@@ -32,7 +32,7 @@ use Rattle.rv64_instr.specs.Arithmetic.{word}
 use Rattle.rv64_instr.specs.declared.place.Place.{Place}
 use Rattle.rv64_instr.specs.declared.place.Place.TheVariants as spot
 use Rattle.mir_func.specs.declared.variable.VarId.{VarId}
-use Rattle.sem_mir.specs.PreferredLocation.{IsPlace, Precedes}
+use Rattle.sem_mir.specs.PreferredLocation.{IsPlace, IsPreferredTo}
 use Rattle.sem_value_ids.specs.Pullback.{InSlot, OfVariable, OfNumber}
 use Rattle.value_solver.specs.declared.tracked.Tracked.{Tracked}
 use Rattle.value_solver.specs.declared.tracked.Tracked.TheVariants.{Register, Slot, Pair, Part, Number}
@@ -164,7 +164,7 @@ module _ (variables : List VarId) (things : List Tracked) (index : TrackedIndex)
     },
     before,
   ) where
-    before : (other : Place) → Precedes other (spot.Register k) → HasItsClass (map thing things) class v other → ⊥
+    before : (other : Place) → IsPreferredTo other (spot.Register k) → HasItsClass (map thing things) class v other → ⊥
     before (spot.Const c) less has = no_constant none c has
     before (spot.Register r) less has = let positive : 0 < r = let k = has.named.1 in omega (arith, k) in first.3 r positive less (register_at r has)
     before (spot.Slot n) less has = absurd less
@@ -181,7 +181,7 @@ module _ (variables : List VarId) (things : List Tracked) (index : TrackedIndex)
     place : slot_place (8 * (k - 32)) ≡ k
     place = omega (arith, le)
 
-    before : (other : Place) → Precedes other (spot.Slot (8 * (k - 32))) → HasItsClass (map thing things) class v other → ⊥
+    before : (other : Place) → IsPreferredTo other (spot.Slot (8 * (k - 32))) → HasItsClass (map thing things) class v other → ⊥
     before (spot.Const c) less has = no_constant none c has
     before (spot.Register r) less has =
         let positive : 0 < r = let k = has.named.1 in omega (arith, k) in
@@ -206,7 +206,7 @@ module _ (variables : List VarId) (things : List Tracked) (index : TrackedIndex)
   at_constant some (Some c) e =
       let o = now.only own c e in
       (record { named = o.0; known = o.1; one = (sym o.2, some) }, before) where
-        before : (other : Place) → Precedes other (spot.Const c) → HasItsClass (map thing things) class v other → ⊥
+        before : (other : Place) → IsPreferredTo other (spot.Const c) → HasItsClass (map thing things) class v other → ⊥
         before (spot.Const d) less has = absurd less
         before (spot.Register r) less has = absurd less
         before (spot.Slot n) less has = absurd less

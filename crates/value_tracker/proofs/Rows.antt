@@ -128,7 +128,7 @@ module _ (things : List path.Tracked) (class : Classes) (number : ℕ → ℕ) (
   register_past (StoresSlot rs n) r k lt =
       let off : nat_eq r (slot_place n) ≡ false = grind (arith, nat_tests) in
       ap (λ (z : Bool). cond z (cond (nat_lt r PLACES) (places rs) 0) (places r)) off ∙ is.registers r lt
-  register_past (Calls name args) r k lt =
+  register_past (Calls call) r k lt =
       ap (λ (z : ℕ). cond (list_any (λ q. nat_eq r q) caller_saved) (next + r) z) (is.registers r lt)
       ∙ sym (cond_class class (λ r. next + r) (list_any (λ q. nat_eq r q) caller_saved) (New 0 r) (Was (InRegister r)))
   register_past _ r k lt = is.registers r lt
@@ -170,7 +170,7 @@ module _ (things : List path.Tracked) (class : Classes) (number : ℕ → ℕ) (
   slot_past (Loads rd op base offset) n k known = put_slot rd (next + rd) n known
   slot_past (LoadsSlot rd m) n k known = put_slot rd (places (slot_place m)) n known
   slot_past (StoresSlot rs m) n k known = store_slot rs m n k.0 k.1 known
-  slot_past (Calls name args) n k known =
+  slot_past (Calls call) n k known =
       ap (λ (z : Bool). cond z (next + slot_place n) (places (slot_place n))) (saved_below (slot_place n) (omega arith)) ∙ is.slots n known
   slot_past _ n k known = is.slots n known
 
@@ -194,6 +194,6 @@ module _ (things : List path.Tracked) (class : Classes) (number : ℕ → ℕ) (
         subst (λ (z : ℕ). Contains things (InSlot z)) (sym same) k.1
     | inr h ↦ is.slots_known i le (λ none. some (ap (λ (z : Bool). cond z (cond (nat_lt i PLACES) (places rs) 0) (places i)) h.0 ∙ none))
   ]
-  slots_known_past (Calls name args) i k le some = is.slots_known i le (λ none. some (ap (λ (z : Bool). cond z (next + i) (places i)) (saved_below i le)
+  slots_known_past (Calls call) i k le some = is.slots_known i le (λ none. some (ap (λ (z : Bool). cond z (next + i) (places i)) (saved_below i le)
       ∙ none))
   slots_known_past _ i k le some = is.slots_known i le some

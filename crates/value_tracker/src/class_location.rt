@@ -28,7 +28,7 @@ ghost use Rattle.value_tracker.specs.Start.{IsConstantOf, ConstantsNow, constant
 ghost use Rattle.value_tracker.specs.ClassLocation.{place_of, place_at, place_by};
 
 use crate::location_tracker::SLOTS_FROM;
-use base_ids::code::SlotId;
+use base_ids::function_ids::SlotId;
 use rv64_instr::place::Place;
 use rv64_instr::reg::physical;
 use std::alloc::{AllocError, Global};

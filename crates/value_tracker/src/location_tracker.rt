@@ -5,7 +5,7 @@ ghost use Rattle.std.specs.List.{list_any};
 ghost use Rattle.rv64_instr.specs.DefsAndUses.{caller_saved};
 ghost use Rattle.value_tracker.specs.LocationTracker.{SLOTS_FROM, PLACES, slot_place, put};
 
-use base_ids::code::SlotId;
+use base_ids::function_ids::SlotId;
 use rv64_instr::reg::Reg;
 use std::collections::HashMap;
 

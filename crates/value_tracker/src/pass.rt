@@ -36,7 +36,7 @@ ghost use Rattle.value_tracker.specs.LocationTracker.{
 
 use crate::index::{TrackedIndex, key, number_class, pair_class};
 use crate::location_tracker::{LocationTracker, PLACES, SLOTS_FROM, slot_place};
-use base_ids::code::DebugNumber;
+use base_ids::function_ids::DebugNumber;
 use mir_func::debug_substitution::OperandPair;
 use mir_func::item::ItemKind;
 use mir_func::variable::{MarkValue, VarId};

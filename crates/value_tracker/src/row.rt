@@ -31,11 +31,11 @@ impl LocationTracker {
             Decoded::Loads(rd, _, _, _) => self.put_new(rd),
             Decoded::LoadsSlot(rd, n) => self.put(rd, self.place(slot_place(n))),
             Decoded::StoresSlot(rs, n) => self.put_slot(n, self.register(rs)),
-            Decoded::Calls => self.call(),
+            Decoded::Calls(_) => self.call(),
             Decoded::Stores(_, _, _, _) => {}
             Decoded::Branches(_, _, _, _) => {}
             Decoded::Jumps(_) => {}
-            Decoded::Returns => {}
+            Decoded::Returns(_) => {}
         }
     }
 }

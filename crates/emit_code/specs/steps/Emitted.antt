@@ -1,5 +1,6 @@
 -- What the words and entries of an item are computed from, in a plan.
 use Rattle.std.specs.Prelude.{◌≡◌, ℕ, ◌+◌, ◌<◌, ℤ, List, length, get_or, slice_index, Option}
+use Rattle.rv64_instr.specs.Inverse.{inverse}
 use Rattle.mir_func.specs.declared.item.Item.{Item}
 use Rattle.mir_func.specs.declared.position.Pos.{Pos}
 use Rattle.mir_func.specs.declared.position.ProgramPoint.{ProgramPoint}
@@ -8,7 +9,6 @@ use Rattle.mir_func.specs.Sound.{HasForm}
 use Rattle.rv64_word.specs.declared.machine_op.MachineOp.{MachineOp}
 use Rattle.rv64_word.specs.declared.word_op.WordOp.TheVariants.{Registers, Immediate, Lui, Branch, Load, Store, Jal, Jalr}
 use Rattle.rv64_word.specs.declared.word_op.WordOp.{WordOp}
-use Rattle.emit_code.specs.Inverted.{inverted}
 use Rattle.rv64_word.specs.Lowering.{in_range, machine_op}
 use Rattle.emit_code.specs.declared.plan.ItemLayout.{ItemLayout}
 use Rattle.emit_code.specs.declared.span.Span.TheVariants.{Nothing}
@@ -37,7 +37,7 @@ abbrev pub inverted_word : WordOp → WordOp
 inverted_word (Registers op) = Registers op
 inverted_word (Immediate op) = Immediate op
 inverted_word Lui = Lui
-inverted_word (Branch op) = Branch (inverted op)
+inverted_word (Branch op) = Branch (inverse op)
 inverted_word (Load op) = Load op
 inverted_word (Store op) = Store op
 inverted_word Jal = Jal

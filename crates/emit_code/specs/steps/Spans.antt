@@ -1,7 +1,7 @@
 -- How each item is encoded (its span), and the rounds of branch relaxation.
 use Rattle.std.specs.Prelude.{◌≡◌, ℕ, suc, ◌+◌, ◌&&◌, Bool, cond, nat_le, List, [], ◌∷◌, map, slice_index, sum_by}
 use Rattle.rv64_instr.specs.Row.{Row, row_of}
-use Rattle.rv64_instr.specs.Parts.{is_call}
+use Rattle.rv64_instr.specs.LocationEffects.{has_site}
 use Rattle.mir_func.specs.declared.exit.Exit.{Exit}
 use Rattle.mir_func.specs.declared.exit.Exit.TheVariants.{Onward, Perhaps, Always, Final}
 use Rattle.mir_func.specs.Exits.{row_exit}
@@ -33,15 +33,15 @@ abbrev pub shorts : List Span → ℕ
 shorts spans = sum_by short_count spans
 
 -- the span of an instruction by its exit. The flag is whether a conditional branch is long
-abbrev pub exit_span : List Block → (long : Bool) → Exit → (call : Bool) → Span
-exit_span blocks long Onward call = cond call CallSite OneWord
-exit_span blocks long (Perhaps n) call = cond long (Long (first_of blocks n)) (Short (first_of blocks n))
-exit_span blocks long (Always n) call = OneWord
-exit_span blocks long Final call = OneWord
+abbrev pub exit_span : List Block → (long : Bool) → Exit → (site : Bool) → Span
+exit_span blocks long Onward site = cond site CallSite OneWord
+exit_span blocks long (Perhaps n) site = cond long (Long (first_of blocks n)) (Short (first_of blocks n))
+exit_span blocks long (Always n) site = OneWord
+exit_span blocks long Final site = cond site CallSite OneWord
 
 -- the span of an instruction by its row
 abbrev pub row_span : List Block → (long : Bool) → Row → Span
-row_span blocks long row = exit_span blocks long (row_exit row) (is_call row)
+row_span blocks long row = exit_span blocks long (row_exit row) (has_site row)
 
 abbrev pub span_of : List Block → (long : Bool) → ItemKind → Span
 span_of blocks long (Code i k) = row_span blocks long (row_of i)

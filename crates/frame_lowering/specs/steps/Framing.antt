@@ -7,12 +7,13 @@ use Rattle.mir_func.specs.declared.block.Block.{Block}
 use Rattle.mir_func.specs.declared.item.Item.{Item}
 use Rattle.mir_func.specs.declared.position.Origin.{Origin}
 use Rattle.mir_func.specs.declared.position.Origin.TheVariants.{Before}
-use Rattle.mir_func.specs.Exits.{exit_of, is_final}
+use Rattle.mir_func.specs.Exits.{leads_back}
 use Rattle.mir_func.specs.Function.{Function}
 use Rattle.mir_func.specs.Graph.{block_start}
 use Rattle.mir_func.specs.Limits.{MAX_FRAME, MAX_SLOTS}
 use Rattle.mir_func.specs.SoundFrame.{prologue_code, epilogue_code}
-use Rattle.frame_rule.specs.Rule.{saved_of, size_of, added_all, position_in, renamed}
+use Rattle.mir_func.specs.Positions.{position_of}
+use Rattle.frame_rule.specs.Rule.{saved_of, size_of, added_all, renamed}
 use Rattle.frame_lowering.specs.declared.frame.Frame.{Frame}
 
 -- ---- slots
@@ -42,10 +43,10 @@ abbrev pub prologue_in : Frame → (first : ℕ) → List Item
 prologue_in frame first = added_all frame.size (Before (block_start first)) (prologue_code frame.size frame.saved)
 
 abbrev pub epilogue_in : Frame → Origin → List Item
-epilogue_in frame o = added_all frame.size (Before (position_in o)) (epilogue_code frame.size frame.saved)
+epilogue_in frame o = added_all frame.size (Before (position_of o)) (epilogue_code frame.size frame.saved)
 
 abbrev pub framed_item_in : Frame → Item → List Item
-framed_item_in frame i = cond (is_final (exit_of i.kind)) (epilogue_in frame i.origin) [] ++ renamed frame.slots i ∷ []
+framed_item_in frame i = cond (leads_back i.kind) (epilogue_in frame i.origin) [] ++ renamed frame.slots i ∷ []
 
 abbrev pub framed_items_in : Frame → List Item → List Item
 framed_items_in frame items = flat_map (framed_item_in frame) items

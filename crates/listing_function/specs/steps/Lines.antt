@@ -1,9 +1,10 @@
 -- The lines of long branches.
 use Rattle.std.specs.Prelude.{ℕ, List, [], ◌∷◌, Option, Some, None}
 use Rattle.rv64_instr.specs.declared.operand.Operand.{Operand}
+use Rattle.rv64_instr.specs.Inverse.{inverse}
 use Rattle.mir_func.specs.declared.item.Item.{Item}
 use Rattle.mir_func.specs.declared.item.ItemKind.TheVariants.{Code}
-use Rattle.emit_code.specs.Inverted.{inverted, jump_to}
+use Rattle.emit_code.specs.LongBranch.{jump_to}
 use Rattle.emit_code.specs.Rule.{added_before}
 use Rattle.listing_text.specs.declared.output.Line.{Line}
 use Rattle.listing_text.specs.declared.output.Line.TheVariants.{Skip}
@@ -22,7 +23,7 @@ abbrev pub long_lines : (address : ℕ) → Long → Item → List Operand → (
 long_lines a l item operands k = Skip (record {
   address = a;
   origin = added_before item.origin;
-  op = inverted l.branch.op;
+  op = inverse l.branch.op;
   first = l.branch.first;
   second = l.branch.second;
   implicit = implicits operands;

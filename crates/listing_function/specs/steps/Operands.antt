@@ -2,7 +2,9 @@
 use Rattle.std.specs.Prelude.{IsTrue, List, ◌∷◌, Option, Some, None}
 use Rattle.rv64_instr.specs.declared.op.Op.{Op}
 use Rattle.rv64_instr.specs.declared.op.BranchOp.{BranchOp}
-use Rattle.rv64_instr.specs.declared.op.Op.TheVariants.{Registers, Immediate, Lui, Branch as OfBranch, Load, Store, Copy, PseudoBr, PseudoCall, PseudoRet}
+use Rattle.rv64_instr.specs.declared.op.Op.TheVariants.{Registers, Immediate, Lui, Branch as OfBranch, Load, Store, Copy}
+use Rattle.rv64_instr.specs.declared.op.Op.TheVariants.{PseudoBr, PseudoCall, PseudoRet, PseudoCallIndirect}
+use Rattle.rv64_instr.specs.declared.op.Op.TheVariants.{PseudoTail, PseudoTailIndirect, NoReturnCall, NoReturnCallIndirect}
 use Rattle.rv64_instr.specs.declared.operand.Operand.{Operand}
 use Rattle.rv64_instr.specs.declared.operand.Operand.TheVariants.{Use, Imm, Object, Block}
 use Rattle.rv64_instr.specs.Form.{has_12_bits}
@@ -29,3 +31,8 @@ branch_by Copy operands = None
 branch_by PseudoBr operands = None
 branch_by PseudoCall operands = None
 branch_by PseudoRet operands = None
+branch_by PseudoCallIndirect operands = None
+branch_by PseudoTail operands = None
+branch_by PseudoTailIndirect operands = None
+branch_by NoReturnCall operands = None
+branch_by NoReturnCallIndirect operands = None

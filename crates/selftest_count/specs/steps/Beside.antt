@@ -5,7 +5,8 @@ use Rattle.mir_func.specs.declared.position.Pos.{Pos}
 use Rattle.mir_func.specs.declared.position.Origin.{Origin}
 use Rattle.mir_func.specs.declared.position.Origin.TheVariants.{Kept, Before}
 use Rattle.mir_func.specs.declared.variable.VarId.{VarId}
-use Rattle.sem_mir.specs.Align.{position_of, Arrives, First, MatchesNext, Since, After}
+use Rattle.mir_func.specs.Positions.{position_of}
+use Rattle.sem_mir.specs.Align.{Arrives, First, MatchesNext, Since, After}
 use Rattle.sem_mir.specs.State.{State}
 use Rattle.sem_interpreter.specs.StandsFor.{Concrete, StandsFor as StandsForSource}
 use Rattle.dwarf_loclists.specs.declared.range.Range.{Range}

@@ -7,7 +7,7 @@ use Rattle.mir_func.specs.Sound.{ids_of, AreApart}
 use Rattle.pass_liveness.specs.Sets.{has}
 use Rattle.pass_liveness.proofs.Blocks.{get_at, id_is}
 use Rattle.dce_rule.specs.Dead.{LiveAtEnd}
-use Rattle.dce_analysis.specs.IsDead.{verdicts}
+use Rattle.dce_analysis.specs.Judge.{verdicts}
 use Rattle.dce_analysis.proofs.Blocks.{JudgedBlock, JudgedBlocks, none, one_more, all_judged}
 use Rattle.dce_analysis.proofs.judge.judge.Goals as goal
 

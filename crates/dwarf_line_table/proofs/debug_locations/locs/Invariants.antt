@@ -1,6 +1,6 @@
 use Rattle.std.proofs.Common.{◌≡◌, ◌≤◌, ℕ, suc, length, drop}
 use Rattle.dwarf_line_table.specs.SourcePosition.{first_loc}
-use Rattle.dwarf_line_table.specs.steps.Places.{loc_at}
+use Rattle.dwarf_line_table.specs.steps.DebugLocations.{loc_at}
 use Rattle.dwarf_line_table.proofs.debug_locations.locs.Given as goal
 
 abbrev pub invariant-loop-index : goal.invariant-loop-index

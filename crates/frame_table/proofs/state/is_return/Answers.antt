@@ -1,8 +1,7 @@
 use Rattle.std.proofs.Common.{ℕ, ◌≤◌, List, length, drop, sym, ap, ◌∙◌, arith}
 use Rattle.mir_func.specs.declared.block.Block.{Block}
 use Rattle.mir_func.specs.Function.{FramedFunction}
-use Rattle.mir_func.specs.Graph.{fetch_in}
-use Rattle.frame_proof.specs.Stands.{is_return}
+use Rattle.mir_func.specs.Graph.{fetch_in, is_return}
 use Rattle.frame_table.proofs.Standing.{none_returns}
 use Rattle.frame_table.proofs.state.is_return.Goals as goal
 

@@ -1,6 +1,6 @@
 use Rattle.std.proofs.Common.{drop, suc, sym, ◌∙◌}
 use Rattle.rv64_instr.specs.Row.{row_of}
-use Rattle.rv64_instr.specs.Parts.{is_call}
+use Rattle.rv64_instr.specs.LocationEffects.{is_call}
 use Rattle.pass_salvage.specs.SalvageAction.{first_definition}
 use Rattle.pass_salvage.specs.Above.{action_unless}
 use Rattle.pass_salvage.proofs.Chosen.{chosen_at}

@@ -3,7 +3,7 @@ use Rattle.read_refusal.specs.declared.first.Refusal.{Refusal}
 use Rattle.read_lexer.specs.declared.parts.Class.TheVariants.{Word}
 use Rattle.read_declarations.specs.declared.stream.YamlToken.{YamlToken}
 use Rattle.read_declarations.specs.declared.entry.OpenList.{OpenList}
-use Rattle.read_declarations.specs.Entry.{bad_line, entries_from}
+use Rattle.read_declarations.specs.FlowMapping.{bad_line, entries_from}
 use Rattle.read_declarations.proofs.Walks.{misplaced, in_place, none_left}
 use Rattle.read_declarations.proofs.entry.entries.Goals as goal
 

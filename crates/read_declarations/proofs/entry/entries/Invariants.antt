@@ -1,5 +1,5 @@
 use Rattle.std.proofs.Common.{◌≡◌, drop}
-use Rattle.read_declarations.specs.Entry.{AreKeys, entries_from, entries_of}
+use Rattle.read_declarations.specs.FlowMapping.{AreKeys, entries_from, entries_of}
 use Rattle.read_declarations.proofs.entry.entries.Given as goal
 
 abbrev pub invariant-loop-piece : goal.invariant-loop-piece

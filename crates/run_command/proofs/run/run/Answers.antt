@@ -6,7 +6,7 @@ use Rattle.dwarf_loclists.specs.declared.range.Range.{Range}
 use Rattle.compile_function.specs.declared.compiled_function.CompiledFunction.{CompiledFunction}
 use Rattle.compile_program.specs.declared.compile.Compilation.{Compilation}
 use Rattle.compile_program.specs.Program.{lists_of}
-use Rattle.sim_start.specs.Asked.{IsTextOfAskedRun}
+use Rattle.sim_start.specs.InitialMachine.{IsTextOfAskedRun}
 use Rattle.sim_trace.specs.declared.variable.Variable.{Variable}
 use Rattle.sim_trace.specs.Variables.{variable_of}
 use Rattle.run_command.specs.Runs.{HasNone, IsFirstNamed, IsRunOf}

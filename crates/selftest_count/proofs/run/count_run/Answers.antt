@@ -31,7 +31,8 @@ returns-clause-counts c =
     (λ o h. if_some (From c.as_slice.result.now) Of
     (λ n counts image m s shows begins begins_source. subst (λ (ls : List (List Range)). From ls n) c.as_slice.ensures counts image m s
     (subst (λ (k : LaidCode). ShowsCode k image) (sym c.in_ok-machine.ensures.code) shows)
-    (both_start c.start_with-start.result c.start_with-start.ensures.regs c.start_with-start.ensures.memory c.args.source.now src code c.args.lists.now
+    (both_start c.start_with-start.result c.start_with-start.ensures.regs c.start_with-start.ensures.memory
+    c.start_with-start.ensures.symbols c.args.source.now src code c.args.lists.now
     c.args.parts.now no_counts there.hart c.in_ok-state.state refl c.in_ok-machine.ensures.stands c.in_ok-state.ensures.stands image m s begins
     begins_source)) o h)
     c.count_steps.ensures.counts
@@ -47,7 +48,8 @@ returns-clause-apart c =
     (λ apart image m s shows begins begins_source.
     subst (λ (k : LaidCode). GoesApart src image k c.args.lists.now c.args.parts.now c.args.limit m s) c.in_ok-machine.ensures.code
     (subst From c.as_slice.ensures apart image m s (subst (λ (k : LaidCode). ShowsCode k image) (sym c.in_ok-machine.ensures.code) shows)
-    (both_start c.start_with-start.result c.start_with-start.ensures.regs c.start_with-start.ensures.memory c.args.source.now src code c.args.lists.now
+    (both_start c.start_with-start.result c.start_with-start.ensures.regs c.start_with-start.ensures.memory
+    c.start_with-start.ensures.symbols c.args.source.now src code c.args.lists.now
     c.args.parts.now no_counts there.hart c.in_ok-state.state refl c.in_ok-machine.ensures.stands c.in_ok-state.ensures.stands image m s begins
     begins_source))) o h)
     c.count_steps.ensures.apart

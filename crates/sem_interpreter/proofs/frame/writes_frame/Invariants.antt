@@ -1,6 +1,6 @@
 use Rattle.std.proofs.Common.{◌≡◌, drop}
 use Rattle.sem_mir.specs.State.{writes_frame}
-use Rattle.sem_interpreter.specs.Held.{some_writes}
+use Rattle.sem_interpreter.specs.Memory.{some_writes}
 use Rattle.sem_interpreter.proofs.frame.writes_frame.Given as goal
 
 abbrev pub invariant-loop-write : goal.invariant-loop-write

@@ -1,23 +1,23 @@
 use Rattle.std.proofs.Common.{◌≡◌, Option, Some, None, sym, ap, subst, ◌∙◌}
 use Rattle.rv64_instr.specs.Instruction.{Instruction}
-use Rattle.rv64_instr.specs.Parts.{is_call}
+use Rattle.rv64_instr.specs.LocationEffects.{is_call}
 use Rattle.rv64_instr.specs.Row.{row_of}
 use Rattle.emit_code.specs.Laid.{LaidCode, IsCode}
 use Rattle.sem_machine.specs.MachineStep.{call_of}
 use Rattle.sim_machine.specs.steps.Sites.{instruction_in}
-use Rattle.sim_machine.proofs.Sites.{site_at, word_place}
+use Rattle.sim_machine.proofs.Sites.{call_site, word_place}
 use Rattle.sim_machine.proofs.site.call_at.Goals as goal
 
 pub unreachable-requires : goal.unreachable-requires
 unreachable-requires c =
-    let site = site_at c.args.code.now c.args.entry.now (subst IsCode c.code.view_is c.code.invariant) c.requires.stands c.requires.call in
+    let site = call_site c.args.code.now.framed c.args.entry.now c.requires.call in
     let f = ap (λ (x : LaidCode). instruction_in x.framed c.args.entry.now.point) c.code.view_is in
     let none : instruction_in c.code.inside.framed c.args.entry.now.point ≡ None = c.in-None.ensures in
     let no : ◌≡◌ {A = Option Instruction} None (Some site.code) = sym none ∙ (f ∙ site.at) in cc
 
 pub returns-clause-calls : goal.returns-clause-calls
 returns-clause-calls c =
-    let site = site_at c.args.code.now c.args.entry.now (subst IsCode c.code.view_is c.code.invariant) c.requires.stands c.requires.call in
+    let site = call_site c.args.code.now.framed c.args.entry.now c.requires.call in
     let f = ap (λ (x : LaidCode). instruction_in x.framed c.args.entry.now.point) c.code.view_is in
     let some : Some c.in-Some.i.now ≡ Some site.code = sym c.in-Some.ensures ∙ (f ∙ site.at) in
     let same : c.in-Some.i.now ≡ site.code = cc in
@@ -25,7 +25,7 @@ returns-clause-calls c =
 
 pub returns-clause-same : goal.returns-clause-same
 returns-clause-same c =
-    let site = site_at c.args.code.now c.args.entry.now (subst IsCode c.code.view_is c.code.invariant) c.requires.stands c.requires.call in
+    let site = call_site c.args.code.now.framed c.args.entry.now c.requires.call in
     let f = ap (λ (x : LaidCode). instruction_in x.framed c.args.entry.now.point) c.code.view_is in
     let some : Some c.in-Some.i.now ≡ Some site.code = sym c.in-Some.ensures ∙ (f ∙ site.at) in
     let same : c.in-Some.i.now ≡ site.code = cc in

@@ -1,7 +1,7 @@
 use Rattle.std.proofs.Common.{◌≡◌, ℕ, ◌-◌, ◌/◌, ◌<◌, ◌^◌, List, length, get_or, Some, refl, sym, ap, subst, ◌∙◌, arith}
 use Rattle.emit_code.specs.Laid.{LaidCode, IsCode}
 use Rattle.sem_machine.specs.Image.{word_at}
-use Rattle.sim_machine.proofs.Sites.{word_place, word_shown, no_call_at}
+use Rattle.sim_machine.proofs.Sites.{word_place, word_shown}
 use Rattle.sim_machine.proofs.site.word_of.Goals as goal
 
 pub overflow_sub-index : goal.overflow_sub-index
@@ -34,6 +34,3 @@ returns-clause-word c = λ image shows.
 pub returns-clause-low : goal.returns-clause-low
 returns-clause-low c =
     (word_place c.args.code.now c.args.entry.now c.args.entry.now.address (subst IsCode c.code.view_is c.code.invariant) c.requires).low
-
-pub returns-clause-none : goal.returns-clause-none
-returns-clause-none c = λ h. no_call_at c.args.code.now c.args.entry.now (subst IsCode c.code.view_is c.code.invariant) c.requires h

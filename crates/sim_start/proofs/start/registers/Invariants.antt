@@ -1,5 +1,5 @@
 use Rattle.std.proofs.Common.{◌≡◌, ℕ, ◌<◌, length, get_or}
-use Rattle.sim_start.specs.Asked.{start_register}
+use Rattle.sim_start.specs.InitialMachine.{start_register}
 use Rattle.sim_start.proofs.start.registers.Given as goal
 
 abbrev pub invariant-loop-r : goal.invariant-loop-r

@@ -1,7 +1,7 @@
 -- The report of a compilation is the program's.
 use Rattle.std.proofs.Common.{◌≡◌, ℕ, List, sym, subst}
 use Rattle.report_command.proofs.Reported.{compilation_reported}
-use Rattle.report_command.specs.Reported.{IsReportText, compilation_report}
+use Rattle.report_command.specs.ProgramReport.{IsReportText, compilation_report}
 use Rattle.read_program.specs.declared.program.Program.{Program}
 use Rattle.pass_list.specs.declared.kind.PassKind.{PassKind}
 use Rattle.compile_program.specs.declared.compile.Compilation.{Compilation}

@@ -1,6 +1,6 @@
 use Rattle.std.proofs.Common.{◌≡◌, ◌++◌, ◌∷◌, []}
 use Rattle.read_declarations.specs.declared.entry.MappingField.{MappingField}
-use Rattle.read_declarations.specs.Entry.{AreKeys}
+use Rattle.read_declarations.specs.FlowMapping.{AreKeys}
 use Rattle.read_declarations.proofs.Ids.{on_ok}
 use Rattle.read_declarations.proofs.Keys.{keys_more}
 use Rattle.read_declarations.proofs.entry.OpenList.take.Goals as goal

@@ -21,6 +21,6 @@ returns-in-Moves c =
       | inr (inr (inr (inr (inr (inl w))))) ↦ learned_same now w.4 tt known
       | inr (inr (inr (inr (inr (inr (inl w)))))) ↦ learned_same now w.4 tt known
       | inr (inr (inr (inr (inr (inr (inr (inl w))))))) ↦ learned_same now w.1 tt known
-      | inr (inr (inr (inr (inr (inr (inr (inr (inl w)))))))) ↦ learned_same now w tt known
-      | inr (inr (inr (inr (inr (inr (inr (inr (inr w)))))))) ↦ learned_same now w tt known
+      | inr (inr (inr (inr (inr (inr (inr (inr (inl w)))))))) ↦ learned_same now w.1 tt known
+      | inr (inr (inr (inr (inr (inr (inr (inr (inr w)))))))) ↦ learned_same now w.1 tt known
     ]

@@ -1,5 +1,5 @@
 use Rattle.std.proofs.Common.{sym, ap, refl}
-use Rattle.sem_interpreter.specs.Held.{number_in}
+use Rattle.sem_interpreter.specs.Memory.{number_in}
 use Rattle.sem_interpreter.proofs.memory.Memory.new.Goals as goal
 
 pub loop-cell-init : goal.loop-cell-init

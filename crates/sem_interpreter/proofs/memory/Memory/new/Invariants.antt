@@ -1,6 +1,6 @@
 use Rattle.std.proofs.Common.{◌≡◌, ℕ, drop}
 use Rattle.sem_mir.specs.State.{written}
-use Rattle.sem_interpreter.specs.Held.{MemoryHolds}
+use Rattle.sem_interpreter.specs.Memory.{MemoryHolds}
 use Rattle.sem_interpreter.proofs.memory.Memory.new.Given as goal
 
 abbrev pub invariant-loop-cell : goal.invariant-loop-cell

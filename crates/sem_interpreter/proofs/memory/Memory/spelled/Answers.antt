@@ -1,5 +1,5 @@
 use Rattle.std.proofs.Common.{arith}
-use Rattle.sem_interpreter.specs.Held.{number_in}
+use Rattle.sem_interpreter.specs.Memory.{number_in}
 use Rattle.sem_interpreter.proofs.MemoryLoops.{power_small, power_next, spelled_turn}
 use Rattle.sem_interpreter.proofs.memory.Memory.spelled.Goals as goal
 

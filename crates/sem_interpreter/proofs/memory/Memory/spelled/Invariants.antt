@@ -1,6 +1,6 @@
 use Rattle.std.proofs.Common.{◌≡◌, ◌<◌, ◌+◌, ◌-◌, ◌*◌, ◌^◌}
 use Rattle.sem_mir.specs.State.{spelled}
-use Rattle.sem_interpreter.specs.Held.{number_in}
+use Rattle.sem_interpreter.specs.Memory.{number_in}
 use Rattle.sem_interpreter.proofs.memory.Memory.spelled.Given as goal
 
 abbrev pub invariant-loop-i : goal.invariant-loop-i

@@ -1,7 +1,7 @@
 use Rattle.std.proofs.Common.{◌≡◌, ℕ, ◌≤◌, ◌+◌, ◌-◌}
 use Rattle.std.specs.HashMap.{spare}
 use Rattle.sem_mir.specs.State.{stored, low_bytes}
-use Rattle.sem_interpreter.specs.Held.{MemoryHolds}
+use Rattle.sem_interpreter.specs.Memory.{MemoryHolds}
 use Rattle.sem_interpreter.proofs.memory.Memory.store.Given as goal
 
 abbrev pub invariant-loop-k : goal.invariant-loop-k

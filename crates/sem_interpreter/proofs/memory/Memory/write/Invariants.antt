@@ -1,7 +1,7 @@
 use Rattle.std.proofs.Common.{◌≡◌, ℕ, ◌≤◌, ◌-◌, drop, length}
 use Rattle.std.specs.HashMap.{spare}
 use Rattle.sem_mir.specs.State.{written}
-use Rattle.sem_interpreter.specs.Held.{MemoryHolds, some_writes}
+use Rattle.sem_interpreter.specs.Memory.{MemoryHolds, some_writes}
 use Rattle.sem_interpreter.proofs.memory.Memory.write.Given as goal
 
 abbrev pub invariant-loop-write : goal.invariant-loop-write

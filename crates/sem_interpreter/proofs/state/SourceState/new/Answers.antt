@@ -2,7 +2,7 @@ use Rattle.std.proofs.Common.{List, ap, subst, ◌∙◌}
 use Rattle.mir_func.specs.declared.object.Object.{Object}
 use Rattle.mir_func.specs.Sound.{LastCloses}
 use Rattle.mir_func.specs.Function.{Function}
-use Rattle.sem_mir.specs.Follow.{first_of}
+use Rattle.sem_mir.specs.InitialState.{first_of}
 use Rattle.sem_interpreter.specs.Acts.{StartsMachine}
 use Rattle.sem_interpreter.proofs.Stepping.{starts_stands, first_position}
 use Rattle.sem_interpreter.proofs.state.SourceState.new.Goals as goal

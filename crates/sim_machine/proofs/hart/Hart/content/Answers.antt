@@ -2,7 +2,7 @@ use Rattle.std.proofs.Common.{◌≡◌, ℕ, ◌+◌, ◌%◌, ◌^◌, sym, ap
 use Rattle.rv64_instr.specs.declared.place.Place.{Place}
 use Rattle.sem_mir.specs.State.{spelled}
 use Rattle.sem_machine.specs.Machine.{address_of, place_content}
-use Rattle.sem_interpreter.specs.Held.{number_in}
+use Rattle.sem_interpreter.specs.Memory.{number_in}
 use Rattle.sim_machine.proofs.hart.Hart.content.Goals as goal
 
 pub returns-in-Slot : goal.returns-in-Slot

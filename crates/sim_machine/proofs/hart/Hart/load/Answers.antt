@@ -3,7 +3,7 @@ use Rattle.rv64_instr.specs.Arithmetic.{extended, load_width}
 use Rattle.sem_mir.specs.State.{spelled}
 use Rattle.sem_machine.specs.Machine.{address_of}
 use Rattle.sem_machine.specs.MachineStep.{does_row}
-use Rattle.sem_interpreter.specs.Held.{number_in}
+use Rattle.sem_interpreter.specs.Memory.{number_in}
 use Rattle.sim_machine.proofs.Rows.{sets}
 use Rattle.sim_machine.proofs.hart.Hart.load.Goals as goal
 

@@ -3,7 +3,7 @@ use Rattle.rv64_instr.specs.Arithmetic.{store_width}
 use Rattle.sem_mir.specs.State.{low_bytes, stored}
 use Rattle.sem_machine.specs.Machine.{register, address_of}
 use Rattle.sem_machine.specs.MachineStep.{does_row, past, store}
-use Rattle.sem_interpreter.specs.Held.{MemoryHolds}
+use Rattle.sem_interpreter.specs.Memory.{MemoryHolds}
 use Rattle.sim_machine.proofs.Rows.{stores}
 use Rattle.sim_machine.proofs.hart.Hart.store.Goals as goal
 
@@ -21,5 +21,5 @@ returns-clause-ok c = λ s h.
     record {
       to = past 4 (store address (low_bytes width value) s);
       goes = refl;
-      stands = stores c.args.self.now _ s address (low_bytes width value) h refl refl refl refl refl m;
+      stands = stores c.args.self.now _ s address (low_bytes width value) h refl refl refl refl refl refl m;
     }

@@ -1,5 +1,0 @@
-use Rattle.dataflow.proofs.Sweeps.{order_permuted}
-use Rattle.dataflow.proofs.fixpoint.turn_round.Goals as goal
-
-pub returns : goal.returns
-returns c = λ blocks o. order_permuted blocks _ _ c.reverse.ensures.permutation o

@@ -1,0 +1,5 @@
+use Rattle.std.proofs.Common.{refl}
+use Rattle.rv64_instr.proofs.decoded.calls_held.Goals as goal
+
+pub returns : goal.returns
+returns c = λ args. (_, refl, refl)
