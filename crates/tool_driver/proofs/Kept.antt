@@ -15,7 +15,7 @@ use Rattle.compile_theorem.proofs.IsExact.{compiled_is_exact}
 use Rattle.compile_theorem.proofs.LaidOut.{compiled_is_laid_out, compiled_lists_passed}
 use Rattle.compile_program.specs.Program.{sources_of, IsOutputOf, names_of}
 use Rattle.tool_driver.specs.Compiled.{plan_steps}
-use Rattle.tool_driver.specs.Promise.{AllGiveBack, AllStopWell, AllListKept}
+use Rattle.tool_driver.specs.FurtherPromises.{AllGiveBack, AllStopWell, AllListKept}
 use Rattle.tool_driver.specs.Run.{Finishes, KeepsHeadline, KeepsRegisters, StopsAtReturns, WroteExactly, WroteLaidOut}
 use Rattle.tool_driver.specs.Run.{WroteKept, WroteWords, ShowsPassed, WrotePassed, WroteFrameSection, KeepsPromises}
 use Rattle.tool_driver.specs.Stream.{Change}

@@ -18,7 +18,7 @@ use Rattle.compile_program.specs.Program.{sources_of, IsOutputOf, names_of}
 use Rattle.compile_program.proofs.Passed.{all_passed, passed_sources}
 use Rattle.read_proof.specs.Read.{IsReadProgram}
 use Rattle.tool_driver.specs.Compiled.{IsCompiledText}
-use Rattle.tool_driver.specs.Promise.{AllGiveBack, AllStopWell, ListsKept, AllListKept}
+use Rattle.tool_driver.specs.FurtherPromises.{AllGiveBack, AllStopWell, ListsKept, AllListKept}
 
 -- ---- the sources
 

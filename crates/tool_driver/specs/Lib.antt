@@ -1,6 +1,6 @@
 pub mod Limits
 pub mod Compiled
-pub mod Promise
+pub mod FurtherPromises
 pub mod Lines
 pub mod Stream
 pub mod Answer

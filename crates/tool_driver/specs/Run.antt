@@ -26,7 +26,7 @@ use Rattle.compile_theorem.specs.Words.{HaveWords}
 use Rattle.object_command.specs.Object.{IsObjectOf}
 use Rattle.compile_program.specs.Program.{sources_of, ArePassed, HasSections, IsMadeBy, IsOutputOf, names_of}
 use Rattle.tool_driver.specs.Lines.{GivesLines}
-use Rattle.tool_driver.specs.Promise.{AllGiveBack, AllStopWell, AllListKept}
+use Rattle.tool_driver.specs.FurtherPromises.{AllGiveBack, AllStopWell, AllListKept}
 use Rattle.tool_driver.specs.Stream.{Change, IsUnread, IsReadWhole, IsWrittenWhole, IsWrittenInPart}
 
 -- the words are a command
