@@ -18,7 +18,10 @@ CRATES = os.path.join(TOP, "crates")
 PAGE = os.path.join(TOP, "docs", "DEFINITIONS.md")
 CALL = ("tool_driver", "driver", "mirdwarf")
 NAME = re.compile(r"(?<![\w.'])[A-Za-z_][\w']*")
-USE = re.compile(r"^\s*(?:pub )?(?:ghost )?use Rattle\.([a-z0-9_]+)\.specs\.([\w.]+)\.\{([^}]*)\}", re.M)
+DOTTED = re.compile(r"(?<![\w.'])[a-z]\w*\.[A-Za-z_][\w']*")
+USE = re.compile(r"^\s*(?:pub )?(?:ghost )?use Rattle\.([a-z0-9_]+)\.(specs|proofs)\.([\w.]+)\.\{([^}]*)\}", re.M)
+# A whole module under a name of its own, and what is named of it.
+MODULE = re.compile(r"^\s*(?:pub )?(?:ghost )?use Rattle\.([a-z0-9_]+)\.(specs|proofs)\.([\w.]+) as ([a-z]\w*)$", re.M)
 HEAD = re.compile(r"^( *)(?:(?:abbrev|unfoldable)(?: pub)?|(?:pub )?(?:record|data)) (◌\S+◌|[A-Za-z_][\w']*)")
 MARKS = "<!-- made by bench/definitions.py -->", "<!-- end -->"
 
@@ -34,18 +37,32 @@ def text_of(*parts):
 def names_in(text):
     """The names in a definition's text, without its comments and its texts in quotes; an operator with the places of what stands beside it."""
     text = re.sub(r'--.*|//.*|"[^"]*"', "", text)
-    return set(NAME.findall(text)) | {f"◌{it}◌" for it in text.split()}
+    return set(NAME.findall(text)) | set(DOTTED.findall(text)) | {f"◌{it}◌" for it in text.split()}
 
 
 def uses_in(text):
     """Of each name that a file imports: the crate, the module and the name there."""
     found = {}
-    for crate, module, names in USE.findall(text):
+    for crate, room, module, names in USE.findall(text):
         for name in names.split(","):
             words = name.split()
             if words:
-                found[words[-1]] = (crate, module, words[0])
+                found[words[-1]] = (crate, at(room, module), words[0])
+    for crate, room, module, short in MODULE.findall(text):
+        for name in [] if module.startswith("declared.") else re.findall(r"(?<![\w.'])%s\.([A-Za-z_][\w']*)" % short, text):
+            found[f"{short}.{name}"] = (crate, at(room, module), name)
     return found
+
+
+def at(room, module):
+    """A module's name here: one of `proofs` with its room before it."""
+    return module if room == "specs" else f"proofs/{module}"
+
+
+def path_of(crate, module):
+    """The file of a module."""
+    room, _, module = module.rpartition("/")
+    return f"{crate}/{room or 'specs'}/{module.replace('.', '/')}.antt"
 
 
 class File:
@@ -61,7 +78,7 @@ class File:
             if head:
                 name, given = head[2], given if head[1] else ""
                 self.parts[name] = self.parts.get(name, "") + given
-            elif line.lstrip().startswith(("use ", "pub use ", "infix", "module ")):
+            elif line.lstrip().startswith(("use ", "pub use ", "infix", "module ")) or re.match(r"(pub )?[A-Za-z_][\w'’-]* :", line) and name and not line.startswith(name):
                 # What a module is given, each of its definitions has.
                 name, given = None, line + "\n" if line.startswith("module ") else given
             if name:
@@ -73,7 +90,7 @@ FILES = {}
 
 def home_of(crate, module):
     """Where a module stands that a crate may only hand on."""
-    while text_of(crate, "specs", module.replace(".", "/") + ".antt") is None:
+    while text_of(path_of(crate, module)) is None:
         first = module.split(".")[0] if not module.startswith("declared.") else module
         handed = re.search(r"^pub use Rattle\.([a-z0-9_]+)\.specs\.((?:[\w.]*\.)?%s)$" % re.escape(first), text_of(crate, "specs", "Lib.antt") or "", re.M)
         if not handed:
@@ -84,7 +101,7 @@ def home_of(crate, module):
 
 def file_of(crate, module):
     if (crate, module) not in FILES:
-        text = text_of(crate, "specs", module.replace(".", "/") + ".antt")
+        text = text_of(path_of(crate, module))
         FILES[crate, module] = text is not None and File(text)
     return FILES[crate, module]
 
@@ -125,7 +142,7 @@ def closure():
             continue
         file = file_of(crate, module)
         if not file:
-            sys.exit(f"{crate}/specs/{module} isn't there")
+            sys.exit(f"{path_of(crate, module)} isn't there")
         if name not in file.parts:
             if name in file.uses:
                 waits.append((file.uses, name))
@@ -154,7 +171,7 @@ def table_of(found):
         "", "| file | definitions | what it has |", "|---|---|---|"]
     for (crate, module), names in sorted(files.items()):
         head = file_of(crate, module).head.split(". ")[0].rstrip(".").replace("|", "\\|")
-        lines.append(f"| `{crate}/specs/{module.replace('.', '/')}.antt` | {len(names)} | {head} |")
+        lines.append(f"| `{path_of(crate, module)}` | {len(names)} | {head} |")
     return lines, files
 
 
@@ -167,14 +184,14 @@ def part(page, number):
 def told(text):
     """The crates and the files that the entries of a part of the page tell of."""
     entries = re.findall(r"^\*\*[^*\n]+\*\* \(([^)]*)\)", text, re.M)
-    return [path for it in entries for path in re.findall(r"`([a-z0-9_]+/specs/[\w/]*(?:\.antt)?)`", it)]
+    return [path for it in entries for path in re.findall(r"`([a-z0-9_]+/(?:specs|proofs)/[\w/]*(?:\.antt)?)`", it)]
 
 
 def main():
     found = closure()
     if "--list" in sys.argv[1:]:
         for crate, module, name in sorted(found):
-            print(f"{crate}/specs/{module.replace('.', '/')} {name}")
+            print(f"{path_of(crate, module)} {name}")
         return
     lines, files = table_of(found)
     with open(PAGE, encoding="utf-8") as it:
@@ -188,7 +205,7 @@ def main():
             it.write(page)
         old = made
     faults = [] if old == made else ["the table of part 1 isn't what the contract says: bench/definitions.py --write"]
-    paths = {f"{crate}/specs/{module.replace('.', '/')}.antt" for crate, module in files}
+    paths = {path_of(crate, module) for crate, module in files}
     meant = [path for path in told(part(page, 1))]
     faults += [f"part 1 doesn't tell of {it}" for it in sorted({path.split("/")[0] for path in paths} - {path.split("/")[0] for path in meant})]
     for number in (1, 2, 3):
