@@ -3,33 +3,41 @@
 use cli::fault::Fault;
 use cli::status::Status;
 use cli_numbers::text::reserve_list;
+use std::alloc::Global;
 
-#[test]
-fn faults_tell(rt: HostRuntime) {
-    for (fault, line, name, status, number) in [
-        (Fault::Memory, None, "memory", Status::Memory, 3),
-        (
-            Fault::SectionTooLarge,
-            Some(0),
-            "SectionTooLarge",
-            Status::Refused,
-            1,
-        ),
-    ] {
-        assert_eq!(rt; fault.input_line(), line);
-        assert_eq!(rt; fault.name(), name);
-        assert_eq!(rt; fault.status(), status);
-        assert_eq!(rt; status.number(), number);
+/// Whether a fault is told with this line and name, and a run with it ends with this status, of this number.
+fn is_told(fault: Fault, line: Option<u32>, name: &str, status: Status, number: u8) -> bool {
+    fault.input_line() == line
+        && fault.name() == name
+        && fault.status() == status
+        && status.number() == number
+}
+
+/// Whether the registers of a reserve are these, in their order.
+fn is_reserve(alloc: Global, text: &str, numbers: &[u32]) -> bool {
+    let Ok(Some(registers)) = reserve_list(alloc, text) else {
+        return false;
+    };
+    for (register, number) in registers.as_slice().iter().zip(numbers) {
+        if register.number() != *number {
+            return false;
+        }
     }
+    registers.len() == numbers.len()
 }
 
 #[test]
-fn a_reserve_has_the_order_of_its_text(rt: HostRuntime) {
-    let Ok(Some(registers)) = reserve_list(rt.alloc(), "x27,x9,x18") else {
-        panic!(rt; "no reserve");
-    };
-    assert_eq!(rt; registers.len(), 3);
-    for (register, number) in registers.as_slice().iter().zip([27, 9, 18]) {
-        assert_eq!(rt; register.number(), number);
-    }
+fn faults_and_reserves(rt: HostRuntime) {
+    let (memory, refused) = (Status::Memory, Status::Refused);
+    assert!(rt; is_told(Fault::Memory, None, "memory", memory, 3));
+    assert!(rt;
+        is_told(
+            Fault::SectionTooLarge,
+            Some(0),
+            "SectionTooLarge",
+            refused,
+            1
+        )
+    );
+    assert!(rt; is_reserve(rt.alloc(), "x27,x9,x18", &[27, 9, 18]));
 }

@@ -17,10 +17,9 @@ use rv64_instr::reg::physical;
 use rv64_word::lowering::{lower, object_named};
 use rv64_word::machine_op::encode;
 use std::alloc::Global;
-use std::process::Abort;
 
 /// An operation on registers, their contents, and what it gives.
-const RESULTS: [(RegisterOp, u64, u64, u64); 15] = [
+const RESULTS: &[(RegisterOp, u64, u64, u64)] = &[
     (Add, 0xffff_ffff_ffff_ffff, 2, 1),
     (Sub, 0, 1, 0xffff_ffff_ffff_ffff),
     (Sll, 1, 65, 2),
@@ -38,27 +37,44 @@ const RESULTS: [(RegisterOp, u64, u64, u64); 15] = [
     (Sraw, 0x8000_0000, 31, 0xffff_ffff_ffff_ffff),
 ];
 
+/// Mnemonics, and the opcodes that have them.
+const NAMES: &[(&[u8], Option<Op>)] = &[
+    (b"SRAIW", Some(Op::Immediate(Sraiw))),
+    (b"AUIPC", None),
+    (b"PseudoTAILIndirect", Some(TAIL_BY)),
+    (b"noreturn PseudoCALL", Some(Op::NoReturnCall)),
+    (b"noreturn", None),
+];
+
+/// The number of the first row whose operation gives something else.
+fn other_result(rows: &[(RegisterOp, u64, u64, u64)]) -> Option<usize> {
+    for (row, (op, a, b, wanted)) in rows.iter().enumerate() {
+        if compute(*op, *a, *b) != *wanted {
+            return Some(row);
+        }
+    }
+    None
+}
+
+/// The number of the first row whose mnemonic is another opcode's.
+fn other_name(rows: &[(&[u8], Option<Op>)]) -> Option<usize> {
+    for (row, (name, wanted)) in rows.iter().enumerate() {
+        if Op::from_mnemonic(name) != *wanted {
+            return Some(row);
+        }
+    }
+    None
+}
+
 #[test]
 fn arithmetic_of_the_standard(rt: HostRuntime) {
-    for (op, a, b, wanted) in RESULTS {
-        assert_eq!(rt; compute(op, a, b), wanted, "{op:?}");
-    }
-    assert!(rt; is_taken(Blt, u64::MAX, 0));
-    assert!(rt; is_taken(Bgeu, u64::MAX, 0));
-    assert_eq!(rt; extend(Lb, 0x80), 0xffff_ffff_ffff_ff80);
-    assert_eq!(rt; extend(Lhu, 0x8000), 0x8000);
-    assert_eq!(rt; Op::from_mnemonic(b"SRAIW"), Some(Op::Immediate(Sraiw)));
-    assert_eq!(rt; Op::from_mnemonic(b"AUIPC"), None);
-    assert_eq!(rt; Op::from_mnemonic(b"PseudoTAILIndirect"), Some(TAIL_BY));
-    assert_eq!(rt;
-        Op::from_mnemonic(b"noreturn PseudoCALL"),
-        Some(Op::NoReturnCall)
-    );
-    assert_eq!(rt; Op::from_mnemonic(b"noreturn"), None);
+    assert_eq!(rt; other_result(RESULTS), None);
+    assert!(rt; is_taken(Blt, u64::MAX, 0) && is_taken(Bgeu, u64::MAX, 0));
+    assert!(rt; extend(Lb, 0x80) == 0xffff_ffff_ffff_ff80 && extend(Lhu, 0x8000) == 0x8000);
+    assert_eq!(rt; other_name(NAMES), None);
 }
 
 /// An operand by its number, or a call's.
-#[derive(Clone, Copy)]
 enum Part {
     Def(u32),
     Use(u32),
@@ -73,15 +89,15 @@ enum Part {
 
 use Part::*;
 
-fn operand(alloc: Global, part: Part) -> Option<Operand> {
+fn operand(alloc: Global, part: &Part) -> Option<Operand> {
     match part {
-        Def(n) => Some(Operand::Def(physical(n)?)),
-        Use(n) => Some(Operand::Use(physical(n)?)),
-        Takes(n) => Some(Operand::ImplicitUse(physical(n)?)),
-        Imm(i) => Some(Operand::Imm(i)),
-        Slot(n) => Some(Operand::Slot(SlotId(n))),
-        Object(n) => Some(Operand::Object(ObjectId(n))),
-        Block(n) => Some(Operand::Block(BlockId(n))),
+        Def(n) => Some(Operand::Def(physical(*n)?)),
+        Use(n) => Some(Operand::Use(physical(*n)?)),
+        Takes(n) => Some(Operand::ImplicitUse(physical(*n)?)),
+        Imm(i) => Some(Operand::Imm(*i)),
+        Slot(n) => Some(Operand::Slot(SlotId(*n))),
+        Object(n) => Some(Operand::Object(ObjectId(*n))),
+        Block(n) => Some(Operand::Block(BlockId(*n))),
         Symbol => Some(Operand::Symbol(List::new(alloc))),
         Mask => Some(Operand::Mask),
     }
@@ -90,7 +106,7 @@ fn operand(alloc: Global, part: Part) -> Option<Operand> {
 fn operands(alloc: Global, parts: &[Part]) -> Option<Operands> {
     let mut operands = Operands::new(alloc);
     for part in parts {
-        operands.push(operand(alloc, *part)?).ok()?;
+        operands.push(operand(alloc, part)?).ok()?;
     }
     Some(operands)
 }
@@ -139,7 +155,7 @@ const GONE_BY: Op = Op::NoReturnCallIndirect;
 /// An opcode, its operands, the target's offset, the stack object's offset, and the word that `llvm-mc` of LLVM 14
 /// writes for the instruction, or 0 where an offset is out of range, and for what goes to a function of a name, which
 /// has no one word.
-const ROWS: [(Op, &[Part], i64, u32, u32); 36] = [
+const ROWS: &[(Op, &[Part], i64, u32, u32)] = &[
     (ADD, &[Def(5), Use(6), Use(7)], 0, 0, 0x007302b3),
     (ADDI, &[Def(11), Use(12), Imm(-2048)], 0, 0, 0x80060593),
     (ADDI, &[Def(11), Object(3), Imm(-8)], 0, 2055, 0x7ff10593),
@@ -194,29 +210,24 @@ fn lowered(
     Some((word, object_named(&instr)))
 }
 
+/// The first word of a row that isn't that of its instruction, or whose instruction names another object.
+fn other_word(alloc: Global, rows: &[(Op, &[Part], i64, u32, u32)]) -> Option<u32> {
+    for (op, parts, offset, object, word) in rows {
+        if lowered(alloc, *op, parts, *offset, *object) != Some((*word, object_in(parts))) {
+            return Some(*word);
+        }
+    }
+    None
+}
+
 #[test]
 fn words_of_instructions(rt: HostRuntime) {
-    for (op, parts, offset, object, word) in ROWS {
-        let found = lowered(rt.alloc(), op, parts, offset, object);
-        assert!(rt; found == Some((word, object_in(parts))), "{word:#x}");
-    }
-}
-
-fn register(rt: &impl Abort, n: u32) -> Place {
-    Place::Register(physical(n).expect(rt, "a register"))
-}
-
-/// A call with an argument in x10.
-fn is_call(rt: &impl Abort, call: &Instr) {
-    assert!(rt; call.effect().call);
-    assert!(rt; call.uses(register(rt, 10)));
-    assert!(rt; call.defines(register(rt, 1)));
-    assert!(rt; !call.defines(register(rt, 8)));
+    assert_eq!(rt; other_word(rt.alloc(), ROWS), None);
 }
 
 /// An opcode, operands, and whether they have its form. The callee of a call in tail position is in a register that the
 /// epilogue leaves alone, and so is what it passes; x2 is no callee.
-const FORMS: [(Op, &[Part], bool); 12] = [
+const FORMS: &[(Op, &[Part], bool)] = &[
     (CALL_BY, &[Takes(8), Mask, Takes(9)], true),
     (CALL_BY, &[Takes(2), Mask], false),
     (CALL_BY, &[Takes(8)], false),
@@ -231,18 +242,44 @@ const FORMS: [(Op, &[Part], bool); 12] = [
     (GONE_BY, &[Takes(10), Takes(11)], false),
 ];
 
-#[test]
-fn forms_of_calls(rt: HostRuntime) {
-    for (op, parts, fits) in FORMS {
-        assert_eq!(rt; made(rt.alloc(), op, parts).is_some(), fits, "{op:?}");
+/// The number of the first row whose operands fit where they shouldn't, or don't where they should.
+fn other_form(alloc: Global, rows: &[(Op, &[Part], bool)]) -> Option<usize> {
+    for (row, (op, parts, fits)) in rows.iter().enumerate() {
+        if made(alloc, *op, parts).is_some() != *fits {
+            return Some(row);
+        }
+    }
+    None
+}
+
+/// A call with an argument in x10.
+const CALL: &[Part] = &[Symbol, Mask, Takes(10)];
+
+/// Whether an instruction is that call.
+fn is_call(call: &Instr) -> bool {
+    let (Some(x1), Some(x8), Some(x10)) = (physical(1), physical(8), physical(10)) else {
+        return false;
+    };
+    call.effect().call
+        && call.uses(Place::Register(x10))
+        && call.defines(Place::Register(x1))
+        && !call.defines(Place::Register(x8))
+}
+
+/// How many operands a copy of the call has, where both are that call.
+fn copied_operands(alloc: Global) -> Option<usize> {
+    let call = made(alloc, Op::PseudoCall, CALL)?;
+    let copied = call.copy().ok()?;
+    let operands = call.operands.copy().ok()?;
+    if is_call(&call) && is_call(&copied) {
+        Some(operands.as_slice().len())
+    } else {
+        None
     }
 }
 
 #[test]
-fn a_call_and_its_copy(rt: HostRuntime) {
-    let call = made(rt.alloc(), Op::PseudoCall, &[Symbol, Mask, Takes(10)]).expect(&rt, "a call");
-    is_call(&rt, &call);
-    is_call(&rt, &call.copy().expect(&rt, "memory"));
-    let operands = call.operands.copy().expect(&rt, "memory");
-    assert_eq!(rt; operands.as_slice().len(), 3);
+fn forms_of_calls(rt: HostRuntime) {
+    assert_eq!(rt; other_form(rt.alloc(), FORMS), None);
+    assert_eq!(rt; copied_operands(rt.alloc()), Some(3));
 }

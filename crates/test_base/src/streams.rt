@@ -12,53 +12,94 @@ use base_io::source::Source;
 use base_io::std_sink::StdSink;
 use base_io::std_source::StdSource;
 use base_io::writing::write_all;
-use std::alloc::Global;
+use std::alloc::{AllocError, Global};
 use std::io;
 use std::io::{ErrorKind, Read, Write};
-use std::process::Abort;
+use std::test::Fail;
 
-fn source(rt: &impl Abort, alloc: Global, bytes: &[u8], fails: &[u64]) -> MemorySource {
-    let bytes = Bytes::from_slice(alloc, bytes).expect(rt, "memory");
-    let fails = CallNumbers::from_slice(alloc, fails).expect(rt, "memory");
-    MemorySource::new(bytes, fails)
+/// How many bytes a piece has, the answer, and what the piece holds then, which was four dots.
+type ReadRow = (usize, Result<usize, Failed>, &'static [u8]);
+
+/// The calls of a source over `hello` whose second and fourth call fail.
+const READS: &[ReadRow] = &[
+    (2, Ok(2), b"he"),
+    (2, Err(Failed), b".."),
+    (2, Ok(2), b"ll"),
+    (2, Err(Failed), b".."),
+    (4, Ok(1), b"o..."),
+    (4, Ok(0), b"...."),
+];
+
+/// A piece, the answer, and what is written behind it.
+type WriteRow = (&'static [u8], Result<usize, Failed>, &'static [u8]);
+
+/// The calls of a sink with room for four bytes whose second call fails.
+const WRITES: &[WriteRow] = &[
+    (b"ab", Ok(2), b"ab"),
+    (b"cd", Err(Failed), b"ab"),
+    (b"", Ok(0), b"ab"),
+    (b"cde", Ok(2), b"abcd"),
+    (b"e", Err(Failed), b"abcd"),
+    (b"", Ok(0), b"abcd"),
+];
+
+fn source(alloc: Global, bytes: &[u8], fails: &[u64]) -> Result<MemorySource, AllocError> {
+    let bytes = Bytes::from_slice(alloc, bytes)?;
+    let fails = CallNumbers::from_slice(alloc, fails)?;
+    Ok(MemorySource::new(bytes, fails))
 }
 
-fn sink(rt: &impl Abort, alloc: Global, room: usize, fails: &[u64]) -> MemorySink {
-    let fails = CallNumbers::from_slice(alloc, fails).expect(rt, "memory");
-    MemorySink::new(alloc, room, fails).expect(rt, "memory")
+fn sink(alloc: Global, room: usize, fails: &[u64]) -> Result<MemorySink, AllocError> {
+    let fails = CallNumbers::from_slice(alloc, fails)?;
+    MemorySink::new(alloc, room, fails)
+}
+
+/// Whether the next call of a source gives this.
+fn is_read(input: &mut MemorySource, row: &ReadRow) -> bool {
+    let (size, answer, filled) = *row;
+    let mut buf = [b'.'; 4];
+    if size > 4 {
+        return false;
+    }
+    let piece = &mut buf[..size];
+    let found = input.read(piece);
+    found == answer && &*piece == filled
+}
+
+/// The number of the first call that gives something else.
+fn other_read(input: &mut MemorySource, rows: &[ReadRow]) -> Option<usize> {
+    for (call, row) in rows.iter().enumerate() {
+        if !is_read(input, row) {
+            return Some(call);
+        }
+    }
+    None
+}
+
+/// Whether the next call of a sink gives this.
+fn is_written(output: &mut MemorySink, row: &WriteRow) -> bool {
+    let (piece, answer, written) = *row;
+    let found = output.write(piece);
+    found == answer && output.written() == written
+}
+
+/// The number of the first call that gives something else.
+fn other_write(output: &mut MemorySink, rows: &[WriteRow]) -> Option<usize> {
+    for (call, row) in rows.iter().enumerate() {
+        if !is_written(output, row) {
+            return Some(call);
+        }
+    }
+    None
 }
 
 #[test]
-fn pieces_and_planned_faults(rt: HostRuntime) {
-    let mut input = source(&rt, rt.alloc(), b"hello", &[2, 4]);
-    let rows: [(usize, Result<usize, Failed>, &[u8]); 6] = [
-        (2, Ok(2), b"he"),
-        (2, Err(Failed), b".."),
-        (2, Ok(2), b"ll"),
-        (2, Err(Failed), b".."),
-        (4, Ok(1), b"o..."),
-        (4, Ok(0), b"...."),
-    ];
-    for (size, answer, filled) in rows {
-        let mut buf = [b'.'; 4];
-        assert!(rt; size <= 4);
-        let piece = &mut buf[..size];
-        assert_eq!(rt; input.read(piece), answer);
-        assert_eq!(rt; &*piece, filled);
-    }
-    let mut output = sink(&rt, rt.alloc(), 4, &[2]);
-    let rows: [(&[u8], Result<usize, Failed>, &[u8]); 6] = [
-        (b"ab", Ok(2), b"ab"),
-        (b"cd", Err(Failed), b"ab"),
-        (b"", Ok(0), b"ab"),
-        (b"cde", Ok(2), b"abcd"),
-        (b"e", Err(Failed), b"abcd"),
-        (b"", Ok(0), b"abcd"),
-    ];
-    for (piece, answer, written) in rows {
-        assert_eq!(rt; output.write(piece), answer);
-        assert_eq!(rt; output.written(), written);
-    }
+fn pieces_and_planned_faults(rt: HostRuntime) -> Result<(), Fail> {
+    let mut input = source(rt.alloc(), b"hello", &[2, 4])?;
+    assert_eq!(rt; other_read(&mut input, READS), None);
+    let mut output = sink(rt.alloc(), 4, &[2])?;
+    assert_eq!(rt; other_write(&mut output, WRITES), None);
+    Ok(())
 }
 
 /// A reader that gives a byte a call, counting down to 1, and fails at one of its calls.
@@ -108,38 +149,46 @@ impl Write for Drip {
     }
 }
 
+/// The bytes that are read of a countdown from 3, of which one call fails.
+fn read_with_fault(alloc: Global, calls_to_fault: u8) -> Result<Bytes, ReadError> {
+    let mut input = StdSource::new(Countdown {
+        left: 3,
+        calls_to_fault,
+    });
+    read_all(alloc, &mut input, 3)
+}
+
+/// Whether `hello` is written to a writer with this room with this answer, and this is what it takes.
+fn is_taken(
+    alloc: Global,
+    room: usize,
+    fails: bool,
+    answer: Result<(), Failed>,
+    taken: &[u8],
+) -> bool {
+    let mut drip = Drip {
+        taken: Vec::new(alloc),
+        room,
+        fails,
+    };
+    let found = write_all(&mut StdSink::new(&mut drip), b"hello");
+    found == answer && drip.taken.as_slice() == taken
+}
+
 #[test]
 fn the_standard_library_passes_bytes_and_faults_on(rt: HostRuntime) {
+    let alloc = rt.alloc();
     // The third read fails, or none does.
-    let rows: [(u8, Result<&[u8], ReadError>); 2] = [
-        (2, Err(ReadError::Failed)),
-        (9, Ok(&[3, 2, 1])),
-    ];
-    for (calls_to_fault, wanted) in rows {
-        let mut input = StdSource::new(Countdown {
-            left: 3,
-            calls_to_fault,
-        });
-        match read_all(rt.alloc(), &mut input, 3) {
-            Ok(read) => assert_eq!(rt; Ok(read.as_slice()), wanted),
-            Err(e) => assert_eq!(rt; Err(e), wanted),
-        }
+    assert!(rt; matches!(read_with_fault(alloc, 2), Err(ReadError::Failed)));
+    match read_with_fault(alloc, 9) {
+        Ok(read) => assert!(rt; read.as_slice() == [3, 2, 1].as_slice()),
+        Err(_) => assert!(rt; false),
     }
-    let rows: [(usize, bool, Result<(), Failed>, &[u8]); 3] = [
-        (5, true, Ok(()), b"hello"),
-        (3, true, Err(Failed), b"hel"),
-        (3, false, Err(Failed), b"hel"),
-    ];
-    for (room, fails, answer, taken) in rows {
-        let mut drip = Drip {
-            taken: Vec::new(rt.alloc()),
-            room,
-            fails,
-        };
-        assert_eq!(rt; write_all(&mut StdSink::new(&mut drip), b"hello"), answer);
-        assert_eq!(rt; drip.taken.as_slice(), taken);
-    }
-    let mut bytes = Vec::new(rt.alloc());
-    assert_eq!(rt; write_all(&mut StdSink::new(&mut bytes), b"hello"), Ok(()));
-    assert_eq!(rt; bytes.as_slice(), b"hello".as_slice());
+    assert!(rt; is_taken(alloc, 5, true, Ok(()), b"hello"));
+    assert!(rt; is_taken(alloc, 3, true, Err(Failed), b"hel"));
+    assert!(rt; is_taken(alloc, 3, false, Err(Failed), b"hel"));
+    let mut bytes = Vec::new(alloc);
+    let written = write_all(&mut StdSink::new(&mut bytes), b"hello");
+    assert!(rt; written == Ok(()));
+    assert!(rt; bytes.as_slice() == b"hello".as_slice());
 }
