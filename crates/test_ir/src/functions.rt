@@ -1,14 +1,14 @@
 //! Soundness and control flow of functions; parts of variables; substitutions.
 
 use crate::build::{entries, entry, function, pair};
-use base_ids::function_ids::BlockId;
+use mir_func::debug_substitution::OperandPair;
 use mir_func::func::{Func, FuncError};
 use mir_func::object::{counted, next_end, place_of, reach_after, up_to};
 use mir_func::successors::Successors;
 use mir_func::variable::Fragment;
 use mir_substitution::substitutions::Substitutions;
 use std::alloc::{AllocError, Global};
-use std::process::Abort;
+use std::test::Fail;
 
 /// A function of three blocks, of which the second is a loop.
 const SOUND: &str = "slots 0 0
@@ -37,7 +37,7 @@ fn changed(alloc: Global, from: &str, to: &str) -> Option<Result<Func, FuncError
 }
 
 /// What stands in the text, what stands there instead, and whether the function is sound then.
-const ROWS: [(&str, &str, bool); 40] = [
+const ROWS: &[(&str, &str, bool)] = &[
     ("bb 0", "bb 0", true),
     ("bb 2\n", "bb 1\n", false),
     ("slots 0 0", "slots 3 3", false),
@@ -121,89 +121,109 @@ fn is_sound(alloc: Global, from: &str, to: &str) -> Option<bool> {
     }
 }
 
-#[test]
-fn only_sound_functions_are_made(rt: HostRuntime) {
-    for (from, to, wanted) in ROWS {
-        assert!(rt; is_sound(rt.alloc(), from, to) == Some(wanted), "{to}");
+/// The number of the first row whose function is sound where it shouldn't be, or isn't where it should.
+fn other_soundness(alloc: Global, rows: &[(&str, &str, bool)]) -> Option<usize> {
+    for (row, (from, to, wanted)) in rows.iter().enumerate() {
+        if is_sound(alloc, from, to) != Some(*wanted) {
+            return Some(row);
+        }
+    }
+    None
+}
+
+/// The texts of blocks in place of others, a block's index, and the blocks where control may go from it.
+const WAYS: &[(&str, &str, usize, &[u32])] = &[
+    ("bb 0", "bb 0", 0, &[1]),
+    ("bb 0", "bb 0", 1, &[1, 2]),
+    ("bb 0", "bb 0", 2, &[]),
+    ("bb 2", "bb 100\nPseudoBR to:1\nbb 2", 1, &[1, 100]),
+    ("bb 2", "bb 100\nPseudoBR to:1\nbb 2", 2, &[1]),
+    ("bb 2", "PseudoBR to:0\nbb 2", 1, &[1, 0]),
+];
+
+/// Whether successors have these numbers.
+fn are_numbered(found: Successors, wanted: &[u32]) -> bool {
+    match found {
+        Successors::Nowhere => wanted.is_empty(),
+        Successors::One(b) => wanted == [b.number()].as_slice(),
+        Successors::Two(a, b) => wanted == [a.number(), b.number()].as_slice(),
     }
 }
 
-/// The texts of blocks in place of others, a block's index, and where control may go from it.
-const WAYS: [(&str, &str, usize, Successors); 6] = [
-    ("bb 0", "bb 0", 0, Successors::One(BlockId(1))),
-    ("bb 0", "bb 0", 1, Successors::Two(BlockId(1), BlockId(2))),
-    ("bb 0", "bb 0", 2, Successors::Nowhere),
-    (
-        "bb 2",
-        "bb 100\nPseudoBR to:1\nbb 2",
-        1,
-        Successors::Two(BlockId(1), BlockId(100)),
-    ),
-    (
-        "bb 2",
-        "bb 100\nPseudoBR to:1\nbb 2",
-        2,
-        Successors::One(BlockId(1)),
-    ),
-    (
-        "bb 2",
-        "PseudoBR to:0\nbb 2",
-        1,
-        Successors::Two(BlockId(1), BlockId(0)),
-    ),
-];
-
-fn successors(alloc: Global, from: &str, to: &str, index: usize) -> Option<Successors> {
+/// Whether control may go from a block to these.
+fn has_successors(
+    alloc: Global,
+    from: &str,
+    to: &str,
+    index: usize,
+    wanted: &[u32],
+) -> Option<bool> {
     let f = changed(alloc, from, to)?.ok()?;
     if index < f.blocks.len() {
-        Some(f.successors(index))
+        Some(are_numbered(f.successors(index), wanted))
     } else {
         None
     }
 }
 
-#[test]
-fn where_control_may_go(rt: HostRuntime) {
-    for (from, to, index, wanted) in WAYS {
-        assert_eq!(rt;
-            successors(rt.alloc(), from, to, index),
-            Some(wanted),
-            "{to}"
-        );
+/// The number of the first row whose block has other successors.
+fn other_successors(alloc: Global, rows: &[(&str, &str, usize, &[u32])]) -> Option<usize> {
+    for (row, (from, to, index, wanted)) in rows.iter().enumerate() {
+        if has_successors(alloc, from, to, *index, wanted) != Some(true) {
+            return Some(row);
+        }
     }
+    None
+}
+
+#[test]
+fn only_sound_functions_are_made(rt: HostRuntime) {
+    assert_eq!(rt; other_soundness(rt.alloc(), ROWS), None);
+    assert_eq!(rt; other_successors(rt.alloc(), WAYS), None);
+}
+
+/// An offset and a length in bytes, and whether they are those of a part.
+const PARTS: &[(u32, u32, bool)] = &[
+    (0, 1, true),
+    (4, 8, true),
+    (8_184, 8, true),
+    (0, 0, false),
+    (0, 9, false),
+    (8_185, 8, false),
+    (8_192, 1, false),
+    (u32::MAX, 1, false),
+];
+
+/// Whether there is a part of these bytes where there should be one, with its offset and length.
+fn is_part(offset: u32, length: u32, wanted: bool) -> bool {
+    match Fragment::new(offset, length) {
+        Some(part) => wanted && part.offset() == offset && part.length() == length,
+        None => !wanted,
+    }
+}
+
+/// The number of the first row that isn't so.
+fn other_part(rows: &[(u32, u32, bool)]) -> Option<usize> {
+    for (row, (offset, length, wanted)) in rows.iter().enumerate() {
+        if !is_part(*offset, *length, *wanted) {
+            return Some(row);
+        }
+    }
+    None
 }
 
 #[test]
 fn alignment_and_parts(rt: HostRuntime) {
-    assert_eq!(rt; up_to(16, 12), 16);
-    assert_eq!(rt; up_to(8, 16), 16);
-    assert_eq!(rt; reach_after(8, Some(24)), 24);
-    assert_eq!(rt; place_of(32, 40, 16, Some(24)), 8);
-    assert_eq!(rt; place_of(32, 40, 16, None), 48);
-    assert_eq!(rt; next_end(40, 50, None), 50);
-    assert_eq!(rt; next_end(40, 50, Some(24)), 40);
-    assert_eq!(rt; counted(Some(24)) + counted(None), 1);
-    for (offset, length, is_part) in [
-        (0, 1, true),
-        (4, 8, true),
-        (8_184, 8, true),
-        (0, 0, false),
-        (0, 9, false),
-        (8_185, 8, false),
-        (8_192, 1, false),
-        (u32::MAX, 1, false),
-    ] {
-        let part = Fragment::new(offset, length);
-        assert_eq!(rt; part.is_some(), is_part, "{length} bytes from {offset} on");
-        if let Some(f) = part {
-            assert_eq!(rt; f.offset(), offset);
-            assert_eq!(rt; f.length(), length);
-        }
-    }
+    assert!(rt; up_to(16, 12) == 16 && up_to(8, 16) == 16);
+    assert!(rt; reach_after(8, Some(24)) == 24);
+    assert!(rt; place_of(32, 40, 16, Some(24)) == 8 && place_of(32, 40, 16, None) == 48);
+    assert!(rt; next_end(40, 50, None) == 50 && next_end(40, 50, Some(24)) == 40);
+    assert!(rt; counted(Some(24)) == 1 && counted(None) == 0);
+    assert_eq!(rt; other_part(PARTS), None);
 }
 
 /// Whose operand 0 is asked for, whose operand 0 has the value, and the part of the register. The last changes nothing.
-const CHAINS: [(u32, u32, u32); 7] = [
+const CHAINS: &[(u32, u32, u32)] = &[
     (1, 2, 0),
     (2, 3, 0),
     (3, 4, 0),
@@ -213,21 +233,44 @@ const CHAINS: [(u32, u32, u32); 7] = [
     (1, 9, 0),
 ];
 
-fn chains(rt: &impl Abort, alloc: Global) -> Result<(), AllocError> {
-    let subs = entries(alloc, &CHAINS)?;
-    let copied = subs.copy()?;
-    assert_eq!(rt; copied.entries().len(), 6);
-    for (asked, wanted) in [
-        (pair(1, 0), Some(pair(4, 0))),
-        (pair(5, 0), None),
-        (pair(7, 0), None),
-        (pair(8, 1), Some(pair(8, 1))),
-        (pair(1, 1), Some(pair(1, 1))),
-    ] {
-        assert_eq!(rt; subs.resolve(asked), wanted, "at {asked:?}");
-        assert_eq!(rt; copied.resolve(asked), wanted, "in the copy, at {asked:?}");
+/// An instruction's number and the operand that is asked for, and whose value it is.
+const ENDS: &[(u32, u32, Option<(u32, u32)>)] = &[
+    (1, 0, Some((4, 0))),
+    (5, 0, None),
+    (7, 0, None),
+    (8, 1, Some((8, 1))),
+    (1, 1, Some((1, 1))),
+];
+
+/// Whether an operand leads to the one with these numbers, or to none.
+fn leads(subs: &Substitutions, number: u32, operand: u32, wanted: &Option<(u32, u32)>) -> bool {
+    let found = subs.resolve(pair(number, operand));
+    match (&found, wanted) {
+        (Some(found), Some((number, operand))) => *found == pair(*number, *operand),
+        (None, None) => true,
+        (Some(_), None) | (None, Some(_)) => false,
     }
-    Ok(())
+}
+
+/// The number of the first row whose operand leads elsewhere.
+fn other_end(subs: &Substitutions, rows: &[(u32, u32, Option<(u32, u32)>)]) -> Option<usize> {
+    for (row, (number, operand, wanted)) in rows.iter().enumerate() {
+        if !leads(subs, *number, *operand, wanted) {
+            return Some(row);
+        }
+    }
+    None
+}
+
+/// Whether the entries and their copy have six entries, and lead where they should.
+fn chains(alloc: Global) -> Result<bool, AllocError> {
+    let subs = entries(alloc, CHAINS)?;
+    let copied = subs.copy()?;
+    Ok(
+        copied.entries().len() == 6
+            && other_end(&subs, ENDS).is_none()
+            && other_end(&copied, ENDS).is_none(),
+    )
 }
 
 /// A chain of 10,000 entries, whose last leads to a number.
@@ -240,16 +283,18 @@ fn long_chain(alloc: Global, last: u32) -> Result<Substitutions, AllocError> {
     Ok(subs)
 }
 
+/// How many entries a chain of 10,000 entries has, and where its first leads.
+fn end_of_long_chain(alloc: Global, last: u32) -> Result<(usize, Option<OperandPair>), AllocError> {
+    let subs = long_chain(alloc, last)?;
+    Ok((subs.entries().len(), subs.resolve(pair(1, 0))))
+}
+
 #[test]
-fn chains_are_followed(rt: HostRuntime) {
-    assert!(rt; chains(&rt, rt.alloc()).is_ok());
-    for (last, wanted) in [(10_001, Some(pair(10_001, 0))), (1, None)] {
-        let subs = long_chain(rt.alloc(), last).expect(&rt, "memory");
-        assert_eq!(rt; subs.entries().len(), 10_000);
-        assert_eq!(rt;
-            subs.resolve(pair(1, 0)),
-            wanted,
-            "where the last leads to {last}"
-        );
-    }
+fn chains_are_followed(rt: HostRuntime) -> Result<(), Fail> {
+    assert!(rt; chains(rt.alloc())?);
+    let straight = end_of_long_chain(rt.alloc(), 10_001)?;
+    assert!(rt; straight == (10_000, Some(pair(10_001, 0))));
+    let round = end_of_long_chain(rt.alloc(), 1)?;
+    assert!(rt; round == (10_000, None));
+    Ok(())
 }

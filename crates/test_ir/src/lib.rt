@@ -9,4 +9,6 @@ mod functions;
 #[cfg(test)]
 mod laws;
 #[cfg(test)]
+mod rows;
+#[cfg(test)]
 mod runs;
