@@ -90,7 +90,7 @@ placed f (s ∷ saved) r = by (nat_eq s.register r) refl (placed f saved r) wher
 
 -- ---- what the rules find
 
-below_32 : (r : ℕ) → Contains SAVED r → r < 32
+pub below_32 : (r : ℕ) → Contains SAVED r → r < 32
 below_32 r (k, inside, is) = grind (arith, k, inside, is)
 
 no_two : (r : ℕ) → Contains SAVED r → r ≡ 2 → ⊥

@@ -1,2 +1,7 @@
 pub mod Finds
 pub mod StandsOn
+pub mod StandsAlong
+pub mod Lines
+pub mod Unwinds
+pub mod Compiled
+pub mod Suspended

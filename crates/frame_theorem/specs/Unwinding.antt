@@ -4,6 +4,7 @@ use Rattle.std.specs.Prelude.{◌≡◌, ◌⊎◌, ℕ, ◌+◌, ◌-◌, ◌%�
 use Rattle.mir_func.specs.declared.debug_substitution.OperandPair.{OperandPair}
 use Rattle.mir_func.specs.Function.{Function}
 use Rattle.mir_func.specs.Graph.{program_of}
+use Rattle.mir_func.specs.Resolve.{resolve}
 use Rattle.sem_mir.specs.Align.{Since}
 use Rattle.sem_mir.specs.State.{State, spelled}
 use Rattle.sem_machine.specs.Headline.{KEPT, StartsAt, MachineAlong, FailsBeforeLine}
@@ -13,6 +14,9 @@ use Rattle.dwarf_frame.specs.declared.table.RegisterRule.{RegisterRule}
 use Rattle.dwarf_frame.specs.declared.table.RegisterRule.TheVariants.{SameValue, Below, FrameAddress, Undefined}
 use Rattle.dwarf_frame.specs.declared.table.UnwindingRules.{UnwindingRules}
 use Rattle.dwarf_frame.specs.Rows.{RulesAt}
+use Rattle.listing_text.specs.declared.output.Output.{Output}
+use Rattle.listing_meaning.specs.Program.{image_of}
+use Rattle.compile_theorem.specs.Source.{SourceFunction, OfEach}
 
 -- the canonical frame address: x2 and the offset. Addresses wrap at 64 bits
 abbrev pub frame_address : UnwindingRules → Machine → ℕ
@@ -42,3 +46,8 @@ abbrev pub AlwaysUnwinds : (undefined section : List ℕ) → Function → (Oper
 AlwaysUnwinds undefined section source resolve image = (s0 : State) → StartsAt source s0 → (m : Machine) (s : State) (since : Since) (l : CodeLine) →
     MachineAlong (program_of true source.blocks resolve) image (machine_start image s0) s0 m s since → line_at image.lines m.counter ≡ Some l →
     Unwinds undefined section (machine_start image s0) m ⊎ FailsBeforeLine (program_of true source.blocks resolve) l since s
+
+-- it holds of each source and its part of an output
+abbrev pub AllUnwind : (undefined section : List ℕ) → List SourceFunction → Output → Type 0
+AllUnwind undefined section sources o =
+    OfEach (λ s f. AlwaysUnwinds undefined section s.function (resolve s.substitutions) (image_of o f)) sources o.functions
