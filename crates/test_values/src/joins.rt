@@ -66,7 +66,7 @@ const MARKED_CHAIN: &str =
 
 /// Bodies, registers and variables, and at the start of each block the classes of the number 7 and of these: the place
 /// of the first that has the same class, or 0 where there is none, and + where there is a token on every path.
-const CLASSES: &[(&str, &[u32], &[u32], &str)] = &[
+const CLASSES: &[ClassRow] = &[
     (
         DIAMOND,
         &[10, 11],
@@ -88,7 +88,7 @@ const CLASSES: &[(&str, &[u32], &[u32], &str)] = &[
 ];
 
 /// What is known of the function with this body.
-fn values_of(alloc: Global, body: &str) -> Result<MachineValues, Fail> {
+pub(crate) fn values_of(alloc: Global, body: &str) -> Result<MachineValues, Fail> {
     let parsed = function_of(alloc, body)?;
     let framed = framed_of(alloc, &parsed)?;
     Ok(solve(alloc, &framed, &parsed.subs)?)
@@ -244,29 +244,49 @@ fn upward(alloc: Global) -> Result<String, Fail> {
     Ok(body)
 }
 
+/// The number of the first row of which other registers are written.
+fn other_registers(alloc: Global, rows: &[(&str, &str)]) -> Result<Option<usize>, Fail> {
+    for (row, (body, wanted)) in rows.iter().enumerate() {
+        if registers_in(alloc, body)?.as_str() != *wanted {
+            return Ok(Some(row));
+        }
+    }
+    Ok(None)
+}
+
+/// A body, registers and variables, and their classes.
+type ClassRow = (&'static str, &'static [u32], &'static [u32], &'static str);
+
+/// The number of the first row of which other classes are written.
+fn other_classes(alloc: Global, rows: &[ClassRow]) -> Result<Option<usize>, Fail> {
+    for (row, (body, registers, variables, wanted)) in rows.iter().enumerate() {
+        if classes_in(alloc, body, registers, variables)?.as_str() != *wanted {
+            return Ok(Some(row));
+        }
+    }
+    Ok(None)
+}
+
+/// Whether a body takes more sweeps than it has blocks, and no more than twice its blocks times its things and one.
+fn takes_many_sweeps(alloc: Global, body: &str) -> Result<bool, Fail> {
+    let (blocks, things, sweeps) = sweeps_in(alloc, body)?;
+    let most = blocks
+        .saturating_mul(things)
+        .saturating_mul(2)
+        .saturating_add(1);
+    Ok(blocks < sweeps && sweeps <= most)
+}
+
 #[test]
 fn paths_join(rt: HostRuntime) -> Result<(), Fail> {
     let alloc = rt.alloc();
-    for (body, wanted) in BODIES {
-        assert_eq!(rt; registers_in(alloc, body)?.as_str(), *wanted);
-    }
-    for (body, registers, variables, wanted) in CLASSES {
-        assert_eq!(rt;
-            classes_in(alloc, body, registers, variables)?.as_str(),
-            *wanted
-        );
-    }
-    // Each sweep takes one register away from the value, so that there are more sweeps than blocks.
-    for body in [CHAIN, MARKED_CHAIN] {
-        let (blocks, things, sweeps) = sweeps_in(alloc, body)?;
-        let most = blocks
-            .saturating_mul(things)
-            .saturating_mul(2)
-            .saturating_add(1);
-        assert!(rt; blocks < sweeps && sweeps <= most, "{sweeps} sweeps");
-    }
+    assert_eq!(rt; other_registers(alloc, BODIES)?, None);
+    assert_eq!(rt; other_classes(alloc, CLASSES)?, None);
+    // Each sweep takes one register away from the value.
+    assert!(rt; takes_many_sweeps(alloc, CHAIN)? && takes_many_sweeps(alloc, MARKED_CHAIN)?);
     // Where no path comes back, one sweep by the order of paths finds all, and a second one sees that.
-    let (_, _, sweeps) = sweeps_in(alloc, upward(alloc)?.as_str())?;
+    let body = upward(alloc)?;
+    let (_, _, sweeps) = sweeps_in(alloc, body.as_str())?;
     assert_eq!(rt; sweeps, 2);
     Ok(())
 }

@@ -18,13 +18,52 @@ use value_tracker::location_tracker::{LocationTracker, PLACES};
 use value_tracker::pass::Block;
 use value_tracker::start::settle;
 
+/// An item.
+enum Step {
+    /// A copy to a register from another, with its debug instruction number.
+    Copy(u32, u32, u32),
+    /// A mark of the four bytes of variable 4 from an offset on: operand 0 of the instruction with a number.
+    ByNumber(u32, u32),
+    /// The same: what a register has.
+    ByRegister(u32, u32),
+}
+
+/// An item; and behind it a place, its class, and the classes of the parts.
+type Row = (Step, usize, usize, [usize; 3]);
+
+/// A copy, marks of parts that overlap, and a copy to x2.
+const ROWS: &[Row] = &[
+    (Step::Copy(11, 10, 1), 11, 6, [1, 2, 3]),
+    (Step::ByNumber(0, 1), 11, 6, [6, 2, 0]),
+    (Step::ByRegister(2, 12), 12, 5, [0, 0, 5]),
+    (Step::Copy(2, 10, 2), 40, 0, [0, 0, 5]),
+];
+
 /// `COPY to, from`, with its debug instruction number.
 fn copy(alloc: Global, to: u32, from: u32, number: u32) -> Result<ItemKind, Fail> {
+    let (to, from) = (register(to)?, register(from)?);
     let mut operands = Operands::new(alloc);
-    operands.push(Operand::Def(register(to)?))?;
-    operands.push(Operand::Use(register(from)?))?;
-    let instr = Instr::new(Op::Copy, operands).ok_or("no form")?;
-    Ok(ItemKind::Code(instr, Some(DebugNumber(number))))
+    operands.push(Operand::Def(to))?;
+    operands.push(Operand::Use(from))?;
+    match Instr::new(Op::Copy, operands) {
+        Some(instr) => Ok(ItemKind::Code(instr, Some(DebugNumber(number)))),
+        None => Err(Fail::from("no form")),
+    }
+}
+
+/// The item of a step.
+fn kind(alloc: Global, step: &Step) -> Result<ItemKind, Fail> {
+    match step {
+        Step::Copy(to, from, number) => copy(alloc, *to, *from, *number),
+        Step::ByNumber(offset, number) => Ok(ItemKind::Mark(
+            part(4, *offset, 4),
+            MarkValue::Pair(pair(*number)),
+        )),
+        Step::ByRegister(offset, n) => Ok(ItemKind::Mark(
+            part(4, *offset, 4),
+            MarkValue::At(register(*n)?),
+        )),
+    }
 }
 
 /// The classes past an item.
@@ -66,31 +105,30 @@ fn held(alloc: Global) -> Result<LocationTracker, Fail> {
     Ok(held)
 }
 
-/// A copy, marks of parts that overlap, and a copy to x2.
-fn kinds(alloc: Global) -> Result<Vec<ItemKind>, Fail> {
-    let x12 = register(12)?;
-    let mut kinds = Vec::new(alloc);
-    kinds.push(copy(alloc, 11, 10, 1)?)?;
-    kinds.push(ItemKind::Mark(part(4, 0, 4), MarkValue::Pair(pair(1))))?;
-    kinds.push(ItemKind::Mark(part(4, 2, 4), MarkValue::At(x12)))?;
-    kinds.push(copy(alloc, 2, 10, 2)?)?;
-    Ok(kinds)
+/// Whether a place and the parts have these classes.
+fn are_classes(held: &LocationTracker, place: usize, class: usize, parts: &[usize]) -> bool {
+    held.place(place) == class && held.parts.as_slice() == parts
 }
 
-/// Behind each of them: a place, its class, and the classes of the parts.
-const CLASSES: &[(usize, usize, [usize; 3])] = &[
-    (11, 6, [1, 2, 3]),
-    (11, 6, [6, 2, 0]),
-    (12, 5, [0, 0, 5]),
-    (40, 0, [0, 0, 5]),
-];
-
-#[test]
-fn places_have_classes(rt: HostRuntime) -> Result<(), Fail> {
-    let alloc = rt.alloc();
-    for (number, class) in [(7, 3), (9, 0), (8, 0)] {
-        assert_eq!(rt; class_of(alloc, number)?, class);
+/// The number of the first row behind which classes are others.
+fn other_classes(
+    alloc: Global,
+    held: &mut LocationTracker,
+    block: &Block,
+    rows: &[Row],
+) -> Result<Option<usize>, Fail> {
+    for (row, (step, place, class, parts)) in rows.iter().enumerate() {
+        let kind = kind(alloc, step)?;
+        pass(held, block, &kind)?;
+        if !are_classes(held, *place, *class, parts.as_slice()) {
+            return Ok(Some(row));
+        }
     }
+    Ok(None)
+}
+
+/// The same in a block without numbers, whose parts are bytes 0 to 3, 4 to 7 and 2 to 5 of variable 4.
+fn other_classes_in_block(alloc: Global, rows: &[Row]) -> Result<Option<usize>, Fail> {
     let variables = [part(4, 0, 4), part(4, 4, 4), part(4, 2, 4)];
     let subs = Substitutions::new(alloc);
     let index = index_of(alloc, &[])?;
@@ -100,13 +138,14 @@ fn places_have_classes(rt: HostRuntime) -> Result<(), Fail> {
         variables: variables.as_slice(),
         subs: &subs,
     };
-    let kinds = kinds(alloc)?;
     let mut held = held(alloc)?;
-    assert_eq!(rt; kinds.len(), CLASSES.len());
-    for (kind, (place, class, parts)) in kinds.as_slice().iter().zip(CLASSES) {
-        pass(&mut held, &block, kind)?;
-        assert_eq!(rt; held.place(*place), *class);
-        assert_eq!(rt; held.parts.as_slice(), parts.as_slice());
-    }
+    other_classes(alloc, &mut held, &block, rows)
+}
+
+#[test]
+fn places_have_classes(rt: HostRuntime) -> Result<(), Fail> {
+    let alloc = rt.alloc();
+    assert!(rt; class_of(alloc, 7)? == 3 && class_of(alloc, 9)? == 0 && class_of(alloc, 8)? == 0);
+    assert_eq!(rt; other_classes_in_block(alloc, ROWS)?, None);
     Ok(())
 }

@@ -3,6 +3,7 @@
 ghost use Rattle.std.specs.Prelude.{◌≡◌, ◌≤◌, length};
 ghost use Rattle.value_tracker.specs.Things.{AreThings};
 
+use crate::joins::values_of;
 use crate::text::{framed_of, function_of, pair, register, variable, with_frame};
 use gen_function::generator::generate;
 use location_ranges::values::Values;
@@ -215,9 +216,7 @@ fn other_places(alloc: Global, rows: &[(usize, usize, u32)]) -> Result<Option<us
 
 /// How many class numbers are kept.
 fn kept_numbers(alloc: Global) -> Result<u64, Fail> {
-    let parsed = function_of(alloc, COPIES)?;
-    let framed = framed_of(alloc, &parsed)?;
-    let known = solve(alloc, &framed, &parsed.subs)?;
+    let known = values_of(alloc, COPIES)?;
     Ok(kept(known.entries.as_slice()))
 }
 
@@ -235,6 +234,12 @@ fn generated_numbers(alloc: Global) -> Result<(u64, u64), Fail> {
     Ok((kept(known.entries.as_slice()), most))
 }
 
+/// Whether class numbers of the generated function are kept, and no more than there may be.
+fn are_kept_numbers(alloc: Global) -> Result<bool, Fail> {
+    let (numbers, most) = generated_numbers(alloc)?;
+    Ok(0 < numbers && numbers <= most)
+}
+
 #[test]
 fn values_sit_in_places(rt: HostRuntime) -> Result<(), Fail> {
     let alloc = rt.alloc();
@@ -243,7 +248,6 @@ fn values_sit_in_places(rt: HostRuntime) -> Result<(), Fail> {
     assert_eq!(rt; other_places(alloc, FIRST)?, None);
     // The prologue and the block keep a class number for each of two variables, 30 registers, a number and a pair.
     assert_eq!(rt; kept_numbers(alloc)?, 68);
-    let (numbers, most) = generated_numbers(alloc)?;
-    assert!(rt; 0 < numbers && numbers <= most, "{numbers} of {most}");
+    assert!(rt; are_kept_numbers(alloc)?);
     Ok(())
 }
