@@ -2,137 +2,81 @@
 
 use crate::text::{part, variable};
 use base_ids::function_ids::SlotId;
-use dwarf_loclists::range::{Location, Part};
-use location_of_variable::group::{Group, groups};
+use dwarf_loclists::range::{Location, Part, Parts};
+use location_of_variable::group::groups;
 use location_of_variable::laws::wanted_locations_give_parts;
 use location_of_variable::location::location;
-use mir_func::variable::VarId;
 use rv64_instr::place::Place;
-use std::alloc::{AllocError, Global};
+use std::alloc::Global;
 use std::test::Fail;
 
-/// A place.
-enum Held {
-    Nowhere,
-    Const(i64),
-    Slot(u32),
-}
-
-/// A variable's node, the offset and length of a part of it in bytes, or none for the whole, and the place that is
-/// required for it.
-type Marked = (u32, Option<(u32, u32)>, Held);
-
-/// The upper half of variable 4 is marked first, and bytes 2 to 5 of variable 8 overlap its bytes 0 to 3.
-const MARKED: &[Marked] = &[
-    (4, Some((4, 4)), Held::Const(7)),
-    (6, None, Held::Slot(16)),
-    (4, Some((0, 4)), Held::Slot(8)),
-    (8, Some((2, 4)), Held::Const(1)),
-    (8, Some((0, 4)), Held::Const(2)),
-    (9, Some((0, 8)), Held::Nowhere),
-];
-
-/// A variable's node, and its location: its place as a whole, or the offsets, lengths and places of its parts.
-type Located = (u32, Held, &'static [(u32, u32, Held)]);
-
-const LOCATIONS: &[Located] = &[
-    (6, Held::Slot(16), &[]),
-    (
-        4,
-        Held::Nowhere,
-        &[(0, 4, Held::Slot(8)), (4, 4, Held::Const(7))],
-    ),
-    (5, Held::Nowhere, &[]),
-    (8, Held::Nowhere, &[(0, 4, Held::Const(2))]),
-    (9, Held::Nowhere, &[]),
-];
-
-fn place(held: &Held) -> Option<Place> {
-    match held {
-        Held::Nowhere => None,
-        Held::Const(value) => Some(Place::Const(*value)),
-        Held::Slot(number) => Some(Place::Slot(SlotId(*number))),
+fn is_at(found: &Option<Location>, wanted: &Option<Location>) -> bool {
+    match (found, wanted) {
+        (None, None) => true,
+        (Some(found), Some(wanted)) => found.equals(wanted),
+        (None, Some(_)) | (Some(_), None) => false,
     }
 }
 
-/// The parts that are marked.
-fn parts(alloc: Global, marked: &[Marked]) -> Result<Vec<VarId>, AllocError> {
-    let mut parts = Vec::new(alloc);
-    for (node, bytes, _) in marked {
-        match bytes {
-            Some((offset, length)) => parts.push(part(*node, *offset, *length))?,
-            None => parts.push(variable(*node))?,
-        }
-    }
-    Ok(parts)
-}
-
-/// The places that are required.
-fn places(alloc: Global, marked: &[Marked]) -> Result<Vec<Option<Place>>, AllocError> {
-    let mut places = Vec::new(alloc);
-    for (_, _, held) in marked {
-        places.push(place(held))?;
-    }
-    Ok(places)
-}
-
-fn variables(alloc: Global, locations: &[Located]) -> Result<Vec<VarId>, AllocError> {
-    let mut variables = Vec::new(alloc);
-    for (node, _, _) in locations {
-        variables.push(variable(*node))?;
-    }
-    Ok(variables)
-}
-
-/// Whether parts are these.
-fn are_parts(found: &[Part], wanted: &[(u32, u32, Held)]) -> bool {
-    for (part, (offset, length, held)) in found.iter().zip(wanted) {
-        if part.offset != *offset || part.length != *length || Some(part.place) != place(held) {
-            return false;
-        }
-    }
-    found.len() == wanted.len()
-}
-
-/// Whether a location is this one.
-fn is_at(found: &Option<Location>, whole: &Held, parts: &[(u32, u32, Held)]) -> bool {
-    match found {
-        None => place(whole).is_none() && parts.is_empty(),
-        Some(Location::Whole(found)) => Some(*found) == place(whole) && parts.is_empty(),
-        Some(Location::Parts(found)) => place(whole).is_none()
-            && are_parts(found.as_slice(), parts),
-    }
-}
-
-/// The number of the first group whose location is another.
-fn other_location(
-    alloc: Global,
-    groups: &[Group],
-    places: &[Option<Place>],
-    locations: &[Located],
-) -> Result<Option<usize>, AllocError> {
-    for (row, (group, (_, whole, parts))) in groups.iter().zip(locations).enumerate() {
-        let found = location(alloc, group, places)?;
-        if !is_at(&found, whole, parts) {
-            return Ok(Some(row));
-        }
-    }
-    Ok(None)
-}
-
-/// How many groups there are, and the first whose location is another.
-fn located(alloc: Global) -> Result<(usize, Option<usize>), AllocError> {
-    let parts = parts(alloc, MARKED)?;
-    let places = places(alloc, MARKED)?;
-    let variables = variables(alloc, LOCATIONS)?;
-    let groups = groups(alloc, parts.as_slice(), variables.as_slice())?;
-    let other = other_location(alloc, groups.as_slice(), places.as_slice(), LOCATIONS)?;
-    Ok((groups.len(), other))
+fn pieces(alloc: Global, pieces: &[Part]) -> Result<Option<Location>, Fail> {
+    Ok(Some(Location::Parts(Parts::from_slice(alloc, pieces)?)))
 }
 
 #[test]
 fn variables_are_found(rt: HostRuntime) -> Result<(), Fail> {
+    let alloc = rt.alloc();
     wanted_locations_give_parts();
-    assert!(rt; located(rt.alloc())? == (5, None));
+    // The upper half of variable 4 is marked first, and bytes 2 to 5 of variable 8 overlap its bytes 0 to 3.
+    let parts = [
+        part(4, 4, 4),
+        variable(6),
+        part(4, 0, 4),
+        part(8, 2, 4),
+        part(8, 0, 4),
+        part(9, 0, 8),
+    ];
+    let places = [
+        Some(Place::Const(7)),
+        Some(Place::Slot(SlotId(16))),
+        Some(Place::Slot(SlotId(8))),
+        Some(Place::Const(1)),
+        Some(Place::Const(2)),
+        None,
+    ];
+    let variables = [
+        variable(6),
+        variable(4),
+        variable(5),
+        variable(8),
+        variable(9),
+    ];
+    let groups = groups(alloc, parts.as_slice(), variables.as_slice())?;
+    let low = Part {
+        offset: 0,
+        length: 4,
+        place: Place::Slot(SlotId(8)),
+    };
+    let high = Part {
+        offset: 4,
+        length: 4,
+        place: Place::Const(7),
+    };
+    let first = Part {
+        offset: 0,
+        length: 4,
+        place: Place::Const(2),
+    };
+    let wanted = [
+        Some(Location::Whole(Place::Slot(SlotId(16)))),
+        pieces(alloc, [low, high].as_slice())?,
+        None,
+        pieces(alloc, [first].as_slice())?,
+        None,
+    ];
+    assert_eq!(rt; groups.len(), 5);
+    for k in 0..5 {
+        let found = location(alloc, &groups[k], places.as_slice())?;
+        assert!(rt; is_at(&found, &wanted[k]), "variable {k}");
+    }
     Ok(())
 }
