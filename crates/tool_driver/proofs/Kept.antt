@@ -1,5 +1,7 @@
 -- What the command that compiles wrote keeps each promise of the output that it is the text of.
-use Rattle.std.proofs.Common.{◌≡◌, ℕ, List, is_some}
+use Rattle.std.proofs.Common.{◌≡◌, ℕ, List, [], map, Option, Some, None, IfSome, Contains, ◌<◌, arith, is_some}
+use Rattle.std.proofs.lemmas.List.Elements.{All-weaker, All-contains_itself}
+use Rattle.mir_func.specs.SoundFrame.{SAVED}
 use Rattle.cli.specs.declared.command.CompilePlan.{CompilePlan}
 use Rattle.cli.specs.declared.command.Command.TheVariants.{Compile}
 use Rattle.cli.specs.Command.{IsCommand}
@@ -14,14 +16,24 @@ use Rattle.compile_theorem.proofs.Headline.{compiled_promises}
 use Rattle.compile_theorem.proofs.IsExact.{compiled_is_exact}
 use Rattle.compile_theorem.proofs.LaidOut.{compiled_is_laid_out, compiled_lists_passed}
 use Rattle.compile_program.specs.Program.{sources_of, IsOutputOf, names_of}
+use Rattle.dwarf_sections.specs.Frame.{IsFrameSection}
+use Rattle.frame_theorem.specs.Laws.{SparesKept}
+use Rattle.frame_theorem.specs.Unwinding.{AllUnwind}
+use Rattle.frame_theorem.proofs.Compiled.{compiled_unwinds}
 use Rattle.tool_driver.specs.Compiled.{plan_steps}
-use Rattle.tool_driver.specs.FurtherPromises.{AllGiveBack, AllStopWell, AllListKept}
+use Rattle.tool_driver.specs.FurtherPromises.{AllGiveBack, AllStopWell, FramesUnwind, AllListKept}
 use Rattle.tool_driver.specs.Run.{Finishes, KeepsHeadline, KeepsRegisters, StopsAtReturns, WroteExactly, WroteLaidOut}
-use Rattle.tool_driver.specs.Run.{WroteKept, WroteWords, ShowsPassed, WrotePassed, WroteFrameSection, KeepsPromises}
+use Rattle.tool_driver.specs.Run.{WroteKept, WroteWords, ShowsPassed, WrotePassed, WroteFrameSection, WroteUnwinding, KeepsPromises}
 use Rattle.tool_driver.specs.Stream.{Change}
 use Rattle.tool_driver.proofs.Lines.{gives_lines}
 use Rattle.tool_driver.proofs.RunLemmas.{has_written, has_written_as}
 use Rattle.tool_driver.proofs.Sentences.{compiled_to, of_read, gives_back, stops_well, lists_kept}
+
+-- no register is undefined
+none_undefined : SparesKept []
+none_undefined = All-weaker (Contains SAVED) (λ r. Contains [] r → ⊥) (λ r among undefined. none_in r undefined) SAVED (All-contains_itself SAVED) where
+  none_in : (r : ℕ) → Contains [] r → ⊥
+  none_in r (k, inside, same) = absurd (omega (arith, inside))
 
 -- ---- an output of a program
 
@@ -34,6 +46,16 @@ module _ (steps : List PassStep) (p : Program) (o : Output) (is : IsOutputOf ste
 
   exact : IsExact o
   exact = compiled_is_exact (names_of p.meta) is.functions o to
+
+  -- the section, if there is one, unwinds
+  unwinds : FramesUnwind (sources_of p.functions) o
+  unwinds = by_section o.frame is.sections.frame where
+    by_section : (x : Option (List ℕ)) → IfSome x (IsFrameSection [] (map (λ c. c.code.now) is.sections.compiled)) →
+        IfSome x (λ section. AllUnwind [] section (sources_of p.functions) o)
+    by_section None section = tt
+    by_section (Some bytes) section =
+        of_read (λ ss. AllUnwind [] bytes ss o) steps p o is (compiled_unwinds (names_of p.meta) is.functions o to
+        (map (λ c. c.code.now) is.sections.compiled) is.sections.coded.coded [] bytes none_undefined section)
 
   laid_out : AreLaidOut (names_of p.meta) (sources_of p.functions) o
   laid_out = of_read (λ ss. AreLaidOut (names_of p.meta) ss o) steps p o is (compiled_is_laid_out (names_of p.meta) is.functions o to)
@@ -53,6 +75,7 @@ module _ (steps : List PassStep) (p : Program) (o : Output) (is : IsOutputOf ste
     headline = promised;
     callee_saved = gives_back (sources_of p.functions) o promised;
     stops = stops_well (sources_of p.functions) o promised;
+    unwinds = unwinds;
     exact = exact;
     kept = lists_kept o exact;
     laid_out = laid_out;
@@ -76,6 +99,10 @@ module _ (words : List (List ℕ)) (input output : Change) (finished : Finishes 
   stops_at_returns =
       has_written plan (λ p. AllStopWell (sources_of p.functions))
       (λ p o is. stops_well (sources_of p.functions) o (promised (plan_steps plan.plan) p o is)) words input output finished asked
+
+  pub wrote_unwinding : WroteUnwinding input output
+  wrote_unwinding =
+      has_written plan (λ p. FramesUnwind (sources_of p.functions)) (unwinds (plan_steps plan.plan)) words input output finished asked
 
   pub wrote_exactly : WroteExactly input output
   wrote_exactly = has_written plan (λ p. IsExact) (exact (plan_steps plan.plan)) words input output finished asked

@@ -1,6 +1,6 @@
--- Further guarantees for an output, beside the main theorem and exact location lists: callee-saved registers, stops of the machine, and location lists that
--- aren't empty while a location keeps the value of a debug value.
-use Rattle.std.specs.Prelude.{◌≡◌, ◌⊎◌, ℕ, true, List, Option, Some, All}
+-- Further guarantees for an output, beside the main theorem and exact location lists: callee-saved registers, stops of the machine, call frame information,
+-- and location lists that aren't empty while a location keeps the value of a debug value.
+use Rattle.std.specs.Prelude.{◌≡◌, ◌⊎◌, ℕ, true, List, [], Option, Some, IfSome, All}
 use Rattle.rv64_instr.specs.declared.place.Place.{Place}
 use Rattle.rv64_instr.specs.Row.{way_leads_back}
 use Rattle.mir_func.specs.declared.debug_substitution.OperandPair.{OperandPair}
@@ -22,6 +22,7 @@ use Rattle.value_proof.specs.Kept.{IsToldAndKept}
 use Rattle.compile_theorem.specs.OutputProperties.{Gives}
 use Rattle.compile_theorem.specs.Source.{SourceFunction, OfEach}
 use Rattle.listing_meaning.specs.Program.{IsListedAt, image_of, program_shown}
+use Rattle.frame_theorem.specs.Unwinding.{AllUnwind}
 
 -- from every start, for every script of call answers and every number of steps: if the machine on a function's image ends on a way that leads back to
 -- the caller, then the return address, the stack pointer and the callee-saved registers have the same values as at the start, unless the source stops on
@@ -43,6 +44,12 @@ AllGiveBack sources o = OfEach (λ s f. GivesBack s.function (resolve s.substitu
 -- no function's execution leaves its code or reaches a word that is no instruction
 abbrev pub AllStopWell : List SourceFunction → Output → Type 0
 AllStopWell sources o = OfEach (λ s f. StopsWell s.function (image_of o f)) sources o.functions
+
+-- `.debug_frame`, if there is one, unwinds in each function: from every start, at each line that the machine comes to, the section has rules, by which the
+-- stack pointer, the return address and the callee-saved registers have their values at the start, unless the source stops on a frame fault before. No
+-- register is undefined in it
+abbrev pub FramesUnwind : List SourceFunction → Output → Type 0
+FramesUnwind sources o = IfSome o.frame (λ section. AllUnwind [] section sources o)
 
 -- A debug value of the listed function has its value in a location, and on the straight path from there down to position `q` of the block nothing
 -- overwrites the location and no debug value has an overlapping part: then at each address of `q` the section doesn't leave that part without a location.

@@ -26,7 +26,7 @@ use Rattle.compile_theorem.specs.Words.{HaveWords}
 use Rattle.object_command.specs.Object.{IsObjectOf}
 use Rattle.compile_program.specs.Program.{sources_of, ArePassed, HasSections, IsMadeBy, IsOutputOf, names_of}
 use Rattle.tool_driver.specs.Lines.{GivesLines}
-use Rattle.tool_driver.specs.FurtherPromises.{AllGiveBack, AllStopWell, AllListKept}
+use Rattle.tool_driver.specs.FurtherPromises.{AllGiveBack, AllStopWell, FramesUnwind, AllListKept}
 use Rattle.tool_driver.specs.Stream.{Change, IsUnread, IsReadWhole, IsWrittenWhole, IsWrittenInPart}
 
 -- the words are a command
@@ -104,6 +104,11 @@ KeepsRegisters input output = HasWritten (λ p. AllGiveBack (sources_of p.functi
 abbrev pub StopsAtReturns : (input output : Change) → Type 0
 StopsAtReturns input output = HasWritten (λ p. AllStopWell (sources_of p.functions)) input output
 
+-- At each line that the machine on a function's code comes to, the section `.debug_frame`, if it was written, unwinds to the function's start: by its rules the
+-- stack pointer, the return address and the callee-saved registers have their values there.
+abbrev pub WroteUnwinding : (input output : Change) → Type 0
+WroteUnwinding input output = HasWritten (λ p. FramesUnwind (sources_of p.functions)) input output
+
 -- At the address of each byte of a listed line, the location lists have for each part of a variable the wanted location, and none exactly if none is
 -- wanted. They have none at any other address.
 abbrev pub WroteExactly : (input output : Change) → Type 0
@@ -152,12 +157,13 @@ pub record WroteText (Is : Program → (text : List ℕ) → Type 0) (input outp
   pub is : Is program bytes
   pub written : IsWrittenWhole output bytes
 
--- An output of a program after these steps keeps the promises of what `compile` writes: those of its runs, of its location lists, of its layout, of its
--- words and of the functions that it shows.
+-- An output of a program after these steps keeps the promises of what `compile` writes: those of its runs, of its call frame information, of its
+-- location lists, of its layout, of its words and of the functions that it shows.
 pub record KeepsPromises (steps : List PassStep) (p : Program) (o : Output) : Type 0 where
   pub headline : Promises (sources_of p.functions) o
   pub callee_saved : AllGiveBack (sources_of p.functions) o
   pub stops : AllStopWell (sources_of p.functions) o
+  pub unwinds : FramesUnwind (sources_of p.functions) o
   pub exact : IsExact o
   pub kept : AllListKept o
   pub laid_out : AreLaidOut (names_of p.meta) (sources_of p.functions) o

@@ -13,7 +13,7 @@ ghost use Rattle.cli.specs.Fault.{line_of};
 ghost use Rattle.tool_driver.specs.Run.{AreCommand, AnswersInput, Finishes, IsCutOff};
 ghost use Rattle.tool_driver.specs.Run.{KeepsHeadline, KeepsRegisters, StopsAtReturns, WroteExactly, WroteLaidOut};
 ghost use Rattle.tool_driver.specs.Run.{WroteKept, WroteWords, WrotePassed, WroteReport, WroteObject, WroteRun};
-ghost use Rattle.tool_driver.specs.Run.{WroteTest, WroteStripped, WroteFrameSection};
+ghost use Rattle.tool_driver.specs.Run.{WroteTest, WroteStripped, WroteFrameSection, WroteUnwinding};
 ghost use Rattle.tool_driver.specs.Run.{HasReadProgram};
 ghost use Rattle.tool_driver.specs.Refusals.{TellsRefusal, IsAnswerable};
 ghost use Rattle.tool_driver.specs.steps.Ends.{HasReadNone, Explains, ReadingEnds};
@@ -108,6 +108,11 @@ pub fn mirdwarf<S: Source, K: Sink, E: Sink>(
         IsCommand (map string_bytes words.now) (Command.Compile plan) →
         WroteFrameSection plan.frame (change S.left S.faults input.old input.new)
         (change K.written K.faults output.old output.new) }
+    // At each line that the machine comes to it unwinds to the function's start: its rules find what the stack pointer,
+    // the return address and the registers that a function is to keep were there.
+    ensures unwinds { (plan : CompilePlan) → result ≡ Status.Done →
+        IsCommand (map string_bytes words.now) (Command.Compile plan) →
+        WroteUnwinding (change S.left S.faults input.old input.new) (change K.written K.faults output.old output.new) }
 
     // What `report` writes is the report of what passes made of the functions that were read: of each the words of its
     // machine code, at how many of them the list of each variable gives it a place, and what passes lost of it.
