@@ -19,7 +19,7 @@ use Rattle.rv64_instr.specs.declared.operand.Operand.{Operand}
 use Rattle.rv64_instr.specs.declared.operand.Operand.TheVariants.{Def, Use, ImplicitDef, ImplicitUse, Imm, Slot, Object as OfObject, Part, Block, Symbol, Mask}
 use Rattle.rv64_instr.specs.declared.symbol.Half.TheVariants.{Upper, Lower}
 use Rattle.rv64_instr.specs.Form.{has_form, fits_jump, fits_copy, fits_branch, fits_registers, fits_upper, fits_load, fits_store}
-use Rattle.rv64_instr.specs.Form.{fits_immediate, is_tail_use, is_tail_register, fits_held_call, fits_tail, fits_held_tail, fits_gone, fits_held_gone}
+use Rattle.rv64_instr.specs.Form.{fits_immediate, is_tail_use, is_tail_register, fits_call, fits_held_call, fits_tail, fits_held_tail}
 use Rattle.rv64_instr.specs.Instruction.{Instruction}
 use Rattle.rv64_instr.specs.Row.{Row, Branches, Jumps, add_row}
 use Rattle.rv64_instr.specs.Row.{row_by, row_of}
@@ -137,11 +137,11 @@ module _ (f : FramedFunction) (offset : ℤ) where
       (record { fields = refl; exit = refl })
   held_tail_same os form = absurd cc
 
-  gone_same : (os : List Operand) → fits_gone os ≡ true → SameCode f offset NoReturnCall os (by_pointer f os)
+  gone_same : (os : List Operand) → fits_call os ≡ true → SameCode f offset NoReturnCall os (by_pointer f os)
   gone_same (Symbol name ∷ Mask ∷ rest) form = record { fields = refl; exit = refl }
   gone_same os form = absurd cc
 
-  held_gone_same : (os : List Operand) → fits_held_gone os ≡ true → SameCode f offset NoReturnCallIndirect os (by_pointer f os)
+  held_gone_same : (os : List Operand) → fits_held_call os ≡ true → SameCode f offset NoReturnCallIndirect os (by_pointer f os)
   held_gone_same (ImplicitUse r ∷ Mask ∷ rest) form = record { fields = refl; exit = refl }
   held_gone_same os form = absurd cc
 

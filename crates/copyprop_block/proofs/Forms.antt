@@ -111,7 +111,7 @@ module _ (e : List Root) where
   form_renamed PseudoTail (Symbol name ∷ rest) = all_same is_tail_use tail_one rest
   form_renamed PseudoTailIndirect (ImplicitUse r ∷ rest) =
       ap (λ (z : Bool). (nat_eq r 6 || is_tail_register r) && z) (all_same is_tail_use tail_one rest)
-  form_renamed NoReturnCall (Symbol name ∷ Mask ∷ rest) = all_same is_tail_use tail_one rest
+  form_renamed NoReturnCall os = call os
   form_renamed NoReturnCallIndirect (ImplicitUse r ∷ Mask ∷ rest) =
-      ap (λ (z : Bool). (nat_eq r 6 || is_tail_register r) && z) (all_same is_tail_use tail_one rest)
+      ap (λ (z : Bool). (nat_le 5 r && nat_lt r 32) && z) (all_same is_argument argument_one rest)
   form_renamed _ _ = refl

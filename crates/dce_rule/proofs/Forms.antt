@@ -45,6 +45,14 @@ none_result (ImplicitUse r ∷ os) h zero = refl
 none_result (ImplicitUse r ∷ os) h (suc o) = none_result os (and_parts (is_result (ImplicitUse r)) (list_all is_result os) h).1 o
 none_result (_ ∷ os) h o = cc
 
+none_argument : (os : List Operand) → list_all is_argument os ≡ true → (o : ℕ) → defined false (slice_get os o) ≡ None
+none_argument [] h o = refl
+none_argument (ImplicitDef r ∷ os) h zero = refl
+none_argument (ImplicitUse r ∷ os) h zero = refl
+none_argument (ImplicitDef r ∷ os) h (suc o) = none_argument os (and_parts (is_argument (ImplicitDef r)) (list_all is_argument os) h).1 o
+none_argument (ImplicitUse r ∷ os) h (suc o) = none_argument os (and_parts (is_argument (ImplicitUse r)) (list_all is_argument os) h).1 o
+none_argument (_ ∷ os) h o = cc
+
 none_tail : (os : List Operand) → list_all is_tail_use os ≡ true → (o : ℕ) → defined false (slice_get os o) ≡ None
 none_tail [] h o = refl
 none_tail (ImplicitUse r ∷ os) h zero = refl
@@ -154,11 +162,12 @@ sets_by_form PseudoTailIndirect (ImplicitUse r ∷ rest) e =
     let h = and_parts (nat_eq r 6 || is_tail_register r) (list_all is_tail_use rest) e in
     let s = held_tail_sets (implicit_uses (ImplicitUse r ∷ rest)) in
     no_register (past (ImplicitUse r) rest refl (none_tail rest h.1)) s.0 s.1
-sets_by_form NoReturnCall (Symbol name ∷ Mask ∷ rest) e = no_register (past (Symbol name) (Mask ∷ rest) refl (past Mask rest refl (none_tail rest e))) refl refl
+sets_by_form NoReturnCall (Symbol name ∷ Mask ∷ rest) e =
+    no_register (past (Symbol name) (Mask ∷ rest) refl (past Mask rest refl (none_argument rest e))) refl refl
 sets_by_form NoReturnCallIndirect (ImplicitUse r ∷ Mask ∷ rest) e =
-    let h = and_parts (nat_eq r 6 || is_tail_register r) (list_all is_tail_use rest) e in
+    let h = and_parts (nat_le 5 r && nat_lt r 32) (list_all is_argument rest) e in
     let s = held_gone_sets (implicit_uses (ImplicitUse r ∷ Mask ∷ rest)) in
-    no_register (past (ImplicitUse r) (Mask ∷ rest) refl (past Mask rest refl (none_tail rest h.1))) s.0 s.1
+    no_register (past (ImplicitUse r) (Mask ∷ rest) refl (past Mask rest refl (none_argument rest h.1))) s.0 s.1
 sets_by_form _ _ e = cc
 
 -- ---- registers that a call names as set

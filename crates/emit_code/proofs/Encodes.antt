@@ -41,7 +41,7 @@ use Rattle.mir_func.specs.Sound.{SlotIn, ObjectIn, HasBytes}
 use Rattle.mir_func.specs.SoundFrame.{IsPhysical}
 use Rattle.rv64_instr.specs.Form.{is_within, has_12_bits, is_immediate, is_addi, is_implicit, fits_registers, fits_immediate, fits_upper, fits_branch}
 use Rattle.rv64_instr.specs.Form.{fits_load, fits_store, fits_copy, fits_jump, has_form, is_argument, is_tail_use}
-use Rattle.rv64_instr.specs.Form.{is_tail_register, fits_call, fits_held_call, fits_tail, fits_held_tail, fits_gone, fits_held_gone}
+use Rattle.rv64_instr.specs.Form.{is_tail_register, fits_call, fits_held_call, fits_tail, fits_held_tail}
 use Rattle.rv64_instr.proofs.Tails.{IsTailRegister, held_callee, tail_callee, tail_low}
 use Rattle.rv64_word.specs.MachineOp.{fits, is_encodable, is_even}
 use Rattle.emit_code.proofs.Fits.{held_fit, callee_not_two}
@@ -347,12 +347,13 @@ module _ (slots : List ℕ) (objects : List Object) (own : ℕ) (low : (n : ℕ)
       (ap (held_fields 0) (held_fit r rest (callee_not_two r callee))) (held_encodes 0 r (omega arith) (callee_under r callee))
   held_tail_word operands offset object form = absurd cc
 
-  held_gone_word : (operands : List Operand) (offset : ℤ) (object : ℕ) → IsTrue (fits_held_gone operands) →
+  held_gone_word : (operands : List Operand) (offset : ℤ) (object : ℕ) → IsTrue (fits_held_call operands) →
       HasWord offset object (instruction source.NoReturnCallIndirect operands)
   held_gone_word (ImplicitUse r ∷ Mask ∷ rest) offset object form =
-      let callee = tail_callee r (and_parts (nat_eq r 6 || is_tail_register r) (list_all is_tail_use rest) form).0 in
+      let is = held_callee r (and_parts (nat_le 5 r && nat_lt r 32) (list_all is_argument rest) form).0 in
+      let low = is.0 in
       with_word offset object (instruction source.NoReturnCallIndirect (ImplicitUse r ∷ Mask ∷ rest)) (machine_op Jalr 1 r 0 (pos 0))
-      (ap (held_fields 1) (held_fit r (Mask ∷ rest) (callee_not_two r callee))) (held_encodes 1 r (omega arith) (callee_under r callee))
+      (ap (held_fields 1) (held_fit r (Mask ∷ rest) (λ two. omega (arith, low, two)))) (held_encodes 1 r (omega arith) is.1)
   held_gone_word operands offset object form = absurd cc
 
   -- what names a callee has two words
@@ -364,7 +365,7 @@ module _ (slots : List ℕ) (objects : List Object) (own : ℕ) (low : (n : ℕ)
   named_tail (Symbol name ∷ rest) form = refl
   named_tail operands form = absurd cc
 
-  named_gone : (operands : List Operand) → IsTrue (fits_gone operands) → has_site (gone_row operands) ≡ true
+  named_gone : (operands : List Operand) → IsTrue (fits_call operands) → has_site (gone_row operands) ≡ true
   named_gone (Symbol name ∷ Mask ∷ rest) form = refl
   named_gone operands form = absurd cc
 

@@ -19,7 +19,7 @@ use Rattle.rv64_instr.specs.declared.symbol.Half.TheVariants.{Upper, Lower}
 use Rattle.rv64_instr.specs.Arithmetic.{word}
 use Rattle.rv64_instr.specs.Form.{is_addi, is_immediate, is_implicit, fits_registers, fits_immediate, fits_upper, fits_branch, fits_load, fits_store, fits_copy}
 use Rattle.rv64_instr.specs.Form.{fits_jump, fits_call, has_form, is_argument, is_tail_use}
-use Rattle.rv64_instr.specs.Form.{is_tail_register, fits_held_call, fits_tail, fits_held_tail, fits_gone, fits_held_gone}
+use Rattle.rv64_instr.specs.Form.{is_tail_register, fits_held_call, fits_tail, fits_held_tail}
 use Rattle.rv64_instr.specs.Row.{Unfit, move_row, add_row, immediate_row, object_row, registers_row, number_row, upper_row, branch_row, load_row, store_row}
 use Rattle.rv64_instr.specs.Row.{copy_row, jump_row, call_row, row_by, implicit_uses, held_call}
 use Rattle.rv64_instr.specs.Row.{held_tail, held_gone, held_call_row, tail_row, held_tail_row, gone_row, held_gone_row}
@@ -114,14 +114,14 @@ held_tail_fit (ImplicitUse r ∷ rest) form e =
     let bad : held_tail (r ∷ implicit_uses rest) ≡ Unfit = sym (ap held_tail (held_fit r rest (callee_not_two r callee))) ∙ e in cc
 held_tail_fit operands form e = absurd cc
 
-gone_fit : (operands : List Operand) → IsTrue (fits_gone operands) → gone_row operands ≡ Unfit → ⊥
+gone_fit : (operands : List Operand) → IsTrue (fits_call operands) → gone_row operands ≡ Unfit → ⊥
 gone_fit (Symbol name ∷ Mask ∷ rest) form e = cc
 gone_fit operands form e = absurd cc
 
-held_gone_fit : (operands : List Operand) → IsTrue (fits_held_gone operands) → held_gone_row operands ≡ Unfit → ⊥
+held_gone_fit : (operands : List Operand) → IsTrue (fits_held_call operands) → held_gone_row operands ≡ Unfit → ⊥
 held_gone_fit (ImplicitUse r ∷ Mask ∷ rest) form e =
-    let callee = tail_callee r (and_parts (nat_eq r 6 || is_tail_register r) (list_all is_tail_use rest) form).0 in
-    let bad : held_gone (r ∷ implicit_uses rest) ≡ Unfit = sym (ap held_gone (held_fit r (Mask ∷ rest) (callee_not_two r callee))) ∙ e in cc
+    let low = (held_callee r (and_parts (nat_le 5 r && nat_lt r 32) (list_all is_argument rest) form).0).0 in
+    let bad : held_gone (r ∷ implicit_uses rest) ≡ Unfit = sym (ap held_gone (held_fit r (Mask ∷ rest) (λ two. omega (arith, low, two)))) ∙ e in cc
 held_gone_fit operands form e = absurd cc
 
 pub fit : (op : Op) (operands : List Operand) → IsTrue (has_form op operands) → row_by op operands ≡ Unfit → ⊥

@@ -69,7 +69,7 @@ module _ (slots : List ℕ) where
   form_same PseudoTail (Symbol name ∷ rest) = all_same is_tail_use tail_same rest
   form_same PseudoTailIndirect (ImplicitUse r ∷ rest) =
       ap (λ (z : Bool). (nat_eq r 6 || is_tail_register r) && z) (all_same is_tail_use tail_same rest)
-  form_same NoReturnCall (Symbol name ∷ Mask ∷ rest) = all_same is_tail_use tail_same rest
+  form_same NoReturnCall (Symbol name ∷ Mask ∷ rest) = all_same is_argument argument_same rest
   form_same NoReturnCallIndirect (ImplicitUse r ∷ Mask ∷ rest) =
-      ap (λ (z : Bool). (nat_eq r 6 || is_tail_register r) && z) (all_same is_tail_use tail_same rest)
+      ap (λ (z : Bool). (nat_le 5 r && nat_lt r 32) && z) (all_same is_argument argument_same rest)
   form_same _ _ = refl

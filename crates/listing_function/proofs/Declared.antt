@@ -17,7 +17,7 @@ use Rattle.rv64_instr.specs.declared.symbol.Half.TheVariants.{Upper, Lower}
 use Rattle.rv64_instr.specs.Arithmetic.{load_width, store_width}
 use Rattle.rv64_instr.specs.Form.{is_implicit, is_argument, is_result, is_addi, is_immediate, has_12_bits, moves_slot, is_within, has_form}
 use Rattle.rv64_instr.specs.Form.{fits_registers, fits_immediate, fits_upper, fits_branch, fits_load, fits_store, fits_copy, fits_jump}
-use Rattle.rv64_instr.specs.Form.{fits_call, is_tail_use, is_tail_register, fits_held_call, fits_tail, fits_held_tail, fits_gone, fits_held_gone}
+use Rattle.rv64_instr.specs.Form.{fits_call, is_tail_use, is_tail_register, fits_held_call, fits_tail, fits_held_tail}
 use Rattle.mir_func.specs.Function.{FramedFunction}
 use Rattle.mir_func.specs.Objects.{offset_of}
 use Rattle.mir_func.specs.SoundFrame.{own_size}
@@ -162,17 +162,6 @@ module _ (f : FramedFunction) where
       subst (All P) (sym (behind_tail (ImplicitUse r) rest all)) (All-cons P (ImplicitUse r) rest tt (each is_tail_use tail_apart rest all))
   held_tail_declared os form = absurd cc
 
-  gone_declared : (os : List Operand) → fits_gone os ≡ true → All P (by_pointer f os)
-  gone_declared (Symbol name ∷ Mask ∷ rest) form =
-      All-cons P (Symbol name) (Mask ∷ rest) tt (All-cons P Mask rest tt (each is_tail_use tail_apart rest form))
-  gone_declared os form = absurd cc
-
-  held_gone_declared : (os : List Operand) → fits_held_gone os ≡ true → All P (by_pointer f os)
-  held_gone_declared (ImplicitUse r ∷ Mask ∷ rest) form =
-      All-cons P (ImplicitUse r) (Mask ∷ rest) tt
-      (All-cons P Mask rest tt (each is_tail_use tail_apart rest (and_parts (nat_eq r 6 || is_tail_register r) (list_all is_tail_use rest) form).1))
-  held_gone_declared os form = absurd cc
-
   pub operands_declared : (op : Op) (os : List Operand) → has_form op os ≡ true → All P (by_pointer f os)
   operands_declared (Registers op) os form = registers_declared os form
   operands_declared (Immediate op) os form = immediate_declared op os form
@@ -186,6 +175,6 @@ module _ (f : FramedFunction) where
   operands_declared PseudoCallIndirect os form = held_call_declared os form
   operands_declared PseudoTail os form = tail_declared os form
   operands_declared PseudoTailIndirect os form = held_tail_declared os form
-  operands_declared NoReturnCall os form = gone_declared os form
-  operands_declared NoReturnCallIndirect os form = held_gone_declared os form
+  operands_declared NoReturnCall os form = call_declared os form
+  operands_declared NoReturnCallIndirect os form = held_call_declared os form
   operands_declared PseudoRet os form = subst (All P) (sym (results_stay os form)) (each is_result result_apart os form)

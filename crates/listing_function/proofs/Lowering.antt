@@ -22,7 +22,7 @@ use Rattle.rv64_instr.specs.declared.symbol.Half.TheVariants.{Upper, Lower}
 use Rattle.rv64_instr.specs.Arithmetic.{word, load_width, store_width}
 use Rattle.rv64_instr.specs.Form.{has_12_bits, is_implicit, is_result, moves_slot, is_addi, is_immediate, has_form}
 use Rattle.rv64_instr.specs.Form.{fits_registers, fits_immediate, fits_upper, fits_branch, fits_load, fits_store, fits_copy, fits_jump}
-use Rattle.rv64_instr.specs.Form.{fits_call, is_tail_use, is_tail_register, fits_held_call, fits_tail, fits_held_tail, fits_gone, fits_held_gone}
+use Rattle.rv64_instr.specs.Form.{fits_call, is_tail_use, is_tail_register, fits_held_call, fits_tail, fits_held_tail}
 use Rattle.rv64_instr.specs.Row.{row_by, load_row, store_row, number_row}
 use Rattle.mir_func.specs.Function.{FramedFunction}
 use Rattle.mir_func.specs.Objects.{offset_of}
@@ -171,14 +171,6 @@ module _ (f : FramedFunction) (framed : IsFramed f) where
       ap fits_held_tail (behind_tail (ImplicitUse r) rest (and_parts (nat_eq r 6 || is_tail_register r) (list_all is_tail_use rest) form).1) ∙ form
   held_tail_formed os form = absurd cc
 
-  gone_formed : (os : List Operand) → fits_gone os ≡ true → fits_gone (by_pointer f os) ≡ true
-  gone_formed (Symbol name ∷ Mask ∷ rest) form = form
-  gone_formed os form = absurd cc
-
-  held_gone_formed : (os : List Operand) → fits_held_gone os ≡ true → fits_held_gone (by_pointer f os) ≡ true
-  held_gone_formed (ImplicitUse r ∷ Mask ∷ rest) form = form
-  held_gone_formed os form = absurd cc
-
   pub operands_formed : (op : Op) (os : List Operand) → has_form op os ≡ true → SlotIn (slot_offsets f) (row_by op os) → ObjectIn f.objects (row_by op os) →
       has_form op (by_pointer f os) ≡ true
   operands_formed (Registers op) os form slots objects = registers_formed os form
@@ -193,6 +185,6 @@ module _ (f : FramedFunction) (framed : IsFramed f) where
   operands_formed PseudoCallIndirect os form slots objects = held_call_formed os form
   operands_formed PseudoTail os form slots objects = tail_formed os form
   operands_formed PseudoTailIndirect os form slots objects = held_tail_formed os form
-  operands_formed NoReturnCall os form slots objects = gone_formed os form
-  operands_formed NoReturnCallIndirect os form slots objects = held_gone_formed os form
+  operands_formed NoReturnCall os form slots objects = call_formed os form
+  operands_formed NoReturnCallIndirect os form slots objects = held_call_formed os form
   operands_formed PseudoRet os form slots objects = ap (list_all is_result) (results_stay f framed os form) ∙ form

@@ -23,7 +23,7 @@ use Rattle.rv64_instr.specs.declared.op.LoadOp.{LoadOp}
 use Rattle.rv64_instr.specs.declared.op.StoreOp.{StoreOp}
 use Rattle.rv64_instr.specs.Form.{is_implicit, is_result, is_within, has_12_bits, is_immediate, has_form, IsSigned}
 use Rattle.rv64_instr.specs.Form.{fits_registers, fits_immediate, fits_upper, fits_branch, fits_load, fits_store, fits_copy, fits_jump}
-use Rattle.rv64_instr.specs.Form.{fits_call, is_tail_use, is_tail_register, fits_held_call, fits_tail, fits_held_tail, fits_gone, fits_held_gone}
+use Rattle.rv64_instr.specs.Form.{fits_call, is_tail_use, is_tail_register, fits_held_call, fits_tail, fits_held_tail}
 use Rattle.mir_func.specs.declared.block.Block.{Block}
 use Rattle.mir_func.specs.declared.item.Item.{Item}
 use Rattle.mir_func.specs.declared.item.ItemKind.{ItemKind}
@@ -125,14 +125,6 @@ module _ (b : ℕ) (x : ℤ) (rest : List Operand) where
   third_held_call (ImplicitUse n) form = absurd cc
   third_held_call r form = absurd cc
 
-  third_gone : (r : Operand) → fits_gone (r ∷ Use b ∷ Imm x ∷ rest) ≡ true → IsSigned x
-  third_gone (Symbol name) form = absurd cc
-  third_gone r form = absurd cc
-
-  third_held_gone : (r : Operand) → fits_held_gone (r ∷ Use b ∷ Imm x ∷ rest) ≡ true → IsSigned x
-  third_held_gone (ImplicitUse n) form = absurd cc
-  third_held_gone r form = absurd cc
-
   third_tail : (r : Operand) → fits_tail (r ∷ Use b ∷ Imm x ∷ rest) ≡ true → IsSigned x
   third_tail (Symbol name) form = absurd cc
   third_tail r form = absurd cc
@@ -156,8 +148,8 @@ module _ (b : ℕ) (x : ℤ) (rest : List Operand) where
   third PseudoCallIndirect r form = third_held_call r form
   third PseudoTail r form = third_tail r form
   third PseudoTailIndirect r form = third_held_tail r form
-  third NoReturnCall r form = third_gone r form
-  third NoReturnCallIndirect r form = third_held_gone r form
+  third NoReturnCall r form = third_call r form
+  third NoReturnCallIndirect r form = third_held_call r form
 
 implicits_printable : (os : List Operand) → All HasNumbers os → All IsPrintableImplicit (implicits os)
 implicits_printable [] all = All-nil IsPrintableImplicit

@@ -25,7 +25,7 @@ use Rattle.rv64_instr.specs.declared.symbol.Half.{Half}
 use Rattle.rv64_instr.specs.Arithmetic.{word, load_width, store_width}
 use Rattle.rv64_instr.specs.Form.{is_within, has_12_bits, is_implicit, is_result, moves_slot, is_addi, is_immediate, has_form}
 use Rattle.rv64_instr.specs.Form.{fits_registers, fits_immediate, fits_upper, fits_branch, fits_load, fits_store, fits_copy, fits_jump}
-use Rattle.rv64_instr.specs.Form.{fits_call, is_tail_use, is_tail_register, fits_held_call, fits_tail, fits_held_tail, fits_gone, fits_held_gone}
+use Rattle.rv64_instr.specs.Form.{fits_call, is_tail_use, is_tail_register, fits_held_call, fits_tail, fits_held_tail}
 use Rattle.rv64_instr.specs.Row.{row_by, load_row, store_row, number_row}
 use Rattle.mir_func.specs.declared.object.Object.{Object}
 use Rattle.mir_func.specs.Function.{FramedFunction}
@@ -317,14 +317,6 @@ module _ (f : FramedFunction) (framed : IsFramed f) where
       behind_tail (ImplicitUse r) rest (and_parts (nat_eq r 6 || is_tail_register r) (list_all is_tail_use rest) form).1
   held_tail_stays os form = absurd cc
 
-  gone_stays : (os : List Operand) → fits_gone os ≡ true → by_pointer f os ≡ os
-  gone_stays (Symbol name ∷ Mask ∷ rest) form = refl
-  gone_stays os form = absurd cc
-
-  held_gone_stays : (os : List Operand) → fits_held_gone os ≡ true → by_pointer f os ≡ os
-  held_gone_stays (ImplicitUse r ∷ Mask ∷ rest) form = refl
-  held_gone_stays os form = absurd cc
-
   pub operands_back : (op : Op) (os : List Operand) → has_form op os ≡ true → IsSteady op os → SlotIn (slot_offsets f) (row_by op os) →
       ObjectIn f.objects (row_by op os) → raised_operands (frame_of f) op (by_pointer f os) ≡ settled_operands f op os
   operands_back (Registers op) os form steady slots objects = registers_stay os form
@@ -340,8 +332,8 @@ module _ (f : FramedFunction) (framed : IsFramed f) where
   operands_back PseudoCallIndirect os form steady slots objects = held_call_stays os form
   operands_back PseudoTail os form steady slots objects = tail_stays os form
   operands_back PseudoTailIndirect os form steady slots objects = held_tail_stays os form
-  operands_back NoReturnCall os form steady slots objects = gone_stays os form
-  operands_back NoReturnCallIndirect os form steady slots objects = held_gone_stays os form
+  operands_back NoReturnCall os form steady slots objects = call_stays os form
+  operands_back NoReturnCallIndirect os form steady slots objects = held_call_stays os form
 
   -- ---- where an access begins at a byte that its object alone has
 

@@ -24,7 +24,7 @@ use Rattle.rv64_instr.specs.Instruction.{Instruction}
 use Rattle.rv64_instr.specs.Arithmetic.{load_width, store_width}
 use Rattle.rv64_instr.specs.Form.{has_form, fits_registers, fits_immediate, fits_upper, fits_branch, fits_load, fits_store, fits_copy, fits_jump, fits_call}
 use Rattle.rv64_instr.specs.Form.{is_within, has_12_bits, is_immediate, is_addi, moves_slot, is_implicit, is_argument}
-use Rattle.rv64_instr.specs.Form.{is_result, is_tail_use, is_tail_register, fits_held_call, fits_tail, fits_held_tail, fits_gone, fits_held_gone}
+use Rattle.rv64_instr.specs.Form.{is_result, is_tail_use, is_tail_register, fits_held_call, fits_tail, fits_held_tail}
 use Rattle.rv64_instr.specs.Mnemonic.{mnemonic_of}
 use Rattle.rv64_instr.proofs.Names.{mnemonic_of-injective}
 use Rattle.mir_printer.specs.Spelling.{instruction_text, is_definition, register_text, uses_text}
@@ -270,31 +270,6 @@ held_tail_parts (ImplicitUse r ∷ rest) e =
     }
 held_tail_parts os e = absurd cc
 
-gone_parts : (os : List Operand) → fits_gone os ≡ true → Parts os
-gone_parts (Symbol name ∷ Mask ∷ rest) e =
-    record {
-      target = None;
-      uses = Symbol name ∷ Mask ∷ rest;
-      parts = refl;
-      none = (refl, (refl, all_none is_tail_use tail_none rest e));
-      kind =
-          no_slots (refl, (refl, no_slots_of is_tail_use tail_plain rest e));
-    }
-gone_parts os e = absurd cc
-
-held_gone_parts : (os : List Operand) → fits_held_gone os ≡ true → Parts os
-held_gone_parts (ImplicitUse r ∷ Mask ∷ rest) e =
-    record {
-      target = None;
-      uses = ImplicitUse r ∷ Mask ∷ rest;
-      parts = refl;
-      none =
-          (refl, (refl, all_none is_tail_use tail_none rest (behind (nat_eq r 6 || is_tail_register r) (list_all is_tail_use rest) e)));
-      kind =
-          no_slots (refl, (refl, no_slots_of is_tail_use tail_plain rest (behind (nat_eq r 6 || is_tail_register r) (list_all is_tail_use rest) e)));
-    }
-held_gone_parts os e = absurd cc
-
 parts_of : (op : Op) (os : List Operand) → has_form op os ≡ true → Parts os
 parts_of (Registers op) os e = registers_parts os e
 parts_of (Immediate op) os e = immediate_parts op os e
@@ -308,8 +283,8 @@ parts_of PseudoCall os e = call_parts os e
 parts_of PseudoCallIndirect os e = held_call_parts os e
 parts_of PseudoTail os e = tail_parts os e
 parts_of PseudoTailIndirect os e = held_tail_parts os e
-parts_of NoReturnCall os e = gone_parts os e
-parts_of NoReturnCallIndirect os e = held_gone_parts os e
+parts_of NoReturnCall os e = call_parts os e
+parts_of NoReturnCallIndirect os e = held_call_parts os e
 parts_of PseudoRet os e =
     record { target = None; uses = os; parts = refl; none = all_none is_result result_none os e; kind = no_slots (no_slots_of is_result result_plain os e) }
 

@@ -11,7 +11,7 @@ use Rattle.rv64_instr.specs.declared.place.Place.{Place}
 use Rattle.rv64_instr.specs.declared.place.Place.TheVariants.{Register}
 use Rattle.rv64_instr.specs.Instruction.{Instruction}
 use Rattle.rv64_instr.specs.Row.{row_of}
-use Rattle.rv64_instr.specs.LocationEffects.{is_call, has_implicit_uses, defines_of}
+use Rattle.rv64_instr.specs.LocationEffects.{has_implicit_uses, defines_of}
 use Rattle.mir_func.specs.declared.position.Pos.{Pos}
 use Rattle.mir_func.specs.declared.position.Origin.{Origin}
 use Rattle.mir_func.specs.declared.position.Origin.TheVariants.{Kept, Before}
@@ -215,13 +215,13 @@ module _ (rule : Rule) (c : Change) where
     code_unreachable : {i : Instruction} {o : Origin} {l : Loc} {k : ℕ} → StandsAt c.old at (item (Code i (Some k)) o l) →
         (IsReached c at.block → ⊥) → IsGoneBlock c at.block → HasCause at (number_lost k Unreachable)
 
-  -- The condition under which a register isn't spilled for a reason: fewer than two scratch registers are free; a call or added
-  -- code names the register; it is live into the first block, which is the target of some branch; the new function has
+  -- The condition under which a register isn't spilled for a reason: fewer than two scratch registers are free; a call, code that
+  -- ends the function or added code names the register; it is live into the first block, which is the target of some branch; the new function has
   -- `MAX_SLOTS` slots and stack objects, and only lower registers are spilled
   abbrev pub Prevents : Reason → ℕ → Type 0
   Prevents NoScratch r = length (scratch_of c.old) < 2
   Prevents CallNamed r = (i : Item) × Contains (items_of c.old.blocks) i × (names r i.kind ≡ true) ×
-      (OnRow (λ row. is_call row ≡ true) i.kind ⊎ (i.origin ≡ Before (position_of i.origin)))
+      (OnRow (λ row. has_implicit_uses row ≡ true) i.kind ⊎ (i.origin ≡ Before (position_of i.origin)))
   Prevents EntryLoop r = Live (old_program c) (Register r) (old_start c) ×
       ((p : Pos) × (i : Item) × StandsAt c.old p i × OnRow (GoesTo (first_of c.old.blocks)) i.kind)
   Prevents NoSlot r = (length c.new.slots + length c.new.objects ≡ MAX_SLOTS) × ((s slot : ℕ) → rule.spills c s slot → s < r)

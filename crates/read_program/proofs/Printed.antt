@@ -21,7 +21,7 @@ use Rattle.rv64_instr.specs.Arithmetic.{load_width, store_width}
 use Rattle.rv64_instr.specs.Form.{is_within, has_12_bits, is_immediate, is_addi, moves_slot, is_implicit, is_argument, is_result, fits_registers}
 use Rattle.rv64_instr.specs.Form.{fits_immediate, fits_upper}
 use Rattle.rv64_instr.specs.Form.{fits_branch, fits_load, fits_store, fits_copy, fits_jump, fits_call, has_form}
-use Rattle.rv64_instr.specs.Form.{is_tail_use, is_tail_register, fits_held_call, fits_tail, fits_held_tail, fits_gone, fits_held_gone}
+use Rattle.rv64_instr.specs.Form.{is_tail_use, is_tail_register, fits_held_call, fits_tail, fits_held_tail}
 use Rattle.rv64_instr.specs.Instruction.{Instruction}
 use Rattle.rv64_instr.specs.Row.{row_of}
 use Rattle.rv64_instr.specs.LocationEffects.{object_named as row_object}
@@ -141,14 +141,6 @@ module _ (ids : List ℕ) where
   held_tail_kept (ImplicitUse r ∷ rest) e = ap (λ (c : Bool). (nat_eq r 6 || is_tail_register r) && c) (same_all is_tail_use tail_as rest) ∙ e
   held_tail_kept os e = absurd cc
 
-  gone_kept : (os : List Operand) → fits_gone os ≡ true → fits_gone (operands_as ids os) ≡ true
-  gone_kept (Symbol name ∷ Mask ∷ rest) e = same_all is_tail_use tail_as rest ∙ e
-  gone_kept os e = absurd cc
-
-  held_gone_kept : (os : List Operand) → fits_held_gone os ≡ true → fits_held_gone (operands_as ids os) ≡ true
-  held_gone_kept (ImplicitUse r ∷ Mask ∷ rest) e = ap (λ (c : Bool). (nat_eq r 6 || is_tail_register r) && c) (same_all is_tail_use tail_as rest) ∙ e
-  held_gone_kept os e = absurd cc
-
   pub form_kept : (op : Op) (os : List Operand) → has_form op os ≡ true → has_form op (operands_as ids os) ≡ true
   form_kept (Registers op) os e = registers_kept os e
   form_kept (Immediate op) os e = immediate_kept op os e
@@ -163,8 +155,8 @@ module _ (ids : List ℕ) where
   form_kept PseudoCallIndirect os e = held_call_kept os e
   form_kept PseudoTail os e = tail_kept os e
   form_kept PseudoTailIndirect os e = held_tail_kept os e
-  form_kept NoReturnCall os e = gone_kept os e
-  form_kept NoReturnCallIndirect os e = held_gone_kept os e
+  form_kept NoReturnCall os e = call_kept os e
+  form_kept NoReturnCallIndirect os e = held_call_kept os e
 
   -- an instruction is renamed
   pub renamed : (i : Instruction) → has_form i.op i.operands ≡ true → instr_as ids i ≡ record { op = i.op; operands = operands_as ids i.operands }
@@ -268,8 +260,8 @@ one_object PseudoTail (Symbol name ∷ rest) e = one_before _ (Symbol name) rest
 one_object PseudoTailIndirect (ImplicitUse r ∷ rest) e =
     one_before _ (ImplicitUse r) rest tt (all_one _ is_tail_use (tail_one _) rest (and_parts (nat_eq r 6 || is_tail_register r)
     (list_all is_tail_use rest) e).1)
-one_object NoReturnCall (Symbol name ∷ Mask ∷ rest) e = two_before _ (Symbol name) Mask rest tt tt (all_one _ is_tail_use (tail_one _) rest e)
+one_object NoReturnCall (Symbol name ∷ Mask ∷ rest) e = two_before _ (Symbol name) Mask rest tt tt (all_one _ is_argument (argument_one _) rest e)
 one_object NoReturnCallIndirect (ImplicitUse r ∷ Mask ∷ rest) e =
-    two_before _ (ImplicitUse r) Mask rest tt tt (all_one _ is_tail_use (tail_one _) rest (and_parts (nat_eq r 6 || is_tail_register r)
-    (list_all is_tail_use rest) e).1)
+    two_before _ (ImplicitUse r) Mask rest tt tt (all_one _ is_argument (argument_one _) rest (and_parts (nat_le 5 r && nat_lt r 32)
+    (list_all is_argument rest) e).1)
 one_object _ os e = absurd cc

@@ -15,7 +15,7 @@ use Rattle.rv64_instr.specs.declared.symbol.Half.TheVariants.{Upper, Lower}
 use Rattle.rv64_instr.specs.Arithmetic.{load_width, store_width}
 use Rattle.rv64_instr.specs.Form.{is_within, has_12_bits, is_immediate, is_addi, moves_slot, is_implicit, fits_registers, fits_immediate, fits_upper}
 use Rattle.rv64_instr.specs.Form.{fits_branch, fits_load, fits_store, fits_copy, fits_jump, fits_call, has_form}
-use Rattle.rv64_instr.specs.Form.{is_argument, is_tail_use, is_tail_register, fits_held_call, fits_tail, fits_held_tail, fits_gone, fits_held_gone}
+use Rattle.rv64_instr.specs.Form.{is_argument, is_tail_use, is_tail_register, fits_held_call, fits_tail, fits_held_tail}
 use Rattle.std.specs.Prelude.{pos}
 use Rattle.read_line.specs.declared.form.ItemForm.{ItemForm}
 use Rattle.read_line.specs.declared.form.OperandForm.{OperandForm}
@@ -185,16 +185,6 @@ module _ (ids : List ℕ) where
       stays_more ids (ImplicitUse r) rest tt (tails_stay ids rest (and_parts (nat_eq r 6 || is_tail_register r) (list_all is_tail_use rest) e).1)
   held_tail os e = absurd cc
 
-  gone : (os : List Operand) → fits_gone os ≡ true → Stays ids os
-  gone (Symbol name ∷ Mask ∷ rest) e = stays_more ids (Symbol name) (Mask ∷ rest) tt (stays_more ids Mask rest tt (tails_stay ids rest e))
-  gone os e = absurd cc
-
-  held_gone : (os : List Operand) → fits_held_gone os ≡ true → Stays ids os
-  held_gone (ImplicitUse r ∷ Mask ∷ rest) e =
-      stays_more ids (ImplicitUse r) (Mask ∷ rest) tt (stays_more ids Mask rest tt (tails_stay ids rest (and_parts (nat_eq r 6 || is_tail_register r)
-      (list_all is_tail_use rest) e).1))
-  held_gone os e = absurd cc
-
   -- ---- all
 
   again : (op : Op) (os : List Operand) (line : ItemForm) → FromLine op line os → has_form op os ≡ true → Again op os
@@ -211,8 +201,8 @@ module _ (ids : List ℕ) where
   again PseudoCallIndirect os line from e = stays_judged ids PseudoCallIndirect os (held_call os e)
   again PseudoTail os line from e = stays_judged ids PseudoTail os (tail os e)
   again PseudoTailIndirect os line from e = stays_judged ids PseudoTailIndirect os (held_tail os e)
-  again NoReturnCall os line from e = stays_judged ids NoReturnCall os (gone os e)
-  again NoReturnCallIndirect os line from e = stays_judged ids NoReturnCallIndirect os (held_gone os e)
+  again NoReturnCall os line from e = stays_judged ids NoReturnCall os (call os e)
+  again NoReturnCallIndirect os line from e = stays_judged ids NoReturnCallIndirect os (held_call os e)
 
 pub code_is_judged_again : CodeIsJudgedAgain
 code_is_judged_again op line i ids e =

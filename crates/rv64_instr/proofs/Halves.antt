@@ -57,11 +57,6 @@ tail_none first (x ∷ []) h = refl
 tail_none first (x ∷ Part half y ∷ rest) h = absurd (let second = right (is_tail_use x) false h in cc)
 tail_none first _ h = refl
 
-tail_first : (rest : List Operand) → IsTrue (list_all is_tail_use rest) → None ≡ first_part rest
-tail_first [] h = refl
-tail_first (Part half y ∷ rest) h = absurd cc
-tail_first _ h = refl
-
 pub held_call_part : (xs : List ℕ) → part_named (held_call xs) ≡ None
 held_call_part [] = refl
 held_call_part (x ∷ xs) = refl
@@ -119,9 +114,9 @@ named_early PseudoTail (Symbol name ∷ rest) h = tail_none (Symbol name) rest h
 named_early PseudoTailIndirect (ImplicitUse r ∷ rest) h =
     held_tail_part (implicit_uses (ImplicitUse r ∷ rest))
     ∙ tail_none (ImplicitUse r) rest (right (nat_eq r 6 || is_tail_register r) (list_all is_tail_use rest) h)
-named_early NoReturnCall (Symbol name ∷ Mask ∷ rest) h = tail_first rest h
+named_early NoReturnCall (Symbol name ∷ Mask ∷ rest) h = argument_none rest h
 named_early NoReturnCallIndirect (ImplicitUse r ∷ Mask ∷ rest) h =
-    held_gone_part (implicit_uses (ImplicitUse r ∷ Mask ∷ rest)) ∙ tail_first rest (right (nat_eq r 6 || is_tail_register r) (list_all is_tail_use rest) h)
+    held_gone_part (implicit_uses (ImplicitUse r ∷ Mask ∷ rest)) ∙ argument_none rest (right (nat_le 5 r && nat_lt r 32) (list_all is_argument rest) h)
 named_early _ _ h = absurd cc
 
 -- ---- the halves of addresses are added

@@ -6,7 +6,7 @@ use Rattle.std.proofs.lemmas.Bool.{and_parts, leb-true, ltb-true, eqb-true}
 use Rattle.std.proofs.lemmas.List.Elements.{All-nil, All-cons}
 use Rattle.rv64_instr.specs.declared.operand.Operand.{Operand}
 use Rattle.rv64_instr.specs.declared.operand.Operand.TheVariants.{ImplicitUse}
-use Rattle.rv64_instr.specs.Form.{is_tail_register, is_tail_use}
+use Rattle.rv64_instr.specs.Form.{is_argument, is_tail_register, is_tail_use}
 use Rattle.rv64_instr.specs.Row.{implicit_uses}
 
 either : (a b : Bool) → (a || b) ≡ true → (a ≡ true) ⊎ (b ≡ true)
@@ -67,7 +67,7 @@ tail_low r (inl a) = omega (arith, a)
 tail_low r (inr (inl a)) = (let x = a.1 in omega (arith, x))
 tail_low r (inr (inr a)) = (let x = a.1 in omega (arith, x))
 
--- so what such a call reads is physical
+-- so what such a call reads is physical, and what any other call reads
 pub tails_low : (os : List Operand) → list_all is_tail_use os ≡ true → All (λ r. r < 32) (implicit_uses os)
 tails_low os e = uses_hold (λ r. r < 32) is_tail_use by_use os e where
   by_use : (r : ℕ) → is_tail_use (ImplicitUse r) ≡ true → (r ≡ 2) ⊎ (r < 32)
@@ -76,6 +76,15 @@ tails_low os e = uses_hold (λ r. r < 32) is_tail_use by_use os e where
 callee_low : (r : ℕ) → (r ≡ 6) ⊎ IsTailRegister r → r < 32
 callee_low r (inl six) = omega (arith, six)
 callee_low r (inr is) = tail_low r is
+
+pub arguments_low : (os : List Operand) → list_all is_argument os ≡ true → All (λ r. r < 32) (implicit_uses os)
+arguments_low os e = uses_hold (λ r. r < 32) is_argument (λ r h. inr (ltb-true r 32 h)) os e
+
+pub held_arguments_low : (r : ℕ) (os : List Operand) → ((nat_le 5 r && nat_lt r 32) && list_all is_argument os) ≡ true →
+    All (λ r. r < 32) (implicit_uses (ImplicitUse r ∷ os))
+held_arguments_low r os e =
+    let p = and_parts (nat_le 5 r && nat_lt r 32) (list_all is_argument os) e in
+    one_more (λ q. q < 32) r (implicit_uses os) (inr (held_callee r p.0).1) (arguments_low os p.1)
 
 pub held_low : (r : ℕ) (os : List Operand) → ((nat_eq r 6 || is_tail_register r) && list_all is_tail_use os) ≡ true →
     All (λ r. r < 32) (implicit_uses (ImplicitUse r ∷ os))

@@ -152,17 +152,7 @@ abbrev pub fits_held_tail : List Operand → Bool
 fits_held_tail (ImplicitUse r ∷ rest) = (nat_eq r 6 || is_tail_register r) && list_all is_tail_use rest
 fits_held_tail _ = false
 
--- a call that doesn't return, with the registers of a call in tail position: its implicit operands end the function, so they name no others
-abbrev pub fits_gone : List Operand → Bool
-fits_gone (Symbol name ∷ Mask ∷ rest) = list_all is_tail_use rest
-fits_gone _ = false
-
--- the same by a register
-abbrev pub fits_held_gone : List Operand → Bool
-fits_held_gone (ImplicitUse r ∷ Mask ∷ rest) = (nat_eq r 6 || is_tail_register r) && list_all is_tail_use rest
-fits_held_gone _ = false
-
--- the operands have the form of the opcode, with their immediate in range. Implicit operands come last
+-- the operands have the form of the opcode, with their immediate in range. Implicit operands come last. A call that doesn't return has the form of a call
 abbrev pub has_form : Op → List Operand → Bool
 has_form (Registers op) operands = fits_registers operands
 has_form (Immediate op) operands = fits_immediate op operands
@@ -177,5 +167,5 @@ has_form PseudoRet operands = list_all is_result operands
 has_form PseudoCallIndirect operands = fits_held_call operands
 has_form PseudoTail operands = fits_tail operands
 has_form PseudoTailIndirect operands = fits_held_tail operands
-has_form NoReturnCall operands = fits_gone operands
-has_form NoReturnCallIndirect operands = fits_held_gone operands
+has_form NoReturnCall operands = fits_call operands
+has_form NoReturnCallIndirect operands = fits_held_call operands

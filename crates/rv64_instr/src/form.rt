@@ -18,8 +18,6 @@ ghost use Rattle.rv64_instr.specs.Form.{
   fits_held_call,
   fits_tail,
   fits_held_tail,
-  fits_gone,
-  fits_held_gone,
 };
 
 use crate::arithmetic::{load_width, store_width};
@@ -45,8 +43,8 @@ pub fn has_form(op: Op, operands: &[Operand]) -> bool
         Op::PseudoTail => fits_tail(operands),
         Op::PseudoTailIndirect => fits_held_tail(operands),
         Op::PseudoCallIndirect => fits_held_call(operands),
-        Op::NoReturnCall => fits_gone(operands),
-        Op::NoReturnCallIndirect => fits_held_gone(operands),
+        Op::NoReturnCall => fits_call(operands),
+        Op::NoReturnCallIndirect => fits_held_call(operands),
     }
 }
 
@@ -255,26 +253,6 @@ fn fits_held_tail(operands: &[Operand]) -> bool
 {
     match operands {
         [Operand::ImplicitUse(r), rest @ ..] => {
-            (r.number() == 6 || is_tail_register(r.number())) && are_tail_uses(rest)
-        }
-        _ => false,
-    }
-}
-
-fn fits_gone(operands: &[Operand]) -> bool
-    ensures { result ≡ fits_gone operands.now }
-{
-    match operands {
-        [Operand::Symbol(_), Operand::Mask, rest @ ..] => { are_tail_uses(rest) }
-        _ => false,
-    }
-}
-
-fn fits_held_gone(operands: &[Operand]) -> bool
-    ensures { result ≡ fits_held_gone operands.now }
-{
-    match operands {
-        [Operand::ImplicitUse(r), Operand::Mask, rest @ ..] => {
             (r.number() == 6 || is_tail_register(r.number())) && are_tail_uses(rest)
         }
         _ => false,

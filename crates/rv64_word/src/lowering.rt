@@ -14,7 +14,6 @@ ghost use Rattle.rv64_instr.specs.Form.{
   fits_jump,
   fits_held_call,
   fits_held_tail,
-  fits_held_gone,
 };
 ghost use Rattle.rv64_instr.specs.Decoded.{Shows, ShowsBase};
 ghost use Rattle.rv64_instr.specs.Row as row;
@@ -126,7 +125,7 @@ fn fields(op: Op, operands: &[Operand], offset: i64, object: u32) -> Option<Mach
         Op::PseudoCall | Op::PseudoTail | Op::NoReturnCall => None,
         Op::PseudoRet => Some(machine_op(WordOp::Jalr, 0, 1, 0, 0)),
         Op::PseudoCallIndirect => Some(of_held_call(operands)),
-        Op::NoReturnCallIndirect => Some(of_held_gone(operands)),
+        Op::NoReturnCallIndirect => Some(of_held_call(operands)),
         Op::PseudoTailIndirect => Some(of_held_tail(operands)),
     }
 }
@@ -321,23 +320,6 @@ fn of_held_tail(operands: &[Operand]) -> MachineOp
                 unreachable!()
             } else {
                 machine_op(WordOp::Jalr, 0, r.number(), 0, 0)
-            }
-        }
-        _ => unreachable!(),
-    }
-}
-
-fn of_held_gone(operands: &[Operand]) -> MachineOp
-    requires { IsTrue (fits_held_gone operands.now) }
-    ensures { Some result ≡ held_fields 1 (implicit_uses operands.now) }
-{
-    match operands {
-        [Operand::ImplicitUse(r), ..] => {
-            // x2 is no callee
-            if r.number() == 2 {
-                unreachable!()
-            } else {
-                machine_op(WordOp::Jalr, 1, r.number(), 0, 0)
             }
         }
         _ => unreachable!(),

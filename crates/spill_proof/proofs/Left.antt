@@ -5,7 +5,7 @@ use Rattle.std.proofs.lemmas.Bool.{and_parts, and_from, or_left, or_right, lt-lt
 use Rattle.std.proofs.lemmas.List.Kept.{AllPairs-filter}
 use Rattle.rv64_instr.specs.declared.place.Place.{Place}
 use Rattle.rv64_instr.specs.declared.place.Place.TheVariants.{Register}
-use Rattle.rv64_instr.specs.LocationEffects.{is_call}
+use Rattle.rv64_instr.specs.LocationEffects.{has_implicit_uses}
 use Rattle.rv64_instr.specs.Row.{Row, Branches, Jumps, row_of}
 use Rattle.mir_func.specs.declared.block.Block.{Block}
 use Rattle.mir_func.specs.declared.debug_substitution.DebugSubstitution.{DebugSubstitution}
@@ -22,7 +22,6 @@ use Rattle.mir_func.specs.Limits.{MAX_SLOTS}
 use Rattle.mir_func.specs.Resolve.{resolve}
 use Rattle.mir_func.specs.Sound.{IsSound, items_of}
 use Rattle.mir_func.specs.Positions.{position_of}
-use Rattle.mir_func.specs.Calls.{is_call_kind}
 use Rattle.sem_mir.specs.InitialState.{first_of}
 use Rattle.sem_mir.specs.Follow.{OnRow, GoesTo}
 use Rattle.sem_mir.specs.Live.{Live, used, later}
@@ -35,7 +34,7 @@ use Rattle.pass_trait.specs.Rule.{Rule}
 use Rattle.spill_code.specs.declared.spilling.SlotAssignment.{SlotAssignment}
 use Rattle.spill_code.specs.Rewrite.{slot_of}
 use Rattle.spill_rule.specs.Choice.{is_added, binds, is_bound, row_goes, goes, is_looped, lacks_scratch, reason_of, is_free, candidates, room, chosen}
-use Rattle.spill_rule.specs.Choice.{next_slot}
+use Rattle.spill_rule.specs.Choice.{calls_or_ends, next_slot}
 use Rattle.spill_rule.specs.Choice.{homes_from, homes_of, spilling_of, entry_of}
 use Rattle.spill_rule.specs.Rule.{Decides}
 use Rattle.spill_proof.specs.Whole.{spilled_by, where_spilled}
@@ -135,14 +134,14 @@ kind_led n (Code i m) h = row_led n (row_of i) h
 kind_led n (Mark v m) h = absurd h
 kind_led n (Phi p m) h = absurd h
 
--- ---- calls and code that was added
+-- ---- calls, code that ends a function and code that was added
 
-called : (k : ItemKind) → is_call_kind k ≡ true → OnRow (λ (row : Row). is_call row ≡ true) k
+called : (k : ItemKind) → calls_or_ends k ≡ true → OnRow (λ (row : Row). has_implicit_uses row ≡ true) k
 called (Code i n) h = h
 called (Mark v m) h = cc
 called (Phi p n) h = cc
 
-calling : (k : ItemKind) → OnRow (λ (row : Row). is_call row ≡ true) k → is_call_kind k ≡ true
+calling : (k : ItemKind) → OnRow (λ (row : Row). has_implicit_uses row ≡ true) k → calls_or_ends k ≡ true
 calling (Code i n) h = h
 calling (Mark v m) h = absurd h
 calling (Phi p n) h = absurd h
@@ -198,9 +197,9 @@ module _ (reserve : List ℕ) (live : ℕ → Bool) (k : ℕ) (f : Function) (su
   bound r e =
       let w = some_by (binds r) (items_of f.blocks) e in
       let i : Item = w.0 in
-      let t = and_parts (names r i.kind) (is_call_kind i.kind || is_added i.origin) w.2 in
-      let how : OnRow (λ (row : Row). is_call row ≡ true) i.kind ⊎ (i.origin ≡ Before (position_of i.origin)) =
-      elim (or_cases (is_call_kind i.kind) (is_added i.origin) t.1) [
+      let t = and_parts (names r i.kind) (calls_or_ends i.kind || is_added i.origin) w.2 in
+      let how : OnRow (λ (row : Row). has_implicit_uses row ≡ true) i.kind ⊎ (i.origin ≡ Before (position_of i.origin)) =
+      elim (or_cases (calls_or_ends i.kind) (is_added i.origin) t.1) [
         | inl h ↦ inl (called i.kind h)
         | inr h ↦ inr (was_added i.origin h)
       ] in
@@ -208,11 +207,11 @@ module _ (reserve : List ℕ) (live : ℕ → Bool) (k : ℕ) (f : Function) (su
 
   unbound : (r : ℕ) → is_bound f r ≡ false → Holds CallNamed r → ⊥
   unbound r e (i, at, named, how) = not_both (is_bound f r) e
-      (any_by (binds r) (items_of f.blocks) i at (and_from (names r i.kind) (is_call_kind i.kind || is_added i.origin) named (binding how))) where
-        binding : OnRow (λ (row : Row). is_call row ≡ true) i.kind ⊎ (i.origin ≡ Before (position_of i.origin)) →
-            (is_call_kind i.kind || is_added i.origin) ≡ true
-        binding (inl h) = or_left (is_call_kind i.kind) (is_added i.origin) (calling i.kind h)
-        binding (inr h) = or_right (is_call_kind i.kind) (is_added i.origin) (ap is_added h)
+      (any_by (binds r) (items_of f.blocks) i at (and_from (names r i.kind) (calls_or_ends i.kind || is_added i.origin) named (binding how))) where
+        binding : OnRow (λ (row : Row). has_implicit_uses row ≡ true) i.kind ⊎ (i.origin ≡ Before (position_of i.origin)) →
+            (calls_or_ends i.kind || is_added i.origin) ≡ true
+        binding (inl h) = or_left (calls_or_ends i.kind) (is_added i.origin) (calling i.kind h)
+        binding (inr h) = or_right (calls_or_ends i.kind) (is_added i.origin) (ap is_added h)
 
   looped : (r : ℕ) → Contains reserve r → (live r && is_looped f) ≡ true → Holds EntryLoop r
   looped r in_reserve e =

@@ -28,7 +28,6 @@ use Rattle.mir_func.specs.declared.item.ItemKind.TheVariants.{Code, Mark, Phi}
 use Rattle.mir_func.specs.Function.{Function}
 use Rattle.mir_func.specs.Graph.{Here, program_of}
 use Rattle.mir_func.specs.Sound.{items_of, HasForm}
-use Rattle.mir_func.specs.Calls.{is_call_kind}
 use Rattle.sem_mir.specs.InitialState.{first_of}
 use Rattle.sem_mir.specs.Follow.{OnRow, GoesTo}
 use Rattle.sem_mir.specs.Live.{Live, used, later}
@@ -41,13 +40,12 @@ use Rattle.spill_code.specs.Rewrite.{slot_of}
 use Rattle.spill_simulation.specs.MaySpill.{uses_in, defs_in, implicits_in, IsNoScratch, FitsCode, Fits, AreHomes}
 use Rattle.spill_simulation.specs.Follows.{MaySpill}
 use Rattle.spill_simulation.proofs.Places.{stands_at, contains_at}
-use Rattle.spill_rule.specs.Choice.{is_added, binds, is_bound, row_goes, goes, is_looped}
+use Rattle.spill_rule.specs.Choice.{calls_or_ends, is_added, binds, is_bound, row_goes, goes, is_looped}
 use Rattle.spill_rule.specs.Choice.{lacks_scratch, reason_of, is_free, candidates, room, chosen, next_slot}
 use Rattle.spill_rule.specs.Choice.{homes_from, homes_of, spilling_of, entry_of}
 use Rattle.spill_rule.specs.Chosen.{IsReservable, AreDistinct, AsksElsewhere, ChosenMaySpill}
 use Rattle.spill_rule.specs.Rule.{Decides}
 use Rattle.spill_rule.proofs.Scratch.{kept_by, Two, two, saved, kept_registers, reservable_real, not_small}
-use Rattle.spill_rule.proofs.ImplicitOperands.{call_or_return}
 
 -- ---- lists
 
@@ -317,14 +315,14 @@ module _ (reserve : List ℕ) (live : ℕ → Bool) (f : Function) (resolve : Op
     clash r s.second (not_true (is_named f s.second) pair.second.1) i k named,
   )
 
-  -- a call and code that was added name no spilled register
-  unspilled : (r : ℕ) (i : Item) → Contains (items_of f.blocks) i → names r i.kind ≡ true → (is_call_kind i.kind || is_added i.origin) ≡ true →
+  -- a call, code that ends the function and code that was added name no spilled register
+  unspilled : (r : ℕ) (i : Item) → Contains (items_of f.blocks) i → names r i.kind ≡ true → (calls_or_ends i.kind || is_added i.origin) ≡ true →
       slot_of hs r ≡ None
   unspilled r i k named binding = by_slot (slot_of hs r) refl where
     by_slot : (x : Option ℕ) → slot_of hs r ≡ x → x ≡ None
     by_slot None e = refl
     by_slot (Some n) e = absurd (none_by (binds r) (items_of f.blocks) i (taken r n e).unbound k
-        (and_from (names r i.kind) (is_call_kind i.kind || is_added i.origin) named binding))
+        (and_from (names r i.kind) (calls_or_ends i.kind || is_added i.origin) named binding))
 
   code_fits : (ins : Instruction) (num : Option ℕ) (o : Origin) (i : Item) → i.kind ≡ Code ins num → i.origin ≡ o → Contains (items_of f.blocks) i →
       IsTrue (has_form ins.op ins.operands) → FitsCode s ins o
@@ -334,7 +332,7 @@ module _ (reserve : List ℕ) (live : ℕ → Bool) (f : Function) (resolve : Op
     defs = λ r d. scratch_free r i k (by_def r d);
     implicits = λ z r m. (by_implicit z r m, scratch_free r i k (by_name z r m));
     kept = λ p e r m. unspilled r i k (elim m as (λ _. names r i.kind ≡ true) [ inl u ↦ by_use r u | inr d ↦ by_def r d ])
-        (or_right (is_call_kind i.kind) (is_added i.origin) (ap is_added (at ∙ e)));
+        (or_right (calls_or_ends i.kind) (is_added i.origin) (ap is_added (at ∙ e)));
   } where
     abbrev_names : (r : ℕ) → names r i.kind ≡ list_any (is_of_register (has_implicit_uses (row_of ins)) r) ins.operands
     abbrev_names r = ap (names r) is
@@ -349,18 +347,8 @@ module _ (reserve : List ℕ) (live : ℕ → Bool) (f : Function) (resolve : Op
     by_name z r m =
         abbrev_names r ∙ ap (λ (t : Bool). list_any (is_of_register t r) ins.operands) z ∙ implicit_named ins.operands r m
 
-    no_result : (r : ℕ) → (IsReservable r → ⊥) → slot_of hs r ≡ None
-    no_result r w = by_slot (slot_of hs r) refl where
-      by_slot : (x : Option ℕ) → slot_of hs r ≡ x → x ≡ None
-      by_slot None e = refl
-      by_slot (Some n) e = absurd (w (reserved r n e))
-
     by_implicit : has_implicit_uses (row_of ins) ≡ true → (r : ℕ) → Contains (implicits_in ins.operands) r → slot_of hs r ≡ None
-    by_implicit z r m =
-        elim (call_or_return ins.op ins.operands form z) as (λ _. slot_of hs r ≡ None) [
-          | inl call ↦ unspilled r i k (by_name z r m) (or_left (is_call_kind i.kind) (is_added i.origin) (ap is_call_kind is ∙ call))
-          | inr others ↦ no_result r (others r m)
-        ]
+    by_implicit z r m = unspilled r i k (by_name z r m) (or_left (calls_or_ends i.kind) (is_added i.origin) (ap calls_or_ends is ∙ z))
 
   item_fits : (i : Item) → Contains (items_of f.blocks) i → HasForm i.kind → AsksElsewhere s i.kind → Fits s i.kind i.origin
   item_fits i k form ask = by_kind i.kind refl form ask where

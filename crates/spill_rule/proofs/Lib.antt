@@ -1,5 +1,4 @@
 pub mod Scratch
-mod ImplicitOperands
 pub mod Chosen
 pub mod Flat
 pub mod RuleFollows

@@ -107,7 +107,3 @@ reservable_real r (inr (a, b)) = omega (arith, b)
 pub not_small : (r n : ℕ) → IsReservable r → r ≡ n → n < 8 → ⊥
 not_small r n (inl (a, b)) e lt = omega (arith, a, e, lt)
 not_small r n (inr (a, b)) e lt = omega (arith, a, e, lt)
-
-pub not_result : (r : ℕ) → IsReservable r → 10 ≤ r → r ≤ 17 → ⊥
-not_result r (inl (a, b)) c d = omega (arith, a, b, c, d)
-not_result r (inr (a, b)) c d = omega (arith, a, b, c, d)

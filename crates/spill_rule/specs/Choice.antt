@@ -3,6 +3,7 @@ use Rattle.std.specs.Prelude.{ℕ, ◌+◌, ◌-◌, List, [], ◌∷◌, ◌++�
 use Rattle.std.specs.Prelude.{take, length, Option, Some, None, Bool, true, false, cond, ◌&&◌, ◌||◌}
 use Rattle.std.specs.Prelude.{nat_eq, nat_lt}
 use Rattle.std.specs.List.{list_any}
+use Rattle.rv64_instr.specs.LocationEffects.{has_implicit_uses}
 use Rattle.rv64_instr.specs.Row.{Row, row_of}
 use Rattle.mir_func.specs.declared.exit.Exit.{Exit}
 use Rattle.mir_func.specs.declared.exit.Exit.TheVariants.{Onward, Perhaps, Always, Final}
@@ -15,7 +16,6 @@ use Rattle.mir_func.specs.declared.item.ItemKind.TheVariants.{Code, Mark, Phi}
 use Rattle.mir_func.specs.Function.{Function}
 use Rattle.mir_func.specs.Limits.{MAX_SLOTS}
 use Rattle.mir_func.specs.Sound.{items_of}
-use Rattle.mir_func.specs.Calls.{is_call_kind}
 use Rattle.sem_mir.specs.InitialState.{first_of}
 use Rattle.pass_trait.specs.declared.loss.Reason.{Reason}
 use Rattle.pass_trait.specs.declared.loss.Reason.TheVariants.{NoScratch, CallNamed, EntryLoop}
@@ -32,11 +32,17 @@ abbrev pub is_added : Origin → Bool
 is_added (Before p) = true
 is_added (Kept p) = false
 
--- the item is a call or added code, and names the register
-abbrev pub binds : ℕ → Item → Bool
-binds r i = names r i.kind && (is_call_kind i.kind || is_added i.origin)
+-- code that calls, or ends the function: its implicit uses are reads
+abbrev pub calls_or_ends : ItemKind → Bool
+calls_or_ends (Code i k) = has_implicit_uses (row_of i)
+calls_or_ends (Mark v m) = false
+calls_or_ends (Phi p k) = false
 
--- some call or added code names the register, so it can't be spilled
+-- the item calls, ends the function (a call that doesn't return does) or is added code, and names the register
+abbrev pub binds : ℕ → Item → Bool
+binds r i = names r i.kind && (calls_or_ends i.kind || is_added i.origin)
+
+-- such an item names the register, so it can't be spilled
 abbrev pub is_bound : Function → ℕ → Bool
 is_bound f r = list_any (binds r) (items_of f.blocks)
 

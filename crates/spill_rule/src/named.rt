@@ -3,11 +3,10 @@
 ghost use Rattle.std.specs.Prelude.{◌≡◌, ◌&&◌};
 ghost use Rattle.std.specs.List.{list_any};
 ghost use Rattle.rv64_instr.specs.Row.{row_of};
-ghost use Rattle.rv64_instr.specs.LocationEffects.{is_call, has_implicit_uses};
-ghost use Rattle.mir_func.specs.Calls.{is_call_kind};
+ghost use Rattle.rv64_instr.specs.LocationEffects.{has_implicit_uses};
 ghost use Rattle.sem_mir.specs.InitialState.{first_of};
 ghost use Rattle.pass_trait.specs.Causes.{is_of_register, names, is_named};
-ghost use Rattle.spill_rule.specs.Choice.{is_added, binds, is_bound, row_goes, goes, is_looped};
+ghost use Rattle.spill_rule.specs.Choice.{calls_or_ends, is_added, binds, is_bound, row_goes, goes, is_looped};
 ghost use Rattle.spill_rule.specs.steps.Any.{any_item};
 
 use base_ids::function_ids::BlockId;
@@ -16,7 +15,6 @@ use mir_func::func::Func;
 use mir_func::item::{Item, ItemKind};
 use mir_func::position::Origin;
 use rv64_instr::decoded::Decoded;
-use rv64_instr::effects::is_call;
 use rv64_instr::instr::Instr;
 use rv64_instr::operand::Operand;
 use rv64_instr::reg::Reg;
@@ -35,7 +33,7 @@ fn names_any(blocks: &[Block], r: Reg) -> bool
     blocks.iter().any(|b| is_named_in(b.items.as_slice(), r))
 }
 
-/// Whether some call or added code names the register.
+/// Whether some call, code that ends the function or added code names the register.
 pub fn is_bound(f: &Func, r: Reg) -> bool
     ensures { result ≡ is_bound f.now r }
 {
@@ -91,7 +89,7 @@ fn has_branch_in(items: &[Item], n: BlockId) -> bool
 fn binds(r: Reg, i: &Item) -> bool
     ensures { result ≡ binds r i.now }
 {
-    names(r, &i.kind) && (is_call_kind(&i.kind) || is_added(i.origin))
+    names(r, &i.kind) && (calls_or_ends(&i.kind) || is_added(i.origin))
 }
 
 fn is_added(origin: Origin) -> bool
@@ -103,11 +101,11 @@ fn is_added(origin: Origin) -> bool
     }
 }
 
-fn is_call_kind(kind: &ItemKind) -> bool
-    ensures { result ≡ is_call_kind kind.now }
+fn calls_or_ends(kind: &ItemKind) -> bool
+    ensures { result ≡ calls_or_ends kind.now }
 {
     match kind {
-        ItemKind::Code(i, _) => is_call(i),
+        ItemKind::Code(i, _) => has_implicit_uses(i),
         ItemKind::Mark(_, _) | ItemKind::Phi(_, _) => false,
     }
 }

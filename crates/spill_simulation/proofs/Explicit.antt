@@ -317,10 +317,10 @@ by_op PseudoTailIndirect (ImplicitUse q ∷ rest) e =
     (behind (nat_eq q 6 || is_tail_register q) (list_all is_tail_use rest) e) (held_tail_row_of (implicit_uses (ImplicitUse q ∷ rest)))
 by_op NoReturnCall (Symbol name ∷ Mask ∷ rest) e =
     let r = row_by NoReturnCall (Symbol name ∷ Mask ∷ rest) in
-    ended r rest is_tail_use tail_none_of e (implicit_row r refl)
+    ended r rest is_argument argument_none_of e (implicit_row r refl)
 by_op NoReturnCallIndirect (ImplicitUse q ∷ Mask ∷ rest) e =
-    ended (held_gone (implicit_uses (ImplicitUse q ∷ Mask ∷ rest))) rest is_tail_use tail_none_of
-    (behind (nat_eq q 6 || is_tail_register q) (list_all is_tail_use rest) e) (held_gone_row_of (implicit_uses (ImplicitUse q ∷ Mask ∷ rest)))
+    ended (held_gone (implicit_uses (ImplicitUse q ∷ Mask ∷ rest))) rest is_argument argument_none_of
+    (behind (nat_le 5 q && nat_lt q 32) (list_all is_argument rest) e) (held_gone_row_of (implicit_uses (ImplicitUse q ∷ Mask ∷ rest)))
 by_op _ _ e = cc
 
 pub explicit : (i : Instruction) → IsTrue (has_form i.op i.operands) → Explicit (row_of i) (uses_in i.operands) (defs_in i.operands)

@@ -79,6 +79,7 @@ enum Part {
     Def(u32),
     Use(u32),
     Takes(u32),
+    Sets(u32),
     Imm(i64),
     Slot(u32),
     Object(u32),
@@ -94,6 +95,7 @@ fn operand(alloc: Global, part: &Part) -> Option<Operand> {
         Def(n) => Some(Operand::Def(physical(*n)?)),
         Use(n) => Some(Operand::Use(physical(*n)?)),
         Takes(n) => Some(Operand::ImplicitUse(physical(*n)?)),
+        Sets(n) => Some(Operand::ImplicitDef(physical(*n)?)),
         Imm(i) => Some(Operand::Imm(*i)),
         Slot(n) => Some(Operand::Slot(SlotId(*n))),
         Object(n) => Some(Operand::Object(ObjectId(*n))),
@@ -226,7 +228,7 @@ fn words_of_instructions(rt: HostRuntime) {
 }
 
 /// An opcode, operands, and whether they have its form. The callee of a call in tail position is in a register that the
-/// epilogue leaves alone, and so is what it passes; x2 is no callee.
+/// epilogue leaves alone, and so is what it passes; x2 is no callee. A call that doesn't return has the form of a call.
 const FORMS: &[(Op, &[Part], bool)] = &[
     (CALL_BY, &[Takes(8), Mask, Takes(9)], true),
     (CALL_BY, &[Takes(2), Mask], false),
@@ -239,6 +241,10 @@ const FORMS: &[(Op, &[Part], bool)] = &[
     (TAIL_BY, &[Takes(8), Takes(2)], false),
     (TAIL_BY, &[Takes(1)], false),
     (Op::NoReturnCall, &[Symbol, Mask, Takes(10)], true),
+    (Op::NoReturnCall, &[Symbol, Mask, Sets(1), Takes(8)], true),
+    (Op::NoReturnCall, &[Symbol, Mask, Sets(8)], false),
+    (Op::NoReturnCall, &[Symbol, Takes(10)], false),
+    (GONE_BY, &[Takes(8), Mask, Takes(9)], true),
     (GONE_BY, &[Takes(10), Takes(11)], false),
 ];
 
