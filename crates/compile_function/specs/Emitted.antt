@@ -9,7 +9,7 @@ use Rattle.listing_text.specs.declared.output.ListedFunction.{ListedFunction}
 use Rattle.dwarf_loclists.specs.declared.range.Range.{Range}
 use Rattle.dwarf_loclists.specs.Ranges.{Ascend, ArePlaces}
 use Rattle.pass_trait.specs.declared.loss.Loss.{Loss}
-use Rattle.frame_rule.specs.Rule.{framed_of, size_of}
+use Rattle.frame_rule.specs.Rule.{framed_of, reach_of}
 use Rattle.compile_function.specs.declared.compiled_function.CompiledFunction.{CompiledFunction}
 use Rattle.compile_function.specs.declared.emit.EmittedFunctions.{EmittedFunctions}
 use Rattle.listing_function.specs.Variables.{name_of}
@@ -44,7 +44,7 @@ lists_of functions = flat_map (λ c. c.lists) functions
 -- the passed function, of which passes lost this, is compiled from an address on
 pub record IsOneCompiled (p : PassedFunction) (lost : List Loss) (base : ℕ) (c : CompiledFunction) : Type 0 where
   pub code : IsCodeOf (framed_of p.function) base c.code
-  pub fits : size_of p.function ≤ MAX_FRAME
+  pub fits : reach_of p.function ≤ MAX_FRAME
   pub few : count_of (framed_of p.function).blocks < MAX_WORDS
   pub variables : c.variables ≡ variables_of_function p.source.function.blocks
   pub lists : AreListsOf (framed_program (framed_of p.function).blocks (resolve p.substitutions)) (block_start 0) c.code.entries c.variables c.lists

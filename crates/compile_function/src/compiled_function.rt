@@ -6,7 +6,7 @@ ghost use Rattle.mir_func.specs.Limits.{MAX_FRAME};
 ghost use Rattle.mir_func.specs.Resolve.{resolve};
 ghost use Rattle.mir_func.specs.Sound.{AllItems};
 ghost use Rattle.mir_func.specs.SoundFrame.{HasPhysical};
-ghost use Rattle.frame_rule.specs.Rule.{size_of, framed_of};
+ghost use Rattle.frame_rule.specs.Rule.{reach_of, framed_of};
 ghost use Rattle.emit_code.specs.Counts.{MAX_WORDS, MAX_BASE, count_of};
 ghost use Rattle.emit_code.specs.Laid.{IsCodeOf};
 ghost use Rattle.dwarf_loclists.specs.Ranges.{Ascend};
@@ -54,7 +54,7 @@ pub fn compile_function(
     requires aligned { base % 4 ≡ 0 }
     requires low { base < MAX_BASE }
     ensures code { IfOk result (λ c. IsCodeOf (framed_of f.now) base c.code) }
-    ensures fits { OnOk result (size_of f.now ≤ MAX_FRAME) }
+    ensures fits { OnOk result (reach_of f.now ≤ MAX_FRAME) }
     ensures few { OnOk result (count_of (framed_of f.now).blocks < MAX_WORDS) }
     ensures variables { IfOk result (λ c. c.variables ≡ variables_of_function source.now.blocks) }
     ensures lists { IfOk result (λ c.
@@ -63,7 +63,7 @@ pub fn compile_function(
     ensures losses { IfOk result (λ c. c.losses ≡ losses) }
     ensures ascend { IfOk result (λ c. All Ascend c.lists) }
     ensures not_physical { IsErrOf result CodeError.Virtual → AllItems (λ i. HasPhysical i.kind) f.now.blocks → ⊥ }
-    ensures too_large { IsErrOf result CodeError.FrameTooLarge → MAX_FRAME < size_of f.now }
+    ensures too_large { IsErrOf result CodeError.FrameTooLarge → MAX_FRAME < reach_of f.now }
     ensures too_long { IsErrOf result CodeError.TooLong → MAX_WORDS ≤ count_of (framed_of f.now).blocks }
 {
     let code = code_of(alloc, f, base)?;

@@ -5,7 +5,7 @@ ghost use Rattle.std.specs.List.{flat_map};
 ghost use Rattle.std.specs.Int.{w32, to_le_bytes};
 ghost use Rattle.emit_code.specs.Counts.{MAX_WORDS, MAX_BASE};
 ghost use Rattle.emit_code.specs.Rule.{Layout};
-ghost use Rattle.frame_rule.specs.Rule.{size_of};
+ghost use Rattle.frame_rule.specs.Rule.{reach_of};
 ghost use Rattle.compile_function.specs.Emitted.{IsOneCompiled, IsPushed};
 ghost use Rattle.listing_function.specs.Laid.{IsLaid};
 ghost use Rattle.listing_function.specs.Variables.{variables_listed};
@@ -63,7 +63,7 @@ pub fn push_function(
     requires physical { AllItems (λ i. HasPhysical i.kind) function.now.blocks }
     ensures pushed { OnOk result
         (IsPushed meta.now (passed_of source.now function.now subs.now) losses made.old made.new) }
-    ensures too_large { IsErrOf result CompileError.FrameTooLarge → MAX_FRAME < size_of function.now }
+    ensures too_large { IsErrOf result CompileError.FrameTooLarge → MAX_FRAME < reach_of function.now }
     ensures no_section { IsErrOf result CompileError.SectionTooLarge → ⊥ }
 {
     let base = made.text.len() as u64;
@@ -125,7 +125,7 @@ fn compiled(
     requires few { length (items_of function.now.blocks) ≤ MAX_PASSED }
     requires physical { AllItems (λ i. HasPhysical i.kind) function.now.blocks }
     ensures compiled { IfOk result (IsOneCompiled (passed_of source.now function.now subs.now) losses base) }
-    ensures too_large { IsErrOf result CompileError.FrameTooLarge → MAX_FRAME < size_of function.now }
+    ensures too_large { IsErrOf result CompileError.FrameTooLarge → MAX_FRAME < reach_of function.now }
     ensures no_section { IsErrOf result CompileError.SectionTooLarge → ⊥ }
 {
     match compile_function(alloc, &source.func, function, subs, losses, base) {

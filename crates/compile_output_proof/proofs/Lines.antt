@@ -13,6 +13,7 @@ use Rattle.listing_text.specs.declared.output.ListedFunction.{ListedFunction}
 use Rattle.dwarf_line.specs.declared.table.Row.{Row}
 use Rattle.dwarf_loclists.specs.declared.range.Range.{Range}
 use Rattle.frame_rule.specs.Rule.{framed_of}
+use Rattle.frame_rule.proofs.Reach.{size_fits}
 use Rattle.dwarf_line_table.specs.Laws.{LieFrom, HasCodeAt}
 use Rattle.dwarf_line_table.specs.Rows.{IsRowAt, GivesLine}
 use Rattle.dwarf_line_table.proofs.Members.{no_member, head_member, later_member, member_cases}
@@ -207,7 +208,7 @@ module _ (p : Program) (ps : List PassedFunction) (passed : ArePassed p.meta p.f
 
     forms : AllItems IsFormed pair.function.layout.framed.blocks
     forms = subst (λ (x : FramedFunction). AllItems IsFormed x.blocks) (sym pair.function.laid.framed)
-        (forms_framed made.function pair.function.laid.small is.passed.follower.form)
+        (forms_framed made.function (size_fits made.function 2032 pair.function.laid.small) is.passed.follower.form)
 
     entered : (a : ℕ) (line : Line) → HasByte f a line → (e : EncodedInstruction) × HasCodeAt cs a pair.code e × (e.origin ≡ origin_of line)
     entered a line has =

@@ -21,6 +21,7 @@ use Rattle.mir_func.specs.declared.variable.MarkValue.TheVariants.{Nothing, Cons
 use Rattle.mir_func.specs.declared.variable.VarId.{VarId}
 use Rattle.mir_func.specs.Function.{Function}
 use Rattle.mir_func.specs.Limits.{MAX_SLOTS}
+use Rattle.mir_func.specs.Objects.{HasNoFixed}
 use Rattle.base_ids.specs.Limits.{MAX_NUMBER}
 use Rattle.mir_func.specs.Resolve.{resolve}
 use Rattle.mir_func.specs.Sound.{AllItems, items_of, IsSound, HasForm}
@@ -253,6 +254,7 @@ module _ (meta : Maps) (q : Parsed) (passes : List PassKind) (f : Function) (sub
       };
       name = shown.name;
       physical = growth.physical read.physical;
+      unfixed = subst HasNoFixed (sym follows.objects) read.unfixed;
       marks = in_blocks (λ i. MarksOneOf vs i.kind) f.blocks (λ i among. marks_one i i.kind refl among);
     };
     shown = shown;

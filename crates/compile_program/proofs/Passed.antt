@@ -5,7 +5,7 @@ use Rattle.std.proofs.lemmas.List.Elements.{All-nil, All-cons}
 use Rattle.emit_code.specs.Laid.{LaidCode}
 use Rattle.pass_trait.specs.declared.loss.Loss.{Loss}
 use Rattle.pass_trait.specs.Steps.{PassStep}
-use Rattle.frame_rule.specs.Rule.{size_of}
+use Rattle.frame_rule.specs.Rule.{reach_of}
 use Rattle.mir_func.specs.declared.debug_substitution.DebugSubstitution.{DebugSubstitution}
 use Rattle.mir_func.specs.Function.{Function}
 use Rattle.mir_func.specs.Limits.{MAX_FRAME}
@@ -43,7 +43,7 @@ passed_functions meta (f ∷ fs) (p ∷ ps) are =
 -- a function that passes made has a frame above the limit
 pub made_too_large : (reserve : List ℕ) (passes : List PassKind) (q : Parsed) (f : Function) (subs : List DebugSubstitution) (losses : List Loss)
     (meta : Maps) →
-    IsMadeLosing reserve passes (passed_of q f subs) losses → IsCompilable meta (passed_of q f subs) → MAX_FRAME < size_of f →
+    IsMadeLosing reserve passes (passed_of q f subs) losses → IsCompilable meta (passed_of q f subs) → MAX_FRAME < reach_of f →
     IsTooLarge (steps_of reserve passes) q
 made_too_large reserve passes q f subs losses meta by is large = record {
   passed = passed_of q f subs;

@@ -12,7 +12,7 @@ use Rattle.dwarf_loclists.specs.declared.range.Range.{Range}
 use Rattle.dwarf_loclists.specs.Grammar.{IsSection}
 use Rattle.dwarf_loclists.specs.Spelling.{spelling as lists_spelling}
 use Rattle.pass_trait.specs.Steps.{PassStep}
-use Rattle.frame_rule.specs.Rule.{size_of, framed_of}
+use Rattle.frame_rule.specs.Rule.{reach_of, framed_of}
 pub use Rattle.compile_function.specs.Emitted.{names_of, text_of, lists_of, AreWritable}
 use Rattle.compile_function.specs.declared.compiled_function.CompiledFunction.{CompiledFunction}
 pub use Rattle.compile_function.specs.Passed.{source_of, IsMadeBy, IsMadeLosing, IsCompilable, steps_of, passes_of}
@@ -132,7 +132,7 @@ pub record HasLargeFrame (steps : List PassStep) (functions : List Parsed) : Typ
   pub source : passed.source ≡ source_of function
   pub keeps : IsPassedFunction passed
   pub made : IsMadeBy steps passed
-  pub large : MAX_FRAME < size_of passed.function
+  pub large : MAX_FRAME < reach_of passed.function
 
 -- A section of the location lists, of the unit or of the line number table would be too large.
 abbrev pub IsLarge : (meta : Maps) → (text_len : ℕ) → List (List Range) → List SourceAndCode → Type 0

@@ -5,6 +5,7 @@ use Rattle.std.specs.Prelude.{Contains}
 use Rattle.mir_func.specs.declared.position.Pos.{Pos}
 use Rattle.mir_func.specs.Function.{FramedFunction}
 use Rattle.mir_func.specs.Graph.{block_start, framed_program}
+use Rattle.mir_func.specs.Objects.{HasNoFixed}
 use Rattle.mir_func.specs.Resolve.{resolve}
 use Rattle.mir_func.specs.Sound.{AllItems}
 use Rattle.sem_mir.specs.PreferredLocation.{IsPreferredLocation}
@@ -15,6 +16,7 @@ use Rattle.emit_code.specs.Rule.{Layout, entries_of}
 use Rattle.emit_code.specs.steps.Emitted.{IsFormed}
 use Rattle.emit_code.proofs.Stand.{stands}
 use Rattle.frame_rule.specs.Rule.{framed_of}
+use Rattle.frame_rule.proofs.Reach.{size_fits}
 use Rattle.machine_steps_proof.specs.Images.{IsImageOf}
 use Rattle.machine_proof.specs.Lists.{GiveWanted}
 use Rattle.machine_proof.proofs.Lists.{exact_give_wanted}
@@ -61,9 +63,12 @@ first_byte l a p at =
 
 module _ (names : ℕ → List ℕ) (o : Output) (lists : List (List Range)) (section : IsSection o.loclists lists) (passed : PassedFunction) (f : ListedFunction)
     (is : IsPassedFunction passed) (c : IsCompiledIn names o.text lists passed f) where
+  pub unfixed : HasNoFixed c.compiled.layout.framed.objects
+  unfixed = subst (λ (x : FramedFunction). HasNoFixed x.objects) (sym c.compiled.laid.framed) is.unfixed
+
   pub formed : AreFormed c.compiled.layout.framed
   formed = subst (λ (x : FramedFunction). AllItems IsFormed x.blocks) (sym c.compiled.laid.framed)
-      (forms_framed passed.function c.compiled.laid.small is.follower.form)
+      (forms_framed passed.function (size_fits passed.function 2032 c.compiled.laid.small) is.follower.form)
 
   pub exact : AreExact (framed_program c.compiled.layout.framed.blocks (resolve passed.substitutions)) (block_start 0)
       (IsByteOf (entries_of c.compiled.layout)) (Gives o f)
@@ -76,7 +81,7 @@ module _ (names : ℕ → List ℕ) (o : Output) (lists : List (List Range)) (se
       let l = c.compiled.layout in
       let at : drop l.base o.text ≡ bytes_of l ++ c.more = ap (λ (n : ℕ). drop n o.text) c.compiled.laid.from ∙ c.words in
       subst (λ (x : ListedFunction). IsImageOf l (image_of o x)) (sym c.compiled.listed) (image_shown l (variable_lines names c.first
-      (variables_of_function passed.source.function.blocks)) passed.substitutions o c.more formed at)
+      (variables_of_function passed.source.function.blocks)) passed.substitutions o c.more formed unfixed at)
 
   give_wanted : GiveWanted (framed_program (framed_of passed.function).blocks (resolve passed.substitutions)) (IsEntryAt c.compiled.layout) (Gives o f)
   give_wanted =

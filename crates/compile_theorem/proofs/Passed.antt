@@ -17,5 +17,6 @@ sources_follow_themselves source is = record {
   };
   name = refl;
   physical = is.physical;
+  unfixed = is.unfixed;
   marks = own_marks source.function.blocks;
 }

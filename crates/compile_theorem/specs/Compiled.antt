@@ -11,7 +11,7 @@ use Rattle.emit_code.specs.Counts.{MAX_WORDS, MAX_BASE, count_of}
 use Rattle.emit_code.specs.Laid.{IsWorded}
 use Rattle.emit_code.specs.BranchRelaxation.{IsSettled}
 use Rattle.emit_code.specs.Rule.{Layout, entries_of, words_of}
-use Rattle.frame_rule.specs.Rule.{size_of, framed_of}
+use Rattle.frame_rule.specs.Rule.{reach_of, framed_of}
 use Rattle.dwarf_loclists.specs.declared.range.Range.{Range}
 use Rattle.dwarf_loclists.specs.Grammar.{IsSection}
 use Rattle.location_ranges.specs.Lists.{AreListsOf}
@@ -33,7 +33,7 @@ pub record IsLayoutOf (function : Function) (base : ℕ) (l : Layout) : Type 0 w
   pub worded : IsWorded l
   pub low : l.base < MAX_BASE
   pub few : count_of l.framed.blocks < MAX_WORDS
-  pub small : size_of function ≤ MAX_FRAME
+  pub small : reach_of function ≤ MAX_FRAME
 
 -- the bytes of a layout in `.text`: its words in little-endian order
 abbrev pub bytes_of : Layout → List ℕ

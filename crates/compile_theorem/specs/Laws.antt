@@ -7,7 +7,7 @@ use Rattle.mir_func.specs.Limits.{MAX_FRAME}
 use Rattle.mir_func.specs.Resolve.{resolve}
 use Rattle.emit_code.specs.Counts.{MAX_WORDS, MAX_BASE, count_of}
 use Rattle.emit_code.specs.Laid.{LaidCode, IsCodeOf}
-use Rattle.frame_rule.specs.Rule.{size_of, framed_of}
+use Rattle.frame_rule.specs.Rule.{reach_of, framed_of}
 use Rattle.dwarf_loclists.specs.declared.range.Range.{Range}
 use Rattle.location_ranges.specs.Lists.{AreListsOf}
 use Rattle.dwarf_unit.specs.Variables.{variables_of_function}
@@ -56,7 +56,7 @@ CompiledHasWords = (names : ℕ → List ℕ) (functions : List PassedFunction) 
 abbrev pub CodesAreCompiled : Type 0
 CodesAreCompiled = (names : ℕ → List ℕ) (p : PassedFunction) (base first : ℕ) (f : ListedFunction) (code : LaidCode) (lists : List (List Range)) →
     (is : IsCodeOf (framed_of p.function) base code) → base < MAX_BASE → count_of (framed_of p.function).blocks < MAX_WORDS →
-    size_of p.function ≤ MAX_FRAME →
+    reach_of p.function ≤ MAX_FRAME →
     AreListsOf (framed_program (framed_of p.function).blocks (resolve p.substitutions)) (block_start 0) code.entries
     (variables_of_function p.source.function.blocks) lists →
     f ≡ listing_of is.layout (variable_lines names first (variables_of_function p.source.function.blocks)) p.substitutions →

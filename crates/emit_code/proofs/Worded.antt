@@ -91,9 +91,8 @@ module _ (l : Layout) (s : Sound l) where
   room_of : (n bytes : ℕ) → HasBytes l.framed.objects n bytes → own_size l.framed + offset_of l.framed.objects n + bytes ≤ 2047
   room_of n bytes has =
       let within = bytes_within l.framed.objects n bytes has in
-      let size = s.framed.small in
-      let room = s.framed.room in
-      omega (arith, within, size, room)
+      let reach = s.framed.reach in
+      omega (arith, within, reach)
 
   slot_low : (n : ℕ) → Contains (slot_offsets l.framed) n → n ≤ 2047
   slot_low n has =

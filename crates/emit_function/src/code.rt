@@ -4,7 +4,7 @@ ghost use Rattle.std.specs.Prelude.{◌≡◌, ◌<◌, ◌≤◌, ◌%◌, IfOk
 ghost use Rattle.mir_func.specs.Limits.{MAX_FRAME};
 ghost use Rattle.mir_func.specs.Sound.{AllItems};
 ghost use Rattle.mir_func.specs.SoundFrame.{HasPhysical};
-ghost use Rattle.frame_rule.specs.Rule.{size_of, framed_of};
+ghost use Rattle.frame_rule.specs.Rule.{reach_of, framed_of};
 ghost use Rattle.emit_code.specs.Counts.{MAX_WORDS, MAX_BASE, count_of};
 ghost use Rattle.emit_code.specs.Laid.{IsCodeOf};
 ghost use Rattle.emit_function.specs.declared.code.CodeError.TheVariants.{Memory};
@@ -48,10 +48,10 @@ pub fn code_of(alloc: Global, f: &Func, base: u64) -> Result<Code, CodeError>
     requires aligned { base % 4 ≡ 0 }
     requires low { base < MAX_BASE }
     ensures laid { IfOk result (IsCodeOf (framed_of f.now) base) }
-    ensures fits { OnOk result (size_of f.now ≤ MAX_FRAME) }
+    ensures fits { OnOk result (reach_of f.now ≤ MAX_FRAME) }
     ensures few { OnOk result (count_of (framed_of f.now).blocks < MAX_WORDS) }
     ensures not_physical { IsErrOf result CodeError.Virtual → AllItems (λ i. HasPhysical i.kind) f.now.blocks → ⊥ }
-    ensures too_large { IsErrOf result CodeError.FrameTooLarge → MAX_FRAME < size_of f.now }
+    ensures too_large { IsErrOf result CodeError.FrameTooLarge → MAX_FRAME < reach_of f.now }
     ensures too_long { IsErrOf result CodeError.TooLong → MAX_WORDS ≤ count_of (framed_of f.now).blocks }
 {
     if !is_physical(f) {

@@ -119,7 +119,4 @@ function_made f frame is name offsets objects blocks n o os bs =
 pub made_is_framed : (f : Function) (frame : Frame) (made : FramedFunction) → IsFrameOf f frame → IsSound f → AllItems (λ i. HasPhysical i.kind) f.blocks →
     made ≡ framed_of f → IsFramed made
 made_is_framed f frame made is sound physical same =
-    let size = is.size in
-    let small = is.small in
-    let fits : size_of f ≤ 2032 = omega (arith, size, small) in
-    subst IsFramed (sym same) (is_framed f sound fits physical)
+    subst IsFramed (sym same) (is_framed f sound is.reach physical)

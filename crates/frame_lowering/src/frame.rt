@@ -2,13 +2,13 @@
 
 ghost use Rattle.std.specs.Prelude.{◌<◌, IfOk, IsErrOf};
 ghost use Rattle.mir_func.specs.Limits.{MAX_FRAME};
-ghost use Rattle.frame_rule.specs.Rule.{size_of};
+ghost use Rattle.frame_rule.specs.Rule.{reach_of};
 ghost use Rattle.frame_lowering.specs.steps.Framing.{IsFrameOf};
 
 use crate::lower::LowerError;
 use crate::places::{DOUBLEWORD, saved_places};
 use crate::saving::saved_registers;
-use crate::sizes::{MAX_FRAME, size};
+use crate::sizes::{MAX_FRAME, reach, size};
 use crate::slots::SlotOffsets;
 use mir_func::framed::Saved;
 use mir_func::func::Func;
@@ -26,17 +26,21 @@ pub struct Frame {
 }
 
 impl Frame {
-    /// Computes the frame of this function. The error is `FrameTooLarge` exactly above 2,032 bytes.
+    /// Computes the frame of this function. The error is `FrameTooLarge` exactly if it has more than 2,032 bytes, or if
+    /// an argument on the stack ends more than 2,032 bytes above x2.
     pub fn new(alloc: Global, f: &Func) -> Result<Frame, LowerError>
         ensures made { IfOk result (IsFrameOf f.now) }
-        ensures too_large { IsErrOf result LowerError.FrameTooLarge → MAX_FRAME < size_of f.now }
+        ensures too_large { IsErrOf result LowerError.FrameTooLarge → MAX_FRAME < reach_of f.now }
     {
         let slots = f.slots.as_slice();
         let registers = saved_registers(alloc, f.blocks.as_slice())?;
-        let size = size(slots.len() + registers.len(), f.objects.as_slice());
-        if MAX_FRAME < size {
+        let objects = f.objects.as_slice();
+        let count = slots.len() + registers.len();
+        let reach = reach(count, objects);
+        if MAX_FRAME < reach {
             return Err(LowerError::FrameTooLarge);
         }
+        let size = size(count, objects);
         Ok(Frame {
             size: size as u32,
             slots: SlotOffsets::new(alloc, slots)?,

@@ -4,7 +4,7 @@ ghost use Rattle.std.specs.Prelude.{◌≡◌, ◌≤◌, ◌<◌, ◌+◌, leng
 ghost use Rattle.mir_func.specs.Limits.{MAX_BLOCKS, MAX_FRAME};
 ghost use Rattle.mir_func.specs.Sound.{AllItems};
 ghost use Rattle.mir_func.specs.SoundFrame.{HasPhysical};
-ghost use Rattle.frame_rule.specs.Rule.{size_of, framed_of};
+ghost use Rattle.frame_rule.specs.Rule.{reach_of, framed_of};
 ghost use Rattle.frame_lowering.specs.declared.lower.LowerError.TheVariants.{Memory};
 
 use crate::blocks::framed_blocks;
@@ -35,13 +35,13 @@ impl From<AllocError> for LowerError {
 }
 
 /// The function with its frame (RISC-V ELF psABI, "Integer Calling Convention"). The error is `FrameTooLarge` exactly
-/// if the frame would have more than 2,032 bytes.
+/// if the frame would have more than 2,032 bytes, or if an argument on the stack would end more than 2,032 above x2.
 pub fn lower(alloc: Global, f: &Func) -> Result<Framed, LowerError>
     requires physical { AllItems (λ i. HasPhysical i.kind) f.now.blocks }
     ensures framed { IfOk result (λ g. g ≡ framed_of f.now) }
     ensures few { IfOk result (λ g. length g.blocks ≤ MAX_BLOCKS + 1) }
-    ensures fits { OnOk result (size_of f.now ≤ MAX_FRAME) }
-    ensures too_large { IsErrOf result LowerError.FrameTooLarge → MAX_FRAME < size_of f.now }
+    ensures fits { OnOk result (reach_of f.now ≤ MAX_FRAME) }
+    ensures too_large { IsErrOf result LowerError.FrameTooLarge → MAX_FRAME < reach_of f.now }
 {
     let frame = Frame::new(alloc, f)?;
     Ok(Framed {

@@ -10,7 +10,8 @@ use Rattle.mir_func.specs.Function.{Function}
 use Rattle.mir_func.specs.Graph.{block_start}
 use Rattle.mir_func.specs.Sound.{AreApart, ids_of, AllItems, TargetsIn, LeavesPointer, EndsWell, LastCloses, IsSound}
 use Rattle.mir_func.specs.SoundFrame.{SAVED, HasPhysical, prologue_code, epilogue_code, AreCode, GivesBack, HasFrame, body_of, NumberedAlike, IsFramed}
-use Rattle.frame_rule.specs.Rule.{saved_of, size_of, added_all, framed_block, framed_blocks, framed_of}
+use Rattle.frame_rule.specs.Rule.{saved_of, size_of, reach_of, added_all, framed_block, framed_blocks, framed_of}
+use Rattle.frame_rule.proofs.Reach.{size_fits}
 use Rattle.frame_rule.proofs.Saved.{saved_in, none_saved}
 use Rattle.frame_rule.proofs.Offsets.{offsets_apart, offsets_fit, count_is}
 use Rattle.frame_rule.proofs.Parts.{slots_hold, objects_hold, targets_hold, physical_holds}
@@ -65,8 +66,8 @@ module _ (f : Function) (sound : IsSound f) where
               (gives_all n made (b ∷ more) leaves ends),
         )
 
-  pub is_framed : size_of f ≤ 2032 → AllItems (λ i. HasPhysical i.kind) f.blocks → IsFramed (framed_of f)
-  is_framed small physical = by_blocks f.blocks refl sound.last where
+  pub is_framed : reach_of f ≤ 2032 → AllItems (λ i. HasPhysical i.kind) f.blocks → IsFramed (framed_of f)
+  is_framed fits physical = by_blocks f.blocks refl sound.last where
     saved_all : All (λ s. Contains SAVED s.register) (saved_of f)
     saved_all = All-weaker (Contains (saved_of f)) (λ (s : SavedRegister). Contains SAVED s.register) (λ s k. saved_in f s k) (saved_of f)
         (All-contains_itself (saved_of f))
@@ -79,8 +80,9 @@ module _ (f : Function) (sound : IsSound f) where
         let ids : ids_of (body_of (framed_blocks f f.blocks)) ≡ ids_of f.blocks = ap ids_of body ∙ same_ids f.blocks in
         record {
           aligned = omega arith;
-          small = small;
+          small = size_fits f 2032 fits;
           room = omega arith;
+          reach = omega (arith, fits);
           few = (let a = count_is f in let b = sound.few_slots in omega (arith, a, b));
           offsets = offsets_fit f;
           offsets_apart = offsets_apart f;

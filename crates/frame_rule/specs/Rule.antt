@@ -27,7 +27,7 @@ use Rattle.mir_func.specs.declared.position.Origin.TheVariants.{Before}
 use Rattle.mir_func.specs.Exits.{leads_back}
 use Rattle.mir_func.specs.Function.{Function, FramedFunction}
 use Rattle.mir_func.specs.Graph.{block_start}
-use Rattle.mir_func.specs.Objects.{up_to, area_of}
+use Rattle.mir_func.specs.Objects.{up_to, area_of, extent_of}
 use Rattle.mir_func.specs.SoundFrame.{SAVED, prologue_code, epilogue_code}
 use Rattle.mir_func.specs.Positions.{position_of}
 
@@ -77,6 +77,10 @@ own_size_of f = up_to 16 (8 * (length f.slots + length (saved_registers f.blocks
 -- the size of the frame in bytes
 abbrev pub size_of : Function → ℕ
 size_of f = own_size_of f + area_of f.objects
+
+-- the bytes from x2 up to the end of the frame, or of an argument on the stack that ends above it
+abbrev pub reach_of : Function → ℕ
+reach_of f = own_size_of f + extent_of f.objects
 
 -- ---- what is added
 

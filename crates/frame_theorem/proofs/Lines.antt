@@ -14,8 +14,9 @@ use Rattle.sem_simulation.proofs.Words.{words_follow}
 use Rattle.sem_machine.specs.Headline.{StartsAt, FailsBeforeLine, MachineAlong}
 use Rattle.sem_machine.specs.Image.{CodeLine, Image}
 use Rattle.sem_machine.specs.Machine.{Machine, machine_start}
-use Rattle.frame_rule.specs.Rule.{framed_of, size_of}
+use Rattle.frame_rule.specs.Rule.{framed_of, reach_of}
 use Rattle.frame_rule.proofs.Framed.{is_framed}
+use Rattle.frame_rule.proofs.Reach.{size_fits}
 use Rattle.frame_proof.specs.Stands.{IsEntered}
 use Rattle.frame_proof.proofs.FrameFollows.{frame_follows}
 use Rattle.frame_proof.proofs.FrameStands.{frame_gives_back}
@@ -44,7 +45,7 @@ entered source s start = record {
 }
 
 module _ (source f : Function) (resolve fresolve : OperandPair → Option OperandPair) (image : Image) (h : IsFollower source f resolve fresolve)
-    (physical : AllItems (λ i. HasPhysical i.kind) f.blocks) (small : size_of f ≤ 2032) (is : IsImageOfFunction f image) where
+    (physical : AllItems (λ i. HasPhysical i.kind) f.blocks) (small : reach_of f ≤ 2032) (is : IsImageOfFunction f image) where
   pub framed : IsFramed (framed_of f)
   framed = is_framed f h.sound small physical
 
@@ -62,7 +63,7 @@ module _ (source f : Function) (resolve fresolve : OperandPair → Option Operan
         (subst (λ (os : List Object). IsInitialState os (first_of source.blocks) s) (sym h.objects) start))
         (plain_turns source f resolve fresolve made framed);
     keeps = λ s start n t results run ret leads.
-        frame_gives_back f fresolve h.sound small s.core (entered source s start) n t results run ret leads;
+        frame_gives_back f fresolve h.sound (size_fits f 2032 small) s.core (entered source s start) n t results run ret leads;
   }
 
   by : IsLaidBy is.layout (framed_of f) image
@@ -70,19 +71,22 @@ module _ (source f : Function) (resolve fresolve : OperandPair → Option Operan
       (laid_by is.layout image (has_all is.layout is.low is.few is.worded) is.laid)
 
   module _ (s0 : State) (starts : StartsAt source s0) (m : Machine) (s : State) (since : Since) (l : CodeLine) where
-    stands_at : Standing source f resolve fresolve image h.sound small framed from beside by.laid h.objects s0 starts (entered source s0 starts) m →
+    stands_at : Standing source f resolve fresolve image h.sound (size_fits f 2032 small) framed from beside by.laid h.objects s0 starts
+        (entered source s0 starts) m →
         StandsAt is.layout (framed_of f) s0.core m
     stands_at standing =
-        let at = point_of source f resolve fresolve image h.sound small framed from beside by.laid h.objects s0 starts (entered source s0 starts) m standing in
+        let at = point_of source f resolve fresolve image h.sound (size_fits f 2032 small) framed from beside by.laid h.objects s0 starts
+        (entered source s0 starts) m standing in
         record { point = at.0; entry = by.entries m.counter at.0 at.2; stands = at.1 }
 
     pub stands_at_line : MachineAlong (program_of true source.blocks resolve) image (machine_start image s0) s0 m s since →
         StandsAt is.layout (framed_of f) s0.core m ⊎ FailsBeforeLine (program_of true source.blocks resolve) l since s
     stands_at_line along =
-        elim (standing_along source f resolve fresolve image h.sound small framed from beside by.laid h.objects s0 starts (entered source s0 starts) along)
+        elim (standing_along source f resolve fresolve image h.sound (size_fits f 2032 small) framed from beside by.laid h.objects s0 starts
+        (entered source s0 starts) along)
         as (λ _. StandsAt is.layout (framed_of f) s0.core m ⊎ FailsBeforeLine (program_of true source.blocks resolve) l since s) [
           | inl standing ↦ inl (stands_at standing)
-          | inr stopped ↦ inr (stopped_fails source f resolve fresolve image h.sound small framed from beside by.laid h.objects s0 starts
+          | inr stopped ↦ inr (stopped_fails source f resolve fresolve image h.sound (size_fits f 2032 small) framed from beside by.laid h.objects s0 starts
               (entered source s0 starts) s since l stopped)
         ]
 

@@ -15,7 +15,7 @@ use Rattle.sem_machine.specs.Image.{CodeLine, Image, line_at}
 use Rattle.sem_machine.specs.Machine.{Machine, machine_start, register}
 use Rattle.emit_code.specs.declared.code.EncodedInstruction.{EncodedInstruction}
 use Rattle.emit_code.specs.Rule.{Layout, entries_of}
-use Rattle.frame_rule.specs.Rule.{size_of, framed_of}
+use Rattle.frame_rule.specs.Rule.{reach_of, framed_of}
 use Rattle.machine_steps_proof.specs.Beside.{Beside}
 use Rattle.machine_proof.specs.Entries.{IsEntryAt}
 use Rattle.machine_proof.specs.Followers.{IsFollower}
@@ -59,7 +59,7 @@ pub record StandsAt (l : Layout) (f : FramedFunction) (e : Core) (m : Machine) :
 -- line.
 abbrev pub FramesStand : Type 0
 FramesStand = (source f : Function) (resolve fresolve : OperandPair → Option OperandPair) (image : Image) → IsFollower source f resolve fresolve →
-    AllItems (λ i. HasPhysical i.kind) f.blocks → size_of f ≤ MAX_FRAME → (is : IsImageOfFunction f image) → (s0 : State) → StartsAt source s0 →
+    AllItems (λ i. HasPhysical i.kind) f.blocks → reach_of f ≤ MAX_FRAME → (is : IsImageOfFunction f image) → (s0 : State) → StartsAt source s0 →
     (m : Machine) (s : State) (since : Since) (l : CodeLine) →
     MachineAlong (program_of true source.blocks resolve) image (machine_start image s0) s0 m s since → line_at image.lines m.counter ≡ Some l →
     StandsAt is.layout (framed_of f) s0.core m ⊎ FailsBeforeLine (program_of true source.blocks resolve) l since s
@@ -73,5 +73,5 @@ ShowsFrames undefined section l = (e : EncodedInstruction) → Contains (entries
 -- stops on a frame fault before the line.
 abbrev pub FollowersUnwind : Type 0
 FollowersUnwind = (undefined section : List ℕ) → SparesKept undefined → (source f : Function) (resolve fresolve : OperandPair → Option OperandPair)
-    (image : Image) → IsFollower source f resolve fresolve → AllItems (λ i. HasPhysical i.kind) f.blocks → size_of f ≤ MAX_FRAME →
+    (image : Image) → IsFollower source f resolve fresolve → AllItems (λ i. HasPhysical i.kind) f.blocks → reach_of f ≤ MAX_FRAME →
     (is : IsImageOfFunction f image) → ShowsFrames undefined section is.layout → AlwaysUnwinds undefined section source resolve image

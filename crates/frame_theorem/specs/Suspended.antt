@@ -19,7 +19,7 @@ use Rattle.sem_machine.specs.Headline.{StartsAt, AlignsWith, FailsBeforeLine, Ma
 use Rattle.sem_machine.specs.Image.{CodeLine, Image, line_at}
 use Rattle.sem_machine.specs.Machine.{Machine, machine_start, register, place_content}
 use Rattle.sem_machine.specs.MachineStep.{Continues, machine_step, call_of}
-use Rattle.frame_rule.specs.Rule.{size_of, framed_of}
+use Rattle.frame_rule.specs.Rule.{reach_of, framed_of}
 use Rattle.machine_proof.specs.Entries.{IsEntryAt}
 use Rattle.machine_proof.specs.Followers.{IsFollower}
 use Rattle.machine_proof.specs.LaidOut.{IsImageOfFunction}
@@ -50,7 +50,7 @@ HoldsKept lists m k s = (v : VarId) (place : Place) → lists v m.counter place 
 -- unless the source stops on a frame fault before the line: if the lists name only required places.
 abbrev pub SuspendedFramesHold : (lists : VarId → (address : ℕ) → Place → Type 0) → Type 0
 SuspendedFramesHold lists = (source f : Function) (resolve fresolve : OperandPair → Option OperandPair) (image : Image) →
-    IsFollower source f resolve fresolve → AllItems (λ i. HasPhysical i.kind) f.blocks → size_of f ≤ MAX_FRAME → (is : IsImageOfFunction f image) →
+    IsFollower source f resolve fresolve → AllItems (λ i. HasPhysical i.kind) f.blocks → reach_of f ≤ MAX_FRAME → (is : IsImageOfFunction f image) →
     GiveWanted (framed_program (framed_of f).blocks fresolve) (IsEntryAt is.layout) lists → (s0 : State) → StartsAt source s0 →
     (m : Machine) (s : State) (since : Since) (l : CodeLine) →
     MachineAlong (program_of true source.blocks resolve) image (machine_start image s0) s0 m s since → line_at image.lines m.counter ≡ Some l →

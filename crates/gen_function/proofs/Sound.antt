@@ -16,6 +16,7 @@ use Rattle.mir_func.specs.declared.item.Item.{Item}
 use Rattle.mir_func.specs.declared.item.ItemKind.{ItemKind}
 use Rattle.std.specs.Prelude.{codes}
 use Rattle.mir_func.specs.declared.object.Object.{Object}
+use Rattle.mir_func.specs.Objects.{area_of, IsFixedAt}
 use Rattle.mir_func.specs.Sound.{AreApart, ids_of, items_of, TargetsIn, SlotsIn, ObjectsIn, LeavesPointer, OriginIn, EndsWell, Closes, LastCloses}
 use Rattle.mir_func.specs.Sound.{IsSoundObject, IsSound}
 use Rattle.mir_func.proofs.Apart.{at_slice_get}
@@ -178,7 +179,11 @@ generated_is_sound number count some few =
       few_blocks = omega arith;
       few_slots = lit≤ tt;
       each_object = All-nil IsSoundObject;
-      objects_laid = record { each = tt; several = λ e. absurd cc };
+      objects_laid = record {
+        each = tt;
+        several = λ e. absurd cc;
+        fixed = All-nil (λ (o : Object). IsFixedAt (area_of []) o.offset o.fixed_offset);
+      };
       targets = blocks_each ids (λ b. All (λ i. TargetsIn ids i.kind) b.items) (λ b h. each ids (λ i. TargetsIn ids i.kind) (λ i k. k.targets) b.items h.fine)
           blocks all;
       slots = blocks_each ids (λ b. All (λ i. SlotsIn SLOTS i.kind) b.items) (λ b h. each ids (λ i. SlotsIn SLOTS i.kind) (λ i k. k.slots) b.items h.fine)

@@ -198,6 +198,7 @@ generated_is_read meta number count some few =
     let items = few_items count count (record { state = number; given = 0 }) (omega arith) in
     record {
       sound = sound;
+      unfixed = All-nil (λ (o : Object). o.fixed_offset ≡ None);
       read = record {
         apart = sound.blocks_apart;
         items = All-weaker (IsMadeBlock TOP)

@@ -5,11 +5,11 @@ use Rattle.std.proofs.lemmas.List.Sums.{length-filter, count_by-le-length}
 use Rattle.mir_func.specs.declared.block.Block.{Block}
 use Rattle.mir_func.specs.declared.object.Object.{Object}
 use Rattle.mir_func.specs.Function.{Function}
-use Rattle.mir_func.specs.Objects.{up_to, area_of}
+use Rattle.mir_func.specs.Objects.{up_to, extent_of}
 use Rattle.mir_func.specs.Sound.{IsSound}
 use Rattle.mir_func.specs.SoundFrame.{SAVED}
 use Rattle.gen_function.specs.Generator.{generated}
-use Rattle.frame_rule.specs.Rule.{is_set, saved_registers, own_size_of, size_of}
+use Rattle.frame_rule.specs.Rule.{is_set, saved_registers, own_size_of, reach_of}
 use Rattle.pass_trait.specs.Steps.{PassStep}
 use Rattle.read_program.specs.declared.closing.Parsed.{Parsed}
 use Rattle.compile_theorem.specs.Source.{SourceFunction}
@@ -27,16 +27,17 @@ up_to_small : (n : ℕ) → up_to 16 n ≤ n + 15
 up_to_small n = omega arith
 
 -- a sound function without objects has a frame of at most 1911 bytes
-pub small_frame : (f : Function) → IsSound f → f.objects ≡ [] → size_of f ≤ 2032
+pub small_frame : (f : Function) → IsSound f → f.objects ≡ [] → reach_of f ≤ 2032
 small_frame f sound none =
     let slots : length f.slots + length f.objects ≤ 224 = sound.few_slots in
     let saved : length (saved_registers f.blocks) ≤ 13 = few_saved f.blocks in
     let own : own_size_of f ≤ 8 * (length f.slots + length (saved_registers f.blocks)) + 15 =
     up_to_small (8 * (length f.slots + length (saved_registers f.blocks))) in
-    let area : area_of f.objects ≡ 0 = ap (λ (os : List Object). area_of os) none in
-    by_parts (own_size_of f) (area_of f.objects) (length f.slots) (length f.objects) (length (saved_registers f.blocks)) slots saved own area where
-      by_parts : (size area slots objects saved : ℕ) → slots + objects ≤ 224 → saved ≤ 13 → size ≤ 8 * (slots + saved) + 15 → area ≡ 0 → size + area ≤ 2032
-      by_parts size area slots objects saved few kept own none = omega (arith, few, kept, own, none)
+    let extent : extent_of f.objects ≡ 0 = ap (λ (os : List Object). extent_of os) none in
+    by_parts (own_size_of f) (extent_of f.objects) (length f.slots) (length f.objects) (length (saved_registers f.blocks)) slots saved own extent where
+      by_parts : (size extent slots objects saved : ℕ) → slots + objects ≤ 224 → saved ≤ 13 → size ≤ 8 * (slots + saved) + 15 → extent ≡ 0 →
+          size + extent ≤ 2032
+      by_parts size extent slots objects saved few kept own none = omega (arith, few, kept, own, none)
 
 -- so passes make no large frame of a function without objects
 pub small_after : (steps : List PassStep) (q : Parsed) → q.func.objects ≡ [] → HasLargeFrame steps (q ∷ []) → ⊥
@@ -45,9 +46,9 @@ small_after steps q bare large =
     let among : large.function.func.objects ≡ [] = All-contains P (q ∷ []) large.function (All-cons P q [] bare (All-nil P)) large.among in
     let read : large.passed.source.function.objects ≡ large.function.func.objects = ap (λ (s : SourceFunction). s.function.objects) large.source in
     let none : large.passed.function.objects ≡ [] = large.keeps.follower.objects ∙ (read ∙ among) in
-    let fits : size_of large.passed.function ≤ 2032 = small_frame large.passed.function large.keeps.follower.sound none in
-    let above : 2032 < size_of large.passed.function = large.large in
-    apart (size_of large.passed.function) fits above where
+    let fits : reach_of large.passed.function ≤ 2032 = small_frame large.passed.function large.keeps.follower.sound none in
+    let above : 2032 < reach_of large.passed.function = large.large in
+    apart (reach_of large.passed.function) fits above where
       apart : (n : ℕ) → n ≤ 2032 → 2032 < n → ⊥
       apart n low high = omega (arith, low, high)
 

@@ -19,10 +19,9 @@ entries_low a [] end stand low = All-nil IsLow
 entries_low a (e ∷ es) end stand low =
     All-cons IsLow e es (omega (arith, stand.0, reaches_end (a + e.size) es end stand.2, low)) (entries_low (a + e.size) es end stand.2 low)
 
--- objects lie in a small frame
+-- objects lie in a small frame, or end not far above it
 pub offsets_low : (f : FramedFunction) → IsFramed f → All (λ o. o.offset < 2 ^ 32) f.objects
 offsets_low f framed = λ k d less.
     let within = object_within f.objects k d less in
-    let room = framed.room in
-    let size = framed.small in
-    omega (arith, within, room, size)
+    let reach = framed.reach in
+    omega (arith, within, reach)

@@ -41,9 +41,8 @@ module _ (f : FramedFunction) (framed : IsFramed f) where
   room_of : (n bytes : ℕ) → HasBytes f.objects n bytes → own_size f + offset_of f.objects n + bytes ≤ 2047
   room_of n bytes has =
       let within = bytes_within f.objects n bytes has in
-      let size = framed.small in
-      let room = framed.room in
-      omega (arith, within, size, room)
+      let reach = framed.reach in
+      omega (arith, within, reach)
 
   slot_low : (n : ℕ) → Contains (slot_offsets f) n → n ≤ 2047
   slot_low n has =

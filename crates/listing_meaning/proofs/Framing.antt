@@ -19,6 +19,7 @@ use Rattle.mir_func.specs.declared.framed.SavedRegister.{SavedRegister}
 use Rattle.mir_func.specs.declared.item.Item.{Item}
 use Rattle.mir_func.specs.declared.item.ItemKind.{ItemKind}
 use Rattle.mir_func.specs.declared.item.ItemKind.TheVariants.{Code, Mark, Phi}
+use Rattle.mir_func.specs.Objects.{HasNoFixed}
 use Rattle.mir_func.specs.Sound.{IsNotPointer, LeavesPointer, AllItems, SlotsIn, ObjectsIn, contents_of}
 use Rattle.mir_func.specs.SoundFrame.{adds_to_pointer, saves, restores, prologue_code, epilogue_code, AreCode, IsBody, GivesBack, goes_on, returns, HasFrame}
 use Rattle.mir_func.specs.SoundFrame.{NumberedAlike, IsFramed, slot_offsets}
@@ -152,10 +153,10 @@ module _ (l : Layout) where
 
   -- the frame that is shown
   pub frame_same : (variables : List ListedVariable) (substitutions : List DebugSubstitution) → IsFramed l.framed →
-      frame_shown (listing_of l variables substitutions) ≡ frame_of l.framed
-  frame_same variables substitutions framed =
+      HasNoFixed l.framed.objects → frame_shown (listing_of l variables substitutions) ≡ frame_of l.framed
+  frame_same variables substitutions framed unfixed =
       let size = size_by l.framed.size l.framed.saved l.framed.blocks framed.small framed.frame in
-      λ k. record { below = size k - areas_alike l.framed.objects k; objects = (frame_of l.framed).objects }
+      λ k. record { below = size k - areas_alike l.framed.objects unfixed k; objects = (frame_of l.framed).objects }
 
   -- ---- all of it
 
@@ -198,9 +199,9 @@ module _ (l : Layout) where
   blocks_whole variables substitutions framed = whole_by l.framed.blocks framed.number
 
 pub function_shown : ListingsShowTheFunction
-function_shown l variables substitutions framed formed =
+function_shown l variables substitutions framed formed unfixed =
     let listing = listing_of l variables substitutions in
-    let frame = frame_same l variables substitutions framed in
+    let frame = frame_same l variables substitutions framed unfixed in
     let blocks = blocks_whole l variables substitutions framed in
     let good = goods l framed l.framed.blocks formed (frame_steady l.framed.size l.framed.saved l.framed.blocks framed.frame) framed.slots framed.objects in
     ap (λ (bs : List ListedBlock). map contents_of (map (block_shown (frame_shown listing)) bs)) blocks ∙

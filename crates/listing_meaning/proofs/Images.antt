@@ -1,5 +1,5 @@
 -- The image of a listing: line by line it is that of the layout.
-use Rattle.std.proofs.Common.{◌≡◌, ℕ, suc, ◌+◌, max, pos, true, List, [], ◌∷◌, ◌++◌, Option, Some, refl, ap, sym, ◌∙◌, subst}
+use Rattle.std.proofs.Common.{◌≡◌, ℕ, suc, ◌+◌, max, pos, true, List, [], ◌∷◌, ◌++◌, Option, Some, None, refl, ap, sym, ◌∙◌, subst}
 use Rattle.std.specs.Prelude.{map, All}
 use Rattle.std.specs.List.{flat_map, list_all}
 use Rattle.std.proofs.lemmas.Bool.{and_parts}
@@ -19,7 +19,8 @@ use Rattle.mir_func.specs.declared.item.Item.{Item}
 use Rattle.mir_func.specs.declared.item.ItemKind.{ItemKind}
 use Rattle.mir_func.specs.declared.item.ItemKind.TheVariants.{Code, Mark, Phi}
 use Rattle.mir_func.specs.declared.object.Object.{Object}
-use Rattle.mir_func.specs.Objects.{area_of, end_from, up_to}
+use Rattle.mir_func.specs.Objects.{area_of, end_from, own_end, up_to, HasNoFixed}
+use Rattle.mir_func.proofs.Ends.{no_fixed_area}
 use Rattle.mir_func.specs.Sound.{AllItems, HasForm}
 use Rattle.sem_machine.specs.Image.{CodeLine}
 use Rattle.emit_code.specs.LongBranch.{jump_to}
@@ -110,17 +111,20 @@ module _ (l : Layout) where
   whole_alike [] all = refl
   whole_alike (p ∷ blocks) all = blocks_alike 0 (p ∷ blocks) all
 
-pub ends_alike : (n : ℕ) (objects : List Object) → end_of n (map object_listed objects) ≡ end_from n objects
-ends_alike n [] = refl
-ends_alike n (o ∷ objects) = ends_alike (max n (o.offset + o.size)) objects
+ends_alike : (n : ℕ) (objects : List Object) → HasNoFixed objects → end_of n (map object_listed objects) ≡ end_from n objects
+ends_alike n [] unfixed = refl
+ends_alike n (o ∷ objects) unfixed =
+    let here : o.fixed_offset ≡ None = All-head (λ (x : Object). x.fixed_offset ≡ None) o objects unfixed in
+    ends_alike (max n (o.offset + o.size)) objects (All-tail (λ (x : Object). x.fixed_offset ≡ None) o objects unfixed)
+    ∙ ap (λ (m : ℕ). end_from m objects) (sym (ap (own_end n o) here))
 
-pub areas_alike : (objects : List Object) → area_shown (map object_listed objects) ≡ area_of objects
-areas_alike objects = ap (up_to 16) (ends_alike 0 objects)
+pub areas_alike : (objects : List Object) → HasNoFixed objects → area_shown (map object_listed objects) ≡ area_of objects
+areas_alike objects unfixed = ap (up_to 16) (ends_alike 0 objects unfixed) ∙ sym (no_fixed_area objects unfixed)
 
 pub image_shown : ListingsShowTheImage
-image_shown l variables substitutions o more formed text = record {
+image_shown l variables substitutions o more formed unfixed text = record {
   low = refl;
-  area = areas_alike l.framed.objects;
+  area = areas_alike l.framed.objects unfixed;
   more = more;
   text = text;
   lines = whole_alike l l.framed.blocks formed;

@@ -26,6 +26,7 @@ use Rattle.emit_code.specs.Laid.{IsWorded, FormWorded}
 use Rattle.emit_code.specs.Rule.{Layout, row_form, address_in, offset_to, object_offset, operation_at}
 use Rattle.emit_code.proofs.Bounds.{bytes_small}
 use Rattle.frame_rule.proofs.Framed.{is_framed}
+use Rattle.frame_rule.proofs.Reach.{size_fits}
 use Rattle.frame_proof.specs.Stands.{IsEntered}
 use Rattle.frame_proof.proofs.FrameStands.{frame_gives_back}
 use Rattle.machine_steps_proof.specs.Laid.{IsLaidAt}
@@ -102,7 +103,7 @@ images_meet_the_headline lists source f resolve fresolve image h physical small 
     let by = subst (λ (x : FramedFunction). IsLaidBy is.layout x image) is.framed
     (laid_by is.layout image (has_all is.layout is.low is.few is.worded) is.laid) in
     followers_meet_the_headline lists source f resolve fresolve image h framed
-    (λ s start n t results run ret leads. frame_gives_back f fresolve h.sound small s.core (entered s start) n t results run ret leads)
+    (λ s start n t results run ret leads. frame_gives_back f fresolve h.sound (size_fits f 2032 small) s.core (entered s start) n t results run ret leads)
     by.laid (λ v a place given p at. wanted v a place given p (by.entries a p at)) where
       entered : (s : State) → StartsAt source s → IsEntered s.core
       entered s start = record {

@@ -1,6 +1,7 @@
 -- Bytes of memory: what is spelled where something is stored, and elsewhere; and the frame's bytes.
-use Rattle.std.proofs.Common.{◌≡◌, ℕ, zero, suc, ◌+◌, ◌*◌, ◌/◌, ◌%◌, ◌^◌, ◌<◌, ◌≤◌, List, length, Bool, true, false}
-use Rattle.std.proofs.Common.{nat_lt, nat_le, ◌&&◌, ◌||◌, refl, ap, ◌∙◌, subst, pow-suc, lt-ltb, le-ltb, le-leb, arith}
+use Rattle.std.proofs.Common.{◌≡◌, ℕ, zero, suc, ◌+◌, ◌-◌, ◌*◌, ◌/◌, ◌%◌, ◌^◌, ◌<◌, ◌≤◌, List, length, Bool, true, false}
+use Rattle.std.proofs.Common.{nat_lt, nat_le, ◌&&◌, ◌||◌, refl, ap, ◌∙◌, subst, pow-suc, lt-ltb, le-ltb, le-leb, inl, inr, arith}
+use Rattle.std.proofs.lemmas.Bool.{cases_lt, lt-leb}
 use Rattle.mir_func.specs.Limits.{FRAME_ROOM}
 use Rattle.sem_mir.specs.State.{updated, spelled, low_bytes, stored, in_frame, touches_frame}
 use Rattle.sem_mir.proofs.Places.{updated_same, stored_other}
@@ -75,6 +76,9 @@ and_false : (a b : Bool) → b ≡ false → (a && b) ≡ false
 and_false true b e = e
 and_false false b e = refl
 
+first_false : (a b : Bool) → a ≡ false → (a && b) ≡ false
+first_false a b e = ap (λ (x : Bool). x && b) e
+
 -- a byte of the frame, and one of a stack object
 pub is_in_frame : (entry area a : ℕ) → entry ≤ a + FRAME_ROOM → a + area < entry → in_frame entry area a ≡ true
 is_in_frame entry area a lo hi = and_true (nat_le entry (a + FRAME_ROOM)) (nat_lt (a + area) entry) (le-leb entry (a + FRAME_ROOM) lo) (lt-ltb (a + area)
@@ -85,6 +89,21 @@ is_above entry area a lo = and_false (nat_le entry (a + FRAME_ROOM)) (nat_lt (a 
 
 or_true : (a b : Bool) → a ≡ true → (a || b) ≡ true
 or_true a b e = ap (λ (x : Bool). x || b) e
+
+pub is_below : (entry area a : ℕ) → a + FRAME_ROOM < entry → in_frame entry area a ≡ false
+is_below entry area a lt = first_false (nat_le entry (a + FRAME_ROOM)) (nat_lt (a + area) entry) (lt-leb entry (a + FRAME_ROOM) lt)
+
+-- less than 2 ^ 11 bytes above the start of the area, which isn't above the stack pointer at entry, no byte is the frame's: it is above the frame, or, where
+-- the sum is above 2 ^ 64, far below it
+pub beyond_area : (entry area at offset j : ℕ) → FRAME_ROOM ≤ entry → entry < 2 ^ 64 → area ≤ 2032 → at + offset + j < 2032 →
+    in_frame entry area ((((entry + (2 ^ 64 - area) + at) % 2 ^ 64 + offset) % 2 ^ 64 + j) % 2 ^ 64) ≡ false
+beyond_area entry area at offset j room top small near =
+    elim (cases_lt (entry + (at + offset + j)) (2 ^ 64 + area)) [
+      | inl lt ↦ is_above entry area _ (let k : entry ≤ (((entry + (2 ^ 64 - area) + at) % 2 ^ 64 + offset) % 2 ^ 64 + j) % 2 ^ 64 + area =
+          omega (arith, room, top, small, near, lt) in k)
+      | inr le ↦ is_below entry area _ (let k : (((entry + (2 ^ 64 - area) + at) % 2 ^ 64 + offset) % 2 ^ 64 + j) % 2 ^ 64 + 2048 < entry =
+          omega (arith, room, top, small, near, le) in k)
+    ]
 
 pub touched : (entry area n a : ℕ) → in_frame entry area (a % 2 ^ 64) ≡ true → touches_frame entry area a (suc n) ≡ true
 touched entry area n a e = or_true (in_frame entry area (a % 2 ^ 64)) (touches_frame entry area (a + 1) n) e

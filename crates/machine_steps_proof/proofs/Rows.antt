@@ -37,8 +37,8 @@ use Rattle.sem_machine.specs.MachineStep as machine
 use Rattle.sem_machine.proofs.Plain.{set_alike, falls_if}
 use Rattle.machine_steps_proof.specs.Beside.{frame_low, Beside}
 use Rattle.mir_func.proofs.Ends.{bytes_within}
-use Rattle.machine_steps_proof.proofs.Memory.{spelled_alike, length_low, stored_spelled, stored_elsewhere, untouched, not_touched, is_in_frame, is_above}
-use Rattle.machine_steps_proof.proofs.Memory.{touched}
+use Rattle.machine_steps_proof.proofs.Memory.{spelled_alike, length_low, stored_spelled, stored_elsewhere, untouched, not_touched, is_in_frame}
+use Rattle.machine_steps_proof.proofs.Memory.{touched, beyond_area}
 use Rattle.sem_mir.proofs.Places.{stored_other}
 use Rattle.emit_code.specs.Rule.{object_offset}
 
@@ -270,18 +270,12 @@ module _ (f : FramedFunction) (framed : IsFramed f) (c : Core) (m : Machine) (h 
 
     object_bytes : (n offset w : ℕ) → HasBytes f.objects n (offset + w) → touches_frame c.entry c.area (address_at c (ObjectAt n) offset) w ≡ false
     object_bytes n offset w bytes =
-        let in_area = bytes_within f.objects n (offset + w) bytes in
-        let e = h.objects n in
-        let a = h.area in
-        let b = framed.room in
-        let s = framed.small in
-        let r = h.room in
-        let t = h.top in
+        let low : offset_of f.objects n + (offset + w) ≤ 2032 = (let within = bytes_within f.objects n (offset + w) bytes in
+        let reach = framed.reach in omega (arith, within, reach)) in
+        let area : c.area ≤ 2032 = (let a = h.area in let b = framed.room in let s = framed.small in omega (arith, a, b, s)) in
         not_touched c.entry c.area w (address_at c (ObjectAt n) offset) (λ j lt.
-        is_above c.entry c.area ((address_at c (ObjectAt n) offset + j) % 2 ^ 64)
-        (let x = offset_of f.objects n in
-        let k : c.entry ≤ ((((c.entry + (2 ^ 64 - c.area) + c.objects n) % 2 ^ 64 + offset) % 2 ^ 64) + j) % 2 ^ 64 + c.area =
-        omega (arith, in_area, e, a, b, s, r, t, lt) in k))
+        beyond_area c.entry c.area (c.objects n) offset j h.room h.top area
+        (let e = h.objects n in omega (arith, low, e, lt)))
 
     slot_address : (o : ℕ) → IsSlotOffset f o → address_of m 2 (word (pos o)) ≡ frame_low f c + o
     slot_address o is =

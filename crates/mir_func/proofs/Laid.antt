@@ -1,6 +1,6 @@
 -- Stack objects: their alignments, where they lie, and how their sizes are found.
 use Rattle.std.proofs.Common.{◌≡◌, ◌↔◌, ℕ, zero, suc, ◌+◌, ◌<◌, ◌≤◌, Bool, true, false, cond, List, [], ◌∷◌, ◌++◌, map, reverse, nat_eq, Option, Some, None}
-use Rattle.std.proofs.Common.{refl, sym, ap, ◌∙◌, arith}
+use Rattle.std.proofs.Common.{refl, sym, ap, ◌∙◌, subst, ℤ, arith}
 use Rattle.std.specs.Prelude.{Contains, option_map}
 use Rattle.std.specs.Bool.{Decides}
 use Rattle.std.specs.List.{list_any}
@@ -11,7 +11,7 @@ use Rattle.std.proofs.lemmas.List.{map-append, reverse-append}
 use Rattle.std.proofs.lemmas.List.Sums.{fold-append}
 use Rattle.std.proofs.lemmas.Map.Made.{is_member-Decides}
 use Rattle.mir_func.specs.declared.object.Object.{Object}
-use Rattle.mir_func.specs.Objects.{ALIGNMENTS, object_of, up_to, place_of, next_end, AreLaidFrom}
+use Rattle.mir_func.specs.Objects.{ALIGNMENTS, object_of, up_to, place_of, next_end, IsPlaced, end_past, AreLaidFrom}
 use Rattle.mir_func.specs.Sound.{HasBytes}
 use Rattle.mir_func.proofs.Apart.{same}
 
@@ -42,7 +42,7 @@ pub ruleset padding = (up_to-le)
 
 -- one more object is where it must be
 pub laid_turn : (block end : ℕ) (o : Object) (rest : List Object) (all : Type 0) → AreLaidFrom block end (o ∷ rest) ↔ all →
-    o.offset ≡ place_of block end o.align o.local_offset → AreLaidFrom block (next_end end (o.offset + o.size) o.local_offset) rest ↔ all
+    IsPlaced block end o o.fixed_offset → AreLaidFrom block (end_past end o o.fixed_offset) rest ↔ all
 laid_turn block end o rest all both e = (λ h. both.0 (e, h), λ w. let r = both.1 w in r.1)
 
 -- an object begins less than 16 bytes above the local block and the objects before it
@@ -55,6 +55,20 @@ pub next_low : (block end align size : ℕ) (l : Option ℕ) → 0 < align → a
     next_end end (place_of block end align l + size) l ≤ end + 2147483648
 next_low block end align size None some few small = omega (arith, up_to-le align end some, few, small)
 next_low block end align size (Some n) some few small = omega arith
+
+-- so does any object
+pub past_low : (block end : ℕ) (o : Object) (fixed : Option ℤ) → 0 < o.align → o.align ≤ 16 → o.size ≤ 1073741823 → IsPlaced block end o fixed →
+    end_past end o fixed ≤ end + 2147483648
+past_low block end o None some few small at =
+    subst (λ (x : ℕ). next_end end (x + o.size) o.local_offset ≤ end + 2147483648) (sym at)
+    (next_low block end o.align o.size o.local_offset some few small)
+past_low block end o (Some d) some few small at = omega arith
+
+-- and one that isn't fixed ends less than 2 ^ 31 above both
+pub placed_low : (block end : ℕ) (o : Object) (fixed : Option ℤ) → 0 < o.align → o.align ≤ 16 → o.size ≤ 1073741823 → IsPlaced block end o fixed →
+    fixed ≡ None → o.offset + o.size ≤ block + end + 2147483648
+placed_low block end o None some few small at is = omega (arith, at, place_low block end o.align o.local_offset some few, small)
+placed_low block end o (Some d) some few small at is = cc
 
 -- ---- sizes by number
 

@@ -2,6 +2,7 @@ pub mod Apart
 pub mod Filtered
 pub mod Once
 pub mod Laid
+pub mod Fixed
 pub mod Ends
 pub mod Checks
 pub mod Stripping

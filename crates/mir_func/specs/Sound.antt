@@ -1,5 +1,5 @@
 -- Invariants of every function (LLVM, Machine IR (MIR) Format Reference Manual, "Machine Basic Blocks").
-use Rattle.std.specs.Prelude.{◌≡◌, ℕ, ◌+◌, ◌<◌, ◌≤◌, List, [], ◌∷◌, map, length, Option, Some, None, slice_get, All, Contains, IsTrue}
+use Rattle.std.specs.Prelude.{◌≡◌, ℕ, ◌+◌, ◌<◌, ◌≤◌, ℤ, unsigned_abs, List, [], ◌∷◌, map, length, Option, Some, None, slice_get, All, Contains, IsTrue}
 use Rattle.std.specs.List.{flat_map}
 use Rattle.rv64_instr.specs.declared.operand.Operand.{Operand}
 use Rattle.rv64_instr.specs.declared.operand.Operand.TheVariants.{Def, Use, ImplicitDef, ImplicitUse, Imm, Slot as OfSlot, Object as OfObject, Part}
@@ -193,11 +193,17 @@ abbrev pub IsLocalOffset : Option ℕ → Type 0
 IsLocalOffset None = Unit {0}
 IsLocalOffset (Some n) = (0 < n) × (n ≤ MAX_NUMBER)
 
+-- an offset from the stack pointer at entry, if there is one, is within its limits, and the object has no local offset
+abbrev pub IsFixedOffset : (fixed : Option ℤ) → (local : Option ℕ) → Type 0
+IsFixedOffset None local = Unit {0}
+IsFixedOffset (Some d) local = (unsigned_abs d ≤ MAX_NUMBER) × (local ≡ None)
+
 -- the invariant of a stack object
 pub record IsSoundObject (o : Object) : Type 0 where
   pub size : o.size ≤ MAX_NUMBER
   pub aligned : Contains ALIGNMENTS o.align
   pub local : IsLocalOffset o.local_offset
+  pub fixed : IsFixedOffset o.fixed_offset o.local_offset
 
 -- the invariant of every function before frame lowering
 pub record IsSound (f : Function) : Type 0 where

@@ -23,7 +23,7 @@ use Rattle.mir_func.specs.declared.variable.MarkValue.TheVariants.{Nothing, Cons
 use Rattle.mir_func.specs.Function.{FramedFunction}
 use Rattle.mir_func.specs.Exits.{leads_back}
 use Rattle.mir_func.specs.Limits.{MAX_FRAME, MAX_SLOTS}
-use Rattle.mir_func.specs.Objects.{AreLaid, area_of}
+use Rattle.mir_func.specs.Objects.{AreLaid, area_of, extent_of}
 use Rattle.mir_func.specs.Sound.{AreApart, ids_of, AllItems, TargetsIn, SlotsIn, ObjectsIn, IsSoundObject, LeavesPointer, EndsWell, LastCloses}
 
 -- the registers that a frame may save: the return address and the callee-saved registers (RISC-V ELF psABI, "Integer
@@ -133,6 +133,7 @@ pub record IsFramed (f : FramedFunction) : Type 0 where
   pub aligned : f.size % 16 ≡ 0
   pub small : f.size ≤ MAX_FRAME
   pub room : area_of f.objects ≤ f.size
+  pub reach : own_size f + extent_of f.objects ≤ MAX_FRAME
   pub few : length f.offsets + length f.objects ≤ MAX_SLOTS
   pub offsets : All (IsSlotOffset f) (slot_offsets f)
   pub offsets_apart : AreApart (slot_offsets f)

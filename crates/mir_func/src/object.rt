@@ -1,8 +1,23 @@
 //! Stack objects.
 
-ghost use Rattle.std.specs.Prelude.{◌≡◌, ◌+◌, ◌^◌, ◌<◌, ◌≤◌, All, length};
+ghost use Rattle.std.specs.Prelude.{◌≡◌, ◌+◌, ◌^◌, ◌<◌, ◌≤◌, All, Some, None, length};
 ghost use Rattle.mir_func.specs.Limits.{MAX_SLOTS};
-ghost use Rattle.mir_func.specs.Objects.{up_to, reach_after, counted, place_of, next_end, AreLaid, area_of};
+ghost use Rattle.mir_func.specs.Objects.{
+  up_to,
+  reach_after,
+  counted,
+  depth_of,
+  place_of,
+  next_end,
+  end_past,
+  own_end,
+  end_from,
+  fixed_area,
+  ArePlaced,
+  AreLaid,
+  area_of,
+  extent_of,
+};
 ghost use Rattle.mir_func.specs.Sound.{IsSoundObject};
 
 use base_ids::function_ids::ObjectId;
@@ -19,7 +34,10 @@ pub struct Object {
     pub align: u32,
     /// How far it begins below the end of the local block, in bytes, if it is in that (LLVM: `LocalOffset`, negated).
     pub local_offset: Option<u32>,
-    /// Its offset from the lowest byte of all objects, in bytes.
+    /// Its offset from the stack pointer at entry, in bytes, if it is a fixed object, as an argument that the caller
+    /// passes on the stack (LLVM: an object of `fixedStack`).
+    pub fixed_offset: Option<i32>,
+    /// Its offset from the lowest byte of the objects' area, in bytes.
     pub offset: u64,
 }
 
@@ -56,8 +74,26 @@ pub fn counted(local: Option<u32>) -> usize
     }
 }
 
-/// Where an object begins: by its local offset in a local block of this size; without one, at the least multiple of its
-/// alignment that isn't below `end`.
+/// How far below the stack pointer at entry an object at this offset from it begins, or 0.
+fn depth_of(fixed: Option<i32>) -> u32
+    ensures value { result ≡ depth_of fixed }
+    ensures small { result ≤ 2147483648 }
+{
+    match fixed {
+        Some(offset) => depth(offset),
+        None => 0,
+    }
+}
+
+fn depth(offset: i32) -> u32
+    ensures value { result ≡ depth_of (Some offset) }
+    ensures small { result ≤ 2147483648 }
+{
+    if offset < 0 { offset.unsigned_abs() } else { 0 }
+}
+
+/// Where an object that isn't fixed begins: by its local offset in a local block of this size; without one, at the least
+/// multiple of its alignment that isn't below `end`.
 #[tactic(auto, using(crate::proofs::Laid::padding))]
 pub fn place_of(block: u64, end: u64, align: u32, local: Option<u32>) -> u64
     requires positive { 0 < align }
@@ -81,7 +117,56 @@ pub fn next_end(end: u64, past: u64, local: Option<u32>) -> u64
     }
 }
 
-/// How many bytes these objects take together: a multiple of 16.
+/// The end of the objects above the local block, after this object; a fixed one isn't among them.
+pub fn end_past(end: u64, o: &Object) -> u64
+    requires fits { o.now.fixed_offset ≡ None → o.now.offset + o.now.size < 2 ^ 64 }
+    ensures { result ≡ end_past end o.now o.now.fixed_offset }
+{
+    match o.fixed_offset {
+        Some(_) => end,
+        None => next_end(end, o.offset + u64::from(o.size), o.local_offset),
+    }
+}
+
+/// The end of an object that isn't fixed, if that is greater than `end`.
+fn own_end(end: u64, o: &Object) -> u64
+    requires fits { o.now.fixed_offset ≡ None → o.now.offset + o.now.size < 2 ^ 64 }
+    ensures { result ≡ own_end end o.now o.now.fixed_offset }
+{
+    match o.fixed_offset {
+        Some(_) => end,
+        None => end.max(o.offset + u64::from(o.size)),
+    }
+}
+
+/// The greatest end of the objects that aren't fixed.
+fn greatest_end(objects: &[Object]) -> u64
+    requires few { length objects.now ≤ MAX_SLOTS }
+    requires each { All IsSoundObject objects.now }
+    requires laid { ArePlaced objects.now }
+    ensures value { result ≡ end_from 0 objects.now }
+    ensures small { result ≤ 483183820800 }
+{
+    let mut end = 0;
+    for o in objects {
+        end = own_end(end, o);
+    }
+    end
+}
+
+/// The bytes from the deepest fixed object up to the stack pointer at entry.
+fn fixed_area(objects: &[Object]) -> u64
+    ensures value { result ≡ fixed_area objects.now }
+    ensures small { result ≤ 2147483648 }
+{
+    let mut depth = 0;
+    for o in objects {
+        depth = depth.max(depth_of(o.fixed_offset));
+    }
+    up_to(16, u64::from(depth))
+}
+
+/// How many bytes these objects take together below the stack pointer at entry: a multiple of 16.
 pub fn area(objects: &[Object]) -> u64
     requires few { length objects.now ≤ MAX_SLOTS }
     requires each { All IsSoundObject objects.now }
@@ -89,9 +174,33 @@ pub fn area(objects: &[Object]) -> u64
     ensures value { result ≡ area_of objects.now }
     ensures small { result ≤ 549755813888 }
 {
-    let mut end = 0;
+    placed_area(objects)
+}
+
+/// The area where each object that isn't fixed is where it must be.
+pub fn placed_area(objects: &[Object]) -> u64
+    requires few { length objects.now ≤ MAX_SLOTS }
+    requires each { All IsSoundObject objects.now }
+    requires laid { ArePlaced objects.now }
+    ensures value { result ≡ area_of objects.now }
+    ensures small { result ≤ 549755813888 }
+{
+    up_to(16, greatest_end(objects)) + fixed_area(objects)
+}
+
+/// The bytes from the lowest byte of these objects up to the end of their area, or of a fixed object that ends above
+/// it.
+pub fn extent(objects: &[Object]) -> u64
+    requires few { length objects.now ≤ MAX_SLOTS }
+    requires each { All IsSoundObject objects.now }
+    requires laid { AreLaid objects.now }
+    ensures value { result ≡ extent_of objects.now }
+    ensures above { area_of objects.now ≤ result }
+    ensures small { result ≤ 549755813888 }
+{
+    let mut end = area(objects);
     for o in objects {
         end = end.max(o.offset + u64::from(o.size));
     }
-    up_to(16, end)
+    end
 }

@@ -1,6 +1,6 @@
 //! Whether stack objects are those of a sound function.
 
-ghost use Rattle.std.specs.Prelude.{◌≡◌, ◌↔◌, ◌+◌, ◌≤◌, map, length, All, Contains, IfOk, IsTrue};
+ghost use Rattle.std.specs.Prelude.{◌≡◌, ◌↔◌, ◌+◌, ◌^◌, ◌<◌, ◌≤◌, map, length, All, Contains, Some, IfOk, IsTrue};
 ghost use Rattle.mir_func.specs.Limits.{MAX_SLOTS};
 ghost use Rattle.mir_func.specs.Objects.{
   ALIGNMENTS,
@@ -9,13 +9,16 @@ ghost use Rattle.mir_func.specs.Objects.{
   local_count,
   AreLaidFrom,
   AreLaid,
+  ArePlaced,
+  IsPlaced,
+  IsFixedAt,
 };
-ghost use Rattle.mir_func.specs.Sound.{IsLocalOffset, IsSoundObject};
+ghost use Rattle.mir_func.specs.Sound.{IsLocalOffset, IsFixedOffset, IsSoundObject};
 ghost use Rattle.mir_func.specs.steps.Checks.{AreSoundObjects};
 
 use crate::limits::ALIGNMENTS;
 use crate::number_set::Numbers;
-use crate::object::{Object, counted, next_end, place_of, reach_after, up_to};
+use crate::object::{Object, counted, end_past, place_of, placed_area, reach_after, up_to};
 use base_ids::limits::MAX_NUMBER;
 use std::alloc::{AllocError, Global};
 
@@ -47,11 +50,14 @@ fn are_each_sound(objects: &[Object]) -> bool
     objects.iter().all(|o| is_object_sound(o))
 }
 
-/// Whether an object has a valid size, alignment and local offset.
+/// Whether an object has a valid size, alignment and offsets.
 fn is_object_sound(o: &Object) -> bool
     ensures { IsTrue result ↔ IsSoundObject o.now }
 {
-    o.size <= MAX_NUMBER && is_alignment(o.align) && is_local_offset(o.local_offset)
+    o.size <= MAX_NUMBER
+        && is_alignment(o.align)
+        && is_local_offset(o.local_offset)
+        && is_fixed_offset(o.fixed_offset, o.local_offset)
 }
 
 /// Whether a local offset, if there is one, is within its limits.
@@ -60,6 +66,16 @@ fn is_local_offset(local: Option<u32>) -> bool
 {
     match local {
         Some(offset) => 0 < offset && offset <= MAX_NUMBER,
+        None => true,
+    }
+}
+
+/// Whether an offset from the stack pointer at entry, if there is one, is within its limits, without a local offset.
+fn is_fixed_offset(fixed: Option<i32>, local: Option<u32>) -> bool
+    ensures { IsTrue result ↔ IsFixedOffset fixed local }
+{
+    match fixed {
+        Some(offset) => offset.unsigned_abs() <= MAX_NUMBER && local.is_none(),
         None => true,
     }
 }
@@ -99,11 +115,70 @@ fn are_laid(objects: &[Object]) -> bool
     requires each { All IsSoundObject objects.now }
     ensures { IsTrue result ↔ AreLaid objects.now }
 {
-    let block = block_size(objects);
-    local_count(objects) != 1 && are_laid_from(block, objects)
+    if local_count(objects) == 1 {
+        return false;
+    }
+    if !are_placed(objects) {
+        return false;
+    }
+    are_fixed(placed_area(objects), objects)
 }
 
-/// Whether each object is where it must be by a local block of this size.
+/// Whether each object that isn't fixed is where it must be.
+fn are_placed(objects: &[Object]) -> bool
+    requires few { length objects.now ≤ MAX_SLOTS }
+    requires each { All IsSoundObject objects.now }
+    ensures { IsTrue result ↔ ArePlaced objects.now }
+{
+    are_laid_from(block_size(objects), objects)
+}
+
+/// Whether each fixed object is at its offset from the end of an area of this size.
+fn are_fixed(area: u64, objects: &[Object]) -> bool
+    requires small { area ≤ 549755813888 }
+    ensures { IsTrue result ↔ All (λ o. IsFixedAt area o.offset o.fixed_offset) objects.now }
+{
+    objects
+        .iter()
+        .all(|o| is_fixed_at(area, o.offset, o.fixed_offset))
+}
+
+/// Whether an object at an offset from the lowest byte of an area is at its offset from the area's end, if it is fixed.
+fn is_fixed_at(area: u64, offset: u64, fixed: Option<i32>) -> bool
+    requires small { area ≤ 549755813888 }
+    ensures { IsTrue result ↔ IsFixedAt area offset fixed }
+{
+    match fixed {
+        Some(distance) => is_at_distance(area, offset, distance),
+        None => true,
+    }
+}
+
+fn is_at_distance(area: u64, offset: u64, distance: i32) -> bool
+    requires small { area ≤ 549755813888 }
+    ensures { IsTrue result ↔ IsFixedAt area offset (Some distance) }
+{
+    let far = u64::from(distance.unsigned_abs());
+    if distance < 0 {
+        offset <= area && offset + far == area
+    } else {
+        offset == area + far
+    }
+}
+
+/// Whether an object that isn't fixed begins where it must.
+fn is_placed(block: u64, end: u64, o: &Object) -> bool
+    requires positive { 0 < o.now.align }
+    requires fits { end + o.now.align ≤ 2 ^ 64 }
+    ensures { IsTrue result ↔ IsPlaced block end o.now o.now.fixed_offset }
+{
+    match o.fixed_offset {
+        Some(_) => true,
+        None => o.offset == place_of(block, end, o.align, o.local_offset),
+    }
+}
+
+/// Whether each object that isn't fixed is where it must be by a local block of this size.
 fn are_laid_from(block: u64, objects: &[Object]) -> bool
     requires few { length objects.now ≤ MAX_SLOTS }
     requires each { All IsSoundObject objects.now }
@@ -113,10 +188,10 @@ fn are_laid_from(block: u64, objects: &[Object]) -> bool
     let mut end = block;
     let mut rest = objects;
     while let Some((o, tail)) = rest.split_first() {
-        if o.offset != place_of(block, end, o.align, o.local_offset) {
+        if !is_placed(block, end, o) {
             return false;
         }
-        end = next_end(end, o.offset + u64::from(o.size), o.local_offset);
+        end = end_past(end, o);
         rest = tail;
     }
     true

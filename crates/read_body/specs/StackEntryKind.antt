@@ -1,5 +1,5 @@
 -- The frame of a function: which of its stack entries are spill slots, and which are stack objects.
-use Rattle.std.specs.Prelude.{ℕ, ◌+◌, ◌<◌, ◌≤◌, Bool, not, ◌||◌, ◌==◌, if◌then◌else◌, is_some, List, [], ◌∷◌, ◌++◌}
+use Rattle.std.specs.Prelude.{ℕ, ◌+◌, ◌<◌, ◌≤◌, Bool, not, ◌||◌, ◌==◌, if◌then◌else◌, is_some, List, [], ◌∷◌, ◌++◌, None}
 use Rattle.mir_func.specs.declared.object.Object.{Object}
 use Rattle.mir_func.specs.Objects.{block_size, place_of, next_end}
 use Rattle.read_declarations.specs.declared.stack.StackEntry.{StackEntry}
@@ -37,6 +37,7 @@ laid_at block end e = record {
   size = e.size;
   align = e.align;
   local_offset = e.local_offset;
+  fixed_offset = None;
   offset = place_of block end e.align e.local_offset;
 }
 

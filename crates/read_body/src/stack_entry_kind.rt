@@ -99,6 +99,7 @@ fn lay(
         size: entry.size,
         align: entry.align,
         local_offset: entry.local_offset,
+        fixed_offset: None,
         offset,
     })
 }

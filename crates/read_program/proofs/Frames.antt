@@ -9,8 +9,9 @@ use Rattle.std.proofs.lemmas.List.Elements.{All-nil, All-push, All-head, All-tai
 use Rattle.std.proofs.lemmas.List.Folds.{list_any-append}
 use Rattle.mir_func.specs.declared.object.Object.{Object}
 use Rattle.mir_func.specs.Objects.{ALIGNMENTS, up_to, reach_after, reach_from, block_size, counted, local_count, local_offsets, place_of, next_end}
-use Rattle.mir_func.specs.Objects.{AreLaidFrom, AreLaid}
+use Rattle.mir_func.specs.Objects.{AreLaidFrom, AreLaid, IsPlaced, end_past, area_of, HasNoFixed}
 use Rattle.mir_func.specs.Sound.{AreApart, IsSoundObject}
+use Rattle.mir_func.proofs.Fixed.{none_fixed}
 use Rattle.mir_func.proofs.Once.{apart_head, apart_tail}
 use Rattle.read_declarations.specs.declared.stack.StackEntry.{StackEntry}
 use Rattle.read_declarations.specs.Stack.{is_alignment, entry_offsets}
@@ -171,21 +172,21 @@ module _ (named : List ℕ) where
 -- the end of the objects above the local block
 abbrev last_end : ℕ → List Object → ℕ
 last_end n [] = n
-last_end n (o ∷ os) = last_end (next_end n (o.offset + o.size) o.local_offset) os
+last_end n (o ∷ os) = last_end (end_past n o o.fixed_offset) os
 
 record IsLaid (block : ℕ) (laid : ObjectLayout) : Type 0 where
   each : All IsSoundObject laid.objects
   laid_from : AreLaidFrom block block laid.objects
   end_is : laid.end ≡ last_end block laid.objects
 
-laid_push : (block n : ℕ) (os : List Object) (o : Object) → AreLaidFrom block n os → o.offset ≡ place_of block (last_end n os) o.align o.local_offset →
+laid_push : (block n : ℕ) (os : List Object) (o : Object) → AreLaidFrom block n os → IsPlaced block (last_end n os) o o.fixed_offset →
     AreLaidFrom block n (os ++ o ∷ [])
 laid_push block n [] o is at = (at, tt)
-laid_push block n (p ∷ os) o is at = (is.0, laid_push block (next_end n (p.offset + p.size) p.local_offset) os o is.1 at)
+laid_push block n (p ∷ os) o is at = (is.0, laid_push block (end_past n p p.fixed_offset) os o is.1 at)
 
-end_push : (n : ℕ) (os : List Object) (o : Object) → last_end n (os ++ o ∷ []) ≡ next_end (last_end n os) (o.offset + o.size) o.local_offset
+end_push : (n : ℕ) (os : List Object) (o : Object) → last_end n (os ++ o ∷ []) ≡ end_past (last_end n os) o o.fixed_offset
 end_push n [] o = refl
-end_push n (p ∷ os) o = end_push (next_end n (p.offset + p.size) p.local_offset) os o
+end_push n (p ∷ os) o = end_push (end_past n p p.fixed_offset) os o
 
 alignment : (align : ℕ) → is_alignment align ≡ true → Contains ALIGNMENTS align
 alignment align is = met_contains ALIGNMENTS align (by (eqb align 1) (eqb align 2) (eqb align 4) (eqb align 8) (eqb align 16) is) where
@@ -212,6 +213,7 @@ module _ (named : List ℕ) where
         size = entry.size;
         aligned = alignment e.align entry.aligned;
         local = entry.local;
+        fixed = tt;
       });
       laid_from = laid_push block block laid.objects (laid_at block laid.end e) is.laid_from
           (ap (λ (n : ℕ). place_of block n e.align e.local_offset) is.end_is);
@@ -233,6 +235,27 @@ module _ (named : List ℕ) where
 
   pub objects_sound : (es : List StackEntry) → All IsReadEntry es → All IsSoundObject (objects_of named es).objects
   objects_sound es all = (all_laid es all).each
+
+  -- ---- no object is fixed
+
+  unfixed_more : (block : ℕ) (laid : ObjectLayout) (e : StackEntry) → HasNoFixed laid.objects → HasNoFixed (with_object named block laid e).objects
+  unfixed_more block laid e is = by (is_stack_object named e) where
+    by : (b : Bool) → HasNoFixed (cond b (record {
+      objects = laid.objects ++ laid_at block laid.end e ∷ [];
+      end = next_end laid.end (place_of block laid.end e.align e.local_offset + e.size) e.local_offset;
+    }) laid).objects
+    by true = All-push (λ (o : Object). o.fixed_offset ≡ None) laid.objects (laid_at block laid.end e) is refl
+    by false = is
+
+  unfixed_behind : (block : ℕ) (laid : ObjectLayout) (es : List StackEntry) → HasNoFixed laid.objects →
+      HasNoFixed (objects_behind named block laid es).objects
+  unfolding objects_behind
+  unfixed_behind block laid [] is = is
+  unfixed_behind block laid (e ∷ es) is = unfixed_behind block (with_object named block laid e) es (unfixed_more block laid e is)
+
+  pub objects_unfixed : (es : List StackEntry) → HasNoFixed (objects_of named es).objects
+  objects_unfixed es =
+      unfixed_behind (local_block es) (record { objects = []; end = local_block es }) es (All-nil (λ (o : Object). o.fixed_offset ≡ None))
 
   -- ---- local offsets of objects are those of the entries
 
@@ -286,4 +309,5 @@ module _ (named : List ℕ) where
       record {
         each = subst (λ (n : ℕ). AreLaidFrom n n (objects_of named es).objects) (sym block) (all_laid es all).laid_from;
         several = λ one. several (sym is.count ∙ one);
+        fixed = none_fixed (area_of (objects_of named es).objects) (objects_of named es).objects (objects_unfixed es);
       }

@@ -44,6 +44,7 @@ use Rattle.read_proof.specs.Read.{declared_in, EntryIsLimited, LocationsAreLimit
 use Rattle.read_program.proofs.Bodies.{IsReadBlock, IsReadBody, ComesFromLine, body_reads}
 use Rattle.read_program.proofs.Entries.{declared_if_met}
 use Rattle.read_program.proofs.Forms.{line_fits}
+use Rattle.read_program.proofs.Frames.{objects_unfixed}
 use Rattle.read_program.proofs.Items.{item_reads}
 use Rattle.read_program.proofs.Judged.{judged_line}
 use Rattle.read_proof.proofs.Kept.{physical, IsKept, item_kept}
@@ -79,6 +80,7 @@ module _ (meta : Maps) (d : Declarations) (body : Body) (all : (n : ℕ) → is_
       IsReadFunction meta (function_of d body)
   function_reads is sound small declares = record {
     sound = sound;
+    unfixed = objects_unfixed body.objects d.stack;
     read = record {
       apart = subst AreApart (sym (ids_as ids (blocks_of body))) is.apart;
       items = All-weaker (IsReadBlock Kept) _ (λ b r. r.items) blocks kept;

@@ -5,7 +5,7 @@ use Rattle.read_metadata.specs.Metadata.{location_at}
 use Rattle.mir_func.specs.declared.debug_substitution.DebugSubstitution.{DebugSubstitution}
 use Rattle.mir_func.specs.declared.debug_substitution.OperandPair.{OperandPair}
 use Rattle.mir_func.specs.Function.{Function}
-use Rattle.mir_func.specs.Objects.{object_of}
+use Rattle.mir_func.specs.Objects.{object_of, HasNoFixed}
 use Rattle.mir_func.specs.Sound.{AllItems, items_of, IsSound, HasForm}
 use Rattle.mir_func.specs.SoundFrame.{HasPhysical}
 use Rattle.base_ids.specs.Limits.{MAX_NUMBER}
@@ -45,6 +45,7 @@ LocationsAreLimited meta = (n : ℕ) → IfSome (inlined_at_node (location_at me
 -- its kind and its debug location.
 pub record IsReadFunction (meta : Maps) (f : Function) : Type 0 where
   pub sound : IsSound f
+  pub unfixed : HasNoFixed f.objects
   pub read : IsRead f.blocks
   pub form : AllItems (λ i. HasForm i.kind) f.blocks
   pub physical : AllItems (λ i. HasPhysical i.kind) f.blocks

@@ -1,5 +1,5 @@
 -- The slots and objects of entries, read as entries again.
-use Rattle.std.proofs.Common.{◌≡◌, ℕ, ◌+◌, ◌≤◌, Bool, true, false, cond, not, ◌||◌, eqb, List, [], ◌∷◌, ◌++◌, map, All, Option, Some, None}
+use Rattle.std.proofs.Common.{◌≡◌, ℕ, ◌+◌, ◌≤◌, Bool, true, false, cond, not, ◌||◌, eqb, ℤ, List, [], ◌∷◌, ◌++◌, map, All, Option, Some, None}
 use Rattle.std.proofs.Common.{refl, sym, ap, subst, ◌∙◌, arith, append_assoc, append-nil, inl, inr}
 use Rattle.std.specs.Prelude.{is_some, Contains}
 use Rattle.std.proofs.lemmas.Bool.{cases_Bool, or_right, or_left, eq-eqb, eqb-true}
@@ -9,6 +9,7 @@ use Rattle.std.proofs.lemmas.List.Elements.{All-nil, All-head, All-tail, All-pus
 use Rattle.base_ids.specs.Limits.{MAX_NUMBER}
 use Rattle.mir_func.specs.declared.object.Object.{Object}
 use Rattle.mir_func.specs.Objects.{up_to, reach_after, reach_from, counted, local_count, local_offsets, place_of, next_end, AreLaidFrom, AreLaid, object_of}
+use Rattle.mir_func.specs.Objects.{IsPlaced, end_past, HasNoFixed}
 use Rattle.read_declarations.specs.declared.stack.StackEntry.{StackEntry}
 use Rattle.read_declarations.specs.Stack.{entry_offsets}
 use Rattle.read_body.specs.declared.stack_entry_kind.ObjectLayout.{ObjectLayout}
@@ -17,7 +18,7 @@ use Rattle.read_body.specs.StackEntryKind.{ids_of_objects}
 use Rattle.read_body.specs.FirstUseOrder.{is_met, met}
 use Rattle.read_program.specs.Closing.{ids_behind, entry_ids}
 use Rattle.read_program.proofs.Entries.{ids_are_objects}
-use Rattle.read_program.proofs.Frames.{frame_count, objects_laid, slot_if_no_object}
+use Rattle.read_program.proofs.Frames.{frame_count, objects_laid, objects_unfixed, slot_if_no_object}
 use Rattle.read_program.proofs.Lists.{met_keeps, met_has, met_at}
 use Rattle.read_program.proofs.Stack.{IsReadEntry}
 use Rattle.readback_functions.specs.Declared.{IsEntry, slot_entry, object_entry, entries_read}
@@ -89,34 +90,48 @@ module _ (again : List ℕ) where
   laid_more laid o = record { objects = laid.objects ++ o ∷ []; end = next_end laid.end (o.offset + o.size) o.local_offset }
 
   module _ (block : ℕ) where
-    objects_laid_again : (laid : ObjectLayout) (os : List Object) → All (IsObject again) os → AreLaidFrom block laid.end os →
+    objects_laid_again : (laid : ObjectLayout) (os : List Object) → All (IsObject again) os → HasNoFixed os → AreLaidFrom block laid.end os →
         (objects_behind again block laid (map object_entry os)).objects ≡ laid.objects ++ os
     unfolding objects_behind
-    objects_laid_again laid [] all from = sym (append-nil laid.objects)
-    objects_laid_again laid (o ∷ os) all from =
+    objects_laid_again laid [] all unfixed from = sym (append-nil laid.objects)
+    objects_laid_again laid (o ∷ os) all unfixed from =
         ap (λ (b : Bool). (objects_behind again block (cond b (record {
           objects = laid.objects ++ laid_at block laid.end (object_entry o) ∷ [];
           end = next_end laid.end (place_of block laid.end o.align o.local_offset + o.size) o.local_offset;
         }) laid) (map object_entry os)).objects) (All-head (IsObject again) o os all).0
         ∙ ((λ i. (objects_behind again block (record {
-          objects = laid.objects ++ record { id = o.id; size = o.size; align = o.align; local_offset = o.local_offset; offset = place i } ∷ [];
+          objects = laid.objects ++ record {
+            id = o.id;
+            size = o.size;
+            align = o.align;
+            local_offset = o.local_offset;
+            fixed_offset = unplaced i;
+            offset =
+                place i;
+          } ∷
+              [];
           end = next_end laid.end (place i + o.size) o.local_offset;
         }) (map object_entry os)).objects)
-        ∙ (objects_laid_again (laid_more laid o) os (All-tail (IsObject again) o os all) from.1 ∙ append_assoc laid.objects (o ∷ []) os))
+        ∙ (objects_laid_again (laid_more laid o) os (All-tail (IsObject again) o os all) (All-tail (λ (x : Object). x.fixed_offset ≡ None) o os unfixed)
+        (subst (λ (f : Option ℤ). AreLaidFrom block (end_past laid.end o f) os) (sym unplaced) from.1) ∙ append_assoc laid.objects (o ∷ []) os))
       where
-        place : place_of block laid.end o.align o.local_offset ≡ o.offset
-        place = sym from.0
+        unplaced : None ≡ o.fixed_offset
+        unplaced = sym (All-head (λ (x : Object). x.fixed_offset ≡ None) o os unfixed)
 
-    objects_again : (laid : ObjectLayout) (ms : List ℕ) (os : List Object) → All (IsSlot again) ms → All (IsObject again) os → AreLaidFrom block laid.end os →
+        place : place_of block laid.end o.align o.local_offset ≡ o.offset
+        place = sym (subst (λ (f : Option ℤ). IsPlaced block laid.end o f) (sym unplaced) from.0)
+
+    objects_again : (laid : ObjectLayout) (ms : List ℕ) (os : List Object) → All (IsSlot again) ms → All (IsObject again) os → HasNoFixed os →
+        AreLaidFrom block laid.end os →
         (objects_behind again block laid (entries_read ms os)).objects ≡ laid.objects ++ os
     unfolding objects_behind
-    objects_again laid [] os slots objects from = objects_laid_again laid os objects from
-    objects_again laid (m ∷ ms) os slots objects from =
+    objects_again laid [] os slots objects unfixed from = objects_laid_again laid os objects unfixed from
+    objects_again laid (m ∷ ms) os slots objects unfixed from =
         ap (λ (b : Bool). (objects_behind again block (cond b (record {
           objects = laid.objects ++ laid_at block laid.end (slot_entry m) ∷ [];
           end = next_end laid.end (place_of block laid.end 1 None + 8) None;
         }) laid) (entries_read ms os)).objects) (All-head (IsSlot again) m ms slots).0
-        ∙ objects_again laid ms os (All-tail (IsSlot again) m ms slots) objects from
+        ∙ objects_again laid ms os (All-tail (IsSlot again) m ms slots) objects unfixed from
 
 -- ---- local offsets
 
@@ -202,7 +217,7 @@ frames_read_back named again es declared same = record {
   };
   slots = slots_again again [] ms os slots_too objects_too;
   objects = objects_again again (local_block (entries_read ms os)) (record { objects = []; end = local_block (entries_read ms os) }) ms os slots_too
-      objects_too (subst (λ (n : ℕ). AreLaidFrom n n os) (sym (ap (up_to 16) (reach_again 0 ms os))) laid.each);
+      objects_too (objects_unfixed named es) (subst (λ (n : ℕ). AreLaidFrom n n os) (sym (ap (up_to 16) (reach_again 0 ms os))) laid.each);
   ids = λ n is. ids_have [] (entries_read ms os) n (ap (is_met n) (numbers_again ms os) ∙ met_append n ms (object_numbers os) ∙ either n is);
 } where
   ms : List ℕ
@@ -224,9 +239,11 @@ frames_read_back named again es declared same = record {
   objects_too = All-weaker (IsObject named) (IsObject again)
       (λ o is. (ap (λ (b : Bool). is_some o.local_offset || (not (eqb o.size 8) || b)) (same o.id) ∙ is.0, is.1)) os objects
 
+  read : All IsReadEntry es
+  read = All-weaker IsEntry IsReadEntry (λ e is. record { size = is.size; aligned = is.aligned; local = is.local }) es declared.each
+
   laid : AreLaid os
-  laid = objects_laid named es (All-weaker IsEntry IsReadEntry (λ e is. record { size = is.size; aligned = is.aligned; local = is.local }) es declared.each)
-      declared.several
+  laid = objects_laid named es read declared.several
 
   once : Once (ms ++ object_numbers os)
   once = once_behind named (local_block es) [] (record { objects = []; end = local_block es }) es tt (λ n is. refl) (once_if_apart (numbers es) declared.apart)

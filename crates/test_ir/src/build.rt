@@ -1,5 +1,5 @@
-//! Functions from texts. Lines `slots FIRST LAST` and `object ID SIZE ALIGN OFFSET`, with a local offset if there is one,
-//! declare slots and stack objects. A
+//! Functions from texts. Lines `slots FIRST LAST` and `object ID SIZE ALIGN OFFSET`, with a local offset if there is
+//! one, or `-` and a fixed offset, declare slots and stack objects. A
 //! line `bb FIRST LAST SILENT` begins a block, or one for each number up to the last; the last number and the silent
 //! index may be left out. Each further line is an item: an opcode and its operands, after `#K` if it has a debug
 //! instruction number; `mark V`, `inlined V AT` or `part V OFFSET LENGTH` and what the variable or its part is
@@ -203,6 +203,10 @@ fn add_slots(words: &mut SplitWhitespace, slots: &mut SlotIds) -> Option<()> {
     Some(())
 }
 
+fn offset(word: Option<&str>) -> Option<i32> {
+    word?.parse::<i32>().ok()
+}
+
 fn object(words: &mut SplitWhitespace) -> Option<Object> {
     Some(Object {
         id: ObjectId(number(words.next())?),
@@ -210,6 +214,7 @@ fn object(words: &mut SplitWhitespace) -> Option<Object> {
         align: number(words.next())?,
         offset: u64::from(number(words.next())?),
         local_offset: number(words.next()),
+        fixed_offset: offset(words.next()),
     })
 }
 

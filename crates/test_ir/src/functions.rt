@@ -81,6 +81,26 @@ const ROWS: &[(&str, &str, bool)] = &[
     ("object:9", "object:3", false),
     (
         "8 12 4 0\nobject 9 24 16 16",
+        "8 12 4 32 - -16\nobject 9 24 16 0",
+        true,
+    ),
+    (
+        "8 12 4 0\nobject 9 24 16 16",
+        "8 12 4 40 - 8\nobject 9 24 16 0",
+        true,
+    ),
+    (
+        "8 12 4 0\nobject 9 24 16 16",
+        "8 12 4 32 - 8\nobject 9 24 16 0",
+        false,
+    ),
+    (
+        "8 12 4 0\nobject 9 24 16 16",
+        "8 12 4 40 8 8\nobject 9 24 16 0",
+        false,
+    ),
+    (
+        "8 12 4 0\nobject 9 24 16 16",
         "8 12 4 8 24\nobject 9 24 16 12 20",
         true,
     ),

@@ -3,7 +3,7 @@ use Rattle.std.specs.Prelude.{◌≡◌, ◌*◌, ◌<◌, ◌≤◌, ℕ, List,
 use Rattle.emit_code.specs.Counts.{MAX_WORDS}
 use Rattle.pass_trait.specs.declared.loss.Loss.{Loss}
 use Rattle.pass_trait.specs.Steps.{PassStep}
-use Rattle.frame_rule.specs.Rule.{size_of}
+use Rattle.frame_rule.specs.Rule.{reach_of}
 use Rattle.compile_function.specs.declared.emit.EmittedFunctions.{EmittedFunctions}
 use Rattle.compile_function.specs.Emitted.{names_of, text_of, IsPushed}
 use Rattle.compile_function.specs.Passed.{source_of, IsMadeBy, IsMadeLosing, IsCompilable}
@@ -29,7 +29,7 @@ pub record IsTooLarge (steps : List PassStep) (q : Parsed) : Type 0 where
   pub source : passed.source ≡ source_of q
   pub keeps : IsPassedFunction passed
   pub made : IsMadeBy steps passed
-  pub large : MAX_FRAME < size_of passed.function
+  pub large : MAX_FRAME < reach_of passed.function
 
 -- The functions are run through the passes and compiled from address 0 on.
 pub record AreMade (meta : Maps) (reserve : List ℕ) (passes : List PassKind) (functions : List Parsed) (m : EmittedFunctions) : Type 0 where

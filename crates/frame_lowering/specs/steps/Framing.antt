@@ -13,7 +13,7 @@ use Rattle.mir_func.specs.Graph.{block_start}
 use Rattle.mir_func.specs.Limits.{MAX_FRAME, MAX_SLOTS}
 use Rattle.mir_func.specs.SoundFrame.{prologue_code, epilogue_code}
 use Rattle.mir_func.specs.Positions.{position_of}
-use Rattle.frame_rule.specs.Rule.{saved_of, size_of, added_all, renamed}
+use Rattle.frame_rule.specs.Rule.{saved_of, size_of, reach_of, added_all, renamed}
 use Rattle.frame_lowering.specs.declared.frame.Frame.{Frame}
 
 -- ---- slots
@@ -36,6 +36,7 @@ pub record IsFrameOf (f : Function) (frame : Frame) : Type 0 where
   pub saved : frame.saved ≡ saved_of f
   pub size : frame.size ≡ size_of f
   pub small : frame.size ≤ MAX_FRAME
+  pub reach : reach_of f ≤ MAX_FRAME
 
 -- ---- the parts of the function, by the frame
 

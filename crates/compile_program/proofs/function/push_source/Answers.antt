@@ -1,5 +1,5 @@
 use Rattle.std.proofs.Common.{◌<◌, refl, rules}
-use Rattle.frame_rule.specs.Rule.{size_of}
+use Rattle.frame_rule.specs.Rule.{reach_of}
 use Rattle.mir_func.specs.Limits.{MAX_FRAME}
 use Rattle.compile_function.specs.Passed.{passed_of}
 use Rattle.compile_program.proofs.Passed.{made_too_large}
@@ -26,6 +26,6 @@ returns-clause-pushed c = record {
 
 pub returns-in_err-push_function-clause-too_large : goal.returns-in_err-push_function-clause-too_large
 returns-in_err-push_function-clause-too_large c is =
-    let large : MAX_FRAME < size_of c.in_ok-passed.passed.function = search (rules, is) in
+    let large : MAX_FRAME < reach_of c.in_ok-passed.passed.function = search (rules, is) in
     made_too_large c.args.reserve.now c.args.passes.now c.args.source.now c.in_ok-passed.passed.function c.in_ok-passed.passed.substitutions
     c.in_ok-passed.passed.losses c.args.meta.now c.in_ok-passed.ensures.made c.in_ok-passed.ensures.compilable large

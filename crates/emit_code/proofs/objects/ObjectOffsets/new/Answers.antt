@@ -6,6 +6,5 @@ pub offsets-requires-clause-objects : goal.offsets-requires-clause-objects
 offsets-requires-clause-objects c = rw c.as_slice-objects.ensures (λ k d lt.
     let objects = c.framed.inside.objects in
     let within = object_within objects k d lt in
-    let room = c.framed.invariant.room in
-    let size = c.framed.invariant.small in
-    omega (arith, within, room, size))
+    let reach = c.framed.invariant.reach in
+    omega (arith, within, reach))

@@ -1,6 +1,6 @@
 use Rattle.std.proofs.Common.{◌≡◌, ◌≤◌, drop}
 use Rattle.mir_func.specs.Objects.{end_from}
-use Rattle.mir_func.proofs.object.area.Given as goal
+use Rattle.mir_func.proofs.object.greatest_end.Given as goal
 
 abbrev pub invariant-loop-o : goal.invariant-loop-o
 invariant-loop-o l = record {
