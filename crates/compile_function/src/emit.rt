@@ -14,6 +14,7 @@ ghost use Rattle.read_body.specs.Limits.{MAX_ITEMS};
 ghost use Rattle.mir_func.specs.Limits.{MAX_FRAME};
 ghost use Rattle.mir_func.specs.Sound.{AllItems, IsSound, items_of};
 ghost use Rattle.mir_func.specs.SoundFrame.{HasPhysical};
+ghost use Rattle.pass_trait.specs.Sizes.{call_count};
 ghost use Rattle.read_proof.specs.Read.{IsReadFunction};
 ghost use Rattle.listing_meaning.specs.Listing.{listing_of};
 
@@ -60,6 +61,7 @@ pub fn push_function(
     requires read { IsReadFunction meta.now source.now.func }
     requires sound { IsSound function.now }
     requires few { length (items_of function.now.blocks) ≤ MAX_PASSED }
+    requires calls { call_count function.now ≤ MAX_ITEMS }
     requires physical { AllItems (λ i. HasPhysical i.kind) function.now.blocks }
     ensures pushed { OnOk result
         (IsPushed meta.now (passed_of source.now function.now subs.now) losses made.old made.new) }
@@ -123,6 +125,7 @@ fn compiled(
     requires low { base < MAX_BASE }
     requires sound { IsSound function.now }
     requires few { length (items_of function.now.blocks) ≤ MAX_PASSED }
+    requires calls { call_count function.now ≤ MAX_ITEMS }
     requires physical { AllItems (λ i. HasPhysical i.kind) function.now.blocks }
     ensures compiled { IfOk result (IsOneCompiled (passed_of source.now function.now subs.now) losses base) }
     ensures too_large { IsErrOf result CompileError.FrameTooLarge → MAX_FRAME < reach_of function.now }

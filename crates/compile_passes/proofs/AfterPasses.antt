@@ -4,6 +4,7 @@ use Rattle.std.proofs.Common.{◌≡◌, inl, inr, ℕ, ◌+◌, ◌*◌, ◌<�
 use Rattle.std.specs.Prelude.{All, Contains, IfSome}
 use Rattle.std.specs.List.{flat_map}
 use Rattle.std.proofs.Math.Nat.{le_trans}
+use Rattle.std.proofs.lemmas.List.Sums.{count_by-le-length}
 use Rattle.std.proofs.lemmas.List.Elements.{All-nil, All-cons, All-head, All-tail, All-append, All-weaker, All-contains, All-contains_itself}
 use Rattle.std.proofs.lemmas.List.Elements.{Contains-append_left, Contains-append_right}
 use Rattle.rv64_instr.specs.declared.place.Place.{Place}
@@ -19,6 +20,7 @@ use Rattle.mir_func.specs.declared.location.Loc.{Loc}
 use Rattle.mir_func.specs.declared.object.Object.{Object}
 use Rattle.mir_func.specs.declared.variable.MarkValue.TheVariants.{Nothing, Constant, At, Pair}
 use Rattle.mir_func.specs.declared.variable.VarId.{VarId}
+use Rattle.mir_func.specs.Calls.{is_call_kind}
 use Rattle.mir_func.specs.Function.{Function}
 use Rattle.mir_func.specs.Limits.{MAX_SLOTS}
 use Rattle.mir_func.specs.Objects.{HasNoFixed}
@@ -32,7 +34,7 @@ use Rattle.mir_printer.specs.Printable.{IsNumber, IsPrintablePlace, IsPrintableL
 use Rattle.pass_trait.specs.Change.{change}
 use Rattle.pass_trait.specs.declared.loss.Loss.{Loss}
 use Rattle.pass_trait.specs.Simulation.{Source, SimulatesSource, PreservesSimulation}
-use Rattle.pass_trait.specs.Sizes.{greatest, numbers_of, greatest_number, item_count}
+use Rattle.pass_trait.specs.Sizes.{greatest, numbers_of, greatest_number, item_count, call_count}
 use Rattle.listing_text.specs.Shown.{declared_by, IsPrintableEntry}
 use Rattle.listing_function.specs.Printable.{IsPrintableFramedKind}
 use Rattle.listing_proof.proofs.Framed.{read_bodies}
@@ -273,6 +275,13 @@ module _ (meta : Maps) (q : Parsed) (passes : List PassKind) (g : Function) (gs 
       let few : item_count q.func ≤ MAX_ITEMS = read.few_items in
       let copied : item_count g ≤ MAX_ITEMS = subst (λ (h : Function). item_count h ≤ MAX_ITEMS) (sym same) few in
       le_trans growth.items (le_trans (after_more passes (item_count g) MAX_ITEMS copied) accepted.items)
+
+  -- calls are among the items of the source, and passes add none
+  pub calls_after : KeepsGrowth passes (change g gs f subs) → call_count f ≤ MAX_ITEMS
+  calls_after growth =
+      let few : item_count q.func ≤ MAX_ITEMS = read.few_items in
+      let copied : item_count g ≤ MAX_ITEMS = subst (λ (h : Function). item_count h ≤ MAX_ITEMS) (sym same) few in
+      le_trans growth.calls (le_trans (count_by-le-length (λ (i : Item). is_call_kind i.kind) (items_of g.blocks)) copied)
 
   pub made_after : (reserve : List ℕ) (told : List Loss) → KeepsPasses (passes_of reserve passes) (change g gs f subs) told →
       IsMadeLosing reserve passes (passed_of q f subs) told

@@ -17,7 +17,7 @@ use Rattle.pass_manager.specs.Told.{KeepsPasses}
 
 -- the most items that a function has after passes
 abbrev pub MAX_PASSED : ℕ
-MAX_PASSED = 65536
+MAX_PASSED = 167936
 
 -- a function that was read, as a source
 abbrev pub source_of : Parsed → SourceFunction

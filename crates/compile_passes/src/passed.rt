@@ -4,6 +4,8 @@ ghost use Rattle.std.specs.Prelude.{◌≤◌, All, IfOk, length};
 ghost use Rattle.compile_passes.specs.Passed.{IsMadeLosing, IsCompilable, MAX_PASSED, passed_of};
 ghost use Rattle.mir_func.specs.Sound.{items_of};
 ghost use Rattle.pass_list.specs.Names.{AreDistinct};
+ghost use Rattle.pass_trait.specs.Sizes.{call_count};
+ghost use Rattle.read_body.specs.Limits.{MAX_ITEMS};
 ghost use Rattle.read_proof.specs.Read.{IsReadFunction, EntryIsLimited};
 
 use mir_func::func::Func;
@@ -45,6 +47,7 @@ pub fn after_passes(
     ensures made { IfOk result (λ p.
         IsMadeLosing reserve.now passes.now (passed_of source.now p.function p.substitutions) p.losses) }
     ensures few { IfOk result (λ p. length (items_of p.function.blocks) ≤ MAX_PASSED) }
+    ensures calls { IfOk result (λ p. call_count p.function ≤ MAX_ITEMS) }
 {
     let mut function = source.func.copy()?;
     let mut substitutions = source.subs.copy()?;

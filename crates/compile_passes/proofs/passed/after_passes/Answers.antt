@@ -2,7 +2,7 @@ use Rattle.std.proofs.Common.{All, subst, ap, ◌∙◌, rules}
 use Rattle.mir_func.specs.Function.{Function}
 use Rattle.mir_func.specs.Sound.{IsSound}
 use Rattle.compile_passes.proofs.Accepted.{accepted}
-use Rattle.compile_passes.proofs.AfterPasses.{numbers_of_copy, slots_of_copy, few_after, made_after, compilable_after}
+use Rattle.compile_passes.proofs.AfterPasses.{numbers_of_copy, slots_of_copy, few_after, calls_after, made_after, compilable_after}
 use Rattle.mir_type_facts.specs.Typed.{IsTypedBlock, IsTypedEntry}
 use Rattle.compile_passes.proofs.passed.after_passes.Goals as goal
 
@@ -35,5 +35,11 @@ returns-clause-made c =
 pub returns-clause-few : goal.returns-clause-few
 returns-clause-few c =
     few_after c.args._meta.now c.args.source.now c.args.passes.now c.in_ok-function.function c.in_ok-substitutions.substitutions
+    c.run_passes.new.f c.run_passes.new.subs c.in_ok-function.ensures c.in_ok-substitutions.ensures c.requires.read
+    (accepted c.args.passes.now c.requires.distinct) c.in_ok-losses.ensures.growth
+
+pub returns-clause-calls : goal.returns-clause-calls
+returns-clause-calls c =
+    calls_after c.args._meta.now c.args.source.now c.args.passes.now c.in_ok-function.function c.in_ok-substitutions.substitutions
     c.run_passes.new.f c.run_passes.new.subs c.in_ok-function.ensures c.in_ok-substitutions.ensures c.requires.read
     (accepted c.args.passes.now c.requires.distinct) c.in_ok-losses.ensures.growth

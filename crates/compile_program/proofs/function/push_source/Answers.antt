@@ -11,6 +11,9 @@ push_function-requires-clause-sound c = c.in_ok-passed.ensures.compilable.passed
 pub push_function-requires-clause-few : goal.push_function-requires-clause-few
 push_function-requires-clause-few c = c.in_ok-passed.ensures.few
 
+pub push_function-requires-clause-calls : goal.push_function-requires-clause-calls
+push_function-requires-clause-calls c = c.in_ok-passed.ensures.calls
+
 pub push_function-requires-clause-physical : goal.push_function-requires-clause-physical
 push_function-requires-clause-physical c = c.in_ok-passed.ensures.compilable.passed.physical
 
