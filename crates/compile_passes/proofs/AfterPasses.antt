@@ -34,7 +34,7 @@ use Rattle.mir_printer.specs.Printable.{IsNumber, IsPrintablePlace, IsPrintableL
 use Rattle.pass_trait.specs.Change.{change}
 use Rattle.pass_trait.specs.declared.loss.Loss.{Loss}
 use Rattle.pass_trait.specs.Simulation.{Source, SimulatesSource, PreservesSimulation}
-use Rattle.pass_trait.specs.Sizes.{greatest, numbers_of, greatest_number, item_count, call_count}
+use Rattle.pass_trait.specs.Sizes.{greatest, numbers_of, greatest_number, item_count, call_count, IsPhysical}
 use Rattle.listing_text.specs.Shown.{declared_by, IsPrintableEntry}
 use Rattle.listing_function.specs.Printable.{IsPrintableFramedKind}
 use Rattle.listing_proof.proofs.Framed.{read_bodies}
@@ -159,7 +159,7 @@ source_read meta q read = record {
 }
 
 module _ (meta : Maps) (q : Parsed) (passes : List PassKind) (f : Function) (subs : List DebugSubstitution) (read : IsReadFunction meta q.func)
-    (accepted : IsAccepted passes) (sound : IsSound f)
+    (accepted : IsAccepted passes) (physical : IsPhysical q.func) (sound : IsSound f)
     (following : PreservesSimulation (any_asks passes) (all_keep passes) (change q.func q.subs f subs))
     (growth : KeepsGrowth passes (change q.func q.subs f subs)) (shown : KeepsShown q.func f) (typed : All IsTypedBlock f.blocks)
     (entries : All IsTypedEntry subs) where
@@ -255,7 +255,7 @@ module _ (meta : Maps) (q : Parsed) (passes : List PassKind) (f : Function) (sub
         follows = follows.follows;
       };
       name = shown.name;
-      physical = growth.physical read.physical;
+      physical = growth.physical physical;
       unfixed = subst HasNoFixed (sym follows.objects) read.unfixed;
       marks = in_blocks (λ i. MarksOneOf vs i.kind) f.blocks (λ i among. marks_one i i.kind refl among);
     };
@@ -289,11 +289,11 @@ module _ (meta : Maps) (q : Parsed) (passes : List PassKind) (g : Function) (gs 
       subst (λ (es : List DebugSubstitution). KeepsPasses (passes_of reserve passes) (change q.func es f subs) told) entries_same
       (subst (λ (h : Function). KeepsPasses (passes_of reserve passes) (change h gs f subs) told) same kept)
 
-  pub compilable_after : IsSound f → (Fit passes → PreservesSimulation (any_asks passes) (all_keep passes) (change g gs f subs)) →
+  pub compilable_after : IsPhysical q.func → IsSound f → (Fit passes → PreservesSimulation (any_asks passes) (all_keep passes) (change g gs f subs)) →
       KeepsGrowth passes (change g gs f subs) → KeepsShown g f → All IsTypedBlock f.blocks → All IsTypedEntry subs →
       IsCompilable meta (passed_of q f subs)
-  compilable_after sound following growth shown typed entries =
-      compilable meta q passes f subs read accepted sound
+  compilable_after physical sound following growth shown typed entries =
+      compilable meta q passes f subs read accepted physical sound
       (subst (λ (es : List DebugSubstitution). PreservesSimulation (any_asks passes) (all_keep passes) (change q.func es f subs)) entries_same
       (subst (λ (h : Function). PreservesSimulation (any_asks passes) (all_keep passes) (change h gs f subs)) same (following accepted.fit)))
       (subst (λ (es : List DebugSubstitution). KeepsGrowth passes (change q.func es f subs)) entries_same

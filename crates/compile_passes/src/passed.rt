@@ -2,7 +2,8 @@
 
 ghost use Rattle.std.specs.Prelude.{◌≤◌, All, IfOk, length};
 ghost use Rattle.compile_passes.specs.Passed.{IsMadeLosing, IsCompilable, MAX_PASSED, passed_of};
-ghost use Rattle.mir_func.specs.Sound.{items_of};
+ghost use Rattle.mir_func.specs.Sound.{AllItems, items_of};
+ghost use Rattle.mir_func.specs.SoundFrame.{HasPhysical};
 ghost use Rattle.pass_list.specs.Names.{AreDistinct};
 ghost use Rattle.pass_trait.specs.Sizes.{call_count};
 ghost use Rattle.read_body.specs.Limits.{MAX_ITEMS};
@@ -40,6 +41,7 @@ pub fn after_passes(
     reserve: &[Reg],
 ) -> Result<Passed, AllocError>
     requires read { IsReadFunction _meta.now source.now.func }
+    requires physical { AllItems (λ i. HasPhysical i.kind) source.now.func.blocks }
     requires substitutions { All EntryIsLimited source.now.subs }
     requires distinct { AreDistinct passes.now }
     ensures compilable { IfOk result (λ p.

@@ -1,6 +1,8 @@
 //! Compilation of the functions of a program, one after the other.
 
 ghost use Rattle.std.specs.Prelude.{◌+◌, ◌*◌, ◌%◌, ◌<◌, ◌≤◌, ◌^◌, ◌≡◌, All, IfOk, OnOk, IsErrOf, length};
+ghost use Rattle.mir_func.specs.Sound.{AllItems};
+ghost use Rattle.mir_func.specs.SoundFrame.{HasPhysical};
 ghost use Rattle.emit_code.specs.Counts.{MAX_WORDS, MAX_BASE};
 ghost use Rattle.read_body.specs.Limits.{MAX_ITEMS};
 ghost use Rattle.read_program.specs.declared.closing.Parsed.{Parsed};
@@ -33,6 +35,7 @@ pub fn made_of(
 ) -> Result<EmittedFunctions, CompileError>
     requires few { length functions.now ≤ MAX_FUNCTIONS }
     requires read { All (λ (p : Parsed). IsReadFunction meta.now p.func) functions.now }
+    requires physical { All (λ (p : Parsed). AllItems (λ i. HasPhysical i.kind) p.func.blocks) functions.now }
     requires substitutions { All (λ (p : Parsed). All EntryIsLimited p.subs) functions.now }
     requires distinct { AreDistinct passes.now }
     ensures made { IfOk result (AreMade meta.now reserve.now passes.now functions.now) }
@@ -65,6 +68,7 @@ fn push_source(
     requires room { length made.old.text + 4 * MAX_WORDS < MAX_BASE }
     requires numbers { made.old.list_count + MAX_ITEMS < 2 ^ 32 }
     requires read { IsReadFunction meta.now source.now.func }
+    requires physical { AllItems (λ i. HasPhysical i.kind) source.now.func.blocks }
     requires substitutions { All EntryIsLimited source.now.subs }
     requires distinct { AreDistinct passes.now }
     ensures pushed { OnOk result

@@ -20,7 +20,7 @@ use Rattle.mir_func.specs.declared.location.Loc.{Loc}
 use Rattle.mir_func.specs.declared.location.Loc.TheVariants.{Absent}
 use Rattle.mir_func.specs.declared.object.Object.{Object}
 use Rattle.mir_func.specs.declared.position.Origin.TheVariants.{Kept}
-use Rattle.mir_func.specs.Sound.{HasForm}
+use Rattle.mir_func.specs.Sound.{AllItems, HasForm}
 use Rattle.mir_func.specs.SoundFrame.{IsPhysical, HasPhysical}
 use Rattle.gen_function.specs.Generator.{generated}
 use Rattle.gen_function.proofs.Sound.{generated_is_sound}
@@ -30,7 +30,8 @@ use Rattle.read_program.specs.declared.program.Program.{Program}
 use Rattle.read_program.specs.Limited.{IsLimited, KindIsLimited, LocIsLimited}
 use Rattle.mir_printer.specs.Printable.{Declared, IsNumber, HasNumbers, IsAsDeclared, IsPrintable, IsPrintableKind, IsPrintableLoc}
 use Rattle.base_ids.specs.Limits.{MAX_NUMBER}
-use Rattle.read_proof.specs.Read.{declared_in, EntryIsLimited, IsReadFunction, IsReadProgram}
+use Rattle.read_proof.proofs.Registers.{registers_read}
+use Rattle.read_proof.specs.Read.{HasReadRegisters, declared_in, EntryIsLimited, IsReadFunction, IsReadProgram}
 use Rattle.gen_program.specs.Program.{generated_program}
 use Rattle.gen_program.proofs.Made.{IsMade, adds, copies, gives, sets, stores, loads, phis, marks, branches, jumps, returns, IsMadeItem, IsMadeBlock}
 use Rattle.gen_program.proofs.Made.{few_items}
@@ -207,7 +208,7 @@ generated_is_read meta number count some few =
         source_end = All-weaker (IsMadeBlock TOP) (λ (b : Block). b.source_end ≡ length b.items) (λ b m. m.source_end) f.blocks made;
       };
       form = of_made (λ i. HasForm i.kind) (λ i m. has_form_made m.made) number count few;
-      physical = of_made (λ i. HasPhysical i.kind) (λ i m. physical_made m.made) number count few;
+      registers = of_made (λ i. HasReadRegisters i.kind) (λ i m. registers_read i.kind (physical_made m.made)) number count few;
       limited = of_made (λ i. KindIsLimited i.kind × LocIsLimited i.loc) (λ i m. (limited_made m.made, subst LocIsLimited (sym m.absent) tt)) number
           count few;
       printable = of_made (IsPrintable (declared_in meta f)) (λ i m. printable_item meta number count i m) number count few;
@@ -232,6 +233,9 @@ generated_program_is_read number count some few =
       few = lit≤ tt;
       functions = All-cons (λ (f : Parsed). IsReadFunction meta f.func) parsed [] (generated_is_read meta number count some few)
           (All-nil (λ (f : Parsed). IsReadFunction meta f.func));
+      physical = All-cons (λ (f : Parsed). AllItems (λ i. HasPhysical i.kind) f.func.blocks) parsed []
+          (of_made (λ i. HasPhysical i.kind) (λ i m. physical_made m.made) number count few)
+          (All-nil (λ (f : Parsed). AllItems (λ i. HasPhysical i.kind) f.func.blocks));
       substitutions = All-cons (λ (f : Parsed). All EntryIsLimited f.subs) parsed [] (All-nil EntryIsLimited)
           (All-nil (λ (f : Parsed). All EntryIsLimited f.subs));
       locations = λ n. subst (λ (o : Option LocationNode). IfSome (inlined_at_node o) (λ k. k ≤ MAX_NUMBER)) (sym (no_location n)) tt;

@@ -2,4 +2,5 @@ pub mod Nodes
 pub mod Numbers
 pub mod Labels
 pub mod Kept
+pub mod Registers
 pub mod Texts

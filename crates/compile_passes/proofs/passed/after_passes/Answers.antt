@@ -22,7 +22,8 @@ returns-clause-compilable c =
     let sound : IsSound c.run_passes.new.f = search rules in
     compilable_after c.args._meta.now c.args.source.now c.args.passes.now c.in_ok-function.function c.in_ok-substitutions.substitutions
     c.run_passes.new.f c.run_passes.new.subs c.in_ok-function.ensures c.in_ok-substitutions.ensures c.requires.read
-    (accepted c.args.passes.now c.requires.distinct) sound c.in_ok-losses.ensures.follows c.in_ok-losses.ensures.growth c.in_ok-losses.ensures.shown
+    (accepted c.args.passes.now c.requires.distinct) c.requires.physical sound c.in_ok-losses.ensures.follows c.in_ok-losses.ensures.growth
+    c.in_ok-losses.ensures.shown
     (subst (All IsTypedBlock) (c.as_slice.ensures ∙ ap (λ (f : Function). f.blocks) c.function-2.view_is) c.blocks_are_typed.ensures)
     (subst (All IsTypedEntry) c.entries.ensures c.entries_are_typed.ensures)
 
