@@ -5,7 +5,8 @@
     bench/proved.py --write     writes the tables anew
 
 A table stands in each room (a heading of crates.txt) whose crates promise something. A call is public where its module is; its clauses are its `ensures`, by
-their names or, without one, by the definitions that they name. The clauses of the top call have a list of their own, which is checked both ways.
+their names or, without one, by the definitions that they name. The clauses of the top call have a list of their own, which is checked both ways. The page's
+last table has the edits that the gate tries, as docs/EDITS.md tells of them.
 """
 import os
 import re
@@ -81,6 +82,18 @@ def table(crates):
     return lines if len(lines) > 2 else []
 
 
+def edits():
+    """The edits of the gate by docs/EDITS.md, each with what it guards."""
+    rows = re.findall(r"^\| (`\w+`) \| (`\w+`) \| yes \| (.*?) \|$", house.read("docs", "EDITS.md"), re.M)
+    return ["| crate | edit | what it guards |", "|---|---|---|", *(f"| {' | '.join(row)} |" for row in rows)]
+
+
+def filled(page, mark, lines):
+    """The page with these lines between a mark and its end."""
+    before, rest = page.split(mark, 1)
+    return before + mark + "".join(it + "\n" for it in lines) + "<!-- end -->" + rest.split("<!-- end -->", 1)[1]
+
+
 def labels():
     """The names of the top call's clauses."""
     text = house.read("crates", CALL[0], "src", CALL[1] + ".rt")
@@ -103,8 +116,8 @@ def main():
             if lines:
                 faults.append(f"docs/PROVED.md has no room {name}, with `{mark.strip()}` and `<!-- end -->`")
             continue
-        before, rest = made.split(mark, 1)
-        made = before + mark + "".join(it + "\n" for it in lines) + "<!-- end -->" + rest.split("<!-- end -->", 1)[1]
+        made = filled(made, mark, lines)
+    made = filled(made, "<!-- edits of the gate -->\n", edits())
     if "--write" in sys.argv[1:]:
         with open(PAGE, "w", encoding="utf-8") as it:
             it.write(made)
