@@ -1,7 +1,8 @@
 #!/usr/bin/env python3
 """Which definitions the top call's contract says, directly and through others, by crates and files.
 
-    bench/definitions.py             what docs/DEFINITIONS.md must have and hasn't, and what its table has and mustn't; ends with 1 if there is any
+    bench/definitions.py             what docs/DEFINITIONS.md must have and hasn't, what its table has and mustn't, and which definitions stand
+                                     among proofs, where none that must be believed may be; ends with 1 if there is any
     bench/definitions.py --write     writes the table into docs/DEFINITIONS.md anew
     bench/definitions.py --list      each definition, with its file
 
@@ -204,7 +205,9 @@ def main():
         with open(PAGE, "w", encoding="utf-8") as it:
             it.write(page)
         old = made
-    faults = [] if old == made else ["the table of part 1 isn't what the contract says: bench/definitions.py --write"]
+    among = [f"{path_of(crate, module)} {name}: the contract says it, and it stands among proofs"
+             for crate, module, name in sorted(found) if module.startswith("proofs/")]
+    faults = among + ([] if old == made else ["the table of part 1 isn't what the contract says: bench/definitions.py --write"])
     paths = {path_of(crate, module) for crate, module in files}
     meant = [path for path in told(part(page, 1))]
     faults += [f"part 1 doesn't tell of {it}" for it in sorted({path.split("/")[0] for path in paths} - {path.split("/")[0] for path in meant})]

@@ -76,13 +76,15 @@ def rows_of(path):
         if word == "let":
             texts[rest] = bytes_of(lines, texts)
         elif word == "row":
-            rows.append({"name": rest, "words": [], "texts": [], "outputs": []})
+            rows.append({"name": rest, "words": [], "texts": [], "piped": [], "outputs": []})
         elif word == "words":
             rows[-1]["words"].append(["" if it == '""' else it for it in rest.split(" ")] if rest else [])
         elif word == "output":
             rows[-1]["outputs"].append((rest, bytes_of(lines, texts)))
         elif word == "text":
             rows[-1]["texts"].append(bytes_of(lines, texts))
+        elif word == "piped":
+            rows[-1]["piped"].append(rest.split(" "))
         elif word == "told":
             rows[-1]["told"] = bytes_of(lines, texts)
         elif word in NUMBERS:
@@ -111,7 +113,8 @@ def main():
     program, as_written, others, passed_over = sys.argv[1], 0, 0, 0
     for path in sys.argv[2:]:
         for row in rows_of(path):
-            runs = [(words, text) for words in row["words"] for text in row["texts"] or [b""]]
+            piped = [subprocess.run([program, *words], input=b"", capture_output=True).stdout for words in row["piped"]]
+            runs = [(words, text) for words in row["words"] for text in row["texts"] + piped or [b""]]
             if FAULTS & row.keys():
                 passed_over += len(runs)
                 continue

@@ -1,7 +1,7 @@
 -- Copies that are available along a block: registers that have the same value as another one.
 use Rattle.std.specs.Prelude.{ℕ, zero, suc, List, [], ◌∷◌, ◌++◌, map, filter, Option, Some, None, Bool, cond, not, ◌&&◌, nat_eq}
 use Rattle.rv64_instr.specs.declared.operand.Operand.{Operand}
-use Rattle.rv64_instr.specs.declared.operand.Operand.TheVariants.{Def, Use, ImplicitDef, ImplicitUse, Imm, Slot, Object, Part, Block, Symbol, Mask}
+use Rattle.rv64_instr.specs.declared.operand.Operand.TheVariants.{Def, Use, ImplicitDef, ImplicitUse, Imm, Slot, Object, Part, Outgoing, Block, Symbol, Mask}
 use Rattle.rv64_instr.specs.declared.place.Place.TheVariants.{Register}
 use Rattle.rv64_instr.specs.Instruction.{Instruction}
 use Rattle.rv64_instr.specs.Row.{Row, Moves}
@@ -24,6 +24,7 @@ renamed_operand e (Imm i) = Imm i
 renamed_operand e (Slot n) = Slot n
 renamed_operand e (Object n) = Object n
 renamed_operand e (Part half y) = Part half y
+renamed_operand e (Outgoing n) = Outgoing n
 renamed_operand e (Block n) = Block n
 renamed_operand e (Symbol name) = Symbol name
 renamed_operand e Mask = Mask

@@ -2,7 +2,7 @@
 use Rattle.std.proofs.Common.{◌≡◌, ℕ, zero, suc, ◌+◌, ◌%◌, ◌^◌, List, [], ◌∷◌, map, Option, Some, None, Bool, true, false, cond, ◌&&◌, slice_get, is_some, refl}
 use Rattle.std.proofs.Common.{sym, ap, ◌∙◌}
 use Rattle.rv64_instr.specs.declared.operand.Operand.{Operand}
-use Rattle.rv64_instr.specs.declared.operand.Operand.TheVariants.{Def, Use, ImplicitDef, ImplicitUse, Imm, Slot, Object, Part, Block, Symbol, Mask}
+use Rattle.rv64_instr.specs.declared.operand.Operand.TheVariants.{Def, Use, ImplicitDef, ImplicitUse, Imm, Slot, Object, Part, Outgoing, Block, Symbol, Mask}
 use Rattle.rv64_instr.specs.declared.symbol.Half.TheVariants.{Lower}
 use Rattle.rv64_instr.specs.Linked.{linked_value}
 use Rattle.rv64_instr.specs.Row.{Input, Content, Number, PartOf}
@@ -105,6 +105,7 @@ defined_one e false (Imm n) = refl
 defined_one e false (Slot n) = refl
 defined_one e false (Object n) = refl
 defined_one e false (Part half y) = refl
+defined_one e false (Outgoing n) = refl
 defined_one e false (Block n) = refl
 defined_one e false (Symbol n) = refl
 defined_one e false Mask = refl

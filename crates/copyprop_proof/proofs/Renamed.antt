@@ -4,7 +4,7 @@ use Rattle.std.proofs.Common.{slice_get, is_some, ◌+◌, refl, sym, ap, ◌∙
 use Rattle.std.proofs.lemmas.List.{length-map, map-append}
 use Rattle.std.proofs.lemmas.List.Elements.{All-nil, All-cons, All-head, All-tail, All-map, All-weaker}
 use Rattle.rv64_instr.specs.declared.operand.Operand.{Operand}
-use Rattle.rv64_instr.specs.declared.operand.Operand.TheVariants.{Def, Use}
+use Rattle.rv64_instr.specs.declared.operand.Operand.TheVariants.{Def, Use, Outgoing}
 use Rattle.rv64_instr.specs.Row.{Base, PointedBy, ObjectAt, BesidePart}
 use Rattle.rv64_instr.specs.Instruction.{Instruction}
 use Rattle.rv64_instr.specs.Row.{Row, Fixes, Moves, Addresses, Loads, Stores, LoadsSlot, StoresSlot, Branches, Jumps, row_of}
@@ -25,7 +25,8 @@ use Rattle.mir_func.specs.Limits.{MAX_BLOCKS}
 use Rattle.mir_func.specs.Resolve.{resolve}
 use Rattle.mir_func.specs.Graph.{Program, program_of}
 use Rattle.mir_func.specs.Sound.{AreApart, AllItems, ids_of, items_of, number_of, code_number, NumbersOnce, OriginIn, TargetIn, TargetsIn, SlotIn, SlotsIn}
-use Rattle.mir_func.specs.Sound.{BaseHasBytes, ObjectIn, ObjectsIn, IsNotPointer, LeavesPointer, IsJumpAtMost, MayFollow, EndsWell, Closes, LastCloses, IsSound}
+use Rattle.mir_func.specs.Sound.{PassedIn, BaseHasBytes, ObjectIn, ObjectsIn, IsNotPointer, LeavesPointer, IsJumpAtMost, MayFollow, EndsWell, Closes}
+use Rattle.mir_func.specs.Sound.{LastCloses, IsSound}
 use Rattle.pass_salvage.proofs.Edits.{Edited, over, pair, BlocksEdited, no_blocks, next_block}
 use Rattle.pass_edits.proofs.Edited.{edited_loosely}
 use Rattle.copyprop_block.specs.declared.roots.Root.{Root}
@@ -301,8 +302,16 @@ kind_target ids e (Code i n) h p t = by_rooted (TargetIn ids) (λ a r. target_ro
 kind_target ids e (Mark v m) h p t = t
 kind_target ids e (Phi q m) h p t = t
 
+passed_same : (slots : List ℕ) (e : List Root) (a : Operand) → PassedIn slots a → PassedIn slots (renamed_operand e a)
+passed_same slots e (Outgoing n) h = h
+passed_same slots e _ h = tt
+
 kind_slot : (slots : List ℕ) (e : List Root) (k : ItemKind) → AreGood e → LeavesPointer k → SlotsIn slots k → SlotsIn slots (renamed_kind e k)
-kind_slot slots e (Code i n) h p t = by_rooted (SlotIn slots) (λ a r. slot_rooted a slots r) e i h.clean t
+kind_slot slots e (Code i n) h p t = (
+  by_rooted (SlotIn slots) (λ a r. slot_rooted a slots r) e i h.clean t.0,
+  All-map (PassedIn slots) (renamed_operand e) i.operands (All-weaker (PassedIn slots) (λ a. PassedIn slots (renamed_operand e a)) (passed_same slots e)
+      i.operands t.1),
+)
 kind_slot slots e (Mark v m) h p t = t
 kind_slot slots e (Phi q m) h p t = t
 

@@ -8,14 +8,16 @@ use Rattle.rv64_instr.specs.declared.op.ImmediateOp.{ImmediateOp}
 use Rattle.rv64_instr.specs.declared.op.ImmediateOp.TheVariants.{Addi}
 use Rattle.rv64_instr.specs.declared.op.RegisterOp.TheVariants.{Add}
 use Rattle.rv64_instr.specs.declared.operand.Operand.{Operand}
-use Rattle.rv64_instr.specs.declared.operand.Operand.TheVariants.{Def, Use, ImplicitUse, Imm, Slot, Object, Part, Block, Symbol}
+use Rattle.rv64_instr.specs.declared.operand.Operand.TheVariants.{Def, Use, ImplicitUse, Imm, Slot, Object, Part, Block, Symbol, Outgoing}
 use Rattle.rv64_instr.specs.Row.{Input, Content, Number, PartOf}
 use Rattle.rv64_instr.specs.Row.{Base, PointedBy, ObjectAt, BesidePart}
 use Rattle.rv64_instr.specs.Arithmetic.{word}
 use Rattle.rv64_instr.specs.Instruction.{Instruction}
 use Rattle.rv64_instr.specs.declared.symbol.Half.TheVariants.{Upper}
 use Rattle.rv64_instr.specs.Row.{Row, Fixes, Moves, Sets, Addresses, Loads, Stores, LoadsSlot, StoresSlot, Branches, Jumps, Calls, Returns, Unfit, row_of}
-use Rattle.rv64_instr.specs.Row.{row_by, move_row, add_row, immediate_row, object_row, implicit_uses, Named, Back, held_call, held_tail, held_gone, Tail, Never}
+use Rattle.rv64_instr.specs.Row.{row_by, move_row, add_row, immediate_row, object_row, implicit_uses, outgoing_words, Named, Back, held_call, held_tail}
+use Rattle.rv64_instr.specs.Row.{held_gone}
+use Rattle.rv64_instr.specs.Row.{Tail, Never}
 use Rattle.rv64_instr.specs.LocationEffects.{is_call}
 use Rattle.copyprop_block.specs.declared.roots.Root.{Root}
 use Rattle.copyprop_block.specs.Roots.{root_of, renamed_operand, renamed}
@@ -55,6 +57,11 @@ module _ (e : List Root) where
   uses_same (ImplicitUse r ∷ os) = ap (λ (z : List ℕ). cond (nat_eq r 2) z (r ∷ z)) (uses_same os)
   uses_same (_ ∷ os) = uses_same os
 
+  outgoing_same : (os : List Operand) → outgoing_words (others os) ≡ outgoing_words os
+  outgoing_same [] = refl
+  outgoing_same (Outgoing n ∷ os) = ap (λ (z : List ℕ). n ∷ z) (outgoing_same os)
+  outgoing_same (_ ∷ os) = outgoing_same os
+
   -- x0 has no root, and is none
   pub record KeepsZero : Type 0 where
     pub zero_stays : root_of e 0 ≡ 0
@@ -88,9 +95,9 @@ module _ (e : List Root) where
     object_same Addi rd n o = refl
     object_same _ rd n o = refl
 
-    held_call_same : (xs : List ℕ) → held_call xs ≡ rooted (held_call xs)
-    held_call_same [] = refl
-    held_call_same (r ∷ xs) = refl
+    held_call_same : (xs outgoing : List ℕ) → held_call xs outgoing ≡ rooted (held_call xs outgoing)
+    held_call_same [] outgoing = refl
+    held_call_same (r ∷ xs) outgoing = refl
 
     held_tail_same : (xs : List ℕ) → held_tail xs ≡ rooted (held_tail xs)
     held_tail_same [] = refl
@@ -115,9 +122,9 @@ module _ (e : List Root) where
     by_op (Store op) (Use rs ∷ Object n ∷ Imm i ∷ rest) = refl
     by_op Copy (Def rd ∷ Use rs ∷ rest) = move_same rd rs
     by_op PseudoBr (Block target ∷ rest) = refl
-    by_op PseudoCall (Symbol name ∷ rest) = ap (λ (rs : List ℕ). Calls (record { callee = Named name; args = rs })) (uses_same rest)
+    by_op PseudoCall (Symbol name ∷ rest) = λ i. Calls (record { callee = Named name; args = uses_same rest i; outgoing = outgoing_same rest i })
     by_op PseudoRet os = ap (λ (rs : List ℕ). Returns (record { way = Back; values = rs })) (uses_same os)
-    by_op PseudoCallIndirect os = ap held_call (uses_same os) ∙ held_call_same (implicit_uses os)
+    by_op PseudoCallIndirect os = (λ i. held_call (uses_same os i) (outgoing_same os i)) ∙ held_call_same (implicit_uses os) (outgoing_words os)
     by_op PseudoTail (Symbol name ∷ rest) = ap (λ (rs : List ℕ). Returns (record { way = Tail (Named name); values = rs })) (uses_same rest)
     by_op PseudoTailIndirect os = ap held_tail (uses_same os) ∙ held_tail_same (implicit_uses os)
     by_op NoReturnCall (Symbol name ∷ rest) = ap (λ (rs : List ℕ). Returns (record { way = Never (Named name); values = rs })) (uses_same rest)

@@ -14,12 +14,12 @@ use Rattle.mir_func.specs.declared.item.ItemKind.{ItemKind}
 use Rattle.mir_func.specs.declared.item.ItemKind.TheVariants.{Code, Mark, Phi}
 use Rattle.mir_func.specs.Function.{Function}
 use Rattle.mir_func.specs.Sound.{ids_of, items_of, OriginIn, IsSound}
-use Rattle.mir_func.specs.Graph.{Fetch, Here, below, from_block}
+use Rattle.mir_func.specs.Graph.{Fetch, Here, below, from_block, rest_in, rest_of}
 use Rattle.mir_func.specs.Positions.{position_of}
 use Rattle.sem_mir.specs.Align.{is_code}
 use Rattle.sem_mir.specs.Live.{Defines, KindDefines}
 use Rattle.sem_mir.proofs.Reading.{found_in}
-use Rattle.sem_simulation.proofs.Laid.{rest_in, rest_of, laid_out}
+use Rattle.sem_simulation.proofs.Laid.{laid_out}
 use Rattle.pass_trait.specs.Change.{Change, change}
 use Rattle.pass_trait.specs.Rule.{StandsAt}
 use Rattle.pass_trait.specs.Causes.{is_origin, old_program, defines, Comes, begins, goes_on, IsFewer, IsRemoved, IsRemovedDefinition}

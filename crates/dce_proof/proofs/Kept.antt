@@ -14,12 +14,11 @@ use Rattle.mir_func.specs.declared.item.Item.{Item}
 use Rattle.mir_func.specs.declared.item.ItemKind.{ItemKind}
 use Rattle.mir_func.specs.declared.item.ItemKind.TheVariants.{Code}
 use Rattle.mir_func.specs.Function.{Function}
-use Rattle.mir_func.specs.Graph.{front, fetch_in}
+use Rattle.mir_func.specs.Graph.{front, fetch_in, rest_in, rest_of}
 use Rattle.mir_func.specs.Resolve.{entry_of}
 use Rattle.mir_func.specs.Sound.{IsSound}
 use Rattle.mir_func.specs.Successors.{pos_in}
 use Rattle.sem_mir.proofs.Reading.{found}
-use Rattle.sem_simulation.proofs.Laid.{rest_in, rest_of}
 use Rattle.pass_trait.specs.Change.{Change}
 use Rattle.pass_trait.specs.Rule.{StandsAt, item, first_operand}
 use Rattle.pass_trait.specs.Debug.{IsKillAt, Becomes, BecomeAll, over, next, BlocksBecome, none, stays as block_stays}

@@ -13,10 +13,9 @@ use Rattle.mir_func.specs.declared.item.ItemKind.{ItemKind}
 use Rattle.mir_func.specs.declared.item.ItemKind.TheVariants.{Code, Mark, Phi}
 use Rattle.mir_func.specs.Function.{Function}
 use Rattle.mir_func.specs.Graph.{Fetch, Here, EndOfBlock, Outside, Program, below, block_start}
-use Rattle.mir_func.specs.Graph.{end_of, front, fetch_in, from_block, RowEdge, KindEdge, FetchEdge, Edge}
+use Rattle.mir_func.specs.Graph.{end_of, front, fetch_in, from_block, RowEdge, KindEdge, FetchEdge, Edge, rest_in, rest_of}
 use Rattle.sem_mir.specs.Align.{is_code}
 use Rattle.sem_mir.specs.Live.{Defines, KindDefines}
-use Rattle.sem_simulation.proofs.Laid.{rest_in, rest_of}
 use Rattle.dce_rule.specs.Dead.{Places, Ends, is_dead, needed_before, needed_at, paths_of}
 use Rattle.dce_rule.specs.Wrong.{begins_dead, is_dead_at, IsWrongAt, made, on}
 use Rattle.dce_rule.proofs.Same.{debug_edge, debug_below}

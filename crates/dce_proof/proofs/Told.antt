@@ -18,11 +18,11 @@ use Rattle.mir_func.specs.declared.item.ItemKind.TheVariants.{Code, Mark, Phi}
 use Rattle.mir_func.specs.declared.variable.MarkValue.TheVariants.{Nothing, Constant, At, Pair}
 use Rattle.mir_func.specs.Function.{Function}
 use Rattle.sem_mir.specs.Live.{Defines, KindDefines}
-use Rattle.mir_func.specs.Graph.{Fetch, below, front, fetch_in, from_block}
+use Rattle.mir_func.specs.Graph.{Fetch, below, front, fetch_in, from_block, rest_in, rest_of}
 use Rattle.mir_func.specs.Sound.{IsSound}
 use Rattle.mir_func.specs.Successors.{pos_in}
 use Rattle.sem_mir.proofs.Reading.{found, found_in}
-use Rattle.sem_simulation.proofs.Laid.{rest_in, rest_of, laid_out}
+use Rattle.sem_simulation.proofs.Laid.{laid_out}
 use Rattle.pass_trait.specs.declared.loss.Reason.TheVariants.{Removed, WrongPlace}
 use Rattle.pass_trait.specs.declared.loss.Loss.{Loss}
 use Rattle.pass_trait.specs.Rule.{IsCopy, StandsAt, item, number_lost, mark_lost}

@@ -11,12 +11,11 @@ use Rattle.mir_func.specs.declared.item.Item.{Item}
 use Rattle.mir_func.specs.declared.item.ItemKind.{ItemKind}
 use Rattle.mir_func.specs.declared.item.ItemKind.TheVariants.{Code, Mark, Phi}
 use Rattle.mir_func.specs.Function.{Function}
-use Rattle.mir_func.specs.Graph.{front, fetch_in}
+use Rattle.mir_func.specs.Graph.{front, fetch_in, rest_in, rest_of}
 use Rattle.mir_func.specs.Resolve.{at as ends_here}
 use Rattle.mir_func.specs.Sound.{items_of, code_number, IsSound}
 use Rattle.mir_func.specs.Successors.{pos_in}
 use Rattle.sem_mir.proofs.Reading.{found}
-use Rattle.sem_simulation.proofs.Laid.{rest_in, rest_of}
 use Rattle.pass_trait.specs.declared.loss.Reason.TheVariants.{Removed}
 use Rattle.pass_trait.specs.declared.loss.Loss.{Loss}
 use Rattle.pass_trait.specs.Change.{change}

@@ -6,11 +6,10 @@ use Rattle.mir_func.specs.declared.debug_substitution.OperandPair.{OperandPair}
 use Rattle.mir_func.specs.declared.item.Item.{Item}
 use Rattle.mir_func.specs.declared.position.Pos.{Pos}
 use Rattle.mir_func.specs.Function.{Function}
-use Rattle.mir_func.specs.Graph.{program_of, block_start}
+use Rattle.mir_func.specs.Graph.{program_of, block_start, rest_in}
 use Rattle.mir_func.specs.Sound.{ids_of}
 use Rattle.sem_mir.specs.Live.{Live, used, later}
 use Rattle.pass_liveness.specs.Liveness.{LiveSets, AreLiveSets}
-use Rattle.sem_simulation.proofs.Laid.{rest_in}
 use Rattle.dce_rule.specs.Same.{SameItems, none, SameBlocks, no_blocks, one_more}
 use Rattle.dce_rule.proofs.Same.{Beside, blocks_back, from_same, live_same}
 

@@ -17,13 +17,12 @@ use Rattle.mir_func.specs.declared.item.ItemKind.{ItemKind}
 use Rattle.mir_func.specs.declared.item.ItemKind.TheVariants.{Code, Mark, Phi}
 use Rattle.mir_func.specs.Function.{Function}
 use Rattle.mir_func.specs.Sound.{ids_of, OriginIn, IsSound}
-use Rattle.mir_func.specs.Graph.{Fetch, Here, front, fetch_in, from_block}
+use Rattle.mir_func.specs.Graph.{Fetch, Here, front, fetch_in, from_block, rest_in, rest_of}
 use Rattle.mir_func.specs.Successors.{pos_in}
 use Rattle.mir_func.specs.Positions.{position_of}
 use Rattle.sem_mir.specs.Align.{is_code}
 use Rattle.sem_mir.specs.Live.{Defines, KindDefines}
 use Rattle.sem_mir.proofs.Reading.{found, found_in}
-use Rattle.sem_simulation.proofs.Laid.{rest_in, rest_of}
 use Rattle.pass_trait.specs.declared.loss.Reason.TheVariants.{Removed, WrongPlace}
 use Rattle.pass_trait.specs.declared.loss.Loss.{Loss}
 use Rattle.pass_trait.specs.Change.{Change}

@@ -16,11 +16,10 @@ use Rattle.mir_func.specs.Function.{Function}
 use Rattle.mir_func.specs.Limits.{MAX_SLOTS}
 use Rattle.mir_func.specs.Sound.{items_of}
 use Rattle.mir_func.specs.SoundFrame.{HasPhysical}
-use Rattle.mir_func.specs.Graph.{from_block}
+use Rattle.mir_func.specs.Graph.{from_block, rest_in, rest_of}
 use Rattle.mir_func.specs.Successors.{pos_in}
 use Rattle.mir_func.specs.Calls.{is_call_kind}
 use Rattle.sem_mir.specs.Align.{is_code}
-use Rattle.sem_simulation.proofs.Laid.{rest_in, rest_of}
 use Rattle.pass_trait.specs.Change.{change}
 use Rattle.pass_trait.specs.Sizes.{greatest, most_numbers, numbers_of, KeepsSizes}
 use Rattle.pass_trait.proofs.NopSizes.{greatest_past, greatest_front}

@@ -21,6 +21,7 @@ use Rattle.mir_func.specs.declared.item.ItemKind.TheVariants.{Code, Mark, Phi}
 use Rattle.mir_func.specs.Function.{Function}
 use Rattle.mir_func.specs.Sound.{AllItems, IsSound, OriginIn, HasForm}
 use Rattle.mir_func.specs.Graph.{Fetch, Here, EndOfBlock, Outside, Program, below, block_start, fetch_in, from_block, program_of, KindEdge, RowEdge, FetchEdge}
+use Rattle.mir_func.specs.Graph.{rest_of}
 use Rattle.mir_func.specs.Resolve.{resolve}
 use Rattle.mir_func.specs.Successors.{pos_in}
 use Rattle.sem_mir.specs.State.{State}
@@ -39,7 +40,7 @@ use Rattle.sem_simulation.specs.InPlace.{IsIdleAt}
 use Rattle.sem_simulation.proofs.Ahead.{idles_ahead, bare_return}
 use Rattle.sem_simulation.proofs.Order.{rank_next}
 use Rattle.sem_simulation.proofs.Written.{HasPhysicalResults, has_physical_results}
-use Rattle.sem_simulation.proofs.Laid.{rest_of, laid_out}
+use Rattle.sem_simulation.proofs.Laid.{laid_out}
 use Rattle.sem_agreement.proofs.Held.{held_itself}
 use Rattle.sem_agreement.proofs.Told.{tells_itself}
 use Rattle.pass_trait.specs.Change.{change}

@@ -11,7 +11,7 @@ use Rattle.rv64_instr.specs.declared.op.Op.TheVariants.{PseudoBr, PseudoCall, Ps
 use Rattle.rv64_instr.specs.declared.op.Op.TheVariants.{PseudoTail, PseudoTailIndirect, NoReturnCall, NoReturnCallIndirect}
 use Rattle.rv64_instr.specs.declared.op.ImmediateOp.TheVariants.{Addi}
 use Rattle.rv64_instr.specs.declared.operand.Operand.{Operand}
-use Rattle.rv64_instr.specs.declared.operand.Operand.TheVariants.{Def, Use, ImplicitDef, ImplicitUse, Imm, Slot, Object, Part, Block, Symbol, Mask}
+use Rattle.rv64_instr.specs.declared.operand.Operand.TheVariants.{Def, Use, ImplicitDef, ImplicitUse, Imm, Slot, Object, Part, Block, Symbol, Mask, Outgoing}
 use Rattle.rv64_instr.specs.declared.symbol.Half.TheVariants.{Upper, Lower}
 use Rattle.rv64_instr.specs.declared.place.Place.{Place}
 use Rattle.rv64_instr.specs.declared.place.Place.TheVariants.{Register}
@@ -20,7 +20,7 @@ use Rattle.rv64_instr.specs.Arithmetic.{word}
 use Rattle.rv64_instr.specs.Form.{is_within, has_12_bits, is_immediate, moves_slot, is_implicit, is_clobbered}
 use Rattle.rv64_instr.specs.Form.{is_argument, is_result, has_form, is_addi, is_tail_use, is_tail_register}
 use Rattle.rv64_instr.specs.Row.{Row, Calls, row_by, row_of, immediate_row, object_row}
-use Rattle.rv64_instr.specs.Row.{move_row, CallSite, implicit_uses, held_call, held_tail, held_gone, Held}
+use Rattle.rv64_instr.specs.Row.{move_row, CallSite, implicit_uses, outgoing_words, held_call, held_tail, held_gone, Held}
 use Rattle.rv64_instr.specs.DefsAndUses.{sets, caller_saved}
 use Rattle.rv64_instr.specs.LocationEffects.{is_pure, is_call, defines_of}
 use Rattle.rv64_instr.proofs.Tails.{held_callee}
@@ -49,8 +49,10 @@ none_argument : (os : List Operand) → list_all is_argument os ≡ true → (o 
 none_argument [] h o = refl
 none_argument (ImplicitDef r ∷ os) h zero = refl
 none_argument (ImplicitUse r ∷ os) h zero = refl
+none_argument (Outgoing n ∷ os) h zero = refl
 none_argument (ImplicitDef r ∷ os) h (suc o) = none_argument os (and_parts (is_argument (ImplicitDef r)) (list_all is_argument os) h).1 o
 none_argument (ImplicitUse r ∷ os) h (suc o) = none_argument os (and_parts (is_argument (ImplicitUse r)) (list_all is_argument os) h).1 o
+none_argument (Outgoing n ∷ os) h (suc o) = none_argument os (and_parts (is_argument (Outgoing n)) (list_all is_argument os) h).1 o
 none_argument (_ ∷ os) h o = cc
 
 none_tail : (os : List Operand) → list_all is_tail_use os ≡ true → (o : ℕ) → defined false (slice_get os o) ≡ None
@@ -86,9 +88,9 @@ move_sets rd zero = (refl, refl)
 move_sets rd (suc rs) = (refl, refl)
 
 -- a call by the first of these registers
-held_call_site : (xs : List ℕ) (m : ℕ) (ys : List ℕ) → xs ≡ m ∷ ys → (site : CallSite) × (held_call xs ≡ Calls site)
-held_call_site [] m ys e = cc
-held_call_site (x ∷ xs) m ys e = (record { callee = Held x; args = xs }, refl)
+held_call_site : (xs outgoing : List ℕ) (m : ℕ) (ys : List ℕ) → xs ≡ m ∷ ys → (site : CallSite) × (held_call xs outgoing ≡ Calls site)
+held_call_site [] outgoing m ys e = cc
+held_call_site (x ∷ xs) outgoing m ys e = (record { callee = Held x; args = xs; outgoing = outgoing }, refl)
 
 held_tail_sets : (xs : List ℕ) → (is_call (held_tail xs) ≡ false) × (sets (held_tail xs) ≡ [])
 held_tail_sets [] = (refl, refl)
@@ -155,7 +157,7 @@ sets_by_form PseudoCallIndirect (ImplicitUse r ∷ Mask ∷ rest) e =
     let low = (held_callee r h.0).0 in
     let uses : implicit_uses (ImplicitUse r ∷ Mask ∷ rest) ≡ r ∷ implicit_uses rest =
     ap (λ (b : Bool). cond b (implicit_uses rest) (r ∷ implicit_uses rest)) (ne_eqb r 2 (λ two. omega (arith, low, two))) in
-    let s = held_call_site (implicit_uses (ImplicitUse r ∷ Mask ∷ rest)) r (implicit_uses rest) uses in
+    let s = held_call_site (implicit_uses (ImplicitUse r ∷ Mask ∷ rest)) (outgoing_words (ImplicitUse r ∷ Mask ∷ rest)) r (implicit_uses rest) uses in
     call s.0 (ImplicitUse r) rest refl refl h.1 s.1
 sets_by_form PseudoTail (Symbol name ∷ rest) e = no_register (past (Symbol name) rest refl (none_tail rest e)) refl refl
 sets_by_form PseudoTailIndirect (ImplicitUse r ∷ rest) e =

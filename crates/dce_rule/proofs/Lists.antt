@@ -13,11 +13,10 @@ use Rattle.mir_func.specs.declared.block.Block.{Block}
 use Rattle.mir_func.specs.declared.item.Item.{Item}
 use Rattle.mir_func.specs.declared.item.ItemKind.{ItemKind}
 use Rattle.mir_func.specs.declared.item.ItemKind.TheVariants.{Code, Mark, Phi}
-use Rattle.mir_func.specs.Graph.{Here, EndOfBlock, Program, block_start, end_of, front, fetch_in, from_block, program_of}
+use Rattle.mir_func.specs.Graph.{Here, EndOfBlock, Program, block_start, end_of, front, fetch_in, from_block, program_of, rest_in, rest_of}
 use Rattle.mir_func.specs.Successors.{pos_in}
 use Rattle.mir_func.specs.Sound.{items_of}
 use Rattle.sem_mir.proofs.Reading.{found_in}
-use Rattle.sem_simulation.proofs.Laid.{rest_in, rest_of}
 use Rattle.pass_trait.proofs.Thinning.{first_of_front, none_of_front}
 use Rattle.dce_rule.specs.Dead.{Places, Ends, is_dead, needed_at}
 use Rattle.dce_rule.specs.Wrong.{silenced, silenced_left, silenced_block}

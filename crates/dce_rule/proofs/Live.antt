@@ -14,11 +14,11 @@ use Rattle.mir_func.specs.declared.item.ItemKind.{ItemKind}
 use Rattle.mir_func.specs.declared.item.ItemKind.TheVariants.{Code, Mark, Phi}
 use Rattle.mir_func.specs.Function.{Function}
 use Rattle.mir_func.specs.Sound.{EndsWell}
-use Rattle.mir_func.specs.Graph.{Fetch, Here, Program, below, block_start, from_block, fetch_in, end_of, front, Edge, FetchEdge}
+use Rattle.mir_func.specs.Graph.{Fetch, Here, Program, below, block_start, from_block, fetch_in, end_of, front, Edge, FetchEdge, rest_in, rest_of}
 use Rattle.mir_func.specs.Successors.{pos_in, ComesDown}
 use Rattle.sem_mir.specs.Live.{Uses, KindUses, Defines, KindDefines, Live, used, later}
 use Rattle.sem_simulation.specs.MatchStates.{Laid}
-use Rattle.sem_simulation.proofs.Laid.{rest_in, rest_of, laid_out}
+use Rattle.sem_simulation.proofs.Laid.{laid_out}
 use Rattle.dce_rule.specs.Dead.{Places, Ends, is_dead_row, needed_before, needed_at, paths_of, LiveAtEnd}
 use Rattle.dce_rule.specs.Wrong.{IsClosed}
 use Rattle.dce_rule.proofs.Unneeded.{dead_sets, ends_at, passes_on}

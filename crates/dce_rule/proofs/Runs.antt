@@ -19,7 +19,7 @@ use Rattle.mir_func.specs.declared.item.ItemKind.{ItemKind}
 use Rattle.mir_func.specs.declared.item.ItemKind.TheVariants.{Code, Mark, Phi}
 use Rattle.mir_func.specs.Function.{Function}
 use Rattle.mir_func.specs.Sound.{AllItems, IsSound, number_of, code_number, LeavesPointer, OriginIn, HasForm}
-use Rattle.mir_func.specs.Graph.{Fetch, Here, EndOfBlock, Program, below, block_start, from_block, index_of, program_of, Edge, FetchEdge}
+use Rattle.mir_func.specs.Graph.{Fetch, Here, EndOfBlock, Program, below, block_start, from_block, index_of, program_of, Edge, FetchEdge, rest_in, rest_of}
 use Rattle.mir_func.specs.Successors.{pos_in}
 use Rattle.mir_func.specs.Positions.{position_of}
 use Rattle.sem_mir.specs.State.{Core, State}
@@ -37,7 +37,7 @@ use Rattle.sem_simulation.specs.Refinement.{FaultsAt}
 use Rattle.sem_simulation.specs.MatchStates.{Sides, MatchStates, since_item, Laid, DoBoth}
 use Rattle.sem_simulation.specs.InPlace.{FallsOrTraps, DoAlike, MayTrap, IsIdleAt, View, ended, both, taken as view_taken, paired, InPlace}
 use Rattle.sem_simulation.proofs.Stations.{moves_on_less, code_sync_point, end_is_sync_point, IsSyncPointOf, of_item, of_end, sync_point_is_of}
-use Rattle.sem_simulation.proofs.Laid.{rest_in, rest_of, laid_out, in_order_at, one_end, from_home, from_within, from_before_end, falls_down}
+use Rattle.sem_simulation.proofs.Laid.{laid_out, in_order_at, one_end, from_home, from_within, from_before_end, falls_down}
 use Rattle.sem_simulation.proofs.InPlace.{in_place_follows}
 use Rattle.sem_agreement.specs.Agreement.{Alike, KillDefs, HeldAfter, Depends}
 use Rattle.sem_agreement.specs.Laws.{ItemsAreAlike}

@@ -11,12 +11,12 @@ use Rattle.mir_func.specs.declared.item.ItemKind.{ItemKind}
 use Rattle.mir_func.specs.declared.item.ItemKind.TheVariants.{Code, Mark, Phi}
 use Rattle.mir_func.specs.Function.{Function}
 use Rattle.mir_func.specs.Graph.{Fetch, Here, EndOfBlock, Outside, Program, below, block_start}
-use Rattle.mir_func.specs.Graph.{end_of, front, fetch_in, from_block, Edge, FetchEdge, KindEdge, RowEdge}
+use Rattle.mir_func.specs.Graph.{end_of, front, fetch_in, from_block, Edge, FetchEdge, KindEdge, RowEdge, rest_in, rest_of}
 use Rattle.mir_func.specs.Successors.{pos_in, ComesDown, GoesTo}
 use Rattle.sem_mir.specs.Align.{is_code}
 use Rattle.sem_mir.specs.Live.{Uses, Defines, KindUses, KindDefines, Live, used, later}
 use Rattle.sem_simulation.specs.MatchStates.{Laid, IsPastItems}
-use Rattle.sem_simulation.proofs.Laid.{rest_in, rest_of, laid_out}
+use Rattle.sem_simulation.proofs.Laid.{laid_out}
 use Rattle.dce_rule.specs.Dead.{paths_of, LiveAtEnd}
 use Rattle.dce_rule.specs.Same.{SameItems, none, both, first, second, SameBlocks, no_blocks, one_more}
 

@@ -1,12 +1,13 @@
 -- Where a round takes nothing out, what follows loosely follows: each slot that is stored is loaded later.
 use Rattle.std.proofs.Common.{◌≡◌, inl, inr, ℕ, zero, suc, ◌+◌, ◌<◌, ◌≤◌, List, [], ◌∷◌, map, drop, length, All, Contains, Option, Some, None, Bool}
-use Rattle.std.proofs.Common.{true, false, cond, not, refl, sym, ap, ◌∙◌, subst, arith}
-use Rattle.std.proofs.lemmas.Bool.{cases_eq, cases_lt, eqb-true}
+use Rattle.std.proofs.Common.{true, false, cond, not, ◌&&◌, ◌⊎◌, refl, sym, ap, ◌∙◌, subst, arith}
+use Rattle.std.specs.List.{list_any}
+use Rattle.std.proofs.lemmas.Bool.{cases_eq, cases_lt, eqb-true, or_cases, and_parts}
 use Rattle.std.proofs.lemmas.List.{drop-drop}
 use Rattle.std.proofs.lemmas.List.Elements.{All-contains}
 use Rattle.rv64_instr.specs.declared.place.Place.TheVariants.{Register, Slot}
-use Rattle.rv64_instr.specs.Row.{Row, LoadsSlot, StoresSlot, Branches, Jumps, Returns, Unfit, row_of}
-use Rattle.rv64_instr.specs.LocationEffects.{IsSlotStore, names_slot, slot_read}
+use Rattle.rv64_instr.specs.Row.{Row, LoadsSlot, StoresSlot, Branches, Jumps, Calls, Returns, Unfit, row_of}
+use Rattle.rv64_instr.specs.LocationEffects.{IsSlotStore, names_slot, slot_read, has_implicit_uses, is_outgoing}
 use Rattle.mir_func.specs.declared.position.Pos.{Pos}
 use Rattle.mir_func.specs.declared.position.Origin.{Origin}
 use Rattle.mir_func.specs.declared.position.Origin.TheVariants.{Kept, Before}
@@ -19,7 +20,7 @@ use Rattle.mir_func.specs.Function.{Function}
 use Rattle.mir_func.specs.Sound.{IsSound, AreApart, ids_of, OriginIn, EndsWell, MayFollow, IsJumpAtMost}
 use Rattle.mir_func.specs.Exits.{exit_of, row_exit, IsAlways}
 use Rattle.mir_func.specs.Graph.{Fetch, Here, EndOfBlock, Outside, Program, below, block_start, from_block}
-use Rattle.mir_func.specs.Graph.{program_of, Edge, FetchEdge, KindEdge, RowEdge, Leads, stay, go}
+use Rattle.mir_func.specs.Graph.{program_of, Edge, FetchEdge, KindEdge, RowEdge, Leads, stay, go, rest_in, rest_of}
 use Rattle.mir_func.specs.Resolve.{resolve}
 use Rattle.mir_func.specs.Successors.{pos_in, ComesDown}
 use Rattle.mir_func.specs.Positions.{position_of}
@@ -28,7 +29,7 @@ use Rattle.sem_mir.specs.Follow.{MayAdd, KindFits, HasClass, OnRow, Counts, IsMe
 use Rattle.sem_mir.proofs.Edges.{leads_on, leads_trans}
 use Rattle.sem_mir.proofs.Reading.{found, found_in}
 use Rattle.sem_simulation.specs.MatchStates.{Laid}
-use Rattle.sem_simulation.proofs.Laid.{rest_in, rest_of, laid_out}
+use Rattle.sem_simulation.proofs.Laid.{laid_out}
 use Rattle.pass_trait.specs.Simulation.{Source, SimulatesSource}
 use Rattle.dce_rule.specs.Dead.{Places, Ends, is_dead_row, is_dead, needed_at, without_dead, thinned_block, paths_of, IsRound}
 use Rattle.pass_edits.specs.WeakSimulation.{LooseShape, WeakSimulation}
@@ -225,23 +226,33 @@ module _ (f : Function) (subs : List DebugSubstitution) (sound : IsSound f) (rou
 
   -- ---- the load of a slot that is stored
 
-  slot_loads : (i : Item) (m : ℕ) → KindUses i.kind (Slot m) → OnRow (λ r. slot_read r ≡ Some m) i.kind
+  -- a row that may read the slot: a load of it, or a call or return, which may pass it
+  abbrev ReadsSlot : ℕ → Row → Type 0
+  ReadsSlot m r = (slot_read r ≡ Some m) ⊎ (has_implicit_uses r ≡ true)
+
+  slot_loads : (i : Item) (m : ℕ) → KindUses i.kind (Slot m) → OnRow (ReadsSlot m) i.kind
   slot_loads i m uses = by_kind i.kind uses where
     by_row : (o : Option ℕ) → names_slot o m ≡ true → o ≡ Some m
     by_row (Some n) e = ap Some (eqb-true n m e)
     by_row None e = cc
 
-    by_kind : (k : ItemKind) → KindUses k (Slot m) → OnRow (λ r. slot_read r ≡ Some m) k
-    by_kind (Code c n) uses = by_row (slot_read (row_of c)) uses
+    by_kind : (k : ItemKind) → KindUses k (Slot m) → OnRow (ReadsSlot m) k
+    by_kind (Code c n) uses =
+        let implicit = has_implicit_uses (row_of c) in
+        let passes = list_any (is_outgoing m) c.operands in
+        elim (or_cases (names_slot (slot_read (row_of c)) m) (implicit && passes) uses) as (λ _. ReadsSlot m (row_of c)) [
+          | inl e ↦ inl (by_row (slot_read (row_of c)) e)
+          | inr e ↦ inr (and_parts implicit passes e).0
+        ]
     by_kind (Mark v m) uses = absurd uses
     by_kind (Phi l n) uses = absurd uses
 
   -- a path from where a slot is live to code that reads it
   live_leads : (m : ℕ) {p : Pos} → Live (paths_of f) (Slot m) p →
-      (q : Pos) × (j : Item) × (fp.fetch q ≡ Here j) × OnRow (λ r. slot_read r ≡ Some m) j.kind × Leads fp p q
+      (q : Pos) × (j : Item) × (fp.fetch q ≡ Here j) × OnRow (ReadsSlot m) j.kind × Leads fp p q
   live_leads m {p} (used uses) = by_fetch (fp.fetch p) refl uses where
     by_fetch : (x : Fetch) → fp.fetch p ≡ x → Uses x (Slot m) →
-        (q : Pos) × (j : Item) × (fp.fetch q ≡ Here j) × OnRow (λ r. slot_read r ≡ Some m) j.kind × Leads fp p q
+        (q : Pos) × (j : Item) × (fp.fetch q ≡ Here j) × OnRow (ReadsSlot m) j.kind × Leads fp p q
     by_fetch (Here j) e uses = (p, j, e, slot_loads j m uses, stay)
     by_fetch (EndOfBlock k n) e uses = absurd uses
     by_fetch Outside e uses = absurd uses
@@ -253,7 +264,7 @@ module _ (f : Function) (subs : List DebugSubstitution) (sound : IsSound f) (rou
   down_leads b k down j (suc e) is = go (down j (omega (arith, is))) (down_leads b k down (j + 1) e (omega (arith, is)))
 
   store_loads : (p : Pos) (x : Item) (xs : List Item) → rf p ≡ x ∷ xs → OnRow IsSlotStore x.kind →
-      (m : ℕ) × (q : Pos) × (j : Item) × (fp.fetch q ≡ Here j) × OnRow (λ r. slot_read r ≡ Some m) j.kind × Leads fp p q
+      (m : ℕ) × (q : Pos) × (j : Item) × (fp.fetch q ≡ Here j) × OnRow (ReadsSlot m) j.kind × Leads fp p q
   store_loads p x xs at store =
       let s = slot_needed x.kind (needed_at xs (ends p.block)) store (stays_at p x xs at) in
       let edge : Edge fp p (below p) = subst (λ (z : Fetch). FetchEdge (λ n. n) z p (below p)) (sym (laid.cons p x xs at).0) (store_below x.kind store p p).0 in
@@ -275,7 +286,7 @@ module _ (f : Function) (subs : List DebugSubstitution) (sound : IsSound f) (rou
 
   module _ (shape : LooseShape src.function.blocks f.blocks srcp fp) where
     -- a load stands at no silent position
-    load_inside : (q : Pos) (j : Item) (m : ℕ) → fp.fetch q ≡ Here j → OnRow (λ r. slot_read r ≡ Some m) j.kind → (b : Block) → Contains f.blocks b →
+    load_inside : (q : Pos) (j : Item) (m : ℕ) → fp.fetch q ≡ Here j → OnRow (ReadsSlot m) j.kind → (b : Block) → Contains f.blocks b →
         position_of j.origin ≡ record { block = b.id; item = b.source_end } → ⊥
     load_inside q j m at loads b member from =
         let a = among_in shape.among b member in
@@ -286,7 +297,7 @@ module _ (f : Function) (subs : List DebugSubstitution) (sound : IsSound f) (rou
           none_there a i e = none_silent src.function.blocks true (resolve src.subs) src.read a.0 a.1 (record { block = b.id; item = b.source_end }) a.2 a.3 i e
 
           by_origin : (a : (a : Block) × Contains src.function.blocks a × (b.id ≡ a.id) × (b.source_end ≡ a.source_end)) →
-              (k : ItemKind) (o : Origin) (c : Block) → Contains f.blocks c → OnRow (λ r. slot_read r ≡ Some m) k → KindFits srcp k c.source_end o →
+              (k : ItemKind) (o : Origin) (c : Block) → Contains f.blocks c → OnRow (ReadsSlot m) k → KindFits srcp k c.source_end o →
               OriginIn c o → position_of o ≡ record { block = b.id; item = b.source_end } → ⊥
           by_origin a (Code i n) (Kept o) c inside loads fits home from = by_fetch (srcp.fetch o) refl fits where
             by_fetch : (x : Fetch) → srcp.fetch o ≡ x → HasClass (row_of i) x → ⊥
@@ -300,9 +311,12 @@ module _ (f : Function) (subs : List DebugSubstitution) (sound : IsSound f) (rou
               let lt : o.item < c.source_end = by_row (row_of i) loads fits in
               let s : c.source_end ≡ b.source_end = ap (λ (z : Block). z.source_end) same in
               omega (arith, lt, item, s) where
-                by_row : (r : Row) → slot_read r ≡ Some m → MayAdd r o.item c.source_end → o.item < c.source_end
+                by_row : (r : Row) → ReadsSlot m r → MayAdd r o.item c.source_end → o.item < c.source_end
                 by_row (LoadsSlot rd k) loads may = may
-                by_row _ loads may = cc
+                by_row (Calls call) loads may = absurd may
+                by_row (Returns ending) loads may = absurd may
+                by_row _ (inl loads) may = cc
+                by_row _ (inr implicit) may = cc
           by_origin a (Mark v l) o c inside loads fits home from = loads
           by_origin a (Phi l n) o c inside loads fits home from = loads
 
@@ -333,11 +347,14 @@ module _ (f : Function) (subs : List DebugSubstitution) (sound : IsSound f) (rou
             inr w.5,
           ),
         ) where
-          counts : (k : ItemKind) (m : ℕ) → OnRow (λ r. slot_read r ≡ Some m) k → OnRow Counts k
+          counts : (k : ItemKind) (m : ℕ) → OnRow (ReadsSlot m) k → OnRow Counts k
           counts (Code c n) m loads = by_row (row_of c) loads where
-            by_row : (r : Row) → slot_read r ≡ Some m → Counts r
+            by_row : (r : Row) → ReadsSlot m r → Counts r
             by_row (LoadsSlot rd k) e = tt
-            by_row _ e = cc
+            by_row (Calls call) e = tt
+            by_row (Returns ending) e = tt
+            by_row _ (inl e) = cc
+            by_row _ (inr e) = cc
           counts (Mark v l) m loads = loads
           counts (Phi l n) m loads = loads
 

@@ -10,7 +10,7 @@ use Rattle.rv64_instr.specs.Instruction.{Instruction}
 use Rattle.rv64_instr.specs.Row.{Row, Branches, Jumps, Returns, Calls, Unfit, row_of}
 use Rattle.rv64_instr.specs.LocationEffects.{set_by, is_pure, is_call, uses_of, defines_of}
 use Rattle.rv64_instr.specs.LocationEffects.{first_use, second_use, is_register, is_implicit_use, has_implicit_uses}
-use Rattle.rv64_instr.specs.LocationEffects.{names_slot, slot_read}
+use Rattle.rv64_instr.specs.LocationEffects.{names_slot, slot_read, is_outgoing}
 use Rattle.mir_func.specs.declared.position.Pos.{Pos}
 use Rattle.mir_func.specs.declared.block.Block.{Block}
 use Rattle.mir_func.specs.declared.item.Item.{Item}
@@ -20,12 +20,13 @@ use Rattle.mir_func.specs.Function.{Function}
 use Rattle.mir_func.specs.Sound.{EndsWell, MayFollow, IsJumpAtMost}
 use Rattle.mir_func.specs.Exits.{exit_of, row_exit, IsAlways}
 use Rattle.mir_func.specs.Graph.{Fetch, Here, EndOfBlock, Outside, Program, below, block_start, from_block, Edge, FetchEdge, KindEdge, RowEdge}
+use Rattle.mir_func.specs.Graph.{rest_in, rest_of}
 use Rattle.mir_func.specs.Successors.{pos_in, ComesDown}
 use Rattle.sem_mir.specs.Live.{Defines, KindDefines}
 use Rattle.sem_mir.proofs.Parts.{effects_hold}
 use Rattle.sem_mir.proofs.Reading.{found_in}
 use Rattle.sem_simulation.specs.MatchStates.{Laid, IsPastItems}
-use Rattle.sem_simulation.proofs.Laid.{rest_in, rest_of, laid_out}
+use Rattle.sem_simulation.proofs.Laid.{laid_out}
 use Rattle.dce_rule.specs.Dead.{Places, Ends, sets_unneeded, is_dead_row, is_dead, needed_before, needed_at, paths_of}
 use Rattle.dce_rule.specs.Wrong.{begins_dead, IsWrongAt, made, on, IsClosed}
 
@@ -77,7 +78,8 @@ jump_needs (Code i n) always needed (Register q) = by_row (row_of i) always wher
   by_row _ h = absurd h
 jump_needs (Code i n) always needed (Slot m) = by_row (row_of i) always where
   by_row : (r : Row) → IsAlways (row_exit r) →
-      cond (is_dead_row r needed) (needed (Slot m)) (names_slot (slot_read r) m || (needed (Slot m) && not (defines_of r (Slot m)))) ≡ needed (Slot m)
+      cond (is_dead_row r needed) (needed (Slot m)) ((names_slot (slot_read r) m || (has_implicit_uses r && list_any (is_outgoing m) i.operands))
+      || (needed (Slot m) && not (defines_of r (Slot m)))) ≡ needed (Slot m)
   by_row (Jumps t) h = and_true (needed (Slot m))
   by_row _ h = absurd h
 jump_needs (Code i n) always needed (Const z) = by_row (row_of i) always where

@@ -10,10 +10,9 @@ use Rattle.mir_func.specs.declared.item.Item.{Item}
 use Rattle.mir_func.specs.declared.item.ItemKind.{ItemKind}
 use Rattle.mir_func.specs.declared.item.ItemKind.TheVariants.{Code, Mark, Phi}
 use Rattle.mir_func.specs.Function.{Function}
-use Rattle.mir_func.specs.Graph.{block_start, Edge}
+use Rattle.mir_func.specs.Graph.{block_start, Edge, rest_of}
 use Rattle.mir_func.specs.Successors.{GoesTo}
 use Rattle.sem_mir.specs.Live.{Defines}
-use Rattle.sem_simulation.proofs.Laid.{rest_of}
 use Rattle.dce_rule.specs.Dead.{Places, Ends, is_dead, needed_at, paths_of}
 
 -- the first of these items is dead code

@@ -15,11 +15,10 @@ use Rattle.mir_func.specs.declared.item.ItemKind.TheVariants.{Code, Mark, Phi}
 use Rattle.mir_func.specs.declared.position.Pos.{Pos}
 use Rattle.mir_func.specs.Exits.{exit_of}
 use Rattle.mir_func.specs.Function.{Function}
-use Rattle.mir_func.specs.Graph.{Fetch, Here, EndOfBlock, Edge, FetchEdge, KindEdge, below, block_start, from_block, front, fetch_in, end_of}
+use Rattle.mir_func.specs.Graph.{Fetch, Here, EndOfBlock, Edge, FetchEdge, KindEdge, below, block_start, from_block, front, fetch_in, end_of, rest_in}
 use Rattle.mir_func.specs.Successors.{pos_in}
 use Rattle.mir_func.proofs.Ways.{IsDown}
 use Rattle.sem_mir.specs.Live.{Defines, KindDefines}
-use Rattle.sem_simulation.proofs.Laid.{rest_in}
 use Rattle.pass_liveness.proofs.Edges.{Stays, down_edge, out_edge}
 use Rattle.pass_liveness.proofs.Paths.{next_of}
 use Rattle.dce_rule.specs.Dead.{Places, Ends, paths_of}

@@ -13,12 +13,11 @@ use Rattle.mir_func.specs.declared.item.Item.{Item}
 use Rattle.mir_func.specs.declared.item.ItemKind.{ItemKind}
 use Rattle.mir_func.specs.declared.item.ItemKind.TheVariants.{Code, Mark, Phi}
 use Rattle.mir_func.specs.Function.{Function}
-use Rattle.mir_func.specs.Graph.{from_block}
+use Rattle.mir_func.specs.Graph.{from_block, rest_in}
 use Rattle.mir_func.specs.Sound.{IsSound, AllItems, HasForm, items_of}
 use Rattle.mir_func.specs.Successors.{pos_in}
 use Rattle.sem_mir.specs.Align.{is_code}
 use Rattle.sem_mir.proofs.Reading.{found_in}
-use Rattle.sem_simulation.proofs.Laid.{rest_in}
 use Rattle.pass_trait.specs.declared.loss.Loss.{Loss}
 use Rattle.dce_rule.specs.Dead.{Places, Ends, is_dead, needed_at, without_dead, thinned_block, IsRound}
 use Rattle.dce_rule.specs.Wrong.{begins_dead, silenced, silenced_left, silenced_block, taken_out, is_dead_at, IsWrongAt, made, on}

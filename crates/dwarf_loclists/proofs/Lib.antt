@@ -3,6 +3,7 @@ pub mod SpellingLemmas
 pub mod OneLocation
 pub mod OneReading
 pub mod Places
+pub mod OneList
 pub mod SplitLemmas
 pub mod ReaderLemmas
 pub mod LastLemmas

@@ -7,17 +7,17 @@ use Rattle.dwarf_loclists.specs.declared.range.Location.{Location}
 use Rattle.dwarf_loclists.specs.declared.range.Range.{Range}
 use Rattle.dwarf_loclists.specs.Ranges.{Ascend, location_in}
 
-hit : (r : Range) (rest : List Range) (address : ℕ) → r.lo ≤ address → address < r.hi → location_in (r ∷ rest) address ≡ Some r.location
+pub hit : (r : Range) (rest : List Range) (address : ℕ) → r.lo ≤ address → address < r.hi → location_in (r ∷ rest) address ≡ Some r.location
 hit r rest address from below = grind (arith, nat_tests)
 
-before : (r : Range) (rest : List Range) (address : ℕ) → address < r.lo → location_in (r ∷ rest) address ≡ location_in rest address
+pub before : (r : Range) (rest : List Range) (address : ℕ) → address < r.lo → location_in (r ∷ rest) address ≡ location_in rest address
 before r rest address below = grind (arith, nat_tests)
 
-after : (r : Range) (rest : List Range) (address : ℕ) → r.hi ≤ address → location_in (r ∷ rest) address ≡ location_in rest address
+pub after : (r : Range) (rest : List Range) (address : ℕ) → r.hi ≤ address → location_in (r ∷ rest) address ≡ location_in rest address
 after r rest address above = grind (arith, nat_tests)
 
 -- a range isn't empty
-first : (s : Range) (rest : List Range) → Ascend (s ∷ rest) → s.lo < s.hi
+pub first : (s : Range) (rest : List Range) → Ascend (s ∷ rest) → s.lo < s.hi
 first s [] ascend = ascend
 first s (t ∷ rest) ascend = ascend.0
 
@@ -29,7 +29,7 @@ later s (t ∷ rest) r ascend (suc k, inside, at) =
     let t_first = later t rest r ascend.3 (k, omega arith, at) in
     omega (arith, ascend.1, first t rest ascend.3, t_first)
 
-rest_ascends : (s : Range) (rest : List Range) → Ascend (s ∷ rest) → Ascend rest
+pub rest_ascends : (s : Range) (rest : List Range) → Ascend (s ∷ rest) → Ascend rest
 rest_ascends s [] ascend = tt
 rest_ascends s (t ∷ rest) ascend = ascend.3
 

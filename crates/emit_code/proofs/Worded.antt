@@ -170,7 +170,7 @@ module _ (l : Layout) (s : Sound l) where
     has_word_at : (offset : ℤ) → OffsetFits (row_exit (row_of c)) offset → (has_site (row_of c) ≡ true → ⊥) →
         HasWord offset (object_offset l.framed (object_named (row_of c))) c
     has_word_at offset fit other =
-        code_has_word c offset (of_kind HasForm s.forms) (of_kind HasPhysical s.framed.physical) (of_kind (SlotsIn (slot_offsets l.framed)) s.framed.slots)
+        code_has_word c offset (of_kind HasForm s.forms) (of_kind HasPhysical s.framed.physical) (of_kind (SlotsIn (slot_offsets l.framed)) s.framed.slots).0
         (of_kind (ObjectsIn l.framed.objects) s.framed.objects) fit other
 
     exit_is : exit_of i.kind ≡ row_exit (row_of c)

@@ -24,7 +24,7 @@ pub enum CodeError {
     /// It uses virtual registers.
     #[error("virtual registers")]
     Virtual,
-    /// Its frame would have more than 2,032 bytes.
+    /// Its frame would have more than 2,032 bytes, or an argument on the stack would end more than 2,032 above x2.
     #[error("the frame is too large")]
     FrameTooLarge,
     /// It may have 262,144 words or more: conditional branches and calls count twice, all other items once.

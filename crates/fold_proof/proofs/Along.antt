@@ -12,7 +12,7 @@ use Rattle.mir_func.specs.declared.item.ItemKind.{ItemKind}
 use Rattle.mir_func.specs.declared.item.ItemKind.TheVariants.{Code, Mark, Phi}
 use Rattle.mir_func.specs.declared.position.Pos.{Pos}
 use Rattle.mir_func.specs.Exits.{exit_of, Leaves}
-use Rattle.mir_func.specs.Graph.{Program, Here, EndOfBlock, block_start, fetch_in, from_block, index_of, program_of}
+use Rattle.mir_func.specs.Graph.{Program, Here, EndOfBlock, block_start, fetch_in, from_block, index_of, program_of, rest_in, rest_of}
 use Rattle.mir_func.specs.Sound.{IsJumpAtMost, MayFollow, EndsWell, Closes, LastCloses}
 use Rattle.mir_func.specs.Positions.{position_of}
 use Rattle.sem_mir.specs.State.{State}
@@ -22,7 +22,7 @@ use Rattle.sem_mir.proofs.Reading.{found_in, item_front, front_item}
 use Rattle.sem_simulation.specs.Rewired.{Rewired}
 use Rattle.sem_simulation.proofs.Rewired.{rewired_follows}
 use Rattle.sem_simulation.proofs.Stations.{code_sync_point, end_is_sync_point, IsSyncPointOf, of_item, of_end, sync_point_is_of}
-use Rattle.sem_simulation.proofs.Laid.{rest_in, rest_of, laid_out, in_order_at, from_home, from_before_end, falls_down}
+use Rattle.sem_simulation.proofs.Laid.{laid_out, in_order_at, from_home, from_before_end, falls_down}
 use Rattle.fold_targets.specs.Leads.{first_id}
 use Rattle.fold_rule.specs.Turned.{sent, turned}
 use Rattle.fold_rule.specs.Tails.{first_of, else_way, is_number, if_needed, jump_at_end, jump_for_branch, branch_tail, plain_tail, branch_tail_to, tail_by}

@@ -17,7 +17,7 @@ use Rattle.mir_func.specs.declared.position.Origin.{Origin}
 use Rattle.mir_func.specs.declared.position.Origin.TheVariants.{Kept, Before}
 use Rattle.mir_func.specs.Exits.{row_exit, exit_of, Leaves}
 use Rattle.mir_func.specs.Graph.{Program, Fetch, Here, EndOfBlock, Outside, below, block_start, fetch_in, from_block, index_of, program_of}
-use Rattle.mir_func.specs.Graph.{RowEdge, KindEdge, FetchEdge, Edge, Leads as LeadsFrom, stay, go}
+use Rattle.mir_func.specs.Graph.{RowEdge, KindEdge, FetchEdge, Edge, Leads as LeadsFrom, stay, go, rest_in}
 use Rattle.mir_func.specs.Sound.{ids_of, EndsWell, LastCloses}
 use Rattle.mir_func.specs.Positions.{position_of}
 use Rattle.sem_mir.specs.Follow.{HasClass, ItemHasClass, RowFits, KindFits, Shape, OnRow, GoesTo, IsEnd, SameEnd, KindsEndAlike, EndIsKept}
@@ -25,7 +25,7 @@ use Rattle.rv64_instr.specs.View.{class_of, Odd}
 use Rattle.sem_mir.specs.InitialState.{first_of as first_number}
 use Rattle.sem_mir.specs.Follow.{EndComesFrom}
 use Rattle.sem_mir.proofs.Reading.{found_in, front_item, item_front, front_end}
-use Rattle.sem_simulation.proofs.Laid.{rest_in, from_home, falls_down}
+use Rattle.sem_simulation.proofs.Laid.{from_home, falls_down}
 use Rattle.fold_targets.specs.Ways.{leads_nowhere}
 use Rattle.fold_targets.specs.Leads.{first_id, lead}
 use Rattle.fold_targets.proofs.Ways.{one_end}

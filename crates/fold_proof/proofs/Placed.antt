@@ -7,8 +7,7 @@ use Rattle.mir_func.specs.declared.block.Block.{Block}
 use Rattle.mir_func.specs.declared.item.Item.{Item}
 use Rattle.mir_func.specs.declared.position.Pos.{Pos}
 use Rattle.mir_func.specs.Sound.{ids_of}
-use Rattle.mir_func.specs.Graph.{EndOfBlock, end_of, front, fetch_in, from_block}
-use Rattle.sem_simulation.proofs.Laid.{rest_in, rest_of}
+use Rattle.mir_func.specs.Graph.{EndOfBlock, end_of, front, fetch_in, from_block, rest_in, rest_of}
 use Rattle.fold_targets.specs.Leads.{first_id}
 use Rattle.fold_targets.proofs.Ways.{test_of}
 use Rattle.fold_rule.specs.Rule.{folded_block, staying, folded_blocks}

@@ -14,7 +14,7 @@ use Rattle.mir_func.specs.declared.item.ItemKind.TheVariants.{Code, Mark, Phi}
 use Rattle.mir_func.specs.declared.position.Pos.{Pos}
 use Rattle.mir_func.specs.declared.position.Origin.TheVariants.{Before}
 use Rattle.mir_func.specs.Exits.{row_exit, exit_of, IsAlways, Leaves as LeavesBlock}
-use Rattle.mir_func.specs.Graph.{Program, Here, Outside, below, block_start, fetch_in, from_block, index_of}
+use Rattle.mir_func.specs.Graph.{Program, Here, Outside, below, block_start, fetch_in, from_block, index_of, rest_in, rest_of}
 use Rattle.mir_func.specs.Sound.{IsJumpAtMost, MayFollow, EndsWell, Closes, HasForm}
 use Rattle.mir_func.specs.Positions.{position_of}
 use Rattle.sem_mir.specs.State.{Core, State}
@@ -27,7 +27,7 @@ use Rattle.sem_simulation.specs.Rewired.{RewiredMatchStates, IsAbsent, Reaches, 
 use Rattle.sem_simulation.specs.Rewired.{DoAlike}
 use Rattle.sem_simulation.specs.Rewired.{View, both, added, paired, closes, ended}
 use Rattle.sem_simulation.proofs.Stations.{IsSyncPointOf, of_item, of_end, sync_point_is_of}
-use Rattle.sem_simulation.proofs.Laid.{rest_in, rest_of, laid_out, from_home}
+use Rattle.sem_simulation.proofs.Laid.{laid_out, from_home}
 use Rattle.fold_targets.specs.Ways.{EndsAt, leads_nowhere, comes_round, goes_on}
 use Rattle.fold_targets.specs.Leads.{first_id, always_to, lead_by, lead_of, lead}
 use Rattle.fold_targets.proofs.Ways.{one_end}

@@ -16,12 +16,12 @@ use Rattle.mir_func.specs.declared.item.ItemKind.TheVariants.{Code, Mark, Phi}
 use Rattle.mir_func.specs.declared.position.Pos.{Pos}
 use Rattle.mir_func.specs.Exits.{row_exit, exit_of, IsAlways, Leaves}
 use Rattle.mir_func.specs.Graph.{Program, Fetch, Here, EndOfBlock, Outside, below, block_start, fetch_in, from_block, RowEdge, KindEdge, FetchEdge, Edge}
-use Rattle.mir_func.specs.Graph.{Leads as LeadsFrom, stay, go}
+use Rattle.mir_func.specs.Graph.{Leads as LeadsFrom, stay, go, rest_in, rest_of}
 use Rattle.mir_func.specs.Sound.{IsJumpAtMost, MayFollow, EndsWell, Closes}
 use Rattle.sem_mir.specs.Follow.{OnRow, Counts}
 use Rattle.sem_mir.proofs.Edges.{leads_on}
 use Rattle.sem_mir.proofs.Reading.{found_in, item_front}
-use Rattle.sem_simulation.proofs.Laid.{rest_in, rest_of, laid_out}
+use Rattle.sem_simulation.proofs.Laid.{laid_out}
 use Rattle.fold_targets.specs.Ways.{EndsAt, leads_nowhere, comes_round, goes_on}
 use Rattle.fold_targets.specs.Leads.{first_id, always_to, lead_by, lead_of, lead}
 use Rattle.fold_targets.proofs.Ways.{one_end}

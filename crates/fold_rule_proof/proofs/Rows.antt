@@ -12,7 +12,7 @@ use Rattle.rv64_instr.specs.declared.operand.Operand.{Operand}
 use Rattle.rv64_instr.specs.declared.operand.Operand.TheVariants.{Def, Use, Imm, Slot, Object, Block as OfBlock, Symbol}
 use Rattle.rv64_instr.specs.Arithmetic.{word}
 use Rattle.rv64_instr.specs.Row.{Row, Branches, Jumps}
-use Rattle.rv64_instr.specs.Row.{row_of, row_by, immediate_row, object_row, move_row, implicit_uses, held_call, held_tail, held_gone}
+use Rattle.rv64_instr.specs.Row.{row_of, row_by, immediate_row, object_row, move_row, implicit_uses, outgoing_words, held_call, held_tail, held_gone}
 use Rattle.rv64_instr.specs.Inverse.{inverse_op}
 use Rattle.mir_func.specs.declared.exit.Exit.{Exit}
 use Rattle.mir_func.specs.declared.exit.Exit.TheVariants.{Onward, Perhaps, Always, Final}
@@ -20,7 +20,7 @@ use Rattle.mir_func.specs.declared.item.ItemKind.{ItemKind}
 use Rattle.mir_func.specs.declared.item.ItemKind.TheVariants.{Code, Mark, Phi}
 use Rattle.mir_func.specs.declared.object.Object.{Object as StackObject}
 use Rattle.mir_func.specs.Exits.{row_exit, exit_of}
-use Rattle.mir_func.specs.Sound.{TargetIn, TargetsIn, SlotIn, SlotsIn, ObjectIn, ObjectsIn, IsNotPointer, LeavesPointer}
+use Rattle.mir_func.specs.Sound.{TargetIn, TargetsIn, SlotIn, PassedIn, SlotsIn, ObjectIn, ObjectsIn, IsNotPointer, LeavesPointer}
 use Rattle.fold_rule.specs.Turned.{aimed, to_block, inverse_to, with_code}
 
 -- control leaves by a branch or a jump
@@ -51,9 +51,9 @@ pub data IsEnding : Op → List Operand → Type 0 where
   branch : {op : BranchOp} {a b t : ℕ} {rest : List Operand} → IsEnding (Branch op) (Use a ∷ Use b ∷ OfBlock t ∷ rest)
   jump : {t : ℕ} {rest : List Operand} → IsEnding PseudoBr (OfBlock t ∷ rest)
 
-held_call_leads : (xs : List ℕ) → Leads (row_exit (held_call xs)) → ⊥
-held_call_leads [] h = h
-held_call_leads (r ∷ xs) h = h
+held_call_leads : (xs outgoing : List ℕ) → Leads (row_exit (held_call xs outgoing)) → ⊥
+held_call_leads [] outgoing h = h
+held_call_leads (r ∷ xs) outgoing h = h
 
 held_tail_leads : (xs : List ℕ) → Leads (row_exit (held_tail xs)) → ⊥
 held_tail_leads [] h = h
@@ -79,7 +79,7 @@ is_ending (Store op) (Use rs ∷ Slot m ∷ rest) h = absurd h
 is_ending (Store op) (Use rs ∷ Object m ∷ Imm i ∷ rest) h = absurd h
 is_ending Copy (Def rd ∷ Use rs ∷ rest) h = absurd (subst Leads (onward_move rd rs) h)
 is_ending PseudoCall (Symbol name ∷ rest) h = absurd h
-is_ending PseudoCallIndirect os h = absurd (held_call_leads (implicit_uses os) h)
+is_ending PseudoCallIndirect os h = absurd (held_call_leads (implicit_uses os) (outgoing_words os) h)
 is_ending PseudoTail (Symbol name ∷ rest) h = absurd h
 is_ending PseudoTailIndirect os h = absurd (held_tail_leads (implicit_uses os) h)
 is_ending NoReturnCall (Symbol name ∷ rest) h = absurd h
@@ -153,27 +153,49 @@ row_objects objects (Branches op a b t) h = tt
 row_objects objects (Jumps t) h = tt
 row_objects objects _ h = absurd h
 
-pub leading_slots : (slots : List ℕ) (k : ItemKind) → Leads (exit_of k) → SlotsIn slots k
-leading_slots slots (Code i m) h = row_slots slots (row_of i) h
-leading_slots slots (Mark v m) h = absurd h
-leading_slots slots (Phi p m) h = absurd h
+-- the slots that code passes to a callee are among these
+abbrev pub PassesIn : List ℕ → ItemKind → Type 0
+PassesIn slots (Code i m) = All (PassedIn slots) i.operands
+PassesIn slots (Mark v m) = Unit {0}
+PassesIn slots (Phi p m) = Unit {0}
+
+pub passes_in : (slots : List ℕ) (k : ItemKind) → SlotsIn slots k → PassesIn slots k
+passes_in slots (Code i m) h = h.1
+passes_in slots (Mark v m) h = tt
+passes_in slots (Phi p m) h = tt
+
+pub leading_slots : (slots : List ℕ) (k : ItemKind) → Leads (exit_of k) → PassesIn slots k → SlotsIn slots k
+leading_slots slots (Code i m) h passes = (row_slots slots (row_of i) h, passes)
+leading_slots slots (Mark v m) h passes = absurd h
+leading_slots slots (Phi p m) h passes = absurd h
 
 pub leading_objects : (objects : List StackObject) (k : ItemKind) → Leads (exit_of k) → ObjectsIn objects k
 leading_objects objects (Code i m) h = row_objects objects (row_of i) h
 leading_objects objects (Mark v m) h = absurd h
 leading_objects objects (Phi p m) h = absurd h
 
-aimed_pointer : (op : Op) (n : ℕ) (os : List Operand) → All IsNotPointer os → All IsNotPointer (aimed op n os)
-aimed_pointer (Branch op) n os h = All-set IsNotPointer os 2 (OfBlock n) tt h
-aimed_pointer PseudoBr n os h = All-set IsNotPointer os 0 (OfBlock n) tt h
-aimed_pointer _ n os h = h
+-- what holds of all operands, and of a block's, holds of all with another block
+aimed_all : (P : Operand → Type 0) (n : ℕ) → P (OfBlock n) → (op : Op) (os : List Operand) → All P os → All P (aimed op n os)
+aimed_all P n is (Branch op) os h = All-set P os 2 (OfBlock n) is h
+aimed_all P n is PseudoBr os h = All-set P os 0 (OfBlock n) is h
+aimed_all P n is _ os h = h
+
+pub sent_passes : (slots : List ℕ) (k : ItemKind) (n : ℕ) → PassesIn slots k → PassesIn slots (with_code (to_block n) k)
+sent_passes slots (Code i m) n h = aimed_all (PassedIn slots) n tt i.op i.operands h
+sent_passes slots (Mark v m) n h = h
+sent_passes slots (Phi p m) n h = h
+
+pub turned_passes : (slots : List ℕ) (k : ItemKind) (n : ℕ) → PassesIn slots k → PassesIn slots (with_code (inverse_to n) k)
+turned_passes slots (Code i m) n h = aimed_all (PassedIn slots) n tt i.op i.operands h
+turned_passes slots (Mark v m) n h = h
+turned_passes slots (Phi p m) n h = h
 
 pub sent_pointer : (k : ItemKind) (n : ℕ) → LeavesPointer k → LeavesPointer (with_code (to_block n) k)
-sent_pointer (Code i m) n h = aimed_pointer i.op n i.operands h
+sent_pointer (Code i m) n h = aimed_all IsNotPointer n tt i.op i.operands h
 sent_pointer (Mark v m) n h = h
 sent_pointer (Phi p m) n h = h
 
 pub turned_pointer : (k : ItemKind) (n : ℕ) → LeavesPointer k → LeavesPointer (with_code (inverse_to n) k)
-turned_pointer (Code i m) n h = aimed_pointer i.op n i.operands h
+turned_pointer (Code i m) n h = aimed_all IsNotPointer n tt i.op i.operands h
 turned_pointer (Mark v m) n h = h
 turned_pointer (Phi p m) n h = h

@@ -14,13 +14,14 @@ use Rattle.mir_func.specs.declared.position.Pos.{Pos}
 use Rattle.mir_func.specs.declared.position.Origin.{Origin}
 use Rattle.mir_func.specs.declared.position.Origin.TheVariants.{Before}
 use Rattle.mir_func.specs.Exits.{exit_of, IsAlways, Leaves}
-use Rattle.mir_func.specs.Sound.{TargetsIn, SlotsIn, ObjectsIn, LeavesPointer, IsNotPointer, OriginIn, IsJumpAtMost, MayFollow, EndsWell, Closes}
+use Rattle.mir_func.specs.Sound.{TargetsIn, SlotsIn, PassedIn, ObjectsIn, LeavesPointer, IsNotPointer, OriginIn, IsJumpAtMost, MayFollow, EndsWell, Closes}
 use Rattle.fold_targets.specs.Leads.{always_to}
 use Rattle.fold_rule.specs.Turned.{sent, turned, made_jump}
 use Rattle.fold_rule.specs.Tails.{first_of, else_way, ways_by, ways_of, is_number, if_needed, jump_at_end, jump_for_branch, branch_tail, plain_tail}
 use Rattle.fold_rule.specs.Tails.{branch_tail_to, tail_by, rewritten}
 use Rattle.fold_rule.specs.Reached.{LeadTo}
 use Rattle.fold_rule_proof.proofs.Rows.{Leads, GoesIn, kind_targets, leading_slots, leading_objects, sent_pointer, turned_pointer, sent_branch}
+use Rattle.fold_rule_proof.proofs.Rows.{PassesIn, passes_in, sent_passes, turned_passes}
 use Rattle.fold_rule_proof.proofs.Rows.{turned_branch, sent_jump}
 
 pub none_in : {X : Type 0} (P : X → Type 0) → All P []
@@ -62,11 +63,12 @@ module _ (ids slots : List ℕ) (objects : List Object) (b : Block) where
   good_left : (x : Item) (e : Exit) → exit_of x.kind ≡ e → GoesIn ids e → Plain x → Good x
   good_left x e h goes p = record { target = kind_targets ids x.kind (subst (GoesIn ids) (sym h) goes); plain = p }
 
-  good_leading : (x : Item) (e : Exit) → exit_of x.kind ≡ e → GoesIn ids e → Leads e → LeavesPointer x.kind → OriginIn b x.origin → Good x
-  good_leading x e h goes leads pointer origin = record {
+  good_leading : (x : Item) (e : Exit) → exit_of x.kind ≡ e → GoesIn ids e → Leads e → LeavesPointer x.kind → PassesIn slots x.kind → OriginIn b x.origin →
+      Good x
+  good_leading x e h goes leads pointer passes origin = record {
     target = kind_targets ids x.kind (subst (GoesIn ids) (sym h) goes);
     plain = record {
-      slot = leading_slots slots x.kind (subst Leads (sym h) leads);
+      slot = leading_slots slots x.kind (subst Leads (sym h) leads) passes;
       object = leading_objects objects x.kind (subst Leads (sym h) leads);
       pointer = pointer;
       origin = origin;
@@ -74,19 +76,23 @@ module _ (ids slots : List ℕ) (objects : List Object) (b : Block) where
   }
 
   good_sent : (x : Item) (t n : ℕ) → exit_of x.kind ≡ Perhaps t → Contains ids n → Plain x → Good (sent n x)
-  good_sent x t n e has p = good_leading (sent n x) (Perhaps n) (sent_branch x.kind t n e) has tt (sent_pointer x.kind n p.pointer) p.origin
+  good_sent x t n e has p = good_leading (sent n x) (Perhaps n) (sent_branch x.kind t n e) has tt (sent_pointer x.kind n p.pointer)
+      (sent_passes slots x.kind n (passes_in slots x.kind p.slot)) p.origin
 
   good_turned : (x : Item) (t n : ℕ) → exit_of x.kind ≡ Perhaps t → Contains ids n → Plain x → Good (turned n x)
-  good_turned x t n e has p = good_leading (turned n x) (Perhaps n) (turned_branch x.kind t n e) has tt (turned_pointer x.kind n p.pointer) p.origin
+  good_turned x t n e has p = good_leading (turned n x) (Perhaps n) (turned_branch x.kind t n e) has tt (turned_pointer x.kind n p.pointer)
+      (turned_passes slots x.kind n (passes_in slots x.kind p.slot)) p.origin
 
   good_sent_jump : (x : Item) (t n : ℕ) → exit_of x.kind ≡ Always t → Contains ids n → Plain x → Good (sent n x)
-  good_sent_jump x t n e has p = good_leading (sent n x) (Always n) (sent_jump x.kind t n e) has tt (sent_pointer x.kind n p.pointer) p.origin
+  good_sent_jump x t n e has p = good_leading (sent n x) (Always n) (sent_jump x.kind t n e) has tt (sent_pointer x.kind n p.pointer)
+      (sent_passes slots x.kind n (passes_in slots x.kind p.slot)) p.origin
 
   made_pointer : (n : ℕ) (o : Origin) (l : Loc) → LeavesPointer (made_jump n o l).kind
   made_pointer n o l = All-cons IsNotPointer (OfBlock n) [] tt (none_in IsNotPointer)
 
   good_made : (n : ℕ) (o : Origin) (l : Loc) → Contains ids n → OriginIn b o → Good (made_jump n o l)
-  good_made n o l has origin = good_leading (made_jump n o l) (Always n) refl has tt (made_pointer n o l) origin
+  good_made n o l has origin = good_leading (made_jump n o l) (Always n) refl has tt (made_pointer n o l)
+      (All-cons (PassedIn slots) (OfBlock n) [] tt (none_in (PassedIn slots))) origin
 
   silent_in : OriginIn b (Before (record { block = b.id; item = b.source_end }))
   silent_in = (refl, omega arith)

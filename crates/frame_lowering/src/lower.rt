@@ -18,7 +18,7 @@ use thiserror::Error;
 /// Why the frame of a function couldn't be lowered.
 #[derive(Debug, Drop, Error)]
 pub enum LowerError {
-    /// Its frame would have more than 2,032 bytes.
+    /// Its frame would have more than 2,032 bytes, or an argument on the stack would end more than 2,032 above x2.
     #[error("the frame is too large")]
     FrameTooLarge,
     /// Memory ran out.

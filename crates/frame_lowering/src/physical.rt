@@ -58,6 +58,7 @@ fn is_operand_physical(operand: &Operand) -> bool
         | Operand::Slot(_)
         | Operand::Object(_)
         | Operand::Part(_, _)
+        | Operand::Outgoing(_)
         | Operand::Block(_)
         | Operand::Symbol(_)
         | Operand::Mask => true,

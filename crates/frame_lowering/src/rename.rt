@@ -59,6 +59,7 @@ fn renamed_operand(slots: &SlotOffsets, operand: &Operand) -> Result<Operand, Al
 {
     match operand {
         Operand::Slot(n) => Ok(Operand::Slot(slots.of(*n))),
+        Operand::Outgoing(n) => Ok(Operand::Outgoing(slots.of(*n))),
         Operand::Def(_)
         | Operand::Use(_)
         | Operand::ImplicitDef(_)

@@ -3,9 +3,8 @@ use Rattle.std.proofs.Common.{◌≡◌, ℕ, suc, List, [], ◌∷◌, map, dro
 use Rattle.mir_func.specs.declared.block.Block.{Block}
 use Rattle.mir_func.specs.declared.item.Item.{Item}
 use Rattle.mir_func.specs.Function.{Function}
-use Rattle.mir_func.specs.Graph.{EndOfBlock, end_of, front, fetch_in, from_block, index_of}
+use Rattle.mir_func.specs.Graph.{EndOfBlock, end_of, front, fetch_in, from_block, index_of, rest_in}
 use Rattle.mir_func.specs.SoundFrame.{body_of}
-use Rattle.sem_simulation.proofs.Laid.{rest_in}
 use Rattle.frame_rule.specs.Rule.{framed_items, framed_block, framed_blocks}
 
 pub drop_zero : (xs : List Item) → drop 0 xs ≡ xs

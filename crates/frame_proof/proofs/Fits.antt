@@ -1,5 +1,5 @@
 -- What the items of a function that follows a source are like, as its frame needs it.
-use Rattle.std.proofs.Common.{◌≡◌, ℕ, zero, suc, List, [], ◌∷◌, map, All, Option, Some, None}
+use Rattle.std.proofs.Common.{◌≡◌, ℕ, zero, suc, List, [], ◌∷◌, All, Option, Some, None}
 use Rattle.std.proofs.Common.{Bool, true, false, cond, nat_eq, nat_le, ◌&&◌, refl, ◌⊎◌, inl, inr, ◌||◌, arith}
 use Rattle.std.specs.List.{list_all}
 use Rattle.std.proofs.lemmas.Bool.{leb-true, and_parts}
@@ -15,7 +15,7 @@ use Rattle.rv64_instr.specs.declared.operand.Operand.TheVariants.{Def, Use, Impl
 use Rattle.rv64_instr.specs.Arithmetic.{word, taken, load_width, store_width}
 use Rattle.rv64_instr.specs.Form.{has_form, is_result, is_tail_use, is_tail_register}
 use Rattle.rv64_instr.specs.Row.{Row, Loads, Stores, LoadsSlot, Branches, Jumps, Calls, row_of, CallSite}
-use Rattle.rv64_instr.specs.Row.{row_by, move_row, immediate_row, object_row, implicit_uses, held_call, held_tail, held_gone}
+use Rattle.rv64_instr.specs.Row.{row_by, move_row, immediate_row, object_row, implicit_uses, outgoing_words, held_call, held_tail, held_gone}
 use Rattle.rv64_instr.specs.DefsAndUses.{reads}
 use Rattle.rv64_instr.specs.declared.start.CallTarget.{CallTarget}
 use Rattle.rv64_instr.proofs.Tails.{IsTailRegister, tail_use, tail_callee, uses_hold, one_more}
@@ -27,9 +27,9 @@ use Rattle.mir_func.specs.declared.position.Origin.TheVariants.{Kept, Before}
 use Rattle.mir_func.specs.Exits.{row_leads_back, leads_back}
 use Rattle.mir_func.specs.Graph.{Program}
 use Rattle.mir_func.specs.Sound.{HasForm}
-use Rattle.sem_mir.specs.State.{Core, Reply, writes_frame}
+use Rattle.sem_mir.specs.State.{Core, Reply}
 use Rattle.sem_mir.specs.Step.{Outcome, Falls, Goes, Gives, Traps, Asks, Breaks, act, does, read, are_written, with_core, address_at, is_fault, slot_loaded}
-use Rattle.sem_mir.specs.Step.{exec_external_call, do_item, called_at}
+use Rattle.sem_mir.specs.Step.{exec_external_call, call_faults, passed, do_item, called_at}
 use Rattle.sem_mir.specs.Align.{is_jump_row, is_jump, waits_at, ByItems, After, since_of}
 use Rattle.sem_mir.specs.Follow.{RowFits, KindFits}
 use Rattle.sem_simulation.specs.MatchStates.{since_item}
@@ -54,9 +54,9 @@ slot_by : (rd n : ℕ) (c : Core) (x : Option ℕ) → GoesBy (LoadsSlot rd n) (
 slot_by rd n c None = tt
 slot_by rd n c (Some v) = tt
 
-call_by : (call : CallSite) (t : CallTarget) (vs : List ℕ) (c : Core) (rs : List Reply) → GoesBy (Calls call) (exec_external_call t vs c rs)
-call_by call t vs c [] = tt
-call_by call t vs c (x ∷ rs) = either_by (Calls call) (writes_frame c.entry c.area x.writes) Traps _ tt tt
+call_by : (call : CallSite) (t : CallTarget) (vs outgoing : List ℕ) (c : Core) (rs : List Reply) → GoesBy (Calls call) (exec_external_call t vs outgoing c rs)
+call_by call t vs outgoing c [] = tt
+call_by call t vs outgoing c (x ∷ rs) = either_by (Calls call) (call_faults c outgoing x) Traps _ tt tt
 
 does_by : (r : Row) (c : Core) → GoesBy r (does r c)
 unfolding does
@@ -64,7 +64,7 @@ does_by (Loads rd op b o) c = either_by (Loads rd op b o) (is_fault b c (address
 does_by (Stores op rs b o) c = either_by (Stores op rs b o) (is_fault b c (address_at c b o) (store_width op)) Traps _ tt tt
 does_by (LoadsSlot rd n) c = slot_by rd n c (c.slots n)
 does_by (Branches op a b t) c = either_by (Branches op a b t) (taken op (read c a) (read c b)) (Goes t c) (Falls c) tt tt
-does_by (Calls call) c = call_by call (called_at c call.callee) (map (read c) call.args) c c.script
+does_by (Calls call) c = call_by call (called_at c call.callee) (passed c call) call.outgoing c c.script
 does_by _ c = tt
 
 act_by : (r : Row) (c : Core) → GoesBy r (act r c)
@@ -144,9 +144,9 @@ tails_read os h = uses_hold IsResult is_tail_use by_use os h where
   by_use : (r : ℕ) → is_tail_use (ImplicitUse r) ≡ true → (r ≡ 2) ⊎ IsResult r
   by_use r h = elim (tail_use r h) as (λ _. (r ≡ 2) ⊎ IsResult r) [ inl two ↦ inl two | inr is ↦ inr (of_tail r is) ]
 
-held_call_on : (xs : List ℕ) → row_leads_back (held_call xs) ≡ true → All IsResult (reads (held_call xs))
-held_call_on [] h = none
-held_call_on (r ∷ xs) h = cc
+held_call_on : (xs outgoing : List ℕ) → row_leads_back (held_call xs outgoing) ≡ true → All IsResult (reads (held_call xs outgoing))
+held_call_on [] outgoing h = none
+held_call_on (r ∷ xs) outgoing h = cc
 
 held_tail_on : (xs : List ℕ) → All IsResult xs → All IsResult (reads (held_tail xs))
 held_tail_on [] h = none
@@ -176,7 +176,7 @@ final_by Copy (Def rd ∷ Use rs ∷ rest) h e = move_on rd rs e
 final_by PseudoBr (Block target ∷ rest) h e = cc
 final_by PseudoCall (Symbol name ∷ rest) h e = cc
 final_by PseudoRet os h e = results_read os h
-final_by PseudoCallIndirect os h e = held_call_on (implicit_uses os) e
+final_by PseudoCallIndirect os h e = held_call_on (implicit_uses os) (outgoing_words os) e
 final_by PseudoTail (Symbol name ∷ rest) h e = tails_read rest h
 final_by PseudoTailIndirect (ImplicitUse r ∷ rest) h e =
     let p = and_parts (nat_eq r 6 || is_tail_register r) (list_all is_tail_use rest) h in

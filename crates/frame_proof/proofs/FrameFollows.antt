@@ -4,14 +4,13 @@ use Rattle.std.proofs.lemmas.List.Elements.{All-nil, All-contains}
 use Rattle.mir_func.specs.declared.block.Block.{Block}
 use Rattle.mir_func.specs.declared.item.Item.{Item}
 use Rattle.mir_func.specs.declared.position.Pos.{Pos}
-use Rattle.mir_func.specs.Graph.{block_start, from_block, program_of, framed_program}
+use Rattle.mir_func.specs.Graph.{block_start, from_block, program_of, framed_program, rest_in, rest_of}
 use Rattle.mir_func.specs.Sound.{SlotsIn, LeavesPointer, LastCloses, HasForm}
 use Rattle.sem_mir.specs.State.{content}
 use Rattle.sem_mir.specs.Align.{ByItems, sync_point_at, First, RunsMatch}
 use Rattle.sem_mir.specs.InitialState.{first_of}
 use Rattle.sem_mir.specs.Follow.{KindFits}
 use Rattle.sem_mir.proofs.Reading.{found_in}
-use Rattle.sem_simulation.proofs.Laid.{rest_in, rest_of}
 use Rattle.frame_rule.specs.Rule.{framed_of}
 use Rattle.frame_proof.specs.Runs.{FrameFollows}
 use Rattle.frame_proof.proofs.Blocks.{drop_zero}

@@ -1,5 +1,5 @@
 -- The frame of a sound function stands at each state of each run, and what it has to give back it gives back.
-use Rattle.std.proofs.Common.{◌≡◌, ℕ, zero, suc, ◌-◌, List, [], ◌∷◌, map, All, Contains, Option, Some, None, Bool, true, false, cond, nat_eq, ◌&&◌, ◌||◌}
+use Rattle.std.proofs.Common.{◌≡◌, ℕ, zero, suc, ◌-◌, List, [], ◌∷◌, All, Contains, Option, Some, None, Bool, true, false, cond, nat_eq, ◌&&◌, ◌||◌}
 use Rattle.std.proofs.Common.{not, refl, sym, ap, ◌∙◌, subst, get_or, arith}
 use Rattle.std.specs.List.{list_any}
 use Rattle.std.proofs.lemmas.Bool.{ne_eqb}
@@ -15,7 +15,7 @@ use Rattle.rv64_instr.specs.declared.operand.Operand.TheVariants.{Def, Use, Imm,
 use Rattle.rv64_instr.specs.Arithmetic.{word, taken, load_width, store_width}
 use Rattle.rv64_instr.specs.Row.{Row, Loads, Stores, LoadsSlot, Branches, Calls, Returns, row_of, CallSite}
 use Rattle.rv64_instr.specs.Row.{row_by, move_row, immediate_row, object_row, way_leads_back, Way, Callee}
-use Rattle.rv64_instr.specs.Row.{Back, Tail, Never, implicit_uses, held_call, held_tail, held_gone}
+use Rattle.rv64_instr.specs.Row.{Back, Tail, Never, implicit_uses, outgoing_words, held_call, held_tail, held_gone}
 use Rattle.rv64_instr.specs.DefsAndUses.{reads, sets}
 use Rattle.rv64_instr.specs.declared.start.CallTarget.{CallTarget}
 use Rattle.mir_func.specs.declared.block.Block.{Block}
@@ -27,14 +27,13 @@ use Rattle.mir_func.specs.declared.position.Pos.{Pos}
 use Rattle.mir_func.specs.declared.framed.SavedRegister.{SavedRegister}
 use Rattle.mir_func.specs.Exits.{row_leads_back, leads_back}
 use Rattle.mir_func.specs.Function.{Function}
-use Rattle.mir_func.specs.Graph.{Program, Fetch, Here, EndOfBlock, Outside, block_start, from_block, framed_program, is_return}
+use Rattle.mir_func.specs.Graph.{Program, Fetch, Here, EndOfBlock, Outside, block_start, from_block, framed_program, is_return, rest_in, rest_of}
 use Rattle.mir_func.specs.Sound.{IsNotPointer, LeavesPointer, SlotsIn, LastCloses, IsSound}
 use Rattle.mir_func.specs.SoundFrame.{SAVED}
-use Rattle.sem_mir.specs.State.{Core, State, Reply, content, writes_frame, RunResult}
+use Rattle.sem_mir.specs.State.{Core, State, Reply, content, RunResult}
 use Rattle.sem_mir.specs.Step.{Outcome, Falls, Goes, Gives, Traps, Asks, Breaks, Returned, act, does, read, or_zero, are_written, with_core, moved, called_at}
-use Rattle.sem_mir.specs.Step.{address_at, is_fault, slot_loaded, exec_external_call, do_item, do_fetch, step, way_at}
+use Rattle.sem_mir.specs.Step.{address_at, is_fault, slot_loaded, passed, call_faults, exec_external_call, do_item, do_fetch, step, way_at}
 use Rattle.sem_mir.proofs.Reading.{found_in}
-use Rattle.sem_simulation.proofs.Laid.{rest_in, rest_of}
 use Rattle.frame_rule.specs.Rule.{sets_register, saved_of, framed_of}
 use Rattle.frame_proof.specs.Stands.{is_as_found, frame_state, FrameState, FrameStands, FrameAlwaysStands, FrameGivesBack}
 use Rattle.frame_rule.proofs.Saved.{all_given, set_is_saved}
@@ -67,9 +66,9 @@ move_sets : (rd rs : ℕ) → (nat_eq 2 rd || false) ≡ false → SetsNo (move_
 move_sets rd zero h = h
 move_sets rd (suc r) h = h
 
-held_call_sets : (xs : List ℕ) → SetsNo (held_call xs)
-held_call_sets [] = refl
-held_call_sets (r ∷ xs) = refl
+held_call_sets : (xs outgoing : List ℕ) → SetsNo (held_call xs outgoing)
+held_call_sets [] outgoing = refl
+held_call_sets (r ∷ xs) outgoing = refl
 
 held_tail_sets : (xs : List ℕ) → SetsNo (held_tail xs)
 held_tail_sets [] = refl
@@ -98,7 +97,7 @@ sets_by Copy (Def rd ∷ Use rs ∷ rest) h = move_sets rd rs (defines rd (Use r
 sets_by PseudoBr (ToBlock target ∷ rest) h = refl
 sets_by PseudoCall (Symbol name ∷ rest) h = refl
 sets_by PseudoRet os h = refl
-sets_by PseudoCallIndirect os h = held_call_sets (implicit_uses os)
+sets_by PseudoCallIndirect os h = held_call_sets (implicit_uses os) (outgoing_words os)
 sets_by PseudoTail (Symbol name ∷ rest) h = refl
 sets_by PseudoTailIndirect os h = held_tail_sets (implicit_uses os)
 sets_by NoReturnCall (Symbol name ∷ rest) h = refl
@@ -131,9 +130,10 @@ slot_gives : (rd n : ℕ) (c : Core) (x : Option ℕ) → GivesBy (LoadsSlot rd 
 slot_gives rd n c None = tt
 slot_gives rd n c (Some v) = tt
 
-call_gives : (call : CallSite) (t : CallTarget) (vs : List ℕ) (c : Core) (rs : List Reply) → GivesBy (Calls call) (exec_external_call t vs c rs)
-call_gives call t vs c [] = tt
-call_gives call t vs c (x ∷ rs) = either_gives (Calls call) (writes_frame c.entry c.area x.writes) Traps _ tt tt
+call_gives : (call : CallSite) (t : CallTarget) (vs outgoing : List ℕ) (c : Core) (rs : List Reply) →
+    GivesBy (Calls call) (exec_external_call t vs outgoing c rs)
+call_gives call t vs outgoing c [] = tt
+call_gives call t vs outgoing c (x ∷ rs) = either_gives (Calls call) (call_faults c outgoing x) Traps _ tt tt
 
 way_same : (c : Core) (w : Way Callee) → way_leads_back w ≡ way_leads_back (way_at c w)
 way_same c Back = refl
@@ -146,7 +146,7 @@ does_gives (Loads rd op b o) c = either_gives (Loads rd op b o) (is_fault b c (a
 does_gives (Stores op rs b o) c = either_gives (Stores op rs b o) (is_fault b c (address_at c b o) (store_width op)) Traps _ tt tt
 does_gives (LoadsSlot rd n) c = slot_gives rd n c (c.slots n)
 does_gives (Branches op a b t) c = either_gives (Branches op a b t) (taken op (read c a) (read c b)) (Goes t c) (Falls c) tt tt
-does_gives (Calls call) c = call_gives call (called_at c call.callee) (map (read c) call.args) c c.script
+does_gives (Calls call) c = call_gives call (called_at c call.callee) (passed c call) call.outgoing c c.script
 does_gives (Returns ending) c = way_same c ending.way
 does_gives _ c = tt
 

@@ -20,7 +20,7 @@ use Rattle.mir_func.specs.declared.position.Origin.TheVariants.{Before}
 use Rattle.mir_func.specs.declared.position.Pos.{Pos}
 use Rattle.mir_func.specs.Exits.{exit_of, leads_back}
 use Rattle.mir_func.specs.Function.{Function}
-use Rattle.mir_func.specs.Graph.{Program, EndOfBlock, block_start, fetch_in, front, from_block, index_of, program_of, framed_program}
+use Rattle.mir_func.specs.Graph.{Program, EndOfBlock, block_start, fetch_in, front, from_block, index_of, program_of, framed_program, rest_in, rest_of}
 use Rattle.mir_func.specs.Sound.{SlotsIn, LeavesPointer}
 use Rattle.mir_func.specs.SoundFrame.{adds_to_pointer, saves, restores, prologue_code, epilogue_code, body_of}
 use Rattle.mir_func.proofs.Leading.{leads_out}
@@ -37,7 +37,7 @@ use Rattle.sem_simulation.specs.MatchStates.{Sides, ShowsSame, since_item}
 use Rattle.sem_simulation.specs.Added.{Standing, Opening, Level, Ahead, AddedMatchStates, MayCome, DoAlike, View, ended, both, before, opening, entering}
 use Rattle.sem_simulation.specs.Added.{paired}
 use Rattle.sem_simulation.specs.Added.{Adds, Begins, opens}
-use Rattle.sem_simulation.proofs.Laid.{rest_in, rest_of, laid_out, laid_out_framed}
+use Rattle.sem_simulation.proofs.Laid.{laid_out, laid_out_framed}
 use Rattle.sem_simulation.proofs.Added.{added_follows}
 use Rattle.frame_rule.specs.Rule.{slot_offset, saved_of, size_of, added, added_all, prologue, epilogue, renamed_code, renamed_kind, renamed}
 use Rattle.frame_rule.specs.Rule.{framed_item, framed_items, framed_block, framed_blocks, prologue_block}
@@ -266,7 +266,7 @@ module _ (fn : Function) (resolve : OperandPair → Option OperandPair) (src : P
   in_body b x rest fits = by_kind (is_code x.kind) refl where
     near : (c d : Core) → Beside fn.slots saved IsOther [] c d → EndAlike (λ c d. Beside fn.slots saved IsOther [] c d)
         (do_item f x.kind c) (do_item g (renamed_kind fn.slots x.kind) d)
-    near c d h = let fit = All-head IsFit x rest fits in item_near fn.slots saved [] f g refl refl refl x.kind c d fit.pointer fit.slots h
+    near c d h = let fit = All-head IsFit x rest fits in item_near fn.slots saved [] f g refl refl refl (saved_above fn) x.kind c d fit.pointer fit.slots h
 
     by_debug : (k : ItemKind) → is_code k ≡ false → (c d : Core) → EndAlike (λ c d. Beside fn.slots saved IsOther [] c d)
         (do_item f k c) (do_item g (renamed_kind fn.slots k) d) →

@@ -1,10 +1,11 @@
 -- What the frame holds at a step, and what each kind of code does to it.
-use Rattle.std.proofs.Common.{◌≡◌, ℕ, zero, suc, ◌+◌, ◌-◌, ◌%◌, ◌^◌, ◌<◌, ◌≤◌, pos, negsuc, ◌-ℤ◌, List, [], ◌∷◌, Contains, Some}
+use Rattle.std.proofs.Common.{◌≡◌, ℕ, zero, suc, ◌+◌, ◌-◌, ◌%◌, ◌^◌, ◌<◌, ◌≤◌, pos, negsuc, ◌-ℤ◌, List, [], ◌∷◌, map, All, Contains, Some}
 use Rattle.std.proofs.Common.{Bool, true, false, cond, nat_eq, nat_le, le-leb, ◌||◌, refl, sym, ap, ◌∙◌, subst, eq-eqb, arith}
 use Rattle.std.specs.List.{list_any}
+use Rattle.std.proofs.lemmas.List.Elements.{All-head, All-tail}
 use Rattle.rv64_instr.specs.declared.place.Place.TheVariants.{Register, Slot}
 use Rattle.rv64_instr.specs.Arithmetic.{word, computed}
-use Rattle.rv64_instr.specs.Row.{Row, LoadsSlot, StoresSlot, row_of}
+use Rattle.rv64_instr.specs.Row.{Row, LoadsSlot, StoresSlot, Calls, row_of}
 use Rattle.rv64_instr.specs.Row.{add_row}
 use Rattle.rv64_instr.specs.DefsAndUses.{sets}
 use Rattle.mir_func.specs.declared.framed.SavedRegister.{SavedRegister}
@@ -12,6 +13,7 @@ use Rattle.mir_func.specs.declared.item.ItemKind.{ItemKind}
 use Rattle.mir_func.specs.declared.item.ItemKind.TheVariants.{Code, Mark, Phi}
 use Rattle.mir_func.specs.Graph.{Program}
 use Rattle.mir_func.specs.Sound.{SlotIn, SlotsIn}
+use Rattle.mir_func.proofs.Passed.{slots_passed, passed_slots}
 use Rattle.sem_mir.specs.State.{Core, content}
 use Rattle.sem_mir.specs.Step.{Outcome, Falls, Goes, act, does, set_register, do_item}
 use Rattle.sem_mir.specs.Live.{KindDefines}
@@ -73,16 +75,22 @@ leaves_register slots (Code i n) r none h =
 leaves_register slots (Mark v m) r none h = h
 leaves_register slots (Phi p n) r none h = h
 
-row_leaves : (slots : List ℕ) (r : Row) (o : ℕ) → SlotIn slots r → ((n : ℕ) → Contains slots n → slot_offset slots n ≡ o → ⊥) →
-    RowDefines (renamed_row slots r) (Slot o) → ⊥
-row_leaves slots (StoresSlot rs n) o j far h = far n j h
-row_leaves slots _ o j far h = h
+row_leaves : (slots : List ℕ) (r : Row) (o : ℕ) → SlotIn slots r → All (Contains slots) (slots_passed r) →
+    ((n : ℕ) → Contains slots n → slot_offset slots n ≡ o → ⊥) → RowDefines (renamed_row slots r) (Slot o) → ⊥
+row_leaves slots (StoresSlot rs n) o j p far h = far n j h
+row_leaves slots (Calls call) o j p far h = among call.outgoing p h where
+  among : (ns : List ℕ) → All (Contains slots) ns → Contains (map (slot_offset slots) ns) o → ⊥
+  among [] k (i, lt, e) = absurd (omega (arith, lt))
+  among (n ∷ ns) k (zero, lt, e) = far n (All-head (Contains slots) n ns k) e
+  among (n ∷ ns) k (suc i, lt, e) = among ns (All-tail (Contains slots) n ns k) (i, omega (arith, lt), e)
+row_leaves slots _ o j p far h = h
 
 -- and it stores to the offsets of declared slots alone
 pub leaves_place : (slots : List ℕ) (k : ItemKind) (o : ℕ) → SlotsIn slots k → ((n : ℕ) → Contains slots n → slot_offset slots n ≡ o → ⊥) →
     KindDefines (renamed_kind slots k) (Slot o) → ⊥
 leaves_place slots (Code i n) o j far h =
-    row_leaves slots (row_of i) o j far (subst (λ (z : Row). RowDefines z (Slot o)) (row_renamed slots i) (defines_row _ (Slot o) h))
+    row_leaves slots (row_of i) o j.0 (passed_slots slots i j.1) far
+    (subst (λ (z : Row). RowDefines z (Slot o)) (row_renamed slots i) (defines_row _ (Slot o) h))
 leaves_place slots (Mark v m) o j far h = h
 leaves_place slots (Phi p n) o j far h = h
 

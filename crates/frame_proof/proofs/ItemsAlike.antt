@@ -19,15 +19,16 @@ use Rattle.mir_func.specs.declared.debug_substitution.OperandPair.{OperandPair}
 use Rattle.mir_func.specs.Exits.{row_exit}
 use Rattle.mir_func.specs.Graph.{Program}
 use Rattle.mir_func.specs.Sound.{SlotsIn, PlaceIn, LeavesPointer}
+use Rattle.mir_func.proofs.Passed.{passed_slots}
 use Rattle.sem_mir.specs.State.{Core, updated}
 use Rattle.sem_mir.specs.Step.{Gives, Traps, act, does, seen, defined, given, numbered, with_core, place_value, result_at}
 use Rattle.sem_mir.specs.Step.{pair_value}
-use Rattle.sem_mir.specs.Step.{mark_value, part_of, read, are_written, do_item}
+use Rattle.sem_mir.specs.Step.{mark_value, part_of, are_written, do_item}
 use Rattle.sem_mir.specs.Effects.{EndAlike}
 use Rattle.sem_mir.proofs.Outcomes.{alike_with, alike_either}
 use Rattle.frame_rule.specs.Rule.{renamed_operand, renamed_code, renamed_place, renamed_kind}
 use Rattle.frame_rule.proofs.Rows.{renamed_row, row_renamed, IsOther, reads_other}
-use Rattle.frame_proof.proofs.Cores.{Beside, act_near, written_near, reads_near, result_near}
+use Rattle.frame_proof.proofs.Cores.{Beside, AreAbove, act_near, written_near, result_near}
 
 call_same : (slots : List ℕ) (r : Row) → is_call (renamed_row slots r) ≡ is_call r
 call_same slots (Calls call) = refl
@@ -100,11 +101,11 @@ module _ (slots : List ℕ) (saved todo : List SavedRegister) where
     place_near (Some (Const z)) c d k h = refl
 
     -- an item does the same with its slots named by their offsets
-    pub item_near : (k : ItemKind) (c d : Core) → LeavesPointer k → SlotsIn slots k → Near c d →
+    pub item_near : AreAbove slots saved → (k : ItemKind) (c d : Core) → LeavesPointer k → SlotsIn slots k → Near c d →
         EndAlike Near (do_item f k c) (do_item g (renamed_kind slots k) d)
-    item_near (Code i n) c d a j h =
+    item_near above (Code i n) c d a j h =
         let core : EndAlike Near (act (row_of i) c) (act (renamed_row slots (row_of i)) d) =
-        act_near slots saved IsOther todo c d h (row_of i) (reads_other i a) j in
+        act_near slots saved IsOther todo above c d h (row_of i) (reads_other i a) j.0 (passed_slots slots i j.1) in
         let both : EndAlike Near (with_core (numbered false (is_call (row_of i)) n i.operands) (act (row_of i) c))
         (with_core (numbered false (is_call (row_of i)) n (map (renamed_operand slots) i.operands)) (act (renamed_row slots (row_of i)) d)) =
         alike_with Near Near _ _ (numbered_near (is_call (row_of i)) n i.operands) (act (row_of i) c) (act (renamed_row slots (row_of i)) d) core in
@@ -125,7 +126,7 @@ module _ (slots : List ℕ) (saved todo : List SavedRegister) where
         (subst (λ (b : Bool). EndAlike Near (with_core (numbered false (is_call (row_of i)) n i.operands) (act (row_of i) c))
         (with_core (numbered b (is_call (row_of (renamed_code slots i))) n (map (renamed_operand slots) i.operands)) (act (row_of (renamed_code slots i)) d)))
         (sym blind_g) row)
-    item_near (Mark v m) c d a j h =
+    item_near above (Mark v m) c d a j h =
         let e = mark_near m c d h in
         let w : c.marks ≡ d.marks = ap (λ (z : Core). z.marks) h.same in
         record {
@@ -135,7 +136,7 @@ module _ (slots : List ℕ) (saved todo : List SavedRegister) where
           held = h.held;
           written = h.written;
         }
-    item_near (Phi p k) c d a j h =
+    item_near above (Phi p k) c d a j h =
         let e = place_near p c d j h in
         let w = pairs_near c d h in
         record {

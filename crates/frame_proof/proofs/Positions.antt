@@ -13,12 +13,12 @@ use Rattle.mir_func.specs.declared.position.Origin.TheVariants.{Before}
 use Rattle.mir_func.specs.declared.position.Pos.{Pos}
 use Rattle.mir_func.specs.Exits.{row_leads_back, leads_back}
 use Rattle.mir_func.specs.Function.{Function, FramedFunction}
-use Rattle.mir_func.specs.Graph.{Program, Fetch, Here, EndOfBlock, Outside, framed_program, is_return}
+use Rattle.mir_func.specs.Graph.{Program, Fetch, Here, EndOfBlock, Outside, framed_program, is_return, rest_in}
 use Rattle.mir_func.specs.SoundFrame.{SAVED, adds_to_pointer, saves, restores, epilogue_code}
 use Rattle.mir_func.specs.Positions.{position_of}
 use Rattle.sem_mir.specs.State.{Core, content}
 use Rattle.sem_simulation.specs.MatchStates.{Laid, IsPastItems}
-use Rattle.sem_simulation.proofs.Laid.{rest_in, laid_out_framed}
+use Rattle.sem_simulation.proofs.Laid.{laid_out_framed}
 use Rattle.frame_rule.specs.Rule.{saved_places, saved_of, size_of, added, added_all, epilogue, renamed, framed_item, framed_items}
 use Rattle.frame_rule.specs.Rule.{framed_of}
 use Rattle.frame_proof.specs.Stands.{FrameState, is_as_found, frame_state, IsSaved, FrameStands}

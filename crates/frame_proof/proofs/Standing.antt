@@ -23,7 +23,7 @@ use Rattle.mir_func.specs.declared.position.Origin.TheVariants.{Before}
 use Rattle.mir_func.specs.declared.position.Pos.{Pos}
 use Rattle.mir_func.specs.Exits.{row_exit, exit_of, leads_back}
 use Rattle.mir_func.specs.Function.{Function}
-use Rattle.mir_func.specs.Graph.{Program, Fetch, Here, EndOfBlock, Outside, below, block_start, from_block, index_of, framed_program}
+use Rattle.mir_func.specs.Graph.{Program, Fetch, Here, EndOfBlock, Outside, below, block_start, from_block, index_of, framed_program, rest_in, rest_of}
 use Rattle.mir_func.specs.Sound.{SlotsIn}
 use Rattle.mir_func.specs.SoundFrame.{SAVED, adds_to_pointer, saves, restores, prologue_code, epilogue_code, body_of}
 use Rattle.mir_func.proofs.Leading.{leads_out}
@@ -36,7 +36,7 @@ use Rattle.sem_mir.specs.Effects.{OnCore}
 use Rattle.sem_mir.proofs.Outcomes.{on_either}
 use Rattle.sem_mir.proofs.Places.{put_same, put_other, updated_same, updated_other, contains_head, contains_tail}
 use Rattle.sem_simulation.specs.MatchStates.{Laid, IsPastItems}
-use Rattle.sem_simulation.proofs.Laid.{rest_in, rest_of, laid_out_framed}
+use Rattle.sem_simulation.proofs.Laid.{laid_out_framed}
 use Rattle.frame_rule.specs.Rule.{saved_places, saved_registers, saved_of, size_of, sets_register, added, added_all, prologue}
 use Rattle.frame_rule.specs.Rule.{epilogue, renamed, renamed_code, renamed_kind, framed_item, framed_items, framed_block, framed_blocks}
 use Rattle.frame_rule.specs.Rule.{prologue_block}

@@ -2,9 +2,9 @@
 use Rattle.std.proofs.Common.{◌≡◌, ℕ, zero, suc, ◌<◌, ℤ, pos, ◌-ℤ◌, List, [], ◌∷◌, ◌++◌, map, All, Contains}
 use Rattle.std.proofs.Common.{Option, Some, None, Bool, true, false, cond, refl, sym, ap, ◌∙◌, subst, arith}
 use Rattle.std.proofs.lemmas.List.Concat.{flat_map-cons}
-use Rattle.std.proofs.lemmas.List.Elements.{All-nil, All-cons, All-head, All-tail, All-append}
+use Rattle.std.proofs.lemmas.List.Elements.{All-nil, All-cons, All-head, All-tail, All-append, All-map, All-weaker}
 use Rattle.rv64_instr.specs.declared.operand.Operand.{Operand}
-use Rattle.rv64_instr.specs.declared.operand.Operand.TheVariants.{Def, Use, ImplicitDef, ImplicitUse, Imm, Slot}
+use Rattle.rv64_instr.specs.declared.operand.Operand.TheVariants.{Def, Use, ImplicitDef, ImplicitUse, Imm, Slot, Outgoing}
 use Rattle.rv64_instr.specs.declared.place.Place.{Place}
 use Rattle.rv64_instr.specs.declared.place.Place.TheVariants.{Register, Slot as InSlot, Const}
 use Rattle.rv64_instr.specs.Arithmetic.{word}
@@ -22,7 +22,7 @@ use Rattle.mir_func.specs.declared.position.Origin.TheVariants.{Before}
 use Rattle.mir_func.specs.Exits.{row_exit, exit_of, row_leads_back, leads_back}
 use Rattle.mir_func.specs.Function.{Function, FramedFunction}
 use Rattle.mir_func.specs.Graph.{block_start}
-use Rattle.mir_func.specs.Sound.{AllItems, TargetIn, TargetsIn, SlotIn, SlotsIn, PlaceIn, ObjectIn, ObjectsIn, IsNotPointer}
+use Rattle.mir_func.specs.Sound.{AllItems, TargetIn, TargetsIn, SlotIn, PassedIn, SlotsIn, PlaceIn, ObjectIn, ObjectsIn, IsNotPointer}
 use Rattle.mir_func.specs.SoundFrame.{IsPhysical, PlaceIsPhysical, HasPhysical, slot_offsets, adds_to_pointer, saves, restores, prologue_code}
 use Rattle.mir_func.specs.SoundFrame.{epilogue_code}
 use Rattle.mir_func.specs.Positions.{position_of}
@@ -65,6 +65,15 @@ slot_in : (f : Function) (r : Row) → SlotIn f.slots r → SlotIn (slot_offsets
 slot_in f (LoadsSlot rd n) h = slot_has_offset f n h
 slot_in f (StoresSlot rs n) h = slot_has_offset f n h
 slot_in f _ h = h
+
+passed_in : (f : Function) (o : Operand) → PassedIn f.slots o → PassedIn (slot_offsets (framed_of f)) (renamed_operand f.slots o)
+passed_in f (Outgoing n) h = slot_has_offset f n h
+passed_in f (Slot n) h = tt
+passed_in f _ h = h
+
+none_passed : (offsets : List ℕ) (a b : Operand) (z : ℤ) → PassedIn offsets a → PassedIn offsets b → All (PassedIn offsets) (a ∷ b ∷ Imm z ∷ [])
+none_passed offsets a b z x y =
+    let P = PassedIn offsets in All-cons P a (b ∷ Imm z ∷ []) x (All-cons P b (Imm z ∷ []) y (All-cons P (Imm z) [] tt (All-nil P)))
 
 adds_slot : (offsets : List ℕ) (n : ℕ) → SlotIn offsets (add_row 2 2 n)
 adds_slot offsets zero = tt
@@ -184,13 +193,14 @@ module _ (f : Function) where
 
   -- ---- the parts of being framed
 
-  pub slots_hold : (bs : List Block) → AllItems (λ i. SlotsIn f.slots i.kind) bs → AllItems (λ i. SlotsIn (slot_offsets F) i.kind) (framed_blocks f bs)
+  pub slots_hold : (bs : List Block) → AllItems (λ i. SlotsIn f.slots i.kind) bs →
+      AllItems (λ i. SlotsIn (slot_offsets F) i.kind) (framed_blocks f bs)
   slots_hold bs h =
       blocks_all (SlotsIn (slot_offsets F)) (record {
-        lowers = adds_slot (slot_offsets F) (word (pos 0 -ℤ pos size));
-        raises = adds_slot (slot_offsets F) (word (pos size));
-        saving = λ s k. saved_has_offset f s k;
-        loading = λ s k. saved_has_offset f s k;
+        lowers = (adds_slot (slot_offsets F) (word (pos 0 -ℤ pos size)), none_passed (slot_offsets F) (Def 2) (Use 2) (pos 0 -ℤ pos size) tt tt);
+        raises = (adds_slot (slot_offsets F) (word (pos size)), none_passed (slot_offsets F) (Def 2) (Use 2) (pos size) tt tt);
+        saving = λ s k. (saved_has_offset f s k, none_passed (slot_offsets F) (Use s.register) (Slot s.offset) (pos 0) tt tt);
+        loading = λ s k. (saved_has_offset f s k, none_passed (slot_offsets F) (Def s.register) (Slot s.offset) (pos 0) tt tt);
       }) (λ i. SlotsIn f.slots i.kind) (λ i k. by_kind i.kind k) bs h where
         by_place : (p : Option Place) → PlaceIn f.slots p → PlaceIn (slot_offsets F) (renamed_place slots p)
         by_place None k = tt
@@ -199,7 +209,11 @@ module _ (f : Function) where
         by_place (Some (Const c)) k = tt
 
         by_kind : (k : ItemKind) → SlotsIn f.slots k → SlotsIn (slot_offsets F) (renamed_kind slots k)
-        by_kind (Code i n) k = subst (SlotIn (slot_offsets F)) (sym (row_renamed slots i)) (slot_in f (row_of i) k)
+        by_kind (Code i n) k = (
+          subst (SlotIn (slot_offsets F)) (sym (row_renamed slots i)) (slot_in f (row_of i) k.0),
+          All-map (PassedIn (slot_offsets F)) (renamed_operand slots) i.operands
+              (All-weaker (PassedIn slots) (λ (o : Operand). PassedIn (slot_offsets F) (renamed_operand slots o)) (passed_in f) i.operands k.1),
+        )
         by_kind (Mark v m) k = tt
         by_kind (Phi p n) k = by_place p k
 

@@ -8,17 +8,21 @@ use Rattle.rv64_instr.specs.declared.op.Op.TheVariants.{PseudoTail, PseudoTailIn
 use Rattle.rv64_instr.specs.declared.op.ImmediateOp.{ImmediateOp}
 use Rattle.rv64_instr.specs.declared.op.ImmediateOp.TheVariants.{Addi}
 use Rattle.rv64_instr.specs.declared.operand.Operand.{Operand}
-use Rattle.rv64_instr.specs.declared.operand.Operand.TheVariants.{Def, Use, ImplicitUse, Imm, Slot, Object, Part, Block, Symbol}
+use Rattle.rv64_instr.specs.declared.operand.Operand.TheVariants.{Def, Use, ImplicitUse, Imm, Slot, Object, Part, Block, Symbol, Outgoing}
 use Rattle.rv64_instr.specs.Arithmetic.{word}
 use Rattle.rv64_instr.specs.Instruction.{Instruction}
 use Rattle.rv64_instr.specs.Row.{Row, Fixes, Moves, Sets, Addresses, Loads, Stores, LoadsSlot, StoresSlot, Branches, Jumps, Calls, Returns, Unfit, row_of}
-use Rattle.rv64_instr.specs.Row.{row_by, Named, Back}
+use Rattle.rv64_instr.specs.Row.{row_by, Named, Back, CallSite, outgoing_words}
 use Rattle.rv64_instr.specs.Row.{move_row, immediate_row, object_row, implicit_uses, held_call, held_tail, held_gone, Tail, Never}
 use Rattle.rv64_instr.specs.DefsAndUses.{reads}
 use Rattle.mir_func.specs.Sound.{IsNotPointer}
 use Rattle.frame_rule.specs.Rule.{slot_offset, renamed_operand, renamed_code}
 
--- the row with its slot named by its offset
+-- the call with the slots that it passes named by their offsets
+abbrev pub renamed_call : List ℕ → CallSite → CallSite
+renamed_call slots call = record { callee = call.callee; args = call.args; outgoing = map (slot_offset slots) call.outgoing }
+
+-- the row with its slots named by their offsets
 abbrev pub renamed_row : List ℕ → Row → Row
 renamed_row slots (LoadsSlot rd n) = LoadsSlot rd (slot_offset slots n)
 renamed_row slots (StoresSlot rs n) = StoresSlot rs (slot_offset slots n)
@@ -30,7 +34,7 @@ renamed_row slots (Loads rd op b o) = Loads rd op b o
 renamed_row slots (Stores op rs b o) = Stores op rs b o
 renamed_row slots (Branches op a b t) = Branches op a b t
 renamed_row slots (Jumps t) = Jumps t
-renamed_row slots (Calls call) = Calls call
+renamed_row slots (Calls call) = Calls (renamed_call slots call)
 renamed_row slots (Returns v) = Returns v
 renamed_row slots Unfit = Unfit
 
@@ -42,6 +46,12 @@ module _ (slots : List ℕ) where
   uses_same [] = refl
   uses_same (ImplicitUse r ∷ os) = ap (λ (z : List ℕ). cond (nat_eq r 2) z (r ∷ z)) (uses_same os)
   uses_same (_ ∷ os) = uses_same os
+
+  words_same : (os : List Operand) → outgoing_words (others os) ≡ map (slot_offset slots) (outgoing_words os)
+  words_same [] = refl
+  words_same (Outgoing n ∷ os) = ap (λ (z : List ℕ). slot_offset slots n ∷ z) (words_same os)
+  words_same (Slot n ∷ os) = words_same os
+  words_same (_ ∷ os) = words_same os
 
   immediate_same : (op : ImmediateOp) (rd a n : ℕ) → immediate_row op rd a n ≡ renamed_row slots (immediate_row op rd a n)
   immediate_same Addi rd zero n = refl
@@ -57,9 +67,9 @@ module _ (slots : List ℕ) where
   move_same rd zero = refl
   move_same rd (suc r) = refl
 
-  held_call_same : (xs : List ℕ) → held_call xs ≡ renamed_row slots (held_call xs)
-  held_call_same [] = refl
-  held_call_same (r ∷ xs) = refl
+  held_call_same : (xs outgoing : List ℕ) → held_call xs (map (slot_offset slots) outgoing) ≡ renamed_row slots (held_call xs outgoing)
+  held_call_same [] outgoing = refl
+  held_call_same (r ∷ xs) outgoing = refl
 
   held_tail_same : (xs : List ℕ) → held_tail xs ≡ renamed_row slots (held_tail xs)
   held_tail_same [] = refl
@@ -83,9 +93,15 @@ module _ (slots : List ℕ) where
   by_op (Store op) (Use rs ∷ Object n ∷ Imm i ∷ rest) = refl
   by_op Copy (Def rd ∷ Use rs ∷ rest) = move_same rd rs
   by_op PseudoBr (Block target ∷ rest) = refl
-  by_op PseudoCall (Symbol name ∷ rest) = ap (λ (rs : List ℕ). Calls (record { callee = Named name; args = rs })) (uses_same rest)
+  by_op PseudoCall (Symbol name ∷ rest) =
+      let a = uses_same rest in
+      let b = words_same rest in
+      λ i. Calls (record { callee = Named name; args = a i; outgoing = b i })
   by_op PseudoRet os = ap (λ (rs : List ℕ). Returns (record { way = Back; values = rs })) (uses_same os)
-  by_op PseudoCallIndirect os = ap held_call (uses_same os) ∙ held_call_same (implicit_uses os)
+  by_op PseudoCallIndirect os =
+      let a = uses_same os in
+      let b = words_same os in
+      (λ i. held_call (a i) (b i)) ∙ held_call_same (implicit_uses os) (outgoing_words os)
   by_op PseudoTail (Symbol name ∷ rest) = ap (λ (rs : List ℕ). Returns (record { way = Tail (Named name); values = rs })) (uses_same rest)
   by_op PseudoTailIndirect os = ap held_tail (uses_same os) ∙ held_tail_same (implicit_uses os)
   by_op NoReturnCall (Symbol name ∷ rest) = ap (λ (rs : List ℕ). Returns (record { way = Never (Named name); values = rs })) (uses_same rest)
@@ -140,9 +156,9 @@ move_other : (rd rs : ℕ) → IsOther rs → All IsOther (reads (move_row rd rs
 move_other rd zero h = none
 move_other rd (suc r) h = one (suc r) h
 
-held_call_other : (xs : List ℕ) → All IsOther xs → All IsOther (reads (held_call xs))
-held_call_other [] h = none
-held_call_other (r ∷ xs) h = h
+held_call_other : (xs outgoing : List ℕ) → All IsOther xs → All IsOther (reads (held_call xs outgoing))
+held_call_other [] outgoing h = none
+held_call_other (r ∷ xs) outgoing h = h
 
 held_tail_other : (xs : List ℕ) → All IsOther xs → All IsOther (reads (held_tail xs))
 held_tail_other [] h = none
@@ -175,7 +191,7 @@ reads_by Copy (Def rd ∷ Use rs ∷ rest) h = move_other rd rs (second (Def rd)
 reads_by PseudoBr (Block target ∷ rest) h = none
 reads_by PseudoCall (Symbol name ∷ rest) h = uses_other rest
 reads_by PseudoRet os h = uses_other os
-reads_by PseudoCallIndirect os h = held_call_other (implicit_uses os) (uses_other os)
+reads_by PseudoCallIndirect os h = held_call_other (implicit_uses os) (outgoing_words os) (uses_other os)
 reads_by PseudoTail (Symbol name ∷ rest) h = uses_other rest
 reads_by PseudoTailIndirect os h = held_tail_other (implicit_uses os) (uses_other os)
 reads_by NoReturnCall (Symbol name ∷ rest) h = uses_other rest

@@ -9,7 +9,7 @@ use Rattle.std.specs.Prelude.{ℕ, zero, suc, ◌+◌, ◌*◌, Bool, false, con
 use Rattle.std.specs.List.{flat_map, list_any}
 use Rattle.rv64_instr.specs.declared.operand.Operand.{Operand}
 use Rattle.rv64_instr.specs.declared.operand.Operand.TheVariants.{Def, Use, ImplicitDef, ImplicitUse, Imm, Slot, Object as OfObject, Part, Block as OfBlock}
-use Rattle.rv64_instr.specs.declared.operand.Operand.TheVariants.{Symbol, Mask}
+use Rattle.rv64_instr.specs.declared.operand.Operand.TheVariants.{Symbol, Mask, Outgoing}
 use Rattle.rv64_instr.specs.declared.place.Place.{Place}
 use Rattle.rv64_instr.specs.declared.place.Place.TheVariants.{Register, Slot as InSlot, Const}
 use Rattle.rv64_instr.specs.Instruction.{Instruction}
@@ -103,9 +103,10 @@ epilogue f o = added_all (size_of f) (Before (position_of o)) (epilogue_code (si
 
 -- ---- what is kept
 
--- a slot operand becomes the slot's offset from x2, and every other operand is unchanged
+-- a slot that an operand names becomes the slot's offset from x2, and every other operand is unchanged
 abbrev pub renamed_operand : List ℕ → Operand → Operand
 renamed_operand slots (Slot n) = Slot (slot_offset slots n)
+renamed_operand slots (Outgoing n) = Outgoing (slot_offset slots n)
 renamed_operand slots (Def r) = Def r
 renamed_operand slots (Use r) = Use r
 renamed_operand slots (ImplicitDef r) = ImplicitDef r

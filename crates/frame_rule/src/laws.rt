@@ -2,8 +2,8 @@
 
 ghost use Rattle.frame_rule.specs.Sound.{LoweredIsFramed};
 
-/// A sound function without virtual registers, whose frame isn't too large, satisfies after frame lowering what every
-/// function with a frame must.
+/// A sound function without virtual registers, whose frame and arguments on the stack reach at most 2,032 bytes above
+/// x2, satisfies after frame lowering what every function with a frame must.
 pub fn lowered_is_framed()
     ensures { LoweredIsFramed }
 {}

@@ -1,6 +1,6 @@
 -- What a callee leaves as it is, and what places hold meanwhile.
-use Rattle.std.proofs.Common.{◌≡◌, ◌⊎◌, ◌≤◌, ℕ, zero, suc, ◌+◌, ◌-◌, ◌%◌, ◌^◌, List, [], ◌∷◌, Contains, Option, Some, Bool, true, false, cond}
-use Rattle.std.proofs.Common.{◌&&◌, ◌||◌, map, nat_lt, refl, sym, ap, ◌∙◌, subst, inl, inr, arith, le-ltb}
+use Rattle.std.proofs.Common.{◌≡◌, ◌⊎◌, ℕ, zero, suc, ◌+◌, ◌-◌, ◌%◌, ◌^◌, List, [], ◌∷◌, Contains, Option, Some, Bool, true, false, cond}
+use Rattle.std.proofs.Common.{◌&&◌, ◌||◌, nat_lt, refl, sym, ap, ◌∙◌, subst, inl, inr, arith, le-ltb}
 use Rattle.rv64_instr.specs.declared.place.Place.{Place}
 use Rattle.rv64_instr.specs.declared.place.Place.TheVariants.{Register, Slot, Const}
 use Rattle.rv64_instr.specs.DefsAndUses.{caller_saved}
@@ -19,10 +19,10 @@ use Rattle.sem_mir.specs.Step.{or_zero}
 use Rattle.sem_mir.specs.ValueId.{Token, Tokens, Path, place_token}
 use Rattle.sem_mir.proofs.Places.{updated_other}
 use Rattle.sem_machine.specs.Headline.{AlignsWith, FailsBeforeLine, Headline}
-use Rattle.sem_machine.specs.Image.{CodeLine}
+use Rattle.sem_machine.specs.Image.{CodeLine, word_at}
 use Rattle.sem_machine.specs.Machine.{Machine, register, register_in, set_in, set_all_in, address_of, place_content}
-use Rattle.sem_machine.specs.MachineStep.{Continues, machine_step, does_at, does_line, step_call, called_at, callee_size, left_below}
-use Rattle.sem_machine.specs.MachineStep.{memory_after}
+use Rattle.sem_machine.specs.MachineStep.{Stepped, Continues, BadWord, machine_step, does_at, does_line, does_call, goes_to, step_call, called_at, callee_size}
+use Rattle.sem_machine.specs.MachineStep.{left_below, memory_after, passed, in_words, is_callees}
 use Rattle.frame_rule.specs.Rule.{framed_of}
 use Rattle.machine_steps_proof.specs.Beside.{frame_low}
 use Rattle.machine_steps_proof.specs.Pointer.{lowered_by}
@@ -65,17 +65,21 @@ written_other (w ∷ ws) memory entry area a out is =
     written_other ws (updated w.0 w.1 memory) entry area a parts.1 is
     ∙ updated_other w.0 a w.1 memory (λ same. (let bad : true ≡ false = sym is ∙ ap (in_frame entry area) same ∙ parts.0 in cc))
 
--- bytes from the stack pointer up
-left_other : (ws : List (ℕ × ℕ)) (memory : ℕ → ℕ) (entry area pointer a : ℕ) → pointer ≤ a → left_below entry area pointer memory ws a ≡ memory a
-left_other [] memory entry area pointer a above = refl
-left_other (w ∷ ws) memory entry area pointer a above =
-    left_other ws (cond (in_frame entry area w.0 && nat_lt w.0 pointer) (updated w.0 w.1 memory) memory) entry area pointer a above
-    ∙ by_test (in_frame entry area w.0) (nat_lt w.0 pointer) refl where
-      by_test : (x y : Bool) → nat_lt w.0 pointer ≡ y → cond (x && y) (updated w.0 w.1 memory) memory a ≡ memory a
-      by_test false y e = refl
-      by_test true false e = refl
-      by_test true true e = updated_other w.0 a w.1 memory
-          (λ same. (let bad : false ≡ true = sym (le-ltb w.0 pointer (subst (λ (n : ℕ). pointer ≤ n) same above)) ∙ e in cc))
+-- bytes that aren't the callee's
+left_other : (ws : List (ℕ × ℕ)) (memory : ℕ → ℕ) (entry area pointer : ℕ) (outgoing : List ℕ) (a : ℕ) → is_callees entry area pointer outgoing a ≡ false →
+    left_below entry area pointer outgoing memory ws a ≡ memory a
+left_other [] memory entry area pointer outgoing a spared = refl
+left_other (w ∷ ws) memory entry area pointer outgoing a spared =
+    left_other ws (cond (is_callees entry area pointer outgoing w.0) (updated w.0 w.1 memory) memory) entry area pointer outgoing a spared
+    ∙ by_test (is_callees entry area pointer outgoing w.0) refl where
+      by_test : (x : Bool) → is_callees entry area pointer outgoing w.0 ≡ x → cond x (updated w.0 w.1 memory) memory a ≡ memory a
+      by_test false e = refl
+      by_test true e = updated_other w.0 a w.1 memory
+          (λ same. (let bad : true ≡ false = sym e ∙ sym (ap (is_callees entry area pointer outgoing) same) ∙ spared in cc))
+
+not_callees : (x y z : Bool) → y ≡ false → z ≡ false → (x && (y || z)) ≡ false
+not_callees true y z e g = λ i. e i || g i
+not_callees false y z e g = refl
 
 one_machine : (a b : Machine) → Continues a ≡ Continues b → a ≡ b
 one_machine a b e = cc
@@ -86,31 +90,41 @@ answered m call reply rest =
     record m {
       counter = m.counter + callee_size call.callee;
       regs = set_all_in caller_saved reply.regs m.regs;
-      memory = memory_after reply m;
+      memory = memory_after call.outgoing reply m;
       script = rest;
-      events = Called (called_at m call.callee) (map (register m) call.args) ∷ m.events;
+      events = Called (called_at m call.callee) (passed m call) ∷ m.events;
     }
 
 pub calls_keep_caller : CallsKeepCaller
 calls_keep_caller image m n l call reply rest line calls script out goes =
-    subst (KeepsCaller m) (one_machine (answered m call reply rest) n (sym stepped ∙ goes)) kept where
+    subst (KeepsCaller call.outgoing m) (one_machine (answered m call reply rest) n (sym stepped ∙ goes)) kept where
+      there : machine_step image m ≡ does_call call (word_at image.text m.counter) m
+      there = ap (λ (x : Option CodeLine). does_at image x m) line ∙ ap (λ (x : Option CallSite). does_line image l x m) calls
+
+      -- a word that doesn't go to the callee stops the machine
+      is_call : (b : Bool) (x : Stepped) → cond b x BadWord ≡ Continues n → cond b x BadWord ≡ x
+      is_call true x e = refl
+      is_call false x e = cc
+
       stepped : machine_step image m ≡ Continues (answered m call reply rest)
       stepped =
-          ap (λ (x : Option CodeLine). does_at image x m) line ∙ ap (λ (x : Option CallSite). does_line image l x m) calls
-          ∙ ap (step_call (callee_size call.callee) (called_at m call.callee) (map (register m) call.args) m) script
+          there ∙ is_call (goes_to 1 call.callee m.counter (word_at image.text m.counter)) _ (sym there ∙ goes)
+          ∙ ap (step_call (callee_size call.callee) (called_at m call.callee) (passed m call) call.outgoing m) script
 
-      kept : KeepsCaller m (answered m call reply rest)
+      kept : KeepsCaller call.outgoing m (answered m call reply rest)
       kept = record {
         registers = λ r free. set_all_other caller_saved reply.regs r m.regs free;
-        frame = λ a is above.
-            left_other reply.below (written m.memory reply.writes) m.entry m.area (register m 2) a above
+        frame = λ a is above apart.
+            left_other reply.below (written m.memory reply.writes) m.entry m.area (register m 2) call.outgoing a
+            (not_callees (in_frame m.entry m.area a) (nat_lt a (register m 2)) (in_words call.outgoing (a - register m 2)) (le-ltb a (register m 2) above)
+            apart)
             ∙ written_other reply.writes m.memory m.entry m.area a out is;
       }
 
 -- ---- places
 
 module _ (f : FramedFunction) (framed : IsFramed f) (resolve : OperandPair → Option OperandPair) (e : Core) (p : Pos) (m : Machine)
-    (is : StandsBeside f e p m) (k : Machine) (keeps : KeepsCaller m k) where
+    (is : StandsBeside f e p m) (outgoing : List ℕ) (k : Machine) (keeps : KeepsCaller outgoing m k) where
   not_two : Contains caller_saved 2 → ⊥
   not_two (i, inside, same) = grind (arith, i, inside, same)
 
@@ -120,8 +134,8 @@ module _ (f : FramedFunction) (framed : IsFramed f) (resolve : OperandPair → O
       is.beside.regs 2 ∙ ap or_zero is.stands.pointer ∙ ap (λ (n : ℕ). e.entry - n) (lowered_alike f p ∙ up)
       ∙ ap (λ (n : ℕ). n - f.size) (sym is.entry)
 
-  slot_kept : (o : ℕ) → IsSlotOffset f o → lowered_by f p ≡ f.size → place_content (Slot o) k ≡ place_content (Slot o) m
-  slot_kept o offset up =
+  slot_kept : (o : ℕ) → IsSlotOffset f o → lowered_by f p ≡ f.size → IsKeptPlace outgoing (Slot o) → place_content (Slot o) k ≡ place_content (Slot o) m
+  slot_kept o offset up apart =
       let c = is.core in
       let low = at_low up in
       let room = slot_room f framed c m is.beside o offset in
@@ -133,17 +147,19 @@ module _ (f : FramedFunction) (framed : IsFramed f) (resolve : OperandPair → O
       (λ j small. keeps.frame (((frame_low f c + o) + j) % 2 ^ 64)
       (ap (λ (n : ℕ). in_frame n m.area (((frame_low f c + o) + j) % 2 ^ 64)) is.beside.same_entry
       ∙ ap (λ (n : ℕ). in_frame c.entry n (((frame_low f c + o) + j) % 2 ^ 64)) is.beside.same_area ∙ slot_byte f framed c m is.beside o j offset small)
-      (omega (arith, low, room, top, small)))
+      (omega (arith, low, room, top, small))
+      (ap (in_words outgoing) (let far : ((frame_low f c + o) + j) % 2 ^ 64 - register m 2 ≡ o + j = omega (arith, low, room, top, small) in far) ∙ apart j
+      small))
       ∙ ap (λ (a : ℕ). spelled m.memory a 8) (sym at)
 
   -- a place with a token holds in k what it holds in m
   pub place_kept : {n : ℕ} {t : Tokens} → Path (framed_program f.blocks resolve) (block_start 0) n p t → (place : Place) (q : Token) →
-      place_token (Some place) t ≡ Some q → IsKeptPlace place → place_content place k ≡ place_content place m
+      place_token (Some place) t ≡ Some q → IsKeptPlace outgoing place → place_content place k ≡ place_content place m
   place_kept path (Register r) q at kept = keeps.registers r kept
-  place_kept path (Slot o) q at kept = slot_kept o (slot_offset f framed resolve path o q at) (slot_up f framed resolve path o q at)
+  place_kept path (Slot o) q at kept = slot_kept o (slot_offset f framed resolve path o q at) (slot_up f framed resolve path o q at) kept
   place_kept path (Const c) q at kept = refl
 
-  pub wanted_kept : (v : VarId) (place : Place) → IsPreferredLocation (framed_program f.blocks resolve) (block_start 0) v p place → IsKeptPlace place →
+  pub wanted_kept : (v : VarId) (place : Place) → IsPreferredLocation (framed_program f.blocks resolve) (block_start 0) v p place → IsKeptPlace outgoing place →
       place_content place k ≡ place_content place m
   wanted_kept v place wanted kept =
       let reached = wanted.sits.reached in
@@ -151,24 +167,25 @@ module _ (f : FramedFunction) (framed : IsFramed f) (resolve : OperandPair → O
       place_kept reached.2 place sits.0 sits.2 kept
 
 -- what is owed at a line
-abbrev IsHeld : (lists : VarId → (address : ℕ) → Place → Type 0) → Function → (OperandPair → Option OperandPair) → (m k : Machine) → State → Since →
-    CodeLine → Type 0
-IsHeld lists source resolve m k s since l =
-    ((s' : State) × AlignsWith (program_of true source.blocks resolve) l since s s' × HoldsKept lists m k s')
+abbrev IsHeld : (lists : VarId → (address : ℕ) → Place → Type 0) → Function → (OperandPair → Option OperandPair) → (outgoing : List ℕ) (m k : Machine) →
+    State → Since → CodeLine → Type 0
+IsHeld lists source resolve outgoing m k s since l =
+    ((s' : State) × AlignsWith (program_of true source.blocks resolve) l since s s' × HoldsKept lists outgoing m k s')
     ⊎ FailsBeforeLine (program_of true source.blocks resolve) l since s
 
 pub suspended_frames_hold : (lists : VarId → (address : ℕ) → Place → Type 0) → SuspendedFramesHold lists
-suspended_frames_hold lists source f resolve fresolve image h physical small is wanted s0 starts m s since l along line k keeps =
+suspended_frames_hold lists source f resolve fresolve image h physical small is wanted s0 starts m s since l along line outgoing k keeps =
     elim (frames_stand source f resolve fresolve image h physical small is s0 starts m s since l along line)
-    as (λ _. IsHeld lists source resolve m k s since l) [
-      | inl at ↦ elim (headline.agrees s0 starts m s since l along line) as (λ _. IsHeld lists source resolve m k s since l) [
+    as (λ _. IsHeld lists source resolve outgoing m k s since l) [
+      | inl at ↦ elim (headline.agrees s0 starts m s since l along line) as (λ _. IsHeld lists source resolve outgoing m k s since l) [
         | inl agrees ↦ inl (
           agrees.0,
           agrees.1,
           λ v place given kept.
               subst (λ (x : ℕ). Tells agrees.0 v (part_value v x))
-              (sym (wanted_kept (framed_of f) (framed source f resolve fresolve image h physical small is) fresolve s0.core at.point m at.stands k keeps v place
-              (wanted v m.counter place given at.point at.entry) kept)) (agrees.2.places v place given),
+              (sym (wanted_kept (framed_of f) (framed source f resolve fresolve image h physical small is) fresolve s0.core at.point m at.stands outgoing k
+              keeps
+              v place (wanted v m.counter place given at.point at.entry) kept)) (agrees.2.places v place given),
         )
         | inr fails ↦ inr fails
       ]

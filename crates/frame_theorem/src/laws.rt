@@ -29,7 +29,7 @@ pub fn followers_unwind()
 {}
 
 /// A call that is answered leaves the registers and the bytes that its callee has to keep, whatever the callee leaves
-/// below the stack pointer.
+/// in what it owns of the frame.
 pub fn calls_keep_caller()
     ensures { CallsKeepCaller }
 {}

@@ -10,7 +10,7 @@ use Rattle.rv64_instr.specs.declared.operand.Operand.{Operand}
 use Rattle.mir_func.specs.declared.exit.Exit.TheVariants.{Onward}
 use Rattle.mir_func.specs.declared.item.ItemKind.{ItemKind}
 use Rattle.mir_func.specs.Exits.{exit_of}
-use Rattle.mir_func.specs.Sound.{TargetsIn, SlotsIn, ObjectsIn, IsNotPointer, LeavesPointer}
+use Rattle.mir_func.specs.Sound.{TargetsIn, PassedIn, SlotsIn, ObjectsIn, IsNotPointer, LeavesPointer}
 use Rattle.gen_function.specs.Draws.{Drawn, next, draw}
 use Rattle.gen_function.specs.Items.{register_of, variable_of, add, copy, constant, store, load, phi, mark, branch, jump, return}
 use Rattle.gen_function.specs.Generator.{group_of, group, groups, beginning}
@@ -52,14 +52,19 @@ slot_there (suc (suc (suc (suc n)))) l = absurd (omega arith)
 apart_from : (n : ℕ) → ((n ≡ 2) → ⊥) → n ≡ 2 → ⊥
 apart_from n h = h
 
-one : (a : Operand) → IsNotPointer a → All IsNotPointer (a ∷ [])
-one a p = All-cons IsNotPointer a [] p (All-nil IsNotPointer)
+module _ (P : Operand → Type 0) where
+  one : (a : Operand) → P a → All P (a ∷ [])
+  one a p = All-cons P a [] p (All-nil P)
 
-two : (a b : Operand) → IsNotPointer a → IsNotPointer b → All IsNotPointer (a ∷ b ∷ [])
-two a b p q = All-cons IsNotPointer a (b ∷ []) p (one b q)
+  two : (a b : Operand) → P a → P b → All P (a ∷ b ∷ [])
+  two a b p q = All-cons P a (b ∷ []) p (one b q)
 
-three : (a b c : Operand) → IsNotPointer a → IsNotPointer b → IsNotPointer c → All IsNotPointer (a ∷ b ∷ c ∷ [])
-three a b c p q r = All-cons IsNotPointer a (b ∷ c ∷ []) p (two b c q r)
+  three : (a b c : Operand) → P a → P b → P c → All P (a ∷ b ∷ c ∷ [])
+  three a b c p q r = All-cons P a (b ∷ c ∷ []) p (two b c q r)
+
+-- no slot is passed
+abbrev Passed : Operand → Type 0
+Passed = PassedIn SLOTS
 
 -- ---- items, one by one
 
@@ -68,29 +73,45 @@ zero_apart e = omega arith
 
 plain_add : (ids : List ℕ) (a b c k : ℕ) → IsPlain ids (add (register_of a) (register_of b) (register_of c) k)
 plain_add ids a b c k = record {
-  fine = record { targets = tt; slots = tt; objects = tt; pointer = three _ _ _ (register_apart a) (register_apart b) (register_apart c) };
+  fine = record {
+    targets = tt;
+    slots = (tt, three Passed _ _ _ tt tt tt);
+    objects = tt;
+    pointer = three IsNotPointer _ _ _ (register_apart a) (register_apart b) (register_apart c);
+  };
   onward = refl;
 }
 
 pub plain_copy : (ids : List ℕ) (rd rs : ℕ) (k : Option ℕ) → (rd ≡ 2 → ⊥) → (rs ≡ 2 → ⊥) → IsPlain ids (copy rd rs k)
-plain_copy ids rd zero k p q = record { fine = record { targets = tt; slots = tt; objects = tt; pointer = two _ _ p q }; onward = refl }
-plain_copy ids rd (suc rs) k p q = record { fine = record { targets = tt; slots = tt; objects = tt; pointer = two _ _ p q }; onward = refl }
+plain_copy ids rd zero k p q = record {
+  fine = record { targets = tt; slots = (tt, two Passed _ _ tt tt); objects = tt; pointer = two IsNotPointer _ _ p q };
+  onward = refl;
+}
+plain_copy ids rd (suc rs) k p q = record {
+  fine = record { targets = tt; slots = (tt, two Passed _ _ tt tt); objects = tt; pointer = two IsNotPointer _ _ p q };
+  onward = refl;
+}
 
 plain_constant : (ids : List ℕ) (a n k : ℕ) → IsPlain ids (constant (register_of a) n k)
 plain_constant ids a n k = record {
-  fine = record { targets = tt; slots = tt; objects = tt; pointer = three _ _ _ (register_apart a) zero_apart tt };
+  fine = record { targets = tt; slots = (tt, three Passed _ _ _ tt tt tt); objects = tt; pointer = three IsNotPointer _ _ _ (register_apart a) zero_apart tt };
   onward = refl;
 }
 
 plain_store : (ids : List ℕ) (rs n : ℕ) → (rs ≡ 2 → ⊥) → n < 4 → IsPlain ids (store rs n)
 plain_store ids rs n p l = record {
-  fine = record { targets = tt; slots = slot_there n l; objects = tt; pointer = three _ _ _ p tt tt };
+  fine = record { targets = tt; slots = (slot_there n l, three Passed _ _ _ tt tt tt); objects = tt; pointer = three IsNotPointer _ _ _ p tt tt };
   onward = refl;
 }
 
 plain_load : (ids : List ℕ) (a n k : ℕ) → n < 4 → IsPlain ids (load (register_of a) n k)
 plain_load ids a n k l = record {
-  fine = record { targets = tt; slots = slot_there n l; objects = tt; pointer = three _ _ _ (register_apart a) tt tt };
+  fine = record {
+    targets = tt;
+    slots = (slot_there n l, three Passed _ _ _ tt tt tt);
+    objects = tt;
+    pointer = three IsNotPointer _ _ _ (register_apart a) tt tt;
+  };
   onward = refl;
 }
 
@@ -101,13 +122,18 @@ plain_mark : (ids : List ℕ) (n k : ℕ) → IsPlain ids (mark (variable_of n) 
 plain_mark ids n k = record { fine = record { targets = tt; slots = tt; objects = tt; pointer = tt }; onward = refl }
 
 pub fine_branch : (ids : List ℕ) (a n : ℕ) → Contains ids n → IsFine ids (branch (register_of a) n)
-fine_branch ids a n h = record { targets = h; slots = tt; objects = tt; pointer = three _ _ _ (register_apart a) zero_apart tt }
+fine_branch ids a n h = record {
+  targets = h;
+  slots = (tt, three Passed _ _ _ tt tt tt);
+  objects = tt;
+  pointer = three IsNotPointer _ _ _ (register_apart a) zero_apart tt;
+}
 
 pub fine_jump : (ids : List ℕ) (n : ℕ) → Contains ids n → IsFine ids (jump n)
-fine_jump ids n h = record { targets = h; slots = tt; objects = tt; pointer = one _ tt }
+fine_jump ids n h = record { targets = h; slots = (tt, one Passed _ tt); objects = tt; pointer = one IsNotPointer _ tt }
 
 pub fine_return : (ids : List ℕ) → IsFine ids return
-fine_return ids = record { targets = tt; slots = tt; objects = tt; pointer = one _ tt }
+fine_return ids = record { targets = tt; slots = (tt, one Passed _ tt); objects = tt; pointer = one IsNotPointer _ tt }
 
 -- ---- groups
 

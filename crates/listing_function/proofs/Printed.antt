@@ -194,7 +194,7 @@ module _ (inlined : ℕ → Option ℕ) (l : Layout) (framed : IsFramed l.framed
   instruction_printable : (c : Instruction) (k : Option ℕ) → has_form c.op c.operands ≡ true → IsPlaced l.framed (Code c k) → All HasNumbers c.operands →
       IsPrintableInstruction none (listed l.framed c)
   instruction_printable c k form placed numbers =
-      let lowered = operands_formed l.framed framed c.op c.operands form placed.0 placed.1 in
+      let lowered = operands_formed l.framed framed c.op c.operands form placed.0.0 placed.1 in
       record {
         form = lowered;
         numbers = numbers_by c.op c.operands numbers lowered;

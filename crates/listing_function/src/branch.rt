@@ -151,6 +151,7 @@ fn push_implicit(made: &mut Implicits, operand: &Operand) -> Result<(), AllocErr
         | Operand::Slot(_)
         | Operand::Object(_)
         | Operand::Part(_, _)
+        | Operand::Outgoing(_)
         | Operand::Block(_)
         | Operand::Symbol(_)
         | Operand::Mask => Ok(()),

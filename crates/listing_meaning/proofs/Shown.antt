@@ -52,7 +52,7 @@ module _ (l : Layout) (framed : IsFramed l.framed) where
   raised_back : (c : Instruction) (k : Option ℕ) → HasForm (Code c k) → IsSteady c.op c.operands → SlotsIn (slot_offsets l.framed) (Code c k) →
       ObjectsIn l.framed.objects (Code c k) → raised (frame_of l.framed) (Code (listed l.framed c) k) ≡ settled_kind l.framed (Code c k)
   raised_back c k form steady slots objects =
-      ap (λ (os : List Operand). Code (record { op = c.op; operands = os }) k) (operands_back l.framed framed c.op c.operands form steady slots objects)
+      ap (λ (os : List Operand). Code (record { op = c.op; operands = os }) k) (operands_back l.framed framed c.op c.operands form steady slots.0 objects)
 
   -- ---- one item
 

@@ -10,7 +10,7 @@ use Rattle.std.proofs.lemmas.Int.{ints}
 use Rattle.std.proofs.lemmas.List.{length-append}
 use Rattle.std.proofs.lemmas.List.Elements.{All-cons, All-nil, All-head, All-tail, All-append, All-contains, All-weaker}
 use Rattle.rv64_instr.specs.declared.operand.Operand.{Operand}
-use Rattle.rv64_instr.specs.declared.operand.Operand.TheVariants.{Def, Use, Imm, Slot}
+use Rattle.rv64_instr.specs.declared.operand.Operand.TheVariants.{Def, Use, Imm, Slot, Outgoing}
 use Rattle.rv64_instr.specs.declared.place.Place.{Place}
 use Rattle.rv64_instr.specs.declared.place.Place.TheVariants as place
 use Rattle.rv64_instr.specs.Instruction.{Instruction}
@@ -171,6 +171,7 @@ module _ (inlined : ℕ → Option ℕ) (f : Function) (body : IsPrintableBody i
 
   renamed_number : (o : Operand) → HasNumbers o → HasNumbers (renamed_operand f.slots o)
   renamed_number (Slot n) is = offset_small n
+  renamed_number (Outgoing n) is = offset_small n
   renamed_number _ is = is
 
   renamed_numbers : (os : List Operand) → All HasNumbers os → All HasNumbers (map (renamed_operand f.slots) os)

@@ -1,3 +1,4 @@
 pub mod Gathering
 pub mod Locating
 pub mod Giving
+pub mod OneLocation

@@ -3,3 +3,4 @@ pub mod Turning
 pub mod Saying
 pub mod Looking
 pub mod Walking
+pub mod OneList

@@ -5,6 +5,7 @@
 //! computes the lists of all variables.
 #![tactic(auto)]
 
+pub mod laws;
 pub mod places;
 pub mod ranges;
 pub mod track;

@@ -16,7 +16,7 @@ use Rattle.rv64_instr.specs.declared.operand.Operand.TheVariants.{Def, Use, Impl
 use Rattle.rv64_instr.specs.declared.place.Place.{Place}
 use Rattle.rv64_instr.specs.Arithmetic.{word}
 use Rattle.rv64_instr.specs.Form.{has_form, is_result}
-use Rattle.rv64_instr.specs.Row.{row_by, move_row, immediate_row, object_row, implicit_uses, held_call, held_tail, held_gone}
+use Rattle.rv64_instr.specs.Row.{row_by, move_row, immediate_row, object_row, implicit_uses, outgoing_words, held_call, held_tail, held_gone}
 use Rattle.rv64_instr.proofs.Tails.{tails_low, held_low, arguments_low, held_arguments_low}
 use Rattle.mir_func.specs.declared.block.Block.{Block}
 use Rattle.mir_func.specs.declared.debug_substitution.OperandPair.{OperandPair}
@@ -54,9 +54,9 @@ results_low (ImplicitUse r ∷ rest) e =
       by_test false here more = All-cons (λ (q : ℕ). q < 32) r (implicit_uses rest) here more
 results_low (_ ∷ rest) e = cc
 
-held_call_plain : (xs : List ℕ) → ResultsArePhysical (held_call xs)
-held_call_plain [] = tt
-held_call_plain (r ∷ xs) = tt
+held_call_plain : (xs outgoing : List ℕ) → ResultsArePhysical (held_call xs outgoing)
+held_call_plain [] outgoing = tt
+held_call_plain (r ∷ xs) outgoing = tt
 
 held_tail_low : (xs : List ℕ) → All (λ r. r < 32) xs → ResultsArePhysical (held_tail xs)
 held_tail_low [] h = tt
@@ -82,7 +82,7 @@ move_plain rd (suc r) = tt
 
 by_op : (op : Op) (os : List Operand) → IsTrue (has_form op os) → ResultsArePhysical (row_by op os)
 by_op PseudoRet os h = results_low os h
-by_op PseudoCallIndirect os h = held_call_plain (implicit_uses os)
+by_op PseudoCallIndirect os h = held_call_plain (implicit_uses os) (outgoing_words os)
 by_op PseudoTail (Symbol name ∷ rest) h = tails_low rest h
 by_op PseudoTailIndirect (ImplicitUse r ∷ rest) h = held_tail_low (implicit_uses (ImplicitUse r ∷ rest)) (held_low r rest h)
 by_op PseudoTailIndirect _ h = absurd cc

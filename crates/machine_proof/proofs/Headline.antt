@@ -36,9 +36,9 @@ use Rattle.machine_steps_proof.proofs.Sites.{step_lands}
 use Rattle.machine_proof.specs.Runs.{FallsTo, ComesFrom, start_beside, RunsBeside}
 use Rattle.machine_proof.proofs.Sources.{IsWritten, aligns_written}
 use Rattle.sem_mir.specs.Step.{Outcome, Falls, Goes, Gives, Traps, Asks, Breaks}
-use Rattle.sem_mir.specs.Step.{act, does, with_core, numbered, moved, do_item, exec_external_call, slot_loaded}
+use Rattle.sem_mir.specs.Step.{act, does, with_core, numbered, moved, do_item, exec_external_call, call_faults, passed, slot_loaded}
 use Rattle.sem_mir.specs.Step.{is_fault, address_at}
-use Rattle.sem_mir.specs.State.{Reply, writes_frame}
+use Rattle.sem_mir.specs.State.{Reply}
 use Rattle.mir_func.specs.Exits.{row_exit}
 use Rattle.rv64_instr.specs.Row.{Loads, Stores, LoadsSlot, Branches, Calls, Returns}
 use Rattle.rv64_instr.specs.Arithmetic.{taken, load_width, store_width}
@@ -75,9 +75,9 @@ loaded_gives : (P : Type 0) (c : Core) (rd : ℕ) (x : Option ℕ) → OnGives P
 loaded_gives P c rd None = tt
 loaded_gives P c rd (Some v) = tt
 
-answered_gives : (P : Type 0) (c : Core) (t : CallTarget) (args : List ℕ) (rs : List Reply) → OnGives P (exec_external_call t args c rs)
-answered_gives P c t args [] = tt
-answered_gives P c t args (x ∷ rs) = either_gives P (writes_frame c.entry c.area x.writes) Traps _ tt tt
+answered_gives : (P : Type 0) (c : Core) (t : CallTarget) (args outgoing : List ℕ) (rs : List Reply) → OnGives P (exec_external_call t args outgoing c rs)
+answered_gives P c t args outgoing [] = tt
+answered_gives P c t args outgoing (x ∷ rs) = either_gives P (call_faults c outgoing x) Traps _ tt tt
 
 row_gives : (r : Row) (c : Core) → OnGives (row_exit r ≡ Final) (does r c)
 unfolding does
@@ -85,7 +85,7 @@ row_gives (Loads rd op b o) c = either_gives _ (is_fault b c (address_at c b o) 
 row_gives (Stores op rs b o) c = either_gives _ (is_fault b c (address_at c b o) (store_width op)) Traps _ tt tt
 row_gives (LoadsSlot rd n) c = loaded_gives _ c rd (c.slots n)
 row_gives (Branches op a b t) c = either_gives _ (taken op (read c a) (read c b)) (Goes t c) (Falls c) tt tt
-row_gives (Calls call) c = answered_gives _ c (called_at c call.callee) (Rattle.std.proofs.Common.map (read c) call.args) c.script
+row_gives (Calls call) c = answered_gives _ c (called_at c call.callee) (passed c call) call.outgoing c.script
 row_gives (Returns v) c = refl
 row_gives _ c = tt
 

@@ -127,7 +127,7 @@ module _ (f : FramedFunction) (framed : IsFramed f) (resolve : OperandPair → O
   steps_quietly t m level i here c k kind harmless full =
       let slots = subst (SlotsIn (slot_offsets f)) kind (of_item f (λ (j : Item). SlotsIn (slot_offsets f) j.kind) framed.slots t.pos i here) in
       let physical = reads_physical c (subst HasPhysical kind (of_item f (λ (j : Item). HasPhysical j.kind) framed.physical t.pos i here)) in
-      let q = harmless_goes (row_of c) harmless slots t.core full in
+      let q = harmless_goes (row_of c) harmless slots.0 t.core full in
       let d : Core = numbered false (is_call (row_of c)) k c.operands q.next in
       let code : SameCode d q.next = numbered_code false (is_call (row_of c)) k c.operands q.next in
       let u : State = record { pos = below t.pos; core = d } in

@@ -1,5 +1,5 @@
 -- Steps from equal places, and physical registers that stay written.
-use Rattle.std.proofs.Common.{◌≡◌, ℕ, suc, ◌<◌, List, [], ◌∷◌, map, Option, Some, None, Bool, IsSome, refl, sym, ap, ◌∙◌, subst, inl}
+use Rattle.std.proofs.Common.{◌≡◌, ℕ, suc, ◌<◌, List, [], ◌∷◌, Option, Some, None, Bool, IsSome, refl, sym, ap, ◌∙◌, subst, inl}
 use Rattle.std.proofs.Common.{inr}
 use Rattle.rv64_instr.specs.declared.operand.Operand.{Operand}
 use Rattle.rv64_instr.specs.declared.place.Place.{Place}
@@ -15,9 +15,9 @@ use Rattle.mir_func.specs.declared.item.Item.{Item}
 use Rattle.mir_func.specs.declared.item.ItemKind.{ItemKind}
 use Rattle.mir_func.specs.declared.item.ItemKind.TheVariants.{Code, Mark, Phi}
 use Rattle.mir_func.specs.Graph.{Fetch, Here, EndOfBlock, Outside, Program, below, block_start}
-use Rattle.sem_mir.specs.State.{Core, State, Reply, content, writes_frame, RunResult}
+use Rattle.sem_mir.specs.State.{Core, State, Reply, content, RunResult}
 use Rattle.sem_mir.specs.Step.{Went, Returned, Faulted, Outcome, Falls, Goes, Gives, Traps, Asks, Breaks, act, does, are_written, is_fault, address_at}
-use Rattle.sem_mir.specs.Step.{exec_external_call, called_at}
+use Rattle.sem_mir.specs.Step.{exec_external_call, call_faults, passed, called_at}
 use Rattle.sem_mir.specs.Step.{slot_loaded, numbered, with_core, do_item, do_fetch, moved, step, read, run}
 use Rattle.sem_mir.specs.Align.{Arrives, here, onward, Since, Start, Same, After, MatchesNext, MatchedUpTo, begin, other, met, SyncPoint}
 use Rattle.sem_mir.specs.Effects.{SameWorld, EndAlike, AreHeldAlike, OnCore, held_in}
@@ -76,9 +76,9 @@ abbrev pub IsWritten : Core → Type 0
 IsWritten c = (r : ℕ) → r < 32 → IsSome (content c.regs r)
 
 module _ (c : Core) (h : IsWritten c) where
-  answer_written : (t : CallTarget) (args : List ℕ) (rs : List Reply) → OnCore IsWritten (exec_external_call t args c rs)
-  answer_written t args [] = tt
-  answer_written t args (r ∷ rs) = on_either IsWritten (writes_frame c.entry c.area r.writes) Traps _ tt (set_all_written caller_saved r.regs c.regs h)
+  answer_written : (t : CallTarget) (args outgoing : List ℕ) (rs : List Reply) → OnCore IsWritten (exec_external_call t args outgoing c rs)
+  answer_written t args outgoing [] = tt
+  answer_written t args outgoing (r ∷ rs) = on_either IsWritten (call_faults c outgoing r) Traps _ tt (set_all_written caller_saved r.regs c.regs h)
 
   slot_written : (rd : ℕ) (x : Option ℕ) → OnCore IsWritten (slot_loaded rd c x)
   slot_written rd None = tt
@@ -96,7 +96,7 @@ module _ (c : Core) (h : IsWritten c) where
   does_written (StoresSlot rs n) = h
   does_written (Branches op a b t) = on_either IsWritten (taken op (read c a) (read c b)) (Goes t c) (Falls c) h h
   does_written (Jumps t) = h
-  does_written (Calls call) = answer_written (called_at c call.callee) (map (read c) call.args) c.script
+  does_written (Calls call) = answer_written (called_at c call.callee) (passed c call) call.outgoing c.script
   does_written (Returns v) = tt
   does_written Unfit = tt
 

@@ -1,5 +1,5 @@
 -- Whatever the source does, the machine's counter goes from line to line.
-use Rattle.std.proofs.Common.{◌≡◌, ◌⊎◌, ℕ, ℤ, zero, suc, ◌+◌, List, map, Contains, [], ◌∷◌}
+use Rattle.std.proofs.Common.{◌≡◌, ◌⊎◌, ℕ, ℤ, zero, suc, ◌+◌, List, Contains, [], ◌∷◌}
 use Rattle.std.proofs.Common.{Option, Bool, true, false, cond, refl, sym, ap, ◌∙◌, subst, inl, inr}
 use Rattle.rv64_instr.specs.declared.op.BranchOp.{BranchOp}
 use Rattle.rv64_instr.specs.Row.{Content, Number, PartOf, PointedBy, ObjectAt, BesidePart}
@@ -144,7 +144,7 @@ module _ (f : FramedFunction) (framed : IsFramed f) (image : Image) (laid : IsLa
     at_call : (call : CallSite) → row_of c ≡ Calls call → HasCall f image laid.address p i call → IsGood m
     at_call call e w = by_script m.script (w.step m counter) where
       by_script : (rs : List Reply) → machine_step image m ≡ step_call (machine.callee_size call.callee) (machine.called_at m call.callee)
-          (map (register m) call.args) m rs → IsGood m
+          (machine.passed m call) call.outgoing m rs → IsGood m
       by_script [] s = record { well = subst IsWell (sym s) tt; next = λ k x. (let bad : Awaits ≡ Continues k = sym s ∙ x in cc) }
       by_script (x ∷ rs) s = continues_good m _ s
           (below_stays _ (λ l. subst (λ (x : Row). Leaves (row_exit x)) e l) (ap (λ (x : ℕ). x + machine.callee_size call.callee) counter ∙ sym w.next))

@@ -1,6 +1,6 @@
 -- What the function with its frame tells, carried along its run and past its stop, and what lists give of it: a place that a list gives
 -- holds at the machine what a run of the function knows of it, and this the source tells.
-use Rattle.std.proofs.Common.{◌≡◌, ℕ, ◌+◌, List, [], ◌∷◌, map, Option, Some, None, Bool, true, false, cond, refl, sym, ap, ◌∙◌, subst}
+use Rattle.std.proofs.Common.{◌≡◌, ℕ, ◌+◌, List, [], ◌∷◌, Option, Some, None, Bool, true, false, cond, refl, sym, ap, ◌∙◌, subst}
 use Rattle.rv64_instr.specs.declared.operand.Operand.{Operand}
 use Rattle.rv64_instr.specs.declared.place.Place.{Place}
 use Rattle.rv64_instr.specs.Arithmetic.{taken, load_width, store_width}
@@ -22,9 +22,9 @@ use Rattle.mir_func.specs.SoundFrame.{IsFramed}
 use Rattle.mir_func.specs.Variables.{is_same, overlaps, part_value}
 use Rattle.sem_mir.specs.Align.{is_code, Since, SyncPoint, MatchedUpTo, begin, other, met, Tells}
 use Rattle.sem_mir.specs.Effects.{OnCore}
-use Rattle.sem_mir.specs.State.{Core, State, Reply, updated, content, spelled, assigned, writes_frame}
+use Rattle.sem_mir.specs.State.{Core, State, Reply, updated, content, spelled, assigned}
 use Rattle.sem_mir.specs.Step.{Went, Outcome, Falls, Goes, Gives, Traps, Asks}
-use Rattle.sem_mir.specs.Step.{Breaks, act, does, are_written, is_fault, address_at, exec_external_call, slot_loaded}
+use Rattle.sem_mir.specs.Step.{Breaks, act, does, are_written, is_fault, address_at, exec_external_call, call_faults, passed, slot_loaded}
 use Rattle.sem_mir.specs.Step.{numbered, with_core, part_of, mark_value, place_value, do_item, moved, step, read, called_at}
 use Rattle.sem_mir.specs.ValueId.{Token, register_token, Path}
 use Rattle.sem_mir.proofs.Outcomes.{on_either, step_item, step_end}
@@ -54,9 +54,9 @@ module _ (c : Core) where
   abbrev SameMarks : Core → Type 0
   SameMarks d = d.marks ≡ c.marks
 
-  answer_marks : (t : CallTarget) (args : List ℕ) (rs : List Reply) → OnCore SameMarks (exec_external_call t args c rs)
-  answer_marks t args [] = tt
-  answer_marks t args (r ∷ rs) = on_either SameMarks (writes_frame c.entry c.area r.writes) Traps _ tt refl
+  answer_marks : (t : CallTarget) (args outgoing : List ℕ) (rs : List Reply) → OnCore SameMarks (exec_external_call t args outgoing c rs)
+  answer_marks t args outgoing [] = tt
+  answer_marks t args outgoing (r ∷ rs) = on_either SameMarks (call_faults c outgoing r) Traps _ tt refl
 
   slot_marks : (rd : ℕ) (x : Option ℕ) → OnCore SameMarks (slot_loaded rd c x)
   slot_marks rd None = tt
@@ -68,7 +68,7 @@ module _ (c : Core) where
   does_marks (Stores op rs b o) = on_either SameMarks (is_fault b c (address_at c b o) (store_width op)) Traps _ tt refl
   does_marks (LoadsSlot rd n) = slot_marks rd (c.slots n)
   does_marks (Branches op a b t) = on_either SameMarks (taken op (read c a) (read c b)) (Goes t c) (Falls c) refl refl
-  does_marks (Calls call) = answer_marks (called_at c call.callee) (map (read c) call.args) c.script
+  does_marks (Calls call) = answer_marks (called_at c call.callee) (passed c call) call.outgoing c.script
   does_marks (Returns v) = tt
   does_marks Unfit = tt
   does_marks _ = refl

@@ -5,14 +5,15 @@ ghost use Rattle.machine_proof.specs.LaidOut.{ImagesMeetTheHeadline, SourcesMeet
 
 use sem_machine::laws::LocationLists;
 
-/// The image of each function that simulates a source, without virtual registers and with a frame of 2,032 bytes at
-/// most, satisfies the source's `Headline`, if lists name only required places.
+/// The image of each function that simulates a source, without virtual registers and with a frame and arguments on the
+/// stack that reach at most 2,032 bytes above x2, satisfies the source's `Headline`, if lists name only required
+/// places.
 pub fn images_meet_the_headline<L: LocationLists>()
     ensures { ImagesMeetTheHeadline L.gives }
 {}
 
-/// The image of each source as read, with its frame, of 2,032 bytes at most, and its layout, satisfies its
-/// `Headline`, if lists name only required places.
+/// The image of each source as read, with its frame, which with the arguments on the stack reaches at most 2,032 bytes
+/// above x2, and its layout, satisfies its `Headline`, if lists name only required places.
 pub fn sources_meet_the_headline<L: LocationLists>()
     ensures { SourcesMeetTheHeadline L.gives }
 {}

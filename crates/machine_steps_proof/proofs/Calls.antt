@@ -1,21 +1,26 @@
 -- A call beside the machine's, and what a number of code changes.
-use Rattle.std.proofs.Common.{◌≡◌, ℕ, ◌+◌, ◌%◌, ◌^◌, ◌<◌, ◌≤◌, List, [], ◌∷◌, map, All, Option, Some, None, Bool, true, false, cond, nat_eq, ◌||◌, refl, sym}
+use Rattle.std.proofs.Common.{◌≡◌, ℕ, ◌+◌, ◌-◌, ◌%◌, ◌^◌, ◌<◌, ◌≤◌, List, [], ◌∷◌, ◌++◌, map, All, Contains, Option, Some, None, Bool, true, false, cond}
+use Rattle.std.proofs.Common.{nat_eq, nat_le, is_some, not, ◌||◌, eq-eqb, le-ltb, inl, inr, refl, sym}
+use Rattle.std.specs.List.{list_any}
 use Rattle.std.proofs.Common.{ap}
 use Rattle.std.proofs.Common.{◌∙◌, ◌&&◌, nat_lt, arith}
 use Rattle.std.proofs.Common.{subst}
-use Rattle.std.proofs.lemmas.List.Elements.{All-head, All-tail}
+use Rattle.std.proofs.lemmas.Bool.{cases_lt, lt-leb, and_parts}
+use Rattle.std.proofs.lemmas.List.Elements.{All-head, All-tail, All-weaker, All-contains}
 use Rattle.rv64_instr.specs.declared.operand.Operand.{Operand}
 use Rattle.rv64_instr.specs.Row.{Calls, CallSite, Callee, Named, Held, Way, Back, Tail, Never, Ending}
 use Rattle.rv64_instr.specs.DefsAndUses.{caller_saved}
 use Rattle.rv64_instr.specs.declared.start.CallTarget.{CallTarget}
 use Rattle.rv64_instr.specs.declared.start.CallTarget.TheVariants.{Address}
 use Rattle.mir_func.specs.Function.{FramedFunction}
-use Rattle.mir_func.specs.SoundFrame.{IsFramed, IsSlotOffset}
-use Rattle.sem_mir.specs.State.{Core, Reply, Event, Called, updated, written, in_frame, writes_frame, IsReply, IsInRange}
-use Rattle.sem_mir.specs.Step.{Outcome, Falls, Goes, Gives, Traps, Asks, Breaks, does, read, numbered}
+use Rattle.mir_func.specs.SoundFrame.{IsFramed, IsSlotOffset, slot_offsets}
+use Rattle.sem_mir.specs.State.{Core, Reply, Called, updated, spelled, written, in_frame, writes_frame, IsReply, IsInRange}
+use Rattle.sem_mir.specs.Step.{Outcome, Falls, Goes, Gives, Traps, Asks, Breaks, does, read, or_zero, numbered}
 use Rattle.sem_mir.specs.Step as source
-use Rattle.sem_machine.specs.Machine.{Machine, register, set_all_in}
-use Rattle.sem_machine.specs.MachineStep.{Stepped, Continues, Awaits, past, step_call, left_below, memory_after, called_at, way_at, result_at, callee_size}
+use Rattle.sem_mir.proofs.Outcomes.{after_reply}
+use Rattle.sem_machine.specs.Machine.{Machine, register, set_all_in, address_of}
+use Rattle.sem_machine.specs.MachineStep.{Stepped, Continues, Awaits, past, step_call, in_words, is_callees, left_below, memory_after, passed, called_at}
+use Rattle.sem_machine.specs.MachineStep.{way_at, result_at, callee_size, word_content}
 use Rattle.machine_steps_proof.specs.Beside.{frame_low, Beside}
 use Rattle.machine_steps_proof.proofs.Memory.{spelled_alike}
 use Rattle.machine_steps_proof.proofs.Rows.{set_all_alike, set_all_written, slot_room, slot_byte}
@@ -54,40 +59,66 @@ written_outside (w ∷ ws) x entry area b out is =
       not_equal : in_frame entry area b ≡ in_frame entry area w.0 → in_frame entry area w.0 ≡ false → ⊥
       not_equal e o = let bad : true ≡ false = sym is ∙ e ∙ o in cc
 
--- what a callee leaves in its own frame is in the caller's frame, below the stack pointer
-left_elsewhere : (ws : List (ℕ × ℕ)) (x : ℕ → ℕ) (entry area pointer b : ℕ) → (in_frame entry area b && nat_lt b pointer) ≡ false →
-    left_below entry area pointer x ws b ≡ x b
-left_elsewhere [] x entry area pointer b out = refl
-left_elsewhere (w ∷ ws) x entry area pointer b out =
-    left_elsewhere ws (cond (in_frame entry area w.0 && nat_lt w.0 pointer) (updated w.0 w.1 x) x) entry area pointer b out
-    ∙ by_test (in_frame entry area w.0 && nat_lt w.0 pointer) refl where
-      by_test : (z : Bool) → (in_frame entry area w.0 && nat_lt w.0 pointer) ≡ z → cond z (updated w.0 w.1 x) x b ≡ x b
+-- what a callee leaves in the caller's frame is in what it owns of it
+left_elsewhere : (ws : List (ℕ × ℕ)) (x : ℕ → ℕ) (entry area pointer : ℕ) (outgoing : List ℕ) (b : ℕ) → is_callees entry area pointer outgoing b ≡ false →
+    left_below entry area pointer outgoing x ws b ≡ x b
+left_elsewhere [] x entry area pointer outgoing b out = refl
+left_elsewhere (w ∷ ws) x entry area pointer outgoing b out =
+    left_elsewhere ws (cond (is_callees entry area pointer outgoing w.0) (updated w.0 w.1 x) x) entry area pointer outgoing b out
+    ∙ by_test (is_callees entry area pointer outgoing w.0) refl where
+      by_test : (z : Bool) → is_callees entry area pointer outgoing w.0 ≡ z → cond z (updated w.0 w.1 x) x b ≡ x b
       by_test false e = refl
       by_test true e = Rattle.sem_mir.proofs.Places.updated_other w.0 b w.1 x
-          (λ same. let bad : true ≡ false = sym e ∙ sym (ap (λ n. in_frame entry area n && nat_lt n pointer) same) ∙ out in cc)
+          (λ same. let bad : true ≡ false = sym e ∙ sym (ap (is_callees entry area pointer outgoing) same) ∙ out in cc)
 
-left_bytes : (ws : List (ℕ × ℕ)) (x : ℕ → ℕ) (entry area pointer b : ℕ) → All (λ (w : ℕ × ℕ). (w.0 < 2 ^ 64) × (w.1 < 256)) ws → ((a : ℕ) → x a < 256) →
-    left_below entry area pointer x ws b < 256
-left_bytes [] x entry area pointer b h lt = lt b
-left_bytes (w ∷ ws) x entry area pointer b h lt =
-    left_bytes ws (cond (in_frame entry area w.0 && nat_lt w.0 pointer) (updated w.0 w.1 x) x) entry area pointer b
+left_bytes : (ws : List (ℕ × ℕ)) (x : ℕ → ℕ) (entry area pointer : ℕ) (outgoing : List ℕ) (b : ℕ) → All (λ (w : ℕ × ℕ). (w.0 < 2 ^ 64) × (w.1 < 256)) ws →
+    ((a : ℕ) → x a < 256) → left_below entry area pointer outgoing x ws b < 256
+left_bytes [] x entry area pointer outgoing b h lt = lt b
+left_bytes (w ∷ ws) x entry area pointer outgoing b h lt =
+    left_bytes ws (cond (is_callees entry area pointer outgoing w.0) (updated w.0 w.1 x) x) entry area pointer outgoing b
     (All-tail (λ (w : ℕ × ℕ). (w.0 < 2 ^ 64) × (w.1 < 256)) w ws h)
-    (λ a. by_test (in_frame entry area w.0 && nat_lt w.0 pointer) a (nat_eq a w.0) (All-head (λ (w : ℕ × ℕ). (w.0 < 2 ^ 64) × (w.1 < 256)) w ws h).1) where
+    (λ a. by_test (is_callees entry area pointer outgoing w.0) a (All-head (λ (w : ℕ × ℕ). (w.0 < 2 ^ 64) × (w.1 < 256)) w ws h).1) where
       chosen : (z : Bool) (a : ℕ) → w.1 < 256 → cond z w.1 (x a) < 256
       chosen true a small = small
       chosen false a small = lt a
 
-      by_test : (z : Bool) (a : ℕ) (y : Bool) → w.1 < 256 → cond z (updated w.0 w.1 x) x a < 256
-      by_test true a y small = chosen (nat_eq a w.0) a small
-      by_test false a y small = lt a
+      by_test : (z : Bool) (a : ℕ) → w.1 < 256 → cond z (updated w.0 w.1 x) x a < 256
+      by_test true a small = chosen (nat_eq a w.0) a small
+      by_test false a small = lt a
 
 no_frame : (a b : Bool) → a ≡ false → (a && b) ≡ false
 no_frame false b e = refl
 no_frame true b e = cc
 
-not_below : (a b : ℕ) (z : Bool) → b ≤ a → (z && nat_lt a b) ≡ false
-not_below a b false le = refl
-not_below a b true le = grind arith
+not_owned : (a x y : Bool) → x ≡ false → y ≡ false → (a && (x || y)) ≡ false
+not_owned false x y e g = refl
+not_owned true x y e g = λ i. e i || g i
+
+-- the bytes of a slot that isn't passed are in no word that is
+apart_words : (outgoing : List ℕ) (o j : ℕ) → All (λ n. n % 8 ≡ 0) outgoing → list_any (nat_eq o) outgoing ≡ false → o % 8 ≡ 0 → j < 8 →
+    in_words outgoing (o + j) ≡ false
+apart_words [] o j h out at lt = refl
+apart_words (n ∷ ns) o j h out at lt =
+    let k = neither (nat_eq o n) (list_any (nat_eq o) ns) out in
+    let aligned = All-head (λ (n : ℕ). n % 8 ≡ 0) n ns h in
+    let ne : o ≡ n → ⊥ = λ e. (let bad : false ≡ true = sym k.0 ∙ eq-eqb o n e in cc) in
+    let one = by_order aligned ne in
+    let rest = apart_words ns o j (All-tail (λ (n : ℕ). n % 8 ≡ 0) n ns h) k.1 at lt in
+    λ i. one i || rest i where
+      above : (a b : Bool) → b ≡ false → (a && b) ≡ false
+      above true b e = e
+      above false b e = refl
+
+      by_order : n % 8 ≡ 0 → (o ≡ n → ⊥) → (nat_le n (o + j) && nat_lt (o + j) (n + 8)) ≡ false
+      by_order aligned ne = elim (cases_lt (o + j) n) as (λ _. (nat_le n (o + j) && nat_lt (o + j) (n + 8)) ≡ false) [
+        | inl before ↦ no_frame (nat_le n (o + j)) (nat_lt (o + j) (n + 8)) (lt-leb n (o + j) before)
+        | inr from ↦ above (nat_le n (o + j)) (nat_lt (o + j) (n + 8)) (le-ltb (o + j) (n + 8) (omega (arith, aligned, at, ne, lt, from)))
+      ]
+
+-- a call that goes on passes slots that are written
+went_on : (a b : Bool) → (not a || b) ≡ false → (a ≡ true) × (b ≡ false)
+went_on true b e = (refl, e)
+went_on false b e = cc
 
 module _ (f : FramedFunction) (framed : IsFramed f) (c : Core) (m : Machine) (h : Beside f c m) where
   pub contents : (rs : List ℕ) → map (register m) rs ≡ map (read c) rs
@@ -97,28 +128,38 @@ module _ (f : FramedFunction) (framed : IsFramed f) (c : Core) (m : Machine) (h 
   same_frame : (b : ℕ) → in_frame m.entry m.area b ≡ in_frame c.entry c.area b
   same_frame b = ap (λ (e : ℕ). in_frame e m.area b) h.same_entry ∙ ap (λ (a : ℕ). in_frame c.entry a b) h.same_area
 
+  -- the machine after a call with this reply
+  abbrev answered : (size : ℕ) → CallTarget → (args outgoing : List ℕ) → Reply → (rest : List Reply) → Machine
+  answered size target args outgoing r rest =
+      past size (record m {
+        regs = set_all_in caller_saved r.regs m.regs;
+        memory = memory_after outgoing r m;
+        script = rest;
+        events = Called target args ∷ m.events;
+      })
+
   -- a slot's bytes are at the stack pointer or above
   slot_above : (o j : ℕ) → IsSlotOffset f o → j < 8 → read c 2 ≡ frame_low f c → register m 2 ≤ ((frame_low f c + o) + j) % 2 ^ 64
   slot_above o j is lt pointer =
       let k = slot_room f framed c m h o is in let t = h.top in let p = h.regs 2 ∙ pointer in omega (arith, k, t, p, lt)
 
-  beside_answered : (size : ℕ) (target : CallTarget) (args : List ℕ) (r : Reply) (rest : List Reply) → IsReply r → read c 2 ≡ frame_low f c →
-      writes_frame c.entry c.area r.writes ≡ false →
-      Beside f
-      (record c {
-        regs = Rattle.sem_mir.specs.State.put_all caller_saved r.regs c.regs;
-        memory = written c.memory r.writes;
-        script = rest;
-        events = Called target args ∷ c.events;
-      })
-      (past size (record m {
-        regs = set_all_in caller_saved r.regs m.regs;
-        memory = memory_after r m;
-        script = rest;
-        events = Called target args ∷
-            m.events;
-      }))
-  beside_answered size target args r rest is pointer out = record {
+  -- and no byte of a slot that isn't passed is the callee's
+  slot_spared : (outgoing : List ℕ) (o j : ℕ) → All (IsSlotOffset f) outgoing → list_any (nat_eq o) outgoing ≡ false → IsSlotOffset f o → j < 8 →
+      read c 2 ≡ frame_low f c → is_callees m.entry m.area (register m 2) outgoing (((frame_low f c + o) + j) % 2 ^ 64) ≡ false
+  slot_spared outgoing o j all out is lt pointer =
+      let b : ℕ = ((frame_low f c + o) + j) % 2 ^ 64 in
+      let k = slot_room f framed c m h o is in
+      let t = h.top in
+      let p = h.regs 2 ∙ pointer in
+      let far : ((frame_low f c + o) + j) % 2 ^ 64 - register m 2 ≡ o + j = omega (arith, k, t, p, lt) in
+      let aligned = All-weaker (IsSlotOffset f) (λ (n : ℕ). n % 8 ≡ 0) (λ n w. w.0) outgoing all in
+      not_owned (in_frame m.entry m.area b) (nat_lt b (register m 2)) (in_words outgoing (b - register m 2))
+      (le-ltb b (register m 2) (slot_above o j is lt pointer)) (ap (in_words outgoing) far ∙ apart_words outgoing o j aligned out is.0 lt)
+
+  beside_answered : (size : ℕ) (target : CallTarget) (args args' outgoing : List ℕ) (r : Reply) (rest : List Reply) → IsReply r → read c 2 ≡ frame_low f c →
+      All (IsSlotOffset f) outgoing → args' ≡ args → writes_frame c.entry c.area r.writes ≡ false →
+      Beside f (after_reply target args outgoing c r rest) (answered size target args' outgoing r rest)
+  beside_answered size target args args' outgoing r rest is pointer all same out = record {
     room = h.room;
     top = h.top;
     area = h.area;
@@ -128,44 +169,59 @@ module _ (f : FramedFunction) (framed : IsFramed f) (c : Core) (m : Machine) (h 
     same_area = h.same_area;
     same_symbols = h.same_symbols;
     regs = set_all_alike caller_saved r.regs m.regs c.regs h.regs;
-    memory = λ b o. left_elsewhere r.below (written m.memory r.writes) m.entry m.area (register m 2) b
-        (no_frame (in_frame m.entry m.area b) (nat_lt b (register m 2)) (same_frame b ∙ o))
+    memory = λ b o. left_elsewhere r.below (written m.memory r.writes) m.entry m.area (register m 2) outgoing b
+        (no_frame (in_frame m.entry m.area b) (nat_lt b (register m 2) || in_words outgoing (b - register m 2)) (same_frame b ∙ o))
         ∙ written_alike r.writes m.memory c.memory b (h.memory b o);
-    bytes = λ b. left_bytes r.below (written m.memory r.writes) m.entry m.area (register m 2) b is.below
+    bytes = λ b. left_bytes r.below (written m.memory r.writes) m.entry m.area (register m 2) outgoing b is.below
         (λ a. written_bytes r.writes m.memory a is.writes (h.bytes a));
-    slots = λ o x ix s. h.slots o x ix s ∙ spelled_alike m.memory (memory_after r m) 8 (frame_low f c + o)
-        (λ j lt. sym (left_elsewhere r.below (written m.memory r.writes) m.entry m.area (register m 2) (((frame_low f c + o) + j) % 2 ^ 64)
-        (not_below (((frame_low f c + o) + j) % 2 ^ 64) (register m 2) (in_frame m.entry m.area (((frame_low f c + o) + j) % 2 ^ 64))
-        (slot_above o j ix lt pointer))
-        ∙ written_outside r.writes m.memory c.entry c.area (((frame_low f c + o) + j) % 2 ^ 64) out (slot_byte f framed c m h o j ix lt)));
+    slots = λ o x ix s. by_passed o x ix (list_any (nat_eq o) outgoing) refl s;
     script = refl;
-    events = ap (λ (es : List Event). Called target args ∷ es) h.events;
-  }
+    events = λ i. Called target (same i) ∷ h.events i;
+  } where
+    by_passed : (o x : ℕ) → IsSlotOffset f o → (z : Bool) → list_any (nat_eq o) outgoing ≡ z → cond z None (c.slots o) ≡ Some x →
+        x ≡ spelled (memory_after outgoing r m) (frame_low f c + o) 8
+    by_passed o x ix true e s = cc
+    by_passed o x ix false e s = h.slots o x ix s ∙ spelled_alike m.memory (memory_after outgoing r m) 8 (frame_low f c + o)
+        (λ j lt. sym (left_elsewhere r.below (written m.memory r.writes) m.entry m.area (register m 2) outgoing (((frame_low f c + o) + j) % 2 ^ 64)
+        (slot_spared outgoing o j all e ix lt pointer)
+        ∙ written_outside r.writes m.memory c.entry c.area (((frame_low f c + o) + j) % 2 ^ 64) out (slot_byte f framed c m h o j ix lt)))
 
-  call_by : (size : ℕ) (target : CallTarget) (args : List ℕ) (rs : List Reply) → All IsReply rs → read c 2 ≡ frame_low f c →
-      FollowsCall f m size (source.exec_external_call target args c rs) (step_call size target args m rs)
-  call_by size target args [] is pointer = refl
-  call_by size target args (r ∷ rs) is pointer = by_fault (writes_frame c.entry c.area r.writes) refl where
-    by_fault : (b : Bool) → writes_frame c.entry c.area r.writes ≡ b → FollowsCall f m size
-        (cond b Traps (Falls (record c {
-          regs = Rattle.sem_mir.specs.State.put_all caller_saved r.regs c.regs;
-          memory = written c.memory r.writes;
-          script = rs;
-          events = Called target args ∷ c.events;
-        })))
-        (Continues (past size (record m {
-          regs = set_all_in caller_saved r.regs m.regs;
-          memory = memory_after r m;
-          script = rs;
-          events = Called target args ∷ m.events;
-        })))
+  call_by : (size : ℕ) (target : CallTarget) (args args' outgoing : List ℕ) (rs : List Reply) → All IsReply rs → read c 2 ≡ frame_low f c →
+      All (IsSlotOffset f) outgoing → (source.are_passed c outgoing ≡ true → args' ≡ args) →
+      FollowsCall f m size (source.exec_external_call target args outgoing c rs) (step_call size target args' outgoing m rs)
+  call_by size target args args' outgoing [] is pointer all same = refl
+  call_by size target args args' outgoing (r ∷ rs) is pointer all same = by_fault (source.call_faults c outgoing r) refl where
+    by_fault : (b : Bool) → source.call_faults c outgoing r ≡ b →
+        FollowsCall f m size (cond b Traps (Falls (after_reply target args outgoing c r rs))) (Continues (answered size target args' outgoing r rs))
     by_fault true e = tt
-    by_fault false e = (
-      past size (record m { regs = set_all_in caller_saved r.regs m.regs; memory = memory_after r m; script = rs; events = Called target args ∷ m.events }),
-      refl,
-      refl,
-      beside_answered size target args r rs (All-head IsReply r rs is) pointer e,
-    )
+    by_fault false e =
+        let k = went_on (source.are_passed c outgoing) (writes_frame c.entry c.area r.writes) e in (
+          answered size target args' outgoing r rs,
+          refl,
+          refl,
+          beside_answered size target args args' outgoing r rs (All-head IsReply r rs is) pointer all (same k.0) k.1,
+        )
+
+  -- a slot that is passed has its content in memory
+  word_same : (n : ℕ) → IsSlotOffset f n → read c 2 ≡ frame_low f c → is_some (c.slots n) ≡ true → word_content m n ≡ source.slot_value c n
+  word_same n is pointer there = by_slot (c.slots n) refl there where
+    by_slot : (x : Option ℕ) → c.slots n ≡ x → is_some x ≡ true → word_content m n ≡ or_zero x
+    by_slot None e w = cc
+    by_slot (Some v) e w =
+        let k = slot_room f framed c m h n is in
+        let t = h.top in
+        let p = h.regs 2 ∙ pointer in
+        let at : address_of m 2 n ≡ frame_low f c + n = omega (arith, k, t, p) in
+        ap (λ (a : ℕ). spelled m.memory a 8) at ∙ sym (h.slots n v is e)
+
+  words_same : (ns : List ℕ) → All (IsSlotOffset f) ns → read c 2 ≡ frame_low f c → source.are_passed c ns ≡ true →
+      map (word_content m) ns ≡ map (source.slot_value c) ns
+  words_same [] all pointer there = refl
+  words_same (n ∷ ns) all pointer there =
+      let k = and_parts (is_some (c.slots n)) (source.are_passed c ns) there in
+      let a = word_same n (All-head (IsSlotOffset f) n ns all) pointer k.0 in
+      let b = words_same ns (All-tail (IsSlotOffset f) n ns all) pointer k.1 in
+      λ i. a i ∷ b i
 
   callee_same : (callee : Callee) → called_at m callee ≡ source.called_at c callee
   callee_same (Named name) = refl
@@ -184,18 +240,21 @@ module _ (f : FramedFunction) (framed : IsFramed f) (c : Core) (m : Machine) (h 
       λ i. record { way = a i; values = b i }
 
   -- a call site does what its call does
-  pub calls : (call : CallSite) → IsInRange c → read c 2 ≡ frame_low f c →
+  pub calls : (call : CallSite) → IsInRange c → read c 2 ≡ frame_low f c → All (Contains (slot_offsets f)) call.outgoing →
       FollowsCall f m (callee_size call.callee) (does (Calls call) c)
-      (step_call (callee_size call.callee) (called_at m call.callee) (map (register m) call.args) m m.script)
+      (step_call (callee_size call.callee) (called_at m call.callee) (passed m call) call.outgoing m m.script)
   unfolding does
-  calls call range pointer =
+  calls call range pointer declared =
       let t = source.called_at c call.callee in
-      let vs = map (read c) call.args in
-      let Goal : CallTarget → List ℕ → List Reply → Type 0 = λ u ws rs. FollowsCall f m (callee_size call.callee) (source.exec_external_call t vs c c.script)
-      (step_call (callee_size call.callee) u ws m rs) in
-      subst (λ (u : CallTarget). Goal u (map (register m) call.args) m.script) (sym (callee_same call.callee))
-      (subst (λ (ws : List ℕ). Goal t ws m.script) (sym (contents call.args))
-      (subst (λ (rs : List Reply). Goal t vs rs) (sym h.script) (call_by (callee_size call.callee) t vs c.script range.script pointer)))
+      let all = All-weaker (Contains (slot_offsets f)) (IsSlotOffset f) (λ n k. All-contains (IsSlotOffset f) (slot_offsets f) n framed.offsets k) call.outgoing
+      declared in
+      let Goal : CallTarget → List Reply → Type 0 = λ u rs. FollowsCall f m (callee_size call.callee)
+      (source.exec_external_call t (source.passed c call) call.outgoing c c.script)
+      (step_call (callee_size call.callee) u (passed m call) call.outgoing m rs) in
+      subst (λ (u : CallTarget). Goal u m.script) (sym (callee_same call.callee))
+      (subst (λ (rs : List Reply). Goal t rs) (sym h.script)
+      (call_by (callee_size call.callee) t (source.passed c call) (passed m call) call.outgoing c.script range.script pointer all
+      (λ there. (let a = contents call.args in let b = words_same call.outgoing all pointer there in λ i. a i ++ b i))))
 
   pub beside_numbered : (sp call : Bool) (k : Option ℕ) (operands : List Operand) → Beside f (numbered sp call k operands c) m
   beside_numbered sp call None operands = h

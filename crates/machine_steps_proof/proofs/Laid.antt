@@ -2,7 +2,7 @@
 use Rattle.std.proofs.Common.{◌≡◌, ◌⊎◌, ℕ, suc, ◌+◌, ◌%◌, ◌^◌, ◌<◌, ◌≤◌, ℤ, pos, List, [], ◌∷◌, ◌++◌, drop, map}
 use Rattle.std.proofs.Common.{slice_get, Option, Some, None, Bool}
 use Rattle.std.proofs.Common.{true, false, cond, not, IsTrue, refl, sym, ap, ◌∙◌, subst, inl, inr}
-use Rattle.std.proofs.Common.{ne_eqb, arith}
+use Rattle.std.proofs.Common.{nat_eq, ◌&&◌, ne_eqb, eq-eqb, arith}
 use Rattle.std.specs.Int.{w32, to_le_bytes}
 use Rattle.std.specs.Option.{option_map}
 use Rattle.rv64_instr.specs.declared.op.Op.{Op}
@@ -13,7 +13,7 @@ use Rattle.rv64_instr.specs.Row.{Row, Fixes, Moves, Sets, Addresses, Loads, Stor
 use Rattle.rv64_instr.specs.Row.{row_by, implicit_uses, CallSite as Call, Callee, Ending, Back, Named, Held, Way, Tail, Never}
 use Rattle.rv64_word.specs.declared.machine_op.MachineOp.{MachineOp}
 use Rattle.rv64_word.specs.MachineOp.{is_encodable, word_of}
-use Rattle.rv64_word.specs.MachineRow.{MachineRow, machine_row, placed, at_offset}
+use Rattle.rv64_word.specs.MachineRow.{MachineRow, LinksTo, machine_row, placed, placed_callee, placed_way, at_offset}
 use Rattle.rv64_word.specs.Linked.{immediate_of, linked_word}
 use Rattle.rv64_instr.specs.LocationEffects.{object_named, part_named, is_named, way_has_site}
 use Rattle.rv64_instr.specs.Inverse.{inverse}
@@ -39,7 +39,8 @@ use Rattle.sem_mir.specs.Align.{is_code}
 use Rattle.sem_machine.specs.Image.{CodeLine, Image, line_at, word_at}
 use Rattle.sem_machine.specs.Machine.{Machine, register}
 use Rattle.sem_machine.specs.MachineStep.{Continues, Ends, past, at, return_word, does_row, does_word, does_operation, does_line, does_at, call_of, result_at}
-use Rattle.sem_machine.specs.MachineStep.{machine_step, does_left, left_by, linked_at, elsewhere, callee_size, step_call, called_at}
+use Rattle.sem_machine.specs.MachineStep.{BadWord, machine_step, does_left, left_by, elsewhere, callee_size, step_call, called_at, passed}
+use Rattle.sem_machine.specs.MachineStep.{is_jump_to, operation_jumps_to, word_jumps_to, goes_to, leaves_by}
 use Rattle.sem_machine.specs.MachineStep as machine
 use Rattle.emit_code.specs.LongBranch.{inverted_branch, skip_of, jump_to}
 use Rattle.emit_code.specs.Listed.{line, by_pointer, listed, form_lines, kind_lines, lines_at}
@@ -58,6 +59,11 @@ use Rattle.machine_steps_proof.proofs.Addresses.{address_next, address_end, firs
 use Rattle.machine_steps_proof.proofs.Standing.{AtSite, at_site, word_below, word_at_is, bytes}
 use Rattle.machine_steps_proof.proofs.Placed.{word_stays, does_not_return, some_of, if_some, leads_to}
 use Rattle.machine_steps_proof.proofs.Placed.{inverted_taken, same_place, exit_target, line_first, line_second}
+
+-- a jump to a register's content is one
+jumps_self : (link r : ℕ) → is_jump_to link r (LinksTo link r 0) ≡ true
+jumps_self link r =
+    ap (λ (b : Bool). b && (nat_eq r r && true)) (eq-eqb link link refl) ∙ ap (λ (b : Bool). b && true) (eq-eqb r r refl)
 
 module _ (l : Layout) (image : Image) (has : HasAllWords l) (is : IsImageOf l image) where
   address : Pos → ℕ
@@ -140,7 +146,7 @@ module _ (l : Layout) (image : Image) (has : HasAllWords l) (is : IsImageOf l im
         IsWordRow r → machine_step image m ≡ machine.does (placed target object part r) m
     do_word m n y o u rest target object part r e none stays g t linked fits row w =
         at_line m n y e g ∙ ap (λ (z : Option Call). does_line image y z m) none
-        ∙ ap (λ (z : Option (Ending Callee)). does_left y z (linked_at image y m) m) stays
+        ∙ ap (λ (z : Option (Ending Callee)). does_left image y z m) stays
         ∙ ap (λ (z : Option ℕ). does_word y (option_map (linked_word m.symbols (row_of y.instruction)) z) m)
         (ap (word_at image.text) e ∙ word_at_is l image has n (word_of o) rest (word_below o) t)
         ∙ ap (λ (z : ℕ). does_word y (Some z) m) linked
@@ -190,6 +196,24 @@ module _ (l : Layout) (image : Image) (has : HasAllWords l) (is : IsImageOf l im
               (links.acts (address_in l p) ∙ same_place (row_of c) _ to object part exits) w;
         }
 
+    -- a word that goes to the address that a register holds
+    jumps_there : (link r : ℕ) → form_of (l.long p) (Code c k) ≡ OneWord →
+        ((target object : ℕ) → placed target object (pos 0) (row_of c) ≡ LinksTo link r 0) → (m : Machine) → m.counter ≡ address_in l p →
+        word_jumps_to link r m.counter (word_at image.text m.counter) ≡ true
+    jumps_there link r f row m g =
+        let o = some_of (operation_at l (address_in l p) c) (subst (FormWorded l (address_in l p) c) f has_it) in
+        let offset = offset_to l (address_in l p) (row_exit (row_of c)) in
+        let object = object_offset l.framed (object_named (row_of c)) in
+        let fits = if_some (λ (m : MachineOp). IsTrue (is_encodable m)) (operation_at l (address_in l p) c) o.0 (lowered_fits offset object c) o.1 in
+        let acts = if_some (λ (m : MachineOp). (x : ℕ) → machine_row x m ≡ placed (at_offset x offset) object (pos 0) (row_of c))
+        (operation_at l (address_in l p) c) o.0 (lowered_acts offset object c) o.1 in
+        let t : drop (address_in l p) image.text ≡ to_le_bytes w32 (word_of o.0) ++ st.more =
+        text OneWord f ∙ ap (λ (z : Option MachineOp). bytes (word_if z) ++ st.more) o.1 in
+        ap (word_jumps_to link r m.counter)
+        (ap (word_at image.text) g ∙ word_at_is l image has (address_in l p) (word_of o.0) st.more (word_below o.0) t)
+        ∙ ap (operation_jumps_to link r m.counter) (is_decoded o.0 (word_of o.0) fits refl)
+        ∙ ap (is_jump_to link r) (acts m.counter ∙ row (at_offset m.counter offset) object) ∙ jumps_self link r
+
     call_site : (call : Call) → row_of c ≡ Calls call → HasCall l.framed image (λ q. address_in l q) p i call
     call_site call e = by_callee call.callee refl where
       y : CodeLine
@@ -199,8 +223,11 @@ module _ (l : Layout) (image : Image) (has : HasAllWords l) (is : IsImageOf l im
       form_by callee q = ap (row_form (l.long p)) e ∙ ap (λ (z : Callee). cond (is_named z) CallSite OneWord) q
 
       steps : (m : Machine) → m.counter ≡ address_in l p → line_at image.lines (address_in l p) ≡ Some y →
-          machine_step image m ≡ step_call (callee_size call.callee) (called_at m call.callee) (map (register m) call.args) m m.script
-      steps m g at_it = at_line m (address_in l p) y g at_it ∙ ap (λ (r : Row). does_line image y (call_of r) m) (calls_listed l.framed c call e)
+          goes_to 1 call.callee m.counter (word_at image.text m.counter) ≡ true →
+          machine_step image m ≡ step_call (callee_size call.callee) (called_at m call.callee) (passed m call) call.outgoing m m.script
+      steps m g at_it there =
+          at_line m (address_in l p) y g at_it ∙ ap (λ (r : Row). does_line image y (call_of r) m) (calls_listed l.framed c call e)
+          ∙ ap (λ (b : Bool). cond b (step_call (callee_size call.callee) (called_at m call.callee) (passed m call) call.outgoing m m.script) BadWord) there
 
       by_callee : (callee : Callee) → call.callee ≡ callee → HasCall l.framed image (λ q. address_in l q) p i call
       by_callee (Named name) q =
@@ -212,7 +239,7 @@ module _ (l : Layout) (image : Image) (has : HasAllWords l) (is : IsImageOf l im
             stands = at_it;
             origin = refl;
             next = next CallSite f ∙ ap (λ (z : Callee). address_in l p + callee_size z) (sym q);
-            step = λ m g. steps m g at_it;
+            step = λ m g. steps m g at_it (ap (λ (z : Callee). goes_to 1 z m.counter (word_at image.text m.counter)) q);
           }
       by_callee (Held r) q =
           let f = form_by (Held r) q in
@@ -223,33 +250,39 @@ module _ (l : Layout) (image : Image) (has : HasAllWords l) (is : IsImageOf l im
             stands = at_it;
             origin = refl;
             next = next OneWord f ∙ ap (λ (z : Callee). address_in l p + callee_size z) (sym q);
-            step = λ m g. steps m g at_it;
+            step = λ m g. steps m g at_it (ap (λ (z : Callee). goes_to 1 z m.counter (word_at image.text m.counter)) q
+                ∙ jumps_there 1 r f (λ to object. ap (placed to object (pos 0)) e ∙ ap (placed_callee 1) q) m g);
           }
 
-    -- an ending for a callee
-    left_site : (ending : Ending Callee) → row_of c ≡ Returns ending → elsewhere ending ending.way ≡ Some ending →
+    abbrev line_there : CodeLine
+    line_there = code_line (line (address_in l p) i.origin (listed l.framed c))
+
+    ends_there : (ending : Ending Callee) → row_of c ≡ Returns ending → elsewhere ending ending.way ≡ Some ending →
+        line_at image.lines (address_in l p) ≡ Some line_there →
+        ((m : Machine) → m.counter ≡ address_in l p → leaves_by ending.way m.counter (word_at image.text m.counter) ≡ true) →
         HasReturn l.framed image (λ q. address_in l q) p i ending
-    left_site ending e left = by_site (way_has_site ending.way) refl where
-      y : CodeLine
-      y = code_line (line (address_in l p) i.origin (listed l.framed c))
+    ends_there ending e left at_it there = record {
+      line = line_there;
+      stands = at_it;
+      origin = refl;
+      step = λ m g. at_line m (address_in l p) line_there g at_it
+          ∙ ap (λ (z : Option Call). does_line image line_there z m) (no_call_listed l.framed c fit (ap call_of e))
+          ∙ ap (λ (z : Option (Ending Callee)). does_left image line_there z m) (left_listed l.framed c ∙ ap left_by e ∙ left)
+          ∙ ap (λ (b : Bool). cond b (Ends (result_at m ending)) BadWord) (there m g);
+    }
 
-      made : line_at image.lines (address_in l p) ≡ Some y → HasReturn l.framed image (λ q. address_in l q) p i ending
-      made at_it = record {
-        line = y;
-        stands = at_it;
-        origin = refl;
-        step = λ m g. at_line m (address_in l p) y g at_it
-            ∙ ap (λ (z : Option Call). does_line image y z m) (no_call_listed l.framed c fit (ap call_of e))
-            ∙ ap (λ (z : Option (Ending Callee)). does_left y z (linked_at image y m) m) (left_listed l.framed c ∙ ap left_by e ∙ left);
-      }
-
-      by_site : (b : Bool) → way_has_site ending.way ≡ b → HasReturn l.framed image (λ q. address_in l q) p i ending
-      by_site true q =
-          let f : form_of (l.long p) (Code c k) ≡ CallSite = ap (row_form (l.long p)) e ∙ ap (λ (z : Bool). cond z CallSite OneWord) q in
-          made (lines CallSite f (address_in l p) (omega arith) ∙ line_first y st.others (address_in l p) refl)
-      by_site false q =
-          let f : form_of (l.long p) (Code c k) ≡ OneWord = ap (row_form (l.long p)) e ∙ ap (λ (z : Bool). cond z CallSite OneWord) q in
-          made (lines OneWord f (address_in l p) (omega arith) ∙ line_first y st.others (address_in l p) refl)
+    -- an ending for a callee
+    left_site : (ending : Ending Callee) → row_of c ≡ Returns ending → elsewhere ending ending.way ≡ Some ending → (link : ℕ) (callee : Callee) →
+        way_has_site ending.way ≡ is_named callee → placed_way ending.way ≡ placed_callee link callee →
+        ((a : ℕ) (w : Option ℕ) → leaves_by ending.way a w ≡ goes_to link callee a w) → HasReturn l.framed image (λ q. address_in l q) p i ending
+    left_site ending e left link (Named name) site row there =
+        let f : form_of (l.long p) (Code c k) ≡ CallSite = ap (row_form (l.long p)) e ∙ ap (λ (z : Bool). cond z CallSite OneWord) site in
+        ends_there ending e left (lines CallSite f (address_in l p) (omega arith) ∙ line_first line_there st.others (address_in l p) refl)
+        (λ m g. there m.counter (word_at image.text m.counter))
+    left_site ending e left link (Held r) site row there =
+        let f : form_of (l.long p) (Code c k) ≡ OneWord = ap (row_form (l.long p)) e ∙ ap (λ (z : Bool). cond z CallSite OneWord) site in
+        ends_there ending e left (lines OneWord f (address_in l p) (omega arith) ∙ line_first line_there st.others (address_in l p) refl)
+        (λ m g. there m.counter (word_at image.text m.counter) ∙ jumps_there link r f (λ to object. ap (placed to object (pos 0)) e ∙ row) m g)
 
     back_site : (ending : Ending Callee) → row_of c ≡ Returns ending → ending.way ≡ Back → HasReturn l.framed image (λ q. address_in l q) p i ending
     back_site ending e back =
@@ -273,8 +306,7 @@ module _ (l : Layout) (image : Image) (has : HasAllWords l) (is : IsImageOf l im
           origin = refl;
           step = λ m g. at_line m (address_in l p) y g at_it
               ∙ ap (λ (z : Option Call). does_line image y z m) (no_call_listed l.framed c fit (ap call_of e))
-              ∙ ap (λ (z : Option (Ending Callee)). does_left y z (linked_at image y m) m)
-              (left_listed l.framed c ∙ ap left_by e ∙ ap (elsewhere ending) back)
+              ∙ ap (λ (z : Option (Ending Callee)). does_left image y z m) (left_listed l.framed c ∙ ap left_by e ∙ ap (elsewhere ending) back)
               ∙ ap (λ (z : Option ℕ). does_word y (option_map (linked_word m.symbols (row_of y.instruction)) z) m)
               (ap (word_at image.text) g ∙ word_at_is l image has (address_in l p) (word_of return_op) st.more (word_below return_op) t ∙ ap Some spelled)
               ∙ ap (λ (z : ℕ). does_word y (Some z) m) (unlinked m.symbols return_word (row_of y.instruction)
@@ -287,8 +319,12 @@ module _ (l : Layout) (image : Image) (has : HasAllWords l) (is : IsImageOf l im
     return_site ending e = by_way ending.way refl where
       by_way : (w : Way Callee) → ending.way ≡ w → HasReturn l.framed image (λ q. address_in l q) p i ending
       by_way Back q = back_site ending e q
-      by_way (Tail callee) q = left_site ending e (ap (elsewhere ending) q)
-      by_way (Never callee) q = left_site ending e (ap (elsewhere ending) q)
+      by_way (Tail callee) q =
+          left_site ending e (ap (elsewhere ending) q) 0 callee (ap (λ (w : Way Callee). way_has_site w) q) (ap placed_way q)
+          (λ a x. ap (λ (w : Way Callee). leaves_by w a x) q)
+      by_way (Never callee) q =
+          left_site ending e (ap (elsewhere ending) q) 1 callee (ap (λ (w : Way Callee). way_has_site w) q) (ap placed_way q)
+          (λ a x. ap (λ (w : Way Callee). leaves_by w a x) q)
 
     added_is : (o : Origin) → added_before o ≡ Before (position_of o)
     added_is (Kept q) = refl

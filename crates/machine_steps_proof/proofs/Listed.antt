@@ -2,7 +2,7 @@
 use Rattle.std.proofs.Common.{◌≡◌, ◌⊎◌, ℕ, zero, suc, List, ◌∷◌}
 use Rattle.std.proofs.Common.{None}
 use Rattle.std.proofs.Common.{refl, sym, ap, ◌∙◌, inl, inr}
-use Rattle.std.proofs.Common.{arith, []}
+use Rattle.std.proofs.Common.{arith, [], ◌++◌, ◌+◌, pos, ◌+ℤ◌}
 use Rattle.rv64_instr.specs.declared.op.Op.{Op}
 use Rattle.rv64_instr.specs.declared.op.Op.TheVariants.{Registers, Immediate, Lui, Branch, Load, Store, Copy}
 use Rattle.rv64_instr.specs.declared.op.Op.TheVariants.{PseudoBr, PseudoCall, PseudoRet, PseudoCallIndirect}
@@ -11,15 +11,18 @@ use Rattle.rv64_instr.specs.declared.op.BranchOp.{BranchOp}
 use Rattle.rv64_instr.specs.declared.op.ImmediateOp.{ImmediateOp}
 use Rattle.rv64_instr.specs.declared.op.ImmediateOp.TheVariants.{Addi}
 use Rattle.rv64_instr.specs.declared.operand.Operand.{Operand}
-use Rattle.rv64_instr.specs.declared.operand.Operand.TheVariants.{Def, Use, ImplicitDef, ImplicitUse, Imm, Slot, Object, Part, Block as OfBlock, Symbol, Mask}
+use Rattle.rv64_instr.specs.declared.operand.Operand.TheVariants.{Def, Use, ImplicitDef, ImplicitUse, Imm, Slot, Object, Part, Block as OfBlock, Symbol}
+use Rattle.rv64_instr.specs.declared.operand.Operand.TheVariants.{Mask, Outgoing}
 use Rattle.rv64_instr.specs.Arithmetic.{word}
 use Rattle.rv64_instr.specs.Instruction.{Instruction}
 use Rattle.rv64_instr.specs.Row.{Row, Branches, Calls, Returns, Unfit, row_of}
-use Rattle.rv64_instr.specs.Row.{row_by, implicit_uses, move_row, immediate_row, object_row, CallSite as Call, Callee, Named, Ending}
+use Rattle.rv64_instr.specs.Row.{row_by, implicit_uses, outgoing_words, move_row, immediate_row, object_row, CallSite as Call, Callee, Named, Ending}
 use Rattle.rv64_instr.specs.Row.{Back, held_call, held_tail, held_gone, tail_row, gone_row, Way, Tail, Never, Held}
 use Rattle.rv64_instr.specs.LocationEffects.{part_named}
 use Rattle.rv64_instr.specs.Inverse.{inverse_op, inverse}
 use Rattle.mir_func.specs.Function.{FramedFunction}
+use Rattle.mir_func.specs.Objects.{offset_of}
+use Rattle.mir_func.specs.SoundFrame.{own_size}
 use Rattle.sem_machine.specs.MachineStep.{call_of, left_by}
 use Rattle.emit_code.specs.LongBranch.{over_bytes}
 use Rattle.emit_code.specs.Listed.{by_pointer, listed}
@@ -47,7 +50,24 @@ uses_listed f (Symbol r ∷ Slot n ∷ Imm i ∷ rest) = refl
 uses_listed f (Symbol r ∷ Object n ∷ Imm i ∷ rest) = refl
 uses_listed f (Mask ∷ Slot n ∷ Imm i ∷ rest) = refl
 uses_listed f (Mask ∷ Object n ∷ Imm i ∷ rest) = refl
+uses_listed f (Outgoing r ∷ Slot n ∷ Imm i ∷ rest) = refl
+uses_listed f (Outgoing r ∷ Object n ∷ Imm i ∷ rest) = refl
 uses_listed f _ = refl
+
+own_word : Operand → List ℕ
+own_word (Outgoing n) = n ∷ []
+own_word _ = []
+
+first_word : (x : Operand) (os : List Operand) → outgoing_words (x ∷ os) ≡ own_word x ++ outgoing_words os
+unfolding own_word
+first_word (Outgoing n) os = refl
+first_word _ os = refl
+
+pub words_listed : (f : FramedFunction) (os : List Operand) → outgoing_words (by_pointer f os) ≡ outgoing_words os
+words_listed f (x ∷ Slot n ∷ Imm i ∷ rest) = first_word x (Use 2 ∷ Imm (pos n) ∷ rest) ∙ sym (first_word x (Slot n ∷ Imm i ∷ rest))
+words_listed f (x ∷ Object n ∷ Imm i ∷ rest) =
+    first_word x (Use 2 ∷ Imm (pos (own_size f + offset_of f.objects n) +ℤ i) ∷ rest) ∙ sym (first_word x (Object n ∷ Imm i ∷ rest))
+words_listed f _ = refl
 
 -- a call's row is a call's, and no other is
 call_listed : (f : FramedFunction) (os : List Operand) (call : Call) → row_by PseudoCall os ≡ Calls call →
@@ -141,9 +161,9 @@ way_of (Returns ending) = ending.way
 way_of _ = Back
 
 -- a return's opcode
-held_call_tag : (xs : List ℕ) (n : ℕ) → tag (held_call xs) ≡ suc n → suc n ≡ 3
-held_call_tag [] n e = absurd (omega (arith, e))
-held_call_tag (r ∷ xs) n e = sym e
+held_call_tag : (xs outgoing : List ℕ) (n : ℕ) → tag (held_call xs outgoing) ≡ suc n → suc n ≡ 3
+held_call_tag [] outgoing n e = absurd (omega (arith, e))
+held_call_tag (r ∷ xs) outgoing n e = sym e
 
 held_tail_back : (xs : List ℕ) (ending : Ending Callee) → held_tail xs ≡ Returns ending → ending.way ≡ Back → ⊥
 held_tail_back [] ending e back = cc
@@ -170,7 +190,7 @@ returns_op (Store op) (Use rs ∷ Object n ∷ Imm i ∷ rest) ending e back = c
 returns_op Copy (Def rd ∷ Use rs ∷ rest) ending e back = absurd (zero_one (tag_move rd rs) (ap tag e))
 returns_op PseudoBr (OfBlock target ∷ rest) ending e back = cc
 returns_op PseudoCall (Symbol name ∷ rest) ending e back = cc
-returns_op PseudoCallIndirect os ending e back = absurd (let three = held_call_tag (implicit_uses os) 0 (ap tag e) in omega (arith, three))
+returns_op PseudoCallIndirect os ending e back = absurd (let three = held_call_tag (implicit_uses os) (outgoing_words os) 0 (ap tag e) in omega (arith, three))
 returns_op PseudoTail (Symbol name ∷ rest) ending e back = absurd (let bad : Tail (Named name) ≡ Back = ap way_of e ∙ back in cc)
 returns_op PseudoTailIndirect os ending e back = absurd (held_tail_back (implicit_uses os) ending e back)
 returns_op NoReturnCall (Symbol name ∷ rest) ending e back = absurd (let bad : Never (Named name) ≡ Back = ap way_of e ∙ back in cc)
@@ -211,7 +231,7 @@ branch_inverted (Store op) (Use rs ∷ Object m ∷ Imm i ∷ rest) o a b n e = 
 branch_inverted Copy (Def rd ∷ Use rs ∷ rest) o a b n e = absurd (zero_one (tag_move rd rs) (ap tag e))
 branch_inverted PseudoBr (OfBlock target ∷ rest) o a b n e = cc
 branch_inverted PseudoCall (Symbol name ∷ rest) o a b n e = cc
-branch_inverted PseudoCallIndirect os o a b n e = absurd (let three = held_call_tag (implicit_uses os) 1 (ap tag e) in omega (arith, three))
+branch_inverted PseudoCallIndirect os o a b n e = absurd (let three = held_call_tag (implicit_uses os) (outgoing_words os) 1 (ap tag e) in omega (arith, three))
 branch_inverted PseudoTail (Symbol name ∷ rest) o a b n e = cc
 branch_inverted PseudoTailIndirect os o a b n e = absurd (held_tail_tag (implicit_uses os) (ap tag e))
 branch_inverted NoReturnCall (Symbol name ∷ rest) o a b n e = cc
@@ -224,11 +244,14 @@ op_or PseudoCallIndirect = inr (inl refl)
 op_or _ = inr (inr (λ e. cc, λ e. cc))
 
 call_or_unfit : (os : List Operand) → (row_by PseudoCall os ≡ Unfit) ⊎ ((call : Call) × (row_by PseudoCall os ≡ Calls call))
-call_or_unfit (Symbol name ∷ rest) = inr (record { callee = Named name; args = implicit_uses rest }, refl)
+call_or_unfit (Symbol name ∷ rest) = inr (record { callee = Named name; args = implicit_uses rest; outgoing = outgoing_words rest }, refl)
 call_or_unfit _ = inl refl
 
 no_some : (call : Call) → call_of (Calls call) ≡ None → ⊥
 no_some call e = cc
+
+pub held_listed : (f : FramedFunction) (os : List Operand) → row_by PseudoCallIndirect (by_pointer f os) ≡ row_by PseudoCallIndirect os
+held_listed f os = let uses = uses_listed f os in let words = words_listed f os in λ i. held_call (uses i) (words i)
 
 -- code that is none of a call is listed as none
 pub no_call_listed : (f : FramedFunction) (c : Instruction) → (row_of c ≡ Unfit → ⊥) → call_of (row_of c) ≡ None → call_of (row_of (listed f c)) ≡ None
@@ -239,7 +262,7 @@ no_call_listed f c fit none = elim (op_or c.op) as (λ _. call_of (row_of (liste
   ]
   | inr others ↦ elim others as (λ _. call_of (row_of (listed f c)) ≡ None) [
     | inl is ↦ ap (λ (o : Op). call_of (row_by o (by_pointer f c.operands))) is
-        ∙ ap (λ (xs : List ℕ). call_of (held_call xs)) (uses_listed f c.operands) ∙ sym (ap (λ (o : Op). call_of (row_by o c.operands)) is) ∙ none
+        ∙ ap call_of (held_listed f c.operands) ∙ sym (ap (λ (o : Op). call_of (row_by o c.operands)) is) ∙ none
     | inr ne ↦ not_call c.op ne.0 ne.1 (by_pointer f c.operands)
   ]
 ]
@@ -248,7 +271,7 @@ pub calls_listed : (f : FramedFunction) (c : Instruction) (call : Call) → row_
 calls_listed f c call e = elim (op_or c.op) as (λ _. row_of (listed f c) ≡ Calls call) [
   | inl is ↦ ap (λ (o : Op). row_by o (by_pointer f c.operands)) is ∙ call_listed f c.operands call (ap (λ (o : Op). row_by o c.operands) (sym is) ∙ e)
   | inr others ↦ elim others as (λ _. row_of (listed f c) ≡ Calls call) [
-    | inl is ↦ ap (λ (o : Op). row_by o (by_pointer f c.operands)) is ∙ ap held_call (uses_listed f c.operands)
+    | inl is ↦ ap (λ (o : Op). row_by o (by_pointer f c.operands)) is ∙ held_listed f c.operands
         ∙ sym (ap (λ (o : Op). row_by o c.operands) is) ∙ e
     | inr ne ↦ absurd (no_some call (ap call_of (sym e) ∙ not_call c.op ne.0 ne.1 c.operands))
   ]
@@ -270,9 +293,9 @@ left_move : (rd rs : ℕ) → left_by (move_row rd rs) ≡ None
 left_move rd zero = refl
 left_move rd (suc r) = refl
 
-left_held_call : (xs : List ℕ) → left_by (held_call xs) ≡ None
-left_held_call [] = refl
-left_held_call (r ∷ xs) = refl
+left_held_call : (xs outgoing : List ℕ) → left_by (held_call xs outgoing) ≡ None
+left_held_call [] outgoing = refl
+left_held_call (r ∷ xs) outgoing = refl
 
 -- an opcode of no ending but a return
 abbrev IsStaying : Op → Type 0
@@ -298,7 +321,7 @@ no_left Copy is (Def rd ∷ Use rs ∷ rest) = left_move rd rs
 no_left PseudoBr is (OfBlock target ∷ rest) = refl
 no_left PseudoCall is (Symbol name ∷ rest) = refl
 no_left PseudoRet is os = refl
-no_left PseudoCallIndirect is os = left_held_call (implicit_uses os)
+no_left PseudoCallIndirect is os = left_held_call (implicit_uses os) (outgoing_words os)
 no_left PseudoTail is os = absurd is
 no_left PseudoTailIndirect is os = absurd is
 no_left NoReturnCall is os = absurd is

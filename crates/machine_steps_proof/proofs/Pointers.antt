@@ -1,6 +1,6 @@
 -- What the rows of code do with x2, and where they go.
 use Rattle.std.proofs.Common.{◌≡◌, ℕ, zero, suc, ◌+◌, ◌-◌, ◌%◌, ◌^◌, ◌<◌, ◌≤◌, ℤ, pos}
-use Rattle.std.proofs.Common.{negsuc, ◌-ℤ◌, List, [], ◌∷◌, map, All, Contains, Option, Some, None, Bool}
+use Rattle.std.proofs.Common.{negsuc, ◌-ℤ◌, List, [], ◌∷◌, All, Contains, Option, Some, None, Bool}
 use Rattle.std.proofs.Common.{true, false}
 use Rattle.std.proofs.Common.{cond, nat_eq, nat_le, le-leb, refl, sym, ap, ◌∙◌, subst, arith}
 use Rattle.std.proofs.lemmas.List.Elements.{All-head, All-tail, All-weaker, All-contains_itself}
@@ -21,9 +21,9 @@ use Rattle.rv64_instr.specs.declared.start.CallTarget.{CallTarget}
 use Rattle.sem_mir.specs.Step.{numbered, called_at}
 use Rattle.sem_simulation.specs.Words.{SameCode}
 use Rattle.sem_simulation.proofs.Turns.{same_code}
-use Rattle.sem_mir.specs.State.{Core, Reply, content, put, put_all, writes_frame, RunResult}
+use Rattle.sem_mir.specs.State.{Core, Reply, content, put, put_all, RunResult}
 use Rattle.sem_mir.specs.Step.{Outcome, Falls, Goes, Traps, does, read}
-use Rattle.sem_mir.specs.Step.{is_fault, address_at, exec_external_call, slot_loaded, set_register}
+use Rattle.sem_mir.specs.Step.{is_fault, address_at, exec_external_call, call_faults, passed, slot_loaded, set_register}
 use Rattle.sem_mir.specs.Effects.{OnCore}
 use Rattle.sem_mir.proofs.Outcomes.{on_either}
 use Rattle.machine_steps_proof.specs.Laid.{target_of}
@@ -56,9 +56,9 @@ module _ (c : Core) where
   set_keeps : (rd v : ℕ) → (rd ≡ 2 → ⊥) → SamePointer c (set_register rd v c)
   set_keeps rd v ne = (put_two rd v c.regs ne, refl)
 
-  answer_keeps : (t : CallTarget) (args : List ℕ) (rs : List Reply) → OnCore (SamePointer c) (exec_external_call t args c rs)
-  answer_keeps t args [] = tt
-  answer_keeps t args (r ∷ rs) = on_either (SamePointer c) (writes_frame c.entry c.area r.writes) Traps _ tt
+  answer_keeps : (t : CallTarget) (args outgoing : List ℕ) (rs : List Reply) → OnCore (SamePointer c) (exec_external_call t args outgoing c rs)
+  answer_keeps t args outgoing [] = tt
+  answer_keeps t args outgoing (r ∷ rs) = on_either (SamePointer c) (call_faults c outgoing r) Traps _ tt
       (two_kept caller_saved r.regs c.regs (apart caller_saved refl), refl)
 
   slot_keeps : (rd : ℕ) (x : Option ℕ) → (rd ≡ 2 → ⊥) → OnCore (SamePointer c) (slot_loaded rd c x)
@@ -78,7 +78,7 @@ module _ (c : Core) where
   row_keeps (StoresSlot rs n) ne = (refl, refl)
   row_keeps (Branches op a b t) ne = on_either (SamePointer c) (taken op (read c a) (read c b)) (Goes t c) (Falls c) (refl, refl) (refl, refl)
   row_keeps (Jumps t) ne = (refl, refl)
-  row_keeps (Calls call) ne = answer_keeps (called_at c call.callee) (map (read c) call.args) c.script
+  row_keeps (Calls call) ne = answer_keeps (called_at c call.callee) (passed c call) call.outgoing c.script
   row_keeps (Returns v) ne = tt
   row_keeps Unfit ne = tt
 
@@ -129,9 +129,9 @@ loaded_target : (c : Core) (rd : ℕ) (x : Option ℕ) → IsTarget 0 (slot_load
 loaded_target c rd None = tt
 loaded_target c rd (Some v) = tt
 
-answered_target : (c : Core) (t : CallTarget) (args : List ℕ) (rs : List Reply) → IsTarget 0 (exec_external_call t args c rs)
-answered_target c t args [] = tt
-answered_target c t args (x ∷ rs) = either_target 0 (writes_frame c.entry c.area x.writes) Traps _ tt tt
+answered_target : (c : Core) (t : CallTarget) (args outgoing : List ℕ) (rs : List Reply) → IsTarget 0 (exec_external_call t args outgoing c rs)
+answered_target c t args outgoing [] = tt
+answered_target c t args outgoing (x ∷ rs) = either_target 0 (call_faults c outgoing x) Traps _ tt tt
 
 row_target : (r : Row) (c : Core) → IsTarget (target_of r) (does r c)
 unfolding does
@@ -140,7 +140,7 @@ row_target (Stores op rs b o) c = either_target 0 (is_fault b c (address_at c b 
 row_target (LoadsSlot rd n) c = loaded_target c rd (c.slots n)
 row_target (Branches op a b n) c = either_target n (taken op (read c a) (read c b)) (Goes n c) (Falls c) refl tt
 row_target (Jumps n) c = refl
-row_target (Calls call) c = answered_target c (called_at c call.callee) (map (read c) call.args) c.script
+row_target (Calls call) c = answered_target c (called_at c call.callee) (passed c call) call.outgoing c.script
 row_target _ c = tt
 
 pub goes_target : (r : Row) (c : Core) (n : ℕ) (d : Core) → does r c ≡ Goes n d → target_of r ≡ n
@@ -181,9 +181,9 @@ loaded_goes : (P : ℕ → Type 0) (c : Core) (rd : ℕ) (x : Option ℕ) → On
 loaded_goes P c rd None = tt
 loaded_goes P c rd (Some v) = tt
 
-answered_goes : (P : ℕ → Type 0) (c : Core) (t : CallTarget) (args : List ℕ) (rs : List Reply) → OnGoes P (exec_external_call t args c rs)
-answered_goes P c t args [] = tt
-answered_goes P c t args (x ∷ rs) = either_goes P (writes_frame c.entry c.area x.writes) Traps _ tt tt
+answered_goes : (P : ℕ → Type 0) (c : Core) (t : CallTarget) (args outgoing : List ℕ) (rs : List Reply) → OnGoes P (exec_external_call t args outgoing c rs)
+answered_goes P c t args outgoing [] = tt
+answered_goes P c t args outgoing (x ∷ rs) = either_goes P (call_faults c outgoing x) Traps _ tt tt
 
 row_contains : (ids : List ℕ) (r : Row) (c : Core) → TargetIn ids r → OnGoes (Contains ids) (does r c)
 unfolding does
@@ -192,7 +192,7 @@ row_contains ids (Stores op rs b o) c h = either_goes (Contains ids) (is_fault b
 row_contains ids (LoadsSlot rd n) c h = loaded_goes (Contains ids) c rd (c.slots n)
 row_contains ids (Branches op a b n) c h = either_goes (Contains ids) (taken op (read c a) (read c b)) (Goes n c) (Falls c) h tt
 row_contains ids (Jumps n) c h = h
-row_contains ids (Calls call) c h = answered_goes (Contains ids) c (called_at c call.callee) (map (read c) call.args) c.script
+row_contains ids (Calls call) c h = answered_goes (Contains ids) c (called_at c call.callee) (passed c call) call.outgoing c.script
 row_contains ids _ c h = tt
 
 pub goes_into : (ids : List ℕ) (r : Row) (c : Core) (n : ℕ) (d : Core) → TargetIn ids r → does r c ≡ Goes n d → Contains ids n
@@ -232,9 +232,10 @@ word_goes target object part (Calls call) m v e = callee_goes 1 call.callee m v 
 word_goes target object part (Returns ending) m v e = way_goes ending.way m v e
 word_goes target object part _ m v e = row_ends _ m v e
 
-pub call_goes : (size : ℕ) (t : CallTarget) (args : List ℕ) (m : Machine) (rs : List Reply) (v : RunResult) → machine.step_call size t args m rs ≡ Ends v → ⊥
-call_goes size t args m [] v e = cc
-call_goes size t args m (r ∷ rs) v e = cc
+pub call_goes : (size : ℕ) (t : CallTarget) (args outgoing : List ℕ) (m : Machine) (rs : List Reply) (v : RunResult) →
+    machine.step_call size t args outgoing m rs ≡ Ends v → ⊥
+call_goes size t args outgoing m [] v e = cc
+call_goes size t args outgoing m (r ∷ rs) v e = cc
 
 -- a number changes no place
 pub numbered_code : (sp call : Bool) (k : Option ℕ) (os : List Operand) (c : Core) → SameCode (numbered sp call k os c) c

@@ -1,5 +1,5 @@
 -- The machine at the address of code, row by row: its step is that of the function with its frame.
-use Rattle.std.proofs.Common.{◌≡◌, ℕ, suc, ◌+◌, ◌-◌, ◌%◌, ◌^◌, ◌<◌, ℤ, pos, ◌-ℤ◌, map, All, Option, Some, None, Bool, true, false}
+use Rattle.std.proofs.Common.{◌≡◌, ℕ, suc, ◌+◌, ◌-◌, ◌%◌, ◌^◌, ◌<◌, ℤ, pos, ◌-ℤ◌, All, Contains, Option, Some, None, Bool, true, false}
 use Rattle.std.proofs.Common.{cond, refl, sym, ap, ◌∙◌, subst, inl, inr, arith}
 use Rattle.rv64_instr.specs.declared.op.BranchOp.{BranchOp}
 use Rattle.rv64_instr.specs.Arithmetic.{word, taken}
@@ -19,6 +19,7 @@ use Rattle.mir_func.specs.declared.position.Pos.{Pos}
 use Rattle.mir_func.specs.Function.{FramedFunction}
 use Rattle.mir_func.specs.Graph.{Here, below, block_start, index_of}
 use Rattle.mir_func.specs.Sound.{SlotsIn, ObjectsIn, SlotIn, ObjectIn}
+use Rattle.mir_func.proofs.Passed.{slots_passed, passed_slots}
 use Rattle.mir_func.specs.SoundFrame.{adds_to_pointer, body_of, HasPhysical, slot_offsets, IsFramed}
 use Rattle.sem_mir.specs.State.{Core, State, content, RunResult}
 use Rattle.sem_mir.specs.Step.{Outcome, Falls, Goes, Gives, Traps, Asks, Breaks, act, does, read, or_zero, numbered, with_core, result_at}
@@ -59,8 +60,15 @@ module _ (f : FramedFunction) (framed : IsFramed f) (resolve : OperandPair →
   physical : All (λ r. r < 32) (reads r)
   physical = reads_physical c (subst HasPhysical kind (of_item f (λ (j : Item). HasPhysical j.kind) framed.physical t.pos i here))
 
+  named_in : SlotsIn (slot_offsets f) (Code c k)
+  named_in = subst (SlotsIn (slot_offsets f)) kind (of_item f (λ (j : Item). SlotsIn (slot_offsets f) j.kind) framed.slots t.pos i here)
+
   slots_in : SlotIn (slot_offsets f) r
-  slots_in = subst (SlotsIn (slot_offsets f)) kind (of_item f (λ (j : Item). SlotsIn (slot_offsets f) j.kind) framed.slots t.pos i here)
+  slots_in = named_in.0
+
+  -- the slots that a call passes are the frame's
+  declared : (call : CallSite) → r ≡ Calls call → All (Contains (slot_offsets f)) call.outgoing
+  declared call e = subst (λ (x : Row). All (Contains (slot_offsets f)) (slots_passed x)) e (passed_slots (slot_offsets f) c named_in.1)
 
   objects_in : ObjectIn f.objects r
   objects_in = subst (ObjectsIn f.objects) kind (of_item f (λ (j : Item). ObjectsIn f.objects j.kind) framed.objects t.pos i here)
@@ -233,11 +241,12 @@ module _ (f : FramedFunction) (framed : IsFramed f) (resolve : OperandPair →
 
   at_call : (call : CallSite) → r ≡ Calls call → HasCall f image laid.address t.pos i call → AtCode f resolve image laid t m i
   at_call call e w = single w.line (line_is w.line w.stands) w.origin
-      (by_call (does r t.core) refl (machine.step_call (machine.callee_size call.callee) (machine.called_at m call.callee) (map (register m) call.args) m
+      (by_call (does r t.core) refl (machine.step_call (machine.callee_size call.callee) (machine.called_at m call.callee) (machine.passed m call)
+      call.outgoing m
       m.script) (w.step m level.counter)
       (subst (λ (x : Row). FollowsCall f m (machine.callee_size call.callee) (does x t.core)
-      (machine.step_call (machine.callee_size call.callee) (machine.called_at m call.callee) (map (register m) call.args) m m.script)) (sym e)
-      (calls f framed t.core m h call level.range (needs (subst NeedsFrame (sym e) tt))))) where
+      (machine.step_call (machine.callee_size call.callee) (machine.called_at m call.callee) (machine.passed m call) call.outgoing m m.script)) (sym e)
+      (calls f framed t.core m h call level.range (needs (subst NeedsFrame (sym e) tt)) (declared call e)))) where
         by_call : (x : Outcome) → does r t.core ≡ x → (st : Stepped) → machine_step image m ≡ st → FollowsCall f m (machine.callee_size call.callee) x st →
             OneStep f resolve image laid t m
         by_call (Falls d) g st s (n, q, counter, b) =
@@ -245,7 +254,7 @@ module _ (f : FramedFunction) (framed : IsFramed f) (resolve : OperandPair →
             (level_falls d n g b (counter ∙ ap (λ (a : ℕ). a + machine.callee_size call.callee) level.counter ∙ sym w.next))
         by_call Asks g st s x = waits (steps_as Asks g) (s ∙ x)
         by_call Traps g st s x = faults (steps_as Traps g)
-            (λ v q. call_goes (machine.callee_size call.callee) (machine.called_at m call.callee) (map (register m) call.args) m m.script v
+            (λ v q. call_goes (machine.callee_size call.callee) (machine.called_at m call.callee) (machine.passed m call) call.outgoing m m.script v
             (sym (w.step m level.counter) ∙ q))
         by_call (Goes b d) g st s x = absurd x
         by_call (Gives v) g st s x = absurd x

@@ -6,7 +6,7 @@ use Rattle.std.proofs.lemmas.Bool.{cases_eq}
 use Rattle.std.proofs.lemmas.List.Elements.{All-contains}
 use Rattle.rv64_instr.specs.declared.operand.Operand.{Operand}
 use Rattle.rv64_instr.specs.Arithmetic.{word}
-use Rattle.rv64_instr.specs.Row.{Row, StoresSlot, Branches, Jumps, Returns, Unfit, row_of}
+use Rattle.rv64_instr.specs.Row.{Row, StoresSlot, Branches, Jumps, Calls, Returns, Unfit, row_of}
 use Rattle.rv64_instr.specs.Row.{add_row}
 use Rattle.rv64_instr.specs.LocationEffects.{is_call}
 use Rattle.mir_func.specs.declared.debug_substitution.OperandPair.{OperandPair}
@@ -22,6 +22,7 @@ use Rattle.mir_func.specs.Sound.{SlotIn, SlotsIn}
 use Rattle.mir_func.specs.SoundFrame.{adds_to_pointer, slot_offsets, IsSlotOffset, IsFramed}
 use Rattle.sem_mir.specs.ValueId.{Token, Tokens, register_token, moved_tokens, sets_pointer, code_tokens, numbered_tokens, after_item, after_fetch}
 use Rattle.sem_mir.specs.ValueId.{Path, begin, onward}
+use Rattle.sem_mir.proofs.Places.{without_some}
 use Rattle.machine_steps_proof.specs.Laid.{fetched}
 use Rattle.machine_steps_proof.specs.Pointer.{lowered_by}
 use Rattle.machine_steps_proof.proofs.Points.{of_item, PointerMotion, keeps, lowers, raises, leaves, pointer_motion, start_down}
@@ -38,6 +39,7 @@ moved_slots n (StoresSlot rs j) t o k e = elim (cases_eq o j) as (λ _. CameFrom
   | inl same ↦ inr (rs, ap (StoresSlot rs) (sym same))
   | inr other ↦ inl (ap (λ (b : Bool). cond b (register_token t.regs rs) (t.slots o)) (sym (ne_eqb o j other)) ∙ e)
 ]
+moved_slots n (Calls call) t o k e = inl (without_some call.outgoing o k t.slots e)
 moved_slots n _ t o k e = inl e
 
 code_slots : (n : ℕ) (row : Row) (t : Tokens) (o : ℕ) (k : Token) → (code_tokens n row t).slots o ≡ Some k → (sets_pointer row ≡ false) × CameFrom row t o k
@@ -107,7 +109,7 @@ module _ (f : FramedFunction) (framed : IsFramed f) (resolve : OperandPair → O
   stored_in : (p : Pos) (i : Item) (c : _) (j : Option ℕ) (rs o : ℕ) → fetched f p ≡ Here i → i.kind ≡ Code c j → row_of c ≡ StoresSlot rs o → IsSlotOffset f o
   stored_in p i c j rs o here kind row =
       let slots = subst (SlotsIn (slot_offsets f)) kind (of_item f (λ (x : Item). SlotsIn (slot_offsets f) x.kind) framed.slots p i here) in
-      All-contains (IsSlotOffset f) (slot_offsets f) o framed.offsets (subst (SlotIn (slot_offsets f)) row slots)
+      All-contains (IsSlotOffset f) (slot_offsets f) o framed.offsets (subst (SlotIn (slot_offsets f)) row slots.0)
 
   -- the slot is one of the frame's
   pub slot_offset : {n : ℕ} {p : Pos} {t : Tokens} → Path g (block_start 0) n p t → (o : ℕ) (k : Token) → t.slots o ≡ Some k → IsSlotOffset f o

@@ -1,5 +1,5 @@
 -- The code of a function with its frame in an image: each instruction's address, and the machine's step there.
-use Rattle.std.specs.Prelude.{◌≡◌, ◌⊎◌, ℕ, suc, ◌+◌, drop, map, Option, Some, false, cond}
+use Rattle.std.specs.Prelude.{◌≡◌, ◌⊎◌, ℕ, suc, ◌+◌, drop, Option, Some, false, cond}
 use Rattle.rv64_instr.specs.Instruction.{Instruction}
 use Rattle.rv64_instr.specs.declared.op.BranchOp.{BranchOp}
 use Rattle.rv64_instr.specs.Arithmetic.{taken}
@@ -23,7 +23,7 @@ use Rattle.mir_func.specs.Positions.{position_of}
 use Rattle.sem_mir.specs.Align.{is_code}
 use Rattle.sem_machine.specs.Image.{CodeLine, Image, line_at}
 use Rattle.sem_machine.specs.Machine.{Machine, register}
-use Rattle.sem_machine.specs.MachineStep.{Continues, Ends, past, at, step_call, machine_step, called_at, result_at, callee_size}
+use Rattle.sem_machine.specs.MachineStep.{Continues, Ends, past, at, step_call, machine_step, called_at, passed, result_at, callee_size}
 use Rattle.sem_machine.specs.MachineStep as machine
 use Rattle.emit_code.specs.Rule.{object_offset}
 
@@ -78,7 +78,7 @@ module _ (f : FramedFunction) (image : Image) (address : Pos → ℕ) where
     pub origin : line.origin ≡ i.origin
     pub next : address (below p) ≡ address p + callee_size call.callee
     pub step : (m : Machine) → m.counter ≡ address p →
-        machine_step image m ≡ step_call (callee_size call.callee) (called_at m call.callee) (map (register m) call.args) m m.script
+        machine_step image m ≡ step_call (callee_size call.callee) (called_at m call.callee) (passed m call) call.outgoing m m.script
 
   -- an ending has one line: the machine's step ends the run with its result
   pub record HasReturn (p : Pos) (i : Item) (ending : Ending Callee) : Type 0 where

@@ -9,3 +9,4 @@ pub mod Stripping
 pub mod Ways
 pub mod Descents
 pub mod Leading
+pub mod Passed

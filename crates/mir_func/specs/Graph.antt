@@ -62,6 +62,15 @@ abbrev pub from_block : List Block → ℕ → List Block
 from_block [] n = []
 from_block (b ∷ bs) n = cond (nat_eq b.id n) (b ∷ bs) (from_block bs n)
 
+-- the items of the first of the blocks from an index on
+abbrev pub rest_in : List Block → ℕ → List Item
+rest_in [] n = []
+rest_in (b ∷ bs) n = drop n b.items
+
+-- the items from a position to its block's end
+abbrev pub rest_of : List Block → Pos → List Item
+rest_of blocks p = rest_in (from_block blocks p.block) p.item
+
 -- a function as a program, in whose positions a block is a block's number
 abbrev pub program_of : (sees_pointer : Bool) → List Block → (OperandPair → Option OperandPair) → Program
 program_of sp blocks resolve = record { fetch = λ p. fetch_in (from_block blocks p.block) p.item; enter = λ n. n; resolve = resolve; sees_pointer = sp }

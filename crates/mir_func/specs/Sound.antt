@@ -4,7 +4,7 @@ use Rattle.std.specs.List.{flat_map}
 use Rattle.rv64_instr.specs.declared.operand.Operand.{Operand}
 use Rattle.rv64_instr.specs.declared.operand.Operand.TheVariants.{Def, Use, ImplicitDef, ImplicitUse, Imm, Slot as OfSlot, Object as OfObject, Part}
 use Rattle.rv64_instr.specs.declared.operand.Operand.TheVariants.{Block as OfBlock}
-use Rattle.rv64_instr.specs.declared.operand.Operand.TheVariants.{Symbol, Mask}
+use Rattle.rv64_instr.specs.declared.operand.Operand.TheVariants.{Symbol, Mask, Outgoing}
 use Rattle.rv64_instr.specs.declared.place.Place.{Place}
 use Rattle.rv64_instr.specs.declared.place.Place.TheVariants.{Register, Slot, Const}
 use Rattle.rv64_instr.specs.Row.{Base, PointedBy, ObjectAt, BesidePart}
@@ -76,6 +76,11 @@ AccessedSlotIn slots _ = Unit {0}
 abbrev pub SlotIn : List ℕ → Row → Type 0
 SlotIn slots row = AccessedSlotIn slots (access_of row)
 
+-- a slot that an operand passes to a callee is one of these
+abbrev pub PassedIn : List ℕ → Operand → Type 0
+PassedIn slots (Outgoing n) = Contains slots n
+PassedIn slots _ = Unit {0}
+
 -- a slot that a phi's place names is one of these
 abbrev pub PlaceIn : List ℕ → Option Place → Type 0
 PlaceIn slots (Some (Slot n)) = Contains slots n
@@ -85,7 +90,7 @@ PlaceIn slots None = Unit {0}
 
 -- a slot that an item names is one of these
 abbrev pub SlotsIn : List ℕ → ItemKind → Type 0
-SlotsIn slots (Code i k) = SlotIn slots (row_of i)
+SlotsIn slots (Code i k) = SlotIn slots (row_of i) × All (PassedIn slots) i.operands
 SlotsIn slots (Mark v m) = Unit {0}
 SlotsIn slots (Phi p k) = PlaceIn slots p
 
@@ -126,6 +131,7 @@ IsNotPointer (Imm i) = Unit {0}
 IsNotPointer (OfSlot n) = Unit {0}
 IsNotPointer (OfObject n) = Unit {0}
 IsNotPointer (Part half y) = Unit {0}
+IsNotPointer (Outgoing n) = Unit {0}
 IsNotPointer (OfBlock n) = Unit {0}
 IsNotPointer (Symbol name) = Unit {0}
 IsNotPointer Mask = Unit {0}

@@ -9,7 +9,7 @@ use Rattle.rv64_instr.specs.declared.op.StoreOp.TheVariants.{Sd}
 use Rattle.rv64_instr.specs.declared.operand.Operand.{Operand}
 use Rattle.rv64_instr.specs.declared.operand.Operand.TheVariants.{Def, Use, ImplicitDef, ImplicitUse, Imm, Slot, Object as OfObject, Part, Block as OfBlock}
 use Rattle.rv64_instr.specs.declared.operand.Operand.TheVariants.{Symbol}
-use Rattle.rv64_instr.specs.declared.operand.Operand.TheVariants.{Mask}
+use Rattle.rv64_instr.specs.declared.operand.Operand.TheVariants.{Mask, Outgoing}
 use Rattle.rv64_instr.specs.declared.place.Place.{Place}
 use Rattle.rv64_instr.specs.declared.place.Place.TheVariants.{Register, Slot as InSlot, Const}
 use Rattle.rv64_instr.specs.Instruction.{Instruction}
@@ -49,6 +49,7 @@ IsPhysical (Imm i) = Unit {0}
 IsPhysical (Slot n) = Unit {0}
 IsPhysical (OfObject n) = Unit {0}
 IsPhysical (Part half y) = Unit {0}
+IsPhysical (Outgoing n) = Unit {0}
 IsPhysical (OfBlock n) = Unit {0}
 IsPhysical (Symbol name) = Unit {0}
 IsPhysical Mask = Unit {0}

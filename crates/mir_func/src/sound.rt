@@ -11,6 +11,7 @@ ghost use Rattle.mir_func.specs.Sound.{
   TargetIn,
   TargetsIn,
   SlotIn,
+  PassedIn,
   SlotsIn,
   ObjectIn,
   ObjectsIn,
@@ -168,7 +169,9 @@ fn is_slot_there(slots: &Numbers, kind: &ItemKind) -> bool
     ensures { IsTrue result ↔ SlotsIn slots.now kind.now }
 {
     match kind {
-        ItemKind::Code(i, _) => is_row_slot_there(slots, &i.decoded()),
+        ItemKind::Code(i, _) => {
+            is_row_slot_there(slots, &i.decoded()) && are_passed_there(slots, i.operands.as_slice())
+        }
         ItemKind::Phi(Some(Place::Slot(n)), _) => slots.contains(n.number()),
         ItemKind::Mark(_, _) | ItemKind::Phi(_, _) => true,
     }
@@ -180,6 +183,24 @@ fn is_row_slot_there(slots: &Numbers, decoded: &Decoded) -> bool
     match *decoded {
         Decoded::LoadsSlot(_, n) => slots.contains(n.number()),
         Decoded::StoresSlot(_, n) => slots.contains(n.number()),
+        _ => true,
+    }
+}
+
+/// Whether each slot that code passes to a callee is one of these.
+fn are_passed_there(slots: &Numbers, operands: &[Operand]) -> bool
+    ensures { IsTrue result ↔ All (PassedIn slots.now) operands.now }
+{
+    operands
+        .iter()
+        .all(|operand| is_passed_there(slots, operand))
+}
+
+fn is_passed_there(slots: &Numbers, operand: &Operand) -> bool
+    ensures { IsTrue result ↔ PassedIn slots.now operand.now }
+{
+    match operand {
+        Operand::Outgoing(n) => slots.contains(n.number()),
         _ => true,
     }
 }

@@ -6,7 +6,7 @@ use Rattle.std.specs.Prelude.{codes, map}
 use Rattle.std.specs.Fmt.{decimal}
 use Rattle.std.proofs.lemmas.Bool.{ltb-false, ne_eqb}
 use Rattle.rv64_instr.specs.declared.operand.Operand.{Operand}
-use Rattle.rv64_instr.specs.declared.operand.Operand.TheVariants.{Def, Use, ImplicitDef, ImplicitUse, Imm, Slot, Object, Part, Block, Symbol, Mask}
+use Rattle.rv64_instr.specs.declared.operand.Operand.TheVariants.{Def, Use, ImplicitDef, ImplicitUse, Imm, Slot, Object, Part, Outgoing, Block, Symbol, Mask}
 use Rattle.mir_printer.specs.Spelling.{comma_separated, is_bare, is_definition, operand_text, register_text, uses_text}
 use Rattle.mir_printer.specs.Spelling.{linked_symbol_text, addend_text, half_text, part_text}
 use Rattle.rv64_instr.specs.declared.symbol.Symbol.{Symbol as Linked}
@@ -60,6 +60,7 @@ data Lead : Type 0 where
   at_mask : Lead
   at_implicit : Lead
   at_part : Lead
+  at_outgoing : Lead
   at_number : Lead
 
 abbrev after_percent : List ℕ → Lead
@@ -69,7 +70,8 @@ after_percent (b ∷ bs) = cond (nat_eq b 115) at_stack (cond (nat_eq b 98) at_b
 abbrev lead : List ℕ → Lead
 lead [] = at_number
 lead (b ∷ bs) = cond (nat_eq b 36) at_register (cond (nat_eq b 37) (after_percent bs)
-    (cond (nat_eq b 64) at_symbol (cond (nat_eq b 109) at_mask (cond (nat_eq b 105) at_implicit (cond (nat_eq b 116) at_part at_number)))))
+    (cond (nat_eq b 64) at_symbol (cond (nat_eq b 109) at_mask (cond (nat_eq b 105) at_implicit (cond (nat_eq b 116) at_part
+    (cond (nat_eq b 111) at_outgoing at_number))))))
 
 abbrev lead_of : Operand → Lead
 lead_of (Def r) = at_register
@@ -80,6 +82,7 @@ lead_of (Imm i) = at_number
 lead_of (Slot n) = at_stack
 lead_of (Object n) = at_stack
 lead_of (Part half y) = at_part
+lead_of (Outgoing n) = at_outgoing
 lead_of (Block n) = at_block
 lead_of (Symbol name) = at_symbol
 lead_of Mask = at_mask
@@ -97,6 +100,7 @@ number_lead b bs low high =
       ne_eqb b 105 (λ e. omega arith),
       ne_eqb b 116
           (λ e. omega arith),
+      ne_eqb b 111 (λ e. omega arith),
     ) refl
 
 register_lead : (p : Bool) (n : ℕ) (r : List ℕ) → IsNumber n → lead (register_by p n ++ r) ≡ at_register
@@ -241,6 +245,11 @@ operand_one (Block m) (Block n) r s is others follow follows e =
     let tails : decimal m ++ r ≡ decimal n ++ s = cc in
     let found = number_one m n r s is.1 others.1 follow.digits follows.digits tails in (ap Block found.0, found.1)
 operand_one (Part h y) (Part k z) r s is others follow follows e = part_one h k y z r s is.1 others.1 follow follows e
+operand_one (Outgoing m) (Outgoing n) r s is others follow follows e =
+    let grouped : (k : ℕ) (t : List ℕ) → operand_text (Outgoing k) ++ t ≡ codes "outgoing(" ++ (decimal k ++ (codes ")" ++ t)) = λ k t. simp append_assoc in
+    let tails = front_one (codes "outgoing(") _ _ (sym (grouped m r) ∙ e ∙ grouped n s) in
+    let found = number_one m n (codes ")" ++ r) (codes ")" ++ s) is.1 others.1 refl refl tails in
+    (ap Outgoing found.0, front_one (codes ")") r s found.1)
 operand_one (Symbol a) (Symbol b) r s is others follow follows e =
     let found = symbol_one a b r s follow.bare follows.bare e in (ap Symbol found.0, found.1)
 operand_one Mask Mask r s is others follow follows e = (refl, (let tails : r ≡ s = cc in tails))

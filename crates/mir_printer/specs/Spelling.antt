@@ -6,6 +6,7 @@ use Rattle.std.specs.List.{flat_map, list_all}
 use Rattle.std.specs.Fmt.{decimal, signed_decimal}
 use Rattle.rv64_instr.specs.declared.operand.Operand.{Operand}
 use Rattle.rv64_instr.specs.declared.operand.Operand.TheVariants.{Def, Use, ImplicitDef, ImplicitUse, Imm, Slot as SlotOperand, Object, Part, Block, Symbol}
+use Rattle.rv64_instr.specs.declared.operand.Operand.TheVariants.{Outgoing}
 use Rattle.rv64_instr.specs.declared.operand.Operand.TheVariants.{Mask}
 use Rattle.rv64_instr.specs.declared.symbol.Symbol.{Symbol as Linked}
 use Rattle.rv64_instr.specs.declared.symbol.Symbol.TheVariants.{Global, Constant as PoolConstant}
@@ -90,6 +91,7 @@ operand_text (Imm i) = signed_decimal i
 operand_text (SlotOperand n) = codes "%stack." ++ decimal n
 operand_text (Object n) = codes "%stack." ++ decimal n
 operand_text (Part half y) = part_text half y
+operand_text (Outgoing n) = codes "outgoing(" ++ (decimal n ++ codes ")")
 operand_text (Block n) = codes "%bb." ++ decimal n
 operand_text (Symbol name) = symbol_text name
 operand_text Mask = codes "mask"
@@ -104,6 +106,7 @@ is_definition (Imm i) = false
 is_definition (SlotOperand n) = false
 is_definition (Object n) = false
 is_definition (Part half y) = false
+is_definition (Outgoing n) = false
 is_definition (Block n) = false
 is_definition (Symbol name) = false
 is_definition Mask = false

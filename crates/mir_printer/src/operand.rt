@@ -7,6 +7,7 @@ ghost use Rattle.mir_printer.specs.Spelling.{operand_text, part_text, register_t
 
 use crate::symbol::push_symbol;
 use crate::text::{Text, push_numbered, push_signed, push_str};
+use base_ids::function_ids::SlotId;
 use rv64_instr::operand::Operand;
 use rv64_instr::reg::Reg;
 use rv64_instr::symbol::{Half, LinkedAddress, Symbol};
@@ -25,10 +26,20 @@ pub(crate) fn push_operand(text: &mut Text, operand: &Operand) -> Result<(), All
         Operand::Slot(n) => push_numbered(text, "%stack.", n.number()),
         Operand::Object(n) => push_numbered(text, "%stack.", n.number()),
         Operand::Part(half, address) => push_part(text, *half, address),
+        Operand::Outgoing(n) => push_outgoing(text, *n),
         Operand::Block(n) => push_numbered(text, "%bb.", n.number()),
         Operand::Symbol(name) => push_symbol(text, name.as_slice()),
         Operand::Mask => push_str(text, "mask"),
     }
+}
+
+/// Appends a slot that a call passes.
+fn push_outgoing(text: &mut Text, n: SlotId) -> Result<(), AllocError>
+    ensures ok { OnOk result (text.new ≡ text.old ++ operand_text (Operand.Outgoing n)) }
+    ensures err { OnErr result (GrownFrom text.old text.new) }
+{
+    push_numbered(text, "outgoing(", n.number())?;
+    push_str(text, ")")
 }
 
 /// Appends a half of an address.

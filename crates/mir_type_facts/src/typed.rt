@@ -2,7 +2,8 @@
 
 ghost use Rattle.std.specs.Prelude.{All, IfSome};
 ghost use Rattle.rv64_instr.specs.Form.{IsSigned};
-ghost use Rattle.mir_printer.specs.Printable.{IsNumber, HasNumbers, HasSymbolNumber, HasAddressNumbers, IsPrintableValue, IsPrintableLoc};
+ghost use Rattle.mir_printer.specs.Printable.{IsNumber, HasNumbers, HasSymbolNumber, HasAddressNumbers};
+ghost use Rattle.mir_printer.specs.Printable.{IsPrintableValue, IsPrintableLoc};
 ghost use Rattle.mir_func.specs.Parts.{IsPart};
 ghost use Rattle.mir_type_facts.specs.Typed.{IsTypedBlock, IsTypedItem, IsTypedKind, IsTypedCode, IsTypedVariable};
 ghost use Rattle.mir_type_facts.specs.Typed.{IsTypedPlace, IsTypedPair, IsTypedEntry};
@@ -110,7 +111,7 @@ fn operand_is_typed(operand: &Operand)
         Operand::Def(r) | Operand::Use(r) | Operand::ImplicitDef(r) | Operand::ImplicitUse(r) =>
             register(*r),
         Operand::Imm(i) => signed(*i),
-        Operand::Slot(n) => slot(*n),
+        Operand::Slot(n) | Operand::Outgoing(n) => slot(*n),
         Operand::Object(n) => object(*n),
         Operand::Part(_, address) => address_is_typed(address),
         Operand::Block(n) => block_number(*n),

@@ -1,5 +1,5 @@
 -- Items from which control goes on to the next: they go nowhere else.
-use Rattle.std.proofs.Common.{◌≡◌, ℕ, List, [], ◌∷◌, ◌++◌, map, All, Option, Some, None, Bool, true, false, cond, refl, ap, subst}
+use Rattle.std.proofs.Common.{◌≡◌, ℕ, List, [], ◌∷◌, ◌++◌, All, Option, Some, None, Bool, true, false, cond, refl, ap, subst}
 use Rattle.std.proofs.lemmas.List.Elements.{All-nil, All-cons}
 use Rattle.rv64_instr.specs.Row.{Row, Loads, Stores, LoadsSlot, Calls, row_of}
 use Rattle.rv64_instr.specs.DefsAndUses.{reads}
@@ -13,9 +13,9 @@ use Rattle.mir_func.specs.declared.item.ItemKind.TheVariants.{Code, Mark, Phi}
 use Rattle.mir_func.specs.Exits.{row_exit, exit_of, IsAlways}
 use Rattle.mir_func.specs.Graph.{Program}
 use Rattle.mir_func.specs.Sound.{IsJumpAtMost, MayFollow, EndsWell}
-use Rattle.sem_mir.specs.State.{Core, Reply, writes_frame}
+use Rattle.sem_mir.specs.State.{Core, Reply}
 use Rattle.sem_mir.specs.Step.{Outcome, Falls, Goes, Gives, Traps, Asks, Breaks, act, does, are_written, with_core, numbered, slot_loaded, called_at}
-use Rattle.sem_mir.specs.Step.{exec_external_call, read, do_item}
+use Rattle.sem_mir.specs.Step.{exec_external_call, passed, call_faults, do_item}
 use Rattle.sem_mir.specs.Step.{is_fault, address_at}
 use Rattle.pass_edits.specs.Edits.{IsMove}
 
@@ -36,9 +36,9 @@ does_nowhere (LoadsSlot rd n) c on t e h = by_slot (c.slots n) h where
   by_slot None h = cc
   by_slot (Some v) h = cc
 does_nowhere (Calls call) c on t e h = by_script c.script h where
-  by_script : (rs : List Reply) → exec_external_call (called_at c call.callee) (map (read c) call.args) c rs ≡ Goes t e → ⊥
+  by_script : (rs : List Reply) → exec_external_call (called_at c call.callee) (passed c call) call.outgoing c rs ≡ Goes t e → ⊥
   by_script [] h = cc
-  by_script (r ∷ rest) h = by_test (writes_frame c.entry c.area r.writes) Traps (Falls _) (λ u d k. cc) (λ u d k. cc) t e h
+  by_script (r ∷ rest) h = by_test (call_faults c call.outgoing r) Traps (Falls _) (λ u d k. cc) (λ u d k. cc) t e h
 does_nowhere _ c on t e h = cc
 
 act_nowhere : (r : Row) (c : Core) → row_exit r ≡ Onward → GoesNowhere (act r c)

@@ -11,3 +11,4 @@ pub mod Visits
 pub mod Answers
 pub mod Ready
 pub mod Stripped
+mod Passing

@@ -8,12 +8,12 @@ use Rattle.rv64_instr.specs.LocationEffects.{is_implicit_use}
 use Rattle.rv64_instr.specs.Row.{Row}
 use Rattle.rv64_instr.specs.View.{Write, SetsNothing, SetsRegister, SetsSlot, Clobbers, write_of}
 
--- the place that a write sets; x0 too. A call sets its registers otherwise
+-- the place that a write sets; x0 too. A call sets its registers and slots otherwise
 abbrev pub place_written : Write → Option Place
 place_written SetsNothing = None
 place_written (SetsRegister rd value) = Some (Register rd)
 place_written (SetsSlot n rs) = Some (Slot n)
-place_written Clobbers = None
+place_written (Clobbers outgoing) = None
 
 -- the place that the row sets, if it sets one by an explicit operand
 abbrev pub place_defined : Row → Option Place

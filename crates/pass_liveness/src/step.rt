@@ -4,8 +4,8 @@ ghost use Rattle.std.specs.Prelude.{◌≡◌, ◌<◌, ◌||◌, ◌&&◌, not,
 ghost use Rattle.rv64_instr.specs.declared.place.Place.{Place};
 ghost use Rattle.rv64_instr.specs.Row.{Row, row_of};
 ghost use Rattle.rv64_instr.specs.Decoded.{Shows};
-ghost use Rattle.rv64_instr.specs.LocationEffects.{uses_of, defines_of};
-ghost use Rattle.mir_func.specs.Sound.{SlotIn, SlotsIn};
+ghost use Rattle.rv64_instr.specs.LocationEffects.{uses_of, defines_of, is_passed};
+ghost use Rattle.mir_func.specs.Sound.{SlotIn, PassedIn, SlotsIn};
 ghost use Rattle.pass_liveness.specs.Sets.{has};
 ghost use Rattle.pass_liveness.specs.Walk.{live_before};
 ghost use Rattle.pass_liveness.specs.Steps.{place_defined, reads_implicitly, is_among};
@@ -53,7 +53,7 @@ impl SlotAndBlockNumbers {
     }
 
     fn over_code(&self, set: &mut PlaceSet, i: &Instr)
-        ensures { SlotIn self.now.slots (row_of i.now) → (x : Place) →
+        ensures { SlotIn self.now.slots (row_of i.now) × All (PassedIn self.now.slots) i.now.operands → (x : Place) →
             has self.now.slots set.new x
             ≡ (uses_of i.now x || (has self.now.slots set.old x && not (defines_of (row_of i.now) x))) }
     {
@@ -62,9 +62,14 @@ impl SlotAndBlockNumbers {
         match decoded {
             Decoded::Calls(_) => {
                 self.remove_registers(set, &CALLER_SAVED);
+                self.remove_passed(set, operands);
                 self.insert_implicit(set, operands);
+                self.insert_passed(set, operands);
             }
-            Decoded::Returns(_) => self.insert_implicit(set, operands),
+            Decoded::Returns(_) => {
+                self.insert_implicit(set, operands);
+                self.insert_passed(set, operands);
+            }
             Decoded::Jumps(_)
             | Decoded::Branches(_, _, _, _)
             | Decoded::Fixes(_, _)
@@ -90,7 +95,10 @@ impl SlotAndBlockNumbers {
     {
         let decoded = i.decoded();
         match decoded {
-            Decoded::Calls(_) => self.remove_registers(set, &CALLER_SAVED),
+            Decoded::Calls(_) => {
+                self.remove_registers(set, &CALLER_SAVED);
+                self.remove_passed(set, i.operands.as_slice());
+            }
             Decoded::Returns(_)
             | Decoded::Jumps(_)
             | Decoded::Branches(_, _, _, _)
@@ -107,12 +115,15 @@ impl SlotAndBlockNumbers {
 
     /// Adds what an instruction sets. It takes no memory.
     pub fn insert_defined(&self, set: &mut PlaceSet, i: &Instr)
-        ensures { SlotIn self.now.slots (row_of i.now) → (x : Place) →
+        ensures { SlotIn self.now.slots (row_of i.now) × All (PassedIn self.now.slots) i.now.operands → (x : Place) →
             has self.now.slots set.new x ≡ (defines_of (row_of i.now) x || has self.now.slots set.old x) }
     {
         let decoded = i.decoded();
         match decoded {
-            Decoded::Calls(_) => self.insert_registers(set, &CALLER_SAVED),
+            Decoded::Calls(_) => {
+                self.insert_registers(set, &CALLER_SAVED);
+                self.insert_passed(set, i.operands.as_slice());
+            }
             Decoded::Loads(_, _, _, _)
             | Decoded::LoadsSlot(_, _)
             | Decoded::Fixes(_, _)
@@ -161,6 +172,30 @@ impl SlotAndBlockNumbers {
         for operand in operands {
             if let Operand::ImplicitUse(r) = operand {
                 self.insert(set, Some(Place::Register(*r)));
+            }
+        }
+    }
+
+    /// Adds the slots that operands pass to a callee.
+    fn insert_passed(&self, set: &mut PlaceSet, operands: &[Operand])
+        ensures { All (PassedIn self.now.slots) operands.now → (x : Place) →
+            has self.now.slots set.new x ≡ (is_passed x operands.now || has self.now.slots set.old x) }
+    {
+        for operand in operands {
+            if let Operand::Outgoing(n) = operand {
+                self.insert(set, Some(Place::Slot(*n)));
+            }
+        }
+    }
+
+    /// Removes the slots that operands pass to a callee.
+    fn remove_passed(&self, set: &mut PlaceSet, operands: &[Operand])
+        ensures { (x : Place) →
+            has self.now.slots set.new x ≡ (has self.now.slots set.old x && not (is_passed x operands.now)) }
+    {
+        for operand in operands {
+            if let Operand::Outgoing(n) = operand {
+                self.remove(set, Some(Place::Slot(*n)));
             }
         }
     }

@@ -9,13 +9,13 @@ use Rattle.mir_func.specs.declared.item.Item.{Item}
 use Rattle.mir_func.specs.declared.item.ItemKind.{ItemKind}
 use Rattle.mir_func.specs.declared.item.ItemKind.TheVariants.{Code, Mark, Phi}
 use Rattle.mir_func.specs.Graph.{Fetch, Here, EndOfBlock, Outside, Program, below, block_start, front, fetch_in, from_block, program_of, KindEdge}
-use Rattle.mir_func.specs.Graph.{FetchEdge, Edge, Leads, stay, go}
+use Rattle.mir_func.specs.Graph.{FetchEdge, Edge, Leads, stay, go, rest_in, rest_of}
 use Rattle.mir_func.specs.Positions.{position_of}
 use Rattle.rv64_instr.specs.LocationEffects.{IsSlotStore}
 use Rattle.sem_mir.specs.Align.{is_code}
 use Rattle.sem_mir.specs.Follow.{OnRow, Counts, IsMetApart}
 use Rattle.sem_mir.proofs.Edges.{leads_trans}
-use Rattle.sem_simulation.proofs.Laid.{rest_in, rest_of, laid_out}
+use Rattle.sem_simulation.proofs.Laid.{laid_out}
 use Rattle.sem_simulation.specs.MatchStates.{IsPastItems}
 use Rattle.pass_trait.proofs.Thinning.{first_of_front, none_of_front}
 use Rattle.pass_salvage.proofs.Kin.{Kin, kin_edge, kin_save, GoesAlike}

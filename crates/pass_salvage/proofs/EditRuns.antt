@@ -8,7 +8,7 @@ use Rattle.mir_func.specs.declared.block.Block.{Block}
 use Rattle.mir_func.specs.declared.item.Item.{Item}
 use Rattle.mir_func.specs.declared.item.ItemKind.{ItemKind}
 use Rattle.mir_func.specs.Sound.{AreApart, ids_of, OriginIn}
-use Rattle.mir_func.specs.Graph.{Program, block_start, from_block, index_of, program_of}
+use Rattle.mir_func.specs.Graph.{Program, block_start, from_block, index_of, program_of, rest_in, rest_of}
 use Rattle.mir_func.specs.Positions.{position_of}
 use Rattle.sem_mir.specs.State.{Core, State}
 use Rattle.sem_mir.specs.Step.{Outcome, Falls, Goes, Gives, Traps, Asks, Breaks, do_item}
@@ -19,7 +19,7 @@ use Rattle.sem_mir.specs.Follow.{InOrder}
 use Rattle.sem_simulation.specs.MatchStates.{Sides, MatchStates, ShowsSame, OutcomesAlike, since_item}
 use Rattle.sem_simulation.specs.InPlace.{FallsOrTraps, View, ended, both, taken, added, paired, InPlace}
 use Rattle.sem_simulation.proofs.Stations.{code_sync_point, end_is_sync_point, IsSyncPointOf, of_item, of_end, sync_point_is_of}
-use Rattle.sem_simulation.proofs.Laid.{rest_in, rest_of, laid_out, in_order_at, one_end, from_home, from_within, from_before_end, falls_down}
+use Rattle.sem_simulation.proofs.Laid.{laid_out, in_order_at, one_end, from_home, from_within, from_before_end, falls_down}
 use Rattle.sem_simulation.proofs.InPlace.{in_place_follows}
 use Rattle.sem_mir.proofs.Reading.{found_in}
 use Rattle.sem_agreement.proofs.Views.{does_both, does_one}

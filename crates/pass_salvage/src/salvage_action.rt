@@ -144,6 +144,7 @@ fn is_definition(call: bool, s: Reg, operand: &Operand) -> bool
         | Operand::Slot(_)
         | Operand::Object(_)
         | Operand::Part(_, _)
+        | Operand::Outgoing(_)
         | Operand::Block(_)
         | Operand::Symbol(_)
         | Operand::Mask => false,

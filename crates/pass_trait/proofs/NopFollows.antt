@@ -291,7 +291,7 @@ following_new f subs sound none_added = record {
       };
 }
 
-following_itself : (f : Function) (subs : List DebugSubstitution) → PreservesSimulation false true (change f subs f subs)
+pub following_itself : (f : Function) (subs : List DebugSubstitution) → PreservesSimulation false true (change f subs f subs)
 following_itself f subs = record { follows = λ src fol ends. fol; ends = λ keeps src fol whole. whole }
 
 pub nops_follow : (f : Function) (subs : List DebugSubstitution) → IsSound f →

@@ -15,7 +15,7 @@ use Rattle.mir_func.specs.Sound.{AreApart, ids_of, items_of, number_of, code_num
 use Rattle.sem_mir.specs.State.{Core, State, updated}
 use Rattle.sem_mir.specs.Step.{Outcome, Falls, Goes, Gives, Traps, Asks, Breaks, act, does, with_core, numbered, given, defined, place_value, do_item}
 use Rattle.rv64_instr.specs.LocationEffects.{is_call}
-use Rattle.mir_func.specs.Graph.{Program, block_start, from_block, index_of, program_of}
+use Rattle.mir_func.specs.Graph.{Program, block_start, from_block, index_of, program_of, rest_in, rest_of}
 use Rattle.sem_mir.specs.Align.{is_code, is_jump, is_jump_row, Count, end_sync_point, sync_point_at, IsOrigin, Since, After, AnyOrigin, RunsMatch}
 use Rattle.sem_mir.specs.Follow.{InOrder}
 use Rattle.sem_simulation.specs.MatchStates.{Sides, MatchStates, since_item}
@@ -25,7 +25,7 @@ use Rattle.sem_mir.specs.Effects.{EndAlike, OnCore}
 use Rattle.sem_mir.proofs.Places.{updated_other}
 use Rattle.sem_mir.proofs.Told.{TellsLess, SeesLess, item_less}
 use Rattle.sem_simulation.proofs.Stations.{moves_on_less, code_sync_point, end_is_sync_point, IsSyncPointOf, of_item, of_end, sync_point_is_of}
-use Rattle.sem_simulation.proofs.Laid.{rest_in, rest_of, laid_out, in_order_at, one_end, from_home, from_within, from_before_end, falls_down}
+use Rattle.sem_simulation.proofs.Laid.{laid_out, in_order_at, one_end, from_home, from_within, from_before_end, falls_down}
 use Rattle.sem_mir.proofs.Reading.{found_in}
 use Rattle.sem_simulation.proofs.InPlace.{in_place_follows}
 use Rattle.pass_trait.specs.Nops.{is_nop_row, is_nop, stays, thinned_blocks}

@@ -4,8 +4,7 @@ use Rattle.mir_func.specs.declared.debug_substitution.OperandPair.{OperandPair}
 use Rattle.mir_func.specs.declared.position.Pos.{Pos}
 use Rattle.mir_func.specs.declared.block.Block.{Block}
 use Rattle.mir_func.specs.declared.item.Item.{Item}
-use Rattle.mir_func.specs.Graph.{Here, EndOfBlock, Program, block_start, end_of, front, fetch_in, from_block, program_of}
-use Rattle.sem_simulation.proofs.Laid.{rest_in, rest_of}
+use Rattle.mir_func.specs.Graph.{Here, EndOfBlock, Program, block_start, end_of, front, fetch_in, from_block, program_of, rest_in, rest_of}
 
 -- the first of what is left from an index on
 pub first_of_front : (xs : List Item) (k : ℕ) (bs : List Block) (y : Item) → front xs k bs ≡ Here y → (more : List Item) × (xs ≡ y ∷ more)

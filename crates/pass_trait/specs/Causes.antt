@@ -5,7 +5,7 @@ use Rattle.std.specs.Prelude.{not, ◌&&◌, nat_eq}
 use Rattle.std.specs.List.{list_any}
 use Rattle.rv64_instr.specs.declared.operand.Operand.{Operand}
 use Rattle.rv64_instr.specs.declared.operand.Operand.TheVariants.{Def, Use, ImplicitDef, ImplicitUse}
-use Rattle.rv64_instr.specs.declared.operand.Operand.TheVariants.{Imm, Slot as OfSlot, Object as OfObject, Part, Block as OfBlock}
+use Rattle.rv64_instr.specs.declared.operand.Operand.TheVariants.{Imm, Slot as OfSlot, Object as OfObject, Part, Outgoing, Block as OfBlock}
 use Rattle.rv64_instr.specs.declared.operand.Operand.TheVariants.{Symbol, Mask}
 use Rattle.rv64_instr.specs.declared.place.Place.{Place}
 use Rattle.rv64_instr.specs.declared.place.Place.TheVariants.{Register}
@@ -50,6 +50,7 @@ is_of_register counts r (Imm i) = false
 is_of_register counts r (OfSlot n) = false
 is_of_register counts r (OfObject n) = false
 is_of_register counts r (Part half y) = false
+is_of_register counts r (Outgoing n) = false
 is_of_register counts r (OfBlock n) = false
 is_of_register counts r (Symbol name) = false
 is_of_register counts r Mask = false

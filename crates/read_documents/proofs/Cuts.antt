@@ -23,7 +23,7 @@ found_at : (text : List ℕ) (end : ℕ) (found : Bool) → ltb (position_or_len
 found_at text end true e is = let same : end ≡ position_or_len (λ b. b == 10) text = cc in (same, omega (arith, ltb-true _ _ e))
 found_at text end false e is = absurd cc
 
-none_found : (text : List ℕ) (found : Bool) → ltb (position_or_len (λ b. b == 10) text) (length text) ≡ found →
+pub none_found : (text : List ℕ) (found : Bool) → ltb (position_or_len (λ b. b == 10) text) (length text) ≡ found →
     None ≡ cond found (Some (position_or_len (λ b. b == 10) text)) None
     → length text ≤ position_or_len (λ b. b == 10) text
 none_found text true e is = absurd cc
@@ -42,11 +42,11 @@ not_true : (b : Bool) → not b ≡ true → b ≡ false
 not_true true e = absurd cc
 not_true false e = refl
 
-no_line_feed : (text : List ℕ) → length text ≤ position_or_len (λ b. b == 10) text → All (λ b. (b == 10) ≡ false) text
+pub no_line_feed : (text : List ℕ) → length text ≤ position_or_len (λ b. b == 10) text → All (λ b. (b == 10) ≡ false) text
 no_line_feed text all = All-from_get_or (λ b. (b == 10) ≡ false) text 0 (λ k lt. not_true (get_or text k 0 == 10) (prefix_len_passes (λ b. not (b ==
     10)) text k 0 (omega arith)))
 
-last_part : (text : List ℕ) → 0 < length text → lines_of_parts (text ∷ []) ≡ text ∷ []
+pub last_part : (text : List ℕ) → 0 < length text → lines_of_parts (text ∷ []) ≡ text ∷ []
 last_part text some = let long : length text ≡ 0 → ⊥ = λ e. omega arith in rw (ne_eqb (length text) 0 long) refl
 
 pub lines-last : (text : List ℕ) → 0 < length text → None ≡ position (λ b. b == 10) text →

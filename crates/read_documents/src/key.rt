@@ -9,10 +9,15 @@ ghost use Rattle.read_documents.specs.Key.{heading};
 /// A key at the start of a line of a function's document.
 #[derive(Clone, Copy, Debug, PartialEq, Eq)]
 pub enum Key {
+    /// `name`
     Name,
+    /// `stack`
     Stack,
+    /// `fixedStack`
     FixedStack,
+    /// `debugValueSubstitutions`
     DebugValueSubstitutions,
+    /// `body`
     Body,
     /// Any other key: its lines are ignored.
     Other,

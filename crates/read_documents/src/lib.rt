@@ -8,8 +8,8 @@
 #![tactic(auto)]
 
 pub mod frame;
-mod key;
-mod open_function;
+pub mod key;
+pub mod open_function;
 pub mod parts;
-mod scan;
-mod text;
+pub mod scan;
+pub mod text;

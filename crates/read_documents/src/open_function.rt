@@ -13,14 +13,21 @@ use std::alloc::{AllocError, Global};
 /// The document of a function that isn't closed yet: the lines so far of each key that is kept.
 #[derive(Drop)]
 pub struct OpenFunction {
+    /// The number of the line that opens the function.
     pub opened: u32,
     /// The key that the last line belongs to.
     pub key: Key,
+    /// Whether the line `body:` came.
     pub has_body: bool,
+    /// The lines of `name`.
     pub name: Lines,
+    /// The lines of `stack`.
     pub stack: Lines,
+    /// The lines of `fixedStack`.
     pub fixed: Lines,
+    /// The lines of `debugValueSubstitutions`.
     pub substitutions: Lines,
+    /// The lines after `body:`.
     pub body: Lines,
 }
 

@@ -21,7 +21,9 @@ pub struct Scan {
     pub in_block: bool,
     /// The function that is open, if one is.
     pub function: Option<OpenFunction>,
+    /// The lines of the IR block so far.
     pub meta: Lines,
+    /// The functions that were closed.
     pub functions: FunctionDocuments,
 }
 

@@ -18,7 +18,7 @@ pub fn first_line(text: &[u8]) -> (&[u8], &[u8])
 }
 
 /// The index of the first LF.
-fn line_feed(text: &[u8]) -> Option<usize>
+pub fn line_feed(text: &[u8]) -> Option<usize>
     ensures place { result ≡ position (λ b. b == 10) text.now }
     ensures within { IfSome result (λ i. i < length text.now) }
 {
@@ -26,7 +26,7 @@ fn line_feed(text: &[u8]) -> Option<usize>
 }
 
 /// A line without one CR at its end.
-fn without_carriage_return(line: &[u8]) -> &[u8]
+pub fn without_carriage_return(line: &[u8]) -> &[u8]
     ensures { result.now ≡ strip_carriage_return line.now }
 {
     if line.last() == Some(&b'\r') {

@@ -6,7 +6,7 @@ use Rattle.std.proofs.lemmas.Bool.{or_parts, leb-false, eqb-false, or_left, or_r
 use Rattle.std.proofs.lemmas.List.Elements.{All-nil, All-cons, All-append}
 use Rattle.rv64_instr.specs.declared.op.Op.{Op}
 use Rattle.rv64_instr.specs.declared.operand.Operand.{Operand}
-use Rattle.rv64_instr.specs.declared.operand.Operand.TheVariants.{Def, Use, ImplicitDef, ImplicitUse, Imm, Slot, Object, Block, Symbol, Mask}
+use Rattle.rv64_instr.specs.declared.operand.Operand.TheVariants.{Def, Use, ImplicitDef, ImplicitUse, Imm, Slot, Object, Outgoing, Block, Symbol, Mask}
 use Rattle.mir_func.specs.Sound.{IsNotPointer}
 use Rattle.base_ids.specs.Limits.{MAX_NUMBER}
 use Rattle.read_token.specs.declared.lexeme.Flag.{Flag}
@@ -30,10 +30,11 @@ use Rattle.read_program.specs.Limited.{IsLimited}
 use Rattle.read_program.proofs.Lexemes.{NameFits}
 use Rattle.read_program.proofs.Forms.{AllOf, FormFits, RegisterFits, IntegerFits}
 
--- the stack entries that an operand names are among these
+-- the stack entries that an operand names are among these, and it isn't a slot that is passed
 abbrev pub NamesAmong : List ℕ → Operand → Type 0
 NamesAmong entries (Slot n) = is_met n entries ≡ true
 NamesAmong entries (Object n) = is_met n entries ≡ true
+NamesAmong entries (Outgoing n) = ⊥
 NamesAmong entries o = Unit {0}
 
 -- an operand as it was read

@@ -20,7 +20,7 @@ use Rattle.rv64_instr.specs.declared.op.StoreOp.{StoreOp}
 use Rattle.rv64_instr.specs.declared.operand.Operand.{Operand}
 use Rattle.rv64_instr.specs.declared.operand.Operand.TheVariants.{Def, Use, Imm, Slot, Object as OfObject, Part, Block as OfBlock}
 use Rattle.rv64_instr.specs.declared.symbol.Half.TheVariants.{Upper, Lower}
-use Rattle.rv64_instr.specs.declared.operand.Operand.TheVariants.{Symbol, Mask, ImplicitUse}
+use Rattle.rv64_instr.specs.declared.operand.Operand.TheVariants.{Symbol, Mask, ImplicitUse, Outgoing}
 use Rattle.rv64_instr.specs.declared.place.Place.{Place}
 use Rattle.rv64_instr.specs.declared.place.Place.TheVariants as place
 use Rattle.rv64_instr.specs.Arithmetic.{word, load_width, store_width}
@@ -28,7 +28,7 @@ use Rattle.rv64_instr.specs.Form.{has_form, fits_immediate, fits_load, fits_stor
 use Rattle.rv64_instr.specs.Instruction.{Instruction}
 use Rattle.rv64_instr.specs.Row.{Row, Addresses, Loads, Stores, Branches, Jumps}
 use Rattle.rv64_instr.specs.Row.{row_of, immediate_row, object_row}
-use Rattle.rv64_instr.specs.Row.{move_row, implicit_uses, held_call, held_tail, held_gone}
+use Rattle.rv64_instr.specs.Row.{move_row, implicit_uses, outgoing_words, held_call, held_tail, held_gone}
 use Rattle.mir_func.specs.declared.block.Block.{Block}
 use Rattle.mir_func.specs.declared.exit.Exit.TheVariants.{Onward}
 use Rattle.mir_func.specs.declared.item.Item.{Item}
@@ -40,7 +40,7 @@ use Rattle.mir_func.specs.Exits.{row_exit, exit_of}
 use Rattle.mir_func.specs.Objects.{object_of}
 use Rattle.mir_func.specs.Sound.{items_of, AllItems, TargetIn, TargetsIn, SlotIn, PlaceIn, SlotsIn, HasBytes, BaseHasBytes, ObjectIn, ObjectsIn, IsNotPointer}
 use Rattle.mir_func.specs.Sound.{LeavesPointer, number_of, code_number, NumbersOnce, OriginIn}
-use Rattle.mir_func.specs.Sound.{HasForm}
+use Rattle.mir_func.specs.Sound.{HasForm, PassedIn}
 use Rattle.read_declarations.specs.declared.stack.StackEntry.{StackEntry}
 use Rattle.read_body.specs.Closing.{goes_to_one_of, item_goes_to, block_goes_to, blocks_go_to}
 use Rattle.read_body.specs.StackEntryKind.{slots_of, ids_of_objects}
@@ -103,11 +103,16 @@ module _ (ids : List ℕ) where
   uses_as : (os : List Operand) → implicit_uses (operands_as ids os) ≡ implicit_uses os
   uses_as [] = refl
   uses_as (Slot n ∷ os) = by (is_met n ids) (uses_as os) where
-    by : (b : Bool) → implicit_uses (operands_as ids os) ≡ implicit_uses os → implicit_uses (cond b (OfObject n) (Slot n) ∷ operands_as ids os) ≡ implicit_uses os
+    by : (b : Bool) → implicit_uses (operands_as ids os) ≡ implicit_uses os →
+        implicit_uses (cond b (OfObject n) (Slot n) ∷ operands_as ids os) ≡ implicit_uses os
     by true e = e
     by false e = e
   uses_as (ImplicitUse r ∷ os) = ap (λ (z : List ℕ). cond (nat_eq r 2) z (r ∷ z)) (uses_as os)
   uses_as (_ ∷ os) = uses_as os
+
+  exit_alike : (xs outgoing others : List ℕ) → row_exit (held_call xs outgoing) ≡ row_exit (held_call xs others)
+  exit_alike [] outgoing others = refl
+  exit_alike (r ∷ xs) outgoing others = refl
 
   -- control leaves it as before
   exit_as : (op : Op) (os : List Operand) → has_form op os ≡ true → row_exit (row_as op os) ≡ row_exit (row op os)
@@ -122,7 +127,9 @@ module _ (ids : List ℕ) where
   exit_as PseudoBr (OfBlock n ∷ rest) e = refl
   exit_as PseudoCall (Symbol name ∷ Mask ∷ rest) e = refl
   exit_as PseudoRet os e = refl
-  exit_as PseudoCallIndirect os e = ap (λ (xs : List ℕ). row_exit (held_call xs)) (uses_as os)
+  exit_as PseudoCallIndirect os e =
+      ap (λ (xs : List ℕ). row_exit (held_call xs (outgoing_words (operands_as ids os)))) (uses_as os)
+      ∙ exit_alike (implicit_uses os) (outgoing_words (operands_as ids os)) (outgoing_words os)
   exit_as PseudoTail (Symbol name ∷ rest) e = refl
   exit_as PseudoTailIndirect os e = ap (λ (xs : List ℕ). row_exit (held_tail xs)) (uses_as os)
   exit_as NoReturnCall (Symbol name ∷ Mask ∷ rest) e = refl
@@ -199,9 +206,9 @@ module _ (named : List ℕ) (es : List StackEntry) (entries : List ℕ) (all : (
   slot_store op (Use rs ∷ Use a ∷ Part Lower y ∷ rest) e names = tt
   slot_store op os e names = absurd cc
 
-  held_call_slot : (xs : List ℕ) → SlotIn slots (held_call xs)
-  held_call_slot [] = tt
-  held_call_slot (r ∷ xs) = tt
+  held_call_slot : (xs outgoing : List ℕ) → SlotIn slots (held_call xs outgoing)
+  held_call_slot [] outgoing = tt
+  held_call_slot (r ∷ xs) outgoing = tt
 
   held_tail_slot : (xs : List ℕ) → SlotIn slots (held_tail xs)
   held_tail_slot [] = tt
@@ -223,7 +230,7 @@ module _ (named : List ℕ) (es : List StackEntry) (entries : List ℕ) (all : (
   slot_in_row PseudoBr (OfBlock n ∷ rest) e names = tt
   slot_in_row PseudoCall (Symbol name ∷ Mask ∷ rest) e names = tt
   slot_in_row PseudoRet os e names = tt
-  slot_in_row PseudoCallIndirect os e names = held_call_slot (implicit_uses (operands_as ids os))
+  slot_in_row PseudoCallIndirect os e names = held_call_slot (implicit_uses (operands_as ids os)) (outgoing_words (operands_as ids os))
   slot_in_row PseudoTail (Symbol name ∷ rest) e names = tt
   slot_in_row PseudoTailIndirect os e names = held_tail_slot (implicit_uses (operands_as ids os))
   slot_in_row NoReturnCall (Symbol name ∷ Mask ∷ rest) e names = tt
@@ -239,8 +246,21 @@ module _ (named : List ℕ) (es : List StackEntry) (entries : List ℕ) (all : (
     by true is = tt
     by false is = in_slots n names is
 
+  passed_as : (o : Operand) → NamesAmong entries o → PassedIn slots (operand_as ids o)
+  passed_as (Slot n) is = by (is_met n ids) where
+    by : (b : Bool) → PassedIn slots (cond b (OfObject n) (Slot n))
+    by true = tt
+    by false = tt
+  passed_as (Outgoing n) is = absurd is
+  passed_as _ is = tt
+
   pub slots_as : (kind : ItemKind) → HasForm kind → KindNamesAmong entries kind → SlotsIn slots (kind_as ids kind)
-  slots_as (Code i k) form names = subst (λ (j : Instruction). SlotIn slots (row_of j)) (sym (renamed ids i form)) (slot_in_row i.op i.operands form names)
+  slots_as (Code i k) form names =
+      subst (λ (j : Instruction). SlotIn slots (row_of j) × All (PassedIn slots) j.operands) (sym (renamed ids i form)) (
+        slot_in_row i.op i.operands form names,
+        All-map (PassedIn slots) (operand_as ids) i.operands
+            (All-weaker (NamesAmong entries) (λ o. PassedIn slots (operand_as ids o)) passed_as i.operands names),
+      )
   slots_as (Mark v m) form names = tt
   slots_as (Phi p k) form names = slot_in_place p k names
 

@@ -1,7 +1,7 @@
 -- The limits on the numbers in an item that was read.
 use Rattle.std.specs.Prelude.{◌≡◌, pos, ◌<◌, ◌≤◌, IfSome, IsTrue, All, Option, Some, None}
 use Rattle.rv64_instr.specs.declared.operand.Operand.{Operand}
-use Rattle.rv64_instr.specs.declared.operand.Operand.TheVariants.{Def, Use, ImplicitDef, ImplicitUse, Imm, Slot, Object, Part, Block, Symbol, Mask}
+use Rattle.rv64_instr.specs.declared.operand.Operand.TheVariants.{Def, Use, ImplicitDef, ImplicitUse, Imm, Slot, Object, Part, Outgoing, Block, Symbol, Mask}
 use Rattle.rv64_instr.specs.declared.place.Place.{Place}
 use Rattle.rv64_instr.specs.declared.place.Place.TheVariants as place
 use Rattle.rv64_instr.specs.Form.{IsSigned}
@@ -28,6 +28,7 @@ IsLimited (Imm i) = IsSigned i
 IsLimited (Slot n) = n ≤ MAX_NUMBER
 IsLimited (Object n) = n ≤ MAX_NUMBER
 IsLimited (Part half y) = ⊥
+IsLimited (Outgoing n) = ⊥
 IsLimited (Block n) = n ≤ MAX_NUMBER
 IsLimited (Symbol name) = Unit {0}
 IsLimited Mask = Unit {0}

@@ -5,6 +5,7 @@ use Rattle.std.specs.Option.{option_map_or}
 use Rattle.rv64_instr.specs.Row.{Base, PointedBy, ObjectAt, BesidePart}
 use Rattle.rv64_instr.specs.declared.operand.Operand.{Operand}
 use Rattle.rv64_instr.specs.declared.operand.Operand.TheVariants.{Def, Use, ImplicitDef, ImplicitUse, Imm, Slot, Object, Part, Block as OfBlock, Symbol, Mask}
+use Rattle.rv64_instr.specs.declared.operand.Operand.TheVariants.{Outgoing}
 use Rattle.rv64_instr.specs.declared.place.Place.{Place}
 use Rattle.rv64_instr.specs.declared.place.Place.TheVariants as places
 use Rattle.rv64_instr.specs.Form.{has_form}
@@ -29,6 +30,7 @@ operand_as ids (ImplicitUse r) = ImplicitUse r
 operand_as ids (Imm i) = Imm i
 operand_as ids (Object n) = Object n
 operand_as ids (Part half y) = Part half y
+operand_as ids (Outgoing n) = Outgoing n
 operand_as ids (OfBlock n) = OfBlock n
 operand_as ids (Symbol name) = Symbol name
 operand_as ids Mask = Mask

@@ -1,6 +1,6 @@
 //! The program in a text.
 
-ghost use Rattle.std.specs.Prelude.{◌≡◌, ◌^◌, ◌<◌, [], length, Ok};
+ghost use Rattle.std.specs.Prelude.{◌≡◌, ◌^◌, ◌<◌, length, Ok};
 ghost use Rattle.read_program.specs.Program.{program_of, FunctionsFrom, ReadsText, UnlessMemory};
 
 use crate::closing::Parsed;
@@ -30,15 +30,15 @@ pub struct Program {
     pub meta: Metadata,
 }
 
-/// The functions of documents in order, up to the first document that is refused.
-fn read_functions(
+/// The functions of documents in order, behind those that were read before, up to the first document that is refused.
+pub fn read_functions(
     alloc: Global,
     documents: &[FunctionDocument],
     meta: &Metadata,
+    mut functions: ParsedFunctions,
 ) -> Result<ParsedFunctions, ParseError>
-    ensures { UnlessMemory result (FunctionsFrom meta.now [] documents.now result) }
+    ensures { UnlessMemory result (FunctionsFrom meta.now functions documents.now result) }
 {
-    let mut functions = List::new(alloc);
     for document in documents {
         if MAX_FUNCTIONS <= functions.len() {
             return Err(ParseError::Refused(Refusal {
@@ -85,6 +85,6 @@ pub fn read_program(alloc: Global, text: &[u8]) -> Result<Program, ParseError>
         bad,
     } = documents(alloc, text)?;
     let meta = read_meta(alloc, &meta)?;
-    let functions = read_functions(alloc, functions.as_slice(), &meta)?;
+    let functions = read_functions(alloc, functions.as_slice(), &meta, List::new(alloc))?;
     whole(functions, meta, bad)
 }

@@ -3,7 +3,7 @@ use Rattle.std.proofs.Common.{◌≡◌, ℕ, ◌<◌, ◌≤◌, Bool, true, fa
 use Rattle.std.specs.Prelude.{IfSome, is_some, IsTrue}
 use Rattle.std.proofs.lemmas.List.Elements.{All-map, All-weaker}
 use Rattle.rv64_instr.specs.declared.operand.Operand.{Operand}
-use Rattle.rv64_instr.specs.declared.operand.Operand.TheVariants.{Def, Use, ImplicitDef, ImplicitUse, Imm, Slot, Object, Part, Block, Symbol, Mask}
+use Rattle.rv64_instr.specs.declared.operand.Operand.TheVariants.{Def, Use, ImplicitDef, ImplicitUse, Imm, Slot, Object, Part, Outgoing, Block, Symbol, Mask}
 use Rattle.rv64_instr.specs.declared.place.Place.{Place}
 use Rattle.rv64_instr.specs.declared.place.Place.TheVariants as place
 use Rattle.rv64_instr.specs.Instruction.{Instruction}
@@ -61,6 +61,7 @@ operand_numbers (Imm i) small = small
 operand_numbers (Slot n) small = limited_number n small
 operand_numbers (Object n) small = limited_number n small
 operand_numbers (Part half y) small = absurd small
+operand_numbers (Outgoing n) small = absurd small
 operand_numbers (Block n) small = limited_number n small
 operand_numbers (Symbol name) small = tt
 operand_numbers Mask small = tt

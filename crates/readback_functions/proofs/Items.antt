@@ -10,6 +10,7 @@ use Rattle.std.proofs.lemmas.Bool.Decides.{nat_tests}
 use Rattle.std.proofs.lemmas.List.Elements.{All-head, All-tail, All-filter, All-weaker}
 use Rattle.rv64_instr.specs.declared.operand.Operand.{Operand}
 use Rattle.rv64_instr.specs.declared.operand.Operand.TheVariants.{Def, Use, ImplicitDef, ImplicitUse, Imm, Slot, Object, Part, Block as OfBlock, Symbol, Mask}
+use Rattle.rv64_instr.specs.declared.operand.Operand.TheVariants.{Outgoing}
 use Rattle.rv64_instr.specs.Instruction.{Instruction}
 use Rattle.rv64_instr.specs.Mnemonic.{mnemonic_of}
 use Rattle.base_ids.specs.Limits.{MAX_NUMBER}
@@ -57,6 +58,7 @@ operand_shows (Imm i) small bytes = signed_shows i small
 operand_shows (Slot n) small bytes = shows_behind (codes "%stack.") (decimal n) refl (number_shows n small)
 operand_shows (Object n) small bytes = shows_behind (codes "%stack.") (decimal n) refl (number_shows n small)
 operand_shows (Part half y) small bytes = absurd small
+operand_shows (Outgoing n) small bytes = absurd small
 operand_shows (OfBlock n) small bytes = shows_behind (codes "%bb.") (decimal n) refl (number_shows n small)
 operand_shows (Symbol name) small bytes = symbol_shows name bytes
 operand_shows Mask small bytes = record { printed = refl; ends = λ so_far. refl }

@@ -5,7 +5,7 @@ use Rattle.std.specs.List.{flat_map, list_any}
 use Rattle.std.proofs.lemmas.Bool.{ne_eqb}
 use Rattle.std.proofs.lemmas.List.Elements.{All-head, All-tail}
 use Rattle.rv64_instr.specs.declared.operand.Operand.{Operand}
-use Rattle.rv64_instr.specs.declared.operand.Operand.TheVariants.{Def, Use, ImplicitDef, ImplicitUse, Imm, Slot, Object, Part, Block, Symbol, Mask}
+use Rattle.rv64_instr.specs.declared.operand.Operand.TheVariants.{Def, Use, ImplicitDef, ImplicitUse, Imm, Slot, Object, Part, Outgoing, Block, Symbol, Mask}
 use Rattle.mir_func.specs.Sound.{IsNotPointer}
 use Rattle.read_token.specs.declared.lexeme.Flag.TheVariants as flags
 use Rattle.read_line.specs.declared.form.OperandForm.{OperandForm}
@@ -56,6 +56,7 @@ clean_more (Imm i) os other c = use_more (sets_of os) (uses_of os) (length os) c
 clean_more (Slot n) os other c = use_more (sets_of os) (uses_of os) (length os) c (operand_form (Slot n)) refl refl
 clean_more (Object n) os other c = use_more (sets_of os) (uses_of os) (length os) c (operand_form (Object n)) refl refl
 clean_more (Part half y) os other c = use_more (sets_of os) (uses_of os) (length os) c (operand_form (Part half y)) refl refl
+clean_more (Outgoing n) os other c = use_more (sets_of os) (uses_of os) (length os) c (operand_form (Outgoing n)) refl refl
 clean_more (Block n) os other c = use_more (sets_of os) (uses_of os) (length os) c (operand_form (Block n)) refl refl
 clean_more (Symbol name) os other c = use_more (sets_of os) (uses_of os) (length os) c (operand_form (Symbol name)) refl refl
 clean_more Mask os other c = use_more (sets_of os) (uses_of os) (length os) c (operand_form Mask) refl refl

@@ -277,10 +277,10 @@ jump (Block n ∷ rest) e =
     })
 jump os e = absurd cc
 
-call : (os : List Operand) → fits_call os ≡ true → Given PseudoCall os
+call : (os : List Operand) → fits_call os ≡ true → All IsLimited os → Given PseudoCall os
 unfolding definitions placed
-call (Symbol name ∷ Mask ∷ rest) e =
-    let t = arguments rest e in
+call (Symbol name ∷ Mask ∷ rest) e small =
+    let t = arguments rest e (All-tail IsLimited Mask rest (All-tail IsLimited (Symbol name) (Mask ∷ rest) small)) in
     given_same PseudoCall (Symbol name ∷ Mask ∷ []) rest t refl (record {
       slot = false;
       slot_is = refl;
@@ -288,7 +288,7 @@ call (Symbol name ∷ Mask ∷ rest) e =
       in_place = refl;
       form = e;
     })
-call os e = absurd cc
+call os e small = absurd cc
 
 return' : (os : List Operand) → has_form PseudoRet os ≡ true → Given PseudoRet os
 unfolding definitions
@@ -311,7 +311,7 @@ operands_given (Load op) os e small read = load op os e small
 operands_given (Store op) os e small read = store op os e small
 operands_given Copy os e small read = copy os e
 operands_given PseudoBr os e small read = jump os e
-operands_given PseudoCall os e small read = call os e
+operands_given PseudoCall os e small read = call os e small
 operands_given PseudoRet os e small read = return' os e
 operands_given PseudoCallIndirect os e small read = cc
 operands_given PseudoTail os e small read = cc

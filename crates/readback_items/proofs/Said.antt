@@ -7,7 +7,7 @@ use Rattle.std.specs.Fmt.{decimal, signed_decimal}
 use Rattle.std.proofs.lemmas.Fmt.{decimal_digit}
 use Rattle.std.proofs.lemmas.List.Elements.{All-head, All-tail}
 use Rattle.rv64_instr.specs.declared.operand.Operand.{Operand}
-use Rattle.rv64_instr.specs.declared.operand.Operand.TheVariants.{Def, Use, ImplicitDef, ImplicitUse, Imm, Slot, Object, Part, Block, Symbol, Mask}
+use Rattle.rv64_instr.specs.declared.operand.Operand.TheVariants.{Def, Use, ImplicitDef, ImplicitUse, Imm, Slot, Object, Part, Outgoing, Block, Symbol, Mask}
 use Rattle.rv64_instr.specs.declared.place.Place.{Place}
 use Rattle.rv64_instr.specs.declared.place.Place.TheVariants as place
 use Rattle.rv64_instr.specs.Instruction.{Instruction}
@@ -90,6 +90,7 @@ one_more (Imm i) os small bytes s = one_use (Imm i) os refl refl (operand_said (
 one_more (Slot n) os small bytes s = one_use (Slot n) os refl refl (operand_said (Slot n) small bytes) s
 one_more (Object n) os small bytes s = one_use (Object n) os refl refl (operand_said (Object n) small bytes) s
 one_more (Part half y) os small bytes s = absurd small
+one_more (Outgoing n) os small bytes s = absurd small
 one_more (Block n) os small bytes s = one_use (Block n) os refl refl (operand_said (Block n) small bytes) s
 one_more (Symbol name) os small bytes s = one_use (Symbol name) os refl refl (operand_said (Symbol name) small bytes) s
 one_more Mask os small bytes s = one_use Mask os refl refl (operand_said Mask small bytes) s

@@ -1,14 +1,16 @@
 -- The implicit operands at the end of an instruction: they are read as they were printed.
 use Rattle.std.proofs.Common.{◌≡◌, Bool, true, not, List, [], ◌∷◌, Some, map, refl, ap}
-use Rattle.std.specs.Prelude.{filter}
+use Rattle.std.specs.Prelude.{filter, All}
 use Rattle.std.specs.List.{flat_map, list_all}
 use Rattle.std.proofs.lemmas.Bool.{and_parts}
+use Rattle.std.proofs.lemmas.List.Elements.{All-head, All-tail}
 use Rattle.rv64_instr.specs.declared.operand.Operand.{Operand}
-use Rattle.rv64_instr.specs.declared.operand.Operand.TheVariants.{ImplicitDef, ImplicitUse}
+use Rattle.rv64_instr.specs.declared.operand.Operand.TheVariants.{ImplicitDef, ImplicitUse, Outgoing}
 use Rattle.rv64_instr.specs.Form.{is_implicit, is_argument, is_result}
 use Rattle.read_item.specs.Code.{before, placed}
 use Rattle.mir_printer.specs.Printable.{as_slot}
 use Rattle.mir_printer.specs.Spelling.{is_definition}
+use Rattle.read_program.specs.Limited.{IsLimited}
 use Rattle.readback_items.specs.Forms.{operand_form, set_register}
 
 abbrev pub IsTail : Operand → Type 0
@@ -51,10 +53,11 @@ implicit_tail (ImplicitDef r) e = tt
 implicit_tail (ImplicitUse r) e = tt
 implicit_tail o e = absurd cc
 
-argument_tail : (o : Operand) → is_argument o ≡ true → IsTail o
-argument_tail (ImplicitDef r) e = tt
-argument_tail (ImplicitUse r) e = tt
-argument_tail o e = absurd cc
+argument_tail : (o : Operand) → is_argument o ≡ true → IsLimited o → IsTail o
+argument_tail (ImplicitDef r) e small = tt
+argument_tail (ImplicitUse r) e small = tt
+argument_tail (Outgoing n) e small = absurd small
+argument_tail o e small = absurd cc
 
 result_tail : (o : Operand) → is_result o ≡ true → IsTail o
 result_tail (ImplicitUse r) e = tt
@@ -63,8 +66,11 @@ result_tail o e = absurd cc
 pub implicits : (rest : List Operand) → list_all is_implicit rest ≡ true → Tail rest
 implicits = tails is_implicit implicit_tail
 
-pub arguments : (rest : List Operand) → list_all is_argument rest ≡ true → Tail rest
-arguments = tails is_argument argument_tail
+pub arguments : (rest : List Operand) → list_all is_argument rest ≡ true → All IsLimited rest → Tail rest
+arguments [] e small = no_tail
+arguments (o ∷ os) e small =
+    let parts = and_parts (is_argument o) (list_all is_argument os) e in
+    tail_more o os (argument_tail o parts.0 (All-head IsLimited o os small)) (arguments os parts.1 (All-tail IsLimited o os small))
 
 pub results : (rest : List Operand) → list_all is_result rest ≡ true → Tail rest
 results = tails is_result result_tail

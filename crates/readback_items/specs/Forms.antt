@@ -3,6 +3,7 @@ use Rattle.std.specs.Prelude.{ℕ, pos, false, not, codes, filter, map, List, []
 use Rattle.std.specs.List.{flat_map}
 use Rattle.rv64_instr.specs.declared.operand.Operand.{Operand}
 use Rattle.rv64_instr.specs.declared.operand.Operand.TheVariants.{Def, Use, ImplicitDef as SetsImplicit, ImplicitUse, Imm, Slot, Object, Part, Block, Symbol}
+use Rattle.rv64_instr.specs.declared.operand.Operand.TheVariants.{Outgoing}
 use Rattle.rv64_instr.specs.declared.operand.Operand.TheVariants.{Mask}
 use Rattle.rv64_instr.specs.declared.place.Place.{Place}
 use Rattle.rv64_instr.specs.declared.place.Place.TheVariants as place
@@ -45,6 +46,7 @@ operand_form (Imm i) = form.Integer (Some i)
 operand_form (Slot n) = form.Slot n
 operand_form (Object n) = form.Slot n
 operand_form (Part half y) = form.Integer None
+operand_form (Outgoing n) = form.Integer None
 operand_form (Block n) = form.Block n
 operand_form (Symbol name) = form.Symbol name
 operand_form Mask = form.Mask
@@ -59,6 +61,7 @@ set_register (Imm i) = []
 set_register (Slot n) = []
 set_register (Object n) = []
 set_register (Part half y) = []
+set_register (Outgoing n) = []
 set_register (Block n) = []
 set_register (Symbol name) = []
 set_register Mask = []

@@ -1,16 +1,22 @@
 -- What is learned and forgotten, by what code sees of a row.
-use Rattle.std.proofs.Common.{◌≡◌, ℕ, Option, sym, ap, ◌∙◌, subst}
+use Rattle.std.proofs.Common.{◌≡◌, ℕ, Bool, cond, Option, None, sym, ap, ◌∙◌, subst}
 use Rattle.rv64_instr.specs.declared.place.Place.{Place}
+use Rattle.rv64_instr.specs.declared.place.Place.TheVariants.{Register, Slot, Const}
 use Rattle.rv64_instr.specs.Instruction.{Instruction}
 use Rattle.rv64_instr.specs.Row.{Row, row_of}
 use Rattle.rv64_instr.specs.Row as row
 use Rattle.rv64_instr.specs.Decoded.{Shows}
+use Rattle.rv64_instr.specs.DefsAndUses.{caller_saved}
+use Rattle.rv64_instr.specs.LocationEffects.{defines_of, is_passed}
+use Rattle.rv64_instr.specs.declared.decoded.Callee.{Callee}
+use Rattle.rv64_instr.proofs.Passed.{passed_set}
 use Rattle.rv64_instr.specs.declared.decoded.Decoded.{Decoded}
 use Rattle.rv64_instr.specs.declared.decoded.Decoded.TheVariants.{Fixes, Sets, Loads, Stores, StoresSlot, Calls}
 use Rattle.rv64_instr.specs.declared.decoded.Decoded.TheVariants.{Returns}
 use Rattle.mir_func.specs.declared.item.ItemKind.{ItemKind}
 use Rattle.mir_func.specs.declared.item.ItemKind.TheVariants.{Code}
 use Rattle.remat_pass.specs.Known.{Known, learned, forgotten, known_past}
+use Rattle.remat_pass.specs.Table.{is_among}
 
 abbrev pub TeachesNothing : Decoded → Type 0
 TeachesNothing (Fixes rd n) = ⊥
@@ -37,6 +43,17 @@ pub learned_fixes : (now : Decoded) (rd n : ℕ) → now ≡ Fixes rd n → (kno
     (r : Row) → Shows now r → (x : Place) → new x ≡ learned r known x
 learned_fixes now rd n e known new h r s x =
     h x ∙ ap (λ (q : Row). learned q known x) (sym (subst (λ (z : Decoded). Shows z r) e s))
+
+-- a call has its registers and slots forgotten
+pub call_forgets : (i : Instruction) (callee : Callee) → Shows (Calls callee) (row_of i) → (old mid new : Known) →
+    ((x : Place) → mid x ≡ cond (is_among x caller_saved) None (old x)) → ((x : Place) → new x ≡ cond (is_passed x i.operands) None (mid x)) → (x : Place) →
+    new x ≡ forgotten (row_of i) old x
+call_forgets i callee shows old mid new one two (Register r) =
+    two (Register r) ∙ one (Register r) ∙ sym (ap (λ (q : Row). cond (defines_of q (Register r)) None (old (Register r))) shows.1)
+call_forgets i callee shows old mid new one two (Slot n) =
+    two (Slot n) ∙ ap (λ (z : Option ℕ). cond (is_passed (Slot n) i.operands) None z) (one (Slot n))
+    ∙ ap (λ (b : Bool). cond b None (old (Slot n))) (passed_set i callee shows n)
+call_forgets i callee shows old mid new one two (Const c) = two (Const c) ∙ one (Const c)
 
 -- debug items teach nothing
 pub past_same : (now : ItemKind) {k : ItemKind} → now ≡ k → (known : Known) → ((x : Place) → known x ≡ known_past k known x) → (x : Place) →

@@ -15,7 +15,8 @@ use Rattle.rv64_instr.specs.declared.operand.Operand.TheVariants.{Def, Use, Imm,
 use Rattle.rv64_instr.specs.Instruction.{Instruction}
 use Rattle.rv64_instr.specs.Arithmetic.{word, load_width, signed}
 use Rattle.rv64_instr.specs.Form.{has_form, has_12_bits, is_implicit, is_immediate, moves_slot}
-use Rattle.rv64_instr.specs.Row.{Row, Moves, LoadsSlot, row_of, row_by, move_row, immediate_row, object_row, implicit_uses, held_call, held_tail, held_gone}
+use Rattle.rv64_instr.specs.Row.{Row, Moves, LoadsSlot, row_of, row_by, move_row, immediate_row, object_row, implicit_uses, outgoing_words, held_call}
+use Rattle.rv64_instr.specs.Row.{held_tail, held_gone}
 use Rattle.rv64_instr.specs.LocationEffects.{is_call}
 use Rattle.sem_mir.specs.State.{Core, updated}
 use Rattle.sem_mir.specs.Step.{defined, given, numbered}
@@ -44,9 +45,9 @@ from_move : (rd rs r : ℕ) → SetsFrom r (move_row rd rs) → rd ≡ r
 from_move rd zero r h = absurd h
 from_move rd (suc rs) r h = h
 
-held_call_from : (xs : List ℕ) (r : ℕ) → SetsFrom r (held_call xs) → ⊥
-held_call_from [] r h = h
-held_call_from (x ∷ xs) r h = h
+held_call_from : (xs outgoing : List ℕ) (r : ℕ) → SetsFrom r (held_call xs outgoing) → ⊥
+held_call_from [] outgoing r h = h
+held_call_from (x ∷ xs) outgoing r h = h
 
 held_tail_from : (xs : List ℕ) (r : ℕ) → SetsFrom r (held_tail xs) → ⊥
 held_tail_from [] r h = h
@@ -74,7 +75,7 @@ begins Copy (Def rd ∷ Use rs ∷ rest) r h = (Use rs ∷ rest, ap (λ (d : ℕ
 begins PseudoBr (Block target ∷ rest) r h = absurd h
 begins PseudoCall (Symbol name ∷ rest) r h = absurd h
 begins PseudoRet rest r h = absurd h
-begins PseudoCallIndirect rest r h = absurd (held_call_from (implicit_uses rest) r h)
+begins PseudoCallIndirect rest r h = absurd (held_call_from (implicit_uses rest) (outgoing_words rest) r h)
 begins PseudoTail (Symbol name ∷ rest) r h = absurd h
 begins PseudoTailIndirect rest r h = absurd (held_tail_from (implicit_uses rest) r h)
 begins NoReturnCall (Symbol name ∷ rest) r h = absurd h
@@ -107,7 +108,7 @@ alone Copy (Def rd ∷ Use rs ∷ rest) f r h =
 alone PseudoBr (Block target ∷ rest) f r h = absurd h
 alone PseudoCall (Symbol name ∷ rest) f r h = absurd h
 alone PseudoRet rest f r h = absurd h
-alone PseudoCallIndirect rest f r h = absurd (held_call_from (implicit_uses rest) r h)
+alone PseudoCallIndirect rest f r h = absurd (held_call_from (implicit_uses rest) (outgoing_words rest) r h)
 alone PseudoTail (Symbol name ∷ rest) f r h = absurd h
 alone PseudoTailIndirect rest f r h = absurd (held_tail_from (implicit_uses rest) r h)
 alone NoReturnCall (Symbol name ∷ rest) f r h = absurd h

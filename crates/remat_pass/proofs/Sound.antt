@@ -15,7 +15,7 @@ use Rattle.mir_func.specs.Function.{Function}
 use Rattle.mir_func.specs.Exits.{row_exit, exit_of, IsAlways, Leaves}
 use Rattle.mir_func.specs.Limits.{MAX_BLOCKS}
 use Rattle.mir_func.specs.Sound.{AreApart, ids_of, items_of, number_of, code_number, NumbersOnce, OriginIn, TargetIn}
-use Rattle.mir_func.specs.Sound.{TargetsIn, SlotIn, SlotsIn, ObjectIn, ObjectsIn}
+use Rattle.mir_func.specs.Sound.{TargetsIn, SlotIn, PassedIn, SlotsIn, ObjectIn, ObjectsIn}
 use Rattle.mir_func.specs.Sound.{IsNotPointer, LeavesPointer, MayFollow, EndsWell, Closes, LastCloses, IsSound}
 use Rattle.remat_pass.specs.Known.{Known}
 use Rattle.remat_pass.specs.Remat.{constant_set, set_or_same, set_in, rematerialized}
@@ -48,7 +48,10 @@ targets_kept ids known (Mark v m) h = h
 targets_kept ids known (Phi p n) h = h
 
 slots_kept : (slots : List ℕ) (known : Known) (k : ItemKind) → SlotsIn slots k → SlotsIn slots (set_in known k)
-slots_kept slots known (Code i n) h = row_replaced (SlotIn slots) (λ rd m. tt) known i (set_or_same (constant_set known (row_of i)) i) (replaced known i) h
+slots_kept slots known (Code i n) h = (
+  row_replaced (SlotIn slots) (λ rd m. tt) known i (set_or_same (constant_set known (row_of i)) i) (replaced known i) h.0,
+  operands_replaced (PassedIn slots) tt (λ z. tt) known i (set_or_same (constant_set known (row_of i)) i) (replaced known i) h.1,
+)
 slots_kept slots known (Mark v m) h = h
 slots_kept slots known (Phi p n) h = h
 

@@ -16,7 +16,7 @@ Known = Place → Option ℕ
 abbrev pub nothing_known : Known
 nothing_known x = None
 
--- the known values without those of the places that the row sets; a call sets sixteen registers and no slot
+-- the known values without those of the places that the row sets; a call sets sixteen registers, and the slots that it passes
 abbrev pub forgotten : Row → Known → Known
 forgotten row known x = cond (defines_of row x) None (known x)
 

@@ -108,6 +108,7 @@ fn is_implicit(operand: &Operand) -> bool
         | Operand::Slot(_)
         | Operand::Object(_)
         | Operand::Part(_, _)
+        | Operand::Outgoing(_)
         | Operand::Block(_)
         | Operand::Symbol(_)
         | Operand::Mask => false,

@@ -2,7 +2,8 @@
 
 ghost use Rattle.std.specs.Prelude.{◌≡◌, cond, None, Some, [], ◌∷◌, OnOk};
 ghost use Rattle.rv64_instr.specs.declared.place.Place.{Place};
-ghost use Rattle.rv64_instr.specs.Row.{Row, Fixes};
+ghost use Rattle.rv64_instr.specs.LocationEffects.{is_passed};
+ghost use Rattle.rv64_instr.specs.Row.{Row, Fixes, row_of};
 ghost use Rattle.rv64_instr.specs.Decoded.{Shows};
 ghost use Rattle.remat_pass.specs.Known.{number_in, with_slot, forgotten, learned, known_past};
 ghost use Rattle.remat_pass.specs.Remat.{set_to, constant_set};
@@ -13,6 +14,8 @@ use base_ids::function_ids::SlotId;
 use mir_func::item::ItemKind;
 use rv64_instr::decoded::Decoded;
 use rv64_instr::effects::CALLER_SAVED;
+use rv64_instr::instr::Instr;
+use rv64_instr::operand::Operand;
 use rv64_instr::reg::Reg;
 use std::alloc::{AllocError, Global};
 use std::collections::HashMap;
@@ -80,7 +83,7 @@ impl Known {
         match kind {
             ItemKind::Code(i, _) => {
                 let decoded = i.decoded();
-                self.forget(&decoded);
+                self.forget(i);
                 self.learn(&decoded)?;
                 Ok(())
             }
@@ -89,12 +92,11 @@ impl Known {
     }
 
     /// Removes the values of what code sets.
-    fn forget(&mut self, decoded: &Decoded)
-        ensures { (row : Row) → Shows decoded.now row → (x : Place) →
-            known_by self.new.registers self.new.slots x
-            ≡ forgotten row (known_by self.old.registers self.old.slots) x }
+    fn forget(&mut self, i: &Instr)
+        ensures { (x : Place) → known_by self.new.registers self.new.slots x
+            ≡ forgotten (row_of i.now) (known_by self.old.registers self.old.slots) x }
     {
-        match *decoded {
+        match i.decoded() {
             Decoded::Fixes(rd, _) => self.remove_register(rd.number()),
             Decoded::Moves(rd, _) => self.remove_register(rd.number()),
             Decoded::Sets(rd, _, _, _) => self.remove_register(rd.number()),
@@ -102,7 +104,10 @@ impl Known {
             Decoded::Loads(rd, _, _, _) => self.remove_register(rd.number()),
             Decoded::LoadsSlot(rd, _) => self.remove_register(rd.number()),
             Decoded::StoresSlot(_, n) => self.remove_slot(n.number()),
-            Decoded::Calls(_) => self.remove_registers(&CALLER_SAVED),
+            Decoded::Calls(_) => {
+                self.remove_registers(&CALLER_SAVED);
+                self.remove_passed(i.operands.as_slice());
+            }
             Decoded::Stores(_, _, _, _)
             | Decoded::Branches(_, _, _, _)
             | Decoded::Jumps(_)
@@ -172,6 +177,17 @@ impl Known {
     {
         for r in numbers {
             self.remove_register(*r);
+        }
+    }
+
+    fn remove_passed(&mut self, operands: &[Operand])
+        ensures { (x : Place) → known_by self.new.registers self.new.slots x
+            ≡ cond (is_passed x operands.now) None (known_by self.old.registers self.old.slots x) }
+    {
+        for operand in operands {
+            if let Operand::Outgoing(n) = operand {
+                self.remove_slot(n.number());
+            }
         }
     }
 

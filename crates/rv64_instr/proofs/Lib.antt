@@ -3,3 +3,4 @@ pub mod Moves
 pub mod Halves
 pub mod SignExtension
 pub mod Tails
+pub mod Passed

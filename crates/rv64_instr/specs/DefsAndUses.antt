@@ -53,7 +53,7 @@ abbrev pub registers_set : Write → List ℕ
 registers_set SetsNothing = []
 registers_set (SetsRegister rd value) = rd ∷ []
 registers_set (SetsSlot n rs) = []
-registers_set Clobbers = caller_saved
+registers_set (Clobbers outgoing) = caller_saved
 
 -- the registers that it sets
 abbrev pub sets : Row → List ℕ

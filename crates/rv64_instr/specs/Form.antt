@@ -10,7 +10,7 @@ use Rattle.rv64_instr.specs.declared.op.Op.TheVariants.{PseudoBr, PseudoCall, Ps
 use Rattle.rv64_instr.specs.declared.op.Op.TheVariants.{PseudoTail, PseudoTailIndirect, NoReturnCall, NoReturnCallIndirect}
 use Rattle.rv64_instr.specs.declared.op.ImmediateOp.TheVariants.{Addi, Slti, Sltiu, Xori, Ori, Andi, Slli, Srli, Srai, Addiw, Slliw, Srliw, Sraiw}
 use Rattle.rv64_instr.specs.declared.operand.Operand.{Operand}
-use Rattle.rv64_instr.specs.declared.operand.Operand.TheVariants.{Def, Use, ImplicitDef, ImplicitUse, Imm, Slot, Object, Part, Block, Symbol, Mask}
+use Rattle.rv64_instr.specs.declared.operand.Operand.TheVariants.{Def, Use, ImplicitDef, ImplicitUse, Imm, Slot, Object, Part, Block, Symbol, Mask, Outgoing}
 use Rattle.rv64_instr.specs.declared.symbol.Half.TheVariants.{Upper, Lower}
 use Rattle.rv64_instr.specs.Arithmetic.{load_width, store_width}
 
@@ -63,10 +63,11 @@ is_implicit _ = false
 abbrev pub is_clobbered : ℕ → Bool
 is_clobbered r = nat_le r 2 || (nat_le 5 r && nat_le r 7) || (nat_le 10 r && nat_le r 17) || (nat_le 28 r && nat_le r 31)
 
--- an implicit operand of a call: a use of any physical register, or a definition of such a register
+-- an implicit operand of a call: a use of any physical register, a definition of such a register, or a slot that it passes
 abbrev pub is_argument : Operand → Bool
 is_argument (ImplicitDef r) = is_clobbered r
 is_argument (ImplicitUse r) = nat_lt r 32
+is_argument (Outgoing n) = true
 is_argument _ = false
 
 -- an implicit operand of a return: a use of x10 to x17

@@ -1,8 +1,8 @@
 -- The locations that an instruction sets, reads and moves, by its row. An immediate and a stack object are none.
-use Rattle.std.specs.Prelude.{ℕ, zero, suc, ℤ, Bool, true, false, ◌||◌, ◌&&◌, [], ◌∷◌, Option, Some, None, nat_eq}
+use Rattle.std.specs.Prelude.{ℕ, zero, suc, ℤ, Bool, true, false, ◌||◌, ◌&&◌, List, [], ◌∷◌, Option, Some, None, nat_eq}
 use Rattle.std.specs.List.{list_any}
 use Rattle.rv64_instr.specs.declared.operand.Operand.{Operand}
-use Rattle.rv64_instr.specs.declared.operand.Operand.TheVariants.{ImplicitUse}
+use Rattle.rv64_instr.specs.declared.operand.Operand.TheVariants.{ImplicitUse, Outgoing}
 use Rattle.rv64_instr.specs.declared.place.Place.{Place}
 use Rattle.rv64_instr.specs.declared.place.Place.TheVariants.{Register, Slot, Const}
 use Rattle.rv64_instr.specs.declared.effects.Effect.{Effect}
@@ -24,12 +24,12 @@ abbrev pub place_set : ℕ → Option Place
 place_set zero = None
 place_set (suc r) = Some (Register (suc r))
 
--- the one location that a write sets. A call has none here, but sets the caller-saved registers
+-- the one location that a write sets. A call has none here, but sets the caller-saved registers and the slots that it passes
 abbrev pub location_set : Write → Option Place
 location_set SetsNothing = None
 location_set (SetsRegister rd value) = place_set rd
 location_set (SetsSlot n rs) = Some (Slot n)
-location_set Clobbers = None
+location_set (Clobbers outgoing) = None
 
 -- the one location that it sets
 abbrev pub set_by : Row → Option Place
@@ -255,6 +255,17 @@ abbrev pub is_implicit_use : ℕ → Operand → Bool
 is_implicit_use r (ImplicitUse s) = nat_eq s r
 is_implicit_use r _ = false
 
+-- the operand passes the frame slot to a callee
+abbrev pub is_outgoing : ℕ → Operand → Bool
+is_outgoing n (Outgoing m) = nat_eq n m
+is_outgoing n _ = false
+
+-- the location is a frame slot that some operand passes to a callee
+abbrev pub is_passed : Place → List Operand → Bool
+is_passed (Register r) operands = false
+is_passed (Slot n) operands = list_any (is_outgoing n) operands
+is_passed (Const c) operands = false
+
 -- there is a location, and it is the register
 abbrev pub is_register : ℕ → Option Place → Bool
 is_register r (Some (Register s)) = nat_eq r s
@@ -270,15 +281,22 @@ reads_implicit_uses _ = false
 abbrev pub has_implicit_uses : Row → Bool
 has_implicit_uses row = reads_implicit_uses (class_of row)
 
--- it reads the location: a register by an explicit operand, or by an implicit one of a call or a return; or a slot
+-- it reads the location: a register by an explicit operand, or by an implicit one of a call or a return; or a slot, which a call may pass
 abbrev pub uses_of : Instruction → Place → Bool
 uses_of i (Register r) = is_register r (first_use (row_of i)) || is_register r (second_use (row_of i))
     || (has_implicit_uses (row_of i) && list_any (is_implicit_use r) i.operands)
-uses_of i (Slot n) = names_slot (slot_read (row_of i)) n
+uses_of i (Slot n) = names_slot (slot_read (row_of i)) n || (has_implicit_uses (row_of i) && list_any (is_outgoing n) i.operands)
 uses_of i (Const c) = false
 
--- it sets the location; a definition of x0 counts, though its write is dropped. A call sets the caller-saved registers
+-- a write sets the frame slot: those that a call passes are unwritten after it
+abbrev pub sets_slot : Write → ℕ → Bool
+sets_slot (SetsSlot m rs) n = nat_eq m n
+sets_slot (Clobbers outgoing) n = list_any (nat_eq n) outgoing
+sets_slot _ n = false
+
+-- it sets the location; a definition of x0 counts, though its write is dropped. A call sets the caller-saved registers and the slots that it
+-- passes
 abbrev pub defines_of : Row → Place → Bool
 defines_of row (Register r) = list_any (nat_eq r) (sets row)
-defines_of row (Slot n) = names_slot (slot_set row) n
+defines_of row (Slot n) = sets_slot (write_of row) n
 defines_of row (Const c) = false

@@ -12,7 +12,7 @@ use Rattle.rv64_instr.specs.declared.op.Op.TheVariants.{PseudoTail, PseudoTailIn
 use Rattle.rv64_instr.specs.declared.op.RegisterOp.TheVariants.{Add, Sll, Slt, Sltu, Xor, Srl, Sra, Or, And, Addw, Sllw, Srlw, Sraw}
 use Rattle.rv64_instr.specs.declared.op.ImmediateOp.TheVariants.{Addi, Slti, Sltiu, Xori, Ori, Andi, Slli, Srli, Srai, Addiw, Slliw, Srliw, Sraiw}
 use Rattle.rv64_instr.specs.declared.operand.Operand.{Operand}
-use Rattle.rv64_instr.specs.declared.operand.Operand.TheVariants.{Def, Use, ImplicitUse, Imm, Slot, Object, Part, Block, Symbol}
+use Rattle.rv64_instr.specs.declared.operand.Operand.TheVariants.{Def, Use, ImplicitUse, Imm, Slot, Object, Part, Block, Symbol, Outgoing}
 use Rattle.rv64_instr.specs.declared.symbol.LinkedAddress.{LinkedAddress}
 use Rattle.rv64_instr.specs.declared.symbol.Half.{Half}
 use Rattle.rv64_instr.specs.declared.symbol.Half.TheVariants.{Upper, Lower}
@@ -38,10 +38,12 @@ pub data Callee : Type 0 where
   Named : (name : List ℕ) → Callee
   Held : (r : ℕ) → Callee
 
--- a call: its callee, and the registers whose contents it passes
+-- a call: its callee, the registers whose contents it passes, and the frame slots whose contents it passes on the stack. A slot of
+-- index k lies at x2 + 8k, where the callee looks for its k-th argument on the stack (RISC-V ELF psABI, "Integer Calling Convention")
 pub record CallSite : Type 0 where
   pub callee : Callee
   pub args : List ℕ
+  pub outgoing : List ℕ
 
 -- how control leaves a function: back to its caller, to a callee in its place (a tail call), or to a callee that doesn't return
 pub data Way (C : Type 0) : Type 0 where
@@ -92,6 +94,12 @@ abbrev pub implicit_uses : List Operand → List ℕ
 implicit_uses [] = []
 implicit_uses (ImplicitUse r ∷ rest) = cond (nat_eq r 2) (implicit_uses rest) (r ∷ implicit_uses rest)
 implicit_uses (_ ∷ rest) = implicit_uses rest
+
+-- the frame slots that operands pass on the stack
+abbrev pub outgoing_words : List Operand → List ℕ
+outgoing_words [] = []
+outgoing_words (Outgoing n ∷ rest) = n ∷ outgoing_words rest
+outgoing_words (_ ∷ rest) = outgoing_words rest
 
 -- a copy from x0 sets 0
 abbrev pub move_row : (rd rs : ℕ) → Row
@@ -187,19 +195,19 @@ abbrev pub jump_row : List Operand → Row
 jump_row (Block target ∷ rest) = Jumps target
 jump_row _ = Unfit
 
--- LLVM's `PseudoCALL`: the arguments are the registers of its implicit uses
+-- LLVM's `PseudoCALL`: the arguments are the registers of its implicit uses, and its outgoing words
 abbrev pub call_row : List Operand → Row
-call_row (Symbol name ∷ rest) = Calls (record { callee = Named name; args = implicit_uses rest })
+call_row (Symbol name ∷ rest) = Calls (record { callee = Named name; args = implicit_uses rest; outgoing = outgoing_words rest })
 call_row _ = Unfit
 
 -- a call of the code at the address that the first of these registers holds, with the others as arguments
-abbrev pub held_call : List ℕ → Row
-held_call [] = Unfit
-held_call (r ∷ rest) = Calls (record { callee = Held r; args = rest })
+abbrev pub held_call : (uses outgoing : List ℕ) → Row
+held_call [] outgoing = Unfit
+held_call (r ∷ rest) outgoing = Calls (record { callee = Held r; args = rest; outgoing = outgoing })
 
 -- LLVM's `PseudoCALLIndirect`. Its register, and that of the other ones by a register, is the first implicit use: passes rename explicit uses alone
 abbrev pub held_call_row : List Operand → Row
-held_call_row operands = held_call (implicit_uses operands)
+held_call_row operands = held_call (implicit_uses operands) (outgoing_words operands)
 
 -- LLVM's `PseudoTAIL`: the callee returns in the function's place, and the arguments are the registers of the implicit uses
 abbrev pub tail_row : List Operand → Row

@@ -1,6 +1,6 @@
 -- The decoded view of a row: what it sets, which memory it accesses, and its class. What asks only one of these goes by the view, and doesn't name
 -- the rows. Where control goes from a row is `row_exit` of `mir_func`.
-use Rattle.std.specs.Prelude.{ℕ}
+use Rattle.std.specs.Prelude.{ℕ, List}
 use Rattle.rv64_instr.specs.Row.{Base}
 use Rattle.rv64_instr.specs.Arithmetic.{load_width, store_width}
 use Rattle.rv64_instr.specs.Row.{Row, Fixes, Moves, Sets, Addresses, Loads, Stores, LoadsSlot, StoresSlot, Branches, Jumps, Calls, Returns, Unfit}
@@ -15,12 +15,13 @@ pub data Value : Type 0 where
   -- a result that is computed or loaded
   Computed : Value
 
--- what is set: nothing, a register, a frame slot to a register's content, or by a call the caller-saved registers
+-- what is set: nothing, a register, a frame slot to a register's content, or by a call the caller-saved registers, and the slots that
+-- it passes, which are the callee's: they are unwritten after it
 pub data Write : Type 0 where
   SetsNothing : Write
   SetsRegister : (rd : ℕ) (value : Value) → Write
   SetsSlot : (n rs : ℕ) → Write
-  Clobbers : Write
+  Clobbers : (outgoing : List ℕ) → Write
 
 -- what a row sets
 abbrev pub write_of : Row → Write
@@ -34,7 +35,7 @@ write_of (LoadsSlot rd n) = SetsRegister rd (OfSlot n)
 write_of (StoresSlot rs n) = SetsSlot n rs
 write_of (Branches op a b target) = SetsNothing
 write_of (Jumps target) = SetsNothing
-write_of (Calls call) = Clobbers
+write_of (Calls call) = Clobbers call.outgoing
 write_of (Returns ending) = SetsNothing
 write_of Unfit = SetsNothing
 

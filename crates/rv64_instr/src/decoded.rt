@@ -451,7 +451,8 @@ fn of_held_gone(operands: &[Operand]) -> Decoded
 }
 
 fn calls_held(r: Reg) -> Decoded
-    ensures { (args : List ℕ) → Shows result (row.Calls (record { callee = row.Held r; args = args })) }
+    ensures { (args outgoing : List ℕ) →
+        Shows result (row.Calls (record { callee = row.Held r; args = args; outgoing = outgoing })) }
 {
     Decoded::Calls(Callee::Held(r))
 }

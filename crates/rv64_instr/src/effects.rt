@@ -6,9 +6,12 @@ ghost use Rattle.rv64_instr.specs.DefsAndUses.{sets, caller_saved};
 ghost use Rattle.rv64_instr.specs.Row as row;
 ghost use Rattle.rv64_instr.specs.Row.{Row, row_of};
 ghost use Rattle.rv64_instr.specs.Decoded.{Shows, ShowsInput, ShowsBase, ShowsCallee};
-ghost use Rattle.rv64_instr.specs.LocationEffects.{effect_of, set_by, place_set, input_place, base_place, moved_into, first_use};
-ghost use Rattle.rv64_instr.specs.LocationEffects.{second_use, moved_by, constant_of, is_pure, is_call, uses_of, defines_of};
-ghost use Rattle.rv64_instr.specs.LocationEffects.{slot_read, slot_set, is_implicit_use, is_named, has_site};
+ghost use Rattle.rv64_instr.specs.LocationEffects.{effect_of, set_by, place_set, input_place, base_place};
+ghost use Rattle.rv64_instr.specs.LocationEffects.{moved_into, first_use};
+ghost use Rattle.rv64_instr.specs.LocationEffects.{second_use, moved_by, constant_of, is_pure, is_call, uses_of};
+ghost use Rattle.rv64_instr.specs.LocationEffects.{defines_of};
+ghost use Rattle.rv64_instr.specs.LocationEffects.{slot_read, slot_set, is_implicit_use, is_outgoing, is_named};
+ghost use Rattle.rv64_instr.specs.LocationEffects.{has_site};
 
 use crate::decoded::{Base, Callee, Decoded, Input, Way};
 use crate::instr::Instr;
@@ -34,7 +37,7 @@ pub struct Effect {
     /// It is no store to memory, branch, call or return. If it goes on, at most `def` is set; a load may stop on a
     /// frame fault instead.
     pub pure: bool,
-    /// It is a call, which sets the caller-saved registers.
+    /// It is a call, which sets the caller-saved registers and the slots that it passes.
     pub call: bool,
 }
 
@@ -46,26 +49,26 @@ impl Instr {
         self.decoded().effect()
     }
 
-    /// Whether it reads the location: by an explicit operand, or by an implicit one of a call or a return. It takes no
-    /// memory.
+    /// Whether it reads the location: by an explicit operand, or by an implicit one of a call or a return; a call reads
+    /// the slots that it passes too. It takes no memory.
     pub fn uses(&self, p: Place) -> bool
         ensures { result ≡ uses_of self.now p }
     {
         match p {
             Place::Register(r) => self.uses_register(r),
-            Place::Slot(n) => self.decoded().slot_read() == Some(n),
+            Place::Slot(n) => self.uses_slot(n),
             Place::Const(_) => false,
         }
     }
 
     /// Whether it sets the location; a definition of x0 counts, though its write is dropped. A call sets the
-    /// caller-saved registers. It takes no memory.
+    /// caller-saved registers and the slots that it passes. It takes no memory.
     pub fn defines(&self, p: Place) -> bool
         ensures { result ≡ defines_of (row_of self.now) p }
     {
         match p {
             Place::Register(r) => self.decoded().sets_register(r),
-            Place::Slot(n) => self.decoded().slot_set() == Some(n),
+            Place::Slot(n) => self.defines_slot(n),
             Place::Const(_) => false,
         }
     }
@@ -89,6 +92,56 @@ impl Instr {
             | Decoded::Jumps(_) => false,
         }
     }
+
+    fn uses_slot(&self, n: SlotId) -> bool
+        ensures { result ≡ uses_of self.now (Place.Slot n) }
+    {
+        match self.decoded() {
+            Decoded::Calls(_) | Decoded::Returns(_) => is_passed(n, self.operands.as_slice()),
+            Decoded::LoadsSlot(_, m) => m == n,
+            Decoded::Fixes(_, _)
+            | Decoded::Moves(_, _)
+            | Decoded::Sets(_, _, _, _)
+            | Decoded::Addresses(_, _, _)
+            | Decoded::Loads(_, _, _, _)
+            | Decoded::Stores(_, _, _, _)
+            | Decoded::StoresSlot(_, _)
+            | Decoded::Branches(_, _, _, _)
+            | Decoded::Jumps(_) => false,
+        }
+    }
+
+    fn defines_slot(&self, n: SlotId) -> bool
+        ensures { result ≡ defines_of (row_of self.now) (Place.Slot n) }
+    {
+        match self.decoded() {
+            Decoded::Calls(_) => is_passed(n, self.operands.as_slice()),
+            Decoded::StoresSlot(_, m) => m == n,
+            Decoded::Fixes(_, _)
+            | Decoded::Moves(_, _)
+            | Decoded::Sets(_, _, _, _)
+            | Decoded::Addresses(_, _, _)
+            | Decoded::Loads(_, _, _, _)
+            | Decoded::Stores(_, _, _, _)
+            | Decoded::LoadsSlot(_, _)
+            | Decoded::Branches(_, _, _, _)
+            | Decoded::Jumps(_)
+            | Decoded::Returns(_) => false,
+        }
+    }
+}
+
+/// Whether an operand passes the slot to a callee.
+fn is_passed(n: SlotId, operands: &[Operand]) -> bool
+    ensures { result ≡ list_any (is_outgoing n) operands.now }
+{
+    operands.iter().any(|operand| is_outgoing(n, operand))
+}
+
+fn is_outgoing(n: SlotId, operand: &Operand) -> bool
+    ensures { result ≡ is_outgoing n operand.now }
+{
+    matches!(operand, Operand::Outgoing(m) if n == *m)
 }
 
 fn uses_implicitly(r: Reg, operands: &[Operand]) -> bool

@@ -299,6 +299,7 @@ fn is_argument(operand: &Operand) -> bool
     match operand {
         Operand::ImplicitDef(r) => is_clobbered(r.number()),
         Operand::ImplicitUse(r) => r.number() < 32,
+        Operand::Outgoing(_) => true,
         _ => false,
     }
 }

@@ -30,6 +30,8 @@ pub enum Operand {
     Object(ObjectId),
     /// A half of an address that is known when the program is linked.
     Part(Half, LinkedAddress),
+    /// A frame slot that a call passes to its callee, as an argument on the stack.
+    Outgoing(SlotId),
     /// A block.
     Block(BlockId),
     /// The function that a call names.
@@ -53,6 +55,7 @@ impl Operand {
             Operand::Slot(n) => Ok(Operand::Slot(*n)),
             Operand::Object(n) => Ok(Operand::Object(*n)),
             Operand::Part(half, address) => Ok(Operand::Part(*half, address.copy()?)),
+            Operand::Outgoing(n) => Ok(Operand::Outgoing(*n)),
             Operand::Block(n) => Ok(Operand::Block(*n)),
             Operand::Symbol(name) => Ok(Operand::Symbol(name.copy()?)),
             Operand::Mask => Ok(Operand::Mask),

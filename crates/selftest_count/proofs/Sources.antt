@@ -1,7 +1,7 @@
 -- Steps of the source where no answer is left.
 use Rattle.std.proofs.lemmas.Bool.{and_parts, and_from}
 use Rattle.std.proofs.Common.{nat_eq, ◌&&◌, eq-eqb, eqb-true, ◌⊎◌}
-use Rattle.std.proofs.Common.{◌≡◌, ℕ, suc, ◌+◌, ◌-◌, ◌<◌, arith, List, [], map, Option, Some, None, Bool, true, false, refl, sym, ap, ◌∙◌, subst, inl}
+use Rattle.std.proofs.Common.{◌≡◌, ℕ, suc, ◌+◌, ◌-◌, ◌<◌, arith, List, [], Option, Some, None, Bool, true, false, refl, sym, ap, ◌∙◌, subst, inl}
 use Rattle.std.proofs.Common.{inr}
 use Rattle.rv64_instr.specs.Row.{Row, Loads, Stores, LoadsSlot, Branches, Calls, Returns, Unfit, row_of}
 use Rattle.rv64_instr.specs.Arithmetic.{taken, load_width, store_width, extended}
@@ -16,7 +16,7 @@ use Rattle.sem_mir.specs.Align.{Arrives, here, onward, First, MatchesNext, Since
 use Rattle.sem_mir.specs.Effects.{OnCore}
 use Rattle.sem_mir.specs.State.{Core, Reply, State, spelled, low_bytes}
 use Rattle.sem_mir.specs.Step.{Outcome, Falls, Goes, Gives, Traps, Asks, Breaks}
-use Rattle.sem_mir.specs.Step.{read, address_at, is_fault, set_register, exec_external_call, slot_loaded, saved}
+use Rattle.sem_mir.specs.Step.{read, address_at, is_fault, set_register, exec_external_call, passed, slot_loaded, saved}
 use Rattle.sem_mir.specs.Step.{does, are_written, act, with_core, numbered, do_item, do_fetch, Went, moved, step, called_at}
 use Rattle.sem_mir.proofs.Outcomes.{on_either}
 use Rattle.sem_interpreter.specs.Acts.{IsAnswered}
@@ -45,8 +45,8 @@ does_leaves (LoadsSlot rd n) c e = by_slot (c.slots n) where
   by_slot None = tt
   by_slot (Some v) = e
 does_leaves (Branches op a b t) c e = on_either NoneLeft (taken op (read c a) (read c b)) (Goes t c) (Falls c) e e
-does_leaves (Calls call) c e = subst (λ (rs : List Reply). OnCore NoneLeft (exec_external_call (called_at c call.callee) (map (read c) call.args) c rs))
-    (sym e) tt
+does_leaves (Calls call) c e =
+    subst (λ (rs : List Reply). OnCore NoneLeft (exec_external_call (called_at c call.callee) (passed c call) call.outgoing c rs)) (sym e) tt
 does_leaves (Returns v) c e = tt
 does_leaves Unfit c e = tt
 does_leaves _ c e = e

@@ -1,6 +1,7 @@
 -- One step of both runs.
 use Rattle.std.proofs.Common.{◌≡◌, ℕ, ◌+◌, ◌<◌, List, Option, Some, None, Bool, true, false, refl, sym, ap, ◌∙◌, subst}
 use Rattle.std.specs.Prelude.{is_some}
+use Rattle.rv64_instr.specs.declared.decoded.Way.{Way}
 use Rattle.rv64_instr.specs.Row.{CallSite}
 use Rattle.mir_func.specs.Graph.{Program}
 use Rattle.mir_func.specs.declared.position.Pos.{Pos}
@@ -18,10 +19,10 @@ use Rattle.sem_machine.specs.Machine.{Machine}
 use Rattle.emit_code.specs.declared.code.EncodedInstruction.{EncodedInstruction}
 use Rattle.emit_code.specs.Laid.{LaidCode}
 use Rattle.sim_machine.specs.declared.ending.Stepped.TheVariants.{Went, Stopped}
-use Rattle.sim_machine.specs.declared.ending.Stop.TheVariants.{Returned, Left, BadWord}
+use Rattle.sim_machine.specs.declared.ending.Stop.TheVariants.{Ended, Left, BadWord}
 use Rattle.sim_machine.specs.declared.hart.Hart.{Hart}
 use Rattle.sim_machine.specs.Running.{StepsOn, call_at, found_call}
-use Rattle.sem_machine.specs.MachineStep.{Stepped, IsWell}
+use Rattle.sem_machine.specs.MachineStep.{Stepped, IsWell, result_at}
 use Rattle.sim_machine.specs.Shown.{ShowsCode, entry_at, entry_call}
 use Rattle.sim_machine.proofs.Stepping.{LineAt, line_some, line_none}
 use Rattle.selftest_count.specs.declared.counts.Counts.{Counts}
@@ -131,12 +132,12 @@ module _ (src : Program) (c : LaidCode) (lists : List (List Range)) (parts : Lis
         moves = subst (λ (x : Bool). IsSince x since) (sym kept) moves;
       }
 
-  pub returns_there : StepsOn c (Stopped Returned) h h' → Leads src c lists parts TurnReturned n n' h h' k k' moved moved'
-  returns_there steps = λ image m0 s0 limit shows b below.
+  pub returns_there : (way : Way) → StepsOn c (Stopped (Ended way)) h h' → Leads src c lists parts TurnReturned n n' h h' k k' moved moved'
+  returns_there way steps = λ image m0 s0 limit shows b below.
       let m = met image m0 s0 b shows in
       let r = steps image b.machine shows b.stands m.no_call in
       subst (λ (q : Counts). AreCounts src image lists parts limit m0 s0 q) (sym m.counted_so)
-      (returns m.to m.line.line r.0 b.counted below m.line.stands m.aligned r.1)
+      (returns m.to m.line.line (result_at b.machine r.0) b.counted below m.line.stands m.aligned r.1)
 
   pub leaves_there : StepsOn c (Stopped Left) h h' → LeadsApart src c lists parts n h k moved
   leaves_there steps = λ image m0 s0 limit shows b below.

@@ -27,7 +27,7 @@ use std::alloc::AllocError;
 pub enum StepOutcome {
     /// Both continue.
     Went,
-    /// The machine returns.
+    /// The machine's run ends.
     Returned,
     /// They diverge: the source doesn't come to the machine's line, or the machine stops or calls.
     Apart,
@@ -63,7 +63,7 @@ pub fn make_turn(
             *moved = is_kept(&entry.origin);
             match machine.step()? {
                 Stepped::Went => Ok(StepOutcome::Went),
-                Stepped::Stopped(Stop::Returned) => Ok(StepOutcome::Returned),
+                Stepped::Stopped(Stop::Ended(_)) => Ok(StepOutcome::Returned),
                 Stepped::Stopped(Stop::Left) => Ok(StepOutcome::Apart),
                 Stepped::Stopped(Stop::BadWord(_)) => Ok(StepOutcome::Apart),
             }

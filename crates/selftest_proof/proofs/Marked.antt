@@ -1,5 +1,5 @@
 -- The parts that a source was told of are those that it marks.
-use Rattle.std.proofs.Common.{◌≡◌, ℕ, List, [], ◌∷◌, map, drop, All, Contains, Option, Some, None, Bool, true, false, cond, nat_eq, refl, sym, subst}
+use Rattle.std.proofs.Common.{◌≡◌, ℕ, List, [], ◌∷◌, drop, All, Contains, Option, Some, None, Bool, true, false, cond, nat_eq, refl, sym, subst}
 use Rattle.std.proofs.Common.{inl, inr}
 use Rattle.std.proofs.lemmas.List.Elements.{All-nil, All-cons, All-head, All-tail, All-drop}
 use Rattle.rv64_instr.specs.Row.{Row, Loads, Stores, LoadsSlot, Branches, Calls, Returns, Unfit, row_of}
@@ -20,9 +20,9 @@ use Rattle.mir_func.specs.Sound.{AllItems}
 use Rattle.mir_func.specs.Variables.{is_same, overlaps}
 use Rattle.sem_mir.specs.Align.{Arrives, here, onward, First, MatchesNext, Since, Start, Same, After}
 use Rattle.sem_mir.specs.Effects.{OnCore}
-use Rattle.sem_mir.specs.State.{Core, Reply, State, assigned, writes_frame}
+use Rattle.sem_mir.specs.State.{Core, Reply, State, assigned}
 use Rattle.sem_mir.specs.Step.{Went, Outcome, Falls, Goes, Gives, Traps, Asks, Breaks, moved, read, address_at, is_fault, exec_external_call, slot_loaded, does}
-use Rattle.sem_mir.specs.Step.{are_written, act, with_core, numbered, do_item, do_fetch, step, called_at}
+use Rattle.sem_mir.specs.Step.{call_faults, passed, are_written, act, with_core, numbered, do_item, do_fetch, step, called_at}
 use Rattle.sem_mir.proofs.Assignments.{same_is}
 use Rattle.sem_mir.proofs.Outcomes.{on_either}
 use Rattle.selftest_proof.specs.Known.{MarksPartOf}
@@ -67,10 +67,10 @@ module _ (parts : List VarId) where
     by_slot None = tt
     by_slot (Some v) = h
   does_keeps (Branches op a b t) c h = on_either P (taken op (read c a) (read c b)) _ _ h h
-  does_keeps (Calls call) c h = by_script (called_at c call.callee) (map (read c) call.args) c.script where
-    by_script : (t : CallTarget) (vs : List ℕ) (rs : List Reply) → OnCore P (exec_external_call t vs c rs)
-    by_script t vs [] = tt
-    by_script t vs (q ∷ rs) = on_either P (writes_frame c.entry c.area q.writes) _ _ tt h
+  does_keeps (Calls call) c h = by_script (called_at c call.callee) (passed c call) call.outgoing c.script where
+    by_script : (t : CallTarget) (vs outgoing : List ℕ) (rs : List Reply) → OnCore P (exec_external_call t vs outgoing c rs)
+    by_script t vs outgoing [] = tt
+    by_script t vs outgoing (q ∷ rs) = on_either P (call_faults c outgoing q) _ _ tt h
   does_keeps (Returns v) c h = tt
   does_keeps Unfit c h = tt
   does_keeps _ c h = h

@@ -1,5 +1,5 @@
 -- What is kept stands for a state, and a return is one again.
-use Rattle.std.proofs.Common.{◌≡◌, ℕ, zero, suc, subst, List, [], ◌∷◌, map, Option, Some, None, Bool, true, false, cond, nat_eq, refl, sym}
+use Rattle.std.proofs.Common.{◌≡◌, ℕ, zero, suc, subst, List, [], ◌∷◌, Option, Some, None, Bool, true, false, cond, nat_eq, refl, sym}
 use Rattle.std.specs.Prelude.{slice_index_or}
 use Rattle.std.specs.Map.{lookup}
 use Rattle.rv64_instr.specs.Linked.{addresses_in}
@@ -10,9 +10,9 @@ use Rattle.rv64_instr.specs.declared.start.CallTarget.{CallTarget}
 use Rattle.mir_func.specs.declared.position.Pos.{Pos}
 use Rattle.mir_func.specs.declared.item.ItemKind.{ItemKind}
 use Rattle.mir_func.specs.declared.item.ItemKind.TheVariants.{Code, Mark, Phi}
-use Rattle.sem_mir.specs.State.{Called, Core, Event, Reply, content, put_all, written, writes_frame, RunResult}
+use Rattle.sem_mir.specs.State.{Called, Core, Event, Reply, content, put_all, without, written, RunResult}
 use Rattle.sem_mir.specs.Step as step
-use Rattle.sem_mir.specs.Step.{moved, with_core, are_written, act, does, exec_external_call, read, do_item, do_fetch, called_at}
+use Rattle.sem_mir.specs.Step.{moved, with_core, are_written, act, does, passed, call_faults, exec_external_call, do_item, do_fetch, called_at}
 use Rattle.mir_func.specs.Graph.{Fetch, Here, EndOfBlock, Outside, Program}
 use Rattle.mir_substitution.specs.Index.{is_key}
 use Rattle.sem_interpreter.specs.declared.state.SourceStep.{SourceStep}
@@ -103,18 +103,24 @@ call_goes_on enter p f call s results other e = by_test (are_written s (reads (C
   by_frame true c e = cc
   by_frame false c e = cc
 
-  by_script : (t : CallTarget) (vs : List ℕ) (rs : List Reply) →
-      moved enter p (with_core f (exec_external_call t vs s rs)) ≡ step.Returned results →
+  by_script : (t : CallTarget) (vs ns : List ℕ) (rs : List Reply) →
+      moved enter p (with_core f (exec_external_call t vs ns s rs)) ≡ step.Returned results →
       IsAnswered (Calls call) other s.script
-  by_script t vs [] e = cc
-  by_script t vs (r ∷ rs) e = by_frame (writes_frame s.entry s.area r.writes)
-      (record s { regs = put_all caller_saved r.regs s.regs; memory = written s.memory r.writes; script = rs; events = Called t vs ∷ s.events }) e
+  by_script t vs ns [] e = cc
+  by_script t vs ns (r ∷ rs) e = by_frame (call_faults s ns r)
+      (record s {
+        regs = put_all caller_saved r.regs s.regs;
+        slots = without ns s.slots;
+        memory = written s.memory r.writes;
+        script = rs;
+        events = Called t vs ∷ s.events;
+      }) e
 
   by_test : (z : Bool) →
-      moved enter p (with_core f (cond z (exec_external_call (called_at s call.callee) (map (read s) call.args) s s.script) step.Traps)) ≡ step.Returned
+      moved enter p (with_core f (cond z (exec_external_call (called_at s call.callee) (passed s call) call.outgoing s s.script) step.Traps)) ≡ step.Returned
       results →
       IsAnswered (Calls call) other s.script
-  by_test true e = by_script (called_at s call.callee) (map (read s) call.args) s.script e
+  by_test true e = by_script (called_at s call.callee) (passed s call) call.outgoing s.script e
   by_test false e = cc
 
 row_again : (enter : ℕ → ℕ) (p : Pos) (f : Core → Core) (r : Row) (s : Core) (results : RunResult) (other : Option CallResult) →

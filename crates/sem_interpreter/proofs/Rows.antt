@@ -1,8 +1,9 @@
 -- What code of each row does, from what is read.
 use Rattle.std.proofs.Common.{◌≡◌, ℕ, zero, suc, ◌*◌, List, [], ◌∷◌, Option, Some, None, Bool, true, false, cond, refl, sym, ap, ◌∙◌, subst, inl, inr, arith}
-use Rattle.std.specs.Prelude.{is_some, ◌&&◌, slice_index_or, ◌+◌, ◌-◌, ◌%◌, ◌^◌, Result, Ok, Err, IfOk}
+use Rattle.std.specs.Prelude.{is_some, ◌&&◌, nat_eq, slice_index_or, ◌+◌, ◌-◌, ◌%◌, ◌^◌, Result, Ok, Err, IfOk}
+use Rattle.std.specs.Map.{lookup}
 use Rattle.rv64_instr.specs.Arithmetic.{computed, taken, load_width, store_width, extended}
-use Rattle.rv64_instr.specs.DefsAndUses.{reads, input_reads, base_reads, caller_saved}
+use Rattle.rv64_instr.specs.DefsAndUses.{reads, input_reads, base_reads}
 use Rattle.rv64_instr.specs.declared.op.RegisterOp.{RegisterOp}
 use Rattle.rv64_instr.specs.declared.op.BranchOp.{BranchOp}
 use Rattle.rv64_instr.specs.declared.op.LoadOp.{LoadOp}
@@ -17,18 +18,17 @@ use Rattle.rv64_instr.specs.declared.symbol.Half.{Half}
 use Rattle.rv64_instr.specs.declared.symbol.Half.TheVariants.{Lower}
 use Rattle.rv64_instr.specs.Decoded.{ShowsBase}
 use Rattle.rv64_instr.specs.Linked.{addresses_in, linked_value}
-use Rattle.rv64_instr.specs.declared.start.CallTarget.{CallTarget}
 use Rattle.std.specs.declared.alloc.AllocError.{AllocError}
 use Rattle.sem_interpreter.specs.declared.machine.Outcome.{Outcome}
-use Rattle.sem_mir.specs.State.{Core, Reply, Called, content, put, put_all, updated, spelled, stored, written, low_bytes, touches_frame, writes_frame}
+use Rattle.sem_mir.specs.State.{Core, content, put, updated, spelled, stored, low_bytes, touches_frame}
 use Rattle.sem_mir.specs.Step as step
 use Rattle.sem_mir.specs.Step.{act, does, are_written, or_zero, input_value, object_address, address_at, is_fault, set_register, loaded}
-use Rattle.sem_mir.specs.Step.{put_in_memory, saved, slot_loaded, exec_external_call}
+use Rattle.sem_mir.specs.Step.{put_in_memory, saved, slot_loaded}
 use Rattle.sem_interpreter.specs.declared.machine.InterpreterState.{InterpreterState}
 use Rattle.sem_interpreter.specs.declared.machine.Outcome.TheVariants.{Falls, Goes, Returns as Ended, Faults, Waits}
-use Rattle.sem_interpreter.specs.Memory.{MemoryHolds, number_in, some_writes}
+use Rattle.sem_interpreter.specs.Memory.{MemoryHolds, number_in}
 use Rattle.sem_interpreter.specs.Places.{RegistersHold, SlotsHold}
-use Rattle.sem_interpreter.specs.Acts.{MachineHolds, Moved, EndsSo, Leads, GoesNowhere, Acts, Does, InputHolds, AddressHolds, IsBase, Takes, reply_of}
+use Rattle.sem_interpreter.specs.Acts.{MachineHolds, Moved, EndsSo, Leads, GoesNowhere, Acts, Does, InputHolds, AddressHolds, IsBase}
 
 -- code whose registers are written does what its row says
 pub act_written : (r : Row) (s : Core) → are_written s (reads r) ≡ true → act r s ≡ does r s
@@ -229,12 +229,12 @@ pub stores_faults_second : (m : InterpreterState) (rs offset : ℕ) (op : StoreO
 stores_faults_second m rs offset op base at s holds = act_unwritten (Stores op rs base offset) s (unwritten_more s rs (base_reads base) (at s holds))
 
 -- ---- slots
-pub slot_loads_so : (m : InterpreterState) (rd n v : ℕ) → Some v ≡ Rattle.std.specs.Map.lookup (Rattle.std.specs.Prelude.nat_eq n) m.slots → (s : Core) →
+pub slot_loads_so : (m : InterpreterState) (rd n v : ℕ) → Some v ≡ lookup (nat_eq n) m.slots → (s : Core) →
     MachineHolds m s → act (LoadsSlot rd n) s ≡ step.Falls (set_register rd v s)
 unfolding act does
 slot_loads_so m rd n v e s holds = ap (slot_loaded rd s) (holds.slots n ∙ sym e)
 
-pub slot_loads_faults : (m : InterpreterState) (rd n : ℕ) → None ≡ Rattle.std.specs.Map.lookup (Rattle.std.specs.Prelude.nat_eq n) m.slots → (s : Core) →
+pub slot_loads_faults : (m : InterpreterState) (rd n : ℕ) → None ≡ lookup (nat_eq n) m.slots → (s : Core) →
     MachineHolds m s → act (LoadsSlot rd n) s ≡ step.Traps
 unfolding act does
 slot_loads_faults m rd n e s holds = ap (slot_loaded rd s) (holds.slots n ∙ sym e)
@@ -382,56 +382,6 @@ put_falls old kept v a op base e writes = record {
         registers = holds.registers;
         slots = holds.slots;
         memory = writes s.memory holds.memory;
-      };
-      pairs = refl;
-      marks = refl;
-    },
-  );
-  stays = tt;
-  leads = tt;
-}
-
-taken_core : (target : CallTarget) (args : List ℕ) (s : Core) (a : CallResult) (rest : List Reply) → Core
-taken_core target args s a rest = record s {
-  regs = put_all caller_saved a.regs s.regs;
-  memory = written s.memory
-      (some_writes a.writes);
-  script = rest;
-  events = Called target args ∷ s.events;
-}
-
-answered_by : (target : CallTarget) (args : List ℕ) (s : Core) (a : CallResult) (rest : List Reply) (b : Bool) →
-    writes_frame s.entry s.area (some_writes a.writes) ≡ b →
-    exec_external_call target args s (reply_of a ∷ rest) ≡ cond b step.Traps (step.Falls (taken_core target args s a rest))
-unfolding taken_core
-answered_by target args s a rest b h = ap (λ (x : Bool). cond x step.Traps (step.Falls (taken_core target args s a rest))) h
-
-pub takes_faults : (m : InterpreterState) (a : CallResult) → true ≡ writes_frame m.entry m.area (some_writes a.writes) → Takes a Faults m m
-takes_faults m a e = record {
-  ends = λ target args rest s holds. answered_by target args s a rest true ((λ i. writes_frame (holds.entry i) (holds.area i) (some_writes a.writes)) ∙ sym e);
-  stays = refl;
-  leads = tt;
-}
-
-pub takes_falls : (old : InterpreterState) (regs : List (Option ℕ)) (bytes : List (ℕ × ℕ)) (a : CallResult) →
-    false ≡ writes_frame old.entry old.area (some_writes a.writes) →
-    ((f : ℕ → Option ℕ) → RegistersHold old.registers f → RegistersHold regs (put_all caller_saved a.regs f)) →
-    ((f : ℕ → ℕ) → MemoryHolds old.memory f → MemoryHolds bytes (written f (some_writes a.writes))) →
-    Takes a Falls old (record old { registers = regs; memory = bytes })
-unfolding taken_core
-takes_falls old regs bytes a e registers memory = record {
-  ends = λ target args rest s holds. (
-    taken_core target args s a rest,
-    answered_by target args s a rest false ((λ i. writes_frame (holds.entry i) (holds.area i) (some_writes a.writes)) ∙ sym e),
-    record {
-      machine = record {
-        entry = holds.entry;
-        area = holds.area;
-        symbols = holds.symbols;
-        objects = holds.objects;
-        registers = registers s.regs holds.registers;
-        slots = holds.slots;
-        memory = memory s.memory holds.memory;
       };
       pairs = refl;
       marks = refl;

@@ -106,10 +106,10 @@ pub record Does (f : Core → step.Outcome) (o : Outcome) (old new : Interpreter
   pub stays : Stays o old new
   pub leads : GoesNowhere o
 
--- the same for a call with this answer
-pub record Takes (a : CallResult) (o : Outcome) (old new : InterpreterState) : Type 0 where
+-- the same for a call that passes these slots, with this answer
+pub record Takes (outgoing : List ℕ) (a : CallResult) (o : Outcome) (old new : InterpreterState) : Type 0 where
   pub ends : (target : CallTarget) (args : List ℕ) (rest : List Reply) (s : Core) → MachineHolds old s →
-      EndsSo o new s (exec_external_call target args s (reply_of a ∷ rest))
+      EndsSo o new s (exec_external_call target args outgoing s (reply_of a ∷ rest))
   pub stays : Stays o old new
   pub leads : GoesNowhere o
 

@@ -3,7 +3,7 @@
 ghost use Rattle.std.specs.Prelude.{◌≡◌, ◌≤◌, ◌++◌, All, IfOk, OnErr, Option, Some, length};
 ghost use Rattle.std.specs.Option.{option_copied};
 ghost use Rattle.rv64_instr.specs.Row as row;
-ghost use Rattle.rv64_instr.specs.Row.{CallSite, Ending, row_of, implicit_uses};
+ghost use Rattle.rv64_instr.specs.Row.{CallSite, Ending, row_of, implicit_uses, outgoing_words};
 ghost use Rattle.rv64_instr.specs.DefsAndUses.{callee_reads, way_reads};
 ghost use Rattle.rv64_instr.specs.declared.start.CallResult.{CallResult};
 ghost use Rattle.mir_func.specs.Limits.{MAX_SLOTS};
@@ -379,6 +379,7 @@ impl InterpreterState {
         answer: Option<&CallResult>,
     ) -> Result<Outcome, AllocError>
         ensures ok { IfOk result (λ o. (call : CallSite) → callee_reads call.callee ++ call.args ≡ implicit_uses operands.now
+            → call.outgoing ≡ outgoing_words operands.now
             → Acts (row.Calls call) (option_copied answer.entry) o self.old self.new) }
         ensures err { OnErr result (self.new ≡ self.old) }
     {
@@ -386,21 +387,25 @@ impl InterpreterState {
             return Ok(Outcome::Faults);
         }
         match answer {
-            Some(given) => self.take(given),
+            Some(given) => self.take(operands, given),
             None => Ok(Outcome::Waits),
         }
     }
 
-    /// The effect of a call's answer.
-    fn take(&mut self, answer: &CallResult) -> Result<Outcome, AllocError>
-        ensures ok { IfOk result (λ o. Takes answer.now o self.old self.new) }
+    /// The effect of a call's answer. The callee owns the slots that are passed to it.
+    fn take(&mut self, operands: &[Operand], answer: &CallResult) -> Result<Outcome, AllocError>
+        ensures ok { IfOk result (λ o. Takes (outgoing_words operands.now) answer.now o self.old self.new) }
         ensures err { OnErr result (self.new ≡ self.old) }
     {
+        if !self.slots.are_passed(operands) {
+            return Ok(Outcome::Faults);
+        }
         if writes_frame(self.entry, self.area, &answer.writes) {
             return Ok(Outcome::Faults);
         }
         self.memory.write(&answer.writes)?;
         self.registers.write_caller_saved(&answer.regs);
+        self.slots.clear_passed(operands);
         Ok(Outcome::Falls)
     }
 

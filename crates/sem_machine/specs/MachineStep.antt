@@ -1,5 +1,8 @@
 -- The step function of the machine, by the words of the image and the table of rows.
-use Rattle.std.specs.Prelude.{◌≡◌, ℕ, ◌+◌, ◌*◌, ◌/◌, ◌%◌, ◌^◌, List, [], ◌∷◌, length, map, Option, Some, None, cond, nat_eq, nat_lt, ◌&&◌}
+use Rattle.std.specs.Prelude.{◌≡◌, ℕ, ◌+◌, ◌-◌, ◌*◌, ◌/◌, ◌%◌, ◌^◌, List, [], ◌∷◌, ◌++◌, length, map, Option, Some, None, Bool, true, false, cond}
+use Rattle.std.specs.Prelude.{nat_eq, nat_lt, nat_le, ◌&&◌, ◌||◌}
+use Rattle.std.specs.List.{list_any}
+use Rattle.rv64_instr.specs.declared.place.Place.TheVariants.{Slot}
 use Rattle.rv64_instr.specs.Arithmetic.{computed, taken, load_width, store_width, extended}
 use Rattle.rv64_instr.specs.Row.{PointedBy, ObjectAt, BesidePart}
 use Rattle.rv64_instr.specs.Row.{Row, Fixes, Moves, Sets, Addresses, Loads, Stores, LoadsSlot, StoresSlot, Branches, Jumps, Calls, Returns, Unfit}
@@ -14,7 +17,7 @@ use Rattle.sem_machine.specs.Image.{CodeLine, Image, line_at, word_at}
 use Rattle.rv64_word.specs.Decoded.{decoded}
 use Rattle.rv64_word.specs.Linked.{linked_word}
 use Rattle.std.specs.Option.{option_map}
-use Rattle.sem_machine.specs.Machine.{Machine, register, input, set_in, set_all_in, address_of}
+use Rattle.sem_machine.specs.Machine.{Machine, register, input, set_in, set_all_in, address_of, place_content}
 
 -- the result of a step
 pub data Stepped : Type 0 where
@@ -94,31 +97,47 @@ does_word l (Some w) s =
     cond (nat_eq w return_word) (Ends (record { way = Back; values = map (register s) (implicit_uses l.instruction.operands) }))
     (does_operation (decoded w) s)
 
--- memory with the bytes that a callee leaves in its own frame. Of these writes those count that are to bytes of the frame below the
--- caller's stack pointer (RISC-V ELF psABI, "Integer Calling Convention"); the others write nothing
-abbrev pub left_below : (entry area pointer : ℕ) → (ℕ → ℕ) → List (ℕ × ℕ) → ℕ → ℕ
-left_below entry area pointer m [] = m
-left_below entry area pointer m (w ∷ ws) =
-    left_below entry area pointer (cond (in_frame entry area w.0 && nat_lt w.0 pointer) (updated w.0 w.1 m) m) ws
+-- the content of a slot: the eight bytes at its offset from x2
+abbrev pub word_content : Machine → ℕ → ℕ
+word_content s n = place_content (Slot n) s
 
--- the memory after a reply
-abbrev pub memory_after : Reply → Machine → ℕ → ℕ
-memory_after r s = left_below s.entry s.area (register s 2) (written s.memory r.writes) r.below
+-- the values that a call passes: the contents of its registers, and then of its slots
+abbrev pub passed : Machine → CallSite → List ℕ
+passed s call = map (register s) call.args ++ map (word_content s) call.outgoing
+
+-- a byte that is so far from x2 is in one of the words that a call passes
+abbrev pub in_words : (outgoing : List ℕ) (offset : ℕ) → Bool
+in_words outgoing o = list_any (λ n. nat_le n o && nat_lt o (n + 8)) outgoing
+
+-- a byte of the frame that a callee owns: it is below its caller's stack pointer, or in a word that it is passed (RISC-V ELF psABI, "Integer
+-- Calling Convention")
+abbrev pub is_callees : (entry area pointer : ℕ) → (outgoing : List ℕ) → (address : ℕ) → Bool
+is_callees entry area pointer outgoing a = in_frame entry area a && (nat_lt a pointer || in_words outgoing (a - pointer))
+
+-- memory with the bytes that a callee leaves in what it owns of the frame. Writes to other bytes write nothing
+abbrev pub left_below : (entry area pointer : ℕ) → (outgoing : List ℕ) → (ℕ → ℕ) → List (ℕ × ℕ) → ℕ → ℕ
+left_below entry area pointer outgoing m [] = m
+left_below entry area pointer outgoing m (w ∷ ws) =
+    left_below entry area pointer outgoing (cond (is_callees entry area pointer outgoing w.0) (updated w.0 w.1 m) m) ws
+
+-- the memory after a reply to a call that passes these slots
+abbrev pub memory_after : (outgoing : List ℕ) → Reply → Machine → ℕ → ℕ
+memory_after outgoing r s = left_below s.entry s.area (register s 2) outgoing (written s.memory r.writes) r.below
 
 -- the bytes of a call: one by its callee's name has two words, which get the function's address when the program is linked, and one by a register has one
 abbrev pub callee_size : Callee → ℕ
 callee_size (Named name) = 8
 callee_size (Held r) = 4
 
--- the step of a call of so many bytes: it adds its event, the next reply sets the caller-saved registers, writes its bytes and leaves its frame's, and the
--- counter advances past the call
-abbrev pub step_call : (size : ℕ) → CallTarget → (args : List ℕ) → Machine → List Reply → Stepped
-step_call size target args s [] = Awaits
-step_call size target args s (r ∷ rest) =
+-- the step of a call of so many bytes, that passes these values and slots: it adds its event, the next reply sets the caller-saved registers, writes its
+-- bytes and leaves what the callee owns of the frame, and the counter advances past the call
+abbrev pub step_call : (size : ℕ) → CallTarget → (args outgoing : List ℕ) → Machine → List Reply → Stepped
+step_call size target args outgoing s [] = Awaits
+step_call size target args outgoing s (r ∷ rest) =
     let regs = set_all_in caller_saved r.regs s.regs in
-    Continues (past size (record s { regs = regs; memory = memory_after r s; script = rest; events = Called target args ∷ s.events }))
+    Continues (past size (record s { regs = regs; memory = memory_after outgoing r s; script = rest; events = Called target args ∷ s.events }))
 
--- what a callee is when the call is made: the function of its name, or the code at the address that its register holds
+-- what a callee is when the call is made: the function of its name, or what its register holds (`JALR` goes there with bit 0 cleared)
 abbrev pub called_at : Machine → Callee → CallTarget
 called_at s (Named name) = Function name
 called_at s (Held r) = Address (register s r)
@@ -133,7 +152,7 @@ way_at s (Never callee) = Never (called_at s callee)
 abbrev pub result_at : Machine → Ending Callee → RunResult
 result_at s ending = record { way = way_at s ending.way; values = map (register s) ending.values }
 
--- the callee and the argument registers of a call
+-- the callee of a call, and what it passes
 abbrev pub call_of : Row → Option CallSite
 call_of (Calls call) = Some call
 call_of _ = None
@@ -148,19 +167,55 @@ abbrev pub left_by : Row → Option (Ending Callee)
 left_by (Returns ending) = elsewhere ending ending.way
 left_by _ = None
 
+-- what a word does is to jump to the content of a register, with this link register
+abbrev pub is_jump_to : (link r : ℕ) → MachineRow → Bool
+is_jump_to link r (Does row) = false
+is_jump_to link r (Links rd target) = false
+is_jump_to link r (LinksTo rd base offset) = nat_eq rd link && (nat_eq base r && nat_eq offset 0)
+
+abbrev pub operation_jumps_to : (link r counter : ℕ) → Option MachineOp → Bool
+operation_jumps_to link r a None = false
+operation_jumps_to link r a (Some m) = is_jump_to link r (machine_row a m)
+
+abbrev pub word_jumps_to : (link r counter : ℕ) → Option ℕ → Bool
+word_jumps_to link r a None = false
+word_jumps_to link r a (Some w) = operation_jumps_to link r a (decoded w)
+
+-- the word at the counter goes to a callee, with this link register: to one by a register it is `JALR link, 0(r)` (RISC-V Unprivileged ISA, "Unconditional
+-- Jumps"). The two words for one by its name get the function's address when the program is linked, and aren't looked at
+abbrev pub goes_to : (link : ℕ) → Callee → (counter : ℕ) → Option ℕ → Bool
+goes_to link (Named name) a w = true
+goes_to link (Held r) a w = word_jumps_to link r a w
+
+-- the word at the counter leaves the function so: x1 is kept for a callee in the function's place
+abbrev pub leaves_by : Way Callee → (counter : ℕ) → Option ℕ → Bool
+leaves_by Back a w = true
+leaves_by (Tail callee) a w = goes_to 0 callee a w
+leaves_by (Never callee) a w = goes_to 1 callee a w
+
 -- the word at the counter as it is when the program is linked: with the half of an address that the line's instruction names
 abbrev pub linked_at : Image → CodeLine → Machine → Option ℕ
 linked_at image l s = option_map (linked_word s.symbols (row_of l.instruction)) (word_at image.text s.counter)
 
--- the step at a line that calls nothing: where control leaves the function for a callee the run ends, and any other line runs the word at the counter
-abbrev pub does_left : CodeLine → (left : Option (Ending Callee)) → Option ℕ → Machine → Stepped
-does_left l (Some ending) w s = Ends (result_at s ending)
-does_left l None w s = does_word l w s
+-- the step at a call site whose word goes to the callee is the call
+abbrev pub does_call : CallSite → Option ℕ → Machine → Stepped
+does_call call w s =
+    cond (goes_to 1 call.callee s.counter w) (step_call (callee_size call.callee) (called_at s call.callee) (passed s call) call.outgoing s s.script)
+    BadWord
+
+-- where the word leaves the function for a callee the run ends
+abbrev pub does_ending : Ending Callee → Option ℕ → Machine → Stepped
+does_ending ending w s = cond (leaves_by ending.way s.counter w) (Ends (result_at s ending)) BadWord
+
+-- the step at a line that calls nothing: a line that doesn't leave for a callee runs the word at the counter
+abbrev pub does_left : Image → CodeLine → (left : Option (Ending Callee)) → Machine → Stepped
+does_left image l (Some ending) s = does_ending ending (word_at image.text s.counter) s
+does_left image l None s = does_word l (linked_at image l s) s
 
 -- the step at a line: a call site calls
 abbrev pub does_line : Image → CodeLine → (call : Option CallSite) → Machine → Stepped
-does_line image l (Some call) s = step_call (callee_size call.callee) (called_at s call.callee) (map (register s) call.args) s s.script
-does_line image l None s = does_left l (left_by (row_of l.instruction)) (linked_at image l s) s
+does_line image l (Some call) s = does_call call (word_at image.text s.counter) s
+does_line image l None s = does_left image l (left_by (row_of l.instruction)) s
 
 -- the step at the line at the counter. Without one the machine has left the function
 abbrev pub does_at : Image → Option CodeLine → Machine → Stepped

@@ -1,15 +1,15 @@
 -- A step follows an edge of the control graph.
-use Rattle.std.proofs.Common.{◌≡◌, ℕ, ◌+◌, List, [], ◌∷◌, map, Option, Some, None, Bool, true, false, cond, refl, sym, ap, ◌∙◌, subst, inl, inr, arith}
+use Rattle.std.proofs.Common.{◌≡◌, ℕ, ◌+◌, List, [], ◌∷◌, Option, Some, None, Bool, true, false, cond, refl, sym, ap, ◌∙◌, subst, inl, inr, arith}
 use Rattle.mir_func.specs.declared.position.Pos.{Pos}
 use Rattle.mir_func.specs.declared.item.ItemKind.{ItemKind}
 use Rattle.mir_func.specs.declared.item.ItemKind.TheVariants.{Code, Mark, Phi}
 use Rattle.rv64_instr.specs.Row.{Row, Loads, Stores, LoadsSlot, Branches, Calls, Returns, Unfit, row_of}
 use Rattle.rv64_instr.specs.Arithmetic.{taken, load_width, store_width, extended}
 use Rattle.rv64_instr.specs.DefsAndUses.{reads}
-use Rattle.sem_mir.specs.State.{State, Core, Reply, spelled, low_bytes, writes_frame, updated}
+use Rattle.sem_mir.specs.State.{State, Core, Reply, spelled, low_bytes, updated}
 use Rattle.sem_mir.specs.Step.{Went, Outcome, Falls, Goes, Gives, Traps, Asks, Breaks, moved, read, address_at, is_fault, part_of, set_register, saved}
 use Rattle.sem_mir.specs.Step.{exec_external_call, slot_loaded, does, act, are_written, numbered, with_core, mark_value, place_value, do_item, do_fetch, step}
-use Rattle.sem_mir.specs.Step.{called_at}
+use Rattle.sem_mir.specs.Step.{called_at, passed, call_faults}
 use Rattle.rv64_instr.specs.LocationEffects.{is_call}
 use Rattle.rv64_instr.specs.declared.start.CallTarget.{CallTarget}
 use Rattle.sem_mir.proofs.Outcomes.{after_reply}
@@ -41,10 +41,10 @@ module _ (enter : ℕ → ℕ) (p : Pos) where
     by_slot None = tt
     by_slot (Some v) = refl
   does_allows (Branches op a b t) c = either (Branches op a b t) (taken op (read c a) (read c b)) (Goes t c) (Falls c) (inl refl) (inr refl)
-  does_allows (Calls call) c = by_script (called_at c call.callee) (map (read c) call.args) c.script where
-    by_script : (t : CallTarget) (vs : List ℕ) (rs : List Reply) → Allows enter (Calls call) p (exec_external_call t vs c rs)
-    by_script t vs [] = tt
-    by_script t vs (r ∷ rs) = either (Calls call) (writes_frame c.entry c.area r.writes) Traps (Falls (after_reply t vs c r rs)) tt refl
+  does_allows (Calls call) c = by_script (called_at c call.callee) (passed c call) call.outgoing c.script where
+    by_script : (t : CallTarget) (vs os : List ℕ) (rs : List Reply) → Allows enter (Calls call) p (exec_external_call t vs os c rs)
+    by_script t vs os [] = tt
+    by_script t vs os (r ∷ rs) = either (Calls call) (call_faults c os r) Traps (Falls (after_reply t vs os c r rs)) tt refl
   does_allows (Returns v) c = tt
   does_allows Unfit c = tt
   does_allows _ c = refl

@@ -1,6 +1,8 @@
 -- What code leaves alone, and what it depends on.
 use Rattle.std.proofs.Common.{◌≡◌, ℕ, zero, suc, ◌+◌, ◌%◌, ◌^◌, List, [], ◌∷◌, map, Contains, Option, Some, None, Bool, true, false, cond, ◌&&◌, is_some}
-use Rattle.std.proofs.Common.{refl, sym, ap, ◌∙◌, subst, inl, inr, ◌⊎◌, arith}
+use Rattle.std.proofs.Common.{refl, sym, ap, ◌∙◌, subst, inl, inr, ◌⊎◌, arith, ◌++◌, nat_eq}
+use Rattle.std.specs.Prelude.{not, ◌||◌}
+use Rattle.std.specs.List.{list_any}
 use Rattle.std.proofs.lemmas.Bool.{cases_eq}
 use Rattle.std.proofs.lemmas.Map.Made.{Contains-tail}
 use Rattle.rv64_instr.specs.declared.op.LoadOp.{LoadOp}
@@ -18,11 +20,13 @@ use Rattle.rv64_instr.specs.DefsAndUses.{caller_saved, base_reads, reads, sets, 
 use Rattle.rv64_instr.specs.declared.start.CallTarget.{CallTarget}
 use Rattle.rv64_instr.specs.declared.start.CallTarget.TheVariants.{Function, Address}
 use Rattle.mir_func.specs.declared.variable.VarId.{VarId}
-use Rattle.sem_mir.specs.State.{Reply, Core, content, updated, put, put_all, spelled, low_bytes, writes_frame}
+use Rattle.sem_mir.specs.State.{Reply, Core, content, updated, without, put, put_all, spelled, low_bytes, writes_frame}
 use Rattle.sem_mir.specs.Step.{Outcome, Falls, Goes, Traps, or_zero, read, input_value, base_value, address_at, is_fault, set_register, exec_external_call}
 use Rattle.sem_mir.specs.Step.{slot_loaded, loaded, saved, put_in_memory, does, are_written, act, with_core, Gives, called_at, way_at}
+use Rattle.sem_mir.specs.Step.{slot_value, passed, are_passed, call_faults}
 use Rattle.sem_mir.specs.Effects.{held_in, OnCore, EndAlike, SameWorld}
 use Rattle.sem_mir.proofs.Places.{put_other, put_all_other, updated_same, updated_other, contains_head, contains_tail, contains_front, contains_back}
+use Rattle.sem_mir.proofs.Places.{without_among, without_other}
 use Rattle.sem_mir.proofs.Outcomes.{after_reply, on_either, alike_either}
 
 -- code neither reads nor sets pairs and marks
@@ -53,17 +57,17 @@ module _ (pairs : ℕ → ℕ → Option ℕ) (marks : List (VarId × Option ℕ
     by_slot None = refl
     by_slot (Some v) = refl
   does_apart (Branches op a b t) c = apart_either (taken op (read c a) (read c b)) _ _ _ _ refl refl
-  does_apart (Calls call) c = by_callee call.callee (map (read c) call.args) c.script where
-    by_script : (t : CallTarget) (vs : List ℕ) (rs : List Reply) →
-        exec_external_call t vs (told_by pairs marks c) rs ≡ with_core (told_by pairs marks) (exec_external_call t vs c rs)
-    by_script t vs [] = refl
-    by_script t vs (r ∷ rs) = apart_either (writes_frame c.entry c.area r.writes) _ _ _ _ refl refl
+  does_apart (Calls call) c = by_callee call.callee (passed c call) call.outgoing c.script where
+    by_script : (t : CallTarget) (vs os : List ℕ) (rs : List Reply) →
+        exec_external_call t vs os (told_by pairs marks c) rs ≡ with_core (told_by pairs marks) (exec_external_call t vs os c rs)
+    by_script t vs os [] = refl
+    by_script t vs os (r ∷ rs) = apart_either (call_faults c os r) _ _ _ _ refl refl
 
-    by_callee : (callee : Callee) (vs : List ℕ) (rs : List Reply) →
-        exec_external_call (called_at (told_by pairs marks c) callee) vs (told_by pairs marks c) rs ≡
-        with_core (told_by pairs marks) (exec_external_call (called_at c callee) vs c rs)
-    by_callee (Named name) vs rs = by_script (Function name) vs rs
-    by_callee (Held r) vs rs = by_script (Address (read c r)) vs rs
+    by_callee : (callee : Callee) (vs os : List ℕ) (rs : List Reply) →
+        exec_external_call (called_at (told_by pairs marks c) callee) vs os (told_by pairs marks c) rs ≡
+        with_core (told_by pairs marks) (exec_external_call (called_at c callee) vs os c rs)
+    by_callee (Named name) vs os rs = by_script (Function name) vs os rs
+    by_callee (Held r) vs os rs = by_script (Address (read c r)) vs os rs
   does_apart (Returns ending) c = by_way ending.way where
     by_callee : (callee : Callee) → called_at (told_by pairs marks c) callee ≡ called_at c callee
     by_callee (Named name) = refl
@@ -86,12 +90,14 @@ module _ (pairs : ℕ → ℕ → Option ℕ) (marks : List (VarId × Option ℕ
 abbrev pub RowUses : Row → Place → Type 0
 RowUses row (Register r) = Contains (reads row) r
 RowUses (LoadsSlot rd n) (Slot k) = n ≡ k
+RowUses (Calls call) (Slot k) = Contains call.outgoing k
 RowUses _ _ = ⊥
 
 -- it may change these places, and no others
 abbrev pub RowDefines : Row → Place → Type 0
 RowDefines row (Register r) = Contains (sets row) r
 RowDefines (StoresSlot rs n) (Slot k) = n ≡ k
+RowDefines (Calls call) (Slot k) = Contains call.outgoing k
 RowDefines _ _ = ⊥
 
 -- what a row doesn't define, stays
@@ -139,15 +145,16 @@ module _ (x : Place) (c : Core) where
     by_place (Const z) ne = refl
   does_keeps (Branches op a b t) ne = on_either (Keeps x c) (taken op (read c a) (read c b)) (Goes t c) (Falls c) refl refl
   does_keeps (Jumps t) ne = refl
-  does_keeps (Calls call) ne = by_script (called_at c call.callee) (map (read c) call.args) c.script where
-    by_place : (y : Place) (t : CallTarget) (vs : List ℕ) (r : Reply) (rs : List Reply) → (RowDefines (Calls call) y → ⊥) → Keeps y c (after_reply t vs c r rs)
+  does_keeps (Calls call) ne = by_script (called_at c call.callee) (passed c call) c.script where
+    by_place : (y : Place) (t : CallTarget) (vs : List ℕ) (r : Reply) (rs : List Reply) → (RowDefines (Calls call) y → ⊥) →
+        Keeps y c (after_reply t vs call.outgoing c r rs)
     by_place (Register q) t vs r rs ne = put_all_other caller_saved r.regs q c.regs ne
-    by_place (Slot n) t vs r rs ne = refl
+    by_place (Slot n) t vs r rs ne = without_other call.outgoing n c.slots ne
     by_place (Const z) t vs r rs ne = refl
 
-    by_script : (t : CallTarget) (vs : List ℕ) (rs : List Reply) → OnCore (Keeps x c) (exec_external_call t vs c rs)
+    by_script : (t : CallTarget) (vs : List ℕ) (rs : List Reply) → OnCore (Keeps x c) (exec_external_call t vs call.outgoing c rs)
     by_script t vs [] = tt
-    by_script t vs (r ∷ rs) = on_either (Keeps x c) (writes_frame c.entry c.area r.writes) Traps (Falls (after_reply t vs c r rs)) tt
+    by_script t vs (r ∷ rs) = on_either (Keeps x c) (call_faults c call.outgoing r) Traps (Falls (after_reply t vs call.outgoing c r rs)) tt
         (by_place x t vs r rs ne)
   does_keeps (Returns v) ne = tt
   does_keeps Unfit ne = tt
@@ -277,6 +284,21 @@ module _ (c : Core) (regs slots : ℕ → Option ℕ) (pairs : ℕ → ℕ → O
       let es = written_alike r u qs (λ p k. in' p (contains_tail q p qs k)) in
       λ i. e i && es i
 
+  passed_alike : (r : Row) → UsesAlike r → (ns : List ℕ) → ((n : ℕ) → Contains ns n → RowUses r (Slot n)) →
+      map (slot_value c) ns ≡ map (slot_value d) ns
+  passed_alike r u [] in' = refl
+  passed_alike r u (n ∷ ns) in' =
+      let e = ap or_zero (u (Slot n) (in' n (contains_head n ns))) in
+      let es = passed_alike r u ns (λ p k. in' p (contains_tail n p ns k)) in
+      λ i. e i ∷ es i
+
+  are_passed_alike : (r : Row) → UsesAlike r → (ns : List ℕ) → ((n : ℕ) → Contains ns n → RowUses r (Slot n)) → are_passed c ns ≡ are_passed d ns
+  are_passed_alike r u [] in' = refl
+  are_passed_alike r u (n ∷ ns) in' =
+      let e : is_some (c.slots n) ≡ is_some (slots n) = ap is_some (u (Slot n) (in' n (contains_head n ns))) in
+      let es = are_passed_alike r u ns (λ p k. in' p (contains_tail n p ns k)) in
+      λ i. e i && es i
+
   callee_alike : (r : Row) → UsesAlike r → (callee : Callee) → ((q : ℕ) → Contains (callee_reads callee) q → Contains (reads r) q) →
       called_at c callee ≡ called_at d callee
   callee_alike r u (Named name) in' = refl
@@ -372,21 +394,31 @@ module _ (c : Core) (regs slots : ℕ → Option ℕ) (pairs : ℕ → ℕ → O
   does_alike (Calls call) u =
       let e = callee_alike (Calls call) u call.callee (λ q k. contains_front (callee_reads call.callee) call.args q k) in
       let es = map_alike (Calls call) u call.args (λ q k. contains_back (callee_reads call.callee) call.args q k) in
-      let Goal : CallTarget → List ℕ → Type 0 = λ t vs. EndAlike (Agreeing (Calls call) c d) (does (Calls call) c) (exec_external_call t vs d c.script) in
-      subst (λ (vs : List ℕ). Goal (called_at d call.callee) vs) es (subst (λ (t : CallTarget). Goal t (map (read c) call.args)) e
-      (by_script (called_at c call.callee) (map (read c) call.args) c.script)) where
+      let os = passed_alike (Calls call) u call.outgoing (λ n k. k) in
+      let same : passed c call ≡ passed d call = λ i. es i ++ os i in
+      let Goal : CallTarget → List ℕ → Type 0 = λ t vs. EndAlike (Agreeing (Calls call) c d) (does (Calls call) c)
+      (exec_external_call t vs call.outgoing d c.script) in
+      subst (λ (vs : List ℕ). Goal (called_at d call.callee) vs) same (subst (λ (t : CallTarget). Goal t (passed c call)) e
+      (by_script (called_at c call.callee) (passed c call) c.script)) where
         by_place : (x : Place) (t : CallTarget) (vs : List ℕ) (r : Reply) (rs : List Reply) → RowDefines (Calls call) x ⊎ (held_in x c ≡ held_in x d) →
-            held_in x (after_reply t vs c r rs) ≡ held_in x (after_reply t vs d r rs)
+            held_in x (after_reply t vs call.outgoing c r rs) ≡ held_in x (after_reply t vs call.outgoing d r rs)
         by_place (Register q) t vs r rs h = agree_all caller_saved r.regs q c.regs regs
             (λ out. elim h as (λ _. content c.regs q ≡ content regs q) [ inl k ↦ absurd (out k) | inr k ↦ k ])
-        by_place (Slot n) t vs r rs h = elim h as (λ _. c.slots n ≡ slots n) [ inl k ↦ absurd k | inr k ↦ k ]
+        by_place (Slot n) t vs r rs h = elim h as (λ _. without call.outgoing c.slots n ≡ without call.outgoing slots n) [
+          | inl k ↦ without_among call.outgoing n c.slots k ∙ sym (without_among call.outgoing n slots k)
+          | inr k ↦ ap (λ (v : Option ℕ). cond (list_any (nat_eq n) call.outgoing) None v) k
+        ]
         by_place (Const z) t vs r rs h = refl
 
         by_script : (t : CallTarget) (vs : List ℕ) (rs : List Reply) →
-            EndAlike (Agreeing (Calls call) c d) (exec_external_call t vs c rs) (exec_external_call t vs d rs)
+            EndAlike (Agreeing (Calls call) c d) (exec_external_call t vs call.outgoing c rs) (exec_external_call t vs call.outgoing d rs)
         by_script t vs [] = tt
-        by_script t vs (r ∷ rs) = alike_either (Agreeing (Calls call) c d) (writes_frame c.entry c.area r.writes) Traps _ Traps _ tt
-            (record { entry = refl; area = refl; objects = refl; symbols = refl; memory = refl; script = refl; events = refl }, λ x h. by_place x t vs r rs h)
+        by_script t vs (r ∷ rs) =
+            subst (λ (z : Bool). EndAlike (Agreeing (Calls call) c d) (exec_external_call t vs call.outgoing c (r ∷ rs))
+            (cond (not z || writes_frame c.entry c.area r.writes) Traps (Falls (after_reply t vs call.outgoing d r rs))))
+            (are_passed_alike (Calls call) u call.outgoing (λ n k. k))
+            (alike_either (Agreeing (Calls call) c d) (call_faults c call.outgoing r) Traps _ Traps _ tt
+            (record { entry = refl; area = refl; objects = refl; symbols = refl; memory = refl; script = refl; events = refl }, λ x h. by_place x t vs r rs h))
   does_alike (Returns ending) u =
       let e = way_alike (Returns ending) u ending.way (λ q k. contains_front (way_reads ending.way) ending.values q k) in
       let es = map_alike (Returns ending) u ending.values (λ q k. contains_back (way_reads ending.way) ending.values q k) in

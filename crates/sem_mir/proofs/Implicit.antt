@@ -10,7 +10,8 @@ use Rattle.rv64_instr.specs.declared.operand.Operand.{Operand}
 use Rattle.rv64_instr.specs.declared.operand.Operand.TheVariants.{Def, Use, Imm, Slot, Object, Block, Symbol}
 use Rattle.rv64_instr.specs.Instruction.{Instruction}
 use Rattle.rv64_instr.specs.Arithmetic.{word}
-use Rattle.rv64_instr.specs.Row.{Row, Calls, Returns, row_by, row_of, immediate_row, object_row, move_row, implicit_uses, held_call, held_tail, held_gone}
+use Rattle.rv64_instr.specs.Row.{Row, Calls, Returns, row_by, row_of, immediate_row, object_row, move_row, implicit_uses, outgoing_words, held_call}
+use Rattle.rv64_instr.specs.Row.{held_tail, held_gone}
 use Rattle.rv64_instr.specs.DefsAndUses.{way_reads, callee_reads}
 
 abbrev pub AreImplicit : List Operand → Row → Type 0
@@ -27,9 +28,9 @@ copies : (operands : List Operand) (rd rs : ℕ) → AreImplicit operands (move_
 copies operands rd zero = tt
 copies operands rd (suc r) = tt
 
-held_call_reads : (operands : List Operand) (xs : List ℕ) → xs ≡ implicit_uses operands → AreImplicit operands (held_call xs)
-held_call_reads operands [] e = tt
-held_call_reads operands (r ∷ xs) e = e
+held_call_reads : (operands : List Operand) (xs outgoing : List ℕ) → xs ≡ implicit_uses operands → AreImplicit operands (held_call xs outgoing)
+held_call_reads operands [] outgoing e = tt
+held_call_reads operands (r ∷ xs) outgoing e = e
 
 held_tail_reads : (operands : List Operand) (xs : List ℕ) → xs ≡ implicit_uses operands → AreImplicit operands (held_tail xs)
 held_tail_reads operands [] e = tt
@@ -58,7 +59,7 @@ by_op Copy (Def rd ∷ Use rs ∷ rest) = copies (Def rd ∷ Use rs ∷ rest) rd
 by_op PseudoBr (Block target ∷ rest) = tt
 by_op PseudoCall (Symbol name ∷ rest) = refl
 by_op PseudoRet rest = refl
-by_op PseudoCallIndirect rest = held_call_reads rest (implicit_uses rest) refl
+by_op PseudoCallIndirect rest = held_call_reads rest (implicit_uses rest) (outgoing_words rest) refl
 by_op PseudoTail (Symbol name ∷ rest) = refl
 by_op PseudoTailIndirect rest = held_tail_reads rest (implicit_uses rest) refl
 by_op NoReturnCall (Symbol name ∷ rest) = refl

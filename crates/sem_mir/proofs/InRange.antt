@@ -1,5 +1,5 @@
 -- A run keeps its registers, slots and values below 2^64, and bytes in memory.
-use Rattle.std.proofs.Common.{◌≡◌, ℕ, zero, suc, ◌+◌, ◌*◌, ◌/◌, ◌%◌, ◌^◌, ◌<◌, List, [], ◌∷◌, map, All, slice_get, Option, Some, None, Bool, true, false}
+use Rattle.std.proofs.Common.{◌≡◌, ℕ, zero, suc, ◌+◌, ◌*◌, ◌/◌, ◌%◌, ◌^◌, ◌<◌, List, [], ◌∷◌, All, slice_get, Option, Some, None, Bool, true, false}
 use Rattle.std.proofs.Common.{cond, nat_eq, refl, sym, ap, ◌∙◌, subst, inl, inr, pow-suc, arith}
 use Rattle.std.proofs.lemmas.Bool.{cases_lt}
 use Rattle.std.proofs.lemmas.List.Elements.{All-head, All-tail}
@@ -20,7 +20,7 @@ use Rattle.rv64_instr.specs.Arithmetic.{word, computed, extended, load_width, st
 use Rattle.rv64_instr.specs.Row.{Row, Fixes, Moves, Sets, Addresses, Loads, Stores, LoadsSlot, StoresSlot, Branches, Jumps, Calls, Returns, Unfit, row_of}
 use Rattle.rv64_instr.specs.Row.{row_by, move_row, immediate_row, object_row}
 use Rattle.rv64_instr.specs.Row.{Input, Content, Number, PartOf}
-use Rattle.rv64_instr.specs.Row.{ObjectAt, held_call, held_tail, held_gone, implicit_uses}
+use Rattle.rv64_instr.specs.Row.{ObjectAt, held_call, held_tail, held_gone, implicit_uses, outgoing_words}
 use Rattle.rv64_instr.specs.DefsAndUses.{caller_saved, reads}
 use Rattle.mir_func.specs.declared.debug_substitution.OperandPair.{OperandPair}
 use Rattle.mir_func.specs.declared.object.Object.{Object as StackObject}
@@ -30,12 +30,12 @@ use Rattle.mir_func.specs.declared.variable.MarkValue.{MarkValue}
 use Rattle.mir_func.specs.declared.variable.MarkValue.TheVariants.{Nothing, Constant, At, Pair}
 use Rattle.mir_func.specs.declared.item.ItemKind.{ItemKind}
 use Rattle.mir_func.specs.declared.item.ItemKind.TheVariants.{Code, Mark, Phi}
-use Rattle.sem_mir.specs.State.{Reply, Core, State, updated, content, put, put_all, spelled, low_bytes, stored, written, writes_frame, assigned}
+use Rattle.sem_mir.specs.State.{Reply, Core, State, updated, content, put, put_all, spelled, low_bytes, stored, written, assigned}
 use Rattle.sem_mir.specs.State.{IsReply, IsInRange}
 use Rattle.mir_func.specs.Variables.{is_same, overlaps, part_value}
 use Rattle.sem_mir.specs.Step.{Next, Went, Returned, Faulted, Waits, Lost, Outcome, Falls, Goes, Gives, Traps, Asks, Breaks, or_zero, read, input_value}
 use Rattle.sem_mir.specs.Step.{base_value, address_at, is_fault, part_of, set_register, exec_external_call}
-use Rattle.sem_mir.specs.Step.{slot_loaded, saved, does, are_written, act, seen, called_at}
+use Rattle.sem_mir.specs.Step.{slot_loaded, saved, does, are_written, act, seen, called_at, passed, call_faults}
 use Rattle.sem_mir.specs.Step.{defined, given, numbered, with_core, place_value, pair_value, mark_value, do_item, do_fetch, moved, step, after, run}
 use Rattle.rv64_instr.specs.LocationEffects.{is_call}
 use Rattle.rv64_instr.specs.declared.start.CallTarget.{CallTarget}
@@ -43,6 +43,7 @@ use Rattle.mir_func.specs.Graph.{Program, Fetch, Here, EndOfBlock, Outside, belo
 use Rattle.sem_mir.specs.InitialState.{IsInitialState}
 use Rattle.sem_mir.specs.Effects.{OnCore}
 use Rattle.sem_mir.proofs.Outcomes.{after_reply, on_either}
+use Rattle.sem_mir.proofs.Places.{without_some}
 use Rattle.sem_mir.proofs.Assignments.{part_below}
 use Rattle.sem_mir.proofs.Range.{IsWord, reduced, word_in_range, extend32_in_range, computed_in_range, extended_in_range, linked_in_range}
 
@@ -74,9 +75,9 @@ move_in_range : (rd rs : ℕ) → RowInRange (move_row rd rs)
 move_in_range rd zero = omega arith
 move_in_range rd (suc r) = tt
 
-held_call_in_range : (xs : List ℕ) → RowInRange (held_call xs)
-held_call_in_range [] = tt
-held_call_in_range (r ∷ xs) = tt
+held_call_in_range : (xs outgoing : List ℕ) → RowInRange (held_call xs outgoing)
+held_call_in_range [] outgoing = tt
+held_call_in_range (r ∷ xs) outgoing = tt
 
 held_tail_in_range : (xs : List ℕ) → RowInRange (held_tail xs)
 held_tail_in_range [] = tt
@@ -106,7 +107,7 @@ by_op Copy (Def rd ∷ Use rs ∷ rest) = move_in_range rd rs
 by_op PseudoBr (Block target ∷ rest) = tt
 by_op PseudoCall (Symbol name ∷ rest) = tt
 by_op PseudoRet rest = tt
-by_op PseudoCallIndirect rest = held_call_in_range (implicit_uses rest)
+by_op PseudoCallIndirect rest = held_call_in_range (implicit_uses rest) (outgoing_words rest)
 by_op PseudoTail (Symbol name ∷ rest) = tt
 by_op PseudoTailIndirect rest = held_tail_in_range (implicit_uses rest)
 by_op NoReturnCall (Symbol name ∷ rest) = tt
@@ -252,15 +253,15 @@ module _ (c : Core) (h : IsInRange c) where
   }
   does_in_range (Branches op a b t) k = on_either IsInRange (taken op (read c a) (read c b)) (Goes t c) (Falls c) h h
   does_in_range (Jumps t) k = h
-  does_in_range (Calls call) k = by_script (called_at c call.callee) (map (read c) call.args) c.script h.script where
-    by_script : (t : CallTarget) (vs : List ℕ) (rs : List Reply) → All IsReply rs → OnCore IsInRange (exec_external_call t vs c rs)
-    by_script t vs [] k = tt
-    by_script t vs (r ∷ rs) k =
+  does_in_range (Calls call) k = by_script (called_at c call.callee) (passed c call) call.outgoing c.script h.script where
+    by_script : (t : CallTarget) (vs os : List ℕ) (rs : List Reply) → All IsReply rs → OnCore IsInRange (exec_external_call t vs os c rs)
+    by_script t vs os [] k = tt
+    by_script t vs os (r ∷ rs) k =
         let is = All-head IsReply r rs k in
-        on_either IsInRange (writes_frame c.entry c.area r.writes) Traps (Falls (after_reply t vs c r rs)) tt
+        on_either IsInRange (call_faults c os r) Traps (Falls (after_reply t vs os c r rs)) tt
         (record {
           regs = put_all_in_range caller_saved r.regs c.regs is.regs h.regs;
-          slots = h.slots;
+          slots = λ n v e. h.slots n v (without_some os n v c.slots e);
           memory = written_bytes r.writes c.memory is.writes h.memory;
           script = All-tail IsReply r rs k;
           pairs = h.pairs;

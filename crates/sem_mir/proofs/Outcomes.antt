@@ -4,15 +4,20 @@ use Rattle.mir_func.specs.declared.position.Pos.{Pos}
 use Rattle.mir_func.specs.declared.item.Item.{Item}
 use Rattle.rv64_instr.specs.DefsAndUses.{caller_saved}
 use Rattle.rv64_instr.specs.declared.start.CallTarget.{CallTarget}
-use Rattle.sem_mir.specs.State.{State, Core, Reply, Called, put_all, written, RunResult}
+use Rattle.sem_mir.specs.State.{State, Core, Reply, Called, put_all, without, written, RunResult}
 use Rattle.sem_mir.specs.Step.{Went, Returned, Faulted, Outcome, Falls, Goes, Gives, Traps, Asks, Breaks, moved, with_core, do_item, do_fetch, step}
 use Rattle.mir_func.specs.Graph.{Program, Fetch, Here, EndOfBlock, below, block_start}
 use Rattle.sem_mir.specs.Effects.{OnCore, EndAlike}
 
 -- the core after a call that is answered
-abbrev pub after_reply : CallTarget → (args : List ℕ) → Core → Reply → (rest : List Reply) → Core
-after_reply target args c r rest =
-    record c { regs = put_all caller_saved r.regs c.regs; memory = written c.memory r.writes; script = rest; events = Called target args ∷ c.events }
+abbrev pub after_reply : CallTarget → (args outgoing : List ℕ) → Core → Reply → (rest : List Reply) → Core
+after_reply target args outgoing c r rest = record c {
+  regs = put_all caller_saved r.regs c.regs;
+  slots = without outgoing c.slots;
+  memory = written c.memory r.writes;
+  script = rest;
+  events = Called target args ∷ c.events;
+}
 
 pub on_either : (P : Core → Type 0) (b : Bool) (x y : Outcome) → OnCore P x → OnCore P y → OnCore P (cond b x y)
 on_either P true x y a b = a

@@ -2,7 +2,7 @@
 use Rattle.std.proofs.Common.{◌≡◌, ℕ, ℤ, zero, suc, ◌^◌, List, [], ◌∷◌, Contains, Option, Some, None, Bool, true, false, cond, ◌&&◌, ◌||◌, nat_eq, is_some}
 use Rattle.std.proofs.Common.{eq-eqb, lt-ltb, le-ltb, refl, sym, ap, ◌∙◌, subst, inl, inr, ◌⊎◌, arith}
 use Rattle.std.specs.List.{list_any}
-use Rattle.std.proofs.lemmas.Bool.{cases_eq, cases_lt, eqb-true}
+use Rattle.std.proofs.lemmas.Bool.{cases_eq, cases_lt, eqb-true, or_left, or_right}
 use Rattle.std.proofs.lemmas.Map.Made.{Contains-tail}
 use Rattle.rv64_instr.specs.declared.operand.Operand.{Operand}
 use Rattle.rv64_instr.specs.declared.operand.Operand.TheVariants.{ImplicitUse}
@@ -16,7 +16,8 @@ use Rattle.rv64_instr.specs.Row.{Content, Number, PartOf}
 use Rattle.rv64_instr.specs.Row.{PointedBy, ObjectAt, BesidePart}
 use Rattle.rv64_instr.specs.DefsAndUses.{reads, sets}
 use Rattle.rv64_instr.specs.LocationEffects.{place_set, set_by, moved_by, constant_of, is_pure, is_call as calls, uses_of, defines_of, first_use, second_use}
-use Rattle.rv64_instr.specs.LocationEffects.{is_register, has_implicit_uses, is_implicit_use, names_slot, slot_read, is_call}
+use Rattle.rv64_instr.specs.LocationEffects.{is_register, has_implicit_uses, is_implicit_use, is_outgoing, names_slot, slot_read, is_call}
+use Rattle.rv64_instr.proofs.Passed.{passed_by}
 use Rattle.mir_func.specs.declared.item.ItemKind.{ItemKind}
 use Rattle.mir_func.specs.declared.item.ItemKind.TheVariants.{Code, Mark, Phi}
 use Rattle.sem_mir.specs.Live.{KindDefines}
@@ -25,48 +26,26 @@ use Rattle.sem_mir.specs.Step.{Outcome, Falls, Goes, Gives, Traps, Asks, Breaks,
 use Rattle.sem_mir.specs.Step.{set_register, slot_loaded, does, are_written, act}
 use Rattle.mir_func.specs.Graph.{Program}
 use Rattle.sem_mir.specs.Effects.{held_in, OnCore, EndAlike, SameWorld, FallsInto, AreHeldAlike, EffectsHold}
-use Rattle.sem_mir.proofs.Places.{contains_head, contains_tail, put_same, updated_same}
+use Rattle.sem_mir.proofs.Places.{in_any, any_in, put_same, updated_same}
 use Rattle.sem_mir.proofs.Outcomes.{alike_weaker}
 use Rattle.sem_mir.proofs.Implicit.{AreImplicit, implicit}
 use Rattle.sem_mir.proofs.Range.{IsWord}
 use Rattle.sem_mir.proofs.InRange.{RowInRange, row_in_range}
 use Rattle.sem_mir.proofs.Effects.{RowUses, RowDefines, Keeps, Agreeing, act_keeps, act_alike}
 
-or_left : (a b : Bool) → a ≡ true → (a || b) ≡ true
-or_left true b e = refl
-or_left false b e = cc
-
-or_right : (a b : Bool) → b ≡ true → (a || b) ≡ true
-or_right true b e = refl
-or_right false b e = e
-
--- a register is among some where the test finds it
-in_any : (q : ℕ) (rs : List ℕ) → Contains rs q → list_any (nat_eq q) rs ≡ true
-in_any q [] k = absurd (omega (arith, k.1))
-in_any q (r ∷ rs) k =
-    elim (cases_eq r q) as (λ _. list_any (nat_eq q) (r ∷ rs) ≡ true) [
-      | inl e ↦ or_left (nat_eq q r) (list_any (nat_eq q) rs) (eq-eqb q r (sym e))
-      | inr ne ↦ or_right (nat_eq q r) (list_any (nat_eq q) rs) (in_any q rs (Contains-tail r rs q ne k))
-    ]
-
-any_in : (q : ℕ) (rs : List ℕ) → list_any (nat_eq q) rs ≡ true → Contains rs q
-any_in q [] e = cc
-any_in q (r ∷ rs) e = by_test (λ k. any_in q rs k) (nat_eq q r) refl e where
-  by_test : (list_any (nat_eq q) rs ≡ true → Contains rs q) → (z : Bool) → nat_eq q r ≡ z → (z || list_any (nat_eq q) rs) ≡ true → Contains (r ∷ rs) q
-  by_test later true t e = subst (λ (k : ℕ). Contains (r ∷ rs) k) (sym (eqb-true q r t)) (contains_head r rs)
-  by_test later false t e = contains_tail r q rs (later e)
-
 -- ---- what is defined
 
 pub row_defines : (r : Row) (x : Place) → RowDefines r x → defines_of r x ≡ true
 row_defines r (Register q) k = in_any q (sets r) k
 row_defines (StoresSlot rs m) (Slot n) k = eq-eqb m n k
+row_defines (Calls call) (Slot n) k = in_any n call.outgoing k
 row_defines _ (Slot n) k = absurd k
 row_defines r (Const z) k = absurd k
 
 pub defines_row : (r : Row) (x : Place) → defines_of r x ≡ true → RowDefines r x
 defines_row r (Register q) e = any_in q (sets r) e
 defines_row (StoresSlot rs m) (Slot n) e = eqb-true m n e
+defines_row (Calls call) (Slot n) e = any_in n call.outgoing e
 defines_row _ (Slot n) e = cc
 defines_row r (Const z) e = cc
 
@@ -132,12 +111,13 @@ register_used os (Calls call) q h k = implicit_any q os (subst (λ (qs : List �
 register_used os (Returns ending) q h k = implicit_any q os (subst (λ (qs : List ℕ). Contains qs q) h k)
 register_used os _ q h k = absurd (omega (arith, k.1))
 
-row_uses : (i : Instruction) (x : Place) → RowUses (row_of i) x → uses_of i x ≡ true
+pub row_uses : (i : Instruction) (x : Place) → RowUses (row_of i) x → uses_of i x ≡ true
 row_uses i (Register q) k = register_used i.operands (row_of i) q (implicit i) k
-row_uses i (Slot n) k = by_row (row_of i) k where
-  by_row : (r : Row) → RowUses r (Slot n) → names_slot (slot_read r) n ≡ true
-  by_row (LoadsSlot rd m) k = eq-eqb m n k
-  by_row _ k = absurd k
+row_uses i (Slot n) k = by_row (row_of i) refl k where
+  by_row : (r : Row) → row_of i ≡ r → RowUses r (Slot n) → (names_slot (slot_read r) n || (has_implicit_uses r && list_any (is_outgoing n) i.operands)) ≡ true
+  by_row (LoadsSlot rd m) e k = or_left (nat_eq m n) false (eq-eqb m n k)
+  by_row (Calls call) e k = passed_by i call e n ∙ in_any n call.outgoing k
+  by_row _ e k = absurd k
 row_uses i (Const z) k = absurd k
 
 alike : (i : Instruction) (c d : Core) → SameWorld c d → ((x : Place) → uses_of i x ≡ true → held_in x c ≡ held_in x d) →
@@ -168,7 +148,7 @@ one_set (Addresses rd n o) (Register q) e k = by_register rd q k
 one_set (Loads rd op b o) (Register q) e k = by_register rd q k
 one_set (LoadsSlot rd n) (Register q) e k = by_register rd q k
 one_set (StoresSlot rs n) (Slot m) e k = inr (ap (λ (z : ℕ). Some (Slot z)) k)
-one_set (Calls call) (Register q) e k = cc
+one_set (Calls call) x e k = cc
 one_set (Stores op rs b o) (Register q) e k = absurd (omega (arith, k.1))
 one_set (StoresSlot rs n) (Register q) e k = absurd (omega (arith, k.1))
 one_set (Branches op a b t) (Register q) e k = absurd (omega (arith, k.1))

@@ -1,9 +1,12 @@
 -- What is written leaves all else: registers, slots, bytes of memory and pairs.
 use Rattle.std.proofs.Common.{◌≡◌, ℕ, zero, suc, ◌+◌, ◌%◌, ◌^◌, ◌<◌, List, [], ◌∷◌, length, Contains, Option, Some, refl, ap, ◌∙◌, eq-eqb, ne_eqb, inl, inr}
-use Rattle.std.proofs.Common.{arith, ◌++◌, All}
-use Rattle.std.proofs.lemmas.Bool.{cases_eq}
+use Rattle.std.proofs.Common.{arith, ◌++◌, All, None, Bool, true, false, cond, nat_eq, sym, subst}
+use Rattle.std.specs.Prelude.{◌||◌}
+use Rattle.std.specs.List.{list_any}
+use Rattle.std.proofs.lemmas.Bool.{cases_eq, cases_Bool, eqb-true, or_left, or_right}
+use Rattle.std.proofs.lemmas.Map.Made.{Contains-tail}
 use Rattle.std.proofs.lemmas.List.Elements.{All-head, All-tail, All-nil, All-cons}
-use Rattle.sem_mir.specs.State.{updated, content, put, put_all, stored, written}
+use Rattle.sem_mir.specs.State.{updated, without, content, put, put_all, stored, written}
 
 -- the value that was changed, and another
 pub updated_same : {A : Type 0} (k : ℕ) (v : A) (f : ℕ → A) → updated k v f k ≡ v
@@ -28,6 +31,39 @@ contains_head x xs = (0, omega arith, refl)
 
 pub contains_tail : {A : Type 0} (x y : A) (xs : List A) → Contains xs y → Contains (x ∷ xs) y
 contains_tail x y xs (k, lt, e) = (suc k, omega (arith, lt), e)
+
+-- a number is among some where the test finds it
+pub in_any : (q : ℕ) (rs : List ℕ) → Contains rs q → list_any (nat_eq q) rs ≡ true
+in_any q [] k = absurd (omega (arith, k.1))
+in_any q (r ∷ rs) k =
+    elim (cases_eq r q) as (λ _. list_any (nat_eq q) (r ∷ rs) ≡ true) [
+      | inl e ↦ or_left (nat_eq q r) (list_any (nat_eq q) rs) (eq-eqb q r (sym e))
+      | inr ne ↦ or_right (nat_eq q r) (list_any (nat_eq q) rs) (in_any q rs (Contains-tail r rs q ne k))
+    ]
+
+pub any_in : (q : ℕ) (rs : List ℕ) → list_any (nat_eq q) rs ≡ true → Contains rs q
+any_in q [] e = cc
+any_in q (r ∷ rs) e = by_test (λ k. any_in q rs k) (nat_eq q r) refl e where
+  by_test : (list_any (nat_eq q) rs ≡ true → Contains rs q) → (z : Bool) → nat_eq q r ≡ z → (z || list_any (nat_eq q) rs) ≡ true → Contains (r ∷ rs) q
+  by_test later true t e = subst (λ (k : ℕ). Contains (r ∷ rs) k) (sym (eqb-true q r t)) (contains_head r rs)
+  by_test later false t e = contains_tail r q rs (later e)
+
+-- a slot that is among those without a value, and another
+pub without_among : {A : Type 0} (ns : List ℕ) (n : ℕ) (f : ℕ → Option A) → Contains ns n → without ns f n ≡ None
+without_among ns n f k = ap (λ (b : Bool). cond b None (f n)) (in_any n ns k)
+
+pub without_other : {A : Type 0} (ns : List ℕ) (n : ℕ) (f : ℕ → Option A) → (Contains ns n → ⊥) → without ns f n ≡ f n
+without_other ns n f ne = elim (cases_Bool (list_any (nat_eq n) ns)) as (λ _. cond (list_any (nat_eq n) ns) None (f n) ≡ f n) [
+  | inl here ↦ absurd (ne (any_in n ns here))
+  | inr not ↦ ap (λ (b : Bool). cond b None (f n)) not
+]
+
+-- one that has a value has it without these
+pub without_some : {A : Type 0} (ns : List ℕ) (n : ℕ) (v : A) (f : ℕ → Option A) → without ns f n ≡ Some v → f n ≡ Some v
+without_some ns n v f e = by_test (list_any (nat_eq n) ns) e where
+  by_test : (b : Bool) → cond b None (f n) ≡ Some v → f n ≡ Some v
+  by_test true e = cc
+  by_test false e = e
 
 -- membership in two lists, one behind the other
 pub contains_back : {A : Type 0} (xs ys : List A) (y : A) → Contains ys y → Contains (xs ++ ys) y

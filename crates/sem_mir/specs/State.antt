@@ -1,6 +1,7 @@
 -- The state of a run: registers, spill slots, memory, and the debug history: values of pairs and of variables.
 use Rattle.std.specs.Prelude.{◌≡◌, ◌<◌, length, All, ℕ, zero, suc, ◌+◌, ◌*◌, ◌/◌, ◌%◌, ◌^◌, List, [], ◌∷◌, Option, Some, None, Bool, false, cond, ◌&&◌, ◌||◌}
 use Rattle.std.specs.Prelude.{nat_eq, nat_lt, nat_le}
+use Rattle.std.specs.List.{list_any}
 use Rattle.rv64_instr.specs.declared.start.CallTarget.{CallTarget}
 use Rattle.rv64_instr.specs.Row.{Ending}
 use Rattle.rv64_instr.specs.declared.symbol.Symbol.{Symbol}
@@ -11,7 +12,7 @@ use Rattle.mir_func.specs.Variables.{is_same, overlaps}
 
 -- an observable event of a run
 pub data Event : Type 0 where
-  -- a call, with the contents of its argument registers
+  -- a call, with the contents of its argument registers, and then of the slots that it passes
   Called : (target : CallTarget) (args : List ℕ) → Event
   -- a store of bytes to memory, from the address on
   Wrote : (address : ℕ) (bytes : List ℕ) → Event
@@ -21,7 +22,8 @@ abbrev pub RunResult : Type 0
 RunResult = Ending CallTarget
 
 -- the effect of a call, given in advance: the contents of the caller-saved registers, ascending, the bytes that the callee
--- writes, in order, and the bytes that it leaves in its own frame, below its caller's stack pointer, which the machine alone has
+-- writes, in order, and the bytes that it leaves in what it owns of the frame, which are those below its caller's stack pointer
+-- and those of the slots that it is passed: the machine alone has them
 pub record Reply : Type 0 where
   pub regs : List ℕ
   pub writes : List (ℕ × ℕ)
@@ -58,6 +60,10 @@ pub record State : Type 0 where
 -- a mapping with one of its values changed
 abbrev pub updated : {A : Type 0} → ℕ → A → (ℕ → A) → ℕ → A
 updated k v f q = cond (nat_eq q k) v (f q)
+
+-- a mapping of slots in which these have no value
+abbrev pub without : {A : Type 0} → List ℕ → (ℕ → Option A) → ℕ → Option A
+without ns f n = cond (list_any (nat_eq n) ns) None (f n)
 
 -- the content of a register: x0 reads 0
 abbrev pub content : (ℕ → Option ℕ) → ℕ → Option ℕ

@@ -1,5 +1,6 @@
 -- The step function of functions: one item, or a block's end, at a time.
-use Rattle.std.specs.Prelude.{ℕ, ◌+◌, ◌-◌, ◌%◌, ◌^◌, zero, suc, List, [], ◌∷◌, map, Option, Some, None, Bool, true, false, cond, nat_eq, is_some, slice_get}
+use Rattle.std.specs.Prelude.{ℕ, ◌+◌, ◌-◌, ◌%◌, ◌^◌, zero, suc, List, [], ◌∷◌, ◌++◌, map, Option, Some, None, Bool, true, false, not, ◌||◌, cond}
+use Rattle.std.specs.Prelude.{nat_eq, is_some, slice_get}
 use Rattle.std.specs.List.{list_all}
 use Rattle.rv64_instr.specs.declared.op.LoadOp.{LoadOp}
 use Rattle.rv64_instr.specs.declared.op.StoreOp.{StoreOp}
@@ -14,7 +15,7 @@ use Rattle.rv64_instr.specs.Row.{Input, Content, Number, PartOf}
 use Rattle.rv64_instr.specs.Row.{Base, PointedBy, ObjectAt, BesidePart}
 use Rattle.rv64_instr.specs.declared.start.CallTarget.{CallTarget}
 use Rattle.rv64_instr.specs.declared.start.CallTarget.TheVariants.{Function, Address}
-use Rattle.rv64_instr.specs.Row.{Callee, Named, Held, Way, Back, Tail, Never, Ending}
+use Rattle.rv64_instr.specs.Row.{Callee, Named, Held, Way, Back, Tail, Never, Ending, CallSite}
 use Rattle.rv64_instr.specs.Row.{Row, Fixes, Moves, Sets, Addresses, Loads, Stores, LoadsSlot, StoresSlot, Branches, Jumps, Calls, Returns, Unfit, row_of}
 use Rattle.rv64_instr.specs.DefsAndUses.{caller_saved, reads}
 use Rattle.rv64_instr.specs.LocationEffects.{is_call}
@@ -27,7 +28,7 @@ use Rattle.mir_func.specs.declared.item.ItemKind.{ItemKind}
 use Rattle.mir_func.specs.declared.item.ItemKind.TheVariants.{Code, Mark, Phi}
 use Rattle.mir_func.specs.Variables.{part_value}
 use Rattle.mir_func.specs.Graph.{Fetch, Here, EndOfBlock, Outside, Program, below, block_start}
-use Rattle.sem_mir.specs.State.{Called, Wrote, RunResult, Reply, Core, State, updated, content, put, put_all, spelled, low_bytes, stored, written}
+use Rattle.sem_mir.specs.State.{Called, Wrote, RunResult, Reply, Core, State, updated, without, content, put, put_all, spelled, low_bytes, stored, written}
 use Rattle.sem_mir.specs.State.{touches_frame}
 use Rattle.sem_mir.specs.State.{writes_frame}
 
@@ -82,7 +83,7 @@ is_fault (PointedBy r) s a n = touches_frame s.entry s.area a n
 is_fault (ObjectAt m) s a n = false
 is_fault (BesidePart r y) s a n = touches_frame s.entry s.area a n
 
--- what a callee is when the call is made: the function of its name, or the code at the address that its register holds
+-- what a callee is when the call is made: the function of its name, or what its register holds
 abbrev pub called_at : Core → Callee → CallTarget
 called_at s (Named name) = Function name
 called_at s (Held r) = Address (read s r)
@@ -101,12 +102,32 @@ result_at s ending = record { way = way_at s ending.way; values = map (read s) e
 abbrev pub set_register : (rd v : ℕ) → Core → Core
 set_register rd v s = record s { regs = put rd v s.regs }
 
--- a call with the next reply. A reply that writes to the frame is a frame fault, and without a reply the run
--- waits
-abbrev pub exec_external_call : CallTarget → (args : List ℕ) → Core → List Reply → Outcome
-exec_external_call target args s [] = Asks
-exec_external_call target args s (r ∷ rest) = cond (writes_frame s.entry s.area r.writes) Traps
-    (Falls (record s { regs = put_all caller_saved r.regs s.regs; memory = written s.memory r.writes; script = rest; events = Called target args ∷ s.events }))
+-- a slot's content, or 0 if it isn't written
+abbrev pub slot_value : Core → ℕ → ℕ
+slot_value s n = or_zero (s.slots n)
+
+-- the values that a call passes: the contents of its registers, and then of its slots
+abbrev pub passed : Core → CallSite → List ℕ
+passed s call = map (read s) call.args ++ map (slot_value s) call.outgoing
+
+-- the slots that a call passes are written
+abbrev pub are_passed : Core → (outgoing : List ℕ) → Bool
+are_passed s outgoing = list_all (λ n. is_some (s.slots n)) outgoing
+
+-- a call that passes these slots faults at the reply: a slot isn't written, or the reply writes to the frame
+abbrev pub call_faults : Core → (outgoing : List ℕ) → Reply → Bool
+call_faults s outgoing r = not (are_passed s outgoing) || writes_frame s.entry s.area r.writes
+
+-- a call with the next reply, that passes these slots. The callee owns them, so they are unwritten after it. Without a reply the run waits
+abbrev pub exec_external_call : CallTarget → (args outgoing : List ℕ) → Core → List Reply → Outcome
+exec_external_call target args outgoing s [] = Asks
+exec_external_call target args outgoing s (r ∷ rest) = cond (call_faults s outgoing r) Traps (Falls (record s {
+  regs = put_all caller_saved r.regs s.regs;
+  slots = without outgoing s.slots;
+  memory = written s.memory r.writes;
+  script = rest;
+  events = Called target args ∷ s.events;
+}))
 
 -- a load from a spill slot. A slot that isn't written is a frame fault
 abbrev pub slot_loaded : ℕ → Core → Option ℕ → Outcome
@@ -138,7 +159,7 @@ does (LoadsSlot rd n) s = slot_loaded rd s (s.slots n)
 does (StoresSlot rs n) s = Falls (record s { slots = updated n (Some (read s rs)) s.slots })
 does (Branches op a b target) s = cond (taken op (read s a) (read s b)) (Goes target s) (Falls s)
 does (Jumps target) s = Goes target s
-does (Calls call) s = exec_external_call (called_at s call.callee) (map (read s) call.args) s s.script
+does (Calls call) s = exec_external_call (called_at s call.callee) (passed s call) call.outgoing s s.script
 does (Returns ending) s = Gives (result_at s ending)
 does Unfit s = Breaks
 

@@ -16,7 +16,7 @@ use Rattle.mir_func.specs.declared.variable.MarkValue.{MarkValue}
 use Rattle.mir_func.specs.declared.variable.MarkValue.TheVariants.{Nothing, Constant, At, Pair}
 use Rattle.mir_func.specs.declared.item.ItemKind.{ItemKind}
 use Rattle.mir_func.specs.declared.item.ItemKind.TheVariants.{Code, Mark, Phi}
-use Rattle.sem_mir.specs.State.{updated, assigned}
+use Rattle.sem_mir.specs.State.{updated, without, assigned}
 use Rattle.sem_mir.specs.Step.{defined}
 use Rattle.mir_func.specs.Graph.{Fetch, Here, EndOfBlock, Outside, Program, Edge}
 
@@ -62,7 +62,7 @@ abbrev pub written_tokens : (index : ℕ) → Write → Tokens → Tokens
 written_tokens n SetsNothing t = t
 written_tokens n (SetsRegister rd value) t = record t { regs = put_token rd (value_token n rd value t) t.regs }
 written_tokens n (SetsSlot k rs) t = record t { slots = updated k (register_token t.regs rs) t.slots }
-written_tokens n Clobbers t = record t { regs = make_all n caller_saved t.regs }
+written_tokens n (Clobbers outgoing) t = record t { regs = make_all n caller_saved t.regs; slots = without outgoing t.slots }
 
 -- the transfer function of an instruction at an index of the path, on registers and slots: a constant definition sets
 -- the token of its number, copies, slot loads and slot stores pass tokens on, and every other definition creates one

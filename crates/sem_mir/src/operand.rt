@@ -19,6 +19,7 @@ pub fn defined(call: bool, operand: &Operand) -> Option<Reg>
         | Operand::Slot(_)
         | Operand::Object(_)
         | Operand::Part(_, _)
+        | Operand::Outgoing(_)
         | Operand::Block(_)
         | Operand::Symbol(_)
         | Operand::Mask => None,

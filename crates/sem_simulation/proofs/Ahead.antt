@@ -1,5 +1,5 @@
 -- What a pass gives for code that it takes out though it may trap: a function's shape lets g idle where the source stops.
-use Rattle.std.proofs.Common.{◌≡◌, ℕ, ◌*◌, ◌<◌, ◌≤◌, List, [], ◌∷◌, map, All, Option, Some, None, Bool, true, false, cond, refl, sym, ap, ◌∙◌, subst, inl, inr}
+use Rattle.std.proofs.Common.{◌≡◌, ℕ, ◌*◌, ◌<◌, ◌≤◌, List, [], ◌∷◌, All, Option, Some, None, Bool, true, false, cond, refl, sym, ap, ◌∙◌, subst, inl, inr}
 use Rattle.std.proofs.Common.{◌⊎◌, arith}
 use Rattle.std.proofs.lemmas.List.Elements.{All-cons, All-head, All-tail, All-nil}
 use Rattle.rv64_instr.specs.Row.{Row, Fixes, Loads, Stores, LoadsSlot, StoresSlot, Branches, Jumps, Calls, Returns, row_of, Back}
@@ -13,10 +13,10 @@ use Rattle.mir_func.specs.declared.variable.MarkValue.TheVariants.{Nothing, Cons
 use Rattle.mir_func.specs.declared.item.Item.{Item}
 use Rattle.mir_func.specs.declared.item.ItemKind.{ItemKind}
 use Rattle.mir_func.specs.declared.item.ItemKind.TheVariants.{Code, Mark, Phi}
-use Rattle.sem_mir.specs.State.{Reply, Core, State, assigned, writes_frame, RunResult}
+use Rattle.sem_mir.specs.State.{Reply, Core, State, assigned, RunResult}
 use Rattle.mir_func.specs.Variables.{is_same, overlaps}
 use Rattle.sem_mir.specs.Step.{Outcome, Falls, Goes, Gives, Traps, Asks, Breaks}
-use Rattle.sem_mir.specs.Step.{read, exec_external_call, slot_loaded, does, are_written, act, with_core, numbered}
+use Rattle.sem_mir.specs.Step.{exec_external_call, passed, call_faults, slot_loaded, does, are_written, act, with_core, numbered}
 use Rattle.sem_mir.specs.Step.{do_item, called_at}
 use Rattle.rv64_instr.specs.LocationEffects.{is_call}
 use Rattle.mir_func.specs.Graph.{Program, Fetch, Here, EndOfBlock, Outside}
@@ -91,10 +91,10 @@ does_give (LoadsSlot rd n) d = by_slot (d.slots n) where
   by_slot None = tt
   by_slot (Some v) = tt
 does_give (Branches op a b t) d = search (give_either)
-does_give (Calls call) d = by_script (called_at d call.callee) (map (read d) call.args) d.script where
-  by_script : (t : CallTarget) (vs : List ℕ) (rs : List Reply) → MayGive (class_of (Calls call) ≡ Return) (exec_external_call t vs d rs)
-  by_script t vs [] = tt
-  by_script t vs (q ∷ rs) = give_either (class_of (Calls call) ≡ Return) (writes_frame d.entry d.area q.writes) _ _ tt tt
+does_give (Calls call) d = by_script (called_at d call.callee) (passed d call) call.outgoing d.script where
+  by_script : (t : CallTarget) (vs os : List ℕ) (rs : List Reply) → MayGive (class_of (Calls call) ≡ Return) (exec_external_call t vs os d rs)
+  by_script t vs os [] = tt
+  by_script t vs os (q ∷ rs) = give_either (class_of (Calls call) ≡ Return) (call_faults d os q) _ _ tt tt
 does_give (Returns v) d = refl
 does_give _ d = tt
 

@@ -9,19 +9,12 @@ use Rattle.mir_func.specs.declared.position.Origin.TheVariants.{Kept, Before}
 use Rattle.mir_func.specs.declared.block.Block.{Block}
 use Rattle.mir_func.specs.declared.item.Item.{Item}
 use Rattle.mir_func.specs.Sound.{AreApart, ids_of, OriginIn}
-use Rattle.mir_func.specs.Graph.{Program, Here, EndOfBlock, block_start, end_of, front, fetch_in, from_block, index_of, program_of, framed_program}
+use Rattle.mir_func.specs.Graph.{Program, Here, EndOfBlock, block_start, end_of, front, fetch_in, from_block, index_of, program_of}
+use Rattle.mir_func.specs.Graph.{framed_program, rest_in, rest_of}
 use Rattle.mir_func.specs.Positions.{position_of}
 use Rattle.sem_mir.specs.Follow.{next_rank, InOrder}
 use Rattle.sem_mir.proofs.Reading.{found_in, front_item, front_end, end_index, within_list, next_block, apart_tail}
 use Rattle.sem_simulation.specs.MatchStates.{IsPastItems, Laid}
-
--- the items of the first of the blocks from an index on
-abbrev pub rest_in : List Block → ℕ → List Item
-rest_in [] n = []
-rest_in (b ∷ bs) n = drop n b.items
-
-abbrev pub rest_of : List Block → Pos → List Item
-rest_of blocks p = rest_in (from_block blocks p.block) p.item
 
 drop_one : (xs : List Item) (n : ℕ) (x : Item) (rest : List Item) → drop n xs ≡ x ∷ rest → drop (suc n) xs ≡ rest
 drop_one [] zero x rest e = cc

@@ -1,5 +1,5 @@
 -- A register that is written stays so along a run; so a source doesn't fault where it returns physical registers.
-use Rattle.std.proofs.Common.{◌≡◌, ℕ, zero, suc, ◌<◌, List, [], ◌∷◌, map, All, Option, Some, None, Bool, true, false, cond, nat_eq, nat_le, is_some, ◌&&◌, refl}
+use Rattle.std.proofs.Common.{◌≡◌, ℕ, zero, suc, ◌<◌, List, [], ◌∷◌, All, Option, Some, None, Bool, true, false, cond, nat_eq, nat_le, is_some, ◌&&◌, refl}
 use Rattle.std.proofs.Common.{sym, ap, ◌∙◌, subst, inl, inr, arith, ◌++◌}
 use Rattle.std.specs.List.{list_all}
 use Rattle.std.proofs.lemmas.Bool.{cases_eq, and_parts, leb-true}
@@ -16,7 +16,7 @@ use Rattle.rv64_instr.specs.Instruction.{Instruction}
 use Rattle.rv64_instr.specs.Form.{is_result, has_form}
 use Rattle.rv64_instr.specs.Arithmetic.{word}
 use Rattle.rv64_instr.specs.Row.{Row, Fixes, Moves, Sets, Addresses, Loads, Stores, LoadsSlot, StoresSlot, Branches, Jumps, Calls, Returns, Unfit, row_of}
-use Rattle.rv64_instr.specs.Row.{row_by, implicit_uses, move_row, immediate_row, object_row, held_call, held_tail, held_gone}
+use Rattle.rv64_instr.specs.Row.{row_by, implicit_uses, outgoing_words, move_row, immediate_row, object_row, held_call, held_tail, held_gone}
 use Rattle.rv64_instr.specs.DefsAndUses.{caller_saved, reads, way_reads}
 use Rattle.rv64_instr.proofs.Tails.{tails_low, held_low, arguments_low, held_arguments_low}
 use Rattle.mir_func.specs.declared.object.Object as stack_object
@@ -24,10 +24,10 @@ use Rattle.mir_func.specs.declared.position.Pos.{Pos}
 use Rattle.mir_func.specs.declared.item.Item.{Item}
 use Rattle.mir_func.specs.declared.item.ItemKind.{ItemKind}
 use Rattle.mir_func.specs.declared.item.ItemKind.TheVariants.{Code, Mark, Phi}
-use Rattle.sem_mir.specs.State.{Reply, Core, State, content, put, put_all, writes_frame}
+use Rattle.sem_mir.specs.State.{Reply, Core, State, content, put, put_all}
 use Rattle.sem_mir.specs.Step.{Went, Outcome, Falls, Goes, Gives, Traps, Asks}
-use Rattle.sem_mir.specs.Step.{Breaks, moved, read, set_register, exec_external_call, slot_loaded, does, are_written}
-use Rattle.sem_mir.specs.Step.{act, with_core, numbered, do_item, do_fetch, step, called_at, result_at}
+use Rattle.sem_mir.specs.Step.{Breaks, moved, set_register, exec_external_call, slot_loaded, does, are_written}
+use Rattle.sem_mir.specs.Step.{act, with_core, numbered, do_item, do_fetch, step, called_at, result_at, passed, call_faults}
 use Rattle.rv64_instr.specs.LocationEffects.{is_call}
 use Rattle.mir_func.specs.Graph.{Program, Fetch, Here, EndOfBlock, Outside}
 use Rattle.sem_mir.specs.Align.{Arrives, here, onward}
@@ -80,10 +80,10 @@ does_written (LoadsSlot rd n) c = by_slot (c.slots n) where
 does_written (StoresSlot rs n) c = λ r v e. (v, e)
 does_written (Branches op a b t) c = search (on_either, same_written)
 does_written (Jumps t) c = λ r v e. (v, e)
-does_written (Calls call) c = by_script (called_at c call.callee) (map (read c) call.args) c.script where
-  by_script : (t : CallTarget) (vs : List ℕ) (rs : List Reply) → OnCore (StaysWritten c) (exec_external_call t vs c rs)
-  by_script t vs [] = tt
-  by_script t vs (q ∷ rs) = on_either (StaysWritten c) (writes_frame c.entry c.area q.writes) _ _ tt (λ r v e. put_all_written caller_saved q.regs r v c.regs e)
+does_written (Calls call) c = by_script (called_at c call.callee) (passed c call) call.outgoing c.script where
+  by_script : (t : CallTarget) (vs os : List ℕ) (rs : List Reply) → OnCore (StaysWritten c) (exec_external_call t vs os c rs)
+  by_script t vs os [] = tt
+  by_script t vs os (q ∷ rs) = on_either (StaysWritten c) (call_faults c os q) _ _ tt (λ r v e. put_all_written caller_saved q.regs r v c.regs e)
 does_written (Returns v) c = tt
 does_written Unfit c = tt
 
@@ -162,9 +162,9 @@ held_gone_physical : (xs : List ℕ) → All (λ r. r < 32) xs → class_of (hel
 held_gone_physical [] low c = cc
 held_gone_physical (r ∷ xs) low c = low
 
-held_call_goes_on : (xs : List ℕ) → class_of (held_call xs) ≡ Return → ⊥
-held_call_goes_on [] h = cc
-held_call_goes_on (r ∷ xs) h = cc
+held_call_goes_on : (xs outgoing : List ℕ) → class_of (held_call xs outgoing) ≡ Return → ⊥
+held_call_goes_on [] outgoing h = cc
+held_call_goes_on (r ∷ xs) outgoing h = cc
 
 immediate_goes_on : (op : ImmediateOp) (rd a n : ℕ) → class_of (immediate_row op rd a n) ≡ Return → ⊥
 immediate_goes_on Addi rd zero n h = cc
@@ -196,7 +196,7 @@ row_physical (BranchOn op) (Use a ∷ Use b ∷ Block target ∷ rest) e c = cc
 row_physical Copy (Def rd ∷ Use rs ∷ rest) e c = absurd (copy_goes_on rd rs c)
 row_physical PseudoBr (Block target ∷ rest) e c = cc
 row_physical PseudoCall (Symbol name ∷ rest) e c = cc
-row_physical PseudoCallIndirect os e c = absurd (held_call_goes_on (implicit_uses os) c)
+row_physical PseudoCallIndirect os e c = absurd (held_call_goes_on (implicit_uses os) (outgoing_words os) c)
 row_physical PseudoTail (Symbol name ∷ rest) e c = tails_low rest e
 row_physical PseudoTailIndirect (ImplicitUse r ∷ rest) e c =
     held_tail_physical (implicit_uses (ImplicitUse r ∷ rest)) (held_low r rest e) c

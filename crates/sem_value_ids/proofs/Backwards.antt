@@ -98,6 +98,7 @@ register_back n i row t r = refl
 stored_back : (n m : ℕ) (row : Row) (t : Tokens) (k : ℕ) → (moved_tokens m row t).slots k ≡ token_back n t (slot_stored row k)
 unfolding moved_tokens
 stored_back n m (StoresSlot rs j) t k = token_cond n (eqb k j) t (register_token t.regs rs) (t.slots k) (Was (InRegister rs)) (Was (InSlot k)) refl refl
+stored_back n m (Calls call) t k = token_cond n (list_any (eqb k) call.outgoing) t None (t.slots k) Nameless (Was (InSlot k)) refl refl
 stored_back n m row t k = refl
 
 moved_pairs : (m : ℕ) (row : Row) (t : Tokens) → (moved_tokens m row t).pairs ≡ t.pairs

@@ -51,6 +51,7 @@ at_register i row r = tt
 
 at_stored : (i : ℕ) (row : Row) (k : ℕ) → IsMadeAt i (slot_stored row k)
 at_stored i (StoresSlot rs j) k = at_cond i (eqb k j) (Was (InRegister rs)) (Was (InSlot k)) tt tt
+at_stored i (Calls call) k = at_cond i (list_any (eqb k) call.outgoing) Nameless (Was (InSlot k)) tt tt
 at_stored i row k = tt
 
 at_row : (i : ℕ) (row : Row) (x : Tracked) → IsMadeAt i (back_row i row x)

@@ -1,13 +1,15 @@
 -- What code of each row does to tokens and values.
-use Rattle.std.proofs.Common.{◌≡◌, ℕ, zero, suc, List, [], ◌∷◌, map, Option, Some, None, Bool, true, false, cond, refl, sym, ap, ◌∙◌, subst, eqb, arith}
+use Rattle.std.proofs.Common.{◌≡◌, ℕ, zero, suc, List, [], ◌∷◌, Option, Some, None, Bool, true, false, cond, refl, sym, ap, ◌∙◌, subst, eqb, arith}
+use Rattle.std.specs.Prelude.{nat_eq}
+use Rattle.std.specs.List.{list_any}
 use Rattle.std.proofs.lemmas.Bool.{ne_eqb}
 use Rattle.rv64_instr.specs.Arithmetic.{taken, load_width, store_width}
 use Rattle.rv64_instr.specs.Row.{Row, Fixes, Moves, Sets, Addresses, Loads, Stores, LoadsSlot, StoresSlot, Branches, Jumps, Calls, Returns, Unfit}
 use Rattle.rv64_instr.specs.DefsAndUses.{caller_saved, reads}
-use Rattle.sem_mir.specs.State.{Core, Reply, updated, content, put, put_all, writes_frame}
+use Rattle.sem_mir.specs.State.{Core, Reply, updated, without, content, put, put_all}
 use Rattle.sem_mir.specs.Step.{Outcome, Falls, Goes, Traps, act, does, read}
 use Rattle.sem_mir.specs.Step.{or_zero, set_register, exec_external_call, slot_loaded, are_written, is_fault, called_at}
-use Rattle.sem_mir.specs.Step.{address_at}
+use Rattle.sem_mir.specs.Step.{address_at, passed, call_faults}
 use Rattle.sem_mir.specs.ValueId.{Token, Made, Fixed, Tokens, register_token, put_token, make_all, moved_tokens, sets_pointer, code_tokens}
 use Rattle.sem_value_ids.proofs.Naming.{Holds, IsOld, Good, AreOld, holds_agree, extend, extend_agrees, made_put, made_all, holds_put, holds_made}
 use Rattle.sem_value_ids.proofs.Naming.{old_put, old_made_or, old_later}
@@ -58,6 +60,14 @@ holds_updated V k x v ts cs h all q = elim (eqb q k) as (λ b. Holds V (cond b x
 
 old_updated : (n k : ℕ) (x : Option Token) (ts : ℕ → Option Token) → IsOld n x → ((q : ℕ) → IsOld n (ts q)) → (q : ℕ) → IsOld n (updated k x ts q)
 old_updated n k x ts h all q = elim (eqb q k) as (λ b. IsOld n (cond b x (ts q))) [ true ↦ h | false ↦ all q ]
+
+holds_without : (V : Token → ℕ) (ns : List ℕ) (ts : ℕ → Option Token) (cs : ℕ → Option ℕ) → ((q : ℕ) → Holds V (ts q) (cs q)) →
+    (q : ℕ) → Holds V (without ns ts q) (without ns cs q)
+holds_without V ns ts cs all q =
+    elim (list_any (nat_eq q) ns) as (λ b. Holds V (cond b None (ts q)) (cond b None (cs q))) [ true ↦ tt | false ↦ all q ]
+
+old_without : (n : ℕ) (ns : List ℕ) (ts : ℕ → Option Token) → ((q : ℕ) → IsOld n (ts q)) → (q : ℕ) → IsOld n (without ns ts q)
+old_without n ns ts all q = elim (list_any (nat_eq q) ns) as (λ b. IsOld n (cond b None (ts q))) [ true ↦ tt | false ↦ all q ]
 
 -- nothing changed but memory, events and the script
 same_values : (V : Token → ℕ) (n : ℕ) (t : Tokens) (c c' : Core) → AreOld n t → Good V t c → c'.regs ≡ c.regs → c'.slots ≡ c.slots → c'.pairs ≡ c.pairs →
@@ -162,19 +172,19 @@ row_names V n (Branches op a b target) t c c' o g e =
     subst (λ (z : Core). AfterCode n V t t c z) (either_way (taken op (read c a) (read c b)) target c c' e) (same_values V n t c c o g refl refl refl refl)
 row_names V n (Jumps target) t c c' o g e = subst (λ (z : Core). AfterCode n V t t c z) e (same_values V n t c c o g refl refl refl refl)
 row_names V n (Calls call) t c c' o g e = called c.script e where
-  called : (s : List Reply) → GoesOn (exec_external_call (called_at c call.callee) (map (read c) call.args) c s) c' →
-      AfterCode n V t (record t { regs = make_all n caller_saved t.regs }) c c'
+  called : (s : List Reply) → GoesOn (exec_external_call (called_at c call.callee) (passed c call) call.outgoing c s) c' →
+      AfterCode n V t (record t { regs = make_all n caller_saved t.regs; slots = without call.outgoing t.slots }) c c'
   called [] e = absurd e
   called (y ∷ rest) e =
       let cr = put_all caller_saved y.regs c.regs in
       let W = extend n cr V in
       let new = made_all n caller_saved y.regs t.regs c.regs in
-      subst (λ (z : Core). AfterCode n V t (record t { regs = make_all n caller_saved t.regs }) c z)
-      (unless_traps (writes_frame c.entry c.area y.writes) _ c' e) (record {
+      subst (λ (z : Core). AfterCode n V t (record t { regs = make_all n caller_saved t.regs; slots = without call.outgoing t.slots }) c z)
+      (unless_traps (call_faults c call.outgoing y) _ c' e) (record {
         regs = holds_made n V t.regs (make_all n caller_saved t.regs) c.regs cr new o.regs g.regs;
-        slots = λ k. holds_agree n V W (extend_agrees n cr V) _ _ (o.slots k) (g.slots k);
+        slots = holds_without W call.outgoing t.slots c.slots (λ k. holds_agree n V W (extend_agrees n cr V) _ _ (o.slots k) (g.slots k));
         old_regs = λ r. old_made_or n r t.regs (make_all n caller_saved t.regs) c.regs cr (new r) (old_later n _ (o.regs r));
-        old_slots = λ k. old_later n _ (o.slots k);
+        old_slots = old_without (suc n) call.outgoing t.slots (λ k. old_later n _ (o.slots k));
         pointer = pointer_all n caller_saved t.regs o.pointer;
         pairs = refl;
         marks = refl;

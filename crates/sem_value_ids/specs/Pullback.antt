@@ -69,7 +69,7 @@ abbrev pub register_back : (index : ℕ) → Write → (r : ℕ) → Back
 register_back i SetsNothing r = Was (InRegister r)
 register_back i (SetsRegister rd value) r = put_back rd (value_back i rd value) r
 register_back i (SetsSlot n rs) r = Was (InRegister r)
-register_back i Clobbers r = cond (list_any (λ q. nat_eq r q) caller_saved) (New i r) (Was (InRegister r))
+register_back i (Clobbers outgoing) r = cond (list_any (λ q. nat_eq r q) caller_saved) (New i r) (Was (InRegister r))
 
 -- a register pulled back over code of a row
 abbrev pub back_register : (index : ℕ) → Row → (r : ℕ) → Back
@@ -78,6 +78,7 @@ back_register i row r = register_back i (write_of row) r
 -- a slot pulled back over what code sets, if that isn't x2
 abbrev pub slot_back : Write → (k : ℕ) → Back
 slot_back (SetsSlot n rs) k = cond (nat_eq k n) (Was (InRegister rs)) (Was (InSlot k))
+slot_back (Clobbers outgoing) k = cond (list_any (nat_eq k) outgoing) Nameless (Was (InSlot k))
 slot_back _ k = Was (InSlot k)
 
 -- a slot pulled back over code of a row that doesn't write x2

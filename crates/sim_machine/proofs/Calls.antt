@@ -17,23 +17,24 @@ use Rattle.rv64_instr.specs.declared.op.BranchOp.{BranchOp}
 use Rattle.rv64_instr.specs.declared.op.LoadOp.{LoadOp}
 use Rattle.rv64_instr.specs.declared.op.StoreOp.{StoreOp}
 use Rattle.rv64_instr.specs.declared.operand.Operand.{Operand}
-use Rattle.rv64_instr.specs.declared.operand.Operand.TheVariants.{Def, Use, ImplicitDef, ImplicitUse, Imm, Slot, Object, Block, Symbol, Mask}
+use Rattle.rv64_instr.specs.declared.operand.Operand.TheVariants.{Def, Use, ImplicitDef, ImplicitUse, Imm, Slot, Object, Block, Symbol, Mask, Outgoing}
 use Rattle.std.specs.Prelude.{◌&&◌, nat_le}
 use Rattle.rv64_instr.proofs.Tails.{held_callee}
 use Rattle.rv64_instr.specs.Form.{is_argument, has_form, fits_call, fits_held_call}
 use Rattle.rv64_instr.specs.Instruction.{Instruction}
 use Rattle.rv64_instr.specs.LocationEffects.{is_call}
-use Rattle.rv64_instr.specs.Row.{Calls, row_of, row_by, implicit_uses, registers_row, number_row, immediate_row, object_row, add_row, move_row, upper_row}
+use Rattle.rv64_instr.specs.Row.{Calls, row_of, row_by, implicit_uses, outgoing_words, registers_row, number_row, immediate_row, object_row, add_row}
+use Rattle.rv64_instr.specs.Row.{move_row, upper_row}
 use Rattle.rv64_instr.specs.Row.{branch_row, load_row, store_row, copy_row, jump_row, held_call, held_tail}
 use Rattle.rv64_instr.specs.Row.{held_gone, tail_row, gone_row, CallSite, Callee, Named, Held}
 use Rattle.rv64_instr.specs.declared.start.CallEvent.{CallEvent}
 use Rattle.rv64_instr.specs.declared.start.CallTarget.{CallTarget}
 use Rattle.sem_machine.specs.Machine.{Machine, register, set_in, set_all_in}
-use Rattle.sem_machine.specs.MachineStep.{call_of, called_at}
+use Rattle.sem_machine.specs.MachineStep.{call_of, called_at, passed, word_content}
 use Rattle.sim_machine.specs.Kept.{StandsFor, calls_in}
 use Rattle.sim_machine.specs.Calls.{event_of}
 use Rattle.sim_machine.specs.declared.hart.Hart.{Hart}
-use Rattle.sim_machine.specs.steps.Arguments.{argument_of, callee_named, NamesCallee}
+use Rattle.sim_machine.specs.steps.Arguments.{argument_of, word_of, callee_named, NamesCallee}
 
 -- ---- operations that don't call
 
@@ -159,7 +160,7 @@ pub record CallForm (op : Op) (operands : List Operand) : Type 0 where
   pub are : operands ≡ first ∷ rest
   pub named : callee_named first ≡ Some callee
   pub names : NamesCallee first
-  pub row : row_by op operands ≡ Calls (record { callee = callee; args = implicit_uses rest })
+  pub row : row_by op operands ≡ Calls (record { callee = callee; args = implicit_uses rest; outgoing = outgoing_words rest })
   pub low : All (λ r. r < 32) (implicit_uses rest)
 
 call_form_of : (operands : List Operand) → IsTrue (fits_call operands) → CallForm PseudoCall operands
@@ -188,7 +189,8 @@ held_form_of (ImplicitUse r ∷ Mask ∷ rest) t =
       are = refl;
       named = refl;
       names = low.1;
-      row = ap (λ (b : Bool). held_call (cond b (implicit_uses rest) (r ∷ implicit_uses rest))) (ne_eqb r 2 (λ two. omega (arith, above, two)));
+      row = ap (λ (b : Bool). held_call (cond b (implicit_uses rest) (r ∷ implicit_uses rest)) (outgoing_words rest))
+          (ne_eqb r 2 (λ two. omega (arith, above, two)));
       low = arguments_low rest p.1;
     }
 held_form_of _ t = absurd cc
@@ -223,19 +225,20 @@ not_empty op operands f e = let l = ap length f.are in omega (arith, l, e)
 -- what a call shows by its operands
 pub event_is : (i : Instruction) (f : CallForm i.op i.operands) (first : Operand) (rest : List Operand) (target : CallTarget) (values : List ℕ) (calls : ℕ)
     (h : Hart) (s : Machine) (site : CallSite) → StandsFor h s → first ∷ rest ≡ i.operands →
-    ((c : Callee) → callee_named first ≡ Some c → target ≡ called_at s c) → values ≡ map (register s) (implicit_uses rest) →
+    ((c : Callee) → callee_named first ≡ Some c → target ≡ called_at s c) →
+    values ≡ map (register s) (implicit_uses rest) ++ map (word_content s) (outgoing_words rest) →
     calls ≡ (h.calls + 1) % 2 ^ 64 → call_of (row_of i) ≡ Some site →
     (let made : CallEvent = record { target = target; args = values; number = calls } in made) ≡ event_of site s
 event_is i f first rest target values calls h s site stands are to v n e =
     let both : first ∷ rest ≡ f.first ∷ f.rest = are ∙ f.are in
-    let named : CallSite = record { callee = f.callee; args = implicit_uses f.rest } in
+    let named : CallSite = record { callee = f.callee; args = implicit_uses f.rest; outgoing = outgoing_words f.rest } in
     let found : Some named ≡ Some site = sym (ap call_of f.row) ∙ e in
     let same : named ≡ site = one_site named site found in
     let behind : rest ≡ f.rest = cc in
     let here : first ≡ f.first = cc in
     let called : target ≡ called_at s site.callee = to f.callee (ap callee_named here ∙ f.named) ∙ ap (λ (x : CallSite). called_at s x.callee) same in
-    let shows : values ≡ map (register s) site.args =
-    v ∙ ap (λ (xs : List ℕ). map (register s) xs) (ap implicit_uses behind ∙ ap (λ (x : CallSite). x.args) same) in
+    let shows : values ≡ passed s site =
+    v ∙ ap (λ (xs : List Operand). map (register s) (implicit_uses xs) ++ map (word_content s) (outgoing_words xs)) behind ∙ ap (passed s) same in
     let number : calls ≡ (calls_in s.events + 1) % 2 ^ 64 = omega (arith, n, stands.calls) in
     λ i. record { target = called i; args = shows i; number = number i } where
       one_site : (x y : CallSite) → Some x ≡ Some y → x ≡ y
@@ -264,6 +267,11 @@ each_below (x ∷ xs) n h (suc i) lt = each_below xs n (and_parts (nat_lt x n) (
 
 -- ---- arguments
 
+here_on : (xs : List Operand) (i : ℕ) (x : Operand) → i < length xs → x ≡ get_or xs i x → drop i xs ≡ x ∷ drop (i + 1) xs
+here_on xs i x l e =
+    let next : i + 1 ≡ suc i = omega arith in
+    drop-cons xs i x l ∙ ap (λ (y : Operand). y ∷ drop (suc i) xs) (sym e) ∙ ap (λ (n : ℕ). x ∷ drop n xs) (sym next)
+
 uses_of : (x : Operand) (rest : List Operand) → implicit_uses (x ∷ rest) ≡ cons_option (argument_of x) (implicit_uses rest)
 uses_of (ImplicitUse r) rest = by_test (nat_eq r 2) where
   by_test : (b : Bool) → cond b (implicit_uses rest) (r ∷ implicit_uses rest) ≡ cons_option (cond b None (Some r)) (implicit_uses rest)
@@ -271,14 +279,21 @@ uses_of (ImplicitUse r) rest = by_test (nat_eq r 2) where
   by_test false = refl
 uses_of _ rest = refl
 
+words_of : (x : Operand) (rest : List Operand) → outgoing_words (x ∷ rest) ≡ cons_option (word_of x) (outgoing_words rest)
+words_of (Outgoing n) rest = refl
+words_of _ rest = refl
+
+pub words_turn : (xs : List Operand) (i : ℕ) (x : Operand) (o : Option ℕ) → i < length xs → x ≡ get_or xs i x → o ≡ word_of x →
+    outgoing_words (drop i xs) ≡ cons_option o (outgoing_words (drop (i + 1) xs))
+words_turn xs i x o l e h =
+    ap outgoing_words (here_on xs i x l e)
+    ∙ (words_of x (drop (i + 1) xs) ∙ ap (λ (p : Option ℕ). cons_option p (outgoing_words (drop (i + 1) xs))) (sym h))
+
 -- the first of the operands from an index on, and those behind it
 pub uses_turn : (xs : List Operand) (i : ℕ) (x : Operand) (o : Option ℕ) → i < length xs → x ≡ get_or xs i x → o ≡ argument_of x →
     implicit_uses (drop i xs) ≡ cons_option o (implicit_uses (drop (i + 1) xs))
 uses_turn xs i x o l e h =
-    let next : i + 1 ≡ suc i = omega arith in
-    let here : drop i xs ≡ x ∷ drop (i + 1) xs = drop-cons xs i x l ∙ ap (λ (y : Operand). y ∷ drop (suc i) xs) (sym e)
-    ∙ ap (λ (n : ℕ). x ∷ drop n xs) (sym next) in
-    ap implicit_uses here ∙ (uses_of x (drop (i + 1) xs) ∙ ap (λ (p : Option ℕ). cons_option p (implicit_uses (drop (i + 1) xs))) (sym h))
+    ap implicit_uses (here_on xs i x l e) ∙ (uses_of x (drop (i + 1) xs) ∙ ap (λ (p : Option ℕ). cons_option p (implicit_uses (drop (i + 1) xs))) (sym h))
 
 pub value_turn : (f : ℕ → ℕ) (vs us ws t : List ℕ) (r : ℕ) → us ≡ r ∷ ws → vs ++ map f us ≡ t → (vs ++ f r ∷ []) ++ map f ws ≡ t
 value_turn f vs us ws t r e h = append_assoc vs (f r ∷ []) (map f ws) ∙ (ap (λ (xs : List ℕ). vs ++ map f xs) (sym e) ∙ h)

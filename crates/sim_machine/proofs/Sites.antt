@@ -14,7 +14,10 @@ use Rattle.emit_code.specs.declared.code.EncodedInstruction.{EncodedInstruction}
 use Rattle.rv64_instr.specs.Instruction.{Instruction}
 use Rattle.std.specs.Prelude.{is_some, IsSome}
 use Rattle.rv64_instr.specs.LocationEffects.{is_call, is_named, has_site}
-use Rattle.rv64_instr.specs.Row.{Row, Calls, row_of, CallSite as Call, Callee, Named, Held, Ending}
+use Rattle.rv64_instr.specs.Row.{Row, Calls, Returns, row_of, CallSite as Call, Callee, Named, Held, Ending}
+use Rattle.rv64_instr.specs.declared.decoded.Callee.{Callee as Decoded}
+use Rattle.rv64_instr.specs.declared.decoded.Way.TheVariants.{Back, Tail, Never}
+use Rattle.rv64_instr.specs.Decoded.{ShowsWay}
 use Rattle.mir_func.specs.declared.block.Block.{Block}
 use Rattle.mir_func.specs.declared.item.Item.{Item}
 use Rattle.mir_func.specs.declared.item.ItemKind.{ItemKind}
@@ -23,9 +26,10 @@ use Rattle.mir_func.specs.Function.{FramedFunction}
 use Rattle.mir_func.specs.Graph.{Fetch, Here, EndOfBlock, Outside, fetch_in, front, end_of}
 use Rattle.emit_code.specs.Laid.{LaidCode, IsCode, StandFrom}
 use Rattle.sem_machine.specs.Image.{Image, word_at}
-use Rattle.sem_machine.specs.MachineStep.{call_of, left_by, callee_size}
+use Rattle.sem_machine.specs.MachineStep.{call_of, left_by, elsewhere, callee_size}
 use Rattle.sem_machine.proofs.Fetching.{word_here}
 use Rattle.sim_machine.specs.declared.site.Transfer.{Transfer}
+use Rattle.sim_machine.specs.declared.site.Transfer.TheVariants.{Departure, Nothing}
 use Rattle.sim_machine.specs.Shown.{ShowsCode, entry_at, entry_call, entry_left, fetch_call, fetch_left, kind_call, kind_left}
 use Rattle.sim_machine.specs.steps.Sites.{instruction_in, fetch_instruction, kind_instruction, TransfersSo}
 
@@ -184,6 +188,18 @@ transfer_found f e c t at is =
     let x = fetch_in (drop e.point.block f.blocks) e.point.item in
     subst (λ (o : Option Call). TransfersSo t o (entry_left f e)) (sym (fetch_calls x c at))
     (subst (λ (o : Option (Ending Callee)). TransfersSo t (call_of (row_of c)) o) (sym (fetch_leaves x c at)) is)
+
+-- what an ending does for a callee
+pub transfer_back : (ending : Ending Callee) → ShowsWay Back ending.way → TransfersSo Nothing None (left_by (Returns ending))
+transfer_back ending shows = (refl, ap (elsewhere ending) shows)
+
+pub transfer_tail : (callee : Decoded) (ending : Ending Callee) → ShowsWay (Tail callee) ending.way →
+    TransfersSo (Departure (Tail callee)) None (left_by (Returns ending))
+transfer_tail callee ending shows = (ending, ap (elsewhere ending) shows.1, refl, shows)
+
+pub transfer_never : (callee : Decoded) (ending : Ending Callee) → ShowsWay (Never callee) ending.way →
+    TransfersSo (Departure (Never callee)) None (left_by (Returns ending))
+transfer_never callee ending shows = (ending, ap (elsewhere ending) shows.1, refl, shows)
 
 pub nothing_found : (f : FramedFunction) (e : EncodedInstruction) → instruction_in f e.point ≡ None → (entry_call f e ≡ None) × (entry_left f e ≡ None)
 nothing_found f e none = fetch_none (fetch_in (drop e.point.block f.blocks) e.point.item) none

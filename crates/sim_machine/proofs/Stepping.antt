@@ -1,6 +1,5 @@
 -- Steps of the machine by what stands at its counter.
-use Rattle.std.proofs.Common.{◌≡◌, ℕ, List, [], ◌∷◌, map, Option, Some, None, Result, Ok, Err, Bool, true, false, cond, nat_eq, refl, sym, ap, ◌∙◌, subst}
-use Rattle.std.specs.Prelude.{IsSome}
+use Rattle.std.proofs.Common.{◌≡◌, ℕ, List, [], ◌∷◌, Option, Some, None, Result, Ok, Err, Bool, true, false, cond, nat_eq, refl, sym, ap, ◌∙◌, subst}
 use Rattle.std.specs.Result.{IfOk}
 use Rattle.std.proofs.lemmas.Bool.{eq-eqb, ne_eqb}
 use Rattle.std.specs.Option.{option_map}
@@ -8,7 +7,11 @@ use Rattle.rv64_instr.specs.declared.symbol.Symbol.{Symbol}
 use Rattle.rv64_instr.specs.Linked.{addresses_in}
 use Rattle.rv64_word.specs.Linked.{linked_word}
 use Rattle.sim_machine.specs.Shown.{entry_row}
-use Rattle.rv64_instr.specs.Row.{Row, Calls, row_of, implicit_uses, CallSite, Callee, Ending, Back}
+use Rattle.rv64_instr.specs.declared.decoded.Callee.{Callee as Decoded}
+use Rattle.rv64_instr.specs.declared.decoded.Way.{Way}
+use Rattle.rv64_instr.specs.declared.decoded.Way.TheVariants.{Back as Returns}
+use Rattle.rv64_instr.specs.Decoded.{ShowsCallee, ShowsWay}
+use Rattle.rv64_instr.specs.Row.{Row, Calls, row_of, implicit_uses, CallSite, Callee, Ending, Way as LeavingWay, Back}
 use Rattle.rv64_word.specs.declared.machine_op.MachineOp.{MachineOp}
 use Rattle.rv64_word.specs.Decoded.{decoded}
 use Rattle.rv64_word.specs.MachineRow.{machine_row}
@@ -16,21 +19,23 @@ use Rattle.mir_func.specs.Function.{FramedFunction}
 use Rattle.emit_code.specs.declared.code.EncodedInstruction.{EncodedInstruction}
 use Rattle.emit_code.specs.Laid.{LaidCode}
 use Rattle.sem_machine.specs.Image.{CodeLine, Image, line_at, word_at}
-use Rattle.sem_machine.specs.Machine.{Machine, register}
-use Rattle.sem_machine.specs.MachineStep.{Ends, Leaves, machine_step, does_at, does_line}
+use Rattle.sem_machine.specs.Machine.{Machine}
+use Rattle.sem_machine.specs.MachineStep.{Ends, Leaves, BadWord as BadStep, machine_step, does_at, does_line, does_call, does_ending, goes_to, leaves_by}
 use Rattle.sem_machine.specs.MachineStep.{does_word, does_operation, does, step_call as answered, call_of, return_word}
-use Rattle.sem_machine.specs.MachineStep.{called_at, callee_size, does_left, linked_at, result_at}
+use Rattle.sem_machine.specs.MachineStep.{called_at, passed, callee_size, does_left, result_at}
 use Rattle.rv64_instr.specs.Instruction.{Instruction}
 use Rattle.rv64_instr.specs.LocationEffects.{is_call}
 use Rattle.rv64_instr.specs.declared.start.CallEvent.{CallEvent}
-use Rattle.sem_mir.specs.State.{Reply, writes_frame, RunResult}
-use Rattle.sim_machine.specs.declared.ending.Stepped.{Stepped as Ended}
+use Rattle.sem_mir.specs.State.{Reply, writes_frame}
+use Rattle.sim_machine.specs.declared.ending.Stepped.{Stepped}
 use Rattle.sim_machine.specs.declared.ending.Stepped.TheVariants.{Went, Stopped}
-use Rattle.sim_machine.specs.declared.ending.Stop.TheVariants.{Left, Returned}
+use Rattle.sim_machine.specs.declared.ending.Stop.TheVariants.{Ended, Left, BadWord}
 use Rattle.sim_machine.specs.declared.hart.Hart.{Hart}
 use Rattle.sim_machine.specs.Kept.{StandsFor, Goes}
 use Rattle.sim_machine.specs.Calls.{event_of, after_call}
-use Rattle.sim_machine.specs.Running.{found_call, call_at, StepsOn, CallsOn}
+use Rattle.sim_machine.specs.declared.site.Transfer.TheVariants.{Call, Departure}
+use Rattle.sim_machine.specs.Running.{StopsSo, found_call, call_at, StepsOn, CallsOn}
+use Rattle.sim_machine.specs.steps.Sites.{TransfersSo, GoesThere}
 use Rattle.sim_machine.specs.Shown.{IsLineOf, AreLinesOf, ShowsCode, entry_at, entry_call, entry_left}
 
 -- ---- lines
@@ -73,8 +78,9 @@ left_step c image s shows e =
 
 -- a word elsewhere than at a call site
 pub record WordStep (image : Image) (s : Machine) (w : ℕ) : Type 0 where
-  pub result : RunResult
-  pub is : machine_step image s ≡ cond (nat_eq w return_word) (Ends result) (does_operation (decoded w) s)
+  pub ending : Ending Callee
+  pub back : ending.way ≡ Back
+  pub is : machine_step image s ≡ cond (nat_eq w return_word) (Ends (result_at s ending)) (does_operation (decoded w) s)
 
 pub word_step : (c : LaidCode) (image : Image) (s : Machine) (e : EncodedInstruction) (w : ℕ) → ShowsCode c image → entry_at c.entries s.counter ≡ Some e →
     entry_call c.framed e ≡ None → entry_left c.framed e ≡ None → (v : ℕ) → word_at image.text s.counter ≡ Some v →
@@ -82,38 +88,39 @@ pub word_step : (c : LaidCode) (image : Image) (s : Machine) (e : EncodedInstruc
 word_step c image s e w shows found none stays v word linked =
     let l = line_some c.framed c.entries image.lines s.counter e shows.lines found in
     record {
-      result = record { way = Back; values = map (register s) (implicit_uses l.line.instruction.operands) };
+      ending = record { way = Back; values = implicit_uses l.line.instruction.operands };
+      back = refl;
       is = ap (λ (o : Option CodeLine). does_at image o s) l.stands
           ∙ ap (λ (o : Option CallSite). does_line image l.line o s) (l.is.call ∙ none)
-          ∙ ap (λ (o : Option (Ending Callee)). does_left l.line o (linked_at image l.line s) s) (l.is.left ∙ stays)
+          ∙ ap (λ (o : Option (Ending Callee)). does_left image l.line o s) (l.is.left ∙ stays)
           ∙ ap (λ (o : Option ℕ). does_word l.line (option_map (linked_word s.symbols (row_of l.line.instruction)) o) s) word
           ∙ ap (λ (x : ℕ). does_word l.line (Some x) s) (l.is.links s.symbols v ∙ sym linked);
     }
 
 pub call_step : (c : LaidCode) (image : Image) (s : Machine) (e : EncodedInstruction) (site : CallSite) → ShowsCode c image →
     entry_at c.entries s.counter ≡ Some e →
-    entry_call c.framed e ≡ Some site →
-    machine_step image s ≡ answered (callee_size site.callee) (called_at s site.callee) (map (register s) site.args) s s.script
+    entry_call c.framed e ≡ Some site → machine_step image s ≡ does_call site (word_at image.text s.counter) s
 call_step c image s e site shows found some =
     let l = line_some c.framed c.entries image.lines s.counter e shows.lines found in
     ap (λ (o : Option CodeLine). does_at image o s) l.stands ∙ ap (λ (o : Option CallSite). does_line image l.line o s) (l.is.call ∙ some)
 
 -- where control leaves the function for a callee, the run ends
-pub departure_step : (c : LaidCode) (image : Image) (s : Machine) (e : EncodedInstruction) (ending : Ending Callee) → ShowsCode c image →
+departure_step : (c : LaidCode) (image : Image) (s : Machine) (e : EncodedInstruction) (ending : Ending Callee) → ShowsCode c image →
     entry_at c.entries s.counter ≡ Some e → entry_call c.framed e ≡ None → entry_left c.framed e ≡ Some ending →
-    machine_step image s ≡ Ends (result_at s ending)
+    machine_step image s ≡ does_ending ending (word_at image.text s.counter) s
 departure_step c image s e ending shows found none leaves =
     let l = line_some c.framed c.entries image.lines s.counter e shows.lines found in
     ap (λ (o : Option CodeLine). does_at image o s) l.stands ∙ ap (λ (o : Option CallSite). does_line image l.line o s) (l.is.call ∙ none)
-    ∙ ap (λ (o : Option (Ending Callee)). does_left l.line o (linked_at image l.line s) s) (l.is.left ∙ leaves)
+    ∙ ap (λ (o : Option (Ending Callee)). does_left image l.line o s) (l.is.left ∙ leaves)
 
-pub return_step : (image : Image) (s : Machine) (w : ℕ) (h : WordStep image s w) → w ≡ return_word → machine_step image s ≡ Ends h.result
-return_step image s w h e = h.is ∙ ap (λ (t : Bool). cond t (Ends h.result) (does_operation (decoded w) s)) (eq-eqb w return_word e)
+pub return_step : (image : Image) (s : Machine) (w : ℕ) (h : WordStep image s w) → w ≡ return_word → StopsSo (Ended Returns) image s
+return_step image s w h e =
+    (h.ending, h.is ∙ ap (λ (t : Bool). cond t (Ends (result_at s h.ending)) (does_operation (decoded w) s)) (eq-eqb w return_word e), h.back)
 
 pub other_step : (image : Image) (s : Machine) (w : ℕ) (o : Option MachineOp) → WordStep image s w → (w ≡ return_word → ⊥) → decoded w ≡ o →
     machine_step image s ≡ does_operation o s
 other_step image s w o h ne d =
-    h.is ∙ (ap (λ (t : Bool). cond t (Ends h.result) (does_operation (decoded w) s)) (ne_eqb w return_word ne) ∙ ap
+    h.is ∙ (ap (λ (t : Bool). cond t (Ends (result_at s h.ending)) (does_operation (decoded w) s)) (ne_eqb w return_word ne) ∙ ap
     (λ (x : Option MachineOp). does_operation x s) d)
 
 -- ---- as they are kept
@@ -133,11 +140,15 @@ word_step_at c image h s e w shows stands found at v word linked stays none =
     (linked ∙ ap (λ (x : Symbol → ℕ). linked_word x (entry_row c.framed e) v) (sym stands.symbols))
 
 pub call_step_at : (c : LaidCode) (image : Image) (h : Hart) (s : Machine) (e : EncodedInstruction) (site : CallSite) → ShowsCode c image → StandsFor h s →
-    entry_at c.entries h.counter ≡ Some e → call_at c s.counter ≡ Some site →
-    machine_step image s ≡ answered (callee_size site.callee) (called_at s site.callee) (map (register s) site.args) s s.script
+    entry_at c.entries h.counter ≡ Some e → call_at c s.counter ≡ Some site → machine_step image s ≡ does_call site (word_at image.text s.counter) s
 call_step_at c image h s e site shows stands found some =
     let here = found_at c h s (Some e) stands found in
     call_step c image s e site shows here (sym (ap (found_call c.framed) here) ∙ some)
+
+-- the word at a machine's counter is the entry's
+word_there : (c : LaidCode) (image : Image) (h : Hart) (s : Machine) (e : EncodedInstruction) (o : Option ℕ) → StandsFor h s → h.counter ≡ e.address →
+    word_at image.text e.address ≡ o → word_at image.text s.counter ≡ o
+word_there c image h s e o stands at word = ap (word_at image.text) (stands.counter ∙ at) ∙ word
 
 -- the call of an entry that is none, and of one that is
 pub entry_call_at : (c : LaidCode) (h : Hart) (s : Machine) (o : Option EncodedInstruction) → StandsFor h s → entry_at c.entries h.counter ≡ o →
@@ -151,12 +162,12 @@ operation_step image s w m now h ne d g = record { to = g.to; goes = other_step 
 
 -- a step that an answer makes
 pub answer_step : (image : Image) (s : Machine) (site : CallSite) (r : Reply) (rest : List Reply) (now : Hart) →
-    machine_step image s ≡ answered (callee_size site.callee) (called_at s site.callee) (map (register s) site.args) s s.script → s.script ≡ r ∷ rest →
+    machine_step image s ≡ answered (callee_size site.callee) (called_at s site.callee) (passed s site) site.outgoing s s.script → s.script ≡ r ∷ rest →
     StandsFor now (after_call site r rest s) →
     Goes (machine_step image s) now
 answer_step image s site r rest now e script stands = record {
   to = after_call site r rest s;
-  goes = e ∙ ap (answered (callee_size site.callee) (called_at s site.callee) (map (register s) site.args) s) script;
+  goes = e ∙ ap (answered (callee_size site.callee) (called_at s site.callee) (passed s site) site.outgoing s) script;
   stands = stands;
 }
 
@@ -177,16 +188,28 @@ calls_left gives c h e = record {
       let no : ◌≡◌ {A = Option CallSite} None (Some site) = sym (entry_call_at c h s None stands e) ∙ some in absurd cc);
 }
 
--- control leaves the function for a callee
-pub steps_departure : (c : LaidCode) (h : Hart) (e : EncodedInstruction) → entry_at c.entries h.counter ≡ Some e → entry_call c.framed e ≡ None →
-    IsSome (entry_left c.framed e) → StepsOn c (Stopped Returned) h h
-steps_departure c h e found none leaves image s shows stands at = by_left (entry_left c.framed e) refl leaves where
-  by_left : (o : Option (Ending Callee)) → entry_left c.framed e ≡ o → IsSome o → (result : RunResult) × (machine_step image s ≡ Ends result)
-  by_left None q is = absurd cc
-  by_left (Some ending) q is = (result_at s ending, departure_step c image s e ending shows (found_at c h s (Some e) stands found) none q)
+-- control leaves the function for a callee, unless the word doesn't go there
+pub steps_departure : (c : LaidCode) (h : Hart) (e : EncodedInstruction) (way : Way) (word : ℕ) (leaves : Bool) → entry_at c.entries e.address ≡ Some e →
+    h.counter ≡ e.address → TransfersSo (Departure way) (entry_call c.framed e) (entry_left c.framed e) →
+    ((image : Image) → ShowsCode c image → word_at image.text e.address ≡ Some word) →
+    ((w : LeavingWay Callee) (counter : ℕ) → ShowsWay way w → leaves ≡ leaves_by w counter (Some word)) →
+    StepsOn c (Stopped (cond leaves (Ended way) (BadWord word))) h h
+steps_departure c h e way word leaves found at to shown tells image s shows stands none = by_word leaves refl where
+  there : word_at image.text s.counter ≡ Some word
+  there = word_there c image h s e (Some word) stands at (shown image shows)
+
+  step : machine_step image s ≡ cond leaves (Ends (result_at s to.0)) BadStep
+  step =
+      departure_step c image s e to.0 shows (ap (entry_at c.entries) (stands.counter ∙ at) ∙ found) to.2 to.1
+      ∙ ap (λ (o : Option ℕ). does_ending to.0 o s) there
+      ∙ ap (λ (t : Bool). cond t (Ends (result_at s to.0)) BadStep) (sym (tells to.0.way s.counter to.3))
+
+  by_word : (t : Bool) → leaves ≡ t → StopsSo (cond t (Ended way) (BadWord word)) image s
+  by_word true e = (to.0, step ∙ ap (λ (t : Bool). cond t (Ends (result_at s to.0)) BadStep) e, to.3)
+  by_word false e = (step ∙ ap (λ (t : Bool). cond t (Ends (result_at s to.0)) BadStep) e, there)
 
 -- an entry that is no call makes none
-pub calls_word : (gives : CallEvent → Reply → Type 0) (c : LaidCode) (r : Ended) (h new : Hart) (e : EncodedInstruction) →
+pub calls_word : (gives : CallEvent → Reply → Type 0) (c : LaidCode) (r : Stepped) (h new : Hart) (e : EncodedInstruction) →
     entry_at c.entries h.counter ≡ Some e →
     entry_call c.framed e ≡ None → CallsOn gives c r h new
 calls_word gives c r h new e found none = record {
@@ -196,7 +219,7 @@ calls_word gives c r h new e found none = record {
       absurd cc);
 }
 
-pub calls_word_if : {E : Type 0} (result : Result Ended E) (gives : CallEvent → Reply → Type 0) (c : LaidCode) (h new : Hart) (e : EncodedInstruction) →
+pub calls_word_if : {E : Type 0} (result : Result Stepped E) (gives : CallEvent → Reply → Type 0) (c : LaidCode) (h new : Hart) (e : EncodedInstruction) →
     entry_at c.entries h.counter ≡ Some e → entry_call c.framed e ≡ None → IfOk result (λ r. CallsOn gives c r h new)
 calls_word_if (Ok r) gives c h new e found none = calls_word gives c r h new e found none
 calls_word_if (Err x) gives c h new e found none = tt
@@ -206,29 +229,69 @@ calls_some (Calls call) c e = cc
 calls_some _ c e = cc
 
 -- a call site makes a call
-pub steps_call : (c : LaidCode) (r : Ended) (h new : Hart) (e : EncodedInstruction) (i : Instruction) → entry_at c.entries h.counter ≡ Some e →
+pub steps_call : (c : LaidCode) (r : Stepped) (h new : Hart) (e : EncodedInstruction) (i : Instruction) → entry_at c.entries h.counter ≡ Some e →
     entry_call c.framed e ≡ call_of (row_of i) → is_call (row_of i) ≡ true → StepsOn c r h new
 steps_call c r h new e i found same call image s shows stands none =
     absurd (calls_some (row_of i) call (sym same ∙ (sym (entry_call_at c h s (Some e) stands found) ∙ none)))
 
+-- the same by the call of the entry
+pub steps_site : (c : LaidCode) (r : Stepped) (h new : Hart) (e : EncodedInstruction) (site : CallSite) → entry_at c.entries h.counter ≡ Some e →
+    entry_call c.framed e ≡ Some site → StepsOn c r h new
+steps_site c r h new e site found call image s shows stands none =
+    let no : ◌≡◌ {A = Option CallSite} (Some site) None = sym call ∙ (sym (entry_call_at c h s (Some e) stands found) ∙ none) in
+    absurd cc
+
+-- an entry's callee as it is decoded is its call's
+callee_shown : (c : LaidCode) (e : EncodedInstruction) (callee : Decoded) (site : CallSite) → TransfersSo (Call callee) (entry_call c.framed e) None →
+    entry_call c.framed e ≡ Some site → ShowsCallee callee site.callee
+callee_shown c e callee site to some =
+    let same : Some to.0 ≡ Some site = sym to.1 ∙ some in
+    let one : to.0 ≡ site = cc in
+    subst (λ (x : CallSite). ShowsCallee callee x.callee) one to.2
+
+pub goes_there : (c : LaidCode) (e : EncodedInstruction) (callee : Decoded) (word : ℕ) → TransfersSo (Call callee) (entry_call c.framed e) None →
+    ((image : Image) → ShowsCode c image → word_at image.text e.address ≡ Some word) →
+    ((x : Callee) (counter : ℕ) → ShowsCallee callee x → true ≡ goes_to 1 x counter (Some word)) → GoesThere c e
+goes_there c e callee word to shown tells image site counter shows some =
+    ap (goes_to 1 site.callee counter) (shown image shows) ∙ sym (tells site.callee counter (callee_shown c e callee site to some))
+
+-- a call whose word doesn't go to its callee stops
+pub call_stopped : (gives : CallEvent → Reply → Type 0) (c : LaidCode) (h : Hart) (e : EncodedInstruction) (callee : Decoded) (word : ℕ) →
+    entry_at c.entries h.counter ≡ Some e → h.counter ≡ e.address → TransfersSo (Call callee) (entry_call c.framed e) None →
+    ((image : Image) → ShowsCode c image → word_at image.text e.address ≡ Some word) →
+    ((x : Callee) (counter : ℕ) → ShowsCallee callee x → false ≡ goes_to 1 x counter (Some word)) → CallsOn gives c (Stopped (BadWord word)) h h
+call_stopped gives c h e callee word found at to shown tells = record {
+  reply = no_reply;
+  calls = λ image s site shows stands some. (
+      let there = word_there c image h s e (Some word) stands at (shown image shows) in
+      let call = sym (entry_call_at c h s (Some e) stands found) ∙ some in
+      let made = answered (callee_size site.callee) (called_at s site.callee) (passed s site) site.outgoing s s.script in (
+        call_step_at c image h s e site shows stands found some ∙ ap (λ (o : Option ℕ). does_call site o s) there
+            ∙ ap (λ (t : Bool). cond t made BadStep) (sym (tells site.callee s.counter (callee_shown c e callee site to call))),
+        there,
+      ));
+}
+
 pub call_made : (gives : CallEvent → Reply → Type 0) (c : LaidCode) (h new : Hart) (e : EncodedInstruction) (i : Instruction) (event : CallEvent) (r : Reply) →
-    entry_at c.entries h.counter ≡ Some e → entry_call c.framed e ≡ call_of (row_of i) →
+    entry_at c.entries h.counter ≡ Some e → h.counter ≡ e.address → GoesThere c e → entry_call c.framed e ≡ call_of (row_of i) →
     ((s : Machine) (site : CallSite) → StandsFor h s → call_of (row_of i) ≡ Some site → event ≡ event_of site s) → gives event r →
     writes_frame h.entry h.area r.writes ≡ false →
     ((s : Machine) (site : CallSite) (rest : List Reply) → StandsFor h s → call_of (row_of i) ≡ Some site → StandsFor new (after_call site r rest s)) →
     CallsOn gives c Went h new
-call_made gives c h new e i event r found same shown given apart takes = record {
+call_made gives c h new e i event r found at goes same shown given apart takes = record {
   reply = r;
   calls = λ image s site shows stands some. (
-      let call = sym same ∙ (sym (entry_call_at c h s (Some e) stands found) ∙ some) in
-      let step = call_step_at c image h s e site shows stands found some in
+      let here = sym (entry_call_at c h s (Some e) stands found) ∙ some in
+      let call = sym same ∙ here in
+      let there = word_there c image h s e (word_at image.text e.address) stands at refl in
+      let made = answered (callee_size site.callee) (called_at s site.callee) (passed s site) site.outgoing s s.script in
+      let step =
+      call_step_at c image h s e site shows stands found some
+      ∙ ap (λ (t : Bool). cond t made BadStep) (ap (goes_to 1 site.callee s.counter) there ∙ goes image site s.counter shows here) in
       record {
-        went = refl;
-        answered = record {
-          given = subst (λ (x : CallEvent). gives x r) (shown s site stands call) given;
-          apart = ap (λ (n : ℕ). writes_frame n s.area r.writes) stands.entry ∙ (ap (λ (n : ℕ). writes_frame h.entry n r.writes) stands.area ∙ apart);
-          goes = λ rest script. answer_step image s site r rest new step script (takes s site rest stands call);
-        };
+        given = subst (λ (x : CallEvent). gives x r) (shown s site stands call) given;
+        apart = ap (λ (n : ℕ). writes_frame n s.area r.writes) stands.entry ∙ (ap (λ (n : ℕ). writes_frame h.entry n r.writes) stands.area ∙ apart);
+        goes = λ rest script. answer_step image s site r rest new step script (takes s site rest stands call);
       });
 }
 

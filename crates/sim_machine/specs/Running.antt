@@ -1,12 +1,13 @@
 -- How a step of the simulator ends, in terms of the machine semantics.
 use Rattle.std.specs.Prelude.{◌≡◌, ℕ, List, ◌∷◌, Option, Some, None, false}
+use Rattle.rv64_instr.specs.Decoded.{ShowsWay}
 use Rattle.rv64_instr.specs.declared.start.CallEvent.{CallEvent}
-use Rattle.rv64_instr.specs.Row.{CallSite}
-use Rattle.sem_mir.specs.State.{Reply, writes_frame, RunResult}
+use Rattle.rv64_instr.specs.Row.{CallSite, Callee, Ending}
+use Rattle.sem_mir.specs.State.{Reply, writes_frame}
 use Rattle.sem_machine.specs.Image.{Image, word_at}
 use Rattle.sem_machine.specs.Machine.{Machine}
 use Rattle.sem_machine.specs.MachineStep as step
-use Rattle.sem_machine.specs.MachineStep.{machine_step, Ends, Leaves}
+use Rattle.sem_machine.specs.MachineStep.{machine_step, Ends, Leaves, result_at}
 use Rattle.emit_code.specs.declared.code.EncodedInstruction.{EncodedInstruction}
 use Rattle.emit_code.specs.Laid.{LaidCode}
 use Rattle.mir_func.specs.Function.{FramedFunction}
@@ -14,15 +15,15 @@ use Rattle.sim_machine.specs.declared.hart.Hart.{Hart}
 use Rattle.sim_machine.specs.declared.ending.Stepped.{Stepped}
 use Rattle.sim_machine.specs.declared.ending.Stepped.TheVariants.{Went, Stopped}
 use Rattle.sim_machine.specs.declared.ending.Stop.{Stop}
-use Rattle.sim_machine.specs.declared.ending.Stop.TheVariants.{Returned, Left, BadWord}
+use Rattle.sim_machine.specs.declared.ending.Stop.TheVariants.{Ended, Left, BadWord}
 use Rattle.sim_machine.specs.Kept.{StandsFor, Goes}
 use Rattle.sim_machine.specs.Calls.{event_of}
 use Rattle.sim_machine.specs.Shown.{ShowsCode, entry_at, entry_call}
 
--- A step from s stops for this reason: it returns, no code line is at the program counter, or the word there is this one, which encodes no machine
--- operation.
+-- A step from s stops for this reason: the run ends on this way, no code line is at the program counter, or the word there is this one, which encodes no
+-- machine operation or doesn't go to the line's callee.
 abbrev pub StopsSo : Stop → Image → Machine → Type 0
-StopsSo Returned image s = (result : RunResult) × (machine_step image s ≡ Ends result)
+StopsSo (Ended way) image s = (ending : Ending Callee) × (machine_step image s ≡ Ends (result_at s ending)) × ShowsWay way ending.way
 StopsSo Left image s = machine_step image s ≡ Leaves
 StopsSo (BadWord w) image s = (machine_step image s ≡ step.BadWord) × (word_at image.text s.counter ≡ Some w)
 
@@ -57,14 +58,13 @@ pub record IsAnswered (gives : CallEvent → Reply → Type 0) (reply : Reply) (
   pub apart : writes_frame s.entry s.area reply.writes ≡ false
   pub goes : (rest : List Reply) → s.script ≡ reply ∷ rest → Goes (machine_step image s) new
 
--- A step at a call site continues, with this answer.
-pub record Calls (gives : CallEvent → Reply → Type 0) (reply : Reply) (site : CallSite) (r : Stepped) (new : Hart) (image : Image) (s : Machine) : Type
-    0 where
-  pub went : r ≡ Went
-  pub answered : IsAnswered gives reply site new image s
+-- A step at a call site continues with this answer, or stops for this reason.
+abbrev pub AnswersSo : (gives : CallEvent → Reply → Type 0) → Reply → CallSite → Stepped → Hart → Image → Machine → Type 0
+AnswersSo gives reply site Went new image s = IsAnswered gives reply site new image s
+AnswersSo gives reply site (Stopped stop) new image s = StopsSo stop image s
 
--- From each machine state at a call site that `old` represents, and on each image of the code, a step continues with one and the same answer.
+-- From each machine state at a call site that `old` represents, and on each image of the code, a step continues with one and the same answer, or stops.
 pub record CallsOn (gives : CallEvent → Reply → Type 0) (c : LaidCode) (r : Stepped) (old new : Hart) : Type 0 where
   pub reply : Reply
   pub calls : (image : Image) (s : Machine) (site : CallSite) → ShowsCode c image → StandsFor old s → call_at c s.counter ≡ Some site →
-      Calls gives reply site r new image s
+      AnswersSo gives reply site r new image s

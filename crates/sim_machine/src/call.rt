@@ -1,18 +1,19 @@
 //! Calls: their events, and the effects of their answers.
 
-ghost use Rattle.std.specs.Prelude.{◌≡◌, ◌<◌, ◌≤◌, ◌+◌, ◌^◌, true, List, ℕ, All, Some, map, IfOk, OnOk, OnErr};
+ghost use Rattle.std.specs.Prelude.{◌≡◌, ◌<◌, ◌≤◌, ◌+◌, ◌^◌, ◌++◌, true, List, All, Some, map, IfOk, OnOk, OnErr};
 ghost use Rattle.rv64_instr.specs.DefsAndUses.{caller_saved};
 ghost use Rattle.rv64_instr.specs.LocationEffects.{is_call};
-ghost use Rattle.rv64_instr.specs.Row.{CallSite, Callee, row_of, implicit_uses};
+ghost use Rattle.rv64_instr.specs.Row.{CallSite, Callee, row_of, implicit_uses, outgoing_words};
 ghost use Rattle.sem_mir.specs.State.{Reply};
 ghost use Rattle.sem_interpreter.specs.Acts.{reply_of};
 ghost use Rattle.sem_machine.specs.Machine.{Machine, register, set_all_in};
-ghost use Rattle.sem_machine.specs.MachineStep.{call_of, called_at, callee_size};
+ghost use Rattle.sem_machine.specs.MachineStep.{call_of, called_at, callee_size, word_content};
 ghost use Rattle.sim_machine.specs.Kept.{StandsFor, IsSameFrame};
 ghost use Rattle.sim_machine.specs.Calls.{event_of, after_call};
-ghost use Rattle.sim_machine.specs.steps.Arguments.{argument_of, callee_named, NamesCallee};
+ghost use Rattle.sim_machine.specs.steps.Arguments.{argument_of, word_of, callee_named, NamesCallee};
 
 use crate::hart::Hart;
+use base_ids::function_ids::SlotId;
 use rv64_instr::effects::CALLER_SAVED;
 use rv64_instr::instr::Instr;
 use rv64_instr::operand::Operand;
@@ -20,7 +21,7 @@ use rv64_instr::start::{CallEvent, CallResult, CallTarget, Values};
 use std::alloc::{AllocError, Global};
 
 impl Hart {
-    /// The event of a call: what it calls, and the contents of the registers that it passes.
+    /// The event of a call: what it calls, and the contents of the registers and of the slots that it passes.
     pub fn event(&self, alloc: Global, i: &Instr) -> Result<CallEvent, AllocError>
         requires { is_call (row_of i.now) ≡ true }
         ensures { IfOk result (λ e. (s : Machine) (site : CallSite) → StandsFor self.now s
@@ -29,7 +30,7 @@ impl Hart {
         match i.operands.as_slice().split_first() {
             Some((first, rest)) => {
                 let target = self.target(first)?;
-                let args = self.arguments(alloc, rest)?;
+                let args = self.passed(alloc, rest)?;
                 Ok(CallEvent {
                     target,
                     args,
@@ -51,6 +52,33 @@ impl Hart {
             Operand::ImplicitUse(r) => Ok(CallTarget::Address(self.read(r.number()))),
             _ => unreachable!(),
         }
+    }
+
+    /// The values that a call with these operands behind its callee passes.
+    fn passed(&self, alloc: Global, operands: &[Operand]) -> Result<Values, AllocError>
+        requires { All (λ r. r < 32) (implicit_uses operands.now) }
+        ensures { IfOk result (λ values. (s : Machine) → StandsFor self.now s
+            → values ≡ map (register s) (implicit_uses operands.now)
+            ++ map (word_content s) (outgoing_words operands.now)) }
+    {
+        let mut values = self.arguments(alloc, operands)?;
+        let words = self.words(alloc, operands)?;
+        values.extend_from_slice(words.as_slice())?;
+        Ok(values)
+    }
+
+    /// The contents of the slots that operands pass.
+    fn words(&self, alloc: Global, operands: &[Operand]) -> Result<Values, AllocError>
+        ensures { IfOk result (λ values. (s : Machine) → StandsFor self.now s
+            → values ≡ map (word_content s) (outgoing_words operands.now)) }
+    {
+        let mut values = Values::new(alloc);
+        for operand in operands {
+            if let Some(n) = word(operand) {
+                values.push(self.stack_word(n))?;
+            }
+        }
+        Ok(values)
     }
 
     /// The contents of the registers that operands use implicitly, except x2.
@@ -95,6 +123,16 @@ impl Hart {
         for i in 0..16 {
             self.write(CALLER_SAVED[i], values[i]);
         }
+    }
+}
+
+/// The slot that an operand passes.
+fn word(operand: &Operand) -> Option<SlotId>
+    ensures { result ≡ word_of operand.now }
+{
+    match operand {
+        Operand::Outgoing(n) => Some(*n),
+        _ => None,
     }
 }
 

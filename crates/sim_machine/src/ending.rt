@@ -1,14 +1,17 @@
 //! How steps of the simulator end.
 
+use rv64_instr::decoded::Way;
+
 /// Why a run stops.
 #[derive(Clone, Copy, Debug, PartialEq, Eq)]
 pub enum Stop {
-    /// It ends: the word at the counter is `JALR x0, 0(x1)` (RISC-V Unprivileged ISA, "Unconditional Jumps"), or
-    /// control leaves for a callee there, by a call in tail position or one that doesn't return.
-    Returned,
+    /// It ends on this way: back to the caller where the word at the counter is `JALR x0, 0(x1)` (RISC-V Unprivileged
+    /// ISA, "Unconditional Jumps"), or for a callee, by a call in tail position or one that doesn't return.
+    Ended(Way),
     /// No entry begins at the program counter.
     Left,
-    /// The word at the program counter encodes no machine operation.
+    /// The word at the program counter encodes no machine operation, or doesn't go to the callee of the instruction
+    /// there.
     BadWord(u32),
 }
 

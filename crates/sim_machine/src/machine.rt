@@ -11,10 +11,13 @@ ghost use Rattle.sim_machine.specs.Machines.{StartsCode};
 use crate::answers::CallAnswers;
 use crate::ending::{Stepped, Stop};
 use crate::hart::Hart;
-use crate::site::{Places, Transfer, call_at, call_size, calls, find, places, transfer_at};
-use crate::word::run_word;
+use crate::site::{
+    Places, Transfer, call_at, call_size, calls, find, places, transfer_at, word_of,
+};
+use crate::word::{departure, goes_to, run_word};
 use emit_code::code::{Code, EncodedInstruction};
 use emit_code::objects::ObjectOffsets;
+use rv64_instr::decoded::Callee;
 use rv64_instr::reg::Reg;
 use rv64_instr::start::Start;
 use rv64_instr::symbol::copy_addresses;
@@ -44,6 +47,7 @@ impl<'a, A: CallAnswers> Model for MachineSimulator<'a, A> {
 
 impl<'a, A: CallAnswers + Drop> MachineSimulator<'a, A> {
     ghost use Rattle.sim_machine.specs.Running.{StepsOn, CallsOn, StaysIf};
+    ghost use Rattle.sim_machine.specs.steps.Sites.{TransfersSo, GoesThere};
 
     /// The simulator at the start of the code. x0 reads 0, whatever its initial content. The answers to calls write no
     /// byte of the frame.
@@ -106,7 +110,8 @@ impl<'a, A: CallAnswers + Drop> MachineSimulator<'a, A> {
     }
 
     /// Makes one step: executes the word at the program counter, or makes and answers the call of a call site. A
-    /// call in tail position and one that doesn't return end the run. A step that stops changes nothing.
+    /// call in tail position and one that doesn't return end the run. A word that doesn't go to its callee stops it. A
+    /// step that stops changes nothing.
     pub fn step(&mut self) -> Result<Stepped, AllocError>
         ensures code { self.new.code ≡ self.old.code }
         ensures answers { self.new.answers ≡ self.old.answers }
@@ -119,18 +124,41 @@ impl<'a, A: CallAnswers + Drop> MachineSimulator<'a, A> {
         match find(&self.probable, self.code, self.hart.counter) {
             None => Ok(Stepped::Stopped(Stop::Left)),
             Some(entry) => match transfer_at(self.code, &entry) {
-                Transfer::Call => self.call(&entry),
-                Transfer::Departure => Ok(Stepped::Stopped(Stop::Returned)),
+                Transfer::Call(callee) => self.call(&entry, callee),
+                Transfer::Departure(way) => Ok(Stepped::Stopped(departure(self.code, &entry, way))),
                 Transfer::Nothing => run_word(&mut self.hart, self.code, &entry),
             },
         }
     }
 
+    /// Makes the call of the call site at the program counter, if the word there goes to its callee.
+    fn call(&mut self, entry: &EncodedInstruction, callee: Callee) -> Result<Stepped, AllocError>
+        requires stands { entry_at self.old.code.entries self.old.hart.counter ≡ Some entry.now }
+        requires at { entry.now.address ≡ self.old.hart.counter }
+        requires call { TransfersSo (Transfer.Call callee) (entry_call self.old.code.framed entry.now) None }
+        ensures code { self.new.code ≡ self.old.code }
+        ensures answers { self.new.answers ≡ self.old.answers }
+        ensures call { IfOk result (λ r. CallsOn (A.gives self.old.answers) self.old.code r self.old.hart
+            self.new.hart) }
+        ensures step { IfOk result (λ r. StepsOn self.old.code r self.old.hart self.new.hart) }
+        ensures stays { IfOk result (λ r. StaysIf r self.old.hart self.new.hart) }
+        ensures memory { OnErr result (self.new ≡ self.old) }
+    {
+        let word = word_of(self.code, entry);
+        let goes = goes_to(word, 1, callee);
+        if goes {
+            self.make_call(entry)
+        } else {
+            Ok(Stepped::Stopped(Stop::BadWord(word)))
+        }
+    }
+
     /// Makes the call of the call site at the program counter.
-    fn call(&mut self, entry: &EncodedInstruction) -> Result<Stepped, AllocError>
+    fn make_call(&mut self, entry: &EncodedInstruction) -> Result<Stepped, AllocError>
         requires stands { entry_at self.old.code.entries self.old.hart.counter ≡ Some entry.now }
         requires at { entry.now.address ≡ self.old.hart.counter }
         requires call { IsSome (entry_call self.old.code.framed entry.now) }
+        requires goes { GoesThere self.old.code entry.now }
         ensures code { self.new.code ≡ self.old.code }
         ensures answers { self.new.answers ≡ self.old.answers }
         ensures call { IfOk result (λ r. CallsOn (A.gives self.old.answers) self.old.code r self.old.hart

@@ -2,8 +2,9 @@
 
 ghost use Rattle.std.specs.Prelude.{◌≡◌, ◌<◌, ◌≤◌, ◌+◌, ◌*◌, ◌^◌, Some, None, Option, true, false, IfSome, IsSome};
 ghost use Rattle.std.specs.Prelude.{MatchOption, cond, is_some, length, slice_index};
-ghost use Rattle.rv64_instr.specs.Decoded.{Shows};
+ghost use Rattle.rv64_instr.specs.Decoded.{Shows, ShowsWay};
 ghost use Rattle.rv64_instr.specs.LocationEffects.{is_call};
+ghost use Rattle.rv64_instr.specs.Row as row;
 ghost use Rattle.rv64_instr.specs.Row.{Row, CallSite, row_of};
 ghost use Rattle.sem_machine.specs.Image.{Image, word_at};
 ghost use Rattle.sem_machine.specs.MachineStep.{call_of, left_by, callee_size};
@@ -14,7 +15,7 @@ use emit_code::code::{Code, EncodedInstruction};
 use mir_func::framed::Framed;
 use mir_func::item::ItemKind;
 use mir_func::position::ProgramPoint;
-use rv64_instr::decoded::{Decoded, Way};
+use rv64_instr::decoded::{Callee, Decoded, Way};
 use rv64_instr::effects::is_call;
 use rv64_instr::instr::Instr;
 use std::alloc::{AllocError, Global};
@@ -29,9 +30,9 @@ const WORD: u64 = 4;
 #[derive(Clone, Copy, Debug, PartialEq, Eq)]
 pub enum Transfer {
     /// By a call.
-    Call,
+    Call(Callee),
     /// By a call in tail position, or one that doesn't return: it leaves the function.
-    Departure,
+    Departure(Way),
     /// Not at all.
     Nothing,
 }
@@ -137,10 +138,9 @@ fn transfer_of(decoded: &Decoded) -> Transfer
     ensures { (row : Row) → Shows decoded.now row → TransfersSo result (call_of row) (left_by row) }
 {
     match *decoded {
-        Decoded::Calls(_) => Transfer::Call,
-        Decoded::Returns(Way::Tail(_)) | Decoded::Returns(Way::Never(_)) => Transfer::Departure,
-        Decoded::Returns(Way::Back)
-        | Decoded::Fixes(_, _)
+        Decoded::Calls(callee) => Transfer::Call(callee),
+        Decoded::Returns(way) => transfer_by(way),
+        Decoded::Fixes(_, _)
         | Decoded::Moves(_, _)
         | Decoded::Sets(_, _, _, _)
         | Decoded::Addresses(_, _, _)
@@ -150,6 +150,18 @@ fn transfer_of(decoded: &Decoded) -> Transfer
         | Decoded::StoresSlot(_, _)
         | Decoded::Branches(_, _, _, _)
         | Decoded::Jumps(_) => Transfer::Nothing,
+    }
+}
+
+/// How control goes to a callee where it leaves the function so.
+fn transfer_by(way: Way) -> Transfer
+    ensures { (ending : row.Ending row.Callee) → ShowsWay way ending.way
+        → TransfersSo result None (left_by (row.Returns ending)) }
+{
+    match way {
+        Way::Back => Transfer::Nothing,
+        Way::Tail(_) => Transfer::Departure(way),
+        Way::Never(_) => Transfer::Departure(way),
     }
 }
 

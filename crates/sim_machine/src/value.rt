@@ -7,12 +7,14 @@ ghost use Rattle.dwarf_loclists.specs.Fault.{FaultAt};
 ghost use Rattle.dwarf_loclists.specs.Grammar.{IsSection};
 ghost use Rattle.dwarf_loclists.specs.Ranges.{IsListed};
 ghost use Rattle.sem_machine.specs.Machine.{Machine as State, place_content};
+ghost use Rattle.sem_machine.specs.MachineStep.{word_content};
 ghost use Rattle.sim_machine.specs.Kept.{StandsFor};
 ghost use Rattle.sim_machine.specs.Values.{VariableIs, PartIs};
 
 use crate::answers::CallAnswers;
 use crate::hart::Hart;
 use crate::machine::MachineSimulator;
+use base_ids::function_ids::SlotId;
 use dwarf_loclists::fault::ListFault;
 use dwarf_loclists::reader::{piece_at, place_at};
 use rv64_instr::place::Place;
@@ -77,6 +79,14 @@ impl Hart {
         }
     }
 
+    /// The eight bytes at an offset from x2, that of a slot.
+    pub fn stack_word(&self, n: SlotId) -> u64
+        ensures { (s : State) → StandsFor self.now s → result ≡ word_content s n }
+    {
+        let address = self.read(2).wrapping_add(u64::from(n.number()));
+        self.memory.spelled(address, 8)
+    }
+
     /// The content of a place.
     pub fn content(&self, place: Place) -> u64
         requires { IsListed place }
@@ -84,10 +94,7 @@ impl Hart {
     {
         match place {
             Place::Register(r) => self.read(r.number()),
-            Place::Slot(n) => {
-                let address = self.read(2).wrapping_add(u64::from(n.number()));
-                self.memory.spelled(address, 8)
-            }
+            Place::Slot(n) => self.stack_word(n),
             Place::Const(c) => c.cast_unsigned(),
         }
     }

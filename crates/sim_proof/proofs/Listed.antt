@@ -3,18 +3,18 @@ use Rattle.std.proofs.Common.{◌≡◌, inl, inr, ℕ, List, [], ◌∷◌, Non
 use Rattle.rv64_instr.specs.declared.op.Op.{Op}
 use Rattle.rv64_instr.specs.declared.op.Op.TheVariants.{PseudoCall}
 use Rattle.rv64_instr.specs.declared.operand.Operand.{Operand}
-use Rattle.rv64_instr.specs.declared.operand.Operand.TheVariants.{Def, Use, ImplicitDef, ImplicitUse, Imm, Slot, Object, Part, Block, Symbol, Mask}
+use Rattle.rv64_instr.specs.declared.operand.Operand.TheVariants.{Def, Use, ImplicitDef, ImplicitUse, Imm, Slot, Object, Part, Block, Symbol, Mask, Outgoing}
 use Rattle.rv64_instr.specs.Instruction.{Instruction}
 use Rattle.rv64_instr.specs.LocationEffects.{is_call}
 use Rattle.rv64_instr.specs.Row.{Row, Calls}
-use Rattle.rv64_instr.specs.Row.{row_of, row_by, held_call}
+use Rattle.rv64_instr.specs.Row.{row_of, row_by}
 use Rattle.mir_func.specs.Function.{FramedFunction}
 use Rattle.mir_func.specs.Exits.{row_exit}
 use Rattle.mir_func.specs.declared.exit.Exit.TheVariants.{Perhaps}
 use Rattle.sem_machine.specs.MachineStep.{call_of, left_by}
 use Rattle.rv64_instr.specs.LocationEffects.{part_named}
 use Rattle.rv64_instr.specs.Row.{Sets, Loads, Stores, Branches, Returns}
-use Rattle.machine_steps_proof.proofs.Listed.{branch_inverted, uses_listed}
+use Rattle.machine_steps_proof.proofs.Listed.{branch_inverted, held_listed}
 use Rattle.emit_code.specs.LongBranch.{skip_of, jump_to}
 use Rattle.emit_code.specs.Listed.{by_pointer, listed}
 use Rattle.emit_code.specs.Rule.{LongBranch, row_form}
@@ -55,12 +55,13 @@ call_operands f (Object m ∷ rest) = no_symbol f (Object m) rest (λ more. refl
 call_operands f (Part half y ∷ rest) = no_symbol f (Part half y) rest (λ more. refl)
 call_operands f (Block m ∷ rest) = no_symbol f (Block m) rest (λ more. refl)
 call_operands f (Mask ∷ rest) = no_symbol f Mask rest (λ more. refl)
+call_operands f (Outgoing n ∷ rest) = no_symbol f (Outgoing n) rest (λ more. refl)
 
 by_op : (f : FramedFunction) (op : Op) (os : List Operand) → call_of (row_by op (by_pointer f os)) ≡ call_of (row_by op os)
 by_op f op os = elim (quiet op) as (λ _. call_of (row_by op (by_pointer f os)) ≡ call_of (row_by op os)) [
   | inl is ↦ ap (λ (o : Op). call_of (row_by o (by_pointer f os))) is ∙ (call_operands f os ∙ ap (λ (o : Op). call_of (row_by o os)) (sym is))
   | inr others ↦ elim others as (λ _. call_of (row_by op (by_pointer f os)) ≡ call_of (row_by op os)) [
-    | inl is ↦ ap (λ (o : Op). call_of (row_by o (by_pointer f os))) is ∙ ap (λ (xs : List ℕ). call_of (held_call xs)) (uses_listed f os)
+    | inl is ↦ ap (λ (o : Op). call_of (row_by o (by_pointer f os))) is ∙ ap call_of (held_listed f os)
         ∙ ap (λ (o : Op). call_of (row_by o os)) (sym is)
     | inr none ↦ none_of (row_by op (by_pointer f os)) (none (by_pointer f os)) ∙ sym (none_of (row_by op os) (none os))
   ]

@@ -1,14 +1,14 @@
 -- A run of the simulator is one of the machine.
 use Rattle.std.proofs.Common.{◌≡◌, ℕ, suc, ◌+◌, ◌%◌, ◌^◌, ◌≤◌, List, [], ◌∷◌, ◌++◌, length}
-use Rattle.std.proofs.Common.{Option, Some, None, map, refl, sym, ap, ◌∙◌, subst, append_assoc, length-append, arith}
+use Rattle.std.proofs.Common.{Option, Some, None, refl, sym, ap, ◌∙◌, subst, append_assoc, length-append, arith}
 use Rattle.std.specs.List.{All}
 use Rattle.std.proofs.lemmas.List.Elements.{All-nil, All-cons}
 use Rattle.rv64_instr.specs.declared.start.CallEvent.{CallEvent}
 use Rattle.rv64_instr.specs.Row.{CallSite, row_of}
 use Rattle.sem_mir.specs.State.{Reply}
-use Rattle.sem_machine.specs.Image.{CodeLine, Image}
-use Rattle.sem_machine.specs.Machine.{Machine, register}
-use Rattle.sem_machine.specs.MachineStep.{Continues, Leaves, there, steps, machine_step, does_at, does_line, called_at, callee_size, left_by, linked_at}
+use Rattle.sem_machine.specs.Image.{CodeLine, Image, word_at}
+use Rattle.sem_machine.specs.Machine.{Machine}
+use Rattle.sem_machine.specs.MachineStep.{Continues, Leaves, there, steps, machine_step, does_at, does_line, left_by}
 use Rattle.emit_code.specs.declared.code.EncodedInstruction.{EncodedInstruction}
 use Rattle.emit_code.specs.Laid.{LaidCode}
 use Rattle.sim_machine.specs.declared.ending.Stepped.TheVariants.{Went}
@@ -36,7 +36,7 @@ plain_keeps c image s u shows none e = by_entry (entry_at c.entries s.counter) r
       let is : machine_step image s ≡ does_line image l.line None s =
       ap (λ (o : Option CodeLine). does_at image o s) l.stands
       ∙ ap (λ (o : Option CallSite). does_line image l.line o s) (l.is.call ∙ call) in
-      left_keeps l.line (left_by (row_of l.line.instruction)) (linked_at image l.line s) s u (sym is ∙ e)
+      left_keeps image l.line (left_by (row_of l.line.instruction)) s u (sym is ∙ e)
 
 -- at a call site it takes one answer
 pub call_keeps : (c : LaidCode) (image : Image) (s u : Machine) (site : CallSite) (r : Reply) (rest : List Reply) → ShowsCode c image →
@@ -50,7 +50,7 @@ call_keeps c image s u site r rest shows some script e = by_entry (entry_at c.en
   by_entry (Some x) q =
       let call : entry_call c.framed x ≡ Some site = sym (ap (found_call c.framed) q) ∙ some in
       let is = call_step c image s x site shows q call in
-      call_takes (callee_size site.callee) (called_at s site.callee) (map (register s) site.args) s u r rest s.script script (sym is ∙ e)
+      call_takes site (word_at image.text s.counter) s u r rest script (sym is ∙ e)
 
 -- answers that were given, and those that were given to the calls behind them
 pub given_on : (gives : CallEvent → Reply → Type 0) (n : ℕ) (xs ys : List Reply) → WereGiven gives n xs → WereGiven gives (n + length xs) ys →
@@ -86,7 +86,7 @@ module _ (gives : CallEvent → Reply → Type 0) (c : LaidCode) where
   call h now site calls some image s rest shows stands script =
       let here : call_at c s.counter ≡ Some site = ap (call_at c) stands.counter ∙ some in
       let q = calls.calls image s site shows stands here in
-      let g = q.answered.goes rest script in
+      let g = q.goes rest script in
       let k = call_keeps c image s g.to site calls.reply rest shows here script g.goes in
       let one : calls_in s.events + 1 ≡ next_call s = omega arith in
       record {
@@ -94,7 +94,7 @@ module _ (gives : CallEvent → Reply → Type 0) (c : LaidCode) where
         goes = g.goes;
         stands = g.stands;
         left = k.script;
-        given = (record { call = event_of site s; numbered = ap (λ (n : ℕ). n % 2 ^ 64) one; given = q.answered.given }, tt);
+        given = (record { call = event_of site s; numbered = ap (λ (n : ℕ). n % 2 ^ 64) one; given = q.given }, tt);
         counted = omega (arith, k.calls);
       }
 

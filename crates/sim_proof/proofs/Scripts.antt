@@ -1,7 +1,7 @@
 -- What a step does to the script and to the count of calls: a call takes one answer, and nothing else takes any.
 use Rattle.std.proofs.Common.{◌≡◌, ℕ, suc, ◌+◌, ◌/◌, ◌*◌, ◌%◌, ◌^◌, List, [], ◌∷◌, length}
 use Rattle.std.proofs.Common.{Option, Some, None, Bool, true, false, cond, nat_eq, map, refl, ap, subst}
-use Rattle.rv64_instr.specs.Row.{Back, Callee, Ending}
+use Rattle.rv64_instr.specs.Row.{Back, Callee, CallSite, Ending}
 use Rattle.rv64_instr.specs.Arithmetic.{taken, store_width}
 use Rattle.rv64_instr.specs.Row.{PointedBy, ObjectAt, BesidePart}
 use Rattle.rv64_instr.specs.Row.{Row, Fixes, Moves, Sets, Loads, Stores, Branches, Jumps}
@@ -11,12 +11,13 @@ use Rattle.rv64_word.specs.declared.machine_op.MachineOp.{MachineOp}
 use Rattle.rv64_word.specs.Decoded.{decoded}
 use Rattle.rv64_word.specs.MachineRow.{MachineRow, Does, Links, LinksTo, machine_row}
 use Rattle.sem_mir.specs.State.{Reply, low_bytes, touches_frame, RunResult}
-use Rattle.sem_machine.specs.Image.{CodeLine}
+use Rattle.sem_machine.specs.Image.{CodeLine, Image, word_at}
 use Rattle.sem_machine.specs.Machine.{Machine, register, address_of}
 use Rattle.sim_machine.specs.Kept.{calls_in}
 use Rattle.sim_machine.proofs.Rows.{calls_stay}
 use Rattle.sem_machine.specs.MachineStep.{Continues, Ends, past, at, set_register, store, does_row}
-use Rattle.sem_machine.specs.MachineStep.{does, does_operation, does_word, does_left, result_at, step_call, return_word}
+use Rattle.sem_machine.specs.MachineStep.{BadWord, does, does_operation, does_word, does_left, does_call, goes_to, leaves_by, linked_at, result_at, step_call}
+use Rattle.sem_machine.specs.MachineStep.{called_at, passed, callee_size, return_word}
 
 -- the script and the count of calls are the same
 pub record Keeps (s u : Machine) : Type 0 where
@@ -78,19 +79,31 @@ word_keeps l (Some w) s u e = by_test (nat_eq w return_word) e where
   by_test false q = operation_keeps (decoded w) s u q
 
 -- where control leaves the function for a callee, nothing goes on
-pub left_keeps : (l : CodeLine) (left : Option (Ending Callee)) (o : Option ℕ) (s u : Machine) → does_left l left o s ≡ Continues u → Keeps s u
-left_keeps l None o s u e = word_keeps l o s u e
-left_keeps l (Some ending) o s u e = absurd (no_end (result_at s ending) u e)
+pub left_keeps : (image : Image) (l : CodeLine) (left : Option (Ending Callee)) (s u : Machine) → does_left image l left s ≡ Continues u → Keeps s u
+left_keeps image l None s u e = word_keeps l (linked_at image l s) s u e
+left_keeps image l (Some ending) s u e = by_word (leaves_by ending.way s.counter (word_at image.text s.counter)) e where
+  by_word : (t : Bool) → cond t (Ends (result_at s ending)) BadWord ≡ Continues u → Keeps s u
+  by_word true q = absurd (no_end (result_at s ending) u q)
+  by_word false q = absurd cc
 
 -- a call takes one answer and counts
 pub record Takes (rest : List Reply) (s u : Machine) : Type 0 where
   pub script : u.script ≡ rest
   pub calls : calls_in u.events ≡ suc (calls_in s.events)
 
-pub call_takes : (size : ℕ) (target : CallTarget) (args : List ℕ) (s u : Machine) (r : Reply) (rest script : List Reply) → script ≡ r ∷ rest →
-    step_call size target args s script ≡ Continues u →
+answer_takes : (size : ℕ) (target : CallTarget) (args outgoing : List ℕ) (s u : Machine) (r : Reply) (rest script : List Reply) → script ≡ r ∷ rest →
+    step_call size target args outgoing s script ≡ Continues u →
     Takes rest s u
-call_takes size target args s u r rest [] q e = absurd cc
-call_takes size target args s u r rest (x ∷ more) q e =
+answer_takes size target args outgoing s u r rest [] q e = absurd cc
+answer_takes size target args outgoing s u r rest (x ∷ more) q e =
     let same : more ≡ rest = cc in
     subst (λ (t : Machine). Takes rest s t) (same_state _ u e) (record { script = same; calls = refl })
+
+-- a call whose word doesn't go to its callee doesn't go on
+pub call_takes : (call : CallSite) (w : Option ℕ) (s u : Machine) (r : Reply) (rest : List Reply) → s.script ≡ r ∷ rest →
+    does_call call w s ≡ Continues u → Takes rest s u
+call_takes call w s u r rest q e = by_word (goes_to 1 call.callee s.counter w) e where
+  by_word : (t : Bool) →
+      cond t (step_call (callee_size call.callee) (called_at s call.callee) (passed s call) call.outgoing s s.script) BadWord ≡ Continues u → Takes rest s u
+  by_word true f = answer_takes (callee_size call.callee) (called_at s call.callee) (passed s call) call.outgoing s u r rest s.script q f
+  by_word false f = absurd cc

@@ -38,9 +38,6 @@ line_same c image n variables s shows = by_entry (entry_at c.entries s.counter) 
       let l = line_some c.framed c.entries image.lines s.counter x shows.lines e in
       ap (λ (o : Origin). step_line n o variables s) (sym l.is.origin) ∙ ap (λ (o : Option CodeLine). line_at_code n o variables s) (sym l.stands)
 
-no_went : (stop : Stop) → Stopped stop ≡ Went → ⊥
-no_went stop e = cc
-
 module _ (gives : CallEvent → Reply → Type 0) (c : LaidCode) (variables : List Variable) where
   -- a line that is appended, from a state that what is kept stands for
   line_added : (image : Image) (n : ℕ) (h : Hart) (text more : List ℕ) (s : Machine) → ShowsCode c image → StandsFor h s →
@@ -56,7 +53,7 @@ module _ (gives : CallEvent → Reply → Type 0) (c : LaidCode) (variables : Li
   stop_made image n stop h now text more s shows stands step = by_call (call_at c s.counter) refl where
     by_call : (o : Option CallSite) → call_at c s.counter ≡ o → StopsSo stop image s
     by_call None e = step.step image s shows stands e
-    by_call (Some site) e = absurd (no_went stop (step.call.calls image s site shows stands e).went)
+    by_call (Some site) e = step.call.calls image s site shows stands e
 
   module _ (from : Hart) where
     record PrintsTo (image : Image) (n : ℕ) (answers rest : List Reply) (h : Hart) (text : List ℕ) (s : Machine) : Type 0 where

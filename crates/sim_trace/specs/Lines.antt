@@ -2,6 +2,8 @@
 use Rattle.std.specs.Prelude.{ℕ, ◌*◌, ◌%◌, ◌^◌, List, [], ◌∷◌, ◌++◌, codes, Option, Some, None}
 use Rattle.std.specs.List.{flat_map}
 use Rattle.std.specs.Fmt.{decimal}
+use Rattle.rv64_instr.specs.declared.decoded.Way.{Way}
+use Rattle.rv64_instr.specs.declared.decoded.Way.TheVariants.{Back, Tail, Never}
 use Rattle.mir_func.specs.declared.position.Origin.{Origin}
 use Rattle.dwarf_loclists.specs.declared.range.Part.{Part}
 use Rattle.dwarf_loclists.specs.declared.range.Location.{Location}
@@ -11,7 +13,7 @@ use Rattle.listing_text.specs.Hex.{address_text}
 use Rattle.listing_text.specs.Output.{name_text, origin_text}
 use Rattle.sem_machine.specs.Machine.{Machine, register, place_content}
 use Rattle.sim_machine.specs.declared.ending.Stop.{Stop}
-use Rattle.sim_machine.specs.declared.ending.Stop.TheVariants.{Returned, Left, BadWord}
+use Rattle.sim_machine.specs.declared.ending.Stop.TheVariants.{Ended, Left, BadWord}
 use Rattle.sim_trace.specs.declared.variable.Variable.{Variable}
 
 -- ---- values of variables, with names spelled as in a listing
@@ -65,8 +67,14 @@ step_line n o variables s = head_text n s.counter o ++ variables_text variables 
 abbrev pub return_line : (value : ℕ) → List ℕ
 return_line v = codes "stop returned " ++ decimal v ++ 10 ∷ []
 
--- how a run stops: if it returns, with the content of x10
+-- the last line of a run that ends on this way: if it returns, with the content of x10
+abbrev pub end_line : Way → Machine → List ℕ
+end_line Back s = return_line (register s 10)
+end_line (Tail callee) s = codes "stop tailed\n"
+end_line (Never callee) s = codes "stop gone\n"
+
+-- how a run stops
 abbrev pub stop_line : Stop → Machine → List ℕ
-stop_line Returned s = return_line (register s 10)
+stop_line (Ended way) s = end_line way s
 stop_line Left s = codes "stop left\n"
 stop_line (BadWord w) s = codes "stop bad word\n"

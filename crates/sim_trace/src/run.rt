@@ -13,6 +13,7 @@ use crate::line::push_line;
 use crate::variable::{Variable, Variables};
 use emit_code::code::Code;
 use mir_printer::text::{Text, push_decimal, push_str};
+use rv64_instr::decoded::Way;
 use rv64_instr::start::Start;
 use sim_machine::answers::CallAnswers;
 use sim_machine::ending::{Stepped, Stop};
@@ -106,9 +107,20 @@ fn push_stop(text: &mut Text, hart: &Hart, stop: Stop) -> Result<(), AllocError>
     ensures { OnOk result (IsStopAdded stop hart.now text.old text.new) }
 {
     match stop {
-        Stop::Returned => push_return(text, hart.read(10)),
+        Stop::Ended(way) => push_end(text, hart, way),
         Stop::Left => push_str(text, "stop left\n"),
         Stop::BadWord(_) => push_str(text, "stop bad word\n"),
+    }
+}
+
+/// Appends on which way a run ends.
+fn push_end(text: &mut Text, hart: &Hart, way: Way) -> Result<(), AllocError>
+    ensures { OnOk result (IsStopAdded (Stop.Ended way) hart.now text.old text.new) }
+{
+    match way {
+        Way::Back => push_return(text, hart.read(10)),
+        Way::Tail(_) => push_str(text, "stop tailed\n"),
+        Way::Never(_) => push_str(text, "stop gone\n"),
     }
 }
 

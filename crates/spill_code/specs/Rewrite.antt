@@ -6,7 +6,7 @@ use Rattle.rv64_instr.specs.declared.op.LoadOp.TheVariants.{Ld}
 use Rattle.rv64_instr.specs.declared.op.StoreOp.TheVariants.{Sd}
 use Rattle.rv64_instr.specs.declared.operand.Operand.{Operand}
 use Rattle.rv64_instr.specs.declared.operand.Operand.TheVariants.{Def, Use, ImplicitDef, ImplicitUse}
-use Rattle.rv64_instr.specs.declared.operand.Operand.TheVariants.{Imm, Slot as OfSlot, Object as OfObject, Part, Block as OfBlock}
+use Rattle.rv64_instr.specs.declared.operand.Operand.TheVariants.{Imm, Slot as OfSlot, Object as OfObject, Part, Outgoing, Block as OfBlock}
 use Rattle.rv64_instr.specs.declared.operand.Operand.TheVariants.{Symbol, Mask}
 use Rattle.rv64_instr.specs.declared.place.Place.{Place}
 use Rattle.rv64_instr.specs.declared.place.Place.TheVariants.{Register, Slot, Const}
@@ -43,6 +43,7 @@ slot_used homes (Imm i) = None
 slot_used homes (OfSlot n) = None
 slot_used homes (OfObject n) = None
 slot_used homes (Part half y) = None
+slot_used homes (Outgoing n) = None
 slot_used homes (OfBlock n) = None
 slot_used homes (Symbol name) = None
 slot_used homes Mask = None
@@ -57,6 +58,7 @@ slot_defined homes (Imm i) = None
 slot_defined homes (OfSlot n) = None
 slot_defined homes (OfObject n) = None
 slot_defined homes (Part half y) = None
+slot_defined homes (Outgoing n) = None
 slot_defined homes (OfBlock n) = None
 slot_defined homes (Symbol name) = None
 slot_defined homes Mask = None
@@ -117,6 +119,7 @@ renamed_operand at_use at_def (Imm i) = Imm i
 renamed_operand at_use at_def (OfSlot n) = OfSlot n
 renamed_operand at_use at_def (OfObject n) = OfObject n
 renamed_operand at_use at_def (Part half y) = Part half y
+renamed_operand at_use at_def (Outgoing n) = Outgoing n
 renamed_operand at_use at_def (OfBlock n) = OfBlock n
 renamed_operand at_use at_def (Symbol name) = Symbol name
 renamed_operand at_use at_def Mask = Mask

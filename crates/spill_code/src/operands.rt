@@ -58,6 +58,7 @@ fn slot_used(homes: &[SlotAssignment], operand: &Operand) -> Option<SlotId>
         | Operand::Slot(_)
         | Operand::Object(_)
         | Operand::Part(_, _)
+        | Operand::Outgoing(_)
         | Operand::Imm(_)
         | Operand::Symbol(_)
         | Operand::Block(_)
@@ -79,7 +80,8 @@ fn slot_defined(homes: &[SlotAssignment], operand: &Operand) -> Option<SlotId>
         | Operand::Imm(_)
         | Operand::Slot(_)
         | Operand::Object(_)
-        | Operand::Part(_, _) => None,
+        | Operand::Part(_, _)
+        | Operand::Outgoing(_) => None,
     }
 }
 
@@ -143,6 +145,7 @@ fn renamed_operand(
         | Operand::Slot(_)
         | Operand::Object(_)
         | Operand::Part(_, _)
+        | Operand::Outgoing(_)
         | Operand::Block(_)
         | Operand::Symbol(_)
         | Operand::Mask => operand.copy(),

@@ -6,8 +6,9 @@ use Rattle.std.proofs.Common.{refl, sym, ap, ◌∙◌, subst, arith}
 use Rattle.std.specs.Prelude.{pos}
 use Rattle.std.proofs.lemmas.List.Concat.{flat_map-cons}
 use Rattle.std.proofs.lemmas.List.Elements.{All-nil, All-cons, All-head, All-tail, All-append, Contains-append_left, Contains-append_right}
+use Rattle.std.proofs.lemmas.List.Elements.{All-map, All-weaker}
 use Rattle.rv64_instr.specs.declared.operand.Operand.{Operand}
-use Rattle.rv64_instr.specs.declared.operand.Operand.TheVariants.{Def, Use, Imm, Slot as OfSlot}
+use Rattle.rv64_instr.specs.declared.operand.Operand.TheVariants.{Def, Use, Imm, Slot as OfSlot, Outgoing}
 use Rattle.rv64_instr.specs.declared.place.Place.{Place}
 use Rattle.rv64_instr.specs.declared.place.Place.TheVariants.{Register, Slot, Const}
 use Rattle.rv64_instr.specs.DefsAndUses.{caller_saved, reads, sets}
@@ -32,7 +33,7 @@ use Rattle.mir_func.specs.Limits.{MAX_SLOTS}
 use Rattle.mir_func.specs.declared.variable.VarId.{VarId}
 use Rattle.mir_func.specs.declared.variable.MarkValue.{MarkValue}
 use Rattle.mir_func.specs.Graph.{below, block_start}
-use Rattle.mir_func.specs.Sound.{AreApart, AllItems, ids_of, number_of, code_number, OriginIn, TargetIn, TargetsIn, SlotIn, SlotsIn, PlaceIn}
+use Rattle.mir_func.specs.Sound.{AreApart, AllItems, ids_of, number_of, code_number, OriginIn, TargetIn, TargetsIn, SlotIn, PassedIn, SlotsIn, PlaceIn}
 use Rattle.mir_func.specs.Sound.{BaseHasBytes, ObjectIn, ObjectsIn, IsNotPointer, LeavesPointer, IsSound}
 use Rattle.mir_func.specs.Positions.{position_of}
 use Rattle.pass_trait.specs.Rule.{item}
@@ -384,14 +385,28 @@ module _ (s : Spilling) (entry : List SlotAssignment) (f : Function) (resolve : 
     by_home None e = tt
     by_home (Some n) e = home_slot_in r n e
 
+  -- what holds of the operands of an added load or store
+  three_all : (P : Operand → Type 0) (a : Operand) (m : ℕ) → P a → P (OfSlot m) → P (Imm (pos 0)) → All P (a ∷ OfSlot m ∷ Imm (pos 0) ∷ [])
+  three_all P a m h slot number =
+      All-cons P a (OfSlot m ∷ Imm (pos 0) ∷ []) h (All-cons P (OfSlot m) (Imm (pos 0) ∷ []) slot (All-cons P (Imm (pos 0)) [] number (All-nil P)))
+
+  passed_now : (u d : ℕ → ℕ) (a : Operand) → PassedIn f.slots a → PassedIn now (renamed_operand u d a)
+  passed_now u d (Outgoing n) h = Contains-append_left f.slots (map (λ (g : SlotAssignment). g.slot) s.homes) n h
+  passed_now u d _ h = tt
+
   slots_pass : Passes (λ b kind o. SlotsIn f.slots kind) (λ b kind o. SlotsIn now kind)
   slots_pass = record {
-    code = λ b i n o fits inside h. subst (SlotIn now) (sym (renames i))
-        (slot_renamed (use_now s (first_used s.homes i.operands)) (def_now s) now (row_of i)
-        (slot_more f.slots (map (λ (g : SlotAssignment). g.slot) s.homes) (row_of i) h));
-    before = λ b r q m o which is inside. home_slot_in q m is;
-    behind = λ b q m p is inside. home_slot_in q m is;
-    start = λ b q m is. home_slot_in q m is;
+    code = λ b i n o fits inside h. (
+      subst (SlotIn now) (sym (renames i))
+          (slot_renamed (use_now s (first_used s.homes i.operands)) (def_now s) now (row_of i)
+          (slot_more f.slots (map (λ (g : SlotAssignment). g.slot) s.homes) (row_of i) h.0)),
+      All-map (PassedIn now) (renamed_operand (use_now s (first_used s.homes i.operands)) (def_now s)) i.operands
+          (All-weaker (PassedIn f.slots) (λ a. PassedIn now (renamed_operand (use_now s (first_used s.homes i.operands)) (def_now s) a))
+          (passed_now (use_now s (first_used s.homes i.operands)) (def_now s)) i.operands h.1),
+    );
+    before = λ b r q m o which is inside. (home_slot_in q m is, three_all (PassedIn now) (Def r) m tt tt tt);
+    behind = λ b q m p is inside. (home_slot_in q m is, three_all (PassedIn now) (Use s.first) m tt tt tt);
+    start = λ b q m is. (home_slot_in q m is, three_all (PassedIn now) (Use q) m tt tt tt);
     marks = λ b v m o h. tt;
     phis = λ b p n o h. place_now p h;
   }
@@ -442,8 +457,7 @@ module _ (s : Spilling) (entry : List SlotAssignment) (f : Function) (resolve : 
       (operand_real u o (All-head IsNotPointer o os h)) (operands_real u os (All-tail IsNotPointer o os h))
 
   three_real : (a : Operand) (m : ℕ) → IsNotPointer a → All IsNotPointer (a ∷ OfSlot m ∷ Imm (pos 0) ∷ [])
-  three_real a m h = All-cons IsNotPointer a (OfSlot m ∷ Imm (pos 0) ∷ []) h
-      (All-cons IsNotPointer (OfSlot m) (Imm (pos 0) ∷ []) tt (All-cons IsNotPointer (Imm (pos 0)) [] tt (All-nil IsNotPointer)))
+  three_real a m h = three_all IsNotPointer a m h tt tt
 
   scratch_real : (r : ℕ) → (r ≡ s.first) ⊎ (r ≡ s.second) → r ≡ 2 → ⊥
   scratch_real r (inl e) z = first_real (sym e ∙ z)

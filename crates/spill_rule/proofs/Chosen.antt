@@ -84,18 +84,18 @@ greatest_above [] n (k, lt, e) = absurd (omega (arith, lt))
 greatest_above (m ∷ ns) n (zero, lt, e) = omega (arith, e)
 greatest_above (m ∷ ns) n (suc k, lt, e) = let h = greatest_above ns n (k, omega (arith, lt), e) in omega (arith, h)
 
-next_above : (ns : List ℕ) (n : ℕ) → Contains ns n → n < next_slot ns
+pub next_above : (ns : List ℕ) (n : ℕ) → Contains ns n → n < next_slot ns
 next_above [] n (k, lt, e) = absurd (omega (arith, lt))
 next_above (m ∷ ns) n k = let h = greatest_above (m ∷ ns) n k in omega (arith, h)
 
-contains_nth : {A : Type 0} (xs : List A) (k : ℕ) (d : A) → k < length xs → Contains xs (get_or xs k d)
+pub contains_nth : {A : Type 0} (xs : List A) (k : ℕ) (d : A) → k < length xs → Contains xs (get_or xs k d)
 contains_nth [] k d lt = absurd (omega (arith, lt))
 contains_nth (x ∷ xs) zero d lt = head_in x xs
 contains_nth (x ∷ xs) (suc k) d lt = tail_in x (get_or xs k d) xs (contains_nth xs k d (omega (arith, lt)))
 
 -- ---- homes
 
-home_from : (m : ℕ) (rs : List ℕ) (r n : ℕ) → slot_of (homes_from m rs) r ≡ Some n → Contains rs r × (m ≤ n)
+pub home_from : (m : ℕ) (rs : List ℕ) (r n : ℕ) → slot_of (homes_from m rs) r ≡ Some n → Contains rs r × (m ≤ n)
 home_from m [] r n e = cc
 home_from m (a ∷ rs) r n e = by_test (nat_eq a r) refl e (λ k. home_from (m + 1) rs r n k) where
   by_test : (z : Bool) → nat_eq a r ≡ z → cond z (Some m) (slot_of (homes_from (m + 1) rs) r) ≡ Some n →
@@ -105,7 +105,7 @@ home_from m (a ∷ rs) r n e = by_test (nat_eq a r) refl e (λ k. home_from (m +
       (subst (λ (x : ℕ). Contains (a ∷ rs) x) (eqb-true a r z) (head_in a rs), omega (arith, mn))
   by_test false z e more = let w = more e in let le = w.1 in (tail_in a r rs w.0, omega (arith, le))
 
-home_own : (m : ℕ) (rs : List ℕ) (q r n : ℕ) → slot_of (homes_from m rs) q ≡ Some n → slot_of (homes_from m rs) r ≡ Some n → q ≡ r
+pub home_own : (m : ℕ) (rs : List ℕ) (q r n : ℕ) → slot_of (homes_from m rs) q ≡ Some n → slot_of (homes_from m rs) r ≡ Some n → q ≡ r
 home_own m [] q r n e f = cc
 home_own m (a ∷ rs) q r n e f = by_tests (nat_eq a q) (nat_eq a r) refl refl e f (λ h k. home_own (m + 1) rs q r n h k) where
   by_tests : (x y : Bool) → nat_eq a q ≡ x → nat_eq a r ≡ y → cond x (Some m) (slot_of (homes_from (m + 1) rs) q) ≡ Some n →
@@ -129,21 +129,21 @@ home_there m (a ∷ rs) r n e = by_test (nat_eq a r) refl e (λ k. home_there (m
 
 -- ---- what operands name
 
-use_named : (counts : Bool) (os : List Operand) (r : ℕ) → Contains (uses_in os) r → list_any (is_of_register counts r) os ≡ true
+pub use_named : (counts : Bool) (os : List Operand) (r : ℕ) → Contains (uses_in os) r → list_any (is_of_register counts r) os ≡ true
 use_named counts [] r (k, lt, e) = absurd (omega (arith, lt))
 use_named counts (Use q ∷ os) r (zero, lt, e) = or_left (nat_eq q r) (list_any (is_of_register counts r) os) (eq-eqb q r e)
 use_named counts (Use q ∷ os) r (suc k, lt, e) =
     or_right (nat_eq q r) (list_any (is_of_register counts r) os) (use_named counts os r (k, omega (arith, lt), e))
 use_named counts (x ∷ os) r k = or_right (is_of_register counts r x) (list_any (is_of_register counts r) os) (use_named counts os r k)
 
-def_named : (counts : Bool) (os : List Operand) (r : ℕ) → Contains (defs_in os) r → list_any (is_of_register counts r) os ≡ true
+pub def_named : (counts : Bool) (os : List Operand) (r : ℕ) → Contains (defs_in os) r → list_any (is_of_register counts r) os ≡ true
 def_named counts [] r (k, lt, e) = absurd (omega (arith, lt))
 def_named counts (Def q ∷ os) r (zero, lt, e) = or_left (nat_eq q r) (list_any (is_of_register counts r) os) (eq-eqb q r e)
 def_named counts (Def q ∷ os) r (suc k, lt, e) =
     or_right (nat_eq q r) (list_any (is_of_register counts r) os) (def_named counts os r (k, omega (arith, lt), e))
 def_named counts (x ∷ os) r k = or_right (is_of_register counts r x) (list_any (is_of_register counts r) os) (def_named counts os r k)
 
-implicit_named : (os : List Operand) (r : ℕ) → Contains (implicits_in os) r → list_any (is_of_register true r) os ≡ true
+pub implicit_named : (os : List Operand) (r : ℕ) → Contains (implicits_in os) r → list_any (is_of_register true r) os ≡ true
 implicit_named [] r (k, lt, e) = absurd (omega (arith, lt))
 implicit_named (ImplicitDef q ∷ os) r (zero, lt, e) = or_left (nat_eq q r) (list_any (is_of_register true r) os) (eq-eqb q r e)
 implicit_named (ImplicitDef q ∷ os) r (suc k, lt, e) =

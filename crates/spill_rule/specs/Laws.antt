@@ -190,13 +190,13 @@ module _ (blocks : List Block) (resolve : OperandPair → Option OperandPair) wh
   edge_from (EndOfBlock k n) p q h = h
   edge_from Outside p q h = h
 
-  live_to : (x : Place) {p : Pos} → Live with_places x p → Live without x p
+  pub live_to : (x : Place) {p : Pos} → Live with_places x p → Live without x p
   live_to x {p = p} (used h) = used (subst (λ (z : Fetch). Uses z x) (sym (at p)) (uses_to (with_places.fetch p) x h))
   live_to x {p = p} (later {q = q} none edge more) = later
       (λ d. none (defines_from (with_places.fetch p) x (subst (λ (z : Fetch). Defines z x) (at p) d)))
       (subst (λ (z : Fetch). FetchEdge (λ n. n) z p q) (sym (at p)) (edge_to (with_places.fetch p) p q edge)) (live_to x more)
 
-  live_from : (x : Place) {p : Pos} → Live without x p → Live with_places x p
+  pub live_from : (x : Place) {p : Pos} → Live without x p → Live with_places x p
   live_from x {p = p} (used h) = used (uses_from (with_places.fetch p) x (subst (λ (z : Fetch). Uses z x) (at p) h))
   live_from x {p = p} (later {q = q} none edge more) = later
       (λ d. none (subst (λ (z : Fetch). Defines z x) (sym (at p)) (defines_to (with_places.fetch p) x d)))
@@ -223,7 +223,7 @@ any_originless_in : (test : Item → Bool) → ((i : Item) → test (originless_
 any_originless_in test same [] = refl
 any_originless_in test same (x ∷ xs) = let e = same x in let es = any_originless_in test same xs in λ i. e i || es i
 
-any_originless : (test : Item → Bool) → ((i : Item) → test (originless_item i) ≡ test i) → (bs : List Block) →
+pub any_originless : (test : Item → Bool) → ((i : Item) → test (originless_item i) ≡ test i) → (bs : List Block) →
     list_any test (items_of (map originless_block bs)) ≡ list_any test (items_of bs)
 any_originless test same [] = refl
 any_originless test same (b ∷ bs) =
@@ -233,12 +233,12 @@ any_originless test same (b ∷ bs) =
     list_any-append test (map originless_item b.items) (items_of (map originless_block bs)) ∙ (λ i. e i || es i) ∙
     sym (list_any-append test b.items (items_of bs)) ∙ ap (list_any test) (sym (flat_map-cons (λ (c : Block). c.items) b bs))
 
-added_originless : (o : Origin) → is_added (originless_origin o) ≡ is_added o
+pub added_originless : (o : Origin) → is_added (originless_origin o) ≡ is_added o
 added_originless (Kept p) = refl
 added_originless (Before p) = refl
 
 module _ (f : Function) where
-  named_same : (r : ℕ) → is_named (originless f) r ≡ is_named f r
+  pub named_same : (r : ℕ) → is_named (originless f) r ≡ is_named f r
   named_same r = any_originless (λ i. names r i.kind) (λ i. refl) f.blocks
 
   bound_same : (r : ℕ) → is_bound (originless f) r ≡ is_bound f r
@@ -249,7 +249,7 @@ module _ (f : Function) where
       ap (λ (n : ℕ). list_any (λ (i : Item). goes n i.kind) (items_of (originless f).blocks)) (first_originless f.blocks) ∙
       any_originless (λ i. goes (first_of f.blocks) i.kind) (λ i. refl) f.blocks
 
-  scratch_same : scratch_of (originless f) ≡ scratch_of f
+  pub scratch_same : scratch_of (originless f) ≡ scratch_of f
   scratch_same i = take 2 (filter (λ (r : ℕ). not (named_same r i)) (5 ∷ 6 ∷ 7 ∷ 28 ∷ 29 ∷ 30 ∷ 31 ∷ []))
 
   module _ (reserve : List ℕ) (live : ℕ → Bool) where
@@ -321,7 +321,7 @@ module _ (s : Spilling) where
       let es = others_originless bs in
       λ i. record { id = b.id; items = e i; source_end = 0 } ∷ es i
 
-  blocks_originless : (entry : List SlotAssignment) (bs : List Block) →
+  pub blocks_originless : (entry : List SlotAssignment) (bs : List Block) →
       map originless_block (spilled_blocks s entry (map originless_block bs)) ≡ map originless_block (spilled_blocks s entry bs)
   blocks_originless entry [] = refl
   blocks_originless entry (b ∷ bs) =

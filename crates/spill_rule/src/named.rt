@@ -146,6 +146,7 @@ fn is_of_register(counts: bool, r: Reg, operand: &Operand) -> bool
         | Operand::Slot(_)
         | Operand::Object(_)
         | Operand::Part(_, _)
+        | Operand::Outgoing(_)
         | Operand::Block(_)
         | Operand::Symbol(_)
         | Operand::Mask => false,

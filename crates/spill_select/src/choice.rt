@@ -122,7 +122,7 @@ fn room(f: &Func) -> usize
 }
 
 /// The number above the greatest slot, or 0 if there are no slots.
-fn next_slot(slots: &[SlotId]) -> u32
+pub fn next_slot(slots: &[SlotId]) -> u32
     requires { greatest slots.now + 1 < 2 ^ 32 }
     ensures { result ≡ next_slot slots.now }
 {
@@ -152,7 +152,11 @@ fn greater(a: u32, b: u32) -> u32
 }
 
 /// The registers, each with a slot of its own, numbered upwards from `slot`.
-fn homes_from(alloc: Global, slot: u32, registers: &[Reg]) -> Result<SlotAssignments, AllocError>
+pub fn homes_from(
+    alloc: Global,
+    slot: u32,
+    registers: &[Reg],
+) -> Result<SlotAssignments, AllocError>
     requires { slot + length registers.now < 2 ^ 32 }
     ensures { IfOk result (λ homes. homes ≡ homes_from slot registers.now) }
 {

@@ -16,7 +16,8 @@ use Rattle.rv64_instr.specs.declared.symbol.Half.TheVariants.{Upper, Lower}
 use Rattle.rv64_instr.specs.Arithmetic.{word}
 use Rattle.rv64_instr.specs.Form.{is_implicit, is_argument, is_result, is_immediate, is_addi, has_form, is_tail_use, is_tail_register}
 use Rattle.rv64_instr.specs.Instruction.{Instruction}
-use Rattle.rv64_instr.specs.Row.{Row, row_by, row_of, immediate_row, object_row, move_row, Unfit, implicit_uses, held_call, held_tail, held_gone}
+use Rattle.rv64_instr.specs.Row.{Row, row_by, row_of, immediate_row, object_row, move_row, Unfit, implicit_uses, outgoing_words, held_call, held_tail}
+use Rattle.rv64_instr.specs.Row.{held_gone}
 use Rattle.rv64_instr.specs.DefsAndUses.{reads, sets}
 use Rattle.rv64_instr.specs.LocationEffects.{has_implicit_uses}
 use Rattle.sem_mir.specs.Step.{defined}
@@ -233,9 +234,9 @@ ended r rest p none e h =
 unfit : Explicit Unfit [] []
 unfit = reads_all Unfit [] [] (omega arith) refl refl refl
 
-held_call_row_of : (xs : List ℕ) → Explicit (held_call xs) [] []
-held_call_row_of [] = unfit
-held_call_row_of (x ∷ xs) = implicit_row (held_call (x ∷ xs)) refl
+held_call_row_of : (xs outgoing : List ℕ) → Explicit (held_call xs outgoing) [] []
+held_call_row_of [] outgoing = unfit
+held_call_row_of (x ∷ xs) outgoing = implicit_row (held_call (x ∷ xs) outgoing) refl
 
 held_tail_row_of : (xs : List ℕ) → Explicit (held_tail xs) [] []
 held_tail_row_of [] = unfit
@@ -307,8 +308,9 @@ by_op PseudoRet os e =
     let r = row_by PseudoRet os in
     subst (λ (x : List ℕ). Explicit r x (defs_in os)) (sym k.0) (subst (λ (x : List ℕ). Explicit r [] x) (sym k.1) (implicit_row r refl))
 by_op PseudoCallIndirect (ImplicitUse q ∷ Mask ∷ rest) e =
-    ended (held_call (implicit_uses (ImplicitUse q ∷ Mask ∷ rest))) rest is_argument argument_none_of
-    (behind (nat_le 5 q && nat_lt q 32) (list_all is_argument rest) e) (held_call_row_of (implicit_uses (ImplicitUse q ∷ Mask ∷ rest)))
+    ended (held_call (implicit_uses (ImplicitUse q ∷ Mask ∷ rest)) (outgoing_words rest)) rest is_argument argument_none_of
+    (behind (nat_le 5 q && nat_lt q 32) (list_all is_argument rest) e) (held_call_row_of (implicit_uses (ImplicitUse q ∷ Mask ∷ rest))
+    (outgoing_words rest))
 by_op PseudoTail (Symbol name ∷ rest) e =
     let r = row_by PseudoTail (Symbol name ∷ rest) in
     ended r rest is_tail_use tail_none_of e (implicit_row r refl)

@@ -17,7 +17,7 @@ use Rattle.mir_func.specs.declared.variable.MarkValue.TheVariants.{Nothing, Cons
 use Rattle.mir_func.specs.declared.item.ItemKind.{ItemKind}
 use Rattle.mir_func.specs.declared.item.ItemKind.TheVariants.{Code, Mark, Phi}
 use Rattle.mir_func.specs.Graph.{Program}
-use Rattle.mir_func.specs.Sound.{SlotIn, SlotsIn, PlaceIn}
+use Rattle.mir_func.specs.Sound.{SlotsIn, PlaceIn}
 use Rattle.mir_func.specs.Variables.{is_same, overlaps}
 use Rattle.sem_mir.specs.Align.{is_code}
 use Rattle.sem_mir.specs.Effects.{OnCore, EndAlike, SameWorld}
@@ -45,7 +45,7 @@ written_put rd v c q (zero, lt, e) = subst (λ (x : ℕ). IsSome (content (put r
   by_register (suc r) = subst IsSome (sym (updated_same (suc r) (Some v) c.regs)) refl
 written_put rd v c q (suc k, lt, e) = absurd (omega (arith, lt))
 
-abbrev AreSet : Row → Core → Type 0
+abbrev pub AreSet : Row → Core → Type 0
 AreSet r e = (q : ℕ) → Contains (sets r) q → IsSome (content e.regs q)
 
 does_written : (r : Row) (c : Core) → has_implicit_uses r ≡ false → OnCore (AreSet r) (does r c)
@@ -71,7 +71,7 @@ does_written (Calls call) c i = cc
 does_written (Returns v) c i = cc
 does_written Unfit c i = tt
 
-act_written : (r : Row) (c : Core) → has_implicit_uses r ≡ false → OnCore (AreSet r) (act r c)
+pub act_written : (r : Row) (c : Core) → has_implicit_uses r ≡ false → OnCore (AreSet r) (act r c)
 unfolding act
 act_written r c i = on_either (AreSet r) (are_written c (reads r)) (does r c) Traps (does_written r c i) tt
 
@@ -91,18 +91,18 @@ pub act_traps : (r : Row) (c : Core) (q : ℕ) → Contains (reads r) q → cont
 unfolding act
 act_traps r c q k e = ap (λ (b : Bool). cond b (does r c) Traps) (unwritten c (reads r) q k e)
 
-call_is : (u d : ℕ → ℕ) (r : Row) → is_call (renamed_row u d r) ≡ is_call r
+pub call_is : (u d : ℕ → ℕ) (r : Row) → is_call (renamed_row u d r) ≡ is_call r
 call_is u d (Calls call) = refl
 call_is u d _ = refl
 
-call_implicit : (r : Row) → is_call r ≡ true → has_implicit_uses r ≡ true
+pub call_implicit : (r : Row) → is_call r ≡ true → has_implicit_uses r ≡ true
 call_implicit (Calls call) e = refl
 call_implicit _ e = cc
 
 -- ---- code
 
 module _ (s : Spilling) (slots : List ℕ) (homes : AreHomes s slots) (resolve : OperandPair → Option OperandPair) where
-  module _ (i : Instruction) (o : Origin) (fits : FitsCode s i o) (held : SlotIn slots (row_of i)) (u : Option ℕ) where
+  module _ (i : Instruction) (o : Origin) (fits : FitsCode s i o) (held : SlotsIn slots (Code i None)) (u : Option ℕ) where
     abbrev row : Row
     row = row_of i
 
@@ -236,7 +236,7 @@ module _ (s : Spilling) (slots : List ℕ) (homes : AreHomes s slots) (resolve :
   }
 
   -- behind code: what it sets is owed
-  pub after_near : (i : Instruction) (o : Origin) (fits : FitsCode s i o) (held : SlotIn slots (row_of i)) (u : Option ℕ) (Alive Alive' : ℕ → Type 0)
+  pub after_near : (i : Instruction) (o : Origin) (fits : FitsCode s i o) (held : SlotsIn slots (Code i None)) (u : Option ℕ) (Alive Alive' : ℕ → Type 0)
       (c d c' d' : Core) → Near s slots Alive (λ _. ⊥) c d → After i o fits held u c d c' d' →
       ((r n : ℕ) → slot_of s.homes r ≡ Some n → (Contains (sets (row_of i)) r → ⊥) → Alive' r → Alive r) →
       Near s slots Alive' (λ r. Contains (sets (row_of i)) r) c' d'
@@ -329,7 +329,7 @@ module _ (s : Spilling) (slots : List ℕ) (homes : AreHomes s slots) (resolve :
   LoadedSecond i c d = (r m n : ℕ) → first_used s.homes i.operands ≡ Some m → other_used s.homes m i.operands ≡ Some n → slot_of s.homes r ≡ Some n →
       content c.regs r ≡ content d.regs s.second
 
-  pub loaded_of : (i : Instruction) (o : Origin) (fits : FitsCode s i o) (held : SlotIn slots (row_of i)) (Alive Owed : ℕ → Type 0) (c d : Core) →
+  pub loaded_of : (i : Instruction) (o : Origin) (fits : FitsCode s i o) (held : SlotsIn slots (Code i None)) (Alive Owed : ℕ → Type 0) (c d : Core) →
       Near s slots Alive Owed c d → LoadedFirst i c d → LoadedSecond i c d → Loaded s slots homes i o fits held (first_used s.homes i.operands) c d
   loaded_of i o fits held Alive Owed c d near first second plain q k =
       elim (cases_eq q 0) as (λ _. content c.regs q ≡ content d.regs (use_now s (first_used s.homes i.operands) q)) [

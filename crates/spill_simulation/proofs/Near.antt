@@ -4,9 +4,10 @@
 -- the register is live, the slot holds it. A register that is owed to its slot is exempt. Code does alike in both where the registers
 -- that it reads are loaded.
 use Rattle.std.proofs.Common.{◌≡◌, ◌⊎◌, ℕ, zero, suc, List, [], ◌∷◌, map, Contains, Option, Some, None, Bool, true, false, cond, nat_eq, refl, sym, ap, ◌∙◌}
-use Rattle.std.proofs.Common.{subst, inl, inr, eq-eqb, ne_eqb, slice_get, arith}
+use Rattle.std.proofs.Common.{subst, inl, inr, eq-eqb, ne_eqb, slice_get, arith, All}
 use Rattle.std.specs.List.{list_any}
 use Rattle.std.proofs.lemmas.Bool.{cases_eq, or_left, or_right}
+use Rattle.std.proofs.lemmas.List.Elements.{All-contains}
 use Rattle.rv64_instr.specs.declared.operand.Operand.{Operand}
 use Rattle.rv64_instr.specs.declared.operand.Operand.TheVariants.{Def, Use, ImplicitDef, ImplicitUse}
 use Rattle.rv64_instr.specs.declared.place.Place.{Place}
@@ -18,7 +19,9 @@ use Rattle.rv64_instr.specs.Row.{Row, Fixes, Moves, Sets, Addresses, Loads, Load
 use Rattle.rv64_instr.specs.Row.{implicit_uses}
 use Rattle.mir_func.specs.declared.position.Origin.{Origin}
 use Rattle.mir_func.specs.declared.variable.VarId.{VarId}
-use Rattle.mir_func.specs.Sound.{SlotIn}
+use Rattle.mir_func.specs.declared.item.ItemKind.TheVariants.{Code}
+use Rattle.mir_func.specs.Sound.{SlotIn, SlotsIn}
+use Rattle.mir_func.proofs.Passed.{slots_passed, passed_slots}
 use Rattle.sem_mir.specs.Effects.{held_in, OnCore, EndAlike, SameWorld}
 use Rattle.sem_mir.specs.State.{Core, content, assigned}
 use Rattle.sem_mir.specs.Step.{Outcome, Falls, Goes, Gives, Traps, Asks, Breaks, act, with_core, seen, defined, given}
@@ -53,7 +56,7 @@ cases_in (x ∷ xs) q =
 
 -- ---- outcomes
 
-alike_and : (R : Core → Core → Type 0) (P Q : Core → Type 0) (x y : Outcome) → EndAlike R x y → OnCore P x → OnCore Q y →
+pub alike_and : (R : Core → Core → Type 0) (P Q : Core → Type 0) (x y : Outcome) → EndAlike R x y → OnCore P x → OnCore Q y →
     EndAlike (λ c d. R c d × P c × Q d) x y
 alike_and R P Q (Falls c) (Falls d) h p q = (h, p, q)
 alike_and R P Q (Goes m c) (Goes n d) h p q = (h.0, (h.1, p, q))
@@ -71,7 +74,7 @@ on_all I P Traps h = tt
 on_all I P Asks h = tt
 on_all I P Breaks h = tt
 
-on_both : (P Q : Core → Type 0) (x : Outcome) → OnCore P x → OnCore Q x → OnCore (λ c. P c × Q c) x
+pub on_both : (P Q : Core → Type 0) (x : Outcome) → OnCore P x → OnCore Q x → OnCore (λ c. P c × Q c) x
 on_both P Q (Falls c) p q = (p, q)
 on_both P Q (Goes n c) p q = (p, q)
 on_both P Q (Gives v) p q = tt
@@ -114,23 +117,33 @@ keeps_unless r c x = by_outcome (act r c) (act_keeps x c r) where
 pub act_kept : (r : Row) (c : Core) → OnCore (Kept r c) (act r c)
 act_kept r c = on_all Place (λ x e. (RowDefines r x → ⊥) → held_in x e ≡ held_in x c) (act r c) (keeps_unless r c)
 
-slot_defined_row : (r : Row) (n : ℕ) → RowDefines r (Slot n) → slot_set r ≡ Some n
-slot_defined_row (StoresSlot rs m) n k = ap Some k
-slot_defined_row _ n k = absurd k
+pub slot_defined_row : (r : Row) (n : ℕ) → has_implicit_uses r ≡ false → RowDefines r (Slot n) → slot_set r ≡ Some n
+slot_defined_row (StoresSlot rs m) n i k = ap Some k
+slot_defined_row (Calls call) n i k = cc
+slot_defined_row _ n i k = absurd k
 
-slot_set_renamed : (u d : ℕ → ℕ) (r : Row) → slot_set (renamed_row u d r) ≡ slot_set r
-slot_set_renamed u d (StoresSlot rs m) = refl
-slot_set_renamed u d _ = refl
+-- a row with other registers sets the same slots
+pub slots_renamed : (u d : ℕ → ℕ) (r : Row) (n : ℕ) → RowDefines (renamed_row u d r) (Slot n) → RowDefines r (Slot n)
+slots_renamed u d (StoresSlot rs m) n k = k
+slots_renamed u d (Calls call) n k = k
+slots_renamed u d _ n k = absurd k
 
-slot_set_in : (slots : List ℕ) (r : Row) (n : ℕ) → SlotIn slots r → slot_set r ≡ Some n → Contains slots n
-slot_set_in slots (StoresSlot rs m) n h e = let z : m ≡ n = cc in subst (λ (x : ℕ). Contains slots x) z h
-slot_set_in slots _ n h e = cc
+-- the slots that a row sets, and those that it reads, are among those that it names
+slot_set_in : (slots : List ℕ) (r : Row) (n : ℕ) → SlotIn slots r → All (Contains slots) (slots_passed r) → RowDefines r (Slot n) → Contains slots n
+slot_set_in slots (StoresSlot rs m) n h passed k = subst (λ (x : ℕ). Contains slots x) k h
+slot_set_in slots (Calls call) n h passed k = All-contains (Contains slots) call.outgoing n passed k
+slot_set_in slots _ n h passed k = absurd k
+
+slot_used_in : (slots : List ℕ) (r : Row) (n : ℕ) → SlotIn slots r → All (Contains slots) (slots_passed r) → RowUses r (Slot n) → Contains slots n
+slot_used_in slots (LoadsSlot rd m) n h passed k = subst (λ (x : ℕ). Contains slots x) k h
+slot_used_in slots (Calls call) n h passed k = All-contains (Contains slots) call.outgoing n passed k
+slot_used_in slots _ n h passed k = absurd k
 
 slot_read_in : (slots : List ℕ) (r : Row) (n : ℕ) → SlotIn slots r → slot_read r ≡ Some n → Contains slots n
 slot_read_in slots (LoadsSlot rd m) n h e = let z : m ≡ n = cc in subst (λ (x : ℕ). Contains slots x) z h
 slot_read_in slots _ n h e = cc
 
-sets_renamed : (u d : ℕ → ℕ) (r : Row) → has_implicit_uses r ≡ false → (q : ℕ) → Contains (sets (renamed_row u d r)) q →
+pub sets_renamed : (u d : ℕ → ℕ) (r : Row) → has_implicit_uses r ≡ false → (q : ℕ) → Contains (sets (renamed_row u d r)) q →
     (p : ℕ) × Contains (sets r) p × (q ≡ d p)
 sets_renamed u d r i q k = by_row r i k where
   one : (rd : ℕ) → Contains (d rd ∷ []) q → (p : ℕ) × Contains (rd ∷ []) p × (q ≡ d p)
@@ -176,23 +189,10 @@ implicit_sets (Calls call) i q k = k
 implicit_sets (Returns v) i q k = absurd (none_in q k)
 implicit_sets _ i q k = cc
 
-implicit_slotless : (r : Row) → has_implicit_uses r ≡ true → (n : ℕ) → slot_set r ≡ Some n → ⊥
-implicit_slotless (Calls call) i n k = cc
-implicit_slotless (Returns v) i n k = cc
-implicit_slotless _ i n k = cc
-
-implicit_slots_read : (r : Row) → has_implicit_uses r ≡ true → (n : ℕ) → slot_read r ≡ Some n → ⊥
-implicit_slots_read (Calls call) i n k = cc
-implicit_slots_read (Returns v) i n k = cc
-implicit_slots_read _ i n k = cc
-
-row_uses_reads : (r : Row) (x : Place) (P : Place → Type 0) → RowUses r x → ((q : ℕ) → Contains (reads r) q → P (Register q)) →
-    ((n : ℕ) → slot_read r ≡ Some n → P (Slot n)) → P x
+pub row_uses_reads : (r : Row) (x : Place) (P : Place → Type 0) → RowUses r x → ((q : ℕ) → Contains (reads r) q → P (Register q)) →
+    ((n : ℕ) → RowUses r (Slot n) → P (Slot n)) → P x
 row_uses_reads r (Register q) P k f g = f q k
-row_uses_reads r (Slot n) P k f g = by_row r k g where
-  by_row : (r : Row) → RowUses r (Slot n) → ((n : ℕ) → slot_read r ≡ Some n → P (Slot n)) → P (Slot n)
-  by_row (LoadsSlot rd m) k g = g n (ap Some k)
-  by_row _ k g = absurd k
+row_uses_reads r (Slot n) P k f g = g n k
 row_uses_reads r (Const z) P k f g = absurd k
 
 -- the two cores
@@ -256,7 +256,7 @@ module _ (s : Spilling) (slots : List ℕ) (homes : AreHomes s slots) where
     by_slot r (Some n) e = by_test (names_slot u n) e
 
   -- code beside code with scratch registers
-  module _ (i : Instruction) (o : Origin) (fits : FitsCode s i o) (held : SlotIn slots (row_of i)) (u : Option ℕ) where
+  module _ (i : Instruction) (o : Origin) (fits : FitsCode s i o) (held : SlotsIn slots (Code i None)) (u : Option ℕ) where
     abbrev row : Row
     row = row_of i
 
@@ -290,7 +290,7 @@ module _ (s : Spilling) (slots : List ℕ) (homes : AreHomes s slots) where
 
     no_home_set : (r n : ℕ) → slot_of s.homes r ≡ Some n → RowDefines row' (Slot n) → ⊥
     no_home_set r n e k =
-        homes.fresh r n e (slot_set_in slots row n held (sym (slot_set_renamed (use_now s u) (def_now s) row) ∙ slot_defined_row row' n k))
+        homes.fresh r n e (slot_set_in slots row n held.0 (passed_slots slots i held.1) (slots_renamed (use_now s u) (def_now s) row n k))
 
     explicit_acted : (Alive Owed : ℕ → Type 0) → has_implicit_uses row ≡ false → (c d c' d' : Core) → Near s slots Alive Owed c d →
         Made (use_now s u) (def_now s) sets_zero row c' d' →
@@ -309,8 +309,8 @@ module _ (s : Spilling) (slots : List ℕ) (homes : AreHomes s slots) where
       told' = td;
     } where
       stays : (n : ℕ) → Contains slots n → (slot_set row ≡ Some n → ⊥) → c'.slots n ≡ d'.slots n
-      stays n k ne = kc (Slot n) (λ h. ne (slot_defined_row row n h)) ∙ near.slots_alike n k ∙
-          sym (kd (Slot n) (λ h. ne (sym (slot_set_renamed (use_now s u) (def_now s) row) ∙ slot_defined_row row' n h)))
+      stays n k ne = kc (Slot n) (λ h. ne (slot_defined_row row n plain h)) ∙ near.slots_alike n k ∙
+          sym (kd (Slot n) (λ h. ne (slot_defined_row row n plain (slots_renamed (use_now s u) (def_now s) row n h))))
 
       slot_by : (x : Option ℕ) → slot_set row ≡ x → (n : ℕ) → Contains slots n → c'.slots n ≡ d'.slots n
       slot_by None z n k = stays n k (λ e. (let bad : None ≡ Some n = sym z ∙ e in cc))
@@ -329,7 +329,7 @@ module _ (s : Spilling) (slots : List ℕ) (homes : AreHomes s slots) where
       world = world;
       regs = λ r h. held_alike (Register r) (inr (near.regs r h));
       slots_alike = λ n k. held_alike (Slot n) (inr (near.slots_alike n k));
-      homes_stay = λ r n e. kd (Slot n) (λ h. implicit_slotless row implied n (slot_defined_row row n h));
+      homes_stay = λ r n e. kd (Slot n) (λ h. homes.fresh r n e (slot_set_in slots row n held.0 (passed_slots slots i held.1) h));
       regs_stay = λ r out. kc (Register r) out;
       set = λ plain r k. (let bad : true ≡ false = sym implied ∙ plain in cc);
       told = tc;
@@ -342,7 +342,7 @@ module _ (s : Spilling) (slots : List ℕ) (homes : AreHomes s slots) where
       both r e = on_both (Kept r e) (Untold e) (act r e) (act_kept r e) (act_untold r e)
 
       read : has_implicit_uses row ≡ false → ReadsAlike (use_now s u) (def_now s) sets_zero row c d
-      read plain = record { regs = loaded plain; slots = λ n k. near.slots_alike n (slot_read_in slots row n held k) }
+      read plain = record { regs = loaded plain; slots = λ n k. near.slots_alike n (slot_read_in slots row n held.0 k) }
 
       by_row : (z : Bool) → has_implicit_uses row ≡ z → EndAlike (Acted c d) (act row c) (act row' d)
       by_row false z =
@@ -354,7 +354,7 @@ module _ (s : Spilling) (slots : List ℕ) (homes : AreHomes s slots) where
       by_row true z =
           let m = act_alike row c d near.world (λ x k. row_uses_reads row x (λ y. held_in y c ≡ held_in y d) k
           (λ q j. near.regs q (fits.implicits z q (reads_implicit row i.operands q (implicit i) z j)))
-          (λ n j. absurd (implicit_slots_read row z n j))) in
+          (λ n j. near.slots_alike n (slot_used_in slots row n held.0 (passed_slots slots i held.1) j))) in
           let e : row' ≡ row = same_implicit (use_now s u) (def_now s) row z in
           subst (λ (r : Row). EndAlike (Acted c d) (act row c) (act r d)) (sym e)
           (alike_weaker (λ c' d'. implicit_agree c d c' d' × (Kept row c c' × Untold c c') × (Kept row d d' × Untold d d'))

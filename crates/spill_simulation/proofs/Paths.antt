@@ -16,12 +16,12 @@ use Rattle.mir_func.specs.declared.item.ItemKind.{ItemKind}
 use Rattle.mir_func.specs.declared.item.ItemKind.TheVariants.{Code, Mark, Phi}
 use Rattle.mir_func.specs.Graph.{Program, Fetch, Here, EndOfBlock, Outside, below, block_start}
 use Rattle.mir_func.specs.Graph.{end_of, front, fetch_in, from_block, program_of, Edge, FetchEdge, KindEdge}
-use Rattle.mir_func.specs.Graph.{RowEdge, Leads, stay, go}
+use Rattle.mir_func.specs.Graph.{RowEdge, Leads, stay, go, rest_in, rest_of}
 use Rattle.mir_func.specs.Positions.{position_of}
 use Rattle.sem_mir.specs.InitialState.{first_of}
 use Rattle.sem_mir.proofs.Edges.{leads_trans}
 use Rattle.sem_mir.proofs.Reading.{found_in, front_item}
-use Rattle.sem_simulation.proofs.Laid.{rest_in, rest_of, laid_out}
+use Rattle.sem_simulation.proofs.Laid.{laid_out}
 use Rattle.sem_simulation.proofs.Stations.{not_past_items}
 use Rattle.spill_code.specs.declared.spilling.SlotAssignment.{SlotAssignment}
 use Rattle.spill_code.specs.declared.spilling.Spilling.{Spilling}

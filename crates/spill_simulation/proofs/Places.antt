@@ -13,13 +13,12 @@ use Rattle.mir_func.specs.declared.position.Origin.{Origin}
 use Rattle.mir_func.specs.declared.position.Origin.TheVariants.{Kept, Before}
 use Rattle.mir_func.specs.declared.block.Block.{Block}
 use Rattle.mir_func.specs.declared.item.Item.{Item}
-use Rattle.mir_func.specs.Graph.{Here, EndOfBlock, block_start, end_of, front, fetch_in, from_block, program_of}
+use Rattle.mir_func.specs.Graph.{Here, EndOfBlock, block_start, end_of, front, fetch_in, from_block, program_of, rest_in, rest_of}
 use Rattle.mir_func.specs.Positions.{position_of}
 use Rattle.sem_mir.specs.Align.{is_code}
 use Rattle.sem_mir.specs.InitialState.{first_of}
 use Rattle.sem_mir.specs.Follow.{rank, next_rank, InOrder}
 use Rattle.sem_mir.proofs.Reading.{found_in, front_item, item_front, front_end, within_list}
-use Rattle.sem_simulation.proofs.Laid.{rest_in, rest_of}
 use Rattle.sem_simulation.proofs.Order.{rank_next, same_pos}
 use Rattle.spill_code.specs.declared.spilling.SlotAssignment.{SlotAssignment}
 use Rattle.spill_code.specs.declared.spilling.Spilling.{Spilling}

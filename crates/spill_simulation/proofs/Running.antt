@@ -15,7 +15,7 @@ use Rattle.mir_func.specs.declared.block.Block.{Block}
 use Rattle.mir_func.specs.declared.item.Item.{Item}
 use Rattle.mir_func.specs.declared.item.ItemKind.{ItemKind}
 use Rattle.mir_func.specs.declared.item.ItemKind.TheVariants.{Code, Mark, Phi}
-use Rattle.mir_func.specs.Graph.{Program, Fetch, Here, EndOfBlock, below, block_start, end_of, from_block, Edge, FetchEdge, Leads, stay}
+use Rattle.mir_func.specs.Graph.{Program, Fetch, Here, EndOfBlock, below, block_start, end_of, from_block, Edge, FetchEdge, Leads, stay, rest_in, rest_of}
 use Rattle.mir_func.specs.Sound.{OriginIn}
 use Rattle.mir_func.specs.Positions.{position_of}
 use Rattle.sem_mir.specs.Align.{is_code, is_jump, Count, ByEnds, SyncPoint}
@@ -29,7 +29,7 @@ use Rattle.sem_mir.proofs.Edges.{step_edge, step_from_before, leads_on}
 use Rattle.sem_simulation.specs.Added.{AddedMatchStates, Level, IsNeverBack, Adds, Begins, opens, level}
 use Rattle.sem_simulation.specs.MatchStates.{Sides, ShowsSame}
 use Rattle.sem_simulation.proofs.Added.{added_follows}
-use Rattle.sem_simulation.proofs.Laid.{rest_in, rest_of, laid_out}
+use Rattle.sem_simulation.proofs.Laid.{laid_out}
 use Rattle.sem_simulation.proofs.Stations.{code_sync_point, end_is_sync_point, IsSyncPointOf, of_item, of_end, sync_point_is_of}
 use Rattle.spill_code.specs.declared.spilling.SlotAssignment.{SlotAssignment}
 use Rattle.spill_code.specs.declared.spilling.Spilling.{Spilling}

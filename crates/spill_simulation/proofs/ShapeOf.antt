@@ -19,6 +19,7 @@ use Rattle.mir_func.specs.declared.item.Item.{Item}
 use Rattle.mir_func.specs.declared.item.ItemKind.{ItemKind}
 use Rattle.mir_func.specs.declared.item.ItemKind.TheVariants.{Code, Mark, Phi}
 use Rattle.mir_func.specs.Graph.{Program, Fetch, Here, EndOfBlock, Outside, below, block_start, from_block, program_of, FetchEdge, RowEdge, Leads, stay}
+use Rattle.mir_func.specs.Graph.{rest_of}
 use Rattle.mir_func.specs.Sound.{AreApart, OriginIn, ids_of, TargetsIn, TargetIn}
 use Rattle.mir_func.specs.Positions.{position_of}
 use Rattle.sem_mir.specs.InitialState.{first_of}
@@ -26,7 +27,7 @@ use Rattle.sem_mir.specs.Follow.{rank, next_rank, InOrder, OnRow, Counts, IsMetA
 use Rattle.sem_mir.specs.Live.{Live, Uses, KindUses}
 use Rattle.sem_mir.proofs.Edges.{leads_trans}
 use Rattle.sem_mir.proofs.Reading.{found, next_block}
-use Rattle.sem_simulation.proofs.Laid.{rest_of, laid_out}
+use Rattle.sem_simulation.proofs.Laid.{laid_out}
 use Rattle.sem_simulation.proofs.Order.{rank_high, same_pos}
 use Rattle.spill_code.specs.declared.spilling.SlotAssignment.{SlotAssignment}
 use Rattle.spill_code.specs.declared.spilling.Spilling.{Spilling}

@@ -22,8 +22,8 @@ use Rattle.mir_func.specs.declared.block.Block.{Block}
 use Rattle.mir_func.specs.declared.item.Item.{Item}
 use Rattle.mir_func.specs.declared.item.ItemKind.{ItemKind}
 use Rattle.mir_func.specs.declared.item.ItemKind.TheVariants.{Code, Mark, Phi}
-use Rattle.mir_func.specs.Graph.{Program, Here, below, block_start, program_of, Edge, Leads}
-use Rattle.mir_func.specs.Sound.{SlotIn, SlotsIn, OriginIn}
+use Rattle.mir_func.specs.Graph.{Program, Here, below, block_start, program_of, Edge, Leads, rest_in, rest_of}
+use Rattle.mir_func.specs.Sound.{SlotsIn, OriginIn}
 use Rattle.mir_func.specs.Positions.{position_of}
 use Rattle.sem_mir.specs.Align.{is_code, is_jump, is_jump_row, Count, moves_on, waits_at, sync_point_at, IsOrigin, Since, Same, After, since_of}
 use Rattle.sem_mir.specs.Effects.{EndAlike}
@@ -39,7 +39,7 @@ use Rattle.sem_mir.proofs.Places.{put_same, put_other, contains_head, contains_t
 use Rattle.sem_simulation.specs.Added.{Standing, IsPlain, IsQuiet, Opening, Level, Ahead, Owing, MayStand}
 use Rattle.sem_simulation.specs.Added.{MayCome, AddedMatchStates, View, ended, both, before, opening, behind, paired}
 use Rattle.sem_simulation.specs.MatchStates.{Sides, since_item, Does, OutcomesAlike}
-use Rattle.sem_simulation.proofs.Laid.{rest_in, rest_of, laid_out}
+use Rattle.sem_simulation.proofs.Laid.{laid_out}
 use Rattle.sem_simulation.proofs.Order.{cases_waiting}
 use Rattle.sem_simulation.proofs.Stations.{moves_on_less}
 use Rattle.spill_code.specs.declared.spilling.SlotAssignment.{SlotAssignment}
@@ -366,7 +366,7 @@ module _ (s : Spilling) (slots : List ℕ) (homes : AreHomes s slots) (entry : L
       fits : FitsCode s ins o
       fits = good.fits
 
-      held : SlotIn slots (row_of ins)
+      held : SlotsIn slots (Code ins None)
       held = good.held
 
       -- a spilled register that is used is read, and so is live here

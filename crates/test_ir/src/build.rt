@@ -72,6 +72,7 @@ fn operand(alloc: Global, word: &str) -> Option<Operand> {
         "gives" => Some(Operand::ImplicitDef(Reg::new(n)?)),
         "takes" => Some(Operand::ImplicitUse(Reg::new(n)?)),
         "slot" => Some(Operand::Slot(SlotId(n))),
+        "outgoing" => Some(Operand::Outgoing(SlotId(n))),
         "object" => Some(Operand::Object(ObjectId(n))),
         "to" => Some(Operand::Block(BlockId(n))),
         "mask" => Some(Operand::Mask),

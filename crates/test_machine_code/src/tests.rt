@@ -4,6 +4,7 @@ use dwarf_loclists::reader::list_count;
 use emit_code::code::{Code, Words};
 use emit_function::code::code_of;
 use read_program::program::read_program;
+use rv64_instr::decoded::Way;
 use rv64_instr::reg::physical;
 use rv64_instr::start::{CallEvent, CallResult, Cells, Start};
 use rv64_instr::symbol::SymbolAddresses;
@@ -135,7 +136,7 @@ fn stands(machine: &MachineSimulator<Odd>, address: u64, n: Option<u64>, s: Opti
 
 /// Whether the next step returns, with the sum in x10 and what was saved in x8, x9, x1 and x2.
 fn returns(machine: &mut MachineSimulator<Odd>, sum: u64) -> bool {
-    matches!(machine.step(), Ok(Stepped::Stopped(Stop::Returned)))
+    matches!(machine.step(), Ok(Stepped::Stopped(Stop::Ended(Way::Back))))
         && machine.counter() == 0x44
         && register(machine, 0) == Some(0)
         && register(machine, 1) == Some(4_294_967_296)
@@ -191,7 +192,7 @@ fn runs_a_loop_with_calls(rt: HostRuntime) -> Result<(), Fail> {
 
 #[test]
 fn stops_at_words(rt: HostRuntime) -> Result<(), Fail> {
-    let returned = Stepped::Stopped(Stop::Returned);
+    let returned = Stepped::Stopped(Stop::Ended(Way::Back));
     let bad = Stepped::Stopped(Stop::BadWord(0));
     let left = Stepped::Stopped(Stop::Left);
     assert!(rt; stops_at(rt.alloc(), 0x0000_8067, returned, returned)?);

@@ -67,6 +67,8 @@ pub struct Row {
     pub words: Vec<String>,
     /// The text of each run: none is the text of no bytes.
     pub texts: Vec<Vec<u8>>,
+    /// Words whose output is the text of a run.
+    pub piped: Vec<String>,
     pub faulty: Faulty,
     pub ending: Ending,
     /// Whether it is run with each room that is less than the output's length too.
@@ -121,6 +123,7 @@ impl Row {
             name: String::from_str(alloc, name)?,
             words: Vec::new(alloc),
             texts: Vec::new(alloc),
+            piped: Vec::new(alloc),
             faulty: Faulty::NONE,
             ending: Ending {
                 status: 0,
@@ -145,6 +148,10 @@ impl Row {
             "text" => {
                 let text = texts.bytes(part)?;
                 self.texts.push(text)?;
+            }
+            "piped" => {
+                let words = String::from_str(*self.piped.allocator(), rest)?;
+                self.piped.push(words)?;
             }
             "read" => self.faulty.read = rest.parse::<u64>()?,
             "write" => self.faulty.write = rest.parse::<u64>()?,

@@ -235,11 +235,16 @@ fn run_text(
 /// Makes all runs of a row.
 pub fn run_row(rt: &impl Print, alloc: Global, row: &Row, tally: &mut Tally) -> anyhow::Result<()> {
     for words in &row.words {
-        if row.texts.is_empty() {
+        if row.texts.is_empty() && row.piped.is_empty() {
             run_text(rt, alloc, row, words.as_str(), b"", tally)?;
         }
         for text in &row.texts {
             run_text(rt, alloc, row, words.as_str(), text.as_slice(), tally)?;
+        }
+        for piped in &row.piped {
+            let written = run_on(alloc, piped.as_str(), b"", Faulty::NONE)?;
+            let text = written.output.sink.written();
+            run_text(rt, alloc, row, words.as_str(), text, tally)?;
         }
     }
     Ok(())

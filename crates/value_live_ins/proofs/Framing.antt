@@ -131,7 +131,7 @@ module _ (f : FramedFunction) (is : IsFramed f) where
   place_offset (Some (Const c)) h = tt
 
   kind_offset : (k : ItemKind) → SlotsIn (slot_offsets f) k → HasOffsets k
-  kind_offset (Code i k) h = row_offset (row_of i) h
+  kind_offset (Code i k) h = row_offset (row_of i) h.0
   kind_offset (Mark v m) h = tt
   kind_offset (Phi p k) h = place_offset p h
 

@@ -8,12 +8,14 @@ use Rattle.value_solver.specs.declared.entry.BlockEntry.{BlockEntry}
 use Rattle.value_solver.specs.Entry.{thing, IsEntry}
 use Rattle.value_tracker.specs.Things.{AreThings}
 use Rattle.value_live_ins.specs.declared.values.MachineValues.{MachineValues}
+use Rattle.value_live_ins.specs.Gathering.{AreOnce}
 use Rattle.value_live_ins.specs.Used.{IsUsed}
 
 -- the values of these blocks, with this resolution of debug operand pairs, and with these pairs asked for
 pub record AreMachineValues (blocks : List Block) (resolve : OperandPair → Option OperandPair) (asked : List OperandPair) (v : MachineValues) : Type 0 where
   -- the list has the parts of variables first, and then all other entities that the items copy
   pub things : AreThings v.variables v.things
+  pub once : AreOnce v.things
   pub fewer : length v.variables ≤ length v.things
   pub all : AreThingsOf (framed_program blocks resolve) (map thing v.things)
   -- and no others

@@ -3,8 +3,9 @@
 use Rattle.std.proofs.Common.{◌≡◌, ℕ, zero, suc, List, [], ◌∷◌, refl, sym, ap, ◌∙◌, subst, inl, inr, arith}
 use Rattle.std.proofs.lemmas.Bool.Decides.{nat_tests, eqb_tells}
 use Rattle.std.specs.Prelude.{Option, Some, None, Contains, Bool, true, false, cond, nat_lt, not, ◌&&◌, nat_eq, ◌⊎◌}
+use Rattle.std.specs.List.{list_any}
 use Rattle.rv64_instr.specs.Instruction.{Instruction}
-use Rattle.rv64_instr.specs.Row.{Row, Fixes, Moves, Sets, Addresses, Loads, LoadsSlot, StoresSlot, row_of}
+use Rattle.rv64_instr.specs.Row.{Row, Fixes, Moves, Sets, Addresses, Loads, LoadsSlot, StoresSlot, Calls, row_of}
 use Rattle.mir_func.specs.declared.debug_substitution.OperandPair.{OperandPair}
 use Rattle.mir_func.specs.declared.variable.VarId.{VarId}
 use Rattle.mir_func.specs.declared.variable.MarkValue.{MarkValue}
@@ -102,6 +103,7 @@ module _ (things : List Tracked) where
     | inl h ↦ absurd (bare (subst (λ (z : ℕ). Contains things (InSlot z)) (sym h.1) k.1))
     | inr h ↦ subst (λ (z : Bool). StaysBare (InSlot n) (cond z (Was (InRegister rs)) (Was (InSlot n)))) (sym h.0) (inl refl)
   ]
+  slot_stays (Calls call) n k bare = stays_if (InSlot n) (list_any (nat_eq n) call.outgoing) Nameless (Was (InSlot n)) (inr refl) (inl refl)
   slot_stays _ n k bare = inl refl
 
   variable_stays : (resolve : OperandPair → Option OperandPair) (v : VarId) (m : MarkValue) (w : VarId) → Contains things (OfVariable v) →

@@ -77,6 +77,7 @@ stored_kept (StoresSlot rs n) k e = elim (eqb_tells k n) [
     | inl h ↦ let is : true ≡ false = sym h.0 ∙ off in cc
     | inr h ↦ h.1 refl
   ]
+stored_kept (Calls call) k e = ap (λ (z : Bool). cond z Nameless (Was (InSlot k))) e
 stored_kept _ k e = refl
 
 row_kept : (row : Row) (place : Place) → LeavesPlace row place → back_row 0 row (thing_at place) ≡ Was (thing_at place)

@@ -149,6 +149,7 @@ module _ (things : List Tracked) where
 
   known_stored : (row : Row) (n : ℕ) → KnowsRow things row → Contains things (InSlot n) → Knows things (slot_stored row n)
   known_stored (StoresSlot rs m) n k kn = known_if (nat_eq n m) (Was (InRegister rs)) (Was (InSlot n)) k.0 kn
+  known_stored (Calls call) n k kn = known_if (list_any (nat_eq n) call.outgoing) Nameless (Was (InSlot n)) tt kn
   known_stored _ n k kn = kn
 
   known_row : (row : Row) (x : Tracked) → KnowsRow things row → IsKnown things x → Knows things (back_row 0 row x)

@@ -73,7 +73,7 @@ abbrev pub KnowsWrite : (things : List Tracked) → Write → Type 0
 KnowsWrite things SetsNothing = Unit {0}
 KnowsWrite things (SetsRegister rd value) = KnowsCopied things value
 KnowsWrite things (SetsSlot n rs) = (rs < 32) × Contains things (InSlot n)
-KnowsWrite things Clobbers = Unit {0}
+KnowsWrite things (Clobbers outgoing) = Unit {0}
 
 -- the registers, slots and constants that an instruction of this row copies are known
 abbrev pub KnowsRow : (things : List Tracked) → Row → Type 0

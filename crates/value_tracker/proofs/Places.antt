@@ -1,7 +1,8 @@
 -- Steps of loops over the places.
+use Rattle.std.proofs.Common.{◌*◌, ◌-◌, ◌/◌, ◌%◌, eq-eqb, ne_eqb}
 use Rattle.std.proofs.Common.{◌≡◌, ℕ, ◌+◌, ◌<◌, List, length, get_or, arith, refl, sym, ◌∙◌, ap, subst, inl, inr, get_or-set_same, get_or-set_other}
-use Rattle.std.specs.Prelude.{Bool, true, false, cond, nat_lt, slice_set}
-use Rattle.std.proofs.lemmas.Bool.{cases_lt}
+use Rattle.std.specs.Prelude.{Bool, true, false, ◌&&◌, ◌||◌, cond, nat_eq, nat_le, nat_lt, slice_set}
+use Rattle.std.proofs.lemmas.Bool.{cases_lt, le-leb, lt-leb}
 use Rattle.std.proofs.lemmas.Bool.Decides.{nat_tests, eqb_tells}
 
 -- up to an index the registers that a test picks have classes of their own
@@ -37,3 +38,35 @@ module _ (saved : ℕ → Bool) (next : ℕ) (old : List ℕ) (r : ℕ) (places 
         sym (at_next (cond (saved r) (next + r) (get_or old r 0)) (get_or old r 0) r ∙ ap (λ (z : Bool). cond z (next + r) (get_or old r 0)) off)))
     | inr h ↦ renewed j ∙ below_next (cond (saved j) (next + j) (get_or old j 0)) (get_or old j 0) j r h.1
   ]
+
+-- ---- slots that are passed
+
+-- the doubleword at an offset
+pub slot_at : (n i : ℕ) → n % 8 ≡ 0 → nat_eq i (32 + n / 8) ≡ (nat_le 32 i && nat_eq (8 * (i - 32)) n)
+slot_at n i e = elim (eqb_tells i (32 + n / 8)) [
+  | inl h ↦
+      let le : nat_le 32 i ≡ true = le-leb 32 i (omega (arith, h.1)) in
+      let at : nat_eq (8 * (i - 32)) n ≡ true = eq-eqb (8 * (i - 32)) n (omega (arith, h.1, e)) in
+      h.0 ∙ sym (λ j. le j && at j)
+  | inr h ↦ h.0 ∙ sym (elim (cases_lt i 32) as (λ _. (nat_le 32 i && nat_eq (8 * (i - 32)) n) ≡ false) [
+    | inr le ↦ both_false (nat_le 32 i) (nat_eq (8 * (i - 32)) n) (ne_eqb (8 * (i - 32)) n (λ same. h.1 (omega (arith, same, le))))
+    | inl lt ↦ ap (λ (b : Bool). b && nat_eq (8 * (i - 32)) n) (lt-leb 32 i lt)
+  ])
+] where
+  both_false : (a b : Bool) → b ≡ false → (a && b) ≡ false
+  both_false true b f = f
+  both_false false b f = refl
+
+-- where no doubleword is
+pub no_slot_at : (n i : ℕ) → (n % 8 ≡ 0 → ⊥) → (nat_le 32 i && nat_eq (8 * (i - 32)) n) ≡ false
+no_slot_at n i off = by (nat_le 32 i) where
+  by : (a : Bool) → (a && nat_eq (8 * (i - 32)) n) ≡ false
+  by true = ne_eqb (8 * (i - 32)) n (λ same. off (omega (arith, same)))
+  by false = refl
+
+-- one more operand
+pub cleared_more : (le a b : Bool) (x : ℕ) → cond (le && b) 0 (cond (le && a) 0 x) ≡ cond (le && (a || b)) 0 x
+cleared_more false a b x = refl
+cleared_more true true true x = refl
+cleared_more true true false x = refl
+cleared_more true false b x = refl

@@ -23,11 +23,19 @@ use Rattle.std.proofs.Common.{
   eq-eqb,
   ne_eqb,
   lt-ltb,
+  ◌%◌,
 }
-use Rattle.std.specs.Prelude.{Contains, Bool, true, false, cond, ◌||◌, nat_eq, nat_lt}
+use Rattle.std.specs.Prelude.{Contains, Bool, true, false, cond, ◌&&◌, ◌||◌, nat_eq, nat_le, nat_lt}
+use Rattle.std.proofs.lemmas.Bool.{lt-leb, le-leb}
 use Rattle.std.specs.List.{list_any}
 use Rattle.std.proofs.lemmas.Bool.Decides.{nat_tests, eqb_tells}
-use Rattle.rv64_instr.specs.Row.{Row, Fixes, Moves, Sets, Addresses, Loads, LoadsSlot, StoresSlot, Calls}
+use Rattle.rv64_instr.specs.Instruction.{Instruction}
+use Rattle.rv64_instr.specs.Row.{Row, Fixes, Moves, Sets, Addresses, Loads, LoadsSlot, StoresSlot, Calls, row_of}
+use Rattle.rv64_instr.specs.Decoded.{Shows}
+use Rattle.rv64_instr.specs.declared.decoded.Callee.{Callee}
+use Rattle.rv64_instr.specs.declared.decoded.Decoded.TheVariants as decoded
+use Rattle.rv64_instr.specs.LocationEffects.{is_outgoing}
+use Rattle.rv64_instr.proofs.Passed.{passed_by}
 use Rattle.rv64_instr.specs.DefsAndUses.{caller_saved}
 use Rattle.sem_value_ids.specs.Pullback as path
 use Rattle.sem_value_ids.specs.Pullback.{
@@ -47,7 +55,7 @@ use Rattle.sem_value_ids.specs.Pullback.{
 }
 use Rattle.value_proof.specs.Classes.{Classes, KnowsRow, class_back}
 use Rattle.value_tracker.specs.Things.{IsOffset}
-use Rattle.value_tracker.specs.LocationTracker.{SLOTS_FROM, PLACES, slot_place, put, places_past}
+use Rattle.value_tracker.specs.LocationTracker.{SLOTS_FROM, PLACES, slot_place, put, is_slot_at, places_past}
 
 -- ---- a register that is put
 
@@ -74,6 +82,21 @@ cond_class class fresh false x y = refl
 saved_below : (i : ℕ) → 32 ≤ i → list_any (λ q. nat_eq i q) caller_saved ≡ false
 saved_below i le = grind (arith, nat_tests)
 
+-- no register is a slot
+no_slot : (ns : List ℕ) (r : ℕ) → r < 32 → is_slot_at ns r ≡ false
+no_slot ns r lt = ap (λ (b : Bool). b && list_any (nat_eq (8 * (r - 32))) ns) (lt-leb 32 r lt)
+
+-- the place of a doubleword is that of its slot
+at_slot : (ns : List ℕ) (n : ℕ) → n % 8 ≡ 0 → is_slot_at ns (slot_place n) ≡ list_any (nat_eq n) ns
+at_slot ns n e =
+    let same : 8 * (slot_place n - 32) ≡ n = omega (arith, e) in
+    ap (λ (b : Bool). b && list_any (nat_eq (8 * (slot_place n - 32))) ns) (le-leb 32 (slot_place n) (omega arith))
+    ∙ ap (λ (k : ℕ). list_any (nat_eq k) ns) same
+
+zero_either : (b : Bool) (x : ℕ) → x ≡ 0 → cond b 0 x ≡ 0
+zero_either true x e = refl
+zero_either false x e = e
+
 eqb_one : (n : ℕ) → nat_eq n 1 ≡ true → n ≡ 1
 eqb_one n e = eqb-true n 1 e
 
@@ -83,6 +106,17 @@ not_one n e h = let on : nat_eq n 1 ≡ true = eq-eqb n 1 h in cc
 or_false : (b : Bool) → (b || false) ≡ b
 or_false true = refl
 or_false false = refl
+
+-- past a call: its slots are cleared, and its registers are new
+pub call_past : (i : Instruction) (callee : Callee) → Shows (decoded.Calls callee) (row_of i) → (number : ℕ → ℕ) (next : ℕ) (old mid new : ℕ → ℕ) →
+    ((j : ℕ) → mid j ≡ cond (nat_le SLOTS_FROM j && list_any (is_outgoing (8 * (j - SLOTS_FROM))) i.operands) 0 (old j)) →
+    ((j : ℕ) → new j ≡ cond (list_any (λ q. nat_eq j q) caller_saved) (next + j) (mid j)) →
+    (j : ℕ) → new j ≡ places_past number next (row_of i) old j
+call_past i callee shows number next old mid new one two j =
+    two j
+    ∙ ap (λ (z : ℕ). cond (list_any (λ q. nat_eq j q) caller_saved) (next + j) z)
+    (one j ∙ ap (λ (b : Bool). cond (nat_le SLOTS_FROM j && b) 0 (old j)) (passed_by i shows.0 shows.1 (8 * (j - SLOTS_FROM))))
+    ∙ sym (ap (λ (row : Row). places_past number next row old j) shows.1)
 
 -- what stands before the code: the classes of registers, slots and numbers
 pub record Before (things : List path.Tracked) (class : Classes) (number : ℕ → ℕ) (places : ℕ → ℕ) : Type 0 where
@@ -129,7 +163,8 @@ module _ (things : List path.Tracked) (class : Classes) (number : ℕ → ℕ) (
       let off : nat_eq r (slot_place n) ≡ false = grind (arith, nat_tests) in
       ap (λ (z : Bool). cond z (cond (nat_lt r PLACES) (places rs) 0) (places r)) off ∙ is.registers r lt
   register_past (Calls call) r k lt =
-      ap (λ (z : ℕ). cond (list_any (λ q. nat_eq r q) caller_saved) (next + r) z) (is.registers r lt)
+      ap (λ (z : Bool). cond (list_any (λ q. nat_eq r q) caller_saved) (next + r) (cond z 0 (places r))) (no_slot call.outgoing r lt)
+      ∙ ap (λ (z : ℕ). cond (list_any (λ q. nat_eq r q) caller_saved) (next + r) z) (is.registers r lt)
       ∙ sym (cond_class class (λ r. next + r) (list_any (λ q. nat_eq r q) caller_saved) (New 0 r) (Was (InRegister r)))
   register_past _ r k lt = is.registers r lt
 
@@ -171,7 +206,11 @@ module _ (things : List path.Tracked) (class : Classes) (number : ℕ → ℕ) (
   slot_past (LoadsSlot rd m) n k known = put_slot rd (places (slot_place m)) n known
   slot_past (StoresSlot rs m) n k known = store_slot rs m n k.0 k.1 known
   slot_past (Calls call) n k known =
-      ap (λ (z : Bool). cond z (next + slot_place n) (places (slot_place n))) (saved_below (slot_place n) (omega arith)) ∙ is.slots n known
+      ap (λ (z : Bool). cond z (next + slot_place n) (cond (is_slot_at call.outgoing (slot_place n)) 0 (places (slot_place n))))
+      (saved_below (slot_place n) (omega arith))
+      ∙ ap (λ (z : Bool). cond z 0 (places (slot_place n))) (at_slot call.outgoing n (is.offsets n known).0)
+      ∙ ap (λ (z : ℕ). cond (list_any (nat_eq n) call.outgoing) 0 z) (is.slots n known)
+      ∙ sym (cond_class class (λ r. next + r) (list_any (nat_eq n) call.outgoing) Nameless (Was (InSlot n)))
   slot_past _ n k known = is.slots n known
 
   put_known : (rd c i : ℕ) → 32 ≤ i → put rd c places i ≢ 0 → Contains things (InSlot (8 * (i - 32)))
@@ -194,6 +233,7 @@ module _ (things : List path.Tracked) (class : Classes) (number : ℕ → ℕ) (
         subst (λ (z : ℕ). Contains things (InSlot z)) (sym same) k.1
     | inr h ↦ is.slots_known i le (λ none. some (ap (λ (z : Bool). cond z (cond (nat_lt i PLACES) (places rs) 0) (places i)) h.0 ∙ none))
   ]
-  slots_known_past (Calls call) i k le some = is.slots_known i le (λ none. some (ap (λ (z : Bool). cond z (next + i) (places i)) (saved_below i le)
-      ∙ none))
+  slots_known_past (Calls call) i k le some =
+      is.slots_known i le (λ none. some (ap (λ (z : Bool). cond z (next + i) (cond (is_slot_at call.outgoing i) 0 (places i))) (saved_below i le)
+      ∙ zero_either (is_slot_at call.outgoing i) (places i) none))
   slots_known_past _ i k le some = is.slots_known i le some

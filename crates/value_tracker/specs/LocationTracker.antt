@@ -16,17 +16,22 @@ use Rattle.std.specs.Prelude.{
   Option,
   Some,
   None,
+  Bool,
+  ◌&&◌,
   cond,
   nat_eq,
+  nat_le,
   nat_lt,
   slice_get,
   slice_index,
 }
 use Rattle.std.specs.List.{list_any}
 use Rattle.std.specs.HashMap.{get}
+use Rattle.rv64_instr.specs.declared.operand.Operand.{Operand}
 use Rattle.rv64_instr.specs.Row.{Row}
 use Rattle.rv64_instr.specs.View.{Value, Literal, OfRegister, OfSlot, Computed, Write, SetsNothing, SetsRegister, SetsSlot, Clobbers, write_of}
 use Rattle.rv64_instr.specs.DefsAndUses.{caller_saved}
+use Rattle.rv64_instr.specs.LocationEffects.{is_outgoing}
 use Rattle.rv64_instr.specs.Arithmetic.{word}
 use Rattle.rv64_instr.specs.declared.place.Place.{Place}
 use Rattle.rv64_instr.specs.declared.place.Place.TheVariants.{Register, Slot, Const}
@@ -116,12 +121,21 @@ value_past number next rd (OfRegister rs) places = places rs
 value_past number next rd (OfSlot n) places = places (slot_place n)
 value_past number next rd Computed places = next + rd
 
+-- the location at an index is one of these slots
+abbrev pub is_slot_at : List ℕ → ℕ → Bool
+is_slot_at ns i = nat_le SLOTS_FROM i && list_any (nat_eq (8 * (i - SLOTS_FROM))) ns
+
+-- the location at an index is a slot that the operand passes to a callee
+abbrev pub is_passed_at : Operand → ℕ → Bool
+is_passed_at o i = nat_le SLOTS_FROM i && is_outgoing (8 * (i - SLOTS_FROM)) o
+
 -- the class at location i after this is set
 abbrev pub written_past : (number : ℕ → ℕ) → (next : ℕ) → Write → (places : ℕ → ℕ) → ℕ → ℕ
 written_past number next SetsNothing places i = places i
 written_past number next (SetsRegister rd value) places i = put rd (value_past number next rd value places) places i
 written_past number next (SetsSlot n rs) places i = cond (nat_eq i (slot_place n)) (cond (nat_lt i PLACES) (places rs) 0) (places i)
-written_past number next Clobbers places i = cond (list_any (λ q. nat_eq i q) caller_saved) (next + i) (places i)
+written_past number next (Clobbers outgoing) places i =
+    cond (list_any (λ q. nat_eq i q) caller_saved) (next + i) (cond (is_slot_at outgoing i) 0 (places i))
 
 -- the class at location i past an instruction of this row
 abbrev pub places_past : (number : ℕ → ℕ) → (next : ℕ) → Row → (places : ℕ → ℕ) → ℕ → ℕ

@@ -1,11 +1,14 @@
 //! The tracker's state between two items of a block.
 
-ghost use Rattle.std.specs.Prelude.{◌≡◌, ◌<◌, ◌≤◌, ◌+◌, ◌^◌, ℕ, length, slice_index, cond, nat_eq, nat_lt};
+ghost use Rattle.std.specs.Prelude.{◌≡◌, ◌<◌, ◌≤◌, ◌+◌, ◌-◌, ◌*◌, ◌^◌, ◌&&◌, ℕ, length, slice_index, cond, nat_eq};
+ghost use Rattle.std.specs.Prelude.{nat_le, nat_lt};
 ghost use Rattle.std.specs.List.{list_any};
 ghost use Rattle.rv64_instr.specs.DefsAndUses.{caller_saved};
-ghost use Rattle.value_tracker.specs.LocationTracker.{SLOTS_FROM, PLACES, slot_place, put};
+ghost use Rattle.rv64_instr.specs.LocationEffects.{is_outgoing};
+ghost use Rattle.value_tracker.specs.LocationTracker.{SLOTS_FROM, PLACES, slot_place, put, is_passed_at};
 
 use base_ids::function_ids::SlotId;
+use rv64_instr::operand::Operand;
 use rv64_instr::reg::Reg;
 use std::collections::HashMap;
 
@@ -85,6 +88,52 @@ impl LocationTracker {
         let i = slot_place(n);
         if i < PLACES {
             self.places[i] = class;
+        }
+    }
+
+    /// Clears the classes of the slots that operands pass to a callee.
+    pub fn clear_passed(&mut self, operands: &[Operand])
+        requires { length self.old.places.items ≡ PLACES }
+        ensures places { (i : ℕ) → slice_index self.new.places.items i
+            ≡ cond (nat_le SLOTS_FROM i && list_any (is_outgoing (8 * (i - SLOTS_FROM))) operands.now) 0
+            (slice_index self.old.places.items i) }
+        ensures count { length self.new.places.items ≡ length self.old.places.items }
+        ensures pairs { self.new.pairs ≡ self.old.pairs }
+        ensures parts { self.new.parts ≡ self.old.parts }
+        ensures next { self.new.next ≡ self.old.next }
+    {
+        for operand in operands {
+            self.clear_operand(operand);
+        }
+    }
+
+    /// Clears the class of the slot that an operand passes to a callee, if it passes one.
+    fn clear_operand(&mut self, operand: &Operand)
+        requires { length self.old.places.items ≡ PLACES }
+        ensures places { (i : ℕ) → slice_index self.new.places.items i
+            ≡ cond (is_passed_at operand.now i) 0 (slice_index self.old.places.items i) }
+        ensures count { length self.new.places.items ≡ length self.old.places.items }
+        ensures pairs { self.new.pairs ≡ self.old.pairs }
+        ensures parts { self.new.parts ≡ self.old.parts }
+        ensures next { self.new.next ≡ self.old.next }
+    {
+        if let Operand::Outgoing(n) = operand {
+            self.clear_slot(*n);
+        }
+    }
+
+    /// Clears the class of the doubleword at an offset, if a doubleword may be there.
+    fn clear_slot(&mut self, n: SlotId)
+        requires { length self.old.places.items ≡ PLACES }
+        ensures places { (i : ℕ) → slice_index self.new.places.items i
+            ≡ cond (nat_le SLOTS_FROM i && nat_eq (8 * (i - SLOTS_FROM)) n) 0 (slice_index self.old.places.items i) }
+        ensures count { length self.new.places.items ≡ length self.old.places.items }
+        ensures pairs { self.new.pairs ≡ self.old.pairs }
+        ensures parts { self.new.parts ≡ self.old.parts }
+        ensures next { self.new.next ≡ self.old.next }
+    {
+        if n.number() % 8 == 0 {
+            self.put_slot(n, 0);
         }
     }
 

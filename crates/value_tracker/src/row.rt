@@ -31,7 +31,10 @@ impl LocationTracker {
             Decoded::Loads(rd, _, _, _) => self.put_new(rd),
             Decoded::LoadsSlot(rd, n) => self.put(rd, self.place(slot_place(n))),
             Decoded::StoresSlot(rs, n) => self.put_slot(n, self.register(rs)),
-            Decoded::Calls(_) => self.call(),
+            Decoded::Calls(_) => {
+                self.clear_passed(instr.operands.as_slice());
+                self.call();
+            }
             Decoded::Stores(_, _, _, _) => {}
             Decoded::Branches(_, _, _, _) => {}
             Decoded::Jumps(_) => {}

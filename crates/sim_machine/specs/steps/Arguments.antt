@@ -1,13 +1,18 @@
 -- The callee and the arguments of a call, for each operand.
 use Rattle.std.specs.Prelude.{ℕ, ◌<◌, Option, Some, None, cond, nat_eq}
 use Rattle.rv64_instr.specs.declared.operand.Operand.{Operand}
-use Rattle.rv64_instr.specs.declared.operand.Operand.TheVariants.{ImplicitUse, Symbol}
+use Rattle.rv64_instr.specs.declared.operand.Operand.TheVariants.{ImplicitUse, Symbol, Outgoing}
 use Rattle.rv64_instr.specs.Row.{Callee, Named, Held}
 
 -- the register that an operand uses implicitly, except x2
 abbrev pub argument_of : Operand → Option ℕ
 argument_of (ImplicitUse r) = cond (nat_eq r 2) None (Some r)
 argument_of _ = None
+
+-- the slot that an operand passes
+abbrev pub word_of : Operand → Option ℕ
+word_of (Outgoing n) = Some n
+word_of _ = None
 
 -- the callee that the first operand of a call names
 abbrev pub callee_named : Operand → Option Callee

@@ -13,7 +13,7 @@ none = record { opened = 0; closed = 0; name = []; stack = []; fixed = []; subst
 
 pub returns-then-len-ge-MAX_FUNCTIONS : goal.returns-then-len-ge-MAX_FUNCTIONS
 returns-then-len-ge-MAX_FUNCTIONS c =
-    full c.args.meta.now c.args.documents.now c.loop-document.document-index c.document-item.result c.loop-document.functions
+    full c.args.meta.now c.args.documents.now c.loop-document.document-index c.document-item.result c.args.functions c.loop-document.functions
     c.loop-document.invariant c.loop-document-test.true c.document-item.is (search rules)
 
 pub returns-in-Err : goal.returns-in-Err
@@ -21,8 +21,8 @@ returns-in-Err c =
     let meta = c.args.meta.now in
     let said : Parses meta c.document-item.result (Err c.in-Err.error) =
     subst (λ (r : Result Parsed ParseError). Parses meta c.document-item.result r) c.in-Err.is c.parse.ensures in
-    known (List Parsed) c.in-Err.error (FunctionsFrom meta [] c.args.documents.now (Err c.in-Err.error))
-    (stopped meta c.args.documents.now c.loop-document.document-index c.document-item.result c.loop-document.functions
+    known (List Parsed) c.in-Err.error (FunctionsFrom meta c.args.functions c.args.documents.now (Err c.in-Err.error))
+    (stopped meta c.args.documents.now c.loop-document.document-index c.document-item.result c.args.functions c.loop-document.functions
     c.loop-document.invariant c.loop-document-test.true c.document-item.is (search rules) c.in-Err.error said)
 
 pub loop-document-preserved : goal.loop-document-preserved
@@ -30,11 +30,11 @@ loop-document-preserved c =
     let meta = c.args.meta.now in
     let said : Parses meta c.document-item.result (Ok c.in-Ok.parsed) =
     subst (λ (r : Result Parsed ParseError). Parses meta c.document-item.result r) c.in-Ok.is c.parse.ensures in
-    goes_on meta c.args.documents.now c.loop-document.document-index c.document-item.result c.loop-document.functions
+    goes_on meta c.args.documents.now c.loop-document.document-index c.document-item.result c.args.functions c.loop-document.functions
     c.loop-document.invariant c.loop-document-test.true c.document-item.is (search rules) c.in-Ok.parsed said
     c.push.new.self (search rules)
 
 pub returns : goal.returns
 returns c =
-    finished c.args.meta.now c.args.documents.now c.loop-document.document-index none c.loop-document.functions
+    finished c.args.meta.now c.args.documents.now c.loop-document.document-index none c.args.functions c.loop-document.functions
     c.loop-document.invariant c.loop-document-test.false

@@ -29,8 +29,8 @@ returns-in-Went-clause-leads c =
     (c.reads.ensures.is ∙ ap (read_at c.args.lists.now) c.counter.ensures) c.known.ensures c.count.ensures.counted c.is_kept.ensures
     (subst (λ (r : Stepped). StepsOn code r h h') c.in-Went.is c.in_ok-step-in-Some.ensures.step)
 
-pub returns-in-Stopped-Returned-clause-leads : goal.returns-in-Stopped-Returned-clause-leads
-returns-in-Stopped-Returned-clause-leads c =
+pub returns-in-Stopped-Ended-clause-leads : goal.returns-in-Stopped-Ended-clause-leads
+returns-in-Stopped-Ended-clause-leads c =
     let src = source_of c.args.f.now.blocks c.args.subs.now in
     let code = c.args.machine.now.code in let h = c.args.machine.now.hart in let h' = c.step.new.self.hart in
     returns_there src code c.args.lists.now c.args.parts.now c.args.counts.now c.count.new.self h h' c.args.state.now c.meet.new.state c.args.moved.now
@@ -38,8 +38,9 @@ returns-in-Stopped-Returned-clause-leads c =
     (subst (λ (o : Option EncodedInstruction). IfSome o
     (Meets src code c.args.moved.now h c.args.state.now c.meet.new.state)) c.in-Some.is c.in_ok-meet.ensures.meets)
     (c.reads.ensures.is ∙ ap (read_at c.args.lists.now) c.counter.ensures) c.known.ensures c.count.ensures.counted c.is_kept.ensures
-    (subst (λ (stop : Stop). StepsOn code (Stopped stop) h h') c.in-Stopped-Returned.field-0-is
-    (subst (λ (r : Stepped). StepsOn code r h h') c.in-Stopped-Returned.is c.in_ok-step-in-Some.ensures.step))
+    c.in-Stopped-Ended.field-0-0
+    (subst (λ (stop : Stop). StepsOn code (Stopped stop) h h') c.in-Stopped-Ended.field-0-is
+    (subst (λ (r : Stepped). StepsOn code r h h') c.in-Stopped-Ended.is c.in_ok-step-in-Some.ensures.step))
 
 pub returns-in-Stopped-Left-clause-leads : goal.returns-in-Stopped-Left-clause-leads
 returns-in-Stopped-Left-clause-leads c =

@@ -7,7 +7,7 @@ pub returns-then-word-eq-RETURN-clause-step : goal.returns-then-word-eq-RETURN-c
 returns-then-word-eq-RETURN-clause-step c = λ image s shows h none.
     let w = word_step_at c.args.code.now image c.args.hart.now s c.args.entry.now _ shows h c.requires.stands c.requires.at
     _ (c.word_of-in_text.ensures.word image shows) c.linked_at-word.ensures c.requires.left none in
-    (w.result, return_step image s _ w c.if-word-eq-RETURN.true)
+    return_step image s _ w c.if-word-eq-RETURN.true
 
 pub returns-in_ok-operate-in-Some-clause-step : goal.returns-in_ok-operate-in-Some-clause-step
 returns-in_ok-operate-in-Some-clause-step c = λ image s shows h none.

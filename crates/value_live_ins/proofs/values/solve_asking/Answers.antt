@@ -23,6 +23,7 @@ returns-clause-values c =
     let same = c.as_slice-blocks.ensures ∙ ap (λ (f : FramedFunction). f.blocks) c.framed.view_is in
     record {
       things = c.in_ok-variables.ensures.things;
+      once = c.in_ok-variables.ensures.tracked.once;
       fewer = c.in_ok-variables.ensures.fewer;
       all = subst (λ (z : List Block). AreThingsOf (framed_program z (resolve c.args.subs.now)) (map thing tracked)) same
           (things_are blocks c.args.subs.now c.in_ok-variables.field-0.variables tracked c.in_ok-variables.ensures.things c.in_ok-variables.ensures.knows);

@@ -10,7 +10,7 @@ returns-in_ok-learn-in-Code c =
     let shows = c.decoded-decoded.ensures.row in
     past_code c.args.kind.now c.in-Code.i c.in-Code.field-1 c.in-Code.is (known_by c.args.self.now.registers c.args.self.now.slots)
     (known_by c.forget.new.self.registers c.forget.new.self.slots) (known_by c.learn.new.self.registers c.learn.new.self.slots)
-    (c.forget.ensures row shows) (c.in_ok-learn-in-Code.ensures row shows)
+    c.forget.ensures (c.in_ok-learn-in-Code.ensures row shows)
 
 pub returns-in-Mark : goal.returns-in-Mark
 returns-in-Mark c =

@@ -14,8 +14,8 @@ target-requires c =
     let p = first_is c.i.inside.op c.i.inside.operands f c.in-Some.first.now c.in-Some.rest.now (sym c.as_slice.ensures ∙ c.in-Some.ensures.cases.0) in
     subst NamesCallee (sym p.0) f.names
 
-pub arguments-requires : goal.arguments-requires
-arguments-requires c =
+pub passed-requires : goal.passed-requires
+passed-requires c =
     let f = form_at c.i.inside.op c.i.inside.operands c.args.i.now c.i.view_is c.i.invariant c.requires in
     let p = first_is c.i.inside.op c.i.inside.operands f c.in-Some.first.now c.in-Some.rest.now (sym c.as_slice.ensures ∙ c.in-Some.ensures.cases.0) in
     subst (λ (xs : List Operand). All (λ q. q < 32) (implicit_uses xs)) (sym p.1) f.low
