@@ -9,3 +9,4 @@ pub mod Stripped
 pub mod Generated
 pub mod Written
 pub mod Plans
+mod Inputs

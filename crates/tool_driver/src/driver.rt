@@ -1,6 +1,6 @@
 //! The run of a command.
 
-ghost use Rattle.std.specs.Prelude.{◌≡◌, ◌≢◌, ◌≤◌, ◌⊎◌, IfOk, OnOk, IfErr, IsErrOf, map, string_bytes};
+ghost use Rattle.std.specs.Prelude.{◌≡◌, ◌≢◌, ◌≤◌, ◌⊎◌, [], IfOk, OnOk, IfErr, IsErrOf, map, string_bytes};
 ghost use Rattle.cli.specs.Command.{AreWithin, IsCommand};
 ghost use Rattle.cli.specs.declared.command.CompilePlan.{CompilePlan};
 ghost use Rattle.cli.specs.declared.command.PassPipeline.{PassPipeline};
@@ -20,9 +20,7 @@ ghost use Rattle.tool_driver.specs.steps.Ends.{HasReadNone, Explains, ReadingEnd
 ghost use Rattle.tool_driver.specs.Stream.{change, MetFault, IsWrittenWhole, IsTold};
 
 use crate::compiled::{compiled_text, listing_text, object_file, report_text, run_text, test_text};
-use crate::reading::program_of;
 use crate::telling::tell;
-use base_io::reading::{ReadError, read_all};
 use base_io::sink::Sink;
 use base_io::source::Source;
 use base_io::writing::write_all;
@@ -31,6 +29,8 @@ use cli::fault::Fault;
 use cli::status::Status;
 use gen_text::print::print_generated;
 use mir_printer::text::Text;
+use read_input::error::InputError;
+use read_input::input::read_input;
 use read_program::program::Program;
 use std::alloc::Global;
 use strip_command::strip_text::strip_text;
@@ -263,10 +263,22 @@ fn read<S: Source>(alloc: Global, input: &mut S) -> Result<Program, Fault>
     ensures err { IfErr result (HasReadNone (change S.left S.faults input.old input.new)) }
     ensures counts { S.faults input.old ≤ S.faults input.new }
 {
-    match read_all(alloc, input, LIMIT) {
-        Ok(text) => program_of(alloc, text.as_slice()),
-        Err(ReadError::Failed) => Err(Fault::Read),
-        Err(ReadError::TooLong) => Err(Fault::TooLong),
-        Err(ReadError::Memory) => Err(Fault::Memory),
+    match read_input(alloc, input, LIMIT) {
+        Ok(program) => some_function(program),
+        Err(InputError::Refused(refusal)) => Err(Fault::Refused(refusal)),
+        Err(InputError::Failed) => Err(Fault::Read),
+        Err(InputError::TooLong) => Err(Fault::TooLong),
+        Err(InputError::Memory) => Err(Fault::Memory),
     }
+}
+
+/// A program with a function.
+fn some_function(program: Program) -> Result<Program, Fault>
+    ensures ok { IfOk result (λ same. (same ≡ program) × (program.functions ≢ [])) }
+    ensures err { IfErr result (λ fault. (fault ≡ Fault.NoFunction) × (program.functions ≡ [])) }
+{
+    if program.functions.is_empty() {
+        return Err(Fault::NoFunction);
+    }
+    Ok(program)
 }

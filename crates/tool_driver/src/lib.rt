@@ -1,8 +1,8 @@
 //! The driver of the compiler back end, as one call: from the words of a command line and the MIR text of functions
 //! to the bytes that the command writes.
 //!
-//! The text is read to its end, and parsed as a program or refused at its first bad line. `strip` writes the
-//! functions without their debug items. `compile` runs passes, lowers each function's frame and emits its code after
+//! The text is read to its end, and parsed as it comes, or refused at its first bad line. `strip` writes the functions
+//! without their debug items. `compile` runs passes, lowers each function's frame and emits its code after
 //! that of the function before. A data-flow analysis of values over the control-flow graph finds, at each address,
 //! the first location that holds each part of each variable; the ranges of these locations are the variable's
 //! location list. Code, location lists, debugging information entries and line table become five sections, with a
@@ -16,5 +16,4 @@
 
 mod compiled;
 pub mod driver;
-mod reading;
 pub mod telling;

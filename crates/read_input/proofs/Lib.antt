@@ -1,0 +1,5 @@
+mod Lines
+mod Pieces
+mod Program
+mod Reading
+mod Scan

@@ -1,0 +1,59 @@
+-- What is known of an input by the pieces that were read of it.
+use Rattle.std.proofs.Common.{◌≡◌, ℕ, ◌+◌, ◌<◌, ◌≤◌, List, [], ◌++◌, length, take, Option, Result, Ok, Err, All, refl, ◌∙◌, length-append, arith}
+use Rattle.std.proofs.lemmas.List.{length-take-le}
+use Rattle.std.proofs.lemmas.List.Elements.{All-nil, All-append, All-take}
+use Rattle.base_io.specs.Told.{Takes, TakesCount, IsAtEnd}
+use Rattle.base_io.proofs.ToldLemmas.{Takes-none, Takes-more}
+use Rattle.read_program.specs.declared.program.Program.{Program}
+use Rattle.read_input.specs.declared.error.InputError.{InputError}
+use Rattle.read_input.specs.declared.error.InputError.TheVariants.{Failed, TooLong, Refused, Memory}
+use Rattle.read_input.specs.declared.reader.ProgramReader.{ProgramReader}
+use Rattle.read_input.specs.Reading.{IsReadingOf}
+use Rattle.read_input.specs.Input.{AnswersText, Answers}
+
+-- the answer for an input that was read whole
+pub whole : (before after : Option (List ℕ)) (faults_before faults_after limit : ℕ) (text : List ℕ) (answer : Result Program InputError) →
+    Takes before after text → IsAtEnd after → length text ≤ limit → All (λ b. b < 256) text → faults_after ≡ faults_before → AnswersText text answer →
+    Answers before after faults_before faults_after limit answer
+whole before after faults_before faults_after limit text (Ok program) takes ended within bytes steady said =
+    (record { text = text; takes = takes; ended = ended; within = within; bytes = bytes; reads = said }, steady)
+whole before after faults_before faults_after limit text (Err (Refused r)) takes ended within bytes steady said =
+    (record { text = text; takes = takes; ended = ended; within = within; bytes = bytes; reads = said }, steady)
+whole before after faults_before faults_after limit text (Err Memory) takes ended within bytes steady said = tt
+whole before after faults_before faults_after limit text (Err Failed) takes ended within bytes steady said = absurd said
+whole before after faults_before faults_after limit text (Err TooLong) takes ended within bytes steady said = absurd said
+
+-- what was taken of an input, and read
+abbrev pub IsFront : (before now : Option (List ℕ)) → ProgramReader → (taken : ℕ) → Type 0
+IsFront before now reader taken =
+    (text : List ℕ) × (length text ≡ taken) × All (λ b. b < 256) text × Takes before now text × IsReadingOf reader text
+
+-- before the first piece
+pub front-none : (before : Option (List ℕ)) (reader : ProgramReader) → IsReadingOf reader [] → IsFront before before reader 0
+front-none before reader reading = ([], refl, All-nil (λ (b : ℕ). b < 256), Takes-none before, reading)
+
+-- one byte more than the limit
+pub front-too_long : (before now : Option (List ℕ)) (reader : ProgramReader) (taken count : ℕ) → taken ≡ count → IsFront before now reader taken →
+    TakesCount before now count
+front-too_long before now reader taken count same (text, long, all, took, reading) = (text, long ∙ same, took)
+
+-- the answer at the end of the input
+pub front-whole : (before now : Option (List ℕ)) (faults_before faults_now limit taken : ℕ) (reader : ProgramReader) (answer : Result Program InputError) →
+    IsAtEnd now → taken ≤ limit → faults_now ≡ faults_before → ((text : List ℕ) → IsReadingOf reader text → AnswersText text answer) →
+    IsFront before now reader taken → Answers before now faults_before faults_now limit answer
+front-whole before now faults_before faults_now limit taken reader answer ended within steady answers (text, long, all, took, reading) =
+    whole before now faults_before faults_now limit text answer took ended (omega (arith, long, within)) all steady (answers text reading)
+
+-- with one piece more
+pub front-more : (before now next : Option (List ℕ)) (reader after : ProgramReader) (taken count : ℕ) (piece : List ℕ) → count ≤ length piece →
+    All (λ b. b < 256) piece → Takes now next (take count piece) →
+    ((front : List ℕ) → IsReadingOf reader front → IsReadingOf after (front ++ take count piece)) → IsFront before now reader taken →
+    IsFront before next after (taken + count)
+front-more before now next reader after taken count piece within bytes takes reads (text, long, all, took, reading) =
+    let piece_long = length-take-le count piece within in (
+      text ++ take count piece,
+      omega (arith, length-append text (take count piece), piece_long, long),
+      All-append (λ b. b < 256) text (take count piece) all (All-take (λ b. b < 256) count piece bytes),
+      Takes-more before now next text (take count piece) took takes,
+      reads text reading,
+    )

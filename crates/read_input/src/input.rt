@@ -1,0 +1,94 @@
+//! The call that reads a program from an input.
+
+ghost use Rattle.std.specs.Prelude.{◌≡◌, ◌+◌, ◌^◌, ◌<◌, ◌≤◌, ℕ, List, length, take, IfOk, OnOk};
+ghost use Rattle.std.specs.Prelude.{OnErr, Ok, All};
+ghost use Rattle.base_io.specs.Faults.{CountRose};
+ghost use Rattle.base_io.specs.Told.{Takes, IsAtEnd};
+ghost use Rattle.read_input.specs.Input.{Answers, AnswersText};
+ghost use Rattle.read_input.specs.Reading.{IsReadingOf};
+
+use crate::error::InputError;
+use crate::reader::ProgramReader;
+use base_io::fault::Failed;
+use base_io::source::Source;
+use read_program::error::ParseError;
+use read_program::program::Program;
+use std::alloc::Global;
+
+/// How many bytes are read at a time at most.
+const CHUNK: usize = 64 * 1024;
+
+/// Reads an input to its end, and gives the program in it. Each iteration takes a byte or ends, and no more than one
+/// byte beyond the limit is read.
+///
+/// `Failed`: the first read that failed ended the reading. `TooLong`: the input had more than `limit` bytes, and
+/// `limit + 1` of them were read. Both come before any refusal.
+pub fn read_input<S: Source>(
+    alloc: Global,
+    input: &mut S,
+    limit: usize,
+) -> Result<Program, InputError>
+    requires { limit < 2 ^ 31 }
+    ensures answers { Answers (S.left input.old) (S.left input.new) (S.faults input.old) (S.faults input.new) limit
+        result }
+    ensures counts { S.faults input.old ≤ S.faults input.new }
+{
+    let mut chunk = Vec::new(alloc);
+    chunk.resize(CHUNK, 0)?;
+    let mut reader = ProgramReader::new(alloc);
+    let mut taken = 0;
+    while taken <= limit {
+        let room = CHUNK.min(limit + 1 - taken);
+        let count = read_piece(input, &mut chunk, room)?;
+        if count == 0 {
+            return finished(alloc, reader);
+        }
+        taken += count;
+        reader.feed(alloc, &chunk.as_slice()[..count])?;
+    }
+    Err(InputError::TooLong)
+}
+
+/// Reads a piece of at most so many bytes into the front of a chunk, and gives its length. 0 is the end of the input.
+fn read_piece<S: Source>(input: &mut S, chunk: &mut Vec<u8>, most: usize) -> Result<usize, Failed>
+    requires some { 0 < most }
+    requires fits { most ≤ length chunk.old.items }
+    ensures length { length chunk.new.items ≡ length chunk.old.items }
+    ensures within { IfOk result (λ n. n ≤ most) }
+    ensures takes { IfOk result (λ n. Takes (S.left input.old) (S.left input.new) (take n chunk.new.items)) }
+    ensures bytes { All (λ b. b < 256) chunk.new.items }
+    ensures end { result ≡ Ok 0 → IsAtEnd (S.left input.new) }
+    ensures steady { OnOk result (S.faults input.new ≡ S.faults input.old) }
+    ensures failed { OnErr result (CountRose (S.faults input.old) (S.faults input.new)) }
+    ensures counts { S.faults input.old ≤ S.faults input.new }
+{
+    read_front(input, chunk.as_mut_slice(), most)
+}
+
+/// The same of a buffer.
+fn read_front<S: Source>(input: &mut S, buffer: &mut [u8], most: usize) -> Result<usize, Failed>
+    requires some { 0 < most }
+    requires fits { most ≤ length buffer.old }
+    ensures length { length buffer.new ≡ length buffer.old }
+    ensures within { IfOk result (λ n. n ≤ most) }
+    ensures takes { IfOk result (λ n. Takes (S.left input.old) (S.left input.new) (take n buffer.new)) }
+    ensures bytes { All (λ b. b < 256) buffer.new }
+    ensures end { result ≡ Ok 0 → IsAtEnd (S.left input.new) }
+    ensures steady { OnOk result (S.faults input.new ≡ S.faults input.old) }
+    ensures failed { OnErr result (CountRose (S.faults input.old) (S.faults input.new)) }
+    ensures counts { S.faults input.old ≤ S.faults input.new }
+{
+    input.read(&mut buffer[..most])
+}
+
+/// The answer of a reader that was given a whole text.
+fn finished(alloc: Global, reader: ProgramReader) -> Result<Program, InputError>
+    requires { reader.program.lines + 1 < 2 ^ 32 }
+    ensures { (text : List ℕ) → IsReadingOf reader text → AnswersText text result }
+{
+    match reader.finish(alloc) {
+        Ok(program) => Ok(program),
+        Err(ParseError::Refused(refusal)) => Err(InputError::Refused(refusal)),
+        Err(ParseError::Memory) => Err(InputError::Memory),
+    }
+}

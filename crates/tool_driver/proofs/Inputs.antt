@@ -1,0 +1,41 @@
+-- What is known of an input by what was read from it.
+use Rattle.std.proofs.Common.{◌≡◌, ◌≢◌, ◌+◌, [], Result, Ok, Err}
+use Rattle.base_io.specs.Told.{TakesCount}
+use Rattle.read_refusal.specs.declared.first.Refusal.{Refusal}
+use Rattle.read_program.specs.declared.program.Program.{Program}
+use Rattle.read_program.specs.declared.error.ParseError.{ParseError}
+use Rattle.read_program.specs.declared.error.ParseError.TheVariants as errors
+use Rattle.read_input.specs.Input.{IsReadWhole}
+use Rattle.cli.specs.declared.fault.Fault.TheVariants.{Refused, NoFunction}
+use Rattle.tool_driver.specs.Limits.{INPUT_LIMIT}
+use Rattle.tool_driver.specs.Refusals.{IsTooLong}
+use Rattle.tool_driver.specs.Run.{HasRead, HasReadProgram}
+use Rattle.tool_driver.specs.steps.Ends.{RefusesInput}
+use Rattle.tool_driver.specs.Stream.{Change, IsSteady}
+
+module _ (input : Change) (steady : IsSteady input) where
+  has_read : {answer : Result Program ParseError} → (read : IsReadWhole input.before.bytes input.after.bytes INPUT_LIMIT answer) → HasRead input read.text
+  has_read read = record {
+    whole = record { takes = read.takes; ended = read.ended; steady = steady };
+    within = read.within;
+    bytes = read.bytes;
+  }
+
+  -- a program with a function
+  pub reads_program : (program : Program) → IsReadWhole input.before.bytes input.after.bytes INPUT_LIMIT (Ok program) → program.functions ≢ [] →
+      HasReadProgram input program
+  reads_program program read some = record { text = read.text; read = has_read read; has = record { reads = read.reads; some = some } }
+
+  -- a program without functions
+  pub reads_none : (program : Program) → IsReadWhole input.before.bytes input.after.bytes INPUT_LIMIT (Ok program) → program.functions ≡ [] →
+      RefusesInput input NoFunction
+  reads_none program read none =
+      record { text = read.text; read = has_read read; refused = record { program = program; reads = read.reads; no_one = none } }
+
+  -- a refusal
+  pub reads_refusal : (r : Refusal) → IsReadWhole input.before.bytes input.after.bytes INPUT_LIMIT (Err (errors.Refused r)) → RefusesInput input (Refused r)
+  reads_refusal r read = record { text = read.text; read = has_read read; refused = read.reads }
+
+  -- a text that is too long
+  pub reads_too_long : TakesCount input.before.bytes input.after.bytes (INPUT_LIMIT + 1) → IsTooLong input
+  reads_too_long takes = record { takes = takes; steady = steady }
