@@ -3,11 +3,15 @@
 #![tactic(auto)]
 
 #[cfg(test)]
+mod callees;
+#[cfg(test)]
 mod command;
 #[cfg(test)]
 mod instructions;
 #[cfg(test)]
 mod items;
+#[cfg(test)]
+mod linked;
 #[cfg(test)]
 mod streams;
 #[cfg(test)]

@@ -170,14 +170,35 @@ fn sums_a_hundred(alloc: Global, code: &Code) -> Result<bool, Fail> {
     Ok(goes_on(&mut machine, 511) && returns(&mut machine, 10_400))
 }
 
+/// How a step of a code of one word ends.
+#[derive(Clone, Copy, PartialEq, Eq)]
+enum After {
+    Went,
+    Returned,
+    BadWord,
+    Left,
+    Other,
+}
+
+/// How the next step ends.
+fn after_step(machine: &mut MachineSimulator<Odd>) -> After {
+    match machine.step() {
+        Ok(Stepped::Went) => After::Went,
+        Ok(Stepped::Stopped(Stop::Ended(Way::Back))) => After::Returned,
+        Ok(Stepped::Stopped(Stop::BadWord(0))) => After::BadWord,
+        Ok(Stepped::Stopped(Stop::Left)) => After::Left,
+        _ => After::Other,
+    }
+}
+
 /// Whether two steps of a code of one word end so.
-fn stops(alloc: Global, code: &Code, first: Stepped, second: Stepped) -> Result<bool, Fail> {
+fn stops(alloc: Global, code: &Code, first: After, second: After) -> Result<bool, Fail> {
     let mut machine = machine(alloc, code, 2)?;
-    Ok(machine.step()? == first && machine.step()? == second)
+    Ok(after_step(&mut machine) == first && after_step(&mut machine) == second)
 }
 
 /// The same, with another word in the place of the one that returns.
-fn stops_at(alloc: Global, word: u32, first: Stepped, second: Stepped) -> Result<bool, Fail> {
+fn stops_at(alloc: Global, word: u32, first: After, second: After) -> Result<bool, Fail> {
     let code = with_word(alloc, code(alloc, RETURN)?, word)?;
     stops(alloc, &code, first, second)
 }
@@ -192,11 +213,8 @@ fn runs_a_loop_with_calls(rt: HostRuntime) -> Result<(), Fail> {
 
 #[test]
 fn stops_at_words(rt: HostRuntime) -> Result<(), Fail> {
-    let returned = Stepped::Stopped(Stop::Ended(Way::Back));
-    let bad = Stepped::Stopped(Stop::BadWord(0));
-    let left = Stepped::Stopped(Stop::Left);
-    assert!(rt; stops_at(rt.alloc(), 0x0000_8067, returned, returned)?);
-    assert!(rt; stops_at(rt.alloc(), 0x0000_0000, bad, bad)?);
-    assert!(rt; stops_at(rt.alloc(), 0x0000_0013, Stepped::Went, left)?);
+    assert!(rt; stops_at(rt.alloc(), 0x0000_8067, After::Returned, After::Returned)?);
+    assert!(rt; stops_at(rt.alloc(), 0x0000_0000, After::BadWord, After::BadWord)?);
+    assert!(rt; stops_at(rt.alloc(), 0x0000_0013, After::Went, After::Left)?);
     Ok(())
 }
