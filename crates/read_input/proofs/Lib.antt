@@ -1,3 +1,4 @@
+mod AnyMetadata
 mod Lines
 mod Pieces
 mod Program

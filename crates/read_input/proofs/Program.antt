@@ -1,6 +1,6 @@
 -- What a program that was read in part knows of its documents, from line to line.
 use Rattle.std.proofs.Common.{◌≡◌, ◌==◌, ℕ, ◌+◌, ◌<◌, true, false, List, [], ◌∷◌, ◌++◌, length, Option, Some, None, Result, Ok, Err, All, refl, sym, ap}
-use Rattle.std.proofs.Common.{subst, ◌∙◌, arith}
+use Rattle.std.proofs.Common.{get_or, subst, ◌∙◌, arith}
 use Rattle.std.specs.Prelude.{is_some, unwrap_or}
 use Rattle.std.specs.Str.Lines.{lines}
 use Rattle.std.proofs.lemmas.List.{append-nil, nil_from_length}
@@ -19,12 +19,14 @@ use Rattle.read_program.specs.declared.closing.Parsed.{Parsed}
 use Rattle.read_program.specs.declared.error.ParseError.TheVariants as errors
 use Rattle.read_program.specs.declared.program.Program.{Program}
 use Rattle.read_program.specs.declared.error.ParseError.{ParseError}
-use Rattle.read_program.specs.Program.{FunctionsFrom, ReadsDocuments, ReadsText, UnlessMemory}
+use Rattle.read_program.specs.Closing.{Parses}
+use Rattle.read_program.specs.Program.{MAX_FUNCTIONS, FunctionsFrom, ReadsDocuments, ReadsText, UnlessMemory}
 use Rattle.read_program.proofs.Functions.{FunctionsFrom-append, FunctionsFrom-refused}
 use Rattle.read_input.specs.declared.partial.PartialProgram.{PartialProgram}
+use Rattle.read_input.specs.Unmarked.{IsOnly}
 use Rattle.read_input.specs.Reading.{Knows, is_refused, goes_on, scan_of, IsReadAs, outcome, HasReadAll, Stops, Ends, AnswersAs}
 use Rattle.read_input.proofs.Lines.{lines-open}
-use Rattle.read_input.proofs.Scan.{next, step-stays, scan-begins, scan-takes, scan-stops, scan_of-takes, scan_of-ends}
+use Rattle.read_input.proofs.Scan.{next, step-stays, scan-begins, scan-stops, scan_of-takes, scan_behind-takes, scan_of-ends}
 
 -- documents that begin with some of which one is refused
 reads-refused : (block : List Line) (done : List FunctionDocument) (r : Refusal) (documents : Documents) →
@@ -51,15 +53,13 @@ module _ (s : Scan) (functions : List Parsed) (block : List Line) (done : List F
     (documents : Documents) (scanned : documents ≡ scan (scan_of s block done) n (numbered (n + 1) (text ∷ behind)))
     (clean : fault s (next n text) ≡ None) where
   is_taken : (meta : Option Maps) → IsReadAs s meta functions block done → IsTaken (step s (next n text)) meta functions done (n + 1) behind documents
-  is_taken None (held, none, read) =
+  is_taken None (held, read) =
       let t = step s (next n text) in
-      let all : scan_of s block done ≡ s = λ i. record s { meta = held i; functions = none i ++ s.functions } in
-      let same : t ≡ scan_of t t.meta done = λ i. record t { functions = sym none i ++ t.functions } in
       record {
         block = t.meta;
-        read = (refl, none, read);
-        scanned = scanned ∙ ap (λ (u : Scan). scan u n (numbered (n + 1) (text ∷ behind))) all ∙ scan-takes s n text behind clean
-            ∙ ap (λ (u : Scan). scan u (n + 1) (numbered (n + 1 + 1) behind)) same;
+        read = (refl, read);
+        scanned = scanned ∙ ap (λ (b : List Line). scan (scan_of s b done) n (numbered (n + 1) (text ∷ behind))) held
+            ∙ scan_behind-takes s done n text behind clean;
       }
   is_taken (Some meta) (is, had, out, read) =
       let stays = step-stays s (next n text) had out clean in
@@ -91,18 +91,12 @@ knows-line r s text documents behind unrefused clean is known =
 
 metadata_known : (s : Scan) (meta : Option Maps) (functions : List Parsed) (block : List Line) (done : List FunctionDocument) →
     IsReadAs s meta functions block done → unwrap_or meta (metadata_of s.meta) ≡ metadata_of block
-metadata_known s None functions block done (held, none, read) = ap metadata_of (sym held)
+metadata_known s None functions block done (held, read) = ap metadata_of (sym held)
 metadata_known s (Some meta) functions block done (is, had, out, read) = is
-
-none_read : (meta : Maps) → FunctionsFrom meta [] [] (Ok [])
-unfolding FunctionsFrom
-none_read meta = refl
 
 functions_known : (s : Scan) (meta : Option Maps) (functions : List Parsed) (block : List Line) (done : List FunctionDocument) →
     IsReadAs s meta functions block done → FunctionsFrom (metadata_of block) [] done (Ok functions)
-functions_known s None functions block done (held, none, read) =
-    subst (λ (fs : List Parsed). FunctionsFrom (metadata_of block) [] done (Ok fs)) (sym read)
-    (subst (λ (ds : List FunctionDocument). FunctionsFrom (metadata_of block) [] ds (Ok [])) (sym none) (none_read (metadata_of block)))
+functions_known s None functions block done (held, read) = read (metadata_of block)
 functions_known s (Some meta) functions block done (is, had, out, read) = subst (λ (m : Maps). FunctionsFrom m [] done (Ok functions)) is read
 
 -- a scan whose lines of the block and whose functions were taken out
@@ -180,6 +174,54 @@ module _ (t u : PartialProgram) (all : HasReadAll t u) (unrefused : t.refused �
       let here = all block done read in
       let at_end = scanned ∙ scan_of-ends t.scan block done t.lines ∙ ap (found (scan_of t.scan block done)) clean in
       ended documents block done at_end here.0 u.refused refl here.2
+
+-- ---- a function that waited alone was read
+
+module _ (d : FunctionDocument) (p : Parsed) (parses : (meta : Maps) → Parses meta d (Ok p)) (functions : List Parsed) (few : length functions < MAX_FUNCTIONS)
+  where
+    one_read : (meta : Maps) → FunctionsFrom meta functions (d ∷ []) (Ok (functions ++ p ∷ []))
+    unfolding FunctionsFrom
+    one_read meta = ((λ full. absurd (omega (arith, full, few))), (λ l. (Ok p, parses meta, refl)))
+
+    read_behind : (meta : Maps) (done : List FunctionDocument) → FunctionsFrom meta [] done (Ok functions) →
+        FunctionsFrom meta [] (done ++ d ∷ []) (Ok (functions ++ p ∷ []))
+    read_behind meta done read = FunctionsFrom-append meta done (d ∷ []) [] functions (Ok (functions ++ p ∷ [])) read (one_read meta)
+
+    -- nothing else is no longer held
+    read_as : (s : Scan) (meta : Option Maps) (block : List Line) (done : List FunctionDocument) → IsReadAs s meta functions block done →
+        IsReadAs (record s { functions = [] }) meta (functions ++ p ∷ []) block (done ++ d ∷ [])
+    read_as s None block done (held, read) = (held, λ meta. read_behind meta done (read meta))
+    read_as s (Some meta) block done (is, had, out, read) = (is, had, out, read_behind meta done read)
+
+-- the program that holds these documents, and read these functions
+abbrev pub with_early : PartialProgram → List FunctionDocument → List Parsed → PartialProgram
+with_early r waiting functions = record r { scan = record r.scan { functions = waiting }; functions = functions }
+
+module _ (r : PartialProgram) (p : Parsed) (unrefused : r.refused ≡ None) (few : length r.functions < MAX_FUNCTIONS) where
+  early_known : IsOnly r.scan.functions p → (documents : Documents) (behind : List (List ℕ)) → Knows r documents behind →
+      Knows (with_early r [] (r.functions ++ p ∷ [])) documents behind
+  early_known only documents behind (is_refused refusal same answer) =
+      let wrong : Some refusal ≡ None = sym same ∙ unrefused in absurd cc
+  early_known (d, one, parses) documents behind (goes_on block done none read scanned) =
+      let all : done ++ r.scan.functions ≡ (done ++ d ∷ []) ++ [] =
+      ap (λ (ds : List FunctionDocument). done ++ ds) one ∙ sym (append-nil (done ++ d ∷ [])) in
+      goes_on block (done ++ d ∷ []) none (read_as d p parses r.functions few r.scan r.meta block done read) (scanned ∙ (λ i. scan (record r.scan {
+        meta = block;
+        functions = all i;
+      }) r.lines (numbered (r.lines + 1) behind)))
+
+  pub knows-early : (waiting : List FunctionDocument) (functions : List Parsed) → waiting ≡ [] → functions ≡ r.functions ++ p ∷ [] →
+      IsOnly r.scan.functions p → (documents : Documents) (behind : List (List ℕ)) → Knows r documents behind →
+      Knows (with_early r waiting functions) documents behind
+  knows-early waiting functions none more only documents behind known =
+      subst (λ (ds : List FunctionDocument). Knows (with_early r ds functions) documents behind) (sym none)
+      (subst (λ (fs : List Parsed). Knows (with_early r [] fs) documents behind) (sym more) (early_known only documents behind known))
+
+-- a list of one document
+pub only_one : (ds : List FunctionDocument) (d : FunctionDocument) → length ds ≡ 1 → d ≡ get_or ds 0 d → ds ≡ d ∷ []
+only_one [] d long is = absurd (omega (arith, long))
+only_one (x ∷ []) d long is = ap (λ (e : FunctionDocument). e ∷ []) (sym is)
+only_one (x ∷ y ∷ rest) d long is = absurd (omega (arith, long))
 
 -- ---- a line where the text is no sequence of documents
 

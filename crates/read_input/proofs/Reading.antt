@@ -1,13 +1,15 @@
 -- What a reader knows of a text, from call to call.
-use Rattle.std.proofs.Common.{◌≡◌, ◌==◌, ℕ, ◌+◌, ◌-◌, true, false, List, [], ◌∷◌, ◌++◌, length, take, drop, Some, None, All, refl, sym, ap, subst, ◌∙◌, append_assoc}
+use Rattle.std.proofs.Common.{◌≡◌, ◌==◌, ℕ, ◌+◌, ◌-◌, true, false, List, [], ◌∷◌, ◌++◌, length, take, drop, Some, None, Ok, All, refl, sym, ap, subst, ◌∙◌, append_assoc}
 use Rattle.std.specs.Prelude.{is_some, position}
 use Rattle.std.specs.Str.Lines.{lines, strip_carriage_return}
 use Rattle.std.proofs.lemmas.List.{append-nil, take_rest}
 use Rattle.std.proofs.lemmas.List.Elements.{All-nil, All-append}
+use Rattle.read_metadata.specs.Maps.{Maps}
 use Rattle.read_documents.specs.declared.parts.Documents.{Documents}
 use Rattle.read_documents.specs.Documents.{documents_of}
 use Rattle.read_documents.specs.steps.Scan.{start}
 use Rattle.read_documents.proofs.Scanned.{scan-lines_of}
+use Rattle.read_program.specs.Program.{FunctionsFrom}
 use Rattle.read_input.specs.declared.partial.PartialProgram.{PartialProgram}
 use Rattle.read_input.specs.declared.reader.ProgramReader.{ProgramReader}
 use Rattle.read_input.specs.Reading.{Knows, goes_on, IsReadingOf}
@@ -18,8 +20,13 @@ use Rattle.read_input.proofs.Program.{knows-refused}
 abbrev nothing : PartialProgram
 nothing = record { lines = 0; scan = start; meta = None; functions = []; refused = None }
 
+-- no document was read
+none_read : (meta : Maps) → FunctionsFrom meta [] [] (Ok [])
+unfolding FunctionsFrom
+none_read meta = refl
+
 knows-start : (future : List ℕ) → Knows nothing (documents_of ([] ++ future)) (lines ([] ++ future))
-knows-start future = goes_on [] [] refl (refl, refl, refl) (sym (scan-lines_of future))
+knows-start future = goes_on [] [] refl (refl, none_read) (sym (scan-lines_of future))
 
 pub reading-start : (r : ProgramReader) → r.line ≡ [] → r.program ≡ nothing → IsReadingOf r []
 reading-start r empty same = record {

@@ -170,6 +170,59 @@ module _ (s : Scan) (block : List Line) (done : List FunctionDocument) (n : ℕ)
       scan-takes (scan_of s block done) n text behind (fault-scan_of s block done (next n text) ∙ none)
       ∙ ap (λ (t : Scan). scan t (n + 1) (numbered (n + 1 + 1) behind)) (step-scan_of s block done (next n text) out)
 
+-- ---- the scan whose block is held, and whose functions aren't all
+
+-- before the block has closed only functions are no longer held
+abbrev pub scan_behind : Scan → List FunctionDocument → Scan
+scan_behind s done = scan_of s s.meta done
+
+module _ (s : Scan) (done : List FunctionDocument) (line : Line) where
+  closes_behind : (f : OpenFunction) (closes : Bool)
+      → cond closes (record (scan_behind s done) { function = None; functions = (done ++ s.functions) ++ closed_at f line.number ∷ [] }) (record (scan_behind s
+      done) { function = Some (taken f line) })
+      ≡ scan_behind (cond closes (record s { function = None; functions = s.functions ++ closed_at f line.number ∷ [] }) (record s {
+        function = Some (taken f line);
+      })) done
+  closes_behind f true =
+      let e = append_assoc done s.functions (closed_at f line.number ∷ []) in
+      λ i. record (scan_behind s done) { function = None; functions = e i }
+  closes_behind f false = refl
+
+  opens_behind : (passed opens function : Bool)
+      → cond passed (scan_behind s done) (cond opens (record (scan_behind s done) { had_block = true; in_block = true }) (cond function (record (scan_behind s
+      done) { function = Some (just_opened line.number) }) (scan_behind s done)))
+      ≡ scan_behind (cond passed s (cond opens (record s { had_block = true; in_block = true }) (cond function (record s {
+        function = Some (just_opened line.number);
+      }) s))) done
+  opens_behind true opens function = refl
+  opens_behind false true function = refl
+  opens_behind false false true = refl
+  opens_behind false false false = refl
+
+  in_block_behind : (closes : Bool)
+      → cond closes (record (scan_behind s done) { in_block = false }) (record (scan_behind s done) { meta = s.meta ++ line ∷ [] })
+      ≡ scan_behind (cond closes (record s { in_block = false }) (record s { meta = s.meta ++ line ∷ [] })) done
+  in_block_behind true = refl
+  in_block_behind false = refl
+
+  between_behind : (inside : Bool)
+      → cond inside (block_step (scan_behind s done) line) (outside_step (scan_behind s done) line)
+      ≡ scan_behind (cond inside (block_step s line) (outside_step s line)) done
+  between_behind true = in_block_behind (is_close line.text)
+  between_behind false = opens_behind (is_passed line.text) (opens_block line.text) (opens_function line.text)
+
+  steps_behind : (f : Option OpenFunction) → step_in (scan_behind s done) f line ≡ scan_behind (step_in s f line) done
+  steps_behind (Some f) = closes_behind f (is_close line.text)
+  steps_behind None = between_behind s.in_block
+
+-- a line that is no fault is taken in front of the block too
+pub scan_behind-takes : (s : Scan) (done : List FunctionDocument) (n : ℕ) (text : List ℕ) (behind : List (List ℕ)) → fault s (next n text) ≡ None →
+    scan (scan_behind s done) n (numbered (n + 1) (text ∷ behind)) ≡
+    scan (scan_behind (step s (next n text)) done) (n + 1) (numbered (n + 1 + 1) behind)
+scan_behind-takes s done n text behind none =
+    scan-takes (scan_behind s done) n text behind (fault-scan_of s s.meta done (next n text) ∙ none)
+    ∙ ap (λ (t : Scan). scan t (n + 1) (numbered (n + 1 + 1) behind)) (steps_behind s done (next n text) s.function)
+
 fault_at_end_in : (s : Scan) (block : List Line) (done : List FunctionDocument) (n : ℕ) (f : Option OpenFunction) →
     fault_at_end (scan_of s block done) f n ≡ fault_at_end s f n
 fault_at_end_in s block done n (Some f) = refl

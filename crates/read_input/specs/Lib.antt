@@ -1,2 +1,3 @@
+pub mod Unmarked
 pub mod Reading
 pub mod Input

@@ -23,10 +23,10 @@ use Rattle.read_input.specs.declared.reader.ProgramReader.{ProgramReader}
 abbrev pub scan_of : Scan → List Line → List FunctionDocument → Scan
 scan_of s block done = record s { meta = block; functions = done ++ s.functions }
 
--- What is no longer held: nothing before the block has closed. Behind it the lines of the block, which say this metadata, and the documents that were read
--- as these functions.
+-- What is no longer held. Before the block has closed that is documents that were read as these functions whatever the metadata is; behind it the lines of
+-- the block, which say this metadata, and the documents that were read as these functions.
 abbrev pub IsReadAs : Scan → Option Maps → List Parsed → (block : List Line) → (done : List FunctionDocument) → Type 0
-IsReadAs s None functions block done = (block ≡ s.meta) × (done ≡ []) × (functions ≡ [])
+IsReadAs s None functions block done = (block ≡ s.meta) × ((meta : Maps) → FunctionsFrom meta [] done (Ok functions))
 IsReadAs s (Some meta) functions block done =
     (meta ≡ metadata_of block) × (s.had_block ≡ true) × (s.in_block ≡ false) × FunctionsFrom meta [] done (Ok functions)
 

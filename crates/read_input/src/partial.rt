@@ -1,20 +1,24 @@
 //! What was read of a program, line by line.
 
 ghost use Rattle.std.specs.Prelude.{◌≡◌, ◌==◌, ◌+◌, ◌^◌, ◌<◌, ◌∷◌, [], ℕ, true, false, List, None, is_some};
-ghost use Rattle.std.specs.Prelude.{unwrap_or, IfOk, OnOk, All};
+ghost use Rattle.std.specs.Prelude.{unwrap_or, IfOk, IfSome, OnOk, All};
 ghost use Rattle.std.specs.Str.Lines.{lines};
 ghost use Rattle.read_metadata.specs.Metadata.{metadata_of};
 ghost use Rattle.read_documents.specs.declared.parts.Documents.{Documents};
 ghost use Rattle.read_documents.specs.steps.Scan.{start};
 ghost use Rattle.read_input.specs.Reading.{Knows, HasReadAll, Stops, Ends, IsSettled};
+ghost use Rattle.read_input.specs.Unmarked.{IsOnly};
 
+use crate::unmarked::parse_unmarked;
 use base_list::List;
+use read_documents::parts::FunctionDocument;
 use read_documents::scan::Scan;
 use read_documents::text::trimmed;
 use read_lexer::line::Lines;
 use read_metadata::metadata::{Metadata, read_meta};
+use read_program::closing::Parsed;
 use read_program::error::ParseError;
-use read_program::program::{ParsedFunctions, read_functions};
+use read_program::program::{MAX_FUNCTIONS, ParsedFunctions, read_functions};
 use read_refusal::first::Refusal;
 use read_refusal::kind::RefusalKind;
 use std::alloc::{AllocError, Global};
@@ -62,9 +66,13 @@ impl PartialProgram {
         if let Some(bad) = self.scan.fault(self.lines, text) {
             return self.stop(alloc, bad);
         }
+        let waited = self.scan.functions.len();
         self.scan.take(alloc, self.lines, text)?;
         if self.is_due() {
             return self.read_on(alloc);
+        }
+        if waited == 0 {
+            return self.read_early(alloc);
         }
         Ok(())
     }
@@ -75,6 +83,25 @@ impl PartialProgram {
     {
         let is_behind_block = self.scan.had_block && !self.scan.in_block;
         is_behind_block && (self.meta.is_none() || !self.scan.functions.is_empty())
+    }
+
+    /// Reads the function that waits alone for the metadata, if it is the same whatever the metadata is.
+    fn read_early(&mut self, alloc: Global) -> Result<(), AllocError>
+        requires unrefused { self.old.refused ≡ None }
+        ensures lines { self.new.lines ≡ self.old.lines }
+        ensures known { OnOk result ((documents : Documents) (behind : List (List ℕ)) →
+            Knows self.old documents behind → Knows self.new documents behind) }
+    {
+        if MAX_FUNCTIONS <= self.functions.len() {
+            return Ok(());
+        }
+        match early(alloc, self.scan.functions.as_slice())? {
+            Some(parsed) => {
+                self.scan.functions = List::new(alloc);
+                self.functions.push(parsed)
+            }
+            None => Ok(()),
+        }
     }
 
     /// Takes the bytes behind the last LF, which are a line if there are any.
@@ -147,6 +174,16 @@ impl PartialProgram {
         self.refused = Some(self.refused.unwrap_or(bad));
         Ok(())
     }
+}
+
+/// The function of the only document of these, if there is one and it is the same whatever the metadata is.
+fn early(alloc: Global, documents: &[FunctionDocument]) -> Result<Option<Parsed>, AllocError>
+    ensures { IfOk result (λ read. IfSome read (λ p. IsOnly documents.now p)) }
+{
+    if documents.len() != 1 {
+        return Ok(None);
+    }
+    parse_unmarked(alloc, &documents[0])
 }
 
 /// The metadata that was read, or else that in the lines of the block.

@@ -16,6 +16,28 @@ body: |
     PseudoRET
 ...";
 
+/// Three functions, of which the second one has a debug value, so that it and the third one wait for metadata.
+const WAITING: &str = "---
+name: f
+body: |
+  bb.0:
+    PseudoRET
+...
+---
+name: g
+body: |
+  bb.0:
+    DBG_VALUE $x10, $noreg, !1, !DIExpression()
+    PseudoRET
+...
+---
+name: h
+body: |
+  bb.0:
+    PseudoRET
+...
+";
+
 /// Texts, how many bytes are within the limit, and which call of the input fails; and how many functions are read, or
 /// why none is.
 const INPUTS: &[(&str, u8, u64, &str)] = &[
@@ -28,6 +50,7 @@ const INPUTS: &[(&str, u8, u64, &str)] = &[
     ("junk", 4, 2, "reading failed"),
     (RETURN, 46, 0, "1"),
     (RETURN, 45, 0, "the input is too long"),
+    (WAITING, 186, 0, "3"),
 ];
 
 /// Appends how many functions are read, or why none is.

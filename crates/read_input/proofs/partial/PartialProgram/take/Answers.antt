@@ -27,6 +27,17 @@ returns-then-is_due-clause-known c =
     c.read_on.ensures.lines due.0 due.1 documents behind (knows-line r c.take.new.self text documents behind c.requires.unrefused clean is known))
     c.read_on.ensures.read
 
+pub returns-then-waited-eq0-clause-known : goal.returns-then-waited-eq0-clause-known
+returns-then-waited-eq0-clause-known c =
+    let r = c.args.self.now in
+    let text = c.args.text.now in
+    let clean : fault r.scan (next r.lines text) ≡ None =
+    ap (λ (t : List ℕ). fault r.scan (record { number = r.lines + 1; text = t })) (sym c.trimmed-text.ensures) ∙ sym c.fault.ensures ∙ c.in_default.is in
+    let is : c.take.new.self ≡ step r.scan (next r.lines text) =
+    c.in_ok-take.ensures ∙ ap (λ (t : List ℕ). step r.scan (record { number = r.lines + 1; text = t })) c.trimmed-text.ensures in
+    on_ok_weaker c.read_early.result (λ early documents behind known. early documents behind (knows-line r c.take.new.self text documents behind
+    c.requires.unrefused clean is known)) c.read_early.ensures.known
+
 pub returns-clause-known : goal.returns-clause-known
 returns-clause-known c = λ documents behind known.
     let r = c.args.self.now in
