@@ -77,7 +77,7 @@ length-header : (n m : ℕ) → length (header n m) ≡ 12
 length-header n m = refl
 
 -- how many lists there are stands in the header
-header_one : (n n' m m' : ℕ) → m < 2 ^ 32 → m' < 2 ^ 32 → header n m ≡ header n' m' → m ≡ m'
+pub header_one : (n n' m m' : ℕ) → m < 2 ^ 32 → m' < 2 ^ 32 → header n m ≡ header n' m' → m ≡ m'
 header_one n n' m m' fits fits' e =
     let counts = (cut (before n) (before n') (to_le_bytes w32 m) (to_le_bytes w32 m') refl e).1 in
     sym (from_le_bytes-to_le_bytes_4 m fits) ∙ ap (from_le_bytes w32) counts ∙ from_le_bytes-to_le_bytes_4 m' fits'

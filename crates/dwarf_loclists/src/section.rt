@@ -96,8 +96,9 @@ fn list_len(ranges: &[Range]) -> usize
     size
 }
 
-/// Appends the header: the length of what follows the length field, and the number of lists, among others.
-fn push_header(out: &mut Vec<u8>, length: u32, count: u32) -> Result<(), AllocError>
+/// Appends the header: the length of what follows the length field, and the number of lists, among others. Range lists
+/// have the same (DWARF 5 section 7.28).
+pub fn push_header(out: &mut Vec<u8>, length: u32, count: u32) -> Result<(), AllocError>
     ensures { OnOk result (out.new.items ≡ out.old.items ++ header length count) }
 {
     out.extend_from_slice(&length.to_le_bytes())?;

@@ -321,7 +321,7 @@ fn phi_of(forms: &[OperandForm]) -> Option<PhiForm>
 }
 
 /// The `inlinedAt` node of a debug location.
-fn inlined_at(meta: &Metadata, loc: Loc) -> Option<NodeId>
+pub fn inlined_at(meta: &Metadata, loc: Loc) -> Option<NodeId>
     ensures { result ≡ inlined_at meta.now loc }
 {
     match loc {

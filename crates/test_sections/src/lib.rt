@@ -22,6 +22,8 @@ mod no_functions;
 #[cfg(test)]
 mod objects;
 #[cfg(test)]
+mod range_lists;
+#[cfg(test)]
 mod symbol_tables;
 #[cfg(test)]
 mod table;

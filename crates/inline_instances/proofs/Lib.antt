@@ -1,0 +1,11 @@
+pub mod Ways
+pub mod Members
+pub mod Marks
+pub mod Tables
+pub mod Uses
+pub mod Entering
+pub mod RangeLemmas
+pub mod Shifts
+pub mod SoFar
+pub mod Walked
+pub mod Covers

@@ -1,0 +1,5 @@
+pub mod Calls
+pub mod Words
+pub mod Instances
+pub mod Laws
+pub mod steps

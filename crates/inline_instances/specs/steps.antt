@@ -1,0 +1,4 @@
+pub mod Marks
+pub mod Table
+pub mod Open
+pub mod SoFar
