@@ -1,3 +1,3 @@
 pub mod Made
 pub mod Steps
-mod ReadLemmas
+pub mod ReadLemmas

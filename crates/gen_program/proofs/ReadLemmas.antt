@@ -39,13 +39,13 @@ use Rattle.gen_program.proofs.Steps.{TOP, generated_made, of_made}
 
 -- ---- lists of operands
 
-one : (P : Operand → Type 0) (a : Operand) → P a → All P (a ∷ [])
+pub one : (P : Operand → Type 0) (a : Operand) → P a → All P (a ∷ [])
 one P a p = All-cons P a [] p (All-nil P)
 
-two : (P : Operand → Type 0) (a b : Operand) → P a → P b → All P (a ∷ b ∷ [])
+pub two : (P : Operand → Type 0) (a b : Operand) → P a → P b → All P (a ∷ b ∷ [])
 two P a b p q = All-cons P a (b ∷ []) p (one P b q)
 
-three : (P : Operand → Type 0) (a b c : Operand) → P a → P b → P c → All P (a ∷ b ∷ c ∷ [])
+pub three : (P : Operand → Type 0) (a b c : Operand) → P a → P b → P c → All P (a ∷ b ∷ c ∷ [])
 three P a b c p q r = All-cons P a (b ∷ c ∷ []) p (two P b c q r)
 
 -- ---- items

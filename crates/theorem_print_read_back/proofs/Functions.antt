@@ -293,7 +293,7 @@ module _ (meta : Maps) (doc : FunctionDocument) (d : Declarations) (body : Body)
 
 -- ---- a function
 
-found_alone : (f : Document) → IsDocument f →
+pub found_alone : (f : Document) → IsDocument f →
     documents_of (text_of_lines (document_lines f)) ≡ record { meta = []; functions = document_at 1 f ∷ []; bad = None }
 unfolding documents_at
 found_alone f is =
