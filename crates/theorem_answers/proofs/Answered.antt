@@ -2,13 +2,23 @@
 -- without `.debug_frame`.
 use Rattle.std.proofs.Common.{◌≢◌, ℕ, ◌≤◌, [], length, refl, ap, arith}
 use Rattle.cli.specs.declared.command.PassPipeline.{PassPipeline}
+use Rattle.cli.specs.declared.command.Command.TheVariants.{Strip}
 use Rattle.cli.specs.declared.fault.Fault.{Fault}
+use Rattle.mir_func_printer.specs.FuncText.{func_text}
+use Rattle.read_program.specs.declared.program.Program.{Program}
+use Rattle.gen_function.specs.Generator.{generated}
+use Rattle.gen_text.specs.GeneratedText.{generated_text}
 use Rattle.gen_program.specs.Program.{generated_program}
 use Rattle.gen_sizes.proofs.Frames.{generated_frames_are_small}
 use Rattle.gen_sizes.proofs.Sections.{generated_sections_are_small}
 use Rattle.tool_driver.specs.Refusals.{RefusesProgram, unknown_function, frame_too_large, section_too_large, frame_section_too_large}
 use Rattle.tool_driver.specs.Refusals.{object_too_large, no_symbol_name, answers}
-use Rattle.theorem_answers.specs.Laws.{compile_by, GeneratedProgramsAreAnswered, GeneratedTextsAreAnswerable}
+use Rattle.tool_driver.specs.Limits.{INPUT_LIMIT}
+use Rattle.theorem_gen_text.specs.Laws.{program_of_text}
+use Rattle.theorem_gen_text.proofs.Texts.{generated_documents_are_read, generated_texts_are_read}
+use Rattle.theorem_gen_text.proofs.Sizes.{generated_texts_are_short}
+use Rattle.theorem_answers.specs.Laws.{compile_by, GeneratedProgramsAreAnswered, GeneratedTextsAreAnswerable, GeneratedDocumentsAreAnswerable}
+use Rattle.theorem_answers.specs.Laws.{GeneratedTextsAreStripped}
 
 no_cause : {fault : Fault} (number count : ℕ) (plan : PassPipeline) → 1 ≤ count → count ≤ 512 →
     RefusesProgram (compile_by plan) (generated_program number count) fault → ⊥
@@ -31,3 +41,38 @@ texts_are_answerable number count plan text some few within reads =
     answers (generated_program number count) tt
     (record { text = text; told = refl; within = within; has = record { reads = reads; some = has_function number count } })
     (programs_are_answered number count plan some few)
+
+-- ---- the texts
+
+limited : (n : ℕ) → n ≤ 2097152 → n ≤ INPUT_LIMIT
+limited n short = omega (arith, short)
+
+pub documents_are_answerable : GeneratedDocumentsAreAnswerable
+documents_are_answerable number count plan some few =
+    let text = func_text (generated number count) [] in
+    texts_are_answerable number count plan text some few (limited (length text) (generated_texts_are_short number count few).document)
+    (generated_documents_are_read number count some few)
+
+-- nothing refuses a program that is stripped
+none_stripped : {fault : Fault} (program : Program) → RefusesProgram Strip program fault → ⊥
+none_stripped program (unknown_function run same unknown) = absurd cc
+none_stripped program (frame_too_large plan same named large) = absurd cc
+none_stripped program (section_too_large plan same named large) = absurd cc
+none_stripped program (frame_section_too_large asked same framed large) = absurd cc
+none_stripped program (object_too_large plan same large) = absurd cc
+none_stripped program (no_symbol_name plan same invalid) = absurd cc
+
+text_has_function : (number count : ℕ) → (program_of_text number count).functions ≢ []
+text_has_function number count none = let long = ap length none in absurd (omega (arith, long))
+
+pub texts_are_stripped : GeneratedTextsAreStripped
+texts_are_stripped number count some few =
+    let text = generated_text number count in
+    answers (program_of_text number count) tt
+    (record {
+      text = text;
+      told = refl;
+      within = limited (length text) (generated_texts_are_short number count few).text;
+      has = record { reads = generated_texts_are_read number count some few; some = text_has_function number count };
+    })
+    (λ fault refused. none_stripped (program_of_text number count) refused)

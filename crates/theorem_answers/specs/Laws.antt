@@ -1,9 +1,12 @@
 -- The statements of the theorems on what is answered.
-use Rattle.std.specs.Prelude.{ℕ, ◌≤◌, false, List, length, Some, Ok}
+use Rattle.std.specs.Prelude.{ℕ, ◌≤◌, false, List, [], length, Some, Ok}
+use Rattle.mir_func_printer.specs.FuncText.{func_text}
 use Rattle.read_program.specs.Program.{ReadsText}
 use Rattle.cli.specs.declared.command.Command.{Command}
-use Rattle.cli.specs.declared.command.Command.TheVariants.{Compile}
+use Rattle.cli.specs.declared.command.Command.TheVariants.{Compile, Strip}
 use Rattle.cli.specs.declared.command.PassPipeline.{PassPipeline}
+use Rattle.gen_function.specs.Generator.{generated}
+use Rattle.gen_text.specs.GeneratedText.{generated_text}
 use Rattle.gen_program.specs.Program.{generated_program}
 use Rattle.tool_driver.specs.Limits.{INPUT_LIMIT}
 use Rattle.tool_driver.specs.Refusals.{IsAnswered, IsAnswerable}
@@ -21,3 +24,12 @@ GeneratedProgramsAreAnswered = (number count : ℕ) (plan : PassPipeline) → 1 
 abbrev pub GeneratedTextsAreAnswerable : Type 0
 GeneratedTextsAreAnswerable = (number count : ℕ) (plan : PassPipeline) (text : List ℕ) → 1 ≤ count → count ≤ 512 → length text ≤ INPUT_LIMIT →
     ReadsText text (Ok (generated_program number count)) → IsAnswerable (compile_by plan) (Some text)
+
+-- The document of a generated function can be compiled, by any passes.
+abbrev pub GeneratedDocumentsAreAnswerable : Type 0
+GeneratedDocumentsAreAnswerable = (number count : ℕ) (plan : PassPipeline) → 1 ≤ count → count ≤ 512 →
+    IsAnswerable (compile_by plan) (Some (func_text (generated number count) []))
+
+-- What `gen` writes can be stripped.
+abbrev pub GeneratedTextsAreStripped : Type 0
+GeneratedTextsAreStripped = (number count : ℕ) → 1 ≤ count → count ≤ 512 → IsAnswerable Strip (Some (generated_text number count))

@@ -1,0 +1,5 @@
+pub mod Walk
+pub mod Free
+pub mod Allocation
+pub mod Coloring
+pub mod Laws

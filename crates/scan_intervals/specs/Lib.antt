@@ -1,0 +1,4 @@
+pub mod Liveness
+pub mod Points
+pub mod Intervals
+pub mod Blocked
