@@ -13,7 +13,8 @@
   bench/growth.py locations           of frame, layout, values over all paths and location lists, on blocks, items and variables
   bench/growth.py sections            what the sections of `compile` take beside its listing, on functions with variables and lines
   bench/growth.py passes              of copies, constants and spilled registers, in one block and in 1,024 blocks
-  bench/growth.py worst [KIND..]      the whole run of `compile` on texts that were made to be slow: ladder, rounds, dead, swing, chain, ring, copies
+  bench/growth.py worst [KIND..]      the whole run of `compile` on texts that were made to be slow: ladder, rounds, dead, swing, chain, ring, copies,
+                                      lines, marks, meets, all
   bench/growth.py lex                 the whole run of crates/mirdwarf_bench/out/mirdwarf_bench, on texts of 1, 2 and 4 MiB
 
 The program is crates/mirdwarf/out/mirdwarf, as the gate leaves it. Each line has the input's size, the count and its growth.
@@ -243,11 +244,13 @@ def lined(number):
     return b"".join(head) + b"...\n" + b"".join(b"---\nname: f%d\nbody: |\n  bb.0:\n%s    PseudoRET\n...\n" % (n, body) for n in range(number))
 
 
-def made_slow(entries, blocks, slots=0):
-    """A function of these lines of substitutions and of each block, with so many spill slots."""
+def made_slow(entries, blocks, slots=0, variables=0):
+    """A function of these lines of substitutions and of each block, with so many spill slots, and so many variables from !10 on."""
     meta = (b"--- |\n  !1 = !DIFile(filename: \"t.c\", directory: \"/d\")\n  !2 = !DIBasicType(name: \"long\", size: 64, encoding: DW_ATE_signed)\n"
             b"  !3 = distinct !DISubprogram(name: \"f\", scope: !1, file: !1, line: 1)\n  !5 = !DILocation(line: 2, column: 1, scope: !3)\n"
-            b"  !4 = !DILocalVariable(name: \"v\", scope: !3, file: !1, line: 1, type: !2)\n...\n---\nname: f\n")
+            b"  !4 = !DILocalVariable(name: \"v\", scope: !3, file: !1, line: 1, type: !2)\n"
+            + b"".join(b"  !%d = !DILocalVariable(name: \"v%d\", scope: !3, file: !1, line: 1, type: !2)\n" % (10 + n, n) for n in range(variables))
+            + b"...\n---\nname: f\n")
     stack = b"".join(b"  - { id: %d, size: 8 }\n" % n for n in range(slots))
     lines = b"".join(b"  bb.%d:\n" % n + b"".join(b"    " + line + b"\n" for line in block) for n, block in enumerate(blocks))
     return meta + (b"debugValueSubstitutions:\n" + b"".join(entries) if entries else b"") + (b"stack:\n" + stack if slots else b"") + b"body: |\n" + lines + b"...\n"
@@ -301,7 +304,35 @@ def copies(number):
     return made_slow([], [[*lines, RETURN]])
 
 
-# Of each kind of slow text: what is doubled, from what on, how often, and the text of a size.
+ASKED_BY = b"DBG_INSTR_REF !%d, !DIExpression(DW_OP_LLVM_arg, 0), dbg-instr-ref(%d, 0), debug-location !5"
+
+
+def quiet_lines(variables):
+    """Variables in two registers, and seven times as many sums of another one: no variable's location changes any more."""
+    first = [b"DBG_VALUE $x%d, $noreg, !%d, !DIExpression(), debug-location !5" % (8 + n % 2, 10 + n) for n in range(variables)]
+    return made_slow([], [[*first, *([b"$x11 = ADDI $x11, 1"] * (7 * variables)), RETURN]], 0, variables)
+
+
+def marks(variables):
+    """One number, and eight marks of it for each variable, in turn."""
+    turns = [ASKED_BY % (10 + n % variables, 1) for n in range(8 * variables - 3)]
+    return made_slow([], [[b"$x11 = ADDI $x11, 1, debug-instr-number 1", *turns, RETURN]], 0, variables)
+
+
+def meets(blocks):
+    """Diamonds: where two paths meet, registers, slots and variables have another value on each."""
+    lines = []
+    for n in range(blocks // 3):
+        registers, slot = [5 + (n + k) % 3 for k in range(3)], n % min(blocks // 4, 224)
+        sums = [line for k, r in enumerate(registers) for line in (
+            b"$x%d = ADDI $x%d, 1, debug-instr-number %d" % (r, r, 3 * n + k + 1), b"SD $x%d, %%stack.%d, 0" % (r, slot),
+            ASKED_BY % (10 + (3 * n + k) % (blocks // 4), 3 * n + k + 1))]
+        lines += [[b"BEQ $x10, $x11, %%bb.%d" % (3 * n + 2)], sums, [b"$x12 = ADDI $x10, 1"]]
+    return made_slow([], [*lines, [RETURN]], min(blocks // 4, 224), blocks // 4)
+
+
+# Of each kind of slow text: what is doubled, from what on, how often, and the text of a size. Passes would take away what makes these slow:
+NO_PASSES = ("lines", "marks", "meets")
 WORST = {
     "ladder": ("blocks", 64, 3, ladder),
     "rounds": ("loops of two blocks", 10, 3, rounds),
@@ -310,6 +341,10 @@ WORST = {
     "chain": ("substitutions", 1000, 3, lambda n: substituted(n, 1)),
     "ring": ("substitutions", 1000, 3, lambda n: substituted(n, 10000)),
     "copies": ("copies", 250, 3, copies),
+    "lines": ("variables, seven lines each", 128, 2, quiet_lines),
+    "marks": ("variables, eight marks each", 256, 2, marks),
+    "meets": ("blocks, a variable and a slot for four", 128, 3, meets),
+    "all": ("blocks, a variable and eight items each", 128, 3, lambda n: located(n, 8 * n, n)),
 }
 
 
@@ -410,7 +445,8 @@ def main():
     elif what[:1] == ["worst"] and all(kind in WORST for kind in what[1:]):
         for kind in what[1:] or WORST:
             by, first, times, make = WORST[kind]
-            table("%s, by %s" % (kind, by), "crates/mirdwarf/out/mirdwarf", ["compile"], [first << n for n in range(times + 1)], make)
+            words = ["compile", "--passes=none"] if kind in NO_PASSES else ["compile"]
+            table("%s, by %s" % (kind, by), "crates/mirdwarf/out/mirdwarf", words, [first << n for n in range(times + 1)], make)
     elif what == ["sections"]:
         more("functions of four variables and 64 lines, by functions", ["compile", "--passes=none"], ["listing", "--passes=none"], (32, 64, 128, 256), lined)
     elif what == ["passes"]:

@@ -26,7 +26,8 @@ use Rattle.pass_edits.proofs.Under.{KindUnder, EntryUnder, greatest_under, items
 use Rattle.dce_salvage.specs.declared.salvage_numbers.Copied.{Copied}
 use Rattle.dce_salvage.specs.SalvageNumbers.{numbered_copy, added_by_salvage, salvaged_from, salvaged_items, SoFar}
 use Rattle.dce_salvage.specs.SalvageNumbers.{salvage_by, salvage_copy, copy_in, salvage_at, salvage_down}
-use Rattle.dce_salvage.specs.SalvageBlocks.{going_from, BlocksSoFar, in_block, salvage_block, salvage_next, salvage_blocks}
+use Rattle.pass_salvage.specs.SalvageAction.{going_from}
+use Rattle.dce_salvage.specs.SalvageBlocks.{BlocksSoFar, in_block, salvage_block, salvage_next, salvage_blocks}
 use Rattle.dce_salvage.proofs.Down.{off_long}
 use Rattle.dce_salvage_proof.specs.SalvageLaws.{begins_off, all_off}
 use Rattle.dce_salvage_proof.proofs.Copy.{copy_of, split_at, Ready, copy_goes}

@@ -15,7 +15,8 @@ use Rattle.pass_trait.specs.declared.loss.Loss.{Loss}
 use Rattle.dce_rule.specs.Dead.{Ends}
 use Rattle.dce_rule.proofs.Lists.{drop_all}
 use Rattle.dce_analysis.specs.Judge.{verdicts}
-use Rattle.dce_salvage.specs.SalvageBlocks.{going_from, BlocksSoFar, in_block, salvage_block, salvage_blocks}
+use Rattle.pass_salvage.specs.SalvageAction.{going_from}
+use Rattle.dce_salvage.specs.SalvageBlocks.{BlocksSoFar, in_block, salvage_block, salvage_blocks}
 use Rattle.dce_proof.specs.SalvageLedger.{Line, lines_down, lines_in}
 use Rattle.dce_proof.proofs.Lines.{LinesAre, LineAt, lines_from, lines_more, all_now, Own, Done, down}
 

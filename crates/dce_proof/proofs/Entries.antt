@@ -32,7 +32,7 @@ use Rattle.pass_edits.proofs.Under.{KindUnder, no_entry}
 use Rattle.pass_edits.proofs.Found.{last_two, not_is}
 use Rattle.dce_salvage.specs.declared.salvage_numbers.Copied.{Copied}
 use Rattle.dce_salvage.specs.SalvageNumbers.{phi_by_own, added_by_salvage}
-use Rattle.dce_salvage.specs.SalvageBlocks.{going_from}
+use Rattle.pass_salvage.specs.SalvageAction.{going_from}
 use Rattle.pass_salvage.proofs.Placed.{above_length}
 use Rattle.dce_salvage_proof.proofs.Copy.{Ready}
 use Rattle.dce_proof.proofs.Lines.{giver_stays, number_other, number_same, get_left}

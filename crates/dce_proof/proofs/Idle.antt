@@ -15,7 +15,8 @@ use Rattle.dce_rule.specs.Wrong.{taken_out}
 use Rattle.dce_rule.specs.RemovalDebugRule.{LosesAt, AreWrong}
 use Rattle.dce_analysis.specs.Judge.{verdicts, AreJudged}
 use Rattle.dce_salvage.specs.SalvageNumbers.{SoFar, salvage_at, salvage_down}
-use Rattle.dce_salvage.specs.SalvageBlocks.{going_from, BlocksSoFar, in_block, salvage_block, with_front, salvage_blocks}
+use Rattle.pass_salvage.specs.SalvageAction.{going_from}
+use Rattle.dce_salvage.specs.SalvageBlocks.{BlocksSoFar, in_block, salvage_block, with_front, salvage_blocks}
 use Rattle.dce_salvage_proof.specs.SalvageLaws.{begins_off, all_off, function_off}
 use Rattle.dce_sweep.proofs.None.{some_true, some_dead, blocks_same, never_wrong, loses_none, right_false}
 use Rattle.dce_proof.specs.DebugRule.{dead_rule}

@@ -1,6 +1,6 @@
 -- What the lines of a ledger say: what stands for each item once copies that go have lost their numbers.
-use Rattle.std.proofs.Common.{◌≡◌, ◌⊎◌, ◌↔◌, inl, inr, Contains, ℕ, zero, suc, ◌+◌, ◌<◌, ◌≤◌, List, [], ◌∷◌, ◌++◌, length, take, drop, get_or}
-use Rattle.std.proofs.Common.{Option, Some, None, Bool, true, false, cond, not, ◌&&◌, ◌||◌, nat_eq, eq-eqb, ne_eqb, is_some, slice_get}
+use Rattle.std.proofs.Common.{◌≡◌, ◌⊎◌, ◌↔◌, inl, inr, Contains, ℕ, zero, suc, ◌<◌, ◌≤◌, List, [], ◌∷◌, ◌++◌, length, take, drop, get_or}
+use Rattle.std.proofs.Common.{Option, Some, None, Bool, true, false, cond, not, ◌&&◌, nat_eq, is_some, slice_get}
 use Rattle.std.proofs.Common.{append-nil, refl, sym, ap, ◌∙◌, subst, arith}
 use Rattle.std.specs.List.{flat_map, list_any}
 use Rattle.std.specs.Prelude.{nat_lt, ◌^◌}
@@ -26,6 +26,7 @@ use Rattle.pass_salvage.specs.SalvageAction.{has_entry, or_fresh, asks_for, may_
 use Rattle.pass_salvage.specs.SalvageAction.{action_of_kind, action_at, action_from, salvage_action, first_definition, last_definition}
 use Rattle.pass_salvage.specs.Salvage.{with_number, numbered_at, entry_for, entries_for, above_after}
 use Rattle.pass_salvage.proofs.Chosen.{IsEntered, entered}
+use Rattle.pass_salvage.proofs.Going.{removed_at}
 use Rattle.pass_edits.proofs.Found.{not_is}
 use Rattle.pass_edits.proofs.Entered.{entered_more, entry_added, none_there}
 use Rattle.dce_rule.specs.Dead.{Places, is_dead, needed_at}
@@ -33,13 +34,12 @@ use Rattle.dce_analysis.specs.Judge.{verdicts}
 use Rattle.dce_salvage.specs.declared.salvage_numbers.Copied.{Copied}
 use Rattle.dce_salvage.specs.SalvageNumbers.{without_number, numbered_copy, salvage_phi, added_by_salvage, lost_if_own, lost_by_salvage, salvaged_from}
 use Rattle.dce_salvage.specs.SalvageNumbers.{SoFar, salvage_by, salvage_copy, copy_in, salvage_at, salvage_down}
-use Rattle.dce_salvage.specs.SalvageBlocks.{going_from}
+use Rattle.pass_salvage.specs.SalvageAction.{going_from}
 use Rattle.pass_salvage.proofs.Placed.{numbered_length, above_length}
 use Rattle.dce_salvage_proof.proofs.Copy.{split_at}
 use Rattle.dce_proof.specs.SalvageLedger.{Line, line_by, line_of, line_of_copy, lines_of, lines_down}
 use Rattle.rv64_instr.specs.Row.{row_of}
 use Rattle.rv64_instr.specs.LocationEffects.{is_call}
-use Rattle.dce_sweep.proofs.None.{right_false}
 
 -- the copy's pair has an entry
 abbrev pub IsEnteredIn : List DebugSubstitution → ℕ → Type 0
@@ -101,25 +101,6 @@ lines_more subs more needed (x ∷ xs) (l ∷ ls) (next_line h rest) =
 
 -- ---- the indices of what goes
 
-none_below : (k n : ℕ) (ds : List Bool) → k < n → list_any (nat_eq k) (going_from n ds) ≡ false
-none_below k n [] lt = refl
-none_below k n (true ∷ ds) lt =
-    let a : nat_eq k n ≡ false = ne_eqb k n (λ e. omega (arith, e, lt)) in
-    let b = none_below k (suc n) ds (omega (arith, lt)) in
-    λ i. a i || b i
-none_below k n (false ∷ ds) lt = none_below k (suc n) ds (omega (arith, lt))
-
-stays_at : (d n : ℕ) (ds : List Bool) (k : ℕ) → k ≡ n + d → list_any (nat_eq k) (going_from n ds) ≡ false → get_or ds d false ≡ false
-stays_at d n [] k e h = refl
-stays_at zero n (true ∷ ds) k e h =
-    let t : nat_eq k n ≡ true = eq-eqb k n (omega (arith, e)) in
-    let bad : true ≡ false = sym (ap (λ (z : Bool). z || list_any (nat_eq k) (going_from (suc n) ds)) t) ∙ h in
-    cc
-stays_at zero n (false ∷ ds) k e h = refl
-stays_at (suc d) n (true ∷ ds) k e h =
-    stays_at d (suc n) ds k (omega (arith, e)) (right_false (nat_eq k n) (list_any (nat_eq k) (going_from (suc n) ds)) h)
-stays_at (suc d) n (false ∷ ds) k e h = stays_at d (suc n) ds k (omega (arith, e)) h
-
 second_of : (a b c d : Bool) → (a && b && c && d) ≡ true → b ≡ true
 second_of true true c d h = refl
 second_of true false c d h = cc
@@ -129,9 +110,9 @@ second_of false b c d h = cc
 pub giver_stays : (dead : List Bool) (subs : List DebugSubstitution) (fresh k s : ℕ) (above : List Item) (d o n : ℕ) →
     IsEntered (going_from 0 dead) subs fresh k s above d o n → get_or dead d false ≡ false
 giver_stays dead subs fresh k s above d o n e =
-    stays_at d 0 dead d (omega arith) (not_is (list_any (nat_eq d) (going_from 0 dead))
+    sym (removed_at dead 0 d d (omega arith)) ∙ not_is (list_any (nat_eq d) (going_from 0 dead))
     (second_of (nat_lt o (2 ^ 32)) (not (list_any (nat_eq d) (going_from 0 dead))) (not (has_entry subs e.own o))
-    (not (list_any (λ x. asks_for subs k x.kind) (drop (suc d) above))) e.may))
+    (not (list_any (λ x. asks_for subs k x.kind) (drop (suc d) above))) e.may)
 
 -- ---- lists by their indices
 

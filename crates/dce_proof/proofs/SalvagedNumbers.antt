@@ -20,7 +20,8 @@ use Rattle.rv64_instr.proofs.Moves.{moves_by}
 use Rattle.dce_salvage.specs.declared.salvage_numbers.Copied.{Copied}
 use Rattle.dce_salvage.specs.SalvageNumbers.{without_number, numbered_copy, phi_by_own, added_by_salvage, salvaged_from}
 use Rattle.dce_salvage.specs.SalvageNumbers.{salvaged_items, SoFar, salvage_copy, copy_in, salvage_at, salvage_down}
-use Rattle.dce_salvage.specs.SalvageBlocks.{going_from, BlocksSoFar, in_block, salvage_block, salvage_next, salvage_blocks}
+use Rattle.pass_salvage.specs.SalvageAction.{going_from}
+use Rattle.dce_salvage.specs.SalvageBlocks.{BlocksSoFar, in_block, salvage_block, salvage_next, salvage_blocks}
 use Rattle.dce_salvage.proofs.Down.{off_grows, fresh_least}
 use Rattle.dce_rule.specs.Dead.{Ends}
 use Rattle.dce_analysis.specs.Judge.{verdicts}

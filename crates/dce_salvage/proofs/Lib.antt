@@ -1,4 +1,4 @@
 mod Set
 pub mod Down
 mod Offs
-mod Going
+mod Moved

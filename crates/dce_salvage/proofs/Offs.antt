@@ -7,7 +7,8 @@ use Rattle.mir_func.specs.declared.block.Block.{Block}
 use Rattle.mir_func.specs.declared.item.Item.{Item}
 use Rattle.mir_func.specs.Sound.{items_of}
 use Rattle.dce_salvage.specs.SalvageNumbers.{SoFar, salvage_down}
-use Rattle.dce_salvage.specs.SalvageBlocks.{going_from, BlocksSoFar, in_block, salvage_block, with_front, salvage_next, salvage_blocks}
+use Rattle.pass_salvage.specs.SalvageAction.{going_from}
+use Rattle.dce_salvage.specs.SalvageBlocks.{BlocksSoFar, in_block, salvage_block, with_front, salvage_next, salvage_blocks}
 
 -- those from an index on are done, and those before it stand as they were
 pub record Offs (dead : List (List Bool)) (bs : List Block) (a : BlocksSoFar) (n : ℕ) (now : BlocksSoFar) : Type 0 where

@@ -1,15 +1,10 @@
 -- The blocks of a function whose dead copies lose their numbers.
-use Rattle.std.specs.Prelude.{ℕ, suc, List, [], ◌∷◌, drop, length, Bool, true, false, slice_index_or}
+use Rattle.std.specs.Prelude.{ℕ, List, [], ◌∷◌, drop, length, Bool, slice_index_or}
 use Rattle.mir_func.specs.declared.block.Block.{Block}
 use Rattle.mir_func.specs.declared.debug_substitution.DebugSubstitution.{DebugSubstitution}
 use Rattle.pass_trait.specs.declared.loss.Loss.{Loss}
+use Rattle.pass_salvage.specs.SalvageAction.{going_from}
 use Rattle.dce_salvage.specs.SalvageNumbers.{SoFar, salvage_down}
-
--- the indices of the dead items, counted from this one on
-abbrev pub going_from : (index : ℕ) → (dead : List Bool) → List ℕ
-going_from n [] = []
-going_from n (true ∷ ds) = n ∷ going_from (suc n) ds
-going_from n (false ∷ ds) = going_from (suc n) ds
 
 -- the state between blocks: the blocks that are done, the substitutions, the next fresh number and the losses so far
 pub record BlocksSoFar : Type 0 where

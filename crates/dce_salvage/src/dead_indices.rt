@@ -1,10 +1,8 @@
 //! Which items are dead, by their indices.
 
-ghost use Rattle.std.specs.Prelude.{◌≡◌, [], false, IfOk, slice_index_or};
-ghost use Rattle.dce_salvage.specs.SalvageBlocks.{going_from};
+ghost use Rattle.std.specs.Prelude.{◌≡◌, [], false, slice_index_or};
 
 use base_list::List;
-use std::alloc::{AllocError, Global};
 
 /// Whether each item of the block of an index is dead; empty if there is no such block.
 pub fn verdicts_at(dead: &[List<bool>], block: usize) -> &[bool]
@@ -24,17 +22,4 @@ pub fn verdict(dead: &[bool], index: usize) -> bool
         Some(goes) => *goes,
         None => false,
     }
-}
-
-/// The indices of the dead items, in order.
-pub fn going(alloc: Global, dead: &[bool]) -> Result<Vec<usize>, AllocError>
-    ensures { IfOk result (λ indices. indices.items ≡ going_from 0 dead.now) }
-{
-    let mut indices = Vec::new(alloc);
-    for index in 0..dead.len() {
-        if dead[index] {
-            indices.push(index)?;
-        }
-    }
-    Ok(indices)
 }

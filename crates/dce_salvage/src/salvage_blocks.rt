@@ -4,7 +4,7 @@ ghost use Rattle.std.specs.Prelude.{◌≡◌, ◌+◌, ◌<◌, ◌^◌, [], le
 ghost use Rattle.mir_func.specs.Sound.{items_of};
 ghost use Rattle.dce_salvage.specs.SalvageBlocks.{salvage_blocks};
 
-use crate::dead_indices::{going, verdicts_at};
+use crate::dead_indices::verdicts_at;
 use crate::salvage_numbers::salvage_numbers;
 use base_list::List;
 use mir_func::block::Block;
@@ -37,15 +37,7 @@ pub fn salvage_blocks(
     while at > 0 {
         at -= 1;
         let verdicts = verdicts_at(dead, at);
-        let removed = going(alloc, verdicts)?;
-        salvage_numbers(
-            &mut blocks[at].items.items,
-            verdicts,
-            removed.as_slice(),
-            subs,
-            fresh,
-            lost,
-        )?;
+        salvage_numbers(&mut blocks[at].items.items, verdicts, subs, fresh, lost)?;
     }
     Ok(())
 }

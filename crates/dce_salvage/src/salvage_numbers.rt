@@ -1,8 +1,8 @@
 //! Salvage of one copy's number, which leaves the copy in place.
 
-ghost use Rattle.std.specs.Prelude.{◌≡◌, ◌++◌, ◌+◌, ◌<◌, ◌≤◌, ◌^◌, length, take, drop, true, IfOk, OnOk};
+ghost use Rattle.std.specs.Prelude.{◌≡◌, ◌++◌, ◌+◌, ◌<◌, ◌≤◌, ◌^◌, length, take, drop, reverse, true, IfOk, OnOk};
 ghost use Rattle.rv64_instr.specs.Row.{row_of};
-ghost use Rattle.pass_salvage.specs.SalvageAction.{salvage_action};
+ghost use Rattle.pass_salvage.specs.SalvageAction.{salvage_action, going_from};
 ghost use Rattle.pass_salvage.specs.Salvage.{above_after, entries_for, fresh_after};
 ghost use Rattle.dce_salvage.specs.SalvageNumbers.{copied_by, numbered_copy, without_number, salvage_phi, lost_by_salvage, salvaged_items};
 ghost use Rattle.dce_salvage.specs.SalvageNumbers.{salvage_at, salvage_down};
@@ -63,43 +63,35 @@ fn copied_by(i: &Instr, number: DebugNumber) -> Option<Copied>
     }
 }
 
-/// Removes the number from a copy, which stays in place. `removed` has the indices of the items that will be removed.
-/// `fresh` is a fresh number, and is incremented if it is used. Losses are appended to `lost`: the number of a copy of
-/// a register to itself, if only a DBG_PHI could get it. After an error the items and the substitutions may only be
-/// dropped.
+/// Removes the number from a copy, which stays in place. `dead` has for each item whether it is dead, and so will be
+/// removed. `fresh` is a fresh number, and is incremented if it is used. Losses are appended to `lost`: the number of a
+/// copy of a register to itself, if only a DBG_PHI could get it. After an error the items and the substitutions may only
+/// be dropped.
 pub fn salvage_number(
     items: &mut Vec<Item>,
     subs: &mut Substitutions,
     at: usize,
     copied: Copied,
-    removed: &[usize],
+    dead: &[bool],
     fresh: &mut u32,
     lost: &mut Vec<Loss>,
 ) -> Result<(), AllocError>
     requires at { at < length items.old.items }
     requires fresh { fresh.old < 2 ^ 31 }
     ensures items { OnOk result (items.new.items ≡
-        salvaged_items (salvage_action removed.now subs.old fresh.old copied.number copied.source (take at items.old.items)) at copied
+        salvaged_items (salvage_action (going_from 0 dead.now) subs.old fresh.old copied.number copied.source (take at items.old.items)) at copied
         items.old.items) }
     ensures entries { OnOk result (subs.new ≡
-        subs.old ++ entries_for (salvage_action removed.now subs.old fresh.old copied.number copied.source
+        subs.old ++ entries_for (salvage_action (going_from 0 dead.now) subs.old fresh.old copied.number copied.source
         (take at items.old.items)) copied.number) }
     ensures fresh { OnOk result (fresh.new ≡
-        fresh_after (salvage_action removed.now subs.old fresh.old copied.number copied.source (take at items.old.items))
+        fresh_after (salvage_action (going_from 0 dead.now) subs.old fresh.old copied.number copied.source (take at items.old.items))
         fresh.old) }
     ensures lost { OnOk result (lost.new.items ≡
-        lost.old.items ++ lost_by_salvage (salvage_action removed.now subs.old fresh.old copied.number copied.source
+        lost.old.items ++ lost_by_salvage (salvage_action (going_from 0 dead.now) subs.old fresh.old copied.number copied.source
         (take at items.old.items)) copied) }
 {
-    let action = salvage_by_walk(
-        items,
-        subs,
-        at,
-        copied.number,
-        copied.source,
-        removed,
-        fresh,
-    )?;
+    let action = salvage_by_walk(items, subs, at, copied.number, copied.source, dead, fresh)?;
     match action {
         SalvageAction::HasEntry => drop_number(&mut items[at]),
         SalvageAction::GetsEntry(_, _, _) => drop_number(&mut items[at]),
@@ -125,13 +117,13 @@ fn salvage_by_walk(
     at: usize,
     number: DebugNumber,
     source: Reg,
-    removed: &[usize],
+    dead: &[bool],
     fresh: &mut u32,
 ) -> Result<SalvageAction, AllocError>
     requires at { at < length items.old.items }
     requires fresh { fresh.old < 2 ^ 31 }
     ensures action { IfOk result (λ w.
-        w ≡ salvage_action removed.now subs.old fresh.old number source (take at items.old.items)) }
+        w ≡ salvage_action (going_from 0 dead.now) subs.old fresh.old number source (take at items.old.items)) }
     ensures items { IfOk result (λ w.
         items.new.items ≡ above_after w (take at items.old.items) ++ drop at items.old.items) }
     ensures size { length items.new.items ≡ length items.old.items }
@@ -146,7 +138,7 @@ fn salvage_by_walk(
         at,
         subs,
         &mut lookup,
-        removed,
+        dead,
         number,
         source,
         fresh,
@@ -154,12 +146,11 @@ fn salvage_by_walk(
 }
 
 /// Removes the numbers from the dead copies of a block, from the last to the first. `dead` has for each item whether it
-/// is dead, and `removed` the indices of the dead ones. After an error the items and the substitutions may only be
-/// dropped.
+/// is dead. What is done with is moved to a list of its own, so that a DBG_PHI is put at the end of the items. After an
+/// error the items and the substitutions may only be dropped.
 pub fn salvage_numbers(
     items: &mut Vec<Item>,
     dead: &[bool],
-    removed: &[usize],
     subs: &mut Substitutions,
     fresh: &mut u32,
     lost: &mut Vec<Loss>,
@@ -170,24 +161,53 @@ pub fn salvage_numbers(
       subs = subs.new;
       fresh = fresh.new;
       lost = lost.new.items;
-    } ≡ salvage_down removed.now dead.now (length items.old.items)
+    } ≡ salvage_down (going_from 0 dead.now) dead.now (length items.old.items)
         (record { items = items.old.items; subs = subs.old; fresh = fresh.old; lost = lost.old.items })) }
     ensures counted { OnOk result (fresh.new ≤ fresh.old + length items.old.items) }
 {
+    let alloc = *items.allocator();
+    let mut done = Vec::with_capacity(alloc, items.len())?;
     let mut at = items.len();
     while at > 0 {
         at -= 1;
-        if verdict(dead, at) {
-            salvage_item(items, removed, at, subs, fresh, lost)?;
+        let goes = verdict(dead, at);
+        salvage_if(goes, items, dead, at, subs, fresh, lost)?;
+        move_from(items, at, &mut done)?;
+    }
+    *items = reversed(done);
+    Ok(())
+}
+
+/// Moves the items from an index on to the end of another list, the last one first.
+fn move_from(items: &mut Vec<Item>, at: usize, done: &mut Vec<Item>) -> Result<(), AllocError>
+    requires { at ≤ length items.old.items }
+    ensures long { OnOk result (length items.new.items ≡ at) }
+    ensures all { OnOk result
+        (items.new.items ++ reverse done.new.items ≡ items.old.items ++ reverse done.old.items) }
+{
+    'moved: while items.len() > at {
+        match items.pop() {
+            Some(item) => done.push(item)?,
+            None => return Ok(()),
         }
     }
     Ok(())
 }
 
-/// Removes the number from the item of an index, if it is a numbered copy.
-fn salvage_item(
+/// The items in reverse order.
+fn reversed(items: Vec<Item>) -> Vec<Item>
+    ensures { result.items ≡ reverse items.items }
+{
+    let mut items = items;
+    items.reverse();
+    items
+}
+
+/// Removes the number from the item of an index, if it is dead and a numbered copy.
+fn salvage_if(
+    goes: bool,
     items: &mut Vec<Item>,
-    removed: &[usize],
+    dead: &[bool],
     at: usize,
     subs: &mut Substitutions,
     fresh: &mut u32,
@@ -200,13 +220,41 @@ fn salvage_item(
       subs = subs.new;
       fresh = fresh.new;
       lost = lost.new.items;
-    } ≡ salvage_at removed.now at true
+    } ≡ salvage_at (going_from 0 dead.now) at goes
+        (record { items = items.old.items; subs = subs.old; fresh = fresh.old; lost = lost.old.items })) }
+    ensures counted { OnOk result (fresh.new ≤ fresh.old + 1) }
+    ensures longer { OnOk result (length items.old.items ≤ length items.new.items) }
+{
+    if goes {
+        salvage_item(items, dead, at, subs, fresh, lost)
+    } else {
+        Ok(())
+    }
+}
+
+/// Removes the number from the item of an index, if it is a numbered copy.
+fn salvage_item(
+    items: &mut Vec<Item>,
+    dead: &[bool],
+    at: usize,
+    subs: &mut Substitutions,
+    fresh: &mut u32,
+    lost: &mut Vec<Loss>,
+) -> Result<(), AllocError>
+    requires at { at < length items.old.items }
+    requires fresh { fresh.old < 2 ^ 31 }
+    ensures off { OnOk result (record {
+      items = items.new.items;
+      subs = subs.new;
+      fresh = fresh.new;
+      lost = lost.new.items;
+    } ≡ salvage_at (going_from 0 dead.now) at true
         (record { items = items.old.items; subs = subs.old; fresh = fresh.old; lost = lost.old.items })) }
     ensures counted { OnOk result (fresh.new ≤ fresh.old + 1) }
     ensures longer { OnOk result (length items.old.items ≤ length items.new.items) }
 {
     match numbered_copy(&items[at].kind) {
-        Some(copied) => salvage_number(items, subs, at, copied, removed, fresh, lost),
+        Some(copied) => salvage_number(items, subs, at, copied, dead, fresh, lost),
         None => Ok(()),
     }
 }

@@ -16,7 +16,8 @@ use Rattle.pass_edits.proofs.Numbers.{all_first, all_second}
 use Rattle.pass_edits.proofs.Under.{KindUnder, BlocksUnder, EntryUnder, greatest_under, items_under, blocks_under, entries_under}
 use Rattle.pass_edits.proofs.Loose.{then}
 use Rattle.dce_salvage.specs.SalvageNumbers.{SoFar}
-use Rattle.dce_salvage.specs.SalvageBlocks.{going_from, BlocksSoFar, in_block, salvage_block, salvage_next, salvage_blocks}
+use Rattle.pass_salvage.specs.SalvageAction.{going_from}
+use Rattle.dce_salvage.specs.SalvageBlocks.{BlocksSoFar, in_block, salvage_block, salvage_next, salvage_blocks}
 use Rattle.dce_salvage_proof.specs.SalvageLaws.{begins_off, all_off, NumbersGoOff}
 use Rattle.dce_salvage_proof.proofs.Copy.{all_down}
 use Rattle.dce_salvage_proof.proofs.Same.{blocks_same, off_stripped}

@@ -19,7 +19,7 @@ use Rattle.mir_func.specs.Limits.{MAX_BLOCKS}
 use Rattle.rv64_instr.specs.declared.place.Place.{Place}
 use Rattle.rv64_instr.specs.declared.place.Place.TheVariants.{Register}
 use Rattle.mir_func.specs.Sound.{AreApart, AllItems, ids_of, OriginIn, PlaceIn, TargetsIn, SlotsIn, ObjectsIn, LeavesPointer, IsJumpAtMost, MayFollow, EndsWell}
-use Rattle.mir_func.specs.Sound.{Closes, LastCloses, IsSound}
+use Rattle.mir_func.specs.Sound.{Closes, LastCloses, IsSound, KindPassesFirst}
 use Rattle.pass_trait.specs.Rule.{item, item_before}
 use Rattle.pass_salvage.proofs.Kin.{row_itself, code_kin}
 use Rattle.pass_salvage.proofs.Edits.{Edits, pair, put}
@@ -139,6 +139,7 @@ module _ (x y : Option Place) (k : ℕ) (o : Origin) where
             targets = subst (λ (ns : List ℕ). AllItems (λ i. TargetsIn ns i.kind) (above ++ has ∷ behind)) (sym ids)
                 (each (TargetsIn (ids_of (above ++ had ∷ behind))) tt s.targets);
             slots = each (SlotsIn f.slots) (fits f.slots) s.slots;
+            passed = each (KindPassesFirst f.slots) tt s.passed;
             objects = each (ObjectsIn f.objects) tt s.objects;
             pointer = each LeavesPointer tt s.pointer;
             numbers = once_around f above id source_end behind (up ++ was ∷ down) (up ++ now ∷ down)

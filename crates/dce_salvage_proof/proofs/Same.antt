@@ -23,7 +23,8 @@ use Rattle.dce_rule.specs.Same.{SameItems, none, both, first, second, SameBlocks
 use Rattle.dce_salvage.specs.declared.salvage_numbers.Copied.{Copied}
 use Rattle.dce_salvage.specs.SalvageNumbers.{without_number, numbered_copy, phi_by_own, salvaged_from, salvaged_items}
 use Rattle.dce_salvage.specs.SalvageNumbers.{SoFar, salvage_copy, copy_in, salvage_at, salvage_down}
-use Rattle.dce_salvage.specs.SalvageBlocks.{going_from, BlocksSoFar, in_block, salvage_block, salvage_blocks}
+use Rattle.pass_salvage.specs.SalvageAction.{going_from}
+use Rattle.dce_salvage.specs.SalvageBlocks.{BlocksSoFar, in_block, salvage_block, salvage_blocks}
 use Rattle.dce_salvage_proof.specs.SalvageLaws.{begins_off, function_off}
 
 -- ---- items with the same code

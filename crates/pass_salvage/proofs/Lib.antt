@@ -13,3 +13,4 @@ pub mod NumberPhi
 pub mod Follows
 pub mod Last
 pub mod Indexed
+pub mod Going

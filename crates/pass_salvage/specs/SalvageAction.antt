@@ -18,6 +18,12 @@ use Rattle.pass_trait.specs.Rule.{first_operand}
 use Rattle.pass_salvage.specs.declared.salvage_action.SalvageAction.{SalvageAction}
 use Rattle.pass_salvage.specs.declared.salvage_action.SalvageAction.TheVariants.{HasEntry, GetsEntry, GetsPhi}
 
+-- the indices of what is removed, counted from this one on
+abbrev pub going_from : (index : ℕ) → (removed : List Bool) → List ℕ
+going_from n [] = []
+going_from n (true ∷ rs) = n ∷ going_from (suc n) rs
+going_from n (false ∷ rs) = going_from (suc n) rs
+
 -- the index one further on if there is one, or 0 if this item counts
 abbrev pub further : Option ℕ → (here : Bool) → Option ℕ
 further (Some n) here = Some (suc n)

@@ -5,14 +5,14 @@ ghost use Rattle.std.specs.List.{list_any};
 ghost use Rattle.mir_func.specs.declared.debug_substitution.DebugSubstitution.{DebugSubstitution};
 ghost use Rattle.mir_func.specs.declared.item.Item.{Item};
 ghost use Rattle.pass_salvage.specs.declared.salvage_action.SalvageAction.TheVariants as chosen;
-ghost use Rattle.pass_salvage.specs.SalvageAction.{last_definition, asks_for, has_entry, salvage_action};
+ghost use Rattle.pass_salvage.specs.SalvageAction.{last_definition, asks_for, has_entry, salvage_action, going_from};
 ghost use Rattle.pass_salvage.specs.Salvage.{entry_for};
 ghost use Rattle.pass_salvage.specs.Lookup.{IsLookupOf};
 
 use crate::above::{Above, substitute};
 use crate::salvage::entry_for;
 use crate::salvage_action::{
-    SalvageAction, action_unless, ask_for, first_definition, has_entry, is_among, last_definition,
+    SalvageAction, action_unless, ask_for, first_definition, has_entry, is_removed, last_definition,
 };
 use base_ids::function_ids::{DebugNumber, OperandIndex};
 use mir_func::item::{Item, ItemKind};
@@ -98,21 +98,20 @@ impl Lookup {
     }
 }
 
-/// How the number of a removed copy of `source` is salvaged, below these items of its block; those at the indices in
-/// `removed` are removed too. `fresh` is the number that code without one would get. It takes no memory. By an index it
-/// takes constant time, except for `removed` and for the chains of substitutions of the number and of the one that
-/// replaces it.
+/// How the number of a removed copy of `source` is salvaged, below these items of its block. `removed` has for each item
+/// of the block whether it is removed too. `fresh` is the number that code without one would get. It takes no memory. By
+/// an index it takes constant time, except for the look-ups of substitutions.
 pub(crate) fn choose_way(
     lookup: &Lookup,
     above: &[Item],
     subs: &Substitutions,
-    removed: &[usize],
+    removed: &[bool],
     number: DebugNumber,
     source: Reg,
     fresh: DebugNumber,
 ) -> SalvageAction
     requires { IsLookupOf lookup.now subs.now above.now }
-    ensures chosen { result ≡ salvage_action removed.now subs.now fresh number source above.now }
+    ensures chosen { result ≡ salvage_action (going_from 0 removed.now) subs.now fresh number source above.now }
     ensures within { (d o n : ℕ) → result ≡ chosen.GetsEntry d o n → d < length above.now }
 {
     if has_entry(subs, &Some(number), OperandIndex(0)) {
@@ -130,7 +129,7 @@ fn choose_by(
     lookup: &Lookup,
     above: &[Item],
     subs: &Substitutions,
-    removed: &[usize],
+    removed: &[bool],
     number: DebugNumber,
     source: Reg,
     fresh: DebugNumber,
@@ -140,7 +139,7 @@ fn choose_by(
     requires free { has_entry subs.now (Some number) 0 ≡ false }
     requires last { last_definition source above.now ≡ Some d }
     requires at { d < length above.now }
-    ensures { result ≡ salvage_action removed.now subs.now fresh number source above.now }
+    ensures { result ≡ salvage_action (going_from 0 removed.now) subs.now fresh number source above.now }
 {
     match &above[d].kind {
         ItemKind::Code(i, n) => {
@@ -158,13 +157,13 @@ fn is_barred(
     lookup: &Lookup,
     above: &[Item],
     subs: &Substitutions,
-    removed: &[usize],
+    removed: &[bool],
     number: DebugNumber,
     d: usize,
 ) -> bool
     requires at { d < length above.now }
-    ensures { IsLookupOf lookup.now subs.now above.now → result ≡ (list_any (nat_eq d) removed.now
+    ensures { IsLookupOf lookup.now subs.now above.now → result ≡ (list_any (nat_eq d) (going_from 0 removed.now)
         || list_any (λ x. asks_for subs.now number x.kind) (drop (suc d) above.now)) }
 {
-    is_among(removed, d) || lookup.asks_behind(above, subs, number, d)
+    is_removed(removed, d) || lookup.asks_behind(above, subs, number, d)
 }

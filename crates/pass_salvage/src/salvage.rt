@@ -2,7 +2,7 @@
 
 ghost use Rattle.std.specs.Prelude.{◌≡◌, ◌++◌, ◌+◌, ◌<◌, ◌≤◌, ◌^◌, [], ◌∷◌, Some, length, take, drop};
 ghost use Rattle.std.specs.Prelude.{cond, nat_eq, false, IfOk, OnOk};
-ghost use Rattle.pass_salvage.specs.SalvageAction.{has_entry, salvage_action};
+ghost use Rattle.pass_salvage.specs.SalvageAction.{has_entry, salvage_action, going_from};
 ghost use Rattle.pass_salvage.specs.Salvage.{with_number, numbered_at, above_after, entry_for, entries_for};
 ghost use Rattle.pass_salvage.specs.Salvage.{fresh_after, phi_for};
 ghost use Rattle.pass_salvage.specs.Lookup.{IsLookupOf};
@@ -22,15 +22,15 @@ use std::alloc::{AllocError, Global};
 /// Salvages the number of a copy of `source`, which stands below the first `at` items of its block: code among them that
 /// defines the copied value gets a number and the substitution, if it can. Returns how the number is salvaged. The copy
 /// itself is the caller's, which removes it or its number, and after `GetsPhi` puts a DBG_PHI in its position. `removed`
-/// has the indices of the items that are removed too. `fresh` is a fresh number, and is incremented if it is used. After
-/// an error the items, the substitutions and the lookup may only be dropped.
+/// has for each item of the block whether it is removed too, as far as it goes. `fresh` is a fresh number, and is
+/// incremented if it is used. After an error the items, the substitutions and the lookup may only be dropped.
 pub fn salvage(
     alloc: Global,
     items: &mut Vec<Item>,
     at: usize,
     subs: &mut Substitutions,
     lookup: &mut Lookup,
-    removed: &[usize],
+    removed: &[bool],
     number: DebugNumber,
     source: Reg,
     fresh: &mut u32,
@@ -39,7 +39,7 @@ pub fn salvage(
     requires fresh { fresh.old < 2 ^ 31 }
     requires lookup { IsLookupOf lookup.old subs.old (take at items.old.items) }
     ensures action { IfOk result (λ w.
-        w ≡ salvage_action removed.now subs.old fresh.old number source (take at items.old.items)) }
+        w ≡ salvage_action (going_from 0 removed.now) subs.old fresh.old number source (take at items.old.items)) }
     ensures items { IfOk result (λ w.
         items.new.items ≡ above_after w (take at items.old.items) ++ drop at items.old.items) }
     ensures size { length items.new.items ≡ length items.old.items }

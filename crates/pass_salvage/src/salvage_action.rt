@@ -1,6 +1,6 @@
 //! How the debug instruction number of a removed copy is salvaged.
 
-ghost use Rattle.std.specs.Prelude.{◌≡◌, ◌<◌, ◌&&◌, Some, nat_eq, not, length, IfSome};
+ghost use Rattle.std.specs.Prelude.{◌≡◌, ◌<◌, ◌&&◌, Some, nat_eq, not, false, length, slice_index_or, IfSome};
 ghost use Rattle.std.specs.List.{list_any};
 ghost use Rattle.rv64_instr.specs.declared.place.Place.TheVariants as place;
 ghost use Rattle.rv64_instr.specs.Row.{row_of};
@@ -8,7 +8,7 @@ ghost use Rattle.rv64_instr.specs.LocationEffects.{is_call};
 ghost use Rattle.sem_mir.specs.Step.{defined};
 ghost use Rattle.pass_trait.specs.Causes.{defines};
 ghost use Rattle.pass_salvage.specs.SalvageAction.{last_definition, is_register, first_definition, asks_for, has_entry};
-ghost use Rattle.pass_salvage.specs.SalvageAction.{or_fresh};
+ghost use Rattle.pass_salvage.specs.SalvageAction.{or_fresh, going_from};
 ghost use Rattle.pass_salvage.specs.Above.{action_unless};
 
 use base_ids::function_ids::{DebugNumber, OperandIndex};
@@ -69,11 +69,21 @@ fn may_stand(
     !has_entry(subs, own, operand) && !barred
 }
 
-/// Whether the index is one of these.
-pub(crate) fn is_among(indices: &[usize], d: usize) -> bool
-    ensures { result ≡ list_any (nat_eq d) indices.now }
+/// Whether the item of an index is removed too.
+pub(crate) fn is_removed(removed: &[bool], d: usize) -> bool
+    ensures { result ≡ list_any (nat_eq d) (going_from 0 removed.now) }
 {
-    indices.iter().any(|i| d == *i)
+    flag_at(removed, d)
+}
+
+/// The flag at an index; false if there is none.
+fn flag_at(flags: &[bool], index: usize) -> bool
+    ensures { result ≡ slice_index_or flags.now index false }
+{
+    match flags.get(index) {
+        Some(set) => *set,
+        None => false,
+    }
 }
 
 /// The code's own number, or the fresh one if it has none.

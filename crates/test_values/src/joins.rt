@@ -277,6 +277,23 @@ fn takes_many_sweeps(alloc: Global, body: &str) -> Result<bool, Fail> {
     Ok(blocks < sweeps && sweeps <= most)
 }
 
+/// 64 blocks, of which each has a number that a mark asks for and branches to the one before it. So what is known goes
+/// along edges against the order of the paths, one block after the other.
+fn ladder(alloc: Global) -> Result<String, Fail> {
+    let mut body = String::new(alloc);
+    body.push_str("  bb.0:\n")?;
+    for n in 0..62u32 {
+        let block = n + 1;
+        write!(
+            body,
+            "  bb.{block}:\n    $x10 = ADDI $x10, 1, debug-instr-number {block}\n    DBG_INSTR_REF !4, \
+             !DIExpression(DW_OP_LLVM_arg, 0), dbg-instr-ref({block}, 0)\n    BNE $x5, $x6, %bb.{n}\n"
+        )?;
+    }
+    body.push_str("  bb.63:\n    PseudoRET implicit $x10\n")?;
+    Ok(body)
+}
+
 #[test]
 fn paths_join(rt: HostRuntime) -> Result<(), Fail> {
     let alloc = rt.alloc();
@@ -288,5 +305,9 @@ fn paths_join(rt: HostRuntime) -> Result<(), Fail> {
     let body = upward(alloc)?;
     let (_, _, sweeps) = sweeps_in(alloc, body.as_str())?;
     assert_eq!(rt; sweeps, 2);
+    // Sweeps in both directions take what is known along all edges against the order at once: in one alone there are 64.
+    let body = ladder(alloc)?;
+    let (_, _, sweeps) = sweeps_in(alloc, body.as_str())?;
+    assert!(rt; sweeps < 8, "{sweeps} sweeps");
     Ok(())
 }

@@ -1,4 +1,5 @@
 pub mod Numbers
+mod Pairing
 pub mod Empty
 pub mod Edges
 pub mod Exits

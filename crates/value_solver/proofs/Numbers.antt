@@ -9,9 +9,7 @@ use Rattle.std.proofs.lemmas.List.{get_or_append_left, get_or_past}
 use Rattle.std.proofs.Math.Seq.{get_or-append_seam}
 use Rattle.std.proofs.lemmas.Bool.{eqb-true, eqb-false, eq-eqb, and_parts, false≢true}
 use Rattle.value_solver.specs.Numbering.{class_in, IsNumbered, IsMeet}
-
-abbrev pub is_pair : ℕ × ℕ → ℕ × ℕ → Bool
-is_pair p q = nat_eq p.0 q.0 && nat_eq p.1 q.1
+use Rattle.value_solver.specs.PairNumbers.{is_pair}
 
 -- the place of a pair among the pairs met
 abbrev pub place : ℕ × ℕ → List (ℕ × ℕ) → ℕ
@@ -28,10 +26,10 @@ pub record SoFar (a b : List ℕ) (i : ℕ) (K : List (ℕ × ℕ)) (c : List �
   pub at : (j : ℕ) → j < i → (slice_index c j ≡ place (slice_index a j, slice_index b j) K) × (slice_index c j < length K)
   pub numbered : IsNumbered 1 c (length K)
 
-same_refl : (k : ℕ × ℕ) → is_pair k k ≡ true
+pub same_refl : (k : ℕ × ℕ) → is_pair k k ≡ true
 same_refl (p, q) = subst (λ (z : Bool). z && nat_eq q q ≡ true) (sym (eq-eqb p p refl)) (eq-eqb q q refl)
 
-same_pair : (p q r s : ℕ) → is_pair (p, q) (r, s) ≡ true → (p ≡ r) × (q ≡ s)
+pub same_pair : (p q r s : ℕ) → is_pair (p, q) (r, s) ≡ true → (p ≡ r) × (q ≡ s)
 same_pair p q r s e = let (x, y) = and_parts _ _ e in (eqb-true p r x, eqb-true q s y)
 
 -- a pair that was met keeps its place
@@ -69,6 +67,33 @@ no_place_more p x xs false f e h = ap (λ (z : Bool). cond (not z) (1 + position
 no_place : (p : ℕ × ℕ → Bool) (K : List (ℕ × ℕ)) → list_any p K ≡ false → position_or_len p K ≡ length K
 no_place p [] e = refl
 no_place p (x ∷ xs) e = no_place_more p x xs (p x) refl e (λ f. no_place p xs f)
+
+any_place_more : (p : ℕ × ℕ → Bool) (x : ℕ × ℕ) (xs : List (ℕ × ℕ)) (z : Bool) → p x ≡ z → list_any p (x ∷ xs) ≡ true →
+    (list_any p xs ≡ true → position_or_len p xs < length xs) → position_or_len p (x ∷ xs) < length (x ∷ xs)
+any_place_more p x xs true f e h =
+    let here : position_or_len p (x ∷ xs) ≡ 0 = ap (λ (z : Bool). cond (not z) (1 + position_or_len p xs) 0) f in omega (arith, here)
+any_place_more p x xs false f e h =
+    let on : position_or_len p (x ∷ xs) ≡ 1 + position_or_len p xs = ap (λ (z : Bool). cond (not z) (1 + position_or_len p xs) 0) f in
+    let rest : position_or_len p xs < length xs = h (sym (ap (λ (z : Bool). z || list_any p xs) f) ∙ e) in
+    omega (arith, on, rest)
+
+any_place : (p : ℕ × ℕ → Bool) (K : List (ℕ × ℕ)) → list_any p K ≡ true → position_or_len p K < length K
+any_place p [] e = absurd (false≢true e)
+any_place p (x ∷ xs) e = any_place_more p x xs (p x) refl e (λ f. any_place p xs f)
+
+-- a pair that was met adds nothing
+pub found_place : (k : ℕ × ℕ) (K : List (ℕ × ℕ)) → place k K < length K → K ≡ met K k
+found_place k K less = by_case (list_any (is_pair k) K) refl where
+  by_case : (z : Bool) → list_any (is_pair k) K ≡ z → K ≡ cond z K (K ++ k ∷ [])
+  by_case true e = refl
+  by_case false e = let none = no_place (is_pair k) K e in absurd (omega (arith, less, none))
+
+-- one that wasn't comes last
+pub no_place_met : (k : ℕ × ℕ) (K : List (ℕ × ℕ)) → length K ≤ place k K → (met K k ≡ K ++ k ∷ []) × (place k K ≡ length K)
+no_place_met k K far = by_case (list_any (is_pair k) K) refl where
+  by_case : (z : Bool) → list_any (is_pair k) K ≡ z → (cond z K (K ++ k ∷ []) ≡ K ++ k ∷ []) × (place k K ≡ length K)
+  by_case true e = let less = any_place (is_pair k) K e in absurd (omega (arith, far, less))
+  by_case false e = (refl, no_place (is_pair k) K e)
 
 -- the next number is one that was used, or the first one that wasn't
 pub numbered_push : (n m : ℕ) (cs : List ℕ) (c m' : ℕ) → IsNumbered n cs m → ((c < m) × (m' ≡ m)) ⊎ ((c ≡ m) × (m' ≡ suc m)) → IsNumbered n (cs ++ c ∷ []) m'

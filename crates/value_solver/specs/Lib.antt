@@ -1,5 +1,6 @@
 pub mod Entry
 pub mod Numbering
+pub mod PairNumbers
 pub mod Joining
 pub mod Hands
 pub mod Flows

@@ -1,26 +1,177 @@
 //! The join of two lists of class numbers.
 
-ghost use Rattle.std.specs.Prelude.{◌≡◌, ◌<◌, length, IfOk};
+ghost use Rattle.std.specs.Prelude.{◌≡◌, ◌<◌, ℕ, cond, nat_eq, Some, None, true, length, slice_index_or, IfOk, OnOk};
+ghost use Rattle.std.specs.HashMap.{get};
 ghost use Rattle.value_solver.specs.Numbering.{IsMeet};
+ghost use Rattle.value_solver.specs.PairNumbers.{IsNumber, number_at, number_in, is_pair};
 
-use indexmap::IndexSet;
 use std::alloc::{AllocError, Global};
+use std::collections::HashMap;
 
-/// The pairs of classes that a join numbers, by their index. One set serves all joins.
-pub type Pairs = IndexSet<(u32, u64)>;
+/// The pairs of classes that a join has met, with their numbers. One serves all joins.
+#[derive(Drop)]
+pub struct Pairs {
+    /// For each class of the second list below this length the first pair of it that was met, if one was.
+    pub firsts: Vec<Option<First>>,
+    /// The numbers of all other pairs.
+    pub others: HashMap<(u32, u64), u32>,
+}
 
-/// Numbers pairs of classes by first appearance, the pair of 0 and 0 first. The set is emptied before.
+/// A pair, of a known class of the second list.
+#[derive(Clone, Copy, Debug)]
+pub struct First {
+    /// Its class of the first list.
+    pub class: u32,
+    /// Its number.
+    pub number: u32,
+}
+
+/// Numbers pairs of classes by first appearance, the pair of 0 and 0 first. The pairs met before are forgotten. Classes
+/// up to the number of things are looked up by their index; only new tokens are greater.
 pub fn meet(alloc: Global, pairs: &mut Pairs, a: &[u32], b: &[u64]) -> Result<Vec<u32>, AllocError>
     requires few { length a.now < 4294967295 }
     requires long { length b.now ≡ length a.now }
     ensures { IfOk result (λ c. IsMeet a.now b.now c.items) }
 {
-    pairs.clear();
-    pairs.insert_full((0, 0))?;
+    pairs.forget(alloc, b.len() + 1)?;
+    pairs.put(0, 0, 0)?;
+    let mut count = 1u32;
     let mut classes = Vec::with_capacity(alloc, a.len())?;
     for i in 0..a.len() {
-        let (class, _) = pairs.insert_full((a[i], b[i]))?;
-        classes.push(class as u32)?;
+        let number = pairs.number(a[i], b[i], &mut count)?;
+        classes.push(number)?;
     }
     Ok(classes)
+}
+
+impl Pairs {
+    /// No pairs. It takes no memory.
+    pub fn new(alloc: Global) -> Pairs {
+        Pairs {
+            firsts: Vec::new(alloc),
+            others: HashMap::new(alloc),
+        }
+    }
+
+    /// Forgets all pairs. The first pairs of classes below this one have room then.
+    fn forget(&mut self, alloc: Global, classes: usize) -> Result<(), AllocError>
+        ensures { OnOk result ((k : ℕ × ℕ) → number_in self.new k ≡ None) }
+    {
+        self.firsts = no_firsts(alloc, classes)?;
+        self.others.clear();
+        Ok(())
+    }
+
+    /// The number of a pair: that which it has, or the next one, which it gets.
+    fn number(&mut self, a: u32, b: u64, next: &mut u32) -> Result<u32, AllocError>
+        requires { next.old < 4294967295 }
+        ensures { IfOk result (λ n. IsNumber (number_in self.old) (number_in self.new) (a, b) next.old next.new n) }
+    {
+        match self.find(a, b) {
+            Some(number) => Ok(number),
+            None => {
+                let number = *next;
+                self.put(a, b, number)?;
+                *next += 1;
+                Ok(number)
+            }
+        }
+    }
+
+    /// The number of a pair, if it was met.
+    fn find(&self, a: u32, b: u64) -> Option<u32>
+        ensures { result ≡ number_in self.now (a, b) }
+    {
+        match first_at(self.firsts.as_slice(), b as usize) {
+            Some(first) => {
+                if first.class == a {
+                    Some(first.number)
+                } else {
+                    find_other(&self.others, a, b)
+                }
+            }
+            None => find_other(&self.others, a, b),
+        }
+    }
+
+    /// Gives a pair that wasn't met a number.
+    fn put(&mut self, a: u32, b: u64, number: u32) -> Result<(), AllocError>
+        requires { number_in self.old (a, b) ≡ None }
+        ensures { OnOk result ((k : ℕ × ℕ) →
+            number_in self.new k ≡ cond (is_pair (a, b) k) (Some number) (number_in self.old k)) }
+    {
+        let index = b as usize;
+        if has_room(self.firsts.as_slice(), index) {
+            set_first(&mut self.firsts, index, First { class: a, number });
+            Ok(())
+        } else {
+            put_other(&mut self.others, a, b, number)
+        }
+    }
+}
+
+/// A table of this length without pairs.
+fn no_firsts(alloc: Global, length: usize) -> Result<Vec<Option<First>>, AllocError>
+    ensures { IfOk result (λ firsts. (k : ℕ) → slice_index_or firsts.items k None ≡ None) }
+{
+    let firsts = vec![in alloc; None; length]?;
+    Ok(firsts)
+}
+
+/// The first pair at an index, if there is one.
+fn first_at(firsts: &[Option<First>], index: usize) -> Option<First>
+    ensures { result ≡ slice_index_or firsts.now index None }
+{
+    match firsts.get(index) {
+        Some(first) => *first,
+        None => None,
+    }
+}
+
+/// Whether a first pair can be put at an index: there is none.
+fn has_room(firsts: &[Option<First>], index: usize) -> bool
+    ensures within { result ≡ true → index < length firsts.now }
+    ensures free { result ≡ true → slice_index_or firsts.now index None ≡ None }
+{
+    if index < firsts.len() {
+        match firsts[index] {
+            Some(_) => false,
+            None => true,
+        }
+    } else {
+        false
+    }
+}
+
+/// Puts a first pair at an index.
+fn set_first(firsts: &mut Vec<Option<First>>, index: usize, first: First)
+    requires { index < length firsts.old.items }
+    ensures { (k : ℕ) → slice_index_or firsts.new.items k None
+        ≡ cond (nat_eq k index) (Some first) (slice_index_or firsts.old.items k None) }
+{
+    firsts[index] = Some(first);
+}
+
+/// The number in the table of a pair.
+fn find_other(others: &HashMap<(u32, u64), u32>, a: u32, b: u64) -> Option<u32>
+    ensures { result ≡ get is_pair others.now (a, b) }
+{
+    if others.is_empty() {
+        return None;
+    }
+    others.get(&(a, b)).copied()
+}
+
+/// Maps a pair to a number.
+fn put_other(
+    others: &mut HashMap<(u32, u64), u32>,
+    a: u32,
+    b: u64,
+    number: u32,
+) -> Result<(), AllocError>
+    ensures { OnOk result ((k : ℕ × ℕ) →
+        get is_pair others.new k ≡ cond (is_pair (a, b) k) (Some number) (get is_pair others.old k)) }
+{
+    others.insert((a, b), number)?;
+    Ok(())
 }

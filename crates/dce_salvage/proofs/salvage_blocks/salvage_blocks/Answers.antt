@@ -1,7 +1,8 @@
-use Rattle.std.proofs.Common.{◌≡◌, ◌-◌, ℕ, Bool, [], List, length, refl, ap, ◌∙◌, subst, arith}
+use Rattle.std.proofs.Common.{◌≡◌, ◌-◌, ℕ, [], length, refl, ap, ◌∙◌, subst, arith}
 use Rattle.mir_func.specs.declared.block.Block.{Block}
 use Rattle.dce_salvage.specs.SalvageNumbers.{SoFar, salvage_down}
-use Rattle.dce_salvage.specs.SalvageBlocks.{going_from, BlocksSoFar}
+use Rattle.pass_salvage.specs.SalvageAction.{going_from}
+use Rattle.dce_salvage.specs.SalvageBlocks.{BlocksSoFar}
 use Rattle.dce_salvage.proofs.Offs.{Offs, offs_begin, room, offs_more, offs_end}
 use Rattle.dce_salvage.proofs.salvage_blocks.salvage_blocks.Goals as goal
 
@@ -42,7 +43,6 @@ loop-at-preserved c =
     let same = c.behind-blocks.view_is in
     let e = ap (λ (z : Block). length z.items) same in
     let v = c.verdicts_at-verdicts.ensures in
-    let r = c.as_slice.ensures.value ∙ c.in_ok-removed.ensures ∙ ap (λ (ds : List Bool). going_from 0 ds) v in
     let done : SoFar =
     record {
       items = c.salvage_numbers.new.items.items;
@@ -56,7 +56,7 @@ loop-at-preserved c =
     c.index_mut.ensures.value
     (record { id = c.behind-blocks.inside.0.0; items = c.salvage_numbers.new.items.items; source_end = c.behind-blocks.inside.0.1.1.0 }) done
     (c.in_ok-salvage_numbers.ensures.off ∙
-    (λ i. salvage_down (r i) (v i) (length (same i).items)
+    (λ i. salvage_down (going_from 0 (v i)) (v i) (length (same i).items)
     (record { items = (same i).items; subs = c.loop-at.subs; fresh = c.loop-at.fresh; lost = c.loop-at.lost.items })))
     (λ i. record { id = (same i).id; items = c.salvage_numbers.new.items.items; source_end = (same i).source_end }) (omega (arith, most, e))
 

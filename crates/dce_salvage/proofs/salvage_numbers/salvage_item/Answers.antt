@@ -3,7 +3,7 @@ use Rattle.std.proofs.lemmas.Option.{slice_get-get_or}
 use Rattle.std.proofs.lemmas.Result.{on_ok_weaker}
 use Rattle.mir_func.specs.declared.item.Item.{Item}
 use Rattle.pass_salvage.specs.declared.salvage_action.SalvageAction.{SalvageAction}
-use Rattle.pass_salvage.specs.SalvageAction.{salvage_action}
+use Rattle.pass_salvage.specs.SalvageAction.{salvage_action, going_from}
 use Rattle.dce_salvage.specs.declared.salvage_numbers.Copied.{Copied}
 use Rattle.dce_salvage.specs.SalvageNumbers.{SoFar, numbered_copy, salvaged_items, copy_in, salvage_copy}
 use Rattle.dce_salvage.proofs.Down.{off_long}
@@ -13,7 +13,7 @@ pub returns-in-Some-clause-longer : goal.returns-in-Some-clause-longer
 returns-in-Some-clause-longer c =
     let xs : List Item = c.args.items.now.items in
     let copied : Copied = c.in-Some.copied in
-    let w : SalvageAction = salvage_action c.args.removed.now c.args.subs.now c.args.fresh.now copied.number copied.source (take c.args.at xs) in
+    let w : SalvageAction = salvage_action (going_from 0 c.args.dead.now) c.args.subs.now c.args.fresh.now copied.number copied.source (take c.args.at xs) in
     on_ok_weaker c.salvage_number.result
     (λ e. (let longer = off_long w c.args.at copied xs in
     let same : length c.salvage_number.new.items.items ≡ length (salvaged_items w c.args.at copied xs) = ap (λ (ys : List Item). length ys) e in
@@ -27,5 +27,5 @@ returns-in-None-clause-off c =
     let a : SoFar = record { items = xs; subs = c.args.subs.now; fresh = c.args.fresh.now; lost = c.args.lost.now.items } in
     let there : slice_get xs c.args.at ≡ Some x = slice_get-get_or xs c.args.at x c.requires.at ∙ ap Some (sym c.index.ensures) in
     let none : numbered_copy x.kind ≡ None = sym c.numbered_copy.ensures ∙ c.in-None.is in
-    sym (ap (λ (o : Option Item). salvage_copy c.args.removed.now c.args.at a (copy_in o)) there ∙
-    ap (λ (o : Option Copied). salvage_copy c.args.removed.now c.args.at a o) none)
+    sym (ap (λ (o : Option Item). salvage_copy (going_from 0 c.args.dead.now) c.args.at a (copy_in o)) there ∙
+    ap (λ (o : Option Copied). salvage_copy (going_from 0 c.args.dead.now) c.args.at a o) none)

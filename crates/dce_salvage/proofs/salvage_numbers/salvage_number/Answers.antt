@@ -1,11 +1,8 @@
-use Rattle.std.proofs.Common.{◌≡◌, ◌<◌, [], ◌∷◌, ◌++◌, length, append-nil, sym, ap, ◌∙◌, subst}
-use Rattle.std.proofs.lemmas.List.{get_or_default}
-use Rattle.std.proofs.lemmas.Result.{on_ok_weaker}
-use Rattle.mir_func.specs.declared.item.Item.{Item}
+use Rattle.std.proofs.Common.{◌++◌, append-nil, sym, ap, ◌∙◌}
 use Rattle.pass_salvage.specs.declared.salvage_action.SalvageAction.{SalvageAction}
 use Rattle.pass_salvage.specs.Salvage.{entries_for, fresh_after}
-use Rattle.dce_salvage.specs.SalvageNumbers.{salvage_phi, added_by_salvage, lost_by_salvage, salvaged_items}
-use Rattle.dce_salvage.proofs.Set.{bare_items, phi_items}
+use Rattle.dce_salvage.specs.SalvageNumbers.{added_by_salvage, lost_by_salvage, salvaged_items}
+use Rattle.dce_salvage.proofs.Set.{bare_items}
 use Rattle.dce_salvage.proofs.salvage_numbers.salvage_number.Goals as goal
 
 pub returns-in-HasEntry-clause-items : goal.returns-in-HasEntry-clause-items

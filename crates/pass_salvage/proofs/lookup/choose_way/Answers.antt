@@ -1,5 +1,5 @@
 use Rattle.std.proofs.Common.{◌≡◌, Some, sym, ◌∙◌}
-use Rattle.pass_salvage.specs.SalvageAction.{last_definition}
+use Rattle.pass_salvage.specs.SalvageAction.{last_definition, going_from}
 use Rattle.pass_salvage.proofs.Chosen.{entered_within}
 use Rattle.pass_salvage.proofs.Indexed.{definition_within}
 use Rattle.pass_salvage.proofs.lookup.choose_way.Goals as goal
@@ -17,4 +17,4 @@ choose_by-requires c =
 
 pub returns-clause-within : goal.returns-clause-within
 returns-clause-within c d o n e =
-    entered_within c.args.removed.now c.args.subs.now c.args.fresh c.args.number c.args.source c.args.above.now d o n (sym c.choose_by.ensures ∙ e)
+    entered_within (going_from 0 c.args.removed.now) c.args.subs.now c.args.fresh c.args.number c.args.source c.args.above.now d o n (sym c.choose_by.ensures ∙ e)

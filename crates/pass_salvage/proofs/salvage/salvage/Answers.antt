@@ -3,7 +3,7 @@ use Rattle.std.proofs.lemmas.List.{length-take-le, take-append-drop}
 use Rattle.mir_func.specs.declared.item.Item.{Item}
 use Rattle.pass_salvage.specs.declared.salvage_action.SalvageAction.{SalvageAction}
 use Rattle.pass_salvage.specs.Salvage.{above_after, entries_for, fresh_after}
-use Rattle.pass_salvage.specs.SalvageAction.{salvage_action}
+use Rattle.pass_salvage.specs.SalvageAction.{salvage_action, going_from}
 use Rattle.pass_salvage.specs.Lookup.{IsLookupOf}
 use Rattle.pass_salvage.proofs.Chosen.{entered}
 use Rattle.pass_salvage.proofs.salvage.salvage.Goals as goal
@@ -25,7 +25,7 @@ put_entry-requires-clause-above c =
 
 pub put_entry-requires-clause-free : goal.put_entry-requires-clause-free
 put_entry-requires-clause-free c =
-    (entered c.args.removed.now c.args.subs.now c.args.fresh.now c.args.number c.args.source (take c.args.at c.deref.result.now) c.in-GetsEntry.d
+    (entered (going_from 0 c.args.removed.now) c.args.subs.now c.args.fresh.now c.args.number c.args.source (take c.args.at c.deref.result.now) c.in-GetsEntry.d
     c.in-GetsEntry.operand c.in-GetsEntry.standing (sym c.choose_way-action.ensures.chosen ∙ c.in-GetsEntry.is)).none
 
 pub returns-in-HasEntry-clause-items : goal.returns-in-HasEntry-clause-items
@@ -43,7 +43,7 @@ returns-in-HasEntry-clause-fresh c = sym (ap (λ (w : SalvageAction). fresh_afte
 pub returns-in-HasEntry-clause-action : goal.returns-in-HasEntry-clause-action
 returns-in-HasEntry-clause-action c =
     c.choose_way-action.ensures.chosen ∙
-    ap (λ (ys : List Item). salvage_action c.args.removed.now c.args.subs.now c.args.fresh.now c.args.number c.args.source (take c.args.at ys))
+    ap (λ (ys : List Item). salvage_action (going_from 0 c.args.removed.now) c.args.subs.now c.args.fresh.now c.args.number c.args.source (take c.args.at ys))
     c.deref.ensures.value
 
 pub returns-in-GetsPhi-clause-items : goal.returns-in-GetsPhi-clause-items
@@ -61,7 +61,7 @@ returns-in-GetsPhi-clause-fresh c = sym (ap (λ (w : SalvageAction). fresh_after
 pub returns-in-GetsPhi-clause-action : goal.returns-in-GetsPhi-clause-action
 returns-in-GetsPhi-clause-action c =
     c.choose_way-action.ensures.chosen ∙
-    ap (λ (ys : List Item). salvage_action c.args.removed.now c.args.subs.now c.args.fresh.now c.args.number c.args.source (take c.args.at ys))
+    ap (λ (ys : List Item). salvage_action (going_from 0 c.args.removed.now) c.args.subs.now c.args.fresh.now c.args.number c.args.source (take c.args.at ys))
     c.deref.ensures.value
 
 pub returns-in_ok-put_entry-in-GetsEntry-clause-items : goal.returns-in_ok-put_entry-in-GetsEntry-clause-items
@@ -76,5 +76,5 @@ returns-in_ok-put_entry-in-GetsEntry-clause-fresh c = c.use_fresh.ensures.value
 pub returns-in_ok-put_entry-in-GetsEntry-clause-action : goal.returns-in_ok-put_entry-in-GetsEntry-clause-action
 returns-in_ok-put_entry-in-GetsEntry-clause-action c =
     sym c.in-GetsEntry.is ∙ c.choose_way-action.ensures.chosen ∙
-    ap (λ (ys : List Item). salvage_action c.args.removed.now c.args.subs.now c.args.fresh.now c.args.number c.args.source (take c.args.at ys))
+    ap (λ (ys : List Item). salvage_action (going_from 0 c.args.removed.now) c.args.subs.now c.args.fresh.now c.args.number c.args.source (take c.args.at ys))
     c.deref.ensures.value

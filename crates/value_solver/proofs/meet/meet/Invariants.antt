@@ -1,5 +1,6 @@
-use Rattle.value_solver.proofs.Numbers.{SoFar}
+use Rattle.value_solver.specs.PairNumbers.{number_in}
+use Rattle.value_solver.proofs.Pairing.{Numbering}
 use Rattle.value_solver.proofs.meet.meet.Given as goal
 
 abbrev pub invariant-loop-i : goal.invariant-loop-i
-invariant-loop-i l = SoFar l.a l.b l.i l.pairs.keys l.classes.items
+invariant-loop-i l = Numbering l.a l.b l.i l.count (number_in l.pairs) l.classes.items

@@ -3,13 +3,18 @@ use Rattle.std.specs.Prelude.{IsTrue, ◌↔◌}
 use Rattle.std.proofs.Math.Bool.{beq}
 use Rattle.std.specs.Cmp.{booleans_Decides}
 use Rattle.std.specs.Cmp.Lexicographic.{pointwise, pointwise_decides, same_text}
-use Rattle.indexmap.proofs.DrainLemmas.{same_flag}
 use Rattle.value_solver.specs.declared.entry.BlockEntry.{BlockEntry}
 use Rattle.value_solver.proofs.visit.are_equal.Goals as goal
 
 not_not : (z : Bool) → false ≡ not z → true ≡ z
 not_not true e = refl
 not_not false e = sym e
+
+same_flag : (a b : Bool) → not (beq a b) ≡ false → a ≡ b
+same_flag true true e = refl
+same_flag true false e = e
+same_flag false true e = sym e
+same_flag false false e = refl
 
 same : (a b : BlockEntry) (r : Bool) → a.reached ≡ b.reached → a.classes ≡ b.classes → r ≡ pointwise beq a.given b.given → IsTrue r ↔ (a ≡ b)
 same a b r e f g =
