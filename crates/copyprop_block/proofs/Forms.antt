@@ -1,5 +1,5 @@
 -- Renaming keeps the form of an instruction.
-use Rattle.std.proofs.Common.{◌≡◌, List, [], ◌∷◌, map, Bool, ◌&&◌, refl, ap, nat_le, nat_lt, nat_eq, ◌||◌}
+use Rattle.std.proofs.Common.{◌≡◌, List, [], ◌∷◌, map, Bool, ◌&&◌, refl, ap}
 use Rattle.std.specs.Prelude.{pos}
 use Rattle.rv64_instr.specs.Arithmetic.{load_width, store_width}
 use Rattle.std.specs.List.{list_all}
@@ -15,7 +15,8 @@ use Rattle.rv64_instr.specs.declared.operand.Operand.TheVariants.{Def, Use, Imm,
 use Rattle.rv64_instr.specs.declared.symbol.Half.TheVariants.{Upper, Lower}
 use Rattle.rv64_instr.specs.Form.{is_implicit, is_argument, is_result, fits_registers, fits_immediate, fits_upper, fits_branch, fits_load, fits_store}
 use Rattle.rv64_instr.specs.Form.{fits_copy, fits_jump, fits_call, has_form, is_immediate}
-use Rattle.rv64_instr.specs.Form.{is_addi, has_12_bits, moves_slot, is_within, is_tail_use, is_tail_register}
+use Rattle.rv64_instr.specs.Form.{is_addi, has_12_bits, moves_slot, is_within, is_tail_use, is_last_argument}
+use Rattle.rv64_instr.specs.Form.{is_call_register, is_held_tail_register, is_held_tail_use}
 use Rattle.copyprop_block.specs.declared.roots.Root.{Root}
 use Rattle.copyprop_block.specs.Roots.{renamed_operand}
 
@@ -37,6 +38,11 @@ module _ (e : List Root) where
   argument_one (Def r) = refl
   argument_one _ = refl
 
+  last_one : (o : Operand) → is_last_argument (renamed_operand e o) ≡ is_last_argument o
+  last_one (Use r) = refl
+  last_one (Def r) = refl
+  last_one _ = refl
+
   result_one : (o : Operand) → is_result (renamed_operand e o) ≡ is_result o
   result_one (Use r) = refl
   result_one (Def r) = refl
@@ -46,6 +52,11 @@ module _ (e : List Root) where
   tail_one (Use r) = refl
   tail_one (Def r) = refl
   tail_one _ = refl
+
+  held_tail_one : (o : Operand) → is_held_tail_use (renamed_operand e o) ≡ is_held_tail_use o
+  held_tail_one (Use r) = refl
+  held_tail_one (Def r) = refl
+  held_tail_one _ = refl
 
   implicit : (os : List Operand) → list_all is_implicit (new os) ≡ list_all is_implicit os
   implicit = all_same is_implicit implicit_one
@@ -107,11 +118,11 @@ module _ (e : List Root) where
   form_renamed PseudoCall os = call os
   form_renamed PseudoRet os = all_same is_result result_one os
   form_renamed PseudoCallIndirect (ImplicitUse r ∷ Mask ∷ rest) =
-      ap (λ (z : Bool). (nat_le 5 r && nat_lt r 32) && z) (all_same is_argument argument_one rest)
+      ap (λ (z : Bool). is_call_register r && z) (all_same is_argument argument_one rest)
   form_renamed PseudoTail (Symbol name ∷ rest) = all_same is_tail_use tail_one rest
   form_renamed PseudoTailIndirect (ImplicitUse r ∷ rest) =
-      ap (λ (z : Bool). (nat_eq r 6 || is_tail_register r) && z) (all_same is_tail_use tail_one rest)
-  form_renamed NoReturnCall os = call os
+      ap (λ (z : Bool). is_held_tail_register r && z) (all_same is_held_tail_use held_tail_one rest)
+  form_renamed NoReturnCall (Symbol name ∷ Mask ∷ rest) = all_same is_last_argument last_one rest
   form_renamed NoReturnCallIndirect (ImplicitUse r ∷ Mask ∷ rest) =
-      ap (λ (z : Bool). (nat_le 5 r && nat_lt r 32) && z) (all_same is_argument argument_one rest)
+      ap (λ (z : Bool). is_call_register r && z) (all_same is_last_argument last_one rest)
   form_renamed _ _ = refl

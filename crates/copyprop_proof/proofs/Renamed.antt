@@ -7,7 +7,7 @@ use Rattle.rv64_instr.specs.declared.operand.Operand.{Operand}
 use Rattle.rv64_instr.specs.declared.operand.Operand.TheVariants.{Def, Use, Outgoing}
 use Rattle.rv64_instr.specs.Row.{Base, PointedBy, ObjectAt, BesidePart}
 use Rattle.rv64_instr.specs.Instruction.{Instruction}
-use Rattle.rv64_instr.specs.Row.{Row, Fixes, Moves, Addresses, Loads, Stores, LoadsSlot, StoresSlot, Branches, Jumps, row_of}
+use Rattle.rv64_instr.specs.Row.{Row, Calls, Fixes, Moves, Addresses, Loads, Stores, LoadsSlot, StoresSlot, Branches, Jumps, row_of}
 use Rattle.rv64_instr.specs.Arithmetic.{load_width, store_width}
 use Rattle.mir_func.specs.declared.block.Block.{Block}
 use Rattle.mir_func.specs.declared.debug_substitution.OperandPair.{OperandPair}
@@ -26,7 +26,7 @@ use Rattle.mir_func.specs.Resolve.{resolve}
 use Rattle.mir_func.specs.Graph.{Program, program_of}
 use Rattle.mir_func.specs.Sound.{AreApart, AllItems, ids_of, items_of, number_of, code_number, NumbersOnce, OriginIn, TargetIn, TargetsIn, SlotIn, SlotsIn}
 use Rattle.mir_func.specs.Sound.{PassedIn, BaseHasBytes, ObjectIn, ObjectsIn, IsNotPointer, LeavesPointer, IsJumpAtMost, MayFollow, EndsWell, Closes}
-use Rattle.mir_func.specs.Sound.{LastCloses, IsSound}
+use Rattle.mir_func.specs.Sound.{LastCloses, IsSound, PassesFirst, KindPassesFirst}
 use Rattle.pass_salvage.proofs.Edits.{Edited, over, pair, BlocksEdited, no_blocks, next_block}
 use Rattle.pass_edits.proofs.Edited.{edited_loosely}
 use Rattle.copyprop_block.specs.declared.roots.Root.{Root}
@@ -128,6 +128,10 @@ slot_rooted : (e : List Root) (slots : List ℕ) (r : Row) → SlotIn slots r �
 slot_rooted e slots (LoadsSlot rd n) h = h
 slot_rooted e slots (StoresSlot rs n) h = h
 slot_rooted e slots _ h = tt
+
+first_rooted : (e : List Root) (slots : List ℕ) (r : Row) → PassesFirst slots r → PassesFirst slots (rooted e r)
+first_rooted e slots (Calls call) h = h
+first_rooted e slots _ h = tt
 
 base_rooted : (e : List Root) (objects : List StackObject) (b : Base) (n : ℕ) → BaseHasBytes objects b n → BaseHasBytes objects (rooted_base e b) n
 base_rooted e objects (PointedBy r) n h = tt
@@ -315,6 +319,11 @@ kind_slot slots e (Code i n) h p t = (
 kind_slot slots e (Mark v m) h p t = t
 kind_slot slots e (Phi q m) h p t = t
 
+kind_first : (slots : List ℕ) (e : List Root) (k : ItemKind) → AreGood e → LeavesPointer k → KindPassesFirst slots k → KindPassesFirst slots (renamed_kind e k)
+kind_first slots e (Code i n) h p t = by_rooted (PassesFirst slots) (λ a r. first_rooted a slots r) e i h.clean t
+kind_first slots e (Mark v m) h p t = t
+kind_first slots e (Phi q m) h p t = t
+
 kind_object : (objects : List StackObject) (e : List Root) (k : ItemKind) → AreGood e → LeavesPointer k → ObjectsIn objects k →
     ObjectsIn objects (renamed_kind e k)
 kind_object objects e (Code i n) h p t = by_rooted (ObjectIn objects) (λ a r. object_rooted a objects r) e i h.clean t
@@ -341,6 +350,7 @@ sound_renamed f s =
       targets = subst (λ (ns : List ℕ). All (λ (b : Block). All (λ (i : Item). TargetsIn ns i.kind) b.items) new) (sym ids)
           (each_block (TargetsIn (ids_of f.blocks)) (kind_target (ids_of f.blocks)) f.blocks s.pointer s.targets);
       slots = each_block (SlotsIn f.slots) (kind_slot f.slots) f.blocks s.pointer s.slots;
+      passed = each_block (KindPassesFirst f.slots) (kind_first f.slots) f.blocks s.pointer s.passed;
       objects = each_block (ObjectsIn f.objects) (kind_object f.objects) f.blocks s.pointer s.objects;
       pointer = each_block LeavesPointer kind_other f.blocks s.pointer s.pointer;
       numbers = once_same (items_of f.blocks) (items_of new) (numbers_of_blocks f.blocks) s.numbers;

@@ -1,6 +1,6 @@
 -- What the operands of code define, by the form of its opcode.
 use Rattle.std.proofs.Common.{◌≡◌, ◌⊎◌, inl, inr, ℕ, zero, suc, ◌+◌, ◌<◌, ◌≤◌, List, [], ◌∷◌, ◌++◌, All, Contains, Option, Some, None, Bool, true, false}
-use Rattle.std.proofs.Common.{◌&&◌, ◌||◌, pos, nat_le, nat_eq, slice_get, refl, sym, ap, ◌∙◌, subst, arith, cond, nat_lt, ne_eqb}
+use Rattle.std.proofs.Common.{◌&&◌, ◌||◌, pos, nat_le, nat_eq, slice_get, refl, sym, ap, ◌∙◌, subst, arith, cond, ne_eqb}
 use Rattle.std.specs.List.{list_all, list_any}
 use Rattle.std.proofs.lemmas.Bool.{and_parts, cases_eq, eqb-true, leb-true}
 use Rattle.std.proofs.lemmas.List.Elements.{All-head, Contains-append_left, Contains-append_right}
@@ -18,12 +18,12 @@ use Rattle.rv64_instr.specs.declared.place.Place.TheVariants.{Register}
 use Rattle.rv64_instr.specs.Instruction.{Instruction}
 use Rattle.rv64_instr.specs.Arithmetic.{word}
 use Rattle.rv64_instr.specs.Form.{is_within, has_12_bits, is_immediate, moves_slot, is_implicit, is_clobbered}
-use Rattle.rv64_instr.specs.Form.{is_argument, is_result, has_form, is_addi, is_tail_use, is_tail_register}
+use Rattle.rv64_instr.specs.Form.{is_argument, is_last_argument, is_call_register, is_result, has_form, is_addi, is_held_tail_use, is_held_tail_register}
 use Rattle.rv64_instr.specs.Row.{Row, Calls, row_by, row_of, immediate_row, object_row}
 use Rattle.rv64_instr.specs.Row.{move_row, CallSite, implicit_uses, outgoing_words, held_call, held_tail, held_gone, Held}
 use Rattle.rv64_instr.specs.DefsAndUses.{sets, caller_saved}
 use Rattle.rv64_instr.specs.LocationEffects.{is_pure, is_call, defines_of}
-use Rattle.rv64_instr.proofs.Tails.{held_callee}
+use Rattle.rv64_instr.proofs.Tails.{held_callee, last_arguments, held_tail_uses}
 use Rattle.mir_func.specs.Sound.{IsNotPointer}
 use Rattle.sem_mir.specs.Step.{defined}
 use Rattle.sem_mir.proofs.Parts.{row_defines}
@@ -55,10 +55,10 @@ none_argument (ImplicitUse r ∷ os) h (suc o) = none_argument os (and_parts (is
 none_argument (Outgoing n ∷ os) h (suc o) = none_argument os (and_parts (is_argument (Outgoing n)) (list_all is_argument os) h).1 o
 none_argument (_ ∷ os) h o = cc
 
-none_tail : (os : List Operand) → list_all is_tail_use os ≡ true → (o : ℕ) → defined false (slice_get os o) ≡ None
+none_tail : (os : List Operand) → list_all is_held_tail_use os ≡ true → (o : ℕ) → defined false (slice_get os o) ≡ None
 none_tail [] h o = refl
 none_tail (ImplicitUse r ∷ os) h zero = refl
-none_tail (ImplicitUse r ∷ os) h (suc o) = none_tail os (and_parts (is_tail_use (ImplicitUse r)) (list_all is_tail_use os) h).1 o
+none_tail (ImplicitUse r ∷ os) h (suc o) = none_tail os (and_parts (is_held_tail_use (ImplicitUse r)) (list_all is_held_tail_use os) h).1 o
 none_tail (_ ∷ os) h o = cc
 
 abbrev NoneDefined : List Operand → Type 0
@@ -153,23 +153,22 @@ sets_by_form PseudoBr (Block n ∷ rest) e = no_register (past (Block n) rest re
 sets_by_form PseudoCall (Symbol name ∷ Mask ∷ rest) e = call _ (Symbol name) rest refl refl e refl
 sets_by_form PseudoRet rest e = no_register (none_result rest e) refl refl
 sets_by_form PseudoCallIndirect (ImplicitUse r ∷ Mask ∷ rest) e =
-    let h = and_parts (nat_le 5 r && nat_lt r 32) (list_all is_argument rest) e in
-    let low = (held_callee r h.0).0 in
+    let h = and_parts (is_call_register r) (list_all is_argument rest) e in
     let uses : implicit_uses (ImplicitUse r ∷ Mask ∷ rest) ≡ r ∷ implicit_uses rest =
-    ap (λ (b : Bool). cond b (implicit_uses rest) (r ∷ implicit_uses rest)) (ne_eqb r 2 (λ two. omega (arith, low, two))) in
+    ap (λ (b : Bool). cond b (implicit_uses rest) (r ∷ implicit_uses rest)) (ne_eqb r 2 (held_callee r h.0).0) in
     let s = held_call_site (implicit_uses (ImplicitUse r ∷ Mask ∷ rest)) (outgoing_words (ImplicitUse r ∷ Mask ∷ rest)) r (implicit_uses rest) uses in
     call s.0 (ImplicitUse r) rest refl refl h.1 s.1
-sets_by_form PseudoTail (Symbol name ∷ rest) e = no_register (past (Symbol name) rest refl (none_tail rest e)) refl refl
+sets_by_form PseudoTail (Symbol name ∷ rest) e = no_register (past (Symbol name) rest refl (none_tail rest (held_tail_uses rest e))) refl refl
 sets_by_form PseudoTailIndirect (ImplicitUse r ∷ rest) e =
-    let h = and_parts (nat_eq r 6 || is_tail_register r) (list_all is_tail_use rest) e in
+    let h = and_parts (is_held_tail_register r) (list_all is_held_tail_use rest) e in
     let s = held_tail_sets (implicit_uses (ImplicitUse r ∷ rest)) in
     no_register (past (ImplicitUse r) rest refl (none_tail rest h.1)) s.0 s.1
 sets_by_form NoReturnCall (Symbol name ∷ Mask ∷ rest) e =
-    no_register (past (Symbol name) (Mask ∷ rest) refl (past Mask rest refl (none_argument rest e))) refl refl
+    no_register (past (Symbol name) (Mask ∷ rest) refl (past Mask rest refl (none_argument rest (last_arguments rest e)))) refl refl
 sets_by_form NoReturnCallIndirect (ImplicitUse r ∷ Mask ∷ rest) e =
-    let h = and_parts (nat_le 5 r && nat_lt r 32) (list_all is_argument rest) e in
+    let h = and_parts (is_call_register r) (list_all is_last_argument rest) e in
     let s = held_gone_sets (implicit_uses (ImplicitUse r ∷ Mask ∷ rest)) in
-    no_register (past (ImplicitUse r) (Mask ∷ rest) refl (past Mask rest refl (none_argument rest h.1))) s.0 s.1
+    no_register (past (ImplicitUse r) (Mask ∷ rest) refl (past Mask rest refl (none_argument rest (last_arguments rest h.1)))) s.0 s.1
 sets_by_form _ _ e = cc
 
 -- ---- registers that a call names as set

@@ -12,7 +12,7 @@ use Rattle.mir_func.specs.declared.item.Item.{Item}
 use Rattle.mir_func.specs.declared.item.ItemKind.{ItemKind}
 use Rattle.mir_func.specs.declared.item.ItemKind.TheVariants.{Code, Mark, Phi}
 use Rattle.mir_func.specs.Function.{Function}
-use Rattle.mir_func.specs.Sound.{AreApart, AllItems, ids_of, items_of, number_of, code_number, HasForm}
+use Rattle.mir_func.specs.Sound.{AreApart, AllItems, ids_of, items_of, number_of, code_number, HasForm, KindPassesFirst}
 use Rattle.mir_func.specs.Sound.{NumbersOnce, OriginIn, TargetsIn, SlotsIn, ObjectsIn, LeavesPointer}
 use Rattle.mir_func.specs.Sound.{IsJumpAtMost, MayFollow, EndsWell, Closes, LastCloses, IsSound}
 use Rattle.mir_func.specs.declared.exit.Exit.{Exit}
@@ -190,6 +190,7 @@ module _ (wrong : Pos → Places) (ends : Ends) where
         targets = subst (λ (ns : List ℕ). All (λ (b : Block). All (λ (i : Item). TargetsIn ns i.kind) b.items) new) (sym ids)
             (each_kind (TargetsIn (ids_of f.blocks)) (λ w k h. quiet_is (TargetsIn (ids_of f.blocks)) w k h (λ v r e. tt) (λ y n e. tt)) f.blocks s.targets);
         slots = each_kind (SlotsIn f.slots) (λ w k h. quiet_is (SlotsIn f.slots) w k h (λ v r e. tt) (λ y n e. tt)) f.blocks s.slots;
+        passed = each_kind (KindPassesFirst f.slots) (λ w k h. quiet_is (KindPassesFirst f.slots) w k h (λ v r e. tt) (λ y n e. tt)) f.blocks s.passed;
         objects = each_kind (ObjectsIn f.objects) (λ w k h. quiet_is (ObjectsIn f.objects) w k h (λ v r e. tt) (λ y n e. tt)) f.blocks s.objects;
         pointer = each_kind LeavesPointer (λ w k h. quiet_is LeavesPointer w k h (λ v r e. tt) (λ y n e. tt)) f.blocks s.pointer;
         numbers = once_left (left_items wrong ends f.blocks) s.numbers;

@@ -1,13 +1,14 @@
--- Two lists of lists with one section are equal.
+-- Two lists of lists with one section are equal, so that the section tells the ranges of each.
 use Rattle.std.specs.List.{flat_map}
-use Rattle.std.proofs.Common.{◌≡◌, ℕ, ◌+◌, ◌*◌, ◌^◌, ◌<◌, List, [], ◌∷◌, ◌++◌, length, arith, ap, sym, ◌∙◌, refl, append_assoc}
+use Rattle.std.proofs.Common.{◌≡◌, ◌↔◌, ℕ, ◌+◌, ◌*◌, ◌^◌, ◌<◌, List, [], ◌∷◌, ◌++◌, length, Some, slice_get, arith, ap, sym, ◌∙◌, refl, subst, append_assoc}
 use Rattle.dwarf_base.specs.Leb.{uleb_of}
 use Rattle.dwarf_loclists.specs.Spelling.{header}
 use Rattle.dwarf_loclists.proofs.OneLocation.{uleb_one, heads_one, tails_one}
 use Rattle.dwarf_loclists.proofs.OneReading.{cut, spliced, header_one}
 use Rattle.dwarf_rnglists.specs.declared.range.AddressRange.{AddressRange}
+use Rattle.dwarf_rnglists.specs.Ranges.{Cover}
 use Rattle.dwarf_rnglists.specs.Spelling.{entry, list_spelling, bodies, offsets_from, spelling}
-use Rattle.dwarf_rnglists.specs.Grammar.{IsSection}
+use Rattle.dwarf_rnglists.specs.Grammar.{IsSection, IsInRange}
 use Rattle.dwarf_rnglists.proofs.SpellingLemmas.{length-offsets_from, length-spelling}
 
 entry-append : (r : AddressRange) (x : List ℕ) → entry r ++ x ≡ 4 ∷ (uleb_of r.lo ++ (uleb_of r.hi ++ x))
@@ -67,3 +68,16 @@ count_fits bytes lists is = omega (arith, length-spelling lists, ap length is.sp
 pub one_section : (bytes : List ℕ) (a b : List (List AddressRange)) → IsSection bytes a → IsSection bytes b → a ≡ b
 one_section bytes a b is_a is_b =
     spelling_one a b (count_fits bytes a is_a) (count_fits bytes b is_b) (sym is_a.spelled ∙ is_b.spelled)
+
+-- an address is in a range of a list exactly if the list's ranges cover it
+pub in_range : (bytes : List ℕ) (lists : List (List AddressRange)) → IsSection bytes lists → (k address : ℕ) (ranges : List AddressRange) →
+    slice_get lists k ≡ Some ranges → IsInRange bytes k address ↔ Cover ranges address
+in_range bytes lists section k address ranges at = (
+  λ i.
+      let same : i.lists ≡ lists = one_section bytes i.lists lists i.section section in
+      let ours : i.ranges ≡ ranges = some_one (sym i.list ∙ ap (λ (ls : List (List AddressRange)). slice_get ls k) same ∙ at) in
+      subst (λ (rs : List AddressRange). Cover rs address) ours i.covered,
+  λ covered. record { lists = lists; ranges = ranges; section = section; list = at; covered = covered },
+) where
+  some_one : {x y : List AddressRange} → Some x ≡ Some y → x ≡ y
+  some_one e = cc

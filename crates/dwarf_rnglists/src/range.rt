@@ -2,7 +2,8 @@
 
 use base_list::List;
 
-/// A range of addresses, in bytes from the base address.
+/// A range of addresses, in bytes from the base address. That is the unit's `DW_AT_low_pc`, which is 0 where the unit
+/// begins at the start of `.text`: then these are addresses in `.text`.
 #[derive(Clone, Copy, Debug, PartialEq, Eq)]
 pub struct AddressRange {
     /// The first address.

@@ -1,6 +1,6 @@
 -- Each instruction of a function with its frame has its word.
 use Rattle.std.proofs.Common.{◌≡◌, ℕ, zero, suc, ◌+◌, ◌-◌, ◌%◌, ◌<◌, ◌≤◌, Bool, true, false, List, ◌∷◌, Option, Some, None, refl, sym, ap, subst, inl, inr, ◌∙◌}
-use Rattle.std.proofs.Common.{arith, ◌⊎◌, nat_eq, nat_le, nat_lt, ◌||◌, ◌&&◌}
+use Rattle.std.proofs.Common.{arith, ◌⊎◌, ◌&&◌}
 use Rattle.std.specs.Prelude.{◌⊎◌, ◌&&◌, ℤ, pos, negsuc, ◌-ℤ◌, ◌+ℤ◌, IsTrue, All, Contains, option_and_then, if◌then◌else◌}
 use Rattle.std.specs.List.{list_all}
 use Rattle.std.proofs.lemmas.Bool.Decides.{nat_tests}
@@ -40,9 +40,9 @@ use Rattle.mir_func.specs.Objects.{offset_of}
 use Rattle.mir_func.specs.Sound.{SlotIn, ObjectIn, HasBytes}
 use Rattle.mir_func.specs.SoundFrame.{IsPhysical}
 use Rattle.rv64_instr.specs.Form.{is_within, has_12_bits, is_immediate, is_addi, is_implicit, fits_registers, fits_immediate, fits_upper, fits_branch}
-use Rattle.rv64_instr.specs.Form.{fits_load, fits_store, fits_copy, fits_jump, has_form, is_argument, is_tail_use}
-use Rattle.rv64_instr.specs.Form.{is_tail_register, fits_call, fits_held_call, fits_tail, fits_held_tail}
-use Rattle.rv64_instr.proofs.Tails.{IsTailRegister, held_callee, tail_callee, tail_low}
+use Rattle.rv64_instr.specs.Form.{fits_load, fits_store, fits_copy, fits_jump, has_form, is_argument, is_last_argument, is_call_register, is_held_tail_use}
+use Rattle.rv64_instr.specs.Form.{is_held_tail_register, fits_call, fits_held_call, fits_gone, fits_held_gone, fits_tail, fits_held_tail}
+use Rattle.rv64_instr.proofs.Tails.{held_callee, tail_callee, callee_low}
 use Rattle.rv64_word.specs.MachineOp.{fits, is_encodable, is_even}
 use Rattle.emit_code.proofs.Fits.{held_fit, callee_not_two}
 
@@ -329,31 +329,25 @@ module _ (slots : List ℕ) (objects : List Object) (own : ℕ) (low : (n : ℕ)
   held_call_word : (operands : List Operand) (offset : ℤ) (object : ℕ) → IsTrue (fits_held_call operands) →
       HasWord offset object (instruction source.PseudoCallIndirect operands)
   held_call_word (ImplicitUse r ∷ Mask ∷ rest) offset object form =
-      let is = held_callee r (and_parts (nat_le 5 r && nat_lt r 32) (list_all is_argument rest) form).0 in
-      let low = is.0 in
+      let is = held_callee r (and_parts (is_call_register r) (list_all is_argument rest) form).0 in
       with_word offset object (instruction source.PseudoCallIndirect (ImplicitUse r ∷ Mask ∷ rest)) (machine_op Jalr 1 r 0 (pos 0))
-      (ap (held_fields 1) (held_fit r (Mask ∷ rest) (λ two. omega (arith, low, two)))) (held_encodes 1 r (omega arith) is.1)
+      (ap (held_fields 1) (held_fit r (Mask ∷ rest) is.0)) (held_encodes 1 r (omega arith) is.1)
   held_call_word operands offset object form = absurd cc
-
-  callee_under : (r : ℕ) → (r ≡ 6) ⊎ IsTailRegister r → r < 32
-  callee_under r (inl six) = omega (arith, six)
-  callee_under r (inr is) = tail_low r is
 
   held_tail_word : (operands : List Operand) (offset : ℤ) (object : ℕ) → IsTrue (fits_held_tail operands) →
       HasWord offset object (instruction source.PseudoTailIndirect operands)
   held_tail_word (ImplicitUse r ∷ rest) offset object form =
-      let callee = tail_callee r (and_parts (nat_eq r 6 || is_tail_register r) (list_all is_tail_use rest) form).0 in
+      let callee = tail_callee r (and_parts (is_held_tail_register r) (list_all is_held_tail_use rest) form).0 in
       with_word offset object (instruction source.PseudoTailIndirect (ImplicitUse r ∷ rest)) (machine_op Jalr 0 r 0 (pos 0))
-      (ap (held_fields 0) (held_fit r rest (callee_not_two r callee))) (held_encodes 0 r (omega arith) (callee_under r callee))
+      (ap (held_fields 0) (held_fit r rest (callee_not_two r callee))) (held_encodes 0 r (omega arith) (callee_low r callee))
   held_tail_word operands offset object form = absurd cc
 
-  held_gone_word : (operands : List Operand) (offset : ℤ) (object : ℕ) → IsTrue (fits_held_call operands) →
+  held_gone_word : (operands : List Operand) (offset : ℤ) (object : ℕ) → IsTrue (fits_held_gone operands) →
       HasWord offset object (instruction source.NoReturnCallIndirect operands)
   held_gone_word (ImplicitUse r ∷ Mask ∷ rest) offset object form =
-      let is = held_callee r (and_parts (nat_le 5 r && nat_lt r 32) (list_all is_argument rest) form).0 in
-      let low = is.0 in
+      let is = held_callee r (and_parts (is_call_register r) (list_all is_last_argument rest) form).0 in
       with_word offset object (instruction source.NoReturnCallIndirect (ImplicitUse r ∷ Mask ∷ rest)) (machine_op Jalr 1 r 0 (pos 0))
-      (ap (held_fields 1) (held_fit r (Mask ∷ rest) (λ two. omega (arith, low, two)))) (held_encodes 1 r (omega arith) is.1)
+      (ap (held_fields 1) (held_fit r (Mask ∷ rest) is.0)) (held_encodes 1 r (omega arith) is.1)
   held_gone_word operands offset object form = absurd cc
 
   -- what names a callee has two words
@@ -365,7 +359,7 @@ module _ (slots : List ℕ) (objects : List Object) (own : ℕ) (low : (n : ℕ)
   named_tail (Symbol name ∷ rest) form = refl
   named_tail operands form = absurd cc
 
-  named_gone : (operands : List Operand) → IsTrue (fits_call operands) → has_site (gone_row operands) ≡ true
+  named_gone : (operands : List Operand) → IsTrue (fits_gone operands) → has_site (gone_row operands) ≡ true
   named_gone (Symbol name ∷ Mask ∷ rest) form = refl
   named_gone operands form = absurd cc
 

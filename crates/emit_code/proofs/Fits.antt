@@ -1,5 +1,5 @@
 -- Operands that have the form of an opcode make an instruction.
-use Rattle.std.proofs.Common.{◌≡◌, ℕ, zero, suc, List, ◌∷◌, ◌⊎◌, inl, inr, Bool, cond, nat_eq, nat_le, nat_lt, ◌||◌, ◌&&◌, ne_eqb, ap, sym, ◌∙◌, arith}
+use Rattle.std.proofs.Common.{◌≡◌, ℕ, zero, suc, List, ◌∷◌, ◌⊎◌, inl, inr, Bool, cond, ◌&&◌, ne_eqb, ap, sym, ◌∙◌, arith}
 use Rattle.std.specs.Prelude.{IsTrue, ℤ, ◌&&◌}
 use Rattle.std.specs.List.{list_all}
 use Rattle.std.proofs.lemmas.Bool.{and_parts}
@@ -18,8 +18,8 @@ use Rattle.rv64_instr.specs.declared.operand.Operand.TheVariants.{Def, Use, Imm,
 use Rattle.rv64_instr.specs.declared.symbol.Half.TheVariants.{Upper, Lower}
 use Rattle.rv64_instr.specs.Arithmetic.{word}
 use Rattle.rv64_instr.specs.Form.{is_addi, is_immediate, is_implicit, fits_registers, fits_immediate, fits_upper, fits_branch, fits_load, fits_store, fits_copy}
-use Rattle.rv64_instr.specs.Form.{fits_jump, fits_call, has_form, is_argument, is_tail_use}
-use Rattle.rv64_instr.specs.Form.{is_tail_register, fits_held_call, fits_tail, fits_held_tail}
+use Rattle.rv64_instr.specs.Form.{fits_jump, fits_call, has_form, is_argument, is_last_argument, is_call_register, is_held_tail_use}
+use Rattle.rv64_instr.specs.Form.{is_held_tail_register, fits_held_call, fits_gone, fits_held_gone, fits_tail, fits_held_tail}
 use Rattle.rv64_instr.specs.Row.{Unfit, move_row, add_row, immediate_row, object_row, registers_row, number_row, upper_row, branch_row, load_row, store_row}
 use Rattle.rv64_instr.specs.Row.{copy_row, jump_row, call_row, row_by, implicit_uses, outgoing_words, held_call}
 use Rattle.rv64_instr.specs.Row.{held_tail, held_gone, held_call_row, tail_row, held_tail_row, gone_row, held_gone_row}
@@ -100,9 +100,9 @@ callee_not_two r (inr (inr (inr is))) e = let a = is.0 in omega (arith, a, e)
 
 held_call_fit : (operands : List Operand) → IsTrue (fits_held_call operands) → held_call_row operands ≡ Unfit → ⊥
 held_call_fit (ImplicitUse r ∷ Mask ∷ rest) form e =
-    let low = (held_callee r (and_parts (nat_le 5 r && nat_lt r 32) (list_all is_argument rest) form).0).0 in
+    let ne = (held_callee r (and_parts (is_call_register r) (list_all is_argument rest) form).0).0 in
     let bad : held_call (r ∷ implicit_uses rest) (outgoing_words rest) ≡ Unfit =
-    sym (ap (λ (xs : List ℕ). held_call xs (outgoing_words rest)) (held_fit r (Mask ∷ rest) (λ two. omega (arith, low, two)))) ∙ e in cc
+    sym (ap (λ (xs : List ℕ). held_call xs (outgoing_words rest)) (held_fit r (Mask ∷ rest) ne)) ∙ e in cc
 held_call_fit operands form e = absurd cc
 
 tail_fit : (operands : List Operand) → IsTrue (fits_tail operands) → tail_row operands ≡ Unfit → ⊥
@@ -111,18 +111,18 @@ tail_fit operands form e = absurd cc
 
 held_tail_fit : (operands : List Operand) → IsTrue (fits_held_tail operands) → held_tail_row operands ≡ Unfit → ⊥
 held_tail_fit (ImplicitUse r ∷ rest) form e =
-    let callee = tail_callee r (and_parts (nat_eq r 6 || is_tail_register r) (list_all is_tail_use rest) form).0 in
+    let callee = tail_callee r (and_parts (is_held_tail_register r) (list_all is_held_tail_use rest) form).0 in
     let bad : held_tail (r ∷ implicit_uses rest) ≡ Unfit = sym (ap held_tail (held_fit r rest (callee_not_two r callee))) ∙ e in cc
 held_tail_fit operands form e = absurd cc
 
-gone_fit : (operands : List Operand) → IsTrue (fits_call operands) → gone_row operands ≡ Unfit → ⊥
+gone_fit : (operands : List Operand) → IsTrue (fits_gone operands) → gone_row operands ≡ Unfit → ⊥
 gone_fit (Symbol name ∷ Mask ∷ rest) form e = cc
 gone_fit operands form e = absurd cc
 
-held_gone_fit : (operands : List Operand) → IsTrue (fits_held_call operands) → held_gone_row operands ≡ Unfit → ⊥
+held_gone_fit : (operands : List Operand) → IsTrue (fits_held_gone operands) → held_gone_row operands ≡ Unfit → ⊥
 held_gone_fit (ImplicitUse r ∷ Mask ∷ rest) form e =
-    let low = (held_callee r (and_parts (nat_le 5 r && nat_lt r 32) (list_all is_argument rest) form).0).0 in
-    let bad : held_gone (r ∷ implicit_uses rest) ≡ Unfit = sym (ap held_gone (held_fit r (Mask ∷ rest) (λ two. omega (arith, low, two)))) ∙ e in cc
+    let ne = (held_callee r (and_parts (is_call_register r) (list_all is_last_argument rest) form).0).0 in
+    let bad : held_gone (r ∷ implicit_uses rest) ≡ Unfit = sym (ap held_gone (held_fit r (Mask ∷ rest) ne)) ∙ e in cc
 held_gone_fit operands form e = absurd cc
 
 pub fit : (op : Op) (operands : List Operand) → IsTrue (has_form op operands) → row_by op operands ≡ Unfit → ⊥

@@ -228,7 +228,7 @@ module _ (slots : List ℕ) (objects : List Object) (end : ℕ → ℕ) (kept : 
   good_again : (b : Block) (xs : List Item) → All (IsGood ids slots objects b) xs → All (IsGood ids slots objects (record b { items = xs })) xs
   good_again b xs h = All-weaker (IsGood ids slots objects b) (IsGood ids slots objects (record b { items = xs })) (λ i g. record {
     target = g.target;
-    plain = record { slot = g.plain.slot; object = g.plain.object; pointer = g.plain.pointer; origin = g.plain.origin };
+    plain = record { slot = g.plain.slot; passed = g.plain.passed; object = g.plain.object; pointer = g.plain.pointer; origin = g.plain.origin };
   }) xs h
 
   pub good_blocks : (bs : List Block) → AreApart (ids_of bs) → All (λ (b : Block). EndsWell b.items) bs → Last bs → AllPlain bs → WaysStay bs →

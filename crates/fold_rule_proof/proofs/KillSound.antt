@@ -18,7 +18,7 @@ use Rattle.mir_func.specs.declared.position.Origin.TheVariants.{Kept, Before}
 use Rattle.mir_func.specs.Exits.{exit_of}
 use Rattle.mir_func.specs.Function.{Function}
 use Rattle.mir_func.specs.Sound.{ids_of, items_of, TargetsIn, SlotsIn, ObjectsIn, LeavesPointer, OriginIn, MayFollow, EndsWell, Closes, LastCloses, IsSound}
-use Rattle.mir_func.specs.Sound.{number_of, code_number, NumbersOnce, AreApart}
+use Rattle.mir_func.specs.Sound.{number_of, code_number, NumbersOnce, AreApart, KindPassesFirst}
 use Rattle.fold_rule.specs.Rule.{folded_blocks}
 use Rattle.fold_rule_proof.proofs.Numbers.{comes_at, folded_comes}
 use Rattle.fold_rule_proof.proofs.Sound.{sound_folded}
@@ -138,6 +138,11 @@ kill_slots ids (Mark v m) h = tt
 kill_slots ids (Phi None n) h = tt
 kill_slots ids (Phi (Some p) n) h = absurd h
 kill_slots ids (Code i n) h = absurd h
+
+kill_passed : (ids : List ℕ) (k : ItemKind) → IsKillKind k → KindPassesFirst ids k
+kill_passed ids (Mark v m) h = tt
+kill_passed ids (Phi p n) h = tt
+kill_passed ids (Code i n) h = absurd h
 
 kill_pointer : (k : ItemKind) → IsKillKind k → LeavesPointer k
 kill_pointer (Mark v m) h = tt
@@ -266,6 +271,8 @@ module _ (f g : Function) (sound : IsSound f) (h : IsFoldedWithKills f g) where
         (λ b i k. kill_targets (ids_of (map put_all h.blocks)) i.kind k.kind) h.blocks bare_sound.targets;
     slots = each_put end h.was f.blocks (λ b i. SlotsIn f.slots i.kind) (λ b i. SlotsIn f.slots i.kind) (λ b i t. t)
         (λ b i k. kill_slots f.slots i.kind k.kind) h.blocks bare_sound.slots;
+    passed = each_put end h.was f.blocks (λ b i. KindPassesFirst f.slots i.kind) (λ b i. KindPassesFirst f.slots i.kind) (λ b i t. t)
+        (λ b i k. kill_passed f.slots i.kind k.kind) h.blocks bare_sound.passed;
     objects = each_put end h.was f.blocks (λ b i. ObjectsIn f.objects i.kind) (λ b i. ObjectsIn f.objects i.kind) (λ b i t. t)
         (λ b i k. kill_objects i.kind k.kind) h.blocks bare_sound.objects;
     pointer = each_put end h.was f.blocks (λ b i. LeavesPointer i.kind) (λ b i. LeavesPointer i.kind) (λ b i t. t)

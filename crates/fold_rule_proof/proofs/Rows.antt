@@ -21,6 +21,7 @@ use Rattle.mir_func.specs.declared.item.ItemKind.TheVariants.{Code, Mark, Phi}
 use Rattle.mir_func.specs.declared.object.Object.{Object as StackObject}
 use Rattle.mir_func.specs.Exits.{row_exit, exit_of}
 use Rattle.mir_func.specs.Sound.{TargetIn, TargetsIn, SlotIn, PassedIn, SlotsIn, ObjectIn, ObjectsIn, IsNotPointer, LeavesPointer}
+use Rattle.mir_func.specs.Sound.{PassesFirst, KindPassesFirst}
 use Rattle.fold_rule.specs.Turned.{aimed, to_block, inverse_to, with_code}
 
 -- control leaves by a branch or a jump
@@ -148,6 +149,11 @@ row_slots slots (Branches op a b t) h = tt
 row_slots slots (Jumps t) h = tt
 row_slots slots _ h = absurd h
 
+row_first : (slots : List ℕ) (r : Row) → Leads (row_exit r) → PassesFirst slots r
+row_first slots (Branches op a b t) h = tt
+row_first slots (Jumps t) h = tt
+row_first slots _ h = absurd h
+
 row_objects : (objects : List StackObject) (r : Row) → Leads (row_exit r) → ObjectIn objects r
 row_objects objects (Branches op a b t) h = tt
 row_objects objects (Jumps t) h = tt
@@ -168,6 +174,11 @@ pub leading_slots : (slots : List ℕ) (k : ItemKind) → Leads (exit_of k) → 
 leading_slots slots (Code i m) h passes = (row_slots slots (row_of i) h, passes)
 leading_slots slots (Mark v m) h passes = absurd h
 leading_slots slots (Phi p m) h passes = absurd h
+
+pub leading_first : (slots : List ℕ) (k : ItemKind) → Leads (exit_of k) → KindPassesFirst slots k
+leading_first slots (Code i m) h = row_first slots (row_of i) h
+leading_first slots (Mark v m) h = absurd h
+leading_first slots (Phi p m) h = absurd h
 
 pub leading_objects : (objects : List StackObject) (k : ItemKind) → Leads (exit_of k) → ObjectsIn objects k
 leading_objects objects (Code i m) h = row_objects objects (row_of i) h

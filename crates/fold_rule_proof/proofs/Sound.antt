@@ -5,7 +5,7 @@ use Rattle.mir_func.specs.declared.block.Block.{Block}
 use Rattle.mir_func.specs.declared.item.Item.{Item}
 use Rattle.mir_func.specs.Function.{Function}
 use Rattle.mir_func.specs.Exits.{exit_of}
-use Rattle.mir_func.specs.Sound.{ids_of, TargetsIn, SlotsIn, ObjectsIn, LeavesPointer, OriginIn, LastCloses, IsSound}
+use Rattle.mir_func.specs.Sound.{ids_of, TargetsIn, SlotsIn, ObjectsIn, LeavesPointer, OriginIn, LastCloses, IsSound, KindPassesFirst}
 use Rattle.fold_targets.specs.Leads.{first_id, lead}
 use Rattle.fold_rule.specs.Reached.{first, onward}
 use Rattle.fold_rule.specs.Rule.{staying, folded_blocks, AreFolded}
@@ -26,6 +26,7 @@ module _ (f : Function) (sound : IsSound f) (new : List Block) (a : AreFolded f.
   plain : AllPlain f.slots f.objects a.end a.stays [] old
   plain k d lt j e within = record {
     slot = sound.slots k d lt j e within;
+    passed = sound.passed k d lt j e within;
     object = sound.objects k d lt j e within;
     pointer = sound.pointer k d lt j e within;
     origin = sound.origins k d lt j e within;
@@ -69,6 +70,7 @@ module _ (f : Function) (sound : IsSound f) (new : List Block) (a : AreFolded f.
     objects_laid = sound.objects_laid;
     targets = each (λ b i. TargetsIn (ids_of made) i.kind) (λ b i g. g.target);
     slots = each (λ b i. SlotsIn f.slots i.kind) (λ b i g. g.plain.slot);
+    passed = each (λ b i. KindPassesFirst f.slots i.kind) (λ b i g. g.plain.passed);
     objects = each (λ b i. ObjectsIn f.objects i.kind) (λ b i g. g.plain.object);
     pointer = each (λ b i. LeavesPointer i.kind) (λ b i g. g.plain.pointer);
     numbers = once_from (folded_comes a.end a.stays old) sound.numbers;

@@ -15,12 +15,13 @@ use Rattle.mir_func.specs.declared.position.Origin.{Origin}
 use Rattle.mir_func.specs.declared.position.Origin.TheVariants.{Before}
 use Rattle.mir_func.specs.Exits.{exit_of, IsAlways, Leaves}
 use Rattle.mir_func.specs.Sound.{TargetsIn, SlotsIn, PassedIn, ObjectsIn, LeavesPointer, IsNotPointer, OriginIn, IsJumpAtMost, MayFollow, EndsWell, Closes}
+use Rattle.mir_func.specs.Sound.{KindPassesFirst}
 use Rattle.fold_targets.specs.Leads.{always_to}
 use Rattle.fold_rule.specs.Turned.{sent, turned, made_jump}
 use Rattle.fold_rule.specs.Tails.{first_of, else_way, ways_by, ways_of, is_number, if_needed, jump_at_end, jump_for_branch, branch_tail, plain_tail}
 use Rattle.fold_rule.specs.Tails.{branch_tail_to, tail_by, rewritten}
 use Rattle.fold_rule.specs.Reached.{LeadTo}
-use Rattle.fold_rule_proof.proofs.Rows.{Leads, GoesIn, kind_targets, leading_slots, leading_objects, sent_pointer, turned_pointer, sent_branch}
+use Rattle.fold_rule_proof.proofs.Rows.{Leads, GoesIn, kind_targets, leading_slots, leading_first, leading_objects, sent_pointer, turned_pointer, sent_branch}
 use Rattle.fold_rule_proof.proofs.Rows.{PassesIn, passes_in, sent_passes, turned_passes}
 use Rattle.fold_rule_proof.proofs.Rows.{turned_branch, sent_jump}
 
@@ -30,6 +31,7 @@ none_in P k d lt = absurd (omega (arith, lt))
 -- what is asked of an item but for its target
 pub record IsPlain (slots : List ℕ) (objects : List Object) (b : Block) (i : Item) : Type 0 where
   pub slot : SlotsIn slots i.kind
+  pub passed : KindPassesFirst slots i.kind
   pub object : ObjectsIn objects i.kind
   pub pointer : LeavesPointer i.kind
   pub origin : OriginIn b i.origin
@@ -69,6 +71,7 @@ module _ (ids slots : List ℕ) (objects : List Object) (b : Block) where
     target = kind_targets ids x.kind (subst (GoesIn ids) (sym h) goes);
     plain = record {
       slot = leading_slots slots x.kind (subst Leads (sym h) leads) passes;
+      passed = leading_first slots x.kind (subst Leads (sym h) leads);
       object = leading_objects objects x.kind (subst Leads (sym h) leads);
       pointer = pointer;
       origin = origin;
@@ -109,7 +112,7 @@ module _ (ids slots : List ℕ) (objects : List Object) (b : Block) where
       Good (jump_for_branch source_end x (first_of xs) n)
   good_branch_jump x xs n h p all has = let g = good_jump xs n h all has in record {
     target = g.target;
-    plain = record { slot = g.plain.slot; object = g.plain.object; pointer = g.plain.pointer; origin = p.origin };
+    plain = record { slot = g.plain.slot; passed = g.plain.passed; object = g.plain.object; pointer = g.plain.pointer; origin = p.origin };
   }
 
   one_good : (x : Item) → Good x → All Good (x ∷ [])

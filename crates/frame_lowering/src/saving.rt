@@ -2,10 +2,13 @@
 
 ghost use Rattle.std.specs.Prelude.{◌≡◌, ◌<◌, IfOk};
 ghost use Rattle.std.specs.List.{list_any};
-ghost use Rattle.frame_rule.specs.Rule.{sets_register, is_set, saved_registers};
+ghost use Rattle.rv64_instr.specs.Row.{Row};
+ghost use Rattle.rv64_instr.specs.Decoded.{Shows};
+ghost use Rattle.frame_rule.specs.Rule.{never_returns, sets_register, is_set, saved_registers};
 
 use mir_func::block::Block;
 use mir_func::item::{Item, ItemKind};
+use rv64_instr::decoded::{Decoded, Way};
 use rv64_instr::place::Place;
 use rv64_instr::reg::{Reg, Registers, physical};
 use std::alloc::{AllocError, Global};
@@ -58,7 +61,31 @@ fn sets_register(kind: &ItemKind, r: Reg) -> bool
     ensures { result ≡ sets_register r kind.now }
 {
     match kind {
-        ItemKind::Code(i, _) => i.defines(Place::Register(r)),
+        ItemKind::Code(i, _) => {
+            i.defines(Place::Register(r)) || (r.number() == 1 && never_returns(&i.decoded()))
+        }
         ItemKind::Mark(_, _) | ItemKind::Phi(_, _) => false,
+    }
+}
+
+/// Whether code calls what doesn't return, with the return address in ra.
+fn never_returns(decoded: &Decoded) -> bool
+    ensures { (row : Row) → Shows decoded.now row → result ≡ never_returns row }
+{
+    match *decoded {
+        Decoded::Returns(Way::Never(_)) => true,
+        Decoded::Returns(Way::Back)
+        | Decoded::Returns(Way::Tail(_))
+        | Decoded::Fixes(_, _)
+        | Decoded::Moves(_, _)
+        | Decoded::Sets(_, _, _, _)
+        | Decoded::Addresses(_, _, _)
+        | Decoded::Loads(_, _, _, _)
+        | Decoded::Stores(_, _, _, _)
+        | Decoded::LoadsSlot(_, _)
+        | Decoded::StoresSlot(_, _)
+        | Decoded::Branches(_, _, _, _)
+        | Decoded::Jumps(_)
+        | Decoded::Calls(_) => false,
     }
 }

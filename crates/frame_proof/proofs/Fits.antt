@@ -1,6 +1,6 @@
 -- What the items of a function that follows a source are like, as its frame needs it.
 use Rattle.std.proofs.Common.{◌≡◌, ℕ, zero, suc, List, [], ◌∷◌, All, Option, Some, None}
-use Rattle.std.proofs.Common.{Bool, true, false, cond, nat_eq, nat_le, ◌&&◌, refl, ◌⊎◌, inl, inr, ◌||◌, arith}
+use Rattle.std.proofs.Common.{Bool, true, false, cond, nat_eq, nat_le, ◌&&◌, refl, ◌⊎◌, inl, inr, arith}
 use Rattle.std.specs.List.{list_all}
 use Rattle.std.proofs.lemmas.Bool.{leb-true, and_parts}
 use Rattle.std.proofs.lemmas.List.Elements.{All-nil, All-cons}
@@ -13,12 +13,12 @@ use Rattle.rv64_instr.specs.declared.op.ImmediateOp.TheVariants.{Addi}
 use Rattle.rv64_instr.specs.declared.operand.Operand.{Operand}
 use Rattle.rv64_instr.specs.declared.operand.Operand.TheVariants.{Def, Use, ImplicitUse, Imm, Slot, Object, Part, Block, Symbol}
 use Rattle.rv64_instr.specs.Arithmetic.{word, taken, load_width, store_width}
-use Rattle.rv64_instr.specs.Form.{has_form, is_result, is_tail_use, is_tail_register}
+use Rattle.rv64_instr.specs.Form.{has_form, is_result, is_tail_use, is_held_tail_use, is_held_tail_register}
 use Rattle.rv64_instr.specs.Row.{Row, Loads, Stores, LoadsSlot, Branches, Jumps, Calls, row_of, CallSite}
 use Rattle.rv64_instr.specs.Row.{row_by, move_row, immediate_row, object_row, implicit_uses, outgoing_words, held_call, held_tail, held_gone}
 use Rattle.rv64_instr.specs.DefsAndUses.{reads}
 use Rattle.rv64_instr.specs.declared.start.CallTarget.{CallTarget}
-use Rattle.rv64_instr.proofs.Tails.{IsTailRegister, tail_use, tail_callee, uses_hold, one_more}
+use Rattle.rv64_instr.proofs.Tails.{IsTailRegister, held_tail_use, held_tail_uses, tail_callee, uses_hold, one_more}
 use Rattle.mir_func.specs.declared.item.Item.{Item}
 use Rattle.mir_func.specs.declared.item.ItemKind.{ItemKind}
 use Rattle.mir_func.specs.declared.item.ItemKind.TheVariants.{Code, Mark, Phi}
@@ -139,10 +139,13 @@ of_callee : (r : ℕ) → (r ≡ 6) ⊎ IsTailRegister r → IsResult r
 of_callee r (inl six) = inl (omega (arith, six), omega (arith, six))
 of_callee r (inr is) = of_tail r is
 
+held_tails_read : (os : List Operand) → list_all is_held_tail_use os ≡ true → All IsResult (implicit_uses os)
+held_tails_read os h = uses_hold IsResult is_held_tail_use by_use os h where
+  by_use : (r : ℕ) → is_held_tail_use (ImplicitUse r) ≡ true → (r ≡ 2) ⊎ IsResult r
+  by_use r h = elim (held_tail_use r h) as (λ _. (r ≡ 2) ⊎ IsResult r) [ inl two ↦ inl two | inr is ↦ inr (of_callee r is) ]
+
 tails_read : (os : List Operand) → list_all is_tail_use os ≡ true → All IsResult (implicit_uses os)
-tails_read os h = uses_hold IsResult is_tail_use by_use os h where
-  by_use : (r : ℕ) → is_tail_use (ImplicitUse r) ≡ true → (r ≡ 2) ⊎ IsResult r
-  by_use r h = elim (tail_use r h) as (λ _. (r ≡ 2) ⊎ IsResult r) [ inl two ↦ inl two | inr is ↦ inr (of_tail r is) ]
+tails_read os h = held_tails_read os (held_tail_uses os h)
 
 held_call_on : (xs outgoing : List ℕ) → row_leads_back (held_call xs outgoing) ≡ true → All IsResult (reads (held_call xs outgoing))
 held_call_on [] outgoing h = none
@@ -179,9 +182,9 @@ final_by PseudoRet os h e = results_read os h
 final_by PseudoCallIndirect os h e = held_call_on (implicit_uses os) (outgoing_words os) e
 final_by PseudoTail (Symbol name ∷ rest) h e = tails_read rest h
 final_by PseudoTailIndirect (ImplicitUse r ∷ rest) h e =
-    let p = and_parts (nat_eq r 6 || is_tail_register r) (list_all is_tail_use rest) h in
+    let p = and_parts (is_held_tail_register r) (list_all is_held_tail_use rest) h in
     held_tail_on (implicit_uses (ImplicitUse r ∷ rest))
-    (one_more IsResult r (implicit_uses rest) (inr (of_callee r (tail_callee r p.0))) (tails_read rest p.1))
+    (one_more IsResult r (implicit_uses rest) (inr (of_callee r (tail_callee r p.0))) (held_tails_read rest p.1))
 final_by PseudoTailIndirect os h e = absurd cc
 final_by NoReturnCall (Symbol name ∷ rest) h e = cc
 final_by NoReturnCallIndirect os h e = held_gone_on (implicit_uses os) e

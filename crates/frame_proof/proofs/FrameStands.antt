@@ -34,7 +34,7 @@ use Rattle.sem_mir.specs.State.{Core, State, Reply, content, RunResult}
 use Rattle.sem_mir.specs.Step.{Outcome, Falls, Goes, Gives, Traps, Asks, Breaks, Returned, act, does, read, or_zero, are_written, with_core, moved, called_at}
 use Rattle.sem_mir.specs.Step.{address_at, is_fault, slot_loaded, passed, call_faults, exec_external_call, do_item, do_fetch, step, way_at}
 use Rattle.sem_mir.proofs.Reading.{found_in}
-use Rattle.frame_rule.specs.Rule.{sets_register, saved_of, framed_of}
+use Rattle.frame_rule.specs.Rule.{never_returns, sets_register, saved_of, framed_of}
 use Rattle.frame_proof.specs.Stands.{is_as_found, frame_state, FrameState, FrameStands, FrameAlwaysStands, FrameGivesBack}
 use Rattle.frame_rule.proofs.Saved.{all_given, set_is_saved}
 use Rattle.frame_proof.proofs.Blocks.{drop_zero}
@@ -105,7 +105,7 @@ sets_by NoReturnCallIndirect os h = held_gone_sets (implicit_uses os)
 sets_by _ _ h = refl
 
 kind_sets : (k : ItemKind) → LeavesPointer k → sets_register 2 k ≡ false
-kind_sets (Code i n) h = sets_by i.op i.operands h
+kind_sets (Code i n) h = ap (λ (z : Bool). z || (nat_eq 2 1 && never_returns (row_of i))) (sets_by i.op i.operands h)
 kind_sets (Mark v m) h = refl
 kind_sets (Phi p n) h = refl
 

@@ -1,6 +1,6 @@
 -- What the frame holds at a step, and what each kind of code does to it.
 use Rattle.std.proofs.Common.{◌≡◌, ℕ, zero, suc, ◌+◌, ◌-◌, ◌%◌, ◌^◌, ◌<◌, ◌≤◌, pos, negsuc, ◌-ℤ◌, List, [], ◌∷◌, map, All, Contains, Some}
-use Rattle.std.proofs.Common.{Bool, true, false, cond, nat_eq, nat_le, le-leb, ◌||◌, refl, sym, ap, ◌∙◌, subst, eq-eqb, arith}
+use Rattle.std.proofs.Common.{Bool, true, false, cond, nat_eq, nat_le, le-leb, ◌||◌, ◌&&◌, refl, sym, ap, ◌∙◌, subst, eq-eqb, arith}
 use Rattle.std.specs.List.{list_any}
 use Rattle.std.proofs.lemmas.List.Elements.{All-head, All-tail}
 use Rattle.rv64_instr.specs.declared.place.Place.TheVariants.{Register, Slot}
@@ -20,7 +20,7 @@ use Rattle.sem_mir.specs.Live.{KindDefines}
 use Rattle.sem_mir.specs.Effects.{OnCore}
 use Rattle.sem_mir.proofs.Effects.{RowDefines, Keeps}
 use Rattle.sem_mir.proofs.Parts.{defines_row, item_keeps}
-use Rattle.frame_rule.specs.Rule.{slot_offset, renamed_kind, sets_register}
+use Rattle.frame_rule.specs.Rule.{slot_offset, renamed_kind, never_returns, sets_register}
 use Rattle.frame_rule.proofs.Rows.{renamed_row, row_renamed}
 
 -- x2's content, the registers that are in their places, and those that are as at entry
@@ -66,12 +66,17 @@ same_sets : (slots : List ℕ) (r : Row) → sets (renamed_row slots r) ≡ sets
 same_sets slots (LoadsSlot rd n) = refl
 same_sets slots _ = refl
 
+neither : (a b : Bool) → (a || b) ≡ false → a ≡ false
+neither false b h = refl
+neither true b h = h
+
 -- an item sets a register only where the same item with its slots by number does
 pub leaves_register : (slots : List ℕ) (k : ItemKind) (r : ℕ) → sets_register r k ≡ false → KindDefines (renamed_kind slots k) (Register r) → ⊥
 leaves_register slots (Code i n) r none h =
     let row : RowDefines (renamed_row slots (row_of i)) (Register r) =
     subst (λ (z : Row). RowDefines z (Register r)) (row_renamed slots i) (defines_row _ (Register r) h) in
-    not_any r (sets (row_of i)) none (subst (λ (z : List ℕ). Contains z r) (same_sets slots (row_of i)) row)
+    let left = neither (list_any (nat_eq r) (sets (row_of i))) (nat_eq r 1 && never_returns (row_of i)) none in
+    not_any r (sets (row_of i)) left (subst (λ (z : List ℕ). Contains z r) (same_sets slots (row_of i)) row)
 leaves_register slots (Mark v m) r none h = h
 leaves_register slots (Phi p n) r none h = h
 

@@ -13,8 +13,8 @@ use Rattle.mir_func.specs.SoundFrame.{SAVED, HasPhysical, prologue_code, epilogu
 use Rattle.frame_rule.specs.Rule.{saved_of, size_of, reach_of, added_all, framed_block, framed_blocks, framed_of}
 use Rattle.frame_rule.proofs.Reach.{size_fits}
 use Rattle.frame_rule.proofs.Saved.{saved_in, none_saved}
-use Rattle.frame_rule.proofs.Offsets.{offsets_apart, offsets_fit, count_is}
-use Rattle.frame_rule.proofs.Parts.{slots_hold, objects_hold, targets_hold, physical_holds}
+use Rattle.frame_rule.proofs.Offsets.{offsets_apart, offsets_laid, offsets_fit, count_is}
+use Rattle.frame_rule.proofs.Parts.{slots_hold, passed_hold, objects_hold, targets_hold, physical_holds}
 use Rattle.frame_rule.proofs.Ends.{saved_ascend, are_code, ends_well, last_closes, gives_back, leaves_all}
 
 module _ (f : Function) (sound : IsSound f) where
@@ -86,10 +86,12 @@ module _ (f : Function) (sound : IsSound f) where
           few = (let a = count_is f in let b = sound.few_slots in omega (arith, a, b));
           offsets = offsets_fit f;
           offsets_apart = offsets_apart f;
+          offsets_laid = offsets_laid f;
           each_object = sound.each_object;
           objects_apart = sound.objects_apart;
           objects_laid = sound.objects_laid;
           slots = slots_hold f f.blocks sound.slots;
+          passed = passed_hold f sound.slots_apart f.blocks sound.passed;
           objects = objects_hold f f.blocks sound.objects;
           saved = saved_ascend f;
           saved_kept = saved_all;

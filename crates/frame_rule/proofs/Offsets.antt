@@ -1,11 +1,12 @@
 -- Where slots and saved registers lie: at the multiples of eight from x2 on.
 use Rattle.std.proofs.Common.{◌≡◌, ℕ, zero, suc, ◌+◌, ◌*◌, ◌<◌, List, [], ◌∷◌, ◌++◌, map, length, All, Contains, Some, slice_get}
 use Rattle.std.proofs.Common.{Bool, true, false, cond, nat_eq, refl, sym, ap, ◌∙◌, subst, eq-eqb, arith}
+use Rattle.std.proofs.lemmas.Bool.{eqb-true}
 use Rattle.std.proofs.lemmas.List.Elements.{All-nil, All-cons, Contains-append_left, Contains-append_right}
 use Rattle.mir_func.specs.declared.framed.SavedRegister.{SavedRegister}
 use Rattle.mir_func.specs.Function.{Function}
-use Rattle.mir_func.specs.Sound.{AreApart}
-use Rattle.mir_func.specs.SoundFrame.{slot_offsets, IsSlotOffset}
+use Rattle.mir_func.specs.Sound.{AreApart, BeginWith}
+use Rattle.mir_func.specs.SoundFrame.{slot_offsets, IsSlotOffset, AreDoublewords}
 use Rattle.frame_rule.specs.Rule.{slots_before, slot_offset, slot_places, saved_places, saved_registers, saved_of, framed_of}
 
 -- so many multiples of eight from an offset on
@@ -41,6 +42,43 @@ eights_all P o (suc n) h =
     All-cons P o (eights (o + 8) n) (subst P a (h 0 (omega arith)))
     (eights_all P (o + 8) n (λ i lt. (let b : o + 8 * suc i ≡ (o + 8) + 8 * i = omega arith in subst P b (h (suc i) (omega (arith, lt))))))
 
+eights_laid : (o n : ℕ) → AreDoublewords o (eights o n)
+eights_laid o zero = tt
+eights_laid o (suc n) = (refl, eights_laid (o + 8) n)
+
+-- as many slots are before a slot as its index says
+before_at : (slots : List ℕ) → AreApart slots → (k n : ℕ) → slice_get slots k ≡ Some n → slots_before slots n ≡ k
+before_at [] apart k n e = absurd cc
+before_at (s ∷ slots) apart zero n e = let same : s ≡ n = cc in ap (λ (b : Bool). cond b 0 (suc (slots_before slots n))) (eq-eqb s n same)
+before_at (s ∷ slots) apart (suc k) n e =
+    by_test (nat_eq s n) refl (before_at slots (λ i j m x y. (let a = apart (suc i) (suc j) m x y in omega (arith, a))) k n e) where
+      by_test : (b : Bool) → nat_eq s n ≡ b → slots_before slots n ≡ k → cond b 0 (suc (slots_before slots n)) ≡ suc k
+      by_test true w more = let one = apart zero (suc k) n (ap (λ (x : ℕ). Some x) (eqb-true s n w)) e in absurd (omega (arith, one))
+      by_test false w more = ap suc more
+
+-- the first slots lie at the first offsets: those that come first from an index on
+first_from : (slots : List ℕ) → AreApart slots → (k : ℕ) (rest ns : List ℕ) → ((i n : ℕ) → slice_get rest i ≡ Some n → slice_get slots (k + i) ≡ Some n) →
+    BeginWith rest ns → BeginWith (eights (8 * k) (length rest)) (map (slot_offset slots) ns)
+first_from slots apart k rest [] at h = tt
+first_from slots apart k [] (n ∷ ns) at h = absurd h
+first_from slots apart k (r ∷ rest) (n ∷ ns) at h =
+    let start : k + 0 ≡ k = omega arith in
+    let here : slice_get slots k ≡ Some n = subst (λ (j : ℕ). slice_get slots j ≡ Some n) start (at 0 n (ap (λ (x : ℕ). Some x) h.0)) in
+    let next : 8 * suc k ≡ 8 * k + 8 = omega arith in (
+      ap (λ (j : ℕ). 8 * j) (sym (before_at slots apart k n here)),
+      subst (λ (o : ℕ). BeginWith (eights o (length rest)) (map (slot_offset slots) ns)) next
+          (first_from slots apart (suc k) rest ns
+          (λ i m x. (let on : k + suc i ≡ suc k + i = omega arith in subst (λ (j : ℕ). slice_get slots j ≡ Some m) on (at (suc i) m x))) h.1),
+    )
+
+pub first_offsets : (slots ns : List ℕ) → AreApart slots → BeginWith slots ns →
+    BeginWith (map (λ s. s.offset) (slot_places 0 slots)) (map (slot_offset slots) ns)
+first_offsets slots ns apart h =
+    let none : 8 * 0 ≡ 0 = omega arith in
+    subst (λ (os : List ℕ). BeginWith os (map (slot_offset slots) ns)) (sym (slots_at 0 slots))
+    (subst (λ (o : ℕ). BeginWith (eights o (length slots)) (map (slot_offset slots) ns)) none
+    (first_from slots apart 0 slots ns (λ i n x. (let on : i ≡ 0 + i = omega arith in subst (λ (j : ℕ). slice_get slots j ≡ Some n) on x)) h))
+
 later : (x : ℕ) (xs : List ℕ) (y : ℕ) → Contains xs y → Contains (x ∷ xs) y
 later x xs y (k, lt, e) = (suc k, omega (arith, lt), e)
 
@@ -59,6 +97,9 @@ module _ (f : Function) where
   pub offsets_apart : AreApart (slot_offsets (framed_of f))
   offsets_apart = subst AreApart (sym offsets_are) (λ i j n x y.
       (let a = (eights_get 0 (length f.slots + length rs) i n x).0 in let b = (eights_get 0 (length f.slots + length rs) j n y).0 in omega (arith, a, b)))
+
+  pub offsets_laid : AreDoublewords 0 (slot_offsets (framed_of f))
+  offsets_laid = subst (AreDoublewords 0) (sym offsets_are) (eights_laid 0 (length f.slots + length rs))
 
   pub offsets_fit : All (IsSlotOffset (framed_of f)) (slot_offsets (framed_of f))
   offsets_fit =

@@ -8,7 +8,7 @@ use Rattle.rv64_instr.specs.declared.operand.Operand.TheVariants.{Def, Use, Impl
 use Rattle.rv64_instr.specs.declared.place.Place.{Place}
 use Rattle.rv64_instr.specs.declared.place.Place.TheVariants.{Register, Slot as InSlot, Const}
 use Rattle.rv64_instr.specs.Arithmetic.{word}
-use Rattle.rv64_instr.specs.Row.{Row, LoadsSlot, StoresSlot, row_of}
+use Rattle.rv64_instr.specs.Row.{Row, LoadsSlot, StoresSlot, Calls, row_of}
 use Rattle.rv64_instr.specs.Row.{add_row}
 use Rattle.mir_func.specs.declared.block.Block.{Block}
 use Rattle.mir_func.specs.declared.exit.Exit.TheVariants.{Onward}
@@ -22,6 +22,7 @@ use Rattle.mir_func.specs.declared.position.Origin.TheVariants.{Before}
 use Rattle.mir_func.specs.Exits.{row_exit, exit_of, row_leads_back, leads_back}
 use Rattle.mir_func.specs.Function.{Function, FramedFunction}
 use Rattle.mir_func.specs.Graph.{block_start}
+use Rattle.mir_func.specs.Sound.{AreApart, PassesFirst, KindPassesFirst}
 use Rattle.mir_func.specs.Sound.{AllItems, TargetIn, TargetsIn, SlotIn, PassedIn, SlotsIn, PlaceIn, ObjectIn, ObjectsIn, IsNotPointer}
 use Rattle.mir_func.specs.SoundFrame.{IsPhysical, PlaceIsPhysical, HasPhysical, slot_offsets, adds_to_pointer, saves, restores, prologue_code}
 use Rattle.mir_func.specs.SoundFrame.{epilogue_code}
@@ -31,7 +32,7 @@ use Rattle.frame_rule.specs.Rule.{renamed_place, renamed_kind, renamed, framed_i
 use Rattle.frame_rule.specs.Rule.{framed_of}
 use Rattle.frame_rule.proofs.Rows.{renamed_row, row_renamed}
 use Rattle.frame_rule.proofs.Saved.{saved_given}
-use Rattle.frame_rule.proofs.Offsets.{slot_has_offset, saved_has_offset}
+use Rattle.frame_rule.proofs.Offsets.{slot_has_offset, saved_has_offset, first_offsets}
 
 -- ---- rows whose slots have other names
 
@@ -70,6 +71,15 @@ passed_in : (f : Function) (o : Operand) → PassedIn f.slots o → PassedIn (sl
 passed_in f (Outgoing n) h = slot_has_offset f n h
 passed_in f (Slot n) h = tt
 passed_in f _ h = h
+
+first_renamed : (f : Function) → AreApart f.slots → (r : Row) → PassesFirst f.slots r →
+    PassesFirst (map (λ s. s.offset) (framed_of f).offsets) (renamed_row f.slots r)
+first_renamed f apart (Calls call) h = first_offsets f.slots call.outgoing apart h
+first_renamed f apart _ h = tt
+
+adds_first : (offsets : List ℕ) (n : ℕ) → PassesFirst offsets (add_row 2 2 n)
+adds_first offsets zero = tt
+adds_first offsets (suc n) = tt
 
 none_passed : (offsets : List ℕ) (a b : Operand) (z : ℤ) → PassedIn offsets a → PassedIn offsets b → All (PassedIn offsets) (a ∷ b ∷ Imm z ∷ [])
 none_passed offsets a b z x y =
@@ -121,6 +131,10 @@ module _ (f : Function) where
 
   abbrev size : ℕ
   size = size_of f
+
+  -- the offsets of its slots
+  abbrev offsets : List ℕ
+  offsets = map (λ s. s.offset) F.offsets
 
   -- a fact of code that is added
   record OfAdded (P : ItemKind → Type 0) : Type 0 where
@@ -216,6 +230,20 @@ module _ (f : Function) where
         )
         by_kind (Mark v m) k = tt
         by_kind (Phi p n) k = by_place p k
+
+  pub passed_hold : AreApart f.slots → (bs : List Block) → AllItems (λ i. KindPassesFirst f.slots i.kind) bs →
+      AllItems (λ i. KindPassesFirst offsets i.kind) (framed_blocks f bs)
+  passed_hold apart bs h =
+      blocks_all (KindPassesFirst offsets) (record {
+        lowers = adds_first offsets (word (pos 0 -ℤ pos size));
+        raises = adds_first offsets (word (pos size));
+        saving = λ s k. tt;
+        loading = λ s k. tt;
+      }) (λ i. KindPassesFirst f.slots i.kind) (λ i k. by_kind i.kind k) bs h where
+        by_kind : (k : ItemKind) → KindPassesFirst f.slots k → KindPassesFirst offsets (renamed_kind slots k)
+        by_kind (Code i n) k = subst (PassesFirst offsets) (sym (row_renamed slots i)) (first_renamed f apart (row_of i) k)
+        by_kind (Mark v m) k = tt
+        by_kind (Phi p n) k = tt
 
   pub objects_hold : (bs : List Block) → AllItems (λ i. ObjectsIn f.objects i.kind) bs → AllItems (λ i. ObjectsIn f.objects i.kind) (framed_blocks f bs)
   objects_hold bs h =

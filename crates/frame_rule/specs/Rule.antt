@@ -5,7 +5,8 @@
 -- the saved registers, up to a multiple of 16, and above them the stack objects. A prologue before the first block
 -- allocates the frame and saves registers, and an epilogue right before each return restores them and deallocates the
 -- frame. Nothing else is added, and the rest is unchanged, except that slots are named by their offsets from x2.
-use Rattle.std.specs.Prelude.{ℕ, zero, suc, ◌+◌, ◌*◌, Bool, false, cond, nat_eq, List, [], ◌∷◌, ◌++◌, map, length, filter, Option, Some, None}
+use Rattle.std.specs.Prelude.{ℕ, zero, suc, ◌+◌, ◌*◌, Bool, false, not, ◌||◌, ◌&&◌, cond, nat_eq, List, [], ◌∷◌, ◌++◌, map}
+use Rattle.std.specs.Prelude.{length, filter, Option, Some, None}
 use Rattle.std.specs.List.{flat_map, list_any}
 use Rattle.rv64_instr.specs.declared.operand.Operand.{Operand}
 use Rattle.rv64_instr.specs.declared.operand.Operand.TheVariants.{Def, Use, ImplicitDef, ImplicitUse, Imm, Slot, Object as OfObject, Part, Block as OfBlock}
@@ -13,7 +14,7 @@ use Rattle.rv64_instr.specs.declared.operand.Operand.TheVariants.{Symbol, Mask, 
 use Rattle.rv64_instr.specs.declared.place.Place.{Place}
 use Rattle.rv64_instr.specs.declared.place.Place.TheVariants.{Register, Slot as InSlot, Const}
 use Rattle.rv64_instr.specs.Instruction.{Instruction}
-use Rattle.rv64_instr.specs.Row.{row_of}
+use Rattle.rv64_instr.specs.Row.{Row, Returns, row_of, way_leads_back}
 use Rattle.rv64_instr.specs.DefsAndUses.{sets}
 use Rattle.mir_func.specs.declared.block.Block.{Block}
 use Rattle.mir_func.specs.declared.framed.SavedRegister.{SavedRegister}
@@ -52,9 +53,14 @@ abbrev pub saved_places : ℕ → List ℕ → List SavedRegister
 saved_places o [] = []
 saved_places o (r ∷ rs) = record { register = r; offset = o } ∷ saved_places (o + 8) rs
 
--- code sets the register; a call sets the caller-saved ones
+-- code calls what doesn't return, with the return address in ra
+abbrev pub never_returns : Row → Bool
+never_returns (Returns ending) = not (way_leads_back ending.way)
+never_returns _ = false
+
+-- code sets the register; a call sets the caller-saved ones, and one that doesn't return sets ra
 abbrev pub sets_register : ℕ → ItemKind → Bool
-sets_register r (Code i k) = list_any (nat_eq r) (sets (row_of i))
+sets_register r (Code i k) = list_any (nat_eq r) (sets (row_of i)) || (nat_eq r 1 && never_returns (row_of i))
 sets_register r (Mark v m) = false
 sets_register r (Phi p k) = false
 

@@ -1,5 +1,5 @@
 -- No operand that is listed names a stack object.
-use Rattle.std.proofs.Common.{◌≡◌, ℕ, Bool, true, false, ◌&&◌, List, [], ◌∷◌, ◌+◌, refl, subst, sym, nat_eq, nat_le, nat_lt, ◌||◌}
+use Rattle.std.proofs.Common.{◌≡◌, ℕ, Bool, true, false, ◌&&◌, List, [], ◌∷◌, ◌+◌, refl, subst, sym}
 use Rattle.std.specs.Prelude.{All, ℤ, pos, ◌+ℤ◌}
 use Rattle.std.specs.List.{list_all}
 use Rattle.std.proofs.lemmas.Bool.{and_parts}
@@ -17,7 +17,8 @@ use Rattle.rv64_instr.specs.declared.symbol.Half.TheVariants.{Upper, Lower}
 use Rattle.rv64_instr.specs.Arithmetic.{load_width, store_width}
 use Rattle.rv64_instr.specs.Form.{is_implicit, is_argument, is_result, is_addi, is_immediate, has_12_bits, moves_slot, is_within, has_form}
 use Rattle.rv64_instr.specs.Form.{fits_registers, fits_immediate, fits_upper, fits_branch, fits_load, fits_store, fits_copy, fits_jump}
-use Rattle.rv64_instr.specs.Form.{fits_call, is_tail_use, is_tail_register, fits_held_call, fits_tail, fits_held_tail}
+use Rattle.rv64_instr.specs.Form.{fits_call, is_call_register, is_held_tail_use, is_held_tail_register, fits_held_call, fits_tail, fits_held_tail}
+use Rattle.rv64_instr.proofs.Tails.{gone_calls, held_gone_calls, held_tail_uses}
 use Rattle.mir_func.specs.Function.{FramedFunction}
 use Rattle.mir_func.specs.Objects.{offset_of}
 use Rattle.mir_func.specs.SoundFrame.{own_size}
@@ -45,7 +46,7 @@ result_apart (Slot n) is = refl
 result_apart (Object n) is = absurd cc
 result_apart _ is = tt
 
-tail_apart : (o : Operand) → is_tail_use o ≡ true → P o
+tail_apart : (o : Operand) → is_held_tail_use o ≡ true → P o
 tail_apart (Slot n) is = refl
 tail_apart (Object n) is = absurd cc
 tail_apart _ is = tt
@@ -140,7 +141,7 @@ module _ (f : FramedFunction) where
   results_stay (x ∷ o ∷ os) all =
       behind_result x o os (and_parts (is_result o) (list_all is_result os) (and_parts (is_result x) (is_result o && list_all is_result os) all).1).0
 
-  behind_tail : (x : Operand) (os : List Operand) → list_all is_tail_use os ≡ true → by_pointer f (x ∷ os) ≡ x ∷ os
+  behind_tail : (x : Operand) (os : List Operand) → list_all is_held_tail_use os ≡ true → by_pointer f (x ∷ os) ≡ x ∷ os
   behind_tail x [] all = refl
   behind_tail x (ImplicitUse r ∷ os) all = refl
   behind_tail x (o ∷ os) all = absurd cc
@@ -148,18 +149,19 @@ module _ (f : FramedFunction) where
   held_call_declared : (os : List Operand) → fits_held_call os ≡ true → All P (by_pointer f os)
   held_call_declared (ImplicitUse r ∷ Mask ∷ rest) form =
       All-cons P (ImplicitUse r) (Mask ∷ rest) tt
-      (All-cons P Mask rest tt (each is_argument argument_apart rest (and_parts (nat_le 5 r && nat_lt r 32) (list_all is_argument rest) form).1))
+      (All-cons P Mask rest tt (each is_argument argument_apart rest (and_parts (is_call_register r) (list_all is_argument rest) form).1))
   held_call_declared os form = absurd cc
 
   tail_declared : (os : List Operand) → fits_tail os ≡ true → All P (by_pointer f os)
   tail_declared (Symbol name ∷ rest) form =
-      subst (All P) (sym (behind_tail (Symbol name) rest form)) (All-cons P (Symbol name) rest tt (each is_tail_use tail_apart rest form))
+      let all = held_tail_uses rest form in
+      subst (All P) (sym (behind_tail (Symbol name) rest all)) (All-cons P (Symbol name) rest tt (each is_held_tail_use tail_apart rest all))
   tail_declared os form = absurd cc
 
   held_tail_declared : (os : List Operand) → fits_held_tail os ≡ true → All P (by_pointer f os)
   held_tail_declared (ImplicitUse r ∷ rest) form =
-      let all = (and_parts (nat_eq r 6 || is_tail_register r) (list_all is_tail_use rest) form).1 in
-      subst (All P) (sym (behind_tail (ImplicitUse r) rest all)) (All-cons P (ImplicitUse r) rest tt (each is_tail_use tail_apart rest all))
+      let all = (and_parts (is_held_tail_register r) (list_all is_held_tail_use rest) form).1 in
+      subst (All P) (sym (behind_tail (ImplicitUse r) rest all)) (All-cons P (ImplicitUse r) rest tt (each is_held_tail_use tail_apart rest all))
   held_tail_declared os form = absurd cc
 
   pub operands_declared : (op : Op) (os : List Operand) → has_form op os ≡ true → All P (by_pointer f os)
@@ -175,6 +177,6 @@ module _ (f : FramedFunction) where
   operands_declared PseudoCallIndirect os form = held_call_declared os form
   operands_declared PseudoTail os form = tail_declared os form
   operands_declared PseudoTailIndirect os form = held_tail_declared os form
-  operands_declared NoReturnCall os form = call_declared os form
-  operands_declared NoReturnCallIndirect os form = held_call_declared os form
+  operands_declared NoReturnCall os form = call_declared os (gone_calls os form)
+  operands_declared NoReturnCallIndirect os form = held_call_declared os (held_gone_calls os form)
   operands_declared PseudoRet os form = subst (All P) (sym (results_stay os form)) (each is_result result_apart os form)

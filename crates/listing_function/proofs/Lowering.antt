@@ -1,7 +1,7 @@
 -- The operands that a slot or an object is listed by have the form of the opcode: the frame is so small that each offset from x2 is
 -- one of 12 bits.
 use Rattle.std.proofs.Common.{◌≡◌, ℕ, ◌+◌, ◌≤◌, ℤ, pos, true, false, ◌&&◌, List, [], ◌∷◌}
-use Rattle.std.proofs.Common.{refl, ap, ◌∙◌, arith, nat_eq, ◌||◌}
+use Rattle.std.proofs.Common.{refl, ap, ◌∙◌, arith}
 use Rattle.std.specs.Prelude.{Contains, ◌+ℤ◌}
 use Rattle.std.specs.List.{list_all}
 use Rattle.std.proofs.lemmas.Bool.{and_parts}
@@ -22,7 +22,8 @@ use Rattle.rv64_instr.specs.declared.symbol.Half.TheVariants.{Upper, Lower}
 use Rattle.rv64_instr.specs.Arithmetic.{word, load_width, store_width}
 use Rattle.rv64_instr.specs.Form.{has_12_bits, is_implicit, is_result, moves_slot, is_addi, is_immediate, has_form}
 use Rattle.rv64_instr.specs.Form.{fits_registers, fits_immediate, fits_upper, fits_branch, fits_load, fits_store, fits_copy, fits_jump}
-use Rattle.rv64_instr.specs.Form.{fits_call, is_tail_use, is_tail_register, fits_held_call, fits_tail, fits_held_tail}
+use Rattle.rv64_instr.specs.Form.{fits_call, fits_gone, fits_held_gone, is_held_tail_use, is_held_tail_register, fits_held_call, fits_tail, fits_held_tail}
+use Rattle.rv64_instr.proofs.Tails.{held_tail_uses}
 use Rattle.rv64_instr.specs.Row.{row_by, load_row, store_row, number_row}
 use Rattle.mir_func.specs.Function.{FramedFunction}
 use Rattle.mir_func.specs.Objects.{offset_of}
@@ -152,7 +153,7 @@ module _ (f : FramedFunction) (framed : IsFramed f) where
   call_formed (Symbol name ∷ Mask ∷ rest) form = form
   call_formed os form = absurd cc
 
-  behind_tail : (x : Operand) (os : List Operand) → list_all is_tail_use os ≡ true → by_pointer f (x ∷ os) ≡ x ∷ os
+  behind_tail : (x : Operand) (os : List Operand) → list_all is_held_tail_use os ≡ true → by_pointer f (x ∷ os) ≡ x ∷ os
   behind_tail x [] all = refl
   behind_tail x (ImplicitUse r ∷ os) all = refl
   behind_tail x (o ∷ os) all = absurd cc
@@ -161,13 +162,21 @@ module _ (f : FramedFunction) (framed : IsFramed f) where
   held_call_formed (ImplicitUse r ∷ Mask ∷ rest) form = form
   held_call_formed os form = absurd cc
 
+  gone_formed : (os : List Operand) → fits_gone os ≡ true → fits_gone (by_pointer f os) ≡ true
+  gone_formed (Symbol name ∷ Mask ∷ rest) form = form
+  gone_formed os form = absurd cc
+
+  held_gone_formed : (os : List Operand) → fits_held_gone os ≡ true → fits_held_gone (by_pointer f os) ≡ true
+  held_gone_formed (ImplicitUse r ∷ Mask ∷ rest) form = form
+  held_gone_formed os form = absurd cc
+
   tail_formed : (os : List Operand) → fits_tail os ≡ true → fits_tail (by_pointer f os) ≡ true
-  tail_formed (Symbol name ∷ rest) form = ap fits_tail (behind_tail (Symbol name) rest form) ∙ form
+  tail_formed (Symbol name ∷ rest) form = ap fits_tail (behind_tail (Symbol name) rest (held_tail_uses rest form)) ∙ form
   tail_formed os form = absurd cc
 
   held_tail_formed : (os : List Operand) → fits_held_tail os ≡ true → fits_held_tail (by_pointer f os) ≡ true
   held_tail_formed (ImplicitUse r ∷ rest) form =
-      ap fits_held_tail (behind_tail (ImplicitUse r) rest (and_parts (nat_eq r 6 || is_tail_register r) (list_all is_tail_use rest) form).1) ∙ form
+      ap fits_held_tail (behind_tail (ImplicitUse r) rest (and_parts (is_held_tail_register r) (list_all is_held_tail_use rest) form).1) ∙ form
   held_tail_formed os form = absurd cc
 
   pub operands_formed : (op : Op) (os : List Operand) → has_form op os ≡ true → SlotIn (slot_offsets f) (row_by op os) → ObjectIn f.objects (row_by op os) →
@@ -184,6 +193,6 @@ module _ (f : FramedFunction) (framed : IsFramed f) where
   operands_formed PseudoCallIndirect os form slots objects = held_call_formed os form
   operands_formed PseudoTail os form slots objects = tail_formed os form
   operands_formed PseudoTailIndirect os form slots objects = held_tail_formed os form
-  operands_formed NoReturnCall os form slots objects = call_formed os form
-  operands_formed NoReturnCallIndirect os form slots objects = held_call_formed os form
+  operands_formed NoReturnCall os form slots objects = gone_formed os form
+  operands_formed NoReturnCallIndirect os form slots objects = held_gone_formed os form
   operands_formed PseudoRet os form slots objects = ap (list_all is_result) (results_stay f framed os form) ∙ form

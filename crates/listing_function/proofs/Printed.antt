@@ -1,7 +1,7 @@
 -- A listing is printable: item by item each line tells its numbers, whose addresses are those of the entries of the layout.
 use Rattle.std.proofs.Common.{◌≡◌, ℕ, suc, ◌+◌, ◌*◌, ◌<◌, ◌^◌, ℤ, pos, negsuc, Bool, true, false, List, [], ◌∷◌, ◌++◌, length}
 use Rattle.std.proofs.Common.{Option, Some}
-use Rattle.std.proofs.Common.{refl, ap, sym, subst, arith, nat_eq, ◌||◌}
+use Rattle.std.proofs.Common.{refl, ap, sym, subst, arith}
 use Rattle.std.specs.Prelude.{All, map, IfSome, ◌+ℤ◌, sum_by}
 use Rattle.std.specs.List.{flat_map, list_all}
 use Rattle.std.proofs.lemmas.Bool.{and_parts}
@@ -23,7 +23,8 @@ use Rattle.rv64_instr.specs.declared.op.LoadOp.{LoadOp}
 use Rattle.rv64_instr.specs.declared.op.StoreOp.{StoreOp}
 use Rattle.rv64_instr.specs.Form.{is_implicit, is_result, is_within, has_12_bits, is_immediate, has_form, IsSigned}
 use Rattle.rv64_instr.specs.Form.{fits_registers, fits_immediate, fits_upper, fits_branch, fits_load, fits_store, fits_copy, fits_jump}
-use Rattle.rv64_instr.specs.Form.{fits_call, is_tail_use, is_tail_register, fits_held_call, fits_tail, fits_held_tail}
+use Rattle.rv64_instr.specs.Form.{fits_call, is_held_tail_use, is_held_tail_register, fits_held_call, fits_tail, fits_held_tail}
+use Rattle.rv64_instr.proofs.Tails.{gone_calls, held_gone_calls}
 use Rattle.mir_func.specs.declared.block.Block.{Block}
 use Rattle.mir_func.specs.declared.item.Item.{Item}
 use Rattle.mir_func.specs.declared.item.ItemKind.{ItemKind}
@@ -131,7 +132,7 @@ module _ (b : ℕ) (x : ℤ) (rest : List Operand) where
 
   third_held_tail : (r : Operand) → fits_held_tail (r ∷ Use b ∷ Imm x ∷ rest) ≡ true → IsSigned x
   third_held_tail (ImplicitUse n) form =
-      let none : false ≡ true = (and_parts (nat_eq n 6 || is_tail_register n) (list_all is_tail_use (Use b ∷ Imm x ∷ rest)) form).1 in absurd cc
+      let none : false ≡ true = (and_parts (is_held_tail_register n) (list_all is_held_tail_use (Use b ∷ Imm x ∷ rest)) form).1 in absurd cc
   third_held_tail r form = absurd cc
 
   third : (op : Op) (r : Operand) → has_form op (r ∷ Use b ∷ Imm x ∷ rest) ≡ true → IsSigned x
@@ -148,8 +149,8 @@ module _ (b : ℕ) (x : ℤ) (rest : List Operand) where
   third PseudoCallIndirect r form = third_held_call r form
   third PseudoTail r form = third_tail r form
   third PseudoTailIndirect r form = third_held_tail r form
-  third NoReturnCall r form = third_call r form
-  third NoReturnCallIndirect r form = third_held_call r form
+  third NoReturnCall r form = third_call r (gone_calls (r ∷ Use b ∷ Imm x ∷ rest) form)
+  third NoReturnCallIndirect r form = third_held_call r (held_gone_calls (r ∷ Use b ∷ Imm x ∷ rest) form)
 
 implicits_printable : (os : List Operand) → All HasNumbers os → All IsPrintableImplicit (implicits os)
 implicits_printable [] all = All-nil IsPrintableImplicit

@@ -16,7 +16,7 @@ use Rattle.rv64_instr.specs.declared.operand.Operand.TheVariants.{Def, Use, Imm,
 use Rattle.rv64_instr.specs.declared.symbol.Half.TheVariants.{Upper, Lower}
 use Rattle.rv64_instr.specs.Arithmetic.{word}
 use Rattle.rv64_instr.specs.Form.{is_addi, is_immediate, is_implicit, fits_registers, fits_immediate, fits_upper, fits_branch, fits_load, fits_store, fits_copy}
-use Rattle.rv64_instr.specs.Form.{fits_jump, fits_call, has_form, fits_tail}
+use Rattle.rv64_instr.specs.Form.{fits_jump, fits_call, fits_gone, has_form, fits_tail}
 use Rattle.rv64_instr.specs.Row.{move_row, add_row, immediate_row, object_row, registers_row, number_row, upper_row, branch_row, load_row, store_row}
 use Rattle.rv64_instr.specs.Row.{copy_row, jump_row, call_row, row_by, implicit_uses, outgoing_words, held_call, held_tail, held_gone, tail_row, gone_row}
 use Rattle.emit_code.specs.Rule.{Form, OneWord, CallSite, LongBranch, row_form}
@@ -96,7 +96,7 @@ tails : (far : Bool) (os : List Operand) → fits_tail os ≡ true → FormView 
 tails far (Symbol name ∷ rest) form = call name rest refl (inr (inl refl))
 tails far os form = absurd cc
 
-gone : (far : Bool) (os : List Operand) → fits_call os ≡ true → FormView NoReturnCall os (row_form far (gone_row os))
+gone : (far : Bool) (os : List Operand) → fits_gone os ≡ true → FormView NoReturnCall os (row_form far (gone_row os))
 gone far (Symbol name ∷ Mask ∷ rest) form = call name (Mask ∷ rest) refl (inr (inr refl))
 gone far os form = absurd cc
 

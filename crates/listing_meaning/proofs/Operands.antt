@@ -1,6 +1,6 @@
 -- The operands of code that is listed are raised to what they were, but that an access names the last object that has its byte.
 use Rattle.std.proofs.Common.{◌≡◌, ℕ, zero, suc, ◌+◌, ◌-◌, ◌<◌, ◌≤◌, ℤ, pos, negsuc, Bool, true, false, ◌&&◌, cond, nat_eq, List, [], ◌∷◌}
-use Rattle.std.proofs.Common.{◌++◌, Option, Some, refl, ap, sym, ◌∙◌, subst, arith, ◌||◌}
+use Rattle.std.proofs.Common.{◌++◌, Option, Some, refl, ap, sym, ◌∙◌, subst, arith}
 use Rattle.std.specs.Prelude.{All, Contains}
 use Rattle.std.specs.List.{list_all}
 use Rattle.std.proofs.lemmas.Bool.{and_parts, ne_eqb, lt-ltb, lt-leb}
@@ -25,7 +25,8 @@ use Rattle.rv64_instr.specs.declared.symbol.Half.{Half}
 use Rattle.rv64_instr.specs.Arithmetic.{word, load_width, store_width}
 use Rattle.rv64_instr.specs.Form.{is_within, has_12_bits, is_implicit, is_result, moves_slot, is_addi, is_immediate, has_form}
 use Rattle.rv64_instr.specs.Form.{fits_registers, fits_immediate, fits_upper, fits_branch, fits_load, fits_store, fits_copy, fits_jump}
-use Rattle.rv64_instr.specs.Form.{fits_call, is_tail_use, is_tail_register, fits_held_call, fits_tail, fits_held_tail}
+use Rattle.rv64_instr.specs.Form.{fits_call, is_held_tail_use, is_held_tail_register, fits_held_call, fits_tail, fits_held_tail}
+use Rattle.rv64_instr.proofs.Tails.{gone_calls, held_gone_calls, held_tail_uses}
 use Rattle.rv64_instr.specs.Row.{row_by, load_row, store_row, number_row}
 use Rattle.mir_func.specs.declared.object.Object.{Object}
 use Rattle.mir_func.specs.Function.{FramedFunction}
@@ -299,7 +300,7 @@ module _ (f : FramedFunction) (framed : IsFramed f) where
   results_stay (x ∷ o ∷ os) all =
       behind_result x o os (and_parts (is_result o) (list_all is_result os) (and_parts (is_result x) (is_result o && list_all is_result os) all).1).0
 
-  behind_tail : (x : Operand) (os : List Operand) → list_all is_tail_use os ≡ true → by_pointer f (x ∷ os) ≡ x ∷ os
+  behind_tail : (x : Operand) (os : List Operand) → list_all is_held_tail_use os ≡ true → by_pointer f (x ∷ os) ≡ x ∷ os
   behind_tail x [] all = refl
   behind_tail x (ImplicitUse r ∷ os) all = refl
   behind_tail x (o ∷ os) all = absurd cc
@@ -309,12 +310,12 @@ module _ (f : FramedFunction) (framed : IsFramed f) where
   held_call_stays os form = absurd cc
 
   tail_stays : (os : List Operand) → fits_tail os ≡ true → by_pointer f os ≡ os
-  tail_stays (Symbol name ∷ rest) form = behind_tail (Symbol name) rest form
+  tail_stays (Symbol name ∷ rest) form = behind_tail (Symbol name) rest (held_tail_uses rest form)
   tail_stays os form = absurd cc
 
   held_tail_stays : (os : List Operand) → fits_held_tail os ≡ true → by_pointer f os ≡ os
   held_tail_stays (ImplicitUse r ∷ rest) form =
-      behind_tail (ImplicitUse r) rest (and_parts (nat_eq r 6 || is_tail_register r) (list_all is_tail_use rest) form).1
+      behind_tail (ImplicitUse r) rest (and_parts (is_held_tail_register r) (list_all is_held_tail_use rest) form).1
   held_tail_stays os form = absurd cc
 
   pub operands_back : (op : Op) (os : List Operand) → has_form op os ≡ true → IsSteady op os → SlotIn (slot_offsets f) (row_by op os) →
@@ -332,8 +333,8 @@ module _ (f : FramedFunction) (framed : IsFramed f) where
   operands_back PseudoCallIndirect os form steady slots objects = held_call_stays os form
   operands_back PseudoTail os form steady slots objects = tail_stays os form
   operands_back PseudoTailIndirect os form steady slots objects = held_tail_stays os form
-  operands_back NoReturnCall os form steady slots objects = call_stays os form
-  operands_back NoReturnCallIndirect os form steady slots objects = held_call_stays os form
+  operands_back NoReturnCall os form steady slots objects = call_stays os (gone_calls os form)
+  operands_back NoReturnCallIndirect os form steady slots objects = held_call_stays os (held_gone_calls os form)
 
   -- ---- where an access begins at a byte that its object alone has
 

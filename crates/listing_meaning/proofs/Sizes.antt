@@ -14,7 +14,7 @@ use Rattle.rv64_instr.specs.declared.op.StoreOp.{StoreOp}
 use Rattle.rv64_instr.specs.declared.operand.Operand.{Operand}
 use Rattle.rv64_instr.specs.declared.operand.Operand.TheVariants.{Def, Use, Imm, Slot, Object, Block, Symbol, Mask, ImplicitUse}
 use Rattle.rv64_instr.specs.Arithmetic.{word}
-use Rattle.rv64_instr.specs.Form.{has_form, fits_call, fits_tail, is_tail_use}
+use Rattle.rv64_instr.specs.Form.{has_form, fits_call, fits_gone, fits_tail, is_tail_use}
 use Rattle.rv64_instr.specs.Row.{Row, Branches}
 use Rattle.rv64_instr.specs.Row.{move_row, add_row, immediate_row, object_row, registers_row, number_row, upper_row, branch_row, load_row, store_row}
 use Rattle.rv64_instr.specs.Row.{copy_row, jump_row, row_by, row_of, Calls, Returns, implicit_uses, outgoing_words}
@@ -138,7 +138,7 @@ tail_form : (f : FramedFunction) (far : Bool) (os : List Operand) → fits_tail 
 tail_form f far (Symbol name ∷ rest) form = ap (λ (os : List Operand). has_site (tail_row os)) (behind_tail f (Symbol name) rest form)
 tail_form f far os form = absurd cc
 
-gone_form : (f : FramedFunction) (far : Bool) (os : List Operand) → fits_call os ≡ true →
+gone_form : (f : FramedFunction) (far : Bool) (os : List Operand) → fits_gone os ≡ true →
     has_site (row_by NoReturnCall (by_pointer f os)) ≡ is_call_form (row_form far (row_by NoReturnCall os))
 gone_form f far (Symbol name ∷ Mask ∷ rest) form = refl
 gone_form f far os form = absurd cc

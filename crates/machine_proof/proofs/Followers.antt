@@ -17,7 +17,7 @@ use Rattle.rv64_instr.specs.declared.place.Place.{Place}
 use Rattle.rv64_instr.specs.Arithmetic.{word}
 use Rattle.rv64_instr.specs.Form.{has_form, is_result}
 use Rattle.rv64_instr.specs.Row.{row_by, move_row, immediate_row, object_row, implicit_uses, outgoing_words, held_call, held_tail, held_gone}
-use Rattle.rv64_instr.proofs.Tails.{tails_low, held_low, arguments_low, held_arguments_low}
+use Rattle.rv64_instr.proofs.Tails.{tails_low, held_low, arguments_low, held_arguments_low, last_arguments, held_gone_calls}
 use Rattle.mir_func.specs.declared.block.Block.{Block}
 use Rattle.mir_func.specs.declared.debug_substitution.OperandPair.{OperandPair}
 use Rattle.mir_func.specs.declared.item.Item.{Item}
@@ -86,9 +86,10 @@ by_op PseudoCallIndirect os h = held_call_plain (implicit_uses os) (outgoing_wor
 by_op PseudoTail (Symbol name ∷ rest) h = tails_low rest h
 by_op PseudoTailIndirect (ImplicitUse r ∷ rest) h = held_tail_low (implicit_uses (ImplicitUse r ∷ rest)) (held_low r rest h)
 by_op PseudoTailIndirect _ h = absurd cc
-by_op NoReturnCall (Symbol name ∷ Mask ∷ rest) h = arguments_low rest h
+by_op NoReturnCall (Symbol name ∷ Mask ∷ rest) h = arguments_low rest (last_arguments rest h)
 by_op NoReturnCall _ h = absurd cc
-by_op NoReturnCallIndirect (ImplicitUse r ∷ Mask ∷ rest) h = held_gone_low (implicit_uses (ImplicitUse r ∷ Mask ∷ rest)) (held_arguments_low r rest h)
+by_op NoReturnCallIndirect (ImplicitUse r ∷ Mask ∷ rest) h =
+    held_gone_low (implicit_uses (ImplicitUse r ∷ Mask ∷ rest)) (held_arguments_low r rest (held_gone_calls (ImplicitUse r ∷ Mask ∷ rest) h))
 by_op NoReturnCallIndirect _ h = absurd cc
 by_op (Registers op) (Def rd ∷ Use a ∷ Use b ∷ rest) h = tt
 by_op (Immediate op) (Def rd ∷ Use a ∷ Imm i ∷ rest) h = immediate_plain op rd a (word i)

@@ -178,6 +178,6 @@ module _ (f : FramedFunction) (framed : IsFramed f) (image : Image) (laid : IsLa
     stays there = at_place (block_start 0) (first_lands f framed) start
     stays (steps {t = t} {u = u} before e) = (good_at t (stays before)).next u e
 
-    -- it stops nowhere but at a return, or at a call that has no answer
+    -- it stops nowhere but where its run ends, or at a call that has no answer
     pub stops_well : (m : Machine) → Comes image m0 m → IsWell (machine_step image m)
     stops_well m comes = (good_at m (stays comes)).well

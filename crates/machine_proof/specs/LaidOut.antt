@@ -32,7 +32,7 @@ pub record IsImageOfFunction (f : Function) (image : Image) : Type 0 where
 -- If lists name a place only where it is required at the entry's point, the image of each function that simulates a source
 -- satisfies the source's `Headline`: at each line that the machine reaches, the source reaches the line's origin with the same
 -- events and results, unless it stops on a frame fault before; listed places hold the newest assignment, and a return preserves
--- the registers `KEPT`; and the machine stops only at a return, or at a call without an answer.
+-- the registers `KEPT`; and the machine stops only where its run ends, or at a call without an answer.
 abbrev pub ImagesMeetTheHeadline : (lists : VarId → (address : ℕ) → Place → Type 0) → Type 0
 ImagesMeetTheHeadline lists = (source f : Function) (resolve fresolve : OperandPair → Option OperandPair) (image : Image) →
     IsFollower source f resolve fresolve → AllItems (λ i. HasPhysical i.kind) f.blocks → reach_of f ≤ MAX_FRAME → (is : IsImageOfFunction f image) →

@@ -13,14 +13,14 @@ use Rattle.rv64_instr.specs.DefsAndUses.{caller_saved}
 use Rattle.rv64_instr.specs.declared.start.CallTarget.{CallTarget}
 use Rattle.rv64_instr.specs.declared.start.CallTarget.TheVariants.{Address}
 use Rattle.mir_func.specs.Function.{FramedFunction}
-use Rattle.mir_func.specs.SoundFrame.{IsFramed, IsSlotOffset, slot_offsets}
+use Rattle.mir_func.specs.SoundFrame.{IsFramed, IsSlotOffset, AreDoublewords, slot_offsets}
 use Rattle.sem_mir.specs.State.{Core, Reply, Called, updated, spelled, written, in_frame, writes_frame, IsReply, IsInRange}
 use Rattle.sem_mir.specs.Step.{Outcome, Falls, Goes, Gives, Traps, Asks, Breaks, does, read, or_zero, numbered}
 use Rattle.sem_mir.specs.Step as source
 use Rattle.sem_mir.proofs.Outcomes.{after_reply}
 use Rattle.sem_machine.specs.Machine.{Machine, register, set_all_in, address_of}
 use Rattle.sem_machine.specs.MachineStep.{Stepped, Continues, Awaits, past, step_call, in_words, is_callees, left_below, memory_after, passed, called_at}
-use Rattle.sem_machine.specs.MachineStep.{way_at, result_at, callee_size, word_content}
+use Rattle.sem_machine.specs.MachineStep.{way_at, result_at, callee_size, word_content, words_from}
 use Rattle.machine_steps_proof.specs.Beside.{frame_low, Beside}
 use Rattle.machine_steps_proof.proofs.Memory.{spelled_alike}
 use Rattle.machine_steps_proof.proofs.Rows.{set_all_alike, set_all_written, slot_room, slot_byte}
@@ -214,13 +214,13 @@ module _ (f : FramedFunction) (framed : IsFramed f) (c : Core) (m : Machine) (h 
         let at : address_of m 2 n ≡ frame_low f c + n = omega (arith, k, t, p) in
         ap (λ (a : ℕ). spelled m.memory a 8) at ∙ sym (h.slots n v is e)
 
-  words_same : (ns : List ℕ) → All (IsSlotOffset f) ns → read c 2 ≡ frame_low f c → source.are_passed c ns ≡ true →
-      map (word_content m) ns ≡ map (source.slot_value c) ns
-  words_same [] all pointer there = refl
-  words_same (n ∷ ns) all pointer there =
+  words_same : (o : ℕ) (ns : List ℕ) → AreDoublewords o ns → All (IsSlotOffset f) ns → read c 2 ≡ frame_low f c → source.are_passed c ns ≡ true →
+      words_from m o ns ≡ map (source.slot_value c) ns
+  words_same o [] laid all pointer there = refl
+  words_same o (n ∷ ns) laid all pointer there =
       let k = and_parts (is_some (c.slots n)) (source.are_passed c ns) there in
-      let a = word_same n (All-head (IsSlotOffset f) n ns all) pointer k.0 in
-      let b = words_same ns (All-tail (IsSlotOffset f) n ns all) pointer k.1 in
+      let a = ap (word_content m) (sym laid.0) ∙ word_same n (All-head (IsSlotOffset f) n ns all) pointer k.0 in
+      let b = words_same (o + 8) ns laid.1 (All-tail (IsSlotOffset f) n ns all) pointer k.1 in
       λ i. a i ∷ b i
 
   callee_same : (callee : Callee) → called_at m callee ≡ source.called_at c callee
@@ -240,11 +240,11 @@ module _ (f : FramedFunction) (framed : IsFramed f) (c : Core) (m : Machine) (h 
       λ i. record { way = a i; values = b i }
 
   -- a call site does what its call does
-  pub calls : (call : CallSite) → IsInRange c → read c 2 ≡ frame_low f c → All (Contains (slot_offsets f)) call.outgoing →
+  pub calls : (call : CallSite) → IsInRange c → read c 2 ≡ frame_low f c → All (Contains (slot_offsets f)) call.outgoing → AreDoublewords 0 call.outgoing →
       FollowsCall f m (callee_size call.callee) (does (Calls call) c)
       (step_call (callee_size call.callee) (called_at m call.callee) (passed m call) call.outgoing m m.script)
   unfolding does
-  calls call range pointer declared =
+  calls call range pointer declared laid =
       let t = source.called_at c call.callee in
       let all = All-weaker (Contains (slot_offsets f)) (IsSlotOffset f) (λ n k. All-contains (IsSlotOffset f) (slot_offsets f) n framed.offsets k) call.outgoing
       declared in
@@ -254,7 +254,7 @@ module _ (f : FramedFunction) (framed : IsFramed f) (c : Core) (m : Machine) (h 
       subst (λ (u : CallTarget). Goal u m.script) (sym (callee_same call.callee))
       (subst (λ (rs : List Reply). Goal t rs) (sym h.script)
       (call_by (callee_size call.callee) t (source.passed c call) (passed m call) call.outgoing c.script range.script pointer all
-      (λ there. (let a = contents call.args in let b = words_same call.outgoing all pointer there in λ i. a i ++ b i))))
+      (λ there. (let a = contents call.args in let b = words_same 0 call.outgoing laid all pointer there in λ i. a i ++ b i))))
 
   pub beside_numbered : (sp call : Bool) (k : Option ℕ) (operands : List Operand) → Beside f (numbered sp call k operands c) m
   beside_numbered sp call None operands = h

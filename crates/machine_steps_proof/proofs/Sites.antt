@@ -1,5 +1,5 @@
 -- The machine at the address of code, row by row: its step is that of the function with its frame.
-use Rattle.std.proofs.Common.{◌≡◌, ℕ, suc, ◌+◌, ◌-◌, ◌%◌, ◌^◌, ◌<◌, ℤ, pos, ◌-ℤ◌, All, Contains, Option, Some, None, Bool, true, false}
+use Rattle.std.proofs.Common.{◌≡◌, ℕ, suc, ◌+◌, ◌-◌, ◌%◌, ◌^◌, ◌<◌, ℤ, pos, ◌-ℤ◌, List, map, All, Contains, Option, Some, None, Bool, true, false}
 use Rattle.std.proofs.Common.{cond, refl, sym, ap, ◌∙◌, subst, inl, inr, arith}
 use Rattle.rv64_instr.specs.declared.op.BranchOp.{BranchOp}
 use Rattle.rv64_instr.specs.Arithmetic.{word, taken}
@@ -18,9 +18,9 @@ use Rattle.mir_func.specs.declared.item.ItemKind.TheVariants.{Code}
 use Rattle.mir_func.specs.declared.position.Pos.{Pos}
 use Rattle.mir_func.specs.Function.{FramedFunction}
 use Rattle.mir_func.specs.Graph.{Here, below, block_start, index_of}
-use Rattle.mir_func.specs.Sound.{SlotsIn, ObjectsIn, SlotIn, ObjectIn}
-use Rattle.mir_func.proofs.Passed.{slots_passed, passed_slots}
-use Rattle.mir_func.specs.SoundFrame.{adds_to_pointer, body_of, HasPhysical, slot_offsets, IsFramed}
+use Rattle.mir_func.specs.Sound.{SlotsIn, ObjectsIn, SlotIn, ObjectIn, BeginWith, PassesFirst, KindPassesFirst}
+use Rattle.mir_func.proofs.Passed.{slots_passed, passed_slots, begin_longer, first_doublewords}
+use Rattle.mir_func.specs.SoundFrame.{adds_to_pointer, body_of, HasPhysical, slot_offsets, IsFramed, AreDoublewords}
 use Rattle.sem_mir.specs.State.{Core, State, content, RunResult}
 use Rattle.sem_mir.specs.Step.{Outcome, Falls, Goes, Gives, Traps, Asks, Breaks, act, does, read, or_zero, numbered, with_core, result_at}
 use Rattle.sem_mir.specs.Step.{do_item, moved, step, set_register}
@@ -69,6 +69,15 @@ module _ (f : FramedFunction) (framed : IsFramed f) (resolve : OperandPair →
   -- the slots that a call passes are the frame's
   declared : (call : CallSite) → r ≡ Calls call → All (Contains (slot_offsets f)) call.outgoing
   declared call e = subst (λ (x : Row). All (Contains (slot_offsets f)) (slots_passed x)) e (passed_slots (slot_offsets f) c named_in.1)
+
+  -- and lie one behind the other from x2 on
+  laid_words : (call : CallSite) → r ≡ Calls call → AreDoublewords 0 call.outgoing
+  laid_words call e =
+      let first = subst (KindPassesFirst (map (λ s. s.offset) f.offsets)) kind
+      (of_item f (λ (j : Item). KindPassesFirst (map (λ s. s.offset) f.offsets) j.kind) framed.passed t.pos i here) in
+      let begin : BeginWith (map (λ s. s.offset) f.offsets) call.outgoing = subst (PassesFirst (map (λ s. s.offset) f.offsets)) e first in
+      first_doublewords 0 (slot_offsets f) call.outgoing framed.offsets_laid
+      (begin_longer (map (λ s. s.offset) f.offsets) (map (λ s. s.offset) f.saved) call.outgoing begin)
 
   objects_in : ObjectIn f.objects r
   objects_in = subst (ObjectsIn f.objects) kind (of_item f (λ (j : Item). ObjectsIn f.objects j.kind) framed.objects t.pos i here)
@@ -246,7 +255,7 @@ module _ (f : FramedFunction) (framed : IsFramed f) (resolve : OperandPair →
       m.script) (w.step m level.counter)
       (subst (λ (x : Row). FollowsCall f m (machine.callee_size call.callee) (does x t.core)
       (machine.step_call (machine.callee_size call.callee) (machine.called_at m call.callee) (machine.passed m call) call.outgoing m m.script)) (sym e)
-      (calls f framed t.core m h call level.range (needs (subst NeedsFrame (sym e) tt)) (declared call e)))) where
+      (calls f framed t.core m h call level.range (needs (subst NeedsFrame (sym e) tt)) (declared call e) (laid_words call e)))) where
         by_call : (x : Outcome) → does r t.core ≡ x → (st : Stepped) → machine_step image m ≡ st → FollowsCall f m (machine.callee_size call.callee) x st →
             OneStep f resolve image laid t m
         by_call (Falls d) g st s (n, q, counter, b) =

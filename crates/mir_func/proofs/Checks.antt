@@ -10,7 +10,8 @@ use Rattle.mir_func.specs.declared.block.Block.{Block}
 use Rattle.mir_func.specs.declared.item.Item.{Item}
 use Rattle.mir_func.specs.declared.item.ItemKind.{ItemKind}
 use Rattle.mir_func.specs.declared.item.ItemKind.TheVariants.{Code, Mark, Phi}
-use Rattle.mir_func.specs.Sound.{ids_of, items_of, AllItems, TargetsIn, SlotsIn, ObjectsIn, LeavesPointer, OriginIn, EndsWell, Closes, LastCloses, IsSound}
+use Rattle.mir_func.specs.Sound.{ids_of, items_of, AllItems, TargetsIn, SlotsIn, KindPassesFirst, ObjectsIn, LeavesPointer, OriginIn}
+use Rattle.mir_func.specs.Sound.{EndsWell, Closes, LastCloses, IsSound}
 use Rattle.mir_func.specs.Exits.{exit_of, Leaves}
 use Rattle.mir_func.specs.declared.object.Object.{Object}
 use Rattle.mir_func.specs.declared.sound.Declared.{Declared}
@@ -139,6 +140,7 @@ sound_from name slots objects blocks few_b few_s o s =
       objects_laid = o.laid;
       targets = each_item d (λ b i. TargetsIn ids i.kind) blocks s.each (λ b i t. t.target);
       slots = each_item d (λ b i. SlotsIn slots i.kind) blocks s.each (λ b i t. t.slot);
+      passed = each_item d (λ b i. KindPassesFirst slots i.kind) blocks s.each (λ b i t. t.passed);
       objects = each_item d (λ b i. ObjectsIn objects i.kind) blocks s.each (λ b i t. t.object);
       pointer = each_item d (λ b i. LeavesPointer i.kind) blocks s.each (λ b i t. t.pointer);
       numbers = once_from (items_of blocks) s.codes_apart
@@ -166,6 +168,7 @@ parts_from f s =
         each = λ n x m. record {
           target = s.targets k d l n x m;
           slot = s.slots k d l n x m;
+          passed = s.passed k d l n x m;
           object = s.objects k d l n x m;
           pointer = s.pointer k d l n x m;
           phi = phis k d l n x m;

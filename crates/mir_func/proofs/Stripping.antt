@@ -15,7 +15,8 @@ use Rattle.mir_func.specs.declared.exit.Exit.{Exit}
 use Rattle.mir_func.specs.declared.exit.Exit.TheVariants.{Onward, Perhaps, Always, Final}
 use Rattle.mir_func.specs.Exits.{exit_of, IsAlways, Leaves}
 use Rattle.mir_func.specs.Function.{Function}
-use Rattle.mir_func.specs.Sound.{AreApart, ids_of, items_of, AllItems, TargetsIn, SlotsIn, ObjectsIn, LeavesPointer, code_number, NumbersOnce, OriginIn}
+use Rattle.mir_func.specs.Sound.{AreApart, ids_of, items_of, AllItems, TargetsIn, SlotsIn, KindPassesFirst, ObjectsIn, LeavesPointer, code_number}
+use Rattle.mir_func.specs.Sound.{NumbersOnce, OriginIn}
 use Rattle.mir_func.specs.Sound.{IsJumpAtMost, MayFollow, EndsWell, Closes, LastCloses, IsSound}
 use Rattle.mir_func.specs.Strip.{bare, stripped_items, stripped_block, stripped_blocks, stripped}
 use Rattle.mir_func.proofs.Checks.{at_get}
@@ -135,6 +136,7 @@ stripped_sound f s =
       targets = subst (λ (ns : List ℕ). AllItems (λ i. TargetsIn ns i.kind) (stripped_blocks f.blocks)) same
           (items_stripped (λ i. TargetsIn (ids_of f.blocks) i.kind) (λ i. TargetsIn (ids_of f.blocks) i.kind) (λ i k o l h. h) f.blocks s.targets);
       slots = items_stripped (λ i. SlotsIn f.slots i.kind) (λ i. SlotsIn f.slots i.kind) (λ i k o l h. h) f.blocks s.slots;
+      passed = items_stripped (λ i. KindPassesFirst f.slots i.kind) (λ i. KindPassesFirst f.slots i.kind) (λ i k o l h. h) f.blocks s.passed;
       objects = items_stripped (λ i. ObjectsIn f.objects i.kind) (λ i. ObjectsIn f.objects i.kind) (λ i k o l h. h) f.blocks s.objects;
       pointer = items_stripped (λ i. LeavesPointer i.kind) (λ i. LeavesPointer i.kind) (λ i k o l h. h) f.blocks s.pointer;
       numbers = once_stripped f.blocks;

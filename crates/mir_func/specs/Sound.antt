@@ -9,7 +9,7 @@ use Rattle.rv64_instr.specs.declared.place.Place.{Place}
 use Rattle.rv64_instr.specs.declared.place.Place.TheVariants.{Register, Slot, Const}
 use Rattle.rv64_instr.specs.Row.{Base, PointedBy, ObjectAt, BesidePart}
 use Rattle.rv64_instr.specs.Form.{has_form}
-use Rattle.rv64_instr.specs.Row.{Row, row_of}
+use Rattle.rv64_instr.specs.Row.{Row, Calls, row_of}
 use Rattle.rv64_instr.specs.View.{Access, NoAccess, SlotAccess, MemoryAccess, ObjectAddress, access_of}
 use Rattle.mir_func.specs.declared.block.Block.{Block}
 use Rattle.mir_func.specs.declared.item.Item.{Item}
@@ -80,6 +80,24 @@ SlotIn slots row = AccessedSlotIn slots (access_of row)
 abbrev pub PassedIn : List ℕ → Operand → Type 0
 PassedIn slots (Outgoing n) = Contains slots n
 PassedIn slots _ = Unit {0}
+
+-- the first of some numbers are these, in their order
+abbrev pub BeginWith : (numbers first : List ℕ) → Type 0
+BeginWith numbers [] = Unit {0}
+BeginWith [] (m ∷ ms) = ⊥
+BeginWith (n ∷ ns) (m ∷ ms) = (n ≡ m) × BeginWith ns ms
+
+-- a call passes the first slots, in their order: the k-th lies at x2 + 8k, where the callee looks for its k-th argument on the stack (RISC-V ELF
+-- psABI, "Integer Calling Convention")
+abbrev pub PassesFirst : (slots : List ℕ) → Row → Type 0
+PassesFirst slots (Calls call) = BeginWith slots call.outgoing
+PassesFirst slots _ = Unit {0}
+
+-- code that calls passes the first slots
+abbrev pub KindPassesFirst : (slots : List ℕ) → ItemKind → Type 0
+KindPassesFirst slots (Code i k) = PassesFirst slots (row_of i)
+KindPassesFirst slots (Mark v m) = Unit {0}
+KindPassesFirst slots (Phi p k) = Unit {0}
 
 -- a slot that a phi's place names is one of these
 abbrev pub PlaceIn : List ℕ → Option Place → Type 0
@@ -222,6 +240,7 @@ pub record IsSound (f : Function) : Type 0 where
   pub objects_laid : AreLaid f.objects
   pub targets : AllItems (λ i. TargetsIn (ids_of f.blocks) i.kind) f.blocks
   pub slots : AllItems (λ i. SlotsIn f.slots i.kind) f.blocks
+  pub passed : AllItems (λ i. KindPassesFirst f.slots i.kind) f.blocks
   pub objects : AllItems (λ i. ObjectsIn f.objects i.kind) f.blocks
   pub pointer : AllItems (λ i. LeavesPointer i.kind) f.blocks
   pub numbers : NumbersOnce (items_of f.blocks)

@@ -24,7 +24,7 @@ use Rattle.mir_func.specs.Function.{FramedFunction}
 use Rattle.mir_func.specs.Exits.{leads_back}
 use Rattle.mir_func.specs.Limits.{MAX_FRAME, MAX_SLOTS}
 use Rattle.mir_func.specs.Objects.{AreLaid, area_of, extent_of}
-use Rattle.mir_func.specs.Sound.{AreApart, ids_of, AllItems, TargetsIn, SlotsIn, ObjectsIn, IsSoundObject, LeavesPointer, EndsWell, LastCloses}
+use Rattle.mir_func.specs.Sound.{AreApart, ids_of, AllItems, TargetsIn, SlotsIn, KindPassesFirst, ObjectsIn, IsSoundObject, LeavesPointer, EndsWell, LastCloses}
 
 -- the registers that a frame may save: the return address and the callee-saved registers (RISC-V ELF psABI, "Integer
 -- Register Convention": ra, s0 to s11)
@@ -129,6 +129,11 @@ NumberedAlike _ = ⊥
 abbrev pub IsSlotOffset : FramedFunction → ℕ → Type 0
 IsSlotOffset f o = (o % 8 ≡ 0) × (o < own_size f)
 
+-- doublewords from an offset on, one behind the other
+abbrev pub AreDoublewords : (offset : ℕ) → List ℕ → Type 0
+AreDoublewords o [] = Unit {0}
+AreDoublewords o (n ∷ ns) = (n ≡ o) × AreDoublewords (o + 8) ns
+
 -- the invariant of every function with its frame
 pub record IsFramed (f : FramedFunction) : Type 0 where
   pub aligned : f.size % 16 ≡ 0
@@ -138,10 +143,12 @@ pub record IsFramed (f : FramedFunction) : Type 0 where
   pub few : length f.offsets + length f.objects ≤ MAX_SLOTS
   pub offsets : All (IsSlotOffset f) (slot_offsets f)
   pub offsets_apart : AreApart (slot_offsets f)
+  pub offsets_laid : AreDoublewords 0 (slot_offsets f)
   pub each_object : All IsSoundObject f.objects
   pub objects_apart : AreApart (map (λ o. o.id) f.objects)
   pub objects_laid : AreLaid f.objects
   pub slots : AllItems (λ i. SlotsIn (slot_offsets f) i.kind) f.blocks
+  pub passed : AllItems (λ i. KindPassesFirst (map (λ s. s.offset) f.offsets) i.kind) f.blocks
   pub objects : AllItems (λ i. ObjectsIn f.objects i.kind) f.blocks
   pub saved : IsStrictlyIncreasing (map (λ s. s.register) f.saved)
   pub saved_kept : All (λ s. Contains SAVED s.register) f.saved

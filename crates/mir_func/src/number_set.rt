@@ -37,6 +37,13 @@ impl Numbers {
         Ok(Numbers { list, set })
     }
 
+    /// The numbers, in their order.
+    pub fn as_slice(&self) -> &[u32]
+        ensures { result.now ≡ self.now }
+    {
+        self.list.as_slice()
+    }
+
     /// Whether a number is one of them.
     pub fn contains(&self, n: u32) -> bool
         ensures { IsTrue result ↔ Contains self.now n }

@@ -2,7 +2,7 @@
 //! functions.
 
 ghost use Rattle.std.specs.Prelude.{◌≡◌, ◌↔◌, ◌++◌, ℕ, List, filter_map, All, IfOk, OnOk, IsTrue};
-ghost use Rattle.rv64_instr.specs.Row.{Row};
+ghost use Rattle.rv64_instr.specs.Row.{Row, Calls, CallSite, row_of, outgoing_words};
 ghost use Rattle.rv64_instr.specs.Decoded.{Shows};
 ghost use Rattle.mir_func.specs.Exits.{Leaves};
 ghost use Rattle.mir_func.specs.Sound.{
@@ -13,6 +13,9 @@ ghost use Rattle.mir_func.specs.Sound.{
   SlotIn,
   PassedIn,
   SlotsIn,
+  BeginWith,
+  PassesFirst,
+  KindPassesFirst,
   ObjectIn,
   ObjectsIn,
   IsNotPointer,
@@ -40,6 +43,7 @@ use crate::sound_objects::are_objects_sound;
 use base_ids::function_ids::{DebugNumber, SlotId};
 use rv64_instr::arithmetic::{load_width, store_width};
 use rv64_instr::decoded::{Base, Decoded};
+use rv64_instr::instr::Instr;
 use rv64_instr::operand::Operand;
 use rv64_instr::place::Place;
 use std::alloc::{AllocError, Global};
@@ -124,6 +128,7 @@ fn is_item_sound(declared: &Declared, b: &Block, i: &Item) -> bool
 {
     is_target_there(&declared.blocks, &i.kind)
         && is_slot_there(&declared.slots, &i.kind)
+        && are_first_passed(&declared.slots, &i.kind)
         && is_object_there(&declared.objects, &i.kind)
         && leaves_pointer(&i.kind)
         && is_phi_apart(&declared.codes, &i.kind)
@@ -203,6 +208,53 @@ fn is_passed_there(slots: &Numbers, operand: &Operand) -> bool
         Operand::Outgoing(n) => slots.contains(n.number()),
         _ => true,
     }
+}
+
+/// Whether the slots that a call passes are the first of these, in their order.
+fn are_first_passed(slots: &Numbers, kind: &ItemKind) -> bool
+    ensures { IsTrue result ↔ KindPassesFirst slots.now kind.now }
+{
+    match kind {
+        ItemKind::Code(i, _) => passes_first(slots, i),
+        ItemKind::Mark(_, _) | ItemKind::Phi(_, _) => true,
+    }
+}
+
+fn passes_first(slots: &Numbers, i: &Instr) -> bool
+    ensures { IsTrue result ↔ PassesFirst slots.now (row_of i.now) }
+{
+    let operands = i.operands.as_slice();
+    is_row_passing_first(slots, operands, &i.decoded())
+}
+
+fn is_row_passing_first(slots: &Numbers, operands: &[Operand], decoded: &Decoded) -> bool
+    ensures { (row : Row) → Shows decoded.now row
+        → ((call : CallSite) → row ≡ Calls call → call.outgoing ≡ outgoing_words operands.now)
+        → (IsTrue result ↔ PassesFirst slots.now row) }
+{
+    match *decoded {
+        Decoded::Calls(_) => begin_with(slots.as_slice(), operands),
+        _ => true,
+    }
+}
+
+/// Whether the first of these slots are those that operands pass, in their order.
+fn begin_with(slots: &[u32], operands: &[Operand]) -> bool
+    ensures { IsTrue result ↔ BeginWith slots.now (outgoing_words operands.now) }
+{
+    let mut rest = slots;
+    for operand in operands {
+        if let Operand::Outgoing(n) = operand {
+            let Some((first, behind)) = rest.split_first() else {
+                return false;
+            };
+            if *first != n.number() {
+                return false;
+            }
+            rest = behind;
+        }
+    }
+    true
 }
 
 /// Whether there is a stack object that code names, with the bytes that it accesses or counts past.

@@ -24,7 +24,8 @@ use Rattle.rv64_instr.specs.Instruction.{Instruction}
 use Rattle.rv64_instr.specs.Arithmetic.{load_width, store_width}
 use Rattle.rv64_instr.specs.Form.{has_form, fits_registers, fits_immediate, fits_upper, fits_branch, fits_load, fits_store, fits_copy, fits_jump, fits_call}
 use Rattle.rv64_instr.specs.Form.{is_within, has_12_bits, is_immediate, is_addi, moves_slot, is_implicit, is_argument}
-use Rattle.rv64_instr.specs.Form.{is_result, is_tail_use, is_tail_register, fits_held_call, fits_tail, fits_held_tail}
+use Rattle.rv64_instr.specs.Form.{is_result, is_call_register, is_held_tail_use, is_held_tail_register, fits_held_call, fits_tail, fits_held_tail}
+use Rattle.rv64_instr.proofs.Tails.{gone_calls, held_gone_calls, held_tail_uses}
 use Rattle.rv64_instr.specs.Mnemonic.{mnemonic_of}
 use Rattle.rv64_instr.proofs.Names.{mnemonic_of-injective}
 use Rattle.mir_printer.specs.Spelling.{instruction_text, is_definition, register_text, uses_text}
@@ -108,7 +109,7 @@ result_none : (o : Operand) → is_result o ≡ true → is_definition o ≡ fal
 result_none (Def r) e = absurd cc
 result_none o e = refl
 
-tail_none : (o : Operand) → is_tail_use o ≡ true → is_definition o ≡ false
+tail_none : (o : Operand) → is_held_tail_use o ≡ true → is_definition o ≡ false
 tail_none (Def r) e = absurd cc
 tail_none o e = refl
 
@@ -239,9 +240,9 @@ held_call_parts (ImplicitUse r ∷ Mask ∷ rest) e =
       uses = ImplicitUse r ∷ Mask ∷ rest;
       parts = refl;
       none =
-          (refl, (refl, all_none is_argument argument_none rest (behind (nat_le 5 r && nat_lt r 32) (list_all is_argument rest) e)));
+          (refl, (refl, all_none is_argument argument_none rest (behind (is_call_register r) (list_all is_argument rest) e)));
       kind =
-          no_slots (refl, (refl, no_slots_of is_argument argument_plain rest (behind (nat_le 5 r && nat_lt r 32) (list_all is_argument rest) e)));
+          no_slots (refl, (refl, no_slots_of is_argument argument_plain rest (behind (is_call_register r) (list_all is_argument rest) e)));
     }
 held_call_parts os e = absurd cc
 
@@ -251,9 +252,9 @@ tail_parts (Symbol name ∷ rest) e =
       target = None;
       uses = Symbol name ∷ rest;
       parts = refl;
-      none = (refl, all_none is_tail_use tail_none rest e);
+      none = (refl, all_none is_held_tail_use tail_none rest (held_tail_uses rest e));
       kind =
-          no_slots (refl, no_slots_of is_tail_use tail_plain rest e);
+          no_slots (refl, no_slots_of is_held_tail_use tail_plain rest (held_tail_uses rest e));
     }
 tail_parts os e = absurd cc
 
@@ -264,9 +265,9 @@ held_tail_parts (ImplicitUse r ∷ rest) e =
       uses = ImplicitUse r ∷ rest;
       parts = refl;
       none =
-          (refl, all_none is_tail_use tail_none rest (behind (nat_eq r 6 || is_tail_register r) (list_all is_tail_use rest) e));
+          (refl, all_none is_held_tail_use tail_none rest (behind (is_held_tail_register r) (list_all is_held_tail_use rest) e));
       kind =
-          no_slots (refl, no_slots_of is_tail_use tail_plain rest (behind (nat_eq r 6 || is_tail_register r) (list_all is_tail_use rest) e));
+          no_slots (refl, no_slots_of is_held_tail_use tail_plain rest (behind (is_held_tail_register r) (list_all is_held_tail_use rest) e));
     }
 held_tail_parts os e = absurd cc
 
@@ -283,8 +284,8 @@ parts_of PseudoCall os e = call_parts os e
 parts_of PseudoCallIndirect os e = held_call_parts os e
 parts_of PseudoTail os e = tail_parts os e
 parts_of PseudoTailIndirect os e = held_tail_parts os e
-parts_of NoReturnCall os e = call_parts os e
-parts_of NoReturnCallIndirect os e = held_call_parts os e
+parts_of NoReturnCall os e = call_parts os (gone_calls os e)
+parts_of NoReturnCallIndirect os e = held_call_parts os (held_gone_calls os e)
 parts_of PseudoRet os e =
     record { target = None; uses = os; parts = refl; none = all_none is_result result_none os e; kind = no_slots (no_slots_of is_result result_plain os e) }
 

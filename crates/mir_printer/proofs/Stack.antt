@@ -9,7 +9,7 @@ use Rattle.std.proofs.lemmas.List.Elements.{All-head, All-tail}
 use Rattle.rv64_instr.specs.declared.op.Op.{Op}
 use Rattle.rv64_instr.specs.declared.operand.Operand.{Operand}
 use Rattle.rv64_instr.specs.declared.operand.Operand.TheVariants.{Slot, Object}
-use Rattle.rv64_instr.specs.Form.{has_form, is_implicit, is_argument, is_result, is_tail_use}
+use Rattle.rv64_instr.specs.Form.{has_form, is_implicit, is_argument, is_result, is_held_tail_use}
 use Rattle.mir_printer.specs.Printable.{IsAsDeclared, as_slot}
 
 abbrev pub is_slot : Operand → Bool
@@ -104,7 +104,7 @@ result_plain (Slot n) e = absurd cc
 result_plain (Object n) e = absurd cc
 result_plain o e = (refl, refl)
 
-pub tail_plain : (o : Operand) → is_tail_use o ≡ true → IsPlain o
+pub tail_plain : (o : Operand) → is_held_tail_use o ≡ true → IsPlain o
 tail_plain (Slot n) e = absurd cc
 tail_plain (Object n) e = absurd cc
 tail_plain o e = (refl, refl)

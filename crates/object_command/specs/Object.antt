@@ -2,6 +2,12 @@
 -- each other function that is called, and a relocation at each call site.
 use Rattle.std.specs.Prelude.{◌≢◌, ℕ, ◌+◌, ◌-◌, ◌^◌, ◌≤◌, Bool, List, [], ◌∷◌, ◌++◌, length, map, codes, All}
 use Rattle.std.specs.List.{position_or_len}
+use Rattle.rv64_instr.specs.declared.operand.Operand.{Operand}
+use Rattle.rv64_instr.specs.declared.operand.Operand.TheVariants.{Part}
+use Rattle.mir_func.specs.declared.item.ItemKind.{ItemKind}
+use Rattle.mir_func.specs.declared.item.ItemKind.TheVariants.{Code, Mark, Phi}
+use Rattle.listing_text.specs.declared.output.Line.{Line}
+use Rattle.listing_text.specs.declared.output.Line.TheVariants.{Item as OfItem, Skip}
 use Rattle.listing_text.specs.declared.output.ListedFunction.{ListedFunction}
 use Rattle.listing_text.specs.declared.output.Output.{Output}
 use Rattle.dwarf_line_table.specs.Files.{is_name, first_uses}
@@ -143,10 +149,31 @@ pub record IsSymbolName (name : List ℕ) : Type 0 where
   pub some : name ≢ []
   pub string : IsName name
 
--- each function's name, and the name of each function that is called, can be a symbol's
+-- an operand is no half of a symbol's address
+abbrev pub IsNoHalf : Operand → Type 0
+IsNoHalf (Part half y) = ⊥
+IsNoHalf _ = Unit {0}
+
+abbrev pub KindHasNoHalf : ItemKind → Type 0
+KindHasNoHalf (Code i k) = All IsNoHalf i.operands
+KindHasNoHalf (Mark v m) = Unit {0}
+KindHasNoHalf (Phi p k) = Unit {0}
+
+abbrev pub LineHasNoHalf : Line → Type 0
+LineHasNoHalf (OfItem l) = KindHasNoHalf l.item.kind
+LineHasNoHalf (Skip s) = Unit {0}
+
+-- no code of a function has a half of a symbol's address
+pub record HasNoHalf (f : ListedFunction) : Type 0 where
+  pub prologue : All LineHasNoHalf f.prologue
+  pub blocks : All (λ b. All LineHasNoHalf b.lines) f.blocks
+
+-- Each function's name, and the name of each function that is called, can be a symbol's; and no code has a half of a symbol's address, for which the
+-- object has no relocation.
 pub record HaveSymbolNames (functions : List ListedFunction) : Type 0 where
   pub defined : All (λ f. IsSymbolName f.name) functions
   pub called : All (λ c. IsSymbolName c.name) (call_sites functions)
+  pub calls_alone : All HasNoHalf functions
 
 -- the bytes are the object of the output
 pub record IsObjectOf (o : Output) (bytes : List ℕ) : Type 0 where

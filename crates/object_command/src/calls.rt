@@ -2,7 +2,7 @@
 
 ghost use Rattle.std.specs.Prelude.{◌≡◌, ◌++◌, ◌∷◌, [], ℕ, IsTrue, Some, OnOk, IfOk};
 ghost use Rattle.std.specs.List.{flat_map};
-ghost use Rattle.rv64_instr.specs.Form.{fits_call, fits_tail};
+ghost use Rattle.rv64_instr.specs.Form.{fits_call, fits_gone, fits_tail};
 ghost use Rattle.rv64_instr.specs.Row.{row_of, call_row, tail_row, gone_row};
 ghost use Rattle.sem_machine.specs.Image.{line_of};
 ghost use Rattle.listing_meaning.specs.Program.{lines_of};
@@ -120,7 +120,7 @@ fn left_for(operands: &[Operand]) -> &Name
 
 /// The name of the function that a call that doesn't return calls.
 fn gone_to(operands: &[Operand]) -> &Name
-    requires { IsTrue (fits_call operands.now) }
+    requires { IsTrue (fits_gone operands.now) }
     ensures { (address : ℕ) → site_at address (callee_of (gone_row operands.now))
         ≡ record { address = address; name = result.now } ∷ [] }
 {

@@ -3,6 +3,7 @@
 #![tactic(auto)]
 
 pub mod calls;
+mod halves;
 pub mod laws;
 mod names;
 pub mod object;

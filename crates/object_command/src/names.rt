@@ -1,19 +1,21 @@
-//! Whether names can be those of symbols.
+//! Whether the names of an output can be those of symbols, and its code needs no other relocation than those of calls.
 
 ghost use Rattle.std.specs.Prelude.{◌≡◌, ◌↔◌, IsTrue, All};
 ghost use Rattle.object_command.specs.Calls.{call_sites};
 ghost use Rattle.object_command.specs.Object.{IsSymbolName, HaveSymbolNames};
 
 use crate::calls::CallSite;
+use crate::halves::have_no_half;
 use elf_object::names::is_name;
 use listing_text::output::ListedFunction;
 
-/// Whether the names of functions, and those at their call sites, can be symbols'.
+/// Whether the names of functions, and those at their call sites, can be symbols', and no code has a half of a symbol's
+/// address.
 pub fn have_symbol_names(functions: &[ListedFunction], sites: &[CallSite]) -> bool
     requires { sites.now ≡ call_sites functions.now }
     ensures { IsTrue result ↔ HaveSymbolNames functions.now }
 {
-    are_functions_named(functions) && are_sites_named(sites)
+    are_functions_named(functions) && are_sites_named(sites) && have_no_half(functions)
 }
 
 /// Whether a name can be a symbol's: it isn't empty, and has no zero byte.

@@ -25,7 +25,8 @@ use thiserror::Error;
 /// Why an output has no object.
 #[derive(Clone, Copy, Debug, PartialEq, Eq, Error)]
 pub enum ObjectError {
-    /// A function's name, or the name of a function that is called, is empty or has a zero byte.
+    /// A function's name, or the name of a function that is called, is empty or has a zero byte; or code has a half of
+    /// a symbol's address, for which there is no relocation.
     #[error("a name can't be a symbol's")]
     SymbolName,
     /// The object would have 2^31 bytes or more.
@@ -45,8 +46,8 @@ impl From<AllocError> for ObjectError {
 }
 
 /// The file of the object of an output. The error is `SymbolName` exactly if a function's name, or the name of a
-/// function that is called, is empty or has a zero byte, and otherwise `TooLarge` exactly if the file would have 2^31
-/// bytes or more.
+/// function that is called, is empty or has a zero byte, or code has a half of a symbol's address, and otherwise
+/// `TooLarge` exactly if the file would have 2^31 bytes or more.
 pub fn object(alloc: Global, output: Output) -> Result<Bytes, ObjectError>
     ensures object { IfOk result (IsObjectOf output) }
     ensures symbol_name { IsErrOf result ObjectError.SymbolName → HaveSymbolNames output.functions → ⊥ }

@@ -14,7 +14,7 @@ use Rattle.mir_func.specs.declared.item.ItemKind.TheVariants.{Phi}
 use Rattle.mir_func.specs.Exits.{exit_of, IsAlways, Leaves}
 use Rattle.mir_func.specs.Objects.{AreLaid}
 use Rattle.mir_func.specs.Limits.{MAX_BLOCKS, MAX_SLOTS}
-use Rattle.mir_func.specs.Sound.{AreApart, AllItems, ids_of, OriginIn, TargetsIn, SlotsIn, ObjectsIn, LeavesPointer}
+use Rattle.mir_func.specs.Sound.{AreApart, AllItems, ids_of, OriginIn, TargetsIn, SlotsIn, ObjectsIn, LeavesPointer, KindPassesFirst}
 use Rattle.mir_func.specs.Sound.{IsJumpAtMost, MayFollow}
 use Rattle.mir_func.specs.Sound.{EndsWell, Closes, LastCloses, IsSoundObject}
 use Rattle.mir_func.specs.Positions.{position_of}
@@ -51,6 +51,10 @@ target_same ids k l same_kind h = h
 slot_same : (slots : List ℕ) (k l : ItemKind) → SameButNumber k l → SlotsIn slots k → SlotsIn slots l
 slot_same slots k l same_code h = h
 slot_same slots k l same_kind h = h
+
+passed_same : (slots : List ℕ) (k l : ItemKind) → SameButNumber k l → KindPassesFirst slots k → KindPassesFirst slots l
+passed_same slots k l same_code h = h
+passed_same slots k l same_kind h = h
 
 object_same : (objects : List Object) (k l : ItemKind) → SameButNumber k l → ObjectsIn objects k → ObjectsIn objects l
 object_same objects k l same_code h = h
@@ -198,6 +202,8 @@ edited_sound old new s slots objects edited once =
           (each_block (TargetsIn (ids_of fs)) (target_same (ids_of fs)) (λ k r. tt) fs gs edited s.targets);
       slots = subst (λ (ns : List ℕ). AllItems (λ i. SlotsIn ns i.kind) gs) (sym slots)
           (each_block (SlotsIn old.slots) (slot_same old.slots) (λ k r. tt) fs gs edited s.slots);
+      passed = subst (λ (ns : List ℕ). AllItems (λ i. KindPassesFirst ns i.kind) gs) (sym slots)
+          (each_block (KindPassesFirst old.slots) (passed_same old.slots) (λ k r. tt) fs gs edited s.passed);
       objects = subst (λ (os : List Object). AllItems (λ i. ObjectsIn os i.kind) gs) (sym objects)
           (each_block (ObjectsIn old.objects) (object_same old.objects) (λ k r. tt) fs gs edited s.objects);
       pointer = each_block LeavesPointer pointer_same (λ k r. tt) fs gs edited s.pointer;

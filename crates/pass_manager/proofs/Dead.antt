@@ -19,7 +19,8 @@ use Rattle.pass_salvage.specs.SalvageAction.{salvage_action}
 use Rattle.rv64_instr.proofs.Moves.{moves_by}
 use Rattle.dce_salvage.specs.declared.salvage_numbers.Copied.{Copied}
 use Rattle.dce_salvage.specs.SalvageNumbers.{copied_by, numbered_copy, SoFar, salvage_at}
-use Rattle.dce_salvage.specs.SalvageBlocks.{going_from, BlocksSoFar, in_block, salvage_blocks}
+use Rattle.pass_salvage.specs.SalvageAction.{going_from}
+use Rattle.dce_salvage.specs.SalvageBlocks.{BlocksSoFar, in_block, salvage_blocks}
 use Rattle.dce_salvage_proof.specs.SalvageLaws.{begins_off}
 use Rattle.dce_pass.specs.SalvageLedger.{Line, line_by, line_of, line_of_copy, lines_of, lines_down, lines_in, ledger}
 use Rattle.dce_pass.specs.DebugRule.{dead_rule}

@@ -14,7 +14,7 @@ use Rattle.mir_func.specs.declared.item.ItemKind.{ItemKind}
 use Rattle.mir_func.specs.declared.item.ItemKind.TheVariants.{Code, Mark, Phi}
 use Rattle.mir_func.specs.Function.{Function}
 use Rattle.mir_func.specs.Sound.{AreApart, ids_of, items_of, number_of, code_number, NumbersOnce, OriginIn, TargetsIn, SlotsIn, ObjectsIn, LeavesPointer}
-use Rattle.mir_func.specs.Sound.{IsJumpAtMost, MayFollow, EndsWell, Closes, LastCloses, IsSound}
+use Rattle.mir_func.specs.Sound.{IsJumpAtMost, MayFollow, EndsWell, Closes, LastCloses, IsSound, KindPassesFirst}
 use Rattle.mir_func.specs.declared.exit.Exit.{Exit}
 use Rattle.mir_func.specs.declared.exit.Exit.TheVariants.{Onward, Perhaps, Always, Final}
 use Rattle.mir_func.specs.Exits.{row_exit, exit_of, IsAlways, Leaves}
@@ -130,6 +130,7 @@ module _ (busy : Bool) where
         targets = subst (λ (ns : List ℕ). All (λ (b : Block). All (λ (i : Item). TargetsIn ns i.kind) b.items) new) (sym ids)
             (each_left keep (λ b i. TargetsIn (ids_of f.blocks) i.kind) (λ b i. TargetsIn (ids_of f.blocks) i.kind) (λ b i h. h) f.blocks s.targets);
         slots = each_left keep (λ b i. SlotsIn f.slots i.kind) (λ b i. SlotsIn f.slots i.kind) (λ b i h. h) f.blocks s.slots;
+        passed = each_left keep (λ b i. KindPassesFirst f.slots i.kind) (λ b i. KindPassesFirst f.slots i.kind) (λ b i h. h) f.blocks s.passed;
         objects = each_left keep (λ b i. ObjectsIn f.objects i.kind) (λ b i. ObjectsIn f.objects i.kind) (λ b i h. h) f.blocks s.objects;
         pointer = each_left keep (λ b i. LeavesPointer i.kind) (λ b i. LeavesPointer i.kind) (λ b i h. h) f.blocks s.pointer;
         numbers = once_from (items_of new) (subst (λ (xs : List Item). AllPairs AreUnlike xs) (sym (items_thin keep f.blocks))

@@ -190,7 +190,8 @@ pub record IsFor (c : Change) (losses : List Loss) (e : DebugSubstitution) : Typ
 
 -- The debug rule: every block becomes what `BlocksBecome` allows; the declared substitutions are appended, each for a number that no
 -- item has any more; the losses are exactly those that the pass declares, in order and without duplicates; and each loss has its cause.
--- Registers are spilled into slots that are new to the function, and only virtual registers are renamed, to real ones
+-- Registers are spilled into slots that are new to the function, and only virtual registers are renamed, to physical ones that may be
+-- allocated (RISC-V ELF psABI: none of x0 to x4)
 pub record KeepsItems (rule : Rule) (c : Change) (losses : List Loss) : Type 0 where
   pub blocks : BlocksBecome rule c c.old.blocks c.new.blocks
   pub subs : (more : List DebugSubstitution) × (c.new_subs ≡ c.old_subs ++ more) × rule.substitutes c more × All (IsFor c losses) more
@@ -200,4 +201,4 @@ pub record KeepsItems (rule : Rule) (c : Change) (losses : List Loss) : Type 0 w
   pub caused : (place : Pos) (loss : Loss) → rule.loses c place loss → HasCause rule c place loss
   pub left : (r : ℕ) (why : Reason) → rule.leaves c r why → IsFirstCause rule c r why
   pub spilled : (r slot : ℕ) → rule.spills c r slot → Contains c.new.slots slot × (Contains c.old.slots slot → ⊥)
-  pub renamed : (r now : ℕ) → rule.renames c r now → (32 ≤ r) × (now < 32)
+  pub renamed : (r now : ℕ) → rule.renames c r now → (32 ≤ r) × (4 < now) × (now < 32)

@@ -14,7 +14,7 @@ use Rattle.mir_func.specs.declared.exit.Exit.TheVariants.{Onward, Perhaps, Alway
 use Rattle.mir_func.specs.Function.{Function}
 use Rattle.mir_func.specs.Exits.{row_exit, exit_of, IsAlways, Leaves}
 use Rattle.mir_func.specs.Limits.{MAX_BLOCKS}
-use Rattle.mir_func.specs.Sound.{AreApart, ids_of, items_of, number_of, code_number, NumbersOnce, OriginIn, TargetIn}
+use Rattle.mir_func.specs.Sound.{AreApart, ids_of, items_of, number_of, code_number, NumbersOnce, OriginIn, TargetIn, PassesFirst, KindPassesFirst}
 use Rattle.mir_func.specs.Sound.{TargetsIn, SlotIn, PassedIn, SlotsIn, ObjectIn, ObjectsIn}
 use Rattle.mir_func.specs.Sound.{IsNotPointer, LeavesPointer, MayFollow, EndsWell, Closes, LastCloses, IsSound}
 use Rattle.remat_pass.specs.Known.{Known}
@@ -54,6 +54,12 @@ slots_kept slots known (Code i n) h = (
 )
 slots_kept slots known (Mark v m) h = h
 slots_kept slots known (Phi p n) h = h
+
+first_kept : (slots : List ℕ) (known : Known) (k : ItemKind) → KindPassesFirst slots k → KindPassesFirst slots (set_in known k)
+first_kept slots known (Code i n) h =
+    row_replaced (PassesFirst slots) (λ rd m. tt) known i (set_or_same (constant_set known (row_of i)) i) (replaced known i) h
+first_kept slots known (Mark v m) h = h
+first_kept slots known (Phi p n) h = h
 
 objects_kept : (objects : List Object) (known : Known) (k : ItemKind) → ObjectsIn objects k → ObjectsIn objects (set_in known k)
 objects_kept objects known (Code i n) h =
@@ -167,6 +173,7 @@ sound_set f bs r s =
       targets = subst (λ (ns : List ℕ). All (λ (b : Block). All (λ (i : Item). TargetsIn ns i.kind) b.items) bs) (sym ids)
           (kinds_set (TargetsIn (ids_of f.blocks)) (TargetsIn (ids_of f.blocks)) (λ k h. h) (targets_kept (ids_of f.blocks)) f.blocks bs r s.targets);
       slots = kinds_set (SlotsIn f.slots) (SlotsIn f.slots) (λ k h. h) (slots_kept f.slots) f.blocks bs r s.slots;
+      passed = kinds_set (KindPassesFirst f.slots) (KindPassesFirst f.slots) (λ k h. h) (first_kept f.slots) f.blocks bs r s.passed;
       objects = kinds_set (ObjectsIn f.objects) (ObjectsIn f.objects) (λ k h. h) (objects_kept f.objects) f.blocks bs r s.objects;
       pointer = kinds_set LeavesPointer LeavesPointer (λ k h. h) pointer_kept f.blocks bs r s.pointer;
       numbers = once_set (items_of f.blocks) (items_of bs) (all_items_set f.blocks bs r) s.numbers;

@@ -1,7 +1,7 @@
 -- The halves of addresses that instructions have: the operand of one stands behind the first operand or the second, and it is added.
 use Rattle.std.proofs.Common.{◌≡◌, ◌⊎◌, ℕ, zero, suc, ◌+◌, ◌-◌, ◌/◌, ◌%◌, ◌^◌, ◌<◌, ◌≤◌, ℤ, pos, negsuc, ◌-ℤ◌, Bool, true, false, cond}
 use Rattle.std.proofs.Common.{List, [], ◌∷◌, None, refl, sym, ap, ◌∙◌, subst, inl, inr, nat_lt, lt-ltb, le-ltb, le-leb, arith}
-use Rattle.std.specs.Prelude.{◌&&◌, ◌||◌, IsTrue, nat_eq, nat_le}
+use Rattle.std.specs.Prelude.{◌&&◌, IsTrue}
 use Rattle.std.specs.Int.{w64, cast_signed, cast_unsigned}
 use Rattle.std.specs.List.{list_all}
 use Rattle.std.proofs.lemmas.Bool.{cases_lt}
@@ -19,13 +19,15 @@ use Rattle.rv64_instr.specs.declared.operand.Operand.TheVariants.{Def, Use, Imm,
 use Rattle.rv64_instr.specs.declared.symbol.Half.{Half}
 use Rattle.rv64_instr.specs.declared.symbol.Half.TheVariants.{Upper, Lower}
 use Rattle.rv64_instr.specs.Arithmetic.{word}
-use Rattle.rv64_instr.specs.Form.{has_form, is_argument, is_implicit, is_result, is_within, is_tail_use, is_tail_register}
+use Rattle.rv64_instr.specs.Form.{has_form, is_argument, is_last_argument, is_call_register, is_implicit, is_result, is_within}
+use Rattle.rv64_instr.specs.Form.{is_held_tail_use, is_held_tail_register}
 use Rattle.rv64_instr.specs.Linked.{half_immediate}
 use Rattle.rv64_instr.specs.Instruction.{Instruction}
 use Rattle.rv64_instr.specs.LocationEffects.{part_named}
 use Rattle.rv64_instr.specs.Row.{Input, Content, Number, PartOf, Row, Sets, row_of, row_by, move_row, immediate_row, object_row}
 use Rattle.rv64_instr.specs.Row.{implicit_uses, outgoing_words, held_tail, held_call, held_gone}
 use Rattle.rv64_instr.specs.steps.Linked.{first_part, early_part}
+use Rattle.rv64_instr.proofs.Tails.{last_arguments, held_tail_uses}
 
 right : (a b : Bool) → IsTrue (a && b) → IsTrue b
 right true b h = h
@@ -50,11 +52,11 @@ result_none (x ∷ z ∷ Part half y ∷ rest) h =
     absurd (let second = right (is_result x) (is_result z && false) h in let third = right (is_result z) false second in cc)
 result_none _ h = refl
 
-tail_none : (first : Operand) (rest : List Operand) → IsTrue (list_all is_tail_use rest) → None ≡ early_part (first ∷ rest)
+tail_none : (first : Operand) (rest : List Operand) → IsTrue (list_all is_held_tail_use rest) → None ≡ early_part (first ∷ rest)
 tail_none first [] h = refl
 tail_none first (Part half y ∷ rest) h = absurd cc
 tail_none first (x ∷ []) h = refl
-tail_none first (x ∷ Part half y ∷ rest) h = absurd (let second = right (is_tail_use x) false h in cc)
+tail_none first (x ∷ Part half y ∷ rest) h = absurd (let second = right (is_held_tail_use x) false h in cc)
 tail_none first _ h = refl
 
 pub held_call_part : (xs outgoing : List ℕ) → part_named (held_call xs outgoing) ≡ None
@@ -110,14 +112,15 @@ named_early PseudoCall (Symbol name ∷ Mask ∷ rest) h = argument_none rest h
 named_early PseudoRet os h = result_none os h
 named_early PseudoCallIndirect (ImplicitUse r ∷ Mask ∷ rest) h =
     held_call_part (implicit_uses (ImplicitUse r ∷ Mask ∷ rest)) (outgoing_words (ImplicitUse r ∷ Mask ∷ rest))
-    ∙ argument_none rest (right (nat_le 5 r && nat_lt r 32) (list_all is_argument rest) h)
-named_early PseudoTail (Symbol name ∷ rest) h = tail_none (Symbol name) rest h
+    ∙ argument_none rest (right (is_call_register r) (list_all is_argument rest) h)
+named_early PseudoTail (Symbol name ∷ rest) h = tail_none (Symbol name) rest (held_tail_uses rest h)
 named_early PseudoTailIndirect (ImplicitUse r ∷ rest) h =
     held_tail_part (implicit_uses (ImplicitUse r ∷ rest))
-    ∙ tail_none (ImplicitUse r) rest (right (nat_eq r 6 || is_tail_register r) (list_all is_tail_use rest) h)
-named_early NoReturnCall (Symbol name ∷ Mask ∷ rest) h = argument_none rest h
+    ∙ tail_none (ImplicitUse r) rest (right (is_held_tail_register r) (list_all is_held_tail_use rest) h)
+named_early NoReturnCall (Symbol name ∷ Mask ∷ rest) h = argument_none rest (last_arguments rest h)
 named_early NoReturnCallIndirect (ImplicitUse r ∷ Mask ∷ rest) h =
-    held_gone_part (implicit_uses (ImplicitUse r ∷ Mask ∷ rest)) ∙ argument_none rest (right (nat_le 5 r && nat_lt r 32) (list_all is_argument rest) h)
+    held_gone_part (implicit_uses (ImplicitUse r ∷ Mask ∷ rest))
+    ∙ argument_none rest (last_arguments rest (right (is_call_register r) (list_all is_last_argument rest) h))
 named_early _ _ h = absurd cc
 
 -- ---- the halves of addresses are added

@@ -1,5 +1,5 @@
 -- The operands that an opcode takes (RISC-V Unprivileged ISA, RV64I; LLVM, Machine IR (MIR) Format Reference Manual).
-use Rattle.std.specs.Prelude.{ℕ, ◌<◌, ◌^◌, ℤ, pos, negsuc, Bool, true, false, ◌&&◌, ◌||◌, List, ◌∷◌, int_le, nat_le, nat_lt, nat_eq}
+use Rattle.std.specs.Prelude.{ℕ, ◌<◌, ◌^◌, ℤ, pos, negsuc, Bool, true, false, not, ◌&&◌, ◌||◌, List, ◌∷◌, int_le, nat_le, nat_lt, nat_eq}
 use Rattle.std.specs.List.{list_all}
 use Rattle.rv64_instr.specs.declared.op.Op.{Op}
 use Rattle.rv64_instr.specs.declared.op.ImmediateOp.{ImmediateOp}
@@ -70,19 +70,38 @@ is_argument (ImplicitUse r) = nat_lt r 32
 is_argument (Outgoing n) = true
 is_argument _ = false
 
+-- that of a call that doesn't return: it passes no slot, since the end of a run shows registers alone
+abbrev pub is_last_argument : Operand → Bool
+is_last_argument (ImplicitDef r) = is_clobbered r
+is_last_argument (ImplicitUse r) = nat_lt r 32
+is_last_argument _ = false
+
+-- a register by which a call may name its callee: any but x2
+abbrev pub is_call_register : ℕ → Bool
+is_call_register r = not (nat_eq r 2) && nat_lt r 32
+
 -- an implicit operand of a return: a use of x10 to x17
 abbrev pub is_result : Operand → Bool
 is_result (ImplicitUse r) = nat_le 10 r && nat_le r 17
 is_result _ = false
 
--- an implicit operand of a call in tail position: a use of x2, or of a register that may hold an argument and that neither the epilogue sets nor the
--- first word of the call: x7, x10 to x17 and x28 to x31
+-- a register that may hold an argument of a call in tail position, and that neither the epilogue sets nor the first word of a call by a name:
+-- x7, x10 to x17 and x28 to x31
 abbrev pub is_tail_register : ℕ → Bool
 is_tail_register r = nat_eq r 7 || ((nat_le 10 r && nat_le r 17) || (nat_le 28 r && nat_le r 31))
 
+-- by a register, it may be x6 too, as the callee's
+abbrev pub is_held_tail_register : ℕ → Bool
+is_held_tail_register r = nat_eq r 6 || is_tail_register r
+
+-- an implicit operand of a call in tail position: a use of x2 or of such a register
 abbrev pub is_tail_use : Operand → Bool
 is_tail_use (ImplicitUse r) = nat_eq r 2 || is_tail_register r
 is_tail_use _ = false
+
+abbrev pub is_held_tail_use : Operand → Bool
+is_held_tail_use (ImplicitUse r) = nat_eq r 2 || is_held_tail_register r
+is_held_tail_use _ = false
 
 -- `rd = OP rs1, rs2`
 abbrev pub fits_registers : List Operand → Bool
@@ -138,22 +157,31 @@ abbrev pub fits_call : List Operand → Bool
 fits_call (Symbol name ∷ Mask ∷ rest) = list_all is_argument rest
 fits_call _ = false
 
--- `PseudoCALLIndirect`: the register, one of x5 to x31, is the first implicit use
+-- `PseudoCALLIndirect`: the register is the first implicit use
 abbrev pub fits_held_call : List Operand → Bool
-fits_held_call (ImplicitUse r ∷ Mask ∷ rest) = (nat_le 5 r && nat_lt r 32) && list_all is_argument rest
+fits_held_call (ImplicitUse r ∷ Mask ∷ rest) = is_call_register r && list_all is_argument rest
 fits_held_call _ = false
+
+-- `PseudoCALL symbol, mask` of a function that doesn't return, and the same by a register
+abbrev pub fits_gone : List Operand → Bool
+fits_gone (Symbol name ∷ Mask ∷ rest) = list_all is_last_argument rest
+fits_gone _ = false
+
+abbrev pub fits_held_gone : List Operand → Bool
+fits_held_gone (ImplicitUse r ∷ Mask ∷ rest) = is_call_register r && list_all is_last_argument rest
+fits_held_gone _ = false
 
 -- `PseudoTAIL symbol`
 abbrev pub fits_tail : List Operand → Bool
 fits_tail (Symbol name ∷ rest) = list_all is_tail_use rest
 fits_tail _ = false
 
--- `PseudoTAILIndirect`: the register is x6 or one that may hold an argument
+-- `PseudoTAILIndirect`
 abbrev pub fits_held_tail : List Operand → Bool
-fits_held_tail (ImplicitUse r ∷ rest) = (nat_eq r 6 || is_tail_register r) && list_all is_tail_use rest
+fits_held_tail (ImplicitUse r ∷ rest) = is_held_tail_register r && list_all is_held_tail_use rest
 fits_held_tail _ = false
 
--- the operands have the form of the opcode, with their immediate in range. Implicit operands come last. A call that doesn't return has the form of a call
+-- the operands have the form of the opcode, with their immediate in range. Implicit operands come last
 abbrev pub has_form : Op → List Operand → Bool
 has_form (Registers op) operands = fits_registers operands
 has_form (Immediate op) operands = fits_immediate op operands
@@ -168,5 +196,5 @@ has_form PseudoRet operands = list_all is_result operands
 has_form PseudoCallIndirect operands = fits_held_call operands
 has_form PseudoTail operands = fits_tail operands
 has_form PseudoTailIndirect operands = fits_held_tail operands
-has_form NoReturnCall operands = fits_call operands
-has_form NoReturnCallIndirect operands = fits_held_call operands
+has_form NoReturnCall operands = fits_gone operands
+has_form NoReturnCallIndirect operands = fits_held_gone operands

@@ -3,7 +3,7 @@
 ghost use Rattle.std.specs.Prelude.{IsTrue, List, ℕ};
 ghost use Rattle.rv64_instr.specs.Form.{fits_registers, fits_immediate, fits_upper, fits_branch};
 ghost use Rattle.rv64_instr.specs.Form.{fits_load, fits_store, fits_copy, fits_jump, fits_call, fits_held_call};
-ghost use Rattle.rv64_instr.specs.Form.{fits_tail, fits_held_tail};
+ghost use Rattle.rv64_instr.specs.Form.{fits_gone, fits_held_gone, fits_tail, fits_held_tail};
 ghost use Rattle.rv64_instr.specs.Row as row;
 ghost use Rattle.rv64_instr.specs.Row.{
   row_of,
@@ -424,7 +424,7 @@ fn of_held_tail(operands: &[Operand]) -> Decoded
 }
 
 fn of_gone(operands: &[Operand]) -> Decoded
-    requires { IsTrue (fits_call operands.now) }
+    requires { IsTrue (fits_gone operands.now) }
     ensures { Shows result (gone_row operands.now) }
 {
     match operands {
@@ -434,7 +434,7 @@ fn of_gone(operands: &[Operand]) -> Decoded
 }
 
 fn of_held_gone(operands: &[Operand]) -> Decoded
-    requires { IsTrue (fits_held_call operands.now) }
+    requires { IsTrue (fits_held_gone operands.now) }
     ensures { Shows result (held_gone_row operands.now) }
 {
     match operands {

@@ -11,11 +11,17 @@ ghost use Rattle.rv64_instr.specs.Form.{
   moves_slot,
   is_implicit,
   is_argument,
+  is_last_argument,
+  is_call_register,
   is_result,
   is_clobbered,
   is_tail_use,
   is_tail_register,
+  is_held_tail_use,
+  is_held_tail_register,
   fits_held_call,
+  fits_gone,
+  fits_held_gone,
   fits_tail,
   fits_held_tail,
 };
@@ -43,8 +49,8 @@ pub fn has_form(op: Op, operands: &[Operand]) -> bool
         Op::PseudoTail => fits_tail(operands),
         Op::PseudoTailIndirect => fits_held_tail(operands),
         Op::PseudoCallIndirect => fits_held_call(operands),
-        Op::NoReturnCall => fits_call(operands),
-        Op::NoReturnCallIndirect => fits_held_call(operands),
+        Op::NoReturnCall => fits_gone(operands),
+        Op::NoReturnCallIndirect => fits_held_gone(operands),
     }
 }
 
@@ -233,7 +239,27 @@ fn fits_held_call(operands: &[Operand]) -> bool
 {
     match operands {
         [Operand::ImplicitUse(r), Operand::Mask, rest @ ..] => {
-            (5 <= r.number() && r.number() < 32) && are_arguments(rest)
+            is_call_register(r.number()) && are_arguments(rest)
+        }
+        _ => false,
+    }
+}
+
+fn fits_gone(operands: &[Operand]) -> bool
+    ensures { result ≡ fits_gone operands.now }
+{
+    match operands {
+        [Operand::Symbol(_), Operand::Mask, rest @ ..] => { are_last_arguments(rest) }
+        _ => false,
+    }
+}
+
+fn fits_held_gone(operands: &[Operand]) -> bool
+    ensures { result ≡ fits_held_gone operands.now }
+{
+    match operands {
+        [Operand::ImplicitUse(r), Operand::Mask, rest @ ..] => {
+            is_call_register(r.number()) && are_last_arguments(rest)
         }
         _ => false,
     }
@@ -253,7 +279,7 @@ fn fits_held_tail(operands: &[Operand]) -> bool
 {
     match operands {
         [Operand::ImplicitUse(r), rest @ ..] => {
-            (r.number() == 6 || is_tail_register(r.number())) && are_tail_uses(rest)
+            is_held_tail_register(r.number()) && are_held_tail_uses(rest)
         }
         _ => false,
     }
@@ -271,6 +297,12 @@ fn are_arguments(operands: &[Operand]) -> bool
     operands.iter().all(|operand| is_argument(operand))
 }
 
+fn are_last_arguments(operands: &[Operand]) -> bool
+    ensures { result ≡ list_all is_last_argument operands.now }
+{
+    operands.iter().all(|operand| is_last_argument(operand))
+}
+
 fn are_results(operands: &[Operand]) -> bool
     ensures { result ≡ list_all is_result operands.now }
 {
@@ -281,6 +313,12 @@ fn are_tail_uses(operands: &[Operand]) -> bool
     ensures { result ≡ list_all is_tail_use operands.now }
 {
     operands.iter().all(|operand| is_tail_use(operand))
+}
+
+fn are_held_tail_uses(operands: &[Operand]) -> bool
+    ensures { result ≡ list_all is_held_tail_use operands.now }
+{
+    operands.iter().all(|operand| is_held_tail_use(operand))
 }
 
 fn is_implicit(operand: &Operand) -> bool
@@ -304,6 +342,24 @@ fn is_argument(operand: &Operand) -> bool
     }
 }
 
+/// Whether it is an implicit operand that a call that doesn't return may have.
+fn is_last_argument(operand: &Operand) -> bool
+    ensures { result ≡ is_last_argument operand.now }
+{
+    match operand {
+        Operand::ImplicitDef(r) => is_clobbered(r.number()),
+        Operand::ImplicitUse(r) => r.number() < 32,
+        _ => false,
+    }
+}
+
+/// Whether a call may name its callee by the register.
+fn is_call_register(n: u32) -> bool
+    ensures { result ≡ is_call_register n }
+{
+    n != 2 && n < 32
+}
+
 /// Whether it is an implicit operand that a return may have.
 fn is_result(operand: &Operand) -> bool
     ensures { result ≡ is_result operand.now }
@@ -321,7 +377,7 @@ fn is_clobbered(n: u32) -> bool
     n <= 2 || (5 <= n && n <= 7) || (10 <= n && n <= 17) || (28 <= n && n <= 31)
 }
 
-/// Whether it is an implicit operand that a call in tail position may have.
+/// Whether it is an implicit operand that a call by a name in tail position may have.
 fn is_tail_use(operand: &Operand) -> bool
     ensures { result ≡ is_tail_use operand.now }
 {
@@ -331,7 +387,24 @@ fn is_tail_use(operand: &Operand) -> bool
     }
 }
 
-/// Whether an argument of a call in tail position may be in the register.
+/// Whether it is an implicit operand that a call by a register in tail position may have.
+fn is_held_tail_use(operand: &Operand) -> bool
+    ensures { result ≡ is_held_tail_use operand.now }
+{
+    match operand {
+        Operand::ImplicitUse(r) => r.number() == 2 || is_held_tail_register(r.number()),
+        _ => false,
+    }
+}
+
+/// Whether an argument of a call by a register in tail position, or its callee, may be in the register.
+fn is_held_tail_register(n: u32) -> bool
+    ensures { result ≡ is_held_tail_register n }
+{
+    n == 6 || is_tail_register(n)
+}
+
+/// Whether an argument of a call by a name in tail position may be in the register.
 fn is_tail_register(n: u32) -> bool
     ensures { result ≡ is_tail_register n }
 {

@@ -13,6 +13,7 @@ ghost use Rattle.rv64_instr.specs.Form.{
   fits_copy,
   fits_jump,
   fits_held_call,
+  fits_held_gone,
   fits_held_tail,
 };
 ghost use Rattle.rv64_instr.specs.Decoded.{Shows, ShowsBase};
@@ -125,7 +126,7 @@ fn fields(op: Op, operands: &[Operand], offset: i64, object: u32) -> Option<Mach
         Op::PseudoCall | Op::PseudoTail | Op::NoReturnCall => None,
         Op::PseudoRet => Some(machine_op(WordOp::Jalr, 0, 1, 0, 0)),
         Op::PseudoCallIndirect => Some(of_held_call(operands)),
-        Op::NoReturnCallIndirect => Some(of_held_call(operands)),
+        Op::NoReturnCallIndirect => Some(of_held_gone(operands)),
         Op::PseudoTailIndirect => Some(of_held_tail(operands)),
     }
 }
@@ -294,6 +295,23 @@ fn of_jump(operands: &[Operand], offset: i64) -> MachineOp
 
 fn of_held_call(operands: &[Operand]) -> MachineOp
     requires { IsTrue (fits_held_call operands.now) }
+    ensures { Some result ≡ held_fields 1 (implicit_uses operands.now) }
+{
+    match operands {
+        [Operand::ImplicitUse(r), ..] => {
+            // x2 is no callee
+            if r.number() == 2 {
+                unreachable!()
+            } else {
+                machine_op(WordOp::Jalr, 1, r.number(), 0, 0)
+            }
+        }
+        _ => unreachable!(),
+    }
+}
+
+fn of_held_gone(operands: &[Operand]) -> MachineOp
+    requires { IsTrue (fits_held_gone operands.now) }
     ensures { Some result ≡ held_fields 1 (implicit_uses operands.now) }
 {
     match operands {

@@ -12,13 +12,13 @@ all_by test [] x e (k, lt, at) = absurd (omega (arith, lt))
 all_by test (y ∷ ys) x e (zero, lt, at) = subst (λ (z : ℕ). test z ≡ true) at (and_parts (test y) (list_all test ys) e).0
 all_by test (y ∷ ys) x e (suc k, lt, at) = all_by test ys x (and_parts (test y) (list_all test ys) e).1 (k, omega (arith, lt), at)
 
--- they are physical, and none of x0 to x2
-pub order_real : (reserve scratch : List ℕ) (q : ℕ) → Contains (order_without reserve scratch) q → (2 < q) × (q < 32)
+-- they are physical, and none of x0 to x4
+pub order_real : (reserve scratch : List ℕ) (q : ℕ) → Contains (order_without reserve scratch) q → (4 < q) × (q < 32)
 order_real reserve scratch q c =
     let kept = kept_by (λ r. not (is_among reserve r) && not (is_among scratch r)) ORDER q c in
-    let passes : (nat_lt 2 q && nat_lt q 32) ≡ true = all_by (λ r. nat_lt 2 r && nat_lt r 32) ORDER q refl kept.0 in
-    let parts = and_parts (nat_lt 2 q) (nat_lt q 32) passes in
-    (ltb-true 2 q parts.0, ltb-true q 32 parts.1)
+    let passes : (nat_lt 4 q && nat_lt q 32) ≡ true = all_by (λ r. nat_lt 4 r && nat_lt r 32) ORDER q refl kept.0 in
+    let parts = and_parts (nat_lt 4 q) (nat_lt q 32) passes in
+    (ltb-true 4 q parts.0, ltb-true q 32 parts.1)
 
 contained_all : (P : ℕ → Type 0) (xs : List ℕ) → ((x : ℕ) → Contains xs x → P x) → All P xs
 contained_all P [] h = All-nil P

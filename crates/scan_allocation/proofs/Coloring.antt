@@ -123,7 +123,7 @@ module _ (reserve : List ℕ) (f : Function) (resolve : OperandPair → Option O
       let w = given_gets points order none_held a.intervals r q (given_is r q e).1 in
       record { interval = w.0; gets = w.1; member = w.2; register = w.3 }
 
-  is_real : (r q : ℕ) → given r ≡ Some q → (32 ≤ r) × (2 < q) × (q < 32)
+  is_real : (r q : ℕ) → given r ≡ Some q → (32 ≤ r) × (4 < q) × (q < 32)
   is_real r q e =
       let h = held r q e in
       let virtual = ((a.are.each h.interval).0 h.member).0 in

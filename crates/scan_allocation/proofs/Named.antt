@@ -1,6 +1,6 @@
 -- Code that sets a register names it, or the register is physical; and what calls and returns read is physical.
 use Rattle.std.proofs.Common.{◌≡◌, ◌⊎◌, inl, inr, ℕ, zero, suc, ◌<◌, List, [], ◌∷◌, Contains, None, Bool, true, false, ◌&&◌, ◌||◌}
-use Rattle.std.proofs.Common.{nat_eq, nat_lt, nat_le, refl, subst, arith}
+use Rattle.std.proofs.Common.{nat_lt, nat_le, refl, subst, arith}
 use Rattle.std.specs.List.{list_all}
 use Rattle.std.specs.Prelude.{IsTrue}
 use Rattle.std.proofs.lemmas.Bool.{and_parts, ltb-true, leb-true}
@@ -15,11 +15,11 @@ use Rattle.rv64_instr.specs.declared.operand.Operand.TheVariants.{Def, Use, Impl
 use Rattle.rv64_instr.specs.declared.place.Place.TheVariants.{Register}
 use Rattle.rv64_instr.specs.Arithmetic.{word}
 use Rattle.rv64_instr.specs.DefsAndUses.{caller_saved, reads, sets}
-use Rattle.rv64_instr.specs.Form.{has_form, is_clobbered, is_argument, is_result, is_tail_use, is_tail_register}
+use Rattle.rv64_instr.specs.Form.{has_form, is_clobbered, is_argument, is_last_argument, is_call_register, is_result, is_held_tail_use, is_held_tail_register}
 use Rattle.rv64_instr.specs.Instruction.{Instruction}
 use Rattle.rv64_instr.specs.LocationEffects.{has_implicit_uses, defines_of}
 use Rattle.rv64_instr.specs.Row.{row_by, row_of, immediate_row, object_row, move_row}
-use Rattle.rv64_instr.proofs.Tails.{IsTailRegister, tail_use, tail_callee, tail_low}
+use Rattle.rv64_instr.proofs.Tails.{IsTailRegister, held_tail_use, tail_callee, callee_low, held_callee, last_arguments, held_tail_uses}
 use Rattle.mir_func.specs.declared.item.ItemKind.TheVariants.{Code}
 use Rattle.sem_mir.proofs.Implicit.{implicit}
 use Rattle.sem_mir.proofs.Parts.{defines_row}
@@ -83,18 +83,12 @@ results_small = record {
   of_def = λ r e. cc;
 }
 
-use_small : (r : ℕ) → (r ≡ 2) ⊎ IsTailRegister r → r < 32
+use_small : (r : ℕ) → (r ≡ 2) ⊎ ((r ≡ 6) ⊎ IsTailRegister r) → r < 32
 use_small r (inl two) = omega (arith, two)
-use_small r (inr is) = tail_low r is
+use_small r (inr is) = callee_low r is
 
-callee_small : (r : ℕ) → (nat_eq r 6 || is_tail_register r) ≡ true → r < 32
-callee_small r e = by_callee (tail_callee r e) where
-  by_callee : (r ≡ 6) ⊎ IsTailRegister r → r < 32
-  by_callee (inl six) = omega (arith, six)
-  by_callee (inr is) = tail_low r is
-
-tails_small : IsSmall is_tail_use
-tails_small = record { of_use = λ r e. use_small r (tail_use r e); of_def = λ r e. cc }
+tails_small : IsSmall is_held_tail_use
+tails_small = record { of_use = λ r e. use_small r (held_tail_use r e); of_def = λ r e. cc }
 
 module _ (test : Operand → Bool) (small : IsSmall test) where
   all_small : (os : List Operand) → list_all test os ≡ true → (q : ℕ) → Contains (implicits_in os) q → q < 32
@@ -148,16 +142,16 @@ by_op PseudoBr (Block n ∷ rest) e i q c = cc
 by_op PseudoCall (Symbol name ∷ Mask ∷ rest) e i q c = all_small is_argument arguments_small rest e q c
 by_op PseudoRet os e i q c = all_small is_result results_small os e q c
 by_op PseudoCallIndirect (ImplicitUse r ∷ Mask ∷ rest) e i q c =
-    let w = and_parts (nat_le 5 r && nat_lt r 32) (list_all is_argument rest) e in
-    with_callee r rest (ltb-true r 32 (and_parts (nat_le 5 r) (nat_lt r 32) w.0).1) (λ p k. all_small is_argument arguments_small rest w.1 p k) q c
-by_op PseudoTail (Symbol name ∷ rest) e i q c = all_small is_tail_use tails_small rest e q c
+    let w = and_parts (is_call_register r) (list_all is_argument rest) e in
+    with_callee r rest (held_callee r w.0).1 (λ p k. all_small is_argument arguments_small rest w.1 p k) q c
+by_op PseudoTail (Symbol name ∷ rest) e i q c = all_small is_held_tail_use tails_small rest (held_tail_uses rest e) q c
 by_op PseudoTailIndirect (ImplicitUse r ∷ rest) e i q c =
-    let w = and_parts (nat_eq r 6 || is_tail_register r) (list_all is_tail_use rest) e in
-    with_callee r rest (callee_small r w.0) (λ p k. all_small is_tail_use tails_small rest w.1 p k) q c
-by_op NoReturnCall (Symbol name ∷ Mask ∷ rest) e i q c = all_small is_argument arguments_small rest e q c
+    let w = and_parts (is_held_tail_register r) (list_all is_held_tail_use rest) e in
+    with_callee r rest (callee_low r (tail_callee r w.0)) (λ p k. all_small is_held_tail_use tails_small rest w.1 p k) q c
+by_op NoReturnCall (Symbol name ∷ Mask ∷ rest) e i q c = all_small is_argument arguments_small rest (last_arguments rest e) q c
 by_op NoReturnCallIndirect (ImplicitUse r ∷ Mask ∷ rest) e i q c =
-    let w = and_parts (nat_le 5 r && nat_lt r 32) (list_all is_argument rest) e in
-    with_callee r rest (ltb-true r 32 (and_parts (nat_le 5 r) (nat_lt r 32) w.0).1) (λ p k. all_small is_argument arguments_small rest w.1 p k) q c
+    let w = and_parts (is_call_register r) (list_all is_last_argument rest) e in
+    with_callee r rest (held_callee r w.0).1 (λ p k. all_small is_argument arguments_small rest (last_arguments rest w.1) p k) q c
 by_op _ _ e i q c = cc
 
 -- what implicit operands of a call or a return name is physical

@@ -22,11 +22,11 @@ now_by r (Some given) = given
 abbrev pub now : (given : ℕ → Option ℕ) → ℕ → ℕ
 now given r = now_by r (given r)
 
--- Virtual registers get physical ones, other than x0 to x2. Where code sets a register, each other register that is live after it, unless the code
--- sets that too, is in another place (Chaitin: interference). A copy stays one between two registers. And calls, returns and code that a pass added
--- read no register that gets one
+-- Virtual registers get physical ones that may be allocated, so none of x0 to x4 (RISC-V ELF psABI: gp and tp are unallocatable). Where code
+-- sets a register, each other register that is live after it, unless the code sets that too, is in another place (Chaitin: interference).
+-- A copy stays one between two registers. And calls, returns and code that a pass added read no register that gets one
 pub record IsColoring (g : Program) (given : ℕ → Option ℕ) : Type 0 where
-  pub real : (r q : ℕ) → given r ≡ Some q → (32 ≤ r) × (2 < q) × (q < 32)
+  pub real : (r q : ℕ) → given r ≡ Some q → (32 ≤ r) × (4 < q) × (q < 32)
   pub apart : (p : Pos) (s r : ℕ) → Defines (g.fetch p) (Register s) → (Defines (g.fetch p) (Register r) → ⊥) → LivePast g (Register r) p →
       now given s ≡ now given r → ⊥
   pub copies : (p : Pos) (i : Item) (code : Instruction) (k : Option ℕ) (rd rs : ℕ) → g.fetch p ≡ Here i → i.kind ≡ Code code k →

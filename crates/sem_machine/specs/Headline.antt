@@ -63,5 +63,5 @@ pub record Headline (source : Function) (resolve : OperandPair → Option Operan
       ((s' : State) × AlignsWith (program_of true source.blocks resolve) l since s s' ×
       MachineAgrees (program_of true source.blocks resolve) image lists (machine_start image s0) m s')
       ⊎ FailsBeforeLine (program_of true source.blocks resolve) l since s
-  -- each step of the machine goes on, returns or waits for a reply, whatever the source does
+  -- at each step the machine goes on, its run ends, or it waits for a reply, whatever the source does
   pub stops : (s0 : State) → StartsAt source s0 → (m : Machine) → Comes image (machine_start image s0) m → IsWell (machine_step image m)

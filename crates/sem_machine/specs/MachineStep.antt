@@ -101,9 +101,15 @@ does_word l (Some w) s =
 abbrev pub word_content : Machine → ℕ → ℕ
 word_content s n = place_content (Slot n) s
 
--- the values that a call passes: the contents of its registers, and then of its slots
+-- as many words as slots are passed, from an offset from x2 on: where the callee looks for its arguments on the stack (RISC-V ELF psABI, "Integer
+-- Calling Convention")
+abbrev pub words_from : Machine → (offset : ℕ) → (outgoing : List ℕ) → List ℕ
+words_from s o [] = []
+words_from s o (n ∷ ns) = word_content s o ∷ words_from s (o + 8) ns
+
+-- the values that a call passes: the contents of its registers, and then the words from x2 on
 abbrev pub passed : Machine → CallSite → List ℕ
-passed s call = map (register s) call.args ++ map (word_content s) call.outgoing
+passed s call = map (register s) call.args ++ words_from s 0 call.outgoing
 
 -- a byte that is so far from x2 is in one of the words that a call passes
 abbrev pub in_words : (outgoing : List ℕ) (offset : ℕ) → Bool
@@ -231,7 +237,7 @@ pub data Comes (image : Image) : Machine → Machine → Type 0 where
   there : {s : Machine} → Comes image s s
   steps : {s t u : Machine} → Comes image s t → machine_step image t ≡ Continues u → Comes image s u
 
--- the result is no error: the machine goes on, returns, or waits for a reply
+-- the result is no error: the machine goes on, its run ends, or it waits for a reply
 abbrev pub IsWell : Stepped → Type 0
 IsWell (Continues s) = Unit {0}
 IsWell (Ends results) = Unit {0}

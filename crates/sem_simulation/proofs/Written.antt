@@ -18,7 +18,7 @@ use Rattle.rv64_instr.specs.Arithmetic.{word}
 use Rattle.rv64_instr.specs.Row.{Row, Fixes, Moves, Sets, Addresses, Loads, Stores, LoadsSlot, StoresSlot, Branches, Jumps, Calls, Returns, Unfit, row_of}
 use Rattle.rv64_instr.specs.Row.{row_by, implicit_uses, outgoing_words, move_row, immediate_row, object_row, held_call, held_tail, held_gone}
 use Rattle.rv64_instr.specs.DefsAndUses.{caller_saved, reads, way_reads}
-use Rattle.rv64_instr.proofs.Tails.{tails_low, held_low, arguments_low, held_arguments_low}
+use Rattle.rv64_instr.proofs.Tails.{tails_low, held_low, arguments_low, held_arguments_low, last_arguments, held_gone_calls}
 use Rattle.mir_func.specs.declared.object.Object as stack_object
 use Rattle.mir_func.specs.declared.position.Pos.{Pos}
 use Rattle.mir_func.specs.declared.item.Item.{Item}
@@ -200,9 +200,9 @@ row_physical PseudoCallIndirect os e c = absurd (held_call_goes_on (implicit_use
 row_physical PseudoTail (Symbol name ∷ rest) e c = tails_low rest e
 row_physical PseudoTailIndirect (ImplicitUse r ∷ rest) e c =
     held_tail_physical (implicit_uses (ImplicitUse r ∷ rest)) (held_low r rest e) c
-row_physical NoReturnCall (Symbol name ∷ Mask ∷ rest) e c = arguments_low rest e
+row_physical NoReturnCall (Symbol name ∷ Mask ∷ rest) e c = arguments_low rest (last_arguments rest e)
 row_physical NoReturnCallIndirect (ImplicitUse r ∷ Mask ∷ rest) e c =
-    held_gone_physical (implicit_uses (ImplicitUse r ∷ Mask ∷ rest)) (held_arguments_low r rest e) c
+    held_gone_physical (implicit_uses (ImplicitUse r ∷ Mask ∷ rest)) (held_arguments_low r rest (held_gone_calls (ImplicitUse r ∷ Mask ∷ rest) e)) c
 row_physical _ _ e c = cc
 
 -- so an instruction in its form that returns gives physical registers

@@ -1,5 +1,5 @@
 -- Calls by their operands, and the registers that an answer sets.
-use Rattle.std.proofs.Common.{◌≡◌, ℕ, zero, suc, ◌+◌, ◌%◌, ◌^◌, ◌<◌, ◌≤◌, List, [], ◌∷◌, length, get_or, drop, map, Option, Some, None, Bool, true, false}
+use Rattle.std.proofs.Common.{◌≡◌, ℕ, zero, suc, ◌+◌, ◌%◌, ◌^◌, ◌<◌, List, [], ◌∷◌, length, get_or, drop, map, Option, Some, None, Bool, true, false}
 use Rattle.std.proofs.Common.{cond, nat_eq, nat_lt, IsTrue}
 use Rattle.std.proofs.Common.{◌⊎◌, inl, inr, ◌++◌, append_assoc, refl, sym, ap, ◌∙◌, subst, arith}
 use Rattle.std.specs.List.{All, list_all, cons_option}
@@ -18,9 +18,8 @@ use Rattle.rv64_instr.specs.declared.op.LoadOp.{LoadOp}
 use Rattle.rv64_instr.specs.declared.op.StoreOp.{StoreOp}
 use Rattle.rv64_instr.specs.declared.operand.Operand.{Operand}
 use Rattle.rv64_instr.specs.declared.operand.Operand.TheVariants.{Def, Use, ImplicitDef, ImplicitUse, Imm, Slot, Object, Block, Symbol, Mask, Outgoing}
-use Rattle.std.specs.Prelude.{◌&&◌, nat_le}
 use Rattle.rv64_instr.proofs.Tails.{held_callee}
-use Rattle.rv64_instr.specs.Form.{is_argument, has_form, fits_call, fits_held_call}
+use Rattle.rv64_instr.specs.Form.{is_argument, is_call_register, has_form, fits_call, fits_held_call}
 use Rattle.rv64_instr.specs.Instruction.{Instruction}
 use Rattle.rv64_instr.specs.LocationEffects.{is_call}
 use Rattle.rv64_instr.specs.Row.{Calls, row_of, row_by, implicit_uses, outgoing_words, registers_row, number_row, immediate_row, object_row, add_row}
@@ -29,8 +28,9 @@ use Rattle.rv64_instr.specs.Row.{branch_row, load_row, store_row, copy_row, jump
 use Rattle.rv64_instr.specs.Row.{held_gone, tail_row, gone_row, CallSite, Callee, Named, Held}
 use Rattle.rv64_instr.specs.declared.start.CallEvent.{CallEvent}
 use Rattle.rv64_instr.specs.declared.start.CallTarget.{CallTarget}
-use Rattle.sem_machine.specs.Machine.{Machine, register, set_in, set_all_in}
-use Rattle.sem_machine.specs.MachineStep.{call_of, called_at, passed, word_content}
+use Rattle.sem_mir.specs.State.{spelled}
+use Rattle.sem_machine.specs.Machine.{Machine, register, set_in, set_all_in, address_of}
+use Rattle.sem_machine.specs.MachineStep.{call_of, called_at, passed, word_content, words_from}
 use Rattle.sim_machine.specs.Kept.{StandsFor, calls_in}
 use Rattle.sim_machine.specs.Calls.{event_of}
 use Rattle.sim_machine.specs.declared.hart.Hart.{Hart}
@@ -179,9 +179,8 @@ call_form_of _ t = absurd cc
 -- x2 is no callee
 held_form_of : (operands : List Operand) → IsTrue (fits_held_call operands) → CallForm PseudoCallIndirect operands
 held_form_of (ImplicitUse r ∷ Mask ∷ rest) t =
-    let p = and_parts (nat_le 5 r && nat_lt r 32) (list_all is_argument rest) t in
+    let p = and_parts (is_call_register r) (list_all is_argument rest) t in
     let low = held_callee r p.0 in
-    let above : 5 ≤ r = low.0 in
     record {
       callee = Held r;
       first = ImplicitUse r;
@@ -190,7 +189,7 @@ held_form_of (ImplicitUse r ∷ Mask ∷ rest) t =
       named = refl;
       names = low.1;
       row = ap (λ (b : Bool). held_call (cond b (implicit_uses rest) (r ∷ implicit_uses rest)) (outgoing_words rest))
-          (ne_eqb r 2 (λ two. omega (arith, above, two)));
+          (ne_eqb r 2 low.0);
       low = arguments_low rest p.1;
     }
 held_form_of _ t = absurd cc
@@ -226,7 +225,7 @@ not_empty op operands f e = let l = ap length f.are in omega (arith, l, e)
 pub event_is : (i : Instruction) (f : CallForm i.op i.operands) (first : Operand) (rest : List Operand) (target : CallTarget) (values : List ℕ) (calls : ℕ)
     (h : Hart) (s : Machine) (site : CallSite) → StandsFor h s → first ∷ rest ≡ i.operands →
     ((c : Callee) → callee_named first ≡ Some c → target ≡ called_at s c) →
-    values ≡ map (register s) (implicit_uses rest) ++ map (word_content s) (outgoing_words rest) →
+    values ≡ map (register s) (implicit_uses rest) ++ words_from s 0 (outgoing_words rest) →
     calls ≡ (h.calls + 1) % 2 ^ 64 → call_of (row_of i) ≡ Some site →
     (let made : CallEvent = record { target = target; args = values; number = calls } in made) ≡ event_of site s
 event_is i f first rest target values calls h s site stands are to v n e =
@@ -238,7 +237,7 @@ event_is i f first rest target values calls h s site stands are to v n e =
     let here : first ≡ f.first = cc in
     let called : target ≡ called_at s site.callee = to f.callee (ap callee_named here ∙ f.named) ∙ ap (λ (x : CallSite). called_at s x.callee) same in
     let shows : values ≡ passed s site =
-    v ∙ ap (λ (xs : List Operand). map (register s) (implicit_uses xs) ++ map (word_content s) (outgoing_words xs)) behind ∙ ap (passed s) same in
+    v ∙ ap (λ (xs : List Operand). map (register s) (implicit_uses xs) ++ words_from s 0 (outgoing_words xs)) behind ∙ ap (passed s) same in
     let number : calls ≡ (calls_in s.events + 1) % 2 ^ 64 = omega (arith, n, stands.calls) in
     λ i. record { target = called i; args = shows i; number = number i } where
       one_site : (x y : CallSite) → Some x ≡ Some y → x ≡ y
@@ -301,3 +300,19 @@ value_turn f vs us ws t r e h = append_assoc vs (f r ∷ []) (map f ws) ∙ (ap 
 -- one more call
 pub next_call : (a k : ℕ) → a % 2 ^ 64 ≡ k → suc a % 2 ^ 64 ≡ (k + 1) % 2 ^ 64
 next_call a k e = omega arith
+
+-- words from offsets that are the same modulo 2^64
+words_alike : (s : Machine) (o p : ℕ) (ns : List ℕ) → o % 2 ^ 64 ≡ p % 2 ^ 64 → words_from s o ns ≡ words_from s p ns
+words_alike s o p [] e = refl
+words_alike s o p (n ∷ ns) e =
+    let at : address_of s 2 o ≡ address_of s 2 p = omega (arith, e) in
+    let a = ap (λ (x : ℕ). spelled s.memory x 8) at in
+    let b = words_alike s (o + 8) (p + 8) ns (omega (arith, e)) in
+    λ i. a i ∷ b i
+
+pub word_turn : (s : Machine) (vs us ws t : List ℕ) (o p n : ℕ) → p ≡ (o + 8) % 2 ^ 64 → us ≡ n ∷ ws → vs ++ words_from s o us ≡ t →
+    (vs ++ word_content s o ∷ []) ++ words_from s p ws ≡ t
+word_turn s vs us ws t o p n next e h =
+    append_assoc vs (word_content s o ∷ []) (words_from s p ws)
+    ∙ (ap (λ (xs : List ℕ). vs ++ word_content s o ∷ xs) (words_alike s p (o + 8) ws (omega (arith, next)))
+    ∙ (ap (λ (xs : List ℕ). vs ++ words_from s o xs) (sym e) ∙ h))

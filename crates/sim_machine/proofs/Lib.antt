@@ -5,3 +5,4 @@ pub mod Sites
 pub mod Stepping
 pub mod Listed
 pub mod Linking
+pub mod Words

@@ -1,5 +1,5 @@
 -- Images of machine code.
-use Rattle.std.specs.Prelude.{◌≡◌, ℕ, List, [], ◌∷◌, ◌++◌, drop, Option, Some, None, cond, nat_eq}
+use Rattle.std.specs.Prelude.{◌≡◌, ℕ, suc, List, [], ◌∷◌, ◌++◌, drop, Option, Some, None, cond, nat_eq}
 use Rattle.std.specs.List.{flat_map}
 use Rattle.std.specs.Int.{w32, to_le_bytes}
 use Rattle.rv64_instr.specs.declared.symbol.Symbol.{Symbol}
@@ -91,3 +91,12 @@ pub record ShowsCode (c : LaidCode) (image : Image) : Type 0 where
 abbrev pub entry_at : List EncodedInstruction → (address : ℕ) → Option EncodedInstruction
 entry_at [] a = None
 entry_at (e ∷ es) a = cond (nat_eq e.address a) (Some e) (entry_at es a)
+
+-- the index of an entry, once for each of its words: a call has two
+abbrev pub word_place : (index : ℕ) → EncodedInstruction → List ℕ
+word_place i e = cond e.call (i ∷ i ∷ []) (i ∷ [])
+
+-- the index of the entry of each word. The first of the entries has this index
+abbrev pub word_places : (index : ℕ) → List EncodedInstruction → List ℕ
+word_places i [] = []
+word_places i (e ∷ es) = word_place i e ++ word_places (suc i) es

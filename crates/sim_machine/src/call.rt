@@ -7,7 +7,7 @@ ghost use Rattle.rv64_instr.specs.Row.{CallSite, Callee, row_of, implicit_uses, 
 ghost use Rattle.sem_mir.specs.State.{Reply};
 ghost use Rattle.sem_interpreter.specs.Acts.{reply_of};
 ghost use Rattle.sem_machine.specs.Machine.{Machine, register, set_all_in};
-ghost use Rattle.sem_machine.specs.MachineStep.{call_of, called_at, callee_size, word_content};
+ghost use Rattle.sem_machine.specs.MachineStep.{call_of, called_at, callee_size, words_from};
 ghost use Rattle.sim_machine.specs.Kept.{StandsFor, IsSameFrame};
 ghost use Rattle.sim_machine.specs.Calls.{event_of, after_call};
 ghost use Rattle.sim_machine.specs.steps.Arguments.{argument_of, word_of, callee_named, NamesCallee};
@@ -21,7 +21,7 @@ use rv64_instr::start::{CallEvent, CallResult, CallTarget, Values};
 use std::alloc::{AllocError, Global};
 
 impl Hart {
-    /// The event of a call: what it calls, and the contents of the registers and of the slots that it passes.
+    /// The event of a call: what it calls, and the contents of the registers and the words on the stack that it passes.
     pub fn event(&self, alloc: Global, i: &Instr) -> Result<CallEvent, AllocError>
         requires { is_call (row_of i.now) ≡ true }
         ensures { IfOk result (λ e. (s : Machine) (site : CallSite) → StandsFor self.now s
@@ -59,7 +59,7 @@ impl Hart {
         requires { All (λ r. r < 32) (implicit_uses operands.now) }
         ensures { IfOk result (λ values. (s : Machine) → StandsFor self.now s
             → values ≡ map (register s) (implicit_uses operands.now)
-            ++ map (word_content s) (outgoing_words operands.now)) }
+            ++ words_from s 0 (outgoing_words operands.now)) }
     {
         let mut values = self.arguments(alloc, operands)?;
         let words = self.words(alloc, operands)?;
@@ -67,15 +67,17 @@ impl Hart {
         Ok(values)
     }
 
-    /// The contents of the slots that operands pass.
+    /// The words from x2 on, as many as operands pass slots.
     fn words(&self, alloc: Global, operands: &[Operand]) -> Result<Values, AllocError>
         ensures { IfOk result (λ values. (s : Machine) → StandsFor self.now s
-            → values ≡ map (word_content s) (outgoing_words operands.now)) }
+            → values ≡ words_from s 0 (outgoing_words operands.now)) }
     {
         let mut values = Values::new(alloc);
+        let mut offset: u64 = 0;
         for operand in operands {
-            if let Some(n) = word(operand) {
-                values.push(self.stack_word(n))?;
+            if let Some(_) = word(operand) {
+                values.push(self.word_at(offset))?;
+                offset = offset.wrapping_add(8);
             }
         }
         Ok(values)

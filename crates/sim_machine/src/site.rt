@@ -1,14 +1,14 @@
 //! Entries and instructions by address.
 
-ghost use Rattle.std.specs.Prelude.{◌≡◌, ◌<◌, ◌≤◌, ◌+◌, ◌*◌, ◌^◌, Some, None, Option, true, false, IfSome, IsSome};
-ghost use Rattle.std.specs.Prelude.{MatchOption, cond, is_some, length, slice_index};
+ghost use Rattle.std.specs.Prelude.{◌≡◌, ◌<◌, ◌≤◌, ◌+◌, ◌*◌, ◌^◌, ◌++◌, Some, None, Option, true, false, IfSome, IsSome};
+ghost use Rattle.std.specs.Prelude.{MatchOption, IfOk, OnOk, cond, is_some, length, slice_index};
 ghost use Rattle.rv64_instr.specs.Decoded.{Shows, ShowsWay};
 ghost use Rattle.rv64_instr.specs.LocationEffects.{is_call};
 ghost use Rattle.rv64_instr.specs.Row as row;
 ghost use Rattle.rv64_instr.specs.Row.{Row, CallSite, row_of};
 ghost use Rattle.sem_machine.specs.Image.{Image, word_at};
 ghost use Rattle.sem_machine.specs.MachineStep.{call_of, left_by, callee_size};
-ghost use Rattle.sim_machine.specs.Shown.{ShowsCode, entry_at, entry_call, entry_left};
+ghost use Rattle.sim_machine.specs.Shown.{ShowsCode, entry_at, entry_call, entry_left, word_place, word_places};
 ghost use Rattle.sim_machine.specs.steps.Sites.{instruction_in, TransfersSo};
 
 use emit_code::code::{Code, EncodedInstruction};
@@ -38,15 +38,35 @@ pub enum Transfer {
 }
 
 /// The index of the entry of each word. One that goes to a function of a name has two words.
-pub fn places(alloc: Global, code: &Code) -> Result<Places, AllocError> {
+pub fn places(alloc: Global, code: &Code) -> Result<Places, AllocError>
+    ensures { IfOk result (λ p. p.items ≡ word_places 0 code.now.entries) }
+{
+    let places = places_of(alloc, code.entries.as_slice())?;
+    Ok(places)
+}
+
+/// The index of the entry of each word, of these entries.
+fn places_of(alloc: Global, entries: &[EncodedInstruction]) -> Result<Places, AllocError>
+    ensures { IfOk result (λ p. p.items ≡ word_places 0 entries.now) }
+{
     let mut places = Vec::new(alloc);
-    for (i, entry) in code.entries.as_slice().iter().enumerate() {
-        places.push(i)?;
-        if entry.call {
-            places.push(i)?;
-        }
+    for i in 0..entries.len() {
+        let entry = entries[i];
+        add_place(&mut places, i, entry)?;
     }
     Ok(places)
+}
+
+/// Adds the index of an entry, once for each of its words.
+#[tactic(auto, using(crate::proofs::Words::place_of_call, crate::proofs::Words::place_of_word))]
+fn add_place(places: &mut Places, i: usize, entry: EncodedInstruction) -> Result<(), AllocError>
+    ensures { OnOk result (places.new.items ≡ places.old.items ++ word_place i entry) }
+{
+    places.push(i)?;
+    if entry.call {
+        places.push(i)?;
+    }
+    Ok(())
 }
 
 /// The entry that begins at an address. It is searched for only if it isn't at its probable index.

@@ -79,12 +79,19 @@ impl Hart {
         }
     }
 
-    /// The eight bytes at an offset from x2, that of a slot.
+    /// The eight bytes at an offset from x2, in bytes.
+    pub fn word_at(&self, offset: u64) -> u64
+        ensures { (s : State) → StandsFor self.now s → result ≡ word_content s offset }
+    {
+        let address = self.read(2).wrapping_add(offset);
+        self.memory.spelled(address, 8)
+    }
+
+    /// The eight bytes of a slot, at its offset from x2.
     pub fn stack_word(&self, n: SlotId) -> u64
         ensures { (s : State) → StandsFor self.now s → result ≡ word_content s n }
     {
-        let address = self.read(2).wrapping_add(u64::from(n.number()));
-        self.memory.spelled(address, 8)
+        self.word_at(u64::from(n.number()))
     }
 
     /// The content of a place.

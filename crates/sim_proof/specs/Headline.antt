@@ -29,7 +29,7 @@ pub record ComesAlong (src : Program) (image : Image) (lists : VarId → (addres
       ((s : State) × AlignsWith src l come.since come.aligned s × MachineAgrees src image lists m0 m s) ⊎ FailsBeforeLine src l come.since come.aligned
 
 -- The simulator state represents a state that the machine comes to. The source has come along with the machine or has stopped on a frame fault, and
--- the next machine step continues, returns, or waits for an answer.
+-- at the next step the machine goes on, its run ends, or it waits for an answer.
 pub record IsBeside (src : Program) (image : Image) (lists : VarId → (address : ℕ) → Place → Type 0) (s0 : State) (now : Hart) : Type 0 where
   pub machine : Machine
   pub stands : StandsFor now machine

@@ -1,5 +1,5 @@
 -- Code with other registers has the form of its opcode, as it had before: no form looks at an explicit register's number.
-use Rattle.std.proofs.Common.{◌≡◌, ℕ, List, [], ◌∷◌, map, Bool, ◌&&◌, refl, ap, nat_le, nat_lt, nat_eq, ◌||◌}
+use Rattle.std.proofs.Common.{◌≡◌, ℕ, List, [], ◌∷◌, map, Bool, ◌&&◌, refl, ap}
 use Rattle.std.specs.List.{list_all}
 use Rattle.std.specs.Prelude.{pos}
 use Rattle.rv64_instr.specs.declared.op.Op.{Op}
@@ -11,7 +11,8 @@ use Rattle.rv64_instr.specs.declared.operand.Operand.TheVariants.{Def, Use, Imm,
 use Rattle.rv64_instr.specs.declared.symbol.Half.TheVariants.{Upper, Lower}
 use Rattle.rv64_instr.specs.Arithmetic.{load_width, store_width}
 use Rattle.rv64_instr.specs.Form.{is_within, has_12_bits, is_immediate, is_addi, moves_slot}
-use Rattle.rv64_instr.specs.Form.{is_implicit, is_argument, is_result, has_form, is_tail_use, is_tail_register}
+use Rattle.rv64_instr.specs.Form.{is_implicit, is_argument, is_result, has_form, is_tail_use, is_last_argument}
+use Rattle.rv64_instr.specs.Form.{is_call_register, is_held_tail_register, is_held_tail_use}
 use Rattle.spill_code.specs.Rewrite.{renamed_operand}
 
 module _ (at_use at_def : ℕ → ℕ) where
@@ -33,6 +34,11 @@ module _ (at_use at_def : ℕ → ℕ) where
   argument_same (Use r) = refl
   argument_same _ = refl
 
+  last_same : (o : Operand) → is_last_argument (renamed_operand at_use at_def o) ≡ is_last_argument o
+  last_same (Def r) = refl
+  last_same (Use r) = refl
+  last_same _ = refl
+
   result_same : (o : Operand) → is_result (renamed_operand at_use at_def o) ≡ is_result o
   result_same (Def r) = refl
   result_same (Use r) = refl
@@ -42,6 +48,11 @@ module _ (at_use at_def : ℕ → ℕ) where
   tail_same (Def r) = refl
   tail_same (Use r) = refl
   tail_same _ = refl
+
+  held_tail_same : (o : Operand) → is_held_tail_use (renamed_operand at_use at_def o) ≡ is_held_tail_use o
+  held_tail_same (Def r) = refl
+  held_tail_same (Use r) = refl
+  held_tail_same _ = refl
 
   rest_same : (os : List Operand) → list_all is_implicit (others os) ≡ list_all is_implicit os
   rest_same os = all_same is_implicit implicit_same os
@@ -70,11 +81,11 @@ module _ (at_use at_def : ℕ → ℕ) where
   form_same PseudoCall (Symbol name ∷ Mask ∷ rest) = all_same is_argument argument_same rest
   form_same PseudoRet os = all_same is_result result_same os
   form_same PseudoCallIndirect (ImplicitUse r ∷ Mask ∷ rest) =
-      ap (λ (z : Bool). (nat_le 5 r && nat_lt r 32) && z) (all_same is_argument argument_same rest)
+      ap (λ (z : Bool). is_call_register r && z) (all_same is_argument argument_same rest)
   form_same PseudoTail (Symbol name ∷ rest) = all_same is_tail_use tail_same rest
   form_same PseudoTailIndirect (ImplicitUse r ∷ rest) =
-      ap (λ (z : Bool). (nat_eq r 6 || is_tail_register r) && z) (all_same is_tail_use tail_same rest)
-  form_same NoReturnCall (Symbol name ∷ Mask ∷ rest) = all_same is_argument argument_same rest
+      ap (λ (z : Bool). is_held_tail_register r && z) (all_same is_held_tail_use held_tail_same rest)
+  form_same NoReturnCall (Symbol name ∷ Mask ∷ rest) = all_same is_last_argument last_same rest
   form_same NoReturnCallIndirect (ImplicitUse r ∷ Mask ∷ rest) =
-      ap (λ (z : Bool). (nat_le 5 r && nat_lt r 32) && z) (all_same is_argument argument_same rest)
+      ap (λ (z : Bool). is_call_register r && z) (all_same is_last_argument last_same rest)
   form_same _ _ = refl

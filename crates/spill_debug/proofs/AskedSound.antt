@@ -19,6 +19,7 @@ use Rattle.mir_func.specs.declared.item.ItemKind.{ItemKind}
 use Rattle.mir_func.specs.declared.item.ItemKind.TheVariants.{Code, Mark, Phi}
 use Rattle.mir_func.specs.Exits.{exit_of, IsAlways}
 use Rattle.mir_func.specs.Sound.{AllItems, ids_of, items_of, number_of, code_number, OriginIn, TargetsIn, SlotsIn, PlaceIn, ObjectsIn, LeavesPointer}
+use Rattle.mir_func.specs.Sound.{KindPassesFirst}
 use Rattle.mir_func.proofs.Once.{codes_of}
 use Rattle.mir_func.specs.Positions.{position_of}
 use Rattle.pass_trait.specs.Rule.{item, item_before, first_operand}
@@ -227,6 +228,7 @@ asked_is_sound s k f sound below =
       targets = each_block s (λ kind o. TargetsIn (ids_of f.blocks) kind) (plain s (TargetsIn (ids_of f.blocks)) (λ v m. tt) (λ p n. tt)) k f.blocks
           sound.targets;
       slots = each_block s (λ kind o. SlotsIn f.slots kind) (slots_pass s f.slots) k f.blocks sound.slots;
+      passed = each_block s (λ kind o. KindPassesFirst f.slots kind) (plain s (KindPassesFirst f.slots) (λ v m. tt) (λ p n. tt)) k f.blocks sound.passed;
       objects = each_block s (λ kind o. ObjectsIn f.objects kind) (plain s (ObjectsIn f.objects) (λ v m. tt) (λ p n. tt)) k f.blocks sound.objects;
       pointer = each_block s (λ kind o. LeavesPointer kind) (plain s LeavesPointer (λ v m. tt) (λ p n. tt)) k f.blocks sound.pointer;
       origins = origins_asked s k f.blocks sound.origins;

@@ -17,7 +17,7 @@ use Rattle.mir_func.specs.Objects.{AreLaid}
 use Rattle.mir_func.specs.declared.object.Object.{Object}
 use Rattle.mir_func.specs.Limits.{MAX_BLOCKS, MAX_SLOTS}
 use Rattle.mir_func.specs.Sound.{AreApart, AllItems, ids_of, items_of, number_of, code_number, NumbersOnce, OriginIn, TargetsIn, SlotsIn, ObjectsIn}
-use Rattle.mir_func.specs.Sound.{LeavesPointer}
+use Rattle.mir_func.specs.Sound.{LeavesPointer, KindPassesFirst}
 use Rattle.mir_func.specs.Sound.{IsJumpAtMost, MayFollow, EndsWell, Closes, LastCloses, IsSoundObject, IsSound}
 use Rattle.mir_func.proofs.Checks.{at_get}
 use Rattle.mir_func.proofs.Once.{codes_of, codes_apart, phis_off, once_from, PhiOff, IsCode}
@@ -240,6 +240,7 @@ module _ (Fresh : ℕ → Type 0) where
     pub objects_same : g.objects ≡ f.objects
     pub targets : AllItems (λ i. TargetsIn (ids_of f.blocks) i.kind) g.blocks
     pub slots : AllItems (λ i. SlotsIn g.slots i.kind) g.blocks
+    pub passed : AllItems (λ i. KindPassesFirst g.slots i.kind) g.blocks
     pub objects : AllItems (λ i. ObjectsIn f.objects i.kind) g.blocks
     pub pointer : AllItems (λ i. LeavesPointer i.kind) g.blocks
     pub origins : All (λ b. All (λ i. OriginIn b i.origin) b.items) g.blocks
@@ -258,6 +259,7 @@ module _ (Fresh : ℕ → Type 0) where
         objects_laid = subst AreLaid (sym keeps.objects_same) sound.objects_laid;
         targets = subst (λ (ns : List ℕ). All (λ (b : Block). All (λ (i : Item). TargetsIn ns i.kind) b.items) g.blocks) (sym ids) keeps.targets;
         slots = keeps.slots;
+        passed = keeps.passed;
         objects = subst (λ (os : List Object). All (λ (b : Block). All (λ (i : Item). ObjectsIn os i.kind) b.items) g.blocks) (sym keeps.objects_same)
             keeps.objects;
         pointer = keeps.pointer;

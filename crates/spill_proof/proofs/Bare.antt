@@ -67,7 +67,7 @@ no_goes n (Mark v m) h = refl
 no_goes n (Phi p m) h = refl
 
 module _ (f : Function) where
-  named_bare : (r : ℕ) → is_named (stripped f) r ≡ is_named f r
+  pub named_bare : (r : ℕ) → is_named (stripped f) r ≡ is_named f r
   named_bare r = any_blocks (λ k o. names r k) (record { code = λ i k o. refl; debug = λ k o h. no_names r k h }) f.blocks
 
   bound_bare : (r : ℕ) → is_bound (stripped f) r ≡ is_bound f r
@@ -85,7 +85,7 @@ module _ (f : Function) where
       ap (λ (n : ℕ). list_any (λ (i : Item). goes n i.kind) (items_of (stripped_blocks f.blocks))) (first_bare f.blocks) ∙
       any_blocks (λ k o. goes (first_of f.blocks) k) (record { code = λ i k o. refl; debug = λ k o h. no_goes (first_of f.blocks) k h }) f.blocks
 
-  scratch_bare : scratch_of (stripped f) ≡ scratch_of f
+  pub scratch_bare : scratch_of (stripped f) ≡ scratch_of f
   scratch_bare i = take 2 (filter (λ (r : ℕ). not (named_bare r i)) (5 ∷ 6 ∷ 7 ∷ 28 ∷ 29 ∷ 30 ∷ 31 ∷ []))
 
   module _ (reserve : List ℕ) (live : ℕ → Bool) where

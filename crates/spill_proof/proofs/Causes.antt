@@ -36,11 +36,11 @@ use Rattle.spill_proof.specs.Causes.{spilling_of_all, LossesHaveCauses, NewSlots
 
 -- ---- slots
 
-in_left : (xs ys : List ℕ) (n : ℕ) → Contains ys n → Contains (xs ++ ys) n
+pub in_left : (xs ys : List ℕ) (n : ℕ) → Contains ys n → Contains (xs ++ ys) n
 in_left [] ys n k = k
 in_left (x ∷ xs) ys n k = let w = in_left xs ys n k in (suc w.0, (let lt = w.1 in omega (arith, lt)), w.2)
 
-home_slot : (m : ℕ) (rs : List ℕ) (r n : ℕ) → slot_of (homes_from m rs) r ≡ Some n →
+pub home_slot : (m : ℕ) (rs : List ℕ) (r n : ℕ) → slot_of (homes_from m rs) r ≡ Some n →
     Contains (map (λ (h : SlotAssignment). h.slot) (homes_from m rs)) n × (m ≤ n)
 home_slot m [] r n e = (let bad : ◌≡◌ {A = Option ℕ} None (Some n) = e in cc)
 home_slot m (q ∷ rs) r n e = by_test (nat_eq q r) e (home_slot (m + 1) rs r n) where
@@ -50,7 +50,7 @@ home_slot m (q ∷ rs) r n e = by_test (nat_eq q r) e (home_slot (m + 1) rs r n)
   by_test true is more = let same : m ≡ n = cc in ((0, omega arith, same), omega (arith, same))
   by_test false is more = let w = more is in let k = w.0 in ((suc k.0, (let lt = k.1 in omega (arith, lt)), k.2), (let le = w.1 in omega (arith, le)))
 
-below : (ns : List ℕ) (n : ℕ) → Contains ns n → n < next_slot ns
+pub below : (ns : List ℕ) (n : ℕ) → Contains ns n → n < next_slot ns
 below ns n (k, lt, e) = below_next ns k n (slice_get-get_or ns k n lt ∙ ap Some e)
 
 module _ (reserve : List ℕ) (live : ℕ → Bool) (k : ℕ) (f : Function) where

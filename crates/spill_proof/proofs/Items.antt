@@ -17,7 +17,7 @@ use Rattle.mir_func.specs.declared.position.Pos.{Pos}
 use Rattle.mir_func.specs.declared.variable.MarkValue.TheVariants.{Nothing, Constant, At, Pair}
 use Rattle.mir_func.specs.declared.variable.VarId.{VarId}
 use Rattle.mir_func.specs.Function.{Function}
-use Rattle.mir_func.specs.Graph.{Here, below}
+use Rattle.mir_func.specs.Graph.{below}
 use Rattle.mir_func.specs.Positions.{position_of}
 use Rattle.sem_mir.specs.Align.{is_code}
 use Rattle.pass_trait.specs.declared.loss.Loss.{Loss}
@@ -28,62 +28,33 @@ use Rattle.pass_trait.specs.Debug.{RegisterStays, Becomes, mark_stays, phi_stays
 use Rattle.pass_trait.specs.Debug.{mark_spilled, phi_spilled}
 use Rattle.pass_trait.specs.Debug.{BecomeAll, next, added_before, added_after}
 use Rattle.pass_trait.specs.Rule.{Rule, item, item_before, first_operand, number_lost, mark_lost, StandsAt}
-use Rattle.pass_trait.specs.Sizes.{greatest_number}
 use Rattle.spill_code.specs.declared.spilling.SlotAssignment.{SlotAssignment}
 use Rattle.spill_code.specs.declared.spilling.Spilling.{Spilling}
 use Rattle.spill_code.specs.Rewrite.{slot_of, first_used, other_used, first_defined, spilled_code, load, store, added, loads, two_loads, stores, code_items}
 use Rattle.spill_code.specs.Rewrite.{place_in, spilled_place, spilled_item, spilled_items}
 use Rattle.spill_debug.specs.RewrittenDebugItems.{is_scratch, value_left, place_left, mark_asked, kind_asked}
 use Rattle.spill_debug.specs.Lost.{LosesScratch, is_silent}
-use Rattle.spill_rule.specs.Choice.{homes_of, first_scratch, second_scratch, spilling_of}
-use Rattle.pass_trait.specs.Causes.{scratch_of, IsMore}
-use Rattle.spill_rule.specs.Rule.{Decides}
-use Rattle.spill_proof.specs.Step.{AsksForHome, number_at, spill_debug}
-use Rattle.spill_proof.proofs.Agree.{homes_same}
+use Rattle.pass_trait.specs.Causes.{IsMore}
+use Rattle.spill_proof.specs.Step.{AsksForHome, number_at}
+use Rattle.spill_proof.proofs.Ruled.{IsRuled}
 use Rattle.spill_proof.proofs.More.{count, Grows, Adds, one_added, more_loaded, more_behind_code}
 
-module _ (reserve : List ℕ) (live : ℕ → Bool) (f : Function) (subs : List DebugSubstitution) (new : Function) (decides : Decides reserve f live) where
+module _ (rule : Rule) (f : Function) (subs : List DebugSubstitution) (new : Function) (s : Spilling) (first : ℕ)
+    (ruled : IsRuled rule (change f subs new subs) s first) where
   abbrev pub c : Change
   c = change f subs new subs
 
-  abbrev pub rule : Rule
-  rule = spill_debug reserve
-
-  abbrev pub s : Spilling
-  s = spilling_of reserve live f
-
   abbrev homes : List SlotAssignment
-  homes = homes_of reserve live f
+  homes = s.homes
 
-  same_choice : (live' : ℕ → Bool) → Decides reserve f live' → spilling_of reserve live' f ≡ s
-  same_choice live' d i = record {
-    first = first_scratch (scratch_of f);
-    second = second_scratch (scratch_of f);
-    homes = homes_same reserve f live' live d decides i;
-  }
-
-  same_item : (at : Pos) (x y : Item) → StandsAt f at x → StandsAt f at y → x ≡ y
-  same_item at x y h k = (let e : Here x ≡ Here y = sym h ∙ k in cc)
-
-  -- what the item at a place loses, it loses by its kind
   loses_by : (at : Pos) (x : ItemKind) (o : Origin) (l : Loc) (loss : Loss) → StandsAt f at (item x o l) → rule.loses c at loss → LosesScratch s x o loss
-  loses_by at x o l loss there (live', h) =
-      let is : h.item ≡ item x o l = same_item at h.item (item x o l) h.stands there in
-      subst (λ (t : Spilling). LosesScratch t x o loss) (same_choice live' h.decides)
-      (subst (λ (i : Item). LosesScratch (spilling_of reserve live' f) i.kind i.origin loss) is h.lost)
+  loses_by = ruled.loses_by
 
   no_number : (at : Pos) (x : ItemKind) (o : Origin) (l : Loc) → StandsAt f at (item x o l) → (AsksForHome homes x → ⊥) → (n : ℕ) → rule.numbers c at n → ⊥
-  no_number at x o l there none n (live', h) =
-      let is : h.item ≡ item x o l = same_item at h.item (item x o l) h.stands there in
-      none (subst (λ (hs : List SlotAssignment). AsksForHome hs x) (homes_same reserve f live' live h.decides decides)
-      (subst (λ (i : Item). AsksForHome (homes_of reserve live' f) i.kind) is h.asks))
+  no_number = ruled.no_number
 
-  pub register_stays : (r : ℕ) → slot_of homes r ≡ None → RegisterStays rule c r
-  register_stays r none = (
-    λ slot (live', d, e). (let bad : ◌≡◌ {A = Option ℕ} None (Some slot) = sym none ∙
-        ap (λ (hs : List SlotAssignment). slot_of hs r) (sym (homes_same reserve f live' live d decides)) ∙ e in cc),
-    λ now h. h,
-  )
+  register_stays : (r : ℕ) → slot_of homes r ≡ None → RegisterStays rule c r
+  register_stays = ruled.register_stays
 
   -- ---- code
 
@@ -98,10 +69,10 @@ module _ (reserve : List ℕ) (live : ℕ → Bool) (f : Function) (subs : List 
       p : Pos
       p = position_of y.origin
 
-      first : Item
-      first = added p (load s.first k)
+      head : Item
+      head = added p (load s.first k)
 
-      by_second : (z : Option ℕ) → Adds c (first ∷ loads p s.second z) → Rest m zs (first ∷ (loads p s.second z ++ (y ∷ ys)))
+      by_second : (z : Option ℕ) → Adds c (head ∷ loads p s.second z) → Rest m zs (head ∷ (loads p s.second z ++ (y ∷ ys)))
       by_second None grows = added_before {y = y} code (grows (Before p) (one_added p (load s.first k) [])) h
       by_second (Some j) grows =
           let second : Item = added p (load s.second j) in
@@ -144,10 +115,10 @@ module _ (reserve : List ℕ) (live : ℕ → Bool) (f : Function) (subs : List 
     module _ (some : homes ≡ [] → ⊥) where
       -- what is lost of the item that stands there
       silenced : (x : ItemKind) (o : Origin) (l : Loc) (loss : Loss) → StandsAt f at (item x o l) → LosesScratch s x o loss → rule.loses c at loss
-      silenced x o l loss there lost = (live, record { decides = decides; some = some; item = item x o l; stands = there; lost = lost })
+      silenced x o l loss there lost = ruled.silenced some at x o l loss there lost
 
       spilled_at : (r slot : ℕ) → slot_of homes r ≡ Some slot → rule.spills c r slot
-      spilled_at r slot e = (live, decides, e)
+      spilled_at r slot e = ruled.spilled_at r slot e
 
       mark_by : (v : VarId) (r : ℕ) (o : Origin) (l : Loc) (z : Bool) → is_scratch s r ≡ z → slot_of homes r ≡ None → StandsAt f at (item (Mark v (At r)) o l) →
           Becomes rule c at (item (Mark v (At r)) o l) (item (Mark v (cond z Nothing (At r))) o l ∷ [])
@@ -174,12 +145,12 @@ module _ (reserve : List ℕ) (live : ℕ → Bool) (f : Function) (subs : List 
             by_home (Some slot) is = phi_spilled kept (spilled_at r slot is)
 
       mark_two : (v : VarId) (r slot k : ℕ) (o : Origin) (l : Loc) → slot_of homes r ≡ Some slot → StandsAt f at (item (Mark v (At r)) o l) →
-          k ≡ number_at homes (greatest_number f subs + 1) f.blocks at →
+          k ≡ number_at homes first f.blocks at →
           Becomes rule c at (item (Mark v (At r)) o l) (item_before (Phi (Some (Slot slot)) k) o ∷ item (Mark v (Pair (first_operand k))) o l ∷ [])
       mark_two v r slot k o l is there number = mark_spilled
           (λ why h. (let w = loses_by at (Mark v (At r)) o l (mark_lost o why) there h in let bad : true ≡ false = sym w.0 ∙ ap (is_silent s r) is in cc))
           (spilled_at r slot is)
-          (live, record { decides = decides; item = item (Mark v (At r)) o l; stands = there; asks = (slot, is); is = number })
+          (ruled.numbered at (Mark v (At r)) o l k there (slot, is) number)
 
       -- ---- all
 
@@ -193,7 +164,7 @@ module _ (reserve : List ℕ) (live : ℕ → Bool) (f : Function) (subs : List 
 
       mark_all : (v : VarId) (r k : ℕ) (home : Option ℕ) (o : Origin) (l : Loc) (ys : List Item) → slot_of homes r ≡ home → StandsAt f at
           (item (Mark v (At r)) o l) →
-          k ≡ number_at homes (greatest_number f subs + 1) f.blocks at → Rest (suc n) xs ys →
+          k ≡ number_at homes first f.blocks at → Rest (suc n) xs ys →
           Rest n (item (Mark v (At r)) o l ∷ xs) (spilled_items s (mark_asked s k v r home o l) ++ ys)
       mark_all v r k None o l ys is there number rest =
           one_all (Mark v (At r)) o l (item (Mark v (value_left s r)) o l) ys (mark_by v r o l (is_scratch s r) refl is there) rest
@@ -219,7 +190,7 @@ module _ (reserve : List ℕ) (live : ℕ → Bool) (f : Function) (subs : List 
           (phi_stays (λ why h. loses_by at (Phi (Some (Const z)) k) o l (number_lost k why) there h) tt) rest
 
       pub kind_all : (k : ℕ) (x : ItemKind) (o : Origin) (l : Loc) (ys : List Item) → StandsAt f at (item x o l) →
-          k ≡ number_at homes (greatest_number f subs + 1) f.blocks at → Grows c (spilled_items s (kind_asked s k x o l)) (item x o l ∷ []) →
+          k ≡ number_at homes first f.blocks at → Grows c (spilled_items s (kind_asked s k x o l)) (item x o l ∷ []) →
           Rest (suc n) xs ys → Rest n (item x o l ∷ xs) (spilled_items s (kind_asked s k x o l) ++ ys)
       kind_all k (Code i m) o l ys there number more rest =
           let x : Item = item (Code i m) o l in

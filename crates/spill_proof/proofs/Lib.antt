@@ -23,6 +23,7 @@ pub mod Alive
 pub mod Made
 pub mod Agree
 pub mod Places
+pub mod Ruled
 pub mod Items
 pub mod Blocks
 pub mod Standing

@@ -13,7 +13,7 @@ use Rattle.mir_func.specs.declared.variable.MarkValue.{MarkValue}
 use Rattle.mir_func.specs.declared.variable.MarkValue.TheVariants.{Nothing, Constant, At, Pair}
 use Rattle.mir_func.specs.declared.variable.VarId.{VarId}
 use Rattle.mir_func.specs.Function.{Function}
-use Rattle.mir_func.specs.Sound.{AllItems, ids_of, OriginIn, TargetsIn, SlotsIn, ObjectsIn, LeavesPointer, IsSound}
+use Rattle.mir_func.specs.Sound.{AllItems, ids_of, OriginIn, TargetsIn, SlotsIn, ObjectsIn, LeavesPointer, IsSound, KindPassesFirst}
 use Rattle.pass_trait.specs.Rule.{item, item_before, first_operand}
 use Rattle.spill_code.specs.declared.spilling.Spilling.{Spilling}
 use Rattle.spill_code.specs.Rewrite.{slot_of}
@@ -139,6 +139,7 @@ module _ (least : ℕ) where
         objects_same = refl;
         targets = back_blocks (TargetsIn (ids_of g.blocks)) (λ v m. tt) fs g.blocks rel sound.targets;
         slots = back_blocks (SlotsIn g.slots) (λ v m. tt) fs g.blocks rel sound.slots;
+        passed = back_blocks (KindPassesFirst g.slots) (λ v m. tt) fs g.blocks rel sound.passed;
         objects = back_blocks (ObjectsIn g.objects) (λ v m. tt) fs g.blocks rel sound.objects;
         pointer = back_blocks LeavesPointer (λ v m. tt) fs g.blocks rel sound.pointer;
         origins = back_origins fs g.blocks rel sound.origins;

@@ -36,7 +36,7 @@ use Rattle.spill_proof.proofs.Physical.{real_blocks, real_all_asked}
 
 -- ---- registers
 
-low_candidate : (r : ℕ) → Contains CANDIDATES r → r < 32
+pub low_candidate : (r : ℕ) → Contains CANDIDATES r → r < 32
 low_candidate r (zero, lt, e) = (let w : 5 ≡ r = e in omega (arith, w))
 low_candidate r (suc zero, lt, e) = (let w : 6 ≡ r = e in omega (arith, w))
 low_candidate r (suc (suc zero), lt, e) = (let w : 7 ≡ r = e in omega (arith, w))
@@ -46,15 +46,15 @@ low_candidate r (suc (suc (suc (suc (suc zero)))), lt, e) = (let w : 30 ≡ r = 
 low_candidate r (suc (suc (suc (suc (suc (suc zero))))), lt, e) = (let w : 31 ≡ r = e in omega (arith, w))
 low_candidate r (suc (suc (suc (suc (suc (suc (suc k)))))), lt, e) = absurd (omega (arith, lt))
 
-low_first : (xs : List ℕ) → ((r : ℕ) → Contains xs r → r < 32) → first_scratch xs < 32
+pub low_first : (xs : List ℕ) → ((r : ℕ) → Contains xs r → r < 32) → first_scratch xs < 32
 low_first [] low = omega arith
 low_first (a ∷ rest) low = low a (0, omega arith, refl)
 
-low_second : (xs : List ℕ) → ((r : ℕ) → Contains xs r → r < 32) → second_scratch xs < 32
+pub low_second : (xs : List ℕ) → ((r : ℕ) → Contains xs r → r < 32) → second_scratch xs < 32
 low_second [] low = omega arith
 low_second (a ∷ rest) low = low_first rest (λ r k. low r (suc k.0, (let lt = k.1 in omega (arith, lt)), k.2))
 
-low_scratch : (f : Function) (r : ℕ) → Contains (scratch_of f) r → r < 32
+pub low_scratch : (f : Function) (r : ℕ) → Contains (scratch_of f) r → r < 32
 low_scratch f r k =
     let free : List ℕ = filter (λ (q : ℕ). not (is_named f q)) CANDIDATES in
     low_candidate r (kept_by (λ q. not (is_named f q)) CANDIDATES r (from_take 2 free r k)).0
@@ -118,13 +118,21 @@ once a b le = omega (arith, le)
 none_more : (a b : ℕ) → a ≤ 0 + b → a ≤ b
 none_more a b le = omega (arith, le)
 
-module _ (reserve : List ℕ) (live : ℕ → Bool) (f : Function) (subs : List DebugSubstitution) (real : (r : ℕ) → Contains reserve r → IsReservable r) where
-  abbrev s : Spilling
-  s = spilling_of reserve live f
+-- a function that stays as it is
+pub stays_sizes : (f : Function) (subs : List DebugSubstitution) → KeepsSizes 4 1 (change f subs f subs)
+stays_sizes f subs = record {
+  items = stays_items (length (items_of f.blocks));
+  code = stays_items (count_by (λ (i : Item). is_code i.kind) (items_of f.blocks));
+  calls = omega arith;
+  physical = λ h. h;
+  numbers = stays_numbers (greatest_number f subs) (length (items_of f.blocks));
+  slots = omega arith;
+}
 
-  abbrev entry : List SlotAssignment
-  entry = entry_of live (homes_of reserve live f)
-
+-- registers in new slots: their homes, the stores at the function's start, and the scratch registers
+module _ (s : Spilling) (entry : List SlotAssignment) (rs : List ℕ) (f : Function) (subs : List DebugSubstitution)
+    (homes_are : s.homes ≡ homes_from (next_slot f.slots) rs) (few : length rs ≤ MAX_SLOTS) (few_entry : length entry ≤ MAX_SLOTS)
+    (entry_real : All (λ (h : SlotAssignment). h.register < 32) entry) (first_low : s.first < 32) (second_low : s.second < 32) where
   abbrev k : ℕ
   k = greatest_number f subs + 1
 
@@ -133,21 +141,6 @@ module _ (reserve : List ℕ) (live : ℕ → Bool) (f : Function) (subs : List 
 
   abbrev ys : List Item
   ys = items_of (spilled_blocks s entry (blocks_asked s k f.blocks))
-
-  few_homes : length (homes_of reserve live f) ≤ MAX_SLOTS
-  few_homes = few_of (length f.slots + length f.objects) (length (candidates reserve live f)) (length (homes_of reserve live f))
-      (sym (length-map (homes_of reserve live f) (λ (h : SlotAssignment). h.slot)) ∙ how_many reserve live f)
-
-  few_entry : length entry ≤ MAX_SLOTS
-  few_entry = le_on (length entry) (length (homes_of reserve live f)) MAX_SLOTS (fewer (λ h. live h.register) (homes_of reserve live f)) few_homes
-
-  chosen_real : (r : ℕ) → Contains (chosen reserve live f) r → r < 32
-  chosen_real r c = reservable_real r (real r
-      (kept_by (λ r. is_named f r && is_free (reason_of f live r)) reserve r (from_take (room f) (candidates reserve live f) r c)).0)
-
-  entry_real : All (λ (h : SlotAssignment). h.register < 32) entry
-  entry_real = All-filter (λ (h : SlotAssignment). live h.register) (λ (h : SlotAssignment). h.register < 32) (homes_of reserve live f)
-      (low_homes (next_slot f.slots) (chosen reserve live f) chosen_real)
 
   items_most : length ys ≤ MAX_SLOTS + 4 * length xs
   items_most =
@@ -182,39 +175,58 @@ module _ (reserve : List ℕ) (live : ℕ → Bool) (f : Function) (subs : List 
       subst (λ (n : ℕ). n ≤ greatest (nums xs ++ entries) + most_numbers 4 1 f) (sym now)
       (subst (λ (n : ℕ). max (top ys) (greatest entries) ≤ n + most_numbers 4 1 f) (sym old) h)
 
-  slots_most : greatest (f.slots ++ map (λ (h : SlotAssignment). h.slot) (homes_of reserve live f)) ≤ greatest f.slots + MAX_SLOTS * 1
+  slots_by : greatest (f.slots ++ map (λ (h : SlotAssignment). h.slot) (homes_from (next_slot f.slots) rs)) ≤ greatest f.slots + MAX_SLOTS * 1
+  slots_by =
+      subst (λ (n : ℕ). n ≤ greatest f.slots + MAX_SLOTS * 1)
+      (sym (greatest_append f.slots (map (λ (h : SlotAssignment). h.slot) (homes_from (next_slot f.slots) rs))))
+      (more_slots (greatest f.slots) (greatest (map (λ (h : SlotAssignment). h.slot) (homes_from (next_slot f.slots) rs))) (next_slot f.slots) (length rs)
+      (slots_top (next_slot f.slots) rs) (next_most f.slots) few)
+
+  slots_most : greatest (f.slots ++ map (λ (h : SlotAssignment). h.slot) s.homes) ≤ greatest f.slots + MAX_SLOTS * 1
   slots_most =
-      subst (λ (n : ℕ). n ≤ greatest f.slots + MAX_SLOTS * 1) (sym (greatest_append f.slots (map (λ (h : SlotAssignment). h.slot) (homes_of reserve live f))))
-      (more_slots (greatest f.slots) (greatest (map (λ (h : SlotAssignment). h.slot) (homes_of reserve live f))) (next_slot f.slots) (length
-      (chosen reserve live f))
-      (slots_top (next_slot f.slots) (chosen reserve live f)) (next_most f.slots)
-      (subst (λ (n : ℕ). n ≤ MAX_SLOTS) (long_homes (next_slot f.slots) (chosen reserve live f)) few_homes))
+      subst (λ (hs : List SlotAssignment). greatest (f.slots ++ map (λ (h : SlotAssignment). h.slot) hs) ≤ greatest f.slots + MAX_SLOTS * 1) (sym homes_are)
+      slots_by
 
   spilled_sizes : KeepsSizes 4 1 (change f subs (spilled_by s entry k f) subs)
   spilled_sizes = record {
     items = most_items (length ys) (length xs) 0 items_most;
     code = most_items (count_by (λ (i : Item). is_code i.kind) ys) (count_by (λ (i : Item). is_code i.kind) xs) 0 code_most;
     calls = calls_most;
-    physical = λ h. real_blocks s (low_first (scratch_of f) (low_scratch f)) (low_second (scratch_of f) (low_scratch f)) entry entry_real
-        (blocks_asked s k f.blocks)
-        (real_all_asked s (low_first (scratch_of f) (low_scratch f)) (low_second (scratch_of f) (low_scratch f)) k f.blocks h);
+    physical = λ h. real_blocks s first_low second_low entry entry_real (blocks_asked s k f.blocks) (real_all_asked s first_low second_low k f.blocks h);
     numbers = numbers_most;
     slots = slots_most;
   }
 
-  same_sizes : KeepsSizes 4 1 (change f subs f subs)
-  same_sizes = record {
-    items = stays_items (length xs);
-    code = stays_items (count_by (λ (i : Item). is_code i.kind) xs);
-    calls = omega arith;
-    physical = λ h. h;
-    numbers = stays_numbers (greatest_number f subs) (length xs);
-    slots = omega arith;
-  }
-
-  sizes_by : (hs : List SlotAssignment) → KeepsSizes 4 1 (change f subs (where_spilled hs f (spilled_by s entry k f)) subs)
-  sizes_by [] = same_sizes
+  pub sizes_by : (hs : List SlotAssignment) → KeepsSizes 4 1 (change f subs (where_spilled hs f (spilled_by s entry k f)) subs)
+  sizes_by [] = stays_sizes f subs
   sizes_by (h ∷ hs) = spilled_sizes
 
+-- ---- spilling
+
+module _ (reserve : List ℕ) (live : ℕ → Bool) (f : Function) (real : (r : ℕ) → Contains reserve r → IsReservable r) where
+  abbrev entry_homes : List SlotAssignment
+  entry_homes = entry_of live (homes_of reserve live f)
+
+  few_homes : length (homes_of reserve live f) ≤ MAX_SLOTS
+  few_homes = few_of (length f.slots + length f.objects) (length (candidates reserve live f)) (length (homes_of reserve live f))
+      (sym (length-map (homes_of reserve live f) (λ (h : SlotAssignment). h.slot)) ∙ how_many reserve live f)
+
+  few_stored : length entry_homes ≤ MAX_SLOTS
+  few_stored = le_on (length entry_homes) (length (homes_of reserve live f)) MAX_SLOTS (fewer (λ h. live h.register) (homes_of reserve live f)) few_homes
+
+  chosen_real : (r : ℕ) → Contains (chosen reserve live f) r → r < 32
+  chosen_real r c = reservable_real r (real r
+      (kept_by (λ r. is_named f r && is_free (reason_of f live r)) reserve r (from_take (room f) (candidates reserve live f) r c)).0)
+
+  stored_real : All (λ (h : SlotAssignment). h.register < 32) entry_homes
+  stored_real = All-filter (λ (h : SlotAssignment). live h.register) (λ (h : SlotAssignment). h.register < 32) (homes_of reserve live f)
+      (low_homes (next_slot f.slots) (chosen reserve live f) chosen_real)
+
+  few_chosen : length (chosen reserve live f) ≤ MAX_SLOTS
+  few_chosen = subst (λ (n : ℕ). n ≤ MAX_SLOTS) (long_homes (next_slot f.slots) (chosen reserve live f)) few_homes
+
 pub whole_keeps_sizes : WholeKeepsSizes
-whole_keeps_sizes reserve live f subs real = sizes_by reserve live f subs real (homes_of reserve live f)
+whole_keeps_sizes reserve live f subs real =
+    sizes_by (spilling_of reserve live f) (entry_of live (homes_of reserve live f)) (chosen reserve live f) f subs refl (few_chosen reserve live f real)
+    (few_stored reserve live f real) (stored_real reserve live f real) (low_first (scratch_of f) (low_scratch f))
+    (low_second (scratch_of f) (low_scratch f)) (homes_of reserve live f)

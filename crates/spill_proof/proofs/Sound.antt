@@ -14,7 +14,7 @@ use Rattle.rv64_instr.specs.declared.place.Place.TheVariants.{Register, Slot, Co
 use Rattle.rv64_instr.specs.DefsAndUses.{caller_saved, reads, sets}
 use Rattle.rv64_instr.specs.Instruction.{Instruction}
 use Rattle.rv64_instr.specs.LocationEffects.{has_implicit_uses, names_slot}
-use Rattle.rv64_instr.specs.Row.{Row, Addresses, Loads, Stores, LoadsSlot, StoresSlot, Branches, Jumps, Returns, Unfit, row_of}
+use Rattle.rv64_instr.specs.Row.{Row, Calls, Addresses, Loads, Stores, LoadsSlot, StoresSlot, Branches, Jumps, Returns, Unfit, row_of}
 use Rattle.rv64_instr.specs.Row.{Base, PointedBy, ObjectAt, BesidePart}
 use Rattle.mir_func.specs.declared.debug_substitution.OperandPair.{OperandPair}
 use Rattle.mir_func.specs.declared.exit.Exit.TheVariants.{Onward}
@@ -33,8 +33,9 @@ use Rattle.mir_func.specs.Limits.{MAX_SLOTS}
 use Rattle.mir_func.specs.declared.variable.VarId.{VarId}
 use Rattle.mir_func.specs.declared.variable.MarkValue.{MarkValue}
 use Rattle.mir_func.specs.Graph.{below, block_start}
+use Rattle.mir_func.proofs.Passed.{passes_longer}
 use Rattle.mir_func.specs.Sound.{AreApart, AllItems, ids_of, number_of, code_number, OriginIn, TargetIn, TargetsIn, SlotIn, PassedIn, SlotsIn, PlaceIn}
-use Rattle.mir_func.specs.Sound.{BaseHasBytes, ObjectIn, ObjectsIn, IsNotPointer, LeavesPointer, IsSound}
+use Rattle.mir_func.specs.Sound.{BaseHasBytes, ObjectIn, ObjectsIn, IsNotPointer, LeavesPointer, IsSound, PassesFirst, KindPassesFirst}
 use Rattle.mir_func.specs.Positions.{position_of}
 use Rattle.pass_trait.specs.Rule.{item}
 use Rattle.spill_code.specs.declared.spilling.SlotAssignment.{SlotAssignment}
@@ -59,15 +60,19 @@ exit_renamed u d (Branches op a b t) = refl
 exit_renamed u d (Jumps t) = refl
 exit_renamed u d _ = refl
 
-target_renamed : (u d : ℕ → ℕ) (ids : List ℕ) (r : Row) → TargetIn ids r → TargetIn ids (renamed_row u d r)
+pub target_renamed : (u d : ℕ → ℕ) (ids : List ℕ) (r : Row) → TargetIn ids r → TargetIn ids (renamed_row u d r)
 target_renamed u d ids (Branches op a b t) h = h
 target_renamed u d ids (Jumps t) h = h
 target_renamed u d ids _ h = tt
 
-slot_renamed : (u d : ℕ → ℕ) (slots : List ℕ) (r : Row) → SlotIn slots r → SlotIn slots (renamed_row u d r)
+pub slot_renamed : (u d : ℕ → ℕ) (slots : List ℕ) (r : Row) → SlotIn slots r → SlotIn slots (renamed_row u d r)
 slot_renamed u d slots (LoadsSlot rd n) h = h
 slot_renamed u d slots (StoresSlot rs n) h = h
 slot_renamed u d slots _ h = tt
+
+pub first_renamed : (u d : ℕ → ℕ) (slots : List ℕ) (r : Row) → PassesFirst slots r → PassesFirst slots (renamed_row u d r)
+first_renamed u d slots (Calls call) h = h
+first_renamed u d slots _ h = tt
 
 slot_more : (slots more : List ℕ) (r : Row) → SlotIn slots r → SlotIn (slots ++ more) r
 slot_more slots more (LoadsSlot rd n) h = Contains-append_left slots more n h
@@ -79,7 +84,7 @@ base_renamed u d os (PointedBy r) n h = tt
 base_renamed u d os (ObjectAt m) n h = h
 base_renamed u d os (BesidePart r y) n h = tt
 
-object_renamed : (u d : ℕ → ℕ) (os : List Object) (r : Row) → ObjectIn os r → ObjectIn os (renamed_row u d r)
+pub object_renamed : (u d : ℕ → ℕ) (os : List Object) (r : Row) → ObjectIn os r → ObjectIn os (renamed_row u d r)
 object_renamed u d os (Addresses rd n offset) h = h
 object_renamed u d os (Loads rd op base offset) h = base_renamed u d os base _ h
 object_renamed u d os (Stores op rs base offset) h = base_renamed u d os base _ h
@@ -411,6 +416,18 @@ module _ (s : Spilling) (entry : List SlotAssignment) (f : Function) (resolve : 
     phis = λ b p n o h. place_now p h;
   }
 
+  first_pass : Passes (λ b kind o. KindPassesFirst f.slots kind) (λ b kind o. KindPassesFirst now kind)
+  first_pass = record {
+    code = λ b i n o fits inside h. subst (PassesFirst now) (sym (renames i))
+        (first_renamed (use_now s (first_used s.homes i.operands)) (def_now s) now (row_of i)
+        (passes_longer f.slots (map (λ (g : SlotAssignment). g.slot) s.homes) (row_of i) h));
+    before = λ b r q m o which is inside. tt;
+    behind = λ b q m p is inside. tt;
+    start = λ b q m is. tt;
+    marks = λ b v m o h. tt;
+    phis = λ b p n o h. tt;
+  }
+
   objects_pass : Passes (λ b kind o. ObjectsIn f.objects kind) (λ b kind o. ObjectsIn f.objects kind)
   objects_pass = record {
     code = λ b i n o fits inside h. subst (ObjectIn f.objects) (sym (renames i))
@@ -504,6 +521,8 @@ module _ (s : Spilling) (entry : List SlotAssignment) (f : Function) (resolve : 
             (λ b ys kind o h. h) f.blocks may.fits sound.origins sound.targets;
         slots = each_block (λ b kind o. SlotsIn f.slots kind) (λ b kind o. SlotsIn now kind) slots_pass (λ b ys kind o h. h) f.blocks may.fits sound.origins
             sound.slots;
+        passed = each_block (λ b kind o. KindPassesFirst f.slots kind) (λ b kind o. KindPassesFirst now kind) first_pass (λ b ys kind o h. h) f.blocks
+            may.fits sound.origins sound.passed;
         objects = each_block (λ b kind o. ObjectsIn f.objects kind) (λ b kind o. ObjectsIn f.objects kind) objects_pass (λ b ys kind o h. h) f.blocks may.fits
             sound.origins sound.objects;
         pointer = each_block (λ b kind o. LeavesPointer kind) (λ b kind o. LeavesPointer kind) pointer_pass (λ b ys kind o h. h) f.blocks may.fits

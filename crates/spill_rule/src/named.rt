@@ -125,7 +125,8 @@ fn names(r: Reg, kind: &ItemKind) -> bool
     }
 }
 
-fn code_names(r: Reg, i: &Instr) -> bool
+/// Whether code names the register: in an explicit operand, or in an implicit one of a row with implicit uses.
+pub fn code_names(r: Reg, i: &Instr) -> bool
     ensures { result ≡ list_any (is_of_register (has_implicit_uses (row_of i.now)) r) i.now.operands }
 {
     let counts = has_implicit_uses(i);

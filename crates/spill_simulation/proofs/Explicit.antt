@@ -1,6 +1,6 @@
 -- The explicit operands of code in form, and the slots that stand for them.
 use Rattle.std.proofs.Common.{◌≡◌, ◌⊎◌, ℕ, zero, suc, ◌≤◌, List, [], ◌∷◌, length, Contains, Option, Some, None, Bool, true, false, cond, ◌&&◌, nat_eq}
-use Rattle.std.proofs.Common.{refl, sym, ap, ◌∙◌, subst, inl, inr, eq-eqb, ne_eqb, slice_get, arith, nat_le, nat_lt, ◌||◌}
+use Rattle.std.proofs.Common.{refl, sym, ap, ◌∙◌, subst, inl, inr, eq-eqb, ne_eqb, slice_get, arith}
 use Rattle.std.specs.List.{list_all}
 use Rattle.std.specs.Prelude.{IsTrue}
 use Rattle.std.proofs.lemmas.Bool.{cases_eq, and_parts}
@@ -14,7 +14,9 @@ use Rattle.rv64_instr.specs.declared.operand.Operand.{Operand}
 use Rattle.rv64_instr.specs.declared.operand.Operand.TheVariants.{Def, Use, Imm, Slot, Object, Part, Block, Symbol, Mask, ImplicitUse}
 use Rattle.rv64_instr.specs.declared.symbol.Half.TheVariants.{Upper, Lower}
 use Rattle.rv64_instr.specs.Arithmetic.{word}
-use Rattle.rv64_instr.specs.Form.{is_implicit, is_argument, is_result, is_immediate, is_addi, has_form, is_tail_use, is_tail_register}
+use Rattle.rv64_instr.specs.Form.{is_implicit, is_argument, is_last_argument, is_call_register, is_result, is_immediate, is_addi, has_form}
+use Rattle.rv64_instr.specs.Form.{is_held_tail_use, is_held_tail_register}
+use Rattle.rv64_instr.proofs.Tails.{last_arguments, held_tail_uses}
 use Rattle.rv64_instr.specs.Instruction.{Instruction}
 use Rattle.rv64_instr.specs.Row.{Row, row_by, row_of, immediate_row, object_row, move_row, Unfit, implicit_uses, outgoing_words, held_call, held_tail}
 use Rattle.rv64_instr.specs.Row.{held_gone}
@@ -188,7 +190,7 @@ result_none_of (Use r) e = cc
 result_none_of (Def r) e = cc
 result_none_of _ e = (refl, refl)
 
-tail_none_of : (o : Operand) → is_tail_use o ≡ true → (uses_in (o ∷ []) ≡ []) × (defs_in (o ∷ []) ≡ [])
+tail_none_of : (o : Operand) → is_held_tail_use o ≡ true → (uses_in (o ∷ []) ≡ []) × (defs_in (o ∷ []) ≡ [])
 tail_none_of (Use r) e = cc
 tail_none_of (Def r) e = cc
 tail_none_of _ e = (refl, refl)
@@ -309,20 +311,20 @@ by_op PseudoRet os e =
     subst (λ (x : List ℕ). Explicit r x (defs_in os)) (sym k.0) (subst (λ (x : List ℕ). Explicit r [] x) (sym k.1) (implicit_row r refl))
 by_op PseudoCallIndirect (ImplicitUse q ∷ Mask ∷ rest) e =
     ended (held_call (implicit_uses (ImplicitUse q ∷ Mask ∷ rest)) (outgoing_words rest)) rest is_argument argument_none_of
-    (behind (nat_le 5 q && nat_lt q 32) (list_all is_argument rest) e) (held_call_row_of (implicit_uses (ImplicitUse q ∷ Mask ∷ rest))
+    (behind (is_call_register q) (list_all is_argument rest) e) (held_call_row_of (implicit_uses (ImplicitUse q ∷ Mask ∷ rest))
     (outgoing_words rest))
 by_op PseudoTail (Symbol name ∷ rest) e =
     let r = row_by PseudoTail (Symbol name ∷ rest) in
-    ended r rest is_tail_use tail_none_of e (implicit_row r refl)
+    ended r rest is_held_tail_use tail_none_of (held_tail_uses rest e) (implicit_row r refl)
 by_op PseudoTailIndirect (ImplicitUse q ∷ rest) e =
-    ended (held_tail (implicit_uses (ImplicitUse q ∷ rest))) rest is_tail_use tail_none_of
-    (behind (nat_eq q 6 || is_tail_register q) (list_all is_tail_use rest) e) (held_tail_row_of (implicit_uses (ImplicitUse q ∷ rest)))
+    ended (held_tail (implicit_uses (ImplicitUse q ∷ rest))) rest is_held_tail_use tail_none_of
+    (behind (is_held_tail_register q) (list_all is_held_tail_use rest) e) (held_tail_row_of (implicit_uses (ImplicitUse q ∷ rest)))
 by_op NoReturnCall (Symbol name ∷ Mask ∷ rest) e =
     let r = row_by NoReturnCall (Symbol name ∷ Mask ∷ rest) in
-    ended r rest is_argument argument_none_of e (implicit_row r refl)
+    ended r rest is_argument argument_none_of (last_arguments rest e) (implicit_row r refl)
 by_op NoReturnCallIndirect (ImplicitUse q ∷ Mask ∷ rest) e =
     ended (held_gone (implicit_uses (ImplicitUse q ∷ Mask ∷ rest))) rest is_argument argument_none_of
-    (behind (nat_le 5 q && nat_lt q 32) (list_all is_argument rest) e) (held_gone_row_of (implicit_uses (ImplicitUse q ∷ Mask ∷ rest)))
+    (last_arguments rest (behind (is_call_register q) (list_all is_last_argument rest) e)) (held_gone_row_of (implicit_uses (ImplicitUse q ∷ Mask ∷ rest)))
 by_op _ _ e = cc
 
 pub explicit : (i : Instruction) → IsTrue (has_form i.op i.operands) → Explicit (row_of i) (uses_in i.operands) (defs_in i.operands)

@@ -29,6 +29,16 @@ const USES: &[(Op, &[Part], u32, bool, bool, bool)] = &[
     (TAIL_BY, &[Takes(6), Takes(10)], 6, true, false, false),
     (Op::NoReturnCall, &[Called, Mask], 10, false, false, true),
     (GONE_BY, &[Takes(11), Mask], 11, true, false, false),
+    (CALL_BY, &[Takes(1), Mask], 1, true, true, false),
+    (
+        GONE_BY,
+        &[Takes(0), Mask, Takes(12)],
+        12,
+        true,
+        false,
+        false,
+    ),
+    (TAIL_BY, &[Takes(7), Takes(6)], 6, true, false, false),
 ];
 
 /// Whether an instruction reads a register, sets it, and has two words for a function of a name.
@@ -53,8 +63,8 @@ fn uses_of_callees_and_halves(rt: HostRuntime) {
     assert_eq!(rt; other_use(rt.alloc(), USES), None);
 }
 
-/// An opcode, its operands, whether they have its form, and whether it reads and sets slot 1: a call passes what is on
-/// the stack, and the callee owns it.
+/// An opcode, its operands, whether they have its form, and whether it reads and sets slot 1: a call that returns may
+/// pass what is on the stack, and the callee owns it.
 const PASSES: &[(Op, &[Part], bool, bool, bool)] = &[
     (
         Op::PseudoCall,
@@ -80,11 +90,11 @@ const PASSES: &[(Op, &[Part], bool, bool, bool)] = &[
     (
         Op::NoReturnCall,
         &[Called, Mask, Passes(1)],
-        true,
-        true,
+        false,
+        false,
         false,
     ),
-    (GONE_BY, &[Takes(11), Mask, Passes(1)], true, true, false),
+    (GONE_BY, &[Takes(11), Mask, Passes(1)], false, false, false),
     (Op::PseudoTail, &[Called, Passes(1)], false, false, false),
     (TAIL_BY, &[Takes(11), Passes(1)], false, false, false),
     (Op::PseudoRet, &[Passes(1)], false, false, false),

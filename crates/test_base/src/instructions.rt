@@ -228,16 +228,20 @@ fn words_of_instructions(rt: HostRuntime) {
 }
 
 /// An opcode, operands, and whether they have its form. The callee of a call in tail position is in a register that the
-/// epilogue leaves alone, and so is what it passes; x2 is no callee. A call that doesn't return has the form of a call.
+/// epilogue leaves alone, and so is what it passes; x2 is no callee. A call that doesn't return passes registers alone.
 const FORMS: &[(Op, &[Part], bool)] = &[
     (CALL_BY, &[Takes(8), Mask, Takes(9)], true),
     (CALL_BY, &[Takes(2), Mask], false),
+    (CALL_BY, &[Takes(1), Mask], true),
+    (CALL_BY, &[Takes(0), Mask, Takes(2)], true),
     (CALL_BY, &[Takes(8)], false),
     (CALL_BY, &[Symbol, Mask], false),
     (Op::PseudoTail, &[Symbol, Takes(2), Takes(17)], true),
     (Op::PseudoTail, &[Symbol, Takes(6)], false),
     (Op::PseudoTail, &[Symbol, Mask], false),
     (TAIL_BY, &[Takes(6), Takes(2)], true),
+    (TAIL_BY, &[Takes(10), Takes(6)], true),
+    (TAIL_BY, &[Takes(10), Takes(5)], false),
     (TAIL_BY, &[Takes(8), Takes(2)], false),
     (TAIL_BY, &[Takes(1)], false),
     (Op::NoReturnCall, &[Symbol, Mask, Takes(10)], true),

@@ -105,25 +105,19 @@ pub const ROWS: &[Row] = &[
         "answer went 0 1\nreturned 1 0 1",
     ),
     // an argument on the stack is in its slot up to the call, and the callee's after it. What isn't stored can't be
-    // passed to a callee that returns
+    // passed
     (
-        "slots 0 1\nbb 0\nADDI def:11 use:0 7\nSD use:11 slot:1 0\nphi 1 slot 1\nmark 1 pair 1 0\n\
-         PseudoCALL g mask outgoing:1\nphi 2 slot 1\nmark 2 pair 2 0\nLD def:12 slot:1 0\nPseudoRET",
+        "slots 0 1\nbb 0\nADDI def:11 use:0 7\nSD use:11 slot:0 0\nphi 1 slot 0\nmark 1 pair 1 0\n\
+         PseudoCALL g mask outgoing:0\nphi 2 slot 0\nmark 2 pair 2 0\nLD def:12 slot:0 0\nPseudoRET",
         0,
         (0, 0),
         "went 4 0 4\nmark 1 7\nwaits 1 0 4\nanswer went 0 5\nwent 2 0 7\nmark 2 none\nfaulted 1 0 7",
     ),
     (
-        "slots 0 1\nbb 0\nSD use:10 slot:1 0\nPseudoCALL g mask outgoing:1\nPseudoCALL g mask outgoing:1\nPseudoRET",
+        "slots 0 1\nbb 0\nSD use:10 slot:0 0\nPseudoCALL g mask outgoing:0\nPseudoCALL g mask outgoing:0\nPseudoRET",
         7,
         (0, 0),
         "went 1 0 1\nanswer went 0 2\nwaits 1 0 2\nanswer faulted 0 2",
-    ),
-    (
-        "slots 0 1\nbb 0\nnever g mask outgoing:1",
-        0,
-        (0, 0),
-        "returned 1 0 0",
     ),
     // an access of eight bytes at x10 or an answer's write: the frame has the addresses 1,046,528 to 1,048,575.
     // Addresses wrap. What isn't written can't be read

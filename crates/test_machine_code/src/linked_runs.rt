@@ -7,7 +7,7 @@ ghost use Rattle.pass_trait.specs.Sizes.{greatest, greatest_number, most_numbers
 ghost use Rattle.sem_interpreter.specs.StandsFor.{AreCounted, IsPosition};
 
 use crate::linked_functions::{VARIABLE, function, global, position, variable};
-use crate::linked_gone::GONE;
+use crate::linked_gone::{AMIDST, LAST};
 use crate::linked_halves::HALVES;
 use crate::linked_rows::{End, Home, Row, Source, Step};
 use crate::linked_stack::STACK;
@@ -485,8 +485,10 @@ fn calls_by_registers_and_in_tail_position(rt: HostRuntime) -> Result<(), Fail> 
 
 #[test]
 fn calls_that_do_not_return(rt: HostRuntime) -> Result<(), Fail> {
-    assert_eq!(rt; other_compiled(rt.alloc(), GONE)?, None);
-    assert_eq!(rt; other_source(rt.alloc(), GONE)?, None);
+    assert_eq!(rt; other_compiled(rt.alloc(), LAST)?, None);
+    assert_eq!(rt; other_source(rt.alloc(), LAST)?, None);
+    assert_eq!(rt; other_compiled(rt.alloc(), AMIDST)?, None);
+    assert_eq!(rt; other_source(rt.alloc(), AMIDST)?, None);
     Ok(())
 }
 

@@ -41,9 +41,9 @@ pub const STACK: &[Row] = &[
         end: End::Returned,
         held: &[(10, 77), (11, 1_048_528), (12, 1012)],
     },
-    // an argument that goes on the stack: its slot is the variable's place up to the call
+    // an argument that goes on the stack: its slot, the first one, is the variable's place up to the call
     Row {
-        stack: &[Stored::Slot(0), Stored::Slot(1)],
+        stack: &[Stored::Slot(1), Stored::Slot(0)],
         blocks: &[&[
             Code(SD, &[Use(11), Slot(1), Imm(0)]),
             At(11),
@@ -59,10 +59,10 @@ pub const STACK: &[Row] = &[
         arguments: &[],
         answer: (1, 1011),
         words: &[
-            0xfe010113, 0x00113823, 0x00b13423, 0x00100593, 0x00000097, 0x000080e7, 0x01013083,
+            0xfe010113, 0x00113823, 0x00b13023, 0x00100593, 0x00000097, 0x000080e7, 0x01013083,
             0x02010113, 0x00008067,
         ],
-        ranges: &[(0x0c, 0x10, In(11)), (0x10, 0x18, Above(8))],
+        ranges: &[(0x0c, 0x10, In(11)), (0x10, 0x18, Above(0))],
         value: 1011,
         steps: &[
             (0x00, Before(0, 0)),

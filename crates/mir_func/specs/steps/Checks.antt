@@ -9,7 +9,7 @@ use Rattle.mir_func.specs.declared.item.ItemKind.TheVariants.{Code, Mark, Phi}
 use Rattle.mir_func.specs.declared.object.Object.{Object}
 use Rattle.mir_func.specs.declared.sound.Declared.{Declared}
 use Rattle.mir_func.specs.Objects.{object_of, AreLaid}
-use Rattle.mir_func.specs.Sound.{AreApart, TargetsIn, SlotsIn, ObjectsIn, LeavesPointer, OriginIn, EndsWell, LastCloses, IsSoundObject}
+use Rattle.mir_func.specs.Sound.{AreApart, TargetsIn, SlotsIn, KindPassesFirst, ObjectsIn, LeavesPointer, OriginIn, EndsWell, LastCloses, IsSoundObject}
 
 -- the map has the size of the object with each number
 abbrev pub AreSizes : List Object → BTreeMap ℕ ℕ → Type 0
@@ -25,6 +25,7 @@ PhiIsApart numbers (Mark v m) = Unit {0}
 pub record IsSoundItem (d : Declared) (b : Block) (i : Item) : Type 0 where
   pub target : TargetsIn d.blocks i.kind
   pub slot : SlotsIn d.slots i.kind
+  pub passed : KindPassesFirst d.slots i.kind
   pub object : ObjectsIn d.objects i.kind
   pub pointer : LeavesPointer i.kind
   pub phi : PhiIsApart d.codes i.kind

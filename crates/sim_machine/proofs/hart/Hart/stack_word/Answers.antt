@@ -1,14 +1,6 @@
-use Rattle.std.proofs.Common.{◌≡◌, ℕ, ◌+◌, ◌%◌, ◌^◌, sym, ap, ◌∙◌}
-use Rattle.sem_mir.specs.State.{spelled}
-use Rattle.sem_machine.specs.Machine.{address_of}
-use Rattle.sem_interpreter.specs.Memory.{number_in}
+use Rattle.std.proofs.Common.{ap, ◌∙◌}
+use Rattle.sem_machine.specs.MachineStep.{word_content}
 use Rattle.sim_machine.proofs.hart.Hart.stack_word.Goals as goal
 
 pub returns : goal.returns
-returns c = λ s h.
-    let held = number_in c.args.self.now.memory in
-    let m : s.memory ≡ held = λ i a. h.memory a i in
-    let at : (c.read.result + c.from.result) % 2 ^ 64 ≡ address_of s 2 c.args.n =
-    ap (λ (x : ℕ). (x + c.from.result) % 2 ^ 64) (c.read.ensures s h)
-    ∙ ap (λ (n : ℕ). (s.regs 2 + n) % 2 ^ 64) (c.from.ensures ∙ c.number.ensures) in
-    c.spelled.ensures.value ∙ (ap (λ (x : ℕ). spelled held x 8) at ∙ sym (ap (λ (f : ℕ → ℕ). spelled f (address_of s 2 c.args.n) 8) m))
+returns c = λ s h. c.word_at.ensures s h ∙ ap (word_content s) (c.from.ensures ∙ c.number.ensures)
