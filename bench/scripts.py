@@ -66,7 +66,7 @@ REFUSED = [
     ("INLINEASM &nop, 1 /* sideeffect attdialect */", "BadByte", "Inline assembler", "call a function"),
     ("UNIMP", "UnknownOpcode", "A trap isn't read", "return"),
     ("$x10 = MUL $x10, $x11", "UnknownOpcode", "M extension", "-march=rv64i"),
-    ("$x10 = ADDI %5, 1", "VirtualRegister", "A virtual register", "virtregrewriter"),
+    ("$x10 = ADDI $x10, 1, implicit %5", "VirtualRegister", "An implicit virtual register", "as llc writes it"),
     ("$x2 = ADDI $x2, -16", "StackPointerUse", "the stack pointer", "virtregrewriter"),
     ("ADJCALLSTACKDOWN 8, 0, implicit-def dead $x2, implicit $x2", "BadOperands", "arguments on the stack; a call has at most eight", "a struct"),
 ]
@@ -206,6 +206,10 @@ def wrapper(room):
         it.write(BODY % ("stack:\n  - { id: 0, size: 2033 }\n", ""))
     status, _, told = run("./mirdwarf", "listing", file)
     check("a large frame", status == 1 and "FrameTooLarge, in function f\n" in told and "Of the file's 2 functions 1 can be read.\n" in told, told)
+    with open(file, "w", encoding="utf-8") as it:
+        it.write(BODY % ("", "    $x5 = ADD $x6, $x7\n    $x28 = ADD $x29, $x30\n    %0 = COPY $x10\n"))
+    status, _, told = run("./mirdwarf", "listing", file)
+    check("a virtual register", status == 1 and f"{file}:15: NoRegister, in function f\n    %0 = COPY $x10\n" in told and "virtregrewriter" in told, told)
     with open(file, "w", encoding="utf-8") as it:
         it.write(BODY % ("", "    UNIMP\n") + BODY.split("...\n", 1)[1].replace("name: f", "name: g") % ("", "    $x10 = MUL $x10, $x11\n"))
     status, _, told = run("./mirdwarf", "listing", file)

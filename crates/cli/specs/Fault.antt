@@ -4,7 +4,7 @@ use Rattle.std.specs.Fmt.{decimal}
 use Rattle.read_refusal.specs.Kind as kind
 use Rattle.cli.specs.declared.fault.Fault.{Fault}
 use Rattle.cli.specs.declared.fault.Fault.TheVariants.{Usage, Read, TooLong, Refused, NoFunction, UnknownFunction}
-use Rattle.cli.specs.declared.fault.Fault.TheVariants.{FrameTooLarge, SymbolName, SectionTooLarge, Write, Memory}
+use Rattle.cli.specs.declared.fault.Fault.TheVariants.{NoRegister, FrameTooLarge, SymbolName, SectionTooLarge, Write, Memory}
 use Rattle.cli.specs.declared.status.Status.{Status}
 use Rattle.cli.specs.declared.status.Status.TheVariants as status
 
@@ -14,6 +14,7 @@ input_line (Refused r) = Some r.line
 input_line TooLong = Some 0
 input_line NoFunction = Some 0
 input_line UnknownFunction = Some 0
+input_line NoRegister = Some 0
 input_line FrameTooLarge = Some 0
 input_line SymbolName = Some 0
 input_line SectionTooLarge = Some 0
@@ -28,6 +29,7 @@ name_of (Refused r) = kind.name_of r.kind
 name_of TooLong = codes "TooLong"
 name_of NoFunction = codes "NoFunction"
 name_of UnknownFunction = codes "UnknownFunction"
+name_of NoRegister = codes "NoRegister"
 name_of FrameTooLarge = codes "FrameTooLarge"
 name_of SymbolName = codes "SymbolName"
 name_of SectionTooLarge = codes "SectionTooLarge"
@@ -53,6 +55,7 @@ status_of TooLong = status.Refused
 status_of (Refused r) = status.Refused
 status_of NoFunction = status.Refused
 status_of UnknownFunction = status.Refused
+status_of NoRegister = status.Refused
 status_of FrameTooLarge = status.Refused
 status_of SymbolName = status.Refused
 status_of SectionTooLarge = status.Refused

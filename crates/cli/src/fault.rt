@@ -23,6 +23,8 @@ pub enum Fault {
     NoFunction,
     /// The input has no function with the name in the command.
     UnknownFunction,
+    /// A function has a virtual register.
+    NoRegister,
     /// The frame of a function would have more than 2,032 bytes.
     FrameTooLarge,
     /// The name of a function, or of a function that is called, can't be a symbol's: it is empty or has a zero byte.
@@ -52,7 +54,8 @@ impl Fault {
         match self {
             Fault::Refused(refusal) => Some(refusal.line),
             Fault::TooLong | Fault::NoFunction | Fault::UnknownFunction => Some(0),
-            Fault::FrameTooLarge | Fault::SymbolName | Fault::SectionTooLarge => Some(0),
+            Fault::NoRegister | Fault::FrameTooLarge => Some(0),
+            Fault::SymbolName | Fault::SectionTooLarge => Some(0),
             Fault::Usage | Fault::Read | Fault::Write | Fault::Memory => None,
         }
     }
@@ -68,6 +71,7 @@ impl Fault {
             Fault::Refused(refusal) => refusal.kind.name(),
             Fault::NoFunction => "NoFunction",
             Fault::UnknownFunction => "UnknownFunction",
+            Fault::NoRegister => "NoRegister",
             Fault::FrameTooLarge => "FrameTooLarge",
             Fault::SymbolName => "SymbolName",
             Fault::SectionTooLarge => "SectionTooLarge",
@@ -85,7 +89,8 @@ impl Fault {
             Fault::Read => Status::ReadFault,
             Fault::TooLong | Fault::Refused(_) | Fault::NoFunction => Status::Refused,
             Fault::UnknownFunction => Status::Refused,
-            Fault::FrameTooLarge | Fault::SymbolName | Fault::SectionTooLarge => Status::Refused,
+            Fault::NoRegister | Fault::FrameTooLarge => Status::Refused,
+            Fault::SymbolName | Fault::SectionTooLarge => Status::Refused,
             Fault::Write => Status::WriteFault,
             Fault::Memory => Status::Memory,
         }

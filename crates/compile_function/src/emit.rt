@@ -66,6 +66,7 @@ pub fn push_function(
     ensures pushed { OnOk result
         (IsPushed meta.now (passed_of source.now function.now subs.now) losses made.old made.new) }
     ensures too_large { IsErrOf result CompileError.FrameTooLarge → MAX_FRAME < reach_of function.now }
+    ensures registers { IsErrOf result CompileError.NoRegister → ⊥ }
     ensures no_section { IsErrOf result CompileError.SectionTooLarge → ⊥ }
 {
     let base = made.text.len() as u64;
@@ -129,6 +130,7 @@ fn compiled(
     requires physical { AllItems (λ i. HasPhysical i.kind) function.now.blocks }
     ensures compiled { IfOk result (IsOneCompiled (passed_of source.now function.now subs.now) losses base) }
     ensures too_large { IsErrOf result CompileError.FrameTooLarge → MAX_FRAME < reach_of function.now }
+    ensures registers { IsErrOf result CompileError.NoRegister → ⊥ }
     ensures no_section { IsErrOf result CompileError.SectionTooLarge → ⊥ }
 {
     match compile_function(alloc, &source.func, function, subs, losses, base) {

@@ -1,9 +1,10 @@
 //! Errors of compilation.
 
 ghost use Rattle.std.specs.Prelude.{◌≡◌};
-ghost use Rattle.compile_function.specs.Fault.{of_section};
+ghost use Rattle.compile_function.specs.Fault.{of_passes, of_section};
 ghost use Rattle.compile_function.specs.declared.error.CompileError.TheVariants.{Memory};
 
+use compile_passes::error::PassesError;
 use dwarf_sections::sections::SectionError;
 use std::alloc::AllocError;
 use thiserror::Error;
@@ -11,6 +12,9 @@ use thiserror::Error;
 /// Why a function, or a program, has no output.
 #[derive(Debug, Drop, Error)]
 pub enum CompileError {
+    /// A function has a virtual register.
+    #[error("a virtual register")]
+    NoRegister,
     /// A function's frame would have more than 2,032 bytes.
     #[error("a frame is too large")]
     FrameTooLarge,
@@ -27,6 +31,17 @@ impl From<AllocError> for CompileError {
 
     fn from(_: AllocError) -> CompileError {
         CompileError::Memory
+    }
+}
+
+impl From<PassesError> for CompileError {
+    ghost from_gives = { λ e c. c ≡ of_passes e };
+
+    fn from(e: PassesError) -> CompileError {
+        match e {
+            PassesError::NoRegister => CompileError::NoRegister,
+            PassesError::Memory => CompileError::Memory,
+        }
     }
 }
 

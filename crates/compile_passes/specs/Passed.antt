@@ -3,6 +3,7 @@ use Rattle.std.specs.Prelude.{ℕ, List, All}
 use Rattle.listing_text.specs.Shown.{IsPrintableEntry}
 use Rattle.pass_trait.specs.Change.{change}
 use Rattle.pass_trait.specs.declared.loss.Loss.{Loss}
+use Rattle.pass_trait.specs.Sizes.{IsPhysical}
 use Rattle.pass_trait.specs.Steps.{PassStep, KeepsSteps}
 use Rattle.listing_proof.specs.Laws.{inlined_in, IsPrintableBody}
 use Rattle.read_metadata.specs.Maps.{Maps}
@@ -26,6 +27,10 @@ source_of p = record { function = p.func; substitutions = p.subs }
 -- a passed function with a source that was read
 abbrev pub passed_of : Parsed → (function : Function) → (substitutions : List DebugSubstitution) → PassedFunction
 passed_of p f subs = record { source = source_of p; function = f; substitutions = subs }
+
+-- the function that was read has a virtual register
+abbrev pub HasVirtual : Parsed → Type 0
+HasVirtual p = IsPhysical p.func → ⊥
 
 -- the steps of passes, one after the other, made the function from its source
 pub record IsMadeBy (steps : List PassStep) (p : PassedFunction) : Type 0 where

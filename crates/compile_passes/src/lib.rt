@@ -2,4 +2,5 @@
 //! listing.
 #![tactic(auto)]
 
+pub mod error;
 pub mod passed;

@@ -1,7 +1,7 @@
 //! A function that was read, after passes.
 
-ghost use Rattle.std.specs.Prelude.{◌≤◌, All, IfOk, length};
-ghost use Rattle.compile_passes.specs.Passed.{IsMadeLosing, IsCompilable, MAX_PASSED, passed_of};
+ghost use Rattle.std.specs.Prelude.{◌≤◌, All, IfOk, IsErrOf, length};
+ghost use Rattle.compile_passes.specs.Passed.{IsMadeLosing, IsCompilable, MAX_PASSED, passed_of, HasVirtual};
 ghost use Rattle.mir_func.specs.Sound.{AllItems, items_of};
 ghost use Rattle.mir_func.specs.SoundFrame.{HasPhysical};
 ghost use Rattle.pass_list.specs.Names.{AreDistinct};
@@ -9,6 +9,8 @@ ghost use Rattle.pass_trait.specs.Sizes.{call_count};
 ghost use Rattle.read_body.specs.Limits.{MAX_ITEMS};
 ghost use Rattle.read_proof.specs.Read.{IsReadFunction, EntryIsLimited};
 
+use crate::error::PassesError;
+use frame_lowering::physical::is_physical;
 use mir_func::func::Func;
 use mir_substitution::substitutions::Substitutions;
 use mir_type_facts::typed::{blocks_are_typed, entries_are_typed};
@@ -32,8 +34,33 @@ pub struct Passed {
 }
 
 /// Runs passes, each at most once, on a function that was read with metadata. `reserve` is the registers that may be
-/// spilled.
+/// spilled. The error is `NoRegister` exactly if the function has a virtual register.
 pub fn after_passes(
+    alloc: Global,
+    meta: &Metadata,
+    source: &Parsed,
+    passes: &[PassKind],
+    reserve: &[Reg],
+) -> Result<Passed, PassesError>
+    requires read { IsReadFunction meta.now source.now.func }
+    requires substitutions { All EntryIsLimited source.now.subs }
+    requires distinct { AreDistinct passes.now }
+    ensures compilable { IfOk result (λ p.
+        IsCompilable meta.now (passed_of source.now p.function p.substitutions)) }
+    ensures made { IfOk result (λ p.
+        IsMadeLosing reserve.now passes.now (passed_of source.now p.function p.substitutions) p.losses) }
+    ensures few { IfOk result (λ p. length (items_of p.function.blocks) ≤ MAX_PASSED) }
+    ensures calls { IfOk result (λ p. call_count p.function ≤ MAX_ITEMS) }
+    ensures no_register { IsErrOf result PassesError.NoRegister → HasVirtual source.now }
+{
+    if !is_physical(&source.func) {
+        return Err(PassesError::NoRegister);
+    }
+    Ok(run_on(alloc, meta, source, passes, reserve)?)
+}
+
+/// Runs passes on a function without virtual registers.
+fn run_on(
     alloc: Global,
     _meta: &Metadata,
     source: &Parsed,

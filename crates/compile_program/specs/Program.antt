@@ -11,11 +11,12 @@ use Rattle.dwarf_line.specs.Spelling.{spelling as rows_spelling}
 use Rattle.dwarf_loclists.specs.declared.range.Range.{Range}
 use Rattle.dwarf_loclists.specs.Grammar.{IsSection}
 use Rattle.dwarf_loclists.specs.Spelling.{spelling as lists_spelling}
+use Rattle.pass_trait.specs.Sizes.{IsPhysical}
 use Rattle.pass_trait.specs.Steps.{PassStep}
 use Rattle.frame_rule.specs.Rule.{reach_of, framed_of}
 pub use Rattle.compile_function.specs.Emitted.{names_of, text_of, lists_of, AreWritable}
 use Rattle.compile_function.specs.declared.compiled_function.CompiledFunction.{CompiledFunction}
-pub use Rattle.compile_function.specs.Passed.{source_of, IsMadeBy, IsMadeLosing, IsCompilable, steps_of, passes_of}
+pub use Rattle.compile_function.specs.Passed.{source_of, HasVirtual, IsMadeBy, IsMadeLosing, IsCompilable, steps_of, passes_of}
 use Rattle.read_metadata.specs.Maps.{Maps}
 use Rattle.mir_func.specs.Function.{Function}
 use Rattle.mir_func.specs.Limits.{MAX_FRAME}
@@ -123,6 +124,14 @@ pub record IsCompilationOf (reserve : List ℕ) (passes : List PassKind) (p : Pr
   pub small : length c.output.text < SECTION_LIMIT
 
 -- ---- programs that have no output
+
+-- no function has a virtual register
+abbrev pub AreAllPhysical : List Parsed → Type 0
+AreAllPhysical functions = All (λ (p : Parsed). IsPhysical p.func) functions
+
+-- some function has a virtual register
+abbrev pub HasVirtualRegister : List Parsed → Type 0
+HasVirtualRegister functions = AreAllPhysical functions → ⊥
 
 -- Some function, after the steps of passes, refines its source, and has a frame above the limit.
 pub record HasLargeFrame (steps : List PassStep) (functions : List Parsed) : Type 0 where

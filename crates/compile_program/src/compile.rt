@@ -4,7 +4,7 @@ ghost use Rattle.std.specs.Prelude.{◌≡◌, ◌<◌, ◌⊎◌, [], true, fal
 ghost use Rattle.pass_list.specs.Names.{AreDistinct};
 ghost use Rattle.compile_function.specs.Passed.{steps_of};
 ghost use Rattle.compile_program.specs.Program.{IsOutputOf, IsCompilationOf, HasLargeFrame, HasLargeSection};
-ghost use Rattle.compile_program.specs.Program.{HasLargeFrameSection};
+ghost use Rattle.compile_program.specs.Program.{AreAllPhysical, HasVirtualRegister, HasLargeFrameSection};
 ghost use Rattle.compile_program.specs.steps.CompilationState.{AreMade};
 ghost use Rattle.dwarf_base.specs.Limits.{SECTION_LIMIT};
 ghost use Rattle.dwarf_sections.specs.Frame.{IsOfFunction, IsFrameSection, IsLargeFrameSection};
@@ -36,8 +36,9 @@ pub struct Compilation {
 
 /// Compiles a program that was read. Each function is run through the passes and its frame added, and they are laid out
 /// from address 0. The location lists are those of the variables of the source function. `reserve` is the registers
-/// that may be spilled. The error is `FrameTooLarge` if some function's frame would have more than 2,032 bytes, and
-/// otherwise `SectionTooLarge`, only if a section of functions that the passes may make would have 2^31 bytes or more.
+/// that may be spilled. The error is `NoRegister` if some function has a virtual register, otherwise `FrameTooLarge` if
+/// some function's frame would have more than 2,032 bytes, and otherwise `SectionTooLarge`, only if a section of
+/// functions that the passes may make would have 2^31 bytes or more.
 /// The section `.debug_frame` isn't among the sections.
 pub fn compile(
     alloc: Global,
@@ -50,8 +51,10 @@ pub fn compile(
     ensures output { IfOk result (λ c. IsOutputOf (steps_of reserve.now passes.now) program.now c.output) }
     ensures compilation { IfOk result (IsCompilationOf reserve.now passes.now program.now) }
     ensures no_frame_section { IfOk result (λ c. is_some c.output.frame ≡ false) }
+    ensures no_register { IsErrOf result CompileError.NoRegister → HasVirtualRegister program.now.functions }
     ensures frame_too_large { IsErrOf result CompileError.FrameTooLarge →
         HasLargeFrame (steps_of reserve.now passes.now) program.now.functions }
+    ensures registers_first { IsErrOf result CompileError.FrameTooLarge → AreAllPhysical program.now.functions }
     ensures section_too_large { IsErrOf result CompileError.SectionTooLarge →
         HasLargeSection (steps_of reserve.now passes.now) program.now }
 {
@@ -76,8 +79,10 @@ pub fn compile_with_frame(
     requires distinct { AreDistinct passes.now }
     ensures output { IfOk result (λ c. IsOutputOf (steps_of reserve.now passes.now) program.now c.output) }
     ensures frame_section { IfOk result (λ c. is_some c.output.frame ≡ true) }
+    ensures no_register { IsErrOf result CompileError.NoRegister → HasVirtualRegister program.now.functions }
     ensures frame_too_large { IsErrOf result CompileError.FrameTooLarge →
         HasLargeFrame (steps_of reserve.now passes.now) program.now.functions }
+    ensures registers_first { IsErrOf result CompileError.FrameTooLarge → AreAllPhysical program.now.functions }
     ensures section_too_large { IsErrOf result CompileError.SectionTooLarge →
         HasLargeSection (steps_of reserve.now passes.now) program.now
         ⊎ HasLargeFrameSection (steps_of reserve.now passes.now) program.now }
@@ -107,6 +112,7 @@ fn compiled(
     ensures output { IfOk result (λ c. IsOutputOf (steps_of _reserve.now _passes.now) program.now c.output) }
     ensures compilation { IfOk result (IsCompilationOf _reserve.now _passes.now program.now) }
     ensures frame_section { IfOk result (λ c. is_some c.output.frame ≡ with_frame) }
+    ensures registers { IsErrOf result CompileError.NoRegister → ⊥ }
     ensures no_frame { IsErrOf result CompileError.FrameTooLarge → ⊥ }
     ensures section_too_large { IsErrOf result CompileError.SectionTooLarge →
         HasLargeSection (steps_of _reserve.now _passes.now) program.now

@@ -1,15 +1,13 @@
 //! Compilation of the functions of a program, one after the other.
 
-ghost use Rattle.std.specs.Prelude.{◌+◌, ◌*◌, ◌%◌, ◌<◌, ◌≤◌, ◌^◌, ◌≡◌, All, IfOk, OnOk, IsErrOf, length};
-ghost use Rattle.mir_func.specs.Sound.{AllItems};
-ghost use Rattle.mir_func.specs.SoundFrame.{HasPhysical};
+ghost use Rattle.std.specs.Prelude.{◌+◌, ◌*◌, ◌%◌, ◌<◌, ◌≤◌, ◌^◌, ◌≡◌, ◌↔◌, All, IfOk, OnOk, IsErrOf, IsTrue, length};
 ghost use Rattle.emit_code.specs.Counts.{MAX_WORDS, MAX_BASE};
 ghost use Rattle.read_body.specs.Limits.{MAX_ITEMS};
 ghost use Rattle.read_program.specs.declared.closing.Parsed.{Parsed};
 ghost use Rattle.read_program.specs.Program.{MAX_FUNCTIONS};
 ghost use Rattle.pass_list.specs.Names.{AreDistinct};
-ghost use Rattle.compile_function.specs.Passed.{steps_of};
-ghost use Rattle.compile_program.specs.Program.{HasLargeFrame};
+ghost use Rattle.compile_function.specs.Passed.{HasVirtual, steps_of};
+ghost use Rattle.compile_program.specs.Program.{AreAllPhysical, HasVirtualRegister, HasLargeFrame};
 ghost use Rattle.compile_program.specs.steps.CompilationState.{IsSourcePushed, IsTooLarge, AreMade};
 ghost use Rattle.read_proof.specs.Read.{IsReadFunction, EntryIsLimited};
 
@@ -17,6 +15,7 @@ use compile_function::compiled_function::CompiledFunctions;
 use compile_function::emit::{EmittedFunctions, push_function};
 use compile_function::error::CompileError;
 use compile_function::passed::after_passes;
+use frame_lowering::physical::is_physical;
 use listing_text::output::{Bytes, ListedFunctions};
 use pass_list::kind::PassKind;
 use read_metadata::metadata::Metadata;
@@ -24,8 +23,9 @@ use read_program::closing::Parsed;
 use rv64_instr::reg::Reg;
 use std::alloc::Global;
 
-/// Runs passes on each function and compiles it, from address 0 on. `reserve` is the registers that may be spilled.
-#[tactic(auto, using(crate::proofs::Passed::one_too_large))]
+/// Runs passes on each function and compiles it, from address 0 on. `reserve` is the registers that may be spilled. The
+/// error is `NoRegister` if some function has a virtual register, and otherwise `FrameTooLarge` if some function's
+/// frame would be too large.
 pub fn made_of(
     alloc: Global,
     meta: &Metadata,
@@ -35,10 +35,52 @@ pub fn made_of(
 ) -> Result<EmittedFunctions, CompileError>
     requires few { length functions.now ≤ MAX_FUNCTIONS }
     requires read { All (λ (p : Parsed). IsReadFunction meta.now p.func) functions.now }
-    requires physical { All (λ (p : Parsed). AllItems (λ i. HasPhysical i.kind) p.func.blocks) functions.now }
     requires substitutions { All (λ (p : Parsed). All EntryIsLimited p.subs) functions.now }
     requires distinct { AreDistinct passes.now }
     ensures made { IfOk result (AreMade meta.now reserve.now passes.now functions.now) }
+    ensures no_register { IsErrOf result CompileError.NoRegister → HasVirtualRegister functions.now }
+    ensures too_large { IsErrOf result CompileError.FrameTooLarge →
+        HasLargeFrame (steps_of reserve.now passes.now) functions.now }
+    ensures registers_first { IsErrOf result CompileError.FrameTooLarge → AreAllPhysical functions.now }
+    ensures no_section { IsErrOf result CompileError.SectionTooLarge → ⊥ }
+{
+    match made_in_turn(alloc, meta, functions, passes, reserve) {
+        Ok(made) => Ok(made),
+        Err(CompileError::FrameTooLarge) => {
+            if are_all_physical(functions) {
+                Err(CompileError::FrameTooLarge)
+            } else {
+                Err(CompileError::NoRegister)
+            }
+        }
+        Err(CompileError::NoRegister) => Err(CompileError::NoRegister),
+        Err(CompileError::SectionTooLarge) => Err(CompileError::SectionTooLarge),
+        Err(CompileError::Memory) => Err(CompileError::Memory),
+    }
+}
+
+/// Whether no function has a virtual register.
+fn are_all_physical(functions: &[Parsed]) -> bool
+    ensures { IsTrue result ↔ AreAllPhysical functions.now }
+{
+    functions.iter().all(|source| is_physical(&source.func))
+}
+
+/// Runs passes on one function after the other and compiles it, up to the first that has no output.
+#[tactic(auto, using(crate::proofs::Passed::one_too_large, crate::proofs::Passed::one_virtual))]
+fn made_in_turn(
+    alloc: Global,
+    meta: &Metadata,
+    functions: &[Parsed],
+    passes: &[PassKind],
+    reserve: &[Reg],
+) -> Result<EmittedFunctions, CompileError>
+    requires few { length functions.now ≤ MAX_FUNCTIONS }
+    requires read { All (λ (p : Parsed). IsReadFunction meta.now p.func) functions.now }
+    requires substitutions { All (λ (p : Parsed). All EntryIsLimited p.subs) functions.now }
+    requires distinct { AreDistinct passes.now }
+    ensures made { IfOk result (AreMade meta.now reserve.now passes.now functions.now) }
+    ensures no_register { IsErrOf result CompileError.NoRegister → HasVirtualRegister functions.now }
     ensures too_large { IsErrOf result CompileError.FrameTooLarge →
         HasLargeFrame (steps_of reserve.now passes.now) functions.now }
     ensures no_section { IsErrOf result CompileError.SectionTooLarge → ⊥ }
@@ -68,11 +110,11 @@ fn push_source(
     requires room { length made.old.text + 4 * MAX_WORDS < MAX_BASE }
     requires numbers { made.old.list_count + MAX_ITEMS < 2 ^ 32 }
     requires read { IsReadFunction meta.now source.now.func }
-    requires physical { AllItems (λ i. HasPhysical i.kind) source.now.func.blocks }
     requires substitutions { All EntryIsLimited source.now.subs }
     requires distinct { AreDistinct passes.now }
     ensures pushed { OnOk result
         (IsSourcePushed meta.now reserve.now passes.now source.now made.old made.new) }
+    ensures no_register { IsErrOf result CompileError.NoRegister → HasVirtual source.now }
     ensures too_large { IsErrOf result CompileError.FrameTooLarge →
         IsTooLarge (steps_of reserve.now passes.now) source.now }
     ensures no_section { IsErrOf result CompileError.SectionTooLarge → ⊥ }

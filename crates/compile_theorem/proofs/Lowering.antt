@@ -1,6 +1,6 @@
 -- Code as it is listed has the word that its layout gives it: a slot or a stack object is reached by x2 there, as the word reaches it.
 use Rattle.std.proofs.Common.{◌≡◌, ℕ, zero, suc, ℤ, pos, ◌+ℤ◌, ◌-ℤ◌, Bool, true, false, List}
-use Rattle.std.proofs.Common.{[], ◌∷◌, Some, None, IsSome, refl, ap, arith, nat_eq, ◌||◌, sym, subst}
+use Rattle.std.proofs.Common.{[], ◌∷◌, Some, None, IsSome, refl, ap, arith, sym, subst}
 use Rattle.std.specs.Prelude.{Contains, option_and_then, if◌then◌else◌}
 use Rattle.std.proofs.lemmas.Int.{ints}
 use Rattle.std.specs.List.{list_all}
@@ -19,7 +19,8 @@ use Rattle.rv64_instr.specs.declared.operand.Operand.{Operand}
 use Rattle.rv64_instr.specs.declared.operand.Operand.TheVariants.{Def, Use, ImplicitDef, ImplicitUse, Imm, Slot, Object as OfObject, Part, Block, Symbol, Mask}
 use Rattle.rv64_instr.specs.declared.symbol.Half.TheVariants.{Upper, Lower}
 use Rattle.rv64_instr.specs.Form.{has_form, fits_jump, fits_copy, fits_branch, fits_registers, fits_upper, fits_load, fits_store}
-use Rattle.rv64_instr.specs.Form.{fits_immediate, is_tail_use, is_tail_register, fits_call, fits_held_call, fits_tail, fits_held_tail}
+use Rattle.rv64_instr.specs.Form.{fits_immediate, is_held_tail_use, is_held_tail_register, fits_held_call, fits_gone, fits_held_gone, fits_tail, fits_held_tail}
+use Rattle.rv64_instr.proofs.Tails.{held_tail_uses}
 use Rattle.rv64_instr.specs.Instruction.{Instruction}
 use Rattle.rv64_instr.specs.Row.{Row, Branches, Jumps, add_row}
 use Rattle.rv64_instr.specs.Row.{row_by, row_of}
@@ -111,7 +112,7 @@ module _ (f : FramedFunction) (offset : ℤ) where
   call_same (Symbol name ∷ Mask ∷ rest) form = record { fields = refl; exit = refl }
   call_same os form = absurd cc
 
-  behind_tail : (x : Operand) (os : List Operand) → list_all is_tail_use os ≡ true → by_pointer f (x ∷ os) ≡ x ∷ os
+  behind_tail : (x : Operand) (os : List Operand) → list_all is_held_tail_use os ≡ true → by_pointer f (x ∷ os) ≡ x ∷ os
   behind_tail x [] all = refl
   behind_tail x (ImplicitUse r ∷ os) all = refl
   behind_tail x (o ∷ os) all = absurd cc
@@ -126,22 +127,22 @@ module _ (f : FramedFunction) (offset : ℤ) where
 
   tail_same : (os : List Operand) → fits_tail os ≡ true → SameCode f offset PseudoTail os (by_pointer f os)
   tail_same (Symbol name ∷ rest) form =
-      stays_same PseudoTail (Symbol name ∷ rest) (by_pointer f (Symbol name ∷ rest)) (behind_tail (Symbol name) rest form)
+      stays_same PseudoTail (Symbol name ∷ rest) (by_pointer f (Symbol name ∷ rest)) (behind_tail (Symbol name) rest (held_tail_uses rest form))
       (record { fields = refl; exit = refl })
   tail_same os form = absurd cc
 
   held_tail_same : (os : List Operand) → fits_held_tail os ≡ true → SameCode f offset PseudoTailIndirect os (by_pointer f os)
   held_tail_same (ImplicitUse r ∷ rest) form =
       stays_same PseudoTailIndirect (ImplicitUse r ∷ rest) (by_pointer f (ImplicitUse r ∷ rest))
-      (behind_tail (ImplicitUse r) rest (and_parts (nat_eq r 6 || is_tail_register r) (list_all is_tail_use rest) form).1)
+      (behind_tail (ImplicitUse r) rest (and_parts (is_held_tail_register r) (list_all is_held_tail_use rest) form).1)
       (record { fields = refl; exit = refl })
   held_tail_same os form = absurd cc
 
-  gone_same : (os : List Operand) → fits_call os ≡ true → SameCode f offset NoReturnCall os (by_pointer f os)
+  gone_same : (os : List Operand) → fits_gone os ≡ true → SameCode f offset NoReturnCall os (by_pointer f os)
   gone_same (Symbol name ∷ Mask ∷ rest) form = record { fields = refl; exit = refl }
   gone_same os form = absurd cc
 
-  held_gone_same : (os : List Operand) → fits_held_call os ≡ true → SameCode f offset NoReturnCallIndirect os (by_pointer f os)
+  held_gone_same : (os : List Operand) → fits_held_gone os ≡ true → SameCode f offset NoReturnCallIndirect os (by_pointer f os)
   held_gone_same (ImplicitUse r ∷ Mask ∷ rest) form = record { fields = refl; exit = refl }
   held_gone_same os form = absurd cc
 

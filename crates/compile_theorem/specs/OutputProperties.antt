@@ -77,7 +77,7 @@ pub record AreLaidOut (names : ℕ → List ℕ) (sources : List SourceFunction)
 -- The headline for a source and its listed function: from every start, for every script of answers to calls and every number of steps, each time the
 -- machine comes to a listed line, the source comes to the line's origin with the same events, unless it stops on a frame fault before. A return has
 -- the same result and restores x1, x2 and the callee-saved registers, and each place in the location lists holds the value of the newest assignment.
--- The machine stops only at a return or waiting for the answer to a call.
+-- The machine stops only where its run ends (in what is read: at a return), or where it waits for the answer of a call.
 abbrev pub MeetsHeadline : Output → SourceFunction → ListedFunction → Type 0
 MeetsHeadline o source f = Headline source.function (resolve source.substitutions) (image_of o f) (Gives o f)
 

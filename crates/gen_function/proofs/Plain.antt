@@ -10,7 +10,7 @@ use Rattle.rv64_instr.specs.declared.operand.Operand.{Operand}
 use Rattle.mir_func.specs.declared.exit.Exit.TheVariants.{Onward}
 use Rattle.mir_func.specs.declared.item.ItemKind.{ItemKind}
 use Rattle.mir_func.specs.Exits.{exit_of}
-use Rattle.mir_func.specs.Sound.{TargetsIn, PassedIn, SlotsIn, ObjectsIn, IsNotPointer, LeavesPointer}
+use Rattle.mir_func.specs.Sound.{TargetsIn, PassedIn, SlotsIn, ObjectsIn, IsNotPointer, LeavesPointer, KindPassesFirst}
 use Rattle.gen_function.specs.Draws.{Drawn, next, draw}
 use Rattle.gen_function.specs.Items.{register_of, variable_of, add, copy, constant, store, load, phi, mark, branch, jump, return}
 use Rattle.gen_function.specs.Generator.{group_of, group, groups, beginning}
@@ -22,6 +22,7 @@ SLOTS = 0 ∷ 1 ∷ 2 ∷ 3 ∷ []
 pub record IsFine (ids : List ℕ) (k : ItemKind) : Type 0 where
   pub targets : TargetsIn ids k
   pub slots : SlotsIn SLOTS k
+  pub passed : KindPassesFirst SLOTS k
   pub objects : ObjectsIn [] k
   pub pointer : LeavesPointer k
 
@@ -76,6 +77,7 @@ plain_add ids a b c k = record {
   fine = record {
     targets = tt;
     slots = (tt, three Passed _ _ _ tt tt tt);
+    passed = tt;
     objects = tt;
     pointer = three IsNotPointer _ _ _ (register_apart a) (register_apart b) (register_apart c);
   };
@@ -84,23 +86,29 @@ plain_add ids a b c k = record {
 
 pub plain_copy : (ids : List ℕ) (rd rs : ℕ) (k : Option ℕ) → (rd ≡ 2 → ⊥) → (rs ≡ 2 → ⊥) → IsPlain ids (copy rd rs k)
 plain_copy ids rd zero k p q = record {
-  fine = record { targets = tt; slots = (tt, two Passed _ _ tt tt); objects = tt; pointer = two IsNotPointer _ _ p q };
+  fine = record { targets = tt; slots = (tt, two Passed _ _ tt tt); passed = tt; objects = tt; pointer = two IsNotPointer _ _ p q };
   onward = refl;
 }
 plain_copy ids rd (suc rs) k p q = record {
-  fine = record { targets = tt; slots = (tt, two Passed _ _ tt tt); objects = tt; pointer = two IsNotPointer _ _ p q };
+  fine = record { targets = tt; slots = (tt, two Passed _ _ tt tt); passed = tt; objects = tt; pointer = two IsNotPointer _ _ p q };
   onward = refl;
 }
 
 plain_constant : (ids : List ℕ) (a n k : ℕ) → IsPlain ids (constant (register_of a) n k)
 plain_constant ids a n k = record {
-  fine = record { targets = tt; slots = (tt, three Passed _ _ _ tt tt tt); objects = tt; pointer = three IsNotPointer _ _ _ (register_apart a) zero_apart tt };
+  fine = record {
+    targets = tt;
+    slots = (tt, three Passed _ _ _ tt tt tt);
+    passed = tt;
+    objects = tt;
+    pointer = three IsNotPointer _ _ _ (register_apart a) zero_apart tt;
+  };
   onward = refl;
 }
 
 plain_store : (ids : List ℕ) (rs n : ℕ) → (rs ≡ 2 → ⊥) → n < 4 → IsPlain ids (store rs n)
 plain_store ids rs n p l = record {
-  fine = record { targets = tt; slots = (slot_there n l, three Passed _ _ _ tt tt tt); objects = tt; pointer = three IsNotPointer _ _ _ p tt tt };
+  fine = record { targets = tt; slots = (slot_there n l, three Passed _ _ _ tt tt tt); passed = tt; objects = tt; pointer = three IsNotPointer _ _ _ p tt tt };
   onward = refl;
 }
 
@@ -109,6 +117,7 @@ plain_load ids a n k l = record {
   fine = record {
     targets = tt;
     slots = (slot_there n l, three Passed _ _ _ tt tt tt);
+    passed = tt;
     objects = tt;
     pointer = three IsNotPointer _ _ _ (register_apart a) tt tt;
   };
@@ -116,24 +125,25 @@ plain_load ids a n k l = record {
 }
 
 plain_phi : (ids : List ℕ) (rs k : ℕ) → IsPlain ids (phi rs k)
-plain_phi ids rs k = record { fine = record { targets = tt; slots = tt; objects = tt; pointer = tt }; onward = refl }
+plain_phi ids rs k = record { fine = record { targets = tt; slots = tt; passed = tt; objects = tt; pointer = tt }; onward = refl }
 
 plain_mark : (ids : List ℕ) (n k : ℕ) → IsPlain ids (mark (variable_of n) k)
-plain_mark ids n k = record { fine = record { targets = tt; slots = tt; objects = tt; pointer = tt }; onward = refl }
+plain_mark ids n k = record { fine = record { targets = tt; slots = tt; passed = tt; objects = tt; pointer = tt }; onward = refl }
 
 pub fine_branch : (ids : List ℕ) (a n : ℕ) → Contains ids n → IsFine ids (branch (register_of a) n)
 fine_branch ids a n h = record {
   targets = h;
   slots = (tt, three Passed _ _ _ tt tt tt);
+  passed = tt;
   objects = tt;
   pointer = three IsNotPointer _ _ _ (register_apart a) zero_apart tt;
 }
 
 pub fine_jump : (ids : List ℕ) (n : ℕ) → Contains ids n → IsFine ids (jump n)
-fine_jump ids n h = record { targets = h; slots = (tt, one Passed _ tt); objects = tt; pointer = one IsNotPointer _ tt }
+fine_jump ids n h = record { targets = h; slots = (tt, one Passed _ tt); passed = tt; objects = tt; pointer = one IsNotPointer _ tt }
 
 pub fine_return : (ids : List ℕ) → IsFine ids return
-fine_return ids = record { targets = tt; slots = (tt, one Passed _ tt); objects = tt; pointer = one IsNotPointer _ tt }
+fine_return ids = record { targets = tt; slots = (tt, one Passed _ tt); passed = tt; objects = tt; pointer = one IsNotPointer _ tt }
 
 -- ---- groups
 

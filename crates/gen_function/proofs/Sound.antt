@@ -18,7 +18,7 @@ use Rattle.std.specs.Prelude.{codes}
 use Rattle.mir_func.specs.declared.object.Object.{Object}
 use Rattle.mir_func.specs.Objects.{area_of, IsFixedAt}
 use Rattle.mir_func.specs.Sound.{AreApart, ids_of, items_of, TargetsIn, SlotsIn, ObjectsIn, LeavesPointer, OriginIn, EndsWell, Closes, LastCloses}
-use Rattle.mir_func.specs.Sound.{IsSoundObject, IsSound}
+use Rattle.mir_func.specs.Sound.{IsSoundObject, IsSound, KindPassesFirst}
 use Rattle.mir_func.proofs.Apart.{at_slice_get}
 use Rattle.gen_function.specs.Draws.{Drawn}
 use Rattle.gen_function.specs.Generator.{groups, end, beginning, block_items, placed, block_of, blocks_made, generated}
@@ -188,6 +188,8 @@ generated_is_sound number count some few =
           blocks all;
       slots = blocks_each ids (λ b. All (λ i. SlotsIn SLOTS i.kind) b.items) (λ b h. each ids (λ i. SlotsIn SLOTS i.kind) (λ i k. k.slots) b.items h.fine)
           blocks all;
+      passed = blocks_each ids (λ b. All (λ i. KindPassesFirst SLOTS i.kind) b.items)
+          (λ b h. each ids (λ i. KindPassesFirst SLOTS i.kind) (λ i k. k.passed) b.items h.fine) blocks all;
       objects = blocks_each ids (λ b. All (λ i. ObjectsIn [] i.kind) b.items) (λ b h. each ids (λ i. ObjectsIn [] i.kind) (λ i k. k.objects) b.items h.fine)
           blocks all;
       pointer = blocks_each ids (λ b. All (λ i. LeavesPointer i.kind) b.items) (λ b h. each ids (λ i. LeavesPointer i.kind) (λ i k. k.pointer) b.items h.fine)

@@ -30,8 +30,7 @@ use Rattle.read_program.specs.declared.program.Program.{Program}
 use Rattle.read_program.specs.Limited.{IsLimited, KindIsLimited, LocIsLimited}
 use Rattle.mir_printer.specs.Printable.{Declared, IsNumber, HasNumbers, IsAsDeclared, IsPrintable, IsPrintableKind, IsPrintableLoc}
 use Rattle.base_ids.specs.Limits.{MAX_NUMBER}
-use Rattle.read_proof.proofs.Registers.{registers_read}
-use Rattle.read_proof.specs.Read.{HasReadRegisters, declared_in, EntryIsLimited, IsReadFunction, IsReadProgram}
+use Rattle.read_proof.specs.Read.{declared_in, EntryIsLimited, IsReadFunction, IsReadProgram}
 use Rattle.gen_program.specs.Program.{generated_program}
 use Rattle.gen_program.proofs.Made.{IsMade, adds, copies, gives, sets, stores, loads, phis, marks, branches, jumps, returns, IsMadeItem, IsMadeBlock}
 use Rattle.gen_program.proofs.Made.{few_items}
@@ -108,16 +107,20 @@ constant_signed n l = omega (arith, l)
 zero_signed : 0 < 2 ^ 63
 zero_signed = omega arith
 
+-- a physical register is a register
+below : (r : ℕ) → r < 32 → r < 4128
+below r l = omega (arith, l)
+
 limited_made : {kind : ItemKind} → IsMade TOP kind → KindIsLimited kind
-limited_made (adds rd rs rt k a b c l) = (three IsLimited _ _ _ a.1 b.1 c.1, low k l, refl)
-limited_made (copies rd rs k a b l) = (two IsLimited _ _ a.1 b.1, low k l, refl)
+limited_made (adds rd rs rt k a b c l) = (three IsLimited _ _ _ (below rd a.1) (below rs b.1) (below rt c.1), low k l, refl)
+limited_made (copies rd rs k a b l) = (two IsLimited _ _ (below rd a.1) (below rs b.1), low k l, refl)
 limited_made gives = (two IsLimited _ _ (lit< tt) (lit< tt), tt, refl)
-limited_made (sets rd n k a l m) = (three IsLimited _ _ _ a.1 (lit< tt) (constant_signed n l), low k m, refl)
-limited_made (stores rs n a l) = (three IsLimited _ _ _ a.1 (slot_low n l) zero_signed, tt, refl)
-limited_made (loads rd n k a l m) = (three IsLimited _ _ _ a.1 (slot_low n l) zero_signed, low k m, refl)
-limited_made (phis rs k a l) = (a, low k l)
+limited_made (sets rd n k a l m) = (three IsLimited _ _ _ (below rd a.1) (lit< tt) (constant_signed n l), low k m, refl)
+limited_made (stores rs n a l) = (three IsLimited _ _ _ (below rs a.1) (slot_low n l) zero_signed, tt, refl)
+limited_made (loads rd n k a l m) = (three IsLimited _ _ _ (below rd a.1) (slot_low n l) zero_signed, low k m, refl)
+limited_made (phis rs k a l) = ((a.0, below rs a.1), low k l)
 limited_made (marks n k l m) = ((node_low n l, tt), (low k m, lit≤ tt))
-limited_made (branches rs n a l) = (three IsLimited _ _ _ a.1 (lit< tt) (low n l), tt, refl)
+limited_made (branches rs n a l) = (three IsLimited _ _ _ (below rs a.1) (lit< tt) (low n l), tt, refl)
 limited_made (jumps n l) = (one IsLimited _ (low n l), tt, refl)
 limited_made returns = (one IsLimited _ (lit< tt), tt, refl)
 
@@ -208,7 +211,6 @@ generated_is_read meta number count some few =
         source_end = All-weaker (IsMadeBlock TOP) (λ (b : Block). b.source_end ≡ length b.items) (λ b m. m.source_end) f.blocks made;
       };
       form = of_made (λ i. HasForm i.kind) (λ i m. has_form_made m.made) number count few;
-      registers = of_made (λ i. HasReadRegisters i.kind) (λ i m. registers_read i.kind (physical_made m.made)) number count few;
       limited = of_made (λ i. KindIsLimited i.kind × LocIsLimited i.loc) (λ i m. (limited_made m.made, subst LocIsLimited (sym m.absent) tt)) number
           count few;
       printable = of_made (IsPrintable (declared_in meta f)) (λ i m. printable_item meta number count i m) number count few;
@@ -217,6 +219,10 @@ generated_is_read meta number count some few =
       objects = All-nil (λ (o : Object). o.id ≤ MAX_NUMBER);
       slots = all_slots (λ n. n ≤ MAX_NUMBER) (lit≤ tt) (lit≤ tt) (lit≤ tt) (lit≤ tt);
     }
+
+-- it has no virtual registers
+pub generated_is_physical : (number count : ℕ) → count ≤ 512 → AllItems (λ i. HasPhysical i.kind) (generated number count).blocks
+generated_is_physical number count few = of_made (λ i. HasPhysical i.kind) (λ i m. physical_made m.made) number count few
 
 -- ---- the program
 
@@ -233,9 +239,6 @@ generated_program_is_read number count some few =
       few = lit≤ tt;
       functions = All-cons (λ (f : Parsed). IsReadFunction meta f.func) parsed [] (generated_is_read meta number count some few)
           (All-nil (λ (f : Parsed). IsReadFunction meta f.func));
-      physical = All-cons (λ (f : Parsed). AllItems (λ i. HasPhysical i.kind) f.func.blocks) parsed []
-          (of_made (λ i. HasPhysical i.kind) (λ i m. physical_made m.made) number count few)
-          (All-nil (λ (f : Parsed). AllItems (λ i. HasPhysical i.kind) f.func.blocks));
       substitutions = All-cons (λ (f : Parsed). All EntryIsLimited f.subs) parsed [] (All-nil EntryIsLimited)
           (All-nil (λ (f : Parsed). All EntryIsLimited f.subs));
       locations = λ n. subst (λ (o : Option LocationNode). IfSome (inlined_at_node o) (λ k. k ≤ MAX_NUMBER)) (sym (no_location n)) tt;

@@ -1,3 +1,4 @@
+pub mod Registers
 pub mod Frames
 mod Lists
 mod Wholes

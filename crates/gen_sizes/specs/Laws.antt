@@ -1,8 +1,12 @@
--- The statements of the theorems on sizes.
+-- The statements of the theorems on generated functions.
 use Rattle.std.specs.Prelude.{ℕ, ◌≤◌, List}
 use Rattle.pass_list.specs.declared.kind.PassKind.{PassKind}
-use Rattle.compile_program.specs.Program.{HasLargeFrame, HasLargeSection, steps_of}
+use Rattle.compile_program.specs.Program.{AreAllPhysical, HasLargeFrame, HasLargeSection, steps_of}
 use Rattle.gen_program.specs.Program.{generated_program}
+
+-- No generated function has a virtual register.
+abbrev pub GeneratedArePhysical : Type 0
+GeneratedArePhysical = (number count : ℕ) → count ≤ 512 → AreAllPhysical (generated_program number count).functions
 
 -- No generated function has a frame above the limit after passes.
 abbrev pub GeneratedFramesAreSmall : Type 0

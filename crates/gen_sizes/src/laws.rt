@@ -1,6 +1,12 @@
-//! Theorems on the sizes of what generated functions are compiled to. Each is the contract of an empty function.
+//! Theorems on generated functions, and on the sizes of what they are compiled to. Each is the contract of an empty
+//! function.
 
-ghost use Rattle.gen_sizes.specs.Laws.{GeneratedFramesAreSmall, GeneratedSectionsAreSmall};
+ghost use Rattle.gen_sizes.specs.Laws.{GeneratedArePhysical, GeneratedFramesAreSmall, GeneratedSectionsAreSmall};
+
+/// A generated function has no virtual register.
+pub fn generated_are_physical()
+    ensures { GeneratedArePhysical }
+{}
 
 /// The frame of a generated function isn't above the limit, whatever passes run: it has at most 224 slots and 13 saved
 /// registers, and no stack object.

@@ -25,7 +25,8 @@ abbrev pub IsWay : Maps → (from : Option ℕ) → (calls : List ℕ) → (to :
 IsWay meta from [] to = from ≡ to
 IsWay meta from (n ∷ ns) to = (from ≡ Some n) × IsWay meta (outer_call meta n) ns to
 
--- These are the calls from one on, up to the function's own code. So there are none from a call that leads to one twice: a circle has no end.
+-- These are the calls from one on, up to the function's own code or to a call that isn't readable. So there are none from a call that leads to one twice: a
+-- circle has no end.
 abbrev pub AreCallsFrom : Maps → Option ℕ → List ℕ → Type 0
 AreCallsFrom meta from ns = IsWay meta from ns None
 

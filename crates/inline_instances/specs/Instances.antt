@@ -13,12 +13,13 @@ use Rattle.inline_instances.specs.Words.{InlinedWord, AreInlined, has_call, call
 abbrev pub scope_of_call : Maps → ℕ → Option ℕ
 scope_of_call meta n = option_and_then (λ l. l.scope) (location_at meta n)
 
--- the scope that was inlined by a call: that of the location before it on the way through these calls, which begins in a scope
+-- a scope of the function that was inlined by a call, itself or a lexical block of it: that of the location before the call on the way through these calls,
+-- which begins in a scope
 abbrev pub scope_in : Maps → ℕ → (scope : Option ℕ) → (calls : List ℕ) → Option ℕ
 scope_in meta n scope [] = None
 scope_in meta n scope (m ∷ ms) = cond (nat_eq n m) scope (scope_in meta n (scope_of_call meta m) ms)
 
--- the scope that was inlined by a call, by the first instruction that was inlined through it
+-- a scope of the function that was inlined by a call, by the first instruction that was inlined through it
 abbrev pub inlined_scope : Maps → ℕ → List InlinedWord → Option ℕ
 inlined_scope meta n [] = None
 inlined_scope meta n (w ∷ ws) = cond (has_call n w) (scope_in meta n w.scope w.calls) (inlined_scope meta n ws)
@@ -30,8 +31,8 @@ IsIndexOf calls None (Some n) = ⊥
 IsIndexOf calls (Some k) None = ⊥
 IsIndexOf calls (Some k) (Some n) = slice_get calls k ≡ Some n
 
--- the instance of its call, with an index: it stands in the instance of the call through which its call was inlined itself, which has an earlier index, and has
--- the scope that was inlined
+-- the instance of its call, with an index: it stands in the instance of the call through which its call was inlined itself, which has an earlier index, if that
+-- is readable, and has a scope of the function that was inlined
 pub record IsInstance (meta : Maps) (words : List InlinedWord) (k : ℕ) (i : Instance) : Type 0 where
   pub parent : IsIndexOf (calls_of words) i.parent (outer_call meta i.call)
   pub earlier : IfSome i.parent (λ p. p < k)

@@ -21,7 +21,8 @@ pub record IsInlinedThrough (meta : Maps) (f : SourceAndCode) (e : EncodedInstru
   pub are : AreCallsFrom meta (call_at meta (inlined_at meta (loc_of f.source.now.blocks (position_of e.origin)))) calls
   pub among : Contains calls n
 
--- An address of an instruction is in the ranges of an instance exactly if the instruction was inlined through the instance's call.
+-- An address of an instruction is in the ranges of an instance exactly if the first code at or after the instruction's origin was inlined through the
+-- instance's call.
 abbrev pub RangesAreOfInlinedCode : Type 0
 RangesAreOfInlinedCode = (meta : Maps) (f : SourceAndCode) (inlined : InlinedCode) → AreInstances meta f inlined →
     StandFrom f.code.now.base f.code.now.entries (function_end f) → (e : EncodedInstruction) (address : ℕ) → Contains f.code.now.entries e →

@@ -19,7 +19,8 @@ pub record InlinedWord : Type 0 where
   pub scope : Option ℕ
   pub calls : List ℕ
 
--- the instruction's debug location is that of the first code at or after its origin, in the blocks of the function as it was read
+-- the instruction's debug location is that of the first code at or after its origin, in the blocks of the function as it was read. So that of the prologue is
+-- the one of the function's first code
 pub record IsInlined (meta : Maps) (blocks : List Block) (e : EncodedInstruction) (w : InlinedWord) : Type 0 where
   pub lo : w.lo ≡ e.address
   pub hi : w.hi ≡ e.address + e.size

@@ -9,9 +9,11 @@ use dwarf_rnglists::range::AddressRangeLists;
 pub struct Instance {
     /// The node of the location of the call.
     pub call: NodeId,
-    /// The instance in whose code the call is, by its index, and none for a call in the function's own code.
+    /// The instance in whose code the call is, by its index. None for a call in the function's own code, and for one
+    /// whose own call isn't readable.
     pub parent: Option<usize>,
-    /// The scope that was inlined.
+    /// A scope of the function that was inlined, itself or a lexical block of it: that of the debug location of the
+    /// first instruction that was inlined through the call, or of the location there of the call in its code.
     pub scope: Option<NodeId>,
 }
 
@@ -23,6 +25,7 @@ pub type Instances = List<Instance>;
 pub struct InlinedCode {
     /// The instances.
     pub instances: Instances,
-    /// The addresses of the code of each.
+    /// The addresses of the code of each: of each instruction by the first code at or after its origin, so of the
+    /// prologue's by the function's first code.
     pub ranges: AddressRangeLists,
 }

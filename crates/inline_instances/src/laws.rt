@@ -2,7 +2,8 @@
 
 ghost use Rattle.inline_instances.specs.Laws.{RangesAreOfInlinedCode, RangesAscend, EachCallHasAnInstance};
 
-/// An address is in the ranges of an instance exactly if its instruction was inlined through the instance's call.
+/// An address is in the ranges of an instance exactly if the first code at or after its instruction's origin was inlined
+/// through the instance's call.
 pub fn ranges_are_of_inlined_code()
     ensures { RangesAreOfInlinedCode }
 {}

@@ -2,7 +2,7 @@
 use Rattle.std.proofs.Common.{◌≡◌, ℕ, ◌+◌, ◌<◌, ◌≤◌, List, [], ◌++◌, length, take, Option, Result, Ok, Err, All, refl, ◌∙◌, length-append, arith}
 use Rattle.std.proofs.lemmas.List.{length-take-le}
 use Rattle.std.proofs.lemmas.List.Elements.{All-nil, All-append, All-take}
-use Rattle.base_io.specs.Told.{Takes, TakesCount, IsAtEnd}
+use Rattle.base_io.specs.Told.{Takes, TakesCount, TakesAtMost, IsAtEnd}
 use Rattle.base_io.proofs.ToldLemmas.{Takes-none, Takes-more}
 use Rattle.read_program.specs.declared.program.Program.{Program}
 use Rattle.read_input.specs.declared.error.InputError.{InputError}
@@ -19,7 +19,8 @@ whole before after faults_before faults_after limit text (Ok program) takes ende
     (record { text = text; takes = takes; ended = ended; within = within; bytes = bytes; reads = said }, steady)
 whole before after faults_before faults_after limit text (Err (Refused r)) takes ended within bytes steady said =
     (record { text = text; takes = takes; ended = ended; within = within; bytes = bytes; reads = said }, steady)
-whole before after faults_before faults_after limit text (Err Memory) takes ended within bytes steady said = tt
+whole before after faults_before faults_after limit text (Err Memory) takes ended within bytes steady said =
+    (text, omega (arith, within), takes)
 whole before after faults_before faults_after limit text (Err Failed) takes ended within bytes steady said = absurd said
 whole before after faults_before faults_after limit text (Err TooLong) takes ended within bytes steady said = absurd said
 
@@ -32,6 +33,11 @@ IsFront before now reader taken =
 pub front-none : (before : Option (List ℕ)) (reader : ProgramReader) → IsReadingOf reader [] → IsFront before before reader 0
 front-none before reader reading = ([], refl, All-nil (λ (b : ℕ). b < 256), Takes-none before, reading)
 
+-- no more than so many bytes
+pub front-within : (before now : Option (List ℕ)) (reader : ProgramReader) (taken most : ℕ) → taken ≤ most → IsFront before now reader taken →
+    TakesAtMost before now most
+front-within before now reader taken most within (text, long, all, took, reading) = (text, omega (arith, long, within), took)
+
 -- one byte more than the limit
 pub front-too_long : (before now : Option (List ℕ)) (reader : ProgramReader) (taken count : ℕ) → taken ≡ count → IsFront before now reader taken →
     TakesCount before now count
@@ -43,6 +49,16 @@ pub front-whole : (before now : Option (List ℕ)) (faults_before faults_now lim
     IsFront before now reader taken → Answers before now faults_before faults_now limit answer
 front-whole before now faults_before faults_now limit taken reader answer ended within steady answers (text, long, all, took, reading) =
     whole before now faults_before faults_now limit text answer took ended (omega (arith, long, within)) all steady (answers text reading)
+
+-- no more than so many bytes, with one piece more
+pub front-most : (before now next : Option (List ℕ)) (reader : ProgramReader) (taken count most : ℕ) (piece : List ℕ) → count ≤ length piece →
+    taken + count ≤ most → Takes now next (take count piece) → IsFront before now reader taken → TakesAtMost before next most
+front-most before now next reader taken count most piece within fits takes (text, long, all, took, reading) =
+    let piece_long = length-take-le count piece within in (
+      text ++ take count piece,
+      omega (arith, length-append text (take count piece), piece_long, long, fits),
+      Takes-more before now next text (take count piece) took takes,
+    )
 
 -- with one piece more
 pub front-more : (before now next : Option (List ℕ)) (reader after : ProgramReader) (taken count : ℕ) (piece : List ℕ) → count ≤ length piece →

@@ -1,7 +1,7 @@
 -- The program that is read from an input.
 use Rattle.std.specs.Prelude.{◌≡◌, ℕ, ◌+◌, ◌<◌, ◌≤◌, List, length, Option, Result, Ok, Err, All}
 use Rattle.base_io.specs.Faults.{CountRose}
-use Rattle.base_io.specs.Told.{Takes, TakesCount, IsAtEnd}
+use Rattle.base_io.specs.Told.{Takes, TakesCount, TakesAtMost, IsAtEnd}
 use Rattle.read_program.specs.declared.program.Program.{Program}
 use Rattle.read_program.specs.declared.error.ParseError.{ParseError}
 use Rattle.read_program.specs.declared.error.ParseError.TheVariants as errors
@@ -26,12 +26,14 @@ pub record IsReadWhole (before after : Option (List ℕ)) (limit : ℕ) (answer 
   pub bytes : All (λ b. b < 256) text
   pub reads : ReadsText text answer
 
--- the answer for an input: that for its text, which was read whole; or one byte more than the limit was taken; or a read failed; or memory ran out
+-- The answer for an input: that for its text, which was read whole; or one byte more than the limit was taken; or a read failed, or memory ran out, and
+-- no more than one byte beyond the limit was taken.
 abbrev pub Answers : (before after : Option (List ℕ)) → (faults_before faults_after : ℕ) → (limit : ℕ) → Result Program InputError → Type 0
 Answers before after faults_before faults_after limit (Ok program) =
     IsReadWhole before after limit (Ok program) × (faults_after ≡ faults_before)
 Answers before after faults_before faults_after limit (Err (Refused r)) =
     IsReadWhole before after limit (Err (errors.Refused r)) × (faults_after ≡ faults_before)
 Answers before after faults_before faults_after limit (Err TooLong) = TakesCount before after (limit + 1) × (faults_after ≡ faults_before)
-Answers before after faults_before faults_after limit (Err Failed) = CountRose faults_before faults_after
-Answers before after faults_before faults_after limit (Err Memory) = Unit {0}
+Answers before after faults_before faults_after limit (Err Failed) =
+    TakesAtMost before after (limit + 1) × CountRose faults_before faults_after
+Answers before after faults_before faults_after limit (Err Memory) = TakesAtMost before after (limit + 1)

@@ -15,14 +15,17 @@ use read_program::error::ParseError;
 use read_program::program::Program;
 use std::alloc::Global;
 
-/// How many bytes are read at a time at most.
+/// How many bytes the first piece has at most.
+const FIRST_CHUNK: usize = 4 * 1024;
+
+/// How many bytes a piece has at most.
 const CHUNK: usize = 64 * 1024;
 
 /// Reads an input to its end, and gives the program in it. Each iteration takes a byte or ends, and no more than one
 /// byte beyond the limit is read.
 ///
-/// `Failed`: the first read that failed ended the reading. `TooLong`: the input had more than `limit` bytes, and
-/// `limit + 1` of them were read. Both come before any refusal.
+/// `Failed`: a read failed. `TooLong`: the input had more than `limit` bytes, and `limit + 1` of them were read. Both
+/// come before any refusal.
 pub fn read_input<S: Source>(
     alloc: Global,
     input: &mut S,
@@ -34,12 +37,11 @@ pub fn read_input<S: Source>(
     ensures counts { S.faults input.old ≤ S.faults input.new }
 {
     let mut chunk = Vec::new(alloc);
-    chunk.resize(CHUNK, 0)?;
     let mut reader = ProgramReader::new(alloc);
     let mut taken = 0;
     while taken <= limit {
-        let room = CHUNK.min(limit + 1 - taken);
-        let count = read_piece(input, &mut chunk, room)?;
+        chunk.resize(piece_size(taken, limit + 1 - taken), 0)?;
+        let count = read_piece(input, &mut chunk)?;
         if count == 0 {
             return finished(alloc, reader);
         }
@@ -49,36 +51,29 @@ pub fn read_input<S: Source>(
     Err(InputError::TooLong)
 }
 
-/// Reads a piece of at most so many bytes into the front of a chunk, and gives its length. 0 is the end of the input.
-fn read_piece<S: Source>(input: &mut S, chunk: &mut Vec<u8>, most: usize) -> Result<usize, Failed>
-    requires some { 0 < most }
-    requires fits { most ≤ length chunk.old.items }
+/// How many bytes are read next at most, where so many were taken and so many may be left: as many again, within bounds.
+fn piece_size(taken: usize, left: usize) -> usize
+    requires { 0 < left }
+    ensures some { 0 < result }
+    ensures within { result ≤ left }
+{
+    taken.clamp(FIRST_CHUNK, CHUNK).min(left)
+}
+
+/// Reads a piece into the front of a chunk, and gives its length. 0 is the end of the input.
+fn read_piece<S: Source>(input: &mut S, chunk: &mut Vec<u8>) -> Result<usize, Failed>
+    requires { 0 < length chunk.old.items }
     ensures length { length chunk.new.items ≡ length chunk.old.items }
-    ensures within { IfOk result (λ n. n ≤ most) }
+    ensures within { IfOk result (λ n. n ≤ length chunk.new.items) }
     ensures takes { IfOk result (λ n. Takes (S.left input.old) (S.left input.new) (take n chunk.new.items)) }
     ensures bytes { All (λ b. b < 256) chunk.new.items }
     ensures end { result ≡ Ok 0 → IsAtEnd (S.left input.new) }
+    ensures kept { OnErr result (S.left input.new ≡ S.left input.old) }
     ensures steady { OnOk result (S.faults input.new ≡ S.faults input.old) }
     ensures failed { OnErr result (CountRose (S.faults input.old) (S.faults input.new)) }
     ensures counts { S.faults input.old ≤ S.faults input.new }
 {
-    read_front(input, chunk.as_mut_slice(), most)
-}
-
-/// The same of a buffer.
-fn read_front<S: Source>(input: &mut S, buffer: &mut [u8], most: usize) -> Result<usize, Failed>
-    requires some { 0 < most }
-    requires fits { most ≤ length buffer.old }
-    ensures length { length buffer.new ≡ length buffer.old }
-    ensures within { IfOk result (λ n. n ≤ most) }
-    ensures takes { IfOk result (λ n. Takes (S.left input.old) (S.left input.new) (take n buffer.new)) }
-    ensures bytes { All (λ b. b < 256) buffer.new }
-    ensures end { result ≡ Ok 0 → IsAtEnd (S.left input.new) }
-    ensures steady { OnOk result (S.faults input.new ≡ S.faults input.old) }
-    ensures failed { OnErr result (CountRose (S.faults input.old) (S.faults input.new)) }
-    ensures counts { S.faults input.old ≤ S.faults input.new }
-{
-    input.read(&mut buffer[..most])
+    input.read(chunk.as_mut_slice())
 }
 
 /// The answer of a reader that was given a whole text.

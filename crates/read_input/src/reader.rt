@@ -45,15 +45,30 @@ impl ProgramReader {
             let Some(end) = line_feed(rest) else {
                 return self.line.extend_from_slice(rest);
             };
-            self.line.extend_from_slice(&rest[..end])?;
-            self.end_line(alloc)?;
+            self.end_line(alloc, &rest[..end])?;
             rest = &rest[end + 1..];
         }
         Ok(())
     }
 
+    /// Takes the line that has these bytes at its end, at its LF. One that is whole in them isn't copied.
+    fn end_line(&mut self, alloc: Global, end: &[u8]) -> Result<(), AllocError>
+        requires unrefused { self.old.program.refused ≡ None }
+        requires few { self.old.program.lines + 1 < 2 ^ 32 }
+        ensures lines { OnOk result (self.new.program.lines ≡ self.old.program.lines + 1) }
+        ensures reading { OnOk result ((front : List ℕ) →
+            IsReadingOf (record self.old { line = self.old.line ++ end.now }) front →
+            IsReadingOf self.new (front ++ 10 ∷ [])) }
+    {
+        if self.line.is_empty() {
+            return self.program.take(alloc, without_carriage_return(end));
+        }
+        self.line.extend_from_slice(end)?;
+        self.end_held_line(alloc)
+    }
+
     /// Takes the line whose bytes have come, at its LF.
-    fn end_line(&mut self, alloc: Global) -> Result<(), AllocError>
+    fn end_held_line(&mut self, alloc: Global) -> Result<(), AllocError>
         requires unrefused { self.old.program.refused ≡ None }
         requires few { self.old.program.lines + 1 < 2 ^ 32 }
         ensures lines { OnOk result (self.new.program.lines ≡ self.old.program.lines + 1) }

@@ -1,6 +1,6 @@
 -- The instruction that a line of code is, or why the line is refused.
 use Rattle.std.specs.Prelude.{ℕ, ℤ, ◌+◌, Bool, true, false, not, ◌&&◌, ◌||◌, nat_eq, nat_lt, if◌then◌else◌, length, List, [], ◌∷◌, ◌++◌, pos, Option, Some}
-use Rattle.std.specs.Prelude.{None, Result, Ok, Err}
+use Rattle.std.specs.Prelude.{None, is_none, unwrap_or, Result, Ok, Err}
 use Rattle.std.specs.List.{list_any, zip}
 use Rattle.read_refusal.specs.declared.kind.RefusalKind.{RefusalKind}
 use Rattle.read_refusal.specs.declared.kind.RefusalKind.TheVariants as kinds
@@ -42,12 +42,26 @@ refusal_by (r ∷ rs) = if r.broken then Some r.refusal else refusal_by rs
 abbrev pub STAND_IN : ℕ
 STAND_IN = 10
 
--- the number of a register. A virtual register counts as x10 here, since it has a check of its own
-abbrev pub number_of : RegisterName → Option ℕ
-number_of (Physical r) = Some r
-number_of (Virtual n) = Some STAND_IN
-number_of Absent = None
-number_of Other = None
+-- how many virtual registers there are: `%0` to `%4095`
+abbrev pub VIRTUALS : ℕ
+VIRTUALS = 4096
+
+-- the number of the virtual register `%N`, if there is one: numbers 0 to 31 are those of x0 to x31
+abbrev pub virtual_register : ℕ → Option ℕ
+virtual_register n = if nat_lt n VIRTUALS then Some (32 + n) else None
+
+-- the number of `%N` as an operand of code. One that is refused counts as x10, since it has a check of its own
+abbrev pub virtual_operand : Flag → ℕ → ℕ
+virtual_operand Plain n = unwrap_or (virtual_register n) STAND_IN
+virtual_operand Implicit n = STAND_IN
+virtual_operand ImplicitDef n = STAND_IN
+
+-- the number of a register as an operand of code
+abbrev pub number_of : Flag → RegisterName → Option ℕ
+number_of flag (Physical r) = Some r
+number_of flag (Virtual n) = Some (virtual_operand flag n)
+number_of flag Absent = None
+number_of flag Other = None
 
 -- a register after the opcode: a use, an implicit use or an implicit def
 abbrev pub named : Flag → ℕ → Operand
@@ -79,7 +93,7 @@ number_operand (Some i) = Some (operand.Imm i)
 
 -- the instruction operand for an operand of the line at a position; none if it can't be one in code
 abbrev pub operand_at : OperandKind → OperandForm → Option Operand
-operand_at p (form.Register r) = used r.flag (number_of r.name)
+operand_at p (form.Register r) = used r.flag (number_of r.flag r.name)
 operand_at p (form.Integer i) = number_operand i
 operand_at p (form.Slot n) = stack_operand p n
 operand_at p (form.Block n) = Some (operand.Block n)
@@ -114,7 +128,7 @@ set_by ImplicitDef n = None
 
 -- the def for a register before the `=`, if it is a known register without a flag
 abbrev pub definition : RegisterForm → Option Operand
-definition r = set_by r.flag (number_of r.name)
+definition r = set_by r.flag (number_of r.flag r.name)
 
 -- the defs for the registers before the `=`, if all exist
 unfoldable pub definitions : List RegisterForm → Option (List Operand)
@@ -150,14 +164,21 @@ abbrev pub fits : Op → Option (List Operand) → Bool
 fits op None = false
 fits op (Some operands) = has_form op operands
 
--- whether a register is virtual, `%N`, which is refused in code
-abbrev pub is_virtual : RegisterForm → Bool
-is_virtual r = elim r.name as (λ _. Bool) [ Physical n ↦ false | Absent ↦ false | Other ↦ false | Virtual n ↦ true ]
+-- whether `%N` is refused as an operand of code: an implicit one, and one after `%4095`
+abbrev pub is_refused_number : Flag → ℕ → Bool
+is_refused_number Plain n = is_none (virtual_register n)
+is_refused_number Implicit n = true
+is_refused_number ImplicitDef n = true
 
--- whether an operand is a virtual register
-abbrev pub is_virtual_operand : OperandForm → Bool
-is_virtual_operand (form.Register r) = is_virtual r
-is_virtual_operand _ = false
+-- whether a register is a virtual one that is refused
+abbrev pub is_refused_virtual : RegisterForm → Bool
+is_refused_virtual r =
+    elim r.name as (λ _. Bool) [ Physical n ↦ false | Absent ↦ false | Other ↦ false | Virtual n ↦ is_refused_number r.flag n ]
+
+-- whether an operand is a virtual register that is refused
+abbrev pub is_refused_operand : OperandForm → Bool
+is_refused_operand (form.Register r) = is_refused_virtual r
+is_refused_operand _ = false
 
 -- whether a register is the physical one of this number, without a flag
 abbrev pub is_named : Flag → RegisterName → ℕ → Bool
@@ -196,7 +217,7 @@ is_long line = nat_lt MAX_OPERANDS (length line.definitions + length line.operan
 abbrev pub code_rules : Op → ItemForm → List Rule
 code_rules op line =
     record { broken = line.exceeds || not (fits op (operands_of op line)); refusal = kinds.BadOperands } ∷
-    record { broken = list_any is_virtual line.definitions || list_any is_virtual_operand line.operands; refusal = kinds.VirtualRegister } ∷
+    record { broken = list_any is_refused_virtual line.definitions || list_any is_refused_operand line.operands; refusal = kinds.VirtualRegister } ∷
     record { broken = list_any is_pointer line.definitions || list_any is_pointer_operand line.operands; refusal = kinds.StackPointerUse } ∷
     record { broken = list_any is_misplaced (zip (places_of op line) line.operands); refusal = kinds.StackObject } ∷
     record { broken = is_long line; refusal = kinds.TooMany } ∷ []

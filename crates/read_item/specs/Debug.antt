@@ -30,18 +30,23 @@ use Rattle.read_item.specs.declared.debug.MarkForm.{MarkForm}
 use Rattle.read_item.specs.declared.debug.PhiForm.{PhiForm}
 use Rattle.read_item.specs.declared.opcode.DebugOpcode.{DebugOpcode}
 use Rattle.read_item.specs.declared.opcode.DebugOpcode.TheVariants as debug
-use Rattle.read_item.specs.Code.{Rule, is_long, refusal_by}
+use Rattle.read_item.specs.Code.{Rule, is_long, refusal_by, virtual_register}
 
 -- the value of a DBG_VALUE of a register: the constant 0 for x0, and undef for the stack pointer x2
 abbrev pub content_value : ℕ → MarkValue
 content_value r = if nat_eq r 0 then Constant (pos 0) else (if nat_eq r 2 then Nothing else At r)
 
--- the value of a DBG_VALUE of a register operand: undef for `$noreg` and for a virtual, unknown or flagged register
+-- the value of a DBG_VALUE of a virtual register, and undef if there is none
+abbrev pub virtual_value : Option ℕ → MarkValue
+virtual_value None = Nothing
+virtual_value (Some r) = At r
+
+-- the value of a DBG_VALUE of a register operand: undef for `$noreg` and for an unknown or flagged register
 abbrev pub register_value : Flag → RegisterName → MarkValue
 register_value Plain (Physical r) = content_value r
 register_value Plain Absent = Nothing
 register_value Plain Other = Nothing
-register_value Plain (Virtual n) = Nothing
+register_value Plain (Virtual n) = virtual_value (virtual_register n)
 register_value Implicit name = Nothing
 register_value ImplicitDef name = Nothing
 
@@ -50,7 +55,7 @@ abbrev pub number_value : Option ℤ → MarkValue
 number_value None = Nothing
 number_value (Some i) = Constant i
 
--- the value of a DBG_VALUE by its first operand: a physical register, or a constant of 64 bits; else undef
+-- the value of a DBG_VALUE by its first operand: a register, or a constant of 64 bits; else undef
 abbrev pub operand_value : OperandForm → MarkValue
 operand_value (form.Register r) = register_value r.flag r.name
 operand_value (form.Integer i) = number_value i
@@ -130,12 +135,17 @@ list_mark _ = None
 abbrev pub content_place : ℕ → Option Place
 content_place r = if nat_eq r 0 then Some (content.Const (pos 0)) else (if nat_eq r 2 then None else Some (content.Register r))
 
+-- the location of a DBG_PHI of a virtual register, if there is one
+abbrev pub virtual_place : Option ℕ → Option (Option Place)
+virtual_place None = None
+virtual_place (Some r) = Some (Some (content.Register r))
+
 -- the location of a DBG_PHI of a register operand: none for `$noreg` and x2. The outer option is empty if the operand isn't allowed
 abbrev pub register_place : Flag → RegisterName → Option (Option Place)
 register_place Plain (Physical r) = Some (content_place r)
 register_place Plain Absent = Some None
 register_place Plain Other = None
-register_place Plain (Virtual n) = None
+register_place Plain (Virtual n) = virtual_place (virtual_register n)
 register_place Implicit name = None
 register_place ImplicitDef name = None
 

@@ -5,8 +5,9 @@ ghost use Rattle.std.specs.List.{list_any, zip};
 ghost use Rattle.read_refusal.specs.declared.kind.RefusalKind.{RefusalKind};
 ghost use Rattle.read_item.specs.declared.judged.JudgeError.TheVariants.{Refused};
 ghost use Rattle.read_item.specs.Code.{
-  is_virtual,
-  is_virtual_operand,
+  is_refused_number,
+  is_refused_virtual,
+  is_refused_operand,
   is_pointer,
   is_pointer_operand,
   is_misplaced,
@@ -17,7 +18,7 @@ ghost use Rattle.read_item.specs.Code.{
 };
 
 use crate::judged::JudgeError;
-use crate::operand::{operands_of, places_of};
+use crate::operand::{operands_of, places_of, virtual_register};
 use crate::place::OperandKind;
 use read_line::form::{ItemForm, OperandForm, RegisterForm};
 use read_refusal::kind::RefusalKind;
@@ -29,20 +30,30 @@ use std::alloc::Global;
 /// How many operands a line may have, counting the registers before the `=` and implicit ones.
 pub const MAX_OPERANDS: usize = 64;
 
-fn is_virtual(register: &RegisterForm) -> bool
-    ensures { result ≡ is_virtual register.now }
+/// Whether `%N` is refused as an operand of code.
+fn is_refused_number(flag: Flag, number: u32) -> bool
+    ensures { result ≡ is_refused_number flag number }
+{
+    match flag {
+        Flag::Plain => virtual_register(number).is_none(),
+        Flag::Implicit | Flag::ImplicitDef => true,
+    }
+}
+
+fn is_refused_virtual(register: &RegisterForm) -> bool
+    ensures { result ≡ is_refused_virtual register.now }
 {
     match register.name {
-        RegisterName::Virtual(_) => true,
+        RegisterName::Virtual(number) => is_refused_number(register.flag, number),
         RegisterName::Physical(_) | RegisterName::Absent | RegisterName::Other => false,
     }
 }
 
-fn is_virtual_operand(form: &OperandForm) -> bool
-    ensures { result ≡ is_virtual_operand form.now }
+fn is_refused_operand(form: &OperandForm) -> bool
+    ensures { result ≡ is_refused_operand form.now }
 {
     match form {
-        OperandForm::Register(register) => is_virtual(register),
+        OperandForm::Register(register) => is_refused_virtual(register),
         _ => false,
     }
 }
@@ -66,24 +77,24 @@ fn is_pointer_operand(form: &OperandForm) -> bool
     }
 }
 
-fn sets_virtual(registers: &[RegisterForm]) -> bool
-    ensures { result ≡ list_any is_virtual registers.now }
+fn sets_refused(registers: &[RegisterForm]) -> bool
+    ensures { result ≡ list_any is_refused_virtual registers.now }
 {
-    registers.iter().any(is_virtual)
+    registers.iter().any(is_refused_virtual)
 }
 
-fn uses_virtual(forms: &[OperandForm]) -> bool
-    ensures { result ≡ list_any is_virtual_operand forms.now }
+fn uses_refused(forms: &[OperandForm]) -> bool
+    ensures { result ≡ list_any is_refused_operand forms.now }
 {
-    forms.iter().any(is_virtual_operand)
+    forms.iter().any(is_refused_operand)
 }
 
-/// Whether a line names a virtual register.
-fn names_virtual(line: &ItemForm) -> bool
-    ensures { result ≡ (list_any is_virtual line.now.definitions || list_any is_virtual_operand line.now.operands) }
+/// Whether a line names a virtual register that is refused.
+fn names_refused(line: &ItemForm) -> bool
+    ensures { result ≡ (list_any is_refused_virtual line.now.definitions || list_any is_refused_operand line.now.operands) }
 {
-    let set = sets_virtual(line.definitions.as_slice());
-    let used = uses_virtual(line.operands.as_slice());
+    let set = sets_refused(line.definitions.as_slice());
+    let used = uses_refused(line.operands.as_slice());
     set || used
 }
 
@@ -140,8 +151,9 @@ pub fn is_long(line: &ItemForm) -> bool
 }
 
 /// The instruction that a line of code is. It is refused with the first of these that holds: `BadOperands` if the
-/// operands don't have the form of the opcode or a number is above its limit, `VirtualRegister`, `StackPointerUse`,
-/// `StackObject` for a `%stack.N` at a position that takes none, `TooMany` for more than 64 operands.
+/// operands don't have the form of the opcode or a number is above its limit, `VirtualRegister` for an implicit virtual
+/// register or one after `%4095`, `StackPointerUse`, `StackObject` for a `%stack.N` at a position that takes none,
+/// `TooMany` for more than 64 operands.
 #[tactic(auto, unfolding(crate::specs::Code::code_of))]
 pub fn code_of(alloc: Global, op: Op, line: &ItemForm) -> Result<Instr, JudgeError>
     ensures ok { IfOk result (λ instr. code_of op line.now ≡ Ok instr) }
@@ -156,7 +168,7 @@ pub fn code_of(alloc: Global, op: Op, line: &ItemForm) -> Result<Instr, JudgeErr
     if line.exceeds {
         return Err(JudgeError::Refused(RefusalKind::BadOperands));
     }
-    if names_virtual(line) {
+    if names_refused(line) {
         return Err(JudgeError::Refused(RefusalKind::VirtualRegister));
     }
     if names_pointer(line) {

@@ -4,6 +4,7 @@ ghost use Rattle.std.specs.Prelude.{◌≡◌, Ok, Err};
 ghost use Rattle.read_refusal.specs.declared.kind.RefusalKind.{RefusalKind};
 ghost use Rattle.read_item.specs.Debug.{
   content_value,
+  virtual_value,
   register_value,
   operand_value,
   is_direct,
@@ -16,6 +17,7 @@ ghost use Rattle.read_item.specs.Debug.{
   reference_mark,
   list_mark,
   content_place,
+  virtual_place,
   phi_place,
   counted,
   count_in,
@@ -30,6 +32,7 @@ ghost use Rattle.read_item.specs.Debug.{
 
 use crate::code::is_long;
 use crate::opcode::DebugOpcode;
+use crate::operand::virtual_register;
 use base_ids::function_ids::DebugNumber;
 use base_ids::metadata::NodeId;
 use mir_func::item::ItemKind;
@@ -93,14 +96,24 @@ fn operand_value(form: &OperandForm) -> MarkValue
     }
 }
 
+/// The value of a DBG_VALUE of a virtual register, and undef if there is none.
+fn virtual_value(register: Option<Reg>) -> MarkValue
+    ensures { result ≡ virtual_value register }
+{
+    match register {
+        Some(register) => MarkValue::At(register),
+        None => MarkValue::Nothing,
+    }
+}
+
 fn register_value(flag: Flag, name: RegisterName) -> MarkValue
     ensures { result ≡ register_value flag name }
 {
     match flag {
         Flag::Plain => match name {
             RegisterName::Physical(register) => content_value(register),
-            RegisterName::Absent | RegisterName::Other | RegisterName::Virtual(_) =>
-                MarkValue::Nothing,
+            RegisterName::Virtual(number) => virtual_value(virtual_register(number)),
+            RegisterName::Absent | RegisterName::Other => MarkValue::Nothing,
         },
         Flag::Implicit | Flag::ImplicitDef => MarkValue::Nothing,
     }
@@ -253,6 +266,16 @@ fn content_place(register: Reg) -> Option<Place>
     }
 }
 
+/// The location of a DBG_PHI of a virtual register, if there is one.
+fn virtual_place(register: Option<Reg>) -> Option<Option<Place>>
+    ensures { result ≡ virtual_place register }
+{
+    match register {
+        Some(register) => Some(Some(Place::Register(register))),
+        None => None,
+    }
+}
+
 /// The location of a DBG_PHI by its first operand; the outer `Option` is `None` if the operand isn't allowed.
 fn phi_place(form: &OperandForm) -> Option<Option<Place>>
     ensures { result ≡ phi_place form.now }
@@ -261,8 +284,9 @@ fn phi_place(form: &OperandForm) -> Option<Option<Place>>
         OperandForm::Register(register) => match register.flag {
             Flag::Plain => match register.name {
                 RegisterName::Physical(register) => Some(content_place(register)),
+                RegisterName::Virtual(number) => virtual_place(virtual_register(number)),
                 RegisterName::Absent => Some(None),
-                RegisterName::Other | RegisterName::Virtual(_) => None,
+                RegisterName::Other => None,
             },
             Flag::Implicit | Flag::ImplicitDef => None,
         },

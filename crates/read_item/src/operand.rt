@@ -2,6 +2,8 @@
 
 ghost use Rattle.std.specs.Prelude.{◌≡◌, IfOk, Ok, Some};
 ghost use Rattle.read_item.specs.Code.{
+  virtual_register,
+  virtual_operand,
   number_of,
   named,
   stack_operand,
@@ -28,13 +30,34 @@ use rv64_instr::operand::{Operand, Operands};
 use rv64_instr::reg::{Reg, physical};
 use std::alloc::{AllocError, Global};
 
-/// The register of a name, if code may use it. A virtual register counts as x10 here.
-fn number_of(name: RegisterName) -> Option<Reg>
-    ensures { result ≡ number_of name }
+/// The virtual register `%N`, and `None` after `%4095`.
+pub fn virtual_register(number: u32) -> Option<Reg>
+    ensures { result ≡ virtual_register number }
+{
+    if number < 4096 {
+        Reg::new(32 + number)
+    } else {
+        None
+    }
+}
+
+/// `%N` as an operand of code. One that is refused counts as x10.
+fn virtual_operand(flag: Flag, number: u32) -> Option<Reg>
+    ensures { result ≡ Some (virtual_operand flag number) }
+{
+    match flag {
+        Flag::Plain => virtual_register(number).or(physical(10)),
+        Flag::Implicit | Flag::ImplicitDef => physical(10),
+    }
+}
+
+/// The register of a name, if code may use it.
+fn number_of(flag: Flag, name: RegisterName) -> Option<Reg>
+    ensures { result ≡ number_of flag name }
 {
     match name {
         RegisterName::Physical(register) => Some(register),
-        RegisterName::Virtual(_) => physical(10),
+        RegisterName::Virtual(number) => virtual_operand(flag, number),
         RegisterName::Absent | RegisterName::Other => None,
     }
 }
@@ -75,7 +98,7 @@ fn operand_at(
     ensures { IfOk result (λ operand. operand ≡ operand_at place form.now) }
 {
     match form {
-        OperandForm::Register(register) => match number_of(register.name) {
+        OperandForm::Register(register) => match number_of(register.flag, register.name) {
             Some(number) => Ok(Some(named(register.flag, number))),
             None => Ok(None),
         },
@@ -96,7 +119,7 @@ fn definition(register: RegisterForm) -> Option<Operand>
     ensures { result ≡ definition register }
 {
     match register.flag {
-        Flag::Plain => Some(Operand::Def(number_of(register.name)?)),
+        Flag::Plain => Some(Operand::Def(number_of(register.flag, register.name)?)),
         Flag::Implicit | Flag::ImplicitDef => None,
     }
 }

@@ -1,6 +1,6 @@
 -- The node with given fields, by its kind. (LLVM Language Reference Manual, "DILocalVariable", "DILocation", "DIFile", "DIBasicType", "DISubprogram",
 -- "DILexicalBlock" and "DILexicalBlockFile".)
-use Rattle.std.specs.Prelude.{ℕ, ◌/◌, ◌%◌, Bool, ◌&&◌, ◌||◌, ◌==◌, nat_le, if◌then◌else◌, unwrap_or, codes, List, Option, Some, None}
+use Rattle.std.specs.Prelude.{ℕ, ◌/◌, ◌%◌, Bool, ◌&&◌, ◌||◌, ◌==◌, nat_le, if◌then◌else◌, unwrap_or, codes, List, [], Option, Some, None}
 use Rattle.std.specs.Str.{bytes_eq}
 use Rattle.read_metadata.specs.declared.field.Field.{Field}
 use Rattle.read_metadata.specs.declared.node.Node.{Node}
@@ -10,9 +10,9 @@ use Rattle.read_metadata.specs.Encoding.{DW_ATE_UTF}
 use Rattle.read_metadata.specs.Text.{text_value}
 use Rattle.read_metadata.specs.Field.{number_at, node_at, text_at, word_at}
 
--- whether nodes of a kind are scopes with a file
-unfoldable pub is_scope : List ℕ → Bool
-is_scope kind = bytes_eq kind (codes "!DISubprogram") || (bytes_eq kind (codes "!DILexicalBlock") || bytes_eq kind (codes "!DILexicalBlockFile"))
+-- whether nodes of a kind are lexical blocks
+unfoldable pub is_block : List ℕ → Bool
+is_block kind = bytes_eq kind (codes "!DILexicalBlock") || bytes_eq kind (codes "!DILexicalBlockFile")
 
 -- the code of a base type's encoding, if it is supported (DWARF 5, section 7.8)
 unfoldable pub encoding_code : List ℕ → Option ℕ
@@ -57,10 +57,15 @@ abbrev pub base_type_with : Option (List ℕ) → Option ℕ → Option ℕ → 
 base_type_with (Some name) (Some size) (Some encoding) = Some (nodes.BaseType (record { name = text_value name; size = size; encoding = encoding }))
 base_type_with _ _ _ = None
 
--- a scope, if its field is readable
-abbrev pub scope_with : Option (Option ℕ) → Option Node
-scope_with None = None
-scope_with (Some file) = Some (nodes.Scope file)
+-- a subprogram, if its file is readable. A name that isn't readable is as if it were missing
+abbrev pub subprogram_with : Option (List ℕ) → Option (Option ℕ) → Option Node
+subprogram_with name None = None
+subprogram_with name (Some file) = Some (nodes.Subprogram (record { name = text_value (unwrap_or name []); file = file }))
+
+-- a lexical block, if its file is readable. A scope that isn't readable is as if it were missing
+abbrev pub block_with : Option (Option ℕ) → Option (Option ℕ) → Option Node
+block_with scope None = None
+block_with scope (Some file) = Some (nodes.Block (record { scope = unwrap_or scope None; file = file }))
 
 -- what is read from a value, if there is one
 abbrev pub and_read : {A B : Type 0} → Option A → (A → Option B) → Option B
@@ -85,9 +90,13 @@ unfoldable pub base_type_of : List ℕ → List Field → Option Node
 base_type_of line fields = base_type_with (text_at line (codes "name") fields) (and_read (number_at line (codes "size") fields) size_in_bytes)
     (and_read (word_at line (codes "encoding") fields) encoding_code)
 
--- the scope with these fields
-unfoldable pub scope_of : List ℕ → List Field → Option Node
-scope_of line fields = scope_with (node_at line (codes "file") fields)
+-- the subprogram with these fields
+unfoldable pub subprogram_of : List ℕ → List Field → Option Node
+subprogram_of line fields = subprogram_with (text_at line (codes "name") fields) (node_at line (codes "file") fields)
+
+-- the lexical block with these fields
+unfoldable pub block_of : List ℕ → List Field → Option Node
+block_of line fields = block_with (node_at line (codes "scope") fields) (node_at line (codes "file") fields)
 
 -- the node of this kind with these fields; none if nodes of the kind aren't kept
 unfoldable pub node_of_kind : List ℕ → List ℕ → List Field → Option Node
@@ -96,5 +105,6 @@ node_of_kind line kind fields =
     else (if bytes_eq kind (codes "!DILocation") then location_of line fields
     else (if bytes_eq kind (codes "!DIFile") then file_of line fields
     else (if bytes_eq kind (codes "!DIBasicType") then base_type_of line fields
-    else (if is_scope kind then scope_of line fields
-    else None))))
+    else (if bytes_eq kind (codes "!DISubprogram") then subprogram_of line fields
+    else (if is_block kind then block_of line fields
+    else None)))))

@@ -10,6 +10,8 @@ use Rattle.read_metadata.specs.declared.node.VariableNode.{VariableNode}
 use Rattle.read_metadata.specs.declared.node.LocationNode.{LocationNode}
 use Rattle.read_metadata.specs.declared.node.FileNode.{FileNode}
 use Rattle.read_metadata.specs.declared.node.BaseTypeNode.{BaseTypeNode}
+use Rattle.read_metadata.specs.declared.node.SubprogramNode.{SubprogramNode}
+use Rattle.read_metadata.specs.declared.node.BlockNode.{BlockNode}
 use Rattle.read_metadata.specs.Line.{behind_spaces, node_of_line}
 use Rattle.read_metadata.specs.Definition.{definition_of_line}
 use Rattle.read_metadata.specs.Maps.{Maps, with_node, with_subprogram}
@@ -64,9 +66,20 @@ abbrev pub as_base_type : Node → Option BaseTypeNode
 as_base_type (nodes.BaseType t) = Some t
 as_base_type _ = None
 
--- the number of the file of a scope, if the node is a scope and has one
+-- the subprogram that a node is, if it is one
+abbrev pub as_subprogram : Node → Option SubprogramNode
+as_subprogram (nodes.Subprogram s) = Some s
+as_subprogram _ = None
+
+-- the lexical block that a node is, if it is one
+abbrev pub as_block : Node → Option BlockNode
+as_block (nodes.Block b) = Some b
+as_block _ = None
+
+-- the number of the file of a scope, if the node is a subprogram or a lexical block and has one
 abbrev pub as_scope : Node → Option ℕ
-as_scope (nodes.Scope file) = file
+as_scope (nodes.Subprogram s) = s.file
+as_scope (nodes.Block b) = b.file
 as_scope _ = None
 
 -- the variable with this number
@@ -80,6 +93,14 @@ location_at m n = option_and_then as_location (node_at m n)
 -- the file with this number
 abbrev pub file_at : Maps → ℕ → Option FileNode
 file_at m n = option_and_then as_file (node_at m n)
+
+-- the subprogram that is the node with this number
+abbrev pub subprogram_node_at : Maps → ℕ → Option SubprogramNode
+subprogram_node_at m n = option_and_then as_subprogram (node_at m n)
+
+-- the lexical block with this number
+abbrev pub block_at : Maps → ℕ → Option BlockNode
+block_at m n = option_and_then as_block (node_at m n)
 
 -- the number of the file of the scope with this number
 abbrev pub scope_file_at : Maps → ℕ → Option ℕ

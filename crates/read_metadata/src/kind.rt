@@ -2,30 +2,31 @@
 
 ghost use Rattle.std.specs.Prelude.{◌≡◌, IfOk};
 ghost use Rattle.read_metadata.specs.Kind.{
-  is_scope,
+  is_block,
   size_in_bytes,
   variable_of,
   location_of,
   file_of,
   base_type_of,
-  scope_of,
+  subprogram_of,
+  block_of,
   node_of_kind,
 };
 
 use crate::encoding::encoding_code;
 use crate::field::{Field, node_at, number_at, text_at, word_at};
-use crate::node::{BaseTypeNode, FileNode, LocationNode, Node, VariableNode};
+use crate::node::{
+    BaseTypeNode, BlockNode, FileNode, LocationNode, Node, SubprogramNode, VariableNode,
+};
 use crate::text::text_value;
 use std::alloc::{AllocError, Global};
 
-/// Whether nodes of a kind are scopes with a file.
-#[tactic(auto, unfolding(crate::specs::Kind::is_scope))]
-fn is_scope(kind: &[u8]) -> bool
-    ensures { result ≡ is_scope kind.now }
+/// Whether nodes of a kind are lexical blocks.
+#[tactic(auto, unfolding(crate::specs::Kind::is_block))]
+fn is_block(kind: &[u8]) -> bool
+    ensures { result ≡ is_block kind.now }
 {
-    kind == b"!DISubprogram".as_slice()
-        || kind == b"!DILexicalBlock".as_slice()
-        || kind == b"!DILexicalBlockFile".as_slice()
+    kind == b"!DILexicalBlock".as_slice() || kind == b"!DILexicalBlockFile".as_slice()
 }
 
 /// The greatest size of a base type in bits: 255 bytes.
@@ -123,12 +124,29 @@ fn base_type_of(alloc: Global, line: &[u8], fields: &[Field]) -> Result<Option<N
     })))
 }
 
-/// The scope with these fields, by the node of its file.
-#[tactic(auto, unfolding(crate::specs::Kind::scope_of))]
-fn scope_of(line: &[u8], fields: &[Field]) -> Option<Node>
-    ensures { result ≡ scope_of line.now fields.now }
+/// The subprogram with these fields. Its name is empty if it isn't readable.
+#[tactic(auto, unfolding(crate::specs::Kind::subprogram_of))]
+fn subprogram_of(alloc: Global, line: &[u8], fields: &[Field]) -> Result<Option<Node>, AllocError>
+    ensures { IfOk result (λ node. node ≡ subprogram_of line.now fields.now) }
 {
-    Some(Node::Scope(node_at(line, fields, b"file")?))
+    let Some(file) = node_at(line, fields, b"file") else {
+        return Ok(None);
+    };
+    let name = match text_at(line, fields, b"name") {
+        Some(name) => text_value(alloc, name)?,
+        None => text_value(alloc, &line[..0])?,
+    };
+    Ok(Some(Node::Subprogram(SubprogramNode { name, file })))
+}
+
+/// The lexical block with these fields. It has no scope if its scope isn't readable.
+#[tactic(auto, unfolding(crate::specs::Kind::block_of))]
+fn block_of(line: &[u8], fields: &[Field]) -> Option<Node>
+    ensures { result ≡ block_of line.now fields.now }
+{
+    let file = node_at(line, fields, b"file")?;
+    let scope = node_at(line, fields, b"scope").unwrap_or(None);
+    Some(Node::Block(BlockNode { scope, file }))
 }
 
 /// The node of this kind with these fields; `None` if nodes of the kind aren't kept or the fields make the line
@@ -150,8 +168,10 @@ pub fn node_of_kind(
         file_of(alloc, line, fields)
     } else if kind == b"!DIBasicType".as_slice() {
         base_type_of(alloc, line, fields)
-    } else if is_scope(kind) {
-        Ok(scope_of(line, fields))
+    } else if kind == b"!DISubprogram".as_slice() {
+        subprogram_of(alloc, line, fields)
+    } else if is_block(kind) {
+        Ok(block_of(line, fields))
     } else {
         Ok(None)
     }

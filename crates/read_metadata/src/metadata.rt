@@ -6,7 +6,9 @@ ghost use Rattle.read_metadata.specs.Metadata.{metadata_of};
 
 use crate::definition::definition_of_line;
 use crate::line::{behind_spaces, node_of_line};
-use crate::node::{BaseTypeNode, FileNode, LocationNode, Node, VariableNode};
+use crate::node::{
+    BaseTypeNode, BlockNode, FileNode, LocationNode, Node, SubprogramNode, VariableNode,
+};
 use base_ids::metadata::NodeId;
 use read_lexer::line::Lines;
 use rv64_instr::name::Name;
@@ -44,6 +46,8 @@ impl Metadata {
       location_at,
       file_at,
       scope_file_at,
+      subprogram_node_at,
+      block_at,
       file_of_scope_at,
       base_type_at,
       subprogram_at,
@@ -154,7 +158,30 @@ impl Metadata {
         ensures { result ≡ scope_file_at self.now number }
     {
         match self.node(number)? {
-            Node::Scope(file) => *file,
+            Node::Subprogram(subprogram) => subprogram.file,
+            Node::Block(block) => block.file,
+            _ => None,
+        }
+    }
+
+    /// The subprogram with this node number, and `None` exactly if the first readable line of this number defines none.
+    /// It takes no memory.
+    pub fn subprogram(&self, number: NodeId) -> Option<&SubprogramNode>
+        ensures { option_copied result ≡ subprogram_node_at self.now number }
+    {
+        match self.node(number)? {
+            Node::Subprogram(subprogram) => Some(subprogram),
+            _ => None,
+        }
+    }
+
+    /// The lexical block with this node number, and `None` exactly if the first readable line of this number defines
+    /// none. It takes no memory.
+    pub fn block(&self, number: NodeId) -> Option<&BlockNode>
+        ensures { option_copied result ≡ block_at self.now number }
+    {
+        match self.node(number)? {
+            Node::Block(block) => Some(block),
             _ => None,
         }
     }

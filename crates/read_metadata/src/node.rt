@@ -47,6 +47,24 @@ pub struct BaseTypeNode {
     pub encoding: u8,
 }
 
+/// A function: `!DISubprogram`.
+#[derive(Debug, Drop)]
+pub struct SubprogramNode {
+    /// The name, empty if there is none.
+    pub name: Name,
+    /// The node of its file.
+    pub file: Option<NodeId>,
+}
+
+/// A lexical block: `!DILexicalBlock` or `!DILexicalBlockFile`.
+#[derive(Clone, Copy, Debug)]
+pub struct BlockNode {
+    /// The node of the scope around it.
+    pub scope: Option<NodeId>,
+    /// The node of its file.
+    pub file: Option<NodeId>,
+}
+
 /// A node, by its kind.
 #[derive(Debug, Drop)]
 pub enum Node {
@@ -54,6 +72,6 @@ pub enum Node {
     Location(LocationNode),
     File(FileNode),
     BaseType(BaseTypeNode),
-    /// A subprogram or a lexical block, by the node of its file.
-    Scope(Option<NodeId>),
+    Subprogram(SubprogramNode),
+    Block(BlockNode),
 }

@@ -1,9 +1,9 @@
 -- What an item keeps that comes from a line.
-use Rattle.std.proofs.Common.{◌≡◌, ℕ, ℤ, pos, negsuc, zero, suc, ◌<◌, ◌≤◌, Bool, true, false, cond, ◌||◌, eqb, leb, List, [], ◌∷◌, All, Option, Some, None}
+use Rattle.std.proofs.Common.{◌≡◌, ℕ, ℤ, pos, negsuc, zero, suc, ◌+◌, ◌<◌, ◌≤◌, Bool, true, false, cond, ◌||◌, eqb, leb, ltb, List, [], ◌∷◌, All, Option, Some, None}
 use Rattle.std.proofs.Common.{refl, sym, ap, subst, ◌∙◌, arith}
 use Rattle.std.specs.List.{list_any}
 use Rattle.std.specs.Prelude.{IfSome}
-use Rattle.std.proofs.lemmas.Bool.{or_parts, leb-true, eqb-false}
+use Rattle.std.proofs.lemmas.Bool.{or_parts, leb-true, ltb-true, eqb-false}
 use Rattle.std.proofs.lemmas.List.Elements.{All-weaker}
 use Rattle.rv64_instr.specs.declared.op.Op.{Op}
 use Rattle.rv64_instr.specs.declared.place.Place.{Place}
@@ -36,6 +36,8 @@ use Rattle.read_item.specs.declared.opcode.DebugOpcode.{DebugOpcode}
 use Rattle.read_item.specs.declared.opcode.DebugOpcode.TheVariants as debug
 use Rattle.read_item.specs.Debug.{register_value, number_value, operand_value, is_direct, is_plain, part_of, is_argument, part_of_argument, value_mark}
 use Rattle.read_item.specs.Debug.{pair_value}
+use Rattle.read_item.specs.Code.{VIRTUALS}
+use Rattle.read_item.specs.Debug.{virtual_value, virtual_place}
 use Rattle.read_item.specs.Debug.{reference_mark, list_mark, content_place, register_place, phi_place, counted, phi_by, if_counted, count_in, phi_of}
 use Rattle.read_item.specs.Debug.{inlined_at, mark_kind, phi_kind, debug_kind}
 use Rattle.read_item.specs.Judge.{entry_of, entries_of}
@@ -100,10 +102,13 @@ one_value false x y p q = q refl
 
 register_limited : (flag : Flag) (name : RegisterName) → NameFits name → ValueIsLimited (register_value flag name)
 register_limited flags.Plain (Physical r) fits = one_value (eqb r 0) (Constant (pos 0)) (cond (eqb r 2) Nothing (At r)) (λ e. omega arith)
-    (λ e. one_value (eqb r 2) Nothing (At r) (λ f. tt) (λ f. fits))
+    (λ e. one_value (eqb r 2) Nothing (At r) (λ f. tt) (λ f. omega (arith, fits)))
 register_limited flags.Plain Absent fits = tt
 register_limited flags.Plain Other fits = tt
-register_limited flags.Plain (Virtual n) fits = tt
+register_limited flags.Plain (Virtual n) fits = by (ltb n VIRTUALS) refl where
+  by : (b : Bool) → ltb n VIRTUALS ≡ b → ValueIsLimited (virtual_value (cond b (Some (32 + n)) None))
+  by true is = let small = ltb-true n VIRTUALS is in omega (arith, small)
+  by false is = tt
 register_limited flags.Implicit name fits = tt
 register_limited flags.ImplicitDef name fits = tt
 
@@ -182,7 +187,7 @@ content_reads entries r small = by (eqb r 0) (eqb r 2) refl where
   by : (b c : Bool) → eqb r 0 ≡ b → IsReadPlace entries (cond b (Some (place.Const (pos 0))) (cond c None (Some (place.Register r))))
   by true c is = record { limited = refl; named = λ k. tt }
   by false true is = record { limited = tt; named = λ k. tt }
-  by false false is = record { limited = (let other = eqb-false r 0 is in positive r other, small); named = λ k. tt } where
+  by false false is = record { limited = (let other = eqb-false r 0 is in positive r other, omega (arith, small)); named = λ k. tt } where
     positive : (n : ℕ) → (n ≡ 0 → ⊥) → 0 < n
     positive zero other = absurd (other refl)
     positive (suc n) other = omega arith
@@ -192,7 +197,12 @@ register_place_reads : (entries : List ℕ) (flag : Flag) (name : RegisterName) 
 register_place_reads entries flags.Plain (Physical r) p fits e = place_is entries (content_place r) p e (content_reads entries r fits)
 register_place_reads entries flags.Plain Absent p fits e = place_is entries None p e (record { limited = tt; named = λ k. tt })
 register_place_reads entries flags.Plain Other p fits e = absurd cc
-register_place_reads entries flags.Plain (Virtual n) p fits e = absurd cc
+register_place_reads entries flags.Plain (Virtual n) p fits e = by (ltb n VIRTUALS) refl e where
+  by : (b : Bool) → ltb n VIRTUALS ≡ b → virtual_place (cond b (Some (32 + n)) None) ≡ Some p → IsReadPlace entries p
+  by true is e =
+      let small = ltb-true n VIRTUALS is in
+      place_is entries (Some (place.Register (32 + n))) p e (record { limited = (omega arith, omega (arith, small)); named = λ k. tt })
+  by false is e = absurd cc
 register_place_reads entries flags.Implicit name p fits e = absurd cc
 register_place_reads entries flags.ImplicitDef name p fits e = absurd cc
 

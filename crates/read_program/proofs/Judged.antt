@@ -19,7 +19,7 @@ use Rattle.read_item.specs.declared.opcode.DebugOpcode.{DebugOpcode}
 use Rattle.read_item.specs.declared.opcode.Opcode.{Opcode}
 use Rattle.read_item.specs.declared.opcode.Opcode.TheVariants as opcodes
 use Rattle.read_item.specs.Opcode.{opcode_of, is_read}
-use Rattle.read_item.specs.Code.{refusal_by, operands_of, places_of, fits, is_virtual, is_virtual_operand, is_pointer, is_pointer_operand}
+use Rattle.read_item.specs.Code.{refusal_by, operands_of, places_of, fits, is_refused_virtual, is_refused_operand, is_pointer, is_pointer_operand}
 use Rattle.read_item.specs.Code.{is_misplaced, is_long, code_rules}
 use Rattle.read_item.specs.Code.{instruction, unless_refused, code_of}
 use Rattle.read_item.specs.Debug.{debug_kind, is_empty, debug_rules, kind_unless, debug_of}
@@ -51,8 +51,8 @@ pub record IsCodeLine (op : Op) (line : ItemForm) (instr : Instruction) : Type 0
   pub operands : operands_of op line ≡ Some instr.operands
   pub form : has_form instr.op instr.operands ≡ true
   pub within : line.exceeds ≡ false
-  pub set_physical : list_any is_virtual line.definitions ≡ false
-  pub used_physical : list_any is_virtual_operand line.operands ≡ false
+  pub set_known : list_any is_refused_virtual line.definitions ≡ false
+  pub used_known : list_any is_refused_operand line.operands ≡ false
   pub set_others : list_any is_pointer line.definitions ≡ false
   pub used_others : list_any is_pointer_operand line.operands ≡ false
   pub in_place : list_any is_misplaced (zip (places_of op line) line.operands) ≡ false
@@ -60,17 +60,17 @@ pub record IsCodeLine (op : Op) (line : ItemForm) (instr : Instruction) : Type 0
 
 code_line_by : (op : Op) (line : ItemForm) (instr : Instruction) (operands : Option (List Operand)) → operands_of op line ≡ operands → fits op operands ≡ true →
     instruction op operands ≡ instr → line.exceeds ≡ false →
-    (list_any is_virtual line.definitions || list_any is_virtual_operand line.operands) ≡ false →
+    (list_any is_refused_virtual line.definitions || list_any is_refused_operand line.operands) ≡ false →
     (list_any is_pointer line.definitions || list_any is_pointer_operand line.operands) ≡ false →
     list_any is_misplaced (zip (places_of op line) line.operands) ≡ false → is_long line ≡ false → IsCodeLine op line instr
-code_line_by op line instr None is fit made within physical others in_place short = absurd cc
-code_line_by op line instr (Some os) is fit made within physical others in_place short = record {
+code_line_by op line instr None is fit made within known others in_place short = absurd cc
+code_line_by op line instr (Some os) is fit made within known others in_place short = record {
   op_is = ap (λ (i : Instruction). i.op) (sym made);
   operands = is ∙ ap (λ (i : Instruction). Some i.operands) made;
   form = subst (λ (i : Instruction). has_form i.op i.operands ≡ true) made fit;
   within = within;
-  set_physical = (or_parts (list_any is_virtual line.definitions) (list_any is_virtual_operand line.operands) physical).0;
-  used_physical = (or_parts (list_any is_virtual line.definitions) (list_any is_virtual_operand line.operands) physical).1;
+  set_known = (or_parts (list_any is_refused_virtual line.definitions) (list_any is_refused_operand line.operands) known).0;
+  used_known = (or_parts (list_any is_refused_virtual line.definitions) (list_any is_refused_operand line.operands) known).1;
   set_others = (or_parts (list_any is_pointer line.definitions) (list_any is_pointer_operand line.operands) others).0;
   used_others = (or_parts (list_any is_pointer line.definitions) (list_any is_pointer_operand line.operands) others).1;
   in_place = in_place;
@@ -86,7 +86,7 @@ unfolding code_of
 code_line op line instr e =
     let read = unless_refused_ok (refusal_by (code_rules op line)) (instruction op (operands_of op line)) instr e in
     let rules = five_kept (line.exceeds || not (fits op (operands_of op line)))
-    (list_any is_virtual line.definitions || list_any is_virtual_operand line.operands)
+    (list_any is_refused_virtual line.definitions || list_any is_refused_operand line.operands)
     (list_any is_pointer line.definitions || list_any is_pointer_operand line.operands) (list_any is_misplaced (zip (places_of op line) line.operands))
     (is_long line) kinds.BadOperands kinds.VirtualRegister kinds.StackPointerUse kinds.StackObject kinds.TooMany read.0 in
     let parts = or_parts line.exceeds (not (fits op (operands_of op line))) rules.0 in

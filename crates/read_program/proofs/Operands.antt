@@ -1,8 +1,9 @@
 -- What the operands of a line of code give: operands of these numbers, none of which is the stack pointer, and which name no stack entry but those of the line.
-use Rattle.std.proofs.Common.{◌≡◌, ℕ, ℤ, pos, ◌<◌, ◌≤◌, true, false, eqb, List, [], ◌∷◌, ◌++◌, All, Option, Some, None, refl}
+use Rattle.std.proofs.Common.{◌≡◌, ℕ, ℤ, pos, ◌+◌, ◌<◌, ◌≤◌, Bool, true, false, cond, eqb, ltb, List, [], ◌∷◌, ◌++◌, All, Option, Some, None, refl}
 use Rattle.std.proofs.Common.{subst, ◌∙◌, arith}
 use Rattle.std.specs.List.{list_any, cons_option}
-use Rattle.std.proofs.lemmas.Bool.{or_parts, leb-false, eqb-false, or_left, or_right, eq-eqb}
+use Rattle.std.specs.Prelude.{unwrap_or}
+use Rattle.std.proofs.lemmas.Bool.{or_parts, leb-false, ltb-true, eqb-false, or_left, or_right, eq-eqb}
 use Rattle.std.proofs.lemmas.List.Elements.{All-nil, All-cons, All-append}
 use Rattle.rv64_instr.specs.declared.op.Op.{Op}
 use Rattle.rv64_instr.specs.declared.operand.Operand.{Operand}
@@ -22,7 +23,8 @@ use Rattle.read_line.specs.Exceeds.{is_beyond, operand_exceeds}
 use Rattle.read_item.specs.declared.place.OperandKind.{OperandKind}
 use Rattle.read_item.specs.declared.place.OperandKind.TheVariants as place
 use Rattle.read_item.specs.Place.{front, behind}
-use Rattle.read_item.specs.Code.{number_of, used, stack_operand, number_operand, operand_at, before, joined, set_by, definition, definitions, placed, places_of}
+use Rattle.read_item.specs.Code.{STAND_IN, VIRTUALS, virtual_operand, number_of}
+use Rattle.read_item.specs.Code.{used, stack_operand, number_operand, operand_at, before, joined, set_by, definition, definitions, placed, places_of}
 use Rattle.read_item.specs.Code.{operands_of, is_named, is_pointer, is_pointer_operand}
 use Rattle.read_item.specs.Judge.{entry_of, entries_of}
 use Rattle.read_body.specs.FirstUseOrder.{is_met}
@@ -52,38 +54,65 @@ pub record IsReadForm (entries : List ℕ) (o : OperandForm) : Type 0 where
 
 -- ---- registers
 
-number_fits : (name : RegisterName) (r : ℕ) → NameFits name → number_of name ≡ Some r → r < 32
-number_fits (Physical n) r fits e = let same : n ≡ r = cc in subst (λ (x : ℕ). x < 32) same fits
-number_fits Absent r fits e = absurd cc
-number_fits Other r fits e = absurd cc
-number_fits (Virtual n) r fits e = let same : 10 ≡ r = cc in omega (arith, same)
+-- an implicit register is physical
+abbrev pub RegisterIsLimited : Flag → ℕ → Type 0
+RegisterIsLimited flags.Plain r = r < 4128
+RegisterIsLimited flags.Implicit r = r < 32
+RegisterIsLimited flags.ImplicitDef r = r < 32
+
+pub physical_limited : (flag : Flag) (r : ℕ) → r < 32 → RegisterIsLimited flag r
+physical_limited flags.Plain r small = omega (arith, small)
+physical_limited flags.Implicit r small = small
+physical_limited flags.ImplicitDef r small = small
+
+virtual_limited : (flag : Flag) (n : ℕ) → RegisterIsLimited flag (virtual_operand flag n)
+virtual_limited flags.Plain n = by (ltb n VIRTUALS) refl where
+  by : (b : Bool) → ltb n VIRTUALS ≡ b → unwrap_or (cond b (Some (32 + n)) None) STAND_IN < 4128
+  by true is = let small = ltb-true n VIRTUALS is in omega (arith, small)
+  by false is = omega arith
+virtual_limited flags.Implicit n = omega arith
+virtual_limited flags.ImplicitDef n = omega arith
+
+virtual_other : (n : ℕ) → virtual_operand flags.Plain n ≡ 2 → ⊥
+virtual_other n = by (ltb n VIRTUALS) where
+  by : (b : Bool) → unwrap_or (cond b (Some (32 + n)) None) STAND_IN ≡ 2 → ⊥
+  by true e = omega (arith, e)
+  by false e = omega (arith, e)
+
+number_fits : (flag : Flag) (name : RegisterName) (r : ℕ) → NameFits name → number_of flag name ≡ Some r → RegisterIsLimited flag r
+number_fits flag (Physical n) r fits e = let same : n ≡ r = cc in subst (RegisterIsLimited flag) same (physical_limited flag n fits)
+number_fits flag Absent r fits e = absurd cc
+number_fits flag Other r fits e = absurd cc
+number_fits flag (Virtual n) r fits e = let same : virtual_operand flag n ≡ r = cc in subst (RegisterIsLimited flag) same (virtual_limited flag n)
 
 -- a plain register isn't x2
-plain_other : (name : RegisterName) (r : ℕ) → is_named flags.Plain name 2 ≡ false → number_of name ≡ Some r → r ≡ 2 → ⊥
+plain_other : (name : RegisterName) (r : ℕ) → is_named flags.Plain name 2 ≡ false → number_of flags.Plain name ≡ Some r → r ≡ 2 → ⊥
 plain_other (Physical n) r other e two = let same : n ≡ r = cc in eqb-false n 2 other (same ∙ two)
 plain_other Absent r other e two = cc
 plain_other Other r other e two = cc
-plain_other (Virtual n) r other e two = let same : 10 ≡ r = cc in omega (arith, same, two)
+plain_other (Virtual n) r other e two = let same : virtual_operand flags.Plain n ≡ r = cc in virtual_other n (same ∙ two)
 
-set_reads : (entries : List ℕ) (flag : Flag) (name : RegisterName) (number : Option ℕ) → number_of name ≡ number → (o : Operand) → NameFits name →
+set_reads : (entries : List ℕ) (flag : Flag) (name : RegisterName) (number : Option ℕ) → number_of flag name ≡ number → (o : Operand) → NameFits name →
     is_named flag name 2 ≡ false → set_by flag number ≡ Some o → IsReadOperand entries o
 set_reads entries flags.Plain name (Some r) is o fits other e =
     let same : Def r ≡ o = cc in
-    subst (IsReadOperand entries) same (record { limited = number_fits name r fits is; pointer = plain_other name r other is; named = tt })
+    subst (IsReadOperand entries) same (record { limited = number_fits flags.Plain name r fits is; pointer = plain_other name r other is; named = tt })
 set_reads entries flags.Plain name None is o fits other e = absurd cc
 set_reads entries flags.Implicit name number is o fits other e = absurd cc
 set_reads entries flags.ImplicitDef name number is o fits other e = absurd cc
 
-used_reads : (entries : List ℕ) (flag : Flag) (name : RegisterName) (number : Option ℕ) → number_of name ≡ number → (o : Operand) → NameFits name →
+used_reads : (entries : List ℕ) (flag : Flag) (name : RegisterName) (number : Option ℕ) → number_of flag name ≡ number → (o : Operand) → NameFits name →
     is_named flag name 2 ≡ false → used flag number ≡ Some o → IsReadOperand entries o
 used_reads entries flag name None is o fits other e = absurd cc
 used_reads entries flags.Plain name (Some r) is o fits other e =
     let same : Use r ≡ o = cc in
-    subst (IsReadOperand entries) same (record { limited = number_fits name r fits is; pointer = plain_other name r other is; named = tt })
+    subst (IsReadOperand entries) same (record { limited = number_fits flags.Plain name r fits is; pointer = plain_other name r other is; named = tt })
 used_reads entries flags.Implicit name (Some r) is o fits other e =
-    let same : ImplicitUse r ≡ o = cc in subst (IsReadOperand entries) same (record { limited = number_fits name r fits is; pointer = tt; named = tt })
+    let same : ImplicitUse r ≡ o = cc in
+    subst (IsReadOperand entries) same (record { limited = number_fits flags.Implicit name r fits is; pointer = tt; named = tt })
 used_reads entries flags.ImplicitDef name (Some r) is o fits other e =
-    let same : ImplicitDef r ≡ o = cc in subst (IsReadOperand entries) same (record { limited = number_fits name r fits is; pointer = tt; named = tt })
+    let same : ImplicitDef r ≡ o = cc in
+    subst (IsReadOperand entries) same (record { limited = number_fits flags.ImplicitDef name r fits is; pointer = tt; named = tt })
 
 -- ---- the operand in a place
 
@@ -114,7 +143,7 @@ number_reads entries None o fits e = absurd cc
 number_reads entries (Some i) o fits e = reads entries o (Imm i) e (record { limited = fits; pointer = tt; named = tt })
 
 operand_reads : (entries : List ℕ) (p : OperandKind) (f : OperandForm) (o : Operand) → IsReadForm entries f → operand_at p f ≡ Some o → IsReadOperand entries o
-operand_reads entries p (form.Register r) o is e = used_reads entries r.flag r.name (number_of r.name) refl o is.fits is.pointer e
+operand_reads entries p (form.Register r) o is e = used_reads entries r.flag r.name (number_of r.flag r.name) refl o is.fits is.pointer e
 operand_reads entries p (form.Integer i) o is e = number_reads entries i o is.fits e
 operand_reads entries p (form.Slot n) o is e = stack_reads entries p n o (within_limit n is.within) (is.named n refl) e
 operand_reads entries p (form.Block n) o is e = reads entries o (Block n) e (record { limited = within_limit n is.within; pointer = tt; named = tt })
@@ -141,7 +170,7 @@ definitions_read entries [] xs fits others e = let none : List Operand = [] in l
     (All-nil (IsReadOperand entries))
 definitions_read entries (r ∷ rs) xs fits others e =
     let parts = or_parts (is_pointer r) (list_any is_pointer rs) others in
-    before_reads entries (definition r) (definitions rs) xs e (λ x is. set_reads entries r.flag r.name (number_of r.name) refl x fits.0 parts.0 is)
+    before_reads entries (definition r) (definitions rs) xs e (λ x is. set_reads entries r.flag r.name (number_of r.flag r.name) refl x fits.0 parts.0 is)
     (λ ys is. definitions_read entries rs ys fits.1 parts.1 is)
 
 placed_read : (entries : List ℕ) (ps : List OperandKind) (os : List OperandForm) (xs : List Operand) → AllOf (IsReadForm entries) os → placed ps os ≡ Some xs →

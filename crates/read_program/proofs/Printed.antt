@@ -1,6 +1,6 @@
 -- What the text of an item tells, where stack entries are read as objects.
 use Rattle.std.proofs.Common.{◌≡◌, ℕ, ℤ, pos, negsuc, Bool, true, false, cond, ◌&&◌, eqb, List, [], ◌∷◌, All, Option, Some, refl, ap}
-use Rattle.std.proofs.Common.{◌∙◌, arith, nat_eq, nat_le, nat_lt, ◌||◌}
+use Rattle.std.proofs.Common.{◌∙◌, arith}
 use Rattle.std.specs.Prelude.{int_le}
 use Rattle.std.specs.List.{list_all}
 use Rattle.std.proofs.lemmas.Bool.{and_parts, and_from, leb-true, cond-true}
@@ -21,7 +21,9 @@ use Rattle.rv64_instr.specs.Arithmetic.{load_width, store_width}
 use Rattle.rv64_instr.specs.Form.{is_within, has_12_bits, is_immediate, is_addi, moves_slot, is_implicit, is_argument, is_result, fits_registers}
 use Rattle.rv64_instr.specs.Form.{fits_immediate, fits_upper}
 use Rattle.rv64_instr.specs.Form.{fits_branch, fits_load, fits_store, fits_copy, fits_jump, fits_call, has_form}
-use Rattle.rv64_instr.specs.Form.{is_tail_use, is_tail_register, fits_held_call, fits_tail, fits_held_tail}
+use Rattle.rv64_instr.specs.Form.{is_last_argument, is_call_register, is_tail_use, is_held_tail_use, is_held_tail_register}
+use Rattle.rv64_instr.specs.Form.{fits_held_call, fits_gone, fits_held_gone, fits_tail, fits_held_tail}
+use Rattle.rv64_instr.proofs.Tails.{last_arguments, held_tail_uses}
 use Rattle.rv64_instr.specs.Instruction.{Instruction}
 use Rattle.rv64_instr.specs.Row.{row_of}
 use Rattle.rv64_instr.specs.LocationEffects.{object_named as row_object}
@@ -49,6 +51,13 @@ module _ (ids : List ℕ) where
     by false = refl
   argument_as o = refl
 
+  last_as : (o : Operand) → is_last_argument (operand_as ids o) ≡ is_last_argument o
+  last_as (Slot n) = by (is_met n ids) where
+    by : (b : Bool) → is_last_argument (cond b (Object n) (Slot n)) ≡ false
+    by true = refl
+    by false = refl
+  last_as o = refl
+
   result_as : (o : Operand) → is_result (operand_as ids o) ≡ is_result o
   result_as (Slot n) = by (is_met n ids) where
     by : (b : Bool) → is_result (cond b (Object n) (Slot n)) ≡ false
@@ -62,6 +71,13 @@ module _ (ids : List ℕ) where
     by true = refl
     by false = refl
   tail_as o = refl
+
+  held_tail_as : (o : Operand) → is_held_tail_use (operand_as ids o) ≡ is_held_tail_use o
+  held_tail_as (Slot n) = by (is_met n ids) where
+    by : (b : Bool) → is_held_tail_use (cond b (Object n) (Slot n)) ≡ false
+    by true = refl
+    by false = refl
+  held_tail_as o = refl
 
   implicits : (rest : List Operand) → list_all is_implicit rest ≡ true → list_all is_implicit (operands_as ids rest) ≡ true
   implicits rest e = same_all is_implicit implicit_as rest ∙ e
@@ -130,15 +146,23 @@ module _ (ids : List ℕ) where
   call_kept os e = absurd cc
 
   held_call_kept : (os : List Operand) → fits_held_call os ≡ true → fits_held_call (operands_as ids os) ≡ true
-  held_call_kept (ImplicitUse r ∷ Mask ∷ rest) e = ap (λ (c : Bool). (nat_le 5 r && nat_lt r 32) && c) (same_all is_argument argument_as rest) ∙ e
+  held_call_kept (ImplicitUse r ∷ Mask ∷ rest) e = ap (λ (c : Bool). is_call_register r && c) (same_all is_argument argument_as rest) ∙ e
   held_call_kept os e = absurd cc
+
+  gone_kept : (os : List Operand) → fits_gone os ≡ true → fits_gone (operands_as ids os) ≡ true
+  gone_kept (Symbol name ∷ Mask ∷ rest) e = same_all is_last_argument last_as rest ∙ e
+  gone_kept os e = absurd cc
+
+  held_gone_kept : (os : List Operand) → fits_held_gone os ≡ true → fits_held_gone (operands_as ids os) ≡ true
+  held_gone_kept (ImplicitUse r ∷ Mask ∷ rest) e = ap (λ (c : Bool). is_call_register r && c) (same_all is_last_argument last_as rest) ∙ e
+  held_gone_kept os e = absurd cc
 
   tail_kept : (os : List Operand) → fits_tail os ≡ true → fits_tail (operands_as ids os) ≡ true
   tail_kept (Symbol name ∷ rest) e = same_all is_tail_use tail_as rest ∙ e
   tail_kept os e = absurd cc
 
   held_tail_kept : (os : List Operand) → fits_held_tail os ≡ true → fits_held_tail (operands_as ids os) ≡ true
-  held_tail_kept (ImplicitUse r ∷ rest) e = ap (λ (c : Bool). (nat_eq r 6 || is_tail_register r) && c) (same_all is_tail_use tail_as rest) ∙ e
+  held_tail_kept (ImplicitUse r ∷ rest) e = ap (λ (c : Bool). is_held_tail_register r && c) (same_all is_held_tail_use held_tail_as rest) ∙ e
   held_tail_kept os e = absurd cc
 
   pub form_kept : (op : Op) (os : List Operand) → has_form op os ≡ true → has_form op (operands_as ids os) ≡ true
@@ -155,8 +179,8 @@ module _ (ids : List ℕ) where
   form_kept PseudoCallIndirect os e = held_call_kept os e
   form_kept PseudoTail os e = tail_kept os e
   form_kept PseudoTailIndirect os e = held_tail_kept os e
-  form_kept NoReturnCall os e = call_kept os e
-  form_kept NoReturnCallIndirect os e = held_call_kept os e
+  form_kept NoReturnCall os e = gone_kept os e
+  form_kept NoReturnCallIndirect os e = held_gone_kept os e
 
   -- an instruction is renamed
   pub renamed : (i : Instruction) → has_form i.op i.operands ≡ true → instr_as ids i ≡ record { op = i.op; operands = operands_as ids i.operands }
@@ -185,7 +209,7 @@ module _ (found : Option ℕ) where
   result_one (Object n) e = absurd cc
   result_one o e = tt
 
-  tail_one : (o : Operand) → is_tail_use o ≡ true → P o
+  tail_one : (o : Operand) → is_held_tail_use o ≡ true → P o
   tail_one (Object n) e = absurd cc
   tail_one o e = tt
 
@@ -254,14 +278,15 @@ one_object PseudoBr (Block n ∷ rest) e = one_before _ (Block n) rest tt (rest_
 one_object PseudoCall (Symbol name ∷ Mask ∷ rest) e = two_before _ (Symbol name) Mask rest tt tt (all_one _ is_argument (argument_one _) rest e)
 one_object PseudoRet os e = all_one _ is_result (result_one _) os e
 one_object PseudoCallIndirect (ImplicitUse r ∷ Mask ∷ rest) e =
-    two_before _ (ImplicitUse r) Mask rest tt tt (all_one _ is_argument (argument_one _) rest (and_parts (nat_le 5 r && nat_lt r 32)
+    two_before _ (ImplicitUse r) Mask rest tt tt (all_one _ is_argument (argument_one _) rest (and_parts (is_call_register r)
     (list_all is_argument rest) e).1)
-one_object PseudoTail (Symbol name ∷ rest) e = one_before _ (Symbol name) rest tt (all_one _ is_tail_use (tail_one _) rest e)
+one_object PseudoTail (Symbol name ∷ rest) e = one_before _ (Symbol name) rest tt (all_one _ is_held_tail_use (tail_one _) rest (held_tail_uses rest e))
 one_object PseudoTailIndirect (ImplicitUse r ∷ rest) e =
-    one_before _ (ImplicitUse r) rest tt (all_one _ is_tail_use (tail_one _) rest (and_parts (nat_eq r 6 || is_tail_register r)
-    (list_all is_tail_use rest) e).1)
-one_object NoReturnCall (Symbol name ∷ Mask ∷ rest) e = two_before _ (Symbol name) Mask rest tt tt (all_one _ is_argument (argument_one _) rest e)
+    one_before _ (ImplicitUse r) rest tt (all_one _ is_held_tail_use (tail_one _) rest (and_parts (is_held_tail_register r)
+    (list_all is_held_tail_use rest) e).1)
+one_object NoReturnCall (Symbol name ∷ Mask ∷ rest) e =
+    two_before _ (Symbol name) Mask rest tt tt (all_one _ is_argument (argument_one _) rest (last_arguments rest e))
 one_object NoReturnCallIndirect (ImplicitUse r ∷ Mask ∷ rest) e =
-    two_before _ (ImplicitUse r) Mask rest tt tt (all_one _ is_argument (argument_one _) rest (and_parts (nat_le 5 r && nat_lt r 32)
-    (list_all is_argument rest) e).1)
+    two_before _ (ImplicitUse r) Mask rest tt tt (all_one _ is_argument (argument_one _) rest
+    (last_arguments rest (and_parts (is_call_register r) (list_all is_last_argument rest) e).1))
 one_object _ os e = absurd cc

@@ -39,8 +39,9 @@ use Rattle.mir_func.specs.declared.object.Object.{Object}
 use Rattle.mir_func.specs.Exits.{row_exit, exit_of}
 use Rattle.mir_func.specs.Objects.{object_of}
 use Rattle.mir_func.specs.Sound.{items_of, AllItems, TargetIn, TargetsIn, SlotIn, PlaceIn, SlotsIn, HasBytes, BaseHasBytes, ObjectIn, ObjectsIn, IsNotPointer}
-use Rattle.mir_func.specs.Sound.{LeavesPointer, number_of, code_number, NumbersOnce, OriginIn}
+use Rattle.mir_func.specs.Sound.{LeavesPointer, number_of, code_number, NumbersOnce, OriginIn, PassesFirst, KindPassesFirst}
 use Rattle.mir_func.specs.Sound.{HasForm, PassedIn}
+use Rattle.mir_func.proofs.Passed.{passes_none}
 use Rattle.read_declarations.specs.declared.stack.StackEntry.{StackEntry}
 use Rattle.read_body.specs.Closing.{goes_to_one_of, item_goes_to, block_goes_to, blocks_go_to}
 use Rattle.read_body.specs.StackEntryKind.{slots_of, ids_of_objects}
@@ -263,6 +264,23 @@ module _ (named : List ℕ) (es : List StackEntry) (entries : List ℕ) (all : (
       )
   slots_as (Mark v m) form names = tt
   slots_as (Phi p k) form names = slot_in_place p k names
+
+  -- what is read passes no slot
+  no_words : (os : List Operand) → All (NamesAmong entries) os → outgoing_words (operands_as ids os) ≡ []
+  no_words [] names = refl
+  no_words (Slot n ∷ os) names = by (is_met n ids) (no_words os (All-tail (NamesAmong entries) (Slot n) os names)) where
+    by : (b : Bool) → outgoing_words (operands_as ids os) ≡ [] → outgoing_words (cond b (OfObject n) (Slot n) ∷ operands_as ids os) ≡ []
+    by true e = e
+    by false e = e
+  no_words (Outgoing n ∷ os) names = absurd (All-head (NamesAmong entries) (Outgoing n) os names)
+  no_words (o ∷ os) names = no_words os (All-tail (NamesAmong entries) o os names)
+
+  pub first_as : (kind : ItemKind) → HasForm kind → KindNamesAmong entries kind → KindPassesFirst slots (kind_as ids kind)
+  first_as (Code i k) form names =
+      subst (λ (j : Instruction). PassesFirst slots (row_of j)) (sym (renamed ids i form))
+      (passes_none slots (record { op = i.op; operands = operands_as ids i.operands }) (no_words i.operands names))
+  first_as (Mark v m) form names = tt
+  first_as (Phi p k) form names = tt
 
   -- ---- the stack pointer
 

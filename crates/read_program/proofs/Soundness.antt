@@ -15,7 +15,7 @@ use Rattle.mir_func.specs.declared.item.Item.{Item}
 use Rattle.mir_func.specs.declared.item.ItemKind.{ItemKind}
 use Rattle.mir_func.specs.declared.location.Loc.{Loc}
 use Rattle.mir_func.specs.Function.{Function}
-use Rattle.mir_func.specs.Sound.{AreApart, ids_of, AllItems, TargetsIn, SlotsIn, LeavesPointer, OriginIn, IsSound}
+use Rattle.mir_func.specs.Sound.{AreApart, ids_of, AllItems, TargetsIn, SlotsIn, LeavesPointer, OriginIn, IsSound, KindPassesFirst}
 use Rattle.read_declarations.specs.declared.declarations.Declarations.{Declarations}
 use Rattle.read_declarations.specs.declared.stack.StackEntry.{StackEntry}
 use Rattle.read_declarations.specs.Declarations.{declarations_of}
@@ -39,7 +39,7 @@ use Rattle.read_program.proofs.Items.{IsReadItem, item_reads}
 use Rattle.read_program.proofs.Judged.{judged_line}
 use Rattle.read_program.proofs.Lists.{both, met_contains}
 use Rattle.read_program.proofs.Renamed.{ids_as, blocks_kept}
-use Rattle.read_program.proofs.Sound.{targets_as, slots_as, pointer_as, all_objects_in, once_as, origins_in, all_go}
+use Rattle.read_program.proofs.Sound.{targets_as, slots_as, first_as, pointer_as, all_objects_in, once_as, origins_in, all_go}
 use Rattle.read_program.proofs.Stack.{IsReadEntry, IsReadStack, declared_stack}
 
 -- ---- declared entries
@@ -163,6 +163,8 @@ module _ (meta : Maps) (d : Declarations) (body : Body) (is : IsReadBody (ComesF
         (λ i g. targets_as ids body.ids (ids_of (blocks_as ids bs)) has_block i.kind g.item.form g.goes);
     slots = each_as (λ i. SlotsIn (slots_of body.objects d.stack) i.kind)
         (λ i g. slots_as body.objects d.stack body.entries all i.kind g.item.form g.item.named);
+    passed = each_as (λ i. KindPassesFirst (slots_of body.objects d.stack) i.kind)
+        (λ i g. first_as body.objects d.stack body.entries all i.kind g.item.form g.item.named);
     objects = all_objects_in (objects_of body.objects d.stack).objects (blocks_as ids bs) closes.accesses;
     pointer = each_as (λ i. LeavesPointer i.kind) (λ i g. pointer_as body.objects d.stack body.entries all i.kind g.item.form g.item.pointer);
     numbers = once_as ids bs is.once;

@@ -16,12 +16,13 @@ use Rattle.mir_func.specs.Parts.{IsPart}
 use Rattle.base_ids.specs.Limits.{MAX_NUMBER}
 use Rattle.read_item.specs.Opcode.{is_read}
 
--- ---- the numbers of items: a number or count is at most 2^30 - 1, a register is physical, and other integers have 64 bits
+-- ---- the numbers of items: a number or count is at most 2^30 - 1, a register is one of x0 to x31 or, unless it is implicit, of `%0` to `%4095`, and other
+-- integers have 64 bits
 
--- an operand: a register from x0 to x31, an immediate of 64 bits signed, or a stack entry or block with a number within the limit
+-- an operand: a register, which is physical if it is implicit, an immediate of 64 bits signed, or a stack entry or block with a number within the limit
 abbrev pub IsLimited : Operand → Type 0
-IsLimited (Def r) = r < 32
-IsLimited (Use r) = r < 32
+IsLimited (Def r) = r < 4128
+IsLimited (Use r) = r < 4128
 IsLimited (ImplicitDef r) = r < 32
 IsLimited (ImplicitUse r) = r < 32
 IsLimited (Imm i) = IsSigned i
@@ -33,17 +34,17 @@ IsLimited (Block n) = n ≤ MAX_NUMBER
 IsLimited (Symbol name) = Unit {0}
 IsLimited Mask = Unit {0}
 
--- the value of a debug value: a constant of 64 bits signed, a register from x0 to x31, or a pair of numbers within the limit
+-- the value of a debug value: a constant of 64 bits signed, a register, or a pair of numbers within the limit
 abbrev pub ValueIsLimited : MarkValue → Type 0
 ValueIsLimited Nothing = Unit {0}
 ValueIsLimited (Constant i) = IsSigned i
-ValueIsLimited (At r) = r < 32
+ValueIsLimited (At r) = r < 4128
 ValueIsLimited (Pair q) = (q.number ≤ MAX_NUMBER) × (q.operand ≤ MAX_NUMBER)
 
--- the location of a DBG_PHI: x1 to x31, a spill slot with a number within the limit, or the constant 0 (for `$x0`)
+-- the location of a DBG_PHI: a register but x0, a spill slot with a number within the limit, or the constant 0 (for `$x0`)
 abbrev pub PlaceIsLimited : Option Place → Type 0
 PlaceIsLimited None = Unit {0}
-PlaceIsLimited (Some (place.Register r)) = (0 < r) × (r < 32)
+PlaceIsLimited (Some (place.Register r)) = (0 < r) × (r < 4128)
 PlaceIsLimited (Some (place.Slot n)) = n ≤ MAX_NUMBER
 PlaceIsLimited (Some (place.Const c)) = c ≡ pos 0
 

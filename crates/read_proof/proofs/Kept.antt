@@ -17,7 +17,6 @@ use Rattle.mir_func.specs.declared.location.Loc.TheVariants.{Absent, Node, Inlin
 use Rattle.mir_func.specs.declared.variable.MarkValue.{MarkValue}
 use Rattle.mir_func.specs.declared.variable.MarkValue.TheVariants.{Nothing, Constant, At, Pair}
 use Rattle.mir_func.specs.Objects.{object_of}
-use Rattle.mir_func.specs.SoundFrame.{IsPhysical, ValueIsPhysical, PlaceIsPhysical, HasPhysical}
 use Rattle.mir_func.specs.Sound.{HasForm}
 use Rattle.base_ids.specs.Limits.{MAX_NUMBER}
 use Rattle.read_item.specs.Debug.{inlined_at, inlined_at_node}
@@ -45,7 +44,7 @@ use Rattle.read_program.proofs.Renamed.{has_form_as}
 limited_number : (n : ℕ) → n ≤ MAX_NUMBER → IsNumber n
 limited_number n small = omega (arith, small)
 
-register_number : (r : ℕ) → r < 32 → IsNumber r
+register_number : (r : ℕ) → r < 4128 → IsNumber r
 register_number r small = omega (arith, small)
 
 some_number : (n : Option ℕ) → IfSome n (λ k. k ≤ MAX_NUMBER) → IfSome n IsNumber
@@ -55,8 +54,8 @@ some_number (Some n) small = limited_number n small
 operand_numbers : (o : Operand) → IsLimited o → HasNumbers o
 operand_numbers (Def r) small = register_number r small
 operand_numbers (Use r) small = register_number r small
-operand_numbers (ImplicitDef r) small = register_number r small
-operand_numbers (ImplicitUse r) small = register_number r small
+operand_numbers (ImplicitDef r) small = register_number r (omega (arith, small))
+operand_numbers (ImplicitUse r) small = register_number r (omega (arith, small))
 operand_numbers (Imm i) small = small
 operand_numbers (Slot n) small = limited_number n small
 operand_numbers (Object n) small = limited_number n small
@@ -66,30 +65,11 @@ operand_numbers (Block n) small = limited_number n small
 operand_numbers (Symbol name) small = tt
 operand_numbers Mask small = tt
 
-operand_physical : (o : Operand) → IsLimited o → IsPhysical o
-operand_physical (Def r) small = small
-operand_physical (Use r) small = small
-operand_physical (ImplicitDef r) small = small
-operand_physical (ImplicitUse r) small = small
-operand_physical _ small = tt
-
-value_physical : (m : MarkValue) → ValueIsLimited m → ValueIsPhysical m
-value_physical Nothing small = tt
-value_physical (Constant i) small = tt
-value_physical (At r) small = small
-value_physical (Pair q) small = tt
-
 value_printable : (m : MarkValue) → ValueIsLimited m → IsPrintableValue m
 value_printable Nothing small = tt
 value_printable (Constant i) small = small
 value_printable (At r) small = register_number r small
 value_printable (Pair q) small = (limited_number q.number small.0, limited_number q.operand small.1)
-
-place_physical : (p : Option Place) → PlaceIsLimited p → PlaceIsPhysical p
-place_physical None small = tt
-place_physical (Some (place.Register r)) small = small.1
-place_physical (Some (place.Slot n)) small = tt
-place_physical (Some (place.Const c)) small = tt
 
 place_printable : (p : Option Place) → PlaceIsLimited p → IsPrintablePlace p
 place_printable None small = tt
@@ -107,11 +87,6 @@ loc_printable (Inline l) small = (
   some_number
       l.inlined_at small.3,
 )
-
-pub physical : (kind : ItemKind) → KindIsLimited kind → HasPhysical kind
-physical (Code i k) small = All-weaker IsLimited IsPhysical operand_physical i.operands small.0
-physical (Mark v m) small = value_physical m small.1
-physical (Phi p k) small = place_physical p small.0
 
 -- where a location is inlined, in the metadata
 inlined_alike : (meta : Maps) (loc : Loc) → inlined_at meta loc ≡ text_inlined_at (λ n. inlined_at_node (location_at meta n)) loc

@@ -2,5 +2,4 @@ pub mod Nodes
 pub mod Numbers
 pub mod Labels
 pub mod Kept
-pub mod Registers
 pub mod Texts

@@ -16,8 +16,8 @@ use Rattle.read_metadata.specs.declared.field.Field.{Field}
 use Rattle.read_metadata.specs.declared.node.Node.{Node}
 use Rattle.read_metadata.specs.declared.node.Node.TheVariants as nodes
 use Rattle.read_metadata.specs.Field.{fields_of, only_value, read_as, there, as_node, number_at, node_at, text_at, word_at}
-use Rattle.read_metadata.specs.Kind.{is_scope, encoding_code, size_in_bytes, variable_with, location_with, file_with, base_type_with, scope_with, and_read}
-use Rattle.read_metadata.specs.Kind.{variable_of, location_of, file_of, base_type_of, scope_of, node_of_kind}
+use Rattle.read_metadata.specs.Kind.{is_block, encoding_code, size_in_bytes, variable_with, location_with, file_with, base_type_with, and_read}
+use Rattle.read_metadata.specs.Kind.{subprogram_with, block_with, variable_of, location_of, file_of, base_type_of, subprogram_of, block_of, node_of_kind}
 use Rattle.read_metadata.specs.Line.{behind_spaces, behind_distinct, node_with, described, numbered, assigned, node_of_tokens, node_of_line}
 use Rattle.read_metadata.specs.Metadata.{nodes_of, metadata_of}
 use Rattle.read_metadata.specs.Number.{value_behind, spelled, node_number, zero_alone, unsigned_of, integer_of}
@@ -73,7 +73,8 @@ IsLimited (nodes.Location l) = MaySmall l.inlined_at
 IsLimited (nodes.Variable v) = Unit {0}
 IsLimited (nodes.File f) = Unit {0}
 IsLimited (nodes.BaseType t) = Unit {0}
-IsLimited (nodes.Scope file) = Unit {0}
+IsLimited (nodes.Subprogram s) = Unit {0}
+IsLimited (nodes.Block b) = Unit {0}
 
 there_small : (n : Option ℕ) → IfSome n Small → IfSome (there n) MaySmall
 there_small None small = tt
@@ -111,12 +112,16 @@ base_type_limited (Some name) (Some size) None = tt
 base_type_limited (Some name) None encoding = tt
 base_type_limited None size encoding = tt
 
-scope_limited : (file : Option (Option ℕ)) → IfSome (scope_with file) IsLimited
-scope_limited None = tt
-scope_limited (Some file) = tt
+subprogram_limited : (name : Option (List ℕ)) (file : Option (Option ℕ)) → IfSome (subprogram_with name file) IsLimited
+subprogram_limited name None = tt
+subprogram_limited name (Some file) = tt
+
+block_limited : (scope file : Option (Option ℕ)) → IfSome (block_with scope file) IsLimited
+block_limited scope None = tt
+block_limited scope (Some file) = tt
 
 kind_limited : (line kind : List ℕ) (fields : List Field) → IfSome (node_of_kind line kind fields) IsLimited
-unfolding node_of_kind variable_of location_of file_of base_type_of scope_of
+unfolding node_of_kind variable_of location_of file_of base_type_of subprogram_of block_of
 kind_limited line kind fields =
     one_of IsLimited (bytes_eq kind (codes "!DILocalVariable")) _ _
     (variable_limited (text_at line (codes "name") fields) (number_at line (codes "arg") fields) (node_at line (codes "type") fields))
@@ -128,7 +133,9 @@ kind_limited line kind fields =
     (one_of IsLimited (bytes_eq kind (codes "!DIBasicType")) _ _
     (base_type_limited (text_at line (codes "name") fields) (and_read (number_at line (codes "size") fields) size_in_bytes)
     (and_read (word_at line (codes "encoding") fields) encoding_code))
-    (one_of IsLimited (is_scope kind) _ None (scope_limited (node_at line (codes "file") fields)) tt))))
+    (one_of IsLimited (bytes_eq kind (codes "!DISubprogram")) _ _
+    (subprogram_limited (text_at line (codes "name") fields) (node_at line (codes "file") fields))
+    (one_of IsLimited (is_block kind) _ None (block_limited (node_at line (codes "scope") fields) (node_at line (codes "file") fields)) tt)))))
 
 -- ---- lines
 

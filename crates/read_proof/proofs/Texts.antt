@@ -23,7 +23,6 @@ use Rattle.mir_func.specs.declared.item.ItemKind.{ItemKind}
 use Rattle.mir_func.specs.declared.location.Loc.{Loc}
 use Rattle.mir_func.specs.Function.{Function}
 use Rattle.mir_func.specs.Sound.{AreApart, AllItems, IsSound, HasForm}
-use Rattle.mir_func.specs.SoundFrame.{HasPhysical}
 use Rattle.read_declarations.specs.declared.declarations.Declarations.{Declarations}
 use Rattle.read_declarations.specs.Declarations.{declarations_of}
 use Rattle.read_item.specs.Debug.{inlined_at_node}
@@ -41,17 +40,16 @@ use Rattle.read_program.specs.BodyLines.{body_of}
 use Rattle.read_program.specs.Program.{MAX_FUNCTIONS, Goes, too_many, FunctionsFrom, program_of}
 use Rattle.mir_printer.specs.Printable.{IsPrintable}
 use Rattle.read_program.specs.Limited.{KindIsLimited, LocIsLimited}
-use Rattle.read_proof.specs.Read.{HasReadRegisters, declared_in, EntryIsLimited, LocationsAreLimited, IsReadFunction, IsReadProgram, ProgramsAreAsRead}
+use Rattle.read_proof.specs.Read.{declared_in, EntryIsLimited, LocationsAreLimited, IsReadFunction, IsReadProgram, ProgramsAreAsRead}
 use Rattle.read_program.proofs.Bodies.{IsReadBlock, IsReadBody, ComesFromLine, body_reads}
 use Rattle.read_program.proofs.Entries.{declared_if_met}
 use Rattle.read_program.proofs.Forms.{line_fits}
 use Rattle.read_program.proofs.Frames.{objects_unfixed}
 use Rattle.read_program.proofs.Items.{item_reads}
 use Rattle.read_program.proofs.Judged.{judged_line}
-use Rattle.read_proof.proofs.Kept.{physical, IsKept, item_kept}
+use Rattle.read_proof.proofs.Kept.{IsKept, item_kept}
 use Rattle.read_proof.proofs.Labels.{ids_small, blocks_small}
 use Rattle.read_proof.proofs.Nodes.{Small, IsLimited, node_limited}
-use Rattle.read_proof.proofs.Registers.{registers_read}
 use Rattle.read_proof.proofs.Numbers.{DeclaresSmall, declares_small, objects_small, slots_small}
 use Rattle.read_program.proofs.Soundness.{sound_if_ends_well}
 use Rattle.read_program.proofs.Renamed.{ids_as, items_as, blocks_kept}
@@ -78,12 +76,6 @@ module _ (meta : Maps) (d : Declarations) (body : Body) (all : (n : ℕ) → is_
       subst (λ (l : Loc). Kept (kind_as ids kind) l) from.loc_is (subst (λ (k : ItemKind). Kept (kind_as ids k) from.item.loc) from.kind_is
       (item_kept meta body.objects d.stack body.entries all from.item.kind from.item.loc is from.object))
 
-  function_physical : IsReadBody (ComesFromLine meta body) body → AllItems (λ i. HasPhysical i.kind) (function_of d body).blocks
-  function_physical is =
-      All-weaker (IsReadBlock Kept) (λ (b : Block). All (λ i. HasPhysical i.kind) b.items)
-      (λ b r. All-weaker (λ i. Kept i.kind i.loc) (λ i. HasPhysical i.kind) (λ i k. physical i.kind k.limited) b.items r.each)
-      (blocks_as ids (blocks_of body)) (blocks_kept (ComesFromLine meta body) Kept ids kept_from_line (blocks_of body) is.blocks)
-
   function_reads : IsReadBody (ComesFromLine meta body) body → IsSound (function_of d body) → All Small body.ids → DeclaresSmall d →
       IsReadFunction meta (function_of d body)
   function_reads is sound small declares = record {
@@ -95,7 +87,6 @@ module _ (meta : Maps) (d : Declarations) (body : Body) (all : (n : ℕ) → is_
       source_end = All-weaker (IsReadBlock Kept) _ (λ b r. r.source_end) blocks kept;
     };
     form = each (λ i. HasForm i.kind) (λ i k. k.form);
-    registers = each (λ i. HasReadRegisters i.kind) (λ i k. registers_read i.kind (physical i.kind k.limited));
     limited = each (λ i. KindIsLimited i.kind × LocIsLimited i.loc) (λ i k. (k.limited, k.place));
     printable = each (IsPrintable (declared_in meta (function_of d body))) (λ i k. record { kind = k.printable; loc = k.told });
     few_items = omega (arith, items_as ids (blocks_of body), is.counted, is.few);
@@ -115,7 +106,6 @@ module _ (meta : Maps) (d : Declarations) (body : Body) (all : (n : ℕ) → is_
 -- a function with its substitutions
 record IsRead (meta : Maps) (p : Parsed) : Type 0 where
   function : IsReadFunction meta p.func
-  physical : AllItems (λ i. HasPhysical i.kind) p.func.blocks
   substitutions : All EntryIsLimited p.subs
 
 parts_read : (meta : Maps) (doc : FunctionDocument) (declared : Result Declarations Refusal) (body : Result Body Refusal) (p : Parsed) →
@@ -128,8 +118,6 @@ parts_read meta doc (Ok d) (Ok body) p said is closes =
       function = subst (IsReadFunction meta) (sym closes.1)
           (function_reads meta d body (declared_if_met (entry_ids d.stack) body.entries met) (body_reads meta doc.body body is)
           (sound_if_ends_well meta doc d body said is closes.0 closes.3) (ids_small meta doc.body body is) declares);
-      physical = subst (λ (f : Function). AllItems (λ i. HasPhysical i.kind) f.blocks) (sym closes.1)
-          (function_physical meta d body (declared_if_met (entry_ids d.stack) body.entries met) (body_reads meta doc.body body is));
       substitutions = subst (λ (subs : List DebugSubstitution). All EntryIsLimited subs) (sym closes.2) declares.substitutions;
     }
 parts_read meta doc (Err r) (Ok body) p said is closes = absurd closes
@@ -181,7 +169,8 @@ node_inlined (Some (nodes.Location l)) is = is
 node_inlined (Some (nodes.Variable v)) is = tt
 node_inlined (Some (nodes.File f)) is = tt
 node_inlined (Some (nodes.BaseType t)) is = tt
-node_inlined (Some (nodes.Scope file)) is = tt
+node_inlined (Some (nodes.Subprogram s)) is = tt
+node_inlined (Some (nodes.Block b)) is = tt
 
 locations_limited : (lines : List Line) → LocationsAreLimited (metadata_of lines)
 locations_limited lines n = node_inlined (node_at (metadata_of lines) n) (node_limited lines n)
@@ -197,7 +186,6 @@ programs_are_as_read text p reads =
     subst IsReadProgram (sym is.2) (record {
       few = all.0;
       functions = All-weaker (IsRead meta) (λ (f : Parsed). IsReadFunction meta f.func) (λ f r. r.function) is.0 all.1;
-      physical = All-weaker (IsRead meta) (λ (f : Parsed). AllItems (λ i. HasPhysical i.kind) f.func.blocks) (λ f r. r.physical) is.0 all.1;
       substitutions = All-weaker (IsRead meta) (λ (f : Parsed). All EntryIsLimited f.subs) (λ f r. r.substitutions) is.0 all.1;
       locations = locations_limited docs.meta;
     })

@@ -1,21 +1,12 @@
 -- Invariants of every function and program that was read from a text.
 use Rattle.std.specs.Prelude.{ℕ, ◌<◌, ◌≤◌, is_some, IfSome, List, All, length, Option, Some, Ok}
-use Rattle.rv64_instr.specs.declared.operand.Operand.{Operand}
-use Rattle.rv64_instr.specs.declared.operand.Operand.TheVariants.{Def, Use, ImplicitDef, ImplicitUse}
-use Rattle.rv64_instr.specs.declared.place.Place.{Place}
-use Rattle.rv64_instr.specs.declared.place.Place.TheVariants.{Register}
 use Rattle.read_metadata.specs.Maps.{Maps}
 use Rattle.read_metadata.specs.Metadata.{location_at}
 use Rattle.mir_func.specs.declared.debug_substitution.DebugSubstitution.{DebugSubstitution}
 use Rattle.mir_func.specs.declared.debug_substitution.OperandPair.{OperandPair}
-use Rattle.mir_func.specs.declared.item.ItemKind.{ItemKind}
-use Rattle.mir_func.specs.declared.item.ItemKind.TheVariants.{Code, Mark, Phi}
-use Rattle.mir_func.specs.declared.variable.MarkValue.{MarkValue}
-use Rattle.mir_func.specs.declared.variable.MarkValue.TheVariants.{At}
 use Rattle.mir_func.specs.Function.{Function}
 use Rattle.mir_func.specs.Objects.{object_of, HasNoFixed}
 use Rattle.mir_func.specs.Sound.{AllItems, items_of, IsSound, HasForm}
-use Rattle.mir_func.specs.SoundFrame.{HasPhysical}
 use Rattle.base_ids.specs.Limits.{MAX_NUMBER}
 use Rattle.sem_mir.specs.Follow.{IsRead}
 use Rattle.read_item.specs.Debug.{inlined_at_node}
@@ -46,43 +37,16 @@ pub record EntryIsLimited (e : DebugSubstitution) : Type 0 where
 abbrev pub LocationsAreLimited : Maps → Type 0
 LocationsAreLimited meta = (n : ℕ) → IfSome (inlined_at_node (location_at meta n)) (λ k. k ≤ MAX_NUMBER)
 
--- ---- registers: 32 physical and 4,096 virtual ones
-
--- an operand's register: an implicit one is physical
-abbrev pub HasReadRegister : Operand → Type 0
-HasReadRegister (Def r) = r < 4128
-HasReadRegister (Use r) = r < 4128
-HasReadRegister (ImplicitDef r) = r < 32
-HasReadRegister (ImplicitUse r) = r < 32
-HasReadRegister _ = Unit {0}
-
--- the register that a debug value is assigned
-abbrev pub ValueIsReadRegister : MarkValue → Type 0
-ValueIsReadRegister (At r) = r < 4128
-ValueIsReadRegister _ = Unit {0}
-
--- the register that a DBG_PHI reads
-abbrev pub PlaceIsReadRegister : Option Place → Type 0
-PlaceIsReadRegister (Some (Register r)) = r < 4128
-PlaceIsReadRegister _ = Unit {0}
-
--- the registers of an item of a function that was read
-abbrev pub HasReadRegisters : ItemKind → Type 0
-HasReadRegisters (Code i k) = All HasReadRegister i.operands
-HasReadRegisters (Mark v m) = ValueIsReadRegister m
-HasReadRegisters (Phi p k) = PlaceIsReadRegister p
-
 -- ---- functions
 
 -- A function that was read: it is well formed, no object is fixed, each item has its own position as origin, the silent position of each block is the end
--- of its items, each instruction has the form of its opcode, implicit operands are physical, numbers and counts are within their limits, and the printed text
--- of each item determines its kind and its debug location.
+-- of its items, each instruction has the form of its opcode, numbers and counts are within their limits, and the printed text of each
+-- item determines its kind and its debug location.
 pub record IsReadFunction (meta : Maps) (f : Function) : Type 0 where
   pub sound : IsSound f
   pub unfixed : HasNoFixed f.objects
   pub read : IsRead f.blocks
   pub form : AllItems (λ i. HasForm i.kind) f.blocks
-  pub registers : AllItems (λ i. HasReadRegisters i.kind) f.blocks
   pub limited : AllItems (λ i. KindIsLimited i.kind × LocIsLimited i.loc) f.blocks
   pub printable : AllItems (IsPrintable (declared_in meta f)) f.blocks
   pub few_items : length (items_of f.blocks) ≤ MAX_ITEMS
@@ -90,12 +54,11 @@ pub record IsReadFunction (meta : Maps) (f : Function) : Type 0 where
   pub objects : All (λ o. o.id ≤ MAX_NUMBER) f.objects
   pub slots : All (λ n. n ≤ MAX_NUMBER) f.slots
 
--- A program that was read: it has at most MAX_FUNCTIONS functions, all as read and without virtual registers, and the numbers of their substitutions and of
--- the metadata's locations are within the limit.
+-- A program that was read: it has at most MAX_FUNCTIONS functions, all as read, and the numbers of their substitutions and of the metadata's locations are
+-- within the limit.
 pub record IsReadProgram (p : Program) : Type 0 where
   pub few : length p.functions ≤ MAX_FUNCTIONS
   pub functions : All (λ (f : Parsed). IsReadFunction p.meta f.func) p.functions
-  pub physical : All (λ (f : Parsed). AllItems (λ i. HasPhysical i.kind) f.func.blocks) p.functions
   pub substitutions : All (λ (f : Parsed). All EntryIsLimited f.subs) p.functions
   pub locations : LocationsAreLimited p.meta
 

@@ -52,8 +52,8 @@ symbol_shows (b ∷ bs) bytes = by (list_all is_bare (b ∷ bs)) refl where
 operand_shows : (o : Operand) → IsLimited o → NameIsBytes o → Shows (operand_text o)
 operand_shows (Def r) small bytes = register_shows r small
 operand_shows (Use r) small bytes = register_shows r small
-operand_shows (ImplicitDef r) small bytes = shows_behind (codes "implicit-def ") (register_text r) refl (register_shows r small)
-operand_shows (ImplicitUse r) small bytes = shows_behind (codes "implicit ") (register_text r) refl (register_shows r small)
+operand_shows (ImplicitDef r) small bytes = shows_behind (codes "implicit-def ") (register_text r) refl (register_shows r (omega (arith, small)))
+operand_shows (ImplicitUse r) small bytes = shows_behind (codes "implicit ") (register_text r) refl (register_shows r (omega (arith, small)))
 operand_shows (Imm i) small bytes = signed_shows i small
 operand_shows (Slot n) small bytes = shows_behind (codes "%stack.") (decimal n) refl (number_shows n small)
 operand_shows (Object n) small bytes = shows_behind (codes "%stack.") (decimal n) refl (number_shows n small)

@@ -1,5 +1,5 @@
 -- The texts of numbers, registers, marks and phis.
-use Rattle.std.proofs.Common.{ℕ, ◌+◌, ◌*◌, ◌<◌, ◌≤◌, List, ◌++◌, Option, Some, None, refl, sym, subst, arith}
+use Rattle.std.proofs.Common.{ℕ, ◌+◌, ◌-◌, ◌*◌, ◌<◌, ◌≤◌, Bool, true, false, cond, ltb, List, ◌++◌, Option, Some, None, refl, arith}
 use Rattle.std.specs.Prelude.{codes, IfSome}
 use Rattle.std.specs.Fmt.{decimal, signed_decimal}
 use Rattle.rv64_instr.specs.declared.place.Place.{Place}
@@ -13,14 +13,16 @@ use Rattle.mir_func.specs.Parts.{Bytes, IsPart}
 use Rattle.read_program.specs.Limited.{ValueIsLimited, PlaceIsLimited, VariableIsLimited}
 use Rattle.mir_printer.specs.Spelling.{register_text, phi_place_text, fragment_text, expression_text, pair_expression_text, variable_text, value_mark_text}
 use Rattle.mir_printer.specs.Spelling.{pair_mark_text, mark_text, phi_text}
-use Rattle.readback_items.proofs.Registers.{register_spelled}
 use Rattle.readback_functions.proofs.Texts.{Printed, Shows, printed_both, shows_behind, decimal_shows, signed_shows}
 
 pub number_shows : (n : ℕ) → n ≤ MAX_NUMBER → Shows (decimal n)
 number_shows n small = decimal_shows n (omega (arith, small))
 
-pub register_shows : (r : ℕ) → r < 32 → Shows (register_text r)
-register_shows r small = subst Shows (sym (register_spelled r small)) (shows_behind (codes "$x") (decimal r) refl (decimal_shows r (omega (arith, small))))
+pub register_shows : (r : ℕ) → r < 4128 → Shows (register_text r)
+register_shows r small = by (ltb r 32) where
+  by : (b : Bool) → Shows (cond b (codes "$x" ++ decimal r) (codes "%" ++ decimal (r - 32)))
+  by true = shows_behind (codes "$x") (decimal r) refl (decimal_shows r (omega (arith, small)))
+  by false = shows_behind (codes "%") (decimal (r - 32)) refl (decimal_shows (r - 32) (omega (arith, small)))
 
 -- a text behind which a bracket closes
 pub closed_shows : (text : List ℕ) → Printed text → Shows (text ++ codes ")")

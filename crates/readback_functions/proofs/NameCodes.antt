@@ -57,7 +57,7 @@ number_is None x e = absurd cc
 number_is (Some i) x e = is_named (Imm i) x e tt
 
 operand_is : (p : OperandKind) (o : OperandForm) (x : Operand) → FormBytes o → operand_at p o ≡ Some x → NameIsBytes x
-operand_is p (form.Register r) x is e = used_is r.flag (number_of r.name) x e
+operand_is p (form.Register r) x is e = used_is r.flag (number_of r.flag r.name) x e
 operand_is p (form.Integer i) x is e = number_is i x e
 operand_is p (form.Slot n) x is e = stack_is p n x e
 operand_is p (form.Block n) x is e = is_named (OfBlock n) x e tt
@@ -89,7 +89,7 @@ definitions_are : (rs : List RegisterForm) (xs : List Operand) → definitions r
 unfolding definitions
 definitions_are [] xs e = none_are xs e
 definitions_are (r ∷ rs) xs e =
-    before_are (definition r) (definitions rs) xs e (λ x is. set_is r.flag (number_of r.name) x is) (λ ys is. definitions_are rs ys is)
+    before_are (definition r) (definitions rs) xs e (λ x is. set_is r.flag (number_of r.flag r.name) x is) (λ ys is. definitions_are rs ys is)
 
 placed_are : (ps : List OperandKind) (os : List OperandForm) (xs : List Operand) → AllOf FormBytes os → placed ps os ≡ Some xs → All NameIsBytes xs
 unfolding placed

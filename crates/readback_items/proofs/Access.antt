@@ -40,7 +40,7 @@ no_object_number (Some i) n e = cc
 
 -- a slot's place gives no object
 slot_gives : (f : OperandForm) (n : ℕ) → operand_at place.Slot f ≡ Some (Object n) → ⊥
-slot_gives (form.Register r) n e = no_object r.flag (number_of r.name) n e
+slot_gives (form.Register r) n e = no_object r.flag (number_of r.flag r.name) n e
 slot_gives (form.Integer i) n e = no_object_number i n e
 slot_gives f n e = cc
 
@@ -57,7 +57,7 @@ number_is width (Some j) i e = let same : j ≡ i = cc in ap (moves_slot width) 
 -- a number in its place
 pub number_whole : (width : ℕ) (f : OperandForm) (i : ℤ) → operand_at place.Number f ≡ Some (Imm i) → is_misplaced (place.Number, f) ≡ false →
     is_whole_slot width f ≡ moves_slot width i
-number_whole width (form.Register r) i e in_place = absurd (no_number r.flag (number_of r.name) i e)
+number_whole width (form.Register r) i e in_place = absurd (no_number r.flag (number_of r.flag r.name) i e)
 number_whole width (form.Integer n) i e in_place = number_is width n i e
 number_whole width (form.Slot n) i e in_place = absurd cc
 number_whole width f i e in_place = absurd cc
@@ -102,7 +102,7 @@ no_set_stack place.Mask n rd e = cc
 no_set_stack place.Implicit n rd e = cc
 
 no_set : (p : OperandKind) (f : OperandForm) (rd : ℕ) → operand_at p f ≡ Some (Def rd) → ⊥
-no_set p (form.Register r) rd e = no_set_used r.flag (number_of r.name) rd e
+no_set p (form.Register r) rd e = no_set_used r.flag (number_of r.flag r.name) rd e
 no_set p (form.Integer i) rd e = no_set_number i rd e
 no_set p (form.Slot n) rd e = no_set_stack p n rd e
 no_set p f rd e = cc
@@ -126,7 +126,7 @@ uses_of_store (d ∷ ds) [] zs rs xs e all = absurd (no_list (definition d) (def
 uses_of_store (d ∷ ds) (y ∷ ys) zs rs xs e all =
     let p = parts (definition d) (definitions ds) y ys e in
     let same : y ≡ Use rs = cc in
-    absurd (no_use_set d.flag (number_of d.name) rs (p.first ∙ ap (λ (o : Operand). Some o) same))
+    absurd (no_use_set d.flag (number_of d.flag d.name) rs (p.first ∙ ap (λ (o : Operand). Some o) same))
 
 -- what is read in a place isn't set
 first_set : (ps : List OperandKind) (us : List OperandForm) (rd : ℕ) (xs : List Operand) → placed ps us ≡ Some (Def rd ∷ xs) → ⊥
@@ -146,7 +146,7 @@ uses_of_load (d ∷ c ∷ ds) ps us (y ∷ z ∷ ys) zs rd n xs e read all =
     let p = parts (definition d) (definitions (c ∷ ds)) y (z ∷ ys) e in
     let q = parts (definition c) (definitions ds) z ys p.rest_is in
     let same : z ≡ Object n = cc in
-    absurd (no_object_set c.flag (number_of c.name) n (q.first ∙ ap (λ (o : Operand). Some o) same))
+    absurd (no_object_set c.flag (number_of c.flag c.name) n (q.first ∙ ap (λ (o : Operand). Some o) same))
 
 -- ---- accesses
 

@@ -1,5 +1,5 @@
 -- Code that a line means is judged again so.
-use Rattle.std.proofs.Common.{◌≡◌, ℕ, ℤ, Bool, true, false, ◌&&◌, List, [], ◌∷◌, map, Some, refl, sym, ap, subst, ◌∙◌, nat_eq, nat_le, nat_lt, ◌||◌}
+use Rattle.std.proofs.Common.{◌≡◌, ℕ, ℤ, Bool, true, false, ◌&&◌, List, [], ◌∷◌, map, Some, refl, sym, ap, subst, ◌∙◌}
 use Rattle.std.specs.List.{list_all, list_any, zip}
 use Rattle.std.proofs.lemmas.Bool.{and_parts, or_parts}
 use Rattle.rv64_instr.specs.declared.op.Op.{Op}
@@ -15,7 +15,8 @@ use Rattle.rv64_instr.specs.declared.symbol.Half.TheVariants.{Upper, Lower}
 use Rattle.rv64_instr.specs.Arithmetic.{load_width, store_width}
 use Rattle.rv64_instr.specs.Form.{is_within, has_12_bits, is_immediate, is_addi, moves_slot, is_implicit, fits_registers, fits_immediate, fits_upper}
 use Rattle.rv64_instr.specs.Form.{fits_branch, fits_load, fits_store, fits_copy, fits_jump, fits_call, has_form}
-use Rattle.rv64_instr.specs.Form.{is_argument, is_tail_use, is_tail_register, fits_held_call, fits_tail, fits_held_tail}
+use Rattle.rv64_instr.specs.Form.{is_argument, is_call_register, is_held_tail_use, is_held_tail_register, fits_held_call, fits_tail, fits_held_tail}
+use Rattle.rv64_instr.proofs.Tails.{gone_calls, held_gone_calls, held_tail_uses}
 use Rattle.std.specs.Prelude.{pos}
 use Rattle.read_line.specs.declared.form.ItemForm.{ItemForm}
 use Rattle.read_line.specs.declared.form.OperandForm.{OperandForm}
@@ -172,17 +173,17 @@ module _ (ids : List ℕ) where
 
   held_call : (os : List Operand) → fits_held_call os ≡ true → Stays ids os
   held_call (ImplicitUse r ∷ Mask ∷ rest) e =
-      stays_more ids (ImplicitUse r) (Mask ∷ rest) tt (stays_more ids Mask rest tt (arguments_stay ids rest (and_parts (nat_le 5 r && nat_lt r 32)
+      stays_more ids (ImplicitUse r) (Mask ∷ rest) tt (stays_more ids Mask rest tt (arguments_stay ids rest (and_parts (is_call_register r)
       (list_all is_argument rest) e).1))
   held_call os e = absurd cc
 
   tail : (os : List Operand) → fits_tail os ≡ true → Stays ids os
-  tail (Symbol name ∷ rest) e = stays_more ids (Symbol name) rest tt (tails_stay ids rest e)
+  tail (Symbol name ∷ rest) e = stays_more ids (Symbol name) rest tt (tails_stay ids rest (held_tail_uses rest e))
   tail os e = absurd cc
 
   held_tail : (os : List Operand) → fits_held_tail os ≡ true → Stays ids os
   held_tail (ImplicitUse r ∷ rest) e =
-      stays_more ids (ImplicitUse r) rest tt (tails_stay ids rest (and_parts (nat_eq r 6 || is_tail_register r) (list_all is_tail_use rest) e).1)
+      stays_more ids (ImplicitUse r) rest tt (tails_stay ids rest (and_parts (is_held_tail_register r) (list_all is_held_tail_use rest) e).1)
   held_tail os e = absurd cc
 
   -- ---- all
@@ -201,8 +202,8 @@ module _ (ids : List ℕ) where
   again PseudoCallIndirect os line from e = stays_judged ids PseudoCallIndirect os (held_call os e)
   again PseudoTail os line from e = stays_judged ids PseudoTail os (tail os e)
   again PseudoTailIndirect os line from e = stays_judged ids PseudoTailIndirect os (held_tail os e)
-  again NoReturnCall os line from e = stays_judged ids NoReturnCall os (call os e)
-  again NoReturnCallIndirect os line from e = stays_judged ids NoReturnCallIndirect os (held_call os e)
+  again NoReturnCall os line from e = stays_judged ids NoReturnCall os (call os (gone_calls os e))
+  again NoReturnCallIndirect os line from e = stays_judged ids NoReturnCallIndirect os (held_call os (held_gone_calls os e))
 
 pub code_is_judged_again : CodeIsJudgedAgain
 code_is_judged_again op line i ids e =

@@ -468,10 +468,10 @@ unfolding attributes_of behind_location
 loc_alone loc ls (inl (none, absent)) =
     subst (λ (x : Loc). TailParsed ls None x) (sym absent)
     (subst (λ (xs : List Lexeme). TailParsed xs None locs.Absent) (sym none)
-    (record { end = record { plain = record { tied = refl; mask = refl }; none = refl }; operand = refl; attribute = refl; behind = refl }))
+    (record { end = record { plain = record { classless = λ n. refl; tied = refl; mask = refl }; none = refl }; operand = refl; attribute = refl; behind = refl }))
 loc_alone loc ls (inr (t, ts, is, says)) =
     subst (λ (xs : List Lexeme). TailParsed xs None loc) (sym is) (record {
-      end = record { plain = record { tied = refl; mask = refl }; none = refl };
+      end = record { plain = record { classless = λ n. refl; tied = refl; mask = refl }; none = refl };
       operand = refl;
       attribute = refl;
       behind = ap (λ (o : Option Found). o >>= λ (l : Found). behind_location l.0 l.1) says;
@@ -492,7 +492,7 @@ tail_parses line (Some k) loc ls small at (t, r, x, e, (t2, r2, x2, e2, (t3, r3,
     (sym (e ∙ ap (λ (xs : List Lexeme). lexemes.Comma ∷ xs) (e2 ∙ (ap (λ (w : Word). lexemes.Word w t2 ∷ r2) number_is
     ∙ ap (λ (xs : List Lexeme). lexemes.Word words.InstrNumber t2 ∷ xs) (e3 ∙ integer_lexeme k r3 small)))))
     (record {
-      end = record { plain = record { tied = refl; mask = refl }; none = refl };
+      end = record { plain = record { classless = λ n. refl; tied = refl; mask = refl }; none = refl };
       operand = refl;
       attribute = refl;
       behind = ap (λ (m : ℕ). behind_number m r3) (capped_is k small) ∙ number_then k loc r3 (loc_parses line loc r3 at more);

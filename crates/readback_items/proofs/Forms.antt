@@ -1,5 +1,5 @@
 -- Each form of an instruction is read back from its line.
-use Rattle.std.proofs.Common.{◌≡◌, ℕ, ℤ, Bool, true, false, ◌&&◌, List, [], ◌∷◌, Option, Some, refl, sym, ap, subst, ◌∙◌}
+use Rattle.std.proofs.Common.{◌≡◌, ℕ, ℤ, ◌<◌, Bool, true, false, ◌&&◌, List, [], ◌∷◌, Option, Some, refl, sym, ap, subst, ◌∙◌}
 use Rattle.std.specs.List.{list_all}
 use Rattle.std.proofs.lemmas.Bool.{and_parts}
 use Rattle.rv64_instr.specs.declared.op.Op.{Op}
@@ -20,23 +20,29 @@ use Rattle.rv64_instr.specs.Form.{has_12_bits, is_immediate, is_addi, moves_slot
 use Rattle.rv64_instr.specs.Form.{fits_load, fits_store, fits_copy, fits_jump, fits_call, has_form, is_within}
 use Rattle.std.specs.Prelude.{pos, All}
 use Rattle.std.proofs.lemmas.List.Elements.{All-head, All-tail}
-use Rattle.rv64_instr.specs.declared.symbol.LinkedAddress.{LinkedAddress}
-use Rattle.rv64_instr.specs.declared.symbol.Half.{Half}
 use Rattle.read_item.specs.Opcode.{is_read}
 use Rattle.read_program.specs.Limited.{IsLimited}
-use Rattle.read_item.specs.Code.{before, joined, definitions, placed}
+use Rattle.read_token.specs.declared.lexeme.Flag.TheVariants.{Plain}
+use Rattle.read_item.specs.Code.{number_of, used, before, joined, set_by, definition, definitions, placed}
+use Rattle.readback_items.specs.Forms.{register_name, register_form}
 use Rattle.readback_items.specs.Code.{judged_operands}
 use Rattle.readback_items.proofs.Clean.{sets_of, uses_of}
+use Rattle.readback_items.proofs.Registers.{number_is}
 use Rattle.readback_items.proofs.Operands.{Gives, given_same, given_slots, given_objects}
 use Rattle.readback_items.proofs.Tails.{Tail, implicits, arguments, results}
 
--- operands within the limits have no half of an address
-no_third : (a b : Operand) (half : Half) (y : LinkedAddress) (rest : List Operand) → All IsLimited (a ∷ b ∷ Part half y ∷ rest) → ⊥
-no_third a b half y rest small =
-    All-head IsLimited (Part half y) rest (All-tail IsLimited b (Part half y ∷ rest) (All-tail IsLimited a (b ∷ Part half y ∷ rest) small))
+second : (a b : Operand) (rest : List Operand) → All IsLimited (a ∷ b ∷ rest) → IsLimited b
+second a b rest small = All-head IsLimited b rest (All-tail IsLimited a (b ∷ rest) small)
 
-no_second : (a : Operand) (half : Half) (y : LinkedAddress) (rest : List Operand) → All IsLimited (a ∷ Part half y ∷ rest) → ⊥
-no_second a half y rest small = All-head IsLimited (Part half y) rest (All-tail IsLimited a (Part half y ∷ rest) small)
+third : (a b c : Operand) (rest : List Operand) → All IsLimited (a ∷ b ∷ c ∷ rest) → IsLimited c
+third a b c rest small = second b c rest (All-tail IsLimited a (b ∷ c ∷ rest) small)
+
+-- the registers of a line give their operands
+set_is : (r : ℕ) → r < 4128 → definition (register_form Plain r) ≡ Some (Def r)
+set_is r small = ap (set_by Plain) (number_is Plain r small)
+
+use_is : (r : ℕ) → r < 4128 → used Plain (number_of Plain (register_name r)) ≡ Some (Use r)
+use_is r small = ap (used Plain) (number_is Plain r small)
 
 abbrev pub Given : Op → List Operand → Type 0
 Given op os = Gives op (sets_of os) (uses_of os) (judged_operands op os)
@@ -44,41 +50,44 @@ Given op os = Gives op (sets_of os) (uses_of os) (judged_operands op os)
 behind : (b : Bool) (rest : List Operand) → (b && list_all is_implicit rest) ≡ true → Tail rest
 behind b rest e = implicits rest (and_parts b (list_all is_implicit rest) e).1
 
-registers : (op : RegisterOp) (os : List Operand) → fits_registers os ≡ true → Given (Registers op) os
+registers : (op : RegisterOp) (os : List Operand) → fits_registers os ≡ true → All IsLimited os → Given (Registers op) os
 unfolding definitions placed
-registers op (Def rd ∷ Use a ∷ Use b ∷ rest) e =
+registers op (Def rd ∷ Use a ∷ Use b ∷ rest) e small =
     let t = implicits rest e in
+    let rd_is = set_is rd (All-head IsLimited (Def rd) (Use a ∷ Use b ∷ rest) small) in
+    let a_is = use_is a (second (Def rd) (Use a) (Use b ∷ rest) small) in
+    let b_is = use_is b (third (Def rd) (Use a) (Use b) rest small) in
     given_same (Registers op) (Def rd ∷ Use a ∷ Use b ∷ []) rest t refl (record {
       slot = false;
       slot_is = refl;
-      operands = ap (λ (o : Option (List Operand)). joined (Some (Def rd ∷ [])) (before (Some (Use a)) (before (Some (Use b)) o))) t.placed;
+      operands = λ i. joined (before (rd_is i) (Some [])) (before (a_is i) (before (b_is i) (t.placed i)));
       in_place = refl;
       form = e;
     })
-registers op os e = absurd cc
+registers op os e small = absurd cc
 
 immediate_register : (op : ImmediateOp) (rd : ℕ) (a : ℕ) (i : ℤ) (rest : List Operand) → fits_immediate op (Def rd ∷ Use a ∷ Imm i ∷ rest) ≡ true →
-    Given (Immediate op) (Def rd ∷ Use a ∷ Imm i ∷ rest)
+    rd < 4128 → a < 4128 → Given (Immediate op) (Def rd ∷ Use a ∷ Imm i ∷ rest)
 unfolding definitions placed
-immediate_register op rd a i rest e =
+immediate_register op rd a i rest e rd_small a_small =
     let t = behind (is_immediate op i) rest e in
     given_same (Immediate op) (Def rd ∷ Use a ∷ Imm i ∷ []) rest t refl (record {
       slot = false;
       slot_is = refl;
-      operands = ap (λ (o : Option (List Operand)). joined (Some (Def rd ∷ [])) (before (Some (Use a)) (before (Some (Imm i)) o))) t.placed;
+      operands = λ k. joined (before (set_is rd rd_small k) (Some [])) (before (use_is a a_small k) (before (Some (Imm i)) (t.placed k)));
       in_place = refl;
       form = e;
     })
 
-address_of_object : (rd : ℕ) (n : ℕ) (i : ℤ) (rest : List Operand) → fits_immediate Addi (Def rd ∷ Object n ∷ Imm i ∷ rest) ≡ true →
+address_of_object : (rd : ℕ) (n : ℕ) (i : ℤ) (rest : List Operand) → fits_immediate Addi (Def rd ∷ Object n ∷ Imm i ∷ rest) ≡ true → rd < 4128 →
     Given (Immediate Addi) (Def rd ∷ Object n ∷ Imm i ∷ rest)
 unfolding definitions placed
-address_of_object rd n i rest e =
+address_of_object rd n i rest e rd_small =
     let t = behind (is_immediate Addi i) rest e in
     given_objects (Immediate Addi) (Def rd ∷ Object n ∷ Imm i ∷ []) rest t (Def rd ∷ Slot n ∷ Imm i ∷ []) refl refl (record {
       slot = false;
       slot_is = refl;
-      operands = ap (λ (o : Option (List Operand)). joined (Some (Def rd ∷ [])) (before (Some (Object n)) (before (Some (Imm i)) o))) t.placed;
+      operands = λ k. joined (before (set_is rd rd_small k) (Some [])) (before (Some (Object n)) (before (Some (Imm i)) (t.placed k)));
       in_place = refl;
       form = e;
     })
@@ -88,181 +97,192 @@ addi_only Addi e = refl
 addi_only op e = absurd cc
 
 immediate : (op : ImmediateOp) (os : List Operand) → fits_immediate op os ≡ true → All IsLimited os → Given (Immediate op) os
-immediate op (Def rd ∷ Use a ∷ Imm i ∷ rest) e small = immediate_register op rd a i rest e
+immediate op (Def rd ∷ Use a ∷ Imm i ∷ rest) e small =
+    immediate_register op rd a i rest e (All-head IsLimited (Def rd) (Use a ∷ Imm i ∷ rest) small) (second (Def rd) (Use a) (Imm i ∷ rest) small)
 immediate op (Def rd ∷ Object n ∷ Imm i ∷ rest) e small =
     let parts = and_parts (is_addi op && is_immediate op i) (list_all is_implicit rest) e in
     let is = and_parts (is_addi op) (is_immediate op i) parts.0 in
     let same = addi_only op is.0 in
     subst (λ (o : ImmediateOp). Given (Immediate o) (Def rd ∷ Object n ∷ Imm i ∷ rest)) same
-    (address_of_object rd n i rest (subst (λ (o : ImmediateOp). fits_immediate o (Def rd ∷ Object n ∷ Imm i ∷ rest) ≡ true) (sym same) e))
-immediate op (Def rd ∷ Use a ∷ Part Lower y ∷ rest) e small = absurd (no_third (Def rd) (Use a) Lower y rest small)
+    (address_of_object rd n i rest (subst (λ (o : ImmediateOp). fits_immediate o (Def rd ∷ Object n ∷ Imm i ∷ rest) ≡ true) (sym same) e)
+    (All-head IsLimited (Def rd) (Object n ∷ Imm i ∷ rest) small))
+immediate op (Def rd ∷ Use a ∷ Part Lower y ∷ rest) e small = absurd (third (Def rd) (Use a) (Part Lower y) rest small)
 immediate op os e small = absurd cc
 
 upper : (os : List Operand) → fits_upper os ≡ true → All IsLimited os → Given Lui os
 unfolding definitions placed
 upper (Def rd ∷ Imm i ∷ rest) e small =
     let t = behind (is_within (pos 0) (pos 1048575) i) rest e in
+    let rd_is = set_is rd (All-head IsLimited (Def rd) (Imm i ∷ rest) small) in
     given_same Lui (Def rd ∷ Imm i ∷ []) rest t refl (record {
       slot = false;
       slot_is = refl;
-      operands = ap (λ (o : Option (List Operand)). joined (Some (Def rd ∷ [])) (before (Some (Imm i)) o)) t.placed;
+      operands = λ k. joined (before (rd_is k) (Some [])) (before (Some (Imm i)) (t.placed k));
       in_place = refl;
       form = e;
     })
-upper (Def rd ∷ Part Upper y ∷ rest) e small = absurd (no_second (Def rd) Upper y rest small)
+upper (Def rd ∷ Part Upper y ∷ rest) e small = absurd (second (Def rd) (Part Upper y) rest small)
 upper os e small = absurd cc
 
-branch : (op : BranchOp) (os : List Operand) → fits_branch os ≡ true → Given (Branch op) os
+branch : (op : BranchOp) (os : List Operand) → fits_branch os ≡ true → All IsLimited os → Given (Branch op) os
 unfolding definitions placed
-branch op (Use a ∷ Use b ∷ Block n ∷ rest) e =
+branch op (Use a ∷ Use b ∷ Block n ∷ rest) e small =
     let t = implicits rest e in
+    let a_is = use_is a (All-head IsLimited (Use a) (Use b ∷ Block n ∷ rest) small) in
+    let b_is = use_is b (second (Use a) (Use b) (Block n ∷ rest) small) in
     given_same (Branch op) (Use a ∷ Use b ∷ Block n ∷ []) rest t refl (record {
       slot = false;
       slot_is = refl;
-      operands = ap (λ (o : Option (List Operand)). joined (Some []) (before (Some (Use a)) (before (Some (Use b)) (before (Some (Block n)) o)))) t.placed;
+      operands = λ i. joined (Some []) (before (a_is i) (before (b_is i) (before (Some (Block n)) (t.placed i))));
       in_place = refl;
       form = e;
     })
-branch op os e = absurd cc
+branch op os e small = absurd cc
 
 -- ---- loads
 
 load_register : (op : LoadOp) (rd : ℕ) (a : ℕ) (i : ℤ) (rest : List Operand) → fits_load op (Def rd ∷ Use a ∷ Imm i ∷ rest) ≡ true →
-    Given (Load op) (Def rd ∷ Use a ∷ Imm i ∷ rest)
+    rd < 4128 → a < 4128 → Given (Load op) (Def rd ∷ Use a ∷ Imm i ∷ rest)
 unfolding definitions placed
-load_register op rd a i rest e =
+load_register op rd a i rest e rd_small a_small =
     let t = behind (has_12_bits i) rest e in
     given_same (Load op) (Def rd ∷ Use a ∷ Imm i ∷ []) rest t refl (record {
       slot = moves_slot (load_width op) i;
       slot_is = refl;
-      operands = ap (λ (o : Option (List Operand)). joined (Some (Def rd ∷ [])) (before (Some (Use a)) (before (Some (Imm i)) o))) t.placed;
+      operands = λ k. joined (before (set_is rd rd_small k) (Some [])) (before (use_is a a_small k) (before (Some (Imm i)) (t.placed k)));
       in_place = refl;
       form = e;
     })
 
-load_slot : (op : LoadOp) (rd : ℕ) (n : ℕ) (i : ℤ) (rest : List Operand) → fits_load op (Def rd ∷ Slot n ∷ Imm i ∷ rest) ≡ true →
+load_slot : (op : LoadOp) (rd : ℕ) (n : ℕ) (i : ℤ) (rest : List Operand) → fits_load op (Def rd ∷ Slot n ∷ Imm i ∷ rest) ≡ true → rd < 4128 →
     Given (Load op) (Def rd ∷ Slot n ∷ Imm i ∷ rest)
 unfolding definitions placed
-load_slot op rd n i rest e =
+load_slot op rd n i rest e rd_small =
     let parts = and_parts (moves_slot (load_width op) i) (list_all is_implicit rest) e in
     let t = implicits rest parts.1 in
     given_same (Load op) (Def rd ∷ Slot n ∷ Imm i ∷ []) rest t refl (record {
       slot = true;
       slot_is = parts.0;
-      operands = ap (λ (o : Option (List Operand)). joined (Some (Def rd ∷ [])) (before (Some (Slot n)) (before (Some (Imm i)) o))) t.placed;
+      operands = λ k. joined (before (set_is rd rd_small k) (Some [])) (before (Some (Slot n)) (before (Some (Imm i)) (t.placed k)));
       in_place = refl;
       form = e;
     })
 
-load_object : (op : LoadOp) (rd : ℕ) (n : ℕ) (i : ℤ) (rest : List Operand) → fits_load op (Def rd ∷ Object n ∷ Imm i ∷ rest) ≡ true →
+load_object : (op : LoadOp) (rd : ℕ) (n : ℕ) (i : ℤ) (rest : List Operand) → fits_load op (Def rd ∷ Object n ∷ Imm i ∷ rest) ≡ true → rd < 4128 →
     (b : Bool) → moves_slot (load_width op) i ≡ b → Given (Load op) (Def rd ∷ Object n ∷ Imm i ∷ rest)
 unfolding definitions placed
-load_object op rd n i rest e true is =
+load_object op rd n i rest e rd_small true is =
     let parts = and_parts (has_12_bits i) (list_all is_implicit rest) e in
     let t = implicits rest parts.1 in
     let form = ap (λ (b : Bool). b && list_all is_implicit rest) is ∙ parts.1 in
     given_slots (Load op) (Def rd ∷ Object n ∷ Imm i ∷ []) rest t (Def rd ∷ Slot n ∷ Imm i ∷ []) refl form (record {
       slot = true;
       slot_is = is;
-      operands = ap (λ (o : Option (List Operand)). joined (Some (Def rd ∷ [])) (before (Some (Slot n)) (before (Some (Imm i)) o))) t.placed;
+      operands = λ k. joined (before (set_is rd rd_small k) (Some [])) (before (Some (Slot n)) (before (Some (Imm i)) (t.placed k)));
       in_place = refl;
       form = form;
     })
-load_object op rd n i rest e false is =
+load_object op rd n i rest e rd_small false is =
     let parts = and_parts (has_12_bits i) (list_all is_implicit rest) e in
     let t = implicits rest parts.1 in
     given_objects (Load op) (Def rd ∷ Object n ∷ Imm i ∷ []) rest t (Def rd ∷ Slot n ∷ Imm i ∷ []) refl
     (ap (λ (b : Bool). b && list_all is_implicit rest) is) (record {
       slot = false;
       slot_is = is;
-      operands = ap (λ (o : Option (List Operand)). joined (Some (Def rd ∷ [])) (before (Some (Object n)) (before (Some (Imm i)) o))) t.placed;
+      operands = λ k. joined (before (set_is rd rd_small k) (Some [])) (before (Some (Object n)) (before (Some (Imm i)) (t.placed k)));
       in_place = refl;
       form = e;
     })
 
 load : (op : LoadOp) (os : List Operand) → fits_load op os ≡ true → All IsLimited os → Given (Load op) os
-load op (Def rd ∷ Use a ∷ Imm i ∷ rest) e small = load_register op rd a i rest e
-load op (Def rd ∷ Slot n ∷ Imm i ∷ rest) e small = load_slot op rd n i rest e
-load op (Def rd ∷ Object n ∷ Imm i ∷ rest) e small = load_object op rd n i rest e (moves_slot (load_width op) i) refl
-load op (Def rd ∷ Use a ∷ Part Lower y ∷ rest) e small = absurd (no_third (Def rd) (Use a) Lower y rest small)
+load op (Def rd ∷ Use a ∷ Imm i ∷ rest) e small =
+    load_register op rd a i rest e (All-head IsLimited (Def rd) (Use a ∷ Imm i ∷ rest) small) (second (Def rd) (Use a) (Imm i ∷ rest) small)
+load op (Def rd ∷ Slot n ∷ Imm i ∷ rest) e small = load_slot op rd n i rest e (All-head IsLimited (Def rd) (Slot n ∷ Imm i ∷ rest) small)
+load op (Def rd ∷ Object n ∷ Imm i ∷ rest) e small =
+    load_object op rd n i rest e (All-head IsLimited (Def rd) (Object n ∷ Imm i ∷ rest) small) (moves_slot (load_width op) i) refl
+load op (Def rd ∷ Use a ∷ Part Lower y ∷ rest) e small = absurd (third (Def rd) (Use a) (Part Lower y) rest small)
 load op os e small = absurd cc
 
 -- ---- stores
 
 store_register : (op : StoreOp) (rs : ℕ) (a : ℕ) (i : ℤ) (rest : List Operand) → fits_store op (Use rs ∷ Use a ∷ Imm i ∷ rest) ≡ true →
-    Given (Store op) (Use rs ∷ Use a ∷ Imm i ∷ rest)
+    rs < 4128 → a < 4128 → Given (Store op) (Use rs ∷ Use a ∷ Imm i ∷ rest)
 unfolding definitions placed
-store_register op rs a i rest e =
+store_register op rs a i rest e rs_small a_small =
     let t = behind (has_12_bits i) rest e in
     given_same (Store op) (Use rs ∷ Use a ∷ Imm i ∷ []) rest t refl (record {
       slot = moves_slot (store_width op) i;
       slot_is = refl;
-      operands = ap (λ (o : Option (List Operand)). joined (Some []) (before (Some (Use rs)) (before (Some (Use a)) (before (Some (Imm i)) o)))) t.placed;
+      operands = λ k. joined (Some []) (before (use_is rs rs_small k) (before (use_is a a_small k) (before (Some (Imm i)) (t.placed k))));
       in_place = refl;
       form = e;
     })
 
-store_slot : (op : StoreOp) (rs : ℕ) (n : ℕ) (i : ℤ) (rest : List Operand) → fits_store op (Use rs ∷ Slot n ∷ Imm i ∷ rest) ≡ true →
+store_slot : (op : StoreOp) (rs : ℕ) (n : ℕ) (i : ℤ) (rest : List Operand) → fits_store op (Use rs ∷ Slot n ∷ Imm i ∷ rest) ≡ true → rs < 4128 →
     Given (Store op) (Use rs ∷ Slot n ∷ Imm i ∷ rest)
 unfolding definitions placed
-store_slot op rs n i rest e =
+store_slot op rs n i rest e rs_small =
     let parts = and_parts (moves_slot (store_width op) i) (list_all is_implicit rest) e in
     let t = implicits rest parts.1 in
     given_same (Store op) (Use rs ∷ Slot n ∷ Imm i ∷ []) rest t refl (record {
       slot = true;
       slot_is = parts.0;
-      operands = ap (λ (o : Option (List Operand)). joined (Some []) (before (Some (Use rs)) (before (Some (Slot n)) (before (Some (Imm i)) o)))) t.placed;
+      operands = λ k. joined (Some []) (before (use_is rs rs_small k) (before (Some (Slot n)) (before (Some (Imm i)) (t.placed k))));
       in_place = refl;
       form = e;
     })
 
-store_object : (op : StoreOp) (rs : ℕ) (n : ℕ) (i : ℤ) (rest : List Operand) → fits_store op (Use rs ∷ Object n ∷ Imm i ∷ rest) ≡ true →
+store_object : (op : StoreOp) (rs : ℕ) (n : ℕ) (i : ℤ) (rest : List Operand) → fits_store op (Use rs ∷ Object n ∷ Imm i ∷ rest) ≡ true → rs < 4128 →
     (b : Bool) → moves_slot (store_width op) i ≡ b → Given (Store op) (Use rs ∷ Object n ∷ Imm i ∷ rest)
 unfolding definitions placed
-store_object op rs n i rest e true is =
+store_object op rs n i rest e rs_small true is =
     let parts = and_parts (has_12_bits i) (list_all is_implicit rest) e in
     let t = implicits rest parts.1 in
     let form = ap (λ (b : Bool). b && list_all is_implicit rest) is ∙ parts.1 in
     given_slots (Store op) (Use rs ∷ Object n ∷ Imm i ∷ []) rest t (Use rs ∷ Slot n ∷ Imm i ∷ []) refl form (record {
       slot = true;
       slot_is = is;
-      operands = ap (λ (o : Option (List Operand)). joined (Some []) (before (Some (Use rs)) (before (Some (Slot n)) (before (Some (Imm i)) o)))) t.placed;
+      operands = λ k. joined (Some []) (before (use_is rs rs_small k) (before (Some (Slot n)) (before (Some (Imm i)) (t.placed k))));
       in_place = refl;
       form = form;
     })
-store_object op rs n i rest e false is =
+store_object op rs n i rest e rs_small false is =
     let parts = and_parts (has_12_bits i) (list_all is_implicit rest) e in
     let t = implicits rest parts.1 in
     given_objects (Store op) (Use rs ∷ Object n ∷ Imm i ∷ []) rest t (Use rs ∷ Slot n ∷ Imm i ∷ []) refl
     (ap (λ (b : Bool). b && list_all is_implicit rest) is) (record {
       slot = false;
       slot_is = is;
-      operands = ap (λ (o : Option (List Operand)). joined (Some []) (before (Some (Use rs)) (before (Some (Object n)) (before (Some (Imm i)) o)))) t.placed;
+      operands = λ k. joined (Some []) (before (use_is rs rs_small k) (before (Some (Object n)) (before (Some (Imm i)) (t.placed k))));
       in_place = refl;
       form = e;
     })
 
 store : (op : StoreOp) (os : List Operand) → fits_store op os ≡ true → All IsLimited os → Given (Store op) os
-store op (Use rs ∷ Use a ∷ Imm i ∷ rest) e small = store_register op rs a i rest e
-store op (Use rs ∷ Slot n ∷ Imm i ∷ rest) e small = store_slot op rs n i rest e
-store op (Use rs ∷ Object n ∷ Imm i ∷ rest) e small = store_object op rs n i rest e (moves_slot (store_width op) i) refl
-store op (Use rs ∷ Use a ∷ Part Lower y ∷ rest) e small = absurd (no_third (Use rs) (Use a) Lower y rest small)
+store op (Use rs ∷ Use a ∷ Imm i ∷ rest) e small =
+    store_register op rs a i rest e (All-head IsLimited (Use rs) (Use a ∷ Imm i ∷ rest) small) (second (Use rs) (Use a) (Imm i ∷ rest) small)
+store op (Use rs ∷ Slot n ∷ Imm i ∷ rest) e small = store_slot op rs n i rest e (All-head IsLimited (Use rs) (Slot n ∷ Imm i ∷ rest) small)
+store op (Use rs ∷ Object n ∷ Imm i ∷ rest) e small =
+    store_object op rs n i rest e (All-head IsLimited (Use rs) (Object n ∷ Imm i ∷ rest) small) (moves_slot (store_width op) i) refl
+store op (Use rs ∷ Use a ∷ Part Lower y ∷ rest) e small = absurd (third (Use rs) (Use a) (Part Lower y) rest small)
 store op os e small = absurd cc
 
 -- ---- others
 
-copy : (os : List Operand) → fits_copy os ≡ true → Given Copy os
+copy : (os : List Operand) → fits_copy os ≡ true → All IsLimited os → Given Copy os
 unfolding definitions placed
-copy (Def rd ∷ Use rs ∷ rest) e =
+copy (Def rd ∷ Use rs ∷ rest) e small =
     let t = implicits rest e in
+    let rd_is = set_is rd (All-head IsLimited (Def rd) (Use rs ∷ rest) small) in
+    let rs_is = use_is rs (second (Def rd) (Use rs) rest small) in
     given_same Copy (Def rd ∷ Use rs ∷ []) rest t refl (record {
       slot = false;
       slot_is = refl;
-      operands = ap (λ (o : Option (List Operand)). joined (Some (Def rd ∷ [])) (before (Some (Use rs)) o)) t.placed;
+      operands = λ i. joined (before (rd_is i) (Some [])) (before (rs_is i) (t.placed i));
       in_place = refl;
       form = e;
     })
-copy os e = absurd cc
+copy os e small = absurd cc
 
 jump : (os : List Operand) → fits_jump os ≡ true → Given PseudoBr os
 unfolding definitions placed
@@ -303,13 +323,13 @@ return' os e =
     })
 
 pub operands_given : (op : Op) (os : List Operand) → has_form op os ≡ true → All IsLimited os → is_read op ≡ true → Given op os
-operands_given (Registers op) os e small read = registers op os e
+operands_given (Registers op) os e small read = registers op os e small
 operands_given (Immediate op) os e small read = immediate op os e small
 operands_given Lui os e small read = upper os e small
-operands_given (Branch op) os e small read = branch op os e
+operands_given (Branch op) os e small read = branch op os e small
 operands_given (Load op) os e small read = load op os e small
 operands_given (Store op) os e small read = store op os e small
-operands_given Copy os e small read = copy os e
+operands_given Copy os e small read = copy os e small
 operands_given PseudoBr os e small read = jump os e
 operands_given PseudoCall os e small read = call os e small
 operands_given PseudoRet os e small read = return' os e

@@ -1,9 +1,10 @@
 -- The line of an item is read as its form: its pieces are those of its definitions, its opcode, its operands and its end.
-use Rattle.std.proofs.Common.{◌≡◌, ℕ, ◌+◌, ◌≤◌, Bool, true, false, cond, ◌&&◌, ◌||◌, eqb, List, [], ◌∷◌, ◌++◌, length, map, Option, Some, None}
+use Rattle.std.proofs.Common.{◌≡◌, ℕ, ◌+◌, ◌-◌, ◌<◌, ◌≤◌, Bool, true, false, cond, ◌&&◌, ◌||◌, eqb, ltb, List, [], ◌∷◌, ◌++◌, length, map, Option, Some, None}
 use Rattle.std.proofs.Common.{Ok, refl, sym, subst, ap, ◌∙◌, arith, append_assoc}
 use Rattle.std.specs.Prelude.{codes, drop, nat_eq, IfSome}
 use Rattle.std.specs.List.{list_any, prefix_len, starts_with}
 use Rattle.std.specs.Char.{is_ascii_uppercase}
+use Rattle.std.specs.Fmt.{decimal}
 use Rattle.std.proofs.lemmas.Bool.{cond-true, cond-false}
 use Rattle.std.proofs.lemmas.Bool.Decides.{nat_tests}
 use Rattle.read_metadata.specs.Token.{text_of}
@@ -37,7 +38,7 @@ use Rattle.read_line.specs.Read.{◌>>=◌}
 use Rattle.read_line.specs.Register.{begins_register}
 use Rattle.read_program.specs.Limited.{LocIsLimited}
 use Rattle.mir_printer.specs.Spelling.{comma_separated, register_text, number_text, location_text}
-use Rattle.readback_items.specs.Forms.{register_form}
+use Rattle.readback_items.specs.Forms.{register_name, register_form}
 use Rattle.readback_items.proofs.Attributes.{tail_pieces, tail_spells, tail_reads, tail_ends, tail_narrow, tail_uncut, IsUncut, tail_parses, tail_within}
 use Rattle.readback_items.proofs.Cuts.{Passes, AllPass, safe_passes, pieces_pass, semicolon_mark, colons_mark, colon_passes, semicolon_colon}
 use Rattle.readback_items.proofs.Lexing.{Piece, spelled, AllRead, Lexed, pieces_lexed}
@@ -45,6 +46,7 @@ use Rattle.readback_items.proofs.Lists.{lexed_length, pieces_of, texts, forms, s
 use Rattle.readback_items.proofs.Lists.{set_pieces, AreRegisters, spells_set, reads_set, narrow_set, uncut_set, parses_set, enough_set}
 use Rattle.readback_items.proofs.Opcodes.{Opcode}
 use Rattle.readback_items.proofs.Phrases.{piece, Phrase, AllNarrow}
+use Rattle.readback_items.proofs.Registers.{register_lexeme, register_within}
 use Rattle.readback_items.proofs.Tokens.{Ends}
 
 -- ---- opcodes
@@ -74,10 +76,11 @@ upper_word words.Lower e = absurd cc
 upper_word words.Underscore e = absurd cc
 
 -- definitions begin with a register
-set_first : (line : List ℕ) (r : ℕ) (rs : List ℕ) (ps : List Piece) (ls : List Lexeme) → Lexed line (set_pieces 4 r rs ++ ps) ls →
+set_first : (line : List ℕ) (r : ℕ) (rs : List ℕ) (ps : List Piece) (ls : List Lexeme) → r < 4128 → Lexed line (set_pieces 4 r rs ++ ps) ls →
     (name : RegisterName) × (more : List Lexeme) × (ls ≡ lexemes.Register name ∷ more)
-set_first line r [] ps ls (t, more, text, e, lexed) = (_, more, e)
-set_first line r (s ∷ rs) ps ls (t, more, text, e, lexed) = (_, more, e)
+set_first line r [] ps ls small (t, more, text, e, lexed) = (register_name r, more, e ∙ ap (λ (l : Lexeme). l ∷ more) (register_lexeme r t small))
+set_first line r (s ∷ rs) ps ls small (t, more, text, e, lexed) =
+    (register_name r, more, e ∙ ap (λ (l : Lexeme). l ∷ more) (register_lexeme r t small))
 
 register_sentence : (line : List ℕ) (ls : List Lexeme) → (name : RegisterName) × (more : List Lexeme) × (ls ≡ lexemes.Register name ∷ more) →
     sentence_of line ls ≡ as_item (item_of line ls)
@@ -228,7 +231,7 @@ module _ (qs : List Phrase) (k : Option ℕ) (loc : Loc) (small : Small k) (at :
               (cond-true (begins_register ls) (definitions_at (length ls) ls) (Some ([], ls)) set.begins ∙ set.is)
               ∙ (ap (λ (x : List Lexeme). defined_item line ls (sets (r ∷ rs)) x) set.lexed.3
               ∙ defined_is line ls (sets (r ∷ rs)) set.lexed.0 set.lexed.1 (uses_parse line qs set.lexed.1 set.lexed.4) set.lexed.2);
-          sentence = register_sentence line ls (set_first line r rs (coded 1) ls lexed);
+          sentence = register_sentence line ls (set_first line r rs (coded 1) ls are.0 lexed);
         }
 
     -- ---- nothing exceeds
@@ -238,17 +241,17 @@ module _ (qs : List Phrase) (k : Option ℕ) (loc : Loc) (small : Small k) (at :
     narrow_lexed line (p ∷ ps) ls all (t, rest, text_is, e, more) =
         ap (list_any is_wide) e ∙ (λ i. all.0 t i || narrow_lexed line ps rest all.1 more i)
 
-    sets_within : (rs : List ℕ) → list_any register_exceeds (sets rs) ≡ false
-    sets_within [] = refl
-    sets_within (r ∷ rs) = sets_within rs
+    sets_within : (rs : List ℕ) → AreRegisters rs → list_any register_exceeds (sets rs) ≡ false
+    sets_within [] are = refl
+    sets_within (r ∷ rs) are = λ i. register_within r are.0 i || sets_within rs are.1 i
 
     uses_within : (os : List Phrase) → list_any operand_exceeds (forms os) ≡ false
     uses_within [] = refl
     uses_within (q ∷ os) = λ i. q.within i || uses_within os i
 
-    item_narrow : (rs : List ℕ) → AllNarrow (item_pieces rs)
-    item_narrow [] = ((λ t. refl), uses_narrow qs)
-    item_narrow (r ∷ rs) = narrow_set 4 r rs (coded 1) ((λ t. refl), uses_narrow qs)
+    item_narrow : (rs : List ℕ) → AreRegisters rs → AllNarrow (item_pieces rs)
+    item_narrow [] are = ((λ t. refl), uses_narrow qs)
+    item_narrow (r ∷ rs) are = narrow_set 4 r rs (coded 1) are ((λ t. refl), uses_narrow qs)
 
     item_read : (rs : List ℕ) → AreRegisters rs → AllRead (item_pieces rs)
     item_read [] are = (op.reads (spelled behind) (uses_end qs), uses_read qs)
@@ -263,10 +266,10 @@ module _ (qs : List Phrase) (k : Option ℕ) (loc : Loc) (small : Small k) (at :
     abbrev whole_text : List ℕ → List ℕ
     whole_text rs = set_text_of rs ++ (text ++ (uses_text_of qs ++ (number_text k ++ location_text loc)))
 
-    item_spells : (rs : List ℕ) → AreRegisters rs → spelled (item_pieces rs) ≡ codes "    " ++ whole_text rs
-    item_spells [] are = ap (λ (t : List ℕ). codes "    " ++ (text ++ t)) (uses_spell qs)
-    item_spells (r ∷ rs) are =
-        spells_set 4 r rs (coded 1) are
+    item_spells : (rs : List ℕ) → spelled (item_pieces rs) ≡ codes "    " ++ whole_text rs
+    item_spells [] = ap (λ (t : List ℕ). codes "    " ++ (text ++ t)) (uses_spell qs)
+    item_spells (r ∷ rs) =
+        spells_set 4 r rs (coded 1)
         ∙ (ap (λ (t : List ℕ). codes "    " ++ (comma_separated (map register_text (r ∷ rs)) ++ (32 ∷ 61 ∷ 32 ∷ (text ++ t)))) (uses_spell qs)
         ∙ ap (λ (t : List ℕ). codes "    " ++ t) (sym (append_assoc (comma_separated (map register_text (r ∷ rs))) (codes " = ") (text ++ (uses_text_of qs
         ++ (number_text k ++ location_text loc))))))
@@ -284,13 +287,19 @@ module _ (qs : List Phrase) (k : Option ℕ) (loc : Loc) (small : Small k) (at :
     opcode_first : (x : ℕ) → is_ascii_uppercase x ≡ true → (is_blank x ≡ false) × (eqb 115 x ≡ false) × (eqb 108 x ≡ false)
     opcode_first x is = (grind (arith, nat_tests, is), grind (arith, nat_tests, is), grind (arith, nat_tests, is))
 
+    register_first : (r : ℕ) (xs : List ℕ) → is_listing (32 ∷ 32 ∷ 32 ∷ 32 ∷ (register_text r ++ xs)) ≡ false
+    register_first r xs = by (ltb r 32) where
+      by : (b : Bool) → is_listing (32 ∷ 32 ∷ 32 ∷ 32 ∷ (cond b (codes "$x" ++ decimal r) (codes "%" ++ decimal (r - 32)) ++ xs)) ≡ false
+      by true = no_listing 36 (120 ∷ (decimal r ++ xs)) refl refl refl
+      by false = no_listing 37 (decimal (r - 32) ++ xs) refl refl refl
+
     first_text : (rs : List ℕ) → AreRegisters rs → is_listing (spelled (item_pieces rs)) ≡ false
     first_text [] are =
         let first = opcode_first op.first op.upper in
         ap (λ (t : List ℕ). is_listing (32 ∷ 32 ∷ 32 ∷ 32 ∷ (t ++ spelled behind))) op.parts
         ∙ no_listing op.first (op.bytes ++ spelled behind) first.0 first.1 first.2
-    first_text (r ∷ []) are = no_listing 36 _ refl refl refl
-    first_text (r ∷ s ∷ rs) are = no_listing 36 _ refl refl refl
+    first_text (r ∷ []) are = register_first r _
+    first_text (r ∷ s ∷ rs) are = register_first r _
 
     -- ---- what the line says
 
@@ -317,10 +326,10 @@ module _ (qs : List Phrase) (k : Option ℕ) (loc : Loc) (small : Small k) (at :
         let parsed = item_parses line rs (lexemes_of line lexed.tokens) are lexed.lexed in
         let within : (list_any is_wide (lexemes_of line lexed.tokens) || (list_any register_exceeds (sets rs) || (list_any operand_exceeds (forms qs)
         || attributes_exceed (attributes_are k loc)))) ≡ false =
-        (λ i. narrow_lexed line ps (lexemes_of line lexed.tokens) (item_narrow rs) lexed.lexed i || (sets_within rs i ||
+        (λ i. narrow_lexed line ps (lexemes_of line lexed.tokens) (item_narrow rs are) lexed.lexed i || (sets_within rs are i ||
         (uses_within qs i || tail_within k loc small at
         i))) in
-        ap body_line_of (sym (item_spells rs are))
+        ap body_line_of (sym (item_spells rs))
         ∙ (cond-false (is_listing line) (Ok lines.Passed) (line_of_tokens (code_of line) (tokens_of (code_of line))) (first_text rs are)
         ∙ (ap (λ (t : List ℕ). line_of_tokens t (tokens_of t)) code
         ∙ (ap (line_of_tokens line) lexed.are

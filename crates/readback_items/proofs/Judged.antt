@@ -1,8 +1,8 @@
 -- The form of a debug item is judged as the item.
-use Rattle.std.proofs.Common.{◌≡◌, ℕ, ℤ, pos, ◌≤◌, Bool, cond, eqb, [], ◌∷◌, Option, Some, None, Ok}
+use Rattle.std.proofs.Common.{◌≡◌, ℕ, ℤ, pos, ◌-◌, ◌<◌, ◌≤◌, Bool, true, false, cond, eqb, ltb, [], ◌∷◌, Option, Some, None, Ok}
 use Rattle.std.proofs.Common.{refl, sym, ap, ◌∙◌}
 use Rattle.std.specs.Prelude.{codes}
-use Rattle.std.proofs.lemmas.Bool.{ne_eqb, le-leb}
+use Rattle.std.proofs.lemmas.Bool.{ne_eqb, le-leb, ltb-false}
 use Rattle.rv64_instr.specs.declared.place.Place.{Place}
 use Rattle.rv64_instr.specs.declared.place.Place.TheVariants as place
 use Rattle.read_metadata.specs.Maps.{Maps}
@@ -21,17 +21,20 @@ use Rattle.read_item.specs.declared.opcode.DebugOpcode.{DebugOpcode}
 use Rattle.read_item.specs.declared.opcode.DebugOpcode.TheVariants as debug
 use Rattle.read_item.specs.declared.opcode.Opcode.{Opcode}
 use Rattle.read_item.specs.declared.opcode.Opcode.TheVariants as opcodes
+use Rattle.read_item.specs.Debug.{virtual_value, register_value, virtual_place, register_place}
 use Rattle.read_item.specs.Debug.{operand_value, phi_place, counted, phi_by, phi_of, inlined_at, phi_kind, debug_rules, kind_unless, debug_of}
 use Rattle.read_item.specs.Code.{refusal_by}
 use Rattle.read_item.specs.Judge.{entries_of, item_of, judged_by, judged}
 use Rattle.read_item.specs.Opcode.{ops, op_named, debug_opcode_of, opcode_of}
 use Rattle.read_token.specs.declared.lexeme.Flag.TheVariants as flags
+use Rattle.read_token.specs.declared.lexeme.RegisterName.TheVariants.{Physical, Virtual}
 use Rattle.read_line.specs.declared.form.ItemForm.{ItemForm}
 use Rattle.read_line.specs.declared.form.OperandForm.{OperandForm}
 use Rattle.read_line.specs.declared.form.OperandForm.TheVariants as form
-use Rattle.read_program.specs.Limited.{PlaceIsLimited, KindIsLimited}
+use Rattle.read_program.specs.Limited.{ValueIsLimited, PlaceIsLimited, KindIsLimited}
 use Rattle.readback_items.specs.Debug.{IsKept, ValueIsKept, PlaceIsKept, IsDebug, DebugLinesReadBack}
 use Rattle.readback_items.specs.Forms.{register_form, no_register, value_form, mark_form, place_form, kind_form, form_of}
+use Rattle.readback_items.proofs.Registers.{plain_register}
 use Rattle.readback_items.proofs.Said.{lines_say_forms}
 
 -- ---- opcodes
@@ -56,10 +59,13 @@ by_opcode meta op line is = ap (λ (o : Option Opcode). judged_by o meta line) i
 
 -- ---- marks
 
-kept_value : (r : ℕ) → IsKept r → operand_value (form.Register (register_form flags.Plain r)) ≡ At r
-kept_value r is =
-    ap (λ (b : Bool). cond b (Constant (pos 0)) (cond (eqb r 2) Nothing (At r))) (ne_eqb r 0 is.0)
-    ∙ ap (λ (b : Bool). cond b Nothing (At r)) (ne_eqb r 2 is.1)
+kept_value : (r : ℕ) → r < 4128 → IsKept r → operand_value (form.Register (register_form flags.Plain r)) ≡ At r
+kept_value r small is = by (ltb r 32) refl where
+  by : (b : Bool) → ltb r 32 ≡ b → register_value flags.Plain (cond b (Physical r) (Virtual (r - 32))) ≡ At r
+  by true low =
+      ap (λ (b : Bool). cond b (Constant (pos 0)) (cond (eqb r 2) Nothing (At r))) (ne_eqb r 0 is.0)
+      ∙ ap (λ (b : Bool). cond b Nothing (At r)) (ne_eqb r 2 is.1)
+  by false high = ap virtual_value (plain_register r small (ltb-false r 32 high))
 
 -- a value mark, by its fragment
 value_read : (meta : Maps) (value : OperandForm) (node : ℕ) (at : Option ℕ) (fragment : Option Bytes) (loc : Loc) →
@@ -87,12 +93,13 @@ value_means meta value v m loc inlined is =
       entries = entries_of (value_form value v loc).operands;
     }))))
 
-mark_means : (meta : Maps) (v : VarId) (m : MarkValue) (loc : Loc) → v.inlined_at ≡ inlined_at meta loc → ValueIsKept m →
+mark_means : (meta : Maps) (v : VarId) (m : MarkValue) (loc : Loc) → v.inlined_at ≡ inlined_at meta loc → ValueIsLimited m → ValueIsKept m →
     judged meta (mark_form v m loc) ≡ Ok (judged_as.Item (record { kind = Mark v m; loc = loc; entries = entries_of (mark_form v m loc).operands }))
-mark_means meta v Nothing loc inlined is = value_means meta no_register v Nothing loc inlined refl
-mark_means meta v (Constant c) loc inlined is = value_means meta (form.Integer (Some c)) v (Constant c) loc inlined refl
-mark_means meta v (At r) loc inlined is = value_means meta (form.Register (register_form flags.Plain r)) v (At r) loc inlined (kept_value r is)
-mark_means meta v (Pair q) loc inlined is =
+mark_means meta v Nothing loc inlined small is = value_means meta no_register v Nothing loc inlined refl
+mark_means meta v (Constant c) loc inlined small is = value_means meta (form.Integer (Some c)) v (Constant c) loc inlined refl
+mark_means meta v (At r) loc inlined small is =
+    value_means meta (form.Register (register_form flags.Plain r)) v (At r) loc inlined (kept_value r small is)
+mark_means meta v (Pair q) loc inlined small is =
     by_opcode meta debug.InstrRef (mark_form v (Pair q) loc) reference_opcode
     ∙ (ap (item_of (mark_form v (Pair q) loc)) (reference_read meta q v.node v.inlined_at v.fragment loc)
     ∙ (λ i. Ok (judged_as.Item (record {
@@ -103,14 +110,17 @@ mark_means meta v (Pair q) loc inlined is =
 
 -- ---- phis
 
-kept_place : (r : ℕ) → IsKept r → phi_place (form.Register (register_form flags.Plain r)) ≡ Some (Some (place.Register r))
-kept_place r is =
-    ap (λ (b : Bool). Some (cond b (Some (place.Const (pos 0))) (cond (eqb r 2) None (Some (place.Register r))))) (ne_eqb r 0 is.0)
-    ∙ ap (λ (b : Bool). Some (cond b None (Some (place.Register r)))) (ne_eqb r 2 is.1)
+kept_place : (r : ℕ) → r < 4128 → IsKept r → phi_place (form.Register (register_form flags.Plain r)) ≡ Some (Some (place.Register r))
+kept_place r small is = by (ltb r 32) refl where
+  by : (b : Bool) → ltb r 32 ≡ b → register_place flags.Plain (cond b (Physical r) (Virtual (r - 32))) ≡ Some (Some (place.Register r))
+  by true low =
+      ap (λ (b : Bool). Some (cond b (Some (place.Const (pos 0))) (cond (eqb r 2) None (Some (place.Register r))))) (ne_eqb r 0 is.0)
+      ∙ ap (λ (b : Bool). Some (cond b None (Some (place.Register r)))) (ne_eqb r 2 is.1)
+  by false high = ap virtual_place (plain_register r small (ltb-false r 32 high))
 
 place_read : (p : Option Place) → PlaceIsLimited p → PlaceIsKept p → phi_place (place_form p) ≡ Some p
 place_read None small is = refl
-place_read (Some (place.Register r)) small is = kept_place r is
+place_read (Some (place.Register r)) small is = kept_place r small.1 is
 place_read (Some (place.Slot n)) small is = refl
 place_read (Some (place.Const c)) small is = ap (λ (x : ℤ). Some (Some (place.Const x))) (sym small)
 
@@ -138,7 +148,7 @@ phi_means meta p k loc small is few =
 debug_means : (meta : Maps) (kind : ItemKind) (loc : Loc) → KindIsLimited kind → IsDebug meta loc kind →
     judged meta (kind_form kind loc) ≡ Ok (judged_as.Item (record { kind = kind; loc = loc; entries = entries_of (kind_form kind loc).operands }))
 debug_means meta (Code i k) loc small is = absurd is
-debug_means meta (Mark v m) loc small is = mark_means meta v m loc is.0 is.1
+debug_means meta (Mark v m) loc small is = mark_means meta v m loc is.0 small.1 is.1
 debug_means meta (Phi p k) loc small is = phi_means meta p k loc small.0 is small.1
 
 pub debug_lines_read_back : DebugLinesReadBack

@@ -24,7 +24,7 @@ use Rattle.read_line.specs.declared.form.FormError.{FormError}
 use Rattle.read_item.specs.declared.judged.Judged.TheVariants as judged_as
 use Rattle.read_item.specs.declared.opcode.Opcode.{Opcode}
 use Rattle.read_item.specs.declared.opcode.Opcode.TheVariants as opcodes
-use Rattle.read_item.specs.Code.{refusal_by, joined, definitions, placed, names_slot, places_of, fits, is_virtual, is_virtual_operand, is_pointer}
+use Rattle.read_item.specs.Code.{refusal_by, joined, definitions, placed, names_slot, places_of, fits, is_refused_virtual, is_refused_operand, is_pointer}
 use Rattle.read_item.specs.Code.{is_pointer_operand, is_misplaced, is_long, code_rules, operands_of, instruction, unless_refused, code_of}
 use Rattle.read_item.specs.Judge.{entries_of, numbered, item_of, judged_by, judged}
 use Rattle.read_item.specs.Opcode.{debug_opcode_of, opcode_or, opcode_of, is_read}
@@ -59,7 +59,7 @@ module _ (i : Instruction) (number : Option ℕ) (loc : Loc) (is : IsCode i) (sm
   given = operands_given i.op i.operands is.form small read
 
   plain : Clean (sets_of i.operands) (uses_of i.operands) (length i.operands)
-  plain = clean i.operands is.pointer
+  plain = clean i.operands small is.pointer
 
   by_slot : (b : Bool) → names_slot i.op (uses_of i.operands) ≡ b →
       joined (definitions (sets_of i.operands)) (placed (places i.op b) (uses_of i.operands)) ≡ Some (judged_operands i.op i.operands) →
@@ -77,8 +77,8 @@ module _ (i : Instruction) (number : Option ℕ) (loc : Loc) (is : IsCode i) (sm
   fits_all : not (fits i.op (operands_of i.op line)) ≡ false
   fits_all = ap (λ (o : Option (List Operand)). not (fits i.op o)) operands_are ∙ ap not given.form
 
-  physical : (list_any is_virtual (sets_of i.operands) || list_any is_virtual_operand (uses_of i.operands)) ≡ false
-  physical = ap (λ (b : Bool). b || list_any is_virtual_operand (uses_of i.operands)) plain.set_physical ∙ plain.used_physical
+  known : (list_any is_refused_virtual (sets_of i.operands) || list_any is_refused_operand (uses_of i.operands)) ≡ false
+  known = ap (λ (b : Bool). b || list_any is_refused_operand (uses_of i.operands)) plain.set_known ∙ plain.used_known
 
   others : (list_any is_pointer (sets_of i.operands) || list_any is_pointer_operand (uses_of i.operands)) ≡ false
   others = ap (λ (b : Bool). b || list_any is_pointer_operand (uses_of i.operands)) plain.set_others ∙ plain.used_others
@@ -88,10 +88,10 @@ module _ (i : Instruction) (number : Option ℕ) (loc : Loc) (is : IsCode i) (sm
 
   unbroken : refusal_by (code_rules i.op line) ≡ None
   unbroken = none_broken (not (fits i.op (operands_of i.op line)))
-      (list_any is_virtual (sets_of i.operands) || list_any is_virtual_operand (uses_of i.operands))
+      (list_any is_refused_virtual (sets_of i.operands) || list_any is_refused_operand (uses_of i.operands))
       (list_any is_pointer (sets_of i.operands) || list_any is_pointer_operand (uses_of i.operands))
       (list_any is_misplaced (zip (places_of i.op line) (uses_of i.operands))) (is_long line) kinds.BadOperands kinds.VirtualRegister
-      kinds.StackPointerUse kinds.StackObject kinds.TooMany fits_all physical others in_place short
+      kinds.StackPointerUse kinds.StackObject kinds.TooMany fits_all known others in_place short
 
   code_is : code_of i.op line ≡ Ok (judged_instruction i)
   unfolding code_of

@@ -1,5 +1,5 @@
 -- What an item keeps that was judged, and that is then read where stack entries are objects.
-use Rattle.std.proofs.Common.{◌≡◌, ℕ, ◌≤◌, Bool, true, false, cond, eqb, List, [], ◌∷◌, length, map, Option, Some, None, refl, sym, subst, arith}
+use Rattle.std.proofs.Common.{◌≡◌, ℕ, ◌+◌, ◌≤◌, Bool, true, false, cond, eqb, ltb, List, [], ◌∷◌, length, map, Option, Some, None, refl, sym, subst, arith}
 use Rattle.std.specs.Prelude.{pos, IfSome}
 use Rattle.std.proofs.lemmas.Bool.{eqb-false}
 use Rattle.std.proofs.lemmas.List.{length-map}
@@ -25,14 +25,14 @@ use Rattle.read_item.specs.declared.debug.MarkForm.{MarkForm}
 use Rattle.read_item.specs.declared.debug.PhiForm.{PhiForm}
 use Rattle.read_item.specs.declared.opcode.DebugOpcode.{DebugOpcode}
 use Rattle.read_item.specs.declared.opcode.DebugOpcode.TheVariants as debug
-use Rattle.read_item.specs.Code.{MAX_OPERANDS}
+use Rattle.read_item.specs.Code.{MAX_OPERANDS, VIRTUALS}
 use Rattle.read_item.specs.Debug.{content_value, register_value, operand_value, is_plain, is_direct, is_argument, value_mark, pair_value}
 use Rattle.read_item.specs.Debug.{reference_mark, list_mark, content_place, register_place, phi_place, phi_by, if_counted, count_in, phi_of, inlined_at}
-use Rattle.read_item.specs.Debug.{mark_kind, phi_kind, debug_kind}
+use Rattle.read_item.specs.Debug.{virtual_value, virtual_place, mark_kind, phi_kind, debug_kind}
 use Rattle.read_program.specs.Objects.{operand_as, instr_as, is_object, place_as, kind_as}
 use Rattle.read_program.proofs.Judged.{IsItemLine, of_code, of_debug}
 use Rattle.read_program.proofs.Printed.{form_kept, renamed}
-use Rattle.readback_items.specs.Debug.{ValueIsKept, PlaceIsKept}
+use Rattle.readback_items.specs.Debug.{IsKept, ValueIsKept, PlaceIsKept}
 use Rattle.readback_items.specs.Code.{IsReadable}
 use Rattle.readback_items.proofs.Few.{few_operands}
 
@@ -54,11 +54,18 @@ content_kept r = by (eqb r 0) (eqb r 2) refl refl where
   by false true p q = tt
   by false false p q = (eqb-false r 0 p, eqb-false r 2 q)
 
+-- a virtual register is none of x0 and x2
+virtual_kept : (n : ℕ) → IsKept (32 + n)
+virtual_kept n = (λ e. omega (arith, e), λ e. omega (arith, e))
+
 register_kept : (flag : Flag) (name : RegisterName) → ValueIsKept (register_value flag name)
 register_kept Plain (Physical r) = content_kept r
 register_kept Plain Absent = tt
 register_kept Plain Other = tt
-register_kept Plain (Virtual n) = tt
+register_kept Plain (Virtual n) = by (ltb n VIRTUALS) where
+  by : (b : Bool) → ValueIsKept (virtual_value (cond b (Some (32 + n)) None))
+  by true = virtual_kept n
+  by false = tt
 register_kept Implicit name = tt
 register_kept ImplicitDef name = tt
 
@@ -116,7 +123,10 @@ register_place_kept : (flag : Flag) (name : RegisterName) → MayBePlace (regist
 register_place_kept Plain (Physical r) = content_place_kept r
 register_place_kept Plain Absent = tt
 register_place_kept Plain Other = tt
-register_place_kept Plain (Virtual n) = tt
+register_place_kept Plain (Virtual n) = by (ltb n VIRTUALS) where
+  by : (b : Bool) → MayBePlace (virtual_place (cond b (Some (32 + n)) None))
+  by true = virtual_kept n
+  by false = tt
 register_place_kept Implicit name = tt
 register_place_kept ImplicitDef name = tt
 

@@ -2,7 +2,6 @@
 use Rattle.std.proofs.Common.{◌≡◌, ℕ, zero, suc, ◌<◌, ◌≤◌, Bool, true, false, cond, List, [], ◌∷◌, ◌++◌, length, map, replicate, Option, Some, None}
 use Rattle.std.proofs.Common.{refl, sym, subst, ap, ◌∙◌, arith, append_assoc}
 use Rattle.std.specs.Prelude.{codes}
-use Rattle.std.specs.Fmt.{decimal}
 use Rattle.std.proofs.lemmas.List.{length-append}
 use Rattle.read_lexer.specs.declared.parts.Class.TheVariants as class
 use Rattle.read_lexer.specs.Front.{token_at}
@@ -10,7 +9,6 @@ use Rattle.read_token.specs.declared.lexeme.Flag.TheVariants as flags
 use Rattle.read_token.specs.declared.lexeme.Lexeme.{Lexeme}
 use Rattle.read_token.specs.declared.lexeme.Lexeme.TheVariants as lexemes
 use Rattle.read_token.specs.declared.lexeme.RegisterName.{RegisterName}
-use Rattle.read_token.specs.declared.lexeme.RegisterName.TheVariants.{Physical}
 use Rattle.read_token.specs.Word.{case_of}
 use Rattle.read_line.specs.declared.form.OperandForm.{OperandForm}
 use Rattle.read_line.specs.declared.form.RegisterForm.{RegisterForm}
@@ -20,11 +18,12 @@ use Rattle.read_line.specs.Operand.{operand_at}
 use Rattle.read_line.specs.Read.{◌>>=◌, behind_comma}
 use Rattle.read_line.specs.Register.{register_at, begins_register}
 use Rattle.mir_printer.specs.Spelling.{comma_separated, register_text}
-use Rattle.readback_items.specs.Forms.{register_form}
-use Rattle.readback_items.proofs.Cuts.{IsMark, Passes, AllPass, safe_passes, decimal_safe}
+use Rattle.readback_items.specs.Forms.{register_name, register_form}
+use Rattle.readback_items.proofs.Cuts.{IsMark, Passes, AllPass, safe_passes}
 use Rattle.readback_items.proofs.Lexing.{Piece, spelled, AllRead, Lexed, Reads}
-use Rattle.readback_items.proofs.Phrases.{piece, comma, comma_read, IsPlain, Phrase, AllNarrow, physical_at}
-use Rattle.readback_items.proofs.Registers.{register_is, register_spelled, register_token}
+use Rattle.readback_items.proofs.Phrases.{piece, comma, comma_read, IsPlain, Phrase, AllNarrow, register_piece, register_safe, register_narrow}
+use Rattle.readback_items.proofs.Phrases.{register_named}
+use Rattle.readback_items.proofs.Registers.{register_token, register_lexeme}
 use Rattle.readback_items.proofs.Tokens.{Ends, single_read}
 
 pub lexed_length : (line : List ℕ) (ps : List Piece) (ls : List Lexeme) → Lexed line ps ls → length ls ≡ length ps
@@ -99,7 +98,7 @@ pub record ListParsed (line : List ℕ) (ps : List Piece) (fuel : ℕ) (ls : Lis
   pub attribute : begins_attribute ls ≡ false
 
 comma_plain : (line : List ℕ) (ps : List Piece) (ls : List Lexeme) → Lexed line (comma ∷ ps) ls → IsPlain ls
-comma_plain line ps ls (t, rest, text, is, more) = subst IsPlain (sym is) (record { tied = refl; mask = refl })
+comma_plain line ps ls (t, rest, text, is, more) = subst IsPlain (sym is) (record { classless = λ n. refl; tied = refl; mask = refl })
 
 abbrev Rest : Type 0
 Rest = OperandForm × List Lexeme
@@ -168,32 +167,27 @@ enough n q (r ∷ qs) ps =
 
 -- ---- definitions
 
-abbrev register : ℕ → List ℕ
-register r = 36 ∷ 120 ∷ decimal r
-
 abbrev equals : Piece
 equals = piece 1 (class.Single 61) (61 ∷ [])
 
 abbrev pub set_pieces : ℕ → ℕ → List ℕ → List Piece
-set_pieces n r [] = piece n class.Register (register r) ∷ equals ∷ []
-set_pieces n r (s ∷ rs) = piece n class.Register (register r) ∷ comma ∷ set_pieces 1 s rs
+set_pieces n r [] = register_piece n r ∷ equals ∷ []
+set_pieces n r (s ∷ rs) = register_piece n r ∷ comma ∷ set_pieces 1 s rs
 
 abbrev pub AreRegisters : List ℕ → Type 0
 AreRegisters [] = Unit {0}
-AreRegisters (r ∷ rs) = (r < 32) × AreRegisters rs
+AreRegisters (r ∷ rs) = (r < 4128) × AreRegisters rs
 
 abbrev set_texts : List ℕ → List (List ℕ)
 set_texts rs = map register_text rs
 
-pub spells_set : (n r : ℕ) (rs : List ℕ) (ps : List Piece) → AreRegisters (r ∷ rs) →
+pub spells_set : (n r : ℕ) (rs : List ℕ) (ps : List Piece) →
     spelled (set_pieces n r rs ++ ps) ≡ replicate n 32 ++ (comma_separated (set_texts (r ∷ rs)) ++ (32 ∷ 61 ∷ spelled ps))
-spells_set n r [] ps are = ap (λ (t : List ℕ). replicate n 32 ++ (t ++ (32 ∷ 61 ∷ spelled ps))) (sym (register_spelled r are.0))
-spells_set n r (s ∷ rs) ps are =
-    ap (λ (t : List ℕ). replicate n 32 ++ (register r ++ (44 ∷ t))) (spells_set 1 s rs ps are.1)
-    ∙ (ap (λ (t : List ℕ). replicate n 32 ++ (t ++ (44 ∷ 32 ∷ (comma_separated (set_texts (s ∷ rs)) ++ (32 ∷ 61 ∷ spelled ps))))) (sym
-    (register_spelled r are.0))
+spells_set n r [] ps = refl
+spells_set n r (s ∷ rs) ps =
+    ap (λ (t : List ℕ). replicate n 32 ++ (register_text r ++ (44 ∷ t))) (spells_set 1 s rs ps)
     ∙ (ap (λ (t : List ℕ). replicate n 32 ++ t) (sym (append_assoc (register_text r) (44 ∷ 32 ∷ comma_separated (set_texts (s ∷ rs))) (32 ∷ 61 ∷ spelled ps)))
-    ∙ ap (λ (t : List ℕ). replicate n 32 ++ (t ++ (32 ∷ 61 ∷ spelled ps))) (sym (comma_more (register_text r) (register_text s) (set_texts rs)))))
+    ∙ ap (λ (t : List ℕ). replicate n 32 ++ (t ++ (32 ∷ 61 ∷ spelled ps))) (sym (comma_more (register_text r) (register_text s) (set_texts rs))))
 
 equals_read : (rest : List ℕ) → Reads (class.Single 61) (61 ∷ []) rest
 unfolding token_at
@@ -204,12 +198,12 @@ reads_set n r [] ps are all = (register_token r (32 ∷ 61 ∷ spelled ps) are.0
 reads_set n r (s ∷ rs) ps are all =
     (register_token r (44 ∷ spelled (set_pieces 1 s rs ++ ps)) are.0 refl, (comma_read (spelled (set_pieces 1 s rs ++ ps)), reads_set 1 s rs ps are.1 all))
 
-pub narrow_set : (n r : ℕ) (rs : List ℕ) (ps : List Piece) → AllNarrow ps → AllNarrow (set_pieces n r rs ++ ps)
-narrow_set n r [] ps all = ((λ t. refl), ((λ t. refl), all))
-narrow_set n r (s ∷ rs) ps all = ((λ t. refl), ((λ t. refl), narrow_set 1 s rs ps all))
+pub narrow_set : (n r : ℕ) (rs : List ℕ) (ps : List Piece) → AreRegisters (r ∷ rs) → AllNarrow ps → AllNarrow (set_pieces n r rs ++ ps)
+narrow_set n r [] ps are all = (register_narrow r are.0, ((λ t. refl), all))
+narrow_set n r (s ∷ rs) ps are all = (register_narrow r are.0, ((λ t. refl), narrow_set 1 s rs ps are.1 all))
 
-register_passes : (mark : List ℕ) → IsMark mark → (r : ℕ) (rest : List ℕ) → r < 32 → Passes mark (register r) rest
-register_passes mark is r rest small = safe_passes mark is (register r) rest (decimal_safe r (omega (arith, small)))
+register_passes : (mark : List ℕ) → IsMark mark → (r : ℕ) (rest : List ℕ) → r < 4128 → Passes mark (register_text r) rest
+register_passes mark is r rest small = safe_passes mark is (register_text r) rest (register_safe r small)
 
 pub uncut_set : (mark : List ℕ) → IsMark mark → (n r : ℕ) (rs : List ℕ) (ps : List Piece) → AreRegisters (r ∷ rs) → AllPass mark ps →
     AllPass mark (set_pieces n r rs ++ ps)
@@ -229,24 +223,24 @@ pub record SetParsed (line : List ℕ) (ps : List Piece) (fuel : ℕ) (ls : List
 abbrev Sets : Type 0
 Sets = RegisterForm × List Lexeme
 
-one_set : (k r : ℕ) (behind : List Lexeme) → IsPlain behind → register_at flags.Plain (lexemes.Register (Physical r) ∷ behind) ≡ Some
+one_set : (k r : ℕ) (behind : List Lexeme) → IsPlain behind → register_at flags.Plain (lexemes.Register (register_name r) ∷ behind) ≡ Some
     (register_form flags.Plain r, behind)
 unfolding register_at
-one_set k r behind plain = physical_at flags.Plain r behind plain
+one_set k r behind plain = register_named flags.Plain r behind plain
 
-last_set : (k r : ℕ) (rest : List Lexeme) → definitions_at (suc k) (lexemes.Register (Physical r) ∷ lexemes.Equals ∷ rest) ≡ Some
+last_set : (k r : ℕ) (rest : List Lexeme) → definitions_at (suc k) (lexemes.Register (register_name r) ∷ lexemes.Equals ∷ rest) ≡ Some
     (register_form flags.Plain r ∷ [], rest)
 unfolding definitions_at
 last_set k r rest =
     ap (λ (o : Option Sets). o >>= λ (d : Sets). case_of (behind_comma d.1) (λ more. before d.0 (definitions_at k more)) (with_equals (d.0 ∷ []) d.1))
-    (one_set k r (lexemes.Equals ∷ rest) (record { tied = refl; mask = refl }))
+    (one_set k r (lexemes.Equals ∷ rest) (record { classless = λ n. refl; tied = refl; mask = refl }))
 
 more_set : (k r : ℕ) (more last : List Lexeme) (fs : List RegisterForm) → definitions_at k more ≡ Some (fs, last) →
-    definitions_at (suc k) (lexemes.Register (Physical r) ∷ lexemes.Comma ∷ more) ≡ Some (register_form flags.Plain r ∷ fs, last)
+    definitions_at (suc k) (lexemes.Register (register_name r) ∷ lexemes.Comma ∷ more) ≡ Some (register_form flags.Plain r ∷ fs, last)
 unfolding definitions_at
 more_set k r more last fs is =
     ap (λ (o : Option Sets). o >>= λ (d : Sets). case_of (behind_comma d.1) (λ x. before d.0 (definitions_at k x)) (with_equals (d.0 ∷ []) d.1))
-    (one_set k r (lexemes.Comma ∷ more) (record { tied = refl; mask = refl }))
+    (one_set k r (lexemes.Comma ∷ more) (record { classless = λ n. refl; tied = refl; mask = refl }))
     ∙ ap (before (register_form flags.Plain r)) is
 
 register_begins : (name : RegisterName) (xs : List Lexeme) → begins_register (lexemes.Register name ∷ xs) ≡ true
@@ -258,23 +252,24 @@ pub parses_set : (line : List ℕ) (n r : ℕ) (rs : List ℕ) (ps : List Piece)
 parses_set line n r rs ps ls zero are few lexed = absurd (omega (arith, few))
 parses_set line n r [] ps ls (suc k) are few (t, behind, text, is, (u, rest, text_too, is_too, more)) =
     subst (λ (xs : List Lexeme). SetParsed line ps (suc k) xs (register_form flags.Plain r ∷ []))
-    (sym (is ∙ (ap (λ (name : RegisterName). lexemes.Register name ∷ behind) (register_is r are.0)
-    ∙ ap (λ (xs : List Lexeme). lexemes.Register (Physical r) ∷ xs) is_too)))
+    (sym (is ∙ (ap (λ (l : Lexeme). l ∷ behind) (register_lexeme r t are.0)
+    ∙ ap (λ (xs : List Lexeme). lexemes.Register (register_name r) ∷ xs) is_too)))
     (set_of (lexemes.Equals ∷ rest) (register_form flags.Plain r ∷ []) rest (last_set k r rest) more)
   where
-    set_of : (xs : List Lexeme) (fs : List RegisterForm) (last : List Lexeme) → definitions_at (suc k) (lexemes.Register (Physical r) ∷ xs) ≡ Some (fs, last) →
-        Lexed line ps last → SetParsed line ps (suc k) (lexemes.Register (Physical r) ∷ xs) fs
-    set_of xs fs last says lexed = record { rest = last; is = says; lexed = lexed; begins = register_begins (Physical r) xs }
+    set_of : (xs : List Lexeme) (fs : List RegisterForm) (last : List Lexeme) →
+        definitions_at (suc k) (lexemes.Register (register_name r) ∷ xs) ≡ Some (fs, last) → Lexed line ps last →
+        SetParsed line ps (suc k) (lexemes.Register (register_name r) ∷ xs) fs
+    set_of xs fs last says lexed = record { rest = last; is = says; lexed = lexed; begins = register_begins (register_name r) xs }
 parses_set line n r (s ∷ rs) ps ls (suc k) are few (t, behind, text, is, (u, rest, text_too, is_too, more)) =
     let next = parses_set line 1 s rs ps rest k are.1 (omega (arith, few)) more in
     subst (λ (xs : List Lexeme). SetParsed line ps (suc k) xs (map (register_form flags.Plain) (r ∷ s ∷ rs)))
-    (sym (is ∙ (ap (λ (name : RegisterName). lexemes.Register name ∷ behind) (register_is r are.0)
-    ∙ ap (λ (xs : List Lexeme). lexemes.Register (Physical r) ∷ xs) is_too)))
+    (sym (is ∙ (ap (λ (l : Lexeme). l ∷ behind) (register_lexeme r t are.0)
+    ∙ ap (λ (xs : List Lexeme). lexemes.Register (register_name r) ∷ xs) is_too)))
     (record {
       rest = next.rest;
       is = more_set k r rest next.rest (map (register_form flags.Plain) (s ∷ rs)) next.is;
       lexed = next.lexed;
-      begins = register_begins (Physical r) (lexemes.Comma ∷ rest);
+      begins = register_begins (register_name r) (lexemes.Comma ∷ rest);
     })
 
 pub enough_set : (n r : ℕ) (rs : List ℕ) (ps : List Piece) → suc (length rs) ≤ length (set_pieces n r rs ++ ps)

@@ -1,5 +1,5 @@
 -- The operands of a printed line, each in its pieces: what is read of them.
-use Rattle.std.proofs.Common.{◌≡◌, ℕ, suc, ℤ, pos, negsuc, ◌^◌, ◌<◌, ◌≤◌, true, false, List, [], ◌∷◌, ◌++◌, length, replicate, Option, Some, None}
+use Rattle.std.proofs.Common.{◌≡◌, ℕ, suc, ℤ, pos, negsuc, ◌-◌, ◌^◌, ◌<◌, ◌≤◌, Bool, true, false, cond, ltb, List, [], ◌∷◌, ◌++◌, length, replicate, Option, Some, None}
 use Rattle.std.proofs.Common.{refl, sym, subst, ap, ◌∙◌, arith, All, append_assoc}
 use Rattle.std.specs.Prelude.{codes, drop}
 use Rattle.std.specs.List.{list_all}
@@ -20,7 +20,7 @@ use Rattle.read_token.specs.declared.lexeme.Lexeme.{Lexeme}
 use Rattle.read_token.specs.declared.lexeme.Lexeme.TheVariants as lexemes
 use Rattle.read_token.specs.declared.lexeme.Number.{Number}
 use Rattle.read_token.specs.declared.lexeme.RegisterName.{RegisterName}
-use Rattle.read_token.specs.declared.lexeme.RegisterName.TheVariants.{Physical, Absent}
+use Rattle.read_token.specs.declared.lexeme.RegisterName.TheVariants.{Physical, Absent, Virtual}
 use Rattle.read_token.specs.declared.lexeme.Word.{Word}
 use Rattle.read_token.specs.declared.lexeme.Word.TheVariants as words
 use Rattle.read_token.specs.Number.{BEYOND}
@@ -38,12 +38,12 @@ use Rattle.read_line.specs.Read.{◌>>=◌}
 use Rattle.read_line.specs.Register.{behind_class, behind_tied, named_at, register_at}
 use Rattle.read_program.specs.Limited.{IsLimited}
 use Rattle.mir_printer.specs.Spelling.{register_text, symbol_text, operand_text}
-use Rattle.readback_items.specs.Forms.{register_form, no_register, operand_form}
+use Rattle.readback_items.specs.Forms.{register_name, register_form, no_register, operand_form}
 use Rattle.readback_items.specs.Laws.{NameIsBytes}
 use Rattle.readback_items.proofs.Cuts.{is_safe, IsMark, Passes, AllPass, safe_passes, symbol_passes, decimal_safe}
 use Rattle.readback_items.proofs.Lexing.{Piece, spelled, Reads, AllRead, Lexed}
 use Rattle.readback_items.proofs.Numbers.{limited_decimal, integer_read, named_decimal}
-use Rattle.readback_items.proofs.Registers.{register_is, register_spelled, register_token}
+use Rattle.readback_items.proofs.Registers.{register_class, register_token, register_lexeme, register_within}
 use Rattle.readback_items.proofs.Symbols.{symbol_of}
 use Rattle.readback_items.proofs.Tokens.{Ends, word_read, register_read, percent_read, single_read, integer_token, node_token, decimal_word}
 use Rattle.base_ids.specs.Limits.{MAX_NUMBER}
@@ -58,8 +58,9 @@ pub comma_read : (rest : List ℕ) → Reads (class.Single 44) (44 ∷ []) rest
 unfolding token_at
 comma_read rest = single_read 44 rest (λ at after. refl) refl
 
--- what may stand behind an operand: no bracket, which would be read with it
+-- what may stand behind an operand: no class of a virtual register and no bracket, which would be read with it
 pub record IsPlain (ls : List Lexeme) : Type 0 where
+  pub classless : (n : ℕ) → behind_class (Virtual n) ls ≡ Some ls
   pub tied : behind_tied ls ≡ Some ls
   pub mask : mask_at ls ≡ Some (form.Mask, ls)
 
@@ -106,8 +107,12 @@ named_plain flag name ls classed tied =
     ap (λ (o : Option (List Lexeme)). o >>= λ c. behind_tied c >>= λ rest. Some (record { flag = flag; name = name }, rest)) classed
     ∙ ap (λ (o : Option (List Lexeme)). o >>= λ rest. Some (record { flag = flag; name = name }, rest)) tied
 
-pub physical_at : (flag : Flag) (r : ℕ) (ls : List Lexeme) → IsPlain ls → named_at flag (Physical r) ls ≡ Some (register_form flag r, ls)
-physical_at flag r ls plain = named_plain flag (Physical r) ls refl plain.tied
+pub register_named : (flag : Flag) (r : ℕ) (ls : List Lexeme) → IsPlain ls → named_at flag (register_name r) ls ≡ Some (register_form flag r, ls)
+register_named flag r ls plain = by (ltb r 32) where
+  by : (b : Bool) → named_at flag (cond b (Physical r) (Virtual (r - 32))) ls ≡
+      Some (record { flag = flag; name = cond b (Physical r) (Virtual (r - 32)) }, ls)
+  by true = named_plain flag (Physical r) ls refl plain.tied
+  by false = named_plain flag (Virtual (r - 32)) ls (plain.classless (r - 32)) plain.tied
 
 absent_at : (ls : List Lexeme) → IsPlain ls → named_at flags.Plain Absent ls ≡ Some (record { flag = flags.Plain; name = Absent }, ls)
 absent_at ls plain = named_plain flags.Plain Absent ls refl plain.tied
@@ -127,28 +132,42 @@ flagged_register : (line : List ℕ) (flag : Flag) (t : Token) (name : RegisterN
 unfolding operand_at register_at as_operand
 flagged_register line flag t name ls f is = ap as_operand is
 
-pub register_phrase : (r : ℕ) → r < 32 → Phrase
+-- the piece of a register behind so many spaces
+abbrev pub register_piece : ℕ → ℕ → Piece
+register_piece n r = piece n (register_class r) (register_text r)
+
+pub register_safe : (r : ℕ) → r < 4128 → list_all is_safe (register_text r) ≡ true
+register_safe r small = by (ltb r 32) where
+  by : (b : Bool) → list_all is_safe (cond b (codes "$x" ++ decimal r) (codes "%" ++ decimal (r - 32))) ≡ true
+  by true = decimal_safe r (omega (arith, small))
+  by false = decimal_safe (r - 32) (omega (arith, small))
+
+pub register_narrow : (r : ℕ) → r < 4128 → (t : Token) → is_wide (lexeme_by (register_class r) t (register_text r)) ≡ false
+register_narrow r small t = ap is_wide (register_lexeme r t small)
+
+pub register_phrase : (r : ℕ) → r < 4128 → Phrase
 register_phrase r small = record {
   text = register_text r;
   form = form.Register (register_form flags.Plain r);
-  pieces = λ n. piece n class.Register (36 ∷ 120 ∷ decimal r) ∷ [];
-  spells = λ n ps. ap (λ (t : List ℕ). replicate n 32 ++ (t ++ spelled ps)) (sym (register_spelled r small));
+  pieces = λ n. register_piece n r ∷ [];
+  spells = λ n ps. refl;
   reads = λ n ps ends all. (register_token r (spelled ps) small ends, all);
   parses = λ line n ps ls plain is. parsed line ps ls plain is;
   some = λ n. omega arith;
-  narrow = λ n ps all. ((λ t. refl), all);
-  uncut = λ mark is n ps all. (safe_passes mark is (36 ∷ 120 ∷ decimal r) (spelled ps) (decimal_safe r (omega (arith, small))), all);
-  within = refl;
+  narrow = λ n ps all. (register_narrow r small, all);
+  uncut = λ mark is n ps all. (safe_passes mark is (register_text r) (spelled ps) (register_safe r small), all);
+  within = register_within r small;
 } where
   parsed : (line : List ℕ) (ps : List Piece) (ls : List Lexeme) → ((rest : List Lexeme) → Lexed line ps rest → IsPlain rest) →
-      (t : Token) × (rest : List Lexeme) × (text_of line t ≡ 36 ∷ 120 ∷ decimal r) × (ls ≡ lexemes.Register (register_of (36 ∷ 120 ∷ decimal r)) ∷ rest)
-      × Lexed line ps rest → Parsed line ps ls (form.Register (register_form flags.Plain r))
+      (t : Token) × (rest : List Lexeme) × (text_of line t ≡ register_text r)
+      × (ls ≡ lexeme_by (register_class r) t (register_text r) ∷ rest) × Lexed line ps rest →
+      Parsed line ps ls (form.Register (register_form flags.Plain r))
   parsed line ps ls plain (t, rest, text, is, more) =
       subst (λ (xs : List Lexeme). Parsed line ps xs (form.Register (register_form flags.Plain r)))
-      (sym (is ∙ ap (λ (name : RegisterName). lexemes.Register name ∷ rest) (register_is r small)))
+      (sym (is ∙ ap (λ (l : Lexeme). l ∷ rest) (register_lexeme r t small)))
       (record {
         rest = rest;
-        is = plain_register line (Physical r) rest (register_form flags.Plain r) (physical_at flags.Plain r rest (plain rest more));
+        is = plain_register line (register_name r) rest (register_form flags.Plain r) (register_named flags.Plain r rest (plain rest more));
         lexed = more;
         operand = refl;
         attribute = refl;
@@ -188,19 +207,18 @@ absent_phrase = record {
 
 -- a word of a flag and a register
 module _ (word : List ℕ) (first : ℕ) (bytes : List ℕ) (flag : Flag) (parts : word ≡ first ∷ bytes) (means : word_of word ≡ words.Flag flag)
-    (lexes : (rest : List ℕ) → Ends rest → Reads class.Word word rest) (safe : list_all is_safe word ≡ true) (r : ℕ) (small : r < 32) where
+    (lexes : (rest : List ℕ) → Ends rest → Reads class.Word word rest) (safe : list_all is_safe word ≡ true) (r : ℕ) (small : r < 4128) where
   flagged_parsed : (line : List ℕ) (ps : List Piece) (ls : List Lexeme) → ((rest : List Lexeme) → Lexed line ps rest → IsPlain rest) →
       (t : Token) × (behind : List Lexeme) × (text_of line t ≡ word) × (ls ≡ lexemes.Word (word_of word) t ∷ behind)
-      × ((u : Token) × (rest : List Lexeme) × (text_of line u ≡ 36 ∷ 120 ∷ decimal r)
-      × (behind ≡ lexemes.Register (register_of (36 ∷ 120 ∷ decimal r)) ∷ rest) × Lexed line ps rest) → Parsed line ps ls (form.Register (register_form flag r))
+      × ((u : Token) × (rest : List Lexeme) × (text_of line u ≡ register_text r)
+      × (behind ≡ lexeme_by (register_class r) u (register_text r) ∷ rest) × Lexed line ps rest) → Parsed line ps ls (form.Register (register_form flag r))
   flagged_parsed line ps ls plain (t, behind, text, is, (u, rest, text_too, is_too, more)) =
       subst (λ (xs : List Lexeme). Parsed line ps xs (form.Register (register_form flag r)))
       (sym (is ∙ (ap (λ (w : Word). lexemes.Word w t ∷ behind) means
-      ∙ ap (λ (xs : List Lexeme). lexemes.Word (words.Flag flag) t ∷ xs) (is_too ∙ ap (λ (name : RegisterName). lexemes.Register name ∷ rest)
-      (register_is r small)))))
+      ∙ ap (λ (xs : List Lexeme). lexemes.Word (words.Flag flag) t ∷ xs) (is_too ∙ ap (λ (l : Lexeme). l ∷ rest) (register_lexeme r u small)))))
       (record {
         rest = rest;
-        is = flagged_register line flag t (Physical r) rest (register_form flag r) (physical_at flag r rest (plain rest more));
+        is = flagged_register line flag t (register_name r) rest (register_form flag r) (register_named flag r rest (plain rest more));
         lexed = more;
         operand = refl;
         attribute = refl;
@@ -210,19 +228,17 @@ module _ (word : List ℕ) (first : ℕ) (bytes : List ℕ) (flag : Flag) (parts
   flagged_phrase = record {
     text = word ++ (32 ∷ register_text r);
     form = form.Register (register_form flag r);
-    pieces = λ n. piece n class.Word word ∷ piece 1 class.Register (36 ∷ 120 ∷ decimal r) ∷ [];
-    spells = λ n ps.
-        ap (λ (t : List ℕ). replicate n 32 ++ (word ++ (32 ∷ (t ++ spelled ps)))) (sym (register_spelled r small))
-        ∙ ap (λ (t : List ℕ). replicate n 32 ++ t) (sym (append_assoc word (32 ∷ register_text r) (spelled ps)));
+    pieces = λ n. piece n class.Word word ∷ register_piece 1 r ∷ [];
+    spells = λ n ps. ap (λ (t : List ℕ). replicate n 32 ++ t) (sym (append_assoc word (32 ∷ register_text r) (spelled ps)));
     reads = λ n ps ends all. (lexes _ refl, (register_token r (spelled ps) small ends, all));
     parses = λ line n ps ls plain is. flagged_parsed line ps ls plain is;
     some = λ n. omega arith;
-    narrow = λ n ps all. ((λ t. refl), ((λ t. refl), all));
+    narrow = λ n ps all. ((λ t. refl), (register_narrow r small, all));
     uncut = λ mark is n ps all. (
-      safe_passes mark is word (32 ∷ 36 ∷ 120 ∷ (decimal r ++ spelled ps)) safe,
-      (safe_passes mark is (36 ∷ 120 ∷ decimal r) (spelled ps) (decimal_safe r (omega (arith, small))), all),
+      safe_passes mark is word (32 ∷ (register_text r ++ spelled ps)) safe,
+      (safe_passes mark is (register_text r) (spelled ps) (register_safe r small), all),
     );
-    within = refl;
+    within = register_within r small;
   }
 
 implicit_is : word_of (codes "implicit") ≡ words.Flag flags.Implicit
@@ -233,11 +249,11 @@ implicit_def_is : word_of (codes "implicit-def") ≡ words.Flag flags.ImplicitDe
 unfolding word_of flag_of is_plain keyword_of
 implicit_def_is = refl
 
-pub implicit_phrase : (r : ℕ) → r < 32 → Phrase
+pub implicit_phrase : (r : ℕ) → r < 4128 → Phrase
 implicit_phrase r small = flagged_phrase (codes "implicit") 105 (codes "mplicit") flags.Implicit refl implicit_is
     (λ rest ends. word_read 105 (codes "mplicit") rest refl refl refl ends) refl r small
 
-pub implicit_def_phrase : (r : ℕ) → r < 32 → Phrase
+pub implicit_def_phrase : (r : ℕ) → r < 4128 → Phrase
 implicit_def_phrase r small = flagged_phrase (codes "implicit-def") 105 (codes "mplicit-def") flags.ImplicitDef refl implicit_def_is
     (λ rest ends. word_read 105 (codes "mplicit-def") rest refl refl refl ends) refl r small
 
@@ -366,7 +382,7 @@ pub record PhraseOf (text : List ℕ) (f : OperandForm) : Type 0 where
   pub text_is : phrase.text ≡ text
   pub form_is : phrase.form ≡ f
 
-pub register_said : (r : ℕ) → r < 32 → PhraseOf (register_text r) (form.Register (register_form flags.Plain r))
+pub register_said : (r : ℕ) → r < 4128 → PhraseOf (register_text r) (form.Register (register_form flags.Plain r))
 unfolding register_phrase
 register_said r small = record { phrase = register_phrase r small; text_is = refl; form_is = refl }
 
@@ -390,8 +406,8 @@ pub operand_said : (o : Operand) → IsLimited o → NameIsBytes o → PhraseOf 
 unfolding implicit_phrase implicit_def_phrase flagged_phrase block_phrase symbol_phrase mask_phrase one_phrase
 operand_said (Def r) small bytes = register_said r small
 operand_said (Use r) small bytes = register_said r small
-operand_said (ImplicitDef r) small bytes = record { phrase = implicit_def_phrase r small; text_is = refl; form_is = refl }
-operand_said (ImplicitUse r) small bytes = record { phrase = implicit_phrase r small; text_is = refl; form_is = refl }
+operand_said (ImplicitDef r) small bytes = record { phrase = implicit_def_phrase r (omega (arith, small)); text_is = refl; form_is = refl }
+operand_said (ImplicitUse r) small bytes = record { phrase = implicit_phrase r (omega (arith, small)); text_is = refl; form_is = refl }
 operand_said (Imm i) small bytes = integer_said i small
 operand_said (Slot n) small bytes = stack_said n small
 operand_said (Object n) small bytes = stack_said n small

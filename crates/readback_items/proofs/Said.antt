@@ -55,7 +55,7 @@ record Split (os : List Operand) : Type 0 where
 nothing : Split []
 nothing = record { sets = []; are = tt; set_texts = refl; set_forms = refl; uses = []; use_texts = refl; use_forms = refl }
 
-one_set : (r : ℕ) (os : List Operand) → r < 32 → Split os → Split (Def r ∷ os)
+one_set : (r : ℕ) (os : List Operand) → r < 4128 → Split os → Split (Def r ∷ os)
 one_set r os small s = record {
   sets = r ∷ s.sets;
   are = (small, s.are);

@@ -5,7 +5,7 @@ use Rattle.std.proofs.lemmas.Bool.{and_parts}
 use Rattle.rv64_instr.specs.declared.op.Op.{Op}
 use Rattle.rv64_instr.specs.declared.operand.Operand.{Operand}
 use Rattle.rv64_instr.specs.declared.operand.Operand.TheVariants.{Def, Use, ImplicitDef, ImplicitUse, Imm, Slot, Object, Part, Outgoing, Block, Symbol, Mask}
-use Rattle.rv64_instr.specs.Form.{is_implicit, is_argument, is_result, has_form, is_tail_use}
+use Rattle.rv64_instr.specs.Form.{is_implicit, is_argument, is_result, has_form, is_held_tail_use}
 use Rattle.read_body.specs.FirstUseOrder.{is_met}
 use Rattle.read_program.specs.Objects.{operand_as, operands_as}
 use Rattle.mir_printer.specs.Printable.{as_slot}
@@ -63,7 +63,7 @@ module _ (ids : List ℕ) where
   result_plain (Object n) e = absurd cc
   result_plain o e = tt
 
-  tail_plain : (o : Operand) → is_tail_use o ≡ true → IsPlain o
+  tail_plain : (o : Operand) → is_held_tail_use o ≡ true → IsPlain o
   tail_plain (Slot n) e = absurd cc
   tail_plain (Object n) e = absurd cc
   tail_plain o e = tt
@@ -77,8 +77,8 @@ module _ (ids : List ℕ) where
   pub results_stay : (os : List Operand) → list_all is_result os ≡ true → Stays ids os
   results_stay = all_stay is_result result_plain
 
-  pub tails_stay : (os : List Operand) → list_all is_tail_use os ≡ true → Stays ids os
-  tails_stay = all_stay is_tail_use tail_plain
+  pub tails_stay : (os : List Operand) → list_all is_held_tail_use os ≡ true → Stays ids os
+  tails_stay = all_stay is_held_tail_use tail_plain
 
   either : (b : Bool) (os : List Operand) → cond b os os ≡ os
   either true os = refl

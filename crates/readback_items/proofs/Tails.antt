@@ -1,21 +1,23 @@
 -- The implicit operands at the end of an instruction: they are read as they were printed.
-use Rattle.std.proofs.Common.{◌≡◌, Bool, true, not, List, [], ◌∷◌, Some, map, refl, ap}
+use Rattle.std.proofs.Common.{◌≡◌, ◌<◌, Bool, true, not, leb, List, [], ◌∷◌, Some, map, refl, ap, arith}
 use Rattle.std.specs.Prelude.{filter, All}
 use Rattle.std.specs.List.{flat_map, list_all}
-use Rattle.std.proofs.lemmas.Bool.{and_parts}
+use Rattle.std.proofs.lemmas.Bool.{and_parts, ltb-true, leb-true}
 use Rattle.std.proofs.lemmas.List.Elements.{All-head, All-tail}
 use Rattle.rv64_instr.specs.declared.operand.Operand.{Operand}
 use Rattle.rv64_instr.specs.declared.operand.Operand.TheVariants.{ImplicitDef, ImplicitUse, Outgoing}
 use Rattle.rv64_instr.specs.Form.{is_implicit, is_argument, is_result}
-use Rattle.read_item.specs.Code.{before, placed}
+use Rattle.read_token.specs.declared.lexeme.Flag.TheVariants.{Implicit as ImplicitFlag, ImplicitDef as ImplicitDefFlag}
+use Rattle.read_item.specs.Code.{before, used, placed}
 use Rattle.mir_printer.specs.Printable.{as_slot}
 use Rattle.mir_printer.specs.Spelling.{is_definition}
 use Rattle.read_program.specs.Limited.{IsLimited}
 use Rattle.readback_items.specs.Forms.{operand_form, set_register}
+use Rattle.readback_items.proofs.Registers.{number_is}
 
 abbrev pub IsTail : Operand → Type 0
-IsTail (ImplicitDef r) = Unit {0}
-IsTail (ImplicitUse r) = Unit {0}
+IsTail (ImplicitDef r) = r < 32
+IsTail (ImplicitUse r) = r < 32
 IsTail _ = ⊥
 
 pub record Tail (rest : List Operand) : Type 0 where
@@ -34,13 +36,13 @@ tail_more (ImplicitDef r) rest is t = record {
   sets = t.sets;
   uses = ap (λ (os : List Operand). ImplicitDef r ∷ os) t.uses;
   slots = ap (λ (os : List Operand). ImplicitDef r ∷ os) t.slots;
-  placed = ap (before (Some (ImplicitDef r))) t.placed;
+  placed = λ i. before (used ImplicitDefFlag (number_is ImplicitDefFlag r is i)) (t.placed i);
 }
 tail_more (ImplicitUse r) rest is t = record {
   sets = t.sets;
   uses = ap (λ (os : List Operand). ImplicitUse r ∷ os) t.uses;
   slots = ap (λ (os : List Operand). ImplicitUse r ∷ os) t.slots;
-  placed = ap (before (Some (ImplicitUse r))) t.placed;
+  placed = λ i. before (used ImplicitFlag (number_is ImplicitFlag r is i)) (t.placed i);
 }
 tail_more o rest is t = absurd is
 
@@ -49,18 +51,18 @@ tails p each [] e = no_tail
 tails p each (o ∷ os) e = let parts = and_parts (p o) (list_all p os) e in tail_more o os (each o parts.0) (tails p each os parts.1)
 
 implicit_tail : (o : Operand) → is_implicit o ≡ true → IsTail o
-implicit_tail (ImplicitDef r) e = tt
-implicit_tail (ImplicitUse r) e = tt
+implicit_tail (ImplicitDef r) e = ltb-true r 32 e
+implicit_tail (ImplicitUse r) e = ltb-true r 32 e
 implicit_tail o e = absurd cc
 
 argument_tail : (o : Operand) → is_argument o ≡ true → IsLimited o → IsTail o
-argument_tail (ImplicitDef r) e small = tt
-argument_tail (ImplicitUse r) e small = tt
+argument_tail (ImplicitDef r) e small = small
+argument_tail (ImplicitUse r) e small = small
 argument_tail (Outgoing n) e small = absurd small
 argument_tail o e small = absurd cc
 
 result_tail : (o : Operand) → is_result o ≡ true → IsTail o
-result_tail (ImplicitUse r) e = tt
+result_tail (ImplicitUse r) e = let low = leb-true r 17 (and_parts (leb 10 r) (leb r 17) e).1 in omega (arith, low)
 result_tail o e = absurd cc
 
 pub implicits : (rest : List Operand) → list_all is_implicit rest ≡ true → Tail rest

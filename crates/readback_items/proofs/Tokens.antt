@@ -206,6 +206,13 @@ decimal_word n small =
     let d = decimal_of n small in
     ap (list_all is_word_byte) d.parts ∙ digits_word (d.first ∷ d.rest) (and_from (is_ascii_digit d.first) (list_all is_ascii_digit d.rest) d.digit d.digits)
 
+-- `%N`
+pub virtual_token : (n : ℕ) (rest : List ℕ) → n < 2 ^ 64 → Ends rest → Reads Percent (37 ∷ decimal n) rest
+virtual_token n rest small is =
+    let d = decimal_of n small in
+    subst (λ (t : List ℕ). Reads Percent (37 ∷ t) rest) (sym d.parts)
+    (percent_read d.first d.rest rest (ap (list_all is_word_byte) (sym d.parts) ∙ decimal_word n small) is)
+
 -- `!N`
 pub node_token : (n : ℕ) (rest : List ℕ) → n < 2 ^ 64 → Ends rest → Reads Node (33 ∷ decimal n) rest
 node_token n rest small is =

@@ -1,5 +1,5 @@
 -- The parsed form of an item's printed line.
-use Rattle.std.specs.Prelude.{ℕ, pos, false, not, codes, filter, map, List, [], ◌∷◌, Option, Some, None}
+use Rattle.std.specs.Prelude.{ℕ, ◌-◌, pos, false, nat_lt, if◌then◌else◌, not, codes, filter, map, List, [], ◌∷◌, Option, Some, None}
 use Rattle.std.specs.List.{flat_map}
 use Rattle.rv64_instr.specs.declared.operand.Operand.{Operand}
 use Rattle.rv64_instr.specs.declared.operand.Operand.TheVariants.{Def, Use, ImplicitDef as SetsImplicit, ImplicitUse, Imm, Slot, Object, Part, Block, Symbol}
@@ -19,7 +19,8 @@ use Rattle.mir_func.specs.declared.variable.VarId.{VarId}
 use Rattle.mir_func.specs.Parts.{Bytes}
 use Rattle.read_token.specs.declared.lexeme.Flag.{Flag}
 use Rattle.read_token.specs.declared.lexeme.Flag.TheVariants.{Plain, Implicit, ImplicitDef}
-use Rattle.read_token.specs.declared.lexeme.RegisterName.TheVariants.{Physical, Absent}
+use Rattle.read_token.specs.declared.lexeme.RegisterName.{RegisterName}
+use Rattle.read_token.specs.declared.lexeme.RegisterName.TheVariants.{Physical, Absent, Virtual}
 use Rattle.read_line.specs.declared.form.Expression.{Expression}
 use Rattle.read_line.specs.declared.form.Expression.TheVariants as expression
 use Rattle.read_line.specs.declared.form.ItemForm.{ItemForm}
@@ -28,9 +29,13 @@ use Rattle.read_line.specs.declared.form.OperandForm.TheVariants as form
 use Rattle.read_line.specs.declared.form.RegisterForm.{RegisterForm}
 use Rattle.mir_printer.specs.Spelling.{is_definition}
 
--- the physical register `$xN` with its flag
+-- the name of a register: `$xN`, or `%N` of a virtual one
+abbrev pub register_name : ℕ → RegisterName
+register_name r = if nat_lt r 32 then Physical r else Virtual (r - 32)
+
+-- a register with its flag
 abbrev pub register_form : Flag → ℕ → RegisterForm
-register_form flag r = record { flag = flag; name = Physical r }
+register_form flag r = record { flag = flag; name = register_name r }
 
 -- `$noreg`
 abbrev pub no_register : OperandForm

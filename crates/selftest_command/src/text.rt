@@ -10,7 +10,7 @@ ghost use Rattle.read_program.specs.declared.closing.Parsed.{Parsed};
 ghost use Rattle.compile_function.specs.declared.compiled_function.CompiledFunction.{CompiledFunction};
 ghost use Rattle.sem_interpreter.specs.StandsFor.{AreCounted};
 ghost use Rattle.pass_list.specs.Names.{AreDistinct};
-ghost use Rattle.compile_program.specs.Program.{HasLargeFrame, HasLargeSection, steps_of};
+ghost use Rattle.compile_program.specs.Program.{HasVirtualRegister, HasLargeFrame, HasLargeSection, steps_of};
 ghost use Rattle.selftest_command.specs.Tested.{IsSelfTestOf};
 ghost use Rattle.selftest_command.specs.steps.First.{TestsFirst, FirstGoesApart};
 
@@ -43,6 +43,8 @@ pub fn self_test(
     ensures text { IfOk result (λ o.
         IfSome o (IsSelfTestOf reserve.now passes.now number blocks)) }
     ensures long { IfOk result (λ o. IfNone o (RunsLong (generated number blocks) (resolve []))) }
+    ensures no_register { IsErrOf result CompileError.NoRegister →
+        HasVirtualRegister (generated_program number blocks).functions }
     ensures frame_too_large { IsErrOf result CompileError.FrameTooLarge →
         HasLargeFrame (steps_of reserve.now passes.now) (generated_program number blocks).functions }
     ensures section_too_large { IsErrOf result CompileError.SectionTooLarge →

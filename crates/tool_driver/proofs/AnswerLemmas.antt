@@ -10,12 +10,12 @@ use Rattle.cli.specs.declared.command.TestPlan.{TestPlan}
 use Rattle.cli.specs.declared.command.Command.TheVariants.{Compile, Listing, Report, Object, Run, Strip, SelfTest}
 use Rattle.cli.specs.declared.fault.Fault.{Fault}
 use Rattle.cli.specs.declared.fault.Fault.TheVariants.{Usage, Read, TooLong, Refused, NoFunction, UnknownFunction}
-use Rattle.cli.specs.declared.fault.Fault.TheVariants.{FrameTooLarge, SymbolName, SectionTooLarge, Write, Memory}
+use Rattle.cli.specs.declared.fault.Fault.TheVariants.{NoRegister, FrameTooLarge, SymbolName, SectionTooLarge, Write, Memory}
 use Rattle.run_command.specs.Source.{IsUnknown}
 use Rattle.compile_program.specs.Program.{HasLargeSection, HasLargeFrameSection}
 use Rattle.tool_driver.specs.Answer.{Answers, IsTestText}
 use Rattle.tool_driver.specs.Run.{HasReadProgram, AnswersRead, AnswersInput}
-use Rattle.tool_driver.specs.Refusals.{IsReader, IsNamed, plan_of, RefusesProgram, frame_too_large, section_too_large, frame_section_too_large}
+use Rattle.tool_driver.specs.Refusals.{IsReader, IsNamed, plan_of, RefusesProgram, no_register, frame_too_large, section_too_large, frame_section_too_large}
 use Rattle.tool_driver.specs.Refusals.{too_long, refused_at, no_function, refused_program}
 use Rattle.tool_driver.specs.steps.Ends.{RefusesToCompile, RefusesToWrite, HasReadNone, ReadingEnds}
 use Rattle.tool_driver.specs.Stream.{Change, IsUnread}
@@ -33,6 +33,7 @@ read_answers command input program read output answers =
 held_back : (command : Command) → IsReader command → (input : Change) (program : Program) → HasReadProgram input program → (fault : Fault) →
     RefusesToWrite command program fault → ReadingEnds command input fault
 held_back command reads input program read UnknownFunction refused = refused_program program reads read refused
+held_back command reads input program read NoRegister refused = refused_program program reads read refused
 held_back command reads input program read FrameTooLarge refused = refused_program program reads read refused
 held_back command reads input program read SymbolName refused = refused_program program reads read refused
 held_back command reads input program read SectionTooLarge refused = refused_program program reads read refused
@@ -53,6 +54,7 @@ read_none command reads input TooLong none = too_long reads none
 read_none command reads input (Refused r) none = refused_at none.text r reads none.read none.refused
 read_none command reads input NoFunction none = no_function none.text reads none.read none.refused
 read_none command reads input UnknownFunction none = absurd none
+read_none command reads input NoRegister none = absurd none
 read_none command reads input FrameTooLarge none = absurd none
 read_none command reads input SymbolName none = absurd none
 read_none command reads input SectionTooLarge none = absurd none
@@ -64,7 +66,8 @@ read_none command reads input Write none = absurd none
 -- a program that can't be compiled is refused
 pub by_compiling : (command : Command) (program : Program) (plan : PassPipeline) → plan_of command ≡ Some plan → IsNamed command program →
     (fault : Fault) → RefusesToCompile (plan_steps plan) program fault → RefusesToWrite command program fault
-by_compiling command program plan is named FrameTooLarge refused = frame_too_large plan is named refused
+by_compiling command program plan is named NoRegister refused = no_register plan is named refused
+by_compiling command program plan is named FrameTooLarge refused = frame_too_large plan is named refused.0 refused.1
 by_compiling command program plan is named SectionTooLarge refused = section_too_large plan is named refused
 by_compiling command program plan is named Memory refused = tt
 by_compiling command program plan is named SymbolName refused = absurd refused
@@ -165,6 +168,7 @@ strip_ok input program output read answers = read_answers Strip input program re
 pub memory_ends : (command : Command) (input : Change) (fault : Fault) → fault ≡ Memory → ReadingEnds command input fault
 memory_ends command input Memory is = tt
 memory_ends command input UnknownFunction is = absurd cc
+memory_ends command input NoRegister is = absurd cc
 memory_ends command input FrameTooLarge is = absurd cc
 memory_ends command input SymbolName is = absurd cc
 memory_ends command input SectionTooLarge is = absurd cc

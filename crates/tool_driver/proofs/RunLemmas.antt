@@ -12,7 +12,7 @@ use Rattle.cli.specs.Command.{IsCommand}
 use Rattle.cli.proofs.CommandWords.{one_command}
 use Rattle.cli.specs.declared.fault.Fault.{Fault}
 use Rattle.cli.specs.declared.fault.Fault.TheVariants.{Usage, Read, TooLong, Refused, NoFunction, UnknownFunction}
-use Rattle.cli.specs.declared.fault.Fault.TheVariants.{FrameTooLarge, SymbolName, SectionTooLarge, Write, Memory}
+use Rattle.cli.specs.declared.fault.Fault.TheVariants.{NoRegister, FrameTooLarge, SymbolName, SectionTooLarge, Write, Memory}
 use Rattle.cli.specs.declared.status.Status.TheVariants as status
 use Rattle.cli.specs.Fault.{status_of, line_of}
 use Rattle.read_refusal.specs.declared.first.Refusal.{Refusal}
@@ -96,6 +96,7 @@ is_usage TooLong e = cc
 is_usage (Refused r) e = cc
 is_usage NoFunction e = cc
 is_usage UnknownFunction e = cc
+is_usage NoRegister e = cc
 is_usage FrameTooLarge e = cc
 is_usage SymbolName e = cc
 is_usage SectionTooLarge e = cc
@@ -109,6 +110,7 @@ is_read TooLong e = cc
 is_read (Refused r) e = cc
 is_read NoFunction e = cc
 is_read UnknownFunction e = cc
+is_read NoRegister e = cc
 is_read FrameTooLarge e = cc
 is_read SymbolName e = cc
 is_read SectionTooLarge e = cc
@@ -122,6 +124,7 @@ is_write TooLong e = cc
 is_write (Refused r) e = cc
 is_write NoFunction e = cc
 is_write UnknownFunction e = cc
+is_write NoRegister e = cc
 is_write FrameTooLarge e = cc
 is_write SymbolName e = cc
 is_write SectionTooLarge e = cc
@@ -135,6 +138,7 @@ is_memory TooLong e = cc
 is_memory (Refused r) e = cc
 is_memory NoFunction e = cc
 is_memory UnknownFunction e = cc
+is_memory NoRegister e = cc
 is_memory FrameTooLarge e = cc
 is_memory SymbolName e = cc
 is_memory SectionTooLarge e = cc
@@ -148,6 +152,7 @@ not_done TooLong e = cc
 not_done (Refused r) e = cc
 not_done NoFunction e = cc
 not_done UnknownFunction e = cc
+not_done NoRegister e = cc
 not_done FrameTooLarge e = cc
 not_done SymbolName e = cc
 not_done SectionTooLarge e = cc
@@ -167,6 +172,7 @@ refusal words input output faults TooLong e ended told = tells words input fault
 refusal words input output faults (Refused r) e ended told = tells words input faults (Refused r) ended ended.ended told
 refusal words input output faults NoFunction e ended told = tells words input faults NoFunction ended ended.ended told
 refusal words input output faults UnknownFunction e ended told = tells words input faults UnknownFunction ended ended.ended told
+refusal words input output faults NoRegister e ended told = tells words input faults NoRegister ended ended.ended told
 refusal words input output faults FrameTooLarge e ended told = tells words input faults FrameTooLarge ended ended.ended told
 refusal words input output faults SymbolName e ended told = tells words input faults SymbolName ended ended.ended told
 refusal words input output faults SectionTooLarge e ended told = tells words input faults SectionTooLarge ended ended.ended told
@@ -255,6 +261,7 @@ module _ (command : Command) (words : List (List ℕ)) (input output : Change) (
   memory_alone (Refused r) explains = absurd (not_refused command input form (ended_as_asked command words input (Refused r) asked explains))
   memory_alone NoFunction explains = absurd (not_refused command input form (ended_as_asked command words input NoFunction asked explains))
   memory_alone UnknownFunction explains = absurd (not_refused command input form (ended_as_asked command words input UnknownFunction asked explains))
+  memory_alone NoRegister explains = absurd (not_refused command input form (ended_as_asked command words input NoRegister asked explains))
   memory_alone FrameTooLarge explains = absurd (not_refused command input form (ended_as_asked command words input FrameTooLarge asked explains))
   memory_alone SymbolName explains = absurd (not_refused command input form (ended_as_asked command words input SymbolName asked explains))
   memory_alone SectionTooLarge explains = absurd (not_refused command input form (ended_as_asked command words input SectionTooLarge asked explains))

@@ -4,7 +4,7 @@ use Rattle.read_refusal.specs.declared.first.Refusal.{Refusal}
 use Rattle.read_program.specs.declared.program.Program.{Program}
 use Rattle.read_program.specs.declared.error.ParseError.TheVariants as errors
 use Rattle.read_program.specs.Program.{ReadsText}
-use Rattle.compile_program.specs.Program.{HasLargeFrame, HasLargeSection, HasLargeFrameSection}
+use Rattle.compile_program.specs.Program.{AreAllPhysical, HasVirtualRegister, HasLargeFrame, HasLargeSection, HasLargeFrameSection}
 use Rattle.cli.specs.declared.command.Command.{Command}
 use Rattle.cli.specs.declared.fault.Fault.{Fault}
 use Rattle.cli.specs.declared.command.CompilePlan.{CompilePlan}
@@ -14,7 +14,8 @@ use Rattle.cli.specs.declared.command.TestPlan.{TestPlan}
 use Rattle.cli.specs.Command.{IsCommand}
 use Rattle.cli.specs.Fault.{line_of}
 use Rattle.cli.specs.declared.command.Command.TheVariants.{Compile, Listing, Report, Object, Run, Strip, Gen, SelfTest}
-use Rattle.cli.specs.declared.fault.Fault.TheVariants.{TooLong, Refused, NoFunction, UnknownFunction, FrameTooLarge, SymbolName, SectionTooLarge}
+use Rattle.cli.specs.declared.fault.Fault.TheVariants.{TooLong, Refused, NoFunction, UnknownFunction, NoRegister, FrameTooLarge, SymbolName}
+use Rattle.cli.specs.declared.fault.Fault.TheVariants.{SectionTooLarge}
 use Rattle.cli_numbers.specs.declared.generation.Generation.{Generation}
 use Rattle.run_command.specs.Source.{IsUnknown}
 use Rattle.tool_driver.specs.Limits.{INPUT_LIMIT}
@@ -63,11 +64,13 @@ plan_of (SelfTest test) = None
 abbrev pub IsNamed : Command → Program → Type 0
 IsNamed command program = (run : RunPlan) → command ≡ Run run → IsUnknown run.name program.functions → ⊥
 
--- Why a command writes nothing for a program: it names a function that isn't there; the frame of a function is above the limit after the passes; a
--- section is, `.debug_frame` only if it is asked for, or the object; or a name can't be a symbol's.
+-- Why a command writes nothing for a program: it names a function that isn't there; a function has a virtual register; otherwise the frame of a function is
+-- above the limit after the passes; a section is, `.debug_frame` only if it is asked for, or the object; or a name can't be a symbol's.
 pub data RefusesProgram (command : Command) (program : Program) : Fault → Type 0 where
   unknown_function : (run : RunPlan) → command ≡ Run run → IsUnknown run.name program.functions → RefusesProgram command program UnknownFunction
-  frame_too_large : (plan : PassPipeline) → plan_of command ≡ Some plan → IsNamed command program →
+  no_register : (plan : PassPipeline) → plan_of command ≡ Some plan → IsNamed command program → HasVirtualRegister program.functions →
+      RefusesProgram command program NoRegister
+  frame_too_large : (plan : PassPipeline) → plan_of command ≡ Some plan → IsNamed command program → AreAllPhysical program.functions →
       HasLargeFrame (plan_steps plan) program.functions → RefusesProgram command program FrameTooLarge
   section_too_large : (plan : PassPipeline) → plan_of command ≡ Some plan → IsNamed command program → HasLargeSection (plan_steps plan) program →
       RefusesProgram command program SectionTooLarge

@@ -100,7 +100,7 @@ KeepsHeadline input output = HasWritten (λ p. Promises (sources_of p.functions)
 abbrev pub KeepsRegisters : (input output : Change) → Type 0
 KeepsRegisters input output = HasWritten (λ p. AllGiveBack (sources_of p.functions)) input output
 
--- the machine on a function's code stops only at a return, or where it waits for the answer of a call
+-- the machine on a function's code stops only where its run ends (in what is read: at a return), or where it waits for the answer of a call
 abbrev pub StopsAtReturns : (input output : Change) → Type 0
 StopsAtReturns input output = HasWritten (λ p. AllStopWell (sources_of p.functions)) input output
 

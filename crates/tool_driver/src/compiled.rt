@@ -166,7 +166,8 @@ fn run_of(
 }
 
 /// The text of `selftest`: the requested self-test. The error is always `Memory`, also if its function takes 2^64 - 1
-/// steps before it reaches a line of its machine code: no generated function has a frame or a section that is too large.
+/// steps before it reaches a line of its machine code: no generated function has a virtual register, or a frame or a
+/// section that is too large.
 pub fn test_text(alloc: Global, asked: &TestPlan) -> Result<Text, Fault>
     requires { IsWithin asked.now.function }
     ensures ok { IfOk result (IsTestText asked.now) }
@@ -182,6 +183,7 @@ pub fn test_text(alloc: Global, asked: &TestPlan) -> Result<Text, Fault>
         Ok(Some(text)) => Ok(text),
         Ok(None) => Err(Fault::Memory),
         Err(error) => match error {
+            CompileError::NoRegister => Err(Fault::NoRegister),
             CompileError::FrameTooLarge => Err(Fault::FrameTooLarge),
             CompileError::SectionTooLarge => Err(Fault::SectionTooLarge),
             CompileError::Memory => Err(Fault::Memory),
@@ -204,6 +206,7 @@ fn compilation(alloc: Global, program: &Program, plan: &PassPipeline) -> Result<
         plan.reserve.as_slice(),
     ) {
         Ok(compilation) => Ok(compilation),
+        Err(CompileError::NoRegister) => Err(Fault::NoRegister),
         Err(CompileError::FrameTooLarge) => Err(Fault::FrameTooLarge),
         Err(CompileError::SectionTooLarge) => Err(Fault::SectionTooLarge),
         Err(CompileError::Memory) => Err(Fault::Memory),
@@ -230,6 +233,7 @@ fn compilation_with_frame(
     ) {
         Ok(compilation) => Ok(compilation),
         Err(error) => match error {
+            CompileError::NoRegister => Err(Fault::NoRegister),
             CompileError::FrameTooLarge => Err(Fault::FrameTooLarge),
             CompileError::SectionTooLarge => Err(Fault::SectionTooLarge),
             CompileError::Memory => Err(Fault::Memory),

@@ -76,7 +76,7 @@ pub fn mirdwarf<S: Source, K: Sink, E: Sink>(
     ensures callee_saved { (plan : CompilePlan) → result ≡ Status.Done →
         IsCommand (map string_bytes words.now) (Command.Compile plan) →
         KeepsRegisters (change S.left S.faults input.old input.new) (change K.written K.faults output.old output.new) }
-    // It stops nowhere but at a return, or where it waits for an answer.
+    // It stops only where its run ends (in what is read: at a return), or where it waits for the answer of a call.
     ensures stops { (plan : CompilePlan) → result ≡ Status.Done →
         IsCommand (map string_bytes words.now) (Command.Compile plan) →
         StopsAtReturns (change S.left S.faults input.old input.new) (change K.written K.faults output.old output.new) }

@@ -2,12 +2,12 @@
 use Rattle.std.specs.Prelude.{ℕ, List}
 use Rattle.pass_trait.specs.Steps.{PassStep}
 use Rattle.read_program.specs.declared.program.Program.{Program}
-use Rattle.compile_program.specs.Program.{HasLargeFrame, HasLargeSection}
+use Rattle.compile_program.specs.Program.{AreAllPhysical, HasVirtualRegister, HasLargeFrame, HasLargeSection}
 use Rattle.cli.specs.Command.{IsCommand}
 use Rattle.cli.specs.declared.command.Command.{Command}
 use Rattle.cli.specs.declared.fault.Fault.{Fault}
 use Rattle.cli.specs.declared.fault.Fault.TheVariants.{Usage, Read, TooLong, Refused, NoFunction, UnknownFunction}
-use Rattle.cli.specs.declared.fault.Fault.TheVariants.{FrameTooLarge, SymbolName, SectionTooLarge, Write, Memory}
+use Rattle.cli.specs.declared.fault.Fault.TheVariants.{NoRegister, FrameTooLarge, SymbolName, SectionTooLarge, Write, Memory}
 use Rattle.tool_driver.specs.Run.{AreCommand, HasRead, IsCutOff}
 use Rattle.tool_driver.specs.Refusals.{IsReader, IsRefusedAt, HasNoFunction, RefusesProgram, IsTooLong, Refuses}
 use Rattle.tool_driver.specs.Stream.{Change, MetFault}
@@ -20,6 +20,7 @@ RefusesText text (Refused r) = IsRefusedAt text r
 RefusesText text Memory = Unit {0}
 RefusesText text NoFunction = HasNoFunction text
 RefusesText text UnknownFunction = ⊥
+RefusesText text NoRegister = ⊥
 RefusesText text FrameTooLarge = ⊥
 RefusesText text SymbolName = ⊥
 RefusesText text SectionTooLarge = ⊥
@@ -42,6 +43,7 @@ HasReadNone input TooLong = IsTooLong input
 HasReadNone input (Refused r) = RefusesInput input (Refused r)
 HasReadNone input NoFunction = RefusesInput input NoFunction
 HasReadNone input UnknownFunction = ⊥
+HasReadNone input NoRegister = ⊥
 HasReadNone input FrameTooLarge = ⊥
 HasReadNone input SymbolName = ⊥
 HasReadNone input SectionTooLarge = ⊥
@@ -52,7 +54,8 @@ HasReadNone input Write = ⊥
 
 -- the faults for which a program has no output after these passes
 abbrev pub RefusesToCompile : List PassStep → Program → Fault → Type 0
-RefusesToCompile steps program FrameTooLarge = HasLargeFrame steps program.functions
+RefusesToCompile steps program NoRegister = HasVirtualRegister program.functions
+RefusesToCompile steps program FrameTooLarge = AreAllPhysical program.functions × HasLargeFrame steps program.functions
 RefusesToCompile steps program SectionTooLarge = HasLargeSection steps program
 RefusesToCompile steps program Memory = Unit {0}
 RefusesToCompile steps program SymbolName = ⊥
@@ -67,6 +70,7 @@ RefusesToCompile steps program Write = ⊥
 -- the faults of a command on a program
 abbrev pub RefusesToWrite : Command → Program → Fault → Type 0
 RefusesToWrite command program UnknownFunction = RefusesProgram command program UnknownFunction
+RefusesToWrite command program NoRegister = RefusesProgram command program NoRegister
 RefusesToWrite command program FrameTooLarge = RefusesProgram command program FrameTooLarge
 RefusesToWrite command program SymbolName = RefusesProgram command program SymbolName
 RefusesToWrite command program SectionTooLarge = RefusesProgram command program SectionTooLarge
@@ -88,6 +92,7 @@ ReadingEnds command input TooLong = Refuses command input TooLong
 ReadingEnds command input (Refused r) = Refuses command input (Refused r)
 ReadingEnds command input NoFunction = Refuses command input NoFunction
 ReadingEnds command input UnknownFunction = Refuses command input UnknownFunction
+ReadingEnds command input NoRegister = Refuses command input NoRegister
 ReadingEnds command input FrameTooLarge = Refuses command input FrameTooLarge
 ReadingEnds command input SymbolName = Refuses command input SymbolName
 ReadingEnds command input SectionTooLarge = Refuses command input SectionTooLarge
@@ -110,6 +115,7 @@ Explains words input output TooLong = ReadingEnded words input TooLong
 Explains words input output (Refused r) = ReadingEnded words input (Refused r)
 Explains words input output NoFunction = ReadingEnded words input NoFunction
 Explains words input output UnknownFunction = ReadingEnded words input UnknownFunction
+Explains words input output NoRegister = ReadingEnded words input NoRegister
 Explains words input output FrameTooLarge = ReadingEnded words input FrameTooLarge
 Explains words input output SymbolName = ReadingEnded words input SymbolName
 Explains words input output SectionTooLarge = ReadingEnded words input SectionTooLarge

@@ -1,11 +1,10 @@
-use Rattle.std.proofs.Common.{◌≡◌, ◌≤◌, ◌+◌, ◌-◌, length}
+use Rattle.std.proofs.Common.{◌≡◌, ◌≤◌, ◌+◌, ◌-◌}
 use Rattle.read_input.proofs.Pieces.{IsFront}
 use Rattle.read_input.proofs.input.read_input.Given as goal
 
 abbrev pub invariant-loop-taken : goal.invariant-loop-taken
 invariant-loop-taken g l = record {
   steady : g.S.Source.faults l.input ≡ g.S.Source.faults l.initial.input;
-  room : length l.chunk.items ≡ 65536;
   within : l.taken ≤ l.limit + 1;
   lines : l.reader.program.lines ≤ l.taken;
   front : IsFront (g.S.Source.left l.initial.input) (g.S.Source.left l.input) l.reader l.taken;

@@ -19,10 +19,15 @@ returns-in-Ok-clause-compilation c =
     by_plan (λ r l. IsCompilationOf r l c.args.program.now c.in-Ok.compilation) c.as_slice.result.now c.args.plan.now.passes
     c.as_slice-2.result.now c.args.plan.now.reserve c.as_slice.ensures.value c.as_slice-2.ensures c.in-Ok.ensures.compilation
 
+pub returns-in-Err-NoRegister-clause-err : goal.returns-in-Err-NoRegister-clause-err
+returns-in-Err-NoRegister-clause-err c = c.in-Err-NoRegister.ensures.no_register cc
+
 pub returns-in-Err-FrameTooLarge-clause-err : goal.returns-in-Err-FrameTooLarge-clause-err
-returns-in-Err-FrameTooLarge-clause-err c =
-    by_plan (λ r l. HasLargeFrame (steps_of r l) c.args.program.now.functions) c.as_slice.result.now c.args.plan.now.passes c.as_slice-2.result.now
-    c.args.plan.now.reserve c.as_slice.ensures.value c.as_slice-2.ensures (c.in-Err-FrameTooLarge.ensures.frame_too_large cc)
+returns-in-Err-FrameTooLarge-clause-err c = (
+  c.in-Err-FrameTooLarge.ensures.registers_first cc,
+  by_plan (λ r l. HasLargeFrame (steps_of r l) c.args.program.now.functions) c.as_slice.result.now c.args.plan.now.passes c.as_slice-2.result.now
+      c.args.plan.now.reserve c.as_slice.ensures.value c.as_slice-2.ensures (c.in-Err-FrameTooLarge.ensures.frame_too_large cc),
+)
 
 pub returns-in-Err-SectionTooLarge-clause-err : goal.returns-in-Err-SectionTooLarge-clause-err
 returns-in-Err-SectionTooLarge-clause-err c =

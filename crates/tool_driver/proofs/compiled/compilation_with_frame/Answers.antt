@@ -2,7 +2,7 @@
 use Rattle.std.proofs.Common.{◌⊎◌, refl, sym, subst}
 use Rattle.pass_list.specs.Names.{AreDistinct}
 use Rattle.compile_program.specs.Program.{IsOutputOf, HasLargeFrame, HasLargeSection, HasLargeFrameSection, steps_of}
-use Rattle.tool_driver.specs.Refusals.{frame_too_large}
+use Rattle.tool_driver.specs.Refusals.{no_register, frame_too_large}
 use Rattle.tool_driver.proofs.AnswerLemmas.{compile_named, large_with_frame}
 use Rattle.tool_driver.proofs.Plans.{by_plan}
 use Rattle.tool_driver.proofs.compiled.compilation_with_frame.Goals as goal
@@ -15,10 +15,15 @@ returns-in-Ok-clause-output c =
     by_plan (λ r l. IsOutputOf (steps_of r l) c.args.program.now c.in-Ok.compilation.output) c.as_slice.result.now c.args.asked.now.plan.passes
     c.as_slice-2.result.now c.args.asked.now.plan.reserve c.as_slice.ensures.value c.as_slice-2.ensures c.in-Ok.ensures.output
 
+pub returns-in-NoRegister-clause-err : goal.returns-in-NoRegister-clause-err
+returns-in-NoRegister-clause-err c =
+    let is = c.in-NoRegister.is in
+    no_register c.args.asked.now.plan refl (compile_named c.args.asked.now c.args.program.now) (c.in-Err.ensures.no_register cc)
+
 pub returns-in-FrameTooLarge-clause-err : goal.returns-in-FrameTooLarge-clause-err
 returns-in-FrameTooLarge-clause-err c =
     let is = c.in-FrameTooLarge.is in
-    frame_too_large c.args.asked.now.plan refl (compile_named c.args.asked.now c.args.program.now)
+    frame_too_large c.args.asked.now.plan refl (compile_named c.args.asked.now c.args.program.now) (c.in-Err.ensures.registers_first cc)
     (by_plan (λ r l. HasLargeFrame (steps_of r l) c.args.program.now.functions) c.as_slice.result.now c.args.asked.now.plan.passes c.as_slice-2.result.now
     c.args.asked.now.plan.reserve c.as_slice.ensures.value c.as_slice-2.ensures (c.in-Err.ensures.frame_too_large cc))
 

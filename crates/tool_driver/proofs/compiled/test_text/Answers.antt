@@ -3,6 +3,7 @@ use Rattle.std.proofs.Common.{◌≡◌, ℕ, List, Option, Some, sym, subst, ru
 use Rattle.std.specs.Prelude.{IfSome}
 use Rattle.cli.specs.declared.command.TestPlan.{TestPlan}
 use Rattle.gen_sizes.proofs.Frames.{generated_frames_are_small}
+use Rattle.gen_sizes.proofs.Registers.{generated_are_physical}
 use Rattle.gen_sizes.proofs.Sections.{generated_sections_are_small}
 use Rattle.pass_list.specs.Names.{AreDistinct}
 use Rattle.pass_list.specs.declared.kind.PassKind.{PassKind}
@@ -26,6 +27,12 @@ returns-in-Ok-Some-clause-ok c =
     let is : c.in-Ok-Some.field-0 ≡ Some c.in-Ok-Some.text = first_of (cc, search rules) in
     tests c.args.asked.now c.as_slice.result.now c.as_slice-2.result.now c.as_slice.ensures.value c.as_slice-2.ensures c.in-Ok-Some.field-0
     c.in-Ok-Some.text is c.in-Ok-Some.ensures.text
+
+pub returns-in-NoRegister-clause-err : goal.returns-in-NoRegister-clause-err
+returns-in-NoRegister-clause-err c =
+    let is = c.in-NoRegister.is in
+    let virtual = c.in-Err.ensures.no_register cc in
+    absurd (virtual (generated_are_physical c.args.asked.now.function.number c.args.asked.now.function.blocks c.requires.few))
 
 pub returns-in-FrameTooLarge-clause-err : goal.returns-in-FrameTooLarge-clause-err
 returns-in-FrameTooLarge-clause-err c =

@@ -33,4 +33,6 @@ returns-in-Err-TooLong-clause-err g c =
     reads_too_long input said.1 said.0
 
 pub returns-in-Err-Failed-clause-err : goal.returns-in-Err-Failed-clause-err
-returns-in-Err-Failed-clause-err g c = rw c.in-Err-Failed.field-0-is at c.in-Err-Failed.ensures.answers
+returns-in-Err-Failed-clause-err g c =
+    let said = rw c.in-Err-Failed.field-0-is at c.in-Err-Failed.ensures.answers in
+    said.1

@@ -1,4 +1,4 @@
-use Rattle.std.proofs.Common.{◌≡◌, ◌+◌, ◌-◌, length, take, drop, refl, sym, ap, ◌∙◌, arith, rules}
+use Rattle.std.proofs.Common.{◌≡◌, ◌+◌, ◌-◌, ◌++◌, length, take, drop, refl, sym, ap, ◌∙◌, arith, rules}
 use Rattle.std.proofs.lemmas.List.{take_rest, length-drop}
 use Rattle.std.proofs.lemmas.Result.{on_ok_weaker}
 use Rattle.read_input.specs.declared.reader.ProgramReader.{ProgramReader}
@@ -15,11 +15,11 @@ loop-rest-preserved c =
     let end = c.in-Some.end in
     let left : length (take (length rest - (end + 1)) (drop (end + 1) rest)) ≡ length rest - (end + 1) =
     ap length (take_rest rest (end + 1)) ∙ length-drop (end + 1) rest in
-    let held : ProgramReader = record l.self { line = c.extend_from_slice-in-loop-rest.new.self } in
+    let held : ProgramReader = record l.self { line = l.self.line ++ take end rest } in
     record {
       counted = omega (arith, l.invariant.counted, c.in_ok-end_line.ensures.lines, c.in-Some.ensures.within, left);
       reading = λ front reading. passed-more c.args.self.now l.self c.args.bytes.now rest l.invariant.reading front reading held c.end_line.new.self end
-          (sym c.in-Some.is ∙ c.line_feed.ensures.place) refl c.in_ok-extend_from_slice.ensures.ok c.in_ok-end_line.ensures.reading;
+          (sym c.in-Some.is ∙ c.line_feed.ensures.place) refl refl c.in_ok-end_line.ensures.reading;
     }
 
 pub returns-in_default-clause-reading : goal.returns-in_default-clause-reading

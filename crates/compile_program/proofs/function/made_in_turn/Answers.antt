@@ -4,7 +4,7 @@ use Rattle.compile_function.specs.declared.emit.EmittedFunctions.{EmittedFunctio
 use Rattle.read_program.specs.declared.closing.Parsed.{Parsed}
 use Rattle.dwarf_line_table.proofs.Split.{split_at}
 use Rattle.compile_program.proofs.Behind.{SoFar, begins, more, all_emitted}
-use Rattle.compile_program.proofs.function.made_of.Goals as goal
+use Rattle.compile_program.proofs.function.made_in_turn.Goals as goal
 
 pub loop-source-init : goal.loop-source-init
 loop-source-init c =

@@ -4,7 +4,7 @@ use Rattle.mir_func.specs.Sound.{IsSound}
 use Rattle.compile_passes.proofs.Accepted.{accepted}
 use Rattle.compile_passes.proofs.AfterPasses.{numbers_of_copy, slots_of_copy, few_after, calls_after, made_after, compilable_after}
 use Rattle.mir_type_facts.specs.Typed.{IsTypedBlock, IsTypedEntry}
-use Rattle.compile_passes.proofs.passed.after_passes.Goals as goal
+use Rattle.compile_passes.proofs.passed.run_on.Goals as goal
 
 pub run_passes-requires-clause-numbers : goal.run_passes-requires-clause-numbers
 run_passes-requires-clause-numbers c =
