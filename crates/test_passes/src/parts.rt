@@ -10,6 +10,7 @@ use base_ids::function_ids::{DebugNumber, SlotId};
 use base_list::List;
 use dce_analysis::judge::judge;
 use fold_pass::fold::fold;
+use linear_scan::scan::ScanPass;
 use mir_func::block::copy_blocks;
 use mir_func::func::Func;
 use mir_func::item::Item;
@@ -39,11 +40,13 @@ pub enum Part {
     Lives,
     /// Folding by the rule for code.
     Folded,
-    /// The copy at this index, of number 1 and of x11, is taken out, where the items of these indices go too. The fresh
-    /// number is 100.
-    TakenOut(usize, &'static [usize]),
+    /// The copy at this index, of number 1 and of x11, is taken out, where the items whose flags are set go too. The
+    /// fresh number is 100.
+    TakenOut(usize, &'static [bool]),
     /// Spilling from each of these reserves, one after the other.
     Spilled(&'static [&'static [u32]]),
+    /// Linear scan with this reserve.
+    Scanned(&'static [u32]),
 }
 
 /// What a part makes of the first function of a text.
@@ -70,6 +73,7 @@ fn push_made(alloc: Global, part: &Part, parsed: &mut Parsed, text: &mut Text) -
         Part::Folded => push_folded(alloc, &mut parsed.func, text)?,
         Part::TakenOut(at, removed) => push_left(alloc, parsed, *at, removed, text)?,
         Part::Spilled(reserves) => push_spilled(alloc, &mut parsed.func, reserves, text)?,
+        Part::Scanned(reserve) => push_scanned(alloc, &mut parsed.func, reserve, text)?,
     }
     Ok(())
 }
@@ -137,7 +141,7 @@ fn push_left(
     alloc: Global,
     parsed: &Parsed,
     at: usize,
-    removed: &[usize],
+    removed: &[bool],
     text: &mut Text,
 ) -> Result<(), Fail> {
     let by_walk = left(alloc, parsed, at, removed, false)?;
@@ -154,7 +158,7 @@ fn left(
     alloc: Global,
     parsed: &Parsed,
     at: usize,
-    removed: &[usize],
+    removed: &[bool],
     by_index: bool,
 ) -> Result<Text, Fail> {
     let mut blocks = copy_blocks(alloc, parsed.func.blocks.as_slice())?.into_vec();
@@ -180,7 +184,7 @@ fn take_out(
     items: &mut Vec<Item>,
     subs: &mut Substitutions,
     at: usize,
-    removed: &[usize],
+    removed: &[bool],
     by_index: bool,
 ) -> Result<u32, Fail> {
     if items.len() <= at {
@@ -224,19 +228,30 @@ fn push_spilled(
         let mut pass = pass_of(alloc, reserve)?;
         spill(alloc, &mut pass, f, text)?;
     }
-    push_blocks(text, f.blocks.as_slice())?;
-    let slots = u32::try_from(f.slots.len()).unwrap_or(u32::MAX);
-    push_numbered(text, "slots ", slots)?;
-    push_str(text, "\n")?;
+    push_function(f, text)?;
     Ok(())
 }
 
+/// Appends a function's blocks, and how many slots it has.
+fn push_function(f: &Func, text: &mut Text) -> Result<(), AllocError> {
+    push_blocks(text, f.blocks.as_slice())?;
+    let slots = u32::try_from(f.slots.len()).unwrap_or(u32::MAX);
+    push_numbered(text, "slots ", slots)?;
+    push_str(text, "\n")
+}
+
 fn pass_of(alloc: Global, numbers: &[u32]) -> Result<SpillPass, Fail> {
-    let mut reserve = Registers::new(alloc);
-    for n in numbers {
-        reserve.push(physical(*n).ok_or("a register")?)?;
-    }
+    let reserve = registers_of(alloc, numbers)?;
     Ok(SpillPass { reserve })
+}
+
+/// The physical registers of these numbers.
+fn registers_of(alloc: Global, numbers: &[u32]) -> Result<Registers, Fail> {
+    let mut registers = Registers::new(alloc);
+    for n in numbers {
+        registers.push(physical(*n).ok_or("a register")?)?;
+    }
+    Ok(registers)
 }
 
 fn spill(alloc: Global, pass: &mut SpillPass, f: &mut Func, text: &mut Text) -> Result<(), Fail> {
@@ -250,7 +265,23 @@ fn spill(alloc: Global, pass: &mut SpillPass, f: &mut Func, text: &mut Text) -> 
     Ok(())
 }
 
-/// Whether a function has one short block and at most one slot, and small numbers. Then spilling has room.
+/// Scans, and appends what is lost, the substitutions and the function.
+fn push_scanned(alloc: Global, f: &mut Func, numbers: &[u32], text: &mut Text) -> Result<(), Fail> {
+    if !is_small(f) {
+        return Err(Fail::from("a large function"));
+    }
+    let reserve = registers_of(alloc, numbers)?;
+    let mut pass = ScanPass { reserve };
+    let mut subs = Substitutions::new(alloc);
+    let losses = pass.run(alloc, f, &mut subs)?;
+    push_losses(text, losses.as_slice())?;
+    push_entries(text, subs.entries())?;
+    push_function(f, text)?;
+    Ok(())
+}
+
+/// Whether a function has one short block and at most one slot, and small numbers. Then spilling and linear scan have
+/// room.
 fn is_small(f: &Func) -> bool
     ensures numbers { IsTrue result → greatest_number f.now [] + most_numbers 4 1 f.now < 2 ^ 31 }
     ensures slots { IsTrue result → greatest f.now.slots + MAX_SLOTS * 1 < 2 ^ 31 }

@@ -203,7 +203,7 @@ pub const ROWS: &[Row] = &[
     },
     Row {
         shows: "what sets it goes too: a phi takes the copy's place",
-        part: Part::TakenOut(1, &[0]),
+        part: Part::TakenOut(1, &[true]),
         text: "---\nname: f\nbody: |\n  bb.0:\n    $x11 = ADDI $x10, 1\n    \
                $x12 = COPY $x11, debug-instr-number 1\n    PseudoRET implicit $x12\n...\n",
         wanted: "=0.0 $x11 = ADDI $x10, 1\n<0.1 DBG_PHI $x11, 1\n=0.2 PseudoRET implicit $x12\nfresh 100\n",
@@ -248,5 +248,58 @@ pub const ROWS: &[Row] = &[
         text: "---\nname: f\nbody: |\n  bb.0:\n    $x19 = ADDI $x18, 1\n    PseudoRET implicit $x10\n...\n",
         wanted: "kept register x18 call-named\nbb.0:\n<0.0 SD $x18, %stack.0, 0\n<0.0 $x5 = LD %stack.0, 0\n\
                  =0.0 $x6 = ADDI $x5, 1\n<0.1 SD $x6, %stack.1, 0\n=0.1 PseudoRET implicit $x10\nslots 2\n",
+    },
+    Row {
+        shows: "a register that is read last where another one is set isn't shared",
+        part: Part::Scanned(&[]),
+        text: "---\nname: f\nbody: |\n  bb.0:\n    %0:gpr = COPY $x10\n    \
+               %1:gpr = ADDI %0, 3, debug-instr-number 1\n    \
+               DBG_INSTR_REF !4, !DIExpression(DW_OP_LLVM_arg, 0), dbg-instr-ref(1, 0)\n    $x10 = COPY %1\n    \
+               PseudoRET implicit $x10\n...\n",
+        wanted: "bb.0:\n=0.0 $x7 = COPY $x10\n=0.1 $x28 = ADDI $x7, 3, debug-instr-number 1\n\
+                 =0.2 DBG_INSTR_REF !4, !DIExpression(DW_OP_LLVM_arg, 0), dbg-instr-ref(1, 0)\n\
+                 =0.3 $x10 = COPY $x28\n=0.4 PseudoRET implicit $x10\nslots 0\n",
+    },
+    Row {
+        shows: "a register that is live over a call gets one that calls keep",
+        part: Part::Scanned(&[]),
+        text: "---\nname: f\nbody: |\n  bb.0:\n    %0 = COPY $x10\n    \
+               PseudoCALL @g, csr_ilp32_lp64, implicit-def dead $x1, implicit-def $x10\n    \
+               $x10 = ADD $x10, %0\n    PseudoRET implicit $x10\n...\n",
+        wanted: "bb.0:\n=0.0 $x9 = COPY $x10\n\
+                 =0.1 PseudoCALL @g, mask, implicit-def $x1, implicit-def $x10\n=0.2 $x10 = ADD $x10, $x9\n\
+                 =0.3 PseudoRET implicit $x10\nslots 0\n",
+    },
+    Row {
+        shows: "fewer than two scratch registers: the function stays as it is",
+        part: Part::Scanned(&[]),
+        text: "---\nname: f\nbody: |\n  bb.0:\n    %0 = ADD $x5, $x6\n    $x7 = ADD $x28, $x29\n    \
+               $x10 = ADD %0, $x30\n    PseudoRET implicit $x10\n...\n",
+        wanted: "bb.0:\n=0.0 %0 = ADD $x5, $x6\n=0.1 $x7 = ADD $x28, $x29\n=0.2 $x10 = ADD %0, $x30\n\
+                 =0.3 PseudoRET implicit $x10\nslots 0\n",
+    },
+    Row {
+        shows: "debug values of a physical register that was given, and of a virtual one before it is set",
+        part: Part::Scanned(&[]),
+        text: "---\nname: f\nbody: |\n  bb.0:\n    DBG_VALUE %0, $noreg, !4, !DIExpression()\n    \
+               DBG_VALUE $x7, $noreg, !5, !DIExpression()\n    %0 = COPY $x10\n    \
+               DBG_VALUE $x7, $noreg, !5, !DIExpression()\n    DBG_VALUE %0, $noreg, !4, !DIExpression()\n    \
+               $x10 = COPY %0\n    PseudoRET implicit $x10\n...\n",
+        wanted: "a debug item\na debug item\nbb.0:\n=0.0 DBG_VALUE $noreg, $noreg, !4, !DIExpression()\n\
+                 =0.1 DBG_VALUE $x7, $noreg, !5, !DIExpression()\n=0.2 $x7 = COPY $x10\n\
+                 =0.3 DBG_VALUE $noreg, $noreg, !5, !DIExpression()\n\
+                 =0.4 DBG_VALUE $x7, $noreg, !4, !DIExpression()\n=0.5 $x10 = COPY $x7\n\
+                 =0.6 PseudoRET implicit $x10\nslots 0\n",
+    },
+    Row {
+        shows: "no register is left",
+        part: Part::Scanned(&[
+            7, 8, 9, 10, 11, 12, 13, 14, 15, 16, 17, 18, 19, 20, 21, 22, 23, 24, 25, 26, 27, 28,
+            29, 30, 31,
+        ]),
+        text: "---\nname: f\nbody: |\n  bb.0:\n    %0 = COPY $x10\n    $x10 = ADDI %0, 1\n    \
+               PseudoRET implicit $x10\n...\n",
+        wanted: "bb.0:\n=0.0 $x5 = COPY $x10\n<0.1 SD $x5, %stack.0, 0\n<0.1 $x5 = LD %stack.0, 0\n\
+                 =0.1 $x10 = ADDI $x5, 1\n=0.2 PseudoRET implicit $x10\nslots 1\n",
     },
 ];

@@ -1,0 +1,3 @@
+mod Silences
+mod LostItems
+mod Walked

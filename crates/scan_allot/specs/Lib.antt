@@ -1,0 +1,3 @@
+pub mod Silent
+pub mod Losses
+pub mod Allotted

@@ -1,0 +1,9 @@
+//! Virtual registers are replaced by the physical ones that they get, in place: no item comes or goes. A debug value or
+//! DBG_PHI becomes undef where the place of its register may have another value, and is reported as lost.
+#![tactic(auto)]
+
+pub mod blocks;
+pub mod code;
+pub mod items;
+pub mod lost;
+pub mod silence;

@@ -1,0 +1,6 @@
+//! The choice of linear scan register allocation: which physical register each virtual register of a function gets, by
+//! the function's liveness.
+#![tactic(auto)]
+
+pub mod choice;
+pub mod given;

@@ -1,0 +1,6 @@
+mod Touched
+mod Walked
+mod Counted
+mod Named
+mod Ordered
+mod Made

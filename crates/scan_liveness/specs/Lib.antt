@@ -1,0 +1,4 @@
+pub mod Registers
+pub mod Extents
+pub mod Described
+pub mod Liveness

@@ -1,0 +1,10 @@
+//! Liveness of registers around each code of a function, for linear scan register allocation. The points of code are
+//! visited from the end of the text upwards.
+#![tactic(auto)]
+
+pub mod extents;
+pub mod intervals;
+pub mod liveness;
+pub mod masks;
+pub mod registers;
+pub mod walk;

@@ -1,0 +1,5 @@
+use Rattle.scan_pass.proofs.Scanned.{scan_is_one}
+use Rattle.scan_pass.proofs.laws.scan_is_one.Goals as goal
+
+pub returns : goal.returns
+returns c = scan_is_one

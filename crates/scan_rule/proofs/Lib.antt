@@ -1,0 +1,4 @@
+pub mod Intervals
+pub mod Same
+pub mod Originless
+pub mod Bare

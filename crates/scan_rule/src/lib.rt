@@ -1,0 +1,6 @@
+//! The first step of register allocation: virtual registers for which the linear scan finds one are replaced by physical
+//! registers, in place. No item comes or goes. A debug value or DBG_PHI of a register names the new one, or becomes
+//! undef where the new one may hold another value.
+#![tactic(auto)]
+
+pub mod laws;

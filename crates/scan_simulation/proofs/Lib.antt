@@ -1,0 +1,11 @@
+pub mod Renaming
+pub mod Rows
+pub mod Clobbered
+pub mod Near
+pub mod Numbered
+pub mod CodeRuns
+pub mod Next
+pub mod Debug
+pub mod Fetching
+pub mod Views
+pub mod Following

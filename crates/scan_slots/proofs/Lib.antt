@@ -1,0 +1,10 @@
+pub mod One
+pub mod MaySettle
+pub mod Slots
+pub mod Following
+pub mod Ruled
+pub mod Made
+pub mod Causes
+pub mod Kept
+pub mod Originless
+pub mod Sizes

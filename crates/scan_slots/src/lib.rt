@@ -1,0 +1,6 @@
+//! The second step of register allocation: the virtual registers that are left live in slots, by the rewriting of
+//! spilling. They get new slots in the order of their live intervals. A virtual register has no value at the function's
+//! start, so nothing is stored there.
+#![tactic(auto)]
+
+pub mod laws;

@@ -1,0 +1,4 @@
+mod Taken
+mod Exact
+pub mod Steps
+pub mod Visits
