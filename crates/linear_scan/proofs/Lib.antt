@@ -1,1 +1,3 @@
 mod Scanned
+mod Decided
+mod Physical

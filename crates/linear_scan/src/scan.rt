@@ -5,17 +5,22 @@ ghost use Rattle.mir_func.specs.Limits.{MAX_SLOTS};
 ghost use Rattle.mir_func.specs.Sound.{AllItems, HasForm, IsSound};
 ghost use Rattle.pass_trait.specs.Sizes.{greatest, greatest_number, item_count};
 ghost use Rattle.scan_pass.specs.Scanned.{scan_steps, IsScanned};
+ghost use Rattle.scan_slots.specs.Rule.{AreLeft};
 ghost use Rattle.scan_pass.proofs.Scanned.{scan_is_one, scan_sees_code_alone};
 ghost use Rattle.std.proofs.Common.{rules};
 
 use crate::allot::allot;
+use frame_lowering::physical::is_physical;
 use mir_func::func::Func;
 use mir_substitution::substitutions::Substitutions;
+use mir_type_facts::blocks::know_forms;
 use pass_trait::loss::Losses;
 use pass_trait::pass::Pass;
 use rv64_instr::reg::{Reg, Registers};
 use scan_debug::laws::allotted_keeps_sizes;
+use scan_intervals::interval::LiveIntervals;
 use scan_liveness::liveness::liveness_of;
+use scan_liveness::registers::greatest_register;
 use scan_pass::laws::{scanned_follows, scanned_keeps_sizes, scanned_keeps_steps};
 use scan_settle::settle::settle;
 use std::alloc::{AllocError, Global};
@@ -70,7 +75,8 @@ pub fn scan_pass_keeps_block_ends()
     ensures count { ⟦<ScanPass as Pass>⟧.count ≡ 1 }
 {}
 
-/// Allocates registers, and returns the losses. After an error the function may only be dropped.
+/// Allocates registers, and returns the losses. A function without virtual registers is unchanged. After an error the
+/// function may only be dropped.
 pub fn scan(
     alloc: Global,
     reserve: &[Reg],
@@ -83,10 +89,42 @@ pub fn scan(
     ensures forms { AllItems (λ i. HasForm i.kind) f.old.blocks }
     ensures sound { IsSound f.old }
 {
+    know_forms(f.blocks.as_slice());
+    if is_physical(f) {
+        return Ok(Losses::new(alloc));
+    }
+    allocate(alloc, reserve, f, subs)
+}
+
+/// The same of any function.
+fn allocate(
+    alloc: Global,
+    reserve: &[Reg],
+    f: &mut Func,
+    subs: &Substitutions,
+) -> Result<Losses, AllocError>
+    requires numbers { greatest_number f.old subs.now + item_count f.old + 1 < 2 ^ 31 }
+    requires slots { greatest f.old.slots + MAX_SLOTS < 2 ^ 31 }
+    ensures { IfOk result (λ losses. IsScanned reserve.now f.old subs.now f.new losses) }
+{
     allotted_keeps_sizes();
     let mut losses = allot(alloc, reserve, f)?;
-    let liveness = liveness_of(alloc, f)?;
-    let scratch = settle(alloc, liveness.intervals.as_slice(), f, subs)?;
+    let intervals = intervals_left(alloc, f)?;
+    let scratch = settle(alloc, intervals.as_slice(), f, subs)?;
     losses.extend_from_slice(scratch.as_slice())?;
     Ok(losses)
+}
+
+/// The live intervals of the virtual registers of a function, in the order of allocation. The error is out of memory.
+fn intervals_left(alloc: Global, f: &Func) -> Result<LiveIntervals, AllocError>
+    requires { item_count f.now < 2 ^ 31 }
+    ensures { IfOk result (AreLeft f.now) }
+{
+    know_forms(f.blocks.as_slice());
+    let most = greatest_register(f.blocks.as_slice());
+    if most < 32 {
+        return Ok(LiveIntervals::new(alloc));
+    }
+    let liveness = liveness_of(alloc, f)?;
+    Ok(liveness.intervals)
 }

@@ -1,3 +1,4 @@
 mod Silences
+mod Inserted
 mod LostItems
 mod Walked

@@ -12,11 +12,13 @@ ghost use Rattle.scan_allot.specs.Losses.{lost_items, lost_blocks};
 ghost use Rattle.scan_allot.specs.Silent.{silent_by};
 
 use crate::items::items_now;
+use crate::named::NamedFunction;
 use mir_func::block::{Block, Blocks};
 use mir_func::func::Func;
 use pass_losses::told::put_in_order;
 use pass_trait::loss::{Loss, Losses};
 use rv64_instr::reg::Reg;
+use scan_stale::places::GivenPlaces;
 use scan_stale::stale::StaleRegisters;
 use std::alloc::{AllocError, Global};
 
@@ -42,9 +44,11 @@ pub fn allotted_blocks(
         AreAllotted f.now subs (given_by given.now) made.blocks made.losses) }
 {
     let _ = &f.blocks;
-    let stale = StaleRegisters::solve(alloc, f, given)?;
+    let places = GivenPlaces::new(alloc, given)?;
+    let stale = StaleRegisters::solve(alloc, f, &places)?;
+    let named = NamedFunction::new(f);
     let mut lost = Vec::new(alloc);
-    let blocks = blocks_now(alloc, f, given, &stale, &mut lost)?;
+    let blocks = blocks_now(alloc, f, &named, &places, &stale, &mut lost)?;
     put_in_order(&mut lost);
     Ok(AllottedBlocks {
         blocks,
@@ -55,10 +59,12 @@ pub fn allotted_blocks(
 fn blocks_now(
     alloc: Global,
     f: &Func,
-    given: &[Option<Reg>],
+    named: &NamedFunction,
+    given: &GivenPlaces,
     stale: &StaleRegisters,
     lost: &mut Vec<Loss>,
 ) -> Result<Blocks, AllocError>
+    requires same { named.now ≡ f.now }
     requires few { length given.now ≤ 4096 }
     requires real { AreReal (given_by given.now) }
     requires sets { AreStaleSets f.now (given_by given.now) stale.now }
@@ -70,7 +76,7 @@ fn blocks_now(
 {
     let mut made = Blocks::new(alloc);
     for at in 0..f.blocks.len() {
-        made.push(block_now(alloc, f, given, stale, at, lost)?)?;
+        made.push(block_now(alloc, f, named, given, stale, at, lost)?)?;
     }
     Ok(made)
 }
@@ -78,11 +84,13 @@ fn blocks_now(
 fn block_now(
     alloc: Global,
     f: &Func,
-    given: &[Option<Reg>],
+    named: &NamedFunction,
+    given: &GivenPlaces,
     stale: &StaleRegisters,
     at: usize,
     lost: &mut Vec<Loss>,
 ) -> Result<Block, AllocError>
+    requires same { named.now ≡ f.now }
     requires few { length given.now ≤ 4096 }
     requires real { AreReal (given_by given.now) }
     requires sets { AreStaleSets f.now (given_by given.now) stale.now }
@@ -96,7 +104,7 @@ fn block_now(
     let block = &f.blocks.as_slice()[at];
     let items = items_now(
         alloc,
-        f,
+        named,
         given,
         stale,
         &mut set,

@@ -10,9 +10,9 @@ ghost use Rattle.scan_allot.specs.Silent.{is_silent, silent_along};
 
 use crate::code::renamed_code;
 use crate::lost::push_lost;
+use crate::named::NamedFunction;
 use crate::silence::is_silent;
 use base_ids::function_ids::BlockId;
-use mir_func::func::Func;
 use mir_func::item::{Item, ItemKind, Items};
 use mir_func::variable::MarkValue;
 use pass_liveness::set::PlaceSet;
@@ -20,6 +20,7 @@ use pass_trait::loss::Loss;
 use rv64_instr::place::Place;
 use rv64_instr::reg::Reg;
 use scan_choice::given::now;
+use scan_stale::places::GivenPlaces;
 use scan_stale::stale::StaleRegisters;
 use std::alloc::{AllocError, Global};
 
@@ -27,8 +28,8 @@ use std::alloc::{AllocError, Global};
 /// memory.
 pub fn items_now(
     alloc: Global,
-    f: &Func,
-    given: &[Option<Reg>],
+    f: &NamedFunction,
+    given: &GivenPlaces,
     stale: &StaleRegisters,
     set: &mut PlaceSet,
     _block: BlockId,
@@ -45,7 +46,7 @@ pub fn items_now(
     let mut made = Items::new(alloc);
     for at in 0..items.len() {
         let item = &items[at];
-        made.push(item_now(alloc, f, given, stale, set, item)?)?;
+        made.push(item_now(alloc, f, given.as_slice(), stale, set, item)?)?;
         push_lost(f, stale, set, item, lost)?;
         stale.step_down(given, set, &item.kind);
     }
@@ -54,7 +55,7 @@ pub fn items_now(
 
 fn item_now(
     alloc: Global,
-    f: &Func,
+    f: &NamedFunction,
     given: &[Option<Reg>],
     stale: &StaleRegisters,
     set: &PlaceSet,
@@ -75,7 +76,7 @@ fn item_now(
 
 fn kind_now(
     alloc: Global,
-    f: &Func,
+    f: &NamedFunction,
     given: &[Option<Reg>],
     stale: &StaleRegisters,
     set: &PlaceSet,
@@ -94,7 +95,7 @@ fn kind_now(
 }
 
 fn value_now(
-    f: &Func,
+    f: &NamedFunction,
     given: &[Option<Reg>],
     stale: &StaleRegisters,
     set: &PlaceSet,
@@ -113,7 +114,7 @@ fn value_now(
 }
 
 fn place_now(
-    f: &Func,
+    f: &NamedFunction,
     given: &[Option<Reg>],
     stale: &StaleRegisters,
     set: &PlaceSet,

@@ -6,4 +6,5 @@ pub mod blocks;
 pub mod code;
 pub mod items;
 pub mod lost;
+pub mod named;
 pub mod silence;

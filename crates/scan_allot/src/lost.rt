@@ -5,9 +5,9 @@ ghost use Rattle.pass_liveness.specs.Sets.{has};
 ghost use Rattle.scan_allot.specs.Losses.{wrong_place, lost_value, lost_place, lost_kind};
 ghost use Rattle.scan_allot.specs.Silent.{is_silent};
 
+use crate::named::NamedFunction;
 use crate::silence::is_silent;
 use base_ids::function_ids::DebugNumber;
-use mir_func::func::Func;
 use mir_func::item::{Item, ItemKind};
 use mir_func::position::{Origin, position_of};
 use mir_func::variable::MarkValue;
@@ -20,7 +20,7 @@ use std::alloc::AllocError;
 
 /// Adds what is lost of an item where these registers are stale. The error is out of memory.
 pub fn push_lost(
-    f: &Func,
+    f: &NamedFunction,
     stale: &StaleRegisters,
     set: &PlaceSet,
     item: &Item,
@@ -37,7 +37,7 @@ pub fn push_lost(
 }
 
 fn push_value(
-    f: &Func,
+    f: &NamedFunction,
     stale: &StaleRegisters,
     set: &PlaceSet,
     value: &MarkValue,
@@ -54,7 +54,7 @@ fn push_value(
 }
 
 fn push_place(
-    f: &Func,
+    f: &NamedFunction,
     stale: &StaleRegisters,
     set: &PlaceSet,
     place: &Option<Place>,
@@ -72,7 +72,7 @@ fn push_place(
 
 /// Adds the loss, if a debug value or DBG_PHI of the register becomes undef.
 fn push_if(
-    f: &Func,
+    f: &NamedFunction,
     stale: &StaleRegisters,
     set: &PlaceSet,
     r: Reg,

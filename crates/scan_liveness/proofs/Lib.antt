@@ -1,6 +1,7 @@
 mod Touched
+pub mod Named
+mod Stepped
 mod Walked
 mod Counted
-mod Named
-mod Ordered
+pub mod Ordered
 mod Made

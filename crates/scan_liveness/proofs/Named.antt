@@ -4,7 +4,7 @@ use Rattle.std.proofs.Common.{◌&&◌, ◌||◌, not, nat_eq, max, refl, sym, a
 use Rattle.std.specs.List.{list_any}
 use Rattle.std.specs.Prelude.{All, IsTrue}
 use Rattle.std.proofs.Math.Nat.{le-max_left, le-max_right, le_trans}
-use Rattle.std.proofs.lemmas.Bool.{eqb-true, and_parts}
+use Rattle.std.proofs.lemmas.Bool.{eqb-true, eq-eqb, and_parts, or_left, or_right}
 use Rattle.std.proofs.lemmas.List.Elements.{All-nil, All-cons, All-append, All-head, All-tail}
 use Rattle.rv64_instr.specs.declared.operand.Operand.{Operand}
 use Rattle.rv64_instr.specs.declared.operand.Operand.TheVariants.{Def, Use, ImplicitDef, ImplicitUse}
@@ -31,6 +31,7 @@ use Rattle.sem_mir.specs.Live.{Live, Uses, KindUses, used, later}
 use Rattle.sem_mir.proofs.Implicit.{implicit}
 use Rattle.pass_trait.specs.Causes.{is_of_register, names}
 use Rattle.pass_liveness.specs.Walk.{live_before, live_across, live_past, live_from}
+use Rattle.scan_allocation.proofs.Named.{set_is_named}
 use Rattle.scan_intervals.specs.Liveness.{at_starts}
 use Rattle.scan_intervals.specs.Points.{CodePoint, next_of, with_point, is_live_before, is_live_after, points_in, points_of}
 use Rattle.scan_intervals.specs.Intervals.{touches}
@@ -57,42 +58,53 @@ of_operand counts (ImplicitDef s) r e = eqb-true s r (and_parts counts (nat_eq s
 of_operand counts (ImplicitUse s) r e = eqb-true s r (and_parts counts (nat_eq s r) e).1
 of_operand counts _ r e = cc
 
-here_most : (o : Operand) (os : List Operand) (r : ℕ) → register_of o ≡ r → r ≤ greatest_operand (o ∷ os)
-here_most o os r e = subst (λ (n : ℕ). n ≤ greatest_operand (o ∷ os)) e (le-max_left (register_of o) (greatest_operand os))
+-- some operand is the register
+abbrev pub among : ℕ → List Operand → Bool
+among r os = list_any (λ o. nat_eq (register_of o) r) os
 
-later_most : (o : Operand) (os : List Operand) (r : ℕ) → r ≤ greatest_operand os → r ≤ greatest_operand (o ∷ os)
-later_most o os r le = le_trans le (le-max_right (register_of o) (greatest_operand os))
+here_among : (o : Operand) (os : List Operand) (r : ℕ) → register_of o ≡ r → among r (o ∷ os) ≡ true
+here_among o os r e = or_left (nat_eq (register_of o) r) (among r os) (eq-eqb (register_of o) r e)
 
-named_most : (counts : Bool) (os : List Operand) (r : ℕ) → list_any (is_of_register counts r) os ≡ true → r ≤ greatest_operand os
-named_most counts [] r e = cc
-named_most counts (o ∷ os) r e = elim (or_cases (is_of_register counts r o) (list_any (is_of_register counts r) os) e) [
-  | inl h ↦ here_most o os r (of_operand counts o r h)
-  | inr h ↦ later_most o os r (named_most counts os r h)
+later_among : (o : Operand) (os : List Operand) (r : ℕ) → among r os ≡ true → among r (o ∷ os) ≡ true
+later_among o os r e = or_right (nat_eq (register_of o) r) (among r os) e
+
+among_most : (os : List Operand) (r : ℕ) → among r os ≡ true → r ≤ greatest_operand os
+among_most [] r e = cc
+among_most (o ∷ os) r e = elim (or_cases (nat_eq (register_of o) r) (among r os) e) [
+  | inl h ↦ subst (λ (n : ℕ). n ≤ greatest_operand (o ∷ os)) (eqb-true (register_of o) r h) (le-max_left (register_of o) (greatest_operand os))
+  | inr h ↦ le_trans (among_most os r h) (le-max_right (register_of o) (greatest_operand os))
 ]
 
-used_most : (os : List Operand) (r : ℕ) → Contains (uses_in os) r → r ≤ greatest_operand os
-used_most [] r (k, lt, e) = absurd (omega (arith, lt))
-used_most (Use s ∷ os) r (zero, lt, e) = here_most (Use s) os r e
-used_most (Use s ∷ os) r (suc k, lt, e) = later_most (Use s) os r (used_most os r (k, omega (arith, lt), e))
-used_most (o ∷ os) r k = later_most o os r (used_most os r k)
+pub named_among : (counts : Bool) (os : List Operand) (r : ℕ) → list_any (is_of_register counts r) os ≡ true → among r os ≡ true
+named_among counts [] r e = cc
+named_among counts (o ∷ os) r e = elim (or_cases (is_of_register counts r o) (list_any (is_of_register counts r) os) e) [
+  | inl h ↦ here_among o os r (of_operand counts o r h)
+  | inr h ↦ later_among o os r (named_among counts os r h)
+]
 
-implicit_most : (os : List Operand) (r : ℕ) → Contains (implicits_in os) r → r ≤ greatest_operand os
-implicit_most [] r (k, lt, e) = absurd (omega (arith, lt))
-implicit_most (ImplicitDef s ∷ os) r (zero, lt, e) = here_most (ImplicitDef s) os r e
-implicit_most (ImplicitDef s ∷ os) r (suc k, lt, e) = later_most (ImplicitDef s) os r (implicit_most os r (k, omega (arith, lt), e))
-implicit_most (ImplicitUse s ∷ os) r (zero, lt, e) = here_most (ImplicitUse s) os r e
-implicit_most (ImplicitUse s ∷ os) r (suc k, lt, e) = later_most (ImplicitUse s) os r (implicit_most os r (k, omega (arith, lt), e))
-implicit_most (o ∷ os) r k = later_most o os r (implicit_most os r k)
+used_among : (os : List Operand) (r : ℕ) → Contains (uses_in os) r → among r os ≡ true
+used_among [] r (k, lt, e) = absurd (omega (arith, lt))
+used_among (Use s ∷ os) r (zero, lt, e) = here_among (Use s) os r e
+used_among (Use s ∷ os) r (suc k, lt, e) = later_among (Use s) os r (used_among os r (k, omega (arith, lt), e))
+used_among (o ∷ os) r k = later_among o os r (used_among os r k)
+
+implicit_among : (os : List Operand) (r : ℕ) → Contains (implicits_in os) r → among r os ≡ true
+implicit_among [] r (k, lt, e) = absurd (omega (arith, lt))
+implicit_among (ImplicitDef s ∷ os) r (zero, lt, e) = here_among (ImplicitDef s) os r e
+implicit_among (ImplicitDef s ∷ os) r (suc k, lt, e) = later_among (ImplicitDef s) os r (implicit_among os r (k, omega (arith, lt), e))
+implicit_among (ImplicitUse s ∷ os) r (zero, lt, e) = here_among (ImplicitUse s) os r e
+implicit_among (ImplicitUse s ∷ os) r (suc k, lt, e) = later_among (ImplicitUse s) os r (implicit_among os r (k, omega (arith, lt), e))
+implicit_among (o ∷ os) r k = later_among o os r (implicit_among os r k)
 
 of_implicit : (o : Operand) (r : ℕ) → is_implicit_use r o ≡ true → register_of o ≡ r
 of_implicit (ImplicitUse s) r e = eqb-true s r e
 of_implicit _ r e = cc
 
-any_implicit_most : (os : List Operand) (r : ℕ) → list_any (is_implicit_use r) os ≡ true → r ≤ greatest_operand os
-any_implicit_most [] r e = cc
-any_implicit_most (o ∷ os) r e = elim (or_cases (is_implicit_use r o) (list_any (is_implicit_use r) os) e) [
-  | inl h ↦ here_most o os r (of_implicit o r h)
-  | inr h ↦ later_most o os r (any_implicit_most os r h)
+any_implicit_among : (os : List Operand) (r : ℕ) → list_any (is_implicit_use r) os ≡ true → among r os ≡ true
+any_implicit_among [] r e = cc
+any_implicit_among (o ∷ os) r e = elim (or_cases (is_implicit_use r o) (list_any (is_implicit_use r) os) e) [
+  | inl h ↦ here_among o os r (of_implicit o r h)
+  | inr h ↦ later_among o os r (any_implicit_among os r h)
 ]
 
 -- ---- code
@@ -124,23 +136,38 @@ second_read (Stores op rs (BesidePart a y) o) r e = is_second rs a r [] e
 second_read (Branches op a b target) r e = is_second a b r [] e
 second_read _ r e = cc
 
-read_most : (i : Instruction) (r : ℕ) → IsTrue (has_form i.op i.operands) → (r ≡ 0 → ⊥) → Contains (reads (row_of i)) r → r ≤ greatest_operand i.operands
-read_most i r form ne c = by_class (has_implicit_uses (row_of i)) refl where
-  by_class : (z : Bool) → has_implicit_uses (row_of i) ≡ z → r ≤ greatest_operand i.operands
-  by_class true e = implicit_most i.operands r (reads_implicit (row_of i) i.operands r (implicit i) e c)
-  by_class false e = used_most i.operands r ((explicit i form).reads_used e r c ne)
+read_among : (i : Instruction) (r : ℕ) → IsTrue (has_form i.op i.operands) → (r ≡ 0 → ⊥) → Contains (reads (row_of i)) r → among r i.operands ≡ true
+read_among i r form ne c = by_class (has_implicit_uses (row_of i)) refl where
+  by_class : (z : Bool) → has_implicit_uses (row_of i) ≡ z → among r i.operands ≡ true
+  by_class true e = implicit_among i.operands r (reads_implicit (row_of i) i.operands r (implicit i) e c)
+  by_class false e = used_among i.operands r ((explicit i form).reads_used e r c ne)
 
--- a register that code reads has a number up to the greatest one
-code_most : (i : Instruction) (r : ℕ) → IsTrue (has_form i.op i.operands) → (r ≡ 0 → ⊥) → uses_of i (Register r) ≡ true → r ≤ greatest_operand i.operands
-code_most i r form ne e =
+-- a register that code reads
+pub code_among : (i : Instruction) (r : ℕ) → IsTrue (has_form i.op i.operands) → (r ≡ 0 → ⊥) → uses_of i (Register r) ≡ true → among r i.operands ≡ true
+code_among i r form ne e =
     elim (three_cases (is_register r (first_use (row_of i))) (is_register r (second_use (row_of i)))
-    (has_implicit_uses (row_of i) && list_any (is_implicit_use r) i.operands) e) as (λ _. r ≤ greatest_operand i.operands) [
-      | inl h ↦ read_most i r form ne (first_read (row_of i) r h)
-      | inr other ↦ elim other as (λ _. r ≤ greatest_operand i.operands) [
-        | inl g ↦ read_most i r form ne (second_read (row_of i) r g)
-        | inr g ↦ any_implicit_most i.operands r (and_parts (has_implicit_uses (row_of i)) (list_any (is_implicit_use r) i.operands) g).1
+    (has_implicit_uses (row_of i) && list_any (is_implicit_use r) i.operands) e) as (λ _. among r i.operands ≡ true) [
+      | inl h ↦ read_among i r form ne (first_read (row_of i) r h)
+      | inr other ↦ elim other as (λ _. among r i.operands ≡ true) [
+        | inl g ↦ read_among i r form ne (second_read (row_of i) r g)
+        | inr g ↦ any_implicit_among i.operands r (and_parts (has_implicit_uses (row_of i)) (list_any (is_implicit_use r) i.operands) g).1
       ]
     ]
+
+-- a virtual register that code sets
+pub set_among : (i : Instruction) (r : ℕ) → IsTrue (has_form i.op i.operands) → 32 ≤ r → defines_of (row_of i) (Register r) ≡ true →
+    among r i.operands ≡ true
+set_among i r form low e = elim (set_is_named i r form e) as (λ _. among r i.operands ≡ true) [
+  | inl named ↦ named_among (has_implicit_uses (row_of i)) i.operands r named
+  | inr small ↦ absurd (omega (arith, small, low))
+]
+
+-- a register that code reads or names has a number up to the greatest one
+code_most : (i : Instruction) (r : ℕ) → IsTrue (has_form i.op i.operands) → (r ≡ 0 → ⊥) → uses_of i (Register r) ≡ true → r ≤ greatest_operand i.operands
+code_most i r form ne e = among_most i.operands r (code_among i r form ne e)
+
+named_most : (counts : Bool) (os : List Operand) (r : ℕ) → list_any (is_of_register counts r) os ≡ true → r ≤ greatest_operand os
+named_most counts os r e = among_most os r (named_among counts os r e)
 
 -- ---- positions
 
@@ -153,7 +180,7 @@ front_item P [] (suc n) k (b ∷ bs) i all e = cc
 front_item P (x ∷ is) zero k bs i all e = let same : x ≡ i = cc in subst P same (All-head P x is all)
 front_item P (x ∷ is) (suc n) k bs i all e = front_item P is n k bs i (All-tail P x is all) e
 
-fetched_item : (P : Item → Type 0) (bs : List Block) (n k : ℕ) (i : Item) → AllItems P bs → fetch_in (from_block bs n) k ≡ Here i → P i
+pub fetched_item : (P : Item → Type 0) (bs : List Block) (n k : ℕ) (i : Item) → AllItems P bs → fetch_in (from_block bs n) k ≡ Here i → P i
 fetched_item P [] n k i all e = cc
 fetched_item P (b ∷ bs) n k i all e =
     by_test (nat_eq b.id n) e (λ h. fetched_item P bs n k i (All-tail (λ (c : Block). All P c.items) b bs all) h) where

@@ -1,5 +1,5 @@
--- Loops over registers: extents that are widened, and bits of a mask.
-use Rattle.std.proofs.Common.{◌≡◌, ◌⊎◌, inl, inr, ℕ, ◌+◌, ◌*◌, ◌^◌, ◌%◌, ◌<◌, ◌≤◌, List, length, slice_index_or, slice_set, Option, None, Bool, true, false}
+-- Loops over registers: extents that are changed, and bits of a mask.
+use Rattle.std.proofs.Common.{◌≡◌, ◌⊎◌, inl, inr, ℕ, ◌+◌, ◌*◌, ◌^◌, ◌%◌, ◌<◌, ◌≤◌, List, length, slice_index_or, slice_set, Option, None, Bool, true, false, cond}
 use Rattle.std.proofs.Common.{◌||◌, ◌&&◌, nat_eq, bit_or, w32, refl, sym, ap, ◌∙◌, subst, arith}
 use Rattle.std.specs.Int.{bit_at}
 use Rattle.std.proofs.lemmas.Bool.{cases_eq, cases_lt, eq-eqb, ne_eqb}
@@ -7,27 +7,27 @@ use Rattle.std.proofs.lemmas.List.{get_or-set_other, get_or-set_same, length-set
 use Rattle.std.proofs.lemmas.Nat.Bits.{bit_at_set_same, bit_at_set_other, bit_at-zero}
 use Rattle.scan_intervals.specs.Blocked.{has_register}
 use Rattle.scan_liveness.specs.declared.extents.Extent.{Extent}
-use Rattle.scan_liveness.specs.Extents.{widened}
 
--- the extents of the registers up to an index are widened
-pub record Widened (touched : ℕ → Bool) (at : ℕ) (old new : List (Option Extent)) (count : ℕ) : Type 0 where
+-- ---- extents
+
+-- the extents of the registers up to an index are changed so
+pub record Updated (change : ℕ → Option Extent → Option Extent) (old new : List (Option Extent)) (count : ℕ) : Type 0 where
   pub long : length new ≡ length old
-  pub done : (j : ℕ) → j < count → slice_index_or new j None ≡ widened (touched j) at (slice_index_or old j None)
+  pub done : (j : ℕ) → j < count → slice_index_or new j None ≡ change j (slice_index_or old j None)
   pub left : (j : ℕ) → count ≤ j → slice_index_or new j None ≡ slice_index_or old j None
 
-pub widened_begins : (touched : ℕ → Bool) (at : ℕ) (old : List (Option Extent)) → Widened touched at old old 0
-widened_begins touched at old = record { long = refl; done = λ j lt. absurd (omega (arith, lt)); left = λ j le. refl }
+pub updated_begins : (change : ℕ → Option Extent → Option Extent) (old : List (Option Extent)) → Updated change old old 0
+updated_begins change old = record { long = refl; done = λ j lt. absurd (omega (arith, lt)); left = λ j le. refl }
 
-pub widened_goes_on : {touched : ℕ → Bool} {at : ℕ} {old new : List (Option Extent)} {k : ℕ} → Widened touched at old new k → k < length old →
-    (more : List (Option Extent)) (t : Bool) → t ≡ touched k → more ≡ slice_set new k (widened t at (slice_index_or new k None)) →
-    Widened touched at old more (k + 1)
-widened_goes_on {touched} {at} {old} {new} {k} w lt more t is e = record {
+pub updated_goes_on : {change : ℕ → Option Extent → Option Extent} {old new : List (Option Extent)} {k : ℕ} → Updated change old new k → k < length old →
+    (more : List (Option Extent)) → more ≡ slice_set new k (change k (slice_index_or new k None)) → Updated change old more (k + 1)
+updated_goes_on {change} {old} {new} {k} w lt more e = record {
   long = ap length e ∙ length-set new k v ∙ w.long;
-  done = λ j less. elim (cases_eq j k) as (λ _. slice_index_or more j None ≡ widened (touched j) at (slice_index_or old j None)) [
+  done = λ j less. elim (cases_eq j k) as (λ _. slice_index_or more j None ≡ change j (slice_index_or old j None)) [
     | inl same ↦
         ap (λ (xs : List (Option Extent)). slice_index_or xs j None) e ∙ ap (λ (m : ℕ). slice_index_or (slice_set new k v) m None) same ∙
-        get_or-set_same new k v None (omega (arith, lt, w.long)) ∙ (λ i. widened (is i) at (w.left k (omega arith) i)) ∙
-        ap (λ (m : ℕ). widened (touched m) at (slice_index_or old m None)) (sym same)
+        get_or-set_same new k v None (omega (arith, lt, w.long)) ∙ ap (change k) (w.left k (omega arith)) ∙
+        ap (λ (m : ℕ). change m (slice_index_or old m None)) (sym same)
     | inr ne ↦
         ap (λ (xs : List (Option Extent)). slice_index_or xs j None) e ∙ get_or-set_other new k j v None ne ∙ w.done j (before j ne less)
   ];
@@ -36,7 +36,7 @@ widened_goes_on {touched} {at} {old} {new} {k} w lt more t is e = record {
       get_or-set_other new k j v None (λ same. omega (arith, same, le)) ∙ w.left j (omega (arith, le));
 } where
   v : Option Extent
-  v = widened t at (slice_index_or new k None)
+  v = change k (slice_index_or new k None)
 
   least : (m n : ℕ) → (m ≡ n → ⊥) → m ≤ n → m < n
   least m n ne le = by_difference (cases_lt m n) where
@@ -47,9 +47,41 @@ widened_goes_on {touched} {at} {old} {new} {k} w lt more t is e = record {
   before : (j : ℕ) → (j ≡ k → ⊥) → j < k + 1 → j < k
   before j ne less = least j k ne (omega (arith, less))
 
-pub widened_ends : {touched : ℕ → Bool} {at : ℕ} {old new : List (Option Extent)} {k : ℕ} → Widened touched at old new k → length old ≤ k → (j : ℕ) →
-    j < length old → slice_index_or new j None ≡ widened (touched j) at (slice_index_or old j None)
-widened_ends {touched} {at} {old} {new} {k} w le j lt = w.done j (omega (arith, le, lt))
+pub updated_ends : {change : ℕ → Option Extent → Option Extent} {old new : List (Option Extent)} {k : ℕ} → Updated change old new k → length old ≤ k →
+    (j : ℕ) → j < length old → slice_index_or new j None ≡ change j (slice_index_or old j None)
+updated_ends {change} {old} {new} {k} w le j lt = w.done j (omega (arith, le, lt))
+
+-- one extent is changed
+pub one_changed : (change : ℕ → Option Extent → Option Extent) (old new : List (Option Extent)) (k : ℕ) → k < length old →
+    new ≡ slice_set old k (change k (slice_index_or old k None)) → (j : ℕ) → j < length old →
+    slice_index_or new j None ≡ cond (nat_eq k j) (change j (slice_index_or old j None)) (slice_index_or old j None)
+one_changed change old new k lt e j less =
+    ap (λ (xs : List (Option Extent)). slice_index_or xs j None) e ∙ by_case (cases_eq k j) where
+      v : Option Extent
+      v = change k (slice_index_or old k None)
+
+      by_case : (k ≡ j) ⊎ (k ≡ j → ⊥) → slice_index_or (slice_set old k v) j None ≡
+          cond (nat_eq k j) (change j (slice_index_or old j None)) (slice_index_or old j None)
+      by_case (inl same) =
+          ap (λ (m : ℕ). slice_index_or (slice_set old k v) m None) (sym same) ∙ get_or-set_same old k v None lt ∙
+          ap (λ (m : ℕ). change m (slice_index_or old m None)) same ∙
+          sym (ap (λ (z : Bool). cond z (change j (slice_index_or old j None)) (slice_index_or old j None)) (eq-eqb k j same))
+      by_case (inr ne) =
+          get_or-set_other old k j v None (λ same. ne (sym same)) ∙
+          sym (ap (λ (z : Bool). cond z (change j (slice_index_or old j None)) (slice_index_or old j None)) (ne_eqb k j ne))
+
+-- an extent that isn't changed
+pub none_changed : (change : ℕ → Option Extent → Option Extent) (old : List (Option Extent)) (r j : ℕ) → (r ≡ j + 32 → ⊥) →
+    slice_index_or old j None ≡ cond (nat_eq r (j + 32)) (change j (slice_index_or old j None)) (slice_index_or old j None)
+none_changed change old r j ne =
+    sym (ap (λ (z : Bool). cond z (change j (slice_index_or old j None)) (slice_index_or old j None)) (ne_eqb r (j + 32) ne))
+
+-- the register of an index is counted from x32
+pub counted : (r k j : ℕ) → k + 32 ≡ r → nat_eq k j ≡ nat_eq r (j + 32)
+counted r k j e = elim (cases_eq k j) as (λ _. nat_eq k j ≡ nat_eq r (j + 32)) [
+  | inl same ↦ eq-eqb k j same ∙ sym (eq-eqb r (j + 32) (omega (arith, e, same)))
+  | inr ne ↦ ne_eqb k j ne ∙ sym (ne_eqb r (j + 32) (λ same. ne (omega (arith, e, same))))
+]
 
 -- ---- masks
 

@@ -14,6 +14,14 @@ abbrev pub widened : (passes : Bool) → ℕ → Option Extent → Option Extent
 widened true k o = from_here k o
 widened false k o = o
 
+-- The extent after a point of this index that touches its register, or not. An extent that was pending goes on to the point behind; it is kept as it is
+-- while it stays pending, and is widened where it no longer is
+abbrev pub stepped : (was_pending is_pending touched : Bool) → (at : ℕ) → Option Extent → Option Extent
+stepped true true touched at o = o
+stepped true false true at o = from_here at o
+stepped true false false at o = from_here (at - 1) o
+stepped false stays touched at o = widened touched at o
+
 -- the extent of the points that pass a test
 abbrev pub extent_in : (CodePoint → Bool) → List CodePoint → Option Extent
 extent_in test [] = None

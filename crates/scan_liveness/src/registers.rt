@@ -53,7 +53,7 @@ fn greatest_operand(operands: &[Operand]) -> u32
 }
 
 /// The number of an operand's register, or 0 if it is none.
-fn register_of(operand: &Operand) -> u32
+pub(crate) fn register_of(operand: &Operand) -> u32
     ensures register { result ≡ register_of operand.now }
     ensures below { result < 4128 }
 {

@@ -1,4 +1,5 @@
 mod Taken
+mod Shared
 mod Exact
 pub mod Steps
 pub mod Visits

@@ -1,3 +1,4 @@
 pub mod Flow
 pub mod Written
+pub mod Shared
 pub mod Sets

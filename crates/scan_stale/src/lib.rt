@@ -5,6 +5,7 @@
 //! except over back edges. Within a block it is computed item by item, with the same transfer step.
 #![tactic(auto)]
 
+pub mod places;
 mod solve;
 pub mod stale;
 pub mod transfer;

@@ -7,13 +7,13 @@ ghost use Rattle.scan_choice.specs.Given.{given_by};
 ghost use Rattle.scan_stale.specs.Sets.{IsState, IsClosed};
 ghost use Rattle.scan_stale.specs.Written.{AreReal, IsSolving};
 
+use crate::places::GivenPlaces;
 use crate::walk::visit;
 use dataflow::order::reverse_post_order;
 use dataflow::solver::{Analysis, solve};
 use mir_func::func::Func;
 use pass_liveness::names::SlotAndBlockNumbers;
 use pass_liveness::set::PlaceSet;
-use rv64_instr::reg::Reg;
 use std::alloc::{AllocError, Global};
 
 /// The equations of the stale registers of a function's blocks, where virtual registers get these physical ones.
@@ -21,7 +21,7 @@ use std::alloc::{AllocError, Global};
 struct Equations<'a> {
     names: &'a SlotAndBlockNumbers,
     f: &'a Func,
-    given: &'a [Option<Reg>],
+    given: &'a GivenPlaces,
 }
 
 impl<'a> Analysis for Equations<'a> {
@@ -47,7 +47,7 @@ pub fn settle(
     alloc: Global,
     names: &SlotAndBlockNumbers,
     f: &Func,
-    given: &[Option<Reg>],
+    given: &GivenPlaces,
     starts: &mut Vec<PlaceSet>,
 ) -> Result<(), AllocError>
     requires names { names.now.blocks ≡ ids_of f.now.blocks }

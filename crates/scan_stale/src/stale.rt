@@ -8,6 +8,7 @@ ghost use Rattle.scan_stale.specs.Flow.{stale_next};
 ghost use Rattle.scan_stale.specs.Sets.{start_in, AreStaleSets};
 ghost use Rattle.scan_stale.specs.Written.{AreReal};
 
+use crate::places::GivenPlaces;
 use crate::solve::settle;
 use crate::transfer::{go_on, step_down};
 use crate::walk::start_of;
@@ -37,13 +38,9 @@ impl Model for StaleRegisters {
 }
 
 impl StaleRegisters {
-    /// Computes the stale registers of a function, where virtual registers get the physical ones of this table. The error
-    /// is out of memory.
-    pub fn solve(
-        alloc: Global,
-        f: &Func,
-        given: &[Option<Reg>],
-    ) -> Result<StaleRegisters, AllocError>
+    /// Computes the stale registers of a function, where virtual registers get the physical ones of these places. The
+    /// error is out of memory.
+    pub fn solve(alloc: Global, f: &Func, given: &GivenPlaces) -> Result<StaleRegisters, AllocError>
         requires few { length given.now ≤ 4096 }
         requires real { AreReal (given_by given.now) }
         ensures { IfOk result (AreStaleSets f.now (given_by given.now)) }
@@ -55,7 +52,7 @@ impl StaleRegisters {
     }
 
     /// The registers that are stale at the start of the block of this index, for the same table. It takes no memory.
-    pub fn at_start(&self, given: &[Option<Reg>], block: usize) -> PlaceSet
+    pub fn at_start(&self, given: &GivenPlaces, block: usize) -> PlaceSet
         requires few { length given.now ≤ 4096 }
         requires inside { block < length self.now.starts }
         ensures { (x : Place) → has self.now.slots result x
@@ -65,7 +62,7 @@ impl StaleRegisters {
     }
 
     /// From the registers that are stale before an item to those that are stale before the next one. It takes no memory.
-    pub fn step_down(&self, given: &[Option<Reg>], set: &mut PlaceSet, kind: &ItemKind)
+    pub fn step_down(&self, given: &GivenPlaces, set: &mut PlaceSet, kind: &ItemKind)
         requires few { length given.now ≤ 4096 }
         requires real { AreReal (given_by given.now) }
         ensures { (x : Place) → has self.now.slots set.new x

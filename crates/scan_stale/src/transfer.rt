@@ -1,29 +1,27 @@
 //! The transfer step of stale registers over one item.
 
-ghost use Rattle.std.specs.Prelude.{◌≡◌, ◌≤◌, ◌<◌, ◌||◌, ◌&&◌, not, nat_eq, Some, length};
-ghost use Rattle.std.specs.List.{list_any};
+ghost use Rattle.std.specs.Prelude.{◌≡◌, ◌≤◌, ◌||◌, ◌&&◌, not, Some, length};
 ghost use Rattle.rv64_instr.specs.declared.place.Place.{Place};
 ghost use Rattle.rv64_instr.specs.declared.place.Place.TheVariants.{Register};
 ghost use Rattle.rv64_instr.specs.Decoded.{Shows};
-ghost use Rattle.rv64_instr.specs.DefsAndUses.{sets, caller_saved};
+ghost use Rattle.rv64_instr.specs.DefsAndUses.{sets};
 ghost use Rattle.rv64_instr.specs.LocationEffects.{defines_of};
 ghost use Rattle.rv64_instr.specs.Row.{Row, row_of};
 ghost use Rattle.pass_liveness.specs.Sets.{has, is_place};
-ghost use Rattle.scan_allocation.specs.Coloring.{now};
 ghost use Rattle.scan_choice.specs.Given.{given_by};
-ghost use Rattle.scan_stale.specs.Flow.{takes_place, taken_by, is_unset, stale_past, goes_on};
+ghost use Rattle.scan_stale.specs.Flow.{taken_by, is_unset, stale_past, goes_on};
 ghost use Rattle.scan_stale.specs.Written.{registers_of, AreReal};
 
+use crate::places::{GivenPlaces, register_at};
 use mir_func::exit::Exit;
 use mir_func::item::ItemKind;
 use pass_liveness::names::SlotAndBlockNumbers;
 use pass_liveness::set::PlaceSet;
 use rv64_instr::decoded::Decoded;
-use rv64_instr::effects::CALLER_SAVED;
 use rv64_instr::instr::Instr;
 use rv64_instr::place::Place;
 use rv64_instr::reg::Reg;
-use scan_choice::given::{given_to, now};
+use scan_choice::given::given_to;
 
 /// Which registers code sets.
 #[derive(Clone, Copy, Debug, PartialEq, Eq)]
@@ -60,7 +58,7 @@ fn registers_written(decoded: &Decoded) -> Written
 /// physical ones of this table. It takes no memory.
 pub fn step_down(
     names: &SlotAndBlockNumbers,
-    given: &[Option<Reg>],
+    given: &GivenPlaces,
     set: &mut PlaceSet,
     kind: &ItemKind,
 )
@@ -75,7 +73,7 @@ pub fn step_down(
     }
 }
 
-fn step_over(names: &SlotAndBlockNumbers, given: &[Option<Reg>], set: &mut PlaceSet, i: &Instr)
+fn step_over(names: &SlotAndBlockNumbers, given: &GivenPlaces, set: &mut PlaceSet, i: &Instr)
     requires few { length given.now ≤ 4096 }
     requires real { AreReal (given_by given.now) }
     ensures { (x : Place) → has names.now.slots set.new x ≡ (taken_by (given_by given.now) (sets (row_of i.now)) x
@@ -88,29 +86,17 @@ fn step_over(names: &SlotAndBlockNumbers, given: &[Option<Reg>], set: &mut Place
 /// Adds the registers whose place these take.
 fn insert_taken(
     names: &SlotAndBlockNumbers,
-    given: &[Option<Reg>],
+    given: &GivenPlaces,
     written: &Written,
     set: &mut PlaceSet,
 )
-    requires few { length given.now ≤ 4096 }
-    requires real { AreReal (given_by given.now) }
     ensures { (x : Place) → has names.now.slots set.new x
         ≡ (taken_by (given_by given.now) (registers_of written.now) x || has names.now.slots set.old x) }
 {
-    for n in 0..given.len() + 32 {
-        let r = register_at(n);
-        insert_if(names, takes_place(given, written, r), r, set);
-    }
-}
-
-/// The register of a number.
-fn register_at(n: usize) -> Reg
-    requires { n < 4128 }
-    ensures { result ≡ n }
-{
-    match Reg::new(n as u32) {
-        Some(r) => r,
-        None => unreachable!(),
+    match written {
+        Written::Nothing => {}
+        Written::One(s) => given.insert_sharing(names, *s, set),
+        Written::CallerSaved => given.insert_called(names, set),
     }
 }
 
@@ -121,45 +107,6 @@ fn insert_if(names: &SlotAndBlockNumbers, more: bool, r: Reg, set: &mut PlaceSet
     if more {
         names.insert(set, Some(Place::Register(r)));
     }
-}
-
-/// Whether some of these registers takes the place of this one, which is none of them.
-fn takes_place(given: &[Option<Reg>], written: &Written, r: Reg) -> bool
-    ensures { result ≡ takes_place (given_by given.now) (registers_of written.now) r }
-{
-    match written {
-        Written::Nothing => false,
-        Written::One(s) => takes_from(given, *s, r),
-        Written::CallerSaved => takes_saved(given, r),
-    }
-}
-
-/// Whether the first of two registers takes the place of the second, and is another one.
-fn takes_from(given: &[Option<Reg>], s: Reg, r: Reg) -> bool
-    ensures { result ≡ (nat_eq (now (given_by given.now) s) (now (given_by given.now) r) && not (nat_eq r s)) }
-{
-    now(given, s).number() == now(given, r).number() && r.number() != s.number()
-}
-
-/// Whether a register that a call sets takes the place of this one, which the call doesn't set.
-fn takes_saved(given: &[Option<Reg>], r: Reg) -> bool
-    ensures { result ≡ (list_any (nat_eq (now (given_by given.now) r)) caller_saved &&
-        not (list_any (nat_eq r) caller_saved)) }
-{
-    is_saved(now(given, r)) && !is_saved(r)
-}
-
-/// Whether a call sets the register.
-fn is_saved(r: Reg) -> bool
-    ensures { result ≡ list_any (nat_eq r) caller_saved }
-{
-    has_number(&CALLER_SAVED, r.number())
-}
-
-fn has_number(numbers: &[u32], n: u32) -> bool
-    ensures { result ≡ list_any (nat_eq n) numbers.now }
-{
-    numbers.iter().any(|m| n == *m)
 }
 
 /// The registers that are stale where the function starts: those that get a physical one.

@@ -10,6 +10,7 @@ ghost use Rattle.scan_stale.specs.Flow.{stale_at, IsHanded};
 ghost use Rattle.scan_stale.specs.Sets.{start_in, HandsOn};
 ghost use Rattle.scan_stale.specs.Written.{AreReal};
 
+use crate::places::GivenPlaces;
 use crate::transfer::{go_on, step_down, unset_at_start};
 use base_ids::function_ids::BlockId;
 use mir_func::exit::Exit;
@@ -18,7 +19,6 @@ use mir_func::item::Item;
 use mir_func::successors::id_at;
 use pass_liveness::names::SlotAndBlockNumbers;
 use pass_liveness::set::PlaceSet;
-use rv64_instr::reg::Reg;
 
 /// Adds these registers to the set of a block, and returns whether it grew.
 fn hand_to(
@@ -80,7 +80,7 @@ fn hand_down(
 /// stale after them.
 fn walk_items(
     names: &SlotAndBlockNumbers,
-    given: &[Option<Reg>],
+    given: &GivenPlaces,
     items: &[Item],
     starts: &mut Vec<PlaceSet>,
     set: &mut PlaceSet,
@@ -108,7 +108,7 @@ fn walk_items(
 /// What is stale where the block of an index starts, if these registers were found to be.
 pub fn start_of(
     names: &SlotAndBlockNumbers,
-    given: &[Option<Reg>],
+    given: &GivenPlaces,
     found: &PlaceSet,
     block: usize,
 ) -> PlaceSet
@@ -117,7 +117,7 @@ pub fn start_of(
         ≡ start_in (given_by given.now) block (has names.now.slots found.now) x }
 {
     if block == 0 {
-        united(found, &unset_at_start(names, given))
+        united(found, &unset_at_start(names, given.as_slice()))
     } else {
         found.copy()
     }
@@ -136,7 +136,7 @@ fn united(one: &PlaceSet, other: &PlaceSet) -> PlaceSet
 pub fn visit(
     names: &SlotAndBlockNumbers,
     f: &Func,
-    given: &[Option<Reg>],
+    given: &GivenPlaces,
     starts: &mut Vec<PlaceSet>,
     block: usize,
 ) -> bool

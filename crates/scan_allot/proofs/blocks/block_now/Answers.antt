@@ -32,7 +32,7 @@ returns-clause-block c b at =
     λ t x. c.at_start-set.ensures x t in
     let items : c.in_ok-items.items ≡ items_now given (silent_by f given (starts_of f given c.args.stale.now)) b.id 0 b.items =
     c.in_ok-items.ensures.items ∙
-    (λ t. items_now given (silent_along f given ((c.as_slice-2.ensures ∙ ap (λ (x : Block). x.items) same) t) start) (same t).id 0
+    (λ t. items_now given (silent_along (c.requires.same t) given ((c.as_slice-2.ensures ∙ ap (λ (x : Block). x.items) same) t) start) (same t).id 0
     ((c.as_slice-2.ensures ∙ ap (λ (x : Block). x.items) same) t)) ∙
     block_made f sound given c.args.stale.now c.requires.sets.ids c.args.at b at start begun in
     λ t. record { id = (same t).id; items = items t; source_end = (same t).source_end }
@@ -49,6 +49,6 @@ returns-clause-lost c b at =
     let begun : start ≡ start_in given c.args.at (has c.args.stale.now.slots (get_or c.args.stale.now.starts c.args.at [])) =
     λ t x. c.at_start-set.ensures x t in
     c.in_ok-items.ensures.lost ∙
-    (λ t. c.args.lost.now.items ++ lost_items (silent_along f given ((c.as_slice-2.ensures ∙ ap (λ (x : Block). x.items) same) t) start) (same t).id 0
+    (λ t. c.args.lost.now.items ++ lost_items (silent_along (c.requires.same t) given ((c.as_slice-2.ensures ∙ ap (λ (x : Block). x.items) same) t) start) (same t).id 0
     ((c.as_slice-2.ensures ∙ ap (λ (x : Block). x.items) same) t)) ∙
     ap (λ (ls : List Loss). c.args.lost.now.items ++ ls) (block_lost f sound given c.args.stale.now c.requires.sets.ids c.args.at b at start begun)

@@ -1,30 +1,26 @@
-use Rattle.std.proofs.Common.{ℕ, List, Bool, ◌++◌, sym, ap, ◌∙◌, subst, arith}
-use Rattle.std.specs.Prelude.{All}
-use Rattle.rv64_instr.specs.declared.place.Place.{Place}
-use Rattle.mir_func.specs.declared.block.Block.{Block}
-use Rattle.mir_func.specs.declared.item.Item.{Item}
-use Rattle.mir_func.specs.Sound.{SlotsIn}
+use Rattle.std.proofs.Common.{◌≡◌, ℕ, List, length, ◌∙◌, arith}
+use Rattle.rv64_instr.specs.declared.place.Place.TheVariants.{Register}
 use Rattle.pass_liveness.specs.Liveness.{has_at_start}
-use Rattle.scan_intervals.specs.Points.{CodePoint, points_in}
-use Rattle.scan_liveness.specs.Described.{Describes}
-use Rattle.scan_liveness.proofs.Walked.{block_among, blocks_go_on}
+use Rattle.pass_liveness.proofs.Places.{has_none}
+use Rattle.scan_intervals.specs.Points.{points_of}
+use Rattle.scan_liveness.specs.Described.{is_in}
+use Rattle.scan_liveness.proofs.Walked.{pending_begins, pending_ends}
 use Rattle.scan_liveness.proofs.walk.push_blocks.Goals as goal
 
-pub push_items-requires-clause-slots : goal.push_items-requires-clause-slots
-push_items-requires-clause-slots c =
-    let w = c.loop-block.invariant in
-    subst (λ (is : List Item). All (λ i. SlotsIn c.args.numbers.now.slots i.kind) is) (sym c.as_slice.ensures)
-    (block_among (λ (b : Block). All (λ i. SlotsIn c.args.numbers.now.slots i.kind) b.items) c.args.blocks.now c.in-Some.rest.now c.loop-block.above.now
-    c.in-Some.block.now w.below c.in-Some.ensures.cases.0 w.all c.requires.slots)
+pub close-requires : goal.close-requires
+close-requires c = let long = c.in_ok-push_pending.ensures.long in let few = c.requires.few in omega (arith, long, few)
 
-pub push_items-requires-clause-few : goal.push_items-requires-clause-few
-push_items-requires-clause-few c = let long = c.loop-block.invariant.long in let few = c.requires.few in omega (arith, long, few)
+pub returns-clause-long : goal.returns-clause-long
+returns-clause-long c = c.close.ensures.long ∙ c.in_ok-push_pending.ensures.long
 
-pub loop-block-preserved : goal.loop-block-preserved
-loop-block-preserved c =
-    let S : ℕ → Place → Bool = has_at_start c.args.numbers.now.slots c.args.numbers.now.blocks c.args.starts.now in
-    let w = c.loop-block.invariant in
-    blocks_go_on w c.in-Some.rest.now c.in-Some.block.now c.in-Some.ensures.cases.0 c.push_items.new.masks.items c.push_items.new.extents.items
-    c.in_ok-push_items.ensures.long
-    (λ points d. subst (λ (is : List Item). Describes (points_in S is c.loop-block.next ++ points) c.push_items.new.masks.items c.push_items.new.extents.items)
-    c.as_slice.ensures (c.in_ok-push_items.ensures.described points d))
+pub returns-clause-described : goal.returns-clause-described
+returns-clause-described c d =
+    let slots : List ℕ = c.args.numbers.now.slots in
+    let len = c.len.ensures in
+    let count : c.len.result ≡ length c.push_pending.new.masks.items = omega (arith, len) in
+    pending_ends (points_of (has_at_start slots c.args.numbers.now.blocks c.args.starts.now) c.args.blocks.now) c.push_pending.new.masks.items
+    (is_in slots c.push_pending.new.pending) c.push_pending.new.extents.items c.close.new.extents.items c.len.result count c.close.ensures.long
+    c.close.ensures.wide
+    (c.in_ok-push_pending.ensures.described
+    (pending_begins c.args.masks.now.items c.args.extents.now.items (is_in slots c.new-pending.result)
+    (λ r. has_none slots c.new-pending.result c.new-pending.ensures (Register r)) d))
