@@ -1,5 +1,6 @@
 -- The copies of a block lose their numbers, from the last to the first.
-use Rattle.std.proofs.Common.{◌≡◌, ℕ, zero, suc, ◌+◌, ◌≤◌, List, [], ◌∷◌, length, get_or, take, drop, Bool, true, false, cond, nat_eq, refl, ap, ◌∙◌, arith}
+use Rattle.std.proofs.Common.{◌≡◌, ℕ, zero, suc, ◌+◌, ◌≤◌, List, [], ◌∷◌, length, get_or, take, drop, Bool, true, false, cond, nat_eq, refl, sym, ap, ◌∙◌, arith}
+use Rattle.std.specs.List.{list_any}
 use Rattle.std.proofs.lemmas.List.{length-append}
 use Rattle.mir_func.specs.declared.position.Origin.{Origin}
 use Rattle.mir_func.specs.declared.item.Item.{Item}
@@ -15,6 +16,22 @@ pub down_step : (removed : List ℕ) (dead : List Bool) (at n : ℕ) → at ≡ 
 down_step removed dead at n one a b z goes is made so_far =
     let e : suc n ≡ at = omega (arith, one) in
     ap (salvage_down removed dead n) (made ∙ ap (λ (g : Bool). salvage_at removed n g a) is) ∙ ap (λ (m : ℕ). salvage_down removed dead m a) e ∙ so_far
+
+-- ---- without dead code nothing happens
+
+none_at : (dead : List Bool) (n : ℕ) → list_any (λ (d : Bool). d) dead ≡ false → get_or dead n false ≡ false
+none_at [] zero none = refl
+none_at [] (suc n) none = refl
+none_at (true ∷ ds) zero none = absurd (let no : true ≡ false = none in cc)
+none_at (true ∷ ds) (suc n) none = absurd (let no : true ≡ false = none in cc)
+none_at (false ∷ ds) zero none = refl
+none_at (false ∷ ds) (suc n) none = none_at ds n none
+
+pub none_down : (removed : List ℕ) (dead : List Bool) (n : ℕ) (a : SoFar) → list_any (λ (d : Bool). d) dead ≡ false → a ≡ salvage_down removed dead n a
+none_down removed dead zero a none = refl
+none_down removed dead (suc n) a none =
+    none_down removed dead n a none
+    ∙ ap (λ (g : Bool). salvage_down removed dead n (salvage_at removed n g a)) (sym (none_at dead n none))
 
 -- ---- there are no fewer items, and one fresh number more at most
 

@@ -2,3 +2,4 @@ mod Set
 pub mod Down
 mod Offs
 mod Moved
+pub mod Still

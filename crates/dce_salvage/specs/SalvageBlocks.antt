@@ -1,10 +1,11 @@
 -- The blocks of a function whose dead copies lose their numbers.
-use Rattle.std.specs.Prelude.{ℕ, List, [], ◌∷◌, drop, length, Bool, slice_index_or}
+use Rattle.std.specs.Prelude.{◌≡◌, ℕ, List, [], ◌∷◌, drop, length, Bool, true, false, Some, None, slice_get, slice_index_or}
 use Rattle.mir_func.specs.declared.block.Block.{Block}
+use Rattle.mir_func.specs.declared.item.Item.{Item}
 use Rattle.mir_func.specs.declared.debug_substitution.DebugSubstitution.{DebugSubstitution}
 use Rattle.pass_trait.specs.declared.loss.Loss.{Loss}
 use Rattle.pass_salvage.specs.SalvageAction.{going_from}
-use Rattle.dce_salvage.specs.SalvageNumbers.{SoFar, salvage_down}
+use Rattle.dce_salvage.specs.SalvageNumbers.{SoFar, salvage_down, numbered_copy}
 
 -- the state between blocks: the blocks that are done, the substitutions, the next fresh number and the losses so far
 pub record BlocksSoFar : Type 0 where
@@ -33,3 +34,7 @@ salvage_next dead b a = with_front b a (salvage_block dead b a)
 abbrev pub salvage_blocks : (dead : List (List Bool)) → List Block → BlocksSoFar → BlocksSoFar
 salvage_blocks dead [] a = a
 salvage_blocks dead (b ∷ bs) a = salvage_next (slice_index_or dead 0 []) b (salvage_blocks (drop 1 dead) bs a)
+
+-- none of the items that are dead is a numbered copy
+abbrev pub HasNoCopies : (dead : List Bool) → List Item → Type 0
+HasNoCopies dead items = (n : ℕ) (x : Item) → slice_get items n ≡ Some x → slice_index_or dead n false ≡ true → numbered_copy x.kind ≡ None

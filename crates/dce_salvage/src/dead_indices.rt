@@ -1,6 +1,7 @@
 //! Which items are dead, by their indices.
 
 ghost use Rattle.std.specs.Prelude.{◌≡◌, [], false, slice_index_or};
+ghost use Rattle.std.specs.List.{list_any};
 
 use base_list::List;
 
@@ -22,4 +23,11 @@ pub fn verdict(dead: &[bool], index: usize) -> bool
         Some(goes) => *goes,
         None => false,
     }
+}
+
+/// Whether some item of a block is dead.
+pub fn some_dead(dead: &[bool]) -> bool
+    ensures { result ≡ list_any (λ d. d) dead.now }
+{
+    dead.iter().any(|d| *d)
 }

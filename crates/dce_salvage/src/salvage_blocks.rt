@@ -1,13 +1,15 @@
 //! The dead copies of all blocks lose their numbers.
 
-ghost use Rattle.std.specs.Prelude.{◌≡◌, ◌+◌, ◌<◌, ◌^◌, [], length, OnOk};
+ghost use Rattle.std.specs.Prelude.{◌≡◌, ◌+◌, ◌++◌, ◌<◌, ◌^◌, [], ℕ, false, true, None, length, slice_get, slice_index_or, OnOk};
 ghost use Rattle.mir_func.specs.Sound.{items_of};
-ghost use Rattle.dce_salvage.specs.SalvageBlocks.{salvage_blocks};
+ghost use Rattle.dce_salvage.specs.SalvageNumbers.{numbered_copy};
+ghost use Rattle.dce_salvage.specs.SalvageBlocks.{BlocksSoFar, salvage_blocks, HasNoCopies};
 
-use crate::dead_indices::verdicts_at;
-use crate::salvage_numbers::salvage_numbers;
+use crate::dead_indices::{verdict, verdicts_at};
+use crate::salvage_numbers::{numbered_copy, salvage_numbers};
 use base_list::List;
 use mir_func::block::Block;
+use mir_func::item::{Item, ItemKind};
 use mir_substitution::substitutions::Substitutions;
 use pass_trait::loss::Loss;
 use std::alloc::{AllocError, Global};
@@ -40,4 +42,36 @@ pub fn salvage_blocks(
         salvage_numbers(&mut blocks[at].items.items, verdicts, subs, fresh, lost)?;
     }
     Ok(())
+}
+
+/// Whether some dead item of the blocks is a numbered copy. If none is, salvaging changes nothing.
+pub fn has_copies(blocks: &[Block], dead: &[List<bool>]) -> bool
+    ensures { result ≡ false → (a : BlocksSoFar) → salvage_blocks dead.now blocks.now a
+        ≡ record a { blocks = blocks.now ++ a.blocks } }
+{
+    for block in 0..blocks.len() {
+        if has_copy(blocks[block].items.as_slice(), verdicts_at(dead, block)) {
+            return true;
+        }
+    }
+    false
+}
+
+/// Whether some dead one of these items is a numbered copy.
+fn has_copy(items: &[Item], dead: &[bool]) -> bool
+    ensures { result ≡ false → HasNoCopies dead.now items.now }
+{
+    for at in 0..items.len() {
+        if is_copy(verdict(dead, at), &items[at].kind) {
+            return true;
+        }
+    }
+    false
+}
+
+/// Whether an item is a numbered copy and goes.
+fn is_copy(goes: bool, kind: &ItemKind) -> bool
+    ensures { result ≡ false → goes ≡ true → numbered_copy kind.now ≡ None }
+{
+    goes && numbered_copy(kind).is_some()
 }

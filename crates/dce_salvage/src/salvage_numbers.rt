@@ -7,7 +7,7 @@ ghost use Rattle.pass_salvage.specs.Salvage.{above_after, entries_for, fresh_aft
 ghost use Rattle.dce_salvage.specs.SalvageNumbers.{copied_by, numbered_copy, without_number, salvage_phi, lost_by_salvage, salvaged_items};
 ghost use Rattle.dce_salvage.specs.SalvageNumbers.{salvage_at, salvage_down};
 
-use crate::dead_indices::verdict;
+use crate::dead_indices::{some_dead, verdict};
 use base_ids::function_ids::DebugNumber;
 use mir_func::item::{Item, ItemKind};
 use mir_func::location::Loc;
@@ -146,8 +146,8 @@ fn salvage_by_walk(
 }
 
 /// Removes the numbers from the dead copies of a block, from the last to the first. `dead` has for each item whether it
-/// is dead. What is done with is moved to a list of its own, so that a DBG_PHI is put at the end of the items. After an
-/// error the items and the substitutions may only be dropped.
+/// is dead; a block without dead code stays as it is. What is done with is moved to a list of its own, so that a DBG_PHI
+/// is put at the end of the items. After an error the items and the substitutions may only be dropped.
 pub fn salvage_numbers(
     items: &mut Vec<Item>,
     dead: &[bool],
@@ -165,6 +165,9 @@ pub fn salvage_numbers(
         (record { items = items.old.items; subs = subs.old; fresh = fresh.old; lost = lost.old.items })) }
     ensures counted { OnOk result (fresh.new ≤ fresh.old + length items.old.items) }
 {
+    if !some_dead(dead) {
+        return Ok(());
+    }
     let alloc = *items.allocator();
     let mut done = Vec::with_capacity(alloc, items.len())?;
     let mut at = items.len();

@@ -9,6 +9,7 @@ ghost use Rattle.dce_sweep.specs.Round.{IsTakenOut};
 use crate::left::left_blocks;
 use base_list::List;
 use dce_analysis::judge::judge;
+use dce_salvage::dead_indices::some_dead;
 use dce_stale::places::StaleLocations;
 use mir_func::func::Func;
 use mir_type_facts::blocks::know_forms;
@@ -47,10 +48,4 @@ pub fn has_dead(dead: &[List<bool>]) -> bool
     ensures { result ≡ list_any (λ v. list_any (λ d. d) v) dead.now }
 {
     dead.iter().any(|v| some_dead(v.as_slice()))
-}
-
-fn some_dead(dead: &[bool]) -> bool
-    ensures { result ≡ list_any (λ d. d) dead.now }
-{
-    dead.iter().any(|d| *d)
 }

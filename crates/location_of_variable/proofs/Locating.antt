@@ -287,3 +287,19 @@ module _ (g : Program) (start p : Pos) (parts : List VarId) (places : List (Opti
       listed_by : (ys : List Part) → IsWantedLocation g start v p (in_pieces ys) → MayBeListed (in_pieces ys)
       listed_by [] wanted = tt
       listed_by (y ∷ ys) wanted = wanted.1.ascend
+
+-- ---- a location goes by the places of the group's parts
+
+pub same_whole : (place other : ℕ → Option Place) (o : Option ℕ) → ((j : ℕ) → o ≡ Some j → place j ≡ other j) → whole_place place o ≡ whole_place other o
+same_whole place other None same = refl
+same_whole place other (Some j) same = same j refl
+
+pub same_pieces : (place other : ℕ → Option Place) (xs : List Piece) (from : ℕ) → All (λ (x : Piece). place x.index ≡ other x.index) xs →
+    pieces_from place from xs ≡ pieces_from other from xs
+same_pieces place other [] from same = refl
+same_pieces place other (x ∷ xs) from same =
+    let is : Piece → Type 0 = λ y. place y.index ≡ other y.index in
+    let end = end_past (piece_told (other x.index) from x.bytes) from in
+    ap (λ (o : Option Place). option_to_list (piece_told o from x.bytes) ++ pieces_from place (end_past (piece_told o from x.bytes) from) xs)
+    (All-head is x xs same)
+    ∙ ap (λ (ys : List Part). option_to_list (piece_told (other x.index) from x.bytes) ++ ys) (same_pieces place other xs end (All-tail is x xs same))

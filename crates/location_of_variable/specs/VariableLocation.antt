@@ -55,3 +55,12 @@ pub record IsLocationBy (group : Group) (places : List (Option Place)) (o : Opti
       IsWantedLocation g start v p o
   pub listed : (g : Program) (start p : Pos) (parts : List VarId) (v : VarId) → AreWantedPlaces g start p parts places → IsGroupOf parts v group →
       MayBeListed o
+
+-- each part of a group has the same place in both
+pub record HaveSamePlaces (group : Group) (places others : List (Option Place)) : Type 0 where
+  pub whole : (j : ℕ) → group.whole ≡ Some j → slice_index_or places j None ≡ slice_index_or others j None
+  pub pieces : All (λ x. slice_index_or places x.index None ≡ slice_index_or others x.index None) group.pieces.items
+
+-- the location by these places, and by all others in which the group's parts have the same
+abbrev pub IsLocationFor : Group → List (Option Place) → Option Location → Type 0
+IsLocationFor group places o = (others : List (Option Place)) → HaveSamePlaces group places others → IsLocationBy group others o

@@ -2,7 +2,7 @@
 
 ghost use Rattle.std.specs.Prelude.{◌≡◌, ◌++◌, ◌+◌, Option, IfOk, OnOk, All, option_to_list};
 ghost use Rattle.mir_func.specs.Parts.{IsPart};
-ghost use Rattle.location_of_variable.specs.VariableLocation.{IsLocationBy};
+ghost use Rattle.location_of_variable.specs.VariableLocation.{IsLocationFor};
 ghost use Rattle.location_of_variable.specs.steps.Telling.{
   place_at,
   piece_told,
@@ -19,13 +19,14 @@ use rv64_instr::place::Place;
 use std::alloc::{AllocError, Global};
 
 /// The location of a variable at a position, from its parts and the place required there for each part, by the part's
-/// index: the place of the whole variable, or else pieces for the parts that have a place. The error is out of memory.
+/// index: the place of the whole variable, or else pieces for the parts that have a place. It goes by the places of the
+/// group's parts alone. The error is out of memory.
 pub fn location(
     alloc: Global,
     group: &Group,
     places: &[Option<Place>],
 ) -> Result<Option<Location>, AllocError>
-    ensures { IfOk result (IsLocationBy group.now places.now) }
+    ensures { IfOk result (IsLocationFor group.now places.now) }
 {
     match whole_place(group.whole, places) {
         Some(place) => Ok(Some(Location::Whole(place))),

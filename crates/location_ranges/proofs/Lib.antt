@@ -4,3 +4,4 @@ pub mod Saying
 pub mod Looking
 pub mod Walking
 pub mod OneList
+pub mod Still

@@ -1,7 +1,7 @@
 -- From entry to entry the tracks say more, and in the end they are the lists.
-use Rattle.std.proofs.Common.{◌≡◌, ℕ, zero, suc, ◌<◌, ◌≤◌, List, [], ◌∷◌, ◌++◌, length, take, drop, arith, refl, sym, ◌∙◌, ap, subst, inl, inr}
+use Rattle.std.proofs.Common.{◌≡◌, ℕ, zero, suc, ◌<◌, ◌≤◌, List, [], ◌∷◌, ◌++◌, length, take, drop, arith, refl, sym, ◌∙◌, ap, subst}
 use Rattle.std.specs.Prelude.{Some, slice_get, slice_index_or, All}
-use Rattle.std.proofs.lemmas.Option.{slice_get_within, slice_get_cases, get_or_from_slice_get, slice_get-get_or}
+use Rattle.std.proofs.lemmas.Option.{slice_get_within, get_or_from_slice_get, slice_get-get_or}
 use Rattle.std.proofs.lemmas.List.Elements.{All-get_or}
 use Rattle.mir_func.specs.declared.block.Block.{Block}
 use Rattle.mir_func.specs.declared.item.Item.{Item}
@@ -28,6 +28,7 @@ use Rattle.location_ranges.specs.steps.Saying.{TurnsBy, TurnedBelow, begin_at, I
 use Rattle.location_ranges.specs.steps.Walk.{IsPointIn, HaveSaid}
 use Rattle.location_ranges.proofs.Turning.{tracks_are_ranges}
 use Rattle.location_ranges.proofs.Looking.{places_wanted}
+use Rattle.location_ranges.proofs.Still.{one_at, same_itself}
 use Rattle.location_ranges.proofs.Saying.{at_end, track_more, says_more, says_none, track_none, says_all}
 
 -- ---- points of entries
@@ -62,13 +63,6 @@ back_is {A} n xs ys e = subst (λ (m : ℕ). take m (xs ++ ys) ≡ xs) e (front_
   front_is : (xs ys : List A) → take (length xs) (xs ++ ys) ≡ xs
   front_is [] ys = refl
   front_is (x ∷ xs) ys = ap (λ (zs : List A). x ∷ zs) (front_is xs ys)
-
--- where a list has an item, one that is as long has one
-one_at : {A B : Type 0} (xs : List A) (ys : List B) (k : ℕ) (y : B) → length xs ≡ length ys → slice_get ys k ≡ Some y → (x : A) × (slice_get xs k ≡ Some x)
-one_at xs ys k y count e = elim (slice_get_cases xs k).1 [
-  | inl h ↦ (h.0, h.2)
-  | inr h ↦ absurd (let lt = slice_get_within ys k y e in let le = h.0 in omega (arith, lt, le, count))
-]
 
 module _ (blocks : List Block) (v : Values) (index : TrackedIndex) (entries : List EncodedInstruction) (variables : List VarId) (base end : ℕ)
     (stand : StandFrom base entries end) (groups : List Group) (of : AreGroupsOf v.variables.now variables groups) where
@@ -111,9 +105,10 @@ module _ (blocks : List Block) (v : Values) (index : TrackedIndex) (entries : Li
         let wanted = subst (λ (p : Pos). AreWantedPlaces g (block_start 0) p v.variables.now w.places.items)
         (λ j. record { block = block j; item = item j }) (places_wanted blocks v index are w.stand (stands are) w.places.items count places) in
         let mine = of.each k variable t.group at_v t.mine in
+        let by = t.turns.by w.places.items (same_itself t.group w.places.items) in
         says_more g (block_start 0) base end entries stand variable i e t.track u t.turns.to at t.turns.turns (said.ascend k t.track t.was)
-        (t.turns.by.wanted g (block_start 0) (point_of e) v.variables.now variable wanted mine)
-        (t.turns.by.listed g (block_start 0) (point_of e) v.variables.now variable wanted mine)
+        (by.wanted g (block_start 0) (point_of e) v.variables.now variable wanted mine)
+        (by.listed g (block_start 0) (point_of e) v.variables.now variable wanted mine)
         (said.say are k variable t.track at_v t.was);
   }
 

@@ -38,6 +38,10 @@ pub struct Walk {
     pub firsts: Vec<Option<usize>>,
     /// The places of the parts of variables at the last lookup.
     pub places: Vec<Option<Place>>,
+    /// Which of them that lookup changed.
+    pub changed: Vec<bool>,
+    /// Whether the tracks have turned at an entry.
+    pub turned: bool,
     /// The track of each variable.
     pub tracks: Vec<Track>,
 }
@@ -136,6 +140,8 @@ fn past_entries(
         stand,
         firsts: Vec::new(alloc),
         places: vec![in alloc; None; values.variables.len()]?,
+        changed: vec![in alloc; false; values.variables.len()]?,
+        turned: false,
         tracks,
     };
     for entry in entries {
@@ -145,6 +151,8 @@ fn past_entries(
         stand: _,
         firsts: _,
         places: _,
+        changed: _,
+        turned: _,
         tracks,
     } = walk;
     Ok(tracks)
@@ -187,18 +195,33 @@ impl Walk {
             stand,
             mut firsts,
             mut places,
+            mut changed,
+            turned,
             mut tracks,
         } = self;
         let block = block_of(entry);
         let items = blocks[block].items.as_slice();
         let item = entry.point.item as usize;
         let stand = move_to(alloc, values, index, stand, block, items, item)?;
-        look_up(&stand, &mut firsts, &mut places)?;
-        turn_all(alloc, groups, places.as_slice(), &mut tracks, entry.address)?;
+        let any = look_up(&stand, &mut firsts, &mut places, &mut changed)?;
+        let found = places.as_slice();
+        let flags = changed.as_slice();
+        turn_all(
+            alloc,
+            groups,
+            found,
+            flags,
+            any,
+            !turned,
+            &mut tracks,
+            entry.address,
+        )?;
         Ok(Walk {
             stand,
             firsts,
             places,
+            changed,
+            turned: true,
             tracks,
         })
     }

@@ -1,12 +1,14 @@
 -- The changes that classes tell, one thing after the other.
 use Rattle.std.proofs.Common.{◌≡◌, ℕ, zero, suc, ◌+◌, ◌-◌, ◌%◌, ◌<◌, ◌≤◌, List, [], ◌∷◌, ◌++◌, length, refl, sym, ap, ◌∙◌, subst}
 use Rattle.std.proofs.Common.{arith, inl, inr, ltb-true, mod-lt}
-use Rattle.std.specs.Prelude.{Some, Bool, true, false, cond, nat_eq, nat_lt, slice_get, slice_index}
+use Rattle.std.specs.Prelude.{Option, Some, None, IsSome, Bool, true, false, cond, nat_eq, nat_lt, slice_get, slice_index}
+use Rattle.std.specs.HashMap.{get}
 use Rattle.std.proofs.lemmas.Bool.{ne_eqb, eq-eqb}
 use Rattle.std.proofs.lemmas.Option.{slice_get_within, get_or_from_slice_get}
 use Rattle.std.proofs.lemmas.Bool.Decides.{eqb_tells}
 use Rattle.mir_func.specs.declared.debug_substitution.OperandPair.{OperandPair}
 use Rattle.mir_func.specs.declared.variable.VarId.{VarId}
+use Rattle.mir_substitution.specs.Index.{is_key}
 use Rattle.sem_value_ids.specs.Pullback.{InRegister, InSlot, OfVariable, OfNumber}
 use Rattle.value_proof.specs.Classes.{Classes}
 use Rattle.value_solver.specs.declared.tracked.Tracked.{Tracked}
@@ -14,8 +16,8 @@ use Rattle.value_solver.specs.declared.tracked.Tracked.TheVariants.{Register, Sl
 use Rattle.value_solver.specs.Entry.{thing}
 use Rattle.value_tracker.specs.declared.index.TrackedIndex.{TrackedIndex}
 use Rattle.value_tracker.specs.declared.location_tracker.LocationTracker.{LocationTracker}
-use Rattle.value_tracker.specs.Things.{AreThings}
-use Rattle.value_tracker.specs.LocationTracker.{Holds, slot_place, pair_class, number_class}
+use Rattle.value_tracker.specs.Things.{AreThings, Indexes}
+use Rattle.value_tracker.specs.LocationTracker.{Holds, slot_place, class_at, given_or}
 use Rattle.value_solver.specs.declared.flow.Source.{Source}
 use Rattle.value_solver.specs.declared.flow.Source.TheVariants.{Was}
 use Rattle.value_solver.specs.declared.flow.Change.{Change}
@@ -107,6 +109,24 @@ all_changed things class n changes le h = record {
 
 -- ---- the classes that are held
 
+-- an entity that is listed once is found at its index
+module _ (things : List Tracked) (index : TrackedIndex) (are : Indexes things index) (tracked : AreTracked things) (j : ℕ) where
+  number_at : (c : ℕ) → slice_get things j ≡ Some (Number c) → get nat_eq index.numbers c ≡ Some j
+  number_at c at = by_found (get nat_eq index.numbers c) refl where
+    by_found : (o : Option ℕ) → get nat_eq index.numbers c ≡ o → get nat_eq index.numbers c ≡ Some j
+    by_found None e = absurd (
+        let no : false ≡ true = subst IsSome e (are.each_number c j (slice_get_within things j (Number c) at) at) in
+        cc)
+    by_found (Some i) e = e ∙ ap (λ (n : ℕ). Some n) (tracked.once i j (Number c) (are.numbers c i e).1 at)
+
+  pair_at : (q : OperandPair) → slice_get things j ≡ Some (Pair q) → get is_key index.pairs (q.number, q.operand) ≡ Some j
+  pair_at q at = by_found (get is_key index.pairs (q.number, q.operand)) refl where
+    by_found : (o : Option ℕ) → get is_key index.pairs (q.number, q.operand) ≡ o → get is_key index.pairs (q.number, q.operand) ≡ Some j
+    by_found None e = absurd (
+        let no : false ≡ true = subst IsSome e (are.each_pair q.number q.operand j (slice_get_within things j (Pair q) at) at) in
+        cc)
+    by_found (Some i) e = e ∙ ap (λ (n : ℕ). Some n) (tracked.once i j (Pair q) (are.pairs q.number q.operand i e).1 at)
+
 module _ (variables : List VarId) (things : List Tracked) (index : TrackedIndex) (settled : List ℕ) (h : LocationTracker) (class : Classes)
     (holds : Holds variables things index settled h class) (j : ℕ) where
   pub register_class : (r : ℕ) → AreTracked things → slice_get things j ≡ Some (Register r) → slice_index h.places.items r ≡ class (InRegister r)
@@ -115,14 +135,20 @@ module _ (variables : List VarId) (things : List Tracked) (index : TrackedIndex)
   pub slot_class : (n : ℕ) → slice_get things j ≡ Some (Slot n) → slice_index h.places.items (slot_place n) ≡ class (InSlot n)
   slot_class n at = holds.slots n (thing_in things (Slot n) (is_in things j (Slot n) at))
 
-  pub pair_class_is : (q : OperandPair) → slice_get things j ≡ Some (Pair q) → pair_class index settled h q.number q.operand ≡ class (thing (Pair q))
-  pair_class_is q at = holds.pairs q.number q.operand (thing_in things (Pair q) (is_in things j (Pair q) at))
+  pub pair_class_is : (q : OperandPair) → AreTracked things → Indexes things index → slice_get things j ≡ Some (Pair q) →
+      given_or (get is_key h.pairs (q.number, q.operand)) (slice_index settled j) ≡ class (thing (Pair q))
+  pair_class_is q tracked are at =
+      ap (λ (o : Option ℕ). given_or (get is_key h.pairs (q.number, q.operand)) (class_at settled o)) (sym (pair_at things index are tracked j q at))
+      ∙ holds.pairs q.number q.operand (thing_in things (Pair q) (is_in things j (Pair q) at))
 
   pub part_class_is : (v : VarId) → AreThings variables things → slice_get things j ≡ Some (Part v) → slice_index h.parts.items j ≡ class (OfVariable v)
   part_class_is v are at = get_or_from_slice_get h.parts.items j (class (OfVariable v)) 0 (holds.parts j v (are.parts j v at))
 
-  pub number_class_is : (c : ℕ) → slice_get things j ≡ Some (Number c) → number_class index settled c ≡ class (OfNumber c)
-  number_class_is c at = holds.numbers c (thing_in things (Number c) (is_in things j (Number c) at))
+  pub number_class_is : (c : ℕ) → AreTracked things → Indexes things index → slice_get things j ≡ Some (Number c) →
+      slice_index settled j ≡ class (OfNumber c)
+  number_class_is c tracked are at =
+      ap (class_at settled) (sym (number_at things index are tracked j c at))
+      ∙ holds.numbers c (thing_in things (Number c) (is_in things j (Number c) at))
 
 -- a part that is tracked has a class
 pub part_within : (variables : List VarId) (things : List Tracked) (j n : ℕ) (x : Tracked) (v : VarId) → AreThings variables things →

@@ -1,12 +1,14 @@
 //! A block's effect on the tokens of tracked entities.
 
 ghost use Rattle.std.specs.Prelude.{◌≡◌, ◌<◌, Some, All, IfOk, OnOk, [], length, map, slice_get, slice_index};
+ghost use Rattle.std.specs.HashMap.{get};
 ghost use Rattle.mir_func.specs.Resolve.{resolve};
 ghost use Rattle.mir_func.specs.Sound.{HasForm};
+ghost use Rattle.mir_substitution.specs.Index.{is_key};
 ghost use Rattle.value_proof.specs.Classes.{Classes, KnowsItem};
 ghost use Rattle.value_solver.specs.Entry.{thing as name_of};
-ghost use Rattle.value_tracker.specs.Things.{AreThings};
-ghost use Rattle.value_tracker.specs.LocationTracker.{PLACES, Holds, Passes, pair_class as pair_class_of};
+ghost use Rattle.value_tracker.specs.Things.{AreThings, Indexes};
+ghost use Rattle.value_tracker.specs.LocationTracker.{PLACES, Holds, Passes, given_or};
 ghost use Rattle.value_solver.specs.Joining.{AreWithin};
 ghost use Rattle.value_live_ins.specs.steps.Flowing.{Tells};
 ghost use Rattle.value_live_ins.specs.Walking.{IsTracking, AreTracked, decoded, new_of, Walked, AreChanges, AreOwn};
@@ -20,7 +22,7 @@ use rv64_instr::reg::physical;
 use std::alloc::{AllocError, Global};
 use value_solver::flow::{Change, Changes, Source};
 use value_solver::tracked::Tracked;
-use value_tracker::index::{TrackedIndex, key, number_class, pair_class};
+use value_tracker::index::{TrackedIndex, key};
 use value_tracker::location_tracker::{LocationTracker, slot_place};
 use value_tracker::pass::Block as Fixed;
 use value_tracker::start::start;
@@ -148,6 +150,7 @@ fn changes(
     requires few { length tracking.now.things.now < 4294967295 }
     requires tracked { AreTracked tracking.now.things.now }
     requires things { AreThings tracking.now.variables.now tracking.now.things.now }
+    requires index { Indexes tracking.now.things.now tracking.now.index.now }
     requires parts { length held.now.parts.items ≡ length tracking.now.variables.now }
     ensures changes { IfOk result (λ changes. (class : Classes) →
         Holds tracking.now.variables.now tracking.now.things.now tracking.now.index.now tracking.now.settled.now
@@ -168,11 +171,12 @@ fn changes(
     Ok(changes)
 }
 
-/// The class of the entity at index j.
+/// The class of the entity at an index.
 fn class_of(held: &LocationTracker, tracking: &Tracking, j: usize, thing: &Tracked) -> usize
     requires at { slice_get tracking.now.things.now j ≡ Some thing.now }
     requires tracked { AreTracked tracking.now.things.now }
     requires things { AreThings tracking.now.variables.now tracking.now.things.now }
+    requires index { Indexes tracking.now.things.now tracking.now.index.now }
     requires parts { length held.now.parts.items ≡ length tracking.now.variables.now }
     ensures { (class : Classes) → Holds tracking.now.variables.now tracking.now.things.now tracking.now.index.now
         tracking.now.settled.now held.now class → result ≡ class (name_of thing.now) }
@@ -180,9 +184,9 @@ fn class_of(held: &LocationTracker, tracking: &Tracking, j: usize, thing: &Track
     match thing {
         Tracked::Register(r) => held.register(*r),
         Tracked::Slot(n) => held.place(slot_place(*n)),
-        Tracked::Pair(q) => class_of_pair(held, tracking, *q),
+        Tracked::Pair(q) => class_of_pair(held, tracking, j, *q),
         Tracked::Part(_) => part_class(held, j),
-        Tracked::Number(c) => number_class(tracking.index, tracking.settled, *c),
+        Tracked::Number(_) => settled_class(tracking, j),
     }
 }
 
@@ -193,14 +197,36 @@ fn part_class(held: &LocationTracker, j: usize) -> usize
     held.parts[j]
 }
 
-fn class_of_pair(held: &LocationTracker, tracking: &Tracking, q: OperandPair) -> usize
-    ensures { result ≡ pair_class_of tracking.now.index.now tracking.now.settled.now held.now q.number q.operand }
+/// The class of the entity at an index at the start of the block.
+fn settled_class(tracking: &Tracking, j: usize) -> usize
+    ensures { result ≡ slice_index tracking.now.settled.now j }
 {
-    let (number, operand) = key(q);
-    match held.pairs.get(&(number, operand)) {
-        Some(class) => *class,
-        None => pair_class(tracking.index, tracking.settled, number, operand),
+    if j < tracking.settled.len() {
+        tracking.settled[j]
+    } else {
+        0
     }
+}
+
+/// The class of the pair at an index: that which an item defined, or else the one at the start of the block.
+fn class_of_pair(held: &LocationTracker, tracking: &Tracking, j: usize, q: OperandPair) -> usize
+    ensures { result ≡ given_or (get is_key held.now.pairs (q.number, q.operand)) (slice_index tracking.now.settled.now j) }
+{
+    match defined_class(held, q) {
+        Some(class) => class,
+        None => settled_class(tracking, j),
+    }
+}
+
+/// The class of a pair that an item defined, if one did.
+fn defined_class(held: &LocationTracker, q: OperandPair) -> Option<usize>
+    ensures { result ≡ get is_key held.now.pairs (q.number, q.operand) }
+{
+    if held.pairs.is_empty() {
+        return None;
+    }
+    let (number, operand) = key(q);
+    held.pairs.get(&(number, operand)).copied()
 }
 
 /// The source that a class encodes, for this many tracked entities.

@@ -63,7 +63,8 @@ fn places_at(
 {
     let mut firsts = Vec::new(alloc);
     let mut places = vec![in alloc; None; values.variables.len()]?;
-    look_up(stand, &mut firsts, &mut places)?;
+    let mut changed = vec![in alloc; false; values.variables.len()]?;
+    look_up(stand, &mut firsts, &mut places, &mut changed)?;
     Ok(places)
 }
 

@@ -210,3 +210,58 @@ put_behind first old new a b n none put k = by_pair (is_pair (a, b) k) refl wher
   by_pair false e =
       ap (λ (o : Option ℕ). number_at (first k.1) k.0 o) (put k ∙ ap (λ (z : Bool). cond z (Some n) (old k)) e) ∙
       sym (ap (λ (z : Bool). cond z (Some n) (number_at (first k.1) k.0 (old k))) e)
+
+-- where a pair has no number, it has none behind its class's first one
+pub none_behind : (first : Option First) (a : ℕ) (other : Option ℕ) → number_at first a other ≡ None → other ≡ None
+none_behind None a other none = none
+none_behind (Some first) a other none = by_class (nat_eq first.class a) none where
+  by_class : (z : Bool) → cond z (Some first.number) other ≡ None → other ≡ None
+  by_class true h = absurd (some_none h)
+  by_class false h = h
+
+-- ---- the same by the first class
+
+swap : (x y : Bool) → (x && y) ≡ (y && x)
+swap true true = refl
+swap true false = refl
+swap false true = refl
+swap false false = refl
+
+-- where a class has no first pair, it is put there
+pub put_second : (old new : ℕ → Option First) (other : ℕ × ℕ → Option ℕ) (a b n : ℕ) → old a ≡ None →
+    ((v : ℕ) → new v ≡ cond (nat_eq v a) (Some (record { class = b; number = n })) (old v)) → (k : ℕ × ℕ) →
+    number_at (new k.0) k.1 (other k) ≡ cond (is_pair (a, b) k) (Some n) (number_at (old k.0) k.1 (other k))
+put_second old new other a b n free put k =
+    put_first old new (λ (w : ℕ × ℕ). other (w.1, w.0)) b a n free put (k.1, k.0)
+    ∙ ap (λ (z : Bool). cond z (Some n) (number_at (old k.0) k.1 (other k))) (swap (nat_eq b k.1) (nat_eq a k.0))
+
+-- otherwise it is put among the others
+pub put_last : (first : ℕ → Option First) (old new : ℕ × ℕ → Option ℕ) (a b n : ℕ) → number_at (first a) b (old (a, b)) ≡ None →
+    ((k : ℕ × ℕ) → new k ≡ cond (is_pair (a, b) k) (Some n) (old k)) → (k : ℕ × ℕ) →
+    number_at (first k.0) k.1 (new k) ≡ cond (is_pair (a, b) k) (Some n) (number_at (first k.0) k.1 (old k))
+put_last first old new a b n none put k =
+    put_behind first (λ (w : ℕ × ℕ). old (w.1, w.0)) (λ (w : ℕ × ℕ). new (w.1, w.0)) b a n none
+    (λ w. put (w.1, w.0) ∙ ap (λ (z : Bool). cond z (Some n) (old (w.1, w.0))) (swap (nat_eq a w.1) (nat_eq b w.0))) (k.1, k.0)
+    ∙ ap (λ (z : Bool). cond z (Some n) (number_at (first k.0) k.1 (old k))) (swap (nat_eq b k.1) (nat_eq a k.0))
+
+-- ---- no pair is behind where its class has no first one
+
+-- a first pair is put
+pub tidy_first : (old new : ℕ → Option First) (behind : ℕ × ℕ → Option ℕ) (b count : ℕ) (first : First) →
+    ((v : ℕ) → new v ≡ cond (nat_eq v b) (Some first) (old v)) → ((k : ℕ × ℕ) → k.1 < count → old k.1 ≡ None → behind k ≡ None) → (k : ℕ × ℕ) →
+    k.1 < count → new k.1 ≡ None → behind k ≡ None
+tidy_first old new behind b count first put tidy k lt none = by_class (nat_eq k.1 b) (sym (put k.1) ∙ none) where
+  by_class : (z : Bool) → cond z (Some first) (old k.1) ≡ None → behind k ≡ None
+  by_class true e = absurd (let bad : Some first ≡ None = e in cc)
+  by_class false e = tidy k lt e
+
+-- a pair is put behind a first one, or where there is no place for one
+pub tidy_behind : (first : ℕ → Option First) (old new : ℕ × ℕ → Option ℕ) (a b n count : ℕ) → (b < count → first b ≡ None → ⊥) →
+    ((k : ℕ × ℕ) → new k ≡ cond (is_pair (a, b) k) (Some n) (old k)) → ((k : ℕ × ℕ) → k.1 < count → first k.1 ≡ None → old k ≡ None) →
+    (k : ℕ × ℕ) → k.1 < count → first k.1 ≡ None → new k ≡ None
+tidy_behind first old new a b n count taken put tidy k lt none = by_pair (is_pair (a, b) k) refl where
+  by_pair : (z : Bool) → is_pair (a, b) k ≡ z → new k ≡ None
+  by_pair true e =
+      let is : k.1 ≡ b = ap (λ (w : ℕ × ℕ). w.1) (pair_is (a, b) k e) in
+      absurd (taken (subst (λ (m : ℕ). m < count) is lt) (subst (λ (m : ℕ). first m ≡ None) is none))
+  by_pair false e = put k ∙ ap (λ (z : Bool). cond z (Some n) (old k)) e ∙ tidy k lt none

@@ -1,9 +1,9 @@
 //! The join of two lists of class numbers.
 
-ghost use Rattle.std.specs.Prelude.{◌≡◌, ◌<◌, ℕ, cond, nat_eq, Some, None, true, length, slice_index_or, IfOk, OnOk};
+ghost use Rattle.std.specs.Prelude.{◌≡◌, ◌<◌, ℕ, cond, nat_eq, Some, None, true, false, length, slice_index_or, IfOk, OnOk};
 ghost use Rattle.std.specs.HashMap.{get};
 ghost use Rattle.value_solver.specs.Numbering.{IsMeet};
-ghost use Rattle.value_solver.specs.PairNumbers.{IsNumber, number_at, number_in, is_pair};
+ghost use Rattle.value_solver.specs.PairNumbers.{IsNumber, IsTidy, number_at, number_behind, number_in, is_pair};
 
 use std::alloc::{AllocError, Global};
 use std::collections::HashMap;
@@ -13,21 +13,23 @@ use std::collections::HashMap;
 pub struct Pairs {
     /// For each class of the second list below this length the first pair of it that was met, if one was.
     pub firsts: Vec<Option<First>>,
+    /// For each class of the first list below this length the first pair of it that isn't among those, if one was met.
+    pub seconds: Vec<Option<First>>,
     /// The numbers of all other pairs.
     pub others: HashMap<(u32, u64), u32>,
 }
 
-/// A pair, of a known class of the second list.
+/// A pair, of a known class of one of the lists.
 #[derive(Clone, Copy, Debug)]
 pub struct First {
-    /// Its class of the first list.
-    pub class: u32,
+    /// Its class of the other list.
+    pub class: u64,
     /// Its number.
     pub number: u32,
 }
 
-/// Numbers pairs of classes by first appearance, the pair of 0 and 0 first. The pairs met before are forgotten. Classes
-/// up to the number of things are looked up by their index; only new tokens are greater.
+/// Numbers pairs of classes by first appearance, the pair of 0 and 0 first. The pairs met before are forgotten. A pair is
+/// looked up by the index of one of its classes, if it is the first one of that class; only other pairs are hashed.
 pub fn meet(alloc: Global, pairs: &mut Pairs, a: &[u32], b: &[u64]) -> Result<Vec<u32>, AllocError>
     requires few { length a.now < 4294967295 }
     requires long { length b.now ≡ length a.now }
@@ -49,23 +51,28 @@ impl Pairs {
     pub fn new(alloc: Global) -> Pairs {
         Pairs {
             firsts: Vec::new(alloc),
+            seconds: Vec::new(alloc),
             others: HashMap::new(alloc),
         }
     }
 
     /// Forgets all pairs. The first pairs of classes below this one have room then.
     fn forget(&mut self, alloc: Global, classes: usize) -> Result<(), AllocError>
-        ensures { OnOk result ((k : ℕ × ℕ) → number_in self.new k ≡ None) }
+        ensures none { OnOk result ((k : ℕ × ℕ) → number_in self.new k ≡ None) }
+        ensures tidy { OnOk result (IsTidy self.new) }
     {
         self.firsts = no_firsts(alloc, classes)?;
+        self.seconds = no_firsts(alloc, classes)?;
         self.others.clear();
         Ok(())
     }
 
     /// The number of a pair: that which it has, or the next one, which it gets.
     fn number(&mut self, a: u32, b: u64, next: &mut u32) -> Result<u32, AllocError>
-        requires { next.old < 4294967295 }
-        ensures { IfOk result (λ n. IsNumber (number_in self.old) (number_in self.new) (a, b) next.old next.new n) }
+        requires few { next.old < 4294967295 }
+        requires tidy { IsTidy self.old }
+        ensures number { IfOk result (λ n. IsNumber (number_in self.old) (number_in self.new) (a, b) next.old next.new n) }
+        ensures tidy { OnOk result (IsTidy self.new) }
     {
         match self.find(a, b) {
             Some(number) => Ok(number),
@@ -80,11 +87,40 @@ impl Pairs {
 
     /// The number of a pair, if it was met.
     fn find(&self, a: u32, b: u64) -> Option<u32>
+        requires { IsTidy self.now }
         ensures { result ≡ number_in self.now (a, b) }
     {
         match first_at(self.firsts.as_slice(), b as usize) {
             Some(first) => {
-                if first.class == a {
+                if first.class == u64::from(a) {
+                    Some(first.number)
+                } else {
+                    self.find_second(a, b)
+                }
+            }
+            None => self.find_free(a, b),
+        }
+    }
+
+    /// The number of a pair of a second class without a first pair. If the class has a place for one, the pair wasn't met.
+    fn find_free(&self, a: u32, b: u64) -> Option<u32>
+        requires tidy { IsTidy self.now }
+        requires free { slice_index_or self.now.firsts.items b None ≡ None }
+        ensures { result ≡ number_behind self.now (a, b) }
+    {
+        if (b as usize) < self.firsts.len() {
+            return None;
+        }
+        self.find_second(a, b)
+    }
+
+    /// The number of a pair that isn't the first one of its second class, if it was met.
+    fn find_second(&self, a: u32, b: u64) -> Option<u32>
+        ensures { result ≡ number_behind self.now (a, b) }
+    {
+        match first_at(self.seconds.as_slice(), a as usize) {
+            Some(first) => {
+                if first.class == b {
                     Some(first.number)
                 } else {
                     find_other(&self.others, a, b)
@@ -96,13 +132,34 @@ impl Pairs {
 
     /// Gives a pair that wasn't met a number.
     fn put(&mut self, a: u32, b: u64, number: u32) -> Result<(), AllocError>
-        requires { number_in self.old (a, b) ≡ None }
-        ensures { OnOk result ((k : ℕ × ℕ) →
+        requires unmet { number_in self.old (a, b) ≡ None }
+        requires tidy { IsTidy self.old }
+        ensures put { OnOk result ((k : ℕ × ℕ) →
             number_in self.new k ≡ cond (is_pair (a, b) k) (Some number) (number_in self.old k)) }
+        ensures tidy { OnOk result (IsTidy self.new) }
     {
         let index = b as usize;
         if has_room(self.firsts.as_slice(), index) {
-            set_first(&mut self.firsts, index, First { class: a, number });
+            let first = First {
+                class: u64::from(a),
+                number,
+            };
+            set_first(&mut self.firsts, index, first);
+            Ok(())
+        } else {
+            self.put_second(a, b, number)
+        }
+    }
+
+    /// Gives a pair that wasn't met, and isn't the first one of its second class, a number.
+    fn put_second(&mut self, a: u32, b: u64, number: u32) -> Result<(), AllocError>
+        requires { number_behind self.old (a, b) ≡ None }
+        ensures { OnOk result ((self.new.firsts.items ≡ self.old.firsts.items) × ((k : ℕ × ℕ) →
+            number_behind self.new k ≡ cond (is_pair (a, b) k) (Some number) (number_behind self.old k))) }
+    {
+        let index = a as usize;
+        if has_room(self.seconds.as_slice(), index) {
+            set_first(&mut self.seconds, index, First { class: b, number });
             Ok(())
         } else {
             put_other(&mut self.others, a, b, number)
@@ -132,6 +189,7 @@ fn first_at(firsts: &[Option<First>], index: usize) -> Option<First>
 fn has_room(firsts: &[Option<First>], index: usize) -> bool
     ensures within { result ≡ true → index < length firsts.now }
     ensures free { result ≡ true → slice_index_or firsts.now index None ≡ None }
+    ensures taken { result ≡ false → index < length firsts.now → slice_index_or firsts.now index None ≡ None → ⊥ }
 {
     if index < firsts.len() {
         match firsts[index] {
@@ -146,8 +204,9 @@ fn has_room(firsts: &[Option<First>], index: usize) -> bool
 /// Puts a first pair at an index.
 fn set_first(firsts: &mut Vec<Option<First>>, index: usize, first: First)
     requires { index < length firsts.old.items }
-    ensures { (k : ℕ) → slice_index_or firsts.new.items k None
+    ensures put { (k : ℕ) → slice_index_or firsts.new.items k None
         ≡ cond (nat_eq k index) (Some first) (slice_index_or firsts.old.items k None) }
+    ensures count { length firsts.new.items ≡ length firsts.old.items }
 {
     firsts[index] = Some(first);
 }

@@ -1,5 +1,7 @@
 -- The tracks of variables between two entries.
 use Rattle.std.specs.Prelude.{◌≡◌, ℕ, zero, suc, ◌+◌, ◌<◌, ◌≤◌, List, [], ◌∷◌, length, Contains, Option, Some, None, slice_get}
+use Rattle.std.specs.Prelude.{Bool, false, ◌||◌, slice_index_or}
+use Rattle.std.specs.List.{list_any}
 use Rattle.rv64_instr.specs.declared.place.Place.{Place}
 use Rattle.mir_func.specs.declared.position.Pos.{Pos}
 use Rattle.mir_func.specs.declared.variable.VarId.{VarId}
@@ -9,15 +11,15 @@ use Rattle.dwarf_loclists.specs.declared.range.Location.{Location}
 use Rattle.dwarf_loclists.specs.declared.range.Range.{Range}
 use Rattle.dwarf_loclists.specs.Ranges.{ArePlaces, location_in}
 use Rattle.location_of_variable.specs.declared.group.Group.{Group}
-use Rattle.location_of_variable.specs.VariableLocation.{IsWantedLocation, IsLocationBy}
+use Rattle.location_of_variable.specs.VariableLocation.{IsWantedLocation, IsLocationFor}
 use Rattle.location_ranges.specs.declared.track.Track.{Track}
-use Rattle.location_ranges.specs.Covered.{covered, Turns, IsTrackTo}
+use Rattle.location_ranges.specs.Covered.{covered, located, Turns, IsTrackTo}
 use Rattle.location_ranges.specs.Lists.{HasByte, point_of}
 
 -- a track changes at an address to the location of its variable, by the places of its parts
 pub record TurnsBy (group : Group) (places : List (Option Place)) (a : ℕ) (t u : Track) : Type 0 where
   pub to : Option Location
-  pub by : IsLocationBy group places to
+  pub by : IsLocationFor group places to
   pub turns : Turns t a to u
 
 -- the first n tracks have changed at the address, and the others are as before
@@ -26,6 +28,25 @@ pub record TurnedBelow (groups : List Group) (places : List (Option Place)) (a :
   pub done : (k : ℕ) (group : Group) (t u : Track) → k < n → slice_get groups k ≡ Some group → slice_get old k ≡ Some t → slice_get new k ≡ Some u →
       TurnsBy group places a t u
   pub rest : (k : ℕ) (u : Track) → n ≤ k → slice_get new k ≡ Some u → slice_get old k ≡ Some u
+
+-- each track is at the location of its variable by these places
+abbrev pub AreTurned : List Group → List (Option Place) → List Track → Type 0
+AreTurned groups places tracks = (k : ℕ) (group : Group) (t : Track) → slice_get groups k ≡ Some group → slice_get tracks k ≡ Some t →
+    IsLocationFor group places (located t.present)
+
+-- the part at an index, if there is one, has a flag
+abbrev pub is_flagged : List Bool → Option ℕ → Bool
+is_flagged changed None = false
+is_flagged changed (Some j) = slice_index_or changed j false
+
+-- some part of the group has a flag
+abbrev pub has_changed : List Bool → Group → Bool
+has_changed changed group = is_flagged changed group.whole || list_any (λ x. is_flagged changed (Some x.index)) group.pieces.items
+
+-- the track of each group without a flag is at the location of its variable by these places
+abbrev pub StandStill : List Group → List (Option Place) → (changed : List Bool) → List Track → Type 0
+StandStill groups places changed tracks = (k : ℕ) (group : Group) (t : Track) → slice_get groups k ≡ Some group → slice_get tracks k ≡ Some t →
+    has_changed changed group ≡ false → IsLocationFor group places (located t.present)
 
 -- the address of the entry at this index, or the end of the last one. The first is at address a, and entries are contiguous
 abbrev pub begin_at : (address : ℕ) → List EncodedInstruction → (index : ℕ) → ℕ

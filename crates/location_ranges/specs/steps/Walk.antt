@@ -1,5 +1,5 @@
 -- The invariant of the walk from entry to entry.
-use Rattle.std.specs.Prelude.{◌≡◌, ℕ, ◌≤◌, List, length, Some, slice_get}
+use Rattle.std.specs.Prelude.{◌≡◌, ℕ, ◌≤◌, List, length, Some, true, slice_get}
 use Rattle.mir_func.specs.declared.block.Block.{Block}
 use Rattle.mir_func.specs.declared.variable.VarId.{VarId}
 use Rattle.mir_func.specs.Graph.{block_start}
@@ -11,18 +11,21 @@ use Rattle.location_ranges.specs.declared.values.Values.{Values}
 use Rattle.location_ranges.specs.Stands as stand
 use Rattle.location_ranges.specs.Stands.{program, AreValuesOf}
 use Rattle.location_ranges.specs.steps.Places.{IsEmpty}
-use Rattle.location_ranges.specs.steps.Saying.{begin_at, AreTracksTo, AllSay}
+use Rattle.location_ranges.specs.steps.Saying.{begin_at, AreTracksTo, AllSay, AreTurned}
 
 -- the entry's point is in the blocks: an item of a block, or the block's end
 abbrev pub IsPointIn : List Block → EncodedInstruction → Type 0
 IsPointIn blocks e = (block : Block) × (slice_get blocks e.point.block ≡ Some block) × (e.point.item ≤ length block.items)
 
--- the tables of the walk have the right lengths, and that of first locations is empty
+-- the tables of the walk have the right lengths, and that of first locations is empty. Once the tracks have turned they are at the
+-- locations by the places
 pub record Fits (v : Values) (groups : List Group) (w : Walk) : Type 0 where
   pub stand : stand.Fits w.stand v
   pub firsts : IsEmpty w.firsts.items
   pub places : length w.places.items ≡ length v.variables.now
+  pub changed : length w.changed.items ≡ length v.variables.now
   pub tracks : length w.tracks.items ≡ length groups
+  pub turned : w.turned ≡ true → AreTurned groups w.places.items w.tracks.items
 
 -- up to the entry at index i the tracks ascend, and they are exact for the first i entries
 pub record HaveSaid (blocks : List Block) (v : Values) (entries : List EncodedInstruction) (variables : List VarId) (base i : ℕ)

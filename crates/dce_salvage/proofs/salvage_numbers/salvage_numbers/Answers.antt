@@ -1,6 +1,7 @@
-use Rattle.std.proofs.Common.{◌-◌, ◌∙◌, arith}
+use Rattle.std.proofs.Common.{◌-◌, length, sym, ◌∙◌, arith}
 use Rattle.pass_salvage.specs.SalvageAction.{going_from}
 use Rattle.dce_salvage.specs.SalvageNumbers.{SoFar}
+use Rattle.dce_salvage.proofs.Down.{none_down}
 use Rattle.dce_salvage.proofs.Moved.{moving_begins, moving_on, moving_ends}
 use Rattle.dce_salvage.proofs.salvage_numbers.salvage_numbers.Goals as goal
 
@@ -44,6 +45,11 @@ loop-at-preserved c =
     moving_on (going_from 0 c.args.dead.now) c.args.dead.now first c.loop-at.at (c.loop-at.at - 1) a c.loop-at.done.items (omega (arith, t))
     c.loop-at.invariant b c.verdict-goes.result c.verdict-goes.ensures asked.off asked.counted c.move_from.new.items.items
     c.move_from.new.done.items moved.long moved.all
+
+pub returns-then-not-some_dead-clause-off : goal.returns-then-not-some_dead-clause-off
+returns-then-not-some_dead-clause-off c =
+    let first : SoFar = record { items = c.args.items.now.items; subs = c.args.subs.now; fresh = c.args.fresh.now; lost = c.args.lost.now.items } in
+    none_down (going_from 0 c.args.dead.now) c.args.dead.now (length c.args.items.now.items) first (sym c.some_dead.ensures ∙ c.if-not-some_dead.true)
 
 pub returns-clause-off : goal.returns-clause-off
 returns-clause-off c =

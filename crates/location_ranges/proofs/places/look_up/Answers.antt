@@ -9,9 +9,8 @@ returns-clause-places c =
     let filled = c.fill.new.firsts in
     let count : length filled ≡ c.make_room.new.firsts.len = omega (arith, c.fill.auto.firsts, c.deref_mut.ensures.len, c.make_room.new.firsts.ok.0) in
     let is : c.as_slice-3.result.now ≡ filled = c.as_slice-3.ensures.value ∙ back_is c.make_room.new.firsts.len filled _ count in
-    let more : length c.place_parts.new.places ≡ length c.args.places.now = c.place_parts.auto.places in
     record {
       firsts = c.as_slice-3.result.now;
       are = subst (AreFirsts places) (sym is) (subst (λ (ps : List ℕ). AreFirsts ps filled) c.as_slice-2.ensures.value c.fill.ensures);
-      each = λ j lt. c.place_parts.ensures j (omega (arith, lt, more));
+      each = c.place_parts-any.ensures.places;
     }

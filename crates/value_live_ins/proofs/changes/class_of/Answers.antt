@@ -24,7 +24,7 @@ returns-in-Pair c = λ class holds.
     let t = c.args.tracking.now in
     c.class_of_pair.ensures
     ∙ pair_class_is t.variables.now t.things.now t.index.now t.settled.now c.args.held.now class holds c.args.j c.in-Pair.q
-    (c.requires.at ∙ ap (λ (z : Tracked). Some z) c.in-Pair.is) ∙ ap (λ (z : Tracked). class (thing z)) (sym c.in-Pair.is)
+    c.requires.tracked c.requires.index (c.requires.at ∙ ap (λ (z : Tracked). Some z) c.in-Pair.is) ∙ ap (λ (z : Tracked). class (thing z)) (sym c.in-Pair.is)
 
 pub returns-in-Part : goal.returns-in-Part
 returns-in-Part c = λ class holds.
@@ -36,9 +36,9 @@ returns-in-Part c = λ class holds.
 pub returns-in-Number : goal.returns-in-Number
 returns-in-Number c = λ class holds.
     let t = c.args.tracking.now in
-    c.number_class.ensures
-    ∙ number_class_is t.variables.now t.things.now t.index.now t.settled.now c.args.held.now class holds c.args.j c.in-Number.c
-    (c.requires.at ∙ ap (λ (z : Tracked). Some z) c.in-Number.is) ∙ ap (λ (z : Tracked). class (thing z)) (sym c.in-Number.is)
+    c.settled_class.ensures
+    ∙ number_class_is t.variables.now t.things.now t.index.now t.settled.now c.args.held.now class holds c.args.j c.in-Number.field-0
+    c.requires.tracked c.requires.index (c.requires.at ∙ ap (λ (z : Tracked). Some z) c.in-Number.is) ∙ ap (λ (z : Tracked). class (thing z)) (sym c.in-Number.is)
 
 pub part_class-requires : goal.part_class-requires
 part_class-requires c =

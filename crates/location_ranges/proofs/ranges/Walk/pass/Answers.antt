@@ -1,11 +1,10 @@
-use Rattle.std.proofs.Common.{◌≡◌, ◌<◌, ℕ, List, ◌++◌, length, take, drop, refl, sym, ◌∙◌, ap, subst, arith}
-use Rattle.std.specs.Prelude.{Option}
+use Rattle.std.proofs.Common.{◌≡◌, ◌<◌, ℕ, List, length, refl, sym, ◌∙◌, ap, subst}
+use Rattle.std.specs.Prelude.{Option, Bool, true, false, not, slice_index_or}
 use Rattle.std.proofs.lemmas.Option.{slice_get_read, slice_get_within}
 use Rattle.rv64_instr.specs.declared.place.Place.{Place}
 use Rattle.mir_func.specs.declared.block.Block.{Block}
-use Rattle.location_ranges.specs.declared.track.Track.{Track}
-use Rattle.location_ranges.specs.steps.Saying.{TurnedBelow}
-use Rattle.location_ranges.proofs.Walking.{back_is}
+use Rattle.location_ranges.specs.steps.Saying.{TurnedBelow, StandStill}
+use Rattle.location_ranges.proofs.Still.{stand_still, are_turned}
 use Rattle.location_ranges.proofs.ranges.Walk.pass.Goals as goal
 
 pub returns-clause-stands : goal.returns-clause-stands
@@ -20,17 +19,44 @@ returns-clause-stands c = λ are stands.
       ap (λ (z : Block). z.items) c.index-blocks-block.is ∙ sym c.as_slice-items.ensures,
     ) stands
 
+turned_is : (b : Bool) → not b ≡ false → b ≡ true
+turned_is true e = refl
+turned_is false e = sym e
+
+pub turn_all-requires-clause-still : goal.turn_all-requires-clause-still
+turn_all-requires-clause-still c = λ e.
+    let w = c.args.self in
+    let groups = c.args.groups.now in
+    let new = c.look_up.new.places.items in
+    let flags = c.look_up.new.changed.items in
+    subst (λ (ps : List (Option Place)). StandStill groups ps c.as_slice-flags.result.now w.tracks.items) (sym c.as_slice-found.ensures.value)
+    (subst (λ (fs : List Bool). StandStill groups new fs w.tracks.items) (sym c.as_slice-flags.ensures.value)
+    (stand_still flags w.places.items new c.in_ok-any.any c.in_ok-any.ensures.changes groups w.tracks.items (c.requires.fits.turned (turned_is w.turned e))))
+
+pub turn_all-requires-clause-quiet : goal.turn_all-requires-clause-quiet
+turn_all-requires-clause-quiet c = λ e.
+    subst (λ (fs : List Bool). (j : ℕ) → slice_index_or fs j false ≡ false) (sym c.as_slice-flags.ensures.value) (c.in_ok-any.ensures.changes.quiet e)
+
 pub returns-clause-turned : goal.returns-clause-turned
 returns-clause-turned c =
     let groups = c.args.groups.now in
-    let a = c.args.entry.now.address in
-    let n = length groups in
-    let new = c.turn_all.new.tracks in
-    let turned = c.in_ok-turn_all.ensures in
-    let count : length new ≡ c.args.self.tracks.len = omega (arith, turned.for_all, c.deref_mut-2.ensures.len, c.args.self.tracks.ok.0) in
-    let before = c.args.self in
-    let found = take before.places.len (c.look_up.new.places ++ drop (length c.look_up.new.places) before.places.items) in
-    subst (λ (ts : List Track). TurnedBelow groups found a before.tracks.items n ts)
-    (sym (back_is before.tracks.len new (drop (length new) before.tracks.items) count))
-    (subst (λ (ps : List (Option Place)). TurnedBelow groups ps a before.tracks.items n new) c.as_slice.ensures.value
-    (subst (λ (ts : List Track). TurnedBelow groups c.as_slice.result.now a ts n new) c.deref_mut-2.ensures.value turned))
+    subst (λ (ps : List (Option Place)). TurnedBelow groups ps c.args.entry.now.address c.args.self.tracks.items (length groups) c.turn_all.new.tracks.items)
+    c.as_slice-found.ensures.value c.in_ok-turn_all.ensures
+
+pub returns-clause-fits : goal.returns-clause-fits
+returns-clause-fits c =
+    let w = c.args.self in
+    let groups = c.args.groups.now in
+    let fits = c.requires.fits in
+    let new = c.look_up.new.places.items in
+    let tracks = c.turn_all.new.tracks.items in
+    let turned = subst (λ (ps : List (Option Place)). TurnedBelow groups ps c.args.entry.now.address w.tracks.items (length groups) tracks)
+    c.as_slice-found.ensures.value c.in_ok-turn_all.ensures in
+    record {
+      stand = c.in_ok-stand.ensures.fits;
+      firsts = c.in_ok-any.ensures.empty;
+      places = c.in_ok-any.ensures.count ∙ fits.places;
+      changed = c.in_ok-any.ensures.flags ∙ fits.places;
+      tracks = turned.for_all ∙ fits.tracks;
+      turned = λ on. are_turned groups new c.args.entry.now.address w.tracks.items tracks turned;
+    }

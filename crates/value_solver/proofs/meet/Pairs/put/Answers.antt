@@ -1,21 +1,49 @@
-use Rattle.std.proofs.Common.{ℕ, List, sym, ap, ◌∙◌}
-use Rattle.std.specs.Prelude.{Option, None, slice_index_or}
-use Rattle.std.specs.HashMap.{get}
+use Rattle.std.proofs.Common.{◌≡◌, ◌<◌, ℕ, List, length, sym, ap, ◌∙◌, subst, arith}
+use Rattle.std.specs.Prelude.{Option, Some, None, cond, nat_eq, slice_index_or}
 use Rattle.std.proofs.lemmas.Result.{on_ok_weaker}
 use Rattle.value_solver.specs.declared.meet.First.{First}
-use Rattle.value_solver.specs.PairNumbers.{is_pair}
-use Rattle.value_solver.proofs.Pairing.{put_first, put_behind}
+use Rattle.value_solver.specs.PairNumbers.{number_at, number_behind}
+use Rattle.value_solver.proofs.Pairing.{put_first, put_behind, none_behind, tidy_first, tidy_behind}
 use Rattle.value_solver.proofs.meet.Pairs.put.Goals as goal
 
-pub returns-then-has_room : goal.returns-then-has_room
-returns-then-has_room c =
-    put_first (λ (v : ℕ). slice_index_or c.args.self.now.firsts.items v None) (λ (v : ℕ). slice_index_or c.set_first.new.firsts.items v None)
-    (get is_pair c.args.self.now.others) c.args.a c.args.b c.args.number (ap (λ (xs : List (Option First)). slice_index_or xs c.args.b None)
-    (sym c.as_slice.ensures.value) ∙ c.has_room.ensures.free c.if-has_room.true) c.set_first.ensures
+pub put_second-requires : goal.put_second-requires
+put_second-requires c =
+    none_behind (slice_index_or c.args.self.now.firsts.items c.args.b None) c.args.a (number_behind c.args.self.now (c.args.a, c.args.b))
+    c.requires.unmet
 
-pub returns-else-has_room : goal.returns-else-has_room
-returns-else-has_room c =
-    on_ok_weaker c.put_other.result
-    (λ put. put_behind (λ (v : ℕ). slice_index_or c.args.self.now.firsts.items v None) (get is_pair c.args.self.now.others)
-    (get is_pair c.put_other.new.others) c.args.a c.args.b c.args.number c.requires put)
-    c.put_other.ensures
+pub returns-then-has_room-clause-put : goal.returns-then-has_room-clause-put
+returns-then-has_room-clause-put c =
+    let put = subst (λ (m : ℕ). (v : ℕ) → slice_index_or c.set_first.new.firsts.items v None
+    ≡ cond (nat_eq v c.args.b) (Some (record { class = m; number = c.args.number })) (slice_index_or c.args.self.now.firsts.items v None))
+    c.from.ensures c.set_first.ensures.put in
+    put_first (λ (v : ℕ). slice_index_or c.args.self.now.firsts.items v None) (λ (v : ℕ). slice_index_or c.set_first.new.firsts.items v None)
+    (number_behind c.args.self.now) c.args.a c.args.b c.args.number (ap (λ (xs : List (Option First)). slice_index_or xs c.args.b None)
+    (sym c.as_slice.ensures.value) ∙ c.has_room.ensures.free c.if-has_room.true) put
+
+pub returns-then-has_room-clause-tidy : goal.returns-then-has_room-clause-tidy
+returns-then-has_room-clause-tidy c = λ k lt none.
+    let old = c.args.self.now in
+    tidy_first (λ (v : ℕ). slice_index_or old.firsts.items v None) (λ (v : ℕ). slice_index_or c.set_first.new.firsts.items v None)
+    (number_behind old) c.args.b (length old.firsts.items) (record { class = c.from.result; number = c.args.number }) c.set_first.ensures.put c.requires.tidy k
+    (omega (arith, lt, c.set_first.ensures.count)) none
+
+pub returns-else-has_room-clause-put : goal.returns-else-has_room-clause-put
+returns-else-has_room-clause-put c =
+    let old = c.args.self.now in
+    let new = c.put_second.new.self in
+    on_ok_weaker c.put_second.result
+    (λ put k. ap (λ (xs : List (Option First)). number_at (slice_index_or xs k.1 None) k.0 (number_behind new k)) put.0
+    ∙ put_behind (λ (v : ℕ). slice_index_or old.firsts.items v None) (number_behind old) (number_behind new) c.args.a c.args.b c.args.number
+    c.requires.unmet put.1 k) c.put_second.ensures
+
+pub returns-else-has_room-clause-tidy : goal.returns-else-has_room-clause-tidy
+returns-else-has_room-clause-tidy c =
+    let old = c.args.self.now in
+    let new = c.put_second.new.self in
+    let taken = subst (λ (xs : List (Option First)). c.args.b < length xs → slice_index_or xs c.args.b None ≡ None → ⊥) c.as_slice.ensures.value
+    (c.has_room.ensures.taken c.if-has_room.false) in
+    on_ok_weaker c.put_second.result
+    (λ put. subst (λ (xs : List (Option First)). (k : ℕ × ℕ) → k.1 < length xs → slice_index_or xs k.1 None ≡ None → number_behind new k ≡ None)
+    (sym put.0)
+    (tidy_behind (λ (v : ℕ). slice_index_or old.firsts.items v None) (number_behind old) (number_behind new) c.args.a c.args.b c.args.number
+    (length old.firsts.items) taken put.1 c.requires.tidy)) c.put_second.ensures
