@@ -1,5 +1,5 @@
--- Passes of which each stands once may compile a program: folding comes once, so what it asks for is kept before it; and spilling comes once, so
--- that the passes make few items, numbers and slots.
+-- Passes of which each stands once may compile a program, behind linear scan: folding comes once, so what it asks for is kept before it; and spilling comes
+-- once, so that linear scan and the passes make few items, numbers and slots.
 use Rattle.std.proofs.Common.{◌≡◌, ◌⊎◌, inl, inr, ℕ, ◌+◌, ◌*◌, ◌<◌, ◌≤◌, ◌^◌, List, [], ◌∷◌, length, refl, ap, ◌∙◌, subst, arith}
 use Rattle.std.specs.Prelude.{Contains, IsTrue, true, false}
 use Rattle.std.proofs.lemmas.List.Elements.{Contains-append_left, Contains-append_right}
@@ -14,13 +14,21 @@ use Rattle.pass_list.specs.Names.{AreDistinct}
 use Rattle.pass_manager.specs.Passes.{any_asks, factor, count, Fit, most_after, numbers_after, slots_after}
 use Rattle.compile_passes.specs.Passed.{MAX_PASSED}
 
--- each pass keeps what a later one asks for, and no function that was read runs out of numbers or slots on the way, or gets more items than it may
--- have
+-- how many items a function has at most that linear scan made of one that was read
+abbrev pub MAX_SCANNED : ℕ
+MAX_SCANNED = 36864
+
+-- linear scan makes so few
+pub scanned_items : (n : ℕ) → n ≤ MAX_ITEMS → most 4 1 n ≤ MAX_SCANNED
+scanned_items n few = omega (arith, few)
+
+-- each pass keeps what a later one asks for, and no function that linear scan made of one that was read runs out of numbers or slots on the way, or gets
+-- more items than it may have
 pub record IsAccepted (passes : List PassKind) : Type 0 where
   pub fit : Fit passes
-  pub numbers : MAX_NUMBER + numbers_after passes MAX_ITEMS < 2 ^ 31
-  pub slots : MAX_NUMBER + MAX_SLOTS * slots_after passes < 2 ^ 31
-  pub items : most_after passes MAX_ITEMS ≤ MAX_PASSED
+  pub numbers : MAX_NUMBER + MAX_SCANNED + numbers_after passes MAX_SCANNED < 2 ^ 31
+  pub slots : MAX_NUMBER + MAX_SLOTS + MAX_SLOTS * slots_after passes < 2 ^ 31
+  pub items : most_after passes MAX_SCANNED ≤ MAX_PASSED
 
 later : (p q : PassKind) (ps : List PassKind) → Contains ps q → Contains (p ∷ ps) q
 later p q ps h = Contains-append_right (p ∷ []) ps q h
@@ -109,7 +117,7 @@ few_items (p ∷ ps) n d = elim (spills p n) [
       omega (arith, here, rest))
 ]
 
-plain_numbers : (ps : List PassKind) (n : ℕ) → NoSpill ps → n + 1024 * length ps ≤ 65536 → numbers_after ps n ≤ 65536 * length ps
+plain_numbers : (ps : List PassKind) (n : ℕ) → NoSpill ps → n + 1024 * length ps ≤ 167936 → numbers_after ps n ≤ 167936 * length ps
 plain_numbers [] n none fit = omega arith
 plain_numbers (p ∷ ps) n none fit =
     let here = most_is p n ∙ plain p ps n none in
@@ -118,7 +126,7 @@ plain_numbers (p ∷ ps) n none fit =
     ap (λ (z : ℕ). z * most (factor p) (count p) n) (one_count p) in
     omega (arith, here, rest, fit, once)
 
-few_numbers : (ps : List PassKind) (n : ℕ) → AreDistinct ps → n + 1024 * length ps ≤ 16384 → numbers_after ps n ≤ 65536 * length ps
+few_numbers : (ps : List PassKind) (n : ℕ) → AreDistinct ps → n + 1024 * length ps ≤ 41984 → numbers_after ps n ≤ 167936 * length ps
 few_numbers [] n d fit = omega arith
 few_numbers (p ∷ ps) n d fit =
     let once : count p * most (factor p) (count p) n ≡ 1 * most (factor p) (count p) n =
@@ -142,7 +150,7 @@ few_slots (p ∷ ps) = let here = one_count p in let rest = few_slots ps in omeg
 pub accepted : (ps : List PassKind) → AreDistinct ps → IsAccepted ps
 accepted ps d =
     let five = at_most ps d in
-    let items = few_items ps MAX_ITEMS d in
-    let numbers = few_numbers ps MAX_ITEMS d (omega (arith, five)) in
+    let items = few_items ps MAX_SCANNED d in
+    let numbers = few_numbers ps MAX_SCANNED d (omega (arith, five)) in
     let slots = few_slots ps in
     record { fit = fits ps d; numbers = omega (arith, five, numbers); slots = omega (arith, five, slots); items = omega (arith, five, items) }

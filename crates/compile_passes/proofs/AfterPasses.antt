@@ -1,5 +1,5 @@
--- What passes make of a function that was read can be compiled: it follows its source, its listing is printable, and it has few items. And passes
--- may run on such a function: its numbers and slots are low.
+-- What linear scan and passes make of a function that was read can be compiled: it follows its source, its listing is printable, and it has few items. And
+-- they may run on such a function: its numbers and slots are low.
 use Rattle.std.proofs.Common.{◌≡◌, inl, inr, ℕ, ◌+◌, ◌*◌, ◌<◌, ◌≤◌, ◌^◌, List, [], ◌∷◌, ◌++◌, length, Option, Some, None, refl, sym, subst, arith}
 use Rattle.std.specs.Prelude.{All, Contains, IfSome}
 use Rattle.std.specs.List.{flat_map}
@@ -33,21 +33,25 @@ use Rattle.read_program.specs.Limited.{KindIsLimited, LocIsLimited}
 use Rattle.mir_printer.specs.Printable.{IsNumber, IsPrintablePlace, IsPrintableLoc, IsPrintableVariable}
 use Rattle.pass_trait.specs.Change.{change}
 use Rattle.pass_trait.specs.declared.loss.Loss.{Loss}
-use Rattle.pass_trait.specs.Simulation.{Source, SimulatesSource, PreservesSimulation}
-use Rattle.pass_trait.specs.Sizes.{greatest, numbers_of, greatest_number, item_count, call_count, IsPhysical}
+use Rattle.pass_trait.proofs.Composition.{steps_then}
+use Rattle.pass_trait.specs.Simulation.{Source, SimulatesSource, EndsAsSource, PreservesSimulation}
+use Rattle.pass_trait.specs.Sizes.{greatest, numbers_of, greatest_number, most_numbers, item_count, call_count, IsPhysical}
 use Rattle.listing_text.specs.Shown.{declared_by, IsPrintableEntry}
 use Rattle.listing_function.specs.Printable.{IsPrintableFramedKind}
 use Rattle.listing_proof.proofs.Framed.{read_bodies}
 use Rattle.listing_proof.specs.Laws.{inlined_in, IsPrintableBlock}
 use Rattle.compile_theorem.proofs.Variables.{own_marks}
 use Rattle.compile_theorem.specs.Source.{MarksOneOf, PassedFunction}
-use Rattle.pass_manager.proofs.Row.{told_steps, after_more, numbers_more}
+use Rattle.pass_manager.proofs.Row.{told_steps, after_more, numbers_more, shown_then}
 use Rattle.pass_list.specs.declared.kind.PassKind.{PassKind}
-use Rattle.pass_manager.specs.Passes.{steps_of, passes_of, any_asks, all_keep, Fit, numbers_after, slots_after, KeepsGrowth}
+use Rattle.pass_manager.specs.Passes.{steps_of as steps_of_list, passes_of as passes_of_list}
+use Rattle.pass_manager.specs.Passes.{any_asks, all_keep, Fit, numbers_after, slots_after, KeepsGrowth}
 use Rattle.pass_manager.specs.Shown.{HasMark, HasPhi, IsGiven, KeepsShown}
 use Rattle.pass_manager.specs.Told.{KeepsPasses}
-use Rattle.compile_passes.proofs.Accepted.{IsAccepted}
-use Rattle.compile_passes.specs.Passed.{MAX_PASSED, IsMadeBy, IsMadeLosing, IsCompilable, passed_of}
+use Rattle.scan_pass.specs.Scanned.{scan_steps}
+use Rattle.compile_passes.proofs.Accepted.{MAX_SCANNED, scanned_items, IsAccepted}
+use Rattle.compile_passes.specs.steps.Scan.{IsScanOf}
+use Rattle.compile_passes.specs.Passed.{MAX_PASSED, steps_of, IsMadeBy, IsMadeLosing, IsCompilable, passed_of}
 use Rattle.read_proof.specs.Read.{EntryIsLimited, IsReadFunction}
 use Rattle.mir_type_facts.specs.Typed.{IsTypedBlock, IsTypedItem, IsTypedKind, IsTypedPlace, IsTypedEntry}
 use Rattle.dwarf_unit.specs.Variables.{variables_of_function}
@@ -112,32 +116,48 @@ numbers_low meta q read subs =
     (all_flat Limited (λ (i : Item). numbers_of i.kind) (λ i is. kind_low i.kind is.0) (items_of q.func.blocks) (in_order Limited q.func.blocks read.limited))
     (all_flat EntryIsLimited (λ (e : DebugSubstitution). e.src.number ∷ e.dst.number ∷ []) entry_low q.subs subs))
 
--- ---- passes may run
+-- ---- linear scan and passes may run
 
-module _ (meta : Maps) (q : Parsed) (passes : List PassKind) (read : IsReadFunction meta q.func) (limited : All EntryIsLimited q.subs)
-    (accepted : IsAccepted passes) where
-  has_numbers : greatest_number q.func q.subs + numbers_after passes (item_count q.func) < 2 ^ 31
-  has_numbers =
+-- the function that was read, or a copy of it
+module _ (meta : Maps) (q : Parsed) (read : IsReadFunction meta q.func) (limited : All EntryIsLimited q.subs) where
+  scan_has_numbers : greatest_number q.func q.subs + most_numbers 4 1 q.func < 2 ^ 31
+  scan_has_numbers =
       let low = numbers_low meta q read limited in
-      let more = numbers_more passes (item_count q.func) MAX_ITEMS read.few_items in
-      let room = accepted.numbers in
-      omega (arith, low, more, room)
+      let few = scanned_items (item_count q.func) read.few_items in
+      omega (arith, low, few)
 
-  has_slots : greatest q.func.slots + MAX_SLOTS * slots_after passes < 2 ^ 31
-  has_slots =
-      let low = greatest_low q.func.slots read.slots in
-      let room = accepted.slots in
-      omega (arith, low, room)
+  scan_has_slots : greatest q.func.slots + MAX_SLOTS * 1 < 2 ^ 31
+  scan_has_slots = let low = greatest_low q.func.slots read.slots in omega (arith, low)
 
-  -- on a copy of it
-  pub numbers_of_copy : (f : Function) (subs : List DebugSubstitution) → f ≡ q.func → subs ≡ q.subs →
-      greatest_number f subs + numbers_after passes (item_count f) < 2 ^ 31
-  numbers_of_copy f subs same entries_same =
-      subst (λ (es : List DebugSubstitution). greatest_number f es + numbers_after passes (item_count f) < 2 ^ 31) (sym entries_same)
-      (subst (λ (g : Function). greatest_number g q.subs + numbers_after passes (item_count g) < 2 ^ 31) (sym same) has_numbers)
+  pub scan_numbers : (f : Function) (subs : List DebugSubstitution) → f ≡ q.func → subs ≡ q.subs → greatest_number f subs + most_numbers 4 1 f < 2 ^ 31
+  scan_numbers f subs same entries_same =
+      subst (λ (es : List DebugSubstitution). greatest_number f es + most_numbers 4 1 f < 2 ^ 31) (sym entries_same)
+      (subst (λ (g : Function). greatest_number g q.subs + most_numbers 4 1 g < 2 ^ 31) (sym same) scan_has_numbers)
 
-  pub slots_of_copy : (f : Function) → f ≡ q.func → greatest f.slots + MAX_SLOTS * slots_after passes < 2 ^ 31
-  slots_of_copy f same = subst (λ (g : Function). greatest g.slots + MAX_SLOTS * slots_after passes < 2 ^ 31) (sym same) has_slots
+  pub scan_slots : (f : Function) → f ≡ q.func → greatest f.slots + MAX_SLOTS * 1 < 2 ^ 31
+  scan_slots f same = subst (λ (g : Function). greatest g.slots + MAX_SLOTS * 1 < 2 ^ 31) (sym same) scan_has_slots
+
+  -- what linear scan makes of it
+  module _ (reserve : List ℕ) (passes : List PassKind) (accepted : IsAccepted passes) (g : Function) (gs : List DebugSubstitution) (here : List Loss)
+      (scan : IsScanOf reserve (change q.func q.subs g gs) here) where
+    few_scanned : item_count g ≤ MAX_SCANNED
+    few_scanned = le_trans scan.sizes.items (scanned_items (item_count q.func) read.few_items)
+
+    pub has_numbers : greatest_number g gs + numbers_after passes (item_count g) < 2 ^ 31
+    has_numbers =
+        let low = numbers_low meta q read limited in
+        let grown = scan.sizes.numbers in
+        let few = scanned_items (item_count q.func) read.few_items in
+        let more = numbers_more passes (item_count g) MAX_SCANNED few_scanned in
+        let room = accepted.numbers in
+        omega (arith, low, grown, few, more, room)
+
+    pub has_slots : greatest g.slots + MAX_SLOTS * slots_after passes < 2 ^ 31
+    has_slots =
+        let low = greatest_low q.func.slots read.slots in
+        let grown = scan.sizes.slots in
+        let room = accepted.slots in
+        omega (arith, low, grown, room)
 
 -- ---- what they made
 
@@ -158,16 +178,28 @@ source_read meta q read = record {
   form = read.form;
 }
 
-module _ (meta : Maps) (q : Parsed) (passes : List PassKind) (f : Function) (subs : List DebugSubstitution) (read : IsReadFunction meta q.func)
-    (accepted : IsAccepted passes) (physical : IsPhysical q.func) (sound : IsSound f)
-    (following : PreservesSimulation (any_asks passes) (all_keep passes) (change q.func q.subs f subs))
-    (growth : KeepsGrowth passes (change q.func q.subs f subs)) (shown : KeepsShown q.func f) (typed : All IsTypedBlock f.blocks)
-    (entries : All IsTypedEntry subs) where
-  follows : SimulatesSource (source_read meta q read) f subs
-  follows =
-      following.follows (source_read meta q read)
-      (record { objects = refl; follows = follows_itself q.func.blocks read.read (resolve q.subs) q.func.objects })
-      (λ asks. whole_ends_of_itself q.func.blocks read.read (resolve q.subs) q.func.objects)
+-- of a function that was read linear scan made one without virtual registers, and passes another one of that
+module _ (meta : Maps) (q : Parsed) (reserve : List ℕ) (passes : List PassKind) (g : Function) (gs : List DebugSubstitution) (here : List Loss)
+    (f : Function) (subs : List DebugSubstitution) (read : IsReadFunction meta q.func) (scan : IsScanOf reserve (change q.func q.subs g gs) here)
+    (physical : IsPhysical g) (sound : IsSound f) (following : PreservesSimulation (any_asks passes) (all_keep passes) (change g gs f subs))
+    (growth : KeepsGrowth passes (change g gs f subs)) (after : KeepsShown g f) (typed : All IsTypedBlock f.blocks) (entries : All IsTypedEntry subs) where
+  shown : KeepsShown q.func f
+  shown = shown_then q.func g f scan.shown after
+
+  abbrev src : Source
+  src = source_read meta q read
+
+  itself : SimulatesSource src q.func q.subs
+  itself = record { objects = refl; follows = follows_itself q.func.blocks read.read (resolve q.subs) q.func.objects }
+
+  own_ends : EndsAsSource src q.func q.subs
+  own_ends = whole_ends_of_itself q.func.blocks read.read (resolve q.subs) q.func.objects
+
+  scanned : SimulatesSource src g gs
+  scanned = scan.follows.follows src itself (λ asks. own_ends)
+
+  follows : SimulatesSource src f subs
+  follows = following.follows src scanned (λ asks. scan.follows.ends refl src itself own_ends)
 
   abbrev inlined : ℕ → Option ℕ
   inlined = inlined_in meta
@@ -267,42 +299,38 @@ module _ (meta : Maps) (q : Parsed) (passes : List PassKind) (f : Function) (sub
     substitutions = All-weaker IsTypedEntry IsPrintableEntry entry_prints subs entries;
   }
 
--- what passes made of a copy of a function that was read
-module _ (meta : Maps) (q : Parsed) (passes : List PassKind) (g : Function) (gs : List DebugSubstitution) (f : Function) (subs : List DebugSubstitution)
-    (same : g ≡ q.func) (entries_same : gs ≡ q.subs) (read : IsReadFunction meta q.func) (accepted : IsAccepted passes) where
+-- what the passes made is of few items
+module _ (meta : Maps) (q : Parsed) (reserve : List ℕ) (passes : List PassKind) (g : Function) (gs : List DebugSubstitution) (here : List Loss)
+    (f : Function) (subs : List DebugSubstitution) (read : IsReadFunction meta q.func) (limited : All EntryIsLimited q.subs) (accepted : IsAccepted passes)
+    (scan : IsScanOf reserve (change q.func q.subs g gs) here) where
   pub few_after : KeepsGrowth passes (change g gs f subs) → length (items_of f.blocks) ≤ MAX_PASSED
   few_after growth =
-      let few : item_count q.func ≤ MAX_ITEMS = read.few_items in
-      let copied : item_count g ≤ MAX_ITEMS = subst (λ (h : Function). item_count h ≤ MAX_ITEMS) (sym same) few in
-      le_trans growth.items (le_trans (after_more passes (item_count g) MAX_ITEMS copied) accepted.items)
+      le_trans growth.items (le_trans (after_more passes (item_count g) MAX_SCANNED
+      (few_scanned meta q read limited reserve passes accepted g gs here scan)) accepted.items)
 
-  -- calls are among the items of the source, and passes add none
+  -- calls are among the items of the source, and none is added
   pub calls_after : KeepsGrowth passes (change g gs f subs) → call_count f ≤ MAX_ITEMS
   calls_after growth =
       let few : item_count q.func ≤ MAX_ITEMS = read.few_items in
-      let copied : item_count g ≤ MAX_ITEMS = subst (λ (h : Function). item_count h ≤ MAX_ITEMS) (sym same) few in
-      le_trans growth.calls (le_trans (count_by-le-length (λ (i : Item). is_call_kind i.kind) (items_of g.blocks)) copied)
+      le_trans growth.calls (le_trans scan.sizes.calls (le_trans (count_by-le-length (λ (i : Item). is_call_kind i.kind) (items_of q.func.blocks)) few))
 
-  pub made_after : (reserve : List ℕ) (told : List Loss) → KeepsPasses (passes_of reserve passes) (change g gs f subs) told →
+  pub made_after : (later told : List Loss) → KeepsPasses (passes_of_list reserve passes) (change g gs f subs) later → told ≡ here ++ later →
       IsMadeLosing reserve passes (passed_of q f subs) told
-  made_after reserve told kept =
-      subst (λ (es : List DebugSubstitution). KeepsPasses (passes_of reserve passes) (change q.func es f subs) told) entries_same
-      (subst (λ (h : Function). KeepsPasses (passes_of reserve passes) (change h gs f subs) told) same kept)
+  made_after later told kept joined = (g, gs, here, later, scan.kept, kept, joined)
 
-  pub compilable_after : IsPhysical q.func → IsSound f → (Fit passes → PreservesSimulation (any_asks passes) (all_keep passes) (change g gs f subs)) →
+  pub compilable_after : IsPhysical g → IsSound f → (Fit passes → PreservesSimulation (any_asks passes) (all_keep passes) (change g gs f subs)) →
       KeepsGrowth passes (change g gs f subs) → KeepsShown g f → All IsTypedBlock f.blocks → All IsTypedEntry subs →
       IsCompilable meta (passed_of q f subs)
-  compilable_after physical sound following growth shown typed entries =
-      compilable meta q passes f subs read accepted physical sound
-      (subst (λ (es : List DebugSubstitution). PreservesSimulation (any_asks passes) (all_keep passes) (change q.func es f subs)) entries_same
-      (subst (λ (h : Function). PreservesSimulation (any_asks passes) (all_keep passes) (change h gs f subs)) same (following accepted.fit)))
-      (subst (λ (es : List DebugSubstitution). KeepsGrowth passes (change q.func es f subs)) entries_same
-      (subst (λ (h : Function). KeepsGrowth passes (change h gs f subs)) same growth))
-      (subst (λ (h : Function). KeepsShown h f) same shown) typed entries
+  compilable_after physical sound following growth after typed entries =
+      compilable meta q reserve passes g gs here f subs read scan physical sound (following accepted.fit) growth after typed entries
 
 -- so their steps made it
 pub made_by : (reserve : List ℕ) (passes : List PassKind) (p : PassedFunction) (told : List Loss) → IsMadeLosing reserve passes p told →
     IsMadeBy (steps_of reserve passes) p
-made_by reserve passes p told kept =
-    let all = told_steps reserve passes (change p.source.function p.source.substitutions p.function p.substitutions) told kept in
-    record { losses = all.0; kept = all.1 }
+made_by reserve passes p told (g, gs, here, later, kept, rest, joined) =
+    let more = told_steps reserve passes (change g gs p.function p.substitutions) later rest in
+    record {
+      losses = kept.lost ++ more.0;
+      kept = steps_then (scan_steps reserve) (steps_of_list reserve passes) p.source.function p.source.substitutions g gs p.function p.substitutions
+          kept.lost more.0 kept.kept more.1;
+    }

@@ -1,5 +1,5 @@
--- A function that was read, after passes.
-use Rattle.std.specs.Prelude.{ℕ, List, All}
+-- A function that was read, after linear scan and passes.
+use Rattle.std.specs.Prelude.{ℕ, List, ◌∷◌, ◌++◌, All}
 use Rattle.listing_text.specs.Shown.{IsPrintableEntry}
 use Rattle.pass_trait.specs.Change.{change}
 use Rattle.pass_trait.specs.declared.loss.Loss.{Loss}
@@ -12,9 +12,10 @@ use Rattle.mir_func.specs.Function.{Function}
 use Rattle.read_program.specs.declared.closing.Parsed.{Parsed}
 use Rattle.compile_theorem.specs.Source.{SourceFunction, PassedFunction, IsPassedFunction}
 use Rattle.pass_list.specs.declared.kind.PassKind.{PassKind}
-pub use Rattle.pass_manager.specs.Passes.{steps_of, passes_of}
+use Rattle.pass_manager.specs.Passes.{steps_of as steps_of_list, passes_of as passes_of_list}
 use Rattle.pass_manager.specs.Shown.{KeepsShown}
 use Rattle.pass_manager.specs.Told.{KeepsPasses}
+use Rattle.scan_pass.specs.Scanned.{scan_steps}
 
 -- the most items that a function has after passes
 abbrev pub MAX_PASSED : ℕ
@@ -28,16 +29,39 @@ source_of p = record { function = p.func; substitutions = p.subs }
 abbrev pub passed_of : Parsed → (function : Function) → (substitutions : List DebugSubstitution) → PassedFunction
 passed_of p f subs = record { source = source_of p; function = f; substitutions = subs }
 
--- the function that was read has a virtual register
-abbrev pub HasVirtual : Parsed → Type 0
-HasVirtual p = IsPhysical p.func → ⊥
+-- ---- linear scan, which runs before the passes, without a name of its own
+
+-- the steps of linear scan and then of the passes. `reserve` is the registers that may be spilled; linear scan gives none of them
+abbrev pub steps_of : (reserve : List ℕ) → List PassKind → List PassStep
+steps_of reserve passes = scan_steps reserve ++ steps_of_list reserve passes
+
+-- the steps of linear scan, and those of each pass
+abbrev pub passes_of : (reserve : List ℕ) → List PassKind → List (List PassStep)
+passes_of reserve passes = scan_steps reserve ∷ passes_of_list reserve passes
 
 -- the steps of passes, one after the other, made the function from its source
 pub record IsMadeBy (steps : List PassStep) (p : PassedFunction) : Type 0 where
   pub losses : List Loss
   pub kept : KeepsSteps steps (change p.source.function p.source.substitutions p.function p.substitutions) losses
 
--- The passes, one after the other, made the function from its source, and report these losses. `reserve` is the registers that may be spilled.
+-- Linear scan leaves no virtual register in a function that was read.
+pub record GetsRegisters (reserve : List ℕ) (q : Parsed) : Type 0 where
+  pub function : Function
+  pub substitutions : List DebugSubstitution
+  pub made : IsMadeBy (scan_steps reserve) (passed_of q function substitutions)
+  pub physical : IsPhysical function
+
+-- A function that was read names a virtual register, and linear scan leaves one in it.
+pub record LeavesVirtual (reserve : List ℕ) (q : Parsed) : Type 0 where
+  pub named : IsPhysical q.func → ⊥
+  pub function : Function
+  pub substitutions : List DebugSubstitution
+  pub made : IsMadeBy (scan_steps reserve) (passed_of q function substitutions)
+  pub virtual : IsPhysical function → ⊥
+
+-- ---- passes
+
+-- Linear scan and the passes, one after the other, made the function from its source, and report these losses.
 abbrev pub IsMadeLosing : (reserve : List ℕ) → List PassKind → PassedFunction → (told : List Loss) → Type 0
 IsMadeLosing reserve passes p told =
     KeepsPasses (passes_of reserve passes) (change p.source.function p.source.substitutions p.function p.substitutions) told

@@ -9,8 +9,8 @@ use thiserror::Error;
 /// Why passes make nothing of a function.
 #[derive(Debug, Drop, Error)]
 pub enum PassesError {
-    /// It has a virtual register.
-    #[error("a virtual register")]
+    /// Linear scan leaves a virtual register.
+    #[error("no register for a virtual register")]
     NoRegister,
     /// Memory ran out.
     #[error("out of memory")]

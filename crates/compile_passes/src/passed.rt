@@ -1,40 +1,49 @@
-//! A function that was read, after passes.
+//! A function that was read, after linear scan and passes.
 
-ghost use Rattle.std.specs.Prelude.{◌≤◌, All, IfOk, IsErrOf, length};
-ghost use Rattle.compile_passes.specs.Passed.{IsMadeLosing, IsCompilable, MAX_PASSED, passed_of, HasVirtual};
-ghost use Rattle.mir_func.specs.Sound.{AllItems, items_of};
-ghost use Rattle.mir_func.specs.SoundFrame.{HasPhysical};
+ghost use Rattle.std.specs.Prelude.{◌≡◌, ◌+◌, ◌*◌, ◌<◌, ◌≤◌, ◌^◌, false, true, All, IfOk, OnOk, IsErrOf, length};
+ghost use Rattle.compile_passes.specs.Passed.{GetsRegisters, LeavesVirtual, IsMadeLosing, IsCompilable};
+ghost use Rattle.compile_passes.specs.Passed.{MAX_PASSED, passed_of};
+ghost use Rattle.compile_passes.specs.steps.Scan.{IsScanOf};
+ghost use Rattle.mir_func.specs.Limits.{MAX_SLOTS};
+ghost use Rattle.mir_func.specs.Sound.{items_of};
 ghost use Rattle.pass_list.specs.Names.{AreDistinct};
-ghost use Rattle.pass_trait.specs.Sizes.{call_count};
+ghost use Rattle.pass_trait.specs.Change.{change};
+ghost use Rattle.pass_trait.specs.Simulation.{PreservesSimulation};
+ghost use Rattle.pass_trait.specs.Sizes.{IsPhysical, KeepsSizes, call_count, greatest, greatest_number, most_numbers};
+ghost use Rattle.pass_trait.specs.Steps.{KeepsSteps};
 ghost use Rattle.read_body.specs.Limits.{MAX_ITEMS};
 ghost use Rattle.read_proof.specs.Read.{IsReadFunction, EntryIsLimited};
+ghost use Rattle.scan_pass.specs.Scanned.{scan_steps};
 
 use crate::error::PassesError;
 use frame_lowering::physical::is_physical;
+use linear_scan::scan::ScanPass;
 use mir_func::func::Func;
 use mir_substitution::substitutions::Substitutions;
 use mir_type_facts::typed::{blocks_are_typed, entries_are_typed};
 use pass_list::kind::PassKind;
+use pass_losses::told::told;
 use pass_manager::run::run_passes;
 use pass_trait::loss::Losses;
+use pass_trait::pass::Pass;
 use read_metadata::metadata::Metadata;
 use read_program::closing::Parsed;
-use rv64_instr::reg::Reg;
+use rv64_instr::reg::{Reg, Registers};
 use std::alloc::{AllocError, Global};
 
-/// The result of passes on a source.
+/// The result of linear scan, or of linear scan and passes, on a source.
 #[derive(Drop)]
 pub struct Passed {
     /// The function.
     pub function: Func,
     /// Its debug value substitutions, the source's included.
     pub substitutions: Substitutions,
-    /// What the passes lost, in the order of the passes, and in the order of each pass, without duplicates.
+    /// What was lost, in the order of linear scan and the passes, and in the order of each, without duplicates.
     pub losses: Losses,
 }
 
-/// Runs passes, each at most once, on a function that was read with metadata. `reserve` is the registers that may be
-/// spilled. The error is `NoRegister` exactly if the function has a virtual register.
+/// Runs linear scan and then passes, each at most once, on a function that was read with metadata. `reserve` is the
+/// registers that may be spilled. The error is `NoRegister` exactly if linear scan leaves a virtual register.
 pub fn after_passes(
     alloc: Global,
     meta: &Metadata,
@@ -51,36 +60,125 @@ pub fn after_passes(
         IsMadeLosing reserve.now passes.now (passed_of source.now p.function p.substitutions) p.losses) }
     ensures few { IfOk result (λ p. length (items_of p.function.blocks) ≤ MAX_PASSED) }
     ensures calls { IfOk result (λ p. call_count p.function ≤ MAX_ITEMS) }
-    ensures no_register { IsErrOf result PassesError.NoRegister → HasVirtual source.now }
+    ensures registers { IfOk result (λ _. GetsRegisters reserve.now source.now) }
+    ensures no_register { IsErrOf result PassesError.NoRegister → LeavesVirtual reserve.now source.now }
 {
-    if !is_physical(&source.func) {
-        return Err(PassesError::NoRegister);
-    }
-    Ok(run_on(alloc, meta, source, passes, reserve)?)
+    let allocated = with_registers(alloc, meta, source, reserve)?;
+    Ok(passed_behind(alloc, meta, source, allocated, passes, reserve)?)
 }
 
-/// Runs passes on a function without virtual registers.
-fn run_on(
+/// Tests whether linear scan leaves no virtual register in a function that was read with metadata. The error is
+/// `NoRegister` exactly if it leaves one.
+pub fn get_registers(
+    alloc: Global,
+    meta: &Metadata,
+    source: &Parsed,
+    reserve: &[Reg],
+) -> Result<(), PassesError>
+    requires read { IsReadFunction meta.now source.now.func }
+    requires substitutions { All EntryIsLimited source.now.subs }
+    ensures registers { IfOk result (λ _. GetsRegisters reserve.now source.now) }
+    ensures no_register { IsErrOf result PassesError.NoRegister → LeavesVirtual reserve.now source.now }
+{
+    let _allocated = with_registers(alloc, meta, source, reserve)?;
+    Ok(())
+}
+
+/// Runs linear scan on a function that was read with metadata. The error is `NoRegister` exactly if it leaves a virtual
+/// register.
+#[tactic(auto, using(crate::proofs::Scan::leaves_virtual, crate::proofs::Scan::gets_registers))]
+fn with_registers(
+    alloc: Global,
+    meta: &Metadata,
+    source: &Parsed,
+    reserve: &[Reg],
+) -> Result<Passed, PassesError>
+    requires read { IsReadFunction meta.now source.now.func }
+    requires substitutions { All EntryIsLimited source.now.subs }
+    ensures scan { IfOk result (λ p. IsScanOf reserve.now
+        (change source.now.func source.now.subs p.function p.substitutions) p.losses) }
+    ensures physical { IfOk result (λ p. IsPhysical p.function) }
+    ensures registers { IfOk result (λ _. GetsRegisters reserve.now source.now) }
+    ensures no_register { IsErrOf result PassesError.NoRegister → LeavesVirtual reserve.now source.now }
+{
+    let allocated = scanned(alloc, meta, source, reserve)?;
+    if is_physical(&allocated.function) {
+        Ok(allocated)
+    } else {
+        Err(PassesError::NoRegister)
+    }
+}
+
+/// Runs linear scan on a function that was read with metadata. It gives no register of the reserve.
+fn scanned(
     alloc: Global,
     _meta: &Metadata,
     source: &Parsed,
-    passes: &[PassKind],
     reserve: &[Reg],
 ) -> Result<Passed, AllocError>
     requires read { IsReadFunction _meta.now source.now.func }
-    requires physical { AllItems (λ i. HasPhysical i.kind) source.now.func.blocks }
     requires substitutions { All EntryIsLimited source.now.subs }
-    requires distinct { AreDistinct passes.now }
-    ensures compilable { IfOk result (λ p.
-        IsCompilable _meta.now (passed_of source.now p.function p.substitutions)) }
-    ensures made { IfOk result (λ p.
-        IsMadeLosing reserve.now passes.now (passed_of source.now p.function p.substitutions) p.losses) }
-    ensures few { IfOk result (λ p. length (items_of p.function.blocks) ≤ MAX_PASSED) }
-    ensures calls { IfOk result (λ p. call_count p.function ≤ MAX_ITEMS) }
+    ensures { IfOk result (λ p. IsScanOf reserve.now
+        (change source.now.func source.now.subs p.function p.substitutions) p.losses) }
 {
     let mut function = source.func.copy()?;
     let mut substitutions = source.subs.copy()?;
-    let losses = run_passes(alloc, passes, reserve, &mut function, &mut substitutions)?;
+    let given = Registers::from_slice(alloc, reserve)?;
+    let lost = run_scan(alloc, given, &mut function, &mut substitutions)?;
+    let losses = told(lost);
+    Ok(Passed {
+        function,
+        substitutions,
+        losses,
+    })
+}
+
+/// Runs linear scan, and returns its losses in the order in which its steps have them. After an error the function and
+/// its substitutions may only be dropped.
+fn run_scan(
+    alloc: Global,
+    reserve: Registers,
+    f: &mut Func,
+    subs: &mut Substitutions,
+) -> Result<Losses, AllocError>
+    requires numbers { greatest_number f.old subs.old + most_numbers 4 1 f.old < 2 ^ 31 }
+    requires slots { greatest f.old.slots + MAX_SLOTS * 1 < 2 ^ 31 }
+    ensures follows { OnOk result (PreservesSimulation false true (change f.old subs.old f.new subs.new)) }
+    ensures steps { IfOk result (KeepsSteps (scan_steps reserve) (change f.old subs.old f.new subs.new)) }
+    ensures sizes { OnOk result (KeepsSizes 4 1 (change f.old subs.old f.new subs.new)) }
+{
+    ScanPass { reserve }.run(alloc, f, subs)
+}
+
+/// Runs passes on what linear scan made of a function that was read.
+fn passed_behind(
+    alloc: Global,
+    _meta: &Metadata,
+    _source: &Parsed,
+    allocated: Passed,
+    passes: &[PassKind],
+    reserve: &[Reg],
+) -> Result<Passed, AllocError>
+    requires read { IsReadFunction _meta.now _source.now.func }
+    requires substitutions { All EntryIsLimited _source.now.subs }
+    requires distinct { AreDistinct passes.now }
+    requires scanned { IsScanOf reserve.now
+        (change _source.now.func _source.now.subs allocated.function allocated.substitutions) allocated.losses }
+    requires physical { IsPhysical allocated.function }
+    ensures compilable { IfOk result (λ p.
+        IsCompilable _meta.now (passed_of _source.now p.function p.substitutions)) }
+    ensures made { IfOk result (λ p.
+        IsMadeLosing reserve.now passes.now (passed_of _source.now p.function p.substitutions) p.losses) }
+    ensures few { IfOk result (λ p. length (items_of p.function.blocks) ≤ MAX_PASSED) }
+    ensures calls { IfOk result (λ p. call_count p.function ≤ MAX_ITEMS) }
+{
+    let Passed {
+        mut function,
+        mut substitutions,
+        mut losses,
+    } = allocated;
+    let later = run_passes(alloc, passes, reserve, &mut function, &mut substitutions)?;
+    losses.extend_from_slice(later.as_slice())?;
     blocks_are_typed(function.blocks.as_slice());
     entries_are_typed(substitutions.entries());
     Ok(Passed {

@@ -1,6 +1,6 @@
 pub mod Row
-mod Becoming
-mod Shows
+pub mod Becoming
+pub mod Shows
 mod Copies
 mod Dead
 mod Kills
