@@ -16,11 +16,11 @@ use Rattle.dwarf_info.specs.Entries.{named, entry, base_type, variable, variable
 use Rattle.dwarf_info.specs.Entries.{tree_of, header, spelling, HasType, HasTypes}
 use Rattle.dwarf_info.specs.steps.Parts.{type_bytes, variable_bytes, function_bytes, in_table, AreOffsets}
 
-flat_map-map : {X Y : Type 0} (g : Y → List ℕ) (f : X → Y) (xs : List X) → flat_map g (map f xs) ≡ flat_map (λ x. g (f x)) xs
+pub flat_map-map : {X Y : Type 0} (g : Y → List ℕ) (f : X → Y) (xs : List X) → flat_map g (map f xs) ≡ flat_map (λ x. g (f x)) xs
 flat_map-map g f [] = refl
 flat_map-map g f (x ∷ xs) = ap (λ ys. g (f x) ++ ys) (flat_map-map g f xs)
 
-same_parts : {X : Type 0} (P : X → Type 0) (f g : X → List ℕ) → ((x : X) → P x → f x ≡ g x) → (xs : List X) → AllByRecursion P xs
+pub same_parts : {X : Type 0} (P : X → Type 0) (f g : X → List ℕ) → ((x : X) → P x → f x ≡ g x) → (xs : List X) → AllByRecursion P xs
     → flat_map f xs ≡ flat_map g xs
 same_parts P f g each [] are = refl
 same_parts P f g each (x ∷ xs) are = ap (λ y. y ++ flat_map f xs) (each x are.0) ∙ ap (λ ys. g x ++ ys) (same_parts P f g each xs are.1)
@@ -68,7 +68,7 @@ front_le f xs i =
 
 -- ---- offsets by a table
 
-variable_same : (count : ℕ) (f g : ℕ → ℕ) → ((k : ℕ) → k < count → f k ≡ g k) → (name : List ℕ) (argument : Bool) (base : Option ℕ) (list : ℕ)
+pub variable_same : (count : ℕ) (f g : ℕ → ℕ) → ((k : ℕ) → k < count → f k ≡ g k) → (name : List ℕ) (argument : Bool) (base : Option ℕ) (list : ℕ)
     → IfSome base (λ k. k < count) → entry (variable_by f name argument base list) ≡ entry (variable_by g name argument base list)
 variable_same count f g same name true None list has = refl
 variable_same count f g same name true (Some k) list has = ap (λ (n : ℕ). entry (variable_by (λ _. n) name true (Some k) list)) (same k has)

@@ -7,7 +7,7 @@ use Rattle.dwarf_base.specs.Standard.{VERSION, ADDRESS_SIZE}
 use Rattle.dwarf_info.specs.declared.kind.DieKind.{DieKind}
 use Rattle.dwarf_info.specs.declared.kind.DieKind.TheVariants.{CompileUnit, Subprogram, TypedParameter, Parameter, TypedVariable, Variable, BaseType}
 use Rattle.dwarf_info.specs.declared.kind.Form.{Form}
-use Rattle.dwarf_info.specs.declared.kind.Form.TheVariants.{Address, Data1, Data2, Data4, Text, Reference, SectionOffset, LocationList}
+use Rattle.dwarf_info.specs.declared.kind.Form.TheVariants.{Address, Data1, Data2, Data4, Text, Reference, SectionOffset, LocationList, RangeList, Unsigned}
 use Rattle.dwarf_info.specs.declared.kind.Attribute.{Attribute}
 use Rattle.dwarf_info.specs.declared.unit.BaseEntry.{BaseEntry}
 use Rattle.dwarf_info.specs.declared.unit.VariableEntry.{VariableEntry}
@@ -30,6 +30,8 @@ ValueOf Text = List ℕ
 ValueOf Reference = ℕ
 ValueOf SectionOffset = ℕ
 ValueOf LocationList = ℕ
+ValueOf RangeList = ℕ
+ValueOf Unsigned = ℕ
 
 -- the encoding of a value (section 7.5.5)
 abbrev pub value : (form : Form) → ValueOf form → List ℕ
@@ -41,6 +43,8 @@ value Text name = named name ++ 0 ∷ []
 value Reference offset = to_le_bytes w32 offset
 value SectionOffset offset = to_le_bytes w32 offset
 value LocationList n = uleb_of n
+value RangeList n = uleb_of n
+value Unsigned n = uleb_of n
 
 -- a value for each attribute
 abbrev pub Values : List Attribute → Type 0

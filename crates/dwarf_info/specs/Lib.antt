@@ -1,4 +1,5 @@
 pub mod Standard
 pub mod Kinds
 pub mod Entries
+pub mod Inlined
 pub mod steps

@@ -17,6 +17,10 @@ DW_TAG_base_type = 0x24
 abbrev pub DW_TAG_subprogram : ℕ
 DW_TAG_subprogram = 0x2e
 
+-- the code of a function that was inlined at a call
+abbrev pub DW_TAG_inlined_subroutine : ℕ
+DW_TAG_inlined_subroutine = 0x1d
+
 -- a variable that is no parameter
 abbrev pub DW_TAG_variable : ℕ
 DW_TAG_variable = 0x34
@@ -61,6 +65,14 @@ DW_AT_language = 0x13
 abbrev pub DW_AT_comp_dir : ℕ
 DW_AT_comp_dir = 0x1b
 
+-- whether a function was inlined, in its abstract entry
+abbrev pub DW_AT_inline : ℕ
+DW_AT_inline = 0x20
+
+-- the abstract entry of what an entry is an instance of
+abbrev pub DW_AT_abstract_origin : ℕ
+DW_AT_abstract_origin = 0x31
+
 -- the encoding of a base type, such as signed or unsigned
 abbrev pub DW_AT_encoding : ℕ
 DW_AT_encoding = 0x3e
@@ -68,6 +80,26 @@ DW_AT_encoding = 0x3e
 -- the entry of the type of a variable or a parameter
 abbrev pub DW_AT_type : ℕ
 DW_AT_type = 0x49
+
+-- the addresses of an entry's code, as a range list
+abbrev pub DW_AT_ranges : ℕ
+DW_AT_ranges = 0x55
+
+-- the column of a call
+abbrev pub DW_AT_call_column : ℕ
+DW_AT_call_column = 0x57
+
+-- the file of a call, by its number in the line number table
+abbrev pub DW_AT_call_file : ℕ
+DW_AT_call_file = 0x58
+
+-- the line of a call
+abbrev pub DW_AT_call_line : ℕ
+DW_AT_call_line = 0x59
+
+-- the offset in .debug_rnglists of the unit's offsets of range lists
+abbrev pub DW_AT_rnglists_base : ℕ
+DW_AT_rnglists_base = 0x74
 
 -- the offset in .debug_loclists of the unit's offsets of location lists
 abbrev pub DW_AT_loclists_base : ℕ
@@ -101,6 +133,14 @@ DW_FORM_sec_offset = 0x17
 abbrev pub DW_FORM_loclistx : ℕ
 DW_FORM_loclistx = 0x22
 
+-- a range list by its index among the offsets of .debug_rnglists, in ULEB128
+abbrev pub DW_FORM_rnglistx : ℕ
+DW_FORM_rnglistx = 0x23
+
+-- the function was inlined, and not declared so (section 7.21)
+abbrev pub DW_INL_inlined : ℕ
+DW_INL_inlined = 0x01
+
 -- a compilation unit (section 7.5.1)
 abbrev pub DW_UT_compile : ℕ
 DW_UT_compile = 0x01
@@ -112,6 +152,10 @@ DW_LANG_C99 = 0x000c
 -- the offset that the unit's location lists count from: after the header of .debug_loclists, at its first offset (section 7.29)
 abbrev pub LOCLISTS_BASE : ℕ
 LOCLISTS_BASE = 12
+
+-- the offset that the unit's range lists count from: after the header of .debug_rnglists, at its first offset (section 7.28)
+abbrev pub RNGLISTS_BASE : ℕ
+RNGLISTS_BASE = 12
 
 -- the bytes of the unit's header (section 7.5.1.1)
 abbrev pub HEADER_LENGTH : ℕ

@@ -3,12 +3,12 @@
 ghost use Rattle.std.specs.Prelude.{◌≡◌, ◌++◌, OnOk, IfOk};
 ghost use Rattle.std.specs.List.{flat_map};
 ghost use Rattle.dwarf_info.specs.Kinds;
-ghost use Rattle.dwarf_info.specs.Kinds.{form_number, abbreviation, abbreviations};
+ghost use Rattle.dwarf_info.specs.Kinds.{form_number, abbreviation, abbreviations, inlined_abbreviations};
 
 use crate::constants::*;
 use crate::kind::{Attribute, DieKind, Form};
 use base_list::List;
-use dwarf_base::constants::DW_FORM_string;
+use dwarf_base::constants::{DW_FORM_string, DW_FORM_udata};
 use dwarf_base::leb::{Leb, uleb};
 use std::alloc::{AllocError, Global};
 
@@ -119,6 +119,94 @@ pub fn write_abbrev(alloc: Global) -> Result<Bytes, AllocError>
     Ok(List::from(out))
 }
 
+static UNIT_WITH_RANGES: [Attribute; 8] = [
+    Attribute {
+        name: DW_AT_language,
+        form: Form::Data2,
+    },
+    Attribute {
+        name: DW_AT_name,
+        form: Form::Text,
+    },
+    Attribute {
+        name: DW_AT_comp_dir,
+        form: Form::Text,
+    },
+    Attribute {
+        name: DW_AT_stmt_list,
+        form: Form::SectionOffset,
+    },
+    Attribute {
+        name: DW_AT_low_pc,
+        form: Form::Address,
+    },
+    Attribute {
+        name: DW_AT_high_pc,
+        form: Form::Data4,
+    },
+    Attribute {
+        name: DW_AT_loclists_base,
+        form: Form::SectionOffset,
+    },
+    Attribute {
+        name: DW_AT_rnglists_base,
+        form: Form::SectionOffset,
+    },
+];
+
+static ABSTRACT_SUBPROGRAM: [Attribute; 2] = [
+    Attribute {
+        name: DW_AT_name,
+        form: Form::Text,
+    },
+    Attribute {
+        name: DW_AT_inline,
+        form: Form::Data1,
+    },
+];
+
+static INLINED_SUBROUTINE: [Attribute; 5] = [
+    Attribute {
+        name: DW_AT_abstract_origin,
+        form: Form::Reference,
+    },
+    Attribute {
+        name: DW_AT_ranges,
+        form: Form::RangeList,
+    },
+    Attribute {
+        name: DW_AT_call_file,
+        form: Form::Unsigned,
+    },
+    Attribute {
+        name: DW_AT_call_line,
+        form: Form::Unsigned,
+    },
+    Attribute {
+        name: DW_AT_call_column,
+        form: Form::Unsigned,
+    },
+];
+
+/// The section `.debug_abbrev` of entries with inlined functions. The error is out of memory.
+#[tactic(auto, unfolding(crate::specs::Kinds::inlined_abbreviations))]
+pub fn write_inlined_abbrev(alloc: Global) -> Result<Bytes, AllocError>
+    ensures { IfOk result (λ bytes. bytes ≡ inlined_abbreviations) }
+{
+    let mut out = Vec::new(alloc);
+    push_abbreviation(&mut out, DieKind::UnitWithRanges)?;
+    push_abbreviation(&mut out, DieKind::Subprogram)?;
+    push_abbreviation(&mut out, DieKind::TypedParameter)?;
+    push_abbreviation(&mut out, DieKind::Parameter)?;
+    push_abbreviation(&mut out, DieKind::TypedVariable)?;
+    push_abbreviation(&mut out, DieKind::Variable)?;
+    push_abbreviation(&mut out, DieKind::BaseType)?;
+    push_abbreviation(&mut out, DieKind::AbstractSubprogram)?;
+    push_abbreviation(&mut out, DieKind::InlinedSubroutine)?;
+    out.push(0)?;
+    Ok(List::from(out))
+}
+
 /// Appends the abbreviation of a kind.
 #[tactic(auto, unfolding(crate::specs::Kinds::abbreviation))]
 fn push_abbreviation(out: &mut Vec<u8>, kind: DieKind) -> Result<(), AllocError>
@@ -156,6 +244,9 @@ pub fn code(kind: DieKind) -> u8
         DieKind::TypedVariable => 5,
         DieKind::Variable => 6,
         DieKind::BaseType => 7,
+        DieKind::UnitWithRanges => 1,
+        DieKind::AbstractSubprogram => 8,
+        DieKind::InlinedSubroutine => 9,
     }
 }
 
@@ -164,8 +255,9 @@ fn tag(kind: DieKind) -> u8
     ensures { result ≡ Kinds.tag kind }
 {
     match kind {
-        DieKind::CompileUnit => DW_TAG_compile_unit,
-        DieKind::Subprogram => DW_TAG_subprogram,
+        DieKind::CompileUnit | DieKind::UnitWithRanges => DW_TAG_compile_unit,
+        DieKind::Subprogram | DieKind::AbstractSubprogram => DW_TAG_subprogram,
+        DieKind::InlinedSubroutine => DW_TAG_inlined_subroutine,
         DieKind::TypedParameter | DieKind::Parameter => DW_TAG_formal_parameter,
         DieKind::TypedVariable | DieKind::Variable => DW_TAG_variable,
         DieKind::BaseType => DW_TAG_base_type,
@@ -177,12 +269,16 @@ fn children(kind: DieKind) -> u8
     ensures { result ≡ Kinds.children kind }
 {
     match kind {
-        DieKind::CompileUnit | DieKind::Subprogram => DW_CHILDREN_yes,
+        DieKind::CompileUnit
+        | DieKind::UnitWithRanges
+        | DieKind::Subprogram
+        | DieKind::InlinedSubroutine => DW_CHILDREN_yes,
         DieKind::TypedParameter
         | DieKind::Parameter
         | DieKind::TypedVariable
         | DieKind::Variable
-        | DieKind::BaseType => DW_CHILDREN_no,
+        | DieKind::BaseType
+        | DieKind::AbstractSubprogram => DW_CHILDREN_no,
     }
 }
 
@@ -196,6 +292,9 @@ fn attributes(kind: DieKind) -> &'static [Attribute]
         DieKind::TypedParameter | DieKind::TypedVariable => &TYPED,
         DieKind::Parameter | DieKind::Variable => &UNTYPED,
         DieKind::BaseType => &BASE_TYPE,
+        DieKind::UnitWithRanges => &UNIT_WITH_RANGES,
+        DieKind::AbstractSubprogram => &ABSTRACT_SUBPROGRAM,
+        DieKind::InlinedSubroutine => &INLINED_SUBROUTINE,
     }
 }
 
@@ -212,6 +311,8 @@ fn form_number_of(form: Form) -> u8
         Form::Reference => DW_FORM_ref4,
         Form::SectionOffset => DW_FORM_sec_offset,
         Form::LocationList => DW_FORM_loclistx,
+        Form::RangeList => DW_FORM_rnglistx,
+        Form::Unsigned => DW_FORM_udata,
     }
 }
 

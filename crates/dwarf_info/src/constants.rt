@@ -7,6 +7,8 @@ ghost use Rattle.dwarf_info.specs.Standard;
 pub const DW_TAG_formal_parameter: u8 = 0x05;
 /// A compilation unit (section 7.5.3).
 pub const DW_TAG_compile_unit: u8 = 0x11;
+/// The code of a function that was inlined at a call (section 7.5.3).
+pub const DW_TAG_inlined_subroutine: u8 = 0x1d;
 /// A base type of the language (section 7.5.3).
 pub const DW_TAG_base_type: u8 = 0x24;
 /// A function (section 7.5.3).
@@ -35,10 +37,24 @@ pub const DW_AT_high_pc: u8 = 0x12;
 pub const DW_AT_language: u8 = 0x13;
 /// The directory of the compilation (section 7.5.4).
 pub const DW_AT_comp_dir: u8 = 0x1b;
+/// Whether the function was inlined (section 7.5.4).
+pub const DW_AT_inline: u8 = 0x20;
+/// The abstract entry of what the entry is an instance of (section 7.5.4).
+pub const DW_AT_abstract_origin: u8 = 0x31;
 /// The encoding of the type's values (section 7.5.4).
 pub const DW_AT_encoding: u8 = 0x3e;
 /// The type (section 7.5.4).
 pub const DW_AT_type: u8 = 0x49;
+/// The addresses of the code, as a range list (section 7.5.4).
+pub const DW_AT_ranges: u8 = 0x55;
+/// The column of the call (section 7.5.4).
+pub const DW_AT_call_column: u8 = 0x57;
+/// The file of the call (section 7.5.4).
+pub const DW_AT_call_file: u8 = 0x58;
+/// The line of the call (section 7.5.4).
+pub const DW_AT_call_line: u8 = 0x59;
+/// The offset that the unit's range lists count from (section 7.5.4).
+pub const DW_AT_rnglists_base: u8 = 0x74;
 /// The offset that the unit's location lists count from (section 7.5.4).
 pub const DW_AT_loclists_base: u8 = 0x8c;
 
@@ -56,18 +72,25 @@ pub const DW_FORM_ref4: u8 = 0x13;
 pub const DW_FORM_sec_offset: u8 = 0x17;
 /// A location list, by its index (sections 7.5.5 and 7.5.6).
 pub const DW_FORM_loclistx: u8 = 0x22;
+/// A range list, by its index (sections 7.5.5 and 7.5.6).
+pub const DW_FORM_rnglistx: u8 = 0x23;
 
+/// The function was inlined, and not declared so (section 7.21).
+pub const DW_INL_inlined: u8 = 0x01;
 /// A compilation unit (section 7.5.1).
 pub const DW_UT_compile: u8 = 0x01;
 /// C, as of 1999 (section 7.12).
 pub const DW_LANG_C99: u16 = 0x000c;
 /// The offset in `.debug_loclists` after its header (section 7.29).
 pub const LOCLISTS_BASE: u32 = 12;
+/// The offset in `.debug_rnglists` after its header (section 7.28).
+pub const RNGLISTS_BASE: u32 = 12;
 
 /// The constants are the standard's numbers.
 pub fn standard_numbers()
     ensures tag_formal_parameter { DW_TAG_formal_parameter ≡ Standard.DW_TAG_formal_parameter }
     ensures tag_compile_unit { DW_TAG_compile_unit ≡ Standard.DW_TAG_compile_unit }
+    ensures tag_inlined_subroutine { DW_TAG_inlined_subroutine ≡ Standard.DW_TAG_inlined_subroutine }
     ensures tag_base_type { DW_TAG_base_type ≡ Standard.DW_TAG_base_type }
     ensures tag_subprogram { DW_TAG_subprogram ≡ Standard.DW_TAG_subprogram }
     ensures tag_variable { DW_TAG_variable ≡ Standard.DW_TAG_variable }
@@ -81,8 +104,15 @@ pub fn standard_numbers()
     ensures at_high_pc { DW_AT_high_pc ≡ Standard.DW_AT_high_pc }
     ensures at_language { DW_AT_language ≡ Standard.DW_AT_language }
     ensures at_comp_dir { DW_AT_comp_dir ≡ Standard.DW_AT_comp_dir }
+    ensures at_inline { DW_AT_inline ≡ Standard.DW_AT_inline }
+    ensures at_abstract_origin { DW_AT_abstract_origin ≡ Standard.DW_AT_abstract_origin }
     ensures at_encoding { DW_AT_encoding ≡ Standard.DW_AT_encoding }
     ensures at_type { DW_AT_type ≡ Standard.DW_AT_type }
+    ensures at_ranges { DW_AT_ranges ≡ Standard.DW_AT_ranges }
+    ensures at_call_column { DW_AT_call_column ≡ Standard.DW_AT_call_column }
+    ensures at_call_file { DW_AT_call_file ≡ Standard.DW_AT_call_file }
+    ensures at_call_line { DW_AT_call_line ≡ Standard.DW_AT_call_line }
+    ensures at_rnglists_base { DW_AT_rnglists_base ≡ Standard.DW_AT_rnglists_base }
     ensures at_loclists_base { DW_AT_loclists_base ≡ Standard.DW_AT_loclists_base }
     ensures form_addr { DW_FORM_addr ≡ Standard.DW_FORM_addr }
     ensures form_data2 { DW_FORM_data2 ≡ Standard.DW_FORM_data2 }
@@ -91,7 +121,10 @@ pub fn standard_numbers()
     ensures form_ref4 { DW_FORM_ref4 ≡ Standard.DW_FORM_ref4 }
     ensures form_sec_offset { DW_FORM_sec_offset ≡ Standard.DW_FORM_sec_offset }
     ensures form_loclistx { DW_FORM_loclistx ≡ Standard.DW_FORM_loclistx }
+    ensures form_rnglistx { DW_FORM_rnglistx ≡ Standard.DW_FORM_rnglistx }
+    ensures inl_inlined { DW_INL_inlined ≡ Standard.DW_INL_inlined }
     ensures ut_compile { DW_UT_compile ≡ Standard.DW_UT_compile }
     ensures lang_c99 { DW_LANG_C99 ≡ Standard.DW_LANG_C99 }
     ensures loclists_base { LOCLISTS_BASE ≡ Standard.LOCLISTS_BASE }
+    ensures rnglists_base { RNGLISTS_BASE ≡ Standard.RNGLISTS_BASE }
 {}

@@ -130,14 +130,14 @@ fn push_plain_variable(out: &mut Vec<u8>, name: &[u8], list: u32) -> Result<(), 
 }
 
 /// Appends the code of the abbreviation of a kind.
-fn push_code(out: &mut Vec<u8>, kind: DieKind) -> Result<(), AllocError>
+pub fn push_code(out: &mut Vec<u8>, kind: DieKind) -> Result<(), AllocError>
     ensures { OnOk result (out.new.items ≡ out.old.items ++ uleb_of (Kinds.code kind)) }
 {
     push_leb(out, &uleb(code(kind) as u64))
 }
 
 /// Appends a string: a name up to its first zero byte, and a zero byte.
-fn push_text(out: &mut Vec<u8>, name: &[u8]) -> Result<(), AllocError>
+pub fn push_text(out: &mut Vec<u8>, name: &[u8]) -> Result<(), AllocError>
     ensures { OnOk result (out.new.items ≡ out.old.items ++ (named name.now ++ 0 ∷ [])) }
 {
     out.extend_from_slice(text_of(name))?;
@@ -172,7 +172,7 @@ pub fn push_u32(out: &mut Vec<u8>, n: u32) -> Result<(), AllocError>
 }
 
 /// Appends a number of eight bytes.
-fn push_u64(out: &mut Vec<u8>, n: u64) -> Result<(), AllocError>
+pub fn push_u64(out: &mut Vec<u8>, n: u64) -> Result<(), AllocError>
     ensures { OnOk result (out.new.items ≡ out.old.items ++ to_le_bytes w64 n) }
 {
     out.extend_from_slice(&n.to_le_bytes())

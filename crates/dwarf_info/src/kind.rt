@@ -18,6 +18,12 @@ pub enum DieKind {
     Variable,
     /// A base type.
     BaseType,
+    /// The unit of entries among which are inlined functions.
+    UnitWithRanges,
+    /// A function that was inlined, apart from its calls.
+    AbstractSubprogram,
+    /// The code of a function that was inlined at a call.
+    InlinedSubroutine,
 }
 
 /// The form of an attribute's value (DWARF 5 section 7.5.5).
@@ -39,6 +45,10 @@ pub enum Form {
     SectionOffset,
     /// `DW_FORM_loclistx`: a location list's index, in ULEB128.
     LocationList,
+    /// `DW_FORM_rnglistx`: a range list's index, in ULEB128.
+    RangeList,
+    /// `DW_FORM_udata`: a number in ULEB128.
+    Unsigned,
 }
 
 /// An attribute of a kind of entry.

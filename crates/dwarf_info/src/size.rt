@@ -43,7 +43,7 @@ pub fn section_len(u: &Unit) -> usize
 }
 
 /// The bytes of the types.
-fn types_len(types: &[BaseEntry]) -> usize
+pub fn types_len(types: &[BaseEntry]) -> usize
     ensures { result ≡ capped (length (flat_map type_bytes types.now)) }
 {
     let mut len: usize = 0;
@@ -126,7 +126,7 @@ fn variable_len(v: &VariableEntry) -> usize
 }
 
 /// The bytes of the code of a kind's abbreviation.
-fn code_len(kind: DieKind) -> usize
+pub fn code_len(kind: DieKind) -> usize
     ensures exact { result ≡ length (uleb_of (Kinds.code kind)) }
     ensures within { result ≤ 10 }
 {
@@ -134,7 +134,7 @@ fn code_len(kind: DieKind) -> usize
 }
 
 /// The bytes of a string: a name up to its first zero byte, and a zero byte.
-fn text_len(name: &[u8]) -> usize
+pub fn text_len(name: &[u8]) -> usize
     ensures { result ≡ length (named name.now) + 1 }
 {
     text_of(name).len() + 1

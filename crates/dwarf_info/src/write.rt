@@ -38,7 +38,7 @@ pub fn write_info(alloc: Global, u: &Unit) -> Result<Bytes, AllocError>
 }
 
 /// Appends the unit's header.
-fn push_header(out: &mut Vec<u8>, length_after: u32) -> Result<(), AllocError>
+pub fn push_header(out: &mut Vec<u8>, length_after: u32) -> Result<(), AllocError>
     ensures { OnOk result (out.new.items ≡ out.old.items ++ header length_after) }
 {
     push_u32(out, length_after)?;
@@ -49,7 +49,7 @@ fn push_header(out: &mut Vec<u8>, length_after: u32) -> Result<(), AllocError>
 }
 
 /// Appends the entries of types, and notes the offset of each in a table.
-fn push_types(
+pub fn push_types(
     out: &mut Vec<u8>,
     offsets: &mut Vec<u32>,
     types: &[BaseEntry],
@@ -94,7 +94,7 @@ fn push_function(out: &mut Vec<u8>, offsets: &[u32], f: &FunctionEntry) -> Resul
 }
 
 /// Appends variables.
-fn push_variables(
+pub fn push_variables(
     out: &mut Vec<u8>,
     offsets: &[u32],
     variables: &[VariableEntry],

@@ -20,9 +20,9 @@ use Rattle.dwarf_line_table.specs.declared.file.SourceFile.{SourceFile}
 use Rattle.dwarf_line_table.specs.Files.{file_or, function_file, unit_file, is_file, is_name, with_new, first_uses, dirs_of, entry_in, entry_zero}
 use Rattle.std.specs.Option.{option_and_then}
 use Rattle.read_metadata.specs.Metadata.{file_of_scope_at}
-use Rattle.dwarf_line_table.specs.SourcePosition.{scope_line, loc_of}
+use Rattle.dwarf_line_table.specs.SourcePosition.{scope_line, scope_file, loc_of}
 use Rattle.dwarf_line_table.specs.Table.{uses_in}
-use Rattle.dwarf_line_table.specs.Program.{program_files, function_uses, table_of}
+use Rattle.dwarf_line_table.specs.Program.{program_files, function_uses, files_with, table_with}
 
 positive : (b : ℕ) → eqb b 0 ≡ false → 0 < b
 positive b e = let not_zero : b ≡ 0 → ⊥ = eqb-false b 0 e in omega (arith, not_zero)
@@ -78,11 +78,18 @@ zero_clean : (files : List SourceFile) → All IsClean files → All IsNamed (en
 zero_clean [] clean = All-nil IsNamed
 zero_clean (f ∷ files) clean = All-cons IsNamed _ [] (All-head IsClean f files clean).name (All-nil IsNamed)
 
-pub table_names : (meta : Maps) (functions : List SourceAndCode) → HasNames (table_of meta functions)
-unfolding table_of
-table_names meta functions =
-    let files = program_files meta functions in
-    let clean = files_clean meta functions in
+scopes_clean : (meta : Maps) (unit : SourceFile) (scopes : List (Option ℕ)) → IsClean unit → All IsClean (map (scope_file meta unit) scopes)
+scopes_clean meta unit [] clean = All-nil IsClean
+scopes_clean meta unit (scope ∷ scopes) clean =
+    All-cons IsClean _ (map (scope_file meta unit) scopes) (or_clean (option_and_then (file_of_scope_at meta) scope) unit clean)
+    (scopes_clean meta unit scopes clean)
+
+pub table_names : (meta : Maps) (functions : List SourceAndCode) (further : List (Option ℕ)) → HasNames (table_with meta functions further)
+unfolding table_with
+table_names meta functions further =
+    let files = files_with meta functions further in
+    let unit = unit_clean meta (map (λ f. f.source.now.name) functions) in
+    let clean = first_all IsClean is_file _ _ (files_clean meta functions) (scopes_clean meta _ further unit) in
     record {
       dirs = first_all IsName is_name [] (map (λ f. f.dir) files) (All-nil IsName)
           (All-map IsName (λ f. f.dir) files (All-weaker IsClean (λ f. IsName f.dir) (λ f c. c.dir) files clean));

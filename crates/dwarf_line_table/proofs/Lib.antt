@@ -7,6 +7,7 @@ pub mod Locs
 pub mod RowSteps
 pub mod Split
 pub mod SourceTables
+pub mod FurtherSteps
 pub mod Members
 pub mod LineRows
 pub mod Sequences

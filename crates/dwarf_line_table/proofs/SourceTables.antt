@@ -1,7 +1,8 @@
 -- The table of a program, as its functions are gone through.
 -- Plan: as with rows: the sequences listed, with those of the functions left, are all, whatever files join later. A function has at most as
 -- many entries as words, so the files stay few.
-use Rattle.std.proofs.Common.{◌≡◌, ℕ, suc, ◌+◌, ◌*◌, ◌≤◌, ◌<◌, Bool, true, false, cond, List, [], ◌∷◌, ◌++◌, length, refl, sym, ◌∙◌, ap, arith}
+use Rattle.std.proofs.Common.{◌≡◌, ℕ, suc, ◌+◌, ◌*◌, ◌≤◌, ◌<◌, Bool, true, false, cond, List, [], ◌∷◌, ◌++◌, map, length, refl, sym, ◌∙◌, ap, arith}
+use Rattle.std.specs.Prelude.{Option}
 use Rattle.std.proofs.Common.{append_assoc, append-nil, subst}
 use Rattle.std.specs.List.{flat_map}
 use Rattle.dwarf_line.specs.declared.table.Sequence.{Sequence}
@@ -11,8 +12,9 @@ use Rattle.emit_code.specs.Laid.{StandFrom}
 use Rattle.dwarf_line_table.specs.declared.source_and_code.SourceAndCode.{SourceAndCode}
 use Rattle.dwarf_line_table.specs.declared.file.SourceFile.{SourceFile}
 use Rattle.dwarf_line.specs.declared.table.FileEntry.{FileEntry}
-use Rattle.dwarf_line_table.specs.Files.{first_uses, is_file, unit_in, files_of, dirs_of, entries_of}
-use Rattle.dwarf_line_table.specs.Program.{program_file, program_files, function_uses, sequences_of, table_of}
+use Rattle.dwarf_line_table.specs.Files.{first_uses, is_file, unit_in, files_of, number_in, dirs_of, entries_of}
+use Rattle.dwarf_line_table.specs.SourcePosition.{scope_file}
+use Rattle.dwarf_line_table.specs.Program.{program_file, program_files, function_uses, sequences_of, table_of, files_with, table_with, scope_number}
 use Rattle.dwarf_line_table.proofs.FirstUses.{lengthened, uses_append}
 
 -- no more entries than words
@@ -84,17 +86,50 @@ table_next meta unit functions rest f files files_ sequences sequences_ so joins
           ∙ subst P (sym all) (so.listed (longer.0 ++ more));
     }
 
-pub table_done : (meta : Maps) (functions : List SourceAndCode) (unit : SourceFile) (files : List SourceFile) (sequences : List Sequence) (dirs : List (List ℕ))
-    (entries : List FileEntry)
-    → unit ≡ program_file meta functions → TableSoFar meta unit functions [] files sequences → dirs ≡ dirs_of files → entries ≡ entries_of files
-    → record { dirs = dirs; files = entries; sequences = sequences } ≡ table_of meta functions
-unfolding table_of
-table_done meta functions unit files sequences dirs entries unit_is so dirs_are entries_are =
-    let all : files ≡ program_files meta functions = so.known ∙ ap (λ u. files_of u (flat_map (function_uses meta u) functions)) unit_is in
-    let listed : sequences ≡ flat_map (sequences_of (program_files meta functions) meta (program_file meta functions)) functions =
-    sym (append-nil sequences) ∙ so.listed []
-    ∙ ap (λ fs. flat_map (sequences_of fs meta unit) functions) (append-nil files ∙ all)
-    ∙ ap (λ u. flat_map (sequences_of (program_files meta functions) meta u) functions) unit_is in
+-- the files of a program once its functions are gone through, and with further ones
+all_files : (meta : Maps) (functions : List SourceAndCode) (unit : SourceFile) (files : List SourceFile) (sequences : List Sequence) →
+    unit ≡ program_file meta functions → TableSoFar meta unit functions [] files sequences → files ≡ program_files meta functions
+all_files meta functions unit files sequences unit_is so = so.known ∙ ap (λ u. files_of u (flat_map (function_uses meta u) functions)) unit_is
+
+joined_files : (meta : Maps) (functions : List SourceAndCode) (unit : SourceFile) (files joined : List SourceFile) (sequences : List Sequence)
+    (further : List (Option ℕ)) → unit ≡ program_file meta functions → TableSoFar meta unit functions [] files sequences
+    → joined ≡ first_uses is_file files (map (scope_file meta (unit_in files)) further) → joined ≡ files_with meta functions further
+joined_files meta functions unit files joined sequences further unit_is so join =
+    let all = all_files meta functions unit files sequences unit_is so in
+    join ∙ ap (λ u. first_uses is_file files (map (scope_file meta u) further)) (so.led ∙ unit_is)
+    ∙ ap (λ fs. first_uses is_file fs (map (scope_file meta (program_file meta functions)) further)) all
+
+pub table_done_with : (meta : Maps) (functions : List SourceAndCode) (further : List (Option ℕ)) (unit : SourceFile) (files joined : List SourceFile)
+    (sequences : List Sequence) (dirs : List (List ℕ)) (entries : List FileEntry)
+    → unit ≡ program_file meta functions → TableSoFar meta unit functions [] files sequences
+    → joined ≡ first_uses is_file files (map (scope_file meta (unit_in files)) further) → dirs ≡ dirs_of joined → entries ≡ entries_of joined
+    → record { dirs = dirs; files = entries; sequences = sequences } ≡ table_with meta functions further
+unfolding table_with
+table_done_with meta functions further unit files joined sequences dirs entries unit_is so join dirs_are entries_are =
+    let all : joined ≡ files_with meta functions further = joined_files meta functions unit files joined sequences further unit_is so join in
+    let longer = lengthened is_file files (map (scope_file meta (unit_in files)) further) in
+    let longer_is : files ++ longer.0 ≡ files_with meta functions further = sym (join ∙ longer.1) ∙ all in
+    let listed : sequences ≡ flat_map (sequences_of (files_with meta functions further) meta (program_file meta functions)) functions =
+    sym (append-nil sequences) ∙ so.listed longer.0
+    ∙ ap (λ fs. flat_map (sequences_of fs meta unit) functions) longer_is
+    ∙ ap (λ u. flat_map (sequences_of (files_with meta functions further) meta u) functions) unit_is in
     let dirs_all = dirs_are ∙ ap dirs_of all in
     let entries_all = entries_are ∙ ap entries_of all in
     λ i. record { dirs = dirs_all i; files = entries_all i; sequences = listed i }
+
+pub numbers_done : (meta : Maps) (functions : List SourceAndCode) (further : List (Option ℕ)) (unit : SourceFile) (files joined : List SourceFile)
+    (sequences : List Sequence) (numbers : List ℕ)
+    → unit ≡ program_file meta functions → TableSoFar meta unit functions [] files sequences
+    → joined ≡ first_uses is_file files (map (scope_file meta (unit_in files)) further)
+    → ((more : List SourceFile) → numbers ≡ map (λ scope. number_in (joined ++ more) (scope_file meta (unit_in files) scope)) further)
+    → numbers ≡ map (scope_number meta functions further) further
+numbers_done meta functions further unit files joined sequences numbers unit_is so join are =
+    let all : joined ++ [] ≡ files_with meta functions further =
+    append-nil joined ∙ joined_files meta functions unit files joined sequences further unit_is so join in
+    are [] ∙ ap (λ fs. map (λ scope. number_in fs (scope_file meta (unit_in files) scope)) further) all
+    ∙ ap (λ u. map (λ scope. number_in (files_with meta functions further) (scope_file meta u scope)) further) (so.led ∙ unit_is)
+
+-- without further files it is the table of the program
+pub no_further : (meta : Maps) (functions : List SourceAndCode) → table_with meta functions [] ≡ table_of meta functions
+unfolding table_with table_of
+no_further meta functions = refl

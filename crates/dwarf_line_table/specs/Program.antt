@@ -1,5 +1,5 @@
 -- The line number table of a program.
-use Rattle.std.specs.Prelude.{ℕ, ◌+◌, ◌*◌, List, [], ◌∷◌, map, length, None}
+use Rattle.std.specs.Prelude.{ℕ, ◌+◌, ◌*◌, List, [], ◌∷◌, map, length, Option, None}
 use Rattle.std.specs.List.{flat_map}
 use Rattle.dwarf_line.specs.declared.table.Row.{Row}
 use Rattle.dwarf_line.specs.declared.table.Sequence.{Sequence}
@@ -7,7 +7,8 @@ use Rattle.dwarf_line.specs.declared.table.LineTable.{LineTable}
 use Rattle.read_metadata.specs.Maps.{Maps}
 use Rattle.dwarf_line_table.specs.declared.source_and_code.SourceAndCode.{SourceAndCode}
 use Rattle.dwarf_line_table.specs.declared.file.SourceFile.{SourceFile}
-use Rattle.dwarf_line_table.specs.Files.{unit_file, files_of, dirs_of, entries_of}
+use Rattle.dwarf_line_table.specs.Files.{unit_file, first_uses, is_file, files_of, number_in, dirs_of, entries_of}
+use Rattle.dwarf_line_table.specs.SourcePosition.{scope_file}
 use Rattle.dwarf_line_table.specs.Table.{changes, uses_in, rows_in}
 
 -- the most functions of a program's table
@@ -43,6 +44,22 @@ sequences_of files meta unit f = sequence_if (rows_of files meta unit f) (functi
 -- the files of a program's table, from number 1 on
 abbrev pub program_files : Maps → List SourceAndCode → List SourceFile
 program_files meta functions = files_of (program_file meta functions) (flat_map (function_uses meta (program_file meta functions)) functions)
+
+-- the files of a program's table with those of further scopes behind them
+abbrev pub files_with : Maps → List SourceAndCode → (further : List (Option ℕ)) → List SourceFile
+files_with meta functions further = first_uses is_file (program_files meta functions) (map (scope_file meta (program_file meta functions)) further)
+
+-- the table of a program, with the files of further scopes
+unfoldable pub table_with : Maps → List SourceAndCode → (further : List (Option ℕ)) → LineTable
+table_with meta functions further = record {
+  dirs = dirs_of (files_with meta functions further);
+  files = entries_of (files_with meta functions further);
+  sequences = flat_map (sequences_of (files_with meta functions further) meta (program_file meta functions)) functions;
+}
+
+-- the number of a scope's file in that table
+abbrev pub scope_number : Maps → List SourceAndCode → (further : List (Option ℕ)) → Option ℕ → ℕ
+scope_number meta functions further scope = number_in (files_with meta functions further) (scope_file meta (program_file meta functions) scope)
 
 -- the table of a program
 unfoldable pub table_of : Maps → List SourceAndCode → LineTable

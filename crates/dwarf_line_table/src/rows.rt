@@ -30,7 +30,7 @@ fn readable_file(meta: &Metadata, scope: Option<NodeId>) -> Option<&FileNode>
 }
 
 /// The number of the file of a scope, or of the unit's file if that isn't readable.
-fn file_number(
+pub fn file_number(
     alloc: Global,
     files: &mut Files,
     meta: &Metadata,

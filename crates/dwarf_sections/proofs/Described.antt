@@ -14,12 +14,12 @@ pub record SoFar (functions : List SourceAndCode) (i : ℕ) (table : List FrameD
   pub describe : AllZip Describes (map (λ c. c.code.now) (take i functions)) table
   pub writable : All IsDescription table
 
-described_push : (codes : List LaidCode) (table : List FrameDescription) (c : LaidCode) (d : FrameDescription) → AllZip Describes codes table → Describes c d
-    → AllZip Describes (codes ++ c ∷ []) (table ++ d ∷ [])
-described_push [] [] c d each is = (is, each)
-described_push [] (t ∷ table) c d each is = absurd each
-described_push (x ∷ codes) [] c d each is = absurd each
-described_push (x ∷ codes) (t ∷ table) c d each is = (each.0, described_push codes table c d each.1 is)
+pub zip_push : {A B : Type 0} (R : A → B → Type 0) (xs : List A) (ys : List B) (x : A) (y : B) → AllZip R xs ys → R x y
+    → AllZip R (xs ++ x ∷ []) (ys ++ y ∷ [])
+zip_push R [] [] x y each is = (is, each)
+zip_push R [] (z ∷ ys) x y each is = absurd each
+zip_push R (z ∷ xs) [] x y each is = absurd each
+zip_push R (z ∷ xs) (w ∷ ys) x y each is = (each.0, zip_push R xs ys x y each.1 is)
 
 pub begin : (functions : List SourceAndCode) → SoFar functions 0 []
 begin functions = record { describe = tt; writable = All-nil IsDescription }
@@ -35,6 +35,6 @@ more functions i table next c d inside at so describes writable pushed =
     (record {
       describe =
           subst (λ (cs : List LaidCode). AllZip Describes cs (table ++ d ∷ [])) (sym longer)
-          (described_push (codes (take i functions)) table c.code.now d so.describe describes);
+          (zip_push Describes (codes (take i functions)) table c.code.now d so.describe describes);
       writable = All-append IsDescription table (d ∷ []) so.writable (All-cons IsDescription d [] writable (All-nil IsDescription));
     })

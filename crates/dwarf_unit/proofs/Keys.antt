@@ -28,3 +28,7 @@ keys_are x y = ap (λ b. nat_eq x.0 y.0 && b) (nodes_are x.1 y.1)
 
 pub node_same : (n : ℕ) → nat_eq n n ≡ true
 node_same n = eq-eqb n n refl
+
+pub option_same : (o : Option ℕ) → option_eq nat_eq o o ≡ true
+option_same None = refl
+option_same (Some n) = node_same n

@@ -1,11 +1,11 @@
 -- The type of each variable is there.
 -- Plan: what is used is among the first uses, so its place is below their number.
-use Rattle.std.proofs.Common.{◌≡◌, ℕ, suc, ◌+◌, ◌<◌, Bool, true, false, ◌||◌, List, [], ◌∷◌, ◌++◌, length, refl, sym, ◌∙◌, ap, arith, Some, None}
+use Rattle.std.proofs.Common.{◌≡◌, ℕ, suc, ◌+◌, ◌<◌, Bool, true, false, ◌||◌, List, [], ◌∷◌, ◌++◌, length, sym, ◌∙◌, ap, arith, Some, None}
 use Rattle.std.proofs.Common.{true≢false, cond, not}
 use Rattle.std.specs.Prelude.{Option, All, nat_eq, IfSome}
 use Rattle.std.specs.List.{flat_map, list_any, position_or_len}
 use Rattle.std.proofs.lemmas.List.{length-map}
-use Rattle.std.proofs.lemmas.List.Elements.{All-nil, All-cons, All-head, All-tail}
+use Rattle.std.proofs.lemmas.List.Elements.{All-nil, All-cons, All-head, All-tail, All-weaker}
 use Rattle.std.proofs.lemmas.List.Folds.{list_any-append}
 use Rattle.dwarf_info.specs.Entries.{HasType, HasTypes}
 use Rattle.read_metadata.specs.Maps.{Maps}
@@ -20,7 +20,7 @@ use Rattle.dwarf_unit.specs.Unit.{functions_from, program_types, base_entries, u
 use Rattle.dwarf_unit.proofs.Keys.{node_same}
 
 -- a place that is found is below the length
-found_below : {X : Type 0} (p : X → Bool) (xs : List X) → list_any p xs ≡ true → position_or_len p xs < length xs
+pub found_below : {X : Type 0} (p : X → Bool) (xs : List X) → list_any p xs ≡ true → position_or_len p xs < length xs
 found_below p [] h = absurd (true≢false (sym h))
 found_below p (x ∷ xs) h = by (p x) h (found_below p xs)
   where
@@ -29,29 +29,30 @@ found_below p (x ∷ xs) h = by (p x) h (found_below p xs)
     by true found rest = omega arith
     by false found rest = let below = rest found in omega (arith, below)
 
-Below : List ℕ → ℕ → Type 0
+pub Below : List ℕ → ℕ → Type 0
 Below types node = position_or_len (nat_eq node) types < length types
 
-or_true : (b : Bool) → (true || b) ≡ true
-or_true b = refl
+-- each that is used is there
+pub used_any : {X : Type 0} (is : X → X → Bool) → ((x : X) → is x x ≡ true) → (known xs : List X) → All (λ x. list_any (is x) (first_uses is known xs) ≡ true) xs
+used_any is same known [] = All-nil _
+used_any {X} is same known (x ∷ xs) =
+    let more = lengthened is (with_new is known x) xs in
+    let there : list_any (is x) (first_uses is (with_new is known x) xs) ≡ true =
+    ap (list_any (is x)) more.1 ∙ list_any-append (is x) (with_new is known x) more.0 ∙ ap (λ b. b || list_any (is x) more.0) (joined is same known x) in
+    All-cons (λ (y : X). list_any (is y) (first_uses is (with_new is known x) xs) ≡ true) x xs there (used_any is same (with_new is known x) xs)
 
--- each that is used has a place
-used : (known xs : List ℕ) → All (Below (first_uses nat_eq known xs)) xs
+-- so it has a place
+pub used : (known xs : List ℕ) → All (Below (first_uses nat_eq known xs)) xs
 unfolding Below
-used known [] = All-nil _
-used known (x ∷ xs) =
-    let more = lengthened nat_eq (with_new nat_eq known x) xs in
-    let there : list_any (nat_eq x) (first_uses nat_eq (with_new nat_eq known x) xs) ≡ true =
-    ap (list_any (nat_eq x)) more.1 ∙ list_any-append (nat_eq x) (with_new nat_eq known x) more.0 ∙ ap (λ b. b || list_any (nat_eq x) more.0)
-    (joined nat_eq node_same known x) in
-    All-cons (Below (first_uses nat_eq (with_new nat_eq known x) xs)) x xs (found_below (nat_eq x) (first_uses nat_eq (with_new nat_eq known x) xs) there)
-    (used (with_new nat_eq known x) xs)
+used known xs =
+    let all = first_uses nat_eq known xs in
+    All-weaker (λ (x : ℕ). list_any (nat_eq x) all ≡ true) (Below all) (λ x there. found_below (nat_eq x) all there) xs (used_any nat_eq node_same known xs)
 
-front : {X : Type 0} (P : X → Type 0) (xs ys : List X) → All P (xs ++ ys) → All P xs
+pub front : {X : Type 0} (P : X → Type 0) (xs ys : List X) → All P (xs ++ ys) → All P xs
 front P [] ys all = All-nil P
 front P (x ∷ xs) ys all = All-cons P x xs (All-head P x (xs ++ ys) all) (front P xs ys (All-tail P x (xs ++ ys) all))
 
-back : {X : Type 0} (P : X → Type 0) (xs ys : List X) → All P (xs ++ ys) → All P ys
+pub back : {X : Type 0} (P : X → Type 0) (xs ys : List X) → All P (xs ++ ys) → All P ys
 back P [] ys all = all
 back P (x ∷ xs) ys all = back P xs ys (All-tail P x (xs ++ ys) all)
 
@@ -62,7 +63,7 @@ typed_in types None count e all = tt
 typed_in types (Some node) count e all = let below : position_or_len (nat_eq node) types < length types = All-head (Below types) node [] all in omega
     (arith, e, below)
 
-typed_node : (meta : Maps) (types : List ℕ) (o : Option VariableNode) (k count : ℕ) → count ≡ length types → All (Below types) (node_uses meta o)
+pub typed_node : (meta : Maps) (types : List ℕ) (o : Option VariableNode) (k count : ℕ) → count ≡ length types → All (Below types) (node_uses meta o)
     → HasType count (node_entry meta types o k)
 typed_node meta types None k count e all = tt
 typed_node meta types (Some d) k count e all = typed_in types (readable_type meta d.base) count e all

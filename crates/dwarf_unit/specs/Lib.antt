@@ -1,3 +1,4 @@
 pub mod Unit
 pub mod Variables
+pub mod Inlined
 pub mod steps

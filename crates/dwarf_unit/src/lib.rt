@@ -4,6 +4,8 @@
 #![tactic(auto)]
 
 pub mod function;
+pub mod inlined;
+pub mod subprograms;
 pub mod types;
 pub mod unit;
 pub mod variable;

@@ -59,7 +59,7 @@ fn described(
 }
 
 /// The entry of a variable.
-fn variable_entry(
+pub fn variable_entry(
     alloc: Global,
     types: &mut Types,
     meta: &Metadata,

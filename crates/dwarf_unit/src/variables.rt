@@ -82,7 +82,8 @@ impl Known {
     }
 }
 
-fn number(node: Option<NodeId>) -> Option<u32>
+/// The number of a node, if there is one.
+pub fn number(node: Option<NodeId>) -> Option<u32>
     ensures { result ≡ node }
 {
     node.map(|n| n.number())

@@ -16,7 +16,7 @@ by_order k q Less lt = sym (ne_eqb k q (λ e. let same : k ≡ q = e in omega (a
 by_order k q Equal e = sym (eq-eqb k q e)
 by_order k q Greater gt = sym (ne_eqb k q (λ e. let same : k ≡ q = e in omega (arith, gt)))
 
-other_key : (k q : ℕ) → (q ≡ k → ⊥) → is_at (nat_cmp k) q ≡ false
+pub other_key : (k q : ℕ) → (q ≡ k → ⊥) → is_at (nat_cmp k) q ≡ false
 other_key k q other = by_order k q (nat_cmp k q) (ranked k q (nat_cmp k q) refl) ∙ ne_eqb k q (λ e. other (sym e))
 
 abbrev pub mark : BTreeMap ℕ (Option ℕ) → ℕ → Option (Option ℕ)

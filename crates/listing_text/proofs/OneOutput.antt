@@ -1,7 +1,8 @@
 -- A text shows at most one output.
 use Rattle.std.specs.Prelude.{Bool, true, false, nat_eq, nat_lt, codes, All, IfSome}
 use Rattle.std.specs.List.{flat_map}
-use Rattle.std.proofs.Common.{◌≡◌, ℕ, ◌<◌, List, [], ◌∷◌, ◌++◌, length, Option, Some, None, arith, ap, sym, ◌∙◌, refl, append_assoc, append-nil, subst, ◌^◌}
+use Rattle.std.proofs.Common.{◌≡◌, ℕ, ◌<◌, List, [], ◌∷◌, ◌++◌, length, drop, Option, Some, None, arith, ap, sym, ◌∙◌, refl, append_assoc, append-nil, subst}
+use Rattle.std.proofs.Common.{◌^◌}
 use Rattle.std.proofs.lemmas.Bool.{ne_eqb, lt-ltb}
 use Rattle.std.proofs.lemmas.List.Elements.{All-head, All-tail}
 use Rattle.mir_func.specs.declared.position.Origin.{Origin}
@@ -179,6 +180,33 @@ section_if_one name (Some a) None r s small other stop stops e = let both : fals
 section_if_one name (Some a) (Some b) r s small other stop stops e =
     let one = section_one name a b r s small other e in (ap (λ (bytes : List ℕ). Some bytes) one.0, one.1)
 
+-- Of two sections that may be absent one after the other the first byte of the name tells which stands there. A text with the first begins with
+-- `section .debug_f`, one with the second alone with `section .debug_r`, and one with neither begins no section.
+abbrev tells_frame : List ℕ → Bool
+tells_frame xs = begins_with 102 (drop 15 xs)
+
+section_if_before : (name other : List ℕ) (a b c d : Option (List ℕ)) (r s : List ℕ) → IfSome a (λ bytes. IsNumber (length bytes))
+    → IfSome b (λ bytes. IsNumber (length bytes)) → IfSome c (λ bytes. IsNumber (length bytes)) → IfSome d (λ bytes. IsNumber (length bytes))
+    → begins_with 115 r ≡ false → begins_with 115 s ≡ false
+    → ((x y : List ℕ) (z w : List ℕ) → section_text name x ++ z ≡ section_text other y ++ w → ⊥)
+    → section_if name a ++ (section_if other c ++ r) ≡ section_if name b ++ (section_if other d ++ s) → (a ≡ b) × (c ≡ d) × (r ≡ s)
+section_if_before name other None None c d r s sa sb sc sd stop stops apart e =
+    let one = section_if_one other c d r s sc sd stop stops e in (refl, one.0, one.1)
+section_if_before name other (Some a) (Some b) c d r s sa sb sc sd stop stops apart e =
+    let one = section_one name a b _ _ sa sb e in
+    let rest = section_if_one other c d r s sc sd stop stops one.1 in
+    (ap (λ (bytes : List ℕ). Some bytes) one.0, rest.0, rest.1)
+section_if_before name other None (Some b) None d r s sa sb sc sd stop stops apart e =
+    let both : false ≡ true = sym stop ∙ ap (begins_with 115) e in absurd cc
+section_if_before name other None (Some b) (Some c) d r s sa sb sc sd stop stops apart e = absurd (apart b c _ _ (sym e))
+section_if_before name other (Some a) None c None r s sa sb sc sd stop stops apart e =
+    let both : false ≡ true = sym stops ∙ ap (begins_with 115) (sym e) in absurd cc
+section_if_before name other (Some a) None c (Some d) r s sa sb sc sd stop stops apart e = absurd (apart a d _ _ e)
+
+-- the section of call frame information is none of range lists
+frame_apart : (x y z w : List ℕ) → section_text (codes ".debug_frame") x ++ z ≡ section_text (codes ".debug_rnglists") y ++ w → ⊥
+frame_apart x y z w e = let both : true ≡ false = ap tells_frame e in absurd cc
+
 -- ---- blocks
 
 abbrev EndsLines : List ℕ → Type 0
@@ -303,34 +331,36 @@ module _ (inlined : ℕ → Option ℕ) where
   output_one o p is others e =
       let left = output_parts (section_text (codes ".text") o.text) (section_text (codes ".debug_abbrev") o.abbreviations)
       (section_text (codes ".debug_info") o.info) (section_text (codes ".debug_line") o.rows) (section_text (codes ".debug_loclists") o.loclists)
-      (section_if (codes ".debug_frame") o.frame) (listing_text o.functions) in
+      (section_if (codes ".debug_frame") o.frame) (section_if (codes ".debug_rnglists") o.ranges) (listing_text o.functions) in
       let right = output_parts (section_text (codes ".text") p.text) (section_text (codes ".debug_abbrev") p.abbreviations)
       (section_text (codes ".debug_info") p.info) (section_text (codes ".debug_line") p.rows) (section_text (codes ".debug_loclists") p.loclists)
-      (section_if (codes ".debug_frame") p.frame) (listing_text p.functions) in
+      (section_if (codes ".debug_frame") p.frame) (section_if (codes ".debug_rnglists") p.ranges) (listing_text p.functions) in
       let text = section_one (codes ".text") o.text p.text _ _ is.text others.text (sym left ∙ (e ∙ right)) in
       let abbreviations = section_one (codes ".debug_abbrev") o.abbreviations p.abbreviations _ _ is.abbreviations others.abbreviations text.1 in
       let info = section_one (codes ".debug_info") o.info p.info _ _ is.info others.info abbreviations.1 in
       let rows = section_one (codes ".debug_line") o.rows p.rows _ _ is.rows others.rows info.1 in
       let lists = section_one (codes ".debug_loclists") o.loclists p.loclists _ _ is.loclists others.loclists rows.1 in
-      let frame = section_if_one (codes ".debug_frame") o.frame p.frame _ _ is.frame others.frame (no_section o.functions is.functions)
-      (no_section p.functions others.functions) lists.1 in
+      let may = section_if_before (codes ".debug_frame") (codes ".debug_rnglists") o.frame p.frame o.ranges p.ranges _ _ is.frame others.frame is.ranges
+      others.ranges (no_section o.functions is.functions) (no_section p.functions others.functions) frame_apart lists.1 in
       let end : EndsFunction [] = record { lines = refl; blocks = refl; objects = refl; variables = refl; substitutions = refl } in
       let functions = many_one (IsPrintableFunction inlined) function_text begins_function EndsFunction functions_tell o.functions p.functions [] []
-      is.functions others.functions refl refl end end frame.1 in
+      is.functions others.functions refl refl end end may.2 in
       λ k. record {
         text = text.0 k;
         abbreviations = abbreviations.0 k;
         info = info.0 k;
         rows = rows.0 k;
         loclists = lists.0 k;
-        frame = frame.0 k;
+        frame = may.0 k;
+        ranges = may.1 k;
         functions = functions.0 k;
       }
     where
-      output_parts : (a b c d e f g : List ℕ) → (a ++ b ++ c ++ d ++ e ++ f) ++ g ≡ a ++ (b ++ (c ++ (d ++ (e ++ (f ++ (g ++ []))))))
-      output_parts a b c d e f g =
-          let grouped : (a ++ b ++ c ++ d ++ e ++ f) ++ g ≡ a ++ (b ++ (c ++ (d ++ (e ++ (f ++ g))))) = simp append_assoc in
-          grouped ∙ ap (λ (t : List ℕ). a ++ (b ++ (c ++ (d ++ (e ++ (f ++ t)))))) (sym (append-nil g))
+      output_parts : (a b c d e f g h : List ℕ) → (a ++ b ++ c ++ d ++ e ++ f ++ g) ++ h
+          ≡ a ++ (b ++ (c ++ (d ++ (e ++ (f ++ (g ++ (h ++ [])))))))
+      output_parts a b c d e f g h =
+          let grouped : (a ++ b ++ c ++ d ++ e ++ f ++ g) ++ h ≡ a ++ (b ++ (c ++ (d ++ (e ++ (f ++ (g ++ h)))))) = simp append_assoc in
+          grouped ∙ ap (λ (t : List ℕ). a ++ (b ++ (c ++ (d ++ (e ++ (f ++ (g ++ t))))))) (sym (append-nil h))
 
 pub one_reading : (inlined : ℕ → Option ℕ) (text : List ℕ) (o p : Output) → Shows inlined text o → Shows inlined text p → o ≡ p
 one_reading inlined text o p is others = output_one inlined o p is.printable others.printable (sym is.spelled ∙ others.spelled)

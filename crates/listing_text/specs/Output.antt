@@ -35,11 +35,12 @@ abbrev pub section_if : (name : List ℕ) → Option (List ℕ) → List ℕ
 section_if name None = []
 section_if name (Some bytes) = section_text name bytes
 
--- all sections: the code first, and then those of DWARF, of which the last may be absent
+-- all sections: the code first, and then those of DWARF, of which the last two may be absent
 abbrev pub sections_text : Output → List ℕ
 sections_text o = section_text (codes ".text") o.text ++ section_text (codes ".debug_abbrev") o.abbreviations
     ++ section_text (codes ".debug_info") o.info ++ section_text (codes ".debug_line") o.rows
     ++ section_text (codes ".debug_loclists") o.loclists ++ section_if (codes ".debug_frame") o.frame
+    ++ section_if (codes ".debug_rnglists") o.ranges
 
 -- ---- a function's own lines
 

@@ -104,6 +104,7 @@ pub record IsPrintableOutput (inlined : ℕ → Option ℕ) (o : Output) : Type 
   pub rows : IsNumber (length o.rows)
   pub loclists : IsNumber (length o.loclists)
   pub frame : IfSome o.frame (λ bytes. IsNumber (length bytes))
+  pub ranges : IfSome o.ranges (λ bytes. IsNumber (length bytes))
   pub functions : All (IsPrintableFunction inlined) o.functions
 
 -- the text is that of the output, which is printable

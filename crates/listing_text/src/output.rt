@@ -134,6 +134,8 @@ pub struct Output {
     pub loclists: Bytes,
     /// `.debug_frame`, if it was asked for.
     pub frame: Option<Bytes>,
+    /// `.debug_rnglists`, if inlined functions were asked for.
+    pub ranges: Option<Bytes>,
     /// The functions.
     pub functions: ListedFunctions,
 }

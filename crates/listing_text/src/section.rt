@@ -17,7 +17,8 @@ pub(crate) fn push_sections(text: &mut Text, output: &Output) -> Result<(), Allo
     push_section(text, ".debug_info", &output.info)?;
     push_section(text, ".debug_line", &output.rows)?;
     push_section(text, ".debug_loclists", &output.loclists)?;
-    push_section_if(text, ".debug_frame", &output.frame)
+    push_section_if(text, ".debug_frame", &output.frame)?;
+    push_section_if(text, ".debug_rnglists", &output.ranges)
 }
 
 /// Appends a section, if there is one.

@@ -2,7 +2,7 @@ use Rattle.std.proofs.Common.{drop}
 use Rattle.std.specs.Prelude.{All}
 use Rattle.dwarf_line.specs.Table.{IsSequence}
 use Rattle.dwarf_line_table.proofs.SourceTables.{TableSoFar}
-use Rattle.dwarf_line_table.proofs.line_table.line_table.Given as goal
+use Rattle.dwarf_line_table.proofs.line_table.line_table_with.Given as goal
 
 abbrev pub invariant-loop-function : goal.invariant-loop-function
 invariant-loop-function l = record {

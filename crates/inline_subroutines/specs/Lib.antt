@@ -1,0 +1,4 @@
+pub mod Subprogram
+pub mod Subroutines
+pub mod Laws
+pub mod steps
