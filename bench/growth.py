@@ -12,7 +12,10 @@
   bench/growth.py layout              of frame and layout, on items, blocks and slots
   bench/growth.py locations           of frame, layout, values over all paths and location lists, on blocks, items and variables
   bench/growth.py sections            what the sections of `compile` take beside its listing, on functions with variables and lines
+  bench/growth.py inlined             what `--inline` takes, on locations in chains of calls, calls around all locations, and items
   bench/growth.py passes              of copies, constants and spilled registers, in one block and in 1,024 blocks
+  bench/growth.py scan                the whole run of `compile --passes=none` on a function with virtual registers, beside the same function with physical
+                                      ones, and the registers' growth
   bench/growth.py worst [KIND..]      the whole run of `compile` on texts that were made to be slow: ladder, rounds, dead, swing, chain, ring, copies,
                                       lines, marks, meets, all
   bench/growth.py lex                 the whole run of crates/mirdwarf_bench/out/mirdwarf_bench, on texts of 1, 2 and 4 MiB
@@ -244,6 +247,23 @@ def lined(number):
     return b"".join(head) + b"...\n" + b"".join(b"---\nname: f%d\nbody: |\n  bb.0:\n%s    PseudoRET\n...\n" % (n, body) for n in range(number))
 
 
+def inlined(items, locations, calls, shared=0):
+    """A function of so many items, at so many locations one after the other, each inlined through so many calls of its own, and in these through so many that all share."""
+    call = b"  !%d = !DILocation(line: %d, column: %d, scope: !%d"
+    head = [b"--- |\n  !1 = !DIFile(filename: \"t.c\", directory: \"/d\")\n",
+            *(b"  !%d = distinct !DISubprogram(name: \"%s\", scope: !1, file: !1, line: %d)\n" % (n, name, n) for n, name in ((2, b"f"), (3, b"g")))]
+    for n in range(shared):
+        head.append(call % (10 + n, n + 1, 1, 2 if n == 0 else 3) + (b", inlinedAt: !%d" % (9 + n) if n else b"") + b")\n")
+    first = 10 + shared
+    for location in range(locations):
+        at = first + location * (calls + 1)
+        for n in range(calls + 1):
+            around = at + n - 1 if n else 9 + shared if shared else 0
+            head.append(call % (at + n, location + 1, n % 40 + 1, 3 if around else 2) + (b", inlinedAt: !%d" % around if around else b"") + b")\n")
+    body = b"".join(b"    $x10 = ADDI $x10, 1, debug-location !%d\n" % (first + n * locations // items * (calls + 1) + calls) for n in range(items - 1))
+    return b"".join(head) + b"...\n---\nname: f\nbody: |\n  bb.0:\n" + body + b"    PseudoRET\n...\n"
+
+
 def made_slow(entries, blocks, slots=0, variables=0):
     """A function of these lines of substitutions and of each block, with so many spill slots, and so many variables from !10 on."""
     meta = (b"--- |\n  !1 = !DIFile(filename: \"t.c\", directory: \"/d\")\n  !2 = !DIBasicType(name: \"long\", size: 64, encoding: DW_ATE_signed)\n"
@@ -348,6 +368,45 @@ WORST = {
 }
 
 
+def with_registers(blocks, items, virtual):
+    """A function of so many items in which a register is set in each second one and read by some of the next eight, which are virtual or not."""
+    near, rest = 8, [5, 7, 8, 9, *range(11, 18), *range(18, 30)]
+    registers = items // 2 - 1
+    name = (lambda k: b"%%%d" % k) if virtual else (lambda k: b"$x%d" % rest[k % len(rest)])
+    target = (lambda k: b"%%%d:gpr" % k) if virtual else name
+    ends = [b == blocks - 1 or (b % 3 == 1 and b + 2 < blocks) for b in range(blocks)]
+    lines = [b"    %s = ADDI $x10, %d\n" % (target(k), k) for k in range(near)]
+    body, made, last = [], near, items - near - sum(ends) - 1
+    for n in range(last):
+        b = n * blocks // last
+        while len(body) <= b:
+            if body and ends[len(body) - 1]:
+                lines.append(b"    BEQ %s, $x0, %%bb.%d\n" % (name(made - 1), len(body)))
+            body.append(b)
+            lines.insert(0 if b == 0 else len(lines), b"  bb.%d:\n" % b)
+        if made < near + (registers - near) * (n + 1) // last:
+            lines.append(b"    %s = ADD %s, %s, debug-location !2\n" % (target(made), name(made - 1 - n % near), name(made - 1 - n // near % near)))
+            made += 1
+        elif n % 3 == 0:
+            lines.append(b"    DBG_VALUE %s, $noreg, !4, !DIExpression(), debug-location !2\n" % name(made - 1 - n // 3 % near))
+        else:
+            lines.append(b"    $x10 = ADD $x10, %s, debug-location !2\n" % name(made - 1 - n // 3 % near))
+    lines.append(b"    $x10 = COPY %s\n    PseudoRET implicit $x10\n" % name(made - 1))
+    head = b"""--- |
+  define i64 @f(i64 %a) !dbg !1 { ret i64 0 }
+  !0 = !DIFile(filename: "f.c", directory: "/d")
+  !1 = distinct !DISubprogram(name: "f", scope: !0, file: !0, line: 1)
+  !2 = !DILocation(line: 2, column: 1, scope: !1)
+  !3 = !DIBasicType(name: "long", size: 64, encoding: DW_ATE_signed)
+  !4 = !DILocalVariable(name: "v", scope: !1, file: !0, line: 1, type: !3)
+...
+---
+name: f
+body: |
+"""
+    return head + b"".join(lines) + b"...\n"
+
+
 def table(name, program, words, sizes, make):
     print(name)
     before = None
@@ -397,6 +456,9 @@ def inside(name, words, function, sizes, make):
         instructions = count(program, words, make(size), "--toggle-collect=" + function)
         print("  %9d  %13d  %s" % (size, instructions, "%.3f" % (instructions / last) if last else ""))
         last = instructions
+
+
+SCANNED = (("one block", lambda items: 1), ("blocks of 128 items", lambda items: items // 128), ("blocks of eight items", lambda items: items // 8))
 
 
 def main():
@@ -449,6 +511,22 @@ def main():
             table("%s, by %s" % (kind, by), "crates/mirdwarf/out/mirdwarf", words, [first << n for n in range(times + 1)], make)
     elif what == ["sections"]:
         more("functions of four variables and 64 lines, by functions", ["compile", "--passes=none"], ["listing", "--passes=none"], (32, 64, 128, 256), lined)
+    elif what == ["inlined"]:
+        words, none = ["compile", "--inline", "--passes=none"], ["compile", "--passes=none"]
+        more("locations, an item each, in chains of 100 calls", words, none, (250, 500, 1000, 2000), lambda n: inlined(n, n, 100))
+        more("calls around 1,000 locations, an item each", words, none, (50, 100, 200, 400), lambda n: inlined(1000, 1000, 1, n))
+        more("items at 8 locations in chains of 100 calls", words, none, (1024, 2048, 4096, 8192), lambda n: inlined(n, 8, 100))
+    elif what == ["scan"]:
+        program, words = os.path.join(TOP, "crates/mirdwarf/out/mirdwarf"), ["compile", "--passes=none"]
+        for name, blocks in SCANNED:
+            print("%s, by items: with virtual registers, with physical ones, growth and ratio" % name)
+            last = None
+            for items in (2048, 4096, 8192):
+                virtual = count(program, words, with_registers(blocks(items), items, True))
+                physical = count(program, words, with_registers(blocks(items), items, False))
+                growth = "%.3f" % (virtual / last) if last else ""
+                print("  %9d  %13d  %13d  %5s  %.3f" % (items, virtual, physical, growth, virtual / physical))
+                last = virtual
     elif what == ["passes"]:
         for kind, (passes, line) in PASSES.items():
             words = ["listing", *passes]

@@ -5,7 +5,7 @@ and `realloc`.
     bench/refused_memory.py [PROGRAM] [--step=N] [FILE..]
 
 PROGRAM is crates/mirdwarf/out/mirdwarf where none is given (a word that doesn't end in .mir), and FILE.. is examples/*.mir. Of each file
-`compile`, `compile --frame --passes=none`, `object`, `strip`, `report` and `run NAME 100` of the first function are run, and `selftest 0 4`. Each N-th
+`compile`, `compile --frame --inline --passes=none`, `object`, `strip`, `report` and `run NAME 100` of the first function are run, and `selftest 0 4`. Each N-th
 allocation (1) is refused. A run has to end in status 3, with nothing on the output and `mirdwarf: memory` told; or in status 0 with its whole output, where
 a container does without the room that it asked for. Others are printed. The last line counts them. Needs a C compiler, `cc`."""
 import glob
@@ -39,7 +39,7 @@ def commands(text):
     """The commands that are run on a text."""
     name = re.search(rb"^name: *(\S+)", text, re.M)
     run = [["run", name[1].decode(), "100"]] if name else []
-    return [["compile"], ["compile", "--passes=none", "--frame"], ["object"], ["strip"], ["report"], *run]
+    return [["compile"], ["compile", "--passes=none", "--frame", "--inline"], ["object"], ["strip"], ["report"], *run]
 
 
 def ran(program, library, text, words, refused):

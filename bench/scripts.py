@@ -13,7 +13,7 @@ import tempfile
 
 TOP = os.path.realpath(os.path.join(os.path.dirname(os.path.abspath(__file__)), ".."))
 PROGRAM = os.path.abspath(sys.argv[1]) if sys.argv[1:] else os.path.join(TOP, "crates", "mirdwarf", "out", "mirdwarf")
-LEDGER, TOTALS = "examples/ledger.mir", "examples/totals.mir"
+LEDGER, TOTALS, VIRTUAL = "examples/ledger.mir", "examples/totals.mir", "examples/ledger_virtual.mir"
 
 # Words that the wrapper refuses, and what its first line has.
 WORDS = [
@@ -210,6 +210,8 @@ def wrapper(room):
         it.write(BODY % ("", "    $x5 = ADD $x6, $x7\n    $x28 = ADD $x29, $x30\n    %0 = COPY $x10\n"))
     status, _, told = run("./mirdwarf", "listing", file)
     check("a virtual register", status == 1 and f"{file}:15: NoRegister, in function f\n    %0 = COPY $x10\n" in told and "virtregrewriter" in told, told)
+    status, said, told = run("./mirdwarf", "report", "--passes=none", VIRTUAL)
+    check("before register allocation", status == 0 and said.startswith("function price\nwords 18\n") and "cover whole 15 of 18\n" in said, told)
     with open(file, "w", encoding="utf-8") as it:
         it.write(BODY % ("", "    UNIMP\n") + BODY.split("...\n", 1)[1].replace("name: f", "name: g") % ("", "    $x10 = MUL $x10, $x11\n"))
     status, _, told = run("./mirdwarf", "listing", file)

@@ -10,7 +10,7 @@ use Rattle.cli_numbers.specs.declared.generation.Generation.{Generation}
 use Rattle.cli_numbers.specs.Numbers.{IsGeneration}
 use Rattle.cli.specs.declared.options.Options.{Options}
 use Rattle.cli.specs.declared.option.CommandOption.{CommandOption}
-use Rattle.cli.specs.declared.option.CommandOption.TheVariants.{Passes, Reserve, Arguments, Answers, Frame}
+use Rattle.cli.specs.declared.option.CommandOption.TheVariants.{Passes, Reserve, Arguments, Answers, Frame, Inline}
 use Rattle.cli.specs.Options.{none_given, IsWith, GivesOption, GiveOptions}
 use Rattle.cli.proofs.OptionWords.{the_option}
 use Rattle.cli.specs.declared.command.Command.{Command}
@@ -33,6 +33,7 @@ one_next given (Reserve registers) a b ha hb = ha.1 ∙ sym hb.1
 one_next given (Arguments values) a b ha hb = ha.1 ∙ sym hb.1
 one_next given (Answers values) a b ha hb = ha.1 ∙ sym hb.1
 one_next given Frame a b ha hb = ha.1 ∙ sym hb.1
+one_next given Inline a b ha hb = ha.1 ∙ sym hb.1
 
 one_more : (given : Options) (word : List ℕ) (a b : Options) → GivesOption given word a → GivesOption given word b → a ≡ b
 one_more given word a b ha hb =
@@ -62,7 +63,8 @@ compile_by given c d hc hd =
     let passes : c.plan.passes ≡ d.plan.passes = hc.passes ∙ sym hd.passes in
     let reserve : c.plan.reserve ≡ d.plan.reserve = hc.reserve ∙ sym hd.reserve in
     let frame : c.frame ≡ d.frame = hc.frame ∙ sym hd.frame in
-    λ i. record { plan = record { passes = passes i; reserve = reserve i }; frame = frame i }
+    let inline : c.inline ≡ d.inline = hc.inline ∙ sym hd.inline in
+    λ i. record { plan = record { passes = passes i; reserve = reserve i }; frame = frame i; inline = inline i }
 
 one_compile : (words : List (List ℕ)) (c d : CompilePlan) → GivesCompile words c → GivesCompile words d → c ≡ d
 one_compile words c d hc hd =
@@ -333,6 +335,13 @@ pub no_steps : (name word : List ℕ) (words : List (List ℕ)) (given : Options
 no_steps name word words given give framed run h =
     let one : h.given ≡ given = one_given words none_given h.given given h.give give in
     let none : given.frame ≡ false = ap (λ (g : Options). g.frame) (sym one) ∙ h.is.no_frame in cc
+
+-- nor do words with `--inline`
+pub no_steps_inline : (name word : List ℕ) (words : List (List ℕ)) (given : Options) → GiveOptions none_given words given → given.inline ≡ true →
+    (run : RunPlan) → GivesSteps name word words run → ⊥
+no_steps_inline name word words given give inlined run h =
+    let one : h.given ≡ given = one_given words none_given h.given given h.give give in
+    let none : given.inline ≡ false = ap (λ (g : Options). g.inline) (sym one) ∙ h.is.no_inline in cc
 
 -- words whose options ask for these runs ask for them too
 pub the_steps : (name named word : List ℕ) (words : List (List ℕ)) (count : ℕ) (given : Options) (found : RunPlan) → named ≡ name →

@@ -11,7 +11,7 @@ use Rattle.rv64_instr.specs.Reserve.{RESERVABLE}
 use Rattle.cli_numbers.specs.Reserve.{register_name, IsReserveText}
 use Rattle.cli_numbers.proofs.Names.{names}
 use Rattle.cli.specs.declared.option.CommandOption.{CommandOption}
-use Rattle.cli.specs.declared.option.CommandOption.TheVariants.{Passes, Reserve, Arguments, Answers, Frame}
+use Rattle.cli.specs.declared.option.CommandOption.TheVariants.{Passes, Reserve, Arguments, Answers, Frame, Inline}
 use Rattle.cli.specs.Options.{registers_text, numbers_text, word_of, IsAllowed, IsWordOf}
 
 -- ---- one option for a word
@@ -60,32 +60,58 @@ arguments_frame a = differ 2 97 102 (word_of (Arguments a)) (word_of Frame) refl
 answers_frame : (a : List ℕ) → (word_of (Answers a) ≡ word_of Frame → ⊥) × (word_of Frame ≡ word_of (Answers a) → ⊥)
 answers_frame a = differ 2 97 102 (word_of (Answers a)) (word_of Frame) refl refl (omega arith)
 
+frame_inline : (word_of Frame ≡ word_of Inline → ⊥) × (word_of Inline ≡ word_of Frame → ⊥)
+frame_inline = differ 2 102 105 (word_of Frame) (word_of Inline) refl refl (omega arith)
+
+inline_passes : (l : List PassKind) → (word_of Inline ≡ word_of (Passes l) → ⊥) × (word_of (Passes l) ≡ word_of Inline → ⊥)
+inline_passes l = differ 2 105 112 (word_of Inline) (word_of (Passes l)) refl refl (omega arith)
+
+inline_reserve : (r : List ℕ) → (word_of Inline ≡ word_of (Reserve r) → ⊥) × (word_of (Reserve r) ≡ word_of Inline → ⊥)
+inline_reserve r = differ 2 105 114 (word_of Inline) (word_of (Reserve r)) refl refl (omega arith)
+
+arguments_inline : (a : List ℕ) → (word_of (Arguments a) ≡ word_of Inline → ⊥) × (word_of Inline ≡ word_of (Arguments a) → ⊥)
+arguments_inline a = differ 2 97 105 (word_of (Arguments a)) (word_of Inline) refl refl (omega arith)
+
+answers_inline : (a : List ℕ) → (word_of (Answers a) ≡ word_of Inline → ⊥) × (word_of Inline ≡ word_of (Answers a) → ⊥)
+answers_inline a = differ 2 97 105 (word_of (Answers a)) (word_of Inline) refl refl (omega arith)
+
 one_option : (a b : CommandOption) → IsAllowed a → IsAllowed b → word_of a ≡ word_of b → a ≡ b
 one_option (Passes l) (Passes m) ha hb e = ap (λ (x : List PassKind). Passes x) (one_list l m (ap (drop 9) e))
 one_option (Passes l) (Reserve r) ha hb e = absurd ((passes_reserve l r).0 e)
 one_option (Passes l) (Arguments a) ha hb e = absurd ((arguments_passes a l).1 e)
 one_option (Passes l) (Answers a) ha hb e = absurd ((answers_passes a l).1 e)
 one_option (Passes l) Frame ha hb e = absurd ((frame_passes l).1 e)
+one_option (Passes l) Inline ha hb e = absurd ((inline_passes l).1 e)
 one_option (Reserve r) (Passes l) ha hb e = absurd ((passes_reserve l r).1 e)
 one_option (Reserve r) (Reserve s) ha hb e = ap (λ (x : List ℕ). Reserve x) (one_reserve r s ha hb (ap (drop 10) e))
 one_option (Reserve r) (Arguments a) ha hb e = absurd ((arguments_reserve a r).1 e)
 one_option (Reserve r) (Answers a) ha hb e = absurd ((answers_reserve a r).1 e)
 one_option (Reserve r) Frame ha hb e = absurd ((frame_reserve r).1 e)
+one_option (Reserve r) Inline ha hb e = absurd ((inline_reserve r).1 e)
 one_option (Arguments a) (Passes l) ha hb e = absurd ((arguments_passes a l).0 e)
 one_option (Arguments a) (Reserve r) ha hb e = absurd ((arguments_reserve a r).0 e)
 one_option (Arguments a) (Arguments b) ha hb e = ap (λ (x : List ℕ). Arguments x) (one_numbers 8 a b ha hb (ap (drop 7) e))
 one_option (Arguments a) (Answers b) ha hb e = absurd ((answers_arguments b a).1 e)
 one_option (Arguments a) Frame ha hb e = absurd ((arguments_frame a).0 e)
+one_option (Arguments a) Inline ha hb e = absurd ((arguments_inline a).0 e)
 one_option (Answers a) (Passes l) ha hb e = absurd ((answers_passes a l).0 e)
 one_option (Answers a) (Reserve r) ha hb e = absurd ((answers_reserve a r).0 e)
 one_option (Answers a) (Arguments b) ha hb e = absurd ((answers_arguments a b).0 e)
 one_option (Answers a) (Answers b) ha hb e = ap (λ (x : List ℕ). Answers x) (one_numbers 64 a b ha hb (ap (drop 10) e))
 one_option (Answers a) Frame ha hb e = absurd ((answers_frame a).0 e)
+one_option (Answers a) Inline ha hb e = absurd ((answers_inline a).0 e)
 one_option Frame (Passes l) ha hb e = absurd ((frame_passes l).0 e)
 one_option Frame (Reserve r) ha hb e = absurd ((frame_reserve r).0 e)
 one_option Frame (Arguments a) ha hb e = absurd ((arguments_frame a).1 e)
 one_option Frame (Answers a) ha hb e = absurd ((answers_frame a).1 e)
 one_option Frame Frame ha hb e = refl
+one_option Frame Inline ha hb e = absurd (frame_inline.0 e)
+one_option Inline (Passes l) ha hb e = absurd ((inline_passes l).0 e)
+one_option Inline (Reserve r) ha hb e = absurd ((inline_reserve r).0 e)
+one_option Inline (Arguments a) ha hb e = absurd ((arguments_inline a).1 e)
+one_option Inline (Answers a) ha hb e = absurd ((answers_inline a).1 e)
+one_option Inline Frame ha hb e = absurd (frame_inline.1 e)
+one_option Inline Inline ha hb e = refl
 
 one_value : (a b : CommandOption) → ◌≡◌ {A = Option CommandOption} (Some a) (Some b) → a ≡ b
 one_value a b e = cc
@@ -99,15 +125,16 @@ the_option word a is b = (
 )
 
 -- a word that is no option of any kind is none
-pub no_option : (word : List ℕ) → (word ≡ codes "--frame" → ⊥) → ((l : List PassKind) → IsWordOf (Passes l) word → ⊥) →
+pub no_option : (word : List ℕ) → (word ≡ codes "--frame" → ⊥) → (word ≡ codes "--inline" → ⊥) → ((l : List PassKind) → IsWordOf (Passes l) word → ⊥) →
     ((r : List ℕ) → IsWordOf (Reserve r) word → ⊥) →
     ((a : List ℕ) → IsWordOf (Arguments a) word → ⊥) → ((a : List ℕ) → IsWordOf (Answers a) word → ⊥) → (b : CommandOption) →
     (◌≡◌ {A = Option CommandOption} None (Some b)) ↔ IsWordOf b word
-no_option word f p r n a (Passes l) = (λ e. absurd cc, λ h. absurd (p l h))
-no_option word f p r n a (Reserve s) = (λ e. absurd cc, λ h. absurd (r s h))
-no_option word f p r n a (Arguments b) = (λ e. absurd cc, λ h. absurd (n b h))
-no_option word f p r n a (Answers b) = (λ e. absurd cc, λ h. absurd (a b h))
-no_option word f p r n a Frame = (λ e. absurd cc, λ h. absurd (f h.0))
+no_option word f i p r n a (Passes l) = (λ e. absurd cc, λ h. absurd (p l h))
+no_option word f i p r n a (Reserve s) = (λ e. absurd cc, λ h. absurd (r s h))
+no_option word f i p r n a (Arguments b) = (λ e. absurd cc, λ h. absurd (n b h))
+no_option word f i p r n a (Answers b) = (λ e. absurd cc, λ h. absurd (a b h))
+no_option word f i p r n a Frame = (λ e. absurd cc, λ h. absurd (f h.0))
+no_option word f i p r n a Inline = (λ e. absurd cc, λ h. absurd (i h.0))
 
 -- ---- numbers and registers as they are read
 

@@ -36,12 +36,14 @@ pub record IsPlanOf (given : Options) (plan : PassPipeline) : Type 0 where
   pub no_arguments : given.arguments ≡ None
   pub no_answers : given.answers ≡ None
   pub no_frame : given.frame ≡ false
+  pub no_inline : given.inline ≡ false
 
--- what `compile` writes with these options, which may include `--passes`, `--reserve` and `--frame` but no numbers
+-- what `compile` writes with these options, which may include `--passes`, `--reserve`, `--frame` and `--inline` but no numbers
 pub record IsCompileOf (given : Options) (c : CompilePlan) : Type 0 where
   pub passes : c.plan.passes ≡ passes_in given.passes
   pub reserve : c.plan.reserve ≡ reserve_in given.reserve
   pub frame : c.frame ≡ given.frame
+  pub inline : c.inline ≡ given.inline
   pub no_arguments : given.arguments ≡ None
   pub no_answers : given.answers ≡ None
 
@@ -53,7 +55,7 @@ GivesCompile words c = (given : Options) × GiveOptions none_given words given �
 abbrev pub GivesPlan : (words : List (List ℕ)) → PassPipeline → Type 0
 GivesPlan words plan = (given : Options) × GiveOptions none_given words given × IsPlanOf given plan
 
--- the run of the function with this name, for at most `count` steps, with these options, which may be any but `--frame`
+-- the run of the function with this name, for at most `count` steps, with these options, which may be any but `--frame` and `--inline`
 pub record IsRunPlanOf (name : List ℕ) (count : ℕ) (given : Options) (run : RunPlan) : Type 0 where
   pub named : run.name ≡ name
   pub steps : run.steps ≡ count
@@ -62,6 +64,7 @@ pub record IsRunPlanOf (name : List ℕ) (count : ℕ) (given : Options) (run : 
   pub arguments : run.arguments ≡ numbers_in given.arguments
   pub answers : run.answers ≡ numbers_in given.answers
   pub no_frame : given.frame ≡ false
+  pub no_inline : given.inline ≡ false
 
 -- the greatest number of steps of a run
 abbrev pub MAX_STEPS : ℕ

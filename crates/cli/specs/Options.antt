@@ -6,7 +6,7 @@ use Rattle.cli_numbers.specs.Numbers.{AreListed}
 use Rattle.pass_list.specs.Names.{text_of, AreDistinct}
 use Rattle.cli_numbers.specs.Reserve.{register_name, IsReserveText}
 use Rattle.cli.specs.declared.option.CommandOption.{CommandOption}
-use Rattle.cli.specs.declared.option.CommandOption.TheVariants.{Passes, Reserve, Arguments, Answers, Frame}
+use Rattle.cli.specs.declared.option.CommandOption.TheVariants.{Passes, Reserve, Arguments, Answers, Frame, Inline}
 use Rattle.cli.specs.declared.options.Options.{Options}
 
 -- the text of registers: their names, separated by commas
@@ -24,6 +24,7 @@ word_of (Reserve registers) = codes "--reserve=" ++ registers_text registers
 word_of (Arguments values) = codes "--args=" ++ numbers_text values
 word_of (Answers values) = codes "--answers=" ++ numbers_text values
 word_of Frame = codes "--frame"
+word_of Inline = codes "--inline"
 
 -- the values that an option may have: passes, each once; one or more registers that may be reserved, each once; one to eight numbers of 64 bits; one to 64
 -- numbers of 64 bits
@@ -33,6 +34,7 @@ IsAllowed (Reserve registers) = IsReserveText (registers_text registers) registe
 IsAllowed (Arguments values) = AreListed 8 (numbers_text values) values
 IsAllowed (Answers values) = AreListed 64 (numbers_text values) values
 IsAllowed Frame = Unit {0}
+IsAllowed Inline = Unit {0}
 
 -- the word is this option, with a value that it may have
 abbrev pub IsWordOf : CommandOption → List ℕ → Type 0
@@ -40,7 +42,7 @@ IsWordOf option word = (word ≡ word_of option) × IsAllowed option
 
 -- no option is given
 abbrev pub none_given : Options
-none_given = record { passes = None; reserve = None; arguments = None; answers = None; frame = false }
+none_given = record { passes = None; reserve = None; arguments = None; answers = None; frame = false; inline = false }
 
 -- the options after adding one that isn't among them yet
 abbrev pub IsWith : Options → CommandOption → Options → Type 0
@@ -49,6 +51,7 @@ IsWith given (Reserve registers) next = (given.reserve ≡ None) × (next ≡ re
 IsWith given (Arguments values) next = (given.arguments ≡ None) × (next ≡ record given { arguments = Some values })
 IsWith given (Answers values) next = (given.answers ≡ None) × (next ≡ record given { answers = Some values })
 IsWith given Frame next = (given.frame ≡ false) × (next ≡ record given { frame = true })
+IsWith given Inline next = (given.inline ≡ false) × (next ≡ record given { inline = true })
 
 -- the options after adding the one in a word, which isn't among them yet
 pub record GivesOption (given : Options) (word : List ℕ) (next : Options) : Type 0 where

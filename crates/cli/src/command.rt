@@ -40,6 +40,8 @@ pub struct CompilePlan {
     pub plan: PassPipeline,
     /// Whether the section `.debug_frame` is among the sections.
     pub frame: bool,
+    /// Whether the entries tell of inlined functions, and `.debug_rnglists` is among the sections.
+    pub inline: bool,
 }
 
 /// The run of a function.
@@ -90,10 +92,11 @@ pub enum Command {
 
 /// The command that the words are; `None` if they are none. `compile`, `listing`, `report` and `object` have options
 /// in any order: a list of passes, as `--passes=copy,fold` or `--passes=none`, and registers that may be spilled, as
-/// `--reserve=x8,x18`. `compile` has the option `--frame` too. `run` has a function's name, its greatest number of
-/// steps, 0 to 1,000,000, and the options of `listing`, as well as the function's arguments, as `--args=1,2`, and the
-/// return values of its calls, as `--answers=3`. `strip` has nothing else. `gen` has the number of a function, 0 to
-/// 65,536, and its number of blocks, 1 to 512. `selftest` has such numbers and the options of `listing`.
+/// `--reserve=x8,x18`. `compile` has the options `--frame` and `--inline` too. `run` has a function's name, its
+/// greatest number of steps, 0 to 1,000,000, and the options of `listing`, as well as the function's arguments, as
+/// `--args=1,2`, and the return values of its calls, as `--answers=3`. `strip` has nothing else. `gen` has the number
+/// of a function, 0 to 65,536, and its number of blocks, 1 to 512. `selftest` has such numbers and the options of
+/// `listing`.
 pub fn parse(alloc: Global, words: &[String]) -> Result<Option<Command>, AllocError>
     ensures { IfOk result (λ o. (command : Command) →
         (o ≡ Some command) ↔ IsCommand (map string_bytes words.now) command) }
@@ -187,6 +190,7 @@ fn compile_of(alloc: Global, given: Options) -> Option<CompilePlan>
         arguments,
         answers,
         frame,
+        inline,
     } = given;
     if arguments.is_some() || answers.is_some() {
         return None;
@@ -197,6 +201,7 @@ fn compile_of(alloc: Global, given: Options) -> Option<CompilePlan>
             reserve: reserve_in(alloc, reserve),
         },
         frame,
+        inline,
     })
 }
 
@@ -220,8 +225,9 @@ fn plan_of(alloc: Global, given: Options) -> Option<PassPipeline>
         arguments,
         answers,
         frame,
+        inline,
     } = given;
-    if arguments.is_some() || answers.is_some() || frame {
+    if arguments.is_some() || answers.is_some() || frame || inline {
         return None;
     }
     Some(PassPipeline {
@@ -260,13 +266,18 @@ fn steps_asked(
     if with_frame {
         return Ok(None);
     }
+    let with_inline = given.inline;
+    if with_inline {
+        return Ok(None);
+    }
     let name = Name::from_slice(alloc, name.as_bytes())?;
     Ok(Some(run_of(alloc, name, count as u32, given)))
 }
 
 /// The run of the function with this name, for at most `steps` steps, with options.
 fn run_of(alloc: Global, name: Name, steps: u32, given: Options) -> RunPlan
-    requires { given.frame ≡ false }
+    requires frame { given.frame ≡ false }
+    requires inline { given.inline ≡ false }
     ensures { (run : RunPlan) → (result ≡ run) ↔ IsRunPlanOf name steps given run }
 {
     let Options {
@@ -275,6 +286,7 @@ fn run_of(alloc: Global, name: Name, steps: u32, given: Options) -> RunPlan
         arguments,
         answers,
         frame: _,
+        inline: _,
     } = given;
     RunPlan {
         name,

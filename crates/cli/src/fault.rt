@@ -23,7 +23,7 @@ pub enum Fault {
     NoFunction,
     /// The input has no function with the name in the command.
     UnknownFunction,
-    /// A function has a virtual register.
+    /// Linear scan leaves a virtual register in a function.
     NoRegister,
     /// The frame of a function would have more than 2,032 bytes.
     FrameTooLarge,

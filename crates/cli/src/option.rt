@@ -33,6 +33,8 @@ pub enum CommandOption {
     Answers(Numbers),
     /// `--frame`: with the section `.debug_frame`.
     Frame,
+    /// `--inline`: with inlined functions, and the section `.debug_rnglists`.
+    Inline,
 }
 
 /// The option that a word is; `None` if it is none.
@@ -41,6 +43,9 @@ pub fn command_option(alloc: Global, word: &str) -> Result<Option<CommandOption>
 {
     if is_same(word, "--frame") {
         return Ok(Some(CommandOption::Frame));
+    }
+    if is_same(word, "--inline") {
+        return Ok(Some(CommandOption::Inline));
     }
     if let Some(list) = passes(word) {
         return Ok(Some(CommandOption::Passes(list)));

@@ -22,6 +22,8 @@ pub struct Options {
     pub answers: Option<Numbers>,
     /// Whether the section `.debug_frame` is asked for.
     pub frame: bool,
+    /// Whether the entries of inlined functions are asked for.
+    pub inline: bool,
 }
 
 impl Options {
@@ -35,6 +37,7 @@ impl Options {
             arguments: None,
             answers: None,
             frame: false,
+            inline: false,
         }
     }
 
@@ -76,6 +79,13 @@ impl Options {
                     return None;
                 }
                 self.frame = true;
+                Some(self)
+            }
+            CommandOption::Inline => {
+                if self.inline {
+                    return None;
+                }
+                self.inline = true;
                 Some(self)
             }
         }

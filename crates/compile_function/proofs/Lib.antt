@@ -4,3 +4,4 @@ pub mod Listed
 pub mod Located
 pub mod Pushed
 pub use Rattle.compile_passes.proofs.AfterPasses
+pub use Rattle.compile_passes.proofs.Scan

@@ -12,8 +12,8 @@ use thiserror::Error;
 /// Why a function, or a program, has no output.
 #[derive(Debug, Drop, Error)]
 pub enum CompileError {
-    /// A function has a virtual register.
-    #[error("a virtual register")]
+    /// Linear scan leaves a virtual register in a function.
+    #[error("no register for a virtual register")]
     NoRegister,
     /// A function's frame would have more than 2,032 bytes.
     #[error("a frame is too large")]

@@ -7,7 +7,7 @@ use Rattle.listing_text.specs.declared.output.ListedFunction.{ListedFunction}
 use Rattle.listing_text.specs.Shown.{IsPrintableVariable, IsPrintableFunction}
 use Rattle.dwarf_base.specs.Leb.{groups, uleb_of}
 use Rattle.dwarf_base.specs.Limits.{SECTION_LIMIT}
-use Rattle.dwarf_info.specs.Kinds.{abbreviation, abbreviations}
+use Rattle.dwarf_info.specs.Kinds.{abbreviation, abbreviations, inlined_abbreviations}
 use Rattle.dwarf_loclists.specs.declared.range.Range.{Range}
 use Rattle.frame_rule.proofs.Framed.{is_framed}
 use Rattle.listing_function.specs.Printable.{IsPrintableFramed}
@@ -24,7 +24,8 @@ use Rattle.compile_theorem.specs.Compiled.{bytes_of, IsCompiledFunction, AreComp
 use Rattle.compile_theorem.specs.OutputProperties.{variable_lines}
 use Rattle.compile_theorem.proofs.Functions.{words_length}
 use Rattle.compile_theorem.specs.Source.{SourceFunction, PassedFunction}
-use Rattle.compile_program.specs.Program.{ArePassed, source_of, IsCompilable, names_of}
+use Rattle.compile_program.specs.Program.{ArePassed, source_of, IsCompilable, names_of, Describe}
+use Rattle.dwarf_line_table.specs.declared.source_and_code.SourceAndCode.{SourceAndCode}
 use Rattle.read_proof.specs.Read.{LocationsAreLimited, IsReadFunction}
 use Rattle.dwarf_unit.specs.Variables.{variables_of_function}
 use Rattle.compile_output_proof.specs.Laws.{OutputsArePrintable}
@@ -89,6 +90,21 @@ abbreviations_size = refl
 few_abbreviations : IsNumber (length abbreviations)
 few_abbreviations = let size = abbreviations_size in omega (arith, size)
 
+-- with inlined functions it has 109
+inlined_size : length inlined_abbreviations ≡ 109
+unfolding inlined_abbreviations abbreviation uleb_of groups
+inlined_size = refl
+
+few_inlined : IsNumber (length inlined_abbreviations)
+few_inlined = let size = inlined_size in omega (arith, size)
+
+few_described : (meta : Maps) (text_len : ℕ) (compiled : List SourceAndCode) (abbreviated info rows : List ℕ) (ranges : Option (List ℕ))
+    → Describe meta text_len compiled abbreviated info rows ranges → IsNumber (length abbreviated)
+few_described meta text_len compiled abbreviated info rows None is =
+    subst (λ (bytes : List ℕ). IsNumber (length bytes)) (sym is.0) few_abbreviations
+few_described meta text_len compiled abbreviated info rows (Some ranges) is =
+    subst (λ (bytes : List ℕ). IsNumber (length bytes)) (sym is.0) few_inlined
+
 number_if : (o : Option (List ℕ)) → IfSome o (λ bytes. length bytes < SECTION_LIMIT) → IfSome o (λ bytes. IsNumber (length bytes))
 number_if None small = tt
 number_if (Some bytes) small = omega (arith, small)
@@ -102,11 +118,12 @@ printable p functions o read passed compiled has =
     let few = read.few in
     record {
       text = omega (arith, text);
-      abbreviations = subst (λ (bytes : List ℕ). IsNumber (length bytes)) (sym has.abbreviations) few_abbreviations;
+      abbreviations = few_described p.meta (length o.text) has.compiled o.abbreviations o.info o.rows o.ranges has.described;
       info = omega (arith, info);
       rows = omega (arith, rows);
       loclists = omega (arith, loclists);
       frame = number_if o.frame has.frame_small;
+      ranges = number_if o.ranges has.ranges_small;
       functions = functions_printable p.meta read.locations (names_of p.meta) 0 0 o.text compiled.lists p.functions functions o.functions
           read.functions passed (omega (arith, text)) (omega (arith, few)) compiled.functions;
     }

@@ -2,3 +2,4 @@ pub mod Variables
 pub mod Functions
 pub mod Listed
 pub mod Lines
+pub mod Inlined

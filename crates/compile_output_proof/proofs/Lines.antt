@@ -1,5 +1,5 @@
 -- What is compiled of a program that was read tells its lines.
-use Rattle.std.proofs.Common.{◌≡◌, inl, inr, length-append, ℕ, zero, suc, ◌+◌, ◌*◌, ◌<◌, ◌≤◌, Bool, true, false, List, [], ◌∷◌, length, map, Some}
+use Rattle.std.proofs.Common.{◌≡◌, inl, inr, length-append, ℕ, zero, suc, ◌+◌, ◌*◌, ◌<◌, ◌≤◌, Bool, true, false, List, [], ◌∷◌, length, map, Option, Some, None}
 use Rattle.std.proofs.Common.{refl, ap, sym, ◌∙◌, subst, arith, Contains}
 use Rattle.std.specs.Prelude.{slice_get}
 use Rattle.emit_code.specs.declared.code.EncodedInstruction.{EncodedInstruction}
@@ -32,12 +32,16 @@ use Rattle.compile_theorem.proofs.Framing.{forms_framed}
 use Rattle.compile_theorem.proofs.Functions.{words_length}
 use Rattle.compile_theorem.specs.Source.{SourceFunction, PassedFunction}
 use Rattle.compile_program.proofs.Passed.{passed_functions, passed_at}
-use Rattle.compile_program.specs.Program.{ArePassed, AreCoded, HaveCode, source_of, IsCompilable, names_of}
+use Rattle.compile_program.specs.Program.{ArePassed, AreCoded, HaveCode, Describe, source_of, IsCompilable, names_of}
 use Rattle.dwarf_line_table.specs.declared.source_and_code.SourceAndCode.{SourceAndCode}
 use Rattle.dwarf_line_table.specs.declared.file.SourceFile.{SourceFile}
 use Rattle.dwarf_line_table.specs.Files.{unit_file}
 use Rattle.dwarf_line_table.specs.SourcePosition.{scope_line, loc_of, line_of}
-use Rattle.dwarf_line_table.specs.Program.{program_file, program_files, function_end, table_of}
+use Rattle.dwarf_line_table.specs.Program.{program_file, files_with, function_end, table_with}
+use Rattle.dwarf_line_table.proofs.SourceTables.{no_further}
+use Rattle.dwarf_line.specs.Spelling.{spelling as rows_spelling}
+use Rattle.read_metadata.specs.Maps.{Maps}
+use Rattle.dwarf_unit.specs.Inlined.{call_scopes}
 use Rattle.dwarf_unit.specs.Variables.{variables_of_function}
 use Rattle.compile_output_proof.specs.Lines.{origin_of, HasByte, file_of, TellsLinesOf, OutputsTellLines}
 use Rattle.compile_output_proof.proofs.Listed.{listing_entered}
@@ -79,7 +83,7 @@ code_stands f base c is =
     (subst (λ (es : List EncodedInstruction). StandFrom l.base es (function_end c)) (sym is.entries)
     (subst (λ (x : ℕ). StandFrom l.base (entries_of l) x) end (stands l)))
 
-codes_lie : (base : ℕ) (fs : List Function) (cs : List SourceAndCode) → AreCoded base fs (map (λ (c : SourceAndCode). c.code.now) cs) → LieFrom base cs
+pub codes_lie : (base : ℕ) (fs : List Function) (cs : List SourceAndCode) → AreCoded base fs (map (λ (c : SourceAndCode). c.code.now) cs) → LieFrom base cs
 codes_lie base [] [] are = tt
 codes_lie base [] (c ∷ cs) are = absurd are
 codes_lie base (f ∷ fs) [] are = absurd are
@@ -90,32 +94,33 @@ codes_lie base (f ∷ fs) (c ∷ cs) are =
 
 -- ---- each function with its code
 
--- a function that passes made, what is compiled of it, and its machine code
-record Paired (names : ℕ → List ℕ) (passed : PassedFunction) (f : ListedFunction) (all : List SourceAndCode) : Type 0 where
-  base : ℕ
-  first : ℕ
-  function : IsCompiledFunction names passed base first f
-  code : SourceAndCode
-  among : Contains all code
-  source_is : code.source.now ≡ passed.source.function
-  entries : code.code.now.entries ≡ entries_of function.layout
+-- a function that passes made, what is compiled of it, and its machine code, by its index
+pub record Paired (names : ℕ → List ℕ) (passed : PassedFunction) (f : ListedFunction) (all : List SourceAndCode) (n : ℕ) : Type 0 where
+  pub base : ℕ
+  pub first : ℕ
+  pub function : IsCompiledFunction names passed base first f
+  pub code : SourceAndCode
+  pub at : slice_get all n ≡ Some code
+  pub among : Contains all code
+  pub source_is : code.source.now ≡ passed.source.function
+  pub entries : code.code.now.entries ≡ entries_of function.layout
 
-abbrev sources : List SourceAndCode → List Function
+abbrev pub sources : List SourceAndCode → List Function
 sources cs = map (λ (c : SourceAndCode). c.source.now) cs
 
-abbrev codes : List SourceAndCode → List LaidCode
+abbrev pub codes : List SourceAndCode → List LaidCode
 codes cs = map (λ (c : SourceAndCode). c.code.now) cs
 
-abbrev functions : List PassedFunction → List Function
+abbrev pub functions : List PassedFunction → List Function
 functions ps = map (λ (p : PassedFunction). p.function) ps
 
-abbrev read_of : List PassedFunction → List Function
+abbrev pub read_of : List PassedFunction → List Function
 read_of ps = map (λ (p : PassedFunction). p.source.function) ps
 
-paired : (names : ℕ → List ℕ) (base first : ℕ) (text : List ℕ) (lists : List (List Range)) (ps : List PassedFunction) (fs : List ListedFunction)
+pub paired : (names : ℕ → List ℕ) (base first : ℕ) (text : List ℕ) (lists : List (List Range)) (ps : List PassedFunction) (fs : List ListedFunction)
     (cs : List SourceAndCode) →
     sources cs ≡ read_of ps → AreCoded base (functions ps) (codes cs) → AreCompiled names base first text lists ps fs →
-    (n : ℕ) (passed : PassedFunction) (f : ListedFunction) → slice_get ps n ≡ Some passed → slice_get fs n ≡ Some f → Paired names passed f cs
+    (n : ℕ) (passed : PassedFunction) (f : ListedFunction) → slice_get ps n ≡ Some passed → slice_get fs n ≡ Some f → Paired names passed f cs n
 paired names base first text lists [] fs cs same coded are n passed f s_is f_is = absurd cc
 paired names base first text lists (p ∷ ps) [] cs same coded are n passed f s_is f_is = absurd cc
 paired names base first text lists (p ∷ ps) (g ∷ fs) [] same coded are n passed f s_is f_is = absurd coded
@@ -126,11 +131,12 @@ paired names base first text lists (p ∷ ps) (g ∷ fs) (c ∷ cs) same coded (
     let is = coded.0 in
     let layout : is.layout ≡ made.layout = same_layout is.layout made.layout (is.of ∙ sym made.laid.framed) (is.from ∙ sym made.laid.from) is.settled
     made.laid.settled in
-    subst (λ (x : PassedFunction). Paired names x f (c ∷ cs)) passed_same (subst (λ (x : ListedFunction). Paired names p x (c ∷ cs)) listed_same (record {
+    subst (λ (x : PassedFunction). Paired names x f (c ∷ cs) 0) passed_same (subst (λ (x : ListedFunction). Paired names p x (c ∷ cs) 0) listed_same (record {
       base = base;
       first = first;
       function = made;
       code = c;
+      at = refl;
       among = head_member c cs;
       source_is = func_same;
       entries = is.entries ∙ ap entries_of layout;
@@ -151,6 +157,7 @@ paired names base first text lists (p ∷ ps) (g ∷ fs) (c ∷ cs) same coded (
       first = found.first;
       function = found.function;
       code = found.code;
+      at = found.at;
       among = later_member c found.code cs found.among;
       source_is = found.source_is;
       entries = found.entries;
@@ -194,23 +201,24 @@ names_same (c ∷ cs) (p ∷ ps) same =
     ap (λ (f : Function). f.name ∷ map (λ (x : SourceAndCode). x.source.now.name) cs) func_same
     ∙ ap (λ (ns : List (List ℕ)). p.func.name ∷ ns) (names_same cs ps tails)
 
-module _ (p : Program) (ps : List PassedFunction) (passed : ArePassed p.meta p.functions ps) (cs : List SourceAndCode) (coded : HaveCode ps cs) where
+module _ (p : Program) (ps : List PassedFunction) (passed : ArePassed p.meta p.functions ps) (cs : List SourceAndCode) (coded : HaveCode ps cs)
+    (further : List (Option ℕ)) where
   lie : LieFrom 0 cs
   lie = codes_lie 0 (functions ps) cs coded.coded
 
   unit_same : program_file p.meta cs ≡ file_of p
   unit_same = ap (unit_file p.meta) (names_same cs p.functions (coded.sources ∙ sym (passed_functions p.meta p.functions ps passed)))
 
-  module _ (source : Parsed) (made : PassedFunction) (f : ListedFunction) (of : made.source ≡ source_of source) (is : IsCompilable p.meta made)
-      (pair : Paired (names_of p.meta) made f cs) where
-    source_is : pair.code.source.now ≡ source.func
+  module _ (source : Parsed) (made : PassedFunction) (f : ListedFunction) (n : ℕ) (of : made.source ≡ source_of source) (is : IsCompilable p.meta made)
+      (pair : Paired (names_of p.meta) made f cs n) where
+    pub source_is : pair.code.source.now ≡ source.func
     source_is = pair.source_is ∙ ap (λ (s : SourceFunction). s.function) of
 
     forms : AllItems IsFormed pair.function.layout.framed.blocks
     forms = subst (λ (x : FramedFunction). AllItems IsFormed x.blocks) (sym pair.function.laid.framed)
         (forms_framed made.function (size_fits made.function 2032 pair.function.laid.small) is.passed.follower.form)
 
-    entered : (a : ℕ) (line : Line) → HasByte f a line → (e : EncodedInstruction) × HasCodeAt cs a pair.code e × (e.origin ≡ origin_of line)
+    pub entered : (a : ℕ) (line : Line) → HasByte f a line → (e : EncodedInstruction) × HasCodeAt cs a pair.code e × (e.origin ≡ origin_of line)
     entered a line has =
         let found = listing_entered a pair.function.layout
         (variable_lines (names_of p.meta) pair.first (variables_of_function made.source.function.blocks)) made.substitutions forms line
@@ -226,47 +234,56 @@ module _ (p : Program) (ps : List PassedFunction) (passed : ArePassed p.meta p.f
           found.4,
         )
 
-    tells : TellsLinesOf p (table_of p.meta cs) source f
+    tells : TellsLinesOf p (table_with p.meta cs further) source f
     tells = record {
       gives = λ a line has.
           let at = entered a line has in
-          subst (λ (u : SourceFile). GivesLine (table_of p.meta cs) a (line_of p.meta u source.func.blocks (origin_of line))) unit_same
-          (subst (λ (o : Origin). GivesLine (table_of p.meta cs) a (line_of p.meta (program_file p.meta cs) source.func.blocks o)) at.2
-          (subst (λ (g : Function). GivesLine (table_of p.meta cs) a (line_of p.meta (program_file p.meta cs) g.blocks at.0.origin)) source_is
-          (tables_give_lines p.meta cs 0 lie a pair.code at.0 at.1)));
+          subst (λ (u : SourceFile). GivesLine (table_with p.meta cs further) a (line_of p.meta u source.func.blocks (origin_of line))) unit_same
+          (subst (λ (o : Origin). GivesLine (table_with p.meta cs further) a (line_of p.meta (program_file p.meta cs) source.func.blocks o)) at.2
+          (subst (λ (g : Function). GivesLine (table_with p.meta cs further) a (line_of p.meta (program_file p.meta cs) g.blocks at.0.origin)) source_is
+          (tables_give_lines p.meta cs further 0 lie a pair.code at.0 at.1)));
       none = λ a line has no row at_row.
           let at = entered a line has in
-          none_is_line_zero p.meta cs 0 lie a pair.code at.0 at.1
+          none_is_line_zero p.meta cs further 0 lie a pair.code at.0 at.1
           (ap (λ (g : Function). scope_line p.meta (loc_of g.blocks (position_of at.0.origin))) source_is
           ∙ ap (λ (o : Origin). scope_line p.meta (loc_of source.func.blocks (position_of o))) at.2 ∙ no) row at_row;
     }
 
 -- a row is of an address below the end of one of the functions
-nothing_beyond : (p : Program) (ps : List PassedFunction) (cs : List SourceAndCode) → HaveCode ps cs → (a : ℕ) (row : Row) →
-    IsRowAt (table_of p.meta cs) a row →
+nothing_beyond : (p : Program) (ps : List PassedFunction) (cs : List SourceAndCode) (further : List (Option ℕ)) → HaveCode ps cs → (a : ℕ) (row : Row) →
+    IsRowAt (table_with p.meta cs further) a row →
     (c : SourceAndCode) × Contains cs c × (a < function_end c)
-unfolding table_of
-nothing_beyond p ps cs coded a row is =
+unfolding table_with
+nothing_beyond p ps cs further coded a row is =
     let lies = codes_lie 0 (functions ps) cs coded.coded in
-    let found = row_has_code (program_files p.meta cs) p.meta (program_file p.meta cs) 0 cs lies is.sequence is.among a row
+    let found = row_has_code (files_with p.meta cs further) p.meta (program_file p.meta cs) 0 cs lies is.sequence is.among a row
     (last_in is.sequence.rows a row is.last) is.inside in
     let within = (entry_from found.0.code.now.base found.0.code.now.entries (function_end found.0) (stands_of 0 cs lies found.0 found.1) found.2 found.3).1 in
     let below = found.5 in
     (found.0, found.1, omega (arith, within, below))
 
+-- the table of a program's rows, which has the files of further scopes where the sections are those of inlined functions
+rows_table : (meta : Maps) (text_len : ℕ) (cs : List SourceAndCode) (abbreviated info rows : List ℕ) (ranges : Option (List ℕ))
+    → Describe meta text_len cs abbreviated info rows ranges → (further : List (Option ℕ)) × (rows ≡ rows_spelling (table_with meta cs further))
+rows_table meta text_len cs abbreviated info rows None is = ([], is.2 ∙ ap rows_spelling (sym (no_further meta cs)))
+rows_table meta text_len cs abbreviated info rows (Some ranges) is = (call_scopes meta is.1.instances, is.1.rows_are)
+
 pub tell_lines : OutputsTellLines
 tell_lines p ps o passed compiled has = record {
-  table = table_of p.meta has.compiled;
-  spelled = has.rows;
+  table = table_with p.meta has.compiled is.0;
+  spelled = is.1;
   each = λ n source f s_is f_is.
       let at = passed_at p.meta p.functions ps passed n source s_is in
-      tells p ps passed has.compiled has.coded source at.passed f at.source at.is
+      tells p ps passed has.compiled has.coded is.0 source at.passed f n at.source at.is
       (paired (names_of p.meta) 0 0 o.text compiled.lists ps o.functions has.compiled has.coded.sources has.coded.coded compiled.functions n at.passed f
       at.at f_is);
-  beyond = λ a behind row is.
-      let found = nothing_beyond p ps has.compiled has.coded a row is in
+  beyond = λ a behind row at_row.
+      let found = nothing_beyond p ps has.compiled is.0 has.coded a row at_row in
       let within = ends_within (names_of p.meta) 0 0 o.text compiled.lists ps o.functions has.compiled has.coded.coded compiled.functions found.0
       found.1 in
       let below = found.2 in
       omega (arith, behind, within, below);
 }
+  where
+    is : (further : List (Option ℕ)) × (o.rows ≡ rows_spelling (table_with p.meta has.compiled further))
+    is = rows_table p.meta (length o.text) has.compiled o.abbreviations o.info o.rows o.ranges has.described

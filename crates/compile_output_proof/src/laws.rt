@@ -2,6 +2,7 @@
 
 ghost use Rattle.compile_output_proof.specs.Laws.{OutputsArePrintable};
 ghost use Rattle.compile_output_proof.specs.Lines.{OutputsTellLines};
+ghost use Rattle.compile_output_proof.specs.Inlined.{OutputsTellInlinedLines};
 
 /// The output of a program that was read is printable, so its text is the text of no other printable output.
 pub fn outputs_are_printable()
@@ -13,4 +14,11 @@ pub fn outputs_are_printable()
 /// from the end of `.text` on.
 pub fn outputs_tell_lines()
     ensures { OutputsTellLines }
+{}
+
+/// `.debug_rnglists` of the output of a program that was read, if there is one, is exact: the address of a byte of code
+/// is in the range list of an instance exactly if the byte's line was inlined through the instance's call. The entries
+/// of `.debug_info` are those of these instances.
+pub fn outputs_tell_inlined_lines()
+    ensures { OutputsTellInlinedLines }
 {}

@@ -9,9 +9,6 @@ use Rattle.emit_code.specs.Rule.{words_of}
 use Rattle.listing_text.specs.declared.output.ListedFunction.{ListedFunction}
 use Rattle.listing_text.specs.declared.output.Output.{Output}
 use Rattle.dwarf_base.specs.Limits.{SECTION_LIMIT}
-use Rattle.dwarf_info.specs.Entries.{spelling as entries_spelling}
-use Rattle.dwarf_info.specs.Kinds.{abbreviations}
-use Rattle.dwarf_line.specs.Spelling.{spelling as rows_spelling}
 use Rattle.dwarf_loclists.specs.declared.range.Range.{Range}
 use Rattle.dwarf_loclists.specs.Grammar.{IsSection}
 use Rattle.dwarf_loclists.specs.Ranges.{Ascend, ArePlaces}
@@ -29,13 +26,12 @@ use Rattle.compile_theorem.specs.Compiled.{AreCompiled, bytes_of}
 use Rattle.compile_theorem.specs.Source.{PassedFunction}
 use Rattle.pass_list.specs.declared.kind.PassKind.{PassKind}
 use Rattle.compile_program.specs.Program.{ArePassed, AreCoded, HaveCode, IsCompiledAs, AreCompiledAs, IsOutputOf, IsLarge, HasLargeSection}
-use Rattle.compile_program.specs.Program.{HasLargeFrameSection}
+use Rattle.compile_program.specs.Program.{HasLargeFrameSection, HasLargeInlinedSection, Describe}
 use Rattle.compile_program.specs.steps.CompilationState.{AreMade}
 use Rattle.compile_program.proofs.Passed.{have_code}
 use Rattle.dwarf_line_table.specs.declared.source_and_code.SourceAndCode.{SourceAndCode}
-use Rattle.dwarf_line_table.specs.Program.{table_of}
-use Rattle.dwarf_unit.specs.Unit.{unit_of}
 use Rattle.dwarf_sections.specs.Frame.{IsOfFunction, IsFrameSection, IsLargeFrameSection}
+use Rattle.dwarf_sections.specs.Inlined.{IsLargeInlined}
 use Rattle.dwarf_unit.specs.Variables.{variables_of_function}
 
 module _ (names : ℕ → List ℕ) (reserve : List ℕ) (passes : List PassKind) where
@@ -226,12 +222,26 @@ module _ (p : Program) (reserve : List ℕ) (passes : List PassKind) (m : Emitte
     large = large;
   }
 
-  pub whole_output : (o : Output) → o.text ≡ m.text → o.functions ≡ m.listings → IsSection o.loclists lists → o.abbreviations ≡ abbreviations →
-      o.info ≡ entries_spelling (unit_of p.meta (length o.text) cs) → o.rows ≡ rows_spelling (table_of p.meta cs) →
+  pub large_inlined_section : IsLargeInlined p.meta (length m.text) cs → HasLargeInlinedSection (steps_of reserve passes) p
+  large_inlined_section large = record {
+    functions = are.passed;
+    passed = are.are;
+    made = emitted_made p.meta reserve passes p.functions m are;
+    text = m.text;
+    lists = lists;
+    listed = m.listings;
+    compiled = cs;
+    laid = emitted_compiled p.meta reserve passes p.functions m are lists same;
+    coded = emitted_code p.meta reserve passes p.functions m are cs sources_are codes_are;
+    large = large;
+  }
+
+  pub whole_output : (o : Output) → o.text ≡ m.text → o.functions ≡ m.listings → IsSection o.loclists lists →
+      Describe p.meta (length o.text) cs o.abbreviations o.info o.rows o.ranges →
       IfSome o.frame (IsFrameSection [] (map (λ c. c.code.now) cs)) → length o.text < SECTION_LIMIT → length o.info < SECTION_LIMIT →
       length o.rows < SECTION_LIMIT → length o.loclists < SECTION_LIMIT → IfSome o.frame (λ bytes. length bytes < SECTION_LIMIT) →
-      IsOutputOf (steps_of reserve passes) p o
-  whole_output o text_is listings_are section abbreviations_are info_is rows_are frame_is text_small info_small rows_small loclists_small frame_small = record {
+      IfSome o.ranges (λ bytes. length bytes < SECTION_LIMIT) → IsOutputOf (steps_of reserve passes) p o
+  whole_output o text_is listings_are section described frame_is text_small info_small rows_small loclists_small frame_small ranges_small = record {
     functions = are.passed;
     passed = are.are;
     made = emitted_made p.meta reserve passes p.functions m are;
@@ -246,14 +256,13 @@ module _ (p : Program) (reserve : List ℕ) (passes : List PassKind) (m : Emitte
     sections = record {
       compiled = cs;
       coded = emitted_code p.meta reserve passes p.functions m are cs sources_are codes_are;
-      abbreviations = abbreviations_are;
-      info = info_is;
-      rows = rows_are;
+      described = described;
       frame = frame_is;
       text_small = text_small;
       info_small = info_small;
       rows_small = rows_small;
       loclists_small = loclists_small;
       frame_small = frame_small;
+      ranges_small = ranges_small;
     };
   }

@@ -1,10 +1,9 @@
 -- Functions that passes made, and their sources.
 use Rattle.std.proofs.Common.{◌≡◌, ◌∙◌, ℕ, zero, suc, ◌<◌, List, [], ◌∷◌, map, All, Contains, Some, refl, ap, sym, subst}
 use Rattle.std.specs.Prelude.{slice_get}
-use Rattle.std.proofs.lemmas.List.Elements.{All-nil, All-cons, All-contains}
+use Rattle.std.proofs.lemmas.List.Elements.{All-nil, All-cons}
 use Rattle.emit_code.specs.Laid.{LaidCode}
 use Rattle.pass_trait.specs.declared.loss.Loss.{Loss}
-use Rattle.pass_trait.specs.Sizes.{IsPhysical}
 use Rattle.pass_trait.specs.Steps.{PassStep}
 use Rattle.frame_rule.specs.Rule.{reach_of}
 use Rattle.mir_func.specs.declared.debug_substitution.DebugSubstitution.{DebugSubstitution}
@@ -16,7 +15,7 @@ use Rattle.compile_function.specs.Passed.{source_of, passed_of, steps_of, IsComp
 use Rattle.read_metadata.specs.Maps.{Maps}
 use Rattle.read_program.specs.declared.closing.Parsed.{Parsed}
 use Rattle.compile_theorem.specs.Source.{SourceFunction, PassedFunction, IsPassedFunction, sources_among}
-use Rattle.compile_program.specs.Program.{sources_of, ArePassed, AreCoded, HaveCode, HasVirtual, HasVirtualRegister, HasLargeFrame}
+use Rattle.compile_program.specs.Program.{sources_of, ArePassed, AreCoded, HaveCode, LeavesVirtual, HasVirtualRegister, HasLargeFrame}
 use Rattle.compile_program.specs.steps.CompilationState.{IsTooLarge}
 use Rattle.dwarf_line_table.specs.declared.source_and_code.SourceAndCode.{SourceAndCode}
 
@@ -66,9 +65,10 @@ one_too_large steps functions q is among = record {
   large = is.large;
 }
 
--- one of the functions has a virtual register
-pub one_virtual : (functions : List Parsed) (q : Parsed) → HasVirtual q → Contains functions q → HasVirtualRegister functions
-one_virtual functions q virtual among = λ all. virtual (All-contains (λ (p : Parsed). IsPhysical p.func) functions q all among)
+-- linear scan leaves a virtual register in one of the functions
+pub one_virtual : (reserve : List ℕ) (functions : List Parsed) (q : Parsed) → LeavesVirtual reserve q → Contains functions q →
+    HasVirtualRegister reserve functions
+one_virtual reserve functions q virtual among = record { function = q; among = among; virtual = virtual }
 
 -- functions that were read, with the machine code of what passes made of them
 pub have_code : (meta : Maps) (fs : List Parsed) (ps : List PassedFunction) (cs : List SourceAndCode) (codes : List LaidCode) → ArePassed meta fs ps →

@@ -1,22 +1,21 @@
 -- The output of compiling a program.
-use Rattle.std.specs.Prelude.{◌≡◌, ℕ, ◌+◌, ◌*◌, ◌<◌, ◌≤◌, ◌⊎◌, List, [], ◌∷◌, length, map, All, Contains, IfSome}
+use Rattle.std.specs.Prelude.{◌≡◌, ℕ, ◌+◌, ◌*◌, ◌<◌, ◌≤◌, ◌⊎◌, List, [], ◌∷◌, length, map, All, Contains, Option, None, Some, IfSome}
 use Rattle.emit_code.specs.Laid.{LaidCode, IsCodeOf}
 use Rattle.emit_code.specs.Rule.{words_of}
 use Rattle.listing_text.specs.declared.output.ListedFunction.{ListedFunction}
 use Rattle.listing_text.specs.declared.output.Output.{Output}
 use Rattle.dwarf_base.specs.Limits.{SECTION_LIMIT}
 use Rattle.dwarf_info.specs.Entries.{spelling as entries_spelling}
-use Rattle.dwarf_info.specs.Kinds.{abbreviations}
+use Rattle.dwarf_info.specs.Kinds.{abbreviations, inlined_abbreviations}
 use Rattle.dwarf_line.specs.Spelling.{spelling as rows_spelling}
 use Rattle.dwarf_loclists.specs.declared.range.Range.{Range}
 use Rattle.dwarf_loclists.specs.Grammar.{IsSection}
 use Rattle.dwarf_loclists.specs.Spelling.{spelling as lists_spelling}
-use Rattle.pass_trait.specs.Sizes.{IsPhysical}
 use Rattle.pass_trait.specs.Steps.{PassStep}
 use Rattle.frame_rule.specs.Rule.{reach_of, framed_of}
 pub use Rattle.compile_function.specs.Emitted.{names_of, text_of, lists_of, AreWritable}
 use Rattle.compile_function.specs.declared.compiled_function.CompiledFunction.{CompiledFunction}
-pub use Rattle.compile_function.specs.Passed.{source_of, HasVirtual, IsMadeBy, IsMadeLosing, IsCompilable, steps_of, passes_of}
+pub use Rattle.compile_function.specs.Passed.{source_of, GetsRegisters, LeavesVirtual, IsMadeBy, IsMadeLosing, IsCompilable, steps_of, passes_of}
 use Rattle.read_metadata.specs.Maps.{Maps}
 use Rattle.mir_func.specs.Function.{Function}
 use Rattle.mir_func.specs.Limits.{MAX_FRAME}
@@ -29,6 +28,7 @@ use Rattle.compile_program.specs.declared.compile.Compilation.{Compilation}
 use Rattle.dwarf_line_table.specs.declared.source_and_code.SourceAndCode.{SourceAndCode}
 use Rattle.dwarf_line_table.specs.Program.{table_of}
 use Rattle.dwarf_sections.specs.Frame.{IsFrameSection, IsLargeFrameSection}
+use Rattle.dwarf_sections.specs.Inlined.{AreInlinedSections, IsLargeInlined}
 use Rattle.dwarf_unit.specs.Unit.{unit_of}
 use Rattle.dwarf_unit.specs.Variables.{variables_of_function}
 
@@ -88,21 +88,27 @@ AreCompiledAs names reserve passes base first (p ∷ ps) (f ∷ fs) (c ∷ cs) =
 
 -- ---- sections
 
--- `.debug_abbrev`, `.debug_info` and `.debug_line` encode the abbreviations, the unit and the line number table of the program. `.text`,
--- `.debug_info`, `.debug_line` and `.debug_loclists` are below the size limit. `.debug_frame`, if there is one, encodes the call frame information of the
--- functions' machine code, and is below the limit too.
+-- `.debug_abbrev`, `.debug_info` and `.debug_line` encode the abbreviations, the unit and the line number table of the program. If there is `.debug_rnglists`,
+-- they are those of its inlined functions too, and it encodes these functions' ranges.
+abbrev pub Describe : Maps → (text_len : ℕ) → List SourceAndCode → (abbreviated info rows : List ℕ) → (ranges : Option (List ℕ)) → Type 0
+Describe meta text_len compiled abbreviated info rows None =
+    (abbreviated ≡ abbreviations) × (info ≡ entries_spelling (unit_of meta text_len compiled)) × (rows ≡ rows_spelling (table_of meta compiled))
+Describe meta text_len compiled abbreviated info rows (Some ranges) =
+    (abbreviated ≡ inlined_abbreviations) × AreInlinedSections meta text_len compiled info rows ranges
+
+-- The sections describe the program. `.debug_frame`, if there is one, encodes the call frame information of the functions' machine code. All but the
+-- abbreviations are below the size limit.
 pub record HasSections (meta : Maps) (functions : List PassedFunction) (o : Output) : Type 0 where
   pub compiled : List SourceAndCode
   pub coded : HaveCode functions compiled
-  pub abbreviations : o.abbreviations ≡ abbreviations
-  pub info : o.info ≡ entries_spelling (unit_of meta (length o.text) compiled)
-  pub rows : o.rows ≡ rows_spelling (table_of meta compiled)
+  pub described : Describe meta (length o.text) compiled o.abbreviations o.info o.rows o.ranges
   pub text_small : length o.text < SECTION_LIMIT
   pub info_small : length o.info < SECTION_LIMIT
   pub rows_small : length o.rows < SECTION_LIMIT
   pub loclists_small : length o.loclists < SECTION_LIMIT
   pub frame : IfSome o.frame (IsFrameSection [] (map (λ c. c.code.now) compiled))
   pub frame_small : IfSome o.frame (λ bytes. length bytes < SECTION_LIMIT)
+  pub ranges_small : IfSome o.ranges (λ bytes. length bytes < SECTION_LIMIT)
 
 -- ---- outputs
 
@@ -125,13 +131,15 @@ pub record IsCompilationOf (reserve : List ℕ) (passes : List PassKind) (p : Pr
 
 -- ---- programs that have no output
 
--- no function has a virtual register
-abbrev pub AreAllPhysical : List Parsed → Type 0
-AreAllPhysical functions = All (λ (p : Parsed). IsPhysical p.func) functions
+-- linear scan leaves no virtual register in any function
+abbrev pub HaveRegisters : (reserve : List ℕ) → List Parsed → Type 0
+HaveRegisters reserve functions = All (GetsRegisters reserve) functions
 
--- some function has a virtual register
-abbrev pub HasVirtualRegister : List Parsed → Type 0
-HasVirtualRegister functions = AreAllPhysical functions → ⊥
+-- Linear scan leaves a virtual register in some function.
+pub record HasVirtualRegister (reserve : List ℕ) (functions : List Parsed) : Type 0 where
+  pub function : Parsed
+  pub among : Contains functions function
+  pub virtual : LeavesVirtual reserve function
 
 -- Some function, after the steps of passes, refines its source, and has a frame above the limit.
 pub record HasLargeFrame (steps : List PassStep) (functions : List Parsed) : Type 0 where
@@ -169,3 +177,16 @@ pub record HasLargeFrameSection (steps : List PassStep) (p : Program) : Type 0 w
   pub compiled : List SourceAndCode
   pub coded : HaveCode functions compiled
   pub large : IsLargeFrameSection [] (map (λ c. c.code.now) compiled)
+
+-- A section of the program with inlined functions, compiled after the steps of passes, would be too large.
+pub record HasLargeInlinedSection (steps : List PassStep) (p : Program) : Type 0 where
+  pub functions : List PassedFunction
+  pub passed : ArePassed p.meta p.functions functions
+  pub made : All (IsMadeBy steps) functions
+  pub text : List ℕ
+  pub lists : List (List Range)
+  pub listed : List ListedFunction
+  pub compiled : List SourceAndCode
+  pub laid : AreCompiled (names_of p.meta) 0 0 text lists functions listed
+  pub coded : HaveCode functions compiled
+  pub large : IsLargeInlined p.meta (length text) compiled

@@ -1,1 +1,2 @@
 pub mod CompilationState
+pub mod Described

@@ -1,10 +1,15 @@
 //! Compilation of a program to its output.
 
-ghost use Rattle.std.specs.Prelude.{◌≡◌, ◌<◌, ◌⊎◌, [], true, false, is_some, All, IfOk, IfSome, IsErrOf, length, map};
+ghost use Rattle.std.specs.Prelude.{◌≡◌, ◌-◌, ◌^◌, ◌<◌, ◌≤◌, ◌⊎◌, [], true, false, is_some, All, IfOk, IfSome, IsErrOf};
+ghost use Rattle.std.specs.Prelude.{length, map};
 ghost use Rattle.pass_list.specs.Names.{AreDistinct};
 ghost use Rattle.compile_function.specs.Passed.{steps_of};
 ghost use Rattle.compile_program.specs.Program.{IsOutputOf, IsCompilationOf, HasLargeFrame, HasLargeSection};
-ghost use Rattle.compile_program.specs.Program.{AreAllPhysical, HasVirtualRegister, HasLargeFrameSection};
+ghost use Rattle.compile_program.specs.Program.{HaveRegisters, HasVirtualRegister, HasLargeFrameSection};
+ghost use Rattle.compile_program.specs.Program.{HasLargeInlinedSection};
+ghost use Rattle.compile_program.specs.steps.Described.{IsDescription, IsLargeDescription};
+ghost use Rattle.dwarf_line_table.specs.Program.{MAX_FUNCTIONS};
+ghost use Rattle.dwarf_unit.specs.Unit.{program_variables};
 ghost use Rattle.compile_program.specs.steps.CompilationState.{AreMade};
 ghost use Rattle.dwarf_base.specs.Limits.{SECTION_LIMIT};
 ghost use Rattle.dwarf_sections.specs.Frame.{IsOfFunction, IsFrameSection, IsLargeFrameSection};
@@ -15,11 +20,13 @@ use compile_function::compiled_function::{CompiledFunction, CompiledFunctions};
 use compile_function::emit::EmittedFunctions;
 use compile_function::error::CompileError;
 use compile_function::lists::all_lists;
-use dwarf_info::abbreviation::write_abbrev;
+use dwarf_info::abbreviation::{write_abbrev, write_inlined_abbrev};
 use dwarf_line_table::source_and_code::SourceAndCode;
+use dwarf_sections::inlined::{InlinedSections, inlined};
 use dwarf_sections::sections::{SectionError, frame, info, loclists, rows};
 use listing_text::output::{Bytes, Output};
 use pass_list::kind::PassKind;
+use read_metadata::metadata::Metadata;
 use read_program::closing::Parsed;
 use read_program::program::Program;
 use rv64_instr::reg::Reg;
@@ -34,12 +41,12 @@ pub struct Compilation {
     pub functions: CompiledFunctions,
 }
 
-/// Compiles a program that was read. Each function is run through the passes and its frame added, and they are laid out
-/// from address 0. The location lists are those of the variables of the source function. `reserve` is the registers
-/// that may be spilled. The error is `NoRegister` if some function has a virtual register, otherwise `FrameTooLarge` if
-/// some function's frame would have more than 2,032 bytes, and otherwise `SectionTooLarge`, only if a section of
-/// functions that the passes may make would have 2^31 bytes or more.
-/// The section `.debug_frame` isn't among the sections.
+/// Compiles a program that was read. Each function is run through linear scan and the passes and its frame added, and
+/// they are laid out from address 0. The location lists are those of the variables of the source function. `reserve` is
+/// the registers that may be spilled. The error is `NoRegister` if linear scan leaves a virtual register in some
+/// function, otherwise `FrameTooLarge` if some function's frame would have more than 2,032 bytes, and otherwise
+/// `SectionTooLarge`, only if a section of functions that the passes may make would have 2^31 bytes or more.
+/// The sections `.debug_frame` and `.debug_rnglists` aren't among the sections.
 pub fn compile(
     alloc: Global,
     program: &Program,
@@ -51,10 +58,13 @@ pub fn compile(
     ensures output { IfOk result (λ c. IsOutputOf (steps_of reserve.now passes.now) program.now c.output) }
     ensures compilation { IfOk result (IsCompilationOf reserve.now passes.now program.now) }
     ensures no_frame_section { IfOk result (λ c. is_some c.output.frame ≡ false) }
-    ensures no_register { IsErrOf result CompileError.NoRegister → HasVirtualRegister program.now.functions }
+    ensures no_ranges_section { IfOk result (λ c. is_some c.output.ranges ≡ false) }
+    ensures no_register { IsErrOf result CompileError.NoRegister →
+        HasVirtualRegister reserve.now program.now.functions }
     ensures frame_too_large { IsErrOf result CompileError.FrameTooLarge →
         HasLargeFrame (steps_of reserve.now passes.now) program.now.functions }
-    ensures registers_first { IsErrOf result CompileError.FrameTooLarge → AreAllPhysical program.now.functions }
+    ensures registers_first { IsErrOf result CompileError.FrameTooLarge →
+        HaveRegisters reserve.now program.now.functions }
     ensures section_too_large { IsErrOf result CompileError.SectionTooLarge →
         HasLargeSection (steps_of reserve.now passes.now) program.now }
 {
@@ -65,27 +75,34 @@ pub fn compile(
         passes,
         reserve,
     )?;
-    compiled(alloc, program, made, false, passes, reserve)
+    compiled(alloc, program, made, false, false, passes, reserve)
 }
 
-/// Compiles a program likewise, with the section `.debug_frame`, which may be the one that is too large.
-pub fn compile_with_frame(
+/// Compiles a program likewise, with the section `.debug_frame` and with inlined functions, if they are asked for.
+/// Their sections may be those that are too large.
+pub fn compile_with(
     alloc: Global,
     program: &Program,
+    with_frame: bool,
+    with_inline: bool,
     passes: &[PassKind],
     reserve: &[Reg],
 ) -> Result<Compilation, CompileError>
     requires read { IsReadProgram program.now }
     requires distinct { AreDistinct passes.now }
     ensures output { IfOk result (λ c. IsOutputOf (steps_of reserve.now passes.now) program.now c.output) }
-    ensures frame_section { IfOk result (λ c. is_some c.output.frame ≡ true) }
-    ensures no_register { IsErrOf result CompileError.NoRegister → HasVirtualRegister program.now.functions }
+    ensures frame_section { IfOk result (λ c. is_some c.output.frame ≡ with_frame) }
+    ensures ranges_section { IfOk result (λ c. is_some c.output.ranges ≡ with_inline) }
+    ensures no_register { IsErrOf result CompileError.NoRegister →
+        HasVirtualRegister reserve.now program.now.functions }
     ensures frame_too_large { IsErrOf result CompileError.FrameTooLarge →
         HasLargeFrame (steps_of reserve.now passes.now) program.now.functions }
-    ensures registers_first { IsErrOf result CompileError.FrameTooLarge → AreAllPhysical program.now.functions }
+    ensures registers_first { IsErrOf result CompileError.FrameTooLarge →
+        HaveRegisters reserve.now program.now.functions }
     ensures section_too_large { IsErrOf result CompileError.SectionTooLarge →
         HasLargeSection (steps_of reserve.now passes.now) program.now
-        ⊎ HasLargeFrameSection (steps_of reserve.now passes.now) program.now }
+        ⊎ (((with_frame ≡ true) × HasLargeFrameSection (steps_of reserve.now passes.now) program.now)
+        ⊎ ((with_inline ≡ true) × HasLargeInlinedSection (steps_of reserve.now passes.now) program.now)) }
 {
     let made = made_of(
         alloc,
@@ -94,16 +111,26 @@ pub fn compile_with_frame(
         passes,
         reserve,
     )?;
-    compiled(alloc, program, made, true, passes, reserve)
+    compiled(
+        alloc,
+        program,
+        made,
+        with_frame,
+        with_inline,
+        passes,
+        reserve,
+    )
 }
 
-/// Makes all sections of a program, of its functions as compiled after passes, with `.debug_frame` if it is asked for.
+/// Makes all sections of a program, of its functions as compiled after passes, with `.debug_frame` and with inlined
+/// functions if they are asked for.
 #[tactic(auto, using(crate::proofs::Compiled::emitted_section))]
 fn compiled(
     alloc: Global,
     program: &Program,
     made: EmittedFunctions,
     with_frame: bool,
+    with_inline: bool,
     _passes: &[PassKind],
     _reserve: &[Reg],
 ) -> Result<Compilation, CompileError>
@@ -112,11 +139,13 @@ fn compiled(
     ensures output { IfOk result (λ c. IsOutputOf (steps_of _reserve.now _passes.now) program.now c.output) }
     ensures compilation { IfOk result (IsCompilationOf _reserve.now _passes.now program.now) }
     ensures frame_section { IfOk result (λ c. is_some c.output.frame ≡ with_frame) }
+    ensures ranges_section { IfOk result (λ c. is_some c.output.ranges ≡ with_inline) }
     ensures registers { IsErrOf result CompileError.NoRegister → ⊥ }
     ensures no_frame { IsErrOf result CompileError.FrameTooLarge → ⊥ }
     ensures section_too_large { IsErrOf result CompileError.SectionTooLarge →
         HasLargeSection (steps_of _reserve.now _passes.now) program.now
-        ⊎ ((with_frame ≡ true) × HasLargeFrameSection (steps_of _reserve.now _passes.now) program.now) }
+        ⊎ (((with_frame ≡ true) × HasLargeFrameSection (steps_of _reserve.now _passes.now) program.now)
+        ⊎ ((with_inline ≡ true) × HasLargeInlinedSection (steps_of _reserve.now _passes.now) program.now)) }
 {
     let meta = &program.meta;
     let EmittedFunctions {
@@ -129,17 +158,113 @@ fn compiled(
         let compiled = with_code(alloc, program.functions.as_slice(), functions.as_slice())?;
         let compiled = compiled.as_slice();
         let lists = all_lists(alloc, functions.as_slice())?;
+        let described = describe(alloc, compiled, meta, text.len() as u32, with_inline)?;
+        let Description {
+            abbreviations,
+            info,
+            rows,
+            ranges,
+        } = described;
         Output {
-            info: info(alloc, compiled, meta, text.len() as u32)?,
-            rows: rows(alloc, compiled, meta)?,
+            info,
+            rows,
+            ranges,
             loclists: loclists(alloc, &lists)?,
             frame: frame_if(alloc, compiled, with_frame)?,
-            abbreviations: write_abbrev(alloc)?,
+            abbreviations,
             text,
             functions: listings,
         }
     };
     Ok(Compilation { output, functions })
+}
+
+/// The sections that describe functions and their lines.
+#[derive(Debug, Drop)]
+pub struct Description {
+    /// `.debug_abbrev`.
+    pub abbreviations: Bytes,
+    /// `.debug_info`.
+    pub info: Bytes,
+    /// `.debug_line`.
+    pub rows: Bytes,
+    /// `.debug_rnglists`, if inlined functions are asked for.
+    pub ranges: Option<Bytes>,
+}
+
+/// The sections that describe functions, with `text_len` bytes of code, with inlined functions if they are asked for.
+fn describe(
+    alloc: Global,
+    functions: &[SourceAndCode],
+    meta: &Metadata,
+    text_len: u32,
+    with_inline: bool,
+) -> Result<Description, SectionError>
+    requires variables { length (program_variables functions.now) < 2 ^ 32 - 2 }
+    requires functions { length functions.now ≤ MAX_FUNCTIONS }
+    ensures present { IfOk result (λ d. is_some d.ranges ≡ with_inline) }
+    ensures described { IfOk result (IsDescription meta.now text_len functions.now) }
+    ensures info_small { IfOk result (λ d. length d.info < SECTION_LIMIT) }
+    ensures rows_small { IfOk result (λ d. length d.rows < SECTION_LIMIT) }
+    ensures ranges_small { IfOk result (λ d. IfSome d.ranges (λ bytes. length bytes < SECTION_LIMIT)) }
+    ensures large { IsErrOf result SectionError.TooLarge →
+        IsLargeDescription with_inline meta.now text_len functions.now }
+{
+    if with_inline {
+        return describe_inlined(alloc, functions, meta, text_len);
+    }
+    describe_plain(alloc, functions, meta, text_len)
+}
+
+/// The sections with inlined functions.
+fn describe_inlined(
+    alloc: Global,
+    functions: &[SourceAndCode],
+    meta: &Metadata,
+    text_len: u32,
+) -> Result<Description, SectionError>
+    requires variables { length (program_variables functions.now) < 2 ^ 32 - 2 }
+    requires functions { length functions.now ≤ MAX_FUNCTIONS }
+    ensures present { IfOk result (λ d. is_some d.ranges ≡ true) }
+    ensures described { IfOk result (IsDescription meta.now text_len functions.now) }
+    ensures info_small { IfOk result (λ d. length d.info < SECTION_LIMIT) }
+    ensures rows_small { IfOk result (λ d. length d.rows < SECTION_LIMIT) }
+    ensures ranges_small { IfOk result (λ d. IfSome d.ranges (λ bytes. length bytes < SECTION_LIMIT)) }
+    ensures large { IsErrOf result SectionError.TooLarge →
+        IsLargeDescription true meta.now text_len functions.now }
+{
+    let InlinedSections { info, rows, ranges } = inlined(alloc, functions, meta, text_len)?;
+    Ok(Description {
+        abbreviations: write_inlined_abbrev(alloc)?,
+        info,
+        rows,
+        ranges: Some(ranges),
+    })
+}
+
+/// The sections without inlined functions.
+fn describe_plain(
+    alloc: Global,
+    functions: &[SourceAndCode],
+    meta: &Metadata,
+    text_len: u32,
+) -> Result<Description, SectionError>
+    requires variables { length (program_variables functions.now) < 2 ^ 32 - 2 }
+    requires functions { length functions.now ≤ MAX_FUNCTIONS }
+    ensures present { IfOk result (λ d. is_some d.ranges ≡ false) }
+    ensures described { IfOk result (IsDescription meta.now text_len functions.now) }
+    ensures info_small { IfOk result (λ d. length d.info < SECTION_LIMIT) }
+    ensures rows_small { IfOk result (λ d. length d.rows < SECTION_LIMIT) }
+    ensures ranges_small { IfOk result (λ d. IfSome d.ranges (λ bytes. length bytes < SECTION_LIMIT)) }
+    ensures large { IsErrOf result SectionError.TooLarge →
+        IsLargeDescription false meta.now text_len functions.now }
+{
+    Ok(Description {
+        info: info(alloc, functions, meta, text_len)?,
+        rows: rows(alloc, functions, meta)?,
+        abbreviations: write_abbrev(alloc)?,
+        ranges: None,
+    })
 }
 
 /// The section `.debug_frame` of functions, if it is asked for.

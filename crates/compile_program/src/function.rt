@@ -1,21 +1,20 @@
 //! Compilation of the functions of a program, one after the other.
 
-ghost use Rattle.std.specs.Prelude.{◌+◌, ◌*◌, ◌%◌, ◌<◌, ◌≤◌, ◌^◌, ◌≡◌, ◌↔◌, All, IfOk, OnOk, IsErrOf, IsTrue, length};
+ghost use Rattle.std.specs.Prelude.{◌+◌, ◌*◌, ◌%◌, ◌<◌, ◌≤◌, ◌^◌, ◌≡◌, All, IfOk, OnOk, IsErrOf, length};
 ghost use Rattle.emit_code.specs.Counts.{MAX_WORDS, MAX_BASE};
 ghost use Rattle.read_body.specs.Limits.{MAX_ITEMS};
 ghost use Rattle.read_program.specs.declared.closing.Parsed.{Parsed};
 ghost use Rattle.read_program.specs.Program.{MAX_FUNCTIONS};
 ghost use Rattle.pass_list.specs.Names.{AreDistinct};
-ghost use Rattle.compile_function.specs.Passed.{HasVirtual, steps_of};
-ghost use Rattle.compile_program.specs.Program.{AreAllPhysical, HasVirtualRegister, HasLargeFrame};
+ghost use Rattle.compile_function.specs.Passed.{LeavesVirtual, steps_of};
+ghost use Rattle.compile_program.specs.Program.{HaveRegisters, HasVirtualRegister, HasLargeFrame};
 ghost use Rattle.compile_program.specs.steps.CompilationState.{IsSourcePushed, IsTooLarge, AreMade};
 ghost use Rattle.read_proof.specs.Read.{IsReadFunction, EntryIsLimited};
 
 use compile_function::compiled_function::CompiledFunctions;
 use compile_function::emit::{EmittedFunctions, push_function};
 use compile_function::error::CompileError;
-use compile_function::passed::after_passes;
-use frame_lowering::physical::is_physical;
+use compile_function::passed::{after_passes, get_registers};
 use listing_text::output::{Bytes, ListedFunctions};
 use pass_list::kind::PassKind;
 use read_metadata::metadata::Metadata;
@@ -23,9 +22,9 @@ use read_program::closing::Parsed;
 use rv64_instr::reg::Reg;
 use std::alloc::Global;
 
-/// Runs passes on each function and compiles it, from address 0 on. `reserve` is the registers that may be spilled. The
-/// error is `NoRegister` if some function has a virtual register, and otherwise `FrameTooLarge` if some function's
-/// frame would be too large.
+/// Runs linear scan and passes on each function and compiles it, from address 0 on. `reserve` is the registers that may
+/// be spilled. The error is `NoRegister` if linear scan leaves a virtual register in some function, and otherwise
+/// `FrameTooLarge` if some function's frame would be too large.
 pub fn made_of(
     alloc: Global,
     meta: &Metadata,
@@ -38,20 +37,18 @@ pub fn made_of(
     requires substitutions { All (λ (p : Parsed). All EntryIsLimited p.subs) functions.now }
     requires distinct { AreDistinct passes.now }
     ensures made { IfOk result (AreMade meta.now reserve.now passes.now functions.now) }
-    ensures no_register { IsErrOf result CompileError.NoRegister → HasVirtualRegister functions.now }
+    ensures no_register { IsErrOf result CompileError.NoRegister →
+        HasVirtualRegister reserve.now functions.now }
     ensures too_large { IsErrOf result CompileError.FrameTooLarge →
         HasLargeFrame (steps_of reserve.now passes.now) functions.now }
-    ensures registers_first { IsErrOf result CompileError.FrameTooLarge → AreAllPhysical functions.now }
+    ensures registers_first { IsErrOf result CompileError.FrameTooLarge → HaveRegisters reserve.now functions.now }
     ensures no_section { IsErrOf result CompileError.SectionTooLarge → ⊥ }
 {
     match made_in_turn(alloc, meta, functions, passes, reserve) {
         Ok(made) => Ok(made),
         Err(CompileError::FrameTooLarge) => {
-            if are_all_physical(functions) {
-                Err(CompileError::FrameTooLarge)
-            } else {
-                Err(CompileError::NoRegister)
-            }
+            have_registers(alloc, meta, functions, reserve)?;
+            Err(CompileError::FrameTooLarge)
         }
         Err(CompileError::NoRegister) => Err(CompileError::NoRegister),
         Err(CompileError::SectionTooLarge) => Err(CompileError::SectionTooLarge),
@@ -59,14 +56,29 @@ pub fn made_of(
     }
 }
 
-/// Whether no function has a virtual register.
-fn are_all_physical(functions: &[Parsed]) -> bool
-    ensures { IsTrue result ↔ AreAllPhysical functions.now }
+/// Tests whether linear scan leaves no virtual register in any function. The error is `NoRegister` if it leaves one.
+#[tactic(auto, using(crate::proofs::Passed::one_virtual))]
+fn have_registers(
+    alloc: Global,
+    meta: &Metadata,
+    functions: &[Parsed],
+    reserve: &[Reg],
+) -> Result<(), CompileError>
+    requires read { All (λ (p : Parsed). IsReadFunction meta.now p.func) functions.now }
+    requires substitutions { All (λ (p : Parsed). All EntryIsLimited p.subs) functions.now }
+    ensures registers { IfOk result (λ _. HaveRegisters reserve.now functions.now) }
+    ensures no_register { IsErrOf result CompileError.NoRegister →
+        HasVirtualRegister reserve.now functions.now }
+    ensures no_frame { IsErrOf result CompileError.FrameTooLarge → ⊥ }
+    ensures no_section { IsErrOf result CompileError.SectionTooLarge → ⊥ }
 {
-    functions.iter().all(|source| is_physical(&source.func))
+    for source in functions {
+        get_registers(alloc, meta, source, reserve)?;
+    }
+    Ok(())
 }
 
-/// Runs passes on one function after the other and compiles it, up to the first that has no output.
+/// Runs linear scan and passes on one function after the other and compiles it, up to the first that has no output.
 #[tactic(auto, using(crate::proofs::Passed::one_too_large, crate::proofs::Passed::one_virtual))]
 fn made_in_turn(
     alloc: Global,
@@ -80,7 +92,8 @@ fn made_in_turn(
     requires substitutions { All (λ (p : Parsed). All EntryIsLimited p.subs) functions.now }
     requires distinct { AreDistinct passes.now }
     ensures made { IfOk result (AreMade meta.now reserve.now passes.now functions.now) }
-    ensures no_register { IsErrOf result CompileError.NoRegister → HasVirtualRegister functions.now }
+    ensures no_register { IsErrOf result CompileError.NoRegister →
+        HasVirtualRegister reserve.now functions.now }
     ensures too_large { IsErrOf result CompileError.FrameTooLarge →
         HasLargeFrame (steps_of reserve.now passes.now) functions.now }
     ensures no_section { IsErrOf result CompileError.SectionTooLarge → ⊥ }
@@ -97,7 +110,7 @@ fn made_in_turn(
     Ok(made)
 }
 
-/// Runs passes on a function, and appends its listing and what is made of it.
+/// Runs linear scan and passes on a function, and appends its listing and what is made of it.
 fn push_source(
     alloc: Global,
     made: &mut EmittedFunctions,
@@ -114,7 +127,7 @@ fn push_source(
     requires distinct { AreDistinct passes.now }
     ensures pushed { OnOk result
         (IsSourcePushed meta.now reserve.now passes.now source.now made.old made.new) }
-    ensures no_register { IsErrOf result CompileError.NoRegister → HasVirtual source.now }
+    ensures no_register { IsErrOf result CompileError.NoRegister → LeavesVirtual reserve.now source.now }
     ensures too_large { IsErrOf result CompileError.FrameTooLarge →
         IsTooLarge (steps_of reserve.now passes.now) source.now }
     ensures no_section { IsErrOf result CompileError.SectionTooLarge → ⊥ }

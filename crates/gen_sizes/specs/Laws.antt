@@ -1,12 +1,13 @@
 -- The statements of the theorems on generated functions.
 use Rattle.std.specs.Prelude.{ℕ, ◌≤◌, List}
 use Rattle.pass_list.specs.declared.kind.PassKind.{PassKind}
-use Rattle.compile_program.specs.Program.{AreAllPhysical, HasLargeFrame, HasLargeSection, steps_of}
+use Rattle.compile_program.specs.Program.{HasVirtualRegister, HasLargeFrame, HasLargeSection, steps_of}
 use Rattle.gen_program.specs.Program.{generated_program}
 
--- No generated function has a virtual register.
-abbrev pub GeneratedArePhysical : Type 0
-GeneratedArePhysical = (number count : ℕ) → count ≤ 512 → AreAllPhysical (generated_program number count).functions
+-- Linear scan leaves no virtual register in a generated function.
+abbrev pub GeneratedHaveRegisters : Type 0
+GeneratedHaveRegisters = (number count : ℕ) (reserve : List ℕ) → count ≤ 512 →
+    HasVirtualRegister reserve (generated_program number count).functions → ⊥
 
 -- No generated function has a frame above the limit after passes.
 abbrev pub GeneratedFramesAreSmall : Type 0

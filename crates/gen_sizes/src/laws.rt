@@ -1,11 +1,11 @@
 //! Theorems on generated functions, and on the sizes of what they are compiled to. Each is the contract of an empty
 //! function.
 
-ghost use Rattle.gen_sizes.specs.Laws.{GeneratedArePhysical, GeneratedFramesAreSmall, GeneratedSectionsAreSmall};
+ghost use Rattle.gen_sizes.specs.Laws.{GeneratedHaveRegisters, GeneratedFramesAreSmall, GeneratedSectionsAreSmall};
 
-/// A generated function has no virtual register.
-pub fn generated_are_physical()
-    ensures { GeneratedArePhysical }
+/// Linear scan leaves no virtual register in a generated function, since it has none.
+pub fn generated_have_registers()
+    ensures { GeneratedHaveRegisters }
 {}
 
 /// The frame of a generated function isn't above the limit, whatever passes run: it has at most 224 slots and 13 saved

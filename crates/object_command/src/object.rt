@@ -128,6 +128,7 @@ fn linked(
         rows,
         loclists,
         frame: _,
+        ranges: _,
         functions: _,
     } = output;
     let mut sections = Sections::new(alloc);

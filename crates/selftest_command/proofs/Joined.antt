@@ -12,7 +12,7 @@ use Rattle.run_command.proofs.Runs.{compilation_can_run}
 use Rattle.run_command.proofs.Shown.{compiled_whole, compilation_shows_code}
 use Rattle.compile_function.specs.declared.compiled_function.CompiledFunction.{CompiledFunction}
 use Rattle.compile_program.specs.declared.compile.Compilation.{Compilation}
-use Rattle.compile_program.specs.Program.{ArePassed, IsCompiledAs, AreCompiledAs, sources_of, IsCompilationOf, IsOutputOf, AreAllPhysical}
+use Rattle.compile_program.specs.Program.{ArePassed, IsCompiledAs, AreCompiledAs, sources_of, IsCompilationOf, IsOutputOf, HasVirtualRegister}
 use Rattle.compile_program.specs.Program.{HasLargeFrame, HasLargeSection}
 use Rattle.compile_program.specs.Program.{names_of, source_of, text_of, lists_of, IsCompilable, steps_of}
 use Rattle.listing_text.specs.declared.output.ListedFunction.{ListedFunction}
@@ -332,8 +332,8 @@ module _ (number count : ℕ) (p : Program) (same : p ≡ generated_program numb
   pub all_counted : count ≤ 512 → All (λ (f : Parsed). AreCounted f.func.blocks) p.functions
   all_counted few = subst (λ (x : Program). All (λ (f : Parsed). AreCounted f.func.blocks) x.functions) (sym same) (is_counted number count few)
 
-  pub physical_of : AreAllPhysical (generated_program number count).functions → AreAllPhysical p.functions
-  physical_of physical = subst (λ (x : Program). AreAllPhysical x.functions) (sym same) physical
+  pub virtual_of : (reserve : List ℕ) → HasVirtualRegister reserve p.functions → HasVirtualRegister reserve (generated_program number count).functions
+  virtual_of reserve has = subst (λ (x : Program). HasVirtualRegister reserve x.functions) same has
 
   pub frame_of : (steps : List PassStep) → HasLargeFrame steps p.functions → HasLargeFrame steps (generated_program number count).functions
   frame_of steps large = subst (λ (x : Program). HasLargeFrame steps x.functions) same large
@@ -369,4 +369,4 @@ module _ (number count : ℕ) (p : Program) (same : p ≡ generated_program numb
     longs_of None t = long_of t
 
 -- what the self-test of a compilation rests on
-pub ruleset joined = (has_function, all_counted, function_compiled, can_be_read, texts_of, longs_of, physical_of, frame_of, section_of)
+pub ruleset joined = (has_function, all_counted, function_compiled, can_be_read, texts_of, longs_of, virtual_of, frame_of, section_of)

@@ -44,7 +44,7 @@ pub fn self_test(
         IfSome o (IsSelfTestOf reserve.now passes.now number blocks)) }
     ensures long { IfOk result (λ o. IfNone o (RunsLong (generated number blocks) (resolve []))) }
     ensures no_register { IsErrOf result CompileError.NoRegister →
-        HasVirtualRegister (generated_program number blocks).functions }
+        HasVirtualRegister reserve.now (generated_program number blocks).functions }
     ensures frame_too_large { IsErrOf result CompileError.FrameTooLarge →
         HasLargeFrame (steps_of reserve.now passes.now) (generated_program number blocks).functions }
     ensures section_too_large { IsErrOf result CompileError.SectionTooLarge →

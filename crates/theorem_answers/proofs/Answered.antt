@@ -10,10 +10,10 @@ use Rattle.gen_function.specs.Generator.{generated}
 use Rattle.gen_text.specs.GeneratedText.{generated_text}
 use Rattle.gen_program.specs.Program.{generated_program}
 use Rattle.gen_sizes.proofs.Frames.{generated_frames_are_small}
-use Rattle.gen_sizes.proofs.Registers.{generated_are_physical}
+use Rattle.gen_sizes.proofs.Registers.{generated_have_registers}
 use Rattle.gen_sizes.proofs.Sections.{generated_sections_are_small}
 use Rattle.tool_driver.specs.Refusals.{RefusesProgram, unknown_function, no_register, frame_too_large, section_too_large}
-use Rattle.tool_driver.specs.Refusals.{frame_section_too_large, object_too_large, no_symbol_name, answers}
+use Rattle.tool_driver.specs.Refusals.{frame_section_too_large, inlined_section_too_large, object_too_large, no_symbol_name, answers}
 use Rattle.tool_driver.specs.Limits.{INPUT_LIMIT}
 use Rattle.theorem_gen_text.specs.Laws.{program_of_text}
 use Rattle.theorem_gen_text.proofs.Texts.{generated_documents_are_read, generated_texts_are_read}
@@ -24,12 +24,14 @@ use Rattle.theorem_answers.specs.Laws.{GeneratedTextsAreStripped}
 no_cause : {fault : Fault} (number count : ℕ) (plan : PassPipeline) → 1 ≤ count → count ≤ 512 →
     RefusesProgram (compile_by plan) (generated_program number count) fault → ⊥
 no_cause number count plan some few (unknown_function run same unknown) = absurd cc
-no_cause number count plan some few (no_register other same named virtual) = virtual (generated_are_physical number count few)
-no_cause number count plan some few (frame_too_large other same named physical large) =
+no_cause number count plan some few (no_register other same named virtual) =
+    generated_have_registers number count other.reserve few virtual
+no_cause number count plan some few (frame_too_large other same named registers large) =
     generated_frames_are_small number count other.reserve other.passes large
 no_cause number count plan some few (section_too_large other same named large) =
     generated_sections_are_small number count other.reserve other.passes some few large
 no_cause number count plan some few (frame_section_too_large asked same framed large) = absurd cc
+no_cause number count plan some few (inlined_section_too_large asked same inlined large) = absurd cc
 no_cause number count plan some few (object_too_large other same large) = absurd cc
 no_cause number count plan some few (no_symbol_name other same invalid) = absurd cc
 
@@ -60,9 +62,10 @@ documents_are_answerable number count plan some few =
 none_stripped : {fault : Fault} (program : Program) → RefusesProgram Strip program fault → ⊥
 none_stripped program (unknown_function run same unknown) = absurd cc
 none_stripped program (no_register plan same named virtual) = absurd cc
-none_stripped program (frame_too_large plan same named physical large) = absurd cc
+none_stripped program (frame_too_large plan same named registers large) = absurd cc
 none_stripped program (section_too_large plan same named large) = absurd cc
 none_stripped program (frame_section_too_large asked same framed large) = absurd cc
+none_stripped program (inlined_section_too_large asked same inlined large) = absurd cc
 none_stripped program (object_too_large plan same large) = absurd cc
 none_stripped program (no_symbol_name plan same invalid) = absurd cc
 

@@ -11,11 +11,11 @@ use Rattle.gen_program.specs.Program.{generated_program}
 use Rattle.tool_driver.specs.Limits.{INPUT_LIMIT}
 use Rattle.tool_driver.specs.Refusals.{IsAnswered, IsAnswerable}
 
--- `compile` by these passes, without `.debug_frame`
+-- `compile` by these passes, without `.debug_frame` and inlined functions
 abbrev pub compile_by : PassPipeline → Command
-compile_by plan = Compile (record { plan = plan; frame = false })
+compile_by plan = Compile (record { plan = plan; frame = false; inline = false })
 
--- Nothing refuses the program of a generated function, whatever passes it is compiled by, without `.debug_frame`.
+-- Nothing refuses the program of a generated function, whatever passes it is compiled by, without `.debug_frame` and inlined functions.
 abbrev pub GeneratedProgramsAreAnswered : Type 0
 GeneratedProgramsAreAnswered = (number count : ℕ) (plan : PassPipeline) → 1 ≤ count → count ≤ 512 →
     IsAnswered (compile_by plan) (generated_program number count)

@@ -16,7 +16,10 @@ use Rattle.theorem_invariance.proofs.Made.{make_code_alone}
 use Rattle.invariance_code.specs.Alike.{HaveAlikeCode, HaveSameCode}
 use Rattle.pass_list.specs.declared.kind.PassKind.{PassKind}
 use Rattle.pass_list.specs.declared.kind.PassKind.TheVariants.{Copy, Remat, Spill, Dead, Fold}
-use Rattle.pass_manager.specs.Passes.{steps_of_pass, steps_of}
+use Rattle.pass_manager.specs.Passes.{steps_of_pass, steps_of as steps_of_list}
+use Rattle.compile_program.specs.Program.{steps_of}
+use Rattle.scan_pass.proofs.Scanned.{scan_is_one, scan_sees_code_alone}
+use Rattle.scan_pass.specs.Scanned.{scan_steps}
 use Rattle.theorem_invariance.specs.Text.{OneByOne}
 use Rattle.theorem_invariance.proofs.Text.{coded_alone, alike_text, same_text}
 use Rattle.theorem_invariance.specs.Passed.{IsPassed, PassesMakeCodeAlone, PassedIsMadeOfCode, PassedHasSameText, PassedHasSameCode}
@@ -37,13 +40,19 @@ same_of_pass reserve Spill = (same_spilled (reserve_of reserve), tt)
 same_of_pass reserve Dead = rounds_see_code_alone
 same_of_pass reserve Fold = (folding_sees_code_alone, tt)
 
+one_of_list : (reserve : List ℕ) (passes : List PassKind) → EachCode HasOneResult (steps_of_list reserve passes)
+one_of_list reserve [] = tt
+one_of_list reserve (p ∷ ps) = one_then (steps_of_pass reserve p) (steps_of_list reserve ps) (one_of_pass reserve p) (one_of_list reserve ps)
+
+same_of_list : (reserve : List ℕ) (passes : List PassKind) → EachCode SeesCodeAlone (steps_of_list reserve passes)
+same_of_list reserve [] = tt
+same_of_list reserve (p ∷ ps) = same_then (steps_of_pass reserve p) (steps_of_list reserve ps) (same_of_pass reserve p) (same_of_list reserve ps)
+
 one_each : (reserve : List ℕ) (passes : List PassKind) → EachCode HasOneResult (steps_of reserve passes)
-one_each reserve [] = tt
-one_each reserve (p ∷ ps) = one_then (steps_of_pass reserve p) (steps_of reserve ps) (one_of_pass reserve p) (one_each reserve ps)
+one_each reserve passes = one_then (scan_steps reserve) (steps_of_list reserve passes) (scan_is_one reserve) (one_of_list reserve passes)
 
 same_each : (reserve : List ℕ) (passes : List PassKind) → EachCode SeesCodeAlone (steps_of reserve passes)
-same_each reserve [] = tt
-same_each reserve (p ∷ ps) = same_then (steps_of_pass reserve p) (steps_of reserve ps) (same_of_pass reserve p) (same_each reserve ps)
+same_each reserve passes = same_then (scan_steps reserve) (steps_of_list reserve passes) (scan_sees_code_alone reserve) (same_of_list reserve passes)
 
 pub passes_alone : PassesMakeCodeAlone
 passes_alone reserve passes = make_code_alone (steps_of reserve passes) (one_each reserve passes) (same_each reserve passes)

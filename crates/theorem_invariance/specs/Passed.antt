@@ -1,4 +1,4 @@
--- Functions after the same passes, from functions that may differ in their debug items.
+-- Functions after linear scan and the same passes, from functions that may differ in their debug items.
 use Rattle.std.specs.Prelude.{◌≡◌, ℕ, List}
 use Rattle.mir_func.specs.declared.debug_substitution.DebugSubstitution.{DebugSubstitution}
 use Rattle.mir_func.specs.Function.{Function}
@@ -9,12 +9,12 @@ use Rattle.pass_trait.specs.Change.{change}
 use Rattle.pass_trait.specs.Steps.{MakesInTurn, KeepsSteps, MakeCodeAlone}
 use Rattle.invariance_code.specs.Alike.{HaveAlikeCode, HaveSameCode}
 use Rattle.pass_list.specs.declared.kind.PassKind.{PassKind}
-use Rattle.pass_manager.specs.Passes.{steps_of}
+use Rattle.compile_program.specs.Program.{steps_of}
 use Rattle.theorem_invariance.specs.Text.{IsLaid, AreLaid, OneByOne}
 use Rattle.invariance_code.specs.Alone.{AreCodedAlike, AreCodedSame}
 
--- The list of passes made the second function of the first, with some substitutions before and after, and with some losses. `reserve` is the
--- registers that may be spilled.
+-- Linear scan and the list of passes made the second function of the first, with some substitutions before and after, and with some losses. `reserve`
+-- is the registers that may be spilled.
 pub record IsPassed (reserve : List ℕ) (passes : List PassKind) (f g : Function) : Type 0 where
   pub old_subs : List DebugSubstitution
   pub new_subs : List DebugSubstitution

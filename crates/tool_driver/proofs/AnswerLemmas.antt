@@ -1,5 +1,5 @@
 -- What a command writes of an input, by what it writes of the program that was read.
-use Rattle.std.specs.Prelude.{Option, Some, Result, Ok, Err, IfOk, IfErr, true}
+use Rattle.std.specs.Prelude.{Some, Result, Ok, Err, IfOk, IfErr, true}
 use Rattle.std.proofs.Common.{◌≡◌, ◌⊎◌, ℕ, List, refl, sym, subst, inl, inr}
 use Rattle.read_program.specs.declared.program.Program.{Program}
 use Rattle.cli.specs.declared.command.Command.{Command}
@@ -11,11 +11,13 @@ use Rattle.cli.specs.declared.command.Command.TheVariants.{Compile, Listing, Rep
 use Rattle.cli.specs.declared.fault.Fault.{Fault}
 use Rattle.cli.specs.declared.fault.Fault.TheVariants.{Usage, Read, TooLong, Refused, NoFunction, UnknownFunction}
 use Rattle.cli.specs.declared.fault.Fault.TheVariants.{NoRegister, FrameTooLarge, SymbolName, SectionTooLarge, Write, Memory}
+use Rattle.pass_trait.specs.Steps.{PassStep}
 use Rattle.run_command.specs.Source.{IsUnknown}
-use Rattle.compile_program.specs.Program.{HasLargeSection, HasLargeFrameSection}
+use Rattle.compile_program.specs.Program.{HasLargeSection, HasLargeFrameSection, HasLargeInlinedSection}
 use Rattle.tool_driver.specs.Answer.{Answers, IsTestText}
 use Rattle.tool_driver.specs.Run.{HasReadProgram, AnswersRead, AnswersInput}
 use Rattle.tool_driver.specs.Refusals.{IsReader, IsNamed, plan_of, RefusesProgram, no_register, frame_too_large, section_too_large, frame_section_too_large}
+use Rattle.tool_driver.specs.Refusals.{inlined_section_too_large}
 use Rattle.tool_driver.specs.Refusals.{too_long, refused_at, no_function, refused_program}
 use Rattle.tool_driver.specs.steps.Ends.{RefusesToCompile, RefusesToWrite, HasReadNone, ReadingEnds}
 use Rattle.tool_driver.specs.Stream.{Change, IsUnread}
@@ -65,7 +67,7 @@ read_none command reads input Write none = absurd none
 
 -- a program that can't be compiled is refused
 pub by_compiling : (command : Command) (program : Program) (plan : PassPipeline) → plan_of command ≡ Some plan → IsNamed command program →
-    (fault : Fault) → RefusesToCompile (plan_steps plan) program fault → RefusesToWrite command program fault
+    (fault : Fault) → RefusesToCompile plan program fault → RefusesToWrite command program fault
 by_compiling command program plan is named NoRegister refused = no_register plan is named refused
 by_compiling command program plan is named FrameTooLarge refused = frame_too_large plan is named refused.0 refused.1
 by_compiling command program plan is named SectionTooLarge refused = section_too_large plan is named refused
@@ -82,19 +84,21 @@ by_compiling command program plan is named Write refused = refused
 pub compile_named : (asked : CompilePlan) (program : Program) → IsNamed (Compile asked) program
 compile_named asked program run same unknown = absurd cc
 
--- nor can one be compiled of which `.debug_frame` is too large
-pub large_with_frame : (asked : CompilePlan) (program : Program) → asked.frame ≡ true →
-    HasLargeSection (plan_steps asked.plan) program ⊎ HasLargeFrameSection (plan_steps asked.plan) program →
-    RefusesProgram (Compile asked) program SectionTooLarge
-large_with_frame asked program is large = elim large [
-  | inl section ↦ section_too_large asked.plan refl (compile_named asked program) section
-  | inr frame ↦ frame_section_too_large asked refl is frame
-]
+-- a section is too large, one that is there only if it is asked for among them
+abbrev pub IsLargeAsAsked : CompilePlan → List PassStep → Program → Type 0
+IsLargeAsAsked asked steps program = HasLargeSection steps program
+    ⊎ (((asked.frame ≡ true) × HasLargeFrameSection steps program) ⊎ ((asked.inline ≡ true) × HasLargeInlinedSection steps program))
 
--- each fault of a result
-pub each_fault : {A : Type 0} (P Q : Fault → Type 0) → ((fault : Fault) → P fault → Q fault) → (r : Result A Fault) → IfErr r P → IfErr r Q
-each_fault P Q more (Ok x) holds = tt
-each_fault P Q more (Err fault) holds = more fault holds
+pub large_as_asked : (asked : CompilePlan) (program : Program) → IsLargeAsAsked asked (plan_steps asked.plan) program →
+    RefusesProgram (Compile asked) program SectionTooLarge
+large_as_asked asked program large = elim large [
+  | inl section ↦ section_too_large asked.plan refl (compile_named asked program) section
+  | inr asked_for ↦
+      elim asked_for [
+        | inl frame ↦ frame_section_too_large asked refl frame.0 frame.1
+        | inr inline ↦ inlined_section_too_large asked refl inline.0 inline.1
+      ]
+]
 
 module _ (plan : PassPipeline) (program : Program) where
   listing_named : IsNamed (Listing plan) program
@@ -126,7 +130,7 @@ module _ (plan : PassPipeline) (input : Change) (program : Program) (read : HasR
   listing_ok (Ok output) answers = read_answers (Listing plan) input program read output answers
   listing_ok (Err fault) answers = tt
 
-  pub listing_err : (r : Result (List ℕ) Fault) → IfErr r (RefusesToCompile (plan_steps plan) program) → IfErr r (ReadingEnds (Listing plan) input)
+  pub listing_err : (r : Result (List ℕ) Fault) → IfErr r (RefusesToCompile plan program) → IfErr r (ReadingEnds (Listing plan) input)
   listing_err (Ok output) refused = tt
   listing_err (Err fault) refused =
       held_back (Listing plan) tt input program read fault
@@ -136,7 +140,7 @@ module _ (plan : PassPipeline) (input : Change) (program : Program) (read : HasR
   report_ok (Ok output) answers = read_answers (Report plan) input program read output answers
   report_ok (Err fault) answers = tt
 
-  pub report_err : (r : Result (List ℕ) Fault) → IfErr r (RefusesToCompile (plan_steps plan) program) → IfErr r (ReadingEnds (Report plan) input)
+  pub report_err : (r : Result (List ℕ) Fault) → IfErr r (RefusesToCompile plan program) → IfErr r (ReadingEnds (Report plan) input)
   report_err (Ok output) refused = tt
   report_err (Err fault) refused =
       held_back (Report plan) tt input program read fault

@@ -1,5 +1,5 @@
 -- What the command that compiles wrote keeps each promise of the output that it is the text of.
-use Rattle.std.proofs.Common.{◌≡◌, ℕ, List, [], map, Option, Some, None, IfSome, Contains, ◌<◌, arith, is_some}
+use Rattle.std.proofs.Common.{◌≡◌, ℕ, List, [], map, Option, Some, None, IfSome, Contains, arith, is_some}
 use Rattle.std.proofs.lemmas.List.Elements.{All-weaker, All-contains_itself}
 use Rattle.mir_func.specs.SoundFrame.{SAVED}
 use Rattle.cli.specs.declared.command.CompilePlan.{CompilePlan}
@@ -20,10 +20,11 @@ use Rattle.dwarf_sections.specs.Frame.{IsFrameSection}
 use Rattle.frame_theorem.specs.Laws.{SparesKept}
 use Rattle.frame_theorem.specs.Unwinding.{AllUnwind}
 use Rattle.frame_theorem.proofs.Compiled.{compiled_unwinds}
+use Rattle.compile_output_proof.proofs.Inlined.{tell_inlined_lines}
 use Rattle.tool_driver.specs.Compiled.{plan_steps}
 use Rattle.tool_driver.specs.FurtherPromises.{AllGiveBack, AllStopWell, FramesUnwind, AllListKept}
 use Rattle.tool_driver.specs.Run.{Finishes, KeepsHeadline, KeepsRegisters, StopsAtReturns, WroteExactly, WroteLaidOut}
-use Rattle.tool_driver.specs.Run.{WroteKept, WroteWords, ShowsPassed, WrotePassed, WroteFrameSection, WroteUnwinding, KeepsPromises}
+use Rattle.tool_driver.specs.Run.{WroteKept, WroteWords, ShowsPassed, WrotePassed, WroteFrameSection, WroteUnwinding, WroteRangesSection, KeepsPromises}
 use Rattle.tool_driver.specs.Stream.{Change}
 use Rattle.tool_driver.proofs.Lines.{gives_lines}
 use Rattle.tool_driver.proofs.RunLemmas.{has_written, has_written_as}
@@ -68,6 +69,7 @@ module _ (steps : List PassStep) (p : Program) (o : Output) (is : IsOutputOf ste
     lists = compiled_lists_passed (names_of p.meta) is.functions o to;
     sections = is.sections;
     rows = gives_lines p.meta is.functions o is.sections;
+    inlined = tell_inlined_lines p is.functions o is.passed is.compiled is.sections;
   }
 
   pub keeps_promises : KeepsPromises steps p o
@@ -124,4 +126,7 @@ module _ (words : List (List ℕ)) (input output : Change) (finished : Finishes 
   wrote_passed = has_written plan (ShowsPassed (plan_steps plan.plan)) (shows_passed (plan_steps plan.plan)) words input output finished asked
 
   pub wrote_frame_section : WroteFrameSection plan.frame input output
-  wrote_frame_section = has_written_as plan (λ p o. is_some o.frame ≡ plan.frame) (λ p o is present. present) words input output finished asked
+  wrote_frame_section = has_written_as plan (λ p o. is_some o.frame ≡ plan.frame) (λ p o is present ranged. present) words input output finished asked
+
+  pub wrote_ranges_section : WroteRangesSection plan.inline input output
+  wrote_ranges_section = has_written_as plan (λ p o. is_some o.ranges ≡ plan.inline) (λ p o is present ranged. ranged) words input output finished asked

@@ -1,6 +1,6 @@
 -- The functions that are compiled lie one after the other, so the laws of the line number table speak of them.
 use Rattle.std.proofs.Common.{◌≡◌, ℕ, ◌+◌, ◌*◌, List, [], ◌∷◌, map, length, sym, ap, ◌∙◌, subst}
-use Rattle.std.specs.Prelude.{sum_by}
+use Rattle.std.specs.Prelude.{sum_by, Option, Some, None}
 use Rattle.emit_code.proofs.Sites.{site_size}
 use Rattle.emit_code.proofs.Stand.{stands, words_fill}
 use Rattle.emit_code.specs.declared.code.EncodedInstruction.{EncodedInstruction}
@@ -13,7 +13,11 @@ use Rattle.dwarf_line_table.specs.Laws.{LieFrom}
 use Rattle.mir_func.specs.Function.{Function, FramedFunction}
 use Rattle.read_metadata.specs.Maps.{Maps}
 use Rattle.compile_theorem.specs.Source.{PassedFunction}
-use Rattle.compile_program.specs.Program.{AreCoded, HasSections}
+use Rattle.compile_program.specs.Program.{AreCoded, HasSections, Describe}
+use Rattle.dwarf_line.specs.Spelling.{spelling as rows_spelling}
+use Rattle.dwarf_line_table.specs.Program.{table_with}
+use Rattle.dwarf_line_table.proofs.SourceTables.{no_further}
+use Rattle.dwarf_unit.specs.Inlined.{call_scopes}
 use Rattle.dwarf_line_table.specs.declared.source_and_code.SourceAndCode.{SourceAndCode}
 use Rattle.tool_driver.specs.Lines.{GivesLines}
 
@@ -41,12 +45,21 @@ lie base (f ∷ fs) (c ∷ cs) coded =
     )
 
 pub gives_lines : (meta : Maps) (functions : List PassedFunction) (o : Output) → HasSections meta functions o → GivesLines meta functions o
-gives_lines meta functions o has =
-    let from = lie 0 (map (λ p. p.function) functions) has.compiled has.coded.coded in
-    record {
+gives_lines meta functions o has = by o.ranges has.described
+  where
+    from : LieFrom 0 has.compiled
+    from = lie 0 (map (λ p. p.function) functions) has.compiled has.coded.coded
+
+    by_rows : (further : List (Option ℕ)) → o.rows ≡ rows_spelling (table_with meta has.compiled further) → GivesLines meta functions o
+    by_rows further rows = record {
       compiled = has.compiled;
       coded = has.coded;
-      rows = has.rows;
-      lines = tables_give_lines meta has.compiled 0 from;
-      outside = nothing_outside meta has.compiled 0 from;
+      further = further;
+      rows = rows;
+      lines = tables_give_lines meta has.compiled further 0 from;
+      outside = nothing_outside meta has.compiled further 0 from;
     }
+
+    by : (ranges : Option (List ℕ)) → Describe meta (length o.text) has.compiled o.abbreviations o.info o.rows ranges → GivesLines meta functions o
+    by None is = by_rows [] (is.2 ∙ ap rows_spelling (sym (no_further meta has.compiled)))
+    by (Some ranges) is = by_rows (call_scopes meta is.1.instances) is.1.rows_are

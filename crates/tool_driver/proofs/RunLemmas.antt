@@ -43,7 +43,7 @@ record Compiled (plan : CompilePlan) (input output : Change) : Type 0 where
   program : Program
   has : HasFunctions text program
   bytes : List ℕ
-  compiles : IsCompiledText plan.frame (plan_steps plan.plan) program bytes
+  compiles : IsCompiledText plan.frame plan.inline (plan_steps plan.plan) program bytes
   written : IsWrittenWhole output bytes
 
 compiled : (plan : CompilePlan) (words : List (List ℕ)) (input output : Change) → Finishes words input output → IsCommand words (Compile plan) →
@@ -63,9 +63,11 @@ compiled plan words input output is asked =
       written = is.written;
     }
 
--- what holds of each output that is a compilation of a program that was read, with `.debug_frame` exactly if it is asked for, holds of what was written
+-- what holds of each output that is a compilation of a program that was read, with `.debug_frame` and `.debug_rnglists` exactly if they are asked for, holds
+-- of what was written
 pub has_written_as : (plan : CompilePlan) (P : Program → Output → Type 0) →
-    ((program : Program) (o : Output) → IsOutputOf (plan_steps plan.plan) program o → is_some o.frame ≡ plan.frame → P program o) →
+    ((program : Program) (o : Output) → IsOutputOf (plan_steps plan.plan) program o → is_some o.frame ≡ plan.frame → is_some o.ranges ≡ plan.inline
+    → P program o) →
     (words : List (List ℕ)) (input output : Change) → Finishes words input output → IsCommand words (Compile plan) → HasWritten P input output
 has_written_as plan P holds words input output finished asked =
     let is = compiled plan words input output finished asked in
@@ -77,15 +79,15 @@ has_written_as plan P holds words input output finished asked =
       has = is.has;
       bytes = is.bytes;
       written = is.written;
-      shown = of_shown printable plan.frame (plan_steps plan.plan) is.program is.bytes read is.compiles (P is.program)
-          (holds is.program is.compiles.output is.compiles.is is.compiles.frame);
+      shown = of_shown printable plan.frame plan.inline (plan_steps plan.plan) is.program is.bytes read is.compiles (P is.program)
+          (holds is.program is.compiles.output is.compiles.is is.compiles.frame is.compiles.ranges);
     }
 
--- the same of what holds of each such output, with or without `.debug_frame`
+-- the same of what holds of each such output, whatever sections are asked for
 pub has_written : (plan : CompilePlan) (P : Program → Output → Type 0) →
     ((program : Program) (o : Output) → IsOutputOf (plan_steps plan.plan) program o → P program o) →
     (words : List (List ℕ)) (input output : Change) → Finishes words input output → IsCommand words (Compile plan) → HasWritten P input output
-has_written plan P holds = has_written_as plan P (λ program o is framed. holds program o is)
+has_written plan P holds = has_written_as plan P (λ program o is framed ranged. holds program o is)
 
 -- ---- the fault by the status
 

@@ -34,8 +34,8 @@ of_read P steps program o is holds = subst P (sym (passed_sources program.meta p
 
 -- ---- what the text shows
 
-module _ (printable : OutputsArePrintable) (with_frame : Bool) (steps : List PassStep) (program : Program) (text : List ℕ) (read : IsReadProgram program)
-    (is : IsCompiledText with_frame steps program text) where
+module _ (printable : OutputsArePrintable) (with_frame with_inline : Bool) (steps : List PassStep) (program : Program) (text : List ℕ)
+    (read : IsReadProgram program) (is : IsCompiledText with_frame with_inline steps program text) where
   shows : Shows (inlined_in program.meta) text is.output
   shows = record { spelled = is.spelled; printable = printable program is.is.functions is.output read is.is.passed is.is.compiled is.is.sections }
 

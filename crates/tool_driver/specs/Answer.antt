@@ -18,7 +18,7 @@ pub record HasFunctions (text : List ℕ) (program : Program) : Type 0 where
 
 -- what a command writes for a program; a command that reads no input writes nothing for any
 abbrev pub Answers : Command → Program → (output : List ℕ) → Type 0
-Answers (Compile asked) program output = IsCompiledText asked.frame (plan_steps asked.plan) program output
+Answers (Compile asked) program output = IsCompiledText asked.frame asked.inline (plan_steps asked.plan) program output
 Answers (Listing plan) program output = IsListingText (plan_steps plan) program output
 Answers (Report plan) program output = IsReportText plan.reserve plan.passes program output
 Answers (Object plan) program output = IsObjectFile (plan_steps plan) program output

@@ -12,11 +12,13 @@ use Rattle.compile_program.specs.Program.{IsOutputOf, steps_of}
 abbrev pub plan_steps : PassPipeline → List PassStep
 plan_steps plan = steps_of plan.reserve plan.passes
 
--- the text is that of an output of the program after these passes: its sections, `.debug_frame` among them exactly if it is asked for, and its listing
-pub record IsCompiledText (with_frame : Bool) (steps : List PassStep) (program : Program) (text : List ℕ) : Type 0 where
+-- the text is that of an output of the program after these passes: its sections, `.debug_frame` among them exactly if it is asked for, `.debug_rnglists`
+-- exactly if inlined functions are, and its listing
+pub record IsCompiledText (with_frame with_inline : Bool) (steps : List PassStep) (program : Program) (text : List ℕ) : Type 0 where
   pub output : Output
   pub is : IsOutputOf steps program output
   pub frame : is_some output.frame ≡ with_frame
+  pub ranges : is_some output.ranges ≡ with_inline
   pub spelled : text ≡ spelling output
 
 -- the text is the listing alone of such an output

@@ -4,7 +4,8 @@ use Rattle.read_refusal.specs.declared.first.Refusal.{Refusal}
 use Rattle.read_program.specs.declared.program.Program.{Program}
 use Rattle.read_program.specs.declared.error.ParseError.TheVariants as errors
 use Rattle.read_program.specs.Program.{ReadsText}
-use Rattle.compile_program.specs.Program.{AreAllPhysical, HasVirtualRegister, HasLargeFrame, HasLargeSection, HasLargeFrameSection}
+use Rattle.compile_program.specs.Program.{HaveRegisters, HasVirtualRegister, HasLargeFrame, HasLargeSection, HasLargeFrameSection}
+use Rattle.compile_program.specs.Program.{HasLargeInlinedSection}
 use Rattle.cli.specs.declared.command.Command.{Command}
 use Rattle.cli.specs.declared.fault.Fault.{Fault}
 use Rattle.cli.specs.declared.command.CompilePlan.{CompilePlan}
@@ -64,18 +65,21 @@ plan_of (SelfTest test) = None
 abbrev pub IsNamed : Command → Program → Type 0
 IsNamed command program = (run : RunPlan) → command ≡ Run run → IsUnknown run.name program.functions → ⊥
 
--- Why a command writes nothing for a program: it names a function that isn't there; a function has a virtual register; otherwise the frame of a function is
--- above the limit after the passes; a section is, `.debug_frame` only if it is asked for, or the object; or a name can't be a symbol's.
+-- Why a command writes nothing for a program: it names a function that isn't there; linear scan leaves a virtual register in a function; otherwise the frame
+-- of a function is above the limit after the passes; a section is, `.debug_frame` and those with inlined functions only if they are asked for, or the object;
+-- or a name can't be a symbol's.
 pub data RefusesProgram (command : Command) (program : Program) : Fault → Type 0 where
   unknown_function : (run : RunPlan) → command ≡ Run run → IsUnknown run.name program.functions → RefusesProgram command program UnknownFunction
-  no_register : (plan : PassPipeline) → plan_of command ≡ Some plan → IsNamed command program → HasVirtualRegister program.functions →
+  no_register : (plan : PassPipeline) → plan_of command ≡ Some plan → IsNamed command program → HasVirtualRegister plan.reserve program.functions →
       RefusesProgram command program NoRegister
-  frame_too_large : (plan : PassPipeline) → plan_of command ≡ Some plan → IsNamed command program → AreAllPhysical program.functions →
+  frame_too_large : (plan : PassPipeline) → plan_of command ≡ Some plan → IsNamed command program → HaveRegisters plan.reserve program.functions →
       HasLargeFrame (plan_steps plan) program.functions → RefusesProgram command program FrameTooLarge
   section_too_large : (plan : PassPipeline) → plan_of command ≡ Some plan → IsNamed command program → HasLargeSection (plan_steps plan) program →
       RefusesProgram command program SectionTooLarge
   frame_section_too_large : (asked : CompilePlan) → command ≡ Compile asked → asked.frame ≡ true → HasLargeFrameSection (plan_steps asked.plan) program →
       RefusesProgram command program SectionTooLarge
+  inlined_section_too_large : (asked : CompilePlan) → command ≡ Compile asked → asked.inline ≡ true →
+      HasLargeInlinedSection (plan_steps asked.plan) program → RefusesProgram command program SectionTooLarge
   object_too_large : (plan : PassPipeline) → command ≡ Object plan → IsLargeObjectOf (plan_steps plan) program →
       RefusesProgram command program SectionTooLarge
   no_symbol_name : (plan : PassPipeline) → command ≡ Object plan → HasInvalidName (plan_steps plan) program → RefusesProgram command program SymbolName

@@ -1,5 +1,5 @@
 -- What a run of the tool did to its input and its output.
-use Rattle.std.specs.Prelude.{◌≡◌, ℕ, ◌≤◌, Bool, List, length, All, is_some}
+use Rattle.std.specs.Prelude.{◌≡◌, ℕ, ◌≤◌, Bool, List, length, All, IfSome, is_some}
 use Rattle.listing_text.specs.declared.output.Output.{Output}
 use Rattle.pass_trait.specs.Steps.{PassStep}
 use Rattle.listing_text.specs.Shown.{OfShown}
@@ -25,6 +25,7 @@ use Rattle.compile_theorem.specs.Source.{PassedFunction}
 use Rattle.compile_theorem.specs.Words.{HaveWords}
 use Rattle.object_command.specs.Object.{IsObjectOf}
 use Rattle.compile_program.specs.Program.{sources_of, ArePassed, HasSections, IsMadeBy, IsOutputOf, names_of}
+use Rattle.compile_output_proof.specs.Inlined.{TellsInlinedLines}
 use Rattle.tool_driver.specs.Lines.{GivesLines}
 use Rattle.tool_driver.specs.FurtherPromises.{AllGiveBack, AllStopWell, FramesUnwind, AllListKept}
 use Rattle.tool_driver.specs.Stream.{Change, IsUnread, IsReadWhole, IsWrittenWhole, IsWrittenInPart}
@@ -130,7 +131,7 @@ WroteWords input output = HasWritten (λ p. HaveWords) input output
 -- Each function that was read was transformed by these passes, and the result, which simulates it, is the one that is compiled and listed, with its frame
 -- and its substitutions. The `.debug_info`, abbreviation and line sections are the encodings of the program's unit and line table, and `.debug_frame`, if
 -- there is one, that of the call frame information of the machine code; the line table has for each byte of machine code its line of the source, and no row
--- for another address.
+-- for another address. Where inlined functions are asked for, the range list of an instance covers exactly the listed lines that were inlined through its call.
 pub record ShowsPassed (steps : List PassStep) (p : Program) (o : Output) : Type 0 where
   pub functions : List PassedFunction
   pub passed : ArePassed p.meta p.functions functions
@@ -138,10 +139,15 @@ pub record ShowsPassed (steps : List PassStep) (p : Program) (o : Output) : Type
   pub lists : ListsPassed functions o
   pub sections : HasSections p.meta functions o
   pub rows : GivesLines p.meta functions o
+  pub inlined : IfSome o.ranges (TellsInlinedLines p functions o)
 
 -- the sections have `.debug_frame` exactly if it is asked for
 abbrev pub WroteFrameSection : (with_frame : Bool) → (input output : Change) → Type 0
 WroteFrameSection with_frame input output = HasWritten (λ p o. is_some o.frame ≡ with_frame) input output
+
+-- the sections have `.debug_rnglists` exactly if inlined functions are asked for
+abbrev pub WroteRangesSection : (with_inline : Bool) → (input output : Change) → Type 0
+WroteRangesSection with_inline input output = HasWritten (λ p o. is_some o.ranges ≡ with_inline) input output
 
 -- the whole text of one such output was written
 abbrev pub WrotePassed : List PassStep → (input output : Change) → Type 0

@@ -14,7 +14,7 @@ ghost use Rattle.read_proof.specs.Read.{IsReadProgram};
 use cli::command::{CompilePlan, PassPipeline, RunPlan, TestPlan};
 use cli::fault::Fault;
 use compile_function::error::CompileError;
-use compile_program::compile::{Compilation, compile, compile_with_frame};
+use compile_program::compile::{Compilation, compile, compile_with};
 use listing_text::print::{print_listing, print_output};
 use mir_printer::text::Text;
 use object_command::object::{ObjectError, object};
@@ -25,38 +25,14 @@ use run_command::run::run;
 use selftest_command::text::self_test;
 use std::alloc::Global;
 
-/// The text of `compile`: the sections, `.debug_frame` among them if it is asked for, and the listing of a program
-/// after passes.
+/// The text of `compile`: the sections, `.debug_frame` and `.debug_rnglists` among them if they are asked for, and the
+/// listing of a program after passes.
 pub fn compiled_text(alloc: Global, program: &Program, asked: &CompilePlan) -> Result<Text, Fault>
     requires { IsReadProgram program.now }
-    ensures ok { IfOk result (IsCompiledText asked.now.frame (plan_steps asked.now.plan) program.now) }
+    ensures ok { IfOk result (IsCompiledText asked.now.frame asked.now.inline (plan_steps asked.now.plan) program.now) }
     ensures err { IfErr result (RefusesToWrite (command.Compile asked.now) program.now) }
 {
-    let with_frame = asked.frame;
-    if with_frame {
-        return text_with_frame(alloc, program, asked);
-    }
-    text_without_frame(alloc, program, &asked.plan)
-}
-
-/// The text with `.debug_frame` among the sections.
-fn text_with_frame(alloc: Global, program: &Program, asked: &CompilePlan) -> Result<Text, Fault>
-    requires read { IsReadProgram program.now }
-    requires asked { asked.now.frame ≡ true }
-    ensures ok { IfOk result (IsCompiledText true (plan_steps asked.now.plan) program.now) }
-    ensures err { IfErr result (RefusesToWrite (command.Compile asked.now) program.now) }
-{
-    let compilation = compilation_with_frame(alloc, program, asked)?;
-    Ok(print_output(alloc, &compilation.output)?)
-}
-
-/// The text without it.
-fn text_without_frame(alloc: Global, program: &Program, plan: &PassPipeline) -> Result<Text, Fault>
-    requires { IsReadProgram program.now }
-    ensures ok { IfOk result (IsCompiledText false (plan_steps plan.now) program.now) }
-    ensures err { IfErr result (RefusesToCompile (plan_steps plan.now) program.now) }
-{
-    let compilation = compilation(alloc, program, plan)?;
+    let compilation = compilation_asked(alloc, program, asked)?;
     Ok(print_output(alloc, &compilation.output)?)
 }
 
@@ -64,7 +40,7 @@ fn text_without_frame(alloc: Global, program: &Program, plan: &PassPipeline) -> 
 pub fn listing_text(alloc: Global, program: &Program, plan: &PassPipeline) -> Result<Text, Fault>
     requires { IsReadProgram program.now }
     ensures ok { IfOk result (IsListingText (plan_steps plan.now) program.now) }
-    ensures err { IfErr result (RefusesToCompile (plan_steps plan.now) program.now) }
+    ensures err { IfErr result (RefusesToCompile plan.now program.now) }
 {
     let compilation = compilation(alloc, program, plan)?;
     Ok(print_listing(alloc, compilation.output.functions.as_slice())?)
@@ -74,7 +50,7 @@ pub fn listing_text(alloc: Global, program: &Program, plan: &PassPipeline) -> Re
 pub fn report_text(alloc: Global, program: &Program, plan: &PassPipeline) -> Result<Text, Fault>
     requires { IsReadProgram program.now }
     ensures ok { IfOk result (IsReportText plan.now.reserve plan.now.passes program.now) }
-    ensures err { IfErr result (RefusesToCompile (plan_steps plan.now) program.now) }
+    ensures err { IfErr result (RefusesToCompile plan.now program.now) }
 {
     let compilation = compilation(alloc, program, plan)?;
     Ok(report(alloc, &compilation)?)
@@ -197,7 +173,7 @@ fn compilation(alloc: Global, program: &Program, plan: &PassPipeline) -> Result<
     ensures output { IfOk result (λ c. IsOutputOf (plan_steps plan.now) program.now c.output) }
     ensures compilation { IfOk result (IsCompilationOf plan.now.reserve plan.now.passes program.now) }
     ensures no_frame_section { IfOk result (λ c. is_some c.output.frame ≡ false) }
-    ensures err { IfErr result (RefusesToCompile (plan_steps plan.now) program.now) }
+    ensures err { IfErr result (RefusesToCompile plan.now program.now) }
 {
     match compile(
         alloc,
@@ -213,21 +189,23 @@ fn compilation(alloc: Global, program: &Program, plan: &PassPipeline) -> Result<
     }
 }
 
-/// A program compiled after passes, with the section `.debug_frame`.
-fn compilation_with_frame(
+/// A program compiled after passes, with the sections that are asked for.
+fn compilation_asked(
     alloc: Global,
     program: &Program,
     asked: &CompilePlan,
 ) -> Result<Compilation, Fault>
-    requires read { IsReadProgram program.now }
-    requires asked { asked.now.frame ≡ true }
+    requires { IsReadProgram program.now }
     ensures output { IfOk result (λ c. IsOutputOf (plan_steps asked.now.plan) program.now c.output) }
-    ensures frame_section { IfOk result (λ c. is_some c.output.frame ≡ true) }
+    ensures frame_section { IfOk result (λ c. is_some c.output.frame ≡ asked.now.frame) }
+    ensures ranges_section { IfOk result (λ c. is_some c.output.ranges ≡ asked.now.inline) }
     ensures err { IfErr result (RefusesToWrite (command.Compile asked.now) program.now) }
 {
-    match compile_with_frame(
+    match compile_with(
         alloc,
         program,
+        asked.frame,
+        asked.inline,
         asked.plan.passes.as_slice(),
         asked.plan.reserve.as_slice(),
     ) {

@@ -13,7 +13,7 @@ ghost use Rattle.cli.specs.Fault.{line_of};
 ghost use Rattle.tool_driver.specs.Run.{AreCommand, AnswersInput, Finishes, IsCutOff};
 ghost use Rattle.tool_driver.specs.Run.{KeepsHeadline, KeepsRegisters, StopsAtReturns, WroteExactly, WroteLaidOut};
 ghost use Rattle.tool_driver.specs.Run.{WroteKept, WroteWords, WrotePassed, WroteReport, WroteObject, WroteRun};
-ghost use Rattle.tool_driver.specs.Run.{WroteTest, WroteStripped, WroteFrameSection, WroteUnwinding};
+ghost use Rattle.tool_driver.specs.Run.{WroteTest, WroteStripped, WroteFrameSection, WroteUnwinding, WroteRangesSection};
 ghost use Rattle.tool_driver.specs.Run.{HasReadProgram};
 ghost use Rattle.tool_driver.specs.Refusals.{TellsRefusal, IsAnswerable};
 ghost use Rattle.tool_driver.specs.steps.Ends.{HasReadNone, Explains, ReadingEnds};
@@ -41,14 +41,15 @@ pub const LIMIT: usize = 16_777_216;
 /// Runs the command that the words are: reads the input to its end, and writes the command's output for the functions
 /// in it. `compile`, with the options for a list of passes and for registers that may be spilled, writes the sections
 /// and the listing of the functions after these passes (`--passes=none`: of the functions as they were read; all
-/// passes if there is no list), and with `--frame` the section `.debug_frame` too. `listing`, with the first two
-/// options, writes the listing alone, and `report` at how many of each function's words each variable has a location,
-/// and what the passes lost. `object`, with the same two options, writes the relocatable object of the functions.
-/// `run`, with a function's name, a number of steps and such options, writes a line for each step of its machine code,
-/// with the values of its variables. `strip` writes the functions without their debug items. `gen` reads nothing, and
-/// writes the text of the function that it generates from two numbers. `selftest`, with such numbers and the options
-/// of `listing`, reads nothing either, and writes how many values the location lists of such a function have along a
-/// run of its machine code. A fault is reported by a line on `faults`.
+/// passes if there is no list), with `--frame` the section `.debug_frame` too, and with `--inline` the inlined
+/// functions with `.debug_rnglists`. `listing`, with the first two options, writes the listing alone, and `report` at
+/// how many of each function's words each variable has a location, and what the passes lost. `object`, with the same
+/// two options, writes the relocatable object of the functions. `run`, with a function's name, a number of steps and
+/// such options, writes a line for each step of its machine code, with the values of its variables. `strip` writes the
+/// functions without their debug items. `gen` reads nothing, and writes the text of the function that it generates from
+/// two numbers. `selftest`, with such numbers and the options of `listing`, reads nothing either, and writes how many
+/// values the location lists of such a function have along a run of its machine code. A fault is reported by a line on
+/// `faults`.
 pub fn mirdwarf<S: Source, K: Sink, E: Sink>(
     alloc: Global,
     words: &[String],
@@ -113,6 +114,11 @@ pub fn mirdwarf<S: Source, K: Sink, E: Sink>(
     ensures unwinds { (plan : CompilePlan) → result ≡ Status.Done →
         IsCommand (map string_bytes words.now) (Command.Compile plan) →
         WroteUnwinding (change S.left S.faults input.old input.new) (change K.written K.faults output.old output.new) }
+    // `.debug_rnglists`, the section of the ranges of inlined functions, is among them with `--inline` alone.
+    ensures ranges_section { (plan : CompilePlan) → result ≡ Status.Done →
+        IsCommand (map string_bytes words.now) (Command.Compile plan) →
+        WroteRangesSection plan.inline (change S.left S.faults input.old input.new)
+        (change K.written K.faults output.old output.new) }
 
     // What `report` writes is the report of what passes made of the functions that were read: of each the words of its
     // machine code, at how many of them the list of each variable gives it a place, and what passes lost of it.

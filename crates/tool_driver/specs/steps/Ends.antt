@@ -1,13 +1,14 @@
 -- The faults of the parts of a run, as its code meets them: want of memory is one of each part that allocates.
 use Rattle.std.specs.Prelude.{ℕ, List}
-use Rattle.pass_trait.specs.Steps.{PassStep}
 use Rattle.read_program.specs.declared.program.Program.{Program}
-use Rattle.compile_program.specs.Program.{AreAllPhysical, HasVirtualRegister, HasLargeFrame, HasLargeSection}
+use Rattle.compile_program.specs.Program.{HaveRegisters, HasVirtualRegister, HasLargeFrame, HasLargeSection}
 use Rattle.cli.specs.Command.{IsCommand}
 use Rattle.cli.specs.declared.command.Command.{Command}
+use Rattle.cli.specs.declared.command.PassPipeline.{PassPipeline}
 use Rattle.cli.specs.declared.fault.Fault.{Fault}
 use Rattle.cli.specs.declared.fault.Fault.TheVariants.{Usage, Read, TooLong, Refused, NoFunction, UnknownFunction}
 use Rattle.cli.specs.declared.fault.Fault.TheVariants.{NoRegister, FrameTooLarge, SymbolName, SectionTooLarge, Write, Memory}
+use Rattle.tool_driver.specs.Compiled.{plan_steps}
 use Rattle.tool_driver.specs.Run.{AreCommand, HasRead, IsCutOff}
 use Rattle.tool_driver.specs.Refusals.{IsReader, IsRefusedAt, HasNoFunction, RefusesProgram, IsTooLong, Refuses}
 use Rattle.tool_driver.specs.Stream.{Change, MetFault}
@@ -52,20 +53,20 @@ HasReadNone input Write = ⊥
 
 -- ---- compiling
 
--- the faults for which a program has no output after these passes
-abbrev pub RefusesToCompile : List PassStep → Program → Fault → Type 0
-RefusesToCompile steps program NoRegister = HasVirtualRegister program.functions
-RefusesToCompile steps program FrameTooLarge = AreAllPhysical program.functions × HasLargeFrame steps program.functions
-RefusesToCompile steps program SectionTooLarge = HasLargeSection steps program
-RefusesToCompile steps program Memory = Unit {0}
-RefusesToCompile steps program SymbolName = ⊥
-RefusesToCompile steps program (Refused r) = ⊥
-RefusesToCompile steps program NoFunction = ⊥
-RefusesToCompile steps program UnknownFunction = ⊥
-RefusesToCompile steps program Usage = ⊥
-RefusesToCompile steps program Read = ⊥
-RefusesToCompile steps program TooLong = ⊥
-RefusesToCompile steps program Write = ⊥
+-- the faults for which a program has no output by a plan
+abbrev pub RefusesToCompile : PassPipeline → Program → Fault → Type 0
+RefusesToCompile plan program NoRegister = HasVirtualRegister plan.reserve program.functions
+RefusesToCompile plan program FrameTooLarge = HaveRegisters plan.reserve program.functions × HasLargeFrame (plan_steps plan) program.functions
+RefusesToCompile plan program SectionTooLarge = HasLargeSection (plan_steps plan) program
+RefusesToCompile plan program Memory = Unit {0}
+RefusesToCompile plan program SymbolName = ⊥
+RefusesToCompile plan program (Refused r) = ⊥
+RefusesToCompile plan program NoFunction = ⊥
+RefusesToCompile plan program UnknownFunction = ⊥
+RefusesToCompile plan program Usage = ⊥
+RefusesToCompile plan program Read = ⊥
+RefusesToCompile plan program TooLong = ⊥
+RefusesToCompile plan program Write = ⊥
 
 -- the faults of a command on a program
 abbrev pub RefusesToWrite : Command → Program → Fault → Type 0

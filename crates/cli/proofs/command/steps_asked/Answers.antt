@@ -1,7 +1,7 @@
 use Rattle.std.proofs.Common.{◌≤◌, map, ◌∙◌, arith}
 use Rattle.std.specs.Prelude.{string_bytes}
 use Rattle.cli.specs.Command.{MAX_STEPS}
-use Rattle.cli.proofs.CommandWords.{the_steps, no_steps, no_some}
+use Rattle.cli.proofs.CommandWords.{the_steps, no_steps, no_steps_inline, no_some}
 use Rattle.cli.proofs.command.steps_asked.Goals as goal
 
 pub overflow_cast-count : goal.overflow_cast-count
@@ -14,6 +14,13 @@ returns-then-with_frame c = λ run. (
   λ e. absurd (no_some run e),
   λ h. absurd (no_steps c.args.name.now c.args.steps.now (map string_bytes c.args.words.now) c.in-Some-2.given
       ((c.in_ok-given.ensures c.in-Some-2.given).0 c.in-Some-2.is) c.if-with_frame.true run h),
+)
+
+pub returns-then-with_inline : goal.returns-then-with_inline
+returns-then-with_inline c = λ run. (
+  λ e. absurd (no_some run e),
+  λ h. absurd (no_steps_inline c.args.name.now c.args.steps.now (map string_bytes c.args.words.now) c.in-Some-2.given
+      ((c.in_ok-given.ensures c.in-Some-2.given).0 c.in-Some-2.is) c.if-with_inline.true run h),
 )
 
 pub returns : goal.returns

@@ -1,10 +1,13 @@
 use Rattle.std.specs.Prelude.{codes}
-use Rattle.cli.specs.declared.option.CommandOption.TheVariants.{Reserve, Arguments, Answers, Frame}
+use Rattle.cli.specs.declared.option.CommandOption.TheVariants.{Reserve, Arguments, Answers, Frame, Inline}
 use Rattle.cli.proofs.OptionWords.{the_option, no_option, numbers_word, word_numbers}
 use Rattle.cli.proofs.option.command_option.Goals as goal
 
 pub returns-then-is_same : goal.returns-then-is_same
 returns-then-is_same c = the_option c.args.word.now Frame (c.is_same.ensures.0 c.if-is_same.true, tt)
+
+pub returns-then-is_same-2 : goal.returns-then-is_same-2
+returns-then-is_same-2 c = the_option c.args.word.now Inline (c.is_same-2.ensures.0 c.if-is_same-2.true, tt)
 
 pub returns-in-Some-2 : goal.returns-in-Some-2
 returns-in-Some-2 c =
@@ -23,7 +26,8 @@ returns-in-Some-4 c =
 pub returns : goal.returns
 returns c =
     let word = c.args.word.now in
-    no_option word (λ e. (let same = c.is_same.ensures.1 e in absurd cc)) (λ l h. c.in_default.not-Some l ((c.passes.ensures l).1 h))
+    no_option word (λ e. (let same = c.is_same.ensures.1 e in absurd cc)) (λ e. (let same = c.is_same-2.ensures.1 e in absurd cc))
+    (λ l h. c.in_default.not-Some l ((c.passes.ensures l).1 h))
     (λ r h. c.in_default-2.not-Some r ((c.in_ok-registers.ensures r).1 h))
     (λ a h. c.in_default-3.not-Some a ((c.in_ok-values.ensures a).1 (word_numbers 8 (codes "--args=") word a h.0 h.1)))
     (λ a h. c.in_default-4.not-Some a ((c.in_ok-values-2.ensures a).1 (word_numbers 64 (codes "--answers=") word a h.0 h.1)))

@@ -1,8 +1,12 @@
-use Rattle.std.proofs.Common.{◌<◌, refl, rules}
-use Rattle.frame_rule.specs.Rule.{reach_of}
-use Rattle.mir_func.specs.Limits.{MAX_FRAME}
+use Rattle.std.specs.Prelude.{Err}
+use Rattle.std.proofs.Common.{◌≡◌, ◌∙◌, ap, refl, sym}
+use Rattle.std.proofs.lemmas.Result.{err_from_is_err_and}
+use Rattle.compile_passes.specs.declared.error.PassesError.{PassesError}
+use Rattle.compile_function.specs.declared.error.CompileError.{CompileError}
+use Rattle.compile_function.specs.declared.error.CompileError.TheVariants.{NoRegister, FrameTooLarge}
 use Rattle.compile_function.specs.Passed.{passed_of}
 use Rattle.compile_program.proofs.Passed.{made_too_large}
+use Rattle.compile_program.proofs.Refused.{register_error}
 use Rattle.compile_program.proofs.function.push_source.Goals as goal
 
 pub push_function-requires-clause-sound : goal.push_function-requires-clause-sound
@@ -29,6 +33,14 @@ returns-clause-pushed c = record {
 
 pub returns-in_err-push_function-clause-too_large : goal.returns-in_err-push_function-clause-too_large
 returns-in_err-push_function-clause-too_large c is =
-    let large : MAX_FRAME < reach_of c.in_ok-passed.passed.function = search (rules, is) in
+    let gave = err_from_is_err_and c.from_residual-in_err-push_function.result c.from_residual-in_err-push_function.ensures.1 in
+    let here : gave.0 ≡ FrameTooLarge = let same = gave.1 in cc in
+    let large = c.in_err-push_function.ensures.too_large (ap (λ (e : CompileError). Err e) (sym gave.2 ∙ here)) in
     made_too_large c.args.reserve.now c.args.passes.now c.args.source.now c.in_ok-passed.passed.function c.in_ok-passed.passed.substitutions
     c.in_ok-passed.passed.losses c.args.meta.now c.in_ok-passed.ensures.made c.in_ok-passed.ensures.compilable large
+
+pub returns-in_err-passed-clause-no_register : goal.returns-in_err-passed-clause-no_register
+returns-in_err-passed-clause-no_register c is =
+    let gave = err_from_is_err_and c.from_residual.result c.from_residual.ensures.1 in
+    let here : gave.0 ≡ NoRegister = let same = gave.1 in cc in
+    c.in_err-passed.ensures.no_register (ap (λ (e : PassesError). Err e) (register_error c.in_err-passed.field-0.0 (sym gave.2 ∙ here)))

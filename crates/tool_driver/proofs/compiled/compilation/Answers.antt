@@ -1,7 +1,8 @@
 -- The passes that run are those of the plan, with its reserve.
-use Rattle.std.proofs.Common.{sym, subst}
+use Rattle.std.proofs.Common.{ℕ, List, sym, subst}
 use Rattle.pass_list.specs.Names.{AreDistinct}
-use Rattle.compile_program.specs.Program.{IsOutputOf, IsCompilationOf, HasLargeFrame, HasLargeSection, steps_of}
+use Rattle.compile_program.specs.Program.{IsOutputOf, IsCompilationOf, HaveRegisters, HasVirtualRegister}
+use Rattle.compile_program.specs.Program.{HasLargeFrame, HasLargeSection, steps_of}
 use Rattle.tool_driver.proofs.Plans.{by_plan}
 use Rattle.tool_driver.proofs.compiled.compilation.Goals as goal
 
@@ -20,11 +21,12 @@ returns-in-Ok-clause-compilation c =
     c.as_slice-2.result.now c.args.plan.now.reserve c.as_slice.ensures.value c.as_slice-2.ensures c.in-Ok.ensures.compilation
 
 pub returns-in-Err-NoRegister-clause-err : goal.returns-in-Err-NoRegister-clause-err
-returns-in-Err-NoRegister-clause-err c = c.in-Err-NoRegister.ensures.no_register cc
+returns-in-Err-NoRegister-clause-err c =
+    subst (λ (r : List ℕ). HasVirtualRegister r c.args.program.now.functions) c.as_slice-2.ensures (c.in-Err-NoRegister.ensures.no_register cc)
 
 pub returns-in-Err-FrameTooLarge-clause-err : goal.returns-in-Err-FrameTooLarge-clause-err
 returns-in-Err-FrameTooLarge-clause-err c = (
-  c.in-Err-FrameTooLarge.ensures.registers_first cc,
+  subst (λ (r : List ℕ). HaveRegisters r c.args.program.now.functions) c.as_slice-2.ensures (c.in-Err-FrameTooLarge.ensures.registers_first cc),
   by_plan (λ r l. HasLargeFrame (steps_of r l) c.args.program.now.functions) c.as_slice.result.now c.args.plan.now.passes c.as_slice-2.result.now
       c.args.plan.now.reserve c.as_slice.ensures.value c.as_slice-2.ensures (c.in-Err-FrameTooLarge.ensures.frame_too_large cc),
 )

@@ -3,7 +3,7 @@ use Rattle.std.proofs.Common.{◌≡◌, ℕ, List, Option, Some, sym, subst, ru
 use Rattle.std.specs.Prelude.{IfSome}
 use Rattle.cli.specs.declared.command.TestPlan.{TestPlan}
 use Rattle.gen_sizes.proofs.Frames.{generated_frames_are_small}
-use Rattle.gen_sizes.proofs.Registers.{generated_are_physical}
+use Rattle.gen_sizes.proofs.Registers.{generated_have_registers}
 use Rattle.gen_sizes.proofs.Sections.{generated_sections_are_small}
 use Rattle.pass_list.specs.Names.{AreDistinct}
 use Rattle.pass_list.specs.declared.kind.PassKind.{PassKind}
@@ -31,8 +31,8 @@ returns-in-Ok-Some-clause-ok c =
 pub returns-in-NoRegister-clause-err : goal.returns-in-NoRegister-clause-err
 returns-in-NoRegister-clause-err c =
     let is = c.in-NoRegister.is in
-    let virtual = c.in-Err.ensures.no_register cc in
-    absurd (virtual (generated_are_physical c.args.asked.now.function.number c.args.asked.now.function.blocks c.requires.few))
+    absurd (generated_have_registers c.args.asked.now.function.number c.args.asked.now.function.blocks c.as_slice-2.result.now c.requires.few
+    (c.in-Err.ensures.no_register cc))
 
 pub returns-in-FrameTooLarge-clause-err : goal.returns-in-FrameTooLarge-clause-err
 returns-in-FrameTooLarge-clause-err c =

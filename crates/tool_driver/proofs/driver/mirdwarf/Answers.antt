@@ -3,7 +3,7 @@ use Rattle.std.specs.Prelude.{map, string_bytes}
 use Rattle.tool_driver.specs.Stream.{change}
 use Rattle.tool_driver.proofs.RunLemmas.{refusal, complete}
 use Rattle.tool_driver.proofs.Kept.{headline_kept, registers_kept, stops_at_returns, wrote_exactly, wrote_kept, wrote_laid_out}
-use Rattle.tool_driver.proofs.Kept.{wrote_words, wrote_passed, wrote_frame_section, wrote_unwinding}
+use Rattle.tool_driver.proofs.Kept.{wrote_words, wrote_passed, wrote_frame_section, wrote_unwinding, wrote_ranges_section}
 use Rattle.tool_driver.proofs.Stripped.{wrote_stripped}
 use Rattle.tool_driver.proofs.Generated.{wrote_generated}
 use Rattle.tool_driver.proofs.Written.{wrote_report, wrote_object, wrote_run, wrote_test}
@@ -64,6 +64,11 @@ returns-in-Ok-clause-frame_section g c plan done =
 pub returns-in-Ok-clause-unwinds : goal.returns-in-Ok-clause-unwinds
 returns-in-Ok-clause-unwinds g c plan done =
     wrote_unwinding (map string_bytes c.args.words.now) (change g.S.Source.left g.S.Source.faults c.args.input.now c.run.new.input)
+    (change g.K.Sink.written g.K.Sink.faults c.args.output.now c.run.new.output) c.in-Ok.ensures.done plan
+
+pub returns-in-Ok-clause-ranges_section : goal.returns-in-Ok-clause-ranges_section
+returns-in-Ok-clause-ranges_section g c plan done =
+    wrote_ranges_section (map string_bytes c.args.words.now) (change g.S.Source.left g.S.Source.faults c.args.input.now c.run.new.input)
     (change g.K.Sink.written g.K.Sink.faults c.args.output.now c.run.new.output) c.in-Ok.ensures.done plan
 
 pub returns-in-Ok-clause-reported : goal.returns-in-Ok-clause-reported

@@ -1,0 +1,15 @@
+use Rattle.std.specs.Prelude.{Err}
+use Rattle.std.proofs.Common.{◌≡◌, ◌∙◌, List, ap, subst, sym}
+use Rattle.std.proofs.lemmas.Result.{err_from_is_err_and}
+use Rattle.read_program.specs.declared.closing.Parsed.{Parsed}
+use Rattle.compile_function.specs.declared.error.CompileError.{CompileError}
+use Rattle.compile_function.specs.declared.error.CompileError.TheVariants.{FrameTooLarge}
+use Rattle.compile_program.specs.Program.{HasLargeFrame, steps_of}
+use Rattle.compile_program.proofs.compile.compile_with.Goals as goal
+
+pub returns-in_err-made-clause-frame_too_large : goal.returns-in_err-made-clause-frame_too_large
+returns-in_err-made-clause-frame_too_large c is =
+    let gave = err_from_is_err_and c.from_residual.result c.from_residual.ensures.1 in
+    let here : gave.0 ≡ FrameTooLarge = let same = gave.1 in cc in
+    subst (λ (ps : List Parsed). HasLargeFrame (steps_of c.args.reserve.now c.args.passes.now) ps) c.as_slice.ensures
+    (c.in_err-made.ensures.too_large (ap (λ (e : CompileError). Err e) (sym gave.2 ∙ here)))
