@@ -1,5 +1,5 @@
 -- What a round makes is a function.
-use Rattle.std.proofs.Common.{◌≡◌, ◌↔◌, List, ◌++◌, Contains, Bool, true, false, sym, ap, ◌∙◌, subst}
+use Rattle.std.proofs.Common.{◌≡◌, ◌↔◌, List, [], ◌++◌, Contains, Bool, true, false, append-nil, sym, ap, ◌∙◌, subst}
 use Rattle.std.specs.List.{list_any}
 use Rattle.mir_func.specs.declared.block.Block.{Block}
 use Rattle.mir_func.specs.declared.debug_substitution.DebugSubstitution.{DebugSubstitution}
@@ -10,9 +10,10 @@ use Rattle.pass_trait.specs.Order.{IsInOrder}
 use Rattle.dce_rule.specs.Dead.{Ends, IsRound}
 use Rattle.dce_rule.proofs.Rounds.{ends_one}
 use Rattle.dce_analysis.specs.Judge.{AreJudged}
+use Rattle.dce_salvage.specs.SalvageBlocks.{BlocksSoFar, salvage_blocks}
 use Rattle.dce_sweep.specs.Round.{has_dead, IsTakenOut}
 use Rattle.dce_sweep.proofs.None.{settled}
-use Rattle.dce_salvage_proof.specs.SalvageLaws.{all_off, function_off, KeepsOff}
+use Rattle.dce_salvage_proof.specs.SalvageLaws.{begins_off, all_off, function_off, KeepsOff}
 use Rattle.dce_salvage_proof.proofs.Chain.{salvage_numbers}
 use Rattle.dce_round.specs.Round.{IsDeadRound}
 use Rattle.dce_round.proofs.SameCode.{dead_same}
@@ -71,3 +72,20 @@ module _ (f : Function) (subs : List DebugSubstitution) (dead : List (List Bool)
   pub round_made : (more : List DebugSubstitution) (losses : List Loss) → more ≡ (all_off f subs dead).subs → IsInOrder losses →
       ((l : Loss) → Contains losses l ↔ Contains after l) → IsDeadRound f subs g more losses
   round_made more losses entries ordered same = made f subs dead judged sound some g out.0 any taken more losses after entries after_is ordered same
+
+-- where no dead copy has a number the function, the substitutions and the losses stay
+module _ (f : Function) (subs : List DebugSubstitution) (dead : List (List Bool)) (bs : List Block) (is : bs ≡ f.blocks)
+    (off : salvage_blocks dead bs (begins_off f subs) ≡ record (begins_off f subs) { blocks = bs ++ [] }) where
+  off_is : all_off f subs dead ≡ record (begins_off f subs) { blocks = f.blocks ++ [] }
+  off_is = subst (λ (cs : List Block). salvage_blocks dead cs (begins_off f subs) ≡ record (begins_off f subs) { blocks = cs ++ [] }) is off
+
+  pub still_function : f ≡ function_off f subs dead
+  still_function =
+      let blocks : f.blocks ≡ (all_off f subs dead).blocks = sym (append-nil f.blocks) ∙ sym (ap (λ (z : BlocksSoFar). z.blocks) off_is) in
+      λ i. record f { blocks = blocks i }
+
+  pub still_entries : subs ≡ (all_off f subs dead).subs
+  still_entries = sym (ap (λ (z : BlocksSoFar). z.subs) off_is)
+
+  pub still_lost : [] ≡ (all_off f subs dead).lost
+  still_lost = sym (ap (λ (z : BlocksSoFar). z.lost) off_is)

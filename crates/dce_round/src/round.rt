@@ -8,7 +8,7 @@ ghost use Rattle.dce_round.specs.Round.{IsRoundWith};
 
 use base_list::List;
 use dce_analysis::judge::judge;
-use dce_salvage::salvage_blocks::salvage_blocks;
+use dce_salvage::salvage_blocks::{has_copies, salvage_blocks};
 use dce_sweep::round::{has_dead, sweep_dead};
 use mir_func::block::{Blocks, copy_blocks};
 use mir_func::func::Func;
@@ -43,8 +43,8 @@ pub fn dead_round(
     Ok(Some(List::from(lost)))
 }
 
-/// Removes the numbers from the dead copies of a function, and returns the losses. After an error the function is
-/// unchanged, and the substitutions may only be dropped.
+/// Removes the numbers from the dead copies of a function, if there are any, and returns the losses. After an error the
+/// function is unchanged, and the substitutions may only be dropped.
 fn copies_off(
     alloc: Global,
     f: &mut Func,
@@ -58,6 +58,9 @@ fn copies_off(
     ensures sound { IsSound f.old }
 {
     let mut lost = Vec::new(alloc);
+    if !has_copies(f.blocks.as_slice(), dead) {
+        return Ok(lost);
+    }
     let blocks = blocks_without_numbers(alloc, f, dead, subs, &mut lost)?;
     f.blocks = blocks;
     Ok(lost)

@@ -1,5 +1,5 @@
 -- The walk goes on past an item: what it knows before the item tells what holds below it.
-use Rattle.std.proofs.Common.{◌≡◌, ℕ, zero, suc, ◌+◌, ◌<◌, List, [], ◌∷◌, map, length, drop, arith, refl, sym, ◌∙◌, ap, subst, inr, true, false}
+use Rattle.std.proofs.Common.{◌≡◌, ℕ, zero, suc, ◌+◌, ◌<◌, List, [], ◌∷◌, ◌++◌, map, length, drop, arith, refl, sym, ◌∙◌, ap, subst, inr, true, false}
 use Rattle.std.specs.Prelude.{ℤ, Option, Some, None, IsSome, slice_get, slice_index, slice_index_or}
 use Rattle.rv64_instr.specs.Row.{Row, Branches, Jumps, Returns, Unfit, row_of}
 use Rattle.mir_func.specs.declared.block.Block.{Block}
@@ -17,13 +17,16 @@ use Rattle.value_solver.specs.declared.tracked.Tracked.{Tracked as Thing}
 use Rattle.rv64_instr.specs.Arithmetic.{word}
 use Rattle.value_solver.specs.declared.entry.BlockEntry.{BlockEntry}
 use Rattle.value_solver.specs.Entry.{thing, IsEntry}
-use Rattle.value_proof.specs.Classes.{Classes, IsReached, AreClasses, AreFresh, class_back}
-use Rattle.value_proof.proofs.Passing.{classes_pass_items, paths_come_from_above}
+use Rattle.value_proof.specs.Classes.{Classes, IsReached, AreClasses, AreFresh, class_back, pairs_of}
+use Rattle.value_proof.specs.PreferredByClass.{pairs_at, known_before}
+use Rattle.value_proof.proofs.Pairs.{adds_before}
+use Rattle.value_proof.proofs.Passing.{classes_fewer, classes_pass_items, paths_come_from_above}
 use Rattle.value_tracker.specs.declared.index.TrackedIndex.{TrackedIndex}
 use Rattle.value_tracker.specs.Things.{Settle, settled_at}
 use Rattle.value_tracker.specs.LocationTracker.{Holds, Passes}
 use Rattle.value_tracker.specs.Start.{ConstantsNow}
 use Rattle.value_tracker.proofs.Entering.{entries_give_classes}
+use Rattle.value_tracker.proofs.Items.{held_fewer}
 use Rattle.location_ranges.specs.declared.values.Values.{Values}
 use Rattle.location_ranges.specs.declared.transfer_tracker.TransferTracker.{TransferTracker}
 use Rattle.location_ranges.specs.Stands.{program, AreValuesOf, Stands, Falls, IsBlockAt}
@@ -127,8 +130,39 @@ module _ (blocks : List Block) (v : Values) (index : TrackedIndex) (are : AreVal
         stops (kind_falls g.enter here item.kind (subst (λ (f : Fetch). FetchEdge g.enter f here (below here)) fetch edge));
   }
 
+  -- what is known before an item of the walk
+  abbrev things : List Tracked
+  things = map thing v.things.now
+
+  abbrev known_at : TransferTracker → List Tracked
+  known_at t = known_before g things t.block t.item
+
+  abbrev known : List Tracked
+  known = known_at s
+
+  known_next : (after : TransferTracker) → g.fetch here ≡ Here item → after.block ≡ s.block → after.item ≡ s.item + 1 →
+      pairs_of item.kind ++ known ≡ known_at after
+  known_next after fetch block next =
+      let up : suc s.item ≡ s.item + 1 = omega arith in
+      ap (λ (f : Fetch). pairs_at f ++ known) (sym fetch)
+      ∙ (ap (known_before g things s.block) (up ∙ sym next) ∙ ap (λ (b : ℕ). known_before g things b after.item) (sym block))
+
+  classes_next : (after : TransferTracker) → g.fetch here ≡ Here item → after.block ≡ s.block → after.item ≡ s.item + 1 → (class : Classes) →
+      AreClasses g (block_start 0) (below here) (pairs_of item.kind ++ known) class →
+      AreClasses g (block_start 0) (pos_in after.block after.item) (known_at after) class
+  classes_next after fetch block next class classes =
+      subst (λ (zs : List Tracked). AreClasses g (block_start 0) (pos_in after.block after.item) zs class) (known_next after fetch block next)
+      (subst (λ (z : Pos). AreClasses g (block_start 0) z (pairs_of item.kind ++ known) class) (sym (λ i. record { block = block i; item = next i })) classes)
+
+  held_next : (after : TransferTracker) → g.fetch here ≡ Here item → after.block ≡ s.block → after.item ≡ s.item + 1 → after.settled ≡ s.settled →
+      (class : Classes) → Holds v.variables.now (pairs_of item.kind ++ known) index s.settled.items after.held class →
+      Holds v.variables.now (known_at after) index after.settled.items after.held class
+  held_next after fetch block next settled class held =
+      subst (λ (zs : List Tracked). Holds v.variables.now zs index after.settled.items after.held class) (known_next after fetch block next)
+      (subst (λ z. Holds v.variables.now (pairs_of item.kind ++ known) index z.items after.held class) (sym settled) held)
+
   pub passes_on : (after : TransferTracker) → Stands blocks v index s → s.reached ≡ true → g.fetch here ≡ Here item → Falls (exit_of item.kind) →
-      Passes v.variables.now v.things.now index s.settled.items (resolve v.subs.now) s.held after.held item.kind → after.reached ≡ true →
+      Passes v.variables.now index s.settled.items (resolve v.subs.now) s.held after.held item.kind → after.reached ≡ true →
       after.block ≡ s.block → after.item ≡ s.item + 1 → after.settled ≡ s.settled → after.constants ≡ s.constants → Stands blocks v index after
   passes_on after stands on fetch falls passes on_after block next settled constants =
       let r = stands.reached on in
@@ -136,22 +170,25 @@ module _ (blocks : List Block) (v : Values) (index : TrackedIndex) (are : AreVal
       let fresh = λ (q : ℕ). s.held.next + q in
       let class = λ (x : Tracked). class_back r.class fresh (back (resolve v.subs.now) 0 item.kind x) in
       let edge = subst (λ (f : Fetch). FetchEdge g.enter f here (below here)) (sym fetch) (falls_kind g.enter here item.kind falls) in
-      let new : AreFresh (map thing v.things.now) r.class fresh = record {
+      let new : AreFresh known r.class fresh = record {
         apart = λ q w e. omega (arith, e);
-        new = λ x q k e. let b = r.held.below x k in omega (arith, b, e);
+        new = λ x q k e. let b = r.held_above.below x k in omega (arith, b, e);
         some = λ q e. let b = r.held.below (OfNumber 0) are.of.zero in omega (arith, b, e);
       } in
-      let classes = classes_pass_items g (block_start 0) here (map thing v.things.now) r.class fresh item not_first r.classes fetch edge knows new in
-      let held = passes r.class r.held knows in
+      let classes = classes_next after fetch block next class
+      (classes_pass_items g (block_start 0) here known r.class fresh item not_first r.classes_above fetch edge knows new) in
+      let held = held_next after fetch block next settled class (passes known r.class r.held_above knows) in
       let now = constants_stay v.things.now r.class class s.constants.items (λ n. ap (class_back r.class fresh) (number_stays
       (resolve v.subs.now) item.kind n)) r.constants in
       record {
         reached = λ e. record {
           class = class;
-          held = subst (λ z. Holds v.variables.now v.things.now index z.items after.held class) (sym settled) held;
-          classes = subst (λ (z : Pos). AreClasses g (block_start 0) z (map thing v.things.now) class) (sym
-              (λ i. record { block = block i; item = next i })) classes;
+          held = held_fewer v.variables.now things (known_at after) index after.settled.items after.held class (adds_before g things after.block after.item) held;
+          classes = classes_fewer g (block_start 0) (pos_in after.block after.item) things (known_at after) class (adds_before g things after.block after.item)
+              classes;
           constants = subst (λ z. ConstantsNow v.things.now class z.items) (sym constants) now;
+          held_above = held;
+          classes_above = classes;
         };
         unreached = λ off. absurd (let both : true ≡ false = sym on_after ∙ off in cc);
       }
@@ -162,7 +199,7 @@ pub enters : (blocks : List Block) (v : Values) (index : TrackedIndex) → AreVa
     slice_get v.entries.now s.block ≡ Some e →
     s.item ≡ 0 → s.reached ≡ e.reached → length s.settled.items ≡ length v.things.now →
     ((i : ℕ) → i < length v.things.now → slice_index s.settled.items i ≡ settled_at e.classes e.given i) →
-    ((class : Classes) → Settle v.things.now s.settled.items class → Holds v.variables.now v.things.now index s.settled.items s.held class) →
+    ((class : Classes) → Settle v.things.now s.settled.items class → Holds v.variables.now (map thing v.things.now) index s.settled.items s.held class) →
     ((class : Classes) → Settle v.things.now s.settled.items class → ConstantsNow v.things.now class s.constants.items) → Stands blocks v index s
 enters blocks v index are s e at first same count each held constants = record {
   reached = λ on.
@@ -175,6 +212,10 @@ enters blocks v index are s e at first same count each held constants = record {
         held = held c.0 c.2;
         classes = subst (λ (k : ℕ). AreClasses g (block_start 0) (pos_in s.block k) (map thing v.things.now) c.0) (sym first) c.1;
         constants = constants c.0 c.2;
+        held_above = subst (λ (k : ℕ). Holds v.variables.now (known_before g (map thing v.things.now) s.block k) index s.settled.items s.held c.0) (sym first)
+            (held c.0 c.2);
+        classes_above = subst (λ (k : ℕ). AreClasses g (block_start 0) (pos_in s.block k) (known_before g (map thing v.things.now) s.block k) c.0) (sym first)
+            c.1;
       };
   unreached = λ off path.
       let on : e.reached ≡ true = is.reached.1 (subst (λ (k : ℕ). IsReached g (block_start 0) (pos_in s.block k)) first path) in

@@ -11,7 +11,7 @@ use Rattle.mir_func.specs.Successors.{pos_in}
 use Rattle.value_solver.specs.declared.entry.BlockEntry.{BlockEntry}
 use Rattle.value_solver.specs.Entry.{thing, IsEntry}
 use Rattle.value_proof.specs.Classes.{Classes, AreClasses, IsReached}
-use Rattle.value_proof.specs.PreferredByClass.{AreThingsOf}
+use Rattle.value_proof.specs.PreferredByClass.{AreEnoughFor, known_before}
 use Rattle.value_tracker.specs.declared.index.TrackedIndex.{TrackedIndex}
 use Rattle.value_tracker.specs.Things.{AreThings}
 use Rattle.value_tracker.specs.LocationTracker.{PLACES, Holds}
@@ -27,16 +27,19 @@ program blocks subs = framed_program blocks (resolve subs)
 -- each block
 pub record AreValuesOf (blocks : List Block) (v : Values) : Type 0 where
   pub things : AreThings v.variables.now v.things.now
-  pub of : AreThingsOf (program blocks v.subs.now) (map thing v.things.now)
+  pub of : AreEnoughFor (program blocks v.subs.now) (map thing v.things.now)
   pub entries : (b : ℕ) (e : BlockEntry) → slice_get v.entries.now b ≡ Some e → IsEntry (program blocks v.subs.now) v.things.now b e
   pub for_all : length v.entries.now ≡ length blocks
 
 -- before a reached item the state holds the classes of the tracked entities there, and the constants of classes
 pub record Reaches (g : Program) (v : Values) (index : TrackedIndex) (s : TransferTracker) : Type 0 where
   pub class : Classes
-  pub held : Holds v.variables.now v.things.now index s.settled.items s.held class
+  pub held : Holds v.variables.now (map thing v.things.now) index s.settled.items s.held class
   pub classes : AreClasses g (block_start 0) (pos_in s.block s.item) (map thing v.things.now) class
   pub constants : ConstantsNow v.things.now class s.constants.items
+  -- and those of the pairs that items above define in the same block
+  pub held_above : Holds v.variables.now (known_before g (map thing v.things.now) s.block s.item) index s.settled.items s.held class
+  pub classes_above : AreClasses g (block_start 0) (pos_in s.block s.item) (known_before g (map thing v.things.now) s.block s.item) class
 
 -- the state is that before an item: `Reaches` if some path leads to it, and otherwise it is marked as unreached
 pub record Stands (blocks : List Block) (v : Values) (index : TrackedIndex) (s : TransferTracker) : Type 0 where

@@ -153,7 +153,7 @@ fn pass_held(
 ) -> Result<(), AllocError>
     requires places { length held.old.places.items ≡ PLACES }
     requires parts { length held.old.parts.items ≡ length values.now.variables.now }
-    ensures passes { OnOk result (Passes values.now.variables.now values.now.things.now index.now settled.now
+    ensures passes { OnOk result (Passes values.now.variables.now index.now settled.now
         (resolve values.now.subs.now) held.old held.new kind.now) }
     ensures places { OnOk result (length held.new.places.items ≡ PLACES) }
     ensures parts { OnOk result (length held.new.parts.items ≡ length values.now.variables.now) }

@@ -1,9 +1,10 @@
 -- Bits in words: one set or cleared, and those of two lists together.
-use Rattle.std.proofs.Common.{◌≡◌, ◌⊎◌, ℕ, zero, suc, ◌-◌, ◌*◌, ◌/◌, ◌%◌, ◌^◌, ◌<◌, ◌||◌, ◌&&◌, not, nat_eq, Bool, true, false, List, length, get_or}
+use Rattle.std.proofs.Common.{◌≡◌, ◌⊎◌, ℕ, zero, suc, ◌-◌, ◌*◌, ◌/◌, ◌%◌, ◌^◌, ◌<◌, ◌≤◌, ◌||◌, ◌&&◌, not, nat_eq, Bool, true, false, List, length, get_or}
 use Rattle.std.proofs.Common.{slice_set, bit_and, bit_or, w64, refl, sym, ap, ◌∙◌, inl, inr, arith, max}
 use Rattle.std.specs.Int.{bit_at}
 use Rattle.std.proofs.lemmas.Bool.{cases_eq, ne_eqb, eq-eqb}
 use Rattle.std.proofs.lemmas.List.{get_or-set_other, get_or-set_same}
+use Rattle.std.proofs.lemmas.Nat.{and_le_l}
 use Rattle.std.proofs.lemmas.Nat.Bits.{bit_at_set_same, bit_at_set_other, bit_at_clear_same, bit_at_clear_other, bit_at_or, bit_at-zero, bit_at-lt}
 use Rattle.pass_liveness.specs.Sets.{has_bit}
 
@@ -95,6 +96,21 @@ module _ (words : List ℕ) (b : ℕ) (l : b / 64 < length words) where
     by_word (inl e) = by_bit e (cases_eq (i % 64) (b % 64))
     by_word (inr ne) = at_other words (b / 64) v i ne
         ∙ (sym (and_true (has_bit words i)) ∙ sym (ap (λ (t : Bool). has_bit words i && not t) (ne_eqb b i (other_bit b i ne))))
+
+-- a word that is 0 stays 0 where a bit is cleared
+pub zero_stays : (words : List ℕ) (at mask k : ℕ) → at < length words → get_or words k 0 ≡ 0 →
+    get_or (slice_set words at (bit_and (get_or words at 0) mask)) k 0 ≡ 0
+zero_stays words at mask k l z = by_index (cases_eq k at) where
+  v : ℕ
+  v = bit_and (get_or words at 0) mask
+
+  by_index : (k ≡ at) ⊎ (k ≡ at → ⊥) → get_or (slice_set words at v) k 0 ≡ 0
+  by_index (inl e) =
+      let here : get_or (slice_set words at v) k 0 ≡ v = ap (λ (j : ℕ). get_or (slice_set words at v) j 0) e ∙ get_or-set_same words at v 0 l in
+      let old : get_or words at 0 ≡ 0 = ap (λ (j : ℕ). get_or words j 0) (sym e) ∙ z in
+      let least : v ≤ get_or words at 0 = and_le_l (get_or words at 0) mask in
+      omega arith
+  by_index (inr other) = get_or-set_other words at k v 0 other ∙ z
 
 -- ---- all words together
 

@@ -1,10 +1,10 @@
 -- Words that are united with others, word by word.
-use Rattle.std.proofs.Common.{◌≡◌, ◌⊎◌, ℕ, zero, suc, ◌+◌, ◌/◌, ◌<◌, ◌≤◌, ◌≢◌, ◌||◌, Bool, true, false, List, [], ◌∷◌, length, get_or, slice_set, bit_or, ◌-◌}
+use Rattle.std.proofs.Common.{◌≡◌, ◌⊎◌, ℕ, zero, suc, ◌+◌, ◌/◌, ◌<◌, ◌≤◌, ◌≢◌, ◌||◌, Bool, true, false, List, length, get_or, slice_set, bit_and, bit_or, ◌-◌}
 use Rattle.std.proofs.Common.{refl, sym, ap, ◌∙◌, inl, inr, arith, subst}
 use Rattle.std.proofs.lemmas.Bool.{cases_eq}
 use Rattle.std.proofs.lemmas.List.{get_or-set_other, get_or-set_same}
 use Rattle.std.proofs.lemmas.List.Sums.{sum_by-set}
-use Rattle.std.proofs.lemmas.Nat.{le_or_l}
+use Rattle.std.proofs.lemmas.Nat.{le_or_l, and_le_r, or_disjoint}
 use Rattle.pass_liveness.specs.Sets.{has_bit, gap}
 use Rattle.pass_liveness.proofs.Bits.{bits_of_both}
 
@@ -63,15 +63,15 @@ uniting_changed {old} {others} {k} {words} {grown} h inside fits ne = record {
       subst (λ (i : ℕ). get_or (slice_set words k all) i 0 ≡ bit_or (get_or old i 0) (get_or others i 0)) (sym s) here
   by_index j l (inr other) = get_or-set_other words k j all 0 other ∙ h.done j (omega arith)
 
-past_end : (xs : List ℕ) (j : ℕ) → length xs ≤ j → get_or xs j 0 ≡ 0
-past_end [] j l = refl
-past_end (x ∷ xs) zero l = absurd (omega arith)
-past_end (x ∷ xs) (suc j) l = past_end xs j (omega arith)
+nothing_more : (a b : ℕ) → b ≡ 0 → bit_or a b ≡ a
+nothing_more a b e =
+    let least : bit_and a b ≤ b = and_le_r a b in
+    let sum : bit_or a b ≡ a + b = or_disjoint a b (omega arith) in
+    omega arith
 
-pub uniting_ends : {old others : List ℕ} {k : ℕ} {words : List ℕ} {grown : Bool} → Uniting old others k words grown → length old ≤ k → length others ≡ length
-    old →
-    (i : ℕ) → has_bit words i ≡ (has_bit old i || has_bit others i)
-uniting_ends {old} {others} {k} {words} {grown} h end long i = bits_of_both words old others i (by_index (i / 64)) where
+pub uniting_ends : {old others : List ℕ} {k : ℕ} {words : List ℕ} {grown : Bool} → Uniting old others k words grown →
+    ((j : ℕ) → k ≤ j → get_or others j 0 ≡ 0) → (i : ℕ) → has_bit words i ≡ (has_bit old i || has_bit others i)
+uniting_ends {old} {others} {k} {words} {grown} h zeros i = bits_of_both words old others i (by_index (i / 64)) where
   by_index : (j : ℕ) → get_or words j 0 ≡ bit_or (get_or old j 0) (get_or others j 0)
   by_index j = elim (cases_le k j) [ inl l ↦ far j l | inr l ↦ h.done j l ] where
     cases_le : (a b : ℕ) → (a ≤ b) ⊎ (b < a)
@@ -80,7 +80,4 @@ uniting_ends {old} {others} {k} {words} {grown} h end long i = bits_of_both word
     cases_le (suc a) (suc b) = elim (cases_le a b) [ inl l ↦ inl (omega arith) | inr l ↦ inr (omega arith) ]
 
     far : (j : ℕ) → k ≤ j → get_or words j 0 ≡ bit_or (get_or old j 0) (get_or others j 0)
-    far j l =
-        let a : get_or old j 0 ≡ 0 = past_end old j (omega arith) in
-        let b : get_or others j 0 ≡ 0 = past_end others j (omega arith) in
-        h.left j l ∙ (a ∙ sym (ap (λ (x : ℕ). bit_or x (get_or others j 0)) a ∙ ap (bit_or 0) b))
+    far j l = h.left j l ∙ sym (nothing_more (get_or old j 0) (get_or others j 0) (zeros j l))

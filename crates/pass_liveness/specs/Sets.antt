@@ -1,5 +1,5 @@
 -- Sets of places, as bit vectors of 64-bit words.
-use Rattle.std.specs.Prelude.{◌≡◌, ℕ, ◌+◌, ◌-◌, ◌/◌, ◌%◌, List, length, slice_index, Bool, false, nat_eq, Option, Some, None}
+use Rattle.std.specs.Prelude.{◌≡◌, ℕ, ◌+◌, ◌-◌, ◌/◌, ◌%◌, ◌≤◌, List, length, slice_index, Bool, false, nat_eq, Option, Some, None}
 use Rattle.std.specs.List.{sum_by}
 use Rattle.std.specs.Int.{bit_at}
 use Rattle.rv64_instr.specs.declared.place.Place.{Place}
@@ -14,6 +14,12 @@ WORDS = 69
 -- the list of words has the length of a set
 abbrev pub AreWords : List ℕ → Type 0
 AreWords words = length words ≡ 69
+
+-- the words of a set: those from the index `used` on are 0
+pub record IsSet (words : List ℕ) (used : ℕ) : Type 0 where
+  pub long : AreWords words
+  pub within : used ≤ 69
+  pub zeros : (k : ℕ) → used ≤ k → slice_index words k ≡ 0
 
 -- a measure of the bits that aren't set: it falls as bits are set
 abbrev pub gap : List ℕ → ℕ

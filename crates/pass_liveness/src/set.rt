@@ -4,7 +4,7 @@ ghost use Rattle.std.specs.Prelude.{◌≡◌, ℕ, ◌<◌, ◌||◌, ◌&&◌,
 ghost use Rattle.std.specs.Prelude.{slice_index_or, IsTrue};
 ghost use Rattle.pass_liveness.specs.Sets.{has_bit, gap, AreWords};
 
-use crate::words::{clear_all, clear_bit, has_bit, set_bit, unite};
+use crate::words::{clear_bit, has_bit, set_bit, unite};
 use std::marker::Model;
 
 /// The number of words of a set: bits for 256 slots and 4,128 registers.
@@ -14,6 +14,8 @@ const WORDS: usize = 69;
 #[derive(Drop)]
 pub struct PlaceSet {
     words: [u64; 69],
+    /// The words from this index on are 0.
+    used: usize,
 }
 
 impl Model for PlaceSet {
@@ -21,11 +23,11 @@ impl Model for PlaceSet {
 
     ghost Value = { List ℕ };
 
-    ghost use Rattle.pass_liveness.specs.Sets.{AreWords};
+    ghost use Rattle.pass_liveness.specs.Sets.{IsSet};
 
     ghost view = { λ s. s.words };
 
-    ghost invariant = { λ s. AreWords s.words };
+    ghost invariant = { λ s. IsSet s.words s.used };
 }
 
 impl PlaceSet {
@@ -33,14 +35,20 @@ impl PlaceSet {
     pub fn new() -> PlaceSet
         ensures { (i : ℕ) → has_bit result i ≡ false }
     {
-        PlaceSet { words: zeros() }
+        PlaceSet {
+            words: zeros(),
+            used: 0,
+        }
     }
 
     /// A copy of the set. It takes no memory.
     pub fn copy(&self) -> PlaceSet
         ensures { result ≡ self.now }
     {
-        PlaceSet { words: self.words }
+        PlaceSet {
+            words: self.words,
+            used: self.used,
+        }
     }
 
     /// Whether a bit is set. It takes no memory.
@@ -56,6 +64,7 @@ impl PlaceSet {
         ensures { (i : ℕ) → has_bit self.new i ≡ (nat_eq bit i || has_bit self.old i) }
     {
         set_bit(&mut self.words, bit);
+        self.used = self.used.max(bit / 64 + 1);
     }
 
     /// Clears a bit. It takes no memory.
@@ -70,7 +79,8 @@ impl PlaceSet {
     pub fn clear(&mut self)
         ensures { (i : ℕ) → has_bit self.new i ≡ false }
     {
-        clear_all(&mut self.words);
+        self.words = zeros();
+        self.used = 0;
     }
 
     /// Adds the members of another set, and returns whether the set grew. It takes no memory.
@@ -80,7 +90,9 @@ impl PlaceSet {
         ensures same { result ≡ false → self.new ≡ self.old }
         ensures words { AreWords self.new }
     {
-        unite(&mut self.words, &other.words)
+        let grown = unite(&mut self.words, &other.words, other.used);
+        self.used = self.used.max(other.used);
+        grown
     }
 }
 

@@ -8,6 +8,8 @@ mod compiled;
 #[cfg(test)]
 mod joins;
 #[cfg(test)]
+mod listed;
+#[cfg(test)]
 mod places;
 #[cfg(test)]
 mod points;

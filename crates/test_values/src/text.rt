@@ -23,7 +23,7 @@ pub(crate) fn function_of(alloc: Global, body: &str) -> Result<Parsed, Fail> {
     if 16_777_216 < bytes.len() {
         return Err(Fail::from("a long text"));
     }
-    let mut functions = read_program(alloc, bytes)?.functions.into_vec();
+    let mut functions = read_program(alloc, false, bytes)?.functions.into_vec();
     Ok(functions.pop().ok_or("a function")?)
 }
 

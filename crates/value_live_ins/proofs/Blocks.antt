@@ -16,7 +16,7 @@ use Rattle.mir_func.proofs.Ways.{out_way, contains_first}
 use Rattle.sem_mir.specs.ValueId.{Tokens, Path, begin, onward, after_fetch, after_item}
 use Rattle.sem_value_ids.specs.Pullback.{InRegister, token_of, after_items}
 use Rattle.sem_value_ids.specs.Pullback as path
-use Rattle.value_proof.specs.PreferredByClass.{AreThingsOf}
+use Rattle.value_proof.specs.PreferredByClass.{AreEnoughFor}
 use Rattle.value_proof.proofs.Known.{path_bare, pointer}
 use Rattle.value_solver.specs.declared.tracked.Tracked.{Tracked}
 use Rattle.value_solver.specs.Entry.{thing, PathTo}
@@ -34,7 +34,7 @@ head_id-drop (b ∷ bs) zero = refl
 head_id-drop (b ∷ bs) (suc i) = head_id-drop bs i
 
 -- what stands at the positions of a block
-fetched : (blocks : List Block) (b : ℕ) (block : Block) → slice_get blocks b ≡ Some block → (k : ℕ) →
+pub fetched : (blocks : List Block) (b : ℕ) (block : Block) → slice_get blocks b ≡ Some block → (k : ℕ) →
     fetch_in (drop b blocks) k ≡ front (drop k block.items) block.source_end (drop (suc b) blocks)
 fetched [] b block e k = absurd cc
 fetched (x ∷ xs) zero block e k = let is : x ≡ block = cc in ap (λ (z : Block). front (drop k z.items) z.source_end xs) is
@@ -85,7 +85,7 @@ module _ (blocks : List Block) (resolve : OperandPair → Option OperandPair) (x
   abbrev g : Program
   g = framed_program blocks resolve
 
-  module _ (are : AreThingsOf g (map thing xs)) (of : AreFlowsOf g blocks xs flows)
+  module _ (are : AreEnoughFor g (map thing xs)) (of : AreFlowsOf g blocks xs flows)
       (quiet : (b : ℕ) (block : Block) → slice_get blocks b ≡ Some block → EndsQuietly block.items) where
     bare : (b n : ℕ) (t : Tokens) → PathTo g b n t → token_of (InRegister 2) t ≡ None
     bare b n t p = path_bare g (map thing xs) are p (InRegister 2) pointer

@@ -1,5 +1,5 @@
 -- The changes that classes tell, one thing after the other.
-use Rattle.std.proofs.Common.{◌≡◌, ℕ, zero, suc, ◌+◌, ◌-◌, ◌%◌, ◌<◌, ◌≤◌, List, [], ◌∷◌, ◌++◌, length, refl, sym, ap, ◌∙◌, subst}
+use Rattle.std.proofs.Common.{◌≡◌, ℕ, zero, suc, ◌+◌, ◌-◌, ◌%◌, ◌<◌, ◌≤◌, List, [], ◌∷◌, ◌++◌, map, length, refl, sym, ap, ◌∙◌, subst}
 use Rattle.std.proofs.Common.{arith, inl, inr, ltb-true, mod-lt}
 use Rattle.std.specs.Prelude.{Option, Some, None, IsSome, Bool, true, false, cond, nat_eq, nat_lt, slice_get, slice_index}
 use Rattle.std.specs.HashMap.{get}
@@ -128,7 +128,7 @@ module _ (things : List Tracked) (index : TrackedIndex) (are : Indexes things in
     by_found (Some i) e = e ∙ ap (λ (n : ℕ). Some n) (tracked.once i j (Pair q) (are.pairs q.number q.operand i e).1 at)
 
 module _ (variables : List VarId) (things : List Tracked) (index : TrackedIndex) (settled : List ℕ) (h : LocationTracker) (class : Classes)
-    (holds : Holds variables things index settled h class) (j : ℕ) where
+    (holds : Holds variables (map thing things) index settled h class) (j : ℕ) where
   pub register_class : (r : ℕ) → AreTracked things → slice_get things j ≡ Some (Register r) → slice_index h.places.items r ≡ class (InRegister r)
   register_class r are at = holds.registers r (are.registers j r at).0
 

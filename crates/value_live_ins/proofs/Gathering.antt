@@ -1,12 +1,12 @@
 -- Tracked things as they are gathered: one more thing, more things, and what is known of items where they are there.
 use Rattle.std.proofs.Common.{◌≡◌, ◌⊎◌, ℕ, zero, suc, ◌+◌, ◌<◌, ◌≤◌, List, [], ◌∷◌, ◌++◌, map, length, refl, sym, ap, ◌∙◌, subst, arith, inl, inr, get_or}
 use Rattle.std.proofs.Common.{append_assoc}
-use Rattle.std.specs.Prelude.{Contains, All, Option, Some, None, Bool, true, false, cond, not, slice_get}
+use Rattle.std.specs.Prelude.{Contains, All, Option, Some, None, Bool, true, false, cond, not, slice_get, take}
 use Rattle.std.specs.HashSet.{contains}
 use Rattle.std.proofs.lemmas.List.{append-nil, length-append}
 use Rattle.std.proofs.lemmas.Bool.Decides.{eqb_tells}
 use Rattle.std.proofs.lemmas.List.Elements.{Contains-append_left, Contains-append_right}
-use Rattle.std.proofs.lemmas.Option.{slice_get_within, slice_get-get_or, get_or_from_slice_get}
+use Rattle.std.proofs.lemmas.Option.{slice_get_within, slice_get-get_or, get_or_from_slice_get, slice_get_read}
 use Rattle.rv64_instr.specs.Arithmetic.{word}
 use Rattle.rv64_instr.specs.Instruction.{Instruction}
 use Rattle.rv64_instr.specs.declared.op.Op.{Op}
@@ -22,6 +22,7 @@ use Rattle.rv64_instr.specs.declared.place.Place.TheVariants.{Register as AtRegi
 use Rattle.rv64_instr.specs.Row.{Row, Fixes, Moves, LoadsSlot, StoresSlot, row_of, row_by, immediate_row, object_row, move_row, implicit_uses, outgoing_words}
 use Rattle.rv64_instr.specs.Row.{held_call, held_tail, held_gone}
 use Rattle.mir_func.specs.declared.debug_substitution.OperandPair.{OperandPair}
+use Rattle.mir_func.specs.declared.item.Item.{Item}
 use Rattle.mir_func.specs.declared.item.ItemKind.{ItemKind}
 use Rattle.mir_func.specs.declared.item.ItemKind.TheVariants.{Code, Mark, Phi}
 use Rattle.mir_func.specs.declared.variable.VarId.{VarId}
@@ -33,7 +34,8 @@ use Rattle.mir_func.specs.SoundFrame.{IsPhysical}
 use Rattle.sem_mir.specs.Step.{defined}
 use Rattle.sem_value_ids.specs.Pullback as path
 use Rattle.sem_value_ids.specs.Pullback.{InSlot, OfPair, OfVariable, OfNumber}
-use Rattle.value_proof.specs.Classes.{KnowsRow, KnowsPair, KnowsValue, KnowsPlace, DefinePhysical, KnowsItem}
+use Rattle.value_proof.specs.Classes.{KnowsRow, KnowsPair, KnowsValue, KnowsPlace, DefinePhysical, KnowsItem, known_past}
+use Rattle.value_proof.proofs.Pairs.{row_more, value_more, place_more, past_keeps, past_more}
 use Rattle.value_solver.specs.declared.tracked.Tracked.{Tracked}
 use Rattle.value_solver.specs.declared.tracked.Tracked.TheVariants.{Register, Slot, Part, Number}
 use Rattle.value_solver.specs.Entry.{thing}
@@ -41,6 +43,7 @@ use Rattle.value_tracker.specs.Things.{AreThings}
 use Rattle.value_live_ins.specs.declared.gather.TrackedItemSet.{TrackedItemSet}
 use Rattle.value_live_ins.specs.Keys.{Key, key_of, is_key}
 use Rattle.value_live_ins.specs.Gathering.{MayTrack, AreOnce, IsGathered, IsNoPart, Grows, KnowsPassed, HasPart, HasRegister, HasRegistersBelow}
+use Rattle.value_live_ins.specs.Gathering.{KnowsPassedItems, KnowsPassedBlocks, KnowsBlocks}
 use Rattle.value_live_ins.specs.Walking.{AreTracked}
 use Rattle.value_live_ins.proofs.Keys.{key_itself, key_tells}
 
@@ -154,46 +157,71 @@ map_append : (xs ys : List Tracked) → map thing (xs ++ ys) ≡ map thing xs ++
 map_append [] ys = refl
 map_append (x ∷ xs) ys = ap (λ (z : List path.Tracked). thing x ∷ z) (map_append xs ys)
 
-module _ (xs ys : List Tracked) (g : Grows xs ys) where
-  more_in : (y : path.Tracked) → Contains (map thing xs) y → Contains (map thing ys) y
-  more_in y h =
-      subst (λ (z : List path.Tracked). Contains z y) (sym (ap (map thing) g.is ∙ map_append xs g.more))
-      (Contains-append_left (map thing xs) (map thing g.more) y h)
+pub more_in : (xs ys : List Tracked) → Grows xs ys → (y : path.Tracked) → Contains (map thing xs) y → Contains (map thing ys) y
+more_in xs ys g y h =
+    subst (λ (z : List path.Tracked). Contains z y) (sym (ap (map thing) g.is ∙ map_append xs g.more))
+    (Contains-append_left (map thing xs) (map thing g.more) y h)
 
-  row_grows : (row : Row) → KnowsRow (map thing xs) row → KnowsRow (map thing ys) row
-  row_grows (Fixes rd c) k = more_in (OfNumber c) k
-  row_grows (LoadsSlot rd n) k = more_in (InSlot n) k
-  row_grows (StoresSlot rs n) k = (k.0, more_in (InSlot n) k.1)
-  row_grows _ k = k
+-- where more is known
+module _ (xs ys : List path.Tracked) (more : (y : path.Tracked) → Contains xs y → Contains ys y) where
+  pub passed_more : (resolve : OperandPair → Option OperandPair) (kind : ItemKind) → KnowsPassed xs resolve kind → KnowsPassed ys resolve kind
+  passed_more resolve (Code i k) h = (row_more xs ys more (row_of i) h.0, h.1)
+  passed_more resolve (Mark v m) h = value_more xs ys more resolve m h
+  passed_more resolve (Phi p k) h = place_more xs ys more p h
 
-  pair_grows : (q : Option OperandPair) → KnowsPair (map thing xs) q → KnowsPair (map thing ys) q
-  pair_grows None k = k
-  pair_grows (Some q) k = more_in (OfPair q.number q.operand) k
+-- what an item copies is known where it was known before the items above it
+pub passed_past : (known : List path.Tracked) (items : List Item) (resolve : OperandPair → Option OperandPair) (kind : ItemKind) →
+    KnowsPassed known resolve kind → KnowsPassed (known_past known items) resolve kind
+passed_past known items = passed_more known (known_past known items) (past_keeps known items)
 
-  value_grows : (resolve : OperandPair → Option OperandPair) (m : MarkValue) → KnowsValue (map thing xs) resolve m → KnowsValue (map thing ys) resolve m
-  value_grows resolve Nothing k = k
-  value_grows resolve (Constant c) k = more_in (OfNumber (word c)) k
-  value_grows resolve (At r) k = k
-  value_grows resolve (OfPairValue q) k = pair_grows (resolve q) k
+pub passed_grows : (old new : List Tracked) (resolve : OperandPair → Option OperandPair) (kind : ItemKind) → Grows old new →
+    KnowsPassed (map thing old) resolve kind → KnowsPassed (map thing new) resolve kind
+passed_grows old new resolve kind g h = passed_more (map thing old) (map thing new) (more_in old new g) resolve kind h
 
-  place_grows : (p : Option Place) → KnowsPlace (map thing xs) p → KnowsPlace (map thing ys) p
-  place_grows None k = k
-  place_grows (Some (AtRegister r)) k = k
-  place_grows (Some (AtSlot n)) k = more_in (InSlot n) k
-  place_grows (Some (Const c)) k = more_in (OfNumber (word c)) k
+pub items_grow : (old new : List Tracked) (resolve : OperandPair → Option OperandPair) (items : List Item) → Grows old new →
+    KnowsPassedItems (map thing old) resolve items → KnowsPassedItems (map thing new) resolve items
+items_grow old new resolve items g knows k item at =
+    passed_more (known_past (map thing old) (take k items)) (known_past (map thing new) (take k items))
+    (past_more (map thing old) (map thing new) (take k items) (more_in old new g)) resolve item.kind (knows k item at)
 
-  pub passed_grows : (resolve : OperandPair → Option OperandPair) (kind : ItemKind) → KnowsPassed xs resolve kind → KnowsPassed ys resolve kind
-  passed_grows resolve (Code i k) h = (row_grows (row_of i) h.0, h.1)
-  passed_grows resolve (Mark v m) h = value_grows resolve m h
-  passed_grows resolve (Phi p k) h = place_grows p h
+-- of the first so many items
+pub record PassedBelow (known : List path.Tracked) (resolve : OperandPair → Option OperandPair) (items : List Item) (n : ℕ) : Type 0 where
+  pub each : (k : ℕ) (item : Item) → k < n → slice_get items k ≡ Some item → KnowsPassed (known_past known (take k items)) resolve item.kind
+
+pub passed_none : (known : List path.Tracked) (resolve : OperandPair → Option OperandPair) (items : List Item) → PassedBelow known resolve items 0
+passed_none known resolve items = record { each = λ k item lt at. absurd (omega (arith, lt)) }
+
+pub passed_next : (old new : List Tracked) (resolve : OperandPair → Option OperandPair) (items : List Item) (n : ℕ) (item : Item) → Grows old new →
+    PassedBelow (map thing old) resolve items n → n < length items → item ≡ get_or items n item →
+    KnowsPassed (known_past (map thing new) (take n items)) resolve item.kind → PassedBelow (map thing new) resolve items (n + 1)
+passed_next old new resolve items n item g below lt is here = record { each = each } where
+  at_this : slice_get items n ≡ Some item
+  at_this = slice_get_read items (length items) n item refl lt is
+
+  each : (k : ℕ) (x : Item) → k < n + 1 → slice_get items k ≡ Some x → KnowsPassed (known_past (map thing new) (take k items)) resolve x.kind
+  each k x less at = elim (eqb_tells k n) [
+    | inl e ↦
+        let both : Some item ≡ Some x = sym at_this ∙ (ap (slice_get items) (sym e.1) ∙ at) in
+        let same : item ≡ x = cc in
+        subst (λ (m : ℕ). KnowsPassed (known_past (map thing new) (take m items)) resolve x.kind) (sym e.1)
+        (subst (λ (z : Item). KnowsPassed (known_past (map thing new) (take n items)) resolve z.kind) same here)
+    | inr e ↦
+        passed_more (known_past (map thing old) (take k items)) (known_past (map thing new) (take k items))
+        (past_more (map thing old) (map thing new) (take k items) (more_in old new g)) resolve x.kind
+        (below.each k x (let ne = e.1 in omega (arith, less, ne)) at)
+  ]
+
+pub passed_all : (known : List path.Tracked) (resolve : OperandPair → Option OperandPair) (items : List Item) (n : ℕ) → length items ≤ n →
+    PassedBelow known resolve items n → KnowsPassedItems known resolve items
+passed_all known resolve items n le below k item at = below.each k item (let lt = slice_get_within items k item at in omega (arith, lt, le)) at
 
 -- with its part of a variable, all is known of an item
-pub knows_all : (things : List Tracked) (variables : List VarId) (resolve : OperandPair → Option OperandPair) (kind : ItemKind) →
-    ((v : VarId) → Contains variables v → Contains (map thing things) (OfVariable v)) → HasPart variables kind → KnowsPassed things resolve kind →
-    KnowsItem (map thing things) resolve kind
-knows_all things variables resolve (Code i k) parts has h = h
-knows_all things variables resolve (Mark v m) parts has h = (h, parts v has)
-knows_all things variables resolve (Phi p k) parts has h = h
+pub knows_all : (known : List path.Tracked) (variables : List VarId) (resolve : OperandPair → Option OperandPair) (kind : ItemKind) →
+    ((v : VarId) → Contains variables v → Contains known (OfVariable v)) → HasPart variables kind → KnowsPassed known resolve kind →
+    KnowsItem known resolve kind
+knows_all known variables resolve (Code i k) parts has h = h
+knows_all known variables resolve (Mark v m) parts has h = (h, parts v has)
+knows_all known variables resolve (Phi p k) parts has h = h
 
 -- ---- physical registers
 
@@ -371,11 +399,22 @@ module _ (variables : List VarId) (parts registers zero all : TrackedItemSet) (t
   tracked_done gathered = subst AreTracked (sym is) (are_tracked all gathered)
 
   pub knows_done : (resolve : OperandPair → Option OperandPair) (blocks : List Block) → AllItems (λ i. HasPart variables i.kind) blocks →
-      AllItems (λ i. KnowsPassed all.things resolve i.kind) blocks → AllItems (λ i. KnowsItem (map thing things) resolve i.kind) blocks
-  knows_done resolve blocks have passed b block lt k item less =
+      KnowsPassedBlocks (map thing all.things) resolve blocks → KnowsBlocks (map thing things) resolve blocks
+  knows_done resolve blocks have passed b block lt k item at =
+      let items = (get_or blocks b block).items in
+      let within = slice_get_within items k item at in
+      let known = known_past (map thing things) (take k items) in
+      knows_all known variables resolve item.kind
+      (λ v h. past_keeps (map thing things) (take k items) (OfVariable v) (parts_in variables things grows_all v h))
+      (subst (λ (z : Item). HasPart variables z.kind) (get_or_from_slice_get items k item item at) (have b block lt k item within))
+      (subst (λ (z : List Tracked). KnowsPassed (known_past (map thing z) (take k items)) resolve item.kind) (sym is) (passed b block lt k item at))
+
+  pub all_known : (resolve : OperandPair → Option OperandPair) (blocks : List Block) → AllItems (λ i. HasPart variables i.kind) blocks →
+      AllItems (λ i. KnowsPassed (map thing all.things) resolve i.kind) blocks → AllItems (λ i. KnowsItem (map thing things) resolve i.kind) blocks
+  all_known resolve blocks have passed b block lt k item less =
       let kind = (get_or (get_or blocks b block).items k item).kind in
-      knows_all things variables resolve kind (parts_in variables things grows_all) (have b block lt k item less)
-      (subst (λ (z : List Tracked). KnowsPassed z resolve kind) (sym is) (passed b block lt k item less))
+      knows_all (map thing things) variables resolve kind (parts_in variables things grows_all) (have b block lt k item less)
+      (subst (λ (z : List Tracked). KnowsPassed (map thing z) resolve kind) (sym is) (passed b block lt k item less))
 
   pub fewer_variables : length variables ≤ length things
   fewer_variables =

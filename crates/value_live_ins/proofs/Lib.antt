@@ -1,5 +1,6 @@
 pub mod Blocks
 pub mod Changing
+pub mod Defining
 pub mod Each
 pub mod Framing
 pub mod Gathering

@@ -12,13 +12,15 @@ use Rattle.mir_func.specs.declared.variable.VarId.{VarId}
 use Rattle.sem_mir.specs.ValueId.{Tokens}
 use Rattle.sem_value_ids.specs.Pullback as path
 use Rattle.sem_value_ids.specs.Pullback.{InRegister, InSlot, OfPair, OfVariable, OfNumber, token_of, after_items}
-use Rattle.value_proof.specs.Classes.{Classes, IsKnown}
+use Rattle.value_proof.specs.Classes.{Classes, IsKnown, known_past}
+use Rattle.value_proof.proofs.Pairs.{AddsPairs, adds_none, adds_past, known_more}
 use Rattle.value_solver.specs.declared.tracked.Tracked.{Tracked}
 use Rattle.value_solver.specs.declared.tracked.Tracked.TheVariants.{Register, Slot, Pair, Part, Number}
 use Rattle.value_solver.specs.Entry.{thing}
 use Rattle.value_tracker.specs.Things.{AreThings, Settle}
 use Rattle.value_tracker.specs.declared.location_tracker.LocationTracker.{LocationTracker}
 use Rattle.value_tracker.specs.LocationTracker.{Holds}
+use Rattle.value_tracker.proofs.Items.{held_fewer}
 use Rattle.value_live_ins.specs.declared.changes.Tracking.{Tracking}
 use Rattle.value_solver.specs.declared.flow.Source.TheVariants.{Was}
 use Rattle.value_solver.specs.declared.flow.Change.{Change}
@@ -170,11 +172,14 @@ changes_tell resolve things items class changes tracked tell are within = record
   known i (Part v) e = thing_is i (Part v) e
   known i (Number c) e = thing_is i (Number c) e
 
+  past_items : AddsPairs (map thing things) (known_past (map thing things) items)
+  past_items = adds_past (map thing things) (map thing things) items (adds_none (map thing things))
+
   by_thing : (n : ℕ) (t : Tokens) → token_of (InRegister 2) t ≡ None → (i : ℕ) (o : Option Tracked) → slice_get things i ≡ o →
       thing_token (slice_get things i) (after_items resolve n items t) ≡ told things n t (source_from (Was i) changes i)
   by_thing n t none i (Some x) e =
       ap (λ (o : Option Tracked). thing_token o (after_items resolve n items t)) e
-      ∙ tell.each n t none (thing x) (known i x e)
+      ∙ tell.each n t none (thing x) (known_more (map thing things) (known_past (map thing things) items) past_items (thing x) (known i x e))
       ∙ ap (told things n t) (sym (are.each i x e))
   by_thing n t none i None e =
       ap (λ (o : Option Tracked). thing_token o (after_items resolve n items t)) e
@@ -187,8 +192,12 @@ changes_tell resolve things items class changes tracked tell are within = record
 
 pub changes_are : (t : Tracking) (items : List Item) (h : LocationTracker) (result : Result (List Change) AllocError) → AreTracked t.things.now →
     Walked t items h →
-    IfOk result (λ changes. (class : Classes) → Holds t.variables.now t.things.now t.index.now t.settled.now h class → AreChanges t.things.now class changes) →
+    IfOk result (λ changes. (class : Classes) → Holds t.variables.now (map thing t.things.now) t.index.now t.settled.now h class →
+    AreChanges t.things.now class changes) →
     IfOk result (λ changes. AreWithin (length t.things.now) changes) → IfOk result (λ changes. Tells (resolve t.subs.now) t.things.now items changes)
 changes_are t items h (Ok changes) tracked w are within =
-    changes_tell (resolve t.subs.now) t.things.now items w.class changes tracked w.tells (are w.class w.holds) within
+    let things = map thing t.things.now in
+    let held = held_fewer t.variables.now things (known_past things items) t.index.now t.settled.now h w.class
+    (adds_past things things items (adds_none things)) w.holds in
+    changes_tell (resolve t.subs.now) t.things.now items w.class changes tracked w.tells (are w.class held) within
 changes_are t items h (Err e) tracked w are within = tt

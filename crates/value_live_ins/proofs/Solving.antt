@@ -1,23 +1,27 @@
 -- From the flows of all blocks to what the solver asks of them.
-use Rattle.std.proofs.Common.{◌≡◌, ℕ, zero, suc, ◌+◌, ◌<◌, ◌≤◌, List, [], ◌∷◌, ◌++◌, ◌⊎◌, map, length, get_or, refl, sym, ap, ◌∙◌, subst, arith, inl, inr}
+use Rattle.std.proofs.Common.{◌≡◌, ℕ, zero, suc, ◌+◌, ◌<◌, ◌≤◌, List, [], ◌∷◌, ◌++◌, ◌⊎◌, drop, map, take, length, get_or, refl, sym, ap, ◌∙◌, subst, arith, inl, inr}
 use Rattle.std.specs.Prelude.{Contains, All, IfOk, Result, Ok, Err, Option, Some, None, Bool, cond, nat_eq, slice_get}
 use Rattle.std.specs.HashMap.{get}
 use Rattle.std.specs.declared.alloc.AllocError.{AllocError}
 use Rattle.std.proofs.lemmas.Bool.{eq-eqb, ne_eqb}
 use Rattle.std.proofs.lemmas.Bool.Decides.{eqb_tells}
-use Rattle.std.proofs.lemmas.List.{length-append}
-use Rattle.std.proofs.lemmas.Option.{slice_get_within, slice_get-get_or}
+use Rattle.std.proofs.lemmas.List.{length-append, take_more}
+use Rattle.std.proofs.lemmas.Option.{slice_get_within, slice_get-get_or, get_or_from_slice_get}
 use Rattle.mir_func.specs.declared.block.Block.{Block}
 use Rattle.mir_func.specs.declared.debug_substitution.DebugSubstitution.{DebugSubstitution}
 use Rattle.mir_func.specs.declared.variable.VarId.{VarId}
 use Rattle.mir_func.specs.declared.item.Item.{Item}
-use Rattle.mir_func.specs.Graph.{Program, framed_program}
+use Rattle.mir_func.specs.declared.debug_substitution.OperandPair.{OperandPair}
+use Rattle.mir_func.specs.Graph.{Program, Fetch, Here, fetch_in, framed_program}
 use Rattle.mir_func.specs.Resolve.{resolve}
 use Rattle.mir_func.specs.Sound.{AllItems, EndsWell, HasForm}
 use Rattle.mir_func.specs.SoundFrame.{body_of}
 use Rattle.mir_func.specs.Successors.{ways}
-use Rattle.value_proof.specs.Classes.{KnowsItem}
-use Rattle.value_proof.specs.PreferredByClass.{AreThingsOf}
+use Rattle.sem_mir.proofs.Reading.{item_front}
+use Rattle.sem_value_ids.specs.Pullback as path
+use Rattle.value_proof.specs.Classes.{KnowsItem, pairs_of, known_past}
+use Rattle.value_proof.specs.PreferredByClass.{AreEnoughFor, AreThingsOf, pairs_at, known_before}
+use Rattle.value_proof.proofs.Pairs.{past_push}
 use Rattle.value_solver.specs.declared.tracked.Tracked.{Tracked}
 use Rattle.value_solver.specs.declared.entry.BlockEntry.{BlockEntry}
 use Rattle.value_solver.specs.Entry.{thing, IsEntry}
@@ -27,12 +31,13 @@ use Rattle.value_solver.specs.Hands.{AreSoundFlows}
 use Rattle.value_solver.specs.Flows.{AreFlows, IsStart}
 use Rattle.value_tracker.specs.Things.{AreThings}
 use Rattle.value_live_ins.specs.declared.changes.Tracking.{Tracking}
+use Rattle.value_live_ins.specs.Gathering.{KnowsItems, KnowsBlocks}
 use Rattle.value_live_ins.specs.steps.Flowing.{next_id, AreFlowsOf}
 use Rattle.value_live_ins.specs.steps.Framing.{AreBlocks}
 use Rattle.value_live_ins.specs.steps.Ways.{Indices, enter_by, FindsIds, IsFlowAt, FlowsBelow}
 use Rattle.value_live_ins.proofs.Paths.{EndsQuietly}
 use Rattle.value_live_ins.proofs.Quiet.{ends_quietly, onward_quietly}
-use Rattle.value_live_ins.proofs.Blocks.{contains_map, past, flows_are}
+use Rattle.value_live_ins.proofs.Blocks.{contains_map, fetched, past, flows_are}
 use Rattle.value_live_ins.proofs.Framing.{all_at, enters, finds, ways_among, here_in}
 use Rattle.value_live_ins.proofs.Gathering.{is_in, thing_in, push_cases}
 
@@ -42,6 +47,30 @@ map_same f h (n ∷ ns) same =
     let rest = map_same f h ns (λ m (k, lt, e). same m (suc k, omega (arith, lt), e)) in
     let first = same n (zero, omega arith, refl) in
     λ i. first i ∷ rest i
+
+some_item : (items : List Item) (k : ℕ) → k < length items → (item : Item) × (slice_get items k ≡ Some item)
+some_item items k lt = by_get (slice_get items k) refl where
+  by_get : (o : Option Item) → slice_get items k ≡ o → (item : Item) × (slice_get items k ≡ Some item)
+  by_get (Some item) e = (item, e)
+  by_get None e = absurd (let le = past items k e in omega (arith, le, lt))
+
+-- what is known before an item is what is known past the items above it
+known_in : (blocks : List Block) (resolve : OperandPair → Option OperandPair) (things : List path.Tracked) (b : ℕ) (block : Block) →
+    slice_get blocks b ≡ Some block → (k : ℕ) → k ≤ length block.items →
+    known_before (framed_program blocks resolve) things b k ≡ known_past things (take k block.items)
+known_in blocks resolve things b block at zero le = refl
+known_in blocks resolve things b block at (suc k) le =
+    let lt : k < length block.items = omega (arith, le) in
+    let item = some_item block.items k lt in
+    let here : fetch_in (drop b blocks) k ≡ Here item.0 =
+    fetched blocks b block at k ∙ item_front block.items k block.source_end (drop (suc b) blocks) item.0 item.1 in
+    let next : suc k ≡ k + 1 = omega arith in
+    let last : get_or block.items k item.0 ≡ item.0 = get_or_from_slice_get block.items k item.0 item.0 item.1 in
+    let taken : take (suc k) block.items ≡ take k block.items ++ item.0 ∷ [] =
+    ap (λ (n : ℕ). take n block.items) next ∙ (take_more block.items k item.0 lt ∙ ap (λ (z : Item). take k block.items ++ z ∷ []) last) in
+    ap (λ (f : Fetch). pairs_at f ++ known_before (framed_program blocks resolve) things b k) here
+    ∙ (ap (λ (zs : List path.Tracked). pairs_of item.0.kind ++ zs) (known_in blocks resolve things b block at k (omega (arith, le)))
+    ∙ (sym (past_push things (take k block.items) item.0) ∙ sym (ap (known_past things) taken)))
 
 -- the things are those of the program
 pub things_are : (blocks : List Block) (subs : List DebugSubstitution) (variables : List VarId) (things : List Tracked) → AreThings variables things →
@@ -54,6 +83,19 @@ things_are blocks subs variables things are knows = record {
       all_at (λ (i : Item). KnowsItem (map thing things) (resolve subs) i.kind) block.items p.item item
       (all_at (λ (b : Block). All (λ (i : Item). KnowsItem (map thing things) (resolve subs) i.kind) b.items) blocks p.block block knows at)
       stands;
+}
+
+pub things_enough : (blocks : List Block) (subs : List DebugSubstitution) (variables : List VarId) (things : List Tracked) → AreThings variables things →
+    KnowsBlocks (map thing things) (resolve subs) blocks →
+    AreEnoughFor (framed_program blocks (resolve subs)) (map thing things)
+things_enough blocks subs variables things are knows = record {
+  zero = thing_in things _ (is_in things are.zero.0 _ are.zero.1);
+  items = λ p item fetch.
+      let (block, at, stands) = here_in blocks p.block p.item item fetch in
+      let within = slice_get_within block.items p.item item stands in
+      subst (λ (zs : List path.Tracked). KnowsItem zs (resolve subs) item.kind)
+      (sym (known_in blocks (resolve subs) (map thing things) p.block block at p.item (omega (arith, within))))
+      (all_at (λ (b : Block). KnowsItems (map thing things) (resolve subs) b.items) blocks p.block block knows at p.item item stands);
 }
 
 -- ---- what the code of calls tells
@@ -152,7 +194,7 @@ module _ (blocks : List Block) (t : Tracking) (indices : Indices) (flows : List 
     ends [] h e = absurd cc
     ends (p ∷ bs) h e = all_at (λ (z : Block). EndsWell z.items) bs b block h e
 
-  pub are_flows : AreThingsOf g (map thing t.things.now) → AreFlows g t.things.now flows
+  pub are_flows : AreEnoughFor g (map thing t.things.now) → AreFlows g t.things.now flows
   are_flows things = flows_are blocks (resolve t.subs.now) t.things.now flows things are_of quiet
 
   pub sound_flows : AreSoundFlows (length t.things.now) flows

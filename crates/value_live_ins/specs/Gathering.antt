@@ -1,18 +1,20 @@
 -- The list of a function's tracked entities while it is collected.
-use Rattle.std.specs.Prelude.{◌≡◌, ◌↔◌, ◌⊎◌, ℕ, ◌<◌, List, [], ◌∷◌, ◌++◌, map, Contains, Option, None, Some, Bool, true, false, slice_get}
+use Rattle.std.specs.Prelude.{◌≡◌, ◌↔◌, ◌⊎◌, ℕ, ◌<◌, List, [], ◌∷◌, ◌++◌, Contains, All, Option, None, Some, Bool, true, false, slice_get, take}
 use Rattle.std.specs.HashSet.{contains}
 use Rattle.rv64_instr.specs.declared.place.Place.{Place}
 use Rattle.rv64_instr.specs.declared.place.Place.TheVariants.{Register as InRegister, Slot as InSlot, Const}
 use Rattle.rv64_instr.specs.Row.{Row, row_of}
 use Rattle.rv64_instr.specs.View.{Access, SlotAccess, access_of}
+use Rattle.mir_func.specs.declared.block.Block.{Block}
 use Rattle.mir_func.specs.declared.debug_substitution.OperandPair.{OperandPair}
+use Rattle.mir_func.specs.declared.item.Item.{Item}
 use Rattle.mir_func.specs.declared.item.ItemKind.{ItemKind}
 use Rattle.mir_func.specs.declared.item.ItemKind.TheVariants.{Code, Mark, Phi}
 use Rattle.mir_func.specs.declared.variable.VarId.{VarId}
-use Rattle.value_proof.specs.Classes.{KnowsItem, KnowsValue, KnowsPlace}
+use Rattle.sem_value_ids.specs.Pullback.{Tracked as Entity}
+use Rattle.value_proof.specs.Classes.{KnowsItem, KnowsValue, KnowsPlace, known_past}
 use Rattle.value_solver.specs.declared.tracked.Tracked.{Tracked}
 use Rattle.value_solver.specs.declared.tracked.Tracked.TheVariants.{Register, Slot, Pair, Part, Number}
-use Rattle.value_solver.specs.Entry.{thing}
 use Rattle.value_tracker.specs.Things.{IsOffset}
 use Rattle.value_live_ins.specs.declared.gather.TrackedItemSet.{TrackedItemSet}
 use Rattle.value_live_ins.specs.Keys.{key_of, is_key}
@@ -90,11 +92,28 @@ HasOffsets (Code i k) = RowHasOffset (row_of i)
 HasOffsets (Mark v m) = Unit {0}
 HasOffsets (Phi p k) = PlaceHasOffset p
 
--- the entities that an item copies are listed. The part of a variable that a debug value assigns needn't be
-abbrev pub KnowsPassed : List Tracked → (OperandPair → Option OperandPair) → ItemKind → Type 0
-KnowsPassed things resolve (Code i k) = KnowsItem (map thing things) resolve (Code i k)
-KnowsPassed things resolve (Mark v m) = KnowsValue (map thing things) resolve m
-KnowsPassed things resolve (Phi p k) = KnowsPlace (map thing things) p
+-- the entities that an item copies are known. The part of a variable that a debug value assigns needn't be
+abbrev pub KnowsPassed : List Entity → (OperandPair → Option OperandPair) → ItemKind → Type 0
+KnowsPassed known resolve (Code i k) = KnowsItem known resolve (Code i k)
+KnowsPassed known resolve (Mark v m) = KnowsValue known resolve m
+KnowsPassed known resolve (Phi p k) = KnowsPlace known p
+
+-- the entities that each of these items copies are known before it, where the list is known before the first
+abbrev pub KnowsPassedItems : List Entity → (OperandPair → Option OperandPair) → List Item → Type 0
+KnowsPassedItems known resolve items = (k : ℕ) (item : Item) → slice_get items k ≡ Some item →
+    KnowsPassed (known_past known (take k items)) resolve item.kind
+
+-- the same, and of each of them the part of a variable that it assigns, if it is a debug value
+abbrev pub KnowsItems : List Entity → (OperandPair → Option OperandPair) → List Item → Type 0
+KnowsItems known resolve items = (k : ℕ) (item : Item) → slice_get items k ≡ Some item →
+    KnowsItem (known_past known (take k items)) resolve item.kind
+
+-- the same of the items of each block
+abbrev pub KnowsPassedBlocks : List Entity → (OperandPair → Option OperandPair) → List Block → Type 0
+KnowsPassedBlocks known resolve blocks = All (λ b. KnowsPassedItems known resolve b.items) blocks
+
+abbrev pub KnowsBlocks : List Entity → (OperandPair → Option OperandPair) → List Block → Type 0
+KnowsBlocks known resolve blocks = All (λ b. KnowsItems known resolve b.items) blocks
 
 -- the part of a variable that the item assigns, if it is a debug value, is one of these
 abbrev pub HasPart : List VarId → ItemKind → Type 0

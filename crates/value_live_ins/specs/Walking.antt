@@ -6,7 +6,7 @@ use Rattle.mir_func.specs.Resolve.{resolve}
 use Rattle.sem_mir.specs.ValueId.{Tokens}
 use Rattle.sem_value_ids.specs.Pullback as path
 use Rattle.sem_value_ids.specs.Pullback.{InRegister, token_of, after_items}
-use Rattle.value_proof.specs.Classes.{Classes, IsKnown}
+use Rattle.value_proof.specs.Classes.{Classes, IsKnown, known_past}
 use Rattle.value_solver.specs.declared.tracked.Tracked.{Tracked}
 use Rattle.value_solver.specs.declared.tracked.Tracked.TheVariants.{Register}
 use Rattle.value_solver.specs.Entry.{thing}
@@ -49,16 +49,18 @@ abbrev pub decoded : (n class : ℕ) → Source
 decoded n zero = Nameless
 decoded n (suc c) = cond (nat_lt c n) (Was c) (new_of (c - n))
 
--- past these items the token of each known entity is that of the source that its class encodes, if x2 has no token before them
+-- past these items the token of each known entity, and of each pair that they define, is that of the source that its class encodes,
+-- if x2 has no token before them
 pub record ClassesTell (resolve : OperandPair → Option OperandPair) (things : List Tracked) (items : List Item) (class : Classes) : Type 0 where
-  pub each : (n : ℕ) (t : Tokens) → token_of (InRegister 2) t ≡ None → (x : path.Tracked) → IsKnown (map thing things) x →
+  pub each : (n : ℕ) (t : Tokens) → token_of (InRegister 2) t ≡ None → (x : path.Tracked) →
+      IsKnown (known_past (map thing things) items) x →
       token_of x (after_items resolve n items t) ≡ told things n t (decoded (length things) (class x))
-  pub below : (x : path.Tracked) → IsKnown (map thing things) x → class x < length things + 1 + 32 * length items
+  pub below : (x : path.Tracked) → IsKnown (known_past (map thing things) items) x → class x < length things + 1 + 32 * length items
 
 -- the tracker's state past these items holds such classes
 pub record Walked (t : Tracking) (items : List Item) (h : LocationTracker) : Type 0 where
   pub class : Classes
-  pub holds : Holds t.variables.now t.things.now t.index.now t.settled.now h class
+  pub holds : Holds t.variables.now (known_past (map thing t.things.now) items) t.index.now t.settled.now h class
   pub tells : ClassesTell (resolve t.subs.now) t.things.now items class
 
 -- the source of each entity by the changes is the one that its class encodes

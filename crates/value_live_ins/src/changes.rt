@@ -5,7 +5,8 @@ ghost use Rattle.std.specs.HashMap.{get};
 ghost use Rattle.mir_func.specs.Resolve.{resolve};
 ghost use Rattle.mir_func.specs.Sound.{HasForm};
 ghost use Rattle.mir_substitution.specs.Index.{is_key};
-ghost use Rattle.value_proof.specs.Classes.{Classes, KnowsItem};
+ghost use Rattle.value_proof.specs.Classes.{Classes};
+ghost use Rattle.value_live_ins.specs.Gathering.{KnowsItems};
 ghost use Rattle.value_solver.specs.Entry.{thing as name_of};
 ghost use Rattle.value_tracker.specs.Things.{AreThings, Indexes};
 ghost use Rattle.value_tracker.specs.LocationTracker.{PLACES, Holds, Passes, given_or};
@@ -62,8 +63,7 @@ pub fn own_classes(alloc: Global, count: usize) -> Result<Vec<usize>, AllocError
 /// The changes of a block with these items. The error is out of memory.
 pub fn changes_of(alloc: Global, tracking: &Tracking, items: &[Item]) -> Result<Changes, AllocError>
     requires tracking { IsTracking tracking.now }
-    requires knows { All (λ i. KnowsItem (map name_of tracking.now.things.now) (resolve tracking.now.subs.now) i.kind)
-        items.now }
+    requires knows { KnowsItems (map name_of tracking.now.things.now) (resolve tracking.now.subs.now) items.now }
     ensures tells { IfOk result (λ changes.
         Tells (resolve tracking.now.subs.now) tracking.now.things.now items.now changes) }
     ensures within { IfOk result (λ changes. AreWithin (length tracking.now.things.now) changes) }
@@ -90,8 +90,7 @@ fn pass_items(
     requires things { AreTracked tracking.now.things.now }
     requires places { length held.old.places.items ≡ PLACES }
     requires parts { length held.old.parts.items ≡ length tracking.now.variables.now }
-    requires knows { All (λ i. KnowsItem (map name_of tracking.now.things.now) (resolve tracking.now.subs.now) i.kind)
-        items.now }
+    requires knows { KnowsItems (map name_of tracking.now.things.now) (resolve tracking.now.subs.now) items.now }
     requires walked { Walked tracking.now [] held.old }
     ensures walked { OnOk result (Walked tracking.now items.now held.new) }
     ensures parts { OnOk result (length held.new.parts.items ≡ length tracking.now.variables.now) }
@@ -112,8 +111,8 @@ fn pass_items(
 fn pass(held: &mut LocationTracker, tracking: &Tracking, kind: &ItemKind) -> Result<(), AllocError>
     requires places { length held.old.places.items ≡ PLACES }
     requires parts { length held.old.parts.items ≡ length tracking.now.variables.now }
-    ensures passes { OnOk result (Passes tracking.now.variables.now tracking.now.things.now tracking.now.index.now
-        tracking.now.settled.now (resolve tracking.now.subs.now) held.old held.new kind.now) }
+    ensures passes { OnOk result (Passes tracking.now.variables.now tracking.now.index.now tracking.now.settled.now
+        (resolve tracking.now.subs.now) held.old held.new kind.now) }
     ensures places { OnOk result (length held.new.places.items ≡ PLACES) }
     ensures parts { OnOk result (length held.new.parts.items ≡ length tracking.now.variables.now) }
     ensures form { HasForm kind.now }
@@ -153,8 +152,8 @@ fn changes(
     requires index { Indexes tracking.now.things.now tracking.now.index.now }
     requires parts { length held.now.parts.items ≡ length tracking.now.variables.now }
     ensures changes { IfOk result (λ changes. (class : Classes) →
-        Holds tracking.now.variables.now tracking.now.things.now tracking.now.index.now tracking.now.settled.now
-        held.now class → AreChanges tracking.now.things.now class changes) }
+        Holds tracking.now.variables.now (map name_of tracking.now.things.now) tracking.now.index.now
+        tracking.now.settled.now held.now class → AreChanges tracking.now.things.now class changes) }
     ensures within { IfOk result (λ changes. AreWithin (length tracking.now.things.now) changes) }
 {
     let count = tracking.things.len();
@@ -178,8 +177,8 @@ fn class_of(held: &LocationTracker, tracking: &Tracking, j: usize, thing: &Track
     requires things { AreThings tracking.now.variables.now tracking.now.things.now }
     requires index { Indexes tracking.now.things.now tracking.now.index.now }
     requires parts { length held.now.parts.items ≡ length tracking.now.variables.now }
-    ensures { (class : Classes) → Holds tracking.now.variables.now tracking.now.things.now tracking.now.index.now
-        tracking.now.settled.now held.now class → result ≡ class (name_of thing.now) }
+    ensures { (class : Classes) → Holds tracking.now.variables.now (map name_of tracking.now.things.now)
+        tracking.now.index.now tracking.now.settled.now held.now class → result ≡ class (name_of thing.now) }
 {
     match thing {
         Tracked::Register(r) => held.register(*r),

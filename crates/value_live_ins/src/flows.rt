@@ -2,11 +2,10 @@
 
 ghost use Rattle.std.specs.Prelude.{◌≡◌, ◌<◌, IfOk, length, map};
 ghost use Rattle.mir_func.specs.Resolve.{resolve};
-ghost use Rattle.mir_func.specs.Sound.{AllItems};
 ghost use Rattle.mir_func.specs.Successors.{ways};
-ghost use Rattle.value_proof.specs.Classes.{KnowsItem};
 ghost use Rattle.value_solver.specs.Entry.{thing};
 ghost use Rattle.value_live_ins.specs.steps.Flowing.{next_id};
+ghost use Rattle.value_live_ins.specs.Gathering.{KnowsBlocks};
 ghost use Rattle.value_live_ins.specs.Walking.{IsTracking};
 ghost use Rattle.value_live_ins.specs.steps.Ways.{FlowsBelow, IsFlowAt};
 
@@ -36,8 +35,7 @@ fn flow_of(
 ) -> Result<Flow, AllocError>
     requires block { b < length blocks.now }
     requires tracking { IsTracking tracking.now }
-    requires knows { AllItems
-        (λ i. KnowsItem (map thing tracking.now.things.now) (resolve tracking.now.subs.now) i.kind) blocks.now }
+    requires knows { KnowsBlocks (map thing tracking.now.things.now) (resolve tracking.now.subs.now) blocks.now }
     ensures { IfOk result (IsFlowAt tracking.now indices.now blocks.now b) }
 {
     let items = blocks[b].items.as_slice();
@@ -54,8 +52,7 @@ pub fn flows_of(
     blocks: &[Block],
 ) -> Result<Vec<Flow>, AllocError>
     requires tracking { IsTracking tracking.now }
-    requires knows { AllItems
-        (λ i. KnowsItem (map thing tracking.now.things.now) (resolve tracking.now.subs.now) i.kind) blocks.now }
+    requires knows { KnowsBlocks (map thing tracking.now.things.now) (resolve tracking.now.subs.now) blocks.now }
     ensures { IfOk result (λ flows. FlowsBelow tracking.now indices.now blocks.now (length blocks.now) flows.items) }
 {
     let mut flows = Vec::with_capacity(alloc, blocks.len())?;

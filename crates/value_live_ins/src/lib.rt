@@ -4,6 +4,7 @@
 //! at the start, a new token, or none. The solver then computes the entries of all blocks, exact over all paths.
 #![tactic(auto)]
 
+mod above;
 mod changes;
 mod flows;
 mod gather;

@@ -122,7 +122,7 @@ impl TrackedItemSet {
         ensures gathered { OnOk result (IsGathered self.new) }
         ensures grows { OnOk result (Grows self.old.things self.new.things) }
         ensures only { OnOk result (AppendsOnly (Names (resolve subs.now) kind.now) self.old.things self.new.things) }
-        ensures knows { OnOk result (KnowsPassed self.new.things (resolve subs.now) kind.now) }
+        ensures knows { OnOk result (KnowsPassed (map thing self.new.things) (resolve subs.now) kind.now) }
     {
         match kind {
             ItemKind::Code(instr, _) => self.note_code(instr),

@@ -1,15 +1,15 @@
 //! The live-in values of all blocks of a function with its frame.
 
-ghost use Rattle.std.specs.Prelude.{◌≡◌, ◌≤◌, ◌<◌, ◌+◌, ◌*◌, ℕ, IfOk, [], length, map, slice_get, All, Contains, Some};
+ghost use Rattle.std.specs.Prelude.{◌≡◌, ◌≤◌, ◌<◌, ◌+◌, ◌*◌, ℕ, IfOk, IsTrue, [], length, map, slice_get, All, Contains, Some};
 ghost use Rattle.mir_func.specs.Graph.{framed_program};
 ghost use Rattle.mir_func.specs.Resolve.{resolve};
 ghost use Rattle.value_solver.specs.declared.entry.BlockEntry.{BlockEntry};
 ghost use Rattle.value_solver.specs.declared.tracked.Tracked.TheVariants.{Pair};
 ghost use Rattle.value_solver.specs.Entry.{thing, IsEntry};
-ghost use Rattle.value_proof.specs.Classes.{KnowsItem};
-ghost use Rattle.mir_func.specs.Sound.{AllItems};
+ghost use Rattle.value_proof.specs.PreferredByClass.{AreThingsOf};
+ghost use Rattle.value_live_ins.specs.Gathering.{KnowsBlocks};
 ghost use Rattle.value_live_ins.specs.steps.Framing.{AreBlocks};
-ghost use Rattle.value_live_ins.specs.Known.{AreMachineValues};
+ghost use Rattle.value_live_ins.specs.Known.{AreMachineValues, AreValuesForLists};
 ghost use Rattle.value_live_ins.specs.Walking.{AreTracked};
 ghost use Rattle.value_tracker.specs.Things.{AreThings};
 
@@ -61,7 +61,7 @@ fn solve_over(
     requires things { AreThings variables.now things.now }
     requires tracked { AreTracked things.now }
     requires variables { length variables.now ≤ length things.now }
-    requires knows { AllItems (λ i. KnowsItem (map thing things.now) (resolve subs.now) i.kind) blocks.now }
+    requires knows { KnowsBlocks (map thing things.now) (resolve subs.now) blocks.now }
     ensures entries { IfOk result (λ s. (b : ℕ) (e : BlockEntry) → slice_get s.entries b ≡ Some e →
         IsEntry (framed_program blocks.now (resolve subs.now)) things.now b e) }
     ensures for_all { IfOk result (λ s. length s.entries ≡ length blocks.now) }
@@ -80,6 +80,34 @@ fn solve_over(
     let flows = flows_of(alloc, &tracking, &indices, blocks)?;
     let start = start_entry(alloc, things)?;
     solve_flows(alloc, &start, flows.as_slice())
+}
+
+/// The live-in values of each block; without `whole` no pairs are tracked that items above define in the same block.
+fn solve_things(
+    alloc: Global,
+    framed: &Framed,
+    subs: &Substitutions,
+    asked: &[OperandPair],
+    whole: bool,
+) -> Result<MachineValues, AllocError>
+    ensures values { IfOk result (AreValuesForLists framed.now.blocks (resolve subs.now) asked.now) }
+    ensures whole { IfOk result (λ v. IsTrue whole →
+        AreThingsOf (framed_program framed.now.blocks (resolve subs.now)) (map thing v.things)) }
+    ensures asked { IfOk result (λ v. All (λ q. Contains v.things (Pair q)) asked.now) }
+{
+    let blocks = framed.blocks.as_slice();
+    let TrackedValues { variables, things } = things_of(alloc, blocks, subs, asked, whole)?;
+    if things.len() >= MOST || blocks.len() >= MOST {
+        return Err(AllocError);
+    }
+    let solved = solve_over(alloc, blocks, subs, variables.as_slice(), things.as_slice())?;
+    let Solved { entries, sweeps } = solved;
+    Ok(MachineValues {
+        variables,
+        things,
+        entries,
+        sweeps,
+    })
 }
 
 /// The live-in values of each block of a function with its frame, over all paths. Debug values refer to pairs through
@@ -104,17 +132,19 @@ pub fn solve_asking(
     ensures values { IfOk result (AreMachineValues framed.now.blocks (resolve subs.now) asked.now) }
     ensures asked { IfOk result (λ v. All (λ q. Contains v.things (Pair q)) asked.now) }
 {
-    let blocks = framed.blocks.as_slice();
-    let TrackedValues { variables, things } = things_of(alloc, blocks, subs, asked)?;
-    if things.len() >= MOST || blocks.len() >= MOST {
-        return Err(AllocError);
-    }
-    let solved = solve_over(alloc, blocks, subs, variables.as_slice(), things.as_slice())?;
-    let Solved { entries, sweeps } = solved;
-    Ok(MachineValues {
-        variables,
-        things,
-        entries,
-        sweeps,
-    })
+    let values = solve_things(alloc, framed, subs, asked, true)?;
+    Ok(values)
+}
+
+/// The same as `solve`, as far as location lists need it: a pair isn't tracked if debug values refer to it only below
+/// items of their own block that define it. There an item's location tells its value. The error is out of memory.
+pub fn solve_for_lists(
+    alloc: Global,
+    framed: &Framed,
+    subs: &Substitutions,
+) -> Result<MachineValues, AllocError>
+    ensures { IfOk result (AreValuesForLists framed.now.blocks (resolve subs.now) []) }
+{
+    let values = solve_things(alloc, framed, subs, &[], false)?;
+    Ok(values)
 }

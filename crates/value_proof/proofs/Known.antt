@@ -1,6 +1,6 @@
 -- A number's token on a path is that of a number which an item gives, or of 0. By induction over the path: what has it after an
 -- item had it before, or the item gives it.
-use Rattle.std.proofs.Common.{◌≡◌, ℕ, zero, suc, List, [], ◌∷◌, refl, sym, ap, ◌∙◌, subst, inl, inr, arith}
+use Rattle.std.proofs.Common.{◌≡◌, ℕ, zero, suc, List, [], ◌∷◌, ◌++◌, refl, sym, ap, ◌∙◌, subst, inl, inr, arith}
 use Rattle.std.proofs.lemmas.Bool.Decides.{nat_tests, eqb_tells}
 use Rattle.std.specs.Prelude.{Option, Some, None, Contains, Bool, true, false, cond, nat_lt, not, ◌&&◌, nat_eq, ◌⊎◌}
 use Rattle.std.specs.List.{list_any}
@@ -40,29 +40,33 @@ use Rattle.sem_value_ids.specs.Pullback.{
 }
 use Rattle.sem_value_ids.proofs.Backwards.{tokens_pull_back}
 use Rattle.value_proof.specs.Classes.{IsKnown, KnowsRow, KnowsItem}
-use Rattle.value_proof.specs.PreferredByClass.{AreThingsOf}
-use Rattle.value_proof.proofs.Passing.{Knows, known_back}
+use Rattle.value_proof.specs.PreferredByClass.{AreEnoughFor, pairs_at, known_before}
+use Rattle.value_proof.proofs.Pairs.{AddsPairs, adds_before, known_more, known_onward}
+use Rattle.value_proof.proofs.Passing.{Knows, known_past_item}
 
--- a number's token is held by what has a class only if the number has one
-abbrev pub OnlyKnown : (things : List Tracked) → Tokens → Type 0
-OnlyKnown things t = (x : Tracked) (c : ℕ) → IsKnown things x → token_of x t ≡ Some (Fixed c) → Contains things (OfNumber c)
+-- a number's token is held by what is known only if the number is one of the things
+abbrev pub OnlyKnown : (known things : List Tracked) → Tokens → Type 0
+OnlyKnown known things t = (x : Tracked) (c : ℕ) → IsKnown known x → token_of x t ≡ Some (Fixed c) → Contains things (OfNumber c)
 
-known_entry : (things : List Tracked) → Contains things (OfNumber 0) → OnlyKnown things entry_tokens
-known_entry things h (InRegister zero) c k e = let is : 0 ≡ c = cc in subst (λ (m : ℕ). Contains things (OfNumber m)) is h
-known_entry things h (InRegister (suc r)) c k e = absurd (by_test (nat_lt (suc r) 32 && not (nat_eq (suc r) 2)) e) where
+known_entry : (known things : List Tracked) → AddsPairs things known → Contains things (OfNumber 0) → OnlyKnown known things entry_tokens
+known_entry known things a h (InRegister zero) c k e = let is : 0 ≡ c = cc in subst (λ (m : ℕ). Contains things (OfNumber m)) is h
+known_entry known things a h (InRegister (suc r)) c k e = absurd (by_test (nat_lt (suc r) 32 && not (nat_eq (suc r) 2)) e) where
   by_test : (b : Bool) → cond b (Some (Entry (suc r))) None ≡ Some (Fixed c) → ⊥
   by_test true e = cc
   by_test false e = cc
-known_entry things h (InSlot n) c k e = cc
-known_entry things h (OfPair m o) c k e = cc
-known_entry things h (OfVariable v) c k e = cc
-known_entry things h (OfNumber d) c k e = let is : d ≡ c = cc in subst (λ (m : ℕ). Contains things (OfNumber m)) is k
+known_entry known things a h (InSlot n) c k e = cc
+known_entry known things a h (OfPair m o) c k e = cc
+known_entry known things a h (OfVariable v) c k e = cc
+known_entry known things a h (OfNumber d) c k e =
+    let is : d ≡ c = cc in
+    subst (λ (m : ℕ). Contains things (OfNumber m)) is (a.only (OfNumber d) tt k)
 
-known_before : (things : List Tracked) (n : ℕ) (t : Tokens) (b : Back) (c : ℕ) → OnlyKnown things t → Knows things b → token_back n t b ≡ Some (Fixed c) →
+number_before : (known things : List Tracked) (n : ℕ) (t : Tokens) (b : Back) (c : ℕ) → OnlyKnown known things t → Knows known b →
+    token_back n t b ≡ Some (Fixed c) →
     Contains things (OfNumber c)
-known_before things n t (Was y) c only k e = only y c k e
-known_before things n t (New i r) c only k e = cc
-known_before things n t Nameless c only k e = cc
+number_before known things n t (Was y) c only k e = only y c k e
+number_before known things n t (New i r) c only k e = cc
+number_before known things n t Nameless c only k e = cc
 
 -- ---- x2, and slots and parts of variables that have no class, have no token on any path
 
@@ -143,24 +147,44 @@ bare_entry things _ pointer = refl
 bare_entry things _ (slot n bare) = refl
 bare_entry things _ (variable v bare) = refl
 
-module _ (g : Program) (things : List Tracked) (are : AreThingsOf g things) where
-  known_after : (n : ℕ) (p : Pos) (f : Fetch) (t : Tokens) → g.fetch p ≡ f → OnlyKnown things t → OnlyKnown things (after_fetch g.resolve n f t)
-  known_after n p (Here item) t here only = λ x c k e.
-      known_before things n t (back g.resolve 0 item.kind x) c only (known_back things g.resolve item.kind x (are.items p item here) k)
+-- what is bare stays so with pairs
+bare_with : (things known : List Tracked) → AddsPairs things known → (x : Tracked) → IsBare things x → IsBare known x
+bare_with things known a _ pointer = pointer
+bare_with things known a _ (slot n bare) = slot n (λ h. bare (a.only (InSlot n) tt h))
+bare_with things known a _ (variable v bare) = variable v (λ h. bare (a.only (OfVariable v) tt h))
+
+module _ (g : Program) (things : List Tracked) (are : AreEnoughFor g things) where
+  abbrev known_at : Pos → List Tracked
+  known_at p = known_before g things p.block p.item
+
+  adds : (p : Pos) → AddsPairs things (known_at p)
+  adds p = adds_before g things p.block p.item
+
+  known_after : (n : ℕ) (p q : Pos) (f : Fetch) (t : Tokens) → g.fetch p ≡ f →
+      ((x : Tracked) → IsKnown (known_at q) x → IsKnown (pairs_at f ++ known_at p) x) → OnlyKnown (known_at p) things t →
+      OnlyKnown (known_at q) things (after_fetch g.resolve n f t)
+  known_after n p q (Here item) t here from only = λ x c k e.
+      number_before (known_at p) things n t (back g.resolve 0 item.kind x) c only
+      (known_past_item (known_at p) g.resolve item.kind x (are.items p item here) (from x k))
       (sym (tokens_pull_back g.resolve n (item ∷ []) t x) ∙ e)
-  known_after n p (EndOfBlock k m) t here only = only
-  known_after n p Outside t here only = only
+  known_after n p q (EndOfBlock k m) t here from only = λ x c j e. only x c (from x j) e
+  known_after n p q Outside t here from only = λ x c j e. only x c (from x j) e
 
   bare_after : (n : ℕ) (p : Pos) (f : Fetch) (t : Tokens) → g.fetch p ≡ f → NoneIsBare things t → NoneIsBare things (after_fetch g.resolve n f t)
   bare_after n p (Here item) t here none = λ x bare.
       tokens_pull_back g.resolve n (item ∷ []) t x
-      ∙ bare_before n t x (back g.resolve 0 item.kind x) (none x bare) (bare_stays things g.resolve item.kind x (are.items p item here) bare)
+      ∙ bare_before n t x (back g.resolve 0 item.kind x) (none x bare)
+      (bare_stays (known_at p) g.resolve item.kind x (are.items p item here) (bare_with things (known_at p) (adds p) x bare))
   bare_after n p (EndOfBlock k m) t here none = none
   bare_after n p Outside t here none = none
 
-  pub path_knows : {start : Pos} {n : ℕ} {p : Pos} {t : Tokens} → Path g start n p t → OnlyKnown things t
-  path_knows begin = known_entry things are.zero
-  path_knows (onward {n = n} {p = p} {t = t} path edge) = known_after n p (g.fetch p) t refl (path_knows path)
+  path_knows_pairs : {start : Pos} {n : ℕ} {p : Pos} {t : Tokens} → Path g start n p t → OnlyKnown (known_at p) things t
+  path_knows_pairs {start = start} begin = known_entry (known_at start) things (adds start) are.zero
+  path_knows_pairs (onward {n = n} {p = p} {q = q} {t = t} path edge) =
+      known_after n p q (g.fetch p) t refl (known_onward g things p q edge) (path_knows_pairs path)
+
+  pub path_knows : {start : Pos} {n : ℕ} {p : Pos} {t : Tokens} → Path g start n p t → OnlyKnown things things t
+  path_knows {p = p} path = λ x c k e. path_knows_pairs path x c (known_more things (known_at p) (adds p) x k) e
 
   pub path_bare : {start : Pos} {n : ℕ} {p : Pos} {t : Tokens} → Path g start n p t → NoneIsBare things t
   path_bare begin = bare_entry things

@@ -1,6 +1,7 @@
 -- Classes past an item. A path to the position below comes by the item, so sharing pulls back to before it; there the classes
 -- tell it, and a token that the item makes is none that was there.
-use Rattle.std.proofs.Common.{◌≡◌, ◌≢◌, ℕ, zero, suc, ◌+◌, ◌<◌, List, [], ◌∷◌, refl, sym, ap, ◌∙◌, subst, arith, inl, inr, eqb-true}
+use Rattle.std.proofs.Common.{◌≡◌, ◌≢◌, ℕ, zero, suc, ◌+◌, ◌<◌, List, [], ◌∷◌, ◌++◌, refl, sym, ap, ◌∙◌, subst, arith, inl, inr, eqb-true, eq-eqb}
+use Rattle.std.proofs.lemmas.List.Elements.{Contains-append_cases}
 use Rattle.std.specs.Prelude.{◌↔◌, Contains, Option, Some, None, Bool, true, false, cond, nat_eq, slice_get}
 use Rattle.std.specs.List.{list_any}
 use Rattle.rv64_instr.specs.declared.place.Place.{Place}
@@ -49,9 +50,11 @@ use Rattle.value_proof.specs.Classes.{
   KnowsPlace,
   DefinePhysical,
   KnowsItem,
+  pairs_of,
   ClassesPassItems,
   PathsComeFromAbove,
 }
+use Rattle.value_proof.proofs.Pairs.{AddsPairs, Defines, defined_pair, known_more, old_item}
 
 -- ---- only the item above leads below
 
@@ -216,6 +219,32 @@ module _ (things : List Tracked) where
   known_back resolve (Mark v m) x k kx = known_mark resolve v m x k.0 kx
   known_back resolve (Phi p j) x k kx = known_phi p j x k kx
 
+  -- a pair that the item defines
+  known_defined : (resolve : OperandPair → Option OperandPair) (kind : ItemKind) (k o : ℕ) → KnowsItem things resolve kind → Defines kind k o →
+      Knows things (back resolve 0 kind (OfPair k o))
+  known_defined resolve (Code i (Some j)) k o knows d =
+      let given = given_back 0 (row_of i) (defined (is_call (row_of i)) (slice_get i.operands o)) (OfPair k o) in
+      subst (λ (b : Bool). Knows things (cond b given (Was (OfPair k o)))) (sym (eq-eqb k j d.0))
+      (subst (λ (z : Option ℕ). Knows things (given_back 0 (row_of i) z (OfPair k o))) (sym d.2)
+      (known_register (row_of i) d.1 knows.0 (knows.1 o d.1 d.2)))
+  known_defined resolve (Code i None) k o knows d = absurd d
+  known_defined resolve (Mark v m) k o knows d = absurd d
+  known_defined resolve (Phi p j) k o knows d =
+      subst (λ (b : Bool). Knows things (cond b (cond (nat_eq o 0) (back_place p) (Was (OfPair k o))) (Was (OfPair k o)))) (sym (eq-eqb k j d.0))
+      (subst (λ (b : Bool). Knows things (cond b (back_place p) (Was (OfPair k o)))) (sym (eq-eqb o 0 d.1)) (known_place p knows))
+
+  -- what is known past the item
+  pub known_past_item : (resolve : OperandPair → Option OperandPair) (kind : ItemKind) (x : Tracked) → KnowsItem things resolve kind →
+      IsKnown (pairs_of kind ++ things) x → Knows things (back resolve 0 kind x)
+  known_past_item resolve kind (InRegister r) k kx = known_back resolve kind (InRegister r) k kx
+  known_past_item resolve kind (InSlot n) k kx = known_back resolve kind (InSlot n) k (old_item things kind (InSlot n) tt kx)
+  known_past_item resolve kind (OfPair j o) k kx = elim (Contains-append_cases (pairs_of kind) things (OfPair j o) kx) [
+    | inl pair ↦ known_defined resolve kind j o k (defined_pair kind j o pair)
+    | inr old ↦ known_back resolve kind (OfPair j o) k old
+  ]
+  known_past_item resolve kind (OfVariable v) k kx = known_back resolve kind (OfVariable v) k (old_item things kind (OfVariable v) tt kx)
+  known_past_item resolve kind (OfNumber c) k kx = known_back resolve kind (OfNumber c) k (old_item things kind (OfNumber c) tt kx)
+
 -- ---- classes after the item, by what stood before it
 
 module _ (g : Program) (start p : Pos) (things : List Tracked) (class : Classes) (fresh : ℕ → ℕ) (are : AreClasses g start p things class)
@@ -261,7 +290,7 @@ module _ (g : Program) (start p : Pos) (item : Item) (here : g.fetch p ≡ Here 
       subst (λ (z : Tokens). Share (token_of x z) (token_of y z)) (sym passed) after
 
 pub classes_pass_items : ClassesPassItems
-classes_pass_items g start p things class fresh item first are here edge knows new = record {
+classes_pass_items g start p known class fresh item first are here edge knows new = record {
   reached = (
     suc are.reached.0,
     after_item g.resolve are.reached.0 item.kind are.reached.1,
@@ -269,8 +298,16 @@ classes_pass_items g start p things class fresh item first are here edge knows n
         are.reached.1 are.reached.2,
   );
   one = λ x y kx ky.
-      let kb = known_back things g.resolve item.kind x knows kx in
-      let kc = known_back things g.resolve item.kind y knows ky in
-      let both = backs_one g start p things class fresh are new (back g.resolve 0 item.kind x) (back g.resolve 0 item.kind y) kb kc in
+      let kb = known_past_item known g.resolve item.kind x knows kx in
+      let kc = known_past_item known g.resolve item.kind y knows ky in
+      let both = backs_one g start p known class fresh are new (back g.resolve 0 item.kind x) (back g.resolve 0 item.kind y) kb kc in
       (λ h. share_back g start p item here edge first x y (both.0 h), λ s. both.1 (share_on g start p item here edge first x y s));
+}
+
+-- what holds of classes with pairs holds without them
+pub classes_fewer : (g : Program) (start p : Pos) (things known : List Tracked) (class : Classes) → AddsPairs things known →
+    AreClasses g start p known class → AreClasses g start p things class
+classes_fewer g start p things known class a are = record {
+  reached = are.reached;
+  one = λ x y kx ky. are.one x y (known_more things known a x kx) (known_more things known a y ky);
 }

@@ -11,7 +11,7 @@ use Rattle.sem_mir.specs.ValueId.{Fixed, Tokens, place_token, variable_token}
 use Rattle.sem_mir.specs.PreferredLocation.{IsPlace, SitsIn}
 use Rattle.sem_value_ids.specs.Pullback.{Tracked, InSlot, OfVariable, token_of}
 use Rattle.value_proof.specs.Classes.{Classes, IsKnown, ShareOnPaths, AreClasses}
-use Rattle.value_proof.specs.PreferredByClass.{thing_at, HasItsClass, IsFirstByClass, IsWantedOrNone, AreThingsOf, FirstByClassIsWanted, UnmarkedIsNowhere}
+use Rattle.value_proof.specs.PreferredByClass.{thing_at, HasItsClass, IsFirstByClass, IsWantedOrNone, AreEnoughFor, FirstByClassIsWanted, UnmarkedIsNowhere}
 use Rattle.value_proof.proofs.Known.{path_knows, path_bare, slot, variable}
 
 -- a place's token is that of what it holds
@@ -20,7 +20,7 @@ place_is (Register r) t = refl
 place_is (Slot n) t = refl
 place_is (Const c) t = refl
 
-module _ (g : Program) (start p : Pos) (things : List Tracked) (class : Classes) (of : AreThingsOf g things)
+module _ (g : Program) (start p : Pos) (things : List Tracked) (class : Classes) (of : AreEnoughFor g things)
     (are : AreClasses g start p things class) (v : VarId) (tracked : Contains things (OfVariable v)) where
   share_by : (place : Place) → SitsIn g start v place p → ShareOnPaths g start p (OfVariable v) (thing_at place)
   share_by place sits n t path = let k = sits.same n t path in (k.0, k.1, place_is place t ∙ k.2)

@@ -1,11 +1,12 @@
 -- Class numbers of tracked entities at a position: the same number if and only if the same token on every path.
-use Rattle.std.specs.Prelude.{◌≡◌, ◌≢◌, ◌↔◌, ℕ, ◌<◌, List, Contains, Option, Some, None, Bool, slice_get}
+use Rattle.std.specs.Prelude.{◌≡◌, ◌≢◌, ◌↔◌, ℕ, suc, ◌<◌, List, [], ◌∷◌, ◌++◌, Contains, Option, Some, None, Bool, slice_get}
 use Rattle.rv64_instr.specs.declared.place.Place.{Place}
 use Rattle.rv64_instr.specs.declared.place.Place.TheVariants.{Register, Slot, Const}
 use Rattle.rv64_instr.specs.Arithmetic.{word}
 use Rattle.rv64_instr.specs.Row.{Row, row_of}
 use Rattle.rv64_instr.specs.View.{Value, Literal, OfRegister, OfSlot, Computed, Write, SetsNothing, SetsRegister, SetsSlot, Clobbers, write_of}
 use Rattle.rv64_instr.specs.declared.operand.Operand.{Operand}
+use Rattle.rv64_instr.specs.Instruction.{Instruction}
 use Rattle.rv64_instr.specs.LocationEffects.{is_call}
 use Rattle.mir_func.specs.declared.debug_substitution.OperandPair.{OperandPair}
 use Rattle.mir_func.specs.declared.position.Pos.{Pos}
@@ -108,12 +109,39 @@ KnowsItem things resolve (Code i k) = KnowsRow things (row_of i) × DefinePhysic
 KnowsItem things resolve (Mark v m) = KnowsValue things resolve m × Contains things (OfVariable v)
 KnowsItem things resolve (Phi p k) = KnowsPlace things p
 
--- If control continues below an item, the classes computed past it from those before it are classes there.
+-- the pair of operand o of code with number k, if the operand defines a register, and then these entities
+abbrev pub with_pair : Option ℕ → (k o : ℕ) → List Tracked → List Tracked
+with_pair None k o pairs = pairs
+with_pair (Some r) k o pairs = OfPair k o ∷ pairs
+
+-- the pairs of the operands of code with number k that define registers, if the first of the operands has this index
+abbrev pub operand_pairs : (call : Bool) → (k first : ℕ) → List Operand → List Tracked
+operand_pairs call k first [] = []
+operand_pairs call k first (o ∷ operands) = with_pair (defined call (Some o)) k first (operand_pairs call k (suc first) operands)
+
+-- the pairs that code with a debug instruction number, or without one, defines
+abbrev pub code_pairs : Instruction → Option ℕ → List Tracked
+code_pairs i None = []
+code_pairs i (Some k) = operand_pairs (is_call (row_of i)) k 0 i.operands
+
+-- the pairs that an item defines
+abbrev pub pairs_of : ItemKind → List Tracked
+pairs_of (Code i k) = code_pairs i k
+pairs_of (Mark v m) = []
+pairs_of (Phi p k) = OfPair k 0 ∷ []
+
+-- what is known past items: what was known before them, and the pairs that they define
+abbrev pub known_past : (known : List Tracked) → List Item → List Tracked
+known_past known [] = known
+known_past known (i ∷ items) = known_past (pairs_of i.kind ++ known) items
+
+-- If control continues below an item, the classes computed past it from those before it are classes there, also of the pairs that
+-- it defines.
 abbrev pub ClassesPassItems : Type 0
-ClassesPassItems = (g : Program) (start p : Pos) (things : List Tracked) (class : Classes) (fresh : ℕ → ℕ) (item : Item) →
-    (start ≡ below p → ⊥) → AreClasses g start p things class → g.fetch p ≡ Here item → Edge g p (below p) → KnowsItem things g.resolve item.kind →
-    AreFresh things class fresh →
-    AreClasses g start (below p) things (λ x. class_back class fresh (back g.resolve 0 item.kind x))
+ClassesPassItems = (g : Program) (start p : Pos) (known : List Tracked) (class : Classes) (fresh : ℕ → ℕ) (item : Item) →
+    (start ≡ below p → ⊥) → AreClasses g start p known class → g.fetch p ≡ Here item → Edge g p (below p) → KnowsItem known g.resolve item.kind →
+    AreFresh known class fresh →
+    AreClasses g start (below p) (pairs_of item.kind ++ known) (λ x. class_back class fresh (back g.resolve 0 item.kind x))
 
 -- A path to the position below p comes through p and its edge down, unless the paths start there.
 abbrev pub PathsComeFromAbove : Type 0

@@ -12,7 +12,7 @@ use Rattle.sem_mir.specs.ValueId.{Token, Tokens, Sits, place_token}
 use Rattle.sem_mir.specs.PreferredLocation.{IsPlace}
 use Rattle.sem_value_ids.specs.Pullback.{Tracked, InSlot, token_of}
 use Rattle.value_proof.specs.Classes.{Classes, IsKnown, AreClasses}
-use Rattle.value_proof.specs.PreferredByClass.{thing_at, AreThingsOf}
+use Rattle.value_proof.specs.PreferredByClass.{thing_at, AreEnoughFor}
 use Rattle.value_proof.proofs.Known.{IsBare, slot, path_knows, path_bare}
 
 -- a class of a thing: 0 where it isn't tracked, and then it has no token
@@ -33,7 +33,7 @@ place_is (Register r) t = refl
 place_is (Slot n) t = refl
 place_is (Const c) t = refl
 
-module _ (g : Program) (start p : Pos) (things : List Tracked) (class : Classes) (of : AreThingsOf g things)
+module _ (g : Program) (start p : Pos) (things : List Tracked) (class : Classes) (of : AreEnoughFor g things)
     (are : AreClasses g start p things class) where
   never_bare : (x : Tracked) (y : Tokens → Option Token) → IsBare things x → Sits g start (token_of x) y p → ⊥
   never_bare x y bare sits =

@@ -120,7 +120,7 @@ constants_now things class constants are = record {
 }
 
 module _ (variables : List VarId) (things : List Tracked) (index : TrackedIndex) (settled : List ℕ) (h : LocationTracker) (class : Classes)
-    (holds : Holds variables things index settled h class) (firsts : List (Option ℕ)) (constants : List (Option ℤ))
+    (holds : Holds variables (map thing things) index settled h class) (firsts : List (Option ℕ)) (constants : List (Option ℤ))
     (are_firsts : AreFirsts h.places.items firsts) (now : ConstantsNow things class constants) (v : VarId) where
   abbrev own : ℕ
   own = class (OfVariable v)

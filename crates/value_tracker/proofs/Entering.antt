@@ -43,7 +43,7 @@ use Rattle.value_solver.specs.declared.entry.BlockEntry.{BlockEntry}
 use Rattle.value_solver.specs.Entry as entry
 use Rattle.value_solver.specs.Entry.{thing, IsReached, AreAlike, IsGiven, HasNone}
 use Rattle.value_proof.specs.Classes.{Classes, IsKnown, HaveOneClass, ShareOnPaths, AreClasses}
-use Rattle.value_proof.specs.PreferredByClass.{AreThingsOf}
+use Rattle.value_proof.specs.PreferredByClass.{AreEnoughFor}
 use Rattle.value_proof.proofs.Known.{path_bare, pointer}
 use Rattle.value_tracker.specs.Things.{AreThings, Settle, settled_at}
 use Rattle.value_tracker.specs.Entering.{EntriesGiveClasses}
@@ -133,7 +133,7 @@ found (x ∷ xs) (c ∷ cs) y count k z e is =
 -- ---- at the start of a block
 
 module _ (g : Program) (variables : List VarId) (things : List Tracked) (b : ℕ) (e : BlockEntry) (settled : List ℕ) (are : AreThings variables things)
-    (of : AreThingsOf g (map thing things)) (classes : entry.AreClasses g things b e.classes e.given) (reached : IsReached g b)
+    (of : AreEnoughFor g (map thing things)) (classes : entry.AreClasses g things b e.classes e.given) (reached : IsReached g b)
     (count : length settled ≡ length e.classes) (each : (i : ℕ) → i < length e.classes → slice_index settled i ≡ settled_at e.classes e.given i) where
   abbrev known : List path.Tracked
   known = map thing things

@@ -9,7 +9,7 @@ use Rattle.std.proofs.Common.{
   ◌<◌,
   ◌≤◌,
   List,
-  map,
+  ◌++◌,
   length,
   arith,
   refl,
@@ -26,6 +26,7 @@ use Rattle.std.proofs.Common.{
 }
 use Rattle.std.specs.Prelude.{Contains, Option, Some, None, Bool, true, false, cond, ◌&&◌, nat_eq, slice_get, slice_index}
 use Rattle.std.specs.HashMap.{get}
+use Rattle.std.proofs.lemmas.List.Elements.{Contains-append_cases, Contains-append_right}
 use Rattle.std.proofs.lemmas.Option.{slice_get-get_or, slice_get_within, get_or_from_slice_get}
 use Rattle.rv64_instr.specs.declared.operand.Operand.{Operand}
 use Rattle.rv64_instr.specs.declared.place.Place.{Place}
@@ -38,7 +39,7 @@ use Rattle.mir_func.specs.declared.debug_substitution.OperandPair.{OperandPair}
 use Rattle.mir_func.specs.declared.variable.VarId.{VarId}
 use Rattle.mir_func.specs.declared.variable.MarkValue.{MarkValue}
 use Rattle.mir_func.specs.declared.variable.MarkValue.TheVariants.{Nothing, Constant, At, Pair}
-use Rattle.mir_func.specs.declared.item.ItemKind.TheVariants.{Code}
+use Rattle.mir_func.specs.declared.item.ItemKind.TheVariants.{Code, Phi}
 use Rattle.mir_func.specs.Variables.{is_same, overlaps}
 use Rattle.mir_substitution.specs.Index.{is_key}
 use Rattle.sem_mir.specs.Step.{defined}
@@ -66,10 +67,9 @@ use Rattle.sem_value_ids.specs.Pullback.{
   back_phi,
   back,
 }
-use Rattle.value_solver.specs.declared.tracked.Tracked.{Tracked}
-use Rattle.value_solver.specs.Entry.{thing}
-use Rattle.value_proof.specs.Classes.{Classes, IsKnown, KnowsRow, KnowsPair, KnowsValue, KnowsPlace, DefinePhysical, class_back}
-use Rattle.value_proof.proofs.Passing.{Knows, known_back}
+use Rattle.value_proof.specs.Classes.{Classes, IsKnown, KnowsRow, KnowsPair, KnowsValue, KnowsPlace, DefinePhysical, class_back, code_pairs, pairs_of}
+use Rattle.value_proof.proofs.Pairs.{AddsPairs, Defines, defined_pair, known_more, old_item}
+use Rattle.value_proof.proofs.Passing.{Knows, known_past_item}
 use Rattle.value_proof.proofs.Known.{StaysBare, pointer, bare_stays}
 use Rattle.value_tracker.specs.declared.index.TrackedIndex.{TrackedIndex}
 use Rattle.value_tracker.specs.declared.location_tracker.LocationTracker.{LocationTracker}
@@ -89,11 +89,25 @@ eq_swap m n = by_test (nat_eq m n) refl where
   by_test true e = sym (eq-eqb n m (sym (eqb-true m n e)))
   by_test false e = sym (ne_eqb n m (λ h. let on : nat_eq m n ≡ true = eq-eqb m n (sym h) in cc))
 
-module _ (variables : List VarId) (things : List Tracked) (index : TrackedIndex) (settled : List ℕ) (h : LocationTracker) (class : Classes)
-    (holds : Holds variables things index settled h class) where
-  abbrev known : List path.Tracked
-  known = map thing things
+-- what holds with pairs holds without them
+pub held_fewer : (variables : List VarId) (things known : List path.Tracked) (index : TrackedIndex) (settled : List ℕ) (h : LocationTracker)
+    (class : Classes) → AddsPairs things known → Holds variables known index settled h class → Holds variables things index settled h class
+held_fewer variables things known index settled h class a holds = record {
+  count = holds.count;
+  registers = holds.registers;
+  slots = λ n c. holds.slots n (a.all (InSlot n) c);
+  offsets = λ n c. holds.offsets n (a.all (InSlot n) c);
+  slots_known = λ i le some. a.only (InSlot (8 * (i - SLOTS_FROM))) tt (holds.slots_known i le some);
+  pairs = λ k o c. holds.pairs k o (a.all (OfPair k o) c);
+  parts = holds.parts;
+  numbers = λ n c. holds.numbers n (a.all (OfNumber n) c);
+  below = λ x k. holds.below x (known_more things known a x k);
+  zero = holds.zero;
+  pointer = holds.pointer;
+}
 
+module _ (variables : List VarId) (known : List path.Tracked) (index : TrackedIndex) (settled : List ℕ) (h : LocationTracker) (class : Classes)
+    (holds : Holds variables known index settled h class) where
   abbrev fresh : ℕ → ℕ
   fresh r = h.next + r
 
@@ -135,9 +149,9 @@ module _ (variables : List VarId) (things : List Tracked) (index : TrackedIndex)
     slot_is : (n : ℕ) → Contains known (InSlot n) → slice_index k.places.items (slot_place n) ≡ class_back class fresh (back_slot (row_of i) n)
     slot_is n c = places (slot_place n) ∙ slot_past known class (number_class index settled) h.next (slice_index h.places.items) before (row_of i) n knows_row c
 
-    code_below : (number : Option ℕ) (x : path.Tracked) → IsKnown known x → class_back class fresh (back_code 0 i number x) < k.next
+    code_below : (number : Option ℕ) (x : path.Tracked) → IsKnown (code_pairs i number ++ known) x → class_back class fresh (back_code 0 i number x) < k.next
     code_below number x kx = subst (λ (z : ℕ). class_back class fresh (back_code 0 i number x) < z) (sym next)
-        (back_below (back_code 0 i number x) (known_back known resolve (Code i number) x (knows_row, physical) kx))
+        (back_below (back_code 0 i number x) (known_past_item known resolve (Code i number) x (knows_row, physical) kx))
 
     code_pointer : (number : Option ℕ) → class_back class fresh (back_code 0 i number (InRegister 2)) ≡ 0
     code_pointer number = bare_none (InRegister 2) (back_code 0 i number (InRegister 2)) holds.pointer
@@ -150,7 +164,7 @@ module _ (variables : List VarId) (things : List Tracked) (index : TrackedIndex)
     parts_is : (j : ℕ) (v : VarId) → slice_get variables j ≡ Some v → slice_get k.parts.items j ≡ Some (class (OfVariable v))
     parts_is j v e = ap (λ p. slice_get p.items j) parts ∙ holds.parts j v e
 
-    pub code_holds : k.pairs ≡ h.pairs → Holds variables things index settled k (λ x. class_back class fresh (back_code 0 i None x))
+    pub code_holds : k.pairs ≡ h.pairs → Holds variables known index settled k (λ x. class_back class fresh (back_code 0 i None x))
     code_holds pairs = record {
       count = count;
       registers = register_is;
@@ -165,11 +179,16 @@ module _ (variables : List VarId) (things : List Tracked) (index : TrackedIndex)
       pointer = code_pointer None;
     }
 
-    pair_given : (n m o : ℕ) → Contains known (OfPair m o) →
-        ((m o : ℕ) → get is_key k.pairs (m, o) ≡ cond (nat_eq n m)
-        (operand_class k.places.items (defined (is_call (row_of i)) (slice_get i.operands o)) (get is_key h.pairs (m, o))) (get is_key h.pairs (m, o)))
-        → pair_class index settled k m o ≡ class_back class fresh (back_code 0 i (Some n) (OfPair m o))
-    pair_given n m o c pairs = by_number (nat_eq n m) (eq_swap n m) where
+    abbrev GivesPairs : (n : ℕ) → Type 0
+    GivesPairs n = (m o : ℕ) → get is_key k.pairs (m, o) ≡ cond (nat_eq n m)
+        (operand_class k.places.items (defined (is_call (row_of i)) (slice_get i.operands o)) (get is_key h.pairs (m, o))) (get is_key h.pairs (m, o))
+
+    abbrev operand_at : (o : ℕ) → Option ℕ
+    operand_at o = defined (is_call (row_of i)) (slice_get i.operands o)
+
+    pair_kept : (n m o : ℕ) → Contains known (OfPair m o) → GivesPairs n →
+        pair_class index settled k m o ≡ class_back class fresh (back_code 0 i (Some n) (OfPair m o))
+    pair_kept n m o c pairs = by_number (nat_eq n m) (eq_swap n m) where
       start : ℕ
       start = class_at settled (get is_key index.pairs (m, o))
 
@@ -180,29 +199,45 @@ module _ (variables : List VarId) (things : List Tracked) (index : TrackedIndex)
 
       by_number : (b : Bool) → nat_eq n m ≡ nat_eq m n → pair_class index settled k m o ≡ class_back class fresh (back_code 0 i (Some n) (OfPair m o))
       by_number b e =
-          let d = defined (is_call (row_of i)) (slice_get i.operands o) in
+          let d = operand_at o in
           ap (λ (z : Option ℕ). given_or z start) (pairs m o)
           ∙ (ap (λ (z : Bool). given_or (cond z (operand_class k.places.items d (get is_key h.pairs (m, o))) (get is_key h.pairs (m, o))) start) e
           ∙ at (nat_eq m n)) where
-            at : (z : Bool) → given_or (cond z (operand_class k.places.items (defined (is_call (row_of i)) (slice_get i.operands o)) (get is_key h.pairs
-                (m, o))) (get is_key h.pairs (m, o))) start
-                ≡ class_back class fresh (cond z (given_back 0 (row_of i) (defined (is_call (row_of i)) (slice_get i.operands o)) (OfPair m o)) (Was
-                (OfPair m o)))
-            at true = by_operand (defined (is_call (row_of i)) (slice_get i.operands o)) (physical o)
+            at : (z : Bool) → given_or (cond z (operand_class k.places.items (operand_at o) (get is_key h.pairs (m, o))) (get is_key h.pairs (m, o))) start
+                ≡ class_back class fresh (cond z (given_back 0 (row_of i) (operand_at o) (OfPair m o)) (Was (OfPair m o)))
+            at true = by_operand (operand_at o) (physical o)
             at false = holds.pairs m o c
 
-    pub numbered_holds : (n : ℕ) → ((m o : ℕ) → get is_key k.pairs (m, o) ≡ cond (nat_eq n m)
-        (operand_class k.places.items (defined (is_call (row_of i)) (slice_get i.operands o)) (get is_key h.pairs (m, o))) (get is_key h.pairs (m, o))) →
-        Holds variables things index settled k (λ x. class_back class fresh (back_code 0 i (Some n) x))
+    pair_made : (n m o : ℕ) → Defines (Code i (Some n)) m o → GivesPairs n →
+        pair_class index settled k m o ≡ class_back class fresh (back_code 0 i (Some n) (OfPair m o))
+    pair_made n m o d pairs =
+        let start = class_at settled (get is_key index.pairs (m, o)) in
+        let old = get is_key h.pairs (m, o) in
+        ap (λ (z : Option ℕ). given_or z start) (pairs m o)
+        ∙ (ap (λ (z : Bool). given_or (cond z (operand_class k.places.items (operand_at o) old) old) start) (eq-eqb n m (sym d.0))
+        ∙ (ap (λ (z : Option ℕ). given_or (operand_class k.places.items z old) start) d.2
+        ∙ (register_is d.1 (physical o d.1 d.2)
+        ∙ (sym (ap (λ (z : Option ℕ). class_back class fresh (given_back 0 (row_of i) z (OfPair m o))) d.2)
+        ∙ sym (ap (λ (z : Bool). class_back class fresh (cond z (given_back 0 (row_of i) (operand_at o) (OfPair m o)) (Was (OfPair m o)))) (eq-eqb m n d.0))))))
+
+    pair_given : (n m o : ℕ) → Contains (code_pairs i (Some n) ++ known) (OfPair m o) → GivesPairs n →
+        pair_class index settled k m o ≡ class_back class fresh (back_code 0 i (Some n) (OfPair m o))
+    pair_given n m o c pairs = elim (Contains-append_cases (code_pairs i (Some n)) known (OfPair m o) c) [
+      | inl made ↦ pair_made n m o (defined_pair (Code i (Some n)) m o made) pairs
+      | inr old ↦ pair_kept n m o old pairs
+    ]
+
+    pub numbered_holds : (n : ℕ) → GivesPairs n →
+        Holds variables (code_pairs i (Some n) ++ known) index settled k (λ x. class_back class fresh (back_code 0 i (Some n) x))
     numbered_holds n pairs = record {
       count = count;
       registers = register_is;
-      slots = slot_is;
-      offsets = holds.offsets;
-      slots_known = slots_known_is;
+      slots = λ m c. slot_is m (old_item known (Code i (Some n)) (InSlot m) tt c);
+      offsets = λ m c. holds.offsets m (old_item known (Code i (Some n)) (InSlot m) tt c);
+      slots_known = λ p le some. Contains-append_right (code_pairs i (Some n)) known (InSlot (8 * (p - SLOTS_FROM))) (slots_known_is p le some);
       pairs = λ m o c. pair_given n m o c pairs;
       parts = parts_is;
-      numbers = holds.numbers;
+      numbers = λ c j. holds.numbers c (old_item known (Code i (Some n)) (OfNumber c) tt j);
       below = code_below (Some n);
       zero = zero_row (row_of i) ∙ holds.zero;
       pointer = code_pointer (Some n);
@@ -253,7 +288,7 @@ module _ (variables : List VarId) (things : List Tracked) (index : TrackedIndex)
       parts.places ≡ h.places → parts.pairs ≡ h.pairs → parts.next ≡ h.next → length parts.parts.items ≡ length variables →
       ((j : ℕ) (w : VarId) → slice_get variables j ≡ Some w →
       slice_index parts.parts.items j ≡ part_past v (value_class index settled resolve h m) w (slice_index h.parts.items j)) →
-      Holds variables things index settled parts (λ x. class_back class fresh (back_mark resolve v m x))
+      Holds variables known index settled parts (λ x. class_back class fresh (back_mark resolve v m x))
   mark_holds resolve v m k knows places pairs next count parts = record {
     count = ap (λ p. length p.items) places ∙ holds.count;
     registers = λ r lt. ap (λ p. slice_index p.items r) places ∙ holds.registers r lt;
@@ -295,26 +330,40 @@ module _ (variables : List VarId) (things : List Tracked) (index : TrackedIndex)
   place_is (Some (Slot n)) k = holds.slots n k
   place_is (Some (Const c)) k = holds.numbers (word c) k
 
-  phi_below : (p : Option Place) (j : ℕ) (x : path.Tracked) → KnowsPlace known p → IsKnown known x → class_back class fresh (back_phi p j x) < h.next
-  phi_below p j (OfPair m o) k kx = if_below (nat_eq m j) (cond (nat_eq o 0) (back_place p) (Was (OfPair m o))) (Was (OfPair m o))
-      (if_below (nat_eq o 0) (back_place p) (Was (OfPair m o)) (place_below p k) (holds.below (OfPair m o) kx)) (holds.below (OfPair m o) kx)
+  -- a phi's pair comes from its place
+  phi_made : (p : Option Place) (j m o : ℕ) → Defines (Phi p j) m o → back_phi p j (OfPair m o) ≡ back_place p
+  phi_made p j m o d =
+      ap (λ (z : Bool). cond z (cond (nat_eq o 0) (back_place p) (Was (OfPair m o))) (Was (OfPair m o))) (eq-eqb m j d.0)
+      ∙ ap (λ (z : Bool). cond z (back_place p) (Was (OfPair m o))) (eq-eqb o 0 d.1)
+
+  phi_below : (p : Option Place) (j : ℕ) (x : path.Tracked) → KnowsPlace known p → IsKnown (pairs_of (Phi p j) ++ known) x →
+      class_back class fresh (back_phi p j x) < h.next
+  phi_below p j (OfPair m o) k kx = elim (Contains-append_cases (pairs_of (Phi p j)) known (OfPair m o) kx) [
+    | inl made ↦ subst (λ (z : Back). class_back class fresh z < h.next) (sym (phi_made p j m o (defined_pair (Phi p j) m o made))) (place_below p k)
+    | inr old ↦ if_below (nat_eq m j) (cond (nat_eq o 0) (back_place p) (Was (OfPair m o))) (Was (OfPair m o))
+        (if_below (nat_eq o 0) (back_place p) (Was (OfPair m o)) (place_below p k) (holds.below (OfPair m o) old)) (holds.below (OfPair m o) old)
+  ]
   phi_below p j (InRegister r) k kx = holds.below (InRegister r) kx
-  phi_below p j (InSlot n) k kx = holds.below (InSlot n) kx
-  phi_below p j (OfVariable v) k kx = holds.below (OfVariable v) kx
-  phi_below p j (OfNumber c) k kx = holds.below (OfNumber c) kx
+  phi_below p j (InSlot n) k kx = holds.below (InSlot n) (old_item known (Phi p j) (InSlot n) tt kx)
+  phi_below p j (OfVariable v) k kx = holds.below (OfVariable v) (old_item known (Phi p j) (OfVariable v) tt kx)
+  phi_below p j (OfNumber c) k kx = holds.below (OfNumber c) (old_item known (Phi p j) (OfNumber c) tt kx)
 
   pub phi_holds : (p : Option Place) (n : ℕ) (k : LocationTracker) → KnowsPlace known p → k.places ≡ h.places → k.parts ≡ h.parts → k.next ≡ h.next →
       ((q : ℕ × ℕ) → get is_key k.pairs q ≡ cond (is_key (n, 0) q) (Some (place_class index settled h p)) (get is_key h.pairs q)) →
-      Holds variables things index settled k (λ x. class_back class fresh (back_phi p n x))
+      Holds variables (pairs_of (Phi p n) ++ known) index settled k (λ x. class_back class fresh (back_phi p n x))
   phi_holds p n k knows places parts next pairs = record {
     count = ap (λ z. length z.items) places ∙ holds.count;
     registers = λ r lt. ap (λ z. slice_index z.items r) places ∙ holds.registers r lt;
-    slots = λ s c. ap (λ z. slice_index z.items (slot_place s)) places ∙ holds.slots s c;
-    offsets = holds.offsets;
-    slots_known = λ i le some. holds.slots_known i le (λ none. some (ap (λ z. slice_index z.items i) places ∙ none));
-    pairs = pair_is;
+    slots = λ s c. ap (λ z. slice_index z.items (slot_place s)) places ∙ holds.slots s (old_item known (Phi p n) (InSlot s) tt c);
+    offsets = λ s c. holds.offsets s (old_item known (Phi p n) (InSlot s) tt c);
+    slots_known = λ i le some. Contains-append_right (pairs_of (Phi p n)) known (InSlot (8 * (i - SLOTS_FROM)))
+        (holds.slots_known i le (λ none. some (ap (λ z. slice_index z.items i) places ∙ none)));
+    pairs = λ m o c. elim (Contains-append_cases (pairs_of (Phi p n)) known (OfPair m o) c) [
+      | inl made ↦ pair_made m o (defined_pair (Phi p n) m o made)
+      | inr old ↦ pair_is m o old
+    ];
     parts = λ j v e. ap (λ z. slice_get z.items j) parts ∙ holds.parts j v e;
-    numbers = holds.numbers;
+    numbers = λ c j. holds.numbers c (old_item known (Phi p n) (OfNumber c) tt j);
     below = λ x kx. subst (λ (z : ℕ). class_back class fresh (back_phi p n x) < z) (sym next) (phi_below p n x knows kx);
     zero = holds.zero;
     pointer = holds.pointer;
@@ -330,12 +379,20 @@ module _ (variables : List VarId) (things : List Tracked) (index : TrackedIndex)
     tests_are m o = key_apart n 0 m o ∙ (ap (λ (z : Bool). cond z (nat_eq 0 o) false) (eq_swap n m)
         ∙ ap (λ (z : Bool). cond (nat_eq m n) z false) (eq_swap 0 o))
 
-    pair_is : (m o : ℕ) → Contains known (OfPair m o) → pair_class index settled k m o ≡ class_back class fresh (back_phi p n (OfPair m o))
-    pair_is m o c =
+    by_key : (m o : ℕ) (b : Bool) → is_key (n, 0) (m, o) ≡ b → pair_class index settled k m o ≡
+        given_or (cond b (Some (place_class index settled h p)) (get is_key h.pairs (m, o))) (class_at settled (get is_key index.pairs (m, o)))
+    by_key m o b e =
         ap (λ (z : Option ℕ). given_or z (class_at settled (get is_key index.pairs (m, o)))) (pairs (m, o))
-        ∙ (ap (λ (z : Bool). given_or (cond z (Some (place_class index settled h p)) (get is_key h.pairs (m, o))) (class_at settled (get is_key index.pairs
-        (m, o)))) (tests_are m o)
-        ∙ by_tests m o c (nat_eq m n) (nat_eq o 0))
+        ∙ ap (λ (z : Bool). given_or (cond z (Some (place_class index settled h p)) (get is_key h.pairs (m, o))) (class_at settled (get is_key index.pairs
+        (m, o)))) e
+
+    pair_is : (m o : ℕ) → Contains known (OfPair m o) → pair_class index settled k m o ≡ class_back class fresh (back_phi p n (OfPair m o))
+    pair_is m o c = by_key m o (cond (nat_eq m n) (nat_eq o 0) false) (tests_are m o) ∙ by_tests m o c (nat_eq m n) (nat_eq o 0)
+
+    pair_made : (m o : ℕ) → Defines (Phi p n) m o → pair_class index settled k m o ≡ class_back class fresh (back_phi p n (OfPair m o))
+    pair_made m o d =
+        by_key m o true (tests_are m o ∙ (ap (λ (z : Bool). cond z (nat_eq o 0) false) (eq-eqb m n d.0) ∙ eq-eqb o 0 d.1))
+        ∙ (place_is p knows ∙ sym (ap (class_back class fresh) (phi_made p n m o d)))
 
   -- code with a number, in its two steps: the places, and then the pairs
   pub numbered_step : (resolve : OperandPair → Option OperandPair) (i : Instruction) (mid k : LocationTracker) (n : ℕ) (call : Bool) (operands : List Operand) →
@@ -345,7 +402,7 @@ module _ (variables : List VarId) (things : List Tracked) (index : TrackedIndex)
       call ≡ is_call (row_of i) → operands ≡ i.operands →
       ((m o : ℕ) → get is_key k.pairs (m, o) ≡ cond (nat_eq n m)
       (operand_class mid.places.items (defined call (slice_get operands o)) (get is_key mid.pairs (m, o))) (get is_key mid.pairs (m, o))) →
-      Holds variables things index settled k (λ x. class_back class fresh (back_code 0 i (Some n) x))
+      Holds variables (code_pairs i (Some n) ++ known) index settled k (λ x. class_back class fresh (back_code 0 i (Some n) x))
   numbered_step resolve i mid k n call operands knows_row physical count places pairs parts next kplaces kparts knext calls same given =
       numbered_holds resolve i k knows_row physical (ap (λ z. length z.items) kplaces ∙ count) (λ p. ap (λ z. slice_index z.items p) kplaces ∙ places p)
       (kparts ∙ parts) (knext ∙ ap (λ (z : ℕ). z + 32) next) n

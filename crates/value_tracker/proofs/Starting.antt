@@ -253,7 +253,7 @@ module _ (variables : List VarId) (things : List Tracked) (index : TrackedIndex)
     below (OfVariable v) k = stands_below (OfVariable v) k
     below (OfNumber c) k = stands_below (OfNumber c) k
 
-    pub start_holds : Holds variables things index settled h class
+    pub start_holds : Holds variables (map thing things) index settled h class
     start_holds = record {
       count = count;
       registers = register_is;

@@ -10,8 +10,8 @@ use Rattle.std.specs.Prelude.{
   ◌<◌,
   ◌≤◌,
   List,
+  ◌++◌,
   length,
-  map,
   Contains,
   Option,
   Some,
@@ -44,9 +44,7 @@ use Rattle.mir_func.specs.Variables.{is_same, overlaps}
 use Rattle.mir_substitution.specs.Index.{is_key}
 use Rattle.sem_value_ids.specs.Pullback as path
 use Rattle.sem_value_ids.specs.Pullback.{InRegister, InSlot, OfPair, OfVariable, OfNumber, back}
-use Rattle.value_solver.specs.declared.tracked.Tracked.{Tracked}
-use Rattle.value_solver.specs.Entry.{thing}
-use Rattle.value_proof.specs.Classes.{Classes, IsKnown, KnowsItem, class_back}
+use Rattle.value_proof.specs.Classes.{Classes, IsKnown, KnowsItem, class_back, pairs_of}
 use Rattle.value_tracker.specs.declared.index.TrackedIndex.{TrackedIndex}
 use Rattle.value_tracker.specs.declared.location_tracker.LocationTracker.{LocationTracker}
 use Rattle.value_tracker.specs.Things.{IsOffset}
@@ -82,28 +80,28 @@ given_or (Some d) c = d
 abbrev pub pair_class : TrackedIndex → List ℕ → LocationTracker → ℕ → ℕ → ℕ
 pair_class index settled h k o = given_or (get is_key h.pairs (k, o)) (class_at settled (get is_key index.pairs (k, o)))
 
--- the state holds these classes of the tracked entities
-pub record Holds (variables : List VarId) (things : List Tracked) (index : TrackedIndex) (settled : List ℕ) (h : LocationTracker)
+-- the state holds these classes of registers and known entities
+pub record Holds (variables : List VarId) (known : List path.Tracked) (index : TrackedIndex) (settled : List ℕ) (h : LocationTracker)
     (class : Classes) : Type 0 where
   pub count : length h.places.items ≡ PLACES
   pub registers : (r : ℕ) → r < 32 → slice_index h.places.items r ≡ class (InRegister r)
-  pub slots : (n : ℕ) → Contains (map thing things) (InSlot n) → slice_index h.places.items (slot_place n) ≡ class (InSlot n)
-  pub offsets : (n : ℕ) → Contains (map thing things) (InSlot n) → IsOffset n
-  pub slots_known : (i : ℕ) → SLOTS_FROM ≤ i → slice_index h.places.items i ≢ 0 → Contains (map thing things) (InSlot (8 * (i - SLOTS_FROM)))
-  pub pairs : (k o : ℕ) → Contains (map thing things) (OfPair k o) → pair_class index settled h k o ≡ class (OfPair k o)
+  pub slots : (n : ℕ) → Contains known (InSlot n) → slice_index h.places.items (slot_place n) ≡ class (InSlot n)
+  pub offsets : (n : ℕ) → Contains known (InSlot n) → IsOffset n
+  pub slots_known : (i : ℕ) → SLOTS_FROM ≤ i → slice_index h.places.items i ≢ 0 → Contains known (InSlot (8 * (i - SLOTS_FROM)))
+  pub pairs : (k o : ℕ) → Contains known (OfPair k o) → pair_class index settled h k o ≡ class (OfPair k o)
   pub parts : (j : ℕ) (v : VarId) → slice_get variables j ≡ Some v → slice_get h.parts.items j ≡ Some (class (OfVariable v))
-  pub numbers : (c : ℕ) → Contains (map thing things) (OfNumber c) → number_class index settled c ≡ class (OfNumber c)
-  pub below : (x : path.Tracked) → IsKnown (map thing things) x → class x < h.next
+  pub numbers : (c : ℕ) → Contains known (OfNumber c) → number_class index settled c ≡ class (OfNumber c)
+  pub below : (x : path.Tracked) → IsKnown known x → class x < h.next
   pub zero : class (InRegister 0) ≡ class (OfNumber 0)
   pub pointer : class (InRegister 2) ≡ 0
 
--- the step over an item: if the state before it holds the classes there, the state after it holds those past it. The class of a
--- new token is `before.next` plus its register
-abbrev pub Passes : (variables : List VarId) (things : List Tracked) (index : TrackedIndex) (settled : List ℕ) → (OperandPair → Option OperandPair) →
+-- the step over an item: if the state before it holds the classes there, the state after it holds those past it, also of the pairs
+-- that the item defines. The class of a new token is `before.next` plus its register
+abbrev pub Passes : (variables : List VarId) (index : TrackedIndex) (settled : List ℕ) → (OperandPair → Option OperandPair) →
     (before after : LocationTracker) → ItemKind → Type 0
-Passes variables things index settled resolve before after kind = (class : Classes) → Holds variables things index settled before class →
-    KnowsItem (map thing things) resolve kind →
-    Holds variables things index settled after (λ x. class_back class (λ r. before.next + r) (back resolve 0 kind x))
+Passes variables index settled resolve before after kind = (known : List path.Tracked) (class : Classes) →
+    Holds variables known index settled before class → KnowsItem known resolve kind →
+    Holds variables (pairs_of kind ++ known) index settled after (λ x. class_back class (λ r. before.next + r) (back resolve 0 kind x))
 
 -- ---- locations past an instruction
 

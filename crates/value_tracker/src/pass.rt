@@ -7,7 +7,6 @@ ghost use Rattle.std.specs.Prelude.{
   ◌+◌,
   ◌^◌,
   ℕ,
-  List,
   Some,
   OnOk,
   length,
@@ -22,7 +21,6 @@ ghost use Rattle.mir_func.specs.declared.variable.VarId.{VarId};
 ghost use Rattle.mir_func.specs.declared.item.ItemKind.TheVariants.{Code, Mark, Phi};
 ghost use Rattle.mir_func.specs.Resolve.{resolve};
 ghost use Rattle.mir_substitution.specs.Index.{is_key};
-ghost use Rattle.value_solver.specs.declared.tracked.Tracked.{Tracked};
 ghost use Rattle.value_tracker.specs.LocationTracker.{
   pair_class,
   resolved_class,
@@ -164,8 +162,7 @@ impl LocationTracker {
         number: Option<DebugNumber>,
     ) -> Result<(), AllocError>
         requires count { length self.old.places.items ≡ PLACES }
-        ensures passes { OnOk result ((things : List Tracked)
-            → Passes block.now.variables.now things block.now.index.now block.now.settled.now
+        ensures passes { OnOk result (Passes block.now.variables.now block.now.index.now block.now.settled.now
             (resolve block.now.subs.now) self.old self.new (Code instr.now number)) }
         ensures count { OnOk result (length self.new.places.items ≡ PLACES) }
         ensures parts { OnOk result (self.new.parts ≡ self.old.parts) }
@@ -183,8 +180,7 @@ impl LocationTracker {
 
     fn pass_mark(&mut self, block: &Block, variable: &VarId, value: &MarkValue)
         requires count { length self.old.parts.items ≡ length block.now.variables.now }
-        ensures passes { (things : List Tracked)
-            → Passes block.now.variables.now things block.now.index.now block.now.settled.now
+        ensures passes { Passes block.now.variables.now block.now.index.now block.now.settled.now
             (resolve block.now.subs.now) self.old self.new (Mark variable.now value.now) }
         ensures places { self.new.places ≡ self.old.places }
         ensures count { length self.new.parts.items ≡ length block.now.variables.now }
@@ -199,8 +195,7 @@ impl LocationTracker {
         place: Option<Place>,
         k: DebugNumber,
     ) -> Result<(), AllocError>
-        ensures passes { OnOk result ((things : List Tracked)
-            → Passes block.now.variables.now things block.now.index.now block.now.settled.now
+        ensures passes { OnOk result (Passes block.now.variables.now block.now.index.now block.now.settled.now
             (resolve block.now.subs.now) self.old self.new (Phi place k)) }
         ensures places { self.new.places ≡ self.old.places }
         ensures parts { self.new.parts ≡ self.old.parts }
@@ -215,8 +210,7 @@ impl LocationTracker {
     pub fn pass(&mut self, block: &Block, kind: &ItemKind) -> Result<(), AllocError>
         requires places { length self.old.places.items ≡ PLACES }
         requires parts { length self.old.parts.items ≡ length block.now.variables.now }
-        ensures passes { OnOk result ((things : List Tracked)
-            → Passes block.now.variables.now things block.now.index.now block.now.settled.now
+        ensures passes { OnOk result (Passes block.now.variables.now block.now.index.now block.now.settled.now
             (resolve block.now.subs.now) self.old self.new kind.now) }
         ensures places { OnOk result (length self.new.places.items ≡ PLACES) }
         ensures parts { OnOk result (length self.new.parts.items ≡ length block.now.variables.now) }

@@ -12,6 +12,7 @@ ghost use Rattle.std.specs.Prelude.{
   Option,
   IfOk,
   length,
+  map,
   slice_get,
   slice_index,
   slice_index_or,
@@ -21,6 +22,7 @@ ghost use Rattle.std.specs.Prelude.{
   ◌&&◌,
 };
 ghost use Rattle.value_solver.specs.declared.tracked.Tracked.{Tracked};
+ghost use Rattle.value_solver.specs.Entry.{thing};
 ghost use Rattle.value_proof.specs.Classes.{Classes};
 ghost use Rattle.value_tracker.specs.Things.{AreThings, Indexes, IsOffset, Settle, settled_at};
 ghost use Rattle.value_solver.specs.declared.tracked.Tracked.TheVariants.{Slot};
@@ -77,7 +79,7 @@ pub fn start(
     requires settled { length settled.now ≡ length things.now }
     requires variables { length variables.now ≤ length things.now }
     ensures holds { IfOk result (λ h. (class : Classes) → Settle things.now settled.now class →
-        Holds variables.now things.now index.now settled.now h class) }
+        Holds variables.now (map thing things.now) index.now settled.now h class) }
     ensures places { IfOk result (λ h. length h.places.items ≡ PLACES) }
     ensures parts { IfOk result (λ h. length h.parts.items ≡ length variables.now) }
     ensures next { IfOk result (λ h. (i : ℕ) → slice_index settled.now i < h.next) }

@@ -1,6 +1,7 @@
-use Rattle.std.proofs.Common.{ℕ, List, refl, subst, get_or}
+use Rattle.std.proofs.Common.{ℕ, List, map, refl, subst, get_or}
 use Rattle.std.proofs.lemmas.Option.{slice_get-get_or}
 use Rattle.value_proof.specs.Classes.{Classes}
+use Rattle.value_solver.specs.Entry.{thing}
 use Rattle.value_tracker.specs.Things.{Settle}
 use Rattle.value_tracker.specs.LocationTracker.{Holds}
 use Rattle.value_tracker.specs.Start.{ConstantsNow}
@@ -12,7 +13,7 @@ returns-clause-stands c = λ blocks are.
     let v = c.args.values.now in
     let e = get_or v.entries.now c.args.block c.index-values-block.result in
     let held = subst (λ (xs : List ℕ). (class : Classes) → Settle v.things.now xs class →
-    Holds v.variables.now v.things.now c.args.index.now xs c.in_ok-held.held class)
+    Holds v.variables.now (map thing v.things.now) c.args.index.now xs c.in_ok-held.held class)
     c.as_slice.ensures.value c.in_ok-held.ensures.holds in
     let constants = subst (λ (xs : List ℕ). (class : Classes) → Settle v.things.now xs class →
     ConstantsNow v.things.now class c.in_ok-constants.constants.items)

@@ -14,10 +14,13 @@ loop-k-preserved c =
     let word : get_or c.loop-k.words c.loop-k.k 0 < 18446744073709551616 = omega (arith, same, old) in
     let other : get_or c.args.others.now c.loop-k.k 0 < 18446744073709551616 = search (rules, c.type_inv.others c.loop-k.k) in
     elim c.if-all-words.branch [
-      | then-all-words w ↦ rw (w.words-is, w.grown-is) (uniting_changed c.loop-k.invariant (omega arith)
+      | then-all-words w ↦ rw (w.words-is, w.grown-is) (uniting_changed c.loop-k.invariant (omega (arith, c.requires.used))
           (or_lt 64 (get_or c.loop-k.words c.loop-k.k 0) (get_or c.args.others.now c.loop-k.k 0) word other) w.if-all-words.true)
       | else-all-words w ↦ rw (w.words-is, w.grown-is) (uniting_kept c.loop-k.invariant w.if-all-words.false)
     ]
 
 pub returns-clause-all : goal.returns-clause-all
-returns-clause-all c = uniting_ends c.loop-k.invariant (omega arith) c.requires
+returns-clause-all c = uniting_ends c.loop-k.invariant (λ j l. c.requires.zeros j (omega (arith, l)))
+
+pub returns-clause-left : goal.returns-clause-left
+returns-clause-left c = λ k l. c.loop-k.invariant.left k (omega (arith, l))

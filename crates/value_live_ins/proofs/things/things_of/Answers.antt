@@ -3,7 +3,7 @@ use Rattle.std.specs.Prelude.{Contains}
 use Rattle.mir_func.specs.Resolve.{resolve}
 use Rattle.value_solver.specs.declared.tracked.Tracked.{Tracked}
 use Rattle.value_solver.specs.declared.tracked.Tracked.TheVariants.{Pair}
-use Rattle.value_live_ins.proofs.Gathering.{things_done, tracked_done, knows_done, fewer_variables, grows_then, grows_has}
+use Rattle.value_live_ins.proofs.Gathering.{things_done, tracked_done, knows_done, all_known, fewer_variables, grows_then, grows_has}
 use Rattle.value_live_ins.proofs.Used.{all_used}
 use Rattle.value_live_ins.proofs.things.things_of.Goals as goal
 
@@ -36,6 +36,16 @@ returns-clause-knows c =
     c.in_ok-note_blocks.ensures.grows)
     c.into_things.ensures
     (resolve c.args.subs.now) c.args.blocks.now c.in_ok-variables.ensures.has c.in_ok-note_blocks.ensures.knows
+
+pub returns-clause-whole : goal.returns-clause-whole
+returns-clause-whole c = λ whole.
+    all_known c.in_ok-variables.variables c.parts_of.new.gathered c.add_registers.new.gathered c.note_thing.new.self c.note_blocks.new.gathered
+    c.into_things.result
+    c.in_ok-variables.ensures.parts c.in_ok-add_registers.ensures.grows c.in_ok-note_thing.ensures.grows
+    (grows_then c.note_thing.new.self.things c.note_pairs.new.gathered.things c.note_blocks.new.gathered.things c.in_ok-note_pairs.ensures.grows
+    c.in_ok-note_blocks.ensures.grows)
+    c.into_things.ensures
+    (resolve c.args.subs.now) c.args.blocks.now c.in_ok-variables.ensures.has (c.in_ok-note_blocks.ensures.whole whole)
 
 pub returns-clause-fewer : goal.returns-clause-fewer
 returns-clause-fewer c =

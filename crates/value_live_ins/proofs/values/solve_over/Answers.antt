@@ -4,7 +4,7 @@ use Rattle.mir_func.specs.Graph.{framed_program}
 use Rattle.mir_func.specs.Resolve.{resolve}
 use Rattle.value_solver.specs.declared.flow.Flow.{Flow}
 use Rattle.value_solver.specs.Flows.{AreFlows}
-use Rattle.value_live_ins.proofs.Solving.{things_are, are_flows, sound_flows, sound_same, entries_are}
+use Rattle.value_live_ins.proofs.Solving.{things_enough, are_flows, sound_flows, sound_same, entries_are}
 use Rattle.value_live_ins.proofs.values.solve_over.Goals as goal
 
 pub solve-requires-clause-sound : goal.solve-requires-clause-sound
@@ -15,7 +15,7 @@ solve-requires-clause-sound c =
 pub returns-clause-entries : goal.returns-clause-entries
 returns-clause-entries c =
     let g = framed_program c.args.blocks.now (resolve c.args.subs.now) in
-    let things = things_are c.args.blocks.now c.args.subs.now c.args.variables.now c.args.things.now c.requires.things c.requires.knows in
+    let things = things_enough c.args.blocks.now c.args.subs.now c.args.variables.now c.args.things.now c.requires.things c.requires.knows in
     let of = are_flows c.args.blocks.now _ c.in_ok-indices.indices c.in_ok-flows.flows.items c.requires.blocks c.in_ok-indices.ensures
     c.in_ok-flows.ensures things in
     entries_are c.solve.result g c.args.things.now c.in_ok-start.start c.as_slice-2.result.now c.solve.ensures.exact

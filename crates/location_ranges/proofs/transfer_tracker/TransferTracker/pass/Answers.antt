@@ -16,7 +16,7 @@ returns-then-not-falls-clause-stands c = λ blocks are fetch stands.
 pub returns-clause-stands : goal.returns-clause-stands
 returns-clause-stands c = λ blocks are fetch stands.
     let v = c.args.values.now in
-    let passes = subst (λ xs. Passes v.variables.now v.things.now c.args.index.now xs
+    let passes = subst (λ xs. Passes v.variables.now c.args.index.now xs
     (resolve v.subs.now) c.args.self.now.held c.pass_held.new.held c.args.item.now.kind)
     c.as_slice.ensures.value c.in_ok-pass_held.ensures.passes in
     passes_on blocks v c.args.index.now are c.args.self.now c.args.item.now _ stands c.if-not-self.false fetch (c.falls.ensures.0 c.if-not-falls.false)

@@ -14,10 +14,10 @@ returns-in-None-clause-passes c =
     let block = c.args.block.now in
     let past = c.pass_row.ensures in
     let after = record c.pass_row.new.self { next = c.pass_row.new.self.next + 32 } in
-    λ things. subst (λ (n : Option ℕ). Passes block.variables.now things block.index.now block.settled.now (resolve block.subs.now) c.args.self.now after
+    subst (λ (n : Option ℕ). Passes block.variables.now block.index.now block.settled.now (resolve block.subs.now) c.args.self.now after
     (Code c.args.instr.now n))
     (sym c.in-None.is)
-    (λ class holds knows. code_holds block.variables.now things block.index.now block.settled.now c.args.self.now class holds
+    (λ known class holds knows. code_holds block.variables.now known block.index.now block.settled.now c.args.self.now class holds
     (resolve block.subs.now) c.args.instr.now
     after knows.0 knows.1 past.count past.places past.parts (ap (λ (n : ℕ). n + 32) past.next) past.pairs)
 
@@ -29,10 +29,10 @@ returns-in-Some-clause-passes c =
     let calls : c.effect.result.call ≡ is_call (row_of c.args.instr.now) = ap (λ e. e.call) c.effect.ensures in
     let operands : c.as_slice.result.now ≡ c.args.instr.now.operands = c.as_slice.ensures ∙ ap (λ i. i.operands) c.instr.view_is in
     on_ok_weaker c.give.result
-    (λ pairs. λ things. subst (λ (n : Option ℕ). Passes block.variables.now things block.index.now block.settled.now
+    (λ pairs. subst (λ (n : Option ℕ). Passes block.variables.now block.index.now block.settled.now
     (resolve block.subs.now) c.args.self.now c.give.new.self
     (Code c.args.instr.now n)) (sym c.in-Some.is)
-    (λ class holds knows. numbered_step block.variables.now things block.index.now block.settled.now c.args.self.now class holds
+    (λ known class holds knows. numbered_step block.variables.now known block.index.now block.settled.now c.args.self.now class holds
     (resolve block.subs.now) c.args.instr.now
     c.pass_row.new.self c.give.new.self c.in-Some.k c.effect.result.call c.as_slice.result.now knows.0 knows.1 past.count past.places past.pairs past.parts
     past.next
