@@ -8,20 +8,20 @@ use Rattle.mir_func.specs.Resolve.{resolve}
 use Rattle.value_solver.specs.declared.tracked.Tracked.{Tracked}
 use Rattle.value_solver.specs.declared.entry.BlockEntry.{BlockEntry}
 use Rattle.value_solver.specs.Entry.{thing, IsEntry}
-use Rattle.value_proof.specs.PreferredByClass.{AreThingsOf}
+use Rattle.value_proof.specs.PreferredByClass.{AreEnoughFor}
 use Rattle.value_tracker.specs.Things.{AreThings}
 use Rattle.location_ranges.specs.declared.values.Values.{Values}
 use Rattle.location_ranges.specs.Stands.{AreValuesOf}
 
 pub are_values : (f g : FramedFunction) (v : Values) (parts : List VarId) (things : List Tracked) (entries : List BlockEntry) → f ≡ g →
     v.variables.now ≡ parts → v.things.now ≡ things → v.entries.now ≡ entries → AreThings parts things →
-    AreThingsOf (framed_program f.blocks (resolve v.subs.now)) (map thing things) →
+    AreEnoughFor (framed_program f.blocks (resolve v.subs.now)) (map thing things) →
     ((b : ℕ) (e : BlockEntry) → slice_get entries b ≡ Some e → IsEntry (framed_program f.blocks (resolve v.subs.now)) things b e) →
     length entries ≡ length f.blocks → AreValuesOf g.blocks v
 are_values f g v parts things entries fg vp vt ve are of each all =
     subst (λ (h : FramedFunction). AreValuesOf h.blocks v) fg (record {
       things = subst₂ AreThings (sym vp) (sym vt) are;
-      of = subst (λ (z : List Tracked). AreThingsOf (framed_program f.blocks (resolve v.subs.now)) (map thing z)) (sym vt) of;
+      of = subst (λ (z : List Tracked). AreEnoughFor (framed_program f.blocks (resolve v.subs.now)) (map thing z)) (sym vt) of;
       entries = λ b e at.
           subst (λ (z : List Tracked). IsEntry (framed_program f.blocks (resolve v.subs.now)) z b e) (sym vt)
           (each b e (subst (λ (z : List BlockEntry). slice_get z b ≡ Some e) ve at));

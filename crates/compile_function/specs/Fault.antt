@@ -1,5 +1,5 @@
 -- How errors of passes and of sections map to errors of compilation.
-use Rattle.compile_passes.specs.declared.error.PassesError.{PassesError}
+pub use Rattle.compile_passes.specs.declared.error.PassesError.{PassesError}
 use Rattle.compile_passes.specs.declared.error.PassesError.TheVariants as passing
 use Rattle.dwarf_sections.specs.declared.sections.SectionError.{SectionError}
 use Rattle.dwarf_sections.specs.declared.sections.SectionError.TheVariants as sections

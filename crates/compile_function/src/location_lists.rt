@@ -14,7 +14,7 @@ use mir_func::framed::Framed;
 use mir_func::variable::VarId;
 use mir_substitution::substitutions::Substitutions;
 use std::alloc::{AllocError, Global};
-use value_live_ins::values::{MachineValues, solve};
+use value_live_ins::values::{MachineValues, solve_for_lists};
 
 /// The location lists of variables over the machine code of a function, in the variables' order. At the address of each
 /// byte of code a list has the location that is wanted for the variable there, by all paths of the function with its
@@ -35,7 +35,7 @@ pub fn location_lists(
         things,
         entries,
         sweeps: _,
-    } = solve(alloc, framed_of(code), subs)?;
+    } = solve_for_lists(alloc, framed_of(code), subs)?;
     let values = Values {
         variables: parts.as_slice(),
         things: things.as_slice(),

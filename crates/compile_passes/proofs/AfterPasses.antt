@@ -48,10 +48,10 @@ use Rattle.pass_manager.specs.Passes.{steps_of as steps_of_list, passes_of as pa
 use Rattle.pass_manager.specs.Passes.{any_asks, all_keep, Fit, numbers_after, slots_after, KeepsGrowth}
 use Rattle.pass_manager.specs.Shown.{HasMark, HasPhi, IsGiven, KeepsShown}
 use Rattle.pass_manager.specs.Told.{KeepsPasses}
-use Rattle.scan_pass.specs.Scanned.{scan_steps}
+use Rattle.linear_scan.specs.Scanned.{scan_steps}
 use Rattle.compile_passes.proofs.Accepted.{MAX_SCANNED, scanned_items, IsAccepted}
 use Rattle.compile_passes.specs.steps.Scan.{IsScanOf}
-use Rattle.compile_passes.specs.Passed.{MAX_PASSED, steps_of, IsMadeBy, IsMadeLosing, IsCompilable, passed_of}
+use Rattle.compile_passes.specs.Passed.{MAX_PASSED, steps_of, passes_of, IsMadeBy, IsMadeLosing, IsCompilable, passed_of}
 use Rattle.read_proof.specs.Read.{EntryIsLimited, IsReadFunction}
 use Rattle.mir_type_facts.specs.Typed.{IsTypedBlock, IsTypedItem, IsTypedKind, IsTypedPlace, IsTypedEntry}
 use Rattle.dwarf_unit.specs.Variables.{variables_of_function}
@@ -316,6 +316,7 @@ module _ (meta : Maps) (q : Parsed) (reserve : List ℕ) (passes : List PassKind
 
   pub made_after : (later told : List Loss) → KeepsPasses (passes_of_list reserve passes) (change g gs f subs) later → told ≡ here ++ later →
       IsMadeLosing reserve passes (passed_of q f subs) told
+  unfolding passes_of
   made_after later told kept joined = (g, gs, here, later, scan.kept, kept, joined)
 
   pub compilable_after : IsPhysical g → IsSound f → (Fit passes → PreservesSimulation (any_asks passes) (all_keep passes) (change g gs f subs)) →
@@ -327,6 +328,7 @@ module _ (meta : Maps) (q : Parsed) (reserve : List ℕ) (passes : List PassKind
 -- so their steps made it
 pub made_by : (reserve : List ℕ) (passes : List PassKind) (p : PassedFunction) (told : List Loss) → IsMadeLosing reserve passes p told →
     IsMadeBy (steps_of reserve passes) p
+unfolding steps_of passes_of
 made_by reserve passes p told (g, gs, here, later, kept, rest, joined) =
     let more = told_steps reserve passes (change g gs p.function p.substitutions) later rest in
     record {

@@ -1,68 +1,36 @@
 -- What linear scan makes of a function that was read: what is shown of it, and that it has its registers or not.
-use Rattle.std.proofs.Common.{◌≡◌, ℕ, ◌<◌, List, [], ◌∷◌, Option, Some, Bool, true, false, sym, subst, ap, ◌∙◌, arith}
+use Rattle.std.proofs.Common.{◌≡◌, ℕ, List, true, false, sym, subst}
 use Rattle.std.specs.Prelude.{All}
 use Rattle.std.proofs.lemmas.List.Elements.{All-nil}
 use Rattle.mir_func.specs.declared.debug_substitution.DebugSubstitution.{DebugSubstitution}
 use Rattle.mir_func.specs.Function.{Function}
 use Rattle.pass_losses.specs.Reported.{AreReported}
-use Rattle.pass_trait.specs.Causes.{scratch_of}
 use Rattle.pass_trait.specs.Change.{change}
 use Rattle.pass_trait.specs.declared.loss.Loss.{Loss}
 use Rattle.pass_trait.specs.Simulation.{PreservesSimulation}
 use Rattle.pass_trait.specs.Sizes.{IsPhysical, KeepsSizes}
-use Rattle.pass_trait.specs.Steps.{KeepsSteps}
+use Rattle.pass_trait.specs.Steps.{PassStep, KeepsSteps}
 use Rattle.pass_manager.proofs.Becoming.{WasShown}
 use Rattle.pass_manager.proofs.Shows.{Shows, EachShows, steps_shown}
 use Rattle.pass_manager.specs.Shown.{KeepsShown}
-use Rattle.scan_allocation.proofs.AllocationOrder.{order_real}
-use Rattle.scan_allocation.proofs.Walking.{given_gets, gets_clear}
-use Rattle.scan_allocation.specs.declared.assignment.RegisterAssignment.{RegisterAssignment}
-use Rattle.scan_allocation.specs.Allocation.{stays, assignments_of, given_unless, IsAllocation}
-use Rattle.scan_allocation.specs.Walk.{order_without, given_to}
-use Rattle.scan_intervals.specs.Liveness.{at_starts}
-use Rattle.scan_intervals.specs.Points.{CodePoint, points_of}
-use Rattle.scan_pass.specs.Scanned.{scan_steps}
-use Rattle.scan_rule.specs.Step.{allot_step}
-use Rattle.scan_slots.specs.Step.{settle_step}
+use Rattle.linear_scan.proofs.Shown.{OnlyRenames, allot_only_renames, settle_only_renames}
+use Rattle.linear_scan.specs.Scanned.{scan_steps}
 use Rattle.read_program.specs.declared.closing.Parsed.{Parsed}
 use Rattle.compile_passes.specs.Passed.{IsMadeBy, GetsRegisters, LeavesVirtual, passed_of}
 use Rattle.compile_passes.specs.steps.Scan.{IsScanOf}
 
 -- ---- what is shown
 
-given_then : (z : Bool) (xs : List RegisterAssignment) (r q : ℕ) → given_unless z xs r ≡ Some q → given_to xs r ≡ Some q
-given_then true xs r q e = absurd cc
-given_then false xs r q e = e
-
--- a register that is given stands in the allocation order, so it isn't x0
-given_above : (reserve : List ℕ) (f : Function) (given : ℕ → Option ℕ) → IsAllocation reserve f given → (r q : ℕ) → given r ≡ Some q → 0 < q
-given_above reserve f given a r q e =
-    let points : List CodePoint = points_of (at_starts a.live) f.blocks in
-    let order = order_without reserve (scratch_of f) in
-    let assignments = assignments_of reserve points a.intervals f in
-    let by_walk = given_then (stays f assignments) assignments r q (sym (ap (λ (h : ℕ → Option ℕ). h r) a.is) ∙ e) in
-    let gets = given_gets points order (λ s. 0) a.intervals r q by_walk in
-    let above = (order_real reserve (scratch_of f) q (gets_clear points order (λ s. 0) a.intervals gets.0 q gets.1).1).0 in
-    omega (arith, above)
-
-allot_shows : (reserve : List ℕ) → Shows (allot_step reserve)
-allot_shows reserve = record {
-  name = λ f g (given, allocation, e). ap (λ (h : Function). h.name) e;
-  renames = λ c r now (given, allocation, e). given_above reserve c.old given allocation r now e;
-  salvages = λ c at p never. absurd never;
-  kills = λ c b ks none. subst (All (WasShown (allot_step reserve).debug c)) (sym none) (All-nil (WasShown (allot_step reserve).debug c));
-}
-
-settle_shows : Shows settle_step
-settle_shows = record {
-  name = λ f g (intervals, are, e). ap (λ (h : Function). h.name) e;
-  renames = λ c r now never. absurd never;
-  salvages = λ c at p never. absurd never;
-  kills = λ c b ks none. subst (All (WasShown settle_step.debug c)) (sym none) (All-nil (WasShown settle_step.debug c));
+only_renaming_shows : (s : PassStep) → OnlyRenames s → Shows s
+only_renaming_shows s only = record {
+  name = only.name;
+  renames = only.renames;
+  salvages = λ c at p never. absurd (only.salvages c at p never);
+  kills = λ c b ks none. subst (All (WasShown s.debug c)) (sym (only.kills c b ks none)) (All-nil (WasShown s.debug c));
 }
 
 scan_shows : (reserve : List ℕ) → EachShows (scan_steps reserve)
-scan_shows reserve = (allot_shows reserve, (settle_shows, tt))
+scan_shows reserve = (only_renaming_shows _ (allot_only_renames reserve), (only_renaming_shows _ settle_only_renames, tt))
 
 -- ---- what it makes of a copy of a function that was read
 

@@ -15,7 +15,7 @@ use Rattle.pass_list.specs.declared.kind.PassKind.{PassKind}
 use Rattle.pass_manager.specs.Passes.{steps_of as steps_of_list, passes_of as passes_of_list}
 use Rattle.pass_manager.specs.Shown.{KeepsShown}
 use Rattle.pass_manager.specs.Told.{KeepsPasses}
-use Rattle.scan_pass.specs.Scanned.{scan_steps}
+use Rattle.linear_scan.specs.Scanned.{scan_steps}
 
 -- the most items that a function has after passes
 abbrev pub MAX_PASSED : ℕ
@@ -32,11 +32,11 @@ passed_of p f subs = record { source = source_of p; function = f; substitutions 
 -- ---- linear scan, which runs before the passes, without a name of its own
 
 -- the steps of linear scan and then of the passes. `reserve` is the registers that may be spilled; linear scan gives none of them
-abbrev pub steps_of : (reserve : List ℕ) → List PassKind → List PassStep
+unfoldable pub steps_of : (reserve : List ℕ) → List PassKind → List PassStep
 steps_of reserve passes = scan_steps reserve ++ steps_of_list reserve passes
 
 -- the steps of linear scan, and those of each pass
-abbrev pub passes_of : (reserve : List ℕ) → List PassKind → List (List PassStep)
+unfoldable pub passes_of : (reserve : List ℕ) → List PassKind → List (List PassStep)
 passes_of reserve passes = scan_steps reserve ∷ passes_of_list reserve passes
 
 -- the steps of passes, one after the other, made the function from its source

@@ -13,7 +13,7 @@ ghost use Rattle.pass_trait.specs.Sizes.{IsPhysical, KeepsSizes, call_count, gre
 ghost use Rattle.pass_trait.specs.Steps.{KeepsSteps};
 ghost use Rattle.read_body.specs.Limits.{MAX_ITEMS};
 ghost use Rattle.read_proof.specs.Read.{IsReadFunction, EntryIsLimited};
-ghost use Rattle.scan_pass.specs.Scanned.{scan_steps};
+ghost use Rattle.linear_scan.specs.Scanned.{scan_steps};
 
 use crate::error::PassesError;
 use frame_lowering::physical::is_physical;

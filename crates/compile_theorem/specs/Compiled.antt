@@ -1,6 +1,6 @@
 -- The output of compiling passed functions: each is laid out with its frame from the end of the previous one, and has a listing and the location
 -- lists of its source's variables.
-use Rattle.std.specs.Prelude.{◌≡◌, ℕ, ◌+◌, ◌<◌, ◌≤◌, List, [], ◌∷◌, ◌++◌, length}
+use Rattle.std.specs.Prelude.{◌≡◌, ℕ, ◌+◌, ◌*◌, ◌<◌, ◌≤◌, List, [], ◌∷◌, ◌++◌, length}
 use Rattle.std.specs.List.{flat_map}
 use Rattle.std.specs.Int.{w32, to_le_bytes}
 use Rattle.mir_func.specs.Function.{Function}
@@ -8,7 +8,7 @@ use Rattle.mir_func.specs.Graph.{block_start, framed_program}
 use Rattle.mir_func.specs.Limits.{MAX_FRAME}
 use Rattle.mir_func.specs.Resolve.{resolve}
 use Rattle.emit_code.specs.Counts.{MAX_WORDS, MAX_BASE, count_of}
-use Rattle.emit_code.specs.Laid.{IsWorded}
+use Rattle.emit_code.specs.Laid.{LaidCode, IsCodeOf, IsWorded}
 use Rattle.emit_code.specs.BranchRelaxation.{IsSettled}
 use Rattle.emit_code.specs.Rule.{Layout, entries_of, words_of}
 use Rattle.frame_rule.specs.Rule.{reach_of, framed_of}
@@ -21,6 +21,15 @@ use Rattle.listing_meaning.specs.Listing.{listing_of}
 use Rattle.compile_theorem.specs.OutputProperties.{variable_lines}
 use Rattle.compile_theorem.specs.Source.{PassedFunction}
 use Rattle.dwarf_unit.specs.Variables.{variables_of_function}
+
+-- ---- machine code
+
+-- machine code of functions with their frames, one after the other from an address on
+abbrev pub AreCoded : (base : ℕ) → List Function → List LaidCode → Type 0
+AreCoded base [] [] = Unit {0}
+AreCoded base [] (c ∷ cs) = ⊥
+AreCoded base (f ∷ fs) [] = ⊥
+AreCoded base (f ∷ fs) (c ∷ cs) = IsCodeOf (framed_of f) base c × AreCoded (base + 4 * length c.words) fs cs
 
 -- ---- functions
 

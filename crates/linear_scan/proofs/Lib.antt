@@ -1,3 +1,4 @@
 mod Scanned
 mod Decided
 mod Physical
+pub mod Shown

@@ -41,12 +41,13 @@ use Rattle.scan_allocation.specs.Coloring.{now}
 use Rattle.scan_liveness.specs.Registers.{register_of, greatest_operand, greatest_of, greatest_in, greatest_register}
 use Rattle.scan_liveness.proofs.Named.{fetched_item, up_to, live_most, of_most}
 use Rattle.scan_liveness.proofs.Ordered.{are_intervals}
-use Rattle.scan_rule.specs.Rewrite.{value_now, place_now, kind_now, items_now, blocks_now, allotted}
-use Rattle.scan_rule.specs.Silence.{SetsAnother, IsSilent}
-use Rattle.scan_rule.specs.Step.{DecidesSilence}
-use Rattle.scan_debug.specs.Laws.{AreSilencedLosses}
-use Rattle.scan_slots.specs.Choice.{stays as settling_stays, homes_unless, homes_left, settling_of, settled_whole}
-use Rattle.scan_slots.specs.Rule.{AreLeft}
+use Rattle.scan_allot.specs.Rewrite.{value_now, place_now, kind_now, items_now, blocks_now, allotted}
+use Rattle.scan_allot.specs.Silence.{SetsAnother, IsSilent}
+use Rattle.scan_allot.specs.Step.{DecidesSilence}
+use Rattle.scan_allot.specs.Laws.{AreSilencedLosses}
+use Rattle.scan_settle.specs.Settled.{IsSettledWithLosses}
+use Rattle.scan_settle.specs.Choice.{stays as settling_stays, homes_unless, homes_left, settling_of, settled_whole}
+use Rattle.scan_settle.specs.Rule.{AreLeft}
 use Rattle.scan_pass.specs.Scanned.{IsScanned}
 use Rattle.linear_scan.proofs.Decided.{liveness_test}
 
@@ -234,3 +235,15 @@ module _ (reserve : List ℕ) (f : Function) (subs : List DebugSubstitution) (fo
         ap (λ (hs : List SlotAssignment). where_spilled hs mid (spilled_by (settling_of mid []) [] (greatest_number mid subs + 1) mid)) (sym no_homes);
     are = e;
   }
+
+-- where no register is left, the second step leaves the function as it is
+pub none_settled : (f : Function) (subs : List DebugSubstitution) (intervals : List LiveInterval) (losses : List Loss) → intervals ≡ [] → losses ≡ [] →
+    IsSettledWithLosses intervals f subs f losses
+none_settled f subs intervals losses none e =
+    subst (λ (is : List LiveInterval). IsSettledWithLosses is f subs f losses) (sym none)
+    (subst (λ (ls : List Loss). IsSettledWithLosses [] f subs f ls) (sym e) (record {
+      made = ap (λ (hs : List SlotAssignment). where_spilled hs f (spilled_by (settling_of f []) [] (greatest_number f subs + 1) f)) (sym no_homes_left);
+      taken = subst (λ (hs : List SlotAssignment). AreTaken hs (settling_of f []) f.blocks []) (sym no_homes_left) refl;
+    })) where
+      no_homes_left : homes_left f [] ≡ []
+      no_homes_left = no_home (settling_stays f [])

@@ -7,11 +7,11 @@ use Rattle.mir_func.specs.Sound.{AllItems, HasForm, IsSound}
 use Rattle.pass_trait.specs.declared.loss.Loss.{Loss}
 use Rattle.pass_trait.specs.Change.{change}
 use Rattle.pass_trait.specs.Sizes.{greatest, greatest_number, item_count, KeepsSizes}
-use Rattle.scan_debug.specs.Laws.{AllottedKeepsSizes}
+use Rattle.scan_allot.specs.Laws.{AllottedKeepsSizes}
 use Rattle.scan_intervals.specs.declared.interval.LiveInterval.{LiveInterval}
 use Rattle.scan_liveness.specs.Liveness.{IsLiveness}
-use Rattle.scan_rule.specs.Rewrite.{allotted}
-use Rattle.scan_slots.specs.Rule.{AreLeft}
+use Rattle.scan_allot.specs.Rewrite.{allotted}
+use Rattle.scan_settle.specs.Rule.{AreLeft}
 use Rattle.scan_settle.specs.Settled.{IsSettledWithLosses}
 use Rattle.scan_pass.specs.Scanned.{IsScanned}
 use Rattle.linear_scan.specs.Allotted.{IsAllottedWithLosses}

@@ -7,9 +7,9 @@ use Rattle.pass_trait.specs.declared.loss.Loss.{Loss}
 use Rattle.pass_trait.specs.Change.{change}
 use Rattle.pass_trait.specs.Order.{IsInOrder}
 use Rattle.scan_allocation.specs.Allocation.{IsAllocation}
-use Rattle.scan_debug.specs.Laws.{AreSilencedLosses}
-use Rattle.scan_rule.specs.Rewrite.{allotted}
-use Rattle.scan_rule.specs.Step.{DecidesSilence}
+use Rattle.scan_allot.specs.Laws.{AreSilencedLosses}
+use Rattle.scan_allot.specs.Rewrite.{allotted}
+use Rattle.scan_allot.specs.Step.{DecidesSilence}
 
 -- virtual registers got physical ones, none of them of the reserve, and these are the losses
 pub record IsAllottedWithLosses (reserve : List ℕ) (f : Function) (subs : List DebugSubstitution) (new : Function) (losses : List Loss) : Type 0 where

@@ -1,1 +1,2 @@
 pub mod Allotted
+pub use Rattle.scan_pass.specs.Scanned

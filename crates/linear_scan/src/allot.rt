@@ -12,7 +12,7 @@ use pass_trait::loss::Losses;
 use rv64_instr::reg::Reg;
 use scan_allocation::laws::allocation_is_coloring;
 use scan_allot::blocks::allotted_blocks;
-use scan_choice::choice::allocation_of;
+use scan_allot::choice::allocation_of;
 use std::alloc::{AllocError, Global};
 
 /// Replaces virtual registers by the physical ones that they get, none of the reserve, and returns the losses. After an

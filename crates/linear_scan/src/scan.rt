@@ -5,7 +5,8 @@ ghost use Rattle.mir_func.specs.Limits.{MAX_SLOTS};
 ghost use Rattle.mir_func.specs.Sound.{AllItems, HasForm, IsSound};
 ghost use Rattle.pass_trait.specs.Sizes.{greatest, greatest_number, item_count};
 ghost use Rattle.scan_pass.specs.Scanned.{scan_steps, IsScanned};
-ghost use Rattle.scan_slots.specs.Rule.{AreLeft};
+ghost use Rattle.scan_settle.specs.Settled.{IsSettledWithLosses};
+ghost use Rattle.scan_settle.specs.Rule.{AreLeft};
 ghost use Rattle.scan_pass.proofs.Scanned.{scan_is_one, scan_sees_code_alone};
 ghost use Rattle.std.proofs.Common.{rules};
 
@@ -17,7 +18,7 @@ use mir_type_facts::blocks::know_forms;
 use pass_trait::loss::Losses;
 use pass_trait::pass::Pass;
 use rv64_instr::reg::{Reg, Registers};
-use scan_debug::laws::allotted_keeps_sizes;
+use scan_allot::laws::allotted_keeps_sizes;
 use scan_intervals::interval::LiveIntervals;
 use scan_liveness::liveness::liveness_of;
 use scan_liveness::registers::greatest_register;
@@ -110,7 +111,7 @@ fn allocate(
     allotted_keeps_sizes();
     let mut losses = allot(alloc, reserve, f)?;
     let intervals = intervals_left(alloc, f)?;
-    let scratch = settle(alloc, intervals.as_slice(), f, subs)?;
+    let scratch = settle_left(alloc, &intervals, f, subs)?;
     losses.extend_from_slice(scratch.as_slice())?;
     Ok(losses)
 }
@@ -127,4 +128,23 @@ fn intervals_left(alloc: Global, f: &Func) -> Result<LiveIntervals, AllocError>
     }
     let liveness = liveness_of(alloc, f)?;
     Ok(liveness.intervals)
+}
+
+/// Moves the registers of these intervals into slots, if there are any, and returns the losses. After an error the
+/// function is unchanged.
+fn settle_left(
+    alloc: Global,
+    intervals: &LiveIntervals,
+    f: &mut Func,
+    subs: &Substitutions,
+) -> Result<Losses, AllocError>
+    requires left { AreLeft f.old intervals.now }
+    requires numbers { greatest_number f.old subs.now + item_count f.old + 1 < 2 ^ 31 }
+    requires slots { greatest f.old.slots + MAX_SLOTS < 2 ^ 31 }
+    ensures { IfOk result (λ losses. IsSettledWithLosses intervals.now f.old subs.now f.new losses) }
+{
+    if intervals.is_empty() {
+        return Ok(Losses::new(alloc));
+    }
+    settle(alloc, intervals.as_slice(), f, subs)
 }

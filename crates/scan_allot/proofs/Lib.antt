@@ -2,3 +2,4 @@ mod Silences
 mod Inserted
 mod LostItems
 mod Walked
+pub use Rattle.scan_debug.proofs.Sound

@@ -8,3 +8,6 @@ pub mod items;
 pub mod lost;
 pub mod named;
 pub mod silence;
+
+pub use scan_choice::choice as choice;
+pub use scan_debug::laws as laws;

@@ -2,6 +2,7 @@
 
 ghost use Rattle.std.specs.Prelude.{◌≡◌, ◌<◌, ◌||◌, ◌&&◌, nat_eq, ℕ, None};
 ghost use Rattle.rv64_instr.specs.declared.place.Place.TheVariants.{Register};
+ghost use Rattle.rv64_instr.specs.Decoded.{Shows};
 ghost use Rattle.rv64_instr.specs.Row.{row_of};
 ghost use Rattle.rv64_instr.specs.LocationEffects.{defines_of};
 ghost use Rattle.mir_func.specs.declared.item.ItemKind.TheVariants.{Code};
@@ -11,6 +12,7 @@ ghost use Rattle.scan_intervals.specs.Blocked.{has_register};
 
 use pass_liveness::names::SlotAndBlockNumbers;
 use pass_liveness::set::PlaceSet;
+use rv64_instr::decoded::Decoded;
 use rv64_instr::instr::Instr;
 use rv64_instr::place::Place;
 use rv64_instr::reg::Reg;
@@ -22,9 +24,11 @@ pub(crate) fn mask_of(numbers: &SlotAndBlockNumbers, after: &PlaceSet, i: &Instr
     ensures { (r : ℕ) → r < 32 → has_register r result ≡ (names r (Code i.now None) ||
         (defines_of (row_of i.now) (Register r) || has numbers.now.slots after.now (Register r))) }
 {
+    let decoded = i.decoded();
     let mut mask: u32 = 0;
     for r in 0..32u32 {
-        mask = with_bit(mask, r, is_blocked(numbers, after, i, register(r)));
+        let blocked = is_blocked(numbers, after, i, &decoded, register(r));
+        mask = with_bit(mask, r, blocked);
     }
     mask
 }
@@ -38,9 +42,16 @@ fn with_bit(mask: u32, r: u32, set: bool) -> u32
 }
 
 /// Whether code after which these places are live blocks the register: names or sets it, or it is live after it.
-fn is_blocked(numbers: &SlotAndBlockNumbers, after: &PlaceSet, i: &Instr, r: Reg) -> bool
+fn is_blocked(
+    numbers: &SlotAndBlockNumbers,
+    after: &PlaceSet,
+    i: &Instr,
+    decoded: &Decoded,
+    r: Reg,
+) -> bool
+    requires { Shows decoded.now (row_of i.now) }
     ensures { result ≡ (names r (Code i.now None) ||
         (defines_of (row_of i.now) (Register r) || has numbers.now.slots after.now (Register r))) }
 {
-    code_names(r, i) || (i.defines(Place::Register(r)) || numbers.has(after, Place::Register(r)))
+    code_names(r, i) || (decoded.sets_register(r) || numbers.has(after, Place::Register(r)))
 }

@@ -6,7 +6,7 @@ use Rattle.pass_trait.specs.Simulation.{PreservesSimulation}
 use Rattle.pass_trait.specs.Sizes.{KeepsSizes}
 use Rattle.pass_manager.specs.Shown.{KeepsShown}
 use Rattle.pass_manager.specs.Told.{KeepsPass}
-use Rattle.scan_pass.specs.Scanned.{scan_steps}
+use Rattle.linear_scan.specs.Scanned.{scan_steps}
 
 -- Linear scan made a function of another one, and reports these losses.
 pub record IsScanOf (reserve : List ℕ) (c : Change) (told : List Loss) : Type 0 where

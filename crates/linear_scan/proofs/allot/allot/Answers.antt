@@ -3,8 +3,8 @@ use Rattle.mir_func.specs.declared.block.Block.{Block}
 use Rattle.mir_func.specs.Function.{Function}
 use Rattle.mir_func.specs.Sound.{AllItems, IsSound, HasForm}
 use Rattle.scan_allot.specs.Allotted.{AreAllotted}
-use Rattle.scan_choice.specs.Given.{given_by}
-use Rattle.scan_debug.proofs.Sound.{allotted_is_sound}
+use Rattle.scan_allot.specs.Given.{given_by}
+use Rattle.scan_allot.proofs.Sound.{allotted_is_sound}
 use Rattle.spill_pass.proofs.Results.{same_blocks}
 use Rattle.linear_scan.proofs.allot.allot.Goals as goal
 

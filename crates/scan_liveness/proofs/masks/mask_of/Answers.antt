@@ -13,8 +13,8 @@ loop-r-init c = masked_begins _
 
 pub loop-r-preserved : goal.loop-r-preserved
 loop-r-preserved c =
-    masked_goes_on c.loop-r.invariant _ c.is_blocked.result
-    (c.is_blocked.ensures ∙ ap (λ (r : ℕ). names r (Code c.args.i.now None) ||
+    masked_goes_on c.loop-r.invariant _ c.is_blocked-blocked.result
+    (c.is_blocked-blocked.ensures ∙ ap (λ (r : ℕ). names r (Code c.args.i.now None) ||
     (defines_of (row_of c.args.i.now) (Register r) || has c.args.numbers.now.slots c.args.after.now (Register r))) c.register.ensures)
     c.with_bit-mask.ensures
 
